@@ -1,0 +1,5 @@
+pub mod HandParts
+pub mod Faults
+pub mod FaultTexts
+pub mod Hand
+pub mod Win

@@ -1,0 +1,121 @@
+-- What must be true of a win.
+use Rattle.std.specs.Prelude.{◌≡◌, ◌==◌, ◌&&◌, ◌||◌, not, ℕ, ◌+◌, ◌*◌, Bool, true, false, List, [], ◌∷◌, ◌++◌, length, Option, None, Some, Result, Ok, Err, if◌then◌else◌, nat_lt, nat_eq, slice_index}
+use Rattle.std.specs.List.{sum, list_any, list_all}
+use Rattle.riichi_tiles.specs.Melds.{every_kind, tiles, are_concealed, is_kong}
+use Rattle.riichi_tiles.specs.declared.meld.Meld.{Meld}
+use Rattle.riichi_hand.specs.declared.fault.LineCode.TheVariants.{H4, H8, H9, H10, H11, H12, H13, H14, H15, H16}
+use Rattle.riichi_hand.specs.declared.fault.LineFault.{LineFault}
+use Rattle.riichi_hand.specs.declared.win.By.{By}
+use Rattle.riichi_hand.specs.declared.win.By.TheVariants.{Ron, Tsumo}
+use Rattle.riichi_hand.specs.declared.win.Rules.{Rules}
+use Rattle.riichi_hand.specs.declared.win.Rules.TheVariants.{One, Two}
+use Rattle.riichi_hand.specs.declared.win.Flags.{Flags}
+use Rattle.riichi_hand.specs.declared.win.Wind.{Wind}
+use Rattle.riichi_hand.specs.declared.win.Wind.TheVariants.{East, South, West, North}
+use Rattle.riichi_hand.specs.declared.win.WinParts.{WinParts}
+use Rattle.riichi_hand.specs.Faults.{coded, first_fault, told}
+use Rattle.riichi_hand.specs.Hand.{is_thirteen}
+
+abbrev pub no_flags : Flags
+no_flags = record { ippatsu = false; rinshan = false; chankan = false; last = false; first = false }
+
+abbrev pub is_ron : By → Bool
+is_ron Ron = true
+is_ron Tsumo = false
+
+-- the kind of a wind's tile
+abbrev pub wind_kind : Wind → ℕ
+wind_kind East = 27
+wind_kind South = 28
+wind_kind West = 29
+wind_kind North = 30
+
+abbrev pub is_two : Rules → Bool
+is_two One = false
+is_two Two = true
+
+-- the copies of a kind among hand, melds and the winning tile, and those with the indicators
+abbrev pub copies_held : WinParts → ℕ → ℕ
+copies_held parts kind = slice_index parts.concealed kind + tiles parts.melds kind + (if nat_eq parts.winning kind then 1 else 0)
+
+abbrev pub copies_in : WinParts → ℕ → ℕ
+copies_in parts kind = copies_held parts kind + slice_index parts.dora kind + slice_index parts.ura kind
+
+abbrev pub has_five_copies : WinParts → Bool
+has_five_copies parts = list_any (λ kind. nat_lt 4 (copies_in parts kind)) every_kind
+
+abbrev pub is_out_of_range : WinParts → Bool
+is_out_of_range parts = nat_lt 2 parts.riichi || nat_lt 99 parts.counters || nat_lt 99 parts.sticks
+
+-- thirteen tiles before the winning one, at most five indicators of each sort
+abbrev pub has_wrong_size : WinParts → Bool
+has_wrong_size parts = not (is_thirteen parts.concealed parts.melds) || nat_lt 5 (sum parts.dora) || nat_lt 5 (sum parts.ura)
+
+-- flags that exclude one another
+abbrev pub are_exclusive : Flags → Bool
+are_exclusive flags = (flags.rinshan && (flags.last || flags.ippatsu)) || (flags.chankan && flags.last)
+
+abbrev pub has_other_flag : Flags → Bool
+has_other_flag flags = flags.ippatsu || flags.rinshan || flags.chankan || flags.last
+
+-- a win in the first turn has no meld, is by tsumo, without riichi or another flag
+abbrev pub is_late_first : WinParts → Bool
+is_late_first parts =
+    parts.flags.first && (nat_lt 0 (length parts.melds) || is_ron parts.by || not (parts.riichi == 0) || has_other_flag parts.flags)
+
+-- more red fives of a suit than fives among hand, melds and the winning tile; the fives are the kinds 4, 13, 22
+abbrev pub has_too_many_reds : WinParts → Bool
+has_too_many_reds parts =
+    nat_lt (copies_held parts 4) (slice_index parts.reds 0)
+    || nat_lt (copies_held parts 13) (slice_index parts.reds 1)
+    || nat_lt (copies_held parts 22) (slice_index parts.reds 2)
+
+-- Every fault of a win in the order in which they are told.
+abbrev pub win_faults : WinParts → List (Option LineFault)
+win_faults parts =
+    coded H4 (is_out_of_range parts)
+    ∷ coded H8 (has_wrong_size parts)
+    ∷ coded H9 (has_five_copies parts)
+    ∷ coded H10 (not (parts.riichi == 0) && not (are_concealed parts.melds))
+    ∷ coded H11 ((parts.riichi == 0) && (parts.flags.ippatsu || nat_lt 0 (sum parts.ura)))
+    ∷ coded H12 (parts.flags.rinshan && (is_ron parts.by || not (list_any is_kong parts.melds)))
+    ∷ coded H13 (parts.flags.chankan && not (is_ron parts.by))
+    ∷ coded H14 (are_exclusive parts.flags)
+    ∷ coded H15 (is_late_first parts)
+    ∷ coded H16 (is_two parts.rules && has_too_many_reds parts)
+    ∷ []
+
+abbrev pub no_reds : List ℕ
+no_reds = 0 ∷ 0 ∷ 0 ∷ []
+
+-- the parts with no red five
+abbrev pub without_reds : WinParts → WinParts
+without_reds parts = record {
+  rules = parts.rules;
+  concealed = parts.concealed;
+  melds = parts.melds;
+  winning = parts.winning;
+  by = parts.by;
+  seat = parts.seat;
+  round = parts.round;
+  riichi = parts.riichi;
+  flags = parts.flags;
+  dora = parts.dora;
+  ura = parts.ura;
+  counters = parts.counters;
+  sticks = parts.sticks;
+  reds = no_reds;
+}
+
+-- what is kept: under the first profile no red five
+abbrev pub kept_under : Rules → WinParts → WinParts
+kept_under One parts = without_reds parts
+kept_under Two parts = parts
+
+-- A win record: its parts have no fault, and under the first profile no red five.
+pub record IsWin (parts : WinParts) : Type 0 where
+  pub no_fault : first_fault (win_faults parts) ≡ None
+  pub kept : kept_under parts.rules parts ≡ parts
+
+unfoldable pub win_of : WinParts → Result WinParts LineFault
+win_of parts = told (first_fault (win_faults parts)) (kept_under parts.rules parts)

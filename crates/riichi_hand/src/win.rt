@@ -1,0 +1,329 @@
+//! A win, and what must be true of its parts.
+ghost use Rattle.std.specs.Prelude.{◌≡◌, ◌≤◌};
+ghost use Rattle.riichi_hand.specs.Win as spec;
+
+use crate::fault::{LineCode, LineFault};
+use crate::hand::is_thirteen;
+use riichi_tiles::{Counts, Kind, Melds, Reds};
+use std::marker::Model;
+
+/// The rule profile: with the first, a red five is a plain five.
+#[derive(Clone, Copy, Debug, PartialEq, Eq)]
+pub enum Rules {
+    One,
+    Two,
+}
+
+#[derive(Clone, Copy, Debug, PartialEq, Eq)]
+pub enum By {
+    Ron,
+    Tsumo,
+}
+
+#[derive(Clone, Copy, Debug, PartialEq, Eq)]
+pub enum Wind {
+    East,
+    South,
+    West,
+    North,
+}
+
+#[derive(Clone, Copy, Debug, PartialEq, Eq)]
+pub struct Flags {
+    pub ippatsu: bool,
+    pub rinshan: bool,
+    pub chankan: bool,
+    pub last: bool,
+    pub first: bool,
+}
+
+impl Wind {
+    /// The kind of the wind's tile.
+    pub fn kind(self) -> Kind
+        ensures { result ≡ spec.wind_kind self }
+    {
+        match self {
+            Wind::East => Kind::at(27),
+            Wind::South => Kind::at(28),
+            Wind::West => Kind::at(29),
+            Wind::North => Kind::at(30),
+        }
+    }
+}
+
+impl Flags {
+    pub fn none() -> Flags
+        ensures { result ≡ spec.no_flags }
+    {
+        Flags {
+            ippatsu: false,
+            rinshan: false,
+            chankan: false,
+            last: false,
+            first: false,
+        }
+    }
+}
+
+/// What a win is told as.
+#[derive(Clone, Copy, Debug, PartialEq, Eq)]
+pub struct WinParts {
+    pub rules: Rules,
+    pub concealed: Counts,
+    pub melds: Melds,
+    pub winning: Kind,
+    pub by: By,
+    pub seat: Wind,
+    pub round: Wind,
+    /// 0, 1, or 2 for double riichi.
+    pub riichi: u8,
+    pub flags: Flags,
+    pub dora: Counts,
+    pub ura: Counts,
+    pub counters: u8,
+    pub sticks: u8,
+    pub reds: Reds,
+}
+
+/// A win whose parts have no fault. A contract sees it as its parts.
+#[derive(Clone, Copy, Debug, PartialEq, Eq)]
+pub struct WinRecord {
+    parts: WinParts,
+}
+
+impl Model for WinRecord {
+    ghost use Rattle.std.specs.Prelude.{◌≡◌, None};
+    ghost use Rattle.riichi_hand.specs.declared.win.WinParts.{WinParts};
+    ghost use Rattle.riichi_hand.specs.Win.{IsWin};
+
+    ghost Value = { WinParts };
+
+    ghost view = { λ w. w.parts };
+
+    ghost invariant = { λ w. IsWin w.parts };
+
+    ghost inverse = { λ p. record { parts = p } };
+}
+
+impl WinRecord {
+    /// The record of the parts, or the first of their faults. Under the first profile no red five is kept.
+    #[tactic(auto, unfolding(crate::specs::Win::win_of))]
+    pub fn new(parts: WinParts) -> Result<WinRecord, LineFault>
+        ensures { result ≡ spec.win_of parts }
+    {
+        if is_out_of_range(&parts) {
+            return Err(LineFault::Line(LineCode::H4));
+        }
+        if has_wrong_size(&parts) {
+            return Err(LineFault::Line(LineCode::H8));
+        }
+        if has_five_copies(&parts) {
+            return Err(LineFault::Line(LineCode::H9));
+        }
+        if parts.riichi != 0 && !parts.melds.concealed() {
+            return Err(LineFault::Line(LineCode::H10));
+        }
+        if parts.riichi == 0 && (parts.flags.ippatsu || parts.ura.total() > 0) {
+            return Err(LineFault::Line(LineCode::H11));
+        }
+        if parts.flags.rinshan && (is_ron(parts.by) || !parts.melds.has_kong()) {
+            return Err(LineFault::Line(LineCode::H12));
+        }
+        if parts.flags.chankan && !is_ron(parts.by) {
+            return Err(LineFault::Line(LineCode::H13));
+        }
+        if are_exclusive(parts.flags) {
+            return Err(LineFault::Line(LineCode::H14));
+        }
+        if is_late_first(&parts) {
+            return Err(LineFault::Line(LineCode::H15));
+        }
+        match parts.rules {
+            Rules::One => Ok(WinRecord {
+                parts: without_reds(parts),
+            }),
+            Rules::Two => {
+                if has_too_many_reds(&parts) {
+                    return Err(LineFault::Line(LineCode::H16));
+                }
+                Ok(WinRecord { parts })
+            }
+        }
+    }
+
+    pub fn parts(&self) -> WinParts
+        ensures value { result ≡ self.now }
+        ensures win { spec.IsWin self.now }
+    {
+        self.parts
+    }
+
+    pub fn rules(&self) -> Rules
+        ensures { result ≡ self.now.rules }
+    {
+        self.parts.rules
+    }
+
+    pub fn concealed(&self) -> Counts
+        ensures { result ≡ self.now.concealed }
+    {
+        self.parts.concealed
+    }
+
+    pub fn melds(&self) -> Melds
+        ensures { result ≡ self.now.melds }
+    {
+        self.parts.melds
+    }
+
+    pub fn winning(&self) -> Kind
+        ensures { result ≡ self.now.winning }
+    {
+        self.parts.winning
+    }
+
+    pub fn by(&self) -> By
+        ensures { result ≡ self.now.by }
+    {
+        self.parts.by
+    }
+
+    pub fn seat(&self) -> Wind
+        ensures { result ≡ self.now.seat }
+    {
+        self.parts.seat
+    }
+
+    pub fn round(&self) -> Wind
+        ensures { result ≡ self.now.round }
+    {
+        self.parts.round
+    }
+
+    pub fn riichi(&self) -> u8
+        ensures { result ≡ self.now.riichi }
+    {
+        self.parts.riichi
+    }
+
+    pub fn flags(&self) -> Flags
+        ensures { result ≡ self.now.flags }
+    {
+        self.parts.flags
+    }
+
+    pub fn dora(&self) -> Counts
+        ensures { result ≡ self.now.dora }
+    {
+        self.parts.dora
+    }
+
+    pub fn ura(&self) -> Counts
+        ensures { result ≡ self.now.ura }
+    {
+        self.parts.ura
+    }
+
+    pub fn counters(&self) -> u8
+        ensures { result ≡ self.now.counters }
+    {
+        self.parts.counters
+    }
+
+    pub fn sticks(&self) -> u8
+        ensures { result ≡ self.now.sticks }
+    {
+        self.parts.sticks
+    }
+
+    pub fn reds(&self) -> Reds
+        ensures { result ≡ self.now.reds }
+    {
+        self.parts.reds
+    }
+}
+
+/// Riichi over 2, or counters or sticks over 99.
+fn is_out_of_range(parts: &WinParts) -> bool
+    ensures { result ≡ spec.is_out_of_range parts.now }
+{
+    parts.riichi > 2 || parts.counters > 99 || parts.sticks > 99
+}
+
+fn has_wrong_size(parts: &WinParts) -> bool
+    ensures { result ≡ spec.has_wrong_size parts.now }
+{
+    !is_thirteen(&parts.concealed, &parts.melds) || parts.dora.total() > 5 || parts.ura.total() > 5
+}
+
+fn is_ron(by: By) -> bool
+    ensures { result ≡ spec.is_ron by }
+{
+    match by {
+        By::Ron => true,
+        By::Tsumo => false,
+    }
+}
+
+/// Over hand, melds, the winning tile and the indicators.
+fn has_five_copies(parts: &WinParts) -> bool
+    ensures { result ≡ spec.has_five_copies parts.now }
+{
+    (0..34).any(|number| copies_of(parts, Kind::at(number)) > 4)
+}
+
+fn copies_of(parts: &WinParts, kind: Kind) -> u8
+    ensures { result ≡ spec.copies_in parts.now kind }
+{
+    copies_held(parts, kind) + parts.dora.get(kind) + parts.ura.get(kind)
+}
+
+/// The copies of a kind among hand, melds and the winning tile.
+fn copies_held(parts: &WinParts, kind: Kind) -> u8
+    ensures value { result ≡ spec.copies_held parts.now kind }
+    ensures most { result ≤ 21 }
+{
+    let one = if parts.winning == kind { 1 } else { 0 };
+    parts.concealed.get(kind) + parts.melds.tiles(kind) + one
+}
+
+fn are_exclusive(flags: Flags) -> bool
+    ensures { result ≡ spec.are_exclusive flags }
+{
+    (flags.rinshan && (flags.last || flags.ippatsu)) || (flags.chankan && flags.last)
+}
+
+/// A win in the first turn has no meld, is by tsumo, without riichi or another flag.
+fn is_late_first(parts: &WinParts) -> bool
+    ensures { result ≡ spec.is_late_first parts.now }
+{
+    parts.flags.first
+        && (parts.melds.count() > 0
+            || is_ron(parts.by)
+            || parts.riichi != 0
+            || has_other_flag(parts.flags))
+}
+
+fn has_other_flag(flags: Flags) -> bool
+    ensures { result ≡ spec.has_other_flag flags }
+{
+    flags.ippatsu || flags.rinshan || flags.chankan || flags.last
+}
+
+fn has_too_many_reds(parts: &WinParts) -> bool
+    ensures { result ≡ spec.has_too_many_reds parts.now }
+{
+    let characters = parts.reds.get(0) > copies_held(parts, Kind::at(4));
+    let circles = parts.reds.get(1) > copies_held(parts, Kind::at(13));
+    let bamboos = parts.reds.get(2) > copies_held(parts, Kind::at(22));
+    characters || circles || bamboos
+}
+
+fn without_reds(parts: WinParts) -> WinParts
+    ensures { result ≡ spec.without_reds parts }
+{
+    WinParts {
+        reds: Reds::none(),
+        ..parts
+    }
+}

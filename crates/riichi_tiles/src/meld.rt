@@ -1,0 +1,164 @@
+ghost use Rattle.std.specs.Prelude.{◌≡◌, ℕ, map, Some, None, MatchOption};
+ghost use Rattle.std.specs.List.{list_all, range_with_len, find};
+ghost use Rattle.riichi_tiles.specs.Melds.{tiles_of, is_open, is_kong, is_run, is_meld, reads_as, named, melded, meld_of, has_just, cut_named, cut_at};
+ghost use Rattle.riichi_tiles.specs.Tiles.{IsCounts};
+
+use crate::counts::Counts;
+use crate::kind::Kind;
+use crate::notation::read_counts;
+
+/// A set that was melded. `Chi` names the lowest kind of its run.
+#[derive(Clone, Copy, Debug, PartialEq, Eq)]
+pub enum Meld {
+    Chi(Kind),
+    Pon(Kind),
+    Kan(Kind),
+    Ankan(Kind),
+}
+
+/// The four words of a meld.
+#[derive(Clone, Copy)]
+enum MeldName {
+    Chi,
+    Pon,
+    Kan,
+    Ankan,
+}
+
+impl Meld {
+    /// The meld that a text spells: its word, a colon, and the tiles.
+    pub fn read(text: &[u8]) -> Option<Meld>
+    {
+        let (name, tiles) = read_name(text)?;
+        match read_counts(tiles) {
+            Ok(counts) => find_meld(name, &counts),
+            Err(_) => None,
+        }
+    }
+    /// How many tiles of a kind it has.
+    pub fn tiles(&self, kind: Kind) -> u8
+        ensures { result ≡ tiles_of self.now kind }
+    {
+        let number = kind.index();
+        match self {
+            Meld::Chi(low) => {
+                let low = low.index();
+                if low <= number && number <= low + 2 {
+                    1
+                } else {
+                    0
+                }
+            }
+            Meld::Pon(held) => if held.index() == number { 3 } else { 0 },
+            Meld::Kan(held) => if held.index() == number { 4 } else { 0 },
+            Meld::Ankan(held) => if held.index() == number { 4 } else { 0 },
+        }
+    }
+
+    /// Every meld but a concealed kong opens the hand.
+    pub fn is_open(&self) -> bool
+        ensures { result ≡ is_open self.now }
+    {
+        match self {
+            Meld::Chi(_) | Meld::Pon(_) | Meld::Kan(_) => true,
+            Meld::Ankan(_) => false,
+        }
+    }
+
+    pub fn is_kong(&self) -> bool
+        ensures { result ≡ is_kong self.now }
+    {
+        match self {
+            Meld::Chi(_) | Meld::Pon(_) => false,
+            Meld::Kan(_) | Meld::Ankan(_) => true,
+        }
+    }
+
+    /// A `Chi` names a 1 to 7 of m, p or s.
+    pub fn is_proper(&self) -> bool
+        ensures { result ≡ is_meld self.now }
+    {
+        match self {
+            Meld::Chi(low) => begins_run(*low),
+            Meld::Pon(_) | Meld::Kan(_) | Meld::Ankan(_) => true,
+        }
+    }
+}
+
+/// A run can begin at this kind.
+fn begins_run(kind: Kind) -> bool
+    ensures { result ≡ is_run kind }
+{
+    let low = kind.index();
+    low <= 6 || (9 <= low && low <= 15) || (18 <= low && low <= 24)
+}
+
+/// The meld of this name that has just these tiles.
+fn find_meld(name: MeldName, counts: &Counts) -> Option<Meld>
+    ensures { result ≡ find (reads_as counts.now) (map (melded name) (range_with_len 0 34)) }
+{
+    (0..34)
+        .map(|number| make(name, Kind::at(number)))
+        .find(|meld| is_spelled(counts, meld))
+}
+
+fn make(name: MeldName, kind: Kind) -> Meld
+    ensures { result ≡ melded name kind }
+{
+    match name {
+        MeldName::Chi => Meld::Chi(kind),
+        MeldName::Pon => Meld::Pon(kind),
+        MeldName::Kan => Meld::Kan(kind),
+        MeldName::Ankan => Meld::Ankan(kind),
+    }
+}
+
+/// The counts are exactly the meld's tiles.
+fn is_spelled(counts: &Counts, meld: &Meld) -> bool
+    ensures { result ≡ reads_as counts.now meld.now }
+{
+    meld.is_proper() && has_just(counts, meld)
+}
+
+fn has_just(counts: &Counts, meld: &Meld) -> bool
+    ensures { result ≡ has_just counts.now meld.now }
+{
+    (0..34).all(|number| counts.get(Kind::at(number)) == meld.tiles(Kind::at(number)))
+}
+
+/// The word of a meld, and the text after its colon.
+fn read_name(text: &[u8]) -> Option<(MeldName, &[u8])>
+    ensures { MatchOption result (cut_named (cut_at 58 text.now) ≡ None) (λ cut. cut_named (cut_at 58 text.now) ≡ Some (cut.0, cut.1.now)) }
+{
+    let (word, tiles) = split_at_colon(text)?;
+    let name = name_of(word)?;
+    Some((name, tiles))
+}
+
+/// What stands before and after the first colon.
+fn split_at_colon(text: &[u8]) -> Option<(&[u8], &[u8])>
+    ensures { MatchOption result (cut_at 58 text.now ≡ None) (λ cut. cut_at 58 text.now ≡ Some (cut.0.now, cut.1.now)) }
+{
+    for (place, byte) in text.iter().enumerate() {
+        if *byte == b':' {
+            return Some((&text[..place], &text[place + 1..]));
+        }
+    }
+    None
+}
+
+fn name_of(word: &[u8]) -> Option<MeldName>
+    ensures { result ≡ named word.now }
+{
+    if word == b"chi".as_slice() {
+        Some(MeldName::Chi)
+    } else if word == b"pon".as_slice() {
+        Some(MeldName::Pon)
+    } else if word == b"kan".as_slice() {
+        Some(MeldName::Kan)
+    } else if word == b"ankan".as_slice() {
+        Some(MeldName::Ankan)
+    } else {
+        None
+    }
+}
