@@ -4,103 +4,133 @@
 //! blocks lacks, and the ranks that some least choice lacks.
 use crate::tiles::{write_kind, write_number, Counts, Melds};
 
-const NONE: u16 = 999;
-type Lanes = [u16; 8];
+use std::arch::x86_64::*;
 
-/// Entries of 0 to 4 sets: without a pair in the first half, with one in the second.
+const NONE: u16 = 255;
+
+/// Sixteen lanes: 0 to 4 sets without a pair from lane 0 on, with a pair from lane 8 on. Lacks are bytes, 255 for none;
+/// marks are words, in two halves.
 #[derive(Clone, Copy)]
-pub struct Row {
-    lack: [Lanes; 2],
-    marks: [Lanes; 2],
+struct Lanes {
+    lack: __m128i,
+    marks: [__m128i; 2],
 }
 
-impl Row {
-    const EMPTY: Row = Row { lack: [[NONE; 8]; 2], marks: [[0; 8]; 2] };
+fn all(number: u8) -> __m128i {
+    // SAFETY: SSE2 is part of x86-64, here and below.
+    unsafe { _mm_set1_epi8(number as i8) }
+}
 
-    fn nothing() -> Row {
-        let mut row = Row::EMPTY;
-        row.lack[0][0] = 0;
-        row
+impl Lanes {
+    fn empty() -> Lanes {
+        let zero = unsafe { _mm_setzero_si128() };
+        Lanes { lack: all(255), marks: [zero, zero] }
+    }
+
+    fn nothing() -> Lanes {
+        let lack = unsafe { _mm_setr_epi8(0, -1, -1, -1, -1, -1, -1, -1, -1, -1, -1, -1, -1, -1, -1, -1) };
+        Lanes { lack, ..Lanes::empty() }
     }
 
     #[inline(always)]
-    fn with_sets(&self, sets: usize) -> Row {
-        let mut row = Row::EMPTY;
-        for half in 0..2 {
-            for lane in sets..8 {
-                row.lack[half][lane] = self.lack[half][lane - sets];
-                row.marks[half][lane] = self.marks[half][lane - sets];
-            }
-        }
-        row
-    }
-
-    #[inline(always)]
-    fn with_pair(&self) -> Row {
-        Row { lack: [[NONE; 8], self.lack[0]], marks: [[0; 8], self.marks[0]] }
-    }
-
-    /// The lesser of each entry; equal ones join their marks. The other lacks so many more, at these marks.
-    #[inline(always)]
-    fn join(&mut self, other: &Row, lack: u16, mark: u16) {
-        for half in 0..2 {
-            for lane in 0..8 {
-                let (mine, theirs) = (self.lack[half][lane], other.lack[half][lane] + lack);
-                let marks = other.marks[half][lane] | mark;
-                let keep = if mine <= theirs { self.marks[half][lane] } else { 0 };
-                let take = if theirs <= mine { marks } else { 0 };
-                self.lack[half][lane] = mine.min(theirs);
-                self.marks[half][lane] = keep | take;
-            }
+    fn with_set(self) -> Lanes {
+        unsafe {
+            let first = _mm_setr_epi8(-1, 0, 0, 0, 0, 0, 0, 0, -1, 0, 0, 0, 0, 0, 0, 0);
+            let lack = _mm_or_si128(_mm_slli_epi64(self.lack, 8), first);
+            Lanes { lack, marks: [_mm_slli_si128(self.marks[0], 2), _mm_slli_si128(self.marks[1], 2)] }
         }
     }
+
+    #[inline(always)]
+    fn with_pair(self) -> Lanes {
+        unsafe {
+            let first = _mm_setr_epi8(-1, -1, -1, -1, -1, -1, -1, -1, 0, 0, 0, 0, 0, 0, 0, 0);
+            let lack = _mm_or_si128(_mm_slli_si128(self.lack, 8), first);
+            Lanes { lack, marks: [_mm_setzero_si128(), self.marks[0]] }
+        }
+    }
+
+    /// The lesser of each entry, where the other lacks so many more at this rank; equal ones join their marks.
+    #[inline(always)]
+    fn join(&mut self, other: Lanes, lack: u8, mark: __m128i) {
+        unsafe {
+            let theirs = _mm_adds_epu8(other.lack, all(lack));
+            let least = _mm_min_epu8(self.lack, theirs);
+            let keep = _mm_cmpeq_epi8(self.lack, least);
+            let take = _mm_cmpeq_epi8(theirs, least);
+            let keeps = [_mm_unpacklo_epi8(keep, keep), _mm_unpackhi_epi8(keep, keep)];
+            let takes = [_mm_unpacklo_epi8(take, take), _mm_unpackhi_epi8(take, take)];
+            for half in 0..2 {
+                let kept = _mm_and_si128(self.marks[half], keeps[half]);
+                let taken = _mm_and_si128(_mm_or_si128(other.marks[half], mark), takes[half]);
+                self.marks[half] = _mm_or_si128(kept, taken);
+            }
+            self.lack = least;
+        }
+    }
+
+    fn row(self) -> Row {
+        // SAFETY: a vector register is as large as sixteen bytes or eight words.
+        unsafe { Row { lack: std::mem::transmute(self.lack), marks: std::mem::transmute(self.marks) } }
+    }
+}
+
+/// The finished entries of a suit.
+#[derive(Clone, Copy)]
+pub struct Row {
+    lack: [[u8; 8]; 2],
+    marks: [[u16; 8]; 2],
 }
 
 /// The row of one suit, from the last rank to the first. `open[one][two]`: runs begun one and two ranks before.
 #[inline(never)]
 fn suit_row(counts: &[u8], caps: &[u8], runs: bool) -> Row {
-    let mut open = [[Row::EMPTY; 3]; 3];
-    open[0][0] = Row::nothing();
-    let most = if runs { 3 } else { 1 };
+    let mut open = [[Lanes::empty(); 3]; 3];
+    open[0][0] = Lanes::nothing();
+    let states = if runs { 3 } else { 1 };
     for rank in (0..counts.len()).rev() {
         let later = open;
-        for one in 0..most {
-            for two in 0..most {
-                let mut row = Row::EMPTY;
+        // a run begins at the seventh rank at the latest
+        let most = if runs && rank < 7 { 3 } else { 1 };
+        let ones = if rank == 8 { 1 } else { states };
+        for one in 0..ones {
+            for two in 0..states {
+                let mut row = Lanes::empty();
                 for new in 0..most {
-                    blocks_at(&mut row, &later[new][one], (one + two + new) as u8, new, counts[rank], caps[rank], rank);
+                    let used = (one + two + new) as u8;
+                    blocks_at(&mut row, later[new][one], used, new, [counts[rank], caps[rank]], rank);
                 }
                 open[one][two] = row;
             }
         }
     }
-    open[0][0]
+    open[0][0].row()
 }
 
 /// Joins what begins at one rank: `new` runs, and no other block, a pair or a triplet.
 #[inline(always)]
-fn blocks_at(row: &mut Row, later: &Row, used: u8, new: usize, have: u8, cap: u8, rank: usize) {
-    let cost = |used: u8| (used.saturating_sub(have) as u16, u16::from(used > have) << rank);
+fn blocks_at(row: &mut Lanes, later: Lanes, used: u8, new: usize, [have, cap]: [u8; 2], rank: usize) {
     if used > cap {
         return;
     }
-    let later = later.with_sets(new);
-    let (lack, mark) = cost(used);
-    row.join(&later, lack, mark);
+    let mark = |used: u8| unsafe { _mm_set1_epi16(if used > have { 1 << rank } else { 0 }) };
+    let mut later = later;
+    for _ in 0..new {
+        later = later.with_set();
+    }
+    row.join(later, used.saturating_sub(have), mark(used));
     if used + 2 <= cap {
-        let (lack, mark) = cost(used + 2);
-        row.join(&later.with_pair(), lack, mark);
+        row.join(later.with_pair(), (used + 2).saturating_sub(have), mark(used + 2));
     }
     if used + 3 <= cap {
-        let (lack, mark) = cost(used + 3);
-        row.join(&later.with_sets(1), lack, mark);
+        row.join(later.with_set(), (used + 3).saturating_sub(have), mark(used + 3));
     }
 }
 
 type Sums = [u16; 10];
 
 fn entry(row: &Row, lane: usize) -> u16 {
-    row.lack[lane / 5][lane % 5]
+    u16::from(row.lack[lane / 5][lane % 5])
 }
 
 fn sums_of(row: &Row) -> Sums {
@@ -309,20 +339,67 @@ fn splits(counts: &mut [u8], runs: bool, has_pair: bool) -> bool {
     one == 0 && two == 0
 }
 
+/// Which suits may take the tile, by their tiles modulo three.
+struct Wanted {
+    /// Whether this suit may take the tile.
+    suits: [bool; 4],
+    /// Whether each suit splits as it is, without a pair and with one.
+    is_split: [bool; 4],
+}
+
+/// What the other suits are without the tile: each splits, with the pair where its tiles are two more than threes.
+fn wanted(concealed: &Counts) -> Wanted {
+    let mut counts = *concealed;
+    let rest = SUITS.map(|(from, to)| concealed[from..to].iter().sum::<u8>() % 3);
+    let fits = |suit: usize| {
+        let after = |other: usize| if other == suit { (rest[other] + 1) % 3 } else { rest[other] };
+        (0..4).all(|other| after(other) != 1) && (0..4).filter(|&other| after(other) == 2).count() == 1
+    };
+    let suits = [fits(0), fits(1), fits(2), fits(3)];
+    let mut is_split = [false; 4];
+    for (suit, &(from, to)) in SUITS.iter().enumerate() {
+        let is_asked = (0..4).any(|taker| taker != suit && suits[taker]);
+        is_split[suit] = is_asked && splits(&mut counts[from..to], from < 27, rest[suit] == 2);
+    }
+    Wanted { suits, is_split }
+}
+
+/// The kinds that complete seven pairs or the orphans.
+fn special_waits(counts: &Counts, waits: &mut Counts) {
+    let twos = counts.iter().filter(|&&held| held == 2).count();
+    if twos == 6 {
+        if let Some(kind) = counts.iter().position(|&held| held == 1) {
+            waits[kind] = 1;
+        }
+    }
+    let (lack, marks) = orphans_of(counts);
+    if lack == 1 {
+        (0..34).filter(|kind| marks >> kind & 1 == 1).for_each(|kind| waits[kind] = 1);
+    }
+}
+
 pub fn write_waits(out: &mut Vec<u8>, concealed: &Counts, melds: &Melds) {
     let mut counts = *concealed;
     let mut held = counts;
     melds.add_to(&mut held);
-    let totals: [u8; 4] = SUITS.map(|(from, to)| concealed[from..to].iter().sum());
     let mut waits = [0u8; 34];
-    for kind in (0..34).filter(|&kind| held[kind] < 4) {
-        counts[kind] += 1;
-        let takes = |suit: usize| (totals[suit] + u8::from(kind / 9 == suit)) % 3;
-        let fits = (0..4).all(|suit| takes(suit) != 1) && (0..4).filter(|&suit| takes(suit) == 2).count() == 1;
-        let standard = fits && SUITS.iter().enumerate().all(|(suit, &(from, to))| splits(&mut counts[from..to], from < 27, takes(suit) == 2));
-        let special = melds.count == 0 && (pairs_of(&counts).0 == 0 && counts.iter().all(|&held| held % 2 == 0 && held < 4) || orphans_of(&counts).0 == 0);
-        waits[kind] = u8::from(standard || special);
-        counts[kind] -= 1;
+    if melds.count == 0 {
+        special_waits(concealed, &mut waits);
+    }
+    let Wanted { suits, is_split } = wanted(concealed);
+    for (suit, &(from, to)) in SUITS.iter().enumerate() {
+        if !suits[suit] || (0..4).any(|other| other != suit && !is_split[other]) {
+            continue;
+        }
+        let has_pair = (concealed[from..to].iter().sum::<u8>() + 1) % 3 == 2;
+        for kind in (from..to).filter(|&kind| held[kind] < 4) {
+            let is_near = from == 27 && counts[kind] > 0 || from < 27 && (kind.max(from + 2) - 2..(kind + 3).min(to)).any(|near| counts[near] > 0);
+            counts[kind] += 1;
+            if is_near || has_pair && counts[kind] == 2 {
+                waits[kind] |= u8::from(splits(&mut counts[from..to], from < 27, has_pair));
+            }
+            counts[kind] -= 1;
+        }
     }
     out.extend_from_slice(b"waits ");
     let before = out.len();
