@@ -1,4 +1,4 @@
-ghost use Rattle.std.specs.Prelude.{◌≡◌, ℕ, map, Some, None, MatchOption};
+ghost use Rattle.std.specs.Prelude.{◌≡◌, ℕ, map, Some, None, true, IfSome, MatchOption};
 ghost use Rattle.std.specs.List.{list_all, range_with_len, find};
 ghost use Rattle.riichi_tiles.specs.Melds.{tiles_of, is_open, is_kong, is_run, is_meld, reads_as, named, melded, meld_of, has_just, cut_named, cut_at};
 ghost use Rattle.riichi_tiles.specs.Tiles.{IsCounts};
@@ -27,7 +27,10 @@ enum MeldName {
 
 impl Meld {
     /// The meld that a text spells: its word, a colon, and the tiles.
+    #[tactic(auto, unfolding(crate::specs::Melds::meld_of))]
     pub fn read(text: &[u8]) -> Option<Meld>
+        ensures value { result ≡ meld_of text.now }
+        ensures proper { IfSome result (λ meld. is_meld meld ≡ true) }
     {
         let (name, tiles) = read_name(text)?;
         match read_counts(tiles) {
@@ -95,7 +98,8 @@ fn begins_run(kind: Kind) -> bool
 
 /// The meld of this name that has just these tiles.
 fn find_meld(name: MeldName, counts: &Counts) -> Option<Meld>
-    ensures { result ≡ find (reads_as counts.now) (map (melded name) (range_with_len 0 34)) }
+    ensures value { result ≡ find (reads_as counts.now) (map (melded name) (range_with_len 0 34)) }
+    ensures proper { IfSome result (λ meld. is_meld meld ≡ true) }
 {
     (0..34)
         .map(|number| make(name, Kind::at(number)))
