@@ -12,7 +12,18 @@ pub enum Block {
 }
 
 impl Block {
-    /// Whether a tile of the kind is one of the block's.
+    /// How many tiles of a kind it has.
+    pub fn tiles(&self, kind: Kind) -> u8
+        ensures { result ≡ copies self.now kind }
+    {
+        match *self {
+            Block::Run(_) => u8::from(self.contains(kind)),
+            Block::Triplet(held) => if held == kind { 3 } else { 0 },
+            Block::Pair(held) => if held == kind { 2 } else { 0 },
+        }
+    }
+
+    /// Whether it has a tile of the kind.
     pub fn contains(&self, kind: Kind) -> bool
         ensures { result ≡ nat_lt 0 (copies self.now kind) }
     {

@@ -1,7 +1,8 @@
 ghost use Rattle.std.specs.Prelude.{◌≡◌, ℕ, map, Some, None, true, IfSome, MatchOption};
 ghost use Rattle.std.specs.List.{list_all, range_with_len, find};
-ghost use Rattle.riichi_tiles.specs.Melds.{tiles_of, is_open, is_kong, is_run, is_meld, reads_as, named, melded, meld_of, has_just, cut_named, cut_at};
-ghost use Rattle.riichi_tiles.specs.Tiles.{IsCounts};
+ghost use Rattle.riichi_tiles.specs.Melds.{tiles_of, is_open, is_kong, is_meld, reads_as, named, melded, meld_of, has_just, cut_named, cut_at, SpellsMeld};
+ghost use Rattle.riichi_tiles.specs.declared.meld.Meld.{Meld};
+ghost use Rattle.riichi_tiles.specs.Tiles.{begins_run};
 
 use crate::counts::Counts;
 use crate::kind::Kind;
@@ -30,6 +31,8 @@ impl Meld {
     #[tactic(auto, unfolding(crate::specs::Melds::meld_of))]
     pub fn read(text: &[u8]) -> Option<Meld>
         ensures value { result ≡ meld_of text.now }
+        ensures spelled { IfSome result (λ meld. SpellsMeld text.now meld) }
+        ensures only { (meld : Meld) → SpellsMeld text.now meld → result ≡ Some meld }
         ensures proper { IfSome result (λ meld. is_meld meld ≡ true) }
     {
         let (name, tiles) = read_name(text)?;
@@ -88,12 +91,11 @@ impl Meld {
     }
 }
 
-/// A run can begin at this kind.
+/// A run can begin at a 1 to 7 of m, p or s.
 fn begins_run(kind: Kind) -> bool
-    ensures { result ≡ is_run kind }
+    ensures { result ≡ begins_run kind }
 {
-    let low = kind.index();
-    low <= 6 || (9 <= low && low <= 15) || (18 <= low && low <= 24)
+    kind.index() < 27 && kind.index() % 9 < 7
 }
 
 /// The meld of this name that has just these tiles.
