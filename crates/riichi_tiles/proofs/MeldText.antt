@@ -184,11 +184,11 @@ finds_meld counts meld are proper just =
     (range_all (λ kind. nat_eq (slice_index counts kind) (tiles_of meld kind)) 0 34 (λ kind. eq-eqb (slice_index counts kind) (tiles_of meld kind) (just kind))) in
     find_made (reads_as counts) (melded name) 0 34 k (omega arith) (omega arith) (subst P (sym (melded_same meld)) passes)
     (λ i low before. false_from_ne_true (reads_as counts (melded name i)) (λ is.
-        let parts = and_parts (is_meld (melded name i)) (has_just counts (melded name i)) is in
-        let agree : (kind : ℕ) → kind < 34 → tiles_of (melded name i) kind ≡ tiles_of (melded name k) kind =
-        (λ kind short. sym (just_at counts (melded name i) kind parts.1 short) ∙ just kind ∙ ap (λ m. tiles_of m kind) (sym (melded_same meld))) in
-        let same : i ≡ k = same_kind name i k (agree i (omega arith)) (agree k below) in
-        omega arith))
+    let parts = and_parts (is_meld (melded name i)) (has_just counts (melded name i)) is in
+    let agree : (kind : ℕ) → kind < 34 → tiles_of (melded name i) kind ≡ tiles_of (melded name k) kind =
+    (λ kind short. sym (just_at counts (melded name i) kind parts.1 short) ∙ just kind ∙ ap (λ m. tiles_of m kind) (sym (melded_same meld))) in
+    let same : i ≡ k = same_kind name i k (agree i (omega arith)) (agree k below) in
+    omega arith))
     ∙ ap Some (melded_same meld)
 
 -- Both directions.

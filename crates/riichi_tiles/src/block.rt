@@ -3,11 +3,14 @@ ghost use Rattle.riichi_tiles.specs.Blocks.{copies};
 
 use crate::kind::Kind;
 
-/// A run, named by its lowest kind, a triplet or a pair.
+/// What concealed tiles are split into.
 #[derive(Clone, Copy, Debug, PartialEq, Eq)]
 pub enum Block {
+    /// Three successive numbers of one suit, named by the lowest.
     Run(Kind),
+    /// Three of a kind.
     Triplet(Kind),
+    /// Two of a kind.
     Pair(Kind),
 }
 

@@ -8,16 +8,20 @@ use crate::counts::Counts;
 use crate::kind::Kind;
 use crate::notation::read_counts;
 
-/// A set that was melded. `Chi` names the lowest kind of its run.
+/// A set that a player called from a discard, or a kong that was declared.
 #[derive(Clone, Copy, Debug, PartialEq, Eq)]
 pub enum Meld {
+    /// A run, named by its lowest kind, which should be a 1 to 7 of m, p or s ([`Meld::is_proper`]).
     Chi(Kind),
+    /// A triplet.
     Pon(Kind),
+    /// Four of a kind, called or added to a triplet.
     Kan(Kind),
+    /// Four of a kind from the player's own tiles: a concealed kong.
     Ankan(Kind),
 }
 
-/// The four words of a meld.
+/// The four words for a meld.
 #[derive(Clone, Copy)]
 enum MeldName {
     Chi,
@@ -27,7 +31,8 @@ enum MeldName {
 }
 
 impl Meld {
-    /// The meld that a text spells: its word, a colon, and the tiles.
+    /// The meld that a text spells: its word, a colon, and the notation of just its tiles, in any order, as `chi:340m` or
+    /// `pon:1z1z1z`. `None` for any other text; why it is no meld isn't told.
     #[tactic(auto, unfolding(crate::specs::Melds::meld_of))]
     pub fn read(text: &[u8]) -> Option<Meld>
         ensures value { result ≡ meld_of text.now }
@@ -61,7 +66,7 @@ impl Meld {
         }
     }
 
-    /// Every meld but a concealed kong opens the hand.
+    /// Whether it opens the hand, as every meld does but a concealed kong.
     pub fn is_open(&self) -> bool
         ensures { result ≡ is_open self.now }
     {
@@ -71,6 +76,7 @@ impl Meld {
         }
     }
 
+    /// Whether it has four tiles.
     pub fn is_kong(&self) -> bool
         ensures { result ≡ is_kong self.now }
     {
@@ -80,7 +86,7 @@ impl Meld {
         }
     }
 
-    /// A `Chi` names a 1 to 7 of m, p or s.
+    /// Whether it can be laid down: a `Chi` has to begin at a 1 to 7 of m, p or s, any other meld can.
     pub fn is_proper(&self) -> bool
         ensures { result ≡ is_meld self.now }
     {

@@ -12,7 +12,7 @@ each_found text (Some meld) each = each meld refl
 pub returns-in-Ok-clause-spelled : goal.returns-in-Ok-clause-spelled
 returns-in-Ok-clause-spelled c =
     each_found c.args.text.now c.find_meld.result (λ meld is.
-        found_spells c.args.text.now c.in_ok-name.name c.in_ok-name.tiles.now c.in-Ok.counts meld c.in_ok-name.ensures c.in-Ok.ensures.ok (sym c.find_meld.ensures.value ∙ is))
+    found_spells c.args.text.now c.in_ok-name.name c.in_ok-name.tiles.now c.in-Ok.counts meld c.in_ok-name.ensures c.in-Ok.ensures.ok (sym c.find_meld.ensures.value ∙ is))
 
 pub returns-in-Ok-clause-only : goal.returns-in-Ok-clause-only
 returns-in-Ok-clause-only c = λ meld spells.
