@@ -1,0 +1,4 @@
+pub mod WordLemmas
+pub mod CutLemmas
+pub mod FlagLemmas
+pub mod FieldLemmas

@@ -1,0 +1,8 @@
+//! Record lines: a word for the job, a word for the hand, and words of keys and values.
+mod cuts;
+mod entry;
+mod fields;
+mod flags;
+mod job_name;
+mod key;
+mod values;
