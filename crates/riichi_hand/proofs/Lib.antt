@@ -2,3 +2,5 @@ pub mod WordLemmas
 pub mod CutLemmas
 pub mod FlagLemmas
 pub mod FieldLemmas
+pub mod MeldLemmas
+pub mod OutcomeLemmas

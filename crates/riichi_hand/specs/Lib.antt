@@ -7,3 +7,4 @@ pub mod Words
 pub mod Values
 pub mod Keys
 pub mod Entries
+pub mod Lines

@@ -1,8 +1,10 @@
 -- The values of the keys that are no notation.
-use Rattle.std.specs.Prelude.{ℕ, ◌+◌, ◌-◌, ◌*◌, List, [], ◌∷◌, Bool, ◌&&◌, Option, None, Some, nat_lt, nat_le, if◌then◌else◌, codes}
-use Rattle.std.specs.List.{list_any, list_all, count_by}
+use Rattle.std.specs.Prelude.{ℕ, ◌+◌, ◌-◌, ◌*◌, List, [], ◌∷◌, Bool, ◌&&◌, Option, None, Some, nat_lt, nat_le, is_some, length, if◌then◌else◌, codes}
+use Rattle.std.specs.List.{list_any, list_all, count_by, filter_map}
 use Rattle.std.specs.Str.{bytes_eq}
 use Rattle.riichi_tiles.specs.Notation.{is_digit}
+use Rattle.riichi_tiles.specs.Melds.{meld_of}
+use Rattle.riichi_tiles.specs.declared.meld.Meld.{Meld}
 use Rattle.riichi_hand.specs.declared.win.By.{By}
 use Rattle.riichi_hand.specs.declared.win.By.TheVariants.{Ron, Tsumo}
 use Rattle.riichi_hand.specs.declared.win.Wind.{Wind}
@@ -61,3 +63,13 @@ flags_of_items items = if are_flags items then Some (flags_in items) else None
 
 unfoldable pub flags_of : List ℕ → Option Flags
 flags_of value = flags_of_items (items_of value)
+
+-- Melds: one to four, joined by commas.
+abbrev pub is_spelled : List ℕ → Bool
+is_spelled item = is_some (meld_of item)
+
+abbrev pub melds_of_items : List (List ℕ) → Option (List Meld)
+melds_of_items items = if list_all is_spelled items && nat_le (length items) 4 then Some (filter_map meld_of items) else None
+
+unfoldable pub melds_of : List ℕ → Option (List Meld)
+melds_of value = melds_of_items (items_of value)

@@ -4,5 +4,12 @@ mod entry;
 mod fields;
 mod flags;
 mod job_name;
+mod jobs;
 mod key;
+mod open;
+mod parts;
+mod record;
+mod texts;
 mod values;
+
+pub use record::read_line;

@@ -1,5 +1,5 @@
 //! What the words after the hand say.
-ghost use Rattle.std.specs.Prelude.{◌≡◌, ◌∷◌, ◌++◌, [], Some, None, List, ℕ, option_map, slice_index_or, slice_set};
+ghost use Rattle.std.specs.Prelude.{◌≡◌, ◌∷◌, ◌++◌, [], Some, None, List, ℕ, option_map, unwrap_or, slice_index_or, slice_set};
 ghost use Rattle.riichi_hand.specs.declared.line.job_name.JobName.{JobName};
 ghost use Rattle.riichi_hand.specs.Keys.{number_of_key};
 ghost use Rattle.riichi_hand.specs.Words.{words_of};
@@ -33,6 +33,13 @@ impl<'a> Fields<'a> {
         ensures { option_map (λ value. value.now) result ≡ (entries_in self.now).value key }
     {
         self.values[key.index()]
+    }
+
+    /// The value of a key, or nothing where it is missing.
+    pub(crate) fn text(&self, key: Key) -> &'a [u8]
+        ensures { result.now ≡ unwrap_or ((entries_in self.now).value key) [] }
+    {
+        self.value(key).unwrap_or(&[])
     }
 
     /// The fields after one more word.
