@@ -1,9 +1,11 @@
 pub mod Placed
 pub mod Lists
-pub mod Splits
+pub mod Cuts
 pub mod Sound
 pub mod Complete
-pub mod Steps
-pub mod Theorem
-pub mod All
+pub mod AllSplits
+pub mod SplitSteps
+pub mod Dones
+pub mod DoneSteps
+pub mod AllReadings
 pub mod Next

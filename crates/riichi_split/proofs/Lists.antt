@@ -1,5 +1,5 @@
 -- Membership and difference by recursion on a list, and what std's words say of them.
-use Rattle.std.proofs.Common.{◌≡◌, ◌≢◌, ℕ, zero, suc, ◌<◌, ◌⊎◌, inl, inr, List, [], ◌∷◌, ◌++◌, length, get_or, map, refl, sym, ap, subst, arith, All, Contains}
+use Rattle.std.proofs.Common.{flat_map, ◌≡◌, ◌≢◌, ℕ, zero, suc, ◌<◌, ◌⊎◌, inl, inr, List, [], ◌∷◌, ◌++◌, length, get_or, map, refl, sym, ap, subst, arith, All, Contains}
 use Rattle.std.specs.List.{AllPairs}
 
 module _ {X : Type 0} where
@@ -59,6 +59,36 @@ module _ {X : Type 0} where
   AllPairs-differ (x ∷ xs) h zero (suc j) d l m = λ e. h.0 (subst (λ (z : X). IsIn z xs) (sym e) (get_or-in xs j d (omega arith)))
   AllPairs-differ (x ∷ xs) h (suc i) zero d l m = absurd (omega arith)
   AllPairs-differ (x ∷ xs) h (suc i) (suc j) d l m = AllPairs-differ xs h.1 i j d (omega arith) (omega arith)
+
+  pub in-All : (P : X → Type 0) (xs : List X) → All P xs → (x : X) → IsIn x xs → P x
+  in-All P [] h x i = absurd i
+  in-All P (y ∷ ys) h x (inl e) = subst P e (h 0 y (omega arith))
+  in-All P (y ∷ ys) h x (inr i) = in-All P ys (λ k d l. h (suc k) d (omega arith)) x i
+
+  pub differ-AllPairs : (xs : List X) → AllPairs ◌≢◌ xs → Differ xs
+  differ-AllPairs [] h = tt
+  differ-AllPairs (x ∷ xs) h =
+      (λ i. let c = Contains-in x xs i in h 0 (suc c.0) x (omega arith) (omega (arith, c.1)) (sym c.2), differ-AllPairs xs (λ i j d l m. h (suc i) (suc j) d (omega arith) (omega arith)))
+
+module _ {X Y : Type 0} (f : X → List Y) where
+  pub in-flat_map : (x : X) (y : Y) (xs : List X) → IsIn x xs → IsIn y (f x) → IsIn y (flat_map f xs)
+  in-flat_map x y [] h i = absurd h
+  in-flat_map x y (z ∷ zs) (inl e) i = in-left y (f z) (flat_map f zs) (subst (λ (w : X). IsIn y (f w)) (sym e) i)
+  in-flat_map x y (z ∷ zs) (inr h) i = in-right y (f z) (flat_map f zs) (in-flat_map x y zs h i)
+
+  pub in-flat_map-inv : (y : Y) (xs : List X) → IsIn y (flat_map f xs) → (x : X) × IsIn x xs × IsIn y (f x)
+  in-flat_map-inv y [] h = absurd h
+  in-flat_map-inv y (x ∷ xs) h =
+      elim (in-cases y (f x) (flat_map f xs) h) [
+        | inl a ↦ (x, inl refl, a)
+        | inr b ↦ let i = in-flat_map-inv y xs b in (i.0, inr i.1, i.2)
+      ]
+
+  pub Differ-flat_map : (xs : List X) → ((x : X) → Differ (f x)) → ((a b : X) (y : Y) → IsIn y (f a) → IsIn y (f b) → a ≡ b) → Differ xs → Differ (flat_map f xs)
+  Differ-flat_map [] d s h = tt
+  Differ-flat_map (x ∷ xs) d s h =
+      Differ-append (f x) (flat_map f xs) (d x) (Differ-flat_map xs d s h.1)
+      (λ y a b. let i = in-flat_map-inv y xs b in h.0 (subst (λ (z : X). IsIn z xs) (sym (s x i.0 y a i.2)) i.1))
 
 module _ {X Y : Type 0} (f : X → Y) where
   pub in-map : (x : X) (xs : List X) → IsIn x xs → IsIn (f x) (map f xs)

@@ -1,4 +1,6 @@
-pub mod Sets
-pub mod Engine
-pub mod Left
 pub mod Readings
+pub mod Sets
+pub mod Cuts
+pub mod Dones
+pub mod SplitsLeft
+pub mod Left

@@ -1,10 +1,10 @@
--- The steps of `Readings` over the lists of `Engine`.
-use Rattle.std.proofs.Common.{◌≡◌, ℕ, zero, suc, ◌+◌, ◌-◌, ◌/◌, ◌<◌, ◌≤◌, Bool, true, false, cond, ◌&&◌, ◌||◌, not, Option, Some, None, is_some, MatchOption, List, [], ◌∷◌, ◌++◌, length, drop, refl, sym, ap, ◌∙◌, arith, ltb, add-one}
+-- One step along the blocks that the winning tile completes.
+use Rattle.std.proofs.Common.{◌≡◌, ℕ, zero, suc, ◌+◌, ◌≤◌, Bool, true, false, cond, ◌&&◌, ◌||◌, not, Option, Some, None, is_some, MatchOption, List, [], ◌∷◌, ◌++◌, length, drop, refl, sym, ap, ◌∙◌, arith, ltb, add-one}
 use Rattle.std.specs.List.{slice_get}
 use Rattle.riichi_tiles.specs.declared.block.Block.{Block}
 use Rattle.riichi_tiles.specs.declared.block.Block.TheVariants.{Pair}
 use Rattle.riichi_tiles.specs.Blocks.{copies}
-use Rattle.riichi_split.specs.Engine.{same_block, is_among, dones, done_first, done_unless_again, sets_at, readings_of, from_choice}
+use Rattle.riichi_split.specs.Dones.{same_block, is_among, dones, done_first, done_unless_again}
 
 or-false : (b : Bool) → (b || false) ≡ b
 or-false true = refl
@@ -55,14 +55,3 @@ dones-found w place bs before (Some d) e s h = rw add-one (sym h ∙ dones-suc w
 pub dones-passed : (w place : ℕ) (bs before : List Block) (o : Option Block) → o ≡ done_first w (drop place bs) → is_some o ≡ false → dones w (drop place bs) ≡ before → dones w (drop (place + 1) bs) ≡ before
 dones-passed w place bs before None e s h = rw add-one (sym (dones-suc w place bs None e) ∙ h)
 dones-passed w place bs before (Some d) e s h = absurd (cc)
-
-from_choice-suc : (c : List ℕ) (wanted w i n : ℕ) (o : Option (List Block)) → n ≡ suc i → o ≡ sets_at c wanted i → from_choice c wanted w n ≡ readings_of w (i / 16) o ++ from_choice c wanted w i
-unfolding from_choice
-from_choice-suc c wanted w i n o e h = ap (from_choice c wanted w) e ∙ ap (λ x. readings_of w (i / 16) x ++ from_choice c wanted w i) (sym h)
-
-pub from_choice-step : (c : List ℕ) (wanted w n : ℕ) (o : Option (List Block)) → 0 < n → o ≡ sets_at c wanted (n - 1) → from_choice c wanted w n ≡ readings_of w ((n - 1) / 16) o ++ from_choice c wanted w (n - 1)
-from_choice-step c wanted w n o l e = from_choice-suc c wanted w (n - 1) n o (omega arith) e
-
-pub from_choice-zero : (c : List ℕ) (wanted w n : ℕ) → n ≡ 0 → from_choice c wanted w n ≡ []
-unfolding from_choice
-from_choice-zero c wanted w n e = ap (from_choice c wanted w) e

@@ -1,6 +1,6 @@
 use Rattle.std.proofs.Common.{◌≡◌, ◌++◌, replicate}
 use Rattle.riichi_tiles.specs.declared.block.Block.TheVariants.{Run, Triplet}
-use Rattle.riichi_split.proofs.split.begin.Given as goal
+use Rattle.riichi_split.proofs.cutting.begin.Given as goal
 
 abbrev pub invariant-loop-triplet : goal.invariant-loop-triplet
 invariant-loop-triplet l = l.sets ≡ l.initial.sets ++ replicate l.triplet (Triplet l.kind)
