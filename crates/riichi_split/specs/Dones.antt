@@ -1,4 +1,4 @@
--- How the search finds the blocks that the winning tile completes. No public clause cites this.
+-- The different blocks of a split that the winning tile completes.
 use Rattle.std.specs.Prelude.{ℕ, Bool, false, ◌&&◌, ◌||◌, not, Option, Some, None, List, [], ◌∷◌, ◌++◌, map, if◌then◌else◌, nat_lt, ◌==◌}
 use Rattle.riichi_tiles.specs.declared.block.Block.{Block}
 use Rattle.riichi_tiles.specs.declared.block.Block.TheVariants.{Run, Triplet, Pair}
@@ -45,8 +45,8 @@ abbrev pub read_with : Split → Block → Reading
 read_with split done = Standard split.sets split.pair done
 
 -- the readings of a split
-abbrev pub readings_of : ℕ → Split → List Reading
-readings_of w split = map (read_with split) (dones w (blocks_of split))
+abbrev pub readings_with : ℕ → Split → List Reading
+readings_with w split = map (read_with split) (dones w (blocks_of split))
 
 abbrev pub flagged : Bool → Reading → List Reading
 flagged b r = if b then r ∷ [] else []

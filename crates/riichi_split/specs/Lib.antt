@@ -1,4 +1,7 @@
 pub mod Readings
+pub mod ReadingsOf
+pub mod Winning
+pub mod Waits
 pub mod Sets
 pub mod Cuts
 pub mod Dones
