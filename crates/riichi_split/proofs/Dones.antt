@@ -5,7 +5,7 @@ use Rattle.riichi_tiles.specs.declared.block.Block.{Block}
 use Rattle.riichi_tiles.specs.declared.block.Block.TheVariants.{Run, Triplet, Pair}
 use Rattle.riichi_tiles.specs.Blocks.{copies}
 use Rattle.riichi_split.specs.Dones.{same_block, is_among, dones}
-use Rattle.riichi_split.proofs.Lists.{IsIn, Differ}
+use Rattle.riichi_split.proofs.Lists.{or-cases, or-right, IsIn, Differ}
 
 same-block : (a b : Block) → same_block a b ≡ true → a ≡ b
 same-block (Run a) (Run b) e = ap Run (grind (arith, nat_tests))
@@ -22,14 +22,6 @@ same_block-self : (a : Block) → same_block a a ≡ true
 same_block-self (Run a) = grind (arith, nat_tests)
 same_block-self (Triplet a) = grind (arith, nat_tests)
 same_block-self (Pair a) = grind (arith, nat_tests)
-
-or-cases : (a b : Bool) → (a || b) ≡ true → (a ≡ true) ⊎ (b ≡ true)
-or-cases true b e = inl refl
-or-cases false b e = inr e
-
-or-right : (a b : Bool) → b ≡ true → (a || b) ≡ true
-or-right true b e = refl
-or-right false b e = e
 
 in-is_among : (b : Block) (xs : List Block) → is_among b xs ≡ true → IsIn b xs
 in-is_among b [] e = absurd (cc)

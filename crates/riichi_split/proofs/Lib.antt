@@ -9,3 +9,5 @@ pub mod Dones
 pub mod DoneSteps
 pub mod AllReadings
 pub mod Next
+pub mod Collections
+pub mod EveryReading

@@ -1,6 +1,27 @@
 -- Membership and difference by recursion on a list, and what std's words say of them.
-use Rattle.std.proofs.Common.{flat_map, ◌≡◌, ◌≢◌, ℕ, zero, suc, ◌<◌, ◌⊎◌, inl, inr, List, [], ◌∷◌, ◌++◌, length, get_or, map, refl, sym, ap, subst, arith, All, Contains}
-use Rattle.std.specs.List.{AllPairs}
+use Rattle.std.proofs.Common.{◌∙◌, ◌≤◌, ◌+◌, Bool, true, false, ◌&&◌, ◌||◌, flat_map, ◌≡◌, ◌≢◌, ℕ, zero, suc, ◌<◌, ◌⊎◌, inl, inr, List, [], ◌∷◌, ◌++◌, length, get_or, map, refl, sym, ap, subst, arith, All, Contains}
+use Rattle.std.specs.List.{AllPairs, list_all, list_any, range_with_len}
+use Rattle.std.proofs.lemmas.Bool.{and_from, cases_eq}
+
+pub and-left : (a b : Bool) → (a && b) ≡ true → a ≡ true
+and-left true b h = refl
+and-left false b h = absurd (cc)
+
+pub and-right : (a b : Bool) → (a && b) ≡ true → b ≡ true
+and-right true b h = h
+and-right false b h = absurd (cc)
+
+pub or-cases : (a b : Bool) → (a || b) ≡ true → (a ≡ true) ⊎ (b ≡ true)
+or-cases true b e = inl refl
+or-cases false b e = inr e
+
+pub or-left : (a b : Bool) → a ≡ true → (a || b) ≡ true
+or-left true b e = refl
+or-left false b e = absurd (cc)
+
+pub or-right : (a b : Bool) → b ≡ true → (a || b) ≡ true
+or-right true b e = refl
+or-right false b e = e
 
 module _ {X : Type 0} where
   -- x is an element
@@ -105,3 +126,39 @@ module _ {X Y : Type 0} (f : X → Y) where
   Differ-map [] j h = tt
   Differ-map (x ∷ xs) j h =
       (λ i. let m = in-map-inv (f x) xs i in h.0 (subst (λ (z : X). IsIn z xs) (j m.0 x m.2) m.1), Differ-map xs j h.1)
+
+-- ---- tests of all and of some elements
+
+module _ {X : Type 0} (p : X → Bool) where
+  pub all-in : (xs : List X) → list_all p xs ≡ true → (x : X) → IsIn x xs → p x ≡ true
+  all-in [] h x i = absurd i
+  all-in (y ∷ ys) h x (inl e) = ap p (sym e) ∙ and-left (p y) (list_all p ys) h
+  all-in (y ∷ ys) h x (inr i) = all-in ys (and-right (p y) (list_all p ys) h) x i
+
+  pub all-from : (xs : List X) → ((x : X) → IsIn x xs → p x ≡ true) → list_all p xs ≡ true
+  all-from [] h = refl
+  all-from (y ∷ ys) h = and_from (p y) (list_all p ys) (h y (inl refl)) (all-from ys (λ x i. h x (inr i)))
+
+  pub any-in : (xs : List X) → list_any p xs ≡ true → (x : X) × IsIn x xs × (p x ≡ true)
+  any-in [] h = absurd (cc)
+  any-in (y ∷ ys) h = elim (or-cases (p y) (list_any p ys) h) [ inl e ↦ (y, inl refl, e) | inr r ↦ let i = any-in ys r in (i.0, inr i.1, i.2) ]
+
+  pub any-from : (xs : List X) (x : X) → IsIn x xs → p x ≡ true → list_any p xs ≡ true
+  any-from [] x i e = absurd i
+  any-from (y ∷ ys) x (inl i) e = or-left (p y) (list_any p ys) (ap p i ∙ e)
+  any-from (y ∷ ys) x (inr i) e = or-right (p y) (list_any p ys) (any-from ys x i e)
+
+-- ---- the numbers of a range
+
+pub in-range : (n a k : ℕ) → a ≤ k → k < a + n → IsIn k (range_with_len a n)
+in-range zero a k l h = absurd (omega arith)
+in-range (suc n) a k l h = elim (cases_eq a k) [ inl e ↦ inl e | inr u ↦ inr (in-range n (a + 1) k (omega arith) (omega arith)) ]
+
+pub in-range-inv : (n a k : ℕ) → IsIn k (range_with_len a n) → (a ≤ k) × (k < a + n)
+in-range-inv zero a k h = absurd h
+in-range-inv (suc n) a k (inl e) = (omega arith, omega arith)
+in-range-inv (suc n) a k (inr h) = let i = in-range-inv n (a + 1) k h in (omega (arith, i.0), omega (arith, i.1))
+
+pub Differ-range : (n a : ℕ) → Differ (range_with_len a n)
+Differ-range zero a = tt
+Differ-range (suc n) a = (λ h. let i = in-range-inv n (a + 1) a h in absurd (omega (arith, i.0)), Differ-range n (a + 1))
