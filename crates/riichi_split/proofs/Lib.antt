@@ -11,3 +11,5 @@ pub mod AllReadings
 pub mod Next
 pub mod Collections
 pub mod EveryReading
+pub mod AnyTile
+pub mod Marks

@@ -9,7 +9,11 @@ mod sets;
 mod special;
 mod split;
 mod splits;
+mod waiting;
+mod winning;
 
 pub use reading::Reading;
 pub use readings::Readings;
 pub use sets::Sets;
+pub use waiting::{waits, waits_text};
+pub use winning::is_win;
