@@ -3,7 +3,6 @@ use Rattle.std.specs.Prelude.{ℕ, Bool, false, List, [], ◌∷◌, ◌++◌, r
 use Rattle.std.specs.List.{list_any}
 use Rattle.riichi_hand.specs.declared.win.WinParts.{WinParts}
 use Rattle.riichi_split.specs.declared.reading.Reading.{Reading}
-use Rattle.riichi_yaku.specs.declared.hand_block.HandBlock.{HandBlock}
 use Rattle.riichi_yaku.specs.declared.luck.Luck.{Luck}
 use Rattle.riichi_yaku.specs.declared.honours.Honours.{Honours}
 use Rattle.riichi_yaku.specs.declared.runs.Runs.{Runs}
@@ -55,8 +54,8 @@ flags_of reading parts =
     let blocks = blocks_of reading parts in
     let tiles = all_tiles parts in
     yakuman_alone
-        (ordinary_flags (luck_of parts) (honours_of blocks parts) (runs_of blocks reading parts) (outside_of blocks) (triplets_of blocks) (tiles_of reading tiles))
-        (yakuman_flags (yakuman_of blocks reading tiles parts))
+    (ordinary_flags (luck_of parts) (honours_of blocks parts) (runs_of blocks reading parts) (outside_of blocks) (triplets_of blocks) (tiles_of reading tiles))
+    (yakuman_flags (yakuman_of blocks reading tiles parts))
 
 -- the yaku of this number is in the set of the reading
 unfoldable pub holds : Reading → WinParts → ℕ → Bool

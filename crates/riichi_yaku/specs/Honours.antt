@@ -6,7 +6,7 @@ use Rattle.riichi_hand.specs.Win.{wind_kind}
 use Rattle.riichi_yaku.specs.declared.hand_block.HandBlock.{HandBlock}
 use Rattle.riichi_yaku.specs.declared.honours.Honours.{Honours}
 use Rattle.riichi_yaku.specs.HandBlocks.{has_triplet, has_pair}
-use Rattle.riichi_yaku.specs.Kinds.{white, green, red, winds, dragons}
+use Rattle.riichi_yaku.specs.Kinds.{white, green, red, dragons}
 
 -- 7: a triplet of White
 abbrev pub is_white_dragon : List HandBlock → Bool

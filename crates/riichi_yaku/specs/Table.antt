@@ -1,5 +1,5 @@
 -- The table of the yaku.
-use Rattle.std.specs.Prelude.{ℕ, ◌+◌, Bool, List, [], ◌∷◌, ◌++◌, codes, map, slice_index, if◌then◌else◌}
+use Rattle.std.specs.Prelude.{ℕ, ◌+◌, Bool, List, [], ◌∷◌, ◌++◌, codes, map, slice_index_or, if◌then◌else◌}
 use Rattle.riichi_yaku.specs.YakuSets.{has_number}
 
 -- a row: the printed word, the han of a concealed hand and of an open one (0 where the hand must be concealed, and for a yakuman)
@@ -56,6 +56,10 @@ table =
     ∷ row (codes "blessing-of-heaven") 0 0
     ∷ row (codes "blessing-of-earth") 0 0
     ∷ []
+
+-- the printed word of the yaku of this number
+abbrev pub word_of : ℕ → List ℕ
+word_of number = slice_index_or (map (λ row. row.word) table) number []
 
 -- the han of a row
 abbrev pub row_han : Bool → Row → ℕ

@@ -2,8 +2,8 @@
 ghost use Rattle.std.specs.Prelude.{◌≡◌, ◌++◌, ◌+◌, ◌≤◌, [], map, length};
 ghost use Rattle.riichi_yaku.specs.HandBlocks as spec;
 
-use arrayvec::ArrayVec;
 use crate::luck::is_ron;
+use arrayvec::ArrayVec;
 use riichi_hand::{By, WinRecord};
 use riichi_split::{Reading, Sets};
 use riichi_tiles::{Block, Kind, Meld, Melds};

@@ -3,7 +3,9 @@ ghost use Rattle.std.specs.Prelude.{◌≡◌};
 ghost use Rattle.riichi_yaku.specs.Kinds as spec;
 
 pub(crate) const WHITE: usize = 31;
+
 pub(crate) const GREEN: usize = 32;
+
 pub(crate) const RED: usize = 33;
 
 /// A wind or a dragon.

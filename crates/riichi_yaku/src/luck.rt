@@ -17,7 +17,8 @@ pub(crate) struct Luck {
     pub last_tile: bool,
 }
 
-pub(crate) fn is_ron(by: By) -> bool
+/// Whether the win is by ron.
+pub fn is_ron(by: By) -> bool
     ensures { result ≡ win_spec.is_ron by }
 {
     match by {

@@ -74,9 +74,7 @@ fn is_twice_pure_double_chow(blocks: &[HandBlock], win: &WinRecord) -> bool
 fn is_pure_double_chow(blocks: &[HandBlock], win: &WinRecord) -> bool
     ensures { result ≡ spec.is_pure_double_chow blocks.now win.now }
 {
-    win.melds().concealed()
-        && has_equal_runs(blocks)
-        && !is_twice_pure_double_chow(blocks, win)
+    win.melds().concealed() && has_equal_runs(blocks) && !is_twice_pure_double_chow(blocks, win)
 }
 
 fn has_run_in_each_suit(blocks: &[HandBlock], low: usize) -> bool

@@ -1,5 +1,5 @@
 //! The table of the yaku.
-ghost use Rattle.std.specs.Prelude.{◌≡◌, ◌<◌, ◌≤◌, ◌^◌, length, if◌then◌else◌};
+ghost use Rattle.std.specs.Prelude.{◌≡◌, ◌<◌, ◌≤◌, [], map, slice_index_or, if◌then◌else◌};
 ghost use Rattle.riichi_yaku.specs.Table as spec;
 ghost use Rattle.riichi_yaku.specs.YakuSets.{has_number};
 
@@ -95,6 +95,14 @@ fn earned(set: YakuSet, number: u8, han: u8) -> u8
 /// The printed word of the yaku of this number.
 pub fn word(number: u8) -> &'static str
     requires { number < 41 }
+    ensures { result.now ≡ spec.word_of number }
 {
-    WORDS[number as usize]
+    word_in(&WORDS, number)
+}
+
+fn word_in(words: &[&'static str; 41], number: u8) -> &'static str
+    requires { number < 41 }
+    ensures { result.now ≡ slice_index_or (map (λ text. text.now) words.now) number [] }
+{
+    words[number as usize]
 }

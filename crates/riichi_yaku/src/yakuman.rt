@@ -145,7 +145,8 @@ fn is_four_kongs(blocks: &[HandBlock]) -> bool
     kongs_among(blocks) == 4
 }
 
-fn is_dealer(seat: Wind) -> bool
+/// Whether this is the seat East.
+pub fn is_dealer(seat: Wind) -> bool
     ensures { result ≡ spec.is_dealer seat }
 {
     matches!(seat, Wind::East)

@@ -1,9 +1,6 @@
-use Rattle.std.proofs.Common.{◌≡◌, ◌*◌, ◌^◌, ap, ◌∙◌, cond, nat_eq, List, Bool}
-use Rattle.riichi_hand.specs.declared.win.WinParts.{WinParts}
-use Rattle.riichi_split.specs.declared.reading.Reading.{Reading}
-use Rattle.riichi_yaku.specs.HandBlocks.{blocks_of}
+use Rattle.std.proofs.Common.{◌*◌, ◌^◌, ap, ◌∙◌, cond, nat_eq, List, Bool}
 use Rattle.riichi_yaku.specs.YakuSets.{number_of, has_number}
-use Rattle.riichi_yaku.specs.Conditions.{ordinary_flags, yakuman_flags, yaku_of}
+use Rattle.riichi_yaku.specs.Conditions.{ordinary_flags, yakuman_flags}
 use Rattle.riichi_yaku.proofs.Flags.{number_of-yakuman_alone}
 use Rattle.riichi_yaku.proofs.Sets.{AreFamilies, of_families-is, has_number-yaku_of}
 use Rattle.riichi_yaku.proofs.conditions.yaku.Goals as goal
@@ -20,17 +17,17 @@ returns-clause-value c =
     let yakuman = c.yakuman_of.result in
     let ordinary : List Bool = ordinary_flags luck honours runs outside triplets tiles in
     let families : AreFamilies c.args.reading.now c.args.win.now blocks c.all_tiles-tiles.result luck honours runs outside triplets tiles yakuman =
-      record {
-        blocks_are = c.as_slice-blocks.ensures.value ∙ c.blocks_of-blocks.ensures;
-        held_are = c.all_tiles-tiles.ensures;
-        luck_is = c.luck_of.ensures;
-        honours_are = c.honours_of.ensures;
-        runs_are = c.runs_of.ensures;
-        outside_is = c.outside_of.ensures;
-        triplets_are = c.triplets_of.ensures;
-        tiles_are = c.tiles_of.ensures;
-        yakuman_are = c.yakuman_of.ensures;
-      } in
+    record {
+      blocks_are = c.as_slice-blocks.ensures.value ∙ c.blocks_of-blocks.ensures;
+      held_are = c.all_tiles-tiles.ensures;
+      luck_is = c.luck_of.ensures;
+      honours_are = c.honours_of.ensures;
+      runs_are = c.runs_of.ensures;
+      outside_is = c.outside_of.ensures;
+      triplets_are = c.triplets_of.ensures;
+      tiles_are = c.tiles_of.ensures;
+      yakuman_are = c.yakuman_of.ensures;
+    } in
     c.new.ensures
     ∙ c.yakuman_alone.ensures.value
     ∙ ap (λ o. cond (nat_eq c.yakuman-yakuman.result 0) o (2 ^ 29 * c.yakuman-yakuman.result)) c.ordinary-ordinary.ensures.value

@@ -1,4 +1,4 @@
-use Rattle.std.proofs.Common.{◌≡◌, ◌++◌, ◌∷◌, [], List, map, sym, ap, ◌∙◌, append_assoc}
+use Rattle.std.proofs.Common.{◌++◌, ◌∷◌, [], List, map, sym, ap, ◌∙◌, append_assoc}
 use Rattle.riichi_yaku.specs.declared.hand_block.HandBlock.{HandBlock}
 use Rattle.riichi_yaku.specs.declared.hand_block.HandBlock.TheVariants.{Pair}
 use Rattle.riichi_yaku.specs.HandBlocks.{of_set, of_meld, blocks_of}
