@@ -1,0 +1,15 @@
+pub mod Placed
+pub mod Lists
+pub mod Cuts
+pub mod Sound
+pub mod Complete
+pub mod AllSplits
+pub mod SplitSteps
+pub mod Dones
+pub mod DoneSteps
+pub mod AllReadings
+pub mod Next
+pub mod Collections
+pub mod EveryReading
+pub mod AnyTile
+pub mod Marks

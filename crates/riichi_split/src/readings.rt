@@ -1,0 +1,92 @@
+ghost use Rattle.std.specs.Prelude.{length};
+ghost use Rattle.std.specs.Iterator.{YieldsFirst, item_count};
+
+use crate::done::next_done;
+use crate::reading::Reading;
+use crate::sets::Sets;
+use crate::special::{is_orphans, is_seven_pairs};
+use crate::split::Split;
+use crate::splits::Splits;
+use riichi_tiles::{Counts, Kind, Melds};
+use std::iter::FusedIterator;
+use std::marker::Model;
+
+/// The readings of a hand, each once, seen as the list of those that are left.
+#[derive(Drop)]
+pub struct Readings {
+    winning: Kind,
+    // Those of the special shapes are still to come.
+    seven_pairs: bool,
+    orphans: bool,
+    // The blocks from `place` on of this split are still to be looked at.
+    split: Split,
+    place: usize,
+    // The splits that are still to come.
+    splits: Splits,
+}
+
+impl Model for Readings {
+    ghost use Rattle.std.specs.Prelude.{List};
+    ghost use Rattle.riichi_split.specs.declared.reading.Reading.{Reading};
+
+    ghost Value = { List Reading };
+
+    ghost use Rattle.riichi_split.specs.Left.{readings_left};
+
+    ghost view = { readings_left };
+}
+
+impl Readings {
+    ghost use Rattle.riichi_split.specs.Readings.{AreTheReadings};
+
+    /// The readings of the concealed tiles, with the winning tile among them, beside the melds.
+    pub fn new(counts: &Counts, melds: &Melds, winning: Kind) -> Readings
+        ensures { AreTheReadings counts.now (length melds.now) winning result }
+    {
+        let melds = melds.count();
+        let tiles = counts.to_array();
+        Readings {
+            winning,
+            seven_pairs: is_seven_pairs(&tiles, melds),
+            orphans: is_orphans(&tiles, melds),
+            split: Split {
+                sets: Sets::new(),
+                pair: Kind::at(0),
+            },
+            place: 1,
+            splits: Splits::new(counts, melds),
+        }
+    }
+}
+
+impl Iterator for Readings {
+    type Item = Reading;
+
+    ghost next_gives = { YieldsFirst (λ left. left) };
+
+    ghost remaining = { item_count (λ left. left) };
+
+    fn next(&mut self) -> Option<Reading> {
+        if self.seven_pairs {
+            self.seven_pairs = false;
+            return Some(Reading::SevenPairs);
+        }
+        if self.orphans {
+            self.orphans = false;
+            return Some(Reading::Orphans);
+        }
+        loop {
+            if let Some(done) = next_done(&self.split, self.winning, &mut self.place) {
+                return Some(Reading::Standard {
+                    sets: self.split.sets,
+                    pair: self.split.pair,
+                    done,
+                });
+            }
+            self.split = self.splits.next()?;
+            self.place = 0;
+        }
+    }
+}
+
+impl FusedIterator for Readings {}
