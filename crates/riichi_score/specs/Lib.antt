@@ -1,2 +1,3 @@
 pub mod Base
+pub mod Dora
 pub mod Payment
