@@ -1,0 +1,9 @@
+pub mod Placed
+pub mod Lists
+pub mod Splits
+pub mod Sound
+pub mod Complete
+pub mod Steps
+pub mod Theorem
+pub mod All
+pub mod Next

@@ -1,0 +1,4 @@
+pub mod Sets
+pub mod Engine
+pub mod Left
+pub mod Readings

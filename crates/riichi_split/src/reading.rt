@@ -1,0 +1,12 @@
+use crate::sets::Sets;
+use riichi_tiles::{Block, Kind};
+
+/// How the tiles of a hand are read.
+#[derive(Clone, Copy, Debug, PartialEq, Eq)]
+pub enum Reading {
+    /// The concealed sets in order, the pair, and the block that the winning tile completes.
+    Standard { sets: Sets, pair: Kind, done: Block },
+    SevenPairs,
+    /// The thirteen orphans: each terminal and honour, one of them twice.
+    Orphans,
+}
