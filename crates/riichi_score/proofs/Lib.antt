@@ -1,2 +1,3 @@
+pub mod EveryReading
 pub mod Wins
 pub mod DoraSums

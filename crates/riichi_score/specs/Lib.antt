@@ -1,3 +1,4 @@
+pub mod EveryReading
 pub mod Base
 pub mod Dora
 pub mod Payment
