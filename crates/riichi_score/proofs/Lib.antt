@@ -1,3 +1,4 @@
 pub mod EveryReading
 pub mod Wins
 pub mod DoraSums
+pub mod Greatest

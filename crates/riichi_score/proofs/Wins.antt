@@ -1,9 +1,10 @@
 -- What the type of a win record says of its parts.
-use Rattle.std.proofs.Common.{◌≡◌, ℕ, ◌+◌, ◌<◌, ◌≤◌, Bool, true, false, not, ◌||◌, Option, Some, None, List, [], ◌∷◌, length, drop, refl, ltb, arith, subst, get_or, ◌∙◌, ap, sym, eqb}
+use Rattle.std.proofs.Common.{◌≡◌, ℕ, ◌+◌, ◌<◌, ◌≤◌, Bool, true, false, not, ◌||◌, Option, Some, None, List, [], ◌∷◌, length, drop, refl, ltb, arith, subst, get_or, ◌∙◌, ap, sym, eqb, cond}
 use Rattle.std.proofs.lemmas.Bool.Decides.{nat_tests}
 use Rattle.std.proofs.lemmas.List.Folds.{list_any_at}
 use Rattle.std.proofs.lemmas.List.FromFn.{get_or-range_with_len, length-range_with_len}
 use Rattle.std.specs.List.{sum, list_any, range_with_len}
+use Rattle.riichi_tiles.specs.Melds.{tiles}
 use Rattle.riichi_hand.specs.declared.fault.LineCode.{LineCode}
 use Rattle.riichi_hand.specs.declared.fault.LineCode.TheVariants.{H4, H8, H9}
 use Rattle.riichi_hand.specs.declared.fault.LineFault.{LineFault}
@@ -48,3 +49,11 @@ pub four_copies : (win : WinParts) (kind : ℕ) → IsWin win → kind < 34 → 
 four_copies win kind h lt =
     four (ltb 4 (copies_in win kind)) (copies_in win kind) refl
     (fails_at (λ k. ltb 4 (copies_in win k)) kind (is_clear win h).copies lt)
+
+self_counts : (concealed melds kind dora ura : ℕ) → concealed + melds + cond (eqb kind kind) 1 0 + dora + ura ≤ 4 → concealed < 4
+self_counts concealed melds kind dora ura h = grind (arith, nat_tests)
+
+-- the hand has room for the winning tile
+pub room_for_winning : (win : WinParts) → IsWin win → win.winning < 34 → get_or win.concealed win.winning 0 < 4
+room_for_winning win h lt =
+    self_counts (get_or win.concealed win.winning 0) (tiles win.melds win.winning) win.winning (get_or win.dora win.winning 0) (get_or win.ura win.winning 0) (four_copies win win.winning h lt)
