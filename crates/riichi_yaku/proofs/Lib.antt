@@ -1,0 +1,4 @@
+pub mod Numbers
+pub mod Sums
+pub mod Flags
+pub mod Sets
