@@ -4,6 +4,7 @@ use Rattle.std.specs.List.{fold}
 use Rattle.std.proofs.lemmas.Bool.Decides.{nat_tests}
 use Rattle.std.proofs.lemmas.List.Elements.{All-contains}
 use Rattle.riichi_tiles.specs.Tiles.{IsCounts}
+use Rattle.riichi_tiles.specs.declared.meld.Meld.{Meld}
 use Rattle.riichi_hand.specs.declared.win.WinParts.{WinParts}
 use Rattle.riichi_split.specs.declared.reading.Reading.{Reading}
 use Rattle.riichi_split.specs.Readings.{AreTheReadings}
@@ -12,7 +13,9 @@ use Rattle.riichi_score.specs.declared.score.Score.{Score}
 use Rattle.riichi_score.specs.declared.answer.WinAnswer.{WinAnswer}
 use Rattle.riichi_score.specs.declared.answer.WinAnswer.TheVariants.{Won, NoYaku, NoWin}
 use Rattle.riichi_score.specs.Scores.{score_of, hand_of, IsReadingOf}
-use Rattle.riichi_score.specs.Best.{rank, is_above, IsBestOf, IsBest, better, best_among}
+use Rattle.riichi_score.specs.EveryReading.{readings_of}
+use Rattle.riichi_score.specs.Best.{rank, is_above, IsBestOf, IsBest, better, best_among, best_of}
+use Rattle.riichi_score.proofs.EveryReading.{readings_of-sound, readings_of-complete}
 
 -- not above is transitive, for lists of one length
 below-step : (x y z : ℕ) (a b c : Bool) → cond (ltb y x) true (cond (ltb x y) false a) ≡ false → cond (ltb z y) true (cond (ltb y z) false b) ≡ false → (a ≡ false → b ≡ false → c ≡ false) → cond (ltb z x) true (cond (ltb x z) false c) ≡ false
@@ -117,13 +120,31 @@ weaker P Q w NoWin f g h = λ r q. h r (g r q)
 weaker P Q w NoYaku f g h = ((h.0.0, f h.0.0 h.0.1), λ r q. h.1 r (g r q))
 weaker P Q w (Won s) f g h = ((h.0.0, f h.0.0 h.0.1, h.0.2), λ r t q e. h.1 r t (g r q) e)
 
-pub best-all : (w : WinParts) (all before left : List Reading) (a : WinAnswer) → AreTheReadings (hand_of w) (length w.melds) w.winning all → IsSoFar w all before left a → left ≡ [] → IsBest w a
-best-all w all before left a readings h e =
-    let same : all ≡ before = h.parts ∙ ap (λ x. before ++ x) e ∙ append-nil before in
-    weaker (λ r. IsIn r before) (IsReadingOf w) w a
-    (λ r i. let P : List Reading → Type 0 = λ x. IsIn r x in All-contains (IsReadingOf w) all r readings.sound (Contains-in r all (subst P (sym same) i)))
-    (λ r q. let P : List Reading → Type 0 = λ x. IsIn r x in subst P same (in-Contains r all (readings.complete r q)))
-    h.best
+-- the readings of this hand, beside so many melds, won by this tile
+pub record AreReadingsOf (w : WinParts) (readings : List Reading) : Type 0 where
+  pub sound : (reading : Reading) → IsIn reading readings → IsReadingOf w reading
+  pub complete : (reading : Reading) → IsReadingOf w reading → IsIn reading readings
+
+pub best-all : (w : WinParts) (all : List Reading) (a : WinAnswer) → AreReadingsOf w all → IsBestOf (λ r. IsIn r all) w a → IsBest w a
+best-all w all a readings h = weaker (λ r. IsIn r all) (IsReadingOf w) w a readings.sound readings.complete h
+
+AreReadingsOf-list : (w : WinParts) (all : List Reading) → AreTheReadings (hand_of w) (length w.melds) w.winning all → AreReadingsOf w all
+AreReadingsOf-list w all h = record {
+  sound = λ r i. All-contains (IsReadingOf w) all r h.sound (Contains-in r all i);
+  complete = λ r q. in-Contains r all (h.complete r q);
+}
+
+pub AreReadingsOf-from : (w : WinParts) (hand : List ℕ) (melds : List Meld) (winning : ℕ) (all : List Reading) → hand ≡ hand_of w → melds ≡ w.melds → winning ≡ w.winning → AreTheReadings hand (length melds) winning all → AreReadingsOf w all
+AreReadingsOf-from w hand melds winning all a b c h =
+    AreReadingsOf-list w all
+    (subst (λ (x : List ℕ). AreTheReadings x (length w.melds) w.winning all) a
+    (subst (λ (x : List Meld). AreTheReadings hand (length x) w.winning all) b
+    (subst (λ (x : ℕ). AreTheReadings hand (length melds) x all) c h)))
+
+pub best-end : (w : WinParts) (all before left : List Reading) (a : WinAnswer) → AreReadingsOf w all → IsSoFar w all before left a → left ≡ [] → IsBest w a
+best-end w all before left a readings h e =
+    let same : before ≡ all = sym (h.parts ∙ ap (λ x. before ++ x) e ∙ append-nil before) in
+    best-all w all a readings (subst (λ (x : List Reading). IsBestOf (λ r. IsIn r x) w a) same h.best)
 
 -- ---- a list of readings
 
@@ -137,3 +158,15 @@ among-more w before (r ∷ rest) a h =
 
 pub best_among-IsBestOf : (w : WinParts) (readings : List Reading) → IsBestOf (λ r. IsIn r readings) w (best_among w readings)
 best_among-IsBestOf w readings = among-more w [] readings NoWin (λ r h. h)
+
+-- the list of every reading
+pub best_of-IsBest : (w : WinParts) → IsCounts (hand_of w) → IsBest w (best_of w)
+unfolding best_of
+best_of-IsBest w counts =
+    let all = readings_of (hand_of w) (length w.melds) w.winning in
+    best-all w all (best_among w all)
+    (record {
+      sound = λ r i. readings_of-sound (hand_of w) (length w.melds) w.winning r counts i;
+      complete = λ r q. readings_of-complete (hand_of w) (length w.melds) w.winning r q;
+    })
+    (best_among-IsBestOf w all)

@@ -2,3 +2,4 @@ pub mod EveryReading
 pub mod Wins
 pub mod DoraSums
 pub mod Greatest
+pub mod Uniqueness

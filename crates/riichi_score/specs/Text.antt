@@ -15,17 +15,22 @@ payment_text (DealerTsumo each) = decimal each ++ codes " all"
 
 -- a yakuman, or the han and the fu
 abbrev pub worth_text : Score → List ℕ
-worth_text score = if is_yakuman score.yaku then codes "yakuman " else decimal score.han ++ codes " han " ++ decimal score.fu ++ codes " fu "
+worth_text score =
+    if is_yakuman score.yaku then codes "yakuman "
+    else decimal score.han ++ codes " han " ++ decimal score.fu ++ codes " fu "
 
 -- nothing where there is no dora
 abbrev pub dora_text : ℕ → List ℕ
 dora_text dora = if dora == 0 then [] else codes " dora " ++ decimal dora
 
+-- the words of the yaku stand in the order of their numbers, each after a space
 abbrev pub score_text : Score → List ℕ
 score_text score =
-    codes "won " ++ worth_text score ++ payment_text score.payment ++ codes " gain " ++ decimal score.gain ++ words_of score.yaku ++ dora_text score.dora
+    codes "won " ++ worth_text score ++ payment_text score.payment
+    ++ codes " gain " ++ decimal score.gain
+    ++ words_of score.yaku ++ dora_text score.dora
 
-abbrev pub text_of : WinAnswer → List ℕ
+unfoldable pub text_of : WinAnswer → List ℕ
 text_of NoWin = codes "no win"
 text_of NoYaku = codes "no yaku"
 text_of (Won score) = score_text score

@@ -8,6 +8,7 @@ mod payers;
 mod points;
 mod score;
 mod settlement;
+//mod text;
 
 pub use answer::{WinAnswer, best};
 pub use base::{base_points, han};
@@ -17,3 +18,4 @@ pub use points::fu;
 pub use riichi_yaku::{YakuSet, yaku};
 pub use score::Score;
 pub use settlement::payment;
+//pub use text::win_text;
