@@ -2,3 +2,4 @@ pub mod Numbers
 pub mod Sums
 pub mod Flags
 pub mod Sets
+pub mod Words

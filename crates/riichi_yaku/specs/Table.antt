@@ -79,10 +79,14 @@ sum_of (han ∷ more) = han + sum_of more
 unfoldable pub han_of : ℕ → Bool → ℕ
 han_of set concealed = han_from 0 (map (row_han concealed) table) set
 
+-- a space and this word, if the number is in the set
+abbrev pub spaced_if : Bool → List ℕ → List ℕ
+spaced_if is_there word = if is_there then codes " " ++ word else []
+
 -- a space and the word of each row whose number is in the set; the first has this number
 abbrev pub words_from : ℕ → List Row → ℕ → List ℕ
 words_from number [] set = []
-words_from number (row ∷ rows) set = (if has_number set number then codes " " ++ row.word else []) ++ words_from (number + 1) rows set
+words_from number (row ∷ rows) set = spaced_if (has_number set number) row.word ++ words_from (number + 1) rows set
 
 -- The words of a set, in the order of their numbers, each after a space.
 unfoldable pub words_of : ℕ → List ℕ

@@ -31,7 +31,7 @@ pub use honours::pair_fu;
 pub use kinds::is_orphan;
 pub use luck::is_ron;
 pub use runs::is_pinfu;
-pub use table::{han_of, word};
+pub use table::{han_of, word, words_of};
 pub use waits::wait_fu;
 pub use yaku_set::YakuSet;
 pub use yakuman::is_dealer;

@@ -1,9 +1,10 @@
 //! The table of the yaku.
-ghost use Rattle.std.specs.Prelude.{◌≡◌, ◌<◌, ◌≤◌, [], map, slice_index_or, if◌then◌else◌};
+ghost use Rattle.std.specs.Prelude.{◌≡◌, ◌<◌, ◌≤◌, [], map, length, ◌+◌, ◌++◌, slice_index_or, if◌then◌else◌};
 ghost use Rattle.riichi_yaku.specs.Table as spec;
 ghost use Rattle.riichi_yaku.specs.YakuSets.{has_number};
 
 use crate::YakuSet;
+use arrayvec::ArrayString;
 
 const WORDS: [&str; 41] = [
     "riichi",
@@ -105,4 +106,28 @@ fn word_in(words: &[&'static str; 41], number: u8) -> &'static str
     ensures { result.now ≡ slice_index_or (map (λ text. text.now) words.now) number [] }
 {
     words[number as usize]
+}
+
+/// The words of a set in the order of their numbers, each after a space.
+#[tactic(auto, unfolding(crate::specs::Table::words_of))]
+pub fn words_of(set: YakuSet) -> ArrayString<600>
+    ensures value { result.bytes ≡ spec.words_of set }
+    ensures most { length result.bytes ≤ 593 }
+{
+    let mut text = ArrayString::new();
+    for number in 0..41 {
+        push_word(&mut text, set, number);
+    }
+    text
+}
+
+fn push_word(text: &mut ArrayString<600>, set: YakuSet, number: u8)
+    requires number { number < 41 }
+    requires room { length text.old.bytes + length (spec.spaced_if (has_number set number) (spec.word_of number)) ≤ 600 }
+    ensures { text.new.bytes ≡ text.old.bytes ++ spec.spaced_if (has_number set number) (spec.word_of number) }
+{
+    if set.contains(number) {
+        text.push_str(" ");
+        text.push_str(word(number));
+    }
 }
