@@ -8,7 +8,7 @@ mod payers;
 mod points;
 mod score;
 mod settlement;
-//mod text;
+mod text;
 
 pub use answer::{WinAnswer, best};
 pub use base::{base_points, han};
@@ -18,4 +18,4 @@ pub use points::fu;
 pub use riichi_yaku::{YakuSet, yaku};
 pub use score::Score;
 pub use settlement::payment;
-//pub use text::win_text;
+pub use text::win_text;
