@@ -3,7 +3,20 @@
 //! `waits_answer` answers one hand, as the command `waits` prints it.
 #![tactic(auto)]
 
+mod answering;
+mod desk;
+mod fault;
+mod line_buffer;
+mod outbox;
+mod profile;
+mod report;
 mod split;
+mod teller;
+mod text;
 mod waits;
+mod words;
 
+pub use fault::DeskFault;
+pub use report::DeskReport;
+pub use text::desk_text;
 pub use waits::{WaitsLine, waits_answer};
