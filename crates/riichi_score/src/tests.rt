@@ -58,28 +58,31 @@ fn says(rt: &impl Abort, parts: WinParts, text: &str) -> Result<(), Fail> {
     Ok(())
 }
 
-fn drawn(parts: WinParts) -> WinParts {
-    WinParts {
-        by: By::Tsumo,
-        ..parts
-    }
-}
-
 #[test]
 fn runs_and_draws(rt: HostRuntime) -> Result<(), Fail> {
     let plain = ron("234m567m345p67s99s", &[], "5s")?;
-    let dealer = WinParts {
-        seat: Wind::East,
-        counters: 2,
-        sticks: 1,
-        ..drawn(plain)
+    let drawn = WinParts {
+        by: By::Tsumo,
+        ..ron("234m567m345p67s99s", &[], "5s")?
     };
     says(&rt, plain, "won 1 han 30 fu 1000 gain 1000 pinfu")?;
     says(
         &rt,
-        drawn(plain),
+        drawn,
         "won 2 han 20 fu 400/700 gain 1500 fully-concealed pinfu",
     )?;
+    Ok(())
+}
+
+#[test]
+fn a_dealer_draws(rt: HostRuntime) -> Result<(), Fail> {
+    let dealer = WinParts {
+        by: By::Tsumo,
+        seat: Wind::East,
+        counters: 2,
+        sticks: 1,
+        ..ron("234m567m345p67s99s", &[], "5s")?
+    };
     says(
         &rt,
         dealer,
