@@ -1,0 +1,4 @@
+pub mod Blocks
+pub mod Joins
+pub mod LaneLemmas
+pub mod Steps

@@ -1,0 +1,6 @@
+pub mod Columns
+pub mod Join
+pub mod Lanes
+pub mod Open
+pub mod Row
+pub mod Suit
