@@ -1,5 +1,5 @@
 -- Choices of blocks and columns by rank tell the same lacks.
-use Rattle.std.proofs.Common.{◌≡◌, ℕ, zero, suc, ◌+◌, ◌-◌, ◌*◌, ◌<◌, ◌≤◌, Bool, true, false, cond, inl, inr, List, [], ◌∷◌, length, get_or, ltb, eqb, refl, sym, ap, ◌∙◌, ⊎_elim, Some, None, subst, arith}
+use Rattle.std.proofs.Common.{◌≡◌, ℕ, zero, suc, ◌+◌, ◌-◌, ◌*◌, ◌<◌, ◌≤◌, Bool, true, false, cond, inl, inr, List, [], ◌∷◌, ◌++◌, length, get_or, ltb, eqb, refl, sym, ap, ◌∙◌, ⊎_elim, Some, None, subst, arith}
 use Rattle.std.proofs.lemmas.Bool.{false≢true, ltb-true, ltb-false}
 use Rattle.std.proofs.lemmas.Bool.Decides.{nat_tests}
 use Rattle.std.proofs.lemmas.List.Elements.{All-nil, All-cons, All-head, All-tail}
@@ -456,3 +456,7 @@ reached_small runs counts caps lc lk few s p v least low =
     let r = nine_least.reached low in
     let b = blocks_reached runs have cap s p v r.columns r.fits r.has_sets r.has_pairs r.lacks in
     omega (arith, b.lacks, lack_small runs have cap few s p b.blocks b.is_choice)
+
+pub total-append : (r : ℕ) (xs ys : List Block) → total (xs ++ ys) r ≡ total xs r + total ys r
+total-append r [] ys = omega arith
+total-append r (x ∷ xs) ys = omega (arith, total-append r xs ys)

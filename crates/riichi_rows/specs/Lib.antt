@@ -1,5 +1,6 @@
 pub mod Columns
 pub mod Join
+pub mod Lacked
 pub mod Lanes
 pub mod Open
 pub mod Row
