@@ -22,7 +22,7 @@ orphan_lack t k h here same = grind (arith, nat_tests)
 
 -- ---- the kind held twice
 
-or_true : (a b : Bool) → (a || b) ≡ true → (a ≡ true) ⊎ (b ≡ true)
+pub or_true : (a b : Bool) → (a || b) ≡ true → (a ≡ true) ⊎ (b ≡ true)
 or_true true b e = inl refl
 or_true false b e = inr e
 

@@ -150,7 +150,7 @@ classes (zero ∷ hs) = omega (arith, classes hs)
 classes (suc zero ∷ hs) = omega (arith, classes hs)
 classes (suc (suc h) ∷ hs) = omega (arith, of_two h, classes hs)
 
-spread_total : (f : ℕ → ℕ) (xs : List ℕ) → spread (λ k. f (get_or xs k 0)) 0 (length xs) ≡ total_of f xs
+pub spread_total : (f : ℕ → ℕ) (xs : List ℕ) → spread (λ k. f (get_or xs k 0)) 0 (length xs) ≡ total_of f xs
 unfolding total_of spread
 spread_total f [] = refl
 spread_total f (x ∷ xs) =

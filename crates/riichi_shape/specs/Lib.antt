@@ -1,5 +1,9 @@
+pub mod Accepted
+pub mod Discards
 pub mod Distance
+pub mod EveryWinning
 pub mod Lacked
+pub mod LiveCopies
 pub mod Orphans
 pub mod Pairs
 pub mod Suits

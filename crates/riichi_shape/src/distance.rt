@@ -1,7 +1,8 @@
 //! The distance of a hand from winning, and its shanten.
-ghost use Rattle.std.specs.Prelude.{ℕ, ◌≤◌, ◌<◌};
+ghost use Rattle.std.specs.Prelude.{ℕ, ◌≡◌, ◌≤◌, ◌<◌};
 ghost use Rattle.riichi_tiles.specs.Melds.{tiles};
 ghost use Rattle.riichi_shape.specs.Distance.{IsDistance, NoneLacksLess, ShantenReached};
+ghost use Rattle.riichi_shape.specs.EveryWinning.{distance_of, shanten_of};
 
 use crate::orphans::orphans_distance;
 use crate::pairs::pairs_distance;
@@ -11,6 +12,7 @@ use riichi_tiles::{Counts, Melds};
 /// The least number of tiles that the hand lacks of a winning multiset.
 pub(crate) fn distance(hand: &Counts, melds: &Melds) -> u8
     requires { (kind : ℕ) → kind < 34 → tiles melds.now kind ≤ 4 }
+    ensures value { result ≡ distance_of hand.now melds.now }
     ensures least { IsDistance hand.now melds.now result }
     ensures few { result ≤ 14 }
 {
@@ -28,6 +30,9 @@ pub(crate) fn distance(hand: &Counts, melds: &Melds) -> u8
 /// One less than the distance: 0 for a ready hand, -1 for a complete one.
 pub fn shanten(hand: &Counts, melds: &Melds) -> i8
     requires { (kind : ℕ) → kind < 34 → tiles melds.now kind ≤ 4 }
+    ensures value { result ≡ shanten_of hand.now melds.now }
+
+    // Some winning multiset lacks one tile more than this, and none lacks fewer.
     ensures reached { ShantenReached hand.now melds.now result }
     ensures none_less { NoneLacksLess hand.now melds.now result }
 {

@@ -1,5 +1,6 @@
 use Rattle.std.proofs.Common.{Some, None, arith}
 use Rattle.riichi_shape.proofs.Distances.{never_none, standard_few, open_distance, closed_distance, least_beside}
+use Rattle.riichi_shape.proofs.Uniqueness.{distance_is}
 use Rattle.riichi_shape.proofs.distance.distance.Goals as goal
 
 pub unreachable-requires : goal.unreachable-requires
@@ -25,3 +26,9 @@ returns-clause-least c =
     (least_beside c.args.hand.now c.args.melds.now c.count-melded.result (Some c.in-Some.standard) c.count-melded.ensures.value c.in-Some.ensures) (omega (arith, c.if-melded-gt0.false, c.count-melded.ensures.value))
     c.pairs_distance.result c.orphans_distance.result c.min.result pairs.bound pairs.reached orphans.bound orphans.reached
     (omega (arith, c.min.ensures, c.min-special.ensures, orphans.few))
+
+pub returns-then-melded-gt0-clause-value : goal.returns-then-melded-gt0-clause-value
+returns-then-melded-gt0-clause-value c = distance_is c.args.hand.now c.args.melds.now c.in-Some.standard (returns-then-melded-gt0-clause-least c)
+
+pub returns-clause-value : goal.returns-clause-value
+returns-clause-value c = distance_is c.args.hand.now c.args.melds.now c.min.result (returns-clause-least c)
