@@ -1,3 +1,4 @@
+pub mod AcceptedLemmas
 pub mod BySuit
 pub mod Counted
 pub mod Distances
