@@ -10,7 +10,6 @@ mod line_buffer;
 mod outbox;
 mod profile;
 mod report;
-mod split;
 mod teller;
 mod text;
 mod waits;
