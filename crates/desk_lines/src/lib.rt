@@ -14,7 +14,6 @@ mod split;
 mod teller;
 mod text;
 mod waits;
-mod words;
 
 pub use fault::DeskFault;
 pub use report::DeskReport;
