@@ -3,10 +3,11 @@ use Rattle.std.proofs.Common.{◌≡◌, ℕ, ◌+◌, ◌<◌, ◌≤◌, inl, 
 use Rattle.std.proofs.lemmas.List.{append-nil, take_all, length-take}
 use Rattle.std.proofs.lemmas.Grind.{flat_map-append}
 use Rattle.std.proofs.lemmas.List.Sums.{sum_by-append}
-use Rattle.std.proofs.lemmas.Bool.{cases_lt, lt-ltb, lt-leb}
+use Rattle.std.proofs.lemmas.Bool.{cases_lt, lt-ltb}
 use Rattle.std.specs.Prelude.{codes, count_by, is_some, unwrap_or}
 use Rattle.riichi_hand.specs.declared.win.Rules.{Rules}
 use Rattle.riichi_hand.specs.declared.win.Rules.TheVariants.{One}
+use Rattle.riichi_hand.specs.Lines.{outcome_of}
 use Rattle.desk_lines.specs.Lines.{without_return}
 use Rattle.desk_lines.specs.Profile.{profile_of, profile_of_words, rules_of, record_lines}
 use Rattle.desk_lines.specs.LineAnswer.{answer_of}
@@ -73,12 +74,12 @@ without_return_short (byte ∷ next ∷ bytes) = let shorter = without_return_sh
 
 -- the front of a line that is longer than any record is read alike
 too_long : (rules : Rules) (line : List ℕ) → 4096 < length line → answer_of rules line ≡ Some (codes "refused H1")
-unfolding answer_of
+unfolding answer_of outcome_of
 too_long rules line long = rw (lt-ltb 4096 (length line) long) refl
 
 no_profile : (line : List ℕ) → 4096 < length line → profile_of line ≡ None
 unfolding profile_of
-no_profile line long = rw (lt-leb (length line) 4096 long) refl
+no_profile line long = rw (lt-ltb 4096 (length line) long) refl
 
 told_long : (rules : Option Rules) (line : List ℕ) → 4096 < length line → told_by rules line ≡ Some (codes "refused H1")
 told_long None line long = rw (no_profile line long) (too_long One line long)

@@ -13,7 +13,6 @@ mod report;
 mod teller;
 mod text;
 mod waits;
-mod words;
 
 pub use fault::DeskFault;
 pub use report::DeskReport;

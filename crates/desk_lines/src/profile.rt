@@ -1,10 +1,10 @@
 //! The rule profile that a stream's first line can set.
 ghost use Rattle.std.specs.Prelude.{◌≡◌, ◌<◌};
-ghost use Rattle.std.specs.List.{list_all};
-ghost use Rattle.desk_lines.specs.Profile.{is_printed, profile_numbered, profile_of};
+ghost use Rattle.std.specs.List.{list_any};
+ghost use Rattle.riichi_hand.specs.Lines.{is_other_byte};
+ghost use Rattle.desk_lines.specs.Profile.{profile_numbered, profile_of};
 
-use super::words::next_word;
-use riichi_hand::Rules;
+use riichi_hand::{Rules, next_word};
 
 /// The longest line that is read as a record.
 const MOST_LINE: usize = 4_096;
@@ -14,7 +14,7 @@ const MOST_LINE: usize = 4_096;
 pub(crate) fn profile_of(line: &[u8]) -> Option<Rules>
     ensures { result ≡ profile_of line.now }
 {
-    if line.len() > MOST_LINE || !is_printed_line(line) {
+    if line.len() > MOST_LINE || has_other_byte(line) {
         return None;
     }
     let (word, rest) = next_word(line)?;
@@ -37,9 +37,9 @@ fn profile_numbered(number: &[u8]) -> Option<Rules>
     }
 }
 
-/// Whether each byte is printed ASCII.
-fn is_printed_line(line: &[u8]) -> bool
-    ensures { result ≡ list_all is_printed line.now }
+/// Whether a byte isn't printed ASCII.
+fn has_other_byte(line: &[u8]) -> bool
+    ensures { result ≡ list_any is_other_byte line.now }
 {
-    line.iter().all(|byte| *byte >= b' ' && *byte <= b'~')
+    line.iter().any(|byte| *byte < b' ' || *byte > b'~')
 }
