@@ -10,6 +10,8 @@ mod sets;
 mod special;
 mod split;
 mod splits;
+#[cfg(test)]
+mod tests;
 mod waiting;
 mod winning;
 
