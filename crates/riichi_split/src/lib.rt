@@ -10,6 +10,7 @@ mod sets;
 mod special;
 mod split;
 mod splits;
+mod suit;
 #[cfg(test)]
 mod tests;
 mod waiting;
