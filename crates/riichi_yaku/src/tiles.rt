@@ -5,7 +5,7 @@ ghost use Rattle.riichi_yaku.specs.Kinds as kinds;
 ghost use Rattle.riichi_yaku.specs.Tiles as spec;
 
 use crate::blocks::{is_orphans, is_seven_pairs};
-use crate::kinds::{KINDS, is_honour, is_of_suit, is_orphan, is_simple};
+use crate::kinds::{EAST, KINDS, is_honour, is_of_suit, is_orphan, is_simple};
 use riichi_split::Reading;
 
 /// Which yaku of every tile hold.
@@ -69,7 +69,7 @@ fn has_one_suit(tiles: &[u8; 34]) -> bool
 fn has_honours(tiles: &[u8; 34]) -> bool
     ensures { result ≡ words.some kinds.is_honour tiles.now }
 {
-    (0..KINDS).any(|kind| is_honour(kind) && tiles[kind] > 0)
+    (EAST..KINDS).any(|kind| tiles[kind] > 0)
 }
 
 fn is_half_flush(reading: &Reading, tiles: &[u8; 34]) -> bool
