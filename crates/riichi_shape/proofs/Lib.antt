@@ -1,6 +1,7 @@
 pub mod AcceptedLemmas
 pub mod BySuit
 pub mod Counted
+pub mod DiscardLemmas
 pub mod Distances
 pub mod Exists
 pub mod FourSuits

@@ -1,5 +1,5 @@
 -- Which tile to discard from a hand of fourteen, and what it then accepts.
-use Rattle.std.specs.Prelude.{ℕ, ◌-◌, ◌&&◌, Bool, nat_le, nat_lt, if◌then◌else◌, List, [], ◌∷◌, ◌++◌, map, filter, replicate, length, slice_index, Option, None, Some}
+use Rattle.std.specs.Prelude.{ℕ, ◌-◌, ◌&&◌, Bool, true, nat_le, nat_lt, if◌then◌else◌, List, [], ◌∷◌, ◌++◌, map, filter, replicate, length, slice_index, Option, None, Some}
 use Rattle.std.specs.List.{list_all}
 use Rattle.riichi_tiles.specs.Melds.{every_kind}
 use Rattle.riichi_tiles.specs.declared.meld.Meld.{Meld}
@@ -42,6 +42,11 @@ is_discard hand melds kind = is_held hand kind && is_best hand melds kind
 -- the discards of a hand
 unfoldable pub discards_of : List ℕ → List Meld → List ℕ → List Discard
 discards_of hand melds seen = in_order (map (discard_of hand melds seen) (filter (is_discard hand melds) every_kind))
+
+-- a place that is free, or whose discard has no more live copies than this
+abbrev pub gives_way : ℕ → Option Discard → Bool
+gives_way live None = true
+gives_way live (Some discard) = nat_le (live_with discard) live
 
 -- Discards stand in the first of fourteen places.
 abbrev pub as_list : Option Discard → List Discard

@@ -3,6 +3,7 @@
 
 mod acceptance;
 mod discard;
+mod discard_list;
 mod distance;
 mod live_list;
 mod orphans;
@@ -11,6 +12,7 @@ mod standard;
 
 pub use acceptance::accepted;
 pub use discard::Discard;
+pub use discard_list::DiscardList;
 pub use distance::shanten;
 pub use live_list::LiveList;
 pub use riichi_rows::{SuitRow, join_rows, suit_row};
