@@ -86,7 +86,7 @@ put_where discard (next ∷ discards) free n e =
 
 -- ---- a discard put in its place
 
-inserted_length : (discard : Discard) (discards : List Discard) → length (inserted discard discards) ≡ length discards + 1
+pub inserted_length : (discard : Discard) (discards : List Discard) → length (inserted discard discards) ≡ length discards + 1
 unfolding inserted
 inserted_length discard [] = refl
 inserted_length discard (next ∷ discards) = by_test (nat_le (live_with next) (live_with discard)) (inserted discard discards) (inserted_length discard discards)

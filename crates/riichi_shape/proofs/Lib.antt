@@ -9,4 +9,6 @@ pub mod LiveLemmas
 pub mod Members
 pub mod OrphanLemmas
 pub mod PairLemmas
+pub mod RemovalLemmas
+pub mod ShapeFacts
 pub mod Uniqueness

@@ -1,4 +1,5 @@
 pub mod Accepted
+pub mod Answer
 pub mod Discards
 pub mod Distance
 pub mod EveryWinning
