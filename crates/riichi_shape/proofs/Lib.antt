@@ -11,4 +11,5 @@ pub mod OrphanLemmas
 pub mod PairLemmas
 pub mod RemovalLemmas
 pub mod ShapeFacts
+pub mod TextLemmas
 pub mod Uniqueness

@@ -8,4 +8,5 @@ pub mod LiveCopies
 pub mod Orphans
 pub mod Pairs
 pub mod Suits
+pub mod Text
 pub mod Winning

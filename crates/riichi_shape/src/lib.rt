@@ -13,6 +13,7 @@ mod pairs;
 mod removal;
 mod shape_answer;
 mod standard;
+mod text;
 
 pub use acceptance::accepted;
 pub use accepts::Accepts;
@@ -23,3 +24,4 @@ pub use distance::shanten;
 pub use live_list::LiveList;
 pub use riichi_rows::{SuitRow, join_rows, suit_row};
 pub use shape_answer::ShapeAnswer;
+pub use text::shape_text;
