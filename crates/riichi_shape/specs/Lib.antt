@@ -1,4 +1,5 @@
 pub mod Accepted
+pub mod Answer
 pub mod Discards
 pub mod Distance
 pub mod EveryWinning
@@ -7,4 +8,5 @@ pub mod LiveCopies
 pub mod Orphans
 pub mod Pairs
 pub mod Suits
+pub mod Text
 pub mod Winning

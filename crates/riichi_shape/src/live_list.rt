@@ -1,5 +1,5 @@
 //! The kinds that a hand accepts.
-ghost use Rattle.std.specs.Prelude.{ℕ, ◌≡◌, ◌≤◌, length, slice_index};
+ghost use Rattle.std.specs.Prelude.{ℕ, ◌≡◌, ◌≤◌, ◌↔◌, IsTrue, [], length, slice_index};
 ghost use Rattle.riichi_shape.specs.LiveCopies.{copies_in, live_in, pairs_of};
 
 use riichi_tiles::Kind;
@@ -46,11 +46,27 @@ impl LiveList {
     pub fn live(&self) -> u32
         ensures value { result ≡ live_in self.now }
         ensures most { result ≤ 136 }
+        ensures none { result ≡ 0 → self.now ≡ [] }
     {
         let mut live = 0;
         for copies in &self.copies {
             live += *copies as u32;
         }
         live
+    }
+
+    /// No kind has live copies.
+    pub fn is_empty(&self) -> bool
+        ensures { IsTrue result ↔ (self.now ≡ []) }
+    {
+        self.live() == 0
+    }
+
+    /// The live copies of every kind.
+    pub(crate) fn copies(&self) -> [u8; 34]
+        ensures value { self.now ≡ pairs_of result }
+        ensures most { (kind : ℕ) → slice_index result kind ≤ 4 }
+    {
+        self.copies
     }
 }
