@@ -1,0 +1,5 @@
+pub mod EveryReading
+pub mod Wins
+pub mod DoraSums
+pub mod Greatest
+pub mod Uniqueness

@@ -1,0 +1,59 @@
+-- What the type of a win record says of its parts.
+use Rattle.std.proofs.Common.{◌≡◌, ℕ, ◌+◌, ◌<◌, ◌≤◌, Bool, true, false, not, ◌||◌, Option, Some, None, List, [], ◌∷◌, length, drop, refl, ltb, arith, subst, get_or, ◌∙◌, ap, sym, eqb, cond}
+use Rattle.std.proofs.lemmas.Bool.Decides.{nat_tests}
+use Rattle.std.proofs.lemmas.List.Folds.{list_any_at}
+use Rattle.std.proofs.lemmas.List.FromFn.{get_or-range_with_len, length-range_with_len}
+use Rattle.std.specs.List.{sum, list_any, range_with_len}
+use Rattle.riichi_tiles.specs.Melds.{tiles}
+use Rattle.riichi_hand.specs.declared.fault.LineCode.{LineCode}
+use Rattle.riichi_hand.specs.declared.fault.LineCode.TheVariants.{H4, H8, H9}
+use Rattle.riichi_hand.specs.declared.fault.LineFault.{LineFault}
+use Rattle.riichi_hand.specs.declared.win.WinParts.{WinParts}
+use Rattle.riichi_hand.specs.Faults.{coded, first_fault}
+use Rattle.riichi_hand.specs.Win.{IsWin, win_faults, copies_in, has_five_copies, has_wrong_size, is_out_of_range}
+
+-- none of the first three faults
+pub record IsClear (a b c : Bool) : Type 0 where
+  pub range : a ≡ false
+  pub size : b ≡ false
+  pub copies : c ≡ false
+
+clear : (range size copies : Bool) (later : List (Option LineFault)) → first_fault (coded H4 range ∷ coded H8 size ∷ coded H9 copies ∷ later) ≡ None → IsClear range size copies
+clear false false false later h = record { range = refl; size = refl; copies = refl }
+clear true size copies later h = absurd (cc)
+clear false true copies later h = absurd (cc)
+clear false false true later h = absurd (cc)
+
+is_clear : (win : WinParts) → IsWin win → IsClear (is_out_of_range win) (has_wrong_size win) (has_five_copies win)
+is_clear win h = clear (is_out_of_range win) (has_wrong_size win) (has_five_copies win) (drop 3 (win_faults win)) h.no_fault
+
+few : (a : Bool) (dora ura : ℕ) → (not a || ltb 5 dora || ltb 5 ura) ≡ false → dora + ura ≤ 10
+few a dora ura h = grind (arith, nat_tests)
+
+-- at most ten indicators
+pub ten_indicators : (win : WinParts) → IsWin win → sum win.dora + sum win.ura ≤ 10
+ten_indicators win h = few _ (sum win.dora) (sum win.ura) (is_clear win h).size
+
+four : (b : Bool) (n : ℕ) → b ≡ ltb 4 n → (b ≡ true → true ≡ false) → n ≤ 4
+four true n e f = absurd (let c = f refl in cc)
+four false n e f = grind (arith, nat_tests)
+
+-- a test that no kind passes fails at each
+fails_at : (test : ℕ → Bool) (kind : ℕ) → list_any test (range_with_len 0 34) ≡ false → kind < 34 → test kind ≡ true → true ≡ false
+fails_at test kind none lt passed =
+    let place : get_or (range_with_len 0 34) kind 0 ≡ kind = get_or-range_with_len 0 34 kind 0 lt ∙ omega arith in
+    sym (list_any_at test (range_with_len 0 34) kind 0 (omega (arith, length-range_with_len 0 34)) (ap test place ∙ passed)) ∙ none
+
+-- no kind has more than four copies
+pub four_copies : (win : WinParts) (kind : ℕ) → IsWin win → kind < 34 → copies_in win kind ≤ 4
+four_copies win kind h lt =
+    four (ltb 4 (copies_in win kind)) (copies_in win kind) refl
+    (fails_at (λ k. ltb 4 (copies_in win k)) kind (is_clear win h).copies lt)
+
+self_counts : (concealed melds kind dora ura : ℕ) → concealed + melds + cond (eqb kind kind) 1 0 + dora + ura ≤ 4 → concealed < 4
+self_counts concealed melds kind dora ura h = grind (arith, nat_tests)
+
+-- the hand has room for the winning tile
+pub room_for_winning : (win : WinParts) → IsWin win → win.winning < 34 → get_or win.concealed win.winning 0 < 4
+room_for_winning win h lt =
+    self_counts (get_or win.concealed win.winning 0) (tiles win.melds win.winning) win.winning (get_or win.dora win.winning 0) (get_or win.ura win.winning 0) (four_copies win win.winning h lt)

@@ -1,0 +1,84 @@
+//! The best score of a win.
+ghost use Rattle.std.specs.Prelude.{◌≡◌};
+ghost use Rattle.riichi_tiles.specs.Tiles.{IsCounts};
+ghost use Rattle.riichi_score.specs.Best as spec;
+ghost use Rattle.riichi_score.specs.Scores.{hand_of};
+
+use crate::dora;
+use crate::score::{Score, score_of};
+use riichi_hand::WinRecord;
+use riichi_split::Readings;
+use riichi_tiles::Counts;
+
+/// What a win is worth.
+#[derive(Clone, Copy, Debug, PartialEq, Eq)]
+pub enum WinAnswer {
+    Won(Score),
+    /// The hand has a reading, and none with a yaku.
+    NoYaku,
+    /// The hand has no reading.
+    NoWin,
+}
+
+/// The greatest score among the readings that have a yaku: by base points, then a yakuman before a
+/// counted hand, then by han, fu, and the set of yaku as a number.
+pub fn best(win: &WinRecord) -> WinAnswer
+    ensures value { result ≡ spec.best_of win.now }
+    ensures greatest { spec.IsBest win.now result }
+{
+    let dora = dora(win);
+    let hand = hand_of(win);
+    let mut best = WinAnswer::NoWin;
+    for reading in Readings::new(&hand, &win.melds(), win.winning()) {
+        best = better(best, score_of(&reading, win, dora));
+    }
+    best
+}
+
+/// The concealed tiles with the winning tile.
+fn hand_of(win: &WinRecord) -> Counts
+    ensures value { result ≡ hand_of win.now }
+    ensures counts { IsCounts result }
+{
+    let win = win.parts();
+    let mut hand = win.concealed;
+    hand.add(win.winning);
+    hand
+}
+
+/// The greater of what was best and one more reading's score.
+fn better(best: WinAnswer, score: Option<Score>) -> WinAnswer
+    ensures { result ≡ spec.better best score }
+{
+    match (best, score) {
+        (WinAnswer::Won(best), Some(score)) => {
+            if is_above(&score, &best) {
+                WinAnswer::Won(score)
+            } else {
+                WinAnswer::Won(best)
+            }
+        }
+        (WinAnswer::Won(best), None) => WinAnswer::Won(best),
+        (_, Some(score)) => WinAnswer::Won(score),
+        (_, None) => WinAnswer::NoYaku,
+    }
+}
+
+fn is_above(score: &Score, other: &Score) -> bool
+    ensures { result ≡ spec.is_above (spec.rank score.now) (spec.rank other.now) }
+{
+    if score.base != other.base {
+        return score.base > other.base;
+    }
+    let (above, below) = (score.yaku.is_yakuman(), other.yaku.is_yakuman());
+    if above != below {
+        return above;
+    }
+    if score.han != other.han {
+        return score.han > other.han;
+    }
+    if score.fu != other.fu {
+        return score.fu > other.fu;
+    }
+    score.yaku.bits() > other.yaku.bits()
+}

@@ -1,0 +1,63 @@
+//! The dora of a hand, from its indicators and its red fives.
+ghost use Rattle.std.specs.Prelude.{◌≡◌, ◌≤◌};
+ghost use Rattle.std.specs.List.{sum_by};
+ghost use Rattle.riichi_tiles.specs.Melds.{every_kind};
+ghost use Rattle.riichi_tiles.specs.Tiles.{IsCounts};
+ghost use Rattle.riichi_hand.specs.Win.{IsWin, copies_held};
+ghost use Rattle.riichi_score.specs.Dora as spec;
+
+use riichi_hand::{Rules, WinParts, WinRecord};
+use riichi_tiles::{Kind, Reds, dora_of};
+
+/// The han of a hand's dora: for each tile of `dora` and `ura` one for each copy of the kind that it
+/// indicates, melds and the winning tile included, and under the second profile one for each red five.
+#[tactic(auto, unfolding(crate::specs::Dora::dora_of))]
+pub fn dora(win: &WinRecord) -> u8
+    ensures value { result ≡ spec.dora_of win.now }
+    ensures most { result ≤ 52 }
+{
+    let parts = win.parts();
+    indicator_dora(&parts) + red_dora(parts.rules, &parts.reds)
+}
+
+fn red_dora(rules: Rules, reds: &Reds) -> u8
+    ensures value { result ≡ spec.red_dora rules reds.now }
+    ensures most { result ≤ 12 }
+{
+    match rules {
+        Rules::One => 0,
+        Rules::Two => reds.total(),
+    }
+}
+
+fn indicator_dora(win: &WinParts) -> u8
+    requires { IsWin win.now }
+    ensures value { result ≡ sum_by (spec.kind_dora win.now) every_kind }
+    ensures most { result ≤ 40 }
+{
+    let mut sum = 0;
+    for number in 0..34 {
+        sum += kind_dora(win, Kind::at(number));
+    }
+    sum
+}
+
+fn kind_dora(win: &WinParts, kind: Kind) -> u8
+    ensures value { result ≡ spec.kind_dora win.now kind }
+    ensures most { result ≤ 168 }
+{
+    let indicators = win.dora.get(kind) + win.ura.get(kind);
+    if indicators == 0 {
+        return 0;
+    }
+    indicators * copies_held(win, dora_of(kind))
+}
+
+/// The copies of a kind among hand, melds and the winning tile.
+fn copies_held(win: &WinParts, kind: Kind) -> u8
+    ensures value { result ≡ copies_held win.now kind }
+    ensures most { result ≤ 21 }
+{
+    let winning = if win.winning == kind { 1 } else { 0 };
+    win.concealed.get(kind) + win.melds.tiles(kind) + winning
+}

@@ -1,0 +1,65 @@
+//! What is paid for a win.
+ghost use Rattle.std.specs.Prelude.{◌≡◌, ◌+◌, ◌≤◌};
+ghost use Rattle.riichi_score.specs.Payment as spec;
+
+use crate::payers::Payment;
+use riichi_hand::{By, WinRecord, Wind};
+
+/// What is paid for a win of so many base points: East is the dealer, and each counter adds 300 points in all.
+pub fn payment(base: u32, win: &WinRecord) -> Payment
+    requires { base ≤ 8000 }
+    ensures value { result ≡ spec.payment_of base win.now }
+    ensures most { spec.paid result ≤ 130000 }
+{
+    let dealer = is_dealer(win.seat());
+    match win.by() {
+        By::Ron => by_ron(base, dealer, win.counters()),
+        By::Tsumo => by_tsumo(base, dealer, win.counters()),
+    }
+}
+
+fn by_ron(base: u32, dealer: bool, counters: u8) -> Payment
+    requires { base ≤ 8000 }
+    ensures value { result ≡ spec.by_ron base dealer counters }
+    ensures most { spec.paid result ≤ 130000 }
+{
+    let times = if dealer { 6 } else { 4 };
+    Payment::Ron {
+        points: up(times * base) + 300 * u32::from(counters),
+    }
+}
+
+fn by_tsumo(base: u32, dealer: bool, counters: u8) -> Payment
+    requires { base ≤ 8000 }
+    ensures value { result ≡ spec.by_tsumo base dealer counters }
+    ensures most { spec.paid result ≤ 130000 }
+{
+    let counters = 100 * u32::from(counters);
+    let double = up(2 * base) + counters;
+    if dealer {
+        Payment::DealerTsumo { each: double }
+    } else {
+        Payment::Tsumo {
+            other: up(base) + counters,
+            dealer: double,
+        }
+    }
+}
+
+fn is_dealer(seat: Wind) -> bool
+    ensures { result ≡ spec.is_dealer seat }
+{
+    match seat {
+        Wind::East => true,
+        Wind::South | Wind::West | Wind::North => false,
+    }
+}
+
+/// Rounded up to the next hundred.
+fn up(points: u32) -> u32
+    requires { points ≤ 48000 }
+    ensures value { result ≡ spec.up points }
+    ensures most { result ≤ points + 99 }
+{
+    (points + 99) / 100 * 100
+}

@@ -1,0 +1,99 @@
+//! The text of an answer.
+ghost use Rattle.std.specs.Prelude.{◌≡◌, ◌≤◌, ◌++◌, ◌+◌, decimal};
+ghost use Rattle.arrayvec.specs.ArrayString.{array_string_len};
+ghost use Rattle.riichi_score.specs.Text as spec;
+
+use crate::{Payment, Score, WinAnswer};
+use arrayvec::ArrayString;
+use itoa::Buffer;
+use riichi_yaku::words_of;
+
+/// The answer on one line, without the line's end.
+#[tactic(auto, unfolding(crate::specs::Text::text_of))]
+pub fn win_text(answer: &WinAnswer) -> ArrayString<1024>
+    ensures { result.bytes ≡ spec.text_of answer.now }
+{
+    let mut text = ArrayString::new();
+    match answer {
+        WinAnswer::NoWin => text.push_str("no win"),
+        WinAnswer::NoYaku => text.push_str("no yaku"),
+        WinAnswer::Won(score) => push_score(&mut text, score),
+    }
+    text
+}
+
+fn push_score(text: &mut ArrayString<1024>, score: &Score)
+    requires { array_string_len text.old + 658 ≤ 1024 }
+    ensures { text.new.bytes ≡ text.old.bytes ++ spec.score_text score.now }
+{
+    text.push_str("won ");
+    push_worth(text, score);
+    push_payment(text, &score.payment);
+    text.push_str(" gain ");
+    push_number(text, score.gain);
+    text.push_str(words_of(score.yaku).as_str());
+    push_dora(text, score.dora);
+}
+
+fn push_worth(text: &mut ArrayString<1024>, score: &Score)
+    requires { array_string_len text.old + 15 ≤ 1024 }
+    ensures bytes { text.new.bytes ≡ text.old.bytes ++ spec.worth_text score.now }
+    ensures len { array_string_len text.new ≤ array_string_len text.old + 15 }
+{
+    if score.yaku.is_yakuman() {
+        text.push_str("yakuman ");
+    } else {
+        push_small(text, score.han);
+        text.push_str(" han ");
+        push_small(text, score.fu);
+        text.push_str(" fu ");
+    }
+}
+
+fn push_payment(text: &mut ArrayString<1024>, payment: &Payment)
+    requires { array_string_len text.old + 21 ≤ 1024 }
+    ensures bytes { text.new.bytes ≡ text.old.bytes ++ spec.payment_text payment.now }
+    ensures len { array_string_len text.new ≤ array_string_len text.old + 21 }
+{
+    match payment {
+        Payment::Ron { points } => push_number(text, *points),
+        Payment::Tsumo { other, dealer } => {
+            push_number(text, *other);
+            text.push_str("/");
+            push_number(text, *dealer);
+        }
+        Payment::DealerTsumo { each } => {
+            push_number(text, *each);
+            text.push_str(" all");
+        }
+    }
+}
+
+fn push_dora(text: &mut ArrayString<1024>, dora: u8)
+    requires { array_string_len text.old + 9 ≤ 1024 }
+    ensures { text.new.bytes ≡ text.old.bytes ++ spec.dora_text dora }
+{
+    if dora > 0 {
+        text.push_str(" dora ");
+        push_small(text, dora);
+    }
+}
+
+fn push_number(text: &mut ArrayString<1024>, number: u32)
+    requires { array_string_len text.old + 10 ≤ 1024 }
+    ensures bytes { text.new.bytes ≡ text.old.bytes ++ decimal number }
+    ensures len { array_string_len text.new ≤ array_string_len text.old + 10 }
+{
+    let mut buffer = Buffer::new();
+    text.push_str(buffer.format(number));
+}
+
+/// A number of at most three digits.
+fn push_small(text: &mut ArrayString<1024>, number: u8)
+    requires { array_string_len text.old + 3 ≤ 1024 }
+    ensures bytes { text.new.bytes ≡ text.old.bytes ++ decimal number }
+    ensures len { array_string_len text.new ≤ array_string_len text.old + 3 }
+{
+    let mut buffer = Buffer::new();
+    text.push_str(buffer.format(number));
+}

@@ -1,0 +1,5 @@
+pub mod Numbers
+pub mod Sums
+pub mod Flags
+pub mod Sets
+pub mod Words

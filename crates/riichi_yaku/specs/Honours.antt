@@ -1,0 +1,62 @@
+-- The yaku of winds and dragons, and the fu of a pair of them.
+use Rattle.std.specs.Prelude.{ℕ, ◌+◌, Bool, ◌&&◌, ◌||◌, ◌==◌, nat_le, List, if◌then◌else◌}
+use Rattle.std.specs.List.{list_any, list_all}
+use Rattle.riichi_hand.specs.declared.win.WinParts.{WinParts}
+use Rattle.riichi_hand.specs.Win.{wind_kind}
+use Rattle.riichi_yaku.specs.declared.hand_block.HandBlock.{HandBlock}
+use Rattle.riichi_yaku.specs.declared.honours.Honours.{Honours}
+use Rattle.riichi_yaku.specs.HandBlocks.{has_triplet, has_pair}
+use Rattle.riichi_yaku.specs.Kinds.{white, green, red, dragons}
+
+-- 7: a triplet of White
+abbrev pub is_white_dragon : List HandBlock → Bool
+is_white_dragon blocks = has_triplet blocks white
+
+-- 8: a triplet of Green
+abbrev pub is_green_dragon : List HandBlock → Bool
+is_green_dragon blocks = has_triplet blocks green
+
+-- 9: a triplet of Red
+abbrev pub is_red_dragon : List HandBlock → Bool
+is_red_dragon blocks = has_triplet blocks red
+
+-- 10: a triplet of the seat wind
+abbrev pub is_seat_wind : List HandBlock → WinParts → Bool
+is_seat_wind blocks parts = has_triplet blocks (wind_kind parts.seat)
+
+-- 11: a triplet of the prevalent wind
+abbrev pub is_prevalent_wind : List HandBlock → WinParts → Bool
+is_prevalent_wind blocks parts = has_triplet blocks (wind_kind parts.round)
+
+-- triplets of all these kinds
+abbrev pub has_triplets : List HandBlock → List ℕ → Bool
+has_triplets blocks kinds = list_all (has_triplet blocks) kinds
+
+-- triplets of all these kinds but one
+abbrev pub has_other_triplets : List HandBlock → List ℕ → ℕ → Bool
+has_other_triplets blocks kinds last = list_all (λ kind. kind == last || has_triplet blocks kind) kinds
+
+-- a pair of one of these kinds, and triplets of all others
+abbrev pub has_triplets_and_pair : List HandBlock → List ℕ → Bool
+has_triplets_and_pair blocks kinds = list_any (λ last. has_pair blocks last && has_other_triplets blocks kinds last) kinds
+
+-- 23: triplets of two dragons, a pair of the third
+abbrev pub is_little_three_dragons : List HandBlock → Bool
+is_little_three_dragons blocks = has_triplets_and_pair blocks dragons
+
+abbrev pub honours_of : List HandBlock → WinParts → Honours
+honours_of blocks parts = record {
+  white_dragon = is_white_dragon blocks;
+  green_dragon = is_green_dragon blocks;
+  red_dragon = is_red_dragon blocks;
+  seat_wind = is_seat_wind blocks parts;
+  prevalent_wind = is_prevalent_wind blocks parts;
+  little_three_dragons = is_little_three_dragons blocks;
+}
+
+-- The fu of a pair of this kind: of dragons 2, of the seat wind 2, of the prevalent wind 2; both winds 4.
+abbrev pub pair_fu : WinParts → ℕ → ℕ
+pair_fu parts kind =
+    (if nat_le white kind then 2 else 0)
+    + (if kind == wind_kind parts.seat then 2 else 0)
+    + (if kind == wind_kind parts.round then 2 else 0)

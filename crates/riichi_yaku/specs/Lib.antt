@@ -1,0 +1,14 @@
+pub mod Kinds
+pub mod Held
+pub mod HandBlocks
+pub mod Luck
+pub mod Honours
+pub mod Waits
+pub mod Runs
+pub mod Outside
+pub mod Triplets
+pub mod Tiles
+pub mod Yakuman
+pub mod YakuSets
+pub mod Conditions
+pub mod Table

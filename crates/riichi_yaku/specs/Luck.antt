@@ -1,0 +1,45 @@
+-- The yaku of how the hand was won.
+use Rattle.std.specs.Prelude.{Bool, not, ◌&&◌, ◌==◌}
+use Rattle.riichi_tiles.specs.Melds.{are_concealed}
+use Rattle.riichi_hand.specs.declared.win.WinParts.{WinParts}
+use Rattle.riichi_hand.specs.Win.{is_ron}
+use Rattle.riichi_yaku.specs.declared.luck.Luck.{Luck}
+
+-- 0: riichi
+abbrev pub is_riichi : WinParts → Bool
+is_riichi parts = parts.riichi == 1
+
+-- 1: double riichi
+abbrev pub is_double_riichi : WinParts → Bool
+is_double_riichi parts = parts.riichi == 2
+
+-- 2: the flag is set
+abbrev pub is_ippatsu : WinParts → Bool
+is_ippatsu parts = parts.flags.ippatsu
+
+-- 3: a self-draw with a concealed hand
+abbrev pub is_fully_concealed : WinParts → Bool
+is_fully_concealed parts = are_concealed parts.melds && not (is_ron parts.by)
+
+-- 12: the flag is set
+abbrev pub is_after_a_kong : WinParts → Bool
+is_after_a_kong parts = parts.flags.rinshan
+
+-- 13: the flag is set
+abbrev pub is_robbing_the_kong : WinParts → Bool
+is_robbing_the_kong parts = parts.flags.chankan
+
+-- 14: the flag is set
+abbrev pub is_last_tile : WinParts → Bool
+is_last_tile parts = parts.flags.last
+
+abbrev pub luck_of : WinParts → Luck
+luck_of parts = record {
+  riichi = is_riichi parts;
+  double_riichi = is_double_riichi parts;
+  ippatsu = is_ippatsu parts;
+  fully_concealed = is_fully_concealed parts;
+  after_a_kong = is_after_a_kong parts;
+  robbing_the_kong = is_robbing_the_kong parts;
+  last_tile = is_last_tile parts;
+}

@@ -1,0 +1,46 @@
+-- The yaku of every tile of the hand, by the count of each kind. But for seven pairs itself they hold of a standard reading and of seven pairs.
+use Rattle.std.specs.Prelude.{ℕ, Bool, not, ◌&&◌, ◌||◌, List}
+use Rattle.std.specs.List.{list_any, range_with_len}
+use Rattle.riichi_split.specs.declared.reading.Reading.{Reading}
+use Rattle.riichi_yaku.specs.declared.tiles.Tiles.{Tiles}
+use Rattle.riichi_yaku.specs.HandBlocks.{is_seven_pairs, is_orphans}
+use Rattle.riichi_yaku.specs.Held.{every, some}
+use Rattle.riichi_yaku.specs.Kinds.{is_honour, is_orphan, is_simple, is_of_suit}
+
+-- 6: every tile is a simple
+abbrev pub is_all_simples : Reading → List ℕ → Bool
+is_all_simples reading tiles = not (is_orphans reading) && every is_simple tiles
+
+-- 24: every tile is a terminal or honour
+abbrev pub is_all_terminals_and_honours : Reading → List ℕ → Bool
+is_all_terminals_and_honours reading tiles = not (is_orphans reading) && every is_orphan tiles
+
+-- suit tiles of this suit alone, at least one
+abbrev pub has_suit_alone : List ℕ → ℕ → Bool
+has_suit_alone tiles suit = every (λ kind. is_of_suit suit kind || is_honour kind) tiles && some (is_of_suit suit) tiles
+
+-- suit tiles of one suit, at least one
+abbrev pub has_one_suit : List ℕ → Bool
+has_one_suit tiles = list_any (has_suit_alone tiles) (range_with_len 0 3)
+
+-- 25: suit tiles of one suit, at least one; at least one honour
+abbrev pub is_half_flush : Reading → List ℕ → Bool
+is_half_flush reading tiles = not (is_orphans reading) && has_one_suit tiles && some is_honour tiles
+
+-- every tile is of one suit
+abbrev pub are_of_one_suit : List ℕ → Bool
+are_of_one_suit tiles = list_any (λ suit. every (is_of_suit suit) tiles) (range_with_len 0 3)
+
+-- 28: every tile of one suit
+abbrev pub is_full_flush : Reading → List ℕ → Bool
+is_full_flush reading tiles = not (is_orphans reading) && are_of_one_suit tiles
+
+-- 18, seven pairs, is the reading itself
+abbrev pub tiles_of : Reading → List ℕ → Tiles
+tiles_of reading tiles = record {
+  all_simples = is_all_simples reading tiles;
+  seven_pairs = is_seven_pairs reading;
+  all_terminals_and_honours = is_all_terminals_and_honours reading tiles;
+  half_flush = is_half_flush reading tiles;
+  full_flush = is_full_flush reading tiles;
+}

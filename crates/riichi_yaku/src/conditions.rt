@@ -1,0 +1,137 @@
+//! The yaku that hold of a reading.
+ghost use Rattle.std.specs.Prelude.{◌≡◌, ◌<◌, ◌≤◌, ◌*◌, ◌^◌, ◌==◌, ℕ, length, if◌then◌else◌};
+ghost use Rattle.riichi_yaku.specs.Conditions as spec;
+ghost use Rattle.riichi_yaku.specs.YakuSets.{number_of, has_number};
+
+use crate::honours::{Honours, honours_of};
+use crate::luck::{Luck, luck_of};
+use crate::outside::{Outside, outside_of};
+use crate::runs::{Runs, runs_of};
+use crate::tiles::{Tiles, tiles_of};
+use crate::triplets::{Triplets, triplets_of};
+use crate::yakuman::{Yakuman, yakuman_of};
+use crate::{YakuSet, all_tiles, blocks_of};
+use riichi_hand::WinRecord;
+use riichi_split::Reading;
+
+/// The yaku that hold of a reading of the win. Where a yakuman holds, the set has yakuman alone.
+pub fn yaku(reading: &Reading, win: &WinRecord) -> YakuSet
+    ensures value { result ≡ spec.yaku_of reading.now win.now }
+    ensures each { (number : ℕ) → has_number result number ≡ spec.holds reading.now win.now number }
+{
+    let blocks = blocks_of(reading, win);
+    let blocks = blocks.as_slice();
+    let tiles = all_tiles(win);
+    let ordinary = ordinary(
+        &luck_of(win),
+        &honours_of(blocks, win),
+        &runs_of(blocks, reading, win),
+        &outside_of(blocks),
+        &triplets_of(blocks),
+        &tiles_of(reading, &tiles),
+    );
+    let yakuman = yakuman(&yakuman_of(blocks, reading, &tiles, win));
+    YakuSet::new(yakuman_alone(ordinary, yakuman))
+}
+
+/// Where a yakuman holds, the set has these alone. Their numbers begin at 29.
+fn yakuman_alone(ordinary: u64, yakuman: u64) -> u64
+    requires ordinary { ordinary < 2 ^ 29 }
+    requires yakuman { yakuman < 2 ^ 12 }
+    ensures value { result ≡ (if yakuman == 0 then ordinary else 2 ^ 29 * yakuman) }
+    ensures below { result < 2 ^ 41 }
+{
+    if yakuman == 0 {
+        ordinary
+    } else {
+        536_870_912 * yakuman
+    }
+}
+
+/// The numbers 0 to 28, in the order of the table.
+fn ordinary(
+    luck: &Luck,
+    honours: &Honours,
+    runs: &Runs,
+    outside: &Outside,
+    triplets: &Triplets,
+    tiles: &Tiles,
+) -> u64
+    ensures value { result ≡ number_of (spec.ordinary_flags luck.now honours.now runs.now outside.now triplets.now tiles.now) }
+    ensures below { result < 2 ^ 29 }
+{
+    number(&[
+        luck.riichi,
+        luck.double_riichi,
+        luck.ippatsu,
+        luck.fully_concealed,
+        runs.pinfu,
+        runs.pure_double_chow,
+        tiles.all_simples,
+        honours.white_dragon,
+        honours.green_dragon,
+        honours.red_dragon,
+        honours.seat_wind,
+        honours.prevalent_wind,
+        luck.after_a_kong,
+        luck.robbing_the_kong,
+        luck.last_tile,
+        runs.mixed_triple_chow,
+        runs.pure_straight,
+        outside.outside_hand,
+        tiles.seven_pairs,
+        triplets.triple_pung,
+        triplets.three_kongs,
+        triplets.all_pungs,
+        triplets.three_concealed_pungs,
+        honours.little_three_dragons,
+        tiles.all_terminals_and_honours,
+        tiles.half_flush,
+        outside.terminals_in_all_sets,
+        runs.twice_pure_double_chow,
+        tiles.full_flush,
+    ])
+}
+
+/// The numbers 29 to 40, in the order of the table, the first of them as bit 0.
+fn yakuman(yakuman: &Yakuman) -> u64
+    ensures value { result ≡ number_of (spec.yakuman_flags yakuman.now) }
+    ensures below { result < 2 ^ 12 }
+{
+    number(&[
+        yakuman.thirteen_orphans,
+        yakuman.nine_gates,
+        yakuman.four_concealed_pungs,
+        yakuman.big_three_dragons,
+        yakuman.little_four_winds,
+        yakuman.big_four_winds,
+        yakuman.all_honours,
+        yakuman.all_terminals,
+        yakuman.all_green,
+        yakuman.four_kongs,
+        yakuman.blessing_of_heaven,
+        yakuman.blessing_of_earth,
+    ])
+}
+
+/// The number whose bits these are, the lowest first.
+fn number(flags: &[bool]) -> u64
+    requires { length flags.now ≤ 29 }
+    ensures value { result ≡ number_of flags.now }
+    ensures below { result < 2 ^ length flags.now }
+{
+    let mut place = flags.len();
+    let mut number = 0;
+    while place > 0 {
+        place -= 1;
+        number = 2 * number + bit(flags[place]);
+    }
+    number
+}
+
+fn bit(flag: bool) -> u64
+    ensures value { result ≡ (if flag then 1 else 0) }
+    ensures most { result ≤ 1 }
+{
+    if flag { 1 } else { 0 }
+}

@@ -1,0 +1,84 @@
+//! The yaku of how the hand was won.
+ghost use Rattle.std.specs.Prelude.{◌≡◌};
+ghost use Rattle.riichi_hand.specs.Win as win_spec;
+ghost use Rattle.riichi_yaku.specs.Luck as spec;
+
+use riichi_hand::{By, WinRecord};
+
+/// Which yaku hold of how the hand was won.
+#[derive(Clone, Copy)]
+pub(crate) struct Luck {
+    pub riichi: bool,
+    pub double_riichi: bool,
+    pub ippatsu: bool,
+    pub fully_concealed: bool,
+    pub after_a_kong: bool,
+    pub robbing_the_kong: bool,
+    pub last_tile: bool,
+}
+
+/// Whether the win is by ron.
+pub fn is_ron(by: By) -> bool
+    ensures { result ≡ win_spec.is_ron by }
+{
+    match by {
+        By::Ron => true,
+        By::Tsumo => false,
+    }
+}
+
+fn is_riichi(win: &WinRecord) -> bool
+    ensures { result ≡ spec.is_riichi win.now }
+{
+    win.riichi() == 1
+}
+
+fn is_double_riichi(win: &WinRecord) -> bool
+    ensures { result ≡ spec.is_double_riichi win.now }
+{
+    win.riichi() == 2
+}
+
+fn is_ippatsu(win: &WinRecord) -> bool
+    ensures { result ≡ spec.is_ippatsu win.now }
+{
+    win.flags().ippatsu
+}
+
+fn is_fully_concealed(win: &WinRecord) -> bool
+    ensures { result ≡ spec.is_fully_concealed win.now }
+{
+    win.melds().concealed() && !is_ron(win.by())
+}
+
+fn is_after_a_kong(win: &WinRecord) -> bool
+    ensures { result ≡ spec.is_after_a_kong win.now }
+{
+    win.flags().rinshan
+}
+
+fn is_robbing_the_kong(win: &WinRecord) -> bool
+    ensures { result ≡ spec.is_robbing_the_kong win.now }
+{
+    win.flags().chankan
+}
+
+fn is_last_tile(win: &WinRecord) -> bool
+    ensures { result ≡ spec.is_last_tile win.now }
+{
+    win.flags().last
+}
+
+pub(crate) fn luck_of(win: &WinRecord) -> Luck
+    ensures { result ≡ spec.luck_of win.now }
+{
+    Luck {
+        riichi: is_riichi(win),
+        double_riichi: is_double_riichi(win),
+        ippatsu: is_ippatsu(win),
+        fully_concealed: is_fully_concealed(win),
+        after_a_kong: is_after_a_kong(win),
+        robbing_the_kong: is_robbing_the_kong(win),
+        last_tile: is_last_tile(win),
+    }
+}

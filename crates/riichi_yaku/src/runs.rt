@@ -1,0 +1,116 @@
+//! The yaku of runs.
+ghost use Rattle.std.specs.Prelude.{◌≡◌, ◌≤◌};
+ghost use Rattle.std.specs.List.{list_any};
+ghost use Rattle.riichi_yaku.specs.Runs as spec;
+
+use crate::HandBlock;
+use crate::blocks::{has_run, runs_among, runs_equal_to};
+use crate::honours::pair_fu;
+use crate::waits::has_two_sided_wait;
+use riichi_hand::WinRecord;
+use riichi_split::Reading;
+
+/// Which yaku of runs hold.
+#[derive(Clone, Copy)]
+pub(crate) struct Runs {
+    pub pinfu: bool,
+    pub pure_double_chow: bool,
+    pub mixed_triple_chow: bool,
+    pub pure_straight: bool,
+    pub twice_pure_double_chow: bool,
+}
+
+fn is_plain_pair(win: &WinRecord, block: &HandBlock) -> bool
+    ensures { result ≡ spec.is_plain_pair win.now block.now }
+{
+    match block {
+        HandBlock::Pair(kind) => pair_fu(win, *kind) == 0,
+        _ => false,
+    }
+}
+
+fn has_plain_pair(blocks: &[HandBlock], win: &WinRecord) -> bool
+    ensures { result ≡ list_any (spec.is_plain_pair win.now) blocks.now }
+{
+    blocks.iter().any(|block| is_plain_pair(win, block))
+}
+
+fn are_four_runs(blocks: &[HandBlock]) -> bool
+    ensures { result ≡ spec.are_four_runs blocks.now }
+{
+    runs_among(blocks) == 4
+}
+
+/// A concealed hand of four runs, a pair that earns no fu and a two-sided wait.
+pub fn is_pinfu(blocks: &[HandBlock], reading: &Reading, win: &WinRecord) -> bool
+    ensures { result ≡ spec.is_pinfu blocks.now reading.now win.now }
+{
+    win.melds().concealed()
+        && are_four_runs(blocks)
+        && has_plain_pair(blocks, win)
+        && has_two_sided_wait(reading, win.winning())
+}
+
+fn has_equal_runs(blocks: &[HandBlock]) -> bool
+    ensures { result ≡ spec.has_equal_runs blocks.now }
+{
+    blocks.iter().any(|block| runs_equal_to(blocks, block) >= 2)
+}
+
+fn are_runs_paired(blocks: &[HandBlock]) -> bool
+    ensures { result ≡ spec.are_runs_paired blocks.now }
+{
+    blocks
+        .iter()
+        .all(|block| runs_equal_to(blocks, block) % 2 == 0)
+}
+
+fn is_twice_pure_double_chow(blocks: &[HandBlock], win: &WinRecord) -> bool
+    ensures { result ≡ spec.is_twice_pure_double_chow blocks.now win.now }
+{
+    win.melds().concealed() && are_four_runs(blocks) && are_runs_paired(blocks)
+}
+
+fn is_pure_double_chow(blocks: &[HandBlock], win: &WinRecord) -> bool
+    ensures { result ≡ spec.is_pure_double_chow blocks.now win.now }
+{
+    win.melds().concealed() && has_equal_runs(blocks) && !is_twice_pure_double_chow(blocks, win)
+}
+
+fn has_run_in_each_suit(blocks: &[HandBlock], low: usize) -> bool
+    requires { low ≤ 8 }
+    ensures { result ≡ spec.has_run_in_each_suit blocks.now low }
+{
+    has_run(blocks, low) && has_run(blocks, low + 9) && has_run(blocks, low + 18)
+}
+
+fn is_mixed_triple_chow(blocks: &[HandBlock]) -> bool
+    ensures { result ≡ spec.is_mixed_triple_chow blocks.now }
+{
+    (0..7).any(|low| has_run_in_each_suit(blocks, low))
+}
+
+fn has_straight(blocks: &[HandBlock], suit: usize) -> bool
+    requires { suit ≤ 2 }
+    ensures { result ≡ spec.has_straight blocks.now suit }
+{
+    has_run(blocks, 9 * suit) && has_run(blocks, 9 * suit + 3) && has_run(blocks, 9 * suit + 6)
+}
+
+fn is_pure_straight(blocks: &[HandBlock]) -> bool
+    ensures { result ≡ spec.is_pure_straight blocks.now }
+{
+    (0..3).any(|suit| has_straight(blocks, suit))
+}
+
+pub(crate) fn runs_of(blocks: &[HandBlock], reading: &Reading, win: &WinRecord) -> Runs
+    ensures { result ≡ spec.runs_of blocks.now reading.now win.now }
+{
+    Runs {
+        pinfu: is_pinfu(blocks, reading, win),
+        pure_double_chow: is_pure_double_chow(blocks, win),
+        mixed_triple_chow: is_mixed_triple_chow(blocks),
+        pure_straight: is_pure_straight(blocks),
+        twice_pure_double_chow: is_twice_pure_double_chow(blocks, win),
+    }
+}

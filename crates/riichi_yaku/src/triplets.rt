@@ -1,0 +1,57 @@
+//! The yaku of triplets and kongs.
+ghost use Rattle.std.specs.Prelude.{◌≡◌, ◌≤◌};
+ghost use Rattle.riichi_yaku.specs.Triplets as spec;
+
+use crate::HandBlock;
+use crate::blocks::{concealed_triplets_among, has_triplet, kongs_among, triplets_among};
+
+/// Which yaku of triplets hold.
+#[derive(Clone, Copy)]
+pub(crate) struct Triplets {
+    pub triple_pung: bool,
+    pub three_kongs: bool,
+    pub all_pungs: bool,
+    pub three_concealed_pungs: bool,
+}
+
+fn has_triplet_in_each_suit(blocks: &[HandBlock], kind: usize) -> bool
+    requires { kind ≤ 8 }
+    ensures { result ≡ spec.has_triplet_in_each_suit blocks.now kind }
+{
+    has_triplet(blocks, kind) && has_triplet(blocks, kind + 9) && has_triplet(blocks, kind + 18)
+}
+
+fn is_triple_pung(blocks: &[HandBlock]) -> bool
+    ensures { result ≡ spec.is_triple_pung blocks.now }
+{
+    (0..9).any(|kind| has_triplet_in_each_suit(blocks, kind))
+}
+
+fn is_three_kongs(blocks: &[HandBlock]) -> bool
+    ensures { result ≡ spec.is_three_kongs blocks.now }
+{
+    kongs_among(blocks) >= 3
+}
+
+fn is_all_pungs(blocks: &[HandBlock]) -> bool
+    ensures { result ≡ spec.is_all_pungs blocks.now }
+{
+    triplets_among(blocks) == 4
+}
+
+fn is_three_concealed_pungs(blocks: &[HandBlock]) -> bool
+    ensures { result ≡ spec.is_three_concealed_pungs blocks.now }
+{
+    concealed_triplets_among(blocks) >= 3
+}
+
+pub(crate) fn triplets_of(blocks: &[HandBlock]) -> Triplets
+    ensures { result ≡ spec.triplets_of blocks.now }
+{
+    Triplets {
+        triple_pung: is_triple_pung(blocks),
+        three_kongs: is_three_kongs(blocks),
+        all_pungs: is_all_pungs(blocks),
+        three_concealed_pungs: is_three_concealed_pungs(blocks),
+    }
+}

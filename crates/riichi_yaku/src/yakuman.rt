@@ -1,0 +1,189 @@
+//! The yakuman.
+ghost use Rattle.std.specs.Prelude.{◌≡◌, ◌==◌, length};
+ghost use Rattle.std.specs.List.{list_any, range_with_len};
+ghost use Rattle.riichi_yaku.specs.Held as words;
+ghost use Rattle.riichi_yaku.specs.Kinds as kinds;
+ghost use Rattle.riichi_yaku.specs.Yakuman as spec;
+
+use crate::HandBlock;
+use crate::blocks::{concealed_triplets_among, is_orphans, is_standard, kongs_among};
+use crate::honours::{has_dragon_triplets, has_wind_triplets, has_wind_triplets_and_pair};
+use crate::kinds::{is_green_tile, is_honour, is_of_suit, is_terminal};
+use crate::tiles::are_of_suit;
+use riichi_hand::{WinRecord, Wind};
+use riichi_split::Reading;
+
+/// Which yakuman hold.
+#[derive(Clone, Copy)]
+pub(crate) struct Yakuman {
+    pub thirteen_orphans: bool,
+    pub nine_gates: bool,
+    pub four_concealed_pungs: bool,
+    pub big_three_dragons: bool,
+    pub little_four_winds: bool,
+    pub big_four_winds: bool,
+    pub all_honours: bool,
+    pub all_terminals: bool,
+    pub all_green: bool,
+    pub four_kongs: bool,
+    pub blessing_of_heaven: bool,
+    pub blessing_of_earth: bool,
+}
+
+fn is_thirteen_orphans(reading: &Reading) -> bool
+    ensures { result ≡ spec.is_thirteen_orphans reading.now }
+{
+    is_orphans(reading)
+}
+
+/// How many of a kind nine gates has at least.
+fn gate_copies(suit: usize, kind: usize) -> u8
+    ensures { result ≡ spec.gate_copies suit kind }
+{
+    if !is_of_suit(suit, kind) {
+        0
+    } else if is_terminal(kind) {
+        3
+    } else {
+        1
+    }
+}
+
+fn has_gates(tiles: &[u8; 34], suit: usize) -> bool
+    ensures { result ≡ spec.has_gates tiles.now suit }
+{
+    (0..34).all(|kind| tiles[kind] >= gate_copies(suit, kind))
+}
+
+fn has_suit_with_gates(tiles: &[u8; 34], suit: usize) -> bool
+    ensures { result ≡ spec.has_suit_with_gates tiles.now suit }
+{
+    are_of_suit(tiles, suit) && has_gates(tiles, suit)
+}
+
+fn has_all_gates(tiles: &[u8; 34]) -> bool
+    ensures { result ≡ list_any (spec.has_suit_with_gates tiles.now) (range_with_len 0 3) }
+{
+    (0..3).any(|suit| has_suit_with_gates(tiles, suit))
+}
+
+fn has_no_meld(win: &WinRecord) -> bool
+    ensures { result ≡ (length win.now.melds == 0) }
+{
+    win.melds().count() == 0
+}
+
+fn is_nine_gates(reading: &Reading, tiles: &[u8; 34], win: &WinRecord) -> bool
+    ensures { result ≡ spec.is_nine_gates reading.now tiles.now win.now }
+{
+    is_standard(reading) && has_no_meld(win) && has_all_gates(tiles)
+}
+
+fn is_four_concealed_pungs(blocks: &[HandBlock]) -> bool
+    ensures { result ≡ spec.is_four_concealed_pungs blocks.now }
+{
+    concealed_triplets_among(blocks) == 4
+}
+
+fn is_big_three_dragons(blocks: &[HandBlock]) -> bool
+    ensures { result ≡ spec.is_big_three_dragons blocks.now }
+{
+    has_dragon_triplets(blocks)
+}
+
+fn is_little_four_winds(blocks: &[HandBlock]) -> bool
+    ensures { result ≡ spec.is_little_four_winds blocks.now }
+{
+    has_wind_triplets_and_pair(blocks)
+}
+
+fn is_big_four_winds(blocks: &[HandBlock]) -> bool
+    ensures { result ≡ spec.is_big_four_winds blocks.now }
+{
+    has_wind_triplets(blocks)
+}
+
+fn are_honours(tiles: &[u8; 34]) -> bool
+    ensures { result ≡ words.every kinds.is_honour tiles.now }
+{
+    (0..34).all(|kind| is_honour(kind) || tiles[kind] == 0)
+}
+
+fn is_all_honours(reading: &Reading, tiles: &[u8; 34]) -> bool
+    ensures { result ≡ spec.is_all_honours reading.now tiles.now }
+{
+    !is_orphans(reading) && are_honours(tiles)
+}
+
+fn are_terminals(tiles: &[u8; 34]) -> bool
+    ensures { result ≡ words.every kinds.is_terminal tiles.now }
+{
+    (0..34).all(|kind| is_terminal(kind) || tiles[kind] == 0)
+}
+
+fn is_all_terminals(reading: &Reading, tiles: &[u8; 34]) -> bool
+    ensures { result ≡ spec.is_all_terminals reading.now tiles.now }
+{
+    is_standard(reading) && are_terminals(tiles)
+}
+
+fn are_green(tiles: &[u8; 34]) -> bool
+    ensures { result ≡ words.every kinds.is_green_tile tiles.now }
+{
+    (0..34).all(|kind| is_green_tile(kind) || tiles[kind] == 0)
+}
+
+fn is_all_green(reading: &Reading, tiles: &[u8; 34]) -> bool
+    ensures { result ≡ spec.is_all_green reading.now tiles.now }
+{
+    is_standard(reading) && are_green(tiles)
+}
+
+fn is_four_kongs(blocks: &[HandBlock]) -> bool
+    ensures { result ≡ spec.is_four_kongs blocks.now }
+{
+    kongs_among(blocks) == 4
+}
+
+/// Whether this is the seat East.
+pub fn is_dealer(seat: Wind) -> bool
+    ensures { result ≡ spec.is_dealer seat }
+{
+    matches!(seat, Wind::East)
+}
+
+fn is_blessing_of_heaven(win: &WinRecord) -> bool
+    ensures { result ≡ spec.is_blessing_of_heaven win.now }
+{
+    win.flags().first && is_dealer(win.seat())
+}
+
+fn is_blessing_of_earth(win: &WinRecord) -> bool
+    ensures { result ≡ spec.is_blessing_of_earth win.now }
+{
+    win.flags().first && !is_dealer(win.seat())
+}
+
+pub(crate) fn yakuman_of(
+    blocks: &[HandBlock],
+    reading: &Reading,
+    tiles: &[u8; 34],
+    win: &WinRecord,
+) -> Yakuman
+    ensures { result ≡ spec.yakuman_of blocks.now reading.now tiles.now win.now }
+{
+    Yakuman {
+        thirteen_orphans: is_thirteen_orphans(reading),
+        nine_gates: is_nine_gates(reading, tiles, win),
+        four_concealed_pungs: is_four_concealed_pungs(blocks),
+        big_three_dragons: is_big_three_dragons(blocks),
+        little_four_winds: is_little_four_winds(blocks),
+        big_four_winds: is_big_four_winds(blocks),
+        all_honours: is_all_honours(reading, tiles),
+        all_terminals: is_all_terminals(reading, tiles),
+        all_green: is_all_green(reading, tiles),
+        four_kongs: is_four_kongs(blocks),
+        blessing_of_heaven: is_blessing_of_heaven(win),
+        blessing_of_earth: is_blessing_of_earth(win),
+    }
+}
