@@ -1,4 +1,4 @@
--- Each list of ordered sets that uses up the counts is given by `split_from`, for some number of choices.
+-- Each list of ordered sets that uses up the counts is given by `cut_from`, for some number of choices.
 use Rattle.std.proofs.Common.{◌≡◌, ℕ, zero, suc, ◌+◌, ◌-◌, ◌*◌, ◌^◌, ◌<◌, ◌≤◌, cond, inl, inr, Option, Some, None, List, [], ◌∷◌, ◌++◌, length, get_or, replicate, refl, sym, ap, ◌∙◌, subst, arith, ltb, eqb, eq-eqb, length-append}
 use Rattle.std.specs.List.{AllByRecursion}
 use Rattle.std.proofs.lemmas.Bool.{cases_lt}
@@ -9,10 +9,10 @@ use Rattle.std.proofs.Math.Pow.{pow_mono}
 use Rattle.std.proofs.Math.Nat.{two-pow-succ}
 use Rattle.riichi_tiles.specs.declared.block.Block.{Block}
 use Rattle.riichi_tiles.specs.declared.block.Block.TheVariants.{Run, Triplet, Pair}
-use Rattle.riichi_split.specs.declared.split.Choice.{Choice}
+use Rattle.riichi_split.specs.declared.cutting.Choice.{Choice}
 use Rattle.riichi_tiles.specs.Blocks.{copies, total, IsRunLow, IsSet, IsOrderedFrom}
-use Rattle.riichi_split.specs.Engine.{begun, joined, split_from}
-use Rattle.riichi_split.proofs.Splits.{IsChoice, choice_of-is, split_from-cons, split_from-nil}
+use Rattle.riichi_split.specs.Cuts.{begun, joined, cut_from}
+use Rattle.riichi_split.proofs.Cuts.{IsChoice, choice_of-is, cut_from-cons, cut_from-nil}
 use Rattle.riichi_split.proofs.Sound.{carried, IsCut, begun-total, none_below, same-total, order-weaker}
 
 -- the blocks of kind k in front of others
@@ -80,11 +80,11 @@ no_more (Pair a ∷ bs) k one two left h = absurd h.sets.0
 
 -- a number of choices for which the split is bs
 abbrev pub IsFound : ℕ → List ℕ → ℕ → ℕ → ℕ → List Block → Type 0
-IsFound k ns one two left bs = (choices : ℕ) × (choices < 2 ^ left) × (split_from k ns one two left choices ≡ Some bs)
+IsFound k ns one two left bs = (choices : ℕ) × (choices < 2 ^ left) × (cut_from k ns one two left choices ≡ Some bs)
 
 -- the choice at a kind, from the blocks that were peeled
 abbrev chosen-below : ℕ → ℕ → ℕ → ℕ
-chosen-below t r x = cond (eqb (t + r) 0) x (t + 2 * x)
+chosen-below t r x = cond (ltb (3 * t + r) 3) x (t + 2 * x)
 
 peeled-choice : (k n t r below left x : ℕ) → n ≡ below + 3 * t + r → n ≤ 4 → t + r ≤ left → (0 < r → IsRunLow k) → IsChoice k n below left (chosen-below t r x) (record { triplets = t; runs = r; choices = x })
 peeled-choice k n t r below left x e f room may = record {
@@ -98,13 +98,13 @@ peeled-choice k n t r below left x e f room may = record {
 
 peeled-small : (t r left x : ℕ) → t ≤ 1 → t + r ≤ left → x < 2 ^ (left - (t + r)) → chosen-below t r x < 2 ^ left
 peeled-small t r left x s room h =
-    elim (cases_lt 0 (t + r)) [
-      | inl some ↦
+    elim (cases_lt (3 * t + r) 3) [
+      | inr some ↦
           let up : 2 ^ suc (left - (t + r)) ≤ 2 ^ left = pow_mono (omega arith) in
           let two : 2 ^ suc (left - (t + r)) ≡ 2 ^ (left - (t + r)) + 2 ^ (left - (t + r)) = two-pow-succ (left - (t + r)) in
           let e : chosen-below t r x ≡ t + 2 * x = grind (arith, nat_tests) in
           omega arith
-      | inr none ↦
+      | inl none ↦
           let up : 2 ^ (left - (t + r)) ≤ 2 ^ left = pow_mono (omega arith) in
           let e : chosen-below t r x ≡ x = grind (arith, nat_tests) in
           omega arith
@@ -126,7 +126,7 @@ rest-adds k n ns one two left t r bs rest h p (suc (suc j)) =
 nil-found : (k one two left : ℕ) → one + two ≡ 0 → left ≡ 0 → IsFound k [] one two left []
 nil-found k one two left h z =
     let up : 0 < 2 ^ left = pow_pos left in
-    (0, up, split_from-nil k one two left 0 ∙ ap (λ b. cond {A = Option (List Block)} b (Some []) None) (eq-eqb (one + two + left + 0) 0 (omega arith)))
+    (0, up, cut_from-nil k one two left 0 ∙ ap (λ b. cond {A = Option (List Block)} b (Some []) None) (eq-eqb (one + two + left + 0) 0 (omega arith)))
 
 found-step : (n : ℕ) (ns : List ℕ) (k one two left t r : ℕ) (bs rest : List Block) → n ≤ 4 → IsCut k (n ∷ ns) one two left bs → IsPeeled k t r bs rest → (IsCut (k + 1) ns r one (left - (t + r)) rest → IsFound (k + 1) ns r one (left - (t + r)) rest) → IsFound k (n ∷ ns) one two left bs
 found-step n ns k one two left t r bs rest small h p ih =
@@ -143,7 +143,7 @@ found-step n ns k one two left t r bs rest small h p ih =
     let i = ih cut in
     let c : Choice = record { triplets = t; runs = r; choices = i.0 } in
     let e = choice_of-is k n (one + two) left (chosen-below t r i.0) c (peeled-choice k n t r (one + two) left i.0 uses small (omega arith) p.may) in
-    (chosen-below t r i.0, peeled-small t r left i.0 (omega arith) (omega arith) i.1, split_from-cons k n ns one two left (chosen-below t r i.0) (Some c) e ∙ ap (joined (begun k c)) i.2 ∙ ap Some (sym p.parts))
+    (chosen-below t r i.0, peeled-small t r left i.0 (omega arith) (omega arith) i.1, cut_from-cons k n ns one two left (chosen-below t r i.0) (Some c) e ∙ ap (joined (begun k c)) i.2 ∙ ap Some (sym p.parts))
 
 pub found-by : (ns : List ℕ) (k one two left : ℕ) (bs : List Block) → AllByRecursion (λ n. n ≤ 4) ns → IsCut k ns one two left bs → IsFound k ns one two left bs
 found-by [] k one two left bs small h =

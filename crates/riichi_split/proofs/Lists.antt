@@ -1,6 +1,27 @@
 -- Membership and difference by recursion on a list, and what std's words say of them.
-use Rattle.std.proofs.Common.{◌≡◌, ◌≢◌, ℕ, zero, suc, ◌<◌, ◌⊎◌, inl, inr, List, [], ◌∷◌, ◌++◌, length, get_or, map, refl, sym, ap, subst, arith, All, Contains}
-use Rattle.std.specs.List.{AllPairs}
+use Rattle.std.proofs.Common.{◌∙◌, ◌≤◌, ◌+◌, Bool, true, false, ◌&&◌, ◌||◌, flat_map, ◌≡◌, ◌≢◌, ℕ, zero, suc, ◌<◌, ◌⊎◌, inl, inr, List, [], ◌∷◌, ◌++◌, length, get_or, map, refl, sym, ap, subst, arith, All, Contains}
+use Rattle.std.specs.List.{AllPairs, list_all, list_any, range_with_len}
+use Rattle.std.proofs.lemmas.Bool.{and_from, cases_eq}
+
+pub and-left : (a b : Bool) → (a && b) ≡ true → a ≡ true
+and-left true b h = refl
+and-left false b h = absurd (cc)
+
+pub and-right : (a b : Bool) → (a && b) ≡ true → b ≡ true
+and-right true b h = h
+and-right false b h = absurd (cc)
+
+pub or-cases : (a b : Bool) → (a || b) ≡ true → (a ≡ true) ⊎ (b ≡ true)
+or-cases true b e = inl refl
+or-cases false b e = inr e
+
+pub or-left : (a b : Bool) → a ≡ true → (a || b) ≡ true
+or-left true b e = refl
+or-left false b e = absurd (cc)
+
+pub or-right : (a b : Bool) → b ≡ true → (a || b) ≡ true
+or-right true b e = refl
+or-right false b e = e
 
 module _ {X : Type 0} where
   -- x is an element
@@ -60,6 +81,36 @@ module _ {X : Type 0} where
   AllPairs-differ (x ∷ xs) h (suc i) zero d l m = absurd (omega arith)
   AllPairs-differ (x ∷ xs) h (suc i) (suc j) d l m = AllPairs-differ xs h.1 i j d (omega arith) (omega arith)
 
+  pub in-All : (P : X → Type 0) (xs : List X) → All P xs → (x : X) → IsIn x xs → P x
+  in-All P [] h x i = absurd i
+  in-All P (y ∷ ys) h x (inl e) = subst P e (h 0 y (omega arith))
+  in-All P (y ∷ ys) h x (inr i) = in-All P ys (λ k d l. h (suc k) d (omega arith)) x i
+
+  pub differ-AllPairs : (xs : List X) → AllPairs ◌≢◌ xs → Differ xs
+  differ-AllPairs [] h = tt
+  differ-AllPairs (x ∷ xs) h =
+      (λ i. let c = Contains-in x xs i in h 0 (suc c.0) x (omega arith) (omega (arith, c.1)) (sym c.2), differ-AllPairs xs (λ i j d l m. h (suc i) (suc j) d (omega arith) (omega arith)))
+
+module _ {X Y : Type 0} (f : X → List Y) where
+  pub in-flat_map : (x : X) (y : Y) (xs : List X) → IsIn x xs → IsIn y (f x) → IsIn y (flat_map f xs)
+  in-flat_map x y [] h i = absurd h
+  in-flat_map x y (z ∷ zs) (inl e) i = in-left y (f z) (flat_map f zs) (subst (λ (w : X). IsIn y (f w)) (sym e) i)
+  in-flat_map x y (z ∷ zs) (inr h) i = in-right y (f z) (flat_map f zs) (in-flat_map x y zs h i)
+
+  pub in-flat_map-inv : (y : Y) (xs : List X) → IsIn y (flat_map f xs) → (x : X) × IsIn x xs × IsIn y (f x)
+  in-flat_map-inv y [] h = absurd h
+  in-flat_map-inv y (x ∷ xs) h =
+      elim (in-cases y (f x) (flat_map f xs) h) [
+        | inl a ↦ (x, inl refl, a)
+        | inr b ↦ let i = in-flat_map-inv y xs b in (i.0, inr i.1, i.2)
+      ]
+
+  pub Differ-flat_map : (xs : List X) → ((x : X) → Differ (f x)) → ((a b : X) (y : Y) → IsIn y (f a) → IsIn y (f b) → a ≡ b) → Differ xs → Differ (flat_map f xs)
+  Differ-flat_map [] d s h = tt
+  Differ-flat_map (x ∷ xs) d s h =
+      Differ-append (f x) (flat_map f xs) (d x) (Differ-flat_map xs d s h.1)
+      (λ y a b. let i = in-flat_map-inv y xs b in h.0 (subst (λ (z : X). IsIn z xs) (sym (s x i.0 y a i.2)) i.1))
+
 module _ {X Y : Type 0} (f : X → Y) where
   pub in-map : (x : X) (xs : List X) → IsIn x xs → IsIn (f x) (map f xs)
   in-map x [] h = absurd h
@@ -75,3 +126,39 @@ module _ {X Y : Type 0} (f : X → Y) where
   Differ-map [] j h = tt
   Differ-map (x ∷ xs) j h =
       (λ i. let m = in-map-inv (f x) xs i in h.0 (subst (λ (z : X). IsIn z xs) (j m.0 x m.2) m.1), Differ-map xs j h.1)
+
+-- ---- tests of all and of some elements
+
+module _ {X : Type 0} (p : X → Bool) where
+  pub all-in : (xs : List X) → list_all p xs ≡ true → (x : X) → IsIn x xs → p x ≡ true
+  all-in [] h x i = absurd i
+  all-in (y ∷ ys) h x (inl e) = ap p (sym e) ∙ and-left (p y) (list_all p ys) h
+  all-in (y ∷ ys) h x (inr i) = all-in ys (and-right (p y) (list_all p ys) h) x i
+
+  pub all-from : (xs : List X) → ((x : X) → IsIn x xs → p x ≡ true) → list_all p xs ≡ true
+  all-from [] h = refl
+  all-from (y ∷ ys) h = and_from (p y) (list_all p ys) (h y (inl refl)) (all-from ys (λ x i. h x (inr i)))
+
+  pub any-in : (xs : List X) → list_any p xs ≡ true → (x : X) × IsIn x xs × (p x ≡ true)
+  any-in [] h = absurd (cc)
+  any-in (y ∷ ys) h = elim (or-cases (p y) (list_any p ys) h) [ inl e ↦ (y, inl refl, e) | inr r ↦ let i = any-in ys r in (i.0, inr i.1, i.2) ]
+
+  pub any-from : (xs : List X) (x : X) → IsIn x xs → p x ≡ true → list_any p xs ≡ true
+  any-from [] x i e = absurd i
+  any-from (y ∷ ys) x (inl i) e = or-left (p y) (list_any p ys) (ap p i ∙ e)
+  any-from (y ∷ ys) x (inr i) e = or-right (p y) (list_any p ys) (any-from ys x i e)
+
+-- ---- the numbers of a range
+
+pub in-range : (n a k : ℕ) → a ≤ k → k < a + n → IsIn k (range_with_len a n)
+in-range zero a k l h = absurd (omega arith)
+in-range (suc n) a k l h = elim (cases_eq a k) [ inl e ↦ inl e | inr u ↦ inr (in-range n (a + 1) k (omega arith) (omega arith)) ]
+
+pub in-range-inv : (n a k : ℕ) → IsIn k (range_with_len a n) → (a ≤ k) × (k < a + n)
+in-range-inv zero a k h = absurd h
+in-range-inv (suc n) a k (inl e) = (omega arith, omega arith)
+in-range-inv (suc n) a k (inr h) = let i = in-range-inv n (a + 1) k h in (omega (arith, i.0), omega (arith, i.1))
+
+pub Differ-range : (n a : ℕ) → Differ (range_with_len a n)
+Differ-range zero a = tt
+Differ-range (suc n) a = (λ h. let i = in-range-inv n (a + 1) a h in absurd (omega (arith, i.0)), Differ-range n (a + 1))

@@ -1,13 +1,13 @@
--- What `Readings` is seen as: the readings that are left.
-use Rattle.std.specs.Prelude.{List, [], ◌∷◌, ◌++◌, drop, map}
-use Rattle.riichi_tiles.specs.declared.block.Block.TheVariants.{Pair}
+-- What `Splits` and `Readings` are seen as: those that are left.
+use Rattle.std.specs.Prelude.{List, ◌++◌, drop, map}
+use Rattle.std.specs.List.{flat_map}
 use Rattle.riichi_split.specs.declared.reading.Reading.{Reading}
-use Rattle.riichi_split.specs.declared.reading.Reading.TheVariants.{Standard, SevenPairs, Orphans}
+use Rattle.riichi_split.specs.declared.reading.Reading.TheVariants.{SevenPairs, Orphans}
 use Rattle.riichi_split.specs.declared.readings.Readings.TheInside.{Inside}
-use Rattle.riichi_split.specs.Engine.{flagged, dones, from_choice}
+use Rattle.riichi_split.specs.Dones.{flagged, dones, blocks_of, read_with, readings_with}
 
 abbrev pub readings_left : Inside → List Reading
 readings_left r =
     flagged r.seven_pairs SevenPairs ++ (flagged r.orphans Orphans
-    ++ (map (λ d. Standard r.sets r.pair d) (dones r.winning (drop r.place (r.sets ++ Pair r.pair ∷ [])))
-    ++ from_choice r.counts r.wanted r.winning r.choices))
+    ++ (map (read_with r.split) (dones r.winning (drop r.place (blocks_of r.split)))
+    ++ flat_map (readings_with r.winning) r.splits))

@@ -1,4 +1,9 @@
-pub mod Sets
-pub mod Engine
-pub mod Left
 pub mod Readings
+pub mod ReadingsOf
+pub mod Winning
+pub mod Waits
+pub mod Sets
+pub mod Cuts
+pub mod Dones
+pub mod SplitsLeft
+pub mod Left

@@ -1,10 +1,12 @@
 ghost use Rattle.std.specs.Prelude.{length};
 ghost use Rattle.std.specs.Iterator.{YieldsFirst, item_count};
 
-use crate::cursor::{next_done, next_split};
+use crate::done::next_done;
 use crate::reading::Reading;
 use crate::sets::Sets;
 use crate::special::{is_orphans, is_seven_pairs};
+use crate::split::Split;
+use crate::splits::Splits;
 use riichi_tiles::{Counts, Kind, Melds};
 use std::iter::FusedIterator;
 use std::marker::Model;
@@ -12,18 +14,15 @@ use std::marker::Model;
 /// The readings of a hand, each once, seen as the list of those that are left.
 #[derive(Drop)]
 pub struct Readings {
-    counts: [u8; 34],
-    wanted: usize,
     winning: Kind,
     // Those of the special shapes are still to come.
     seven_pairs: bool,
     orphans: bool,
     // The blocks from `place` on of this split are still to be looked at.
-    sets: Sets,
-    pair: Kind,
+    split: Split,
     place: usize,
-    // The choices below this number are still to be tried.
-    choices: usize,
+    // The splits that are still to come.
+    splits: Splits,
 }
 
 impl Model for Readings {
@@ -32,12 +31,9 @@ impl Model for Readings {
 
     ghost Value = { List Reading };
 
-    ghost use Rattle.riichi_split.specs.Engine.{IsReady};
     ghost use Rattle.riichi_split.specs.Left.{readings_left};
 
     ghost view = { readings_left };
-
-    ghost invariant = { λ r. IsReady r.counts r.wanted r.choices };
 }
 
 impl Readings {
@@ -47,18 +43,18 @@ impl Readings {
     pub fn new(counts: &Counts, melds: &Melds, winning: Kind) -> Readings
         ensures { AreTheReadings counts.now (length melds.now) winning result }
     {
-        let tiles = counts.to_array();
         let melds = melds.count();
+        let tiles = counts.to_array();
         Readings {
-            counts: tiles,
-            wanted: 4 - melds,
             winning,
             seven_pairs: is_seven_pairs(&tiles, melds),
             orphans: is_orphans(&tiles, melds),
-            sets: Sets::new(),
-            pair: Kind::at(0),
+            split: Split {
+                sets: Sets::new(),
+                pair: Kind::at(0),
+            },
             place: 1,
-            choices: 34 * 16,
+            splits: Splits::new(counts, melds),
         }
     }
 }
@@ -80,16 +76,14 @@ impl Iterator for Readings {
             return Some(Reading::Orphans);
         }
         loop {
-            if let Some(done) = next_done(&self.sets, self.pair, self.winning, &mut self.place) {
+            if let Some(done) = next_done(&self.split, self.winning, &mut self.place) {
                 return Some(Reading::Standard {
-                    sets: self.sets,
-                    pair: self.pair,
+                    sets: self.split.sets,
+                    pair: self.split.pair,
                     done,
                 });
             }
-            let (sets, pair) = next_split(&self.counts, self.wanted, &mut self.choices)?;
-            self.sets = sets;
-            self.pair = pair;
+            self.split = self.splits.next()?;
             self.place = 0;
         }
     }

@@ -1,5 +1,5 @@
 ghost use Rattle.std.specs.Prelude.{◌≡◌, ◌+◌, ◌<◌, ◌≤◌, ◌↔◌, IsTrue, [], ◌∷◌, ◌++◌, length, drop, slice_get, replicate};
-ghost use Rattle.riichi_split.specs.Engine.{is_among};
+ghost use Rattle.riichi_split.specs.Dones.{is_among};
 
 use riichi_tiles::{Block, Kind};
 use std::marker::Model;

@@ -1,87 +1,9 @@
-//! One way to cut the counts into sets, by a number that makes the choices.
-ghost use Rattle.std.specs.Prelude.{◌≡◌, ◌+◌, ◌<◌, ◌≤◌, length, replicate, ◌++◌};
-ghost use Rattle.riichi_tiles.specs.Blocks.{IsRunLow};
-ghost use Rattle.riichi_split.specs.Engine.{may_run, choice_of, begun, split_from};
-
 use crate::sets::Sets;
-use riichi_tiles::{Block, Kind};
+use riichi_tiles::Kind;
 
-/// What begins at a kind: a triplet or none, and some runs. `choices` are those for the kinds above.
+/// Tiles cut into sets and a pair.
 #[derive(Clone, Copy)]
-pub(crate) struct Choice {
-    pub(crate) triplets: usize,
-    pub(crate) runs: usize,
-    pub(crate) choices: usize,
-}
-
-fn may_begin_run(kind: usize) -> bool
-    ensures { result ≡ may_run kind }
-{
-    kind < 27 && kind % 9 < 7
-}
-
-/// What begins at a kind with `count` tiles, of which `below` belong to runs begun below.
-fn choose(kind: usize, count: usize, below: usize, left: usize, choices: usize) -> Option<Choice>
-    requires count { count < 256 }
-    requires below { below < 256 }
-    ensures { result ≡ choice_of kind count below left choices }
-{
-    if count < below {
-        return None;
-    }
-    if count == below {
-        return Some(Choice {
-            triplets: 0,
-            runs: 0,
-            choices,
-        });
-    }
-    let triplets = choices % 2;
-    if count < below + 3 * triplets {
-        return None;
-    }
-    let runs = count - (below + 3 * triplets);
-    if left < triplets + runs || runs > 0 && !may_begin_run(kind) {
-        return None;
-    }
-    Some(Choice {
-        triplets,
-        runs,
-        choices: choices / 2,
-    })
-}
-
-fn begin(sets: &mut Sets, kind: Kind, choice: Choice)
-    requires { length sets.old + choice.triplets + choice.runs ≤ 4 }
-    ensures { sets.new ≡ sets.old ++ begun kind choice }
-{
-    for triplet in 0..choice.triplets {
-        sets.push(Block::Triplet(kind));
-    }
-    for run in 0..choice.runs {
-        sets.push(Block::Run(kind));
-    }
-}
-
-/// The sets that use up the counts, as the bits of `choices` say of each kind that begins some
-/// whether it begins a triplet.
-pub(crate) fn split(counts: &[u8; 34], wanted: usize, choices: usize) -> Option<Sets>
-    requires { wanted ≤ 4 }
-    ensures { result ≡ split_from 0 counts.now 0 0 wanted choices }
-{
-    let mut sets = Sets::new();
-    let (mut one, mut two, mut left, mut choices) = (0, 0, wanted, choices);
-    for (index, count) in counts.iter().enumerate() {
-        let choice = choose(index, *count as usize, one + two, left, choices)?;
-        begin(&mut sets, Kind::at(index as u8), choice);
-        two = one;
-        one = choice.runs;
-        left -= choice.triplets + choice.runs;
-        choices = choice.choices;
-    }
-    if one == 0 && two == 0 && left == 0 && choices == 0 {
-        Some(sets)
-    } else {
-        None
-    }
+pub(crate) struct Split {
+    pub(crate) sets: Sets,
+    pub(crate) pair: Kind,
 }

@@ -1,10 +1,9 @@
-use Rattle.std.proofs.Common.{arith, ◌≡◌, ◌+◌, ◌-◌}
-use Rattle.riichi_tiles.specs.Tiles.{IsCounts}
-use Rattle.riichi_split.proofs.All.{the-readings}
+use Rattle.std.proofs.Common.{flat_map}
+use Rattle.riichi_split.specs.Dones.{readings_with}
+use Rattle.riichi_split.proofs.AllReadings.{splits-standard, the_readings}
 use Rattle.riichi_split.proofs.readings.Readings.new.Goals as goal
 
 pub returns : goal.returns
 returns c =
-    let four : 4 - c.count-melds.result + c.count-melds.result ≡ 4 = omega arith in
-    let counts : IsCounts c.to_array-tiles.result = rw c.to_array-tiles.ensures.value c.to_array-tiles.ensures.counts in
-    rw (← c.to_array-tiles.ensures.value, ← c.count-melds.ensures.value, c.new.ensures) (the-readings c.to_array-tiles.result (4 - c.count-melds.result) c.count-melds.result c.args.winning c.is_seven_pairs.result c.is_orphans.result counts four c.is_seven_pairs.ensures c.is_orphans.ensures)
+    let splits = rw (← c.to_array-tiles.ensures.value) at c.new-2.ensures in
+    rw (← c.count-melds.ensures.value, ← c.to_array-tiles.ensures.value, c.new.ensures) (the_readings c.to_array-tiles.result c.count-melds.result c.args.winning (flat_map (readings_with c.args.winning) c.new-2.result) c.is_seven_pairs.result c.is_orphans.result (splits-standard c.to_array-tiles.result c.count-melds.result c.args.winning c.new-2.result splits) c.is_seven_pairs.ensures c.is_orphans.ensures)

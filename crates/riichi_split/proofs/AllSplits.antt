@@ -1,0 +1,181 @@
+-- The list of all splits has each split of the definition once, and nothing else.
+use Rattle.std.proofs.Common.{◌≡◌, ℕ, zero, suc, ◌+◌, ◌-◌, ◌^◌, ◌<◌, ◌≤◌, Bool, true, false, cond, inl, inr, Option, Some, None, List, [], ◌∷◌, ◌++◌, length, get_or, set, min, refl, sym, ap, ◌∙◌, arith, ltb, leb, eqb}
+use Rattle.std.specs.List.{AllByRecursion}
+use Rattle.std.proofs.Math.Pow.{pow_mono}
+use Rattle.std.proofs.lemmas.Bool.{cases_eq, cases_lt}
+use Rattle.std.proofs.lemmas.Bool.Decides.{nat_tests}
+use Rattle.std.proofs.lemmas.List.{length-set, get_or-set_other}
+use Rattle.std.proofs.lemmas.List.Sums.{sum_by-set}
+use Rattle.std.proofs.lemmas.Grind.{get_or-set_at}
+use Rattle.riichi_tiles.specs.Tiles.{IsCounts}
+use Rattle.riichi_tiles.specs.declared.block.Block.{Block}
+use Rattle.riichi_tiles.specs.Blocks.{total}
+use Rattle.riichi_split.specs.declared.split.Split.{Split}
+use Rattle.riichi_split.specs.Readings.{IsSplit}
+use Rattle.riichi_split.specs.Cuts.{AreTheSplits, cut_from, sets_beside, split_of, from_choices, from_pairs, threes}
+use Rattle.riichi_split.proofs.Lists.{IsIn, Differ, in-left, in-right, in-cases, Differ-append, Contains-in, All-in, AllPairs-differ}
+use Rattle.riichi_split.proofs.Sound.{carried, IsCut, IsCut-from, same_choices, few_choices, same-total}
+use Rattle.riichi_split.proofs.Complete.{found-by, IsFound}
+
+-- ---- one split
+
+beside-inv : (c : List ℕ) (wanted p x : ℕ) (bs : List Block) (b : Bool) → b ≡ ltb (get_or c p 0) 2 → cond b None (cut_from 0 (set c p (get_or c p 0 - 2)) 0 0 wanted x) ≡ Some bs → (2 ≤ get_or c p 0) × (cut_from 0 (set c p (get_or c p 0 - 2)) 0 0 wanted x ≡ Some bs)
+beside-inv c wanted p x bs true t e = absurd (cc)
+beside-inv c wanted p x bs false t e = (grind (arith, nat_tests), e)
+
+uncarried : (j : ℕ) → carried 0 0 j ≡ 0
+uncarried zero = refl
+uncarried (suc zero) = refl
+uncarried (suc (suc j)) = refl
+
+-- the counts without a pair
+without : (c : List ℕ) (p k : ℕ) → p < length c → 2 ≤ get_or c p 0 → get_or (set c p (get_or c p 0 - 2)) k 0 + cond (eqb k p) 2 0 ≡ get_or c k 0
+without c p k l h =
+    elim (cases_eq k p) [
+      | inl e ↦ let g = get_or-set_at c p k (get_or c p 0 - 2) 0 e l in let f : get_or c k 0 ≡ get_or c p 0 = ap (λ x. get_or c x 0) e in grind (arith, nat_tests)
+      | inr n ↦ let g = get_or-set_other c p k (get_or c p 0 - 2) 0 n in grind (arith, nat_tests)
+    ]
+
+pub IsSplit-from : (c : List ℕ) (wanted melds p x : ℕ) (bs : List Block) → IsCounts c → wanted + melds ≡ 4 → p < 34 → sets_beside c wanted p x ≡ Some bs → IsSplit c melds bs p
+IsSplit-from c wanted melds p x bs counts w l e =
+    let s = beside-inv c wanted p x bs _ refl e in
+    let cut = IsCut-from (set c p (get_or c p 0 - 2)) 0 0 0 wanted x bs (simp length-set (omega (arith, counts.each_kind))) s.1 in
+    record {
+      four = omega (arith, cut.many);
+      each_a_set = cut.sets;
+      in_order = cut.order;
+      pair_is_kind = l;
+      add_up = λ k. let a = cut.adds k in let u = uncarried k in let t = same-total bs (0 + k) k (omega arith) in let v = without c p k (omega (arith, counts.each_kind)) s.0 in omega arith;
+    }
+
+pick-second : (b : Bool) (o : Option (List Block)) → b ≡ false → cond b None o ≡ o
+pick-second true o e = absurd (cc)
+pick-second false o e = refl
+
+small-by : (c : List ℕ) → ((k : ℕ) → get_or c k 0 ≤ 4) → AllByRecursion (λ n. n ≤ 4) c
+small-by [] h = tt
+small-by (n ∷ ns) h = (h 0, small-by ns (λ k. h (suc k)))
+
+-- a pair less leaves no more kinds with three tiles
+threes-less : (c : List ℕ) (p v : ℕ) → p < length c → v ≤ get_or c p 0 → threes (set c p v) ≤ threes c
+threes-less c p v l h = let e = sum_by-set (λ n. cond (leb 3 n) 1 0) c p v 0 l in grind (arith, nat_tests)
+
+least : (x n : ℕ) → x < 2 ^ 4 → x < 2 ^ n → x < 2 ^ min 4 n
+least x n h i =
+    elim (cases_lt 4 n) [
+      | inl l ↦ let e : 2 ^ 4 ≤ 2 ^ min 4 n = pow_mono {i = 4} {j = min 4 n} (omega arith) in omega arith
+      | inr g ↦ let e : 2 ^ n ≤ 2 ^ min 4 n = pow_mono {i = n} {j = min 4 n} (omega arith) in omega arith
+    ]
+
+pub choice-from : (c : List ℕ) (wanted melds p : ℕ) (bs : List Block) → IsCounts c → wanted + melds ≡ 4 → IsSplit c melds bs p → (x : ℕ) × (x < 2 ^ min 4 (threes c)) × (sets_beside c wanted p x ≡ Some bs)
+choice-from c wanted melds p bs counts w h =
+    let rest = set c p (get_or c p 0 - 2) in
+    let in_range : p < length c = omega (arith, counts.each_kind, h.pair_is_kind) in
+    let own : cond (eqb p p) 2 0 + total bs p ≡ get_or c p 0 = h.add_up p in
+    let has : 2 ≤ get_or c p 0 = grind (arith, nat_tests) in
+    let small : AllByRecursion (λ n. n ≤ 4) rest = small-by rest (λ k. let v = without c p k in_range has in omega (arith, v, counts.at_most_four k)) in
+    let cut : IsCut 0 rest 0 0 wanted bs = record {
+      many = omega (arith, h.four);
+      sets = h.each_a_set;
+      order = h.in_order;
+      adds = λ k. let a : cond (eqb k p) 2 0 + total bs k ≡ get_or c k 0 = h.add_up k in let u = uncarried k in let t = same-total bs (0 + k) k (omega arith) in let v = without c p k in_range has in omega arith;
+    } in
+    let f : IsFound 0 rest 0 0 wanted bs = found-by rest 0 0 0 wanted bs small cut in
+    let few : wanted ≤ 4 = omega arith in
+    let up : 2 ^ wanted ≤ 2 ^ 4 = pow_mono {i = wanted} {j = 4} few in
+    let fewer : 2 ^ threes rest ≤ 2 ^ threes c = pow_mono (threes-less c p (get_or c p 0 - 2) in_range (omega arith)) in
+    let own_few = few_choices rest 0 0 0 wanted f.0 bs f.2 in
+    let t : ltb (get_or c p 0) 2 ≡ false = grind (arith, nat_tests) in
+    (f.0, least f.0 (threes c) (omega (arith, f.1)) (omega arith), pick-second (ltb (get_or c p 0) 2) _ t ∙ f.2)
+
+-- ---- all splits
+
+split_of-inv : (p : ℕ) (o : Option (List Block)) (s : Split) → IsIn s (split_of p o) → (o ≡ Some s.sets) × (p ≡ s.pair)
+split_of-inv p None s h = absurd h
+split_of-inv p (Some sets) s (inl e) = (ap (λ (z : Split). Some z.sets) e, ap (λ (z : Split). z.pair) e)
+split_of-inv p (Some sets) s (inr h) = absurd h
+
+in-split_of : (p : ℕ) (o : Option (List Block)) (s : Split) → o ≡ Some s.sets → p ≡ s.pair → IsIn s (split_of p o)
+in-split_of p None s e q = absurd (cc)
+in-split_of p (Some sets) s e q = let f : sets ≡ s.sets = cc in inl (ap (λ z. record { sets = z; pair = p }) f ∙ ap (λ z. record { sets = s.sets; pair = z }) q)
+
+Differ-split_of : (p : ℕ) (o : Option (List Block)) → Differ (split_of p o)
+Differ-split_of p None = tt
+Differ-split_of p (Some sets) = (λ h. h, tt)
+
+from_choices-inv : (c : List ℕ) (wanted p n : ℕ) (s : Split) → IsIn s (from_choices c wanted p n) → (p ≡ s.pair) × ((x : ℕ) × (x < n) × (sets_beside c wanted p x ≡ Some s.sets))
+unfolding from_choices
+from_choices-inv c wanted p zero s h = absurd h
+from_choices-inv c wanted p (suc n) s h =
+    elim (in-cases s (split_of p (sets_beside c wanted p n)) (from_choices c wanted p n) h) [
+      | inl a ↦ let i = split_of-inv p (sets_beside c wanted p n) s a in (i.1, (n, omega arith, i.0))
+      | inr b ↦ let i = from_choices-inv c wanted p n s b in (i.0, (i.1.0, omega (arith, i.1.1), i.1.2))
+    ]
+
+in-from_choices : (c : List ℕ) (wanted p n x : ℕ) (s : Split) → x < n → sets_beside c wanted p x ≡ Some s.sets → p ≡ s.pair → IsIn s (from_choices c wanted p n)
+unfolding from_choices
+in-from_choices c wanted p zero x s l e q = absurd (omega arith)
+in-from_choices c wanted p (suc n) x s l e q =
+    elim (cases_eq x n) [
+      | inl i ↦ in-left s (split_of p (sets_beside c wanted p n)) (from_choices c wanted p n) (in-split_of p (sets_beside c wanted p n) s (ap (sets_beside c wanted p) (sym i) ∙ e) q)
+      | inr u ↦ in-right s (split_of p (sets_beside c wanted p n)) (from_choices c wanted p n) (in-from_choices c wanted p n x s (omega arith) e q)
+    ]
+
+from_pairs-inv : (c : List ℕ) (wanted m n : ℕ) (s : Split) → IsIn s (from_pairs c wanted m n) → (s.pair < n) × ((x : ℕ) × (x < m) × (sets_beside c wanted s.pair x ≡ Some s.sets))
+unfolding from_pairs
+from_pairs-inv c wanted m zero s h = absurd h
+from_pairs-inv c wanted m (suc n) s h =
+    elim (in-cases s (from_choices c wanted n m) (from_pairs c wanted m n) h) [
+      | inl a ↦ let i = from_choices-inv c wanted n m s a in (omega (arith, i.0), (i.1.0, i.1.1, ap (λ z. sets_beside c wanted z i.1.0) (sym i.0) ∙ i.1.2))
+      | inr b ↦ let i = from_pairs-inv c wanted m n s b in (omega (arith, i.0), i.1)
+    ]
+
+in-from_pairs : (c : List ℕ) (wanted m n x : ℕ) (s : Split) → s.pair < n → x < m → sets_beside c wanted s.pair x ≡ Some s.sets → IsIn s (from_pairs c wanted m n)
+unfolding from_pairs
+in-from_pairs c wanted m zero x s l h e = absurd (omega arith)
+in-from_pairs c wanted m (suc n) x s l h e =
+    elim (cases_eq n s.pair) [
+      | inl i ↦ in-left s (from_choices c wanted n m) (from_pairs c wanted m n) (in-from_choices c wanted n m x s h (ap (λ z. sets_beside c wanted z x) i ∙ e) i)
+      | inr u ↦ in-right s (from_choices c wanted n m) (from_pairs c wanted m n) (in-from_pairs c wanted m n x s (omega arith) h e)
+    ]
+
+-- two choices that leave one split are one
+same-number : (c : List ℕ) (wanted p x y : ℕ) (bs : List Block) → sets_beside c wanted p x ≡ Some bs → sets_beside c wanted p y ≡ Some bs → x ≡ y
+same-number c wanted p x y bs e f =
+    let s = beside-inv c wanted p x bs _ refl e in
+    let t = beside-inv c wanted p y bs _ refl f in
+    same_choices (set c p (get_or c p 0 - 2)) 0 0 0 wanted x y bs s.1 t.1
+
+Differ-from_choices : (c : List ℕ) (wanted p n : ℕ) → Differ (from_choices c wanted p n)
+unfolding from_choices
+Differ-from_choices c wanted p zero = tt
+Differ-from_choices c wanted p (suc n) =
+    Differ-append (split_of p (sets_beside c wanted p n)) (from_choices c wanted p n) (Differ-split_of p (sets_beside c wanted p n)) (Differ-from_choices c wanted p n)
+    (λ s a b.
+    let i = split_of-inv p (sets_beside c wanted p n) s a in
+    let j = from_choices-inv c wanted p n s b in
+    let e = same-number c wanted p n j.1.0 s.sets i.0 j.1.2 in
+    absurd (omega (arith, e, j.1.1)))
+
+Differ-from_pairs : (c : List ℕ) (wanted m n : ℕ) → Differ (from_pairs c wanted m n)
+unfolding from_pairs
+Differ-from_pairs c wanted m zero = tt
+Differ-from_pairs c wanted m (suc n) =
+    Differ-append (from_choices c wanted n m) (from_pairs c wanted m n) (Differ-from_choices c wanted n m) (Differ-from_pairs c wanted m n)
+    (λ s a b.
+    let i = from_choices-inv c wanted n m s a in
+    let j = from_pairs-inv c wanted m n s b in
+    absurd (omega (arith, i.0, j.0)))
+
+no_choices : (c : List ℕ) (wanted p : ℕ) (splits : List Split) → from_choices c wanted p 0 ++ splits ≡ splits
+unfolding from_choices
+no_choices c wanted p splits = refl
+
+pub the_splits : (c : List ℕ) (wanted melds p : ℕ) → IsCounts c → wanted + melds ≡ 4 → AreTheSplits c melds (from_choices c wanted p 0 ++ from_pairs c wanted (2 ^ min 4 (threes c)) 34)
+the_splits c wanted melds p counts w =
+    let all = from_pairs c wanted (2 ^ min 4 (threes c)) 34 in
+    rw (no_choices c wanted p all) (record {
+      sound = All-in (λ s. IsSplit c melds s.sets s.pair) all (λ s h. let i = from_pairs-inv c wanted (2 ^ min 4 (threes c)) 34 s h in IsSplit-from c wanted melds s.pair i.1.0 s.sets counts w i.0 i.1.2);
+      complete = λ s h. let i = choice-from c wanted melds s.pair s.sets counts w h in Contains-in s all (in-from_pairs c wanted (2 ^ min 4 (threes c)) 34 i.0 s h.pair_is_kind i.1 i.2);
+      once = AllPairs-differ all (Differ-from_pairs c wanted (2 ^ min 4 (threes c)) 34);
+    })

@@ -1,0 +1,50 @@
+-- One step along the choices, and along the pairs.
+use Rattle.std.proofs.Common.{is_some, MatchOption, ◌≡◌, ℕ, suc, ◌-◌, ◌<◌, Bool, true, false, cond, Option, Some, None, List, [], ◌∷◌, ◌++◌, get_or, slice_set, refl, sym, ap, ◌∙◌, arith, ltb, zero}
+use Rattle.std.proofs.lemmas.Bool.Decides.{nat_tests}
+use Rattle.riichi_tiles.specs.declared.block.Block.{Block}
+use Rattle.riichi_split.specs.Cuts.{sets_beside, split_of, from_choices, from_pairs, cut_from}
+
+choices-suc : (c : List ℕ) (wanted p x n : ℕ) (o : Option (List Block)) → n ≡ suc x → o ≡ sets_beside c wanted p x → from_choices c wanted p n ≡ split_of p o ++ from_choices c wanted p x
+unfolding from_choices
+choices-suc c wanted p x n o e h = ap (from_choices c wanted p) e ∙ ap (λ z. split_of p z ++ from_choices c wanted p x) (sym h)
+
+pub from_choices-step : (c : List ℕ) (wanted p n : ℕ) (o : Option (List Block)) → 0 < n → o ≡ sets_beside c wanted p (n - 1) → from_choices c wanted p n ≡ split_of p o ++ from_choices c wanted p (n - 1)
+from_choices-step c wanted p n o l e = choices-suc c wanted p (n - 1) n o (omega arith) e
+
+pub from_choices-none : (c : List ℕ) (wanted p n : ℕ) → n ≡ 0 → from_choices c wanted p n ≡ []
+unfolding from_choices
+from_choices-none c wanted p n e = ap (from_choices c wanted p) e
+
+pairs-suc : (c : List ℕ) (wanted m x n : ℕ) → n ≡ suc x → from_pairs c wanted m n ≡ from_choices c wanted x m ++ from_pairs c wanted m x
+unfolding from_pairs
+pairs-suc c wanted m x n e = ap (from_pairs c wanted m) e
+
+pub from_pairs-step : (c : List ℕ) (wanted m n : ℕ) → 0 < n → from_pairs c wanted m n ≡ from_choices c wanted (n - 1) m ++ from_pairs c wanted m (n - 1)
+from_pairs-step c wanted m n l = pairs-suc c wanted m (n - 1) n (omega arith)
+
+pub from_pairs-none : (c : List ℕ) (wanted m n : ℕ) → n ≡ 0 → from_pairs c wanted m n ≡ []
+unfolding from_pairs
+from_pairs-none c wanted m n e = ap (from_pairs c wanted m) e
+
+beside-none : (b : Bool) (p : ℕ) (o : Option (List Block)) → b ≡ true → split_of p (cond b None o) ≡ []
+beside-none true p o e = refl
+beside-none false p o e = absurd (cc)
+
+-- a kind with fewer than two tiles is no pair
+pub no_pair : (c : List ℕ) (wanted p n : ℕ) → get_or c p 0 < 2 → from_choices c wanted p n ≡ []
+unfolding from_choices
+no_pair c wanted p zero h = refl
+no_pair c wanted p (suc n) h =
+    let t : ltb (get_or c p 0) 2 ≡ true = grind (arith, nat_tests) in
+    ap (λ z. z ++ from_choices c wanted p n) (beside-none (ltb (get_or c p 0) 2) p (cut_from 0 (slice_set c p (get_or c p 0 - 2)) 0 0 wanted n) t) ∙ no_pair c wanted p n h
+
+pub sets-found : (c : List ℕ) (wanted p n m : ℕ) (o : Option (List Block)) → 0 < n → o ≡ sets_beside c wanted p (n - 1) → is_some o ≡ true → from_choices c wanted p n ≡ from_choices c wanted p m → MatchOption o ((from_choices c wanted p m ≡ []) × (n - 1 ≡ 0)) (λ sets. from_choices c wanted p m ≡ record { sets = sets; pair = p } ∷ from_choices c wanted p (n - 1))
+sets-found c wanted p n m None l e s h = absurd (cc)
+sets-found c wanted p n m (Some sets) l e s h = sym h ∙ from_choices-step c wanted p n (Some sets) l e
+
+pub sets-passed : (c : List ℕ) (wanted p n m : ℕ) (o : Option (List Block)) → 0 < n → o ≡ sets_beside c wanted p (n - 1) → is_some o ≡ false → from_choices c wanted p n ≡ from_choices c wanted p m → from_choices c wanted p (n - 1) ≡ from_choices c wanted p m
+sets-passed c wanted p n m None l e s h = sym (from_choices-step c wanted p n None l e) ∙ h
+sets-passed c wanted p n m (Some sets) l e s h = absurd (cc)
+
+pub splits-ended : (c : List ℕ) (wanted p m a b : ℕ) → from_choices c wanted p a ≡ [] → from_pairs c wanted m b ≡ [] → from_choices c wanted p a ++ from_pairs c wanted m b ≡ []
+splits-ended c wanted p m a b e f = ap (λ z. z ++ from_pairs c wanted m b) e ∙ f

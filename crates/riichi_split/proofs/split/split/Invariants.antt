@@ -1,5 +1,0 @@
-use Rattle.riichi_split.proofs.Splits.{IsPartWay}
-use Rattle.riichi_split.proofs.split.split.Given as goal
-
-abbrev pub invariant-loop-index : goal.invariant-loop-index
-invariant-loop-index l = IsPartWay l.counts l.fn.wanted l.fn.choices l.index l.sets l.one l.two l.left l.choices

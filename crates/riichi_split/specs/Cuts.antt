@@ -1,0 +1,77 @@
+-- How the search cuts tiles into sets, kind by kind from the lowest. No public clause cites this.
+use Rattle.std.specs.Prelude.{ℕ, zero, suc, ◌+◌, ◌-◌, ◌*◌, ◌/◌, ◌%◌, Bool, false, ◌&&◌, not, Option, Some, None, List, [], ◌∷◌, ◌++◌, if◌then◌else◌, nat_lt, ◌==◌, replicate, slice_index, slice_set, option_and_then, ◌≡◌, ◌≤◌, length, nat_le, All, AllPairs, Contains, ◌≢◌}
+use Rattle.std.specs.List.{count_by}
+use Rattle.riichi_tiles.specs.declared.block.Block.{Block}
+use Rattle.riichi_tiles.specs.declared.block.Block.TheVariants.{Run, Triplet}
+use Rattle.riichi_split.specs.Readings.{IsSplit}
+use Rattle.riichi_split.specs.declared.cutting.Choice.{Choice}
+use Rattle.riichi_split.specs.declared.split.Split.{Split}
+
+abbrev pub may_run : ℕ → Bool
+may_run k = if nat_lt k 27 then nat_lt (k % 9) 7 else false
+
+-- so many triplets and runs begin at kind k, where that many sets are wanted and runs may begin there
+abbrev pub begins : ℕ → ℕ → ℕ → ℕ → ℕ → Option Choice
+begins k left triplets runs choices =
+    if nat_lt left (triplets + runs) then None else
+    (if nat_lt 0 runs && not (may_run k) then None else
+    Some (record { triplets = triplets; runs = runs; choices = choices }))
+
+-- what begins at kind k, where it has n tiles and `below` of them belong to runs begun below: with three tiles free, the next bit says whether a triplet does
+abbrev pub choice_of : ℕ → ℕ → ℕ → ℕ → ℕ → Option Choice
+choice_of k n below left choices =
+    if nat_lt n below then None else
+    (if nat_lt (n - below) 3 then begins k left 0 (n - below) choices else
+    begins k left (choices % 2) (n - below - 3 * (choices % 2)) (choices / 2))
+
+-- the sets that begin at kind k
+abbrev pub begun : ℕ → Choice → List Block
+begun k c = replicate c.triplets (Triplet k) ++ replicate c.runs (Run k)
+
+abbrev pub joined : List Block → Option (List Block) → Option (List Block)
+joined front None = None
+joined front (Some rest) = Some (front ++ rest)
+
+-- the sets of the kinds from k on, where `one` runs began one kind below and `two` two kinds below
+unfoldable pub cut_from : ℕ → List ℕ → ℕ → ℕ → ℕ → ℕ → Option (List Block)
+cut_from k [] one two left choices = if one + two + left + choices == 0 then Some [] else None
+cut_from k (n ∷ ns) one two left choices =
+    option_and_then (λ c. joined (begun k c) (cut_from (k + 1) ns c.runs one (left - (c.triplets + c.runs)) c.choices)) (choice_of k n (one + two) left choices)
+
+-- the sets that some choices leave beside a pair
+abbrev pub sets_beside : List ℕ → ℕ → ℕ → ℕ → Option (List Block)
+sets_beside counts wanted pair choices =
+    if nat_lt (slice_index counts pair) 2 then None else
+    cut_from 0 (slice_set counts pair (slice_index counts pair - 2)) 0 0 wanted choices
+
+abbrev pub split_of : ℕ → Option (List Block) → List Split
+split_of pair None = []
+split_of pair (Some sets) = record { sets = sets; pair = pair } ∷ []
+
+-- the splits with a pair, by the choices below a number
+unfoldable pub from_choices : List ℕ → ℕ → ℕ → ℕ → List Split
+from_choices counts wanted pair zero = []
+from_choices counts wanted pair (suc choices) = split_of pair (sets_beside counts wanted pair choices) ++ from_choices counts wanted pair choices
+
+-- the splits with the pairs below a number
+unfoldable pub from_pairs : List ℕ → ℕ → ℕ → ℕ → List Split
+from_pairs counts wanted choices zero = []
+from_pairs counts wanted choices (suc pair) = from_choices counts wanted pair choices ++ from_pairs counts wanted choices pair
+
+-- how many kinds have three tiles or more
+abbrev pub threes : List ℕ → ℕ
+threes counts = count_by (λ n. nat_le 3 n) counts
+
+-- what the fields of `Splits` keep
+pub record IsReady (counts : List ℕ) (wanted choices choices_left pairs_left : ℕ) : Type 0 where
+  pub each_kind : length counts ≡ 34
+  pub at_most_four : wanted ≤ 4
+  pub choices_few : choices ≤ 16
+  pub left_few : choices_left ≤ 16
+  pub pairs_few : pairs_left ≤ 34
+
+-- the list has each split once, and nothing else
+pub record AreTheSplits (counts : List ℕ) (melds : ℕ) (splits : List Split) : Type 0 where
+  pub sound : All (λ split. IsSplit counts melds split.sets split.pair) splits
+  pub complete : (split : Split) → IsSplit counts melds split.sets split.pair → Contains splits split
+  pub once : AllPairs ◌≢◌ splits

@@ -1,0 +1,93 @@
+//! One way to cut tiles into sets, by a number that makes the choices.
+ghost use Rattle.std.specs.Prelude.{◌≡◌, ◌+◌, ◌<◌, ◌≤◌, ◌++◌, length, replicate};
+ghost use Rattle.riichi_split.specs.Cuts.{may_run, begins, choice_of, begun, cut_from};
+
+use crate::sets::Sets;
+use riichi_tiles::{Block, Kind};
+
+/// What begins at a kind: a triplet or none, and some runs. `choices` are those for the kinds above.
+#[derive(Clone, Copy)]
+pub(crate) struct Choice {
+    pub(crate) triplets: usize,
+    pub(crate) runs: usize,
+    pub(crate) choices: usize,
+}
+
+fn may_begin_run(kind: usize) -> bool
+    ensures { result ≡ may_run kind }
+{
+    kind < 27 && kind % 9 < 7
+}
+
+/// So many sets, where that many are wanted and runs may begin at the kind.
+fn begins(kind: usize, left: usize, choice: Choice) -> Option<Choice>
+    requires { choice.triplets + choice.runs < 512 }
+    ensures { result ≡ begins kind left choice.triplets choice.runs choice.choices }
+{
+    if left < choice.triplets + choice.runs || choice.runs > 0 && !may_begin_run(kind) {
+        None
+    } else {
+        Some(choice)
+    }
+}
+
+/// What begins at a kind with `count` tiles, of which `below` belong to runs begun below. With three
+/// tiles free, the next of the choices' bits says whether a triplet does.
+fn choose(kind: usize, count: usize, below: usize, left: usize, choices: usize) -> Option<Choice>
+    requires { count < 256 }
+    ensures { result ≡ choice_of kind count below left choices }
+{
+    if count < below {
+        return None;
+    }
+    let free = count - below;
+    if free < 3 {
+        let choice = Choice {
+            triplets: 0,
+            runs: free,
+            choices,
+        };
+        return begins(kind, left, choice);
+    }
+    let triplets = choices % 2;
+    let choice = Choice {
+        triplets,
+        runs: free - 3 * triplets,
+        choices: choices / 2,
+    };
+    begins(kind, left, choice)
+}
+
+fn begin(sets: &mut Sets, kind: Kind, choice: Choice)
+    requires { length sets.old + choice.triplets + choice.runs ≤ 4 }
+    ensures { sets.new ≡ sets.old ++ begun kind choice }
+{
+    for triplet in 0..choice.triplets {
+        sets.push(Block::Triplet(kind));
+    }
+    for run in 0..choice.runs {
+        sets.push(Block::Run(kind));
+    }
+}
+
+/// The sets that use up the counts, as the choices say.
+pub(crate) fn cut(counts: &[u8; 34], wanted: usize, choices: usize) -> Option<Sets>
+    requires { wanted ≤ 4 }
+    ensures { result ≡ cut_from 0 counts.now 0 0 wanted choices }
+{
+    let mut sets = Sets::new();
+    let (mut one, mut two, mut left, mut choices) = (0, 0, wanted, choices);
+    for (index, count) in counts.iter().enumerate() {
+        let choice = choose(index, *count as usize, one + two, left, choices)?;
+        begin(&mut sets, Kind::at(index as u8), choice);
+        two = one;
+        one = choice.runs;
+        left -= choice.triplets + choice.runs;
+        choices = choice.choices;
+    }
+    if one == 0 && two == 0 && left == 0 && choices == 0 {
+        Some(sets)
+    } else {
+        None
+    }
+}

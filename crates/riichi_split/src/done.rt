@@ -1,0 +1,58 @@
+//! The blocks that the winning tile completes, one after the other.
+ghost use Rattle.std.specs.Prelude.{◌≡◌, ◌≤◌, MatchOption, [], ◌∷◌, drop, length};
+ghost use Rattle.riichi_split.specs.Dones.{dones, done_first, done_unless_again, same_block, blocks_of};
+
+use crate::split::Split;
+use riichi_tiles::{Block, Kind};
+
+fn is_same(a: &Block, b: &Block) -> bool
+    ensures { result ≡ same_block a.now b.now }
+{
+    *a == *b
+}
+
+fn done_unless(comes_again: bool, block: Block, winning: Kind) -> Option<Block>
+    ensures { result ≡ done_unless_again comes_again block winning }
+{
+    let completed = block.contains(winning);
+    if completed && !comes_again {
+        Some(block)
+    } else {
+        None
+    }
+}
+
+/// The block at a place of the sets and then the pair, if the winning tile completes it and no later
+/// block is the same.
+fn done_at(split: &Split, winning: Kind, place: usize) -> Option<Block>
+    requires in_range { place ≤ length split.now.sets }
+    requires small { place ≤ 4 }
+    ensures { result ≡ done_first winning (drop place (blocks_of split.now)) }
+{
+    let pair = Block::Pair(split.pair);
+    match split.sets.get(place) {
+        Some(set) => {
+            let comes_again = split.sets.has_from(place + 1, set) || is_same(&set, &pair);
+            done_unless(comes_again, set, winning)
+        }
+        None => done_unless(false, pair, winning),
+    }
+}
+
+/// The next block that the winning tile completes, from a place of the sets and then the pair on.
+pub(crate) fn next_done(split: &Split, winning: Kind, place: &mut usize) -> Option<Block>
+    ensures { MatchOption result
+        ((dones winning (drop place.old (blocks_of split.now)) ≡ [])
+        × (dones winning (drop place.new (blocks_of split.now)) ≡ []))
+        (λ done. dones winning (drop place.old (blocks_of split.now))
+        ≡ done ∷ dones winning (drop place.new (blocks_of split.now))) }
+{
+    while *place <= split.sets.len() {
+        let done = done_at(split, winning, *place);
+        *place += 1;
+        if done.is_some() {
+            return done;
+        }
+    }
+    None
+}

@@ -1,0 +1,146 @@
+ghost use Rattle.std.specs.Prelude.{◌≡◌, ℕ, ◌-◌, ◌/◌, ◌<◌, ◌≤◌, ◌^◌, min, MatchOption, [], ◌∷◌, ◌++◌, length};
+ghost use Rattle.std.specs.Iterator.{YieldsFirst, item_count};
+ghost use Rattle.riichi_split.specs.Cuts.{sets_beside, from_choices, from_pairs, threes};
+
+use crate::cutting::cut;
+use crate::sets::Sets;
+use crate::split::Split;
+use riichi_tiles::{Counts, Kind};
+use std::iter::FusedIterator;
+use std::marker::Model;
+
+/// The ways to cut tiles into sets and a pair, each once, seen as the list of those that are left.
+#[derive(Drop)]
+pub(crate) struct Splits {
+    counts: [u8; 34],
+    wanted: usize,
+    // How many choices there may be beside a pair.
+    choices: usize,
+    // The choices below `choices_left` are still to be tried with this pair.
+    pair: Kind,
+    choices_left: usize,
+    // The pairs of a kind below this number are still to be tried.
+    pairs_left: usize,
+}
+
+impl Model for Splits {
+    ghost use Rattle.std.specs.Prelude.{List};
+    ghost use Rattle.riichi_split.specs.declared.split.Split.{Split};
+
+    ghost Value = { List Split };
+
+    ghost use Rattle.riichi_split.specs.Cuts.{IsReady};
+    ghost use Rattle.riichi_split.specs.SplitsLeft.{splits_left};
+
+    ghost view = { splits_left };
+
+    ghost invariant = { λ s. IsReady s.counts s.wanted s.choices s.choices_left s.pairs_left };
+}
+
+impl Splits {
+    ghost use Rattle.riichi_split.specs.Cuts.{AreTheSplits};
+
+    /// The splits of the tiles beside so many melds.
+    pub(crate) fn new(counts: &Counts, melds: usize) -> Splits
+        requires { melds ≤ 4 }
+        ensures { AreTheSplits counts.now melds result }
+    {
+        let counts = counts.to_array();
+        Splits {
+            counts,
+            wanted: 4 - melds,
+            choices: choices_of(&counts),
+            pair: Kind::at(0),
+            choices_left: 0,
+            pairs_left: 34,
+        }
+    }
+}
+
+impl Iterator for Splits {
+    type Item = Split;
+
+    ghost next_gives = { YieldsFirst (λ left. left) };
+
+    ghost remaining = { item_count (λ left. left) };
+
+    fn next(&mut self) -> Option<Split> {
+        loop {
+            let sets = next_sets(&self.counts, self.wanted, self.pair, &mut self.choices_left);
+            if let Some(sets) = sets {
+                return Some(Split {
+                    sets,
+                    pair: self.pair,
+                });
+            }
+            self.pair = next_pair(&self.counts, &mut self.pairs_left)?;
+            self.choices_left = self.choices;
+        }
+    }
+}
+
+impl FusedIterator for Splits {}
+
+/// How many numbers can make the choices: a bit for each kind with three tiles, four at most.
+fn choices_of(counts: &[u8; 34]) -> usize
+    ensures { result ≡ 2 ^ min 4 (threes counts.now) }
+{
+    let threes = counts.iter().filter(|count| **count >= 3).count();
+    1 << threes.min(4)
+}
+
+/// The sets that some choices leave beside a pair.
+fn sets_beside(counts: &[u8; 34], wanted: usize, pair: Kind, choices: usize) -> Option<Sets>
+    requires wanted { wanted ≤ 4 }
+    ensures { result ≡ sets_beside counts.now wanted pair choices }
+{
+    let pair = pair.index();
+    if counts[pair] < 2 {
+        return None;
+    }
+    let mut rest = *counts;
+    rest[pair] -= 2;
+    cut(&rest, wanted, choices)
+}
+
+/// The next sets beside a pair, of the choices below a number.
+fn next_sets(
+    counts: &[u8; 34],
+    wanted: usize,
+    pair: Kind,
+    choices: &mut usize,
+) -> Option<Sets>
+    requires { wanted ≤ 4 }
+    ensures fewer { choices.new ≤ choices.old }
+    ensures sets { MatchOption result
+        ((from_choices counts.now wanted pair choices.old ≡ []) × (choices.new ≡ 0))
+        (λ sets. from_choices counts.now wanted pair choices.old
+        ≡ record { sets = sets; pair = pair } ∷ from_choices counts.now wanted pair choices.new) }
+{
+    while *choices > 0 {
+        *choices -= 1;
+        let sets = sets_beside(counts, wanted, pair, *choices);
+        if sets.is_some() {
+            return sets;
+        }
+    }
+    None
+}
+
+/// The next kind below a number that has a pair.
+fn next_pair(counts: &[u8; 34], pairs: &mut usize) -> Option<Kind>
+    requires { pairs.old ≤ 34 }
+    ensures fewer { MatchOption result (pairs.new ≡ 0) (λ _. pairs.new < pairs.old) }
+    ensures splits { (wanted choices : ℕ) → MatchOption result
+        (from_pairs counts.now wanted choices pairs.old ≡ [])
+        (λ pair. from_pairs counts.now wanted choices pairs.old
+        ≡ from_choices counts.now wanted pair choices ++ from_pairs counts.now wanted choices pairs.new) }
+{
+    while *pairs > 0 {
+        *pairs -= 1;
+        if counts[*pairs] >= 2 {
+            return Some(Kind::at(*pairs as u8));
+        }
+    }
+    None
+}
