@@ -3,3 +3,8 @@ pub mod Faults
 pub mod FaultTexts
 pub mod Hand
 pub mod Win
+pub mod Words
+pub mod Values
+pub mod Keys
+pub mod Entries
+pub mod Lines

@@ -6,6 +6,7 @@
 mod fault;
 mod hand;
 mod job;
+mod line;
 mod shape;
 mod win;
 
