@@ -1,3 +1,4 @@
+pub mod AnswerText
 pub mod Desk
 pub mod Determined
 pub mod Entry

@@ -27,6 +27,7 @@ mod piece;
 mod refusal;
 mod reply;
 mod taken;
+mod text;
 mod ticket;
 
 pub use answer::Answer;
@@ -39,4 +40,5 @@ pub use piece::Piece;
 pub use refusal::{CoreFault, RunBack, SubmitBack, SubmitFault};
 pub use reply::Reply;
 pub use taken::Taken;
+pub use text::answer_text;
 pub use ticket::Ticket;
