@@ -25,7 +25,6 @@ use Rattle.riichi_hand.specs.contracts.hand.HandRecordPartialEq.TheImpl.{ghosts 
 use Rattle.riichi_hand.specs.contracts.shape.ShapeRecordPartialEq.TheImpl.{ghosts as shape}
 use Rattle.riichi_hand.specs.contracts.win.WinPartsPartialEq.TheImpl.{ghosts as parts}
 use Rattle.riichi_hand.specs.contracts.job.JobPartialEq.TheImpl.{ghosts as job}
-
 use Rattle.riichi_hand.specs.contracts.job.JobEq.TheImpl.Laws.{laws-law as job_equiv}
 
 and_true : (a b : Bool) → (a && b) ≡ true → (a ≡ true) × (b ≡ true)
@@ -100,8 +99,20 @@ same_parts a b h =
     let by_counters = and_true (nat_eq a.counters b.counters) _ by_ura.1 in
     let by_sticks = and_true (nat_eq a.sticks b.sticks) (reds.eq a.reds b.reds) by_counters.1 in
     let whole : WinParts = record {
-      rules = a.rules; concealed = a.concealed; melds = a.melds; winning = a.winning; by = a.by; seat = a.seat; round = a.round;
-      riichi = a.riichi; flags = a.flags; dora = a.dora; ura = a.ura; counters = a.counters; sticks = a.sticks; reds = a.reds
+      rules = a.rules;
+      concealed = a.concealed;
+      melds = a.melds;
+      winning = a.winning;
+      by = a.by;
+      seat = a.seat;
+      round = a.round;
+      riichi = a.riichi;
+      flags = a.flags;
+      dora = a.dora;
+      ura = a.ura;
+      counters = a.counters;
+      sticks = a.sticks;
+      reds = a.reds;
     } in
     let same : whole ≡ b =
     rw (
@@ -118,7 +129,7 @@ same_parts a b h =
       same_counts a.ura b.ura by_ura.0,
       same_numbers a.counters b.counters by_counters.0,
       same_numbers a.sticks b.sticks by_sticks.0,
-      same_reds a.reds b.reds by_sticks.1
+      same_reds a.reds b.reds by_sticks.1,
     ) refl in same
 
 same_job : (a b : Job) → job.eq a b ≡ true → a ≡ b

@@ -42,3 +42,6 @@ pub use reply::Reply;
 pub use taken::Taken;
 pub use text::answer_text;
 pub use ticket::Ticket;
+
+#[cfg(test)]
+mod tests;
