@@ -1,5 +1,5 @@
 -- How the search cuts tiles into sets, kind by kind from the lowest. No public clause cites this.
-use Rattle.std.specs.Prelude.{ℕ, zero, suc, ◌+◌, ◌-◌, ◌*◌, ◌/◌, ◌%◌, Bool, false, ◌&&◌, not, Option, Some, None, List, [], ◌∷◌, ◌++◌, if◌then◌else◌, nat_lt, ◌==◌, replicate, slice_index, slice_set, option_and_then, ◌≡◌, ◌≤◌, length, nat_le, All, AllPairs, Contains, ◌≢◌}
+use Rattle.std.specs.Prelude.{◌^◌, min, ℕ, zero, suc, ◌+◌, ◌-◌, ◌*◌, ◌/◌, ◌%◌, Bool, false, ◌&&◌, not, Option, Some, None, List, [], ◌∷◌, ◌++◌, if◌then◌else◌, nat_lt, ◌==◌, replicate, slice_index, slice_set, option_and_then, ◌≡◌, ◌≤◌, length, nat_le, All, AllPairs, Contains, ◌≢◌}
 use Rattle.std.specs.List.{count_by}
 use Rattle.riichi_tiles.specs.declared.block.Block.{Block}
 use Rattle.riichi_tiles.specs.declared.block.Block.TheVariants.{Run, Triplet}
@@ -67,11 +67,14 @@ suit_total copies first (suc kinds) = suit_total copies first kinds + copies (fi
 abbrev pub threes : List ℕ → ℕ
 threes counts = count_by (λ n. nat_le 3 n) counts
 
+-- how many numbers can make the choices: a bit for each kind with three tiles, four at most
+abbrev pub choices_beside : List ℕ → ℕ
+choices_beside counts = 2 ^ min 4 (threes counts)
+
 -- what the fields of `Splits` keep
-pub record IsReady (counts : List ℕ) (wanted choices choices_left first pairs_left : ℕ) : Type 0 where
+pub record IsReady (counts : List ℕ) (wanted choices_left first pairs_left : ℕ) : Type 0 where
   pub each_kind : length counts ≡ 34
   pub at_most_four : wanted ≤ 4
-  pub choices_few : choices ≤ 16
   pub left_few : choices_left ≤ 16
   pub pairs_few : first + pairs_left ≤ 34
 
