@@ -1,4 +1,5 @@
 pub mod Placed
+pub mod Suits
 pub mod Lists
 pub mod Cuts
 pub mod Sound

@@ -10,6 +10,9 @@ mod sets;
 mod special;
 mod split;
 mod splits;
+mod suit;
+#[cfg(test)]
+mod tests;
 mod waiting;
 mod winning;
 
