@@ -1,8 +1,8 @@
 use Rattle.std.proofs.Common.{◌≡◌, ◌<◌, ◌≤◌, ◌-◌, length, sym, ap, ◌∙◌, subst, ℕ, arith}
 use Rattle.std.specs.Prelude.{slice_index}
 use Rattle.riichi_shape.proofs.RemovalLemmas.{discards_all, discards_from, discards_none, left_few, left_unheld, left_worse, put_few, put_list, still_room}
-use Rattle.riichi_shape.proofs.removal.discards.Goals as goal
-use Rattle.riichi_shape.proofs.removal.discards.Goals.{else-get-gt0-via-then-get-gt0+else-distances-number, else-get-gt0-via-else-get-gt0}
+use Rattle.riichi_shape.proofs.removal.discards_by.Goals as goal
+use Rattle.riichi_shape.proofs.removal.discards_by.Goals.{else-get-gt0-via-then-get-gt0+else-distances-number, else-get-gt0-via-else-get-gt0}
 
 pub loop-number-init : goal.loop-number-init
 loop-number-init c = record {
