@@ -5,6 +5,7 @@ pub mod DiscardLemmas
 pub mod Distances
 pub mod Exists
 pub mod FourSuits
+pub mod KeptRows
 pub mod LiveLemmas
 pub mod Members
 pub mod OrphanLemmas

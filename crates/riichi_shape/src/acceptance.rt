@@ -3,8 +3,10 @@ ghost use Rattle.std.specs.Prelude.{ℕ, ◌≡◌, ◌<◌, ◌≤◌, slice_in
 ghost use Rattle.riichi_tiles.specs.Melds.{tiles};
 ghost use Rattle.riichi_shape.specs.Accepted.{accepted_copies, accepted_of, live_of, with_one};
 ghost use Rattle.riichi_shape.specs.EveryWinning.{distance_of};
+ghost use Rattle.riichi_shape.specs.Rows.{AreRowsOf};
 
-use crate::distance::distance;
+use crate::distance::distance_by;
+use crate::hand_rows::HandRows;
 use crate::live_list::LiveList;
 use riichi_tiles::{Counts, Kind, Melds};
 
@@ -17,29 +19,54 @@ fn live_copies(hand: &Counts, melds: &Melds, seen: &Counts, kind: Kind) -> u8
 }
 
 /// The distance with one tile of the kind more.
-fn distance_with(hand: &Counts, melds: &Melds, kind: Kind) -> u8
+fn distance_with(rows: &HandRows, hand: &Counts, melds: &Melds, kind: Kind) -> u8
     requires melded { (k : ℕ) → k < 34 → tiles melds.now k ≤ 4 }
+    requires rows { AreRowsOf hand.now melds.now rows.now }
     requires room { slice_index hand.now kind < 4 }
     ensures { result ≡ distance_of (with_one hand.now kind) melds.now }
 {
     let mut more = *hand;
     more.add(kind);
-    distance(&more, melds)
+    let rows = rows.changed_at(kind, &more, melds);
+    distance_by(&rows, &more, melds)
 }
 
 /// The live copies of a kind that is accepted, and 0 of another.
-fn copies_accepted(hand: &Counts, melds: &Melds, seen: &Counts, kind: Kind, lacks: u8) -> u8
+fn copies_accepted(
+    rows: &HandRows,
+    hand: &Counts,
+    melds: &Melds,
+    seen: &Counts,
+    kind: Kind,
+    lacks: u8,
+) -> u8
     requires melded { (k : ℕ) → k < 34 → tiles melds.now k ≤ 4 }
+    requires rows { AreRowsOf hand.now melds.now rows.now }
     requires lacks { lacks ≡ distance_of hand.now melds.now }
     ensures value { result ≡ accepted_copies hand.now melds.now seen.now kind }
     ensures most { result ≤ 4 }
 {
     let live = live_copies(hand, melds, seen, kind);
-    if live > 0 && distance_with(hand, melds, kind) < lacks {
+    if live > 0 && distance_with(rows, hand, melds, kind) < lacks {
         live
     } else {
         0
     }
+}
+
+/// The accepted kinds of a hand, by its rows.
+pub(crate) fn accepted_by(rows: &HandRows, hand: &Counts, melds: &Melds, seen: &Counts) -> LiveList
+    requires melded { (kind : ℕ) → kind < 34 → tiles melds.now kind ≤ 4 }
+    requires rows { AreRowsOf hand.now melds.now rows.now }
+    ensures { result ≡ accepted_of hand.now melds.now seen.now }
+{
+    let lacks = distance_by(rows, hand, melds);
+    let mut copies = [0; 34];
+    for number in 0..34u8 {
+        let kind = Kind::at(number);
+        copies[number as usize] = copies_accepted(rows, hand, melds, seen, kind, lacks);
+    }
+    LiveList::new(copies)
 }
 
 /// The kinds with live copies of which one more tile lowers the shanten, each with its live
@@ -48,10 +75,5 @@ pub fn accepted(hand: &Counts, melds: &Melds, seen: &Counts) -> LiveList
     requires { (kind : ℕ) → kind < 34 → tiles melds.now kind ≤ 4 }
     ensures { result ≡ accepted_of hand.now melds.now seen.now }
 {
-    let lacks = distance(hand, melds);
-    let mut copies = [0; 34];
-    for number in 0..34u8 {
-        copies[number as usize] = copies_accepted(hand, melds, seen, Kind::at(number), lacks);
-    }
-    LiveList::new(copies)
+    accepted_by(&HandRows::new(hand, melds), hand, melds, seen)
 }

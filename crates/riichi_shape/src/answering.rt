@@ -3,27 +3,30 @@ ghost use Rattle.std.specs.Prelude.{ℕ, ◌≡◌, ◌<◌, ◌≤◌, slice_in
 ghost use Rattle.std.specs.List.{sum};
 ghost use Rattle.riichi_tiles.specs.Melds.{tiles};
 ghost use Rattle.riichi_shape.specs.Answer.{accepts_of, shape_of};
+ghost use Rattle.riichi_shape.specs.Rows.{AreRowsOf};
 
-use crate::acceptance::accepted;
+use crate::acceptance::accepted_by;
 use crate::accepts::Accepts;
-use crate::distance::shanten;
-use crate::removal::discards;
+use crate::distance::shanten_by;
+use crate::hand_rows::HandRows;
+use crate::removal::discards_by;
 use crate::shape_answer::ShapeAnswer;
 use riichi_hand::ShapeRecord;
 use riichi_tiles::{Counts, Melds};
 
 /// What thirteen or fourteen tiles accept.
 #[tactic(auto, unfolding(crate::specs::Answer::accepts_of))]
-fn accepts(hand: &Counts, melds: &Melds, seen: &Counts) -> Accepts
+fn accepts(rows: &HandRows, hand: &Counts, melds: &Melds, seen: &Counts) -> Accepts
     requires melded { (k : ℕ) → k < 34 → tiles melds.now k ≤ 4 }
+    requires rows { AreRowsOf hand.now melds.now rows.now }
     requires few { sum hand.now ≤ 14 }
     requires room { (k : ℕ) → k < 34 → 0 < slice_index hand.now k → slice_index seen.now k < 4 }
     ensures { result ≡ accepts_of (record { tiles = hand.now; melds = melds.now; seen = seen.now }) }
 {
     if hand.total() as usize + 3 * melds.count() == 13 {
-        Accepts::Thirteen(accepted(hand, melds, seen))
+        Accepts::Thirteen(accepted_by(rows, hand, melds, seen))
     } else {
-        Accepts::Fourteen(discards(hand, melds, seen))
+        Accepts::Fourteen(discards_by(rows, hand, melds, seen))
     }
 }
 
@@ -35,8 +38,9 @@ pub fn shape(asked: &ShapeRecord) -> ShapeAnswer
     let hand = asked.tiles();
     let melds = asked.melds();
     let seen = asked.seen();
+    let rows = HandRows::new(&hand, &melds);
     ShapeAnswer {
-        shanten: shanten(&hand, &melds),
-        accepts: accepts(&hand, &melds, &seen),
+        shanten: shanten_by(&rows, &hand, &melds),
+        accepts: accepts(&rows, &hand, &melds, &seen),
     }
 }

@@ -3,21 +3,23 @@ ghost use Rattle.std.specs.Prelude.{ℕ, ◌≡◌, ◌≤◌, ◌<◌};
 ghost use Rattle.riichi_tiles.specs.Melds.{tiles};
 ghost use Rattle.riichi_shape.specs.Distance.{IsDistance, NoneLacksLess, ShantenReached};
 ghost use Rattle.riichi_shape.specs.EveryWinning.{distance_of, shanten_of};
+ghost use Rattle.riichi_shape.specs.Rows.{AreRowsOf};
 
+use crate::hand_rows::HandRows;
 use crate::orphans::orphans_distance;
 use crate::pairs::pairs_distance;
-use crate::standard::standard_distance;
 use riichi_tiles::{Counts, Melds};
 
-/// The least number of tiles that the hand lacks of a winning multiset.
-pub(crate) fn distance(hand: &Counts, melds: &Melds) -> u8
-    requires { (kind : ℕ) → kind < 34 → tiles melds.now kind ≤ 4 }
+/// The least number of tiles that the hand lacks of a winning multiset, by the hand's rows.
+pub(crate) fn distance_by(rows: &HandRows, hand: &Counts, melds: &Melds) -> u8
+    requires melded { (kind : ℕ) → kind < 34 → tiles melds.now kind ≤ 4 }
+    requires rows { AreRowsOf hand.now melds.now rows.now }
     ensures value { result ≡ distance_of hand.now melds.now }
     ensures least { IsDistance hand.now melds.now result }
     ensures few { result ≤ 14 }
 {
     let melded = melds.count() as u8;
-    let Some(standard) = standard_distance(hand, melds, 4 - melded) else {
+    let Some(standard) = rows.standard_distance(4 - melded) else {
         unreachable!()
     };
     if melded > 0 {
@@ -25,6 +27,17 @@ pub(crate) fn distance(hand: &Counts, melds: &Melds) -> u8
     }
     let special = pairs_distance(hand).min(orphans_distance(hand));
     standard.min(special as u8)
+}
+
+/// The shanten of a hand, by its rows.
+pub(crate) fn shanten_by(rows: &HandRows, hand: &Counts, melds: &Melds) -> i8
+    requires melded { (kind : ℕ) → kind < 34 → tiles melds.now kind ≤ 4 }
+    requires rows { AreRowsOf hand.now melds.now rows.now }
+    ensures value { result ≡ shanten_of hand.now melds.now }
+    ensures reached { ShantenReached hand.now melds.now result }
+    ensures none_less { NoneLacksLess hand.now melds.now result }
+{
+    distance_by(rows, hand, melds) as i8 - 1
 }
 
 /// One less than the distance: 0 for a ready hand, -1 for a complete one.
@@ -36,5 +49,5 @@ pub fn shanten(hand: &Counts, melds: &Melds) -> i8
     ensures reached { ShantenReached hand.now melds.now result }
     ensures none_less { NoneLacksLess hand.now melds.now result }
 {
-    distance(hand, melds) as i8 - 1
+    shanten_by(&HandRows::new(hand, melds), hand, melds)
 }

@@ -7,12 +7,15 @@ mod answering;
 mod discard;
 mod discard_list;
 mod distance;
+mod hand_rows;
 mod live_list;
 mod orphans;
 mod pairs;
 mod removal;
 mod shape_answer;
-mod standard;
+mod suit_of_hand;
+#[cfg(test)]
+mod tests;
 mod text;
 
 pub use acceptance::accepted;

@@ -3,8 +3,11 @@ use Rattle.riichi_tiles.specs.Melds.{tiles}
 use Rattle.riichi_shape.proofs.ShapeFacts.{answer_is, melds_few, seen_few, tiles_few}
 use Rattle.riichi_shape.proofs.answering.shape.Goals as goal
 
-pub shanten-requires : goal.shanten-requires
-shanten-requires c = λ kind low. omega (arith, melds_few c.args.asked.now c.tiles-hand.ensures.shape kind low, ap (λ m. tiles m kind) c.melds-melds.ensures)
+pub new-rows-requires : goal.new-rows-requires
+new-rows-requires c = λ kind low. omega (arith, melds_few c.args.asked.now c.tiles-hand.ensures.shape kind low, ap (λ m. tiles m kind) c.melds-melds.ensures)
+
+pub shanten_by-requires-clause-melded : goal.shanten_by-requires-clause-melded
+shanten_by-requires-clause-melded c = λ kind low. omega (arith, melds_few c.args.asked.now c.tiles-hand.ensures.shape kind low, ap (λ m. tiles m kind) c.melds-melds.ensures)
 
 pub accepts-requires-clause-melded : goal.accepts-requires-clause-melded
 accepts-requires-clause-melded c = λ kind low. omega (arith, melds_few c.args.asked.now c.tiles-hand.ensures.shape kind low, ap (λ m. tiles m kind) c.melds-melds.ensures)
@@ -17,6 +20,6 @@ accepts-requires-clause-room c = rw (c.tiles-hand.ensures.value, c.seen-seen.ens
 
 pub returns : goal.returns
 returns c =
-    let same : to_z w8 (of_z w8 c.shanten.result) ≡ c.shanten.result = search rules in
-    answer_is c.args.asked.now c.tiles-hand.result c.melds-melds.result c.seen-seen.result (to_z w8 (of_z w8 c.shanten.result)) c.accepts.result
-    c.tiles-hand.ensures.value c.melds-melds.ensures c.seen-seen.ensures (same ∙ c.shanten.ensures.value) c.accepts.ensures
+    let same : to_z w8 (of_z w8 c.shanten_by.result) ≡ c.shanten_by.result = search rules in
+    answer_is c.args.asked.now c.tiles-hand.result c.melds-melds.result c.seen-seen.result (to_z w8 (of_z w8 c.shanten_by.result)) c.accepts.result
+    c.tiles-hand.ensures.value c.melds-melds.ensures c.seen-seen.ensures (same ∙ c.shanten_by.ensures.value) c.accepts.ensures

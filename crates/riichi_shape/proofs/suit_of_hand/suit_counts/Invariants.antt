@@ -1,5 +1,5 @@
 use Rattle.std.proofs.Common.{◌≡◌, ℕ, ◌+◌, ◌<◌, get_or, length}
-use Rattle.riichi_shape.proofs.standard.suit_counts.Given as goal
+use Rattle.riichi_shape.proofs.suit_of_hand.suit_counts.Given as goal
 
 abbrev pub invariant-loop-rank : goal.invariant-loop-rank
 invariant-loop-rank l = record {

@@ -1,6 +1,6 @@
 use Rattle.std.proofs.Common.{refl, ◌∙◌, arith}
 use Rattle.riichi_shape.proofs.AcceptedLemmas.{accepted_pairs, zeros_few}
-use Rattle.riichi_shape.proofs.acceptance.accepted.Goals as goal
+use Rattle.riichi_shape.proofs.acceptance.accepted_by.Goals as goal
 
 pub loop-number-init : goal.loop-number-init
 loop-number-init c = record { long = refl; done = λ k low. absurd (omega arith); few = zeros_few 34 }

@@ -1,11 +1,10 @@
-//! The least distance to four sets and a pair, melds counted among the sets.
+//! The row of one suit of a hand.
 ghost use Rattle.std.specs.Prelude.{ℕ, ◌≡◌, ◌+◌, ◌-◌, ◌<◌, ◌≤◌, slice_index};
 ghost use Rattle.riichi_tiles.specs.Melds.{tiles};
 ghost use Rattle.riichi_rows.specs.Row.{entries_of};
-ghost use Rattle.riichi_shape.specs.Distance.{IsLeastStandard};
 ghost use Rattle.riichi_shape.specs.Suits.{IsRowOf};
 
-use riichi_rows::{SuitRow, join_rows, suit_row};
+use riichi_rows::{SuitRow, suit_row};
 use riichi_tiles::{Counts, Kind, Melds};
 
 /// The counts of a suit, from its first kind on.
@@ -37,7 +36,7 @@ fn suit_caps(melds: &Melds, first: u8, ranks: u8) -> [u8; 9]
 }
 
 /// The row of one suit of a hand. Honours have seven ranks and no runs.
-fn suit_row_of(hand: &Counts, melds: &Melds, first: u8, ranks: u8) -> SuitRow
+pub(crate) fn suit_row_of(hand: &Counts, melds: &Melds, first: u8, ranks: u8) -> SuitRow
     requires ranks { ranks ≤ 9 }
     requires within { first + ranks ≤ 34 }
     requires melded { (k : ℕ) → k < 34 → tiles melds.now k ≤ 4 }
@@ -46,19 +45,4 @@ fn suit_row_of(hand: &Counts, melds: &Melds, first: u8, ranks: u8) -> SuitRow
     let counts = suit_counts(hand, first, ranks);
     let caps = suit_caps(melds, first, ranks);
     suit_row(counts, caps, ranks == 9)
-}
-
-/// The least number of tiles that the hand lacks of so many sets and a pair, or None where melds leave none.
-pub(crate) fn standard_distance(hand: &Counts, melds: &Melds, sets: u8) -> Option<u8>
-    requires sets { sets ≤ 4 }
-    requires melded { (k : ℕ) → k < 34 → tiles melds.now k ≤ 4 }
-    ensures { IsLeastStandard hand.now melds.now sets result }
-{
-    let rows = [
-        suit_row_of(hand, melds, 0, 9),
-        suit_row_of(hand, melds, 9, 9),
-        suit_row_of(hand, melds, 18, 9),
-        suit_row_of(hand, melds, 27, 7),
-    ];
-    join_rows(&rows, sets)
 }

@@ -1,6 +1,6 @@
 use Rattle.std.proofs.Common.{◌≡◌, ℕ, ◌<◌, ◌≤◌, get_or, length}
 use Rattle.riichi_shape.specs.Accepted.{accepted_copies}
-use Rattle.riichi_shape.proofs.acceptance.accepted.Given as goal
+use Rattle.riichi_shape.proofs.acceptance.accepted_by.Given as goal
 
 abbrev pub invariant-loop-number : goal.invariant-loop-number
 invariant-loop-number l = record {

@@ -1,6 +1,6 @@
 use Rattle.std.proofs.Common.{◌≡◌, ℕ, ◌+◌, ◌-◌, ◌<◌, ◌≤◌, get_or, length}
 use Rattle.riichi_tiles.specs.Melds.{tiles}
-use Rattle.riichi_shape.proofs.standard.suit_caps.Given as goal
+use Rattle.riichi_shape.proofs.suit_of_hand.suit_caps.Given as goal
 
 abbrev pub invariant-loop-rank : goal.invariant-loop-rank
 invariant-loop-rank l = record {

@@ -2,7 +2,7 @@ use Rattle.std.proofs.Common.{◌≡◌, ◌-◌, ◌≤◌, get_or, length}
 use Rattle.std.specs.Prelude.{slice_index}
 use Rattle.riichi_rows.proofs.Spread.{spread}
 use Rattle.riichi_shape.proofs.RemovalLemmas.{discards_from}
-use Rattle.riichi_shape.proofs.removal.discards.Given as goal
+use Rattle.riichi_shape.proofs.removal.discards_by.Given as goal
 
 abbrev pub invariant-loop-number : goal.invariant-loop-number
 invariant-loop-number l = record {
