@@ -13,6 +13,8 @@ mod pairs;
 mod removal;
 mod shape_answer;
 mod standard;
+#[cfg(test)]
+mod tests;
 mod text;
 
 pub use acceptance::accepted;

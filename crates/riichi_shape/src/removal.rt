@@ -56,12 +56,12 @@ fn discard_of(hand: &Counts, melds: &Melds, seen: &Counts, kind: Kind) -> Discar
     ensures { result ≡ spec.discard_of hand.now melds.now seen.now kind }
 {
     let mut rest = *hand;
-    let mut seen = *seen;
+    let mut shown = *seen;
     rest.remove(kind);
-    seen.add(kind);
+    shown.add(kind);
     Discard {
         kind,
-        accepted: accepted(&rest, melds, &seen),
+        accepted: accepted(&rest, melds, &shown),
     }
 }
 

@@ -33,7 +33,7 @@ loop-number-preserved c =
     let hand = c.args.hand.now in
     record {
       so_far = elim c.else-get-gt0.branch [
-        else-get-gt0-via-then-get-gt0+else-distances-number w ↦
+        | else-get-gt0-via-then-get-gt0+else-distances-number w ↦
             left_worse hand c.args.melds.now c.args.seen.now c.loop-number.number c.loop-number-test.true c.loop-number.auto.number
             c.distances_without-distances.result c.least_of-least.result c.distances_without-distances.ensures c.least_of-least.ensures c.loop-number.list c.loop-number.invariant.so_far
             (omega (arith, w.if-get-gt0.true, c.get.ensures.value, ap (slice_index hand) c.at-kind.ensures)) w.if-distances-number.false

@@ -9,7 +9,7 @@ loop-place-preserved c =
     let before = c.args.text.now.bytes in
     let so_far = c.loop-place.invariant in
     elim c.match-get.branch [
-      in-Some w ↦ record {
+      | in-Some w ↦ record {
         bytes = ap (λ t. t.bytes) w.text-is ∙ w.push_discard.ensures.bytes ∙ ap (λ t. t ++ discard_text w.in-Some.discard) so_far.bytes
             ∙ discard_more c.args.discards.now before c.loop-place.place w.in-Some.discard (sym c.get.ensures ∙ w.in-Some.is);
         few = omega (arith, ap (λ t. length t.bytes) w.text-is, w.push_discard.ensures.len, so_far.few);

@@ -19,7 +19,7 @@ loop-number-preserved c =
     let number = c.loop-number.number in
     let so_far = c.loop-number.invariant in
     elim c.if-live-gt0.branch [
-      then-live-gt0 w ↦ record {
+      | then-live-gt0 w ↦ record {
         bytes = ap (λ t. t.bytes) w.text-is ∙ w.push_pair.ensures.bytes ∙ ap (λ t. t ++ pair_text (w.at.result, get_or copies number 0)) so_far.bytes
             ∙ ap (λ k. (before ++ flat_map pair_text (pairs_below copies number)) ++ pair_text (k, get_or copies number 0)) w.at.ensures ∙ text_more copies number before w.if-live-gt0.true;
         few = omega (arith, ap (λ t. length t.bytes) w.text-is, w.push_pair.ensures.len, so_far.few);

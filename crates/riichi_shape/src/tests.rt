@@ -1,0 +1,169 @@
+//! Worked hands and their answers.
+use crate::{
+    Accepts, DiscardList, ShapeAnswer, accepted, join_rows, shanten, shape, shape_text, suit_row,
+};
+use riichi_hand::ShapeRecord;
+use riichi_tiles::{Counts, Kind, Meld, Melds, read_counts};
+use std::process::Abort;
+use std::test::Fail;
+
+struct Row {
+    hand: &'static str,
+    melds: &'static [&'static str],
+    seen: &'static str,
+    text: &'static str,
+}
+
+fn tiles(text: &str) -> Result<Counts, Fail> {
+    if text.is_empty() {
+        return Ok(Counts::new());
+    }
+    let counts = read_counts(text.as_bytes())?;
+    Ok(counts)
+}
+
+fn melds(texts: &[&str]) -> Result<Melds, Fail> {
+    let mut melds = Melds::new();
+    for text in texts {
+        let meld = Meld::read(text.as_bytes()).ok_or("no meld")?;
+        if melds.count() < 4 && meld.is_proper() {
+            melds.push(meld);
+        }
+    }
+    Ok(melds)
+}
+
+fn check(rt: &impl Abort, row: &Row) -> Result<(), Fail> {
+    let asked = ShapeRecord::new(tiles(row.hand)?, melds(row.melds)?, tiles(row.seen)?)?;
+    assert_eq!(rt; shape_text(&shape(&asked)).as_str(), row.text);
+    Ok(())
+}
+
+// A ready hand, live copies that are seen, a hand of fourteen; four copies of 1z of which no fifth
+// is wanted; melds that leave one copy of a kind; a complete hand, and discards in their order.
+const ROWS: [Row; 10] = [
+    Row {
+        hand: "123456789m1134p",
+        melds: &[],
+        seen: "",
+        text: "shanten 0 accepts 2p:4 5p:4 live 8",
+    },
+    Row {
+        hand: "123456789m1134p",
+        melds: &[],
+        seen: "2222p",
+        text: "shanten 0 accepts 5p:4 live 4",
+    },
+    Row {
+        hand: "123456789m11348p",
+        melds: &[],
+        seen: "",
+        text: "shanten 0 discard 8p accepts 2p:4 5p:4 live 8",
+    },
+    Row {
+        hand: "123456789m1111z",
+        melds: &[],
+        seen: "",
+        text: "shanten 1 accepts 1m:3 2m:3 3m:3 4m:3 5m:3 6m:3 7m:3 8m:3 9m:3 1p:4 2p:4 3p:4 4p:4 5p:4 6p:4 7p:4 8p:4 9p:4 1s:4 2s:4 3s:4 4s:4 5s:4 6s:4 7s:4 8s:4 9s:4 2z:4 3z:4 4z:4 5z:4 6z:4 7z:4 live 123",
+    },
+    Row {
+        hand: "1z",
+        melds: &["pon:111z", "chi:123m", "chi:123m", "chi:123m"],
+        seen: "",
+        text: "shanten 1 accepts 4m:4 5m:4 6m:4 7m:4 8m:4 9m:4 1p:4 2p:4 3p:4 4p:4 5p:4 6p:4 7p:4 8p:4 9p:4 1s:4 2s:4 3s:4 4s:4 5s:4 6s:4 7s:4 8s:4 9s:4 2z:4 3z:4 4z:4 5z:4 6z:4 7z:4 live 120",
+    },
+    Row {
+        hand: "11z",
+        melds: &["pon:222z", "chi:123m", "chi:123m", "chi:123m"],
+        seen: "",
+        text: "shanten -1 discard 1z accepts 1z:2 live 2",
+    },
+    Row {
+        hand: "12z",
+        melds: &["pon:333z", "chi:123m", "chi:123m", "chi:123m"],
+        seen: "222z",
+        text: "shanten 0 discard 2z accepts 1z:3 live 3 discard 1z accepts - live 0",
+    },
+    Row {
+        hand: "19m19p19s1234567z",
+        melds: &[],
+        seen: "",
+        text: "shanten 0 accepts 1m:3 9m:3 1p:3 9p:3 1s:3 9s:3 1z:3 2z:3 3z:3 4z:3 5z:3 6z:3 7z:3 live 39",
+    },
+    Row {
+        hand: "1133m5577p2299s4z",
+        melds: &[],
+        seen: "",
+        text: "shanten 0 accepts 4z:3 live 3",
+    },
+    Row {
+        hand: "1z",
+        melds: &["kan:2222z", "ankan:3333z", "pon:444z", "pon:555z"],
+        seen: "",
+        text: "shanten 0 accepts 1z:3 live 3",
+    },
+];
+
+#[test]
+fn worked_rows(rt: HostRuntime) -> Result<(), Fail> {
+    for row in &ROWS {
+        check(&rt, row)?;
+    }
+    Ok(())
+}
+
+fn discards_of(answer: &ShapeAnswer) -> Option<DiscardList> {
+    match answer.accepts {
+        Accepts::Thirteen(_) => None,
+        Accepts::Fourteen(discards) => Some(discards),
+    }
+}
+
+#[test]
+fn parts_of_an_answer(rt: HostRuntime) -> Result<(), Fail> {
+    let asked = ShapeRecord::new(
+        tiles("12z")?,
+        melds(&["pon:333z", "chi:123m", "chi:123m", "chi:123m"])?,
+        tiles("222z")?,
+    )?;
+    let answer = shape(&asked);
+    assert_eq!(rt; answer.shanten, 0);
+    let discards = discards_of(&answer).ok_or("thirteen tiles")?;
+    assert_eq!(rt; discards.len(), 2);
+    let first = discards.get(0).ok_or("no discard")?;
+    assert_eq!(rt; first.kind, Kind::at(28));
+    assert_eq!(rt; first.accepted.live(), 3);
+    assert_eq!(rt; first.accepted.get(Kind::at(27)), 3);
+    let second = discards.get(1).ok_or("no discard")?;
+    assert_eq!(rt; second.kind, Kind::at(27));
+    assert!(rt; second.accepted.is_empty());
+    assert!(rt; discards.get(2).is_none());
+    Ok(())
+}
+
+#[test]
+fn thirteen_tiles(rt: HostRuntime) -> Result<(), Fail> {
+    let hand = tiles("123456789m1134p")?;
+    let melds = Melds::new();
+    assert_eq!(rt; shanten(&hand, &melds), 0);
+    assert_eq!(rt; accepted(&hand, &melds, &Counts::new()).live(), 8);
+    assert_eq!(rt; shanten(&Counts::new(), &melds), 13);
+    Ok(())
+}
+
+#[test]
+fn rows_of_no_tiles(rt: HostRuntime) -> Result<(), Fail> {
+    let row = suit_row([0; 9], [4; 9], true);
+    for sets in 0..5u8 {
+        assert_eq!(rt; row.get(sets, false), Some(3 * sets));
+        assert_eq!(rt; row.get(sets, true), Some(3 * sets + 2));
+    }
+    let closed = suit_row([0; 9], [0; 9], true);
+    assert_eq!(rt; closed.get(0, false), Some(0));
+    assert_eq!(rt; closed.get(0, true), None);
+    assert_eq!(rt; closed.get(1, false), None);
+    assert_eq!(rt; join_rows(&[row, row, row, row], 4), Some(14));
+    assert_eq!(rt; join_rows(&[closed, closed, closed, row], 1), Some(5));
+    assert_eq!(rt; join_rows(&[closed, closed, closed, closed], 0), None);
+    Ok(())
+}
