@@ -1,11 +1,11 @@
 use crate::{
-    Answer, Arrived, CoreFault, DeskCore, Event, LIMIT, Lane, Piece, Reply, SubmitFault, Taken,
-    Ticket, answer_text, judge,
+    Answer, Arrived, CoreFault, DeskCore, Event, LIMIT, Lane, Piece, Reply, RunBack, SubmitFault,
+    Taken, Ticket, answer_text, judge,
 };
 use riichi_hand::{By, Flags, HandRecord, Job, Rules, ShapeRecord, WinParts, WinRecord, Wind};
 use riichi_score::WinAnswer;
 use riichi_tiles::{Counts, Kind, Meld, Melds, Reds, read_counts};
-use std::alloc::Global;
+use std::alloc::{AllocError, Global};
 
 /// The waits of a hand of concealed tiles.
 fn waits_job(hand: &[u8]) -> Option<Job> {
@@ -51,23 +51,35 @@ fn shape_job(tiles: &[u8]) -> Option<Job> {
 const FIRST: Ticket = Ticket { table: 0, seq: 0 };
 
 /// The event at a place of a short day at a desk of one table.
-fn event_at(place: usize, job: Job) -> Event {
+fn event_at(place: usize, job: &Job) -> Event {
     match place {
         0 | 6 | 7 => Event::Take { table: 0 },
-        1 => Event::Submit { table: 1, job },
-        2 | 4 => Event::Submit { table: 0, job },
-        5 => Event::Arrive(Piece::score(FIRST, job)),
+        1 => Event::Submit {
+            table: 1,
+            job: *job,
+        },
+        2 | 4 => Event::Submit {
+            table: 0,
+            job: *job,
+        },
+        5 => Event::Arrive(Piece::score(FIRST, *job)),
         _ => Event::Close { table: 0 },
     }
 }
 
-/// The events of the short day; none where memory was refused.
-fn a_short_day(alloc: Global, job: Job) -> Option<Vec<Event>> {
-    let mut events = Vec::new(alloc);
-    for place in 0..9 {
-        events.push(event_at(place, job)).ok()?;
-    }
-    Some(events)
+/// The events of the short day.
+fn a_short_day(alloc: Global, job: &Job) -> Result<Vec<Event>, AllocError> {
+    Ok(vec![in alloc;
+        event_at(0, job),
+        event_at(1, job),
+        event_at(2, job),
+        event_at(3, job),
+        event_at(4, job),
+        event_at(5, job),
+        event_at(6, job),
+        event_at(7, job),
+        event_at(8, job),
+    ]?)
 }
 
 /// What the day is replied.
@@ -163,16 +175,13 @@ fn a_desk(alloc: Global, tables: u32) -> Option<DeskCore> {
     }
 }
 
-/// The replies of a run of the short day on a new desk, where one request for memory may be refused.
-fn replies_of_a_run(alloc: Global, job: Job) -> Option<Vec<Reply>> {
+/// The replies of a run of the short day on a new desk; none where memory was refused twice.
+fn replies_of_a_run(alloc: Global, job: &Job) -> Option<Vec<Reply>> {
     let mut desk = a_desk(alloc, 1)?;
-    let events = match a_short_day(alloc, job) {
-        None => a_short_day(alloc, job)?,
-        Some(events) => events,
-    };
+    let events = a_short_day(alloc, job).ok()?;
     match desk.run(events) {
         Ok(replies) => Some(replies),
-        Err(back) => desk.run(back.events).ok(),
+        Err(RunBack { events }) => desk.run(events).ok(),
     }
 }
 
@@ -182,19 +191,18 @@ fn a_run_replies(rt: HostRuntime) {
         assert!(rt; false);
         return;
     };
-    let Some(replies) = replies_of_a_run(rt.alloc(), job) else {
-        assert!(rt; false);
-        return;
-    };
-    if replies.as_slice() == WITHOUT_MEMORY.as_slice() {
-        let Some(replies) = replies_of_a_run(rt.alloc(), job) else {
-            assert!(rt; false);
-            return;
-        };
-        assert!(rt; replies.as_slice() == its_replies(&job).as_slice());
-    } else {
-        assert!(rt; replies.as_slice() == its_replies(&job).as_slice());
+    let mut is_replied = false;
+    // One request for memory may be refused, and then one of the two runs may be without a ticket.
+    for _ in 0..2 {
+        if let Some(replies) = replies_of_a_run(rt.alloc(), &job) {
+            if replies.as_slice() == its_replies(&job).as_slice() {
+                is_replied = true;
+            } else {
+                assert!(rt; replies.as_slice() == WITHOUT_MEMORY.as_slice());
+            }
+        }
     }
+    assert!(rt; is_replied);
 }
 
 #[test]
@@ -203,8 +211,8 @@ fn a_run_over_no_events(rt: HostRuntime) {
         assert!(rt; false);
         return;
     };
-    let none = desk.run(Vec::new(rt.alloc()));
-    assert!(rt; matches!(none, Ok(replies) if replies.is_empty()));
+    let none = desk.run(Vec::new(rt.alloc())).ok();
+    assert!(rt; none.is_some_and(|replies| replies.is_empty()));
 }
 
 #[test]
@@ -219,9 +227,9 @@ fn steps_reply(rt: HostRuntime) {
     };
     let wanted = its_replies(&job);
     for (place, wanted) in wanted.iter().enumerate() {
-        let reply = desk.step(event_at(place, job));
+        let reply = desk.step(event_at(place, &job));
         if reply == Reply::Refused(SubmitFault::Memory) {
-            assert!(rt; desk.step(event_at(place, job)) == *wanted);
+            assert!(rt; desk.step(event_at(place, &job)) == *wanted);
         } else {
             assert!(rt; reply == *wanted);
         }
