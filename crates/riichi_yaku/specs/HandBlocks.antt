@@ -89,12 +89,6 @@ is_kong (Triplet kind concealed) = false
 is_kong (Kong kind concealed) = true
 is_kong (Pair kind) = false
 
-abbrev pub is_pair_of : ℕ → HandBlock → Bool
-is_pair_of kind (Run low) = false
-is_pair_of kind (Triplet held concealed) = false
-is_pair_of kind (Kong held concealed) = false
-is_pair_of kind (Pair held) = held == kind
-
 -- ---- words on the blocks
 
 abbrev pub has_run : List HandBlock → ℕ → Bool
@@ -102,9 +96,6 @@ has_run blocks low = list_any (is_run_from low) blocks
 
 abbrev pub has_triplet : List HandBlock → ℕ → Bool
 has_triplet blocks kind = list_any (is_triplet_of kind) blocks
-
-abbrev pub has_pair : List HandBlock → ℕ → Bool
-has_pair blocks kind = list_any (is_pair_of kind) blocks
 
 -- how many blocks are the run that this one is; none where it is no run
 abbrev pub runs_equal_to : List HandBlock → HandBlock → ℕ

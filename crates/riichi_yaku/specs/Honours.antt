@@ -1,12 +1,13 @@
 -- The yaku of winds and dragons, and the fu of a pair of them.
-use Rattle.std.specs.Prelude.{ℕ, ◌+◌, Bool, ◌&&◌, ◌||◌, ◌==◌, nat_le, List, if◌then◌else◌}
+use Rattle.std.specs.Prelude.{ℕ, ◌+◌, Bool, false, ◌&&◌, ◌||◌, ◌==◌, nat_le, List, if◌then◌else◌}
 use Rattle.std.specs.List.{list_any, list_all}
 use Rattle.riichi_hand.specs.declared.win.WinParts.{WinParts}
 use Rattle.riichi_hand.specs.Win.{wind_kind}
 use Rattle.riichi_yaku.specs.declared.hand_block.HandBlock.{HandBlock}
+use Rattle.riichi_yaku.specs.declared.hand_block.HandBlock.TheVariants.{Run, Triplet, Kong, Pair}
 use Rattle.riichi_yaku.specs.declared.honours.Honours.{Honours}
-use Rattle.riichi_yaku.specs.HandBlocks.{has_triplet, has_pair}
-use Rattle.riichi_yaku.specs.Kinds.{white, green, red, dragons}
+use Rattle.riichi_yaku.specs.HandBlocks.{has_triplet}
+use Rattle.riichi_yaku.specs.Kinds.{white, green, red, winds, dragons, is_wind, is_dragon}
 
 -- 7: a triplet of White
 abbrev pub is_white_dragon : List HandBlock → Bool
@@ -36,13 +37,23 @@ has_triplets blocks kinds = list_all (has_triplet blocks) kinds
 abbrev pub has_other_triplets : List HandBlock → List ℕ → ℕ → Bool
 has_other_triplets blocks kinds last = list_all (λ kind. kind == last || has_triplet blocks kind) kinds
 
--- a pair of one of these kinds, and triplets of all others
-abbrev pub has_triplets_and_pair : List HandBlock → List ℕ → Bool
-has_triplets_and_pair blocks kinds = list_any (λ last. has_pair blocks last && has_other_triplets blocks kinds last) kinds
+-- a pair of dragons, and triplets of the others
+abbrev pub is_last_dragon : List HandBlock → HandBlock → Bool
+is_last_dragon blocks (Run low) = false
+is_last_dragon blocks (Triplet kind concealed) = false
+is_last_dragon blocks (Kong kind concealed) = false
+is_last_dragon blocks (Pair kind) = is_dragon kind && has_other_triplets blocks dragons kind
+
+-- a pair of winds, and triplets of the others
+abbrev pub is_last_wind : List HandBlock → HandBlock → Bool
+is_last_wind blocks (Run low) = false
+is_last_wind blocks (Triplet kind concealed) = false
+is_last_wind blocks (Kong kind concealed) = false
+is_last_wind blocks (Pair kind) = is_wind kind && has_other_triplets blocks winds kind
 
 -- 23: triplets of two dragons, a pair of the third
 abbrev pub is_little_three_dragons : List HandBlock → Bool
-is_little_three_dragons blocks = has_triplets_and_pair blocks dragons
+is_little_three_dragons blocks = list_any (is_last_dragon blocks) blocks
 
 abbrev pub honours_of : List HandBlock → WinParts → Honours
 honours_of blocks parts = record {

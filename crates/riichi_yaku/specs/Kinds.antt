@@ -11,6 +11,12 @@ green = 32
 abbrev pub red : ℕ
 red = 33
 
+abbrev pub is_wind : ℕ → Bool
+is_wind kind = nat_le 27 kind && nat_lt kind white
+
+abbrev pub is_dragon : ℕ → Bool
+is_dragon kind = nat_le white kind
+
 -- East, South, West, North
 abbrev pub winds : List ℕ
 winds = range_with_len 27 4

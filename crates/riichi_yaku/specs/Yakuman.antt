@@ -9,7 +9,7 @@ use Rattle.riichi_split.specs.declared.reading.Reading.{Reading}
 use Rattle.riichi_yaku.specs.declared.hand_block.HandBlock.{HandBlock}
 use Rattle.riichi_yaku.specs.declared.yakuman.Yakuman.{Yakuman}
 use Rattle.riichi_yaku.specs.HandBlocks.{is_standard, is_orphans, is_concealed_triplet, is_kong}
-use Rattle.riichi_yaku.specs.Honours.{has_triplets, has_triplets_and_pair}
+use Rattle.riichi_yaku.specs.Honours.{has_triplets, is_last_wind}
 use Rattle.riichi_yaku.specs.Held.{every}
 use Rattle.riichi_yaku.specs.Kinds.{winds, dragons, is_honour, is_terminal, is_of_suit, is_green_tile}
 
@@ -43,7 +43,7 @@ is_big_three_dragons blocks = has_triplets blocks dragons
 
 -- 33: triplets of three winds, a pair of the fourth
 abbrev pub is_little_four_winds : List HandBlock → Bool
-is_little_four_winds blocks = has_triplets_and_pair blocks winds
+is_little_four_winds blocks = list_any (is_last_wind blocks) blocks
 
 -- 34: triplets of all four winds
 abbrev pub is_big_four_winds : List HandBlock → Bool

@@ -71,15 +71,6 @@ fn is_kong(block: &HandBlock) -> bool
     matches!(block, HandBlock::Kong { .. })
 }
 
-fn is_pair_of(kind: usize, block: &HandBlock) -> bool
-    ensures { result ≡ spec.is_pair_of kind block.now }
-{
-    match block {
-        HandBlock::Pair(held) => held.index() == kind,
-        _ => false,
-    }
-}
-
 pub(crate) fn has_run(blocks: &[HandBlock], low: usize) -> bool
     ensures { result ≡ spec.has_run blocks.now low }
 {
@@ -90,12 +81,6 @@ pub(crate) fn has_triplet(blocks: &[HandBlock], kind: usize) -> bool
     ensures { result ≡ spec.has_triplet blocks.now kind }
 {
     blocks.iter().any(|block| is_triplet_of(kind, block))
-}
-
-pub(crate) fn has_pair(blocks: &[HandBlock], kind: usize) -> bool
-    ensures { result ≡ spec.has_pair blocks.now kind }
-{
-    blocks.iter().any(|block| is_pair_of(kind, block))
 }
 
 fn runs_from(blocks: &[HandBlock], low: usize) -> usize

@@ -4,8 +4,8 @@ ghost use Rattle.riichi_yaku.specs.Honours as spec;
 ghost use Rattle.riichi_yaku.specs.Kinds.{dragons, winds};
 
 use crate::HandBlock;
-use crate::blocks::{has_pair, has_triplet};
-use crate::kinds::{EAST, GREEN, KINDS, RED, WHITE};
+use crate::blocks::has_triplet;
+use crate::kinds::{EAST, GREEN, KINDS, RED, WHITE, is_dragon, is_wind};
 use riichi_hand::WinRecord;
 use riichi_tiles::Kind;
 
@@ -74,17 +74,34 @@ fn has_other_wind_triplets(blocks: &[HandBlock], last: usize) -> bool
     (EAST..WHITE).all(|kind| kind == last || has_triplet(blocks, kind))
 }
 
+/// A pair of dragons, and triplets of the others.
+fn is_last_dragon(blocks: &[HandBlock], block: &HandBlock) -> bool
+    ensures { result ≡ spec.is_last_dragon blocks.now block.now }
+{
+    match block {
+        HandBlock::Pair(kind) => {
+            is_dragon(kind.index()) && has_other_dragon_triplets(blocks, kind.index())
+        }
+        _ => false,
+    }
+}
+
 fn is_little_three_dragons(blocks: &[HandBlock]) -> bool
     ensures { result ≡ spec.is_little_three_dragons blocks.now }
 {
-    (WHITE..KINDS).any(|last| has_pair(blocks, last) && has_other_dragon_triplets(blocks, last))
+    blocks.iter().any(|block| is_last_dragon(blocks, block))
 }
 
-/// Triplets of three winds, and a pair of the fourth.
-pub(crate) fn has_wind_triplets_and_pair(blocks: &[HandBlock]) -> bool
-    ensures { result ≡ spec.has_triplets_and_pair blocks.now winds }
+/// A pair of winds, and triplets of the others.
+pub(crate) fn is_last_wind(blocks: &[HandBlock], block: &HandBlock) -> bool
+    ensures { result ≡ spec.is_last_wind blocks.now block.now }
 {
-    (EAST..WHITE).any(|last| has_pair(blocks, last) && has_other_wind_triplets(blocks, last))
+    match block {
+        HandBlock::Pair(kind) => {
+            is_wind(kind.index()) && has_other_wind_triplets(blocks, kind.index())
+        }
+        _ => false,
+    }
 }
 
 pub(crate) fn honours_of(blocks: &[HandBlock], win: &WinRecord) -> Honours

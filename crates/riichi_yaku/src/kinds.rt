@@ -22,6 +22,18 @@ pub(crate) fn is_honour(kind: usize) -> bool
     kind >= EAST
 }
 
+pub(crate) fn is_wind(kind: usize) -> bool
+    ensures { result ≡ spec.is_wind kind }
+{
+    kind >= EAST && kind < WHITE
+}
+
+pub(crate) fn is_dragon(kind: usize) -> bool
+    ensures { result ≡ spec.is_dragon kind }
+{
+    kind >= WHITE
+}
+
 /// A 1 or a 9 of a suit.
 pub(crate) fn is_terminal(kind: usize) -> bool
     ensures { result ≡ spec.is_terminal kind }

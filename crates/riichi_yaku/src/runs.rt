@@ -1,5 +1,5 @@
 //! The yaku of runs.
-ghost use Rattle.std.specs.Prelude.{◌≡◌, ◌≤◌};
+ghost use Rattle.std.specs.Prelude.{◌≡◌, ◌<◌};
 ghost use Rattle.std.specs.List.{list_any};
 ghost use Rattle.riichi_yaku.specs.Runs as spec;
 
@@ -78,29 +78,47 @@ fn is_pure_double_chow(blocks: &[HandBlock], win: &WinRecord) -> bool
 }
 
 fn has_run_in_each_suit(blocks: &[HandBlock], low: usize) -> bool
-    requires { low ≤ 8 }
+    requires { low < 34 }
     ensures { result ≡ spec.has_run_in_each_suit blocks.now low }
 {
-    has_run(blocks, low) && has_run(blocks, low + 9) && has_run(blocks, low + 18)
+    low < 9 && has_run(blocks, low + 9) && has_run(blocks, low + 18)
+}
+
+fn begins_triple_chow(blocks: &[HandBlock], block: &HandBlock) -> bool
+    ensures { result ≡ spec.begins_triple_chow blocks.now block.now }
+{
+    match block {
+        HandBlock::Run(low) => has_run_in_each_suit(blocks, low.index()),
+        _ => false,
+    }
 }
 
 fn is_mixed_triple_chow(blocks: &[HandBlock]) -> bool
     ensures { result ≡ spec.is_mixed_triple_chow blocks.now }
 {
-    (0..7).any(|low| has_run_in_each_suit(blocks, low))
+    blocks.iter().any(|block| begins_triple_chow(blocks, block))
 }
 
-fn has_straight(blocks: &[HandBlock], suit: usize) -> bool
-    requires { suit ≤ 2 }
-    ensures { result ≡ spec.has_straight blocks.now suit }
+fn has_straight_from(blocks: &[HandBlock], low: usize) -> bool
+    requires { low < 34 }
+    ensures { result ≡ spec.has_straight_from blocks.now low }
 {
-    has_run(blocks, 9 * suit) && has_run(blocks, 9 * suit + 3) && has_run(blocks, 9 * suit + 6)
+    low % 9 == 0 && has_run(blocks, low + 3) && has_run(blocks, low + 6)
+}
+
+fn begins_straight(blocks: &[HandBlock], block: &HandBlock) -> bool
+    ensures { result ≡ spec.begins_straight blocks.now block.now }
+{
+    match block {
+        HandBlock::Run(low) => has_straight_from(blocks, low.index()),
+        _ => false,
+    }
 }
 
 fn is_pure_straight(blocks: &[HandBlock]) -> bool
     ensures { result ≡ spec.is_pure_straight blocks.now }
 {
-    (0..3).any(|suit| has_straight(blocks, suit))
+    blocks.iter().any(|block| begins_straight(blocks, block))
 }
 
 pub(crate) fn runs_of(blocks: &[HandBlock], reading: &Reading, win: &WinRecord) -> Runs

@@ -1,5 +1,5 @@
 //! The yaku of triplets and kongs.
-ghost use Rattle.std.specs.Prelude.{◌≡◌, ◌≤◌};
+ghost use Rattle.std.specs.Prelude.{◌≡◌, ◌<◌};
 ghost use Rattle.riichi_yaku.specs.Triplets as spec;
 
 use crate::HandBlock;
@@ -15,16 +15,27 @@ pub(crate) struct Triplets {
 }
 
 fn has_triplet_in_each_suit(blocks: &[HandBlock], kind: usize) -> bool
-    requires { kind ≤ 8 }
+    requires { kind < 34 }
     ensures { result ≡ spec.has_triplet_in_each_suit blocks.now kind }
 {
-    has_triplet(blocks, kind) && has_triplet(blocks, kind + 9) && has_triplet(blocks, kind + 18)
+    kind < 9 && has_triplet(blocks, kind + 9) && has_triplet(blocks, kind + 18)
+}
+
+fn begins_triple_pung(blocks: &[HandBlock], block: &HandBlock) -> bool
+    ensures { result ≡ spec.begins_triple_pung blocks.now block.now }
+{
+    match block {
+        HandBlock::Triplet { kind, .. } | HandBlock::Kong { kind, .. } => {
+            has_triplet_in_each_suit(blocks, kind.index())
+        }
+        _ => false,
+    }
 }
 
 fn is_triple_pung(blocks: &[HandBlock]) -> bool
     ensures { result ≡ spec.is_triple_pung blocks.now }
 {
-    (0..9).any(|kind| has_triplet_in_each_suit(blocks, kind))
+    blocks.iter().any(|block| begins_triple_pung(blocks, block))
 }
 
 fn is_three_kongs(blocks: &[HandBlock]) -> bool

@@ -7,7 +7,7 @@ ghost use Rattle.riichi_yaku.specs.Yakuman as spec;
 
 use crate::HandBlock;
 use crate::blocks::{concealed_triplets_among, is_orphans, is_standard, kongs_among};
-use crate::honours::{has_dragon_triplets, has_wind_triplets, has_wind_triplets_and_pair};
+use crate::honours::{has_dragon_triplets, has_wind_triplets, is_last_wind};
 use crate::kinds::{KINDS, is_green_tile, is_honour, is_of_suit, is_terminal};
 use crate::tiles::are_of_suit;
 use riichi_hand::{WinRecord, Wind};
@@ -94,7 +94,7 @@ fn is_big_three_dragons(blocks: &[HandBlock]) -> bool
 fn is_little_four_winds(blocks: &[HandBlock]) -> bool
     ensures { result ≡ spec.is_little_four_winds blocks.now }
 {
-    has_wind_triplets_and_pair(blocks)
+    blocks.iter().any(|block| is_last_wind(blocks, block))
 }
 
 fn is_big_four_winds(blocks: &[HandBlock]) -> bool
