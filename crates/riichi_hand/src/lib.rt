@@ -25,6 +25,8 @@ mod hand;
 mod job;
 mod line;
 mod shape;
+#[cfg(test)]
+mod tests;
 mod win;
 
 pub use fault::{LineCode, LineFault, TextName, fault_text};

@@ -77,3 +77,20 @@ none_from_part counts wanted all k sets one two left choices in_range h e =
 pub cut_from-end : (counts : List ℕ) (wanted all k : ℕ) (sets : List Block) (one two left choices : ℕ) → length counts ≤ k → IsPartWay counts wanted all k sets one two left choices → cut_from 0 counts 0 0 wanted all ≡ cond (eqb (one + two + left + choices) 0) (Some sets) None
 cut_from-end counts wanted all k sets one two left choices past h =
     h.rest ∙ ap (λ ns. joined sets (cut_from k ns one two left choices)) (drop_of_length-le counts past) ∙ ap (joined sets) (cut_from-nil k one two left choices) ∙ joined-test (eqb (one + two + left + choices) 0) sets
+
+-- a kind without tiles, where nothing is carried
+pub IsPartWay-skip : (counts : List ℕ) (wanted all k : ℕ) (sets : List Block) (one two left choices : ℕ) → k < length counts → wanted ≤ 4 → get_or counts k 0 ≡ 0 → one ≡ 0 → two ≡ 0 → IsPartWay counts wanted all k sets one two left choices → IsPartWay counts wanted all (k + 1) sets one two left choices
+IsPartWay-skip counts wanted all k sets one two left choices in_range small none e f h =
+    let c : Choice = record { triplets = 0; runs = 0; choices = choices } in
+    let is : choice_of k (get_or counts k 0) (one + two) left choices ≡ Some c = grind (arith, nat_tests) in
+    let more = IsPartWay-more counts wanted all k sets one two left choices c in_range small h is in
+    let front : sets ++ begun k c ≡ sets = append-nil sets in
+    let same : left - (0 + 0) ≡ left = omega arith in
+    record {
+      room = h.room;
+      few = h.few;
+      rest = more.rest ∙ ap (λ s. joined s (cut_from (k + 1) (drop (k + 1) counts) 0 one (left - (0 + 0)) choices)) front
+          ∙ ap (λ a. joined sets (cut_from (k + 1) (drop (k + 1) counts) a one (left - (0 + 0)) choices)) (sym e)
+          ∙ ap (λ b. joined sets (cut_from (k + 1) (drop (k + 1) counts) one b (left - (0 + 0)) choices)) (e ∙ sym f)
+          ∙ ap (λ d. joined sets (cut_from (k + 1) (drop (k + 1) counts) one two d choices)) same;
+    }

@@ -55,3 +55,6 @@ dones-found w place bs before (Some d) e s h = rw add-one (sym h ∙ dones-suc w
 pub dones-passed : (w place : ℕ) (bs before : List Block) (o : Option Block) → o ≡ done_first w (drop place bs) → is_some o ≡ false → dones w (drop place bs) ≡ before → dones w (drop (place + 1) bs) ≡ before
 dones-passed w place bs before None e s h = rw add-one (sym (dones-suc w place bs None e) ∙ h)
 dones-passed w place bs before (Some d) e s h = absurd (cc)
+
+pub not_done : (b : Block) (w : ℕ) (again : Bool) → ltb 0 (copies b w) ≡ false → None ≡ done_unless_again again b w
+not_done b w again e = ap (λ t. cond (t && not again) (Some b) None) (sym e)

@@ -76,9 +76,9 @@ fit-characters low l =
     (same-tests (inside 0 9 low) (inside 0 9 (low + 1)) (λ h. grind (arith, nat_tests, l.1)) (λ h. grind (arith, nat_tests)))
     (same-tests (inside 0 9 low) (inside 0 9 (low + 2)) (λ h. grind (arith, nat_tests, l.1)) (λ h. grind (arith, nat_tests)))
 
-fit-dots : RunsFit 9 9
+fit-circles : RunsFit 9 9
 unfolding RunsFit
-fit-dots low l =
+fit-circles low l =
     whole-run low 9 9
     (same-tests (inside 9 9 low) (inside 9 9 (low + 1)) (λ h. grind (arith, nat_tests, l.1)) (λ h. grind (arith, nat_tests, l.1)))
     (same-tests (inside 9 9 low) (inside 9 9 (low + 2)) (λ h. grind (arith, nat_tests, l.1)) (λ h. grind (arith, nat_tests, l.1)))
@@ -127,10 +127,10 @@ rest-is c melds sets p first n fit s =
     grind (arith, nat_tests, q.1)
 
 -- what is left over in each suit beside sets of three
-pub record AreRests (p characters dots bamboos honours : ℕ) : Type 0 where
+pub record AreRests (p characters circles bamboos honours : ℕ) : Type 0 where
   pub pair_is_kind : p < 34
   pub characters_is : characters ≡ cond (inside 0 9 p) 2 0
-  pub dots_is : dots ≡ cond (inside 9 9 p) 2 0
+  pub circles_is : circles ≡ cond (inside 9 9 p) 2 0
   pub bamboos_is : bamboos ≡ cond (inside 18 9 p) 2 0
   pub honours_is : honours ≡ cond (inside 27 7 p) 2 0
 
@@ -138,7 +138,7 @@ pub are-rests : (c : List ℕ) (melds : ℕ) (sets : List Block) (p a b d e : �
 are-rests c melds sets p a b d e f g h i s = record {
   pair_is_kind = s.pair_is_kind;
   characters_is = f ∙ rest-is c melds sets p 0 9 fit-characters s;
-  dots_is = g ∙ rest-is c melds sets p 9 9 fit-dots s;
+  circles_is = g ∙ rest-is c melds sets p 9 9 fit-circles s;
   bamboos_is = h ∙ rest-is c melds sets p 18 9 fit-bamboos s;
   honours_is = i ∙ rest-is c melds sets p 27 7 fit-honours s;
 }
@@ -146,8 +146,8 @@ are-rests c melds sets p a b d e f g h i s = record {
 pub pair-in-characters : (p a b d e : ℕ) → AreRests p a b d e → a ≡ 2 → (0 ≤ p) × (p < 9)
 pair-in-characters p a b d e r h = let f = r.characters_is in (omega arith, grind (arith, nat_tests))
 
-pub pair-in-dots : (p a b d e : ℕ) → AreRests p a b d e → b ≡ 2 → (9 ≤ p) × (p < 18)
-pair-in-dots p a b d e r h = let f = r.dots_is in (grind (arith, nat_tests), grind (arith, nat_tests))
+pub pair-in-circles : (p a b d e : ℕ) → AreRests p a b d e → b ≡ 2 → (9 ≤ p) × (p < 18)
+pair-in-circles p a b d e r h = let f = r.circles_is in (grind (arith, nat_tests), grind (arith, nat_tests))
 
 pub pair-in-bamboos : (p a b d e : ℕ) → AreRests p a b d e → d ≡ 2 → (18 ≤ p) × (p < 27)
 pair-in-bamboos p a b d e r h = let f = r.bamboos_is in (grind (arith, nat_tests), grind (arith, nat_tests))
@@ -159,7 +159,7 @@ pair-in-honours p a b d e r h = let f = r.honours_is in (grind (arith, nat_tests
 pub one_suit : (p a b d e : ℕ) → AreRests p a b d e → (a ≡ 2) × (b + d + e ≡ 0) ⊎ ((b ≡ 2) × (a + d + e ≡ 0) ⊎ ((d ≡ 2) × (a + b + e ≡ 0) ⊎ ((e ≡ 2) × (a + b + d ≡ 0))))
 one_suit p a b d e r =
     let f = r.characters_is in
-    let g = r.dots_is in
+    let g = r.circles_is in
     let h = r.bamboos_is in
     let i = r.honours_is in
     elim (cases_lt p 9) [

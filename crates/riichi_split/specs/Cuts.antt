@@ -1,5 +1,5 @@
 -- How the search cuts tiles into sets, kind by kind from the lowest. No public clause cites this.
-use Rattle.std.specs.Prelude.{ℕ, zero, suc, ◌+◌, ◌-◌, ◌*◌, ◌/◌, ◌%◌, Bool, false, ◌&&◌, not, Option, Some, None, List, [], ◌∷◌, ◌++◌, if◌then◌else◌, nat_lt, ◌==◌, replicate, slice_index, slice_set, option_and_then, ◌≡◌, ◌≤◌, length, nat_le, All, AllPairs, Contains, ◌≢◌}
+use Rattle.std.specs.Prelude.{◌^◌, min, ℕ, zero, suc, ◌+◌, ◌-◌, ◌*◌, ◌/◌, ◌%◌, Bool, false, ◌&&◌, not, Option, Some, None, List, [], ◌∷◌, ◌++◌, if◌then◌else◌, nat_lt, ◌==◌, replicate, slice_index, slice_set, option_and_then, ◌≡◌, ◌≤◌, length, nat_le, All, AllPairs, Contains, ◌≢◌}
 use Rattle.std.specs.List.{count_by}
 use Rattle.riichi_tiles.specs.declared.block.Block.{Block}
 use Rattle.riichi_tiles.specs.declared.block.Block.TheVariants.{Run, Triplet}
@@ -7,36 +7,37 @@ use Rattle.riichi_split.specs.Readings.{IsSplit}
 use Rattle.riichi_split.specs.declared.cutting.Choice.{Choice}
 use Rattle.riichi_split.specs.declared.split.Split.{Split}
 
+-- a run begins at a 1 to 7 of m, p or s
 abbrev pub may_run : ℕ → Bool
-may_run k = if nat_lt k 27 then nat_lt (k % 9) 7 else false
+may_run kind = if nat_lt kind 27 then nat_lt (kind % 9) 7 else false
 
--- so many triplets and runs begin at kind k, where that many sets are wanted and runs may begin there
+-- so many triplets and runs begin at a kind, where that many sets are wanted and runs may begin there
 abbrev pub begins : ℕ → ℕ → ℕ → ℕ → ℕ → Option Choice
-begins k left triplets runs choices =
+begins kind left triplets runs choices =
     if nat_lt left (triplets + runs) then None else
-    (if nat_lt 0 runs && not (may_run k) then None else
+    (if nat_lt 0 runs && not (may_run kind) then None else
     Some (record { triplets = triplets; runs = runs; choices = choices }))
 
--- what begins at kind k, where it has n tiles and `below` of them belong to runs begun below: with three tiles free, the next bit says whether a triplet does
+-- what begins at a kind with so many tiles, of which `below` belong to runs begun below: with three tiles free, the next bit says whether a triplet does
 abbrev pub choice_of : ℕ → ℕ → ℕ → ℕ → ℕ → Option Choice
-choice_of k n below left choices =
-    if nat_lt n below then None else
-    (if nat_lt (n - below) 3 then begins k left 0 (n - below) choices else
-    begins k left (choices % 2) (n - below - 3 * (choices % 2)) (choices / 2))
+choice_of kind held below left choices =
+    if nat_lt held below then None else
+    (if nat_lt (held - below) 3 then begins kind left 0 (held - below) choices else
+    begins kind left (choices % 2) (held - below - 3 * (choices % 2)) (choices / 2))
 
--- the sets that begin at kind k
+-- the sets that begin at a kind
 abbrev pub begun : ℕ → Choice → List Block
-begun k c = replicate c.triplets (Triplet k) ++ replicate c.runs (Run k)
+begun kind choice = replicate choice.triplets (Triplet kind) ++ replicate choice.runs (Run kind)
 
 abbrev pub joined : List Block → Option (List Block) → Option (List Block)
 joined front None = None
 joined front (Some rest) = Some (front ++ rest)
 
--- the sets of the kinds from k on, where `one` runs began one kind below and `two` two kinds below
+-- the sets of the kinds from one on, where `one` runs began one kind below and `two` two kinds below
 unfoldable pub cut_from : ℕ → List ℕ → ℕ → ℕ → ℕ → ℕ → Option (List Block)
-cut_from k [] one two left choices = if one + two + left + choices == 0 then Some [] else None
-cut_from k (n ∷ ns) one two left choices =
-    option_and_then (λ c. joined (begun k c) (cut_from (k + 1) ns c.runs one (left - (c.triplets + c.runs)) c.choices)) (choice_of k n (one + two) left choices)
+cut_from kind [] one two left choices = if one + two + left + choices == 0 then Some [] else None
+cut_from kind (held ∷ counts) one two left choices =
+    option_and_then (λ choice. joined (begun kind choice) (cut_from (kind + 1) counts choice.runs one (left - (choice.triplets + choice.runs)) choice.choices)) (choice_of kind held (one + two) left choices)
 
 -- the sets that some choices leave beside a pair
 abbrev pub sets_beside : List ℕ → ℕ → ℕ → ℕ → Option (List Block)
@@ -65,13 +66,16 @@ suit_total copies first (suc kinds) = suit_total copies first kinds + copies (fi
 
 -- how many kinds have three tiles or more
 abbrev pub threes : List ℕ → ℕ
-threes counts = count_by (λ n. nat_le 3 n) counts
+threes counts = count_by (λ held. nat_le 3 held) counts
+
+-- how many numbers can make the choices: a bit for each kind with three tiles, four at most
+abbrev pub choices_beside : List ℕ → ℕ
+choices_beside counts = 2 ^ min 4 (threes counts)
 
 -- what the fields of `Splits` keep
-pub record IsReady (counts : List ℕ) (wanted choices choices_left first pairs_left : ℕ) : Type 0 where
+pub record IsReady (counts : List ℕ) (wanted choices_left first pairs_left : ℕ) : Type 0 where
   pub each_kind : length counts ≡ 34
   pub at_most_four : wanted ≤ 4
-  pub choices_few : choices ≤ 16
   pub left_few : choices_left ≤ 16
   pub pairs_few : first + pairs_left ≤ 34
 

@@ -7,46 +7,49 @@ use Rattle.riichi_split.specs.declared.split.Split.{Split}
 use Rattle.riichi_split.specs.declared.reading.Reading.{Reading}
 use Rattle.riichi_split.specs.declared.reading.Reading.TheVariants.{Standard}
 
+-- the blocks are equal
 abbrev pub same_block : Block → Block → Bool
-same_block (Run a) (Run b) = a == b
-same_block (Run a) (Triplet b) = false
-same_block (Run a) (Pair b) = false
-same_block (Triplet a) (Run b) = false
-same_block (Triplet a) (Triplet b) = a == b
-same_block (Triplet a) (Pair b) = false
-same_block (Pair a) (Run b) = false
-same_block (Pair a) (Triplet b) = false
-same_block (Pair a) (Pair b) = a == b
+same_block (Run low) (Run other) = low == other
+same_block (Run low) (Triplet other) = false
+same_block (Run low) (Pair other) = false
+same_block (Triplet kind) (Run other) = false
+same_block (Triplet kind) (Triplet other) = kind == other
+same_block (Triplet kind) (Pair other) = false
+same_block (Pair kind) (Run other) = false
+same_block (Pair kind) (Triplet other) = false
+same_block (Pair kind) (Pair other) = kind == other
 
 abbrev pub is_among : Block → List Block → Bool
-is_among b [] = false
-is_among b (x ∷ xs) = same_block b x || is_among b xs
+is_among block [] = false
+is_among block (first ∷ blocks) = same_block block first || is_among block blocks
 
--- the different blocks that the winning tile completes
+-- the different blocks that the winning tile completes: each that has it, where it comes last
 abbrev pub dones : ℕ → List Block → List Block
-dones w [] = []
-dones w (b ∷ bs) = if nat_lt 0 (copies b w) && not (is_among b bs) then b ∷ dones w bs else dones w bs
+dones winning [] = []
+dones winning (block ∷ blocks) =
+    if nat_lt 0 (copies block winning) && not (is_among block blocks) then block ∷ dones winning blocks else dones winning blocks
 
 -- a block, if the winning tile completes it and it does not come again
 abbrev pub done_unless_again : Bool → Block → ℕ → Option Block
-done_unless_again again b w = if nat_lt 0 (copies b w) && not again then Some b else None
+done_unless_again again block winning = if nat_lt 0 (copies block winning) && not again then Some block else None
 
 -- the first block, if it is one of the dones
 abbrev pub done_first : ℕ → List Block → Option Block
-done_first w [] = None
-done_first w (b ∷ bs) = done_unless_again (is_among b bs) b w
+done_first winning [] = None
+done_first winning (block ∷ blocks) = done_unless_again (is_among block blocks) block winning
 
 -- the sets and then the pair
 abbrev pub blocks_of : Split → List Block
 blocks_of split = split.sets ++ Pair split.pair ∷ []
 
--- a split's reading with that block done
+-- the reading of a split with that block completed
 abbrev pub read_with : Split → Block → Reading
 read_with split done = Standard split.sets split.pair done
 
 -- the readings of a split
 abbrev pub readings_with : ℕ → Split → List Reading
-readings_with w split = map (read_with split) (dones w (blocks_of split))
+readings_with winning split = map (read_with split) (dones winning (blocks_of split))
 
+-- a reading, where the test holds
 abbrev pub flagged : Bool → Reading → List Reading
-flagged b r = if b then r ∷ [] else []
+flagged holds reading = if holds then reading ∷ [] else []

@@ -34,6 +34,10 @@ is_orphan kind = kind == 0 || kind == 8 || kind == 9 || kind == 17 || kind == 18
 abbrev pub orphan_copies : ℕ → ℕ → ℕ
 orphan_copies twice kind = if is_orphan kind then (if kind == twice then 2 else 1) else 0
 
+-- each terminal and honour is held
+abbrev pub HasEachOrphan : List ℕ → Type 0
+HasEachOrphan counts = (kind : ℕ) → kind < 34 → IsTrue (is_orphan kind) → 0 < slice_index counts kind
+
 -- the terminals and honours once each, one of them twice
 pub record IsOrphans (counts : List ℕ) (melds : ℕ) : Type 0 where
   pub no_meld : melds ≡ 0

@@ -78,6 +78,9 @@ pub(crate) fn cut(counts: &[u8; 34], wanted: usize, choices: usize) -> Option<Se
     let mut sets = Sets::new();
     let (mut one, mut two, mut left, mut choices) = (0, 0, wanted, choices);
     for (index, count) in counts.iter().enumerate() {
+        if *count == 0 && one == 0 && two == 0 {
+            continue;
+        }
         let choice = choose(index, *count as usize, one + two, left, choices)?;
         begin(&mut sets, Kind::at(index as u8), choice);
         two = one;

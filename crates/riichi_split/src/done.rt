@@ -32,6 +32,9 @@ fn done_at(split: &Split, winning: Kind, place: usize) -> Option<Block>
     let pair = Block::Pair(split.pair);
     match split.sets.get(place) {
         Some(set) => {
+            if !set.contains(winning) {
+                return None;
+            }
             let comes_again = split.sets.has_from(place + 1, set) || is_same(&set, &pair);
             done_unless(comes_again, set, winning)
         }

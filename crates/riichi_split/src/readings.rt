@@ -39,7 +39,8 @@ impl Model for Readings {
 impl Readings {
     ghost use Rattle.riichi_split.specs.Readings.{AreTheReadings};
 
-    /// The readings of the concealed tiles, with the winning tile among them, beside the melds.
+    /// The readings of concealed tiles, the winning tile among them, beside the melds. Tiles that are
+    /// not of the right number have none.
     pub fn new(counts: &Counts, melds: &Melds, winning: Kind) -> Readings
         ensures { AreTheReadings counts.now (length melds.now) winning result }
     {

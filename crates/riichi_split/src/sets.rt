@@ -4,9 +4,11 @@ ghost use Rattle.riichi_split.specs.Dones.{is_among};
 use riichi_tiles::{Block, Kind};
 use std::marker::Model;
 
-/// The concealed sets of a reading, at most four, in order.
+/// The concealed sets of a reading, at most four, in order: by the lowest tile, a triplet before the
+/// runs that begin with its kind.
 #[derive(Clone, Copy, Debug, PartialEq, Eq)]
 pub struct Sets {
+    // The sets and then, in the places that are left, one and the same block.
     blocks: [Block; 4],
     count: usize,
 }

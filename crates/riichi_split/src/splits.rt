@@ -1,6 +1,6 @@
-ghost use Rattle.std.specs.Prelude.{◌≡◌, ℕ, ◌+◌, ◌<◌, ◌≤◌, ◌^◌, min, MatchOption, [], ◌∷◌, ◌++◌, length};
+ghost use Rattle.std.specs.Prelude.{◌≡◌, ℕ, ◌+◌, ◌<◌, ◌≤◌, MatchOption, [], ◌∷◌, ◌++◌, length};
 ghost use Rattle.std.specs.Iterator.{YieldsFirst, item_count};
-ghost use Rattle.riichi_split.specs.Cuts.{sets_beside, from_choices, from_pairs, threes};
+ghost use Rattle.riichi_split.specs.Cuts.{sets_beside, from_choices, from_pairs, choices_beside};
 
 use crate::cutting::cut;
 use crate::sets::Sets;
@@ -15,8 +15,6 @@ use std::marker::Model;
 pub(crate) struct Splits {
     counts: [u8; 34],
     wanted: usize,
-    // How many choices there may be beside a pair.
-    choices: usize,
     // The choices below `choices_left` are still to be tried with this pair.
     pair: Kind,
     choices_left: usize,
@@ -36,7 +34,7 @@ impl Model for Splits {
 
     ghost view = { splits_left };
 
-    ghost invariant = { λ s. IsReady s.counts s.wanted s.choices s.choices_left s.first s.pairs_left };
+    ghost invariant = { λ s. IsReady s.counts s.wanted s.choices_left s.first s.pairs_left };
 }
 
 impl Splits {
@@ -52,7 +50,6 @@ impl Splits {
         Splits {
             counts,
             wanted: 4 - melds,
-            choices: choices_of(&counts),
             pair: Kind::at(0),
             choices_left: 0,
             first: suit.first,
@@ -78,16 +75,18 @@ impl Iterator for Splits {
                 });
             }
             self.pair = next_pair(&self.counts, self.first, &mut self.pairs_left)?;
-            self.choices_left = self.choices;
+            self.choices_left = choices_of(&self.counts);
         }
     }
 }
 
 impl FusedIterator for Splits {}
 
-/// How many numbers can make the choices: a bit for each kind with three tiles, four at most.
+/// How many numbers can make the choices beside a pair: a bit for each kind with three tiles, four at
+/// most.
 fn choices_of(counts: &[u8; 34]) -> usize
-    ensures { result ≡ 2 ^ min 4 (threes counts.now) }
+    ensures value { result ≡ choices_beside counts.now }
+    ensures few { result ≤ 16 }
 {
     let threes = counts.iter().filter(|count| **count >= 3).count();
     1 << threes.min(4)

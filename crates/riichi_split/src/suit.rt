@@ -17,15 +17,15 @@ pub(crate) fn suit_of_pair(counts: &[u8; 34]) -> Suit
     ensures within { result.first + result.kinds ≤ 34 }
 {
     let characters = rest_of(counts, 0, 9);
-    let dots = rest_of(counts, 9, 9);
+    let circles = rest_of(counts, 9, 9);
     let bamboos = rest_of(counts, 18, 9);
     let honours = rest_of(counts, 27, 7);
     let none = Suit { first: 0, kinds: 0 };
-    if characters + dots + bamboos + honours != 2 {
+    if characters + circles + bamboos + honours != 2 {
         none
     } else if characters == 2 {
         Suit { first: 0, kinds: 9 }
-    } else if dots == 2 {
+    } else if circles == 2 {
         Suit { first: 9, kinds: 9 }
     } else if bamboos == 2 {
         Suit {

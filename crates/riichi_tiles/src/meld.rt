@@ -46,23 +46,17 @@ impl Meld {
             Err(_) => None,
         }
     }
+
     /// How many tiles of a kind it has.
     pub fn tiles(&self, kind: Kind) -> u8
         ensures { result ≡ tiles_of self.now kind }
     {
-        let number = kind.index();
-        match self {
+        match *self {
             Meld::Chi(low) => {
-                let low = low.index();
-                if low <= number && number <= low + 2 {
-                    1
-                } else {
-                    0
-                }
+                u8::from(low.index() <= kind.index() && kind.index() <= low.index() + 2)
             }
-            Meld::Pon(held) => if held.index() == number { 3 } else { 0 },
-            Meld::Kan(held) => if held.index() == number { 4 } else { 0 },
-            Meld::Ankan(held) => if held.index() == number { 4 } else { 0 },
+            Meld::Pon(held) => if held == kind { 3 } else { 0 },
+            Meld::Kan(held) | Meld::Ankan(held) => if held == kind { 4 } else { 0 },
         }
     }
 
