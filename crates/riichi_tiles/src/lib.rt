@@ -1,4 +1,25 @@
-//! Tiles of riichi mahjong: kinds, sets of kinds, counts of tiles, melds, red fives, and their notation.
+//! Tiles of riichi mahjong, and the text in which they are written.
+//!
+//! A [`Kind`] is one of the 34 kinds of tile. [`Counts`] says how many of each are held, at most four; a [`KindSet`] is a set
+//! of kinds, as the waits of a hand. A [`Meld`] is a set that was called or declared, [`Melds`] the melds of one hand, at most
+//! four; a [`Block`] is a run, a triplet or a pair within the concealed tiles. Each tells how many tiles of a kind it has, so
+//! that hands are added up kind by kind. [`Reds`] counts the red fives of a suit, and [`dora_of`] tells what an indicator
+//! makes dora.
+//!
+//! [`read_counts`] reads the notation of tiles, as `123m44z`, and answers the first of its faults; [`write_counts`] and
+//! [`write_kinds`] write it. [`Meld::read`] reads a meld, as `chi:340m`, and [`reds_of`] the red fives of a text, where they
+//! stand as `0`. The notation itself is told in docs/NOTATION.md.
+//!
+//! All of these are plain values: each can be copied and compared. No call takes memory, and the readers take any bytes.
+//!
+//! ```
+//! let hand = read_counts(b"5m123p044s")?;
+//! hand.total();                  // 7
+//! write_counts(&hand).as_str();  // "5m123p445s"
+//! reds_of(b"5m123p044s").get(2); // 1, of the bamboos
+//! Meld::read(b"pon:777z");       // Some(Meld::Pon(..)), of the Red dragon
+//! read_counts(b"12x3m");         // Err(NotationFault { code: NotationCode::N2, place: 2 })
+//! ```
 #![tactic(auto)]
 
 mod block;
@@ -8,8 +29,10 @@ mod kind;
 mod kind_set;
 mod meld;
 mod melds;
-pub mod notation;
+mod notation;
 mod reds;
+#[cfg(test)]
+mod tests;
 
 pub use block::Block;
 pub use counts::Counts;

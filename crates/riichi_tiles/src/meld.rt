@@ -1,22 +1,27 @@
-ghost use Rattle.std.specs.Prelude.{◌≡◌, ℕ, map, Some, None, MatchOption};
+ghost use Rattle.std.specs.Prelude.{◌≡◌, ℕ, map, Some, None, true, IfSome, MatchOption};
 ghost use Rattle.std.specs.List.{list_all, range_with_len, find};
-ghost use Rattle.riichi_tiles.specs.Melds.{tiles_of, is_open, is_kong, is_run, is_meld, reads_as, named, melded, meld_of, has_just, cut_named, cut_at};
-ghost use Rattle.riichi_tiles.specs.Tiles.{IsCounts};
+ghost use Rattle.riichi_tiles.specs.Melds.{tiles_of, is_open, is_kong, is_meld, reads_as, named, melded, meld_of, has_just, cut_named, cut_at, SpellsMeld};
+ghost use Rattle.riichi_tiles.specs.declared.meld.Meld.{Meld};
+ghost use Rattle.riichi_tiles.specs.Tiles.{begins_run};
 
 use crate::counts::Counts;
 use crate::kind::Kind;
 use crate::notation::read_counts;
 
-/// A set that was melded. `Chi` names the lowest kind of its run.
+/// A set that a player called from a discard, or a kong that was declared.
 #[derive(Clone, Copy, Debug, PartialEq, Eq)]
 pub enum Meld {
+    /// A run, named by its lowest kind, which should be a 1 to 7 of m, p or s ([`Meld::is_proper`]).
     Chi(Kind),
+    /// A triplet.
     Pon(Kind),
+    /// Four of a kind, called or added to a triplet.
     Kan(Kind),
+    /// Four of a kind from the player's own tiles: a concealed kong.
     Ankan(Kind),
 }
 
-/// The four words of a meld.
+/// The four words for a meld.
 #[derive(Clone, Copy)]
 enum MeldName {
     Chi,
@@ -26,8 +31,14 @@ enum MeldName {
 }
 
 impl Meld {
-    /// The meld that a text spells: its word, a colon, and the tiles.
+    /// The meld that a text spells: its word, a colon, and the notation of just its tiles, in any order, as `chi:340m` or
+    /// `pon:1z1z1z`. `None` for any other text; why it is no meld isn't told.
+    #[tactic(auto, unfolding(crate::specs::Melds::meld_of))]
     pub fn read(text: &[u8]) -> Option<Meld>
+        ensures value { result ≡ meld_of text.now }
+        ensures spelled { IfSome result (λ meld. SpellsMeld text.now meld) }
+        ensures only { (meld : Meld) → SpellsMeld text.now meld → result ≡ Some meld }
+        ensures proper { IfSome result (λ meld. is_meld meld ≡ true) }
     {
         let (name, tiles) = read_name(text)?;
         match read_counts(tiles) {
@@ -35,27 +46,21 @@ impl Meld {
             Err(_) => None,
         }
     }
+
     /// How many tiles of a kind it has.
     pub fn tiles(&self, kind: Kind) -> u8
         ensures { result ≡ tiles_of self.now kind }
     {
-        let number = kind.index();
-        match self {
+        match *self {
             Meld::Chi(low) => {
-                let low = low.index();
-                if low <= number && number <= low + 2 {
-                    1
-                } else {
-                    0
-                }
+                u8::from(low.index() <= kind.index() && kind.index() <= low.index() + 2)
             }
-            Meld::Pon(held) => if held.index() == number { 3 } else { 0 },
-            Meld::Kan(held) => if held.index() == number { 4 } else { 0 },
-            Meld::Ankan(held) => if held.index() == number { 4 } else { 0 },
+            Meld::Pon(held) => if held == kind { 3 } else { 0 },
+            Meld::Kan(held) | Meld::Ankan(held) => if held == kind { 4 } else { 0 },
         }
     }
 
-    /// Every meld but a concealed kong opens the hand.
+    /// Whether it opens the hand, as every meld does but a concealed kong.
     pub fn is_open(&self) -> bool
         ensures { result ≡ is_open self.now }
     {
@@ -65,6 +70,7 @@ impl Meld {
         }
     }
 
+    /// Whether it has four tiles.
     pub fn is_kong(&self) -> bool
         ensures { result ≡ is_kong self.now }
     {
@@ -74,7 +80,7 @@ impl Meld {
         }
     }
 
-    /// A `Chi` names a 1 to 7 of m, p or s.
+    /// Whether it can be laid down: a `Chi` has to begin at a 1 to 7 of m, p or s, any other meld can.
     pub fn is_proper(&self) -> bool
         ensures { result ≡ is_meld self.now }
     {
@@ -85,17 +91,17 @@ impl Meld {
     }
 }
 
-/// A run can begin at this kind.
+/// A run can begin at a 1 to 7 of m, p or s.
 fn begins_run(kind: Kind) -> bool
-    ensures { result ≡ is_run kind }
+    ensures { result ≡ begins_run kind }
 {
-    let low = kind.index();
-    low <= 6 || (9 <= low && low <= 15) || (18 <= low && low <= 24)
+    kind.index() < 27 && kind.index() % 9 < 7
 }
 
 /// The meld of this name that has just these tiles.
 fn find_meld(name: MeldName, counts: &Counts) -> Option<Meld>
-    ensures { result ≡ find (reads_as counts.now) (map (melded name) (range_with_len 0 34)) }
+    ensures value { result ≡ find (reads_as counts.now) (map (melded name) (range_with_len 0 34)) }
+    ensures proper { IfSome result (λ meld. is_meld meld ≡ true) }
 {
     (0..34)
         .map(|number| make(name, Kind::at(number)))

@@ -1,0 +1,193 @@
+use super::*;
+use std::test::Fail;
+
+#[test]
+fn tells_the_first_fault_of_a_text(rt: HostRuntime) {
+    let rows: [(&[u8], NotationCode, usize); 15] = [
+        (b"", NotationCode::N1, 0),
+        (b"12x3m", NotationCode::N2, 2),
+        (b"9x2z", NotationCode::N2, 1),
+        (b"1 m", NotationCode::N2, 1),
+        (b"12m3", NotationCode::N3, 4),
+        (b"7", NotationCode::N3, 1),
+        (b"1mp", NotationCode::N4, 2),
+        (b"z", NotationCode::N4, 0),
+        (b"8z", NotationCode::N5, 0),
+        (b"12m10z", NotationCode::N5, 4),
+        (b"9z9", NotationCode::N5, 0),
+        (b"11111m", NotationCode::N6, 4),
+        (b"05555m", NotationCode::N6, 4),
+        (b"1111m2m1m8z", NotationCode::N6, 7),
+        (b"8z11111m", NotationCode::N5, 0),
+    ];
+    for (text, code, place) in rows {
+        assert_eq!(rt; read_counts(text), Err(NotationFault { code, place }));
+    }
+}
+
+#[test]
+fn writes_what_it_reads(rt: HostRuntime) -> Result<(), Fail> {
+    let rows: [(&[u8], &str, u8); 6] = [
+        (b"1112345678999m", "1112345678999m", 13),
+        (b"123456789m1111z", "123456789m1111z", 13),
+        (b"0s", "5s", 1),
+        (b"7z19s40p", "45p19s7z", 5),
+        (b"3m2m1m", "123m", 3),
+        (b"1z2p3m4s4m4p", "34m24p4s1z", 6),
+    ];
+    for (text, written, total) in rows {
+        let counts = read_counts(text).ok().ok_or("a text of tiles")?;
+        assert_eq!(rt; counts.total(), total);
+        assert_eq!(rt; write_counts(&counts).as_str(), written);
+        assert_eq!(rt; read_counts(written.as_bytes()), Ok(counts));
+    }
+    let none = Counts::new();
+    assert_eq!(rt; write_counts(&none).as_str(), "");
+    Ok(())
+}
+
+#[test]
+fn counts_the_whole_wall(rt: HostRuntime) {
+    let mut wall = Counts::new();
+    let mut kinds = KindSet::new();
+    assert!(rt; kinds.is_empty());
+    for number in 0..34 {
+        let kind = Kind::at(number);
+        assert!(rt; !kinds.contains(kind));
+        kinds.insert(kind);
+        for _copy in 0..4 {
+            if wall.get(kind) < 4 {
+                wall.add(kind);
+            }
+        }
+    }
+    assert_eq!(rt; wall.total(), 136);
+    assert_eq!(rt; write_counts(&wall).len(), 140);
+    assert_eq!(rt;
+        write_kinds(kinds).as_str(),
+        "123456789m123456789p123456789s1234567z"
+    );
+    let red = Kind::at(33);
+    if 0 < wall.get(red) {
+        wall.remove(red);
+    }
+    assert_eq!(rt; wall.get(red), 3);
+    assert_eq!(rt; Kind::new(33), Some(red));
+    assert_eq!(rt; Kind::new(34), None);
+    assert_eq!(rt; red.index(), 33);
+}
+
+#[test]
+fn reads_melds(rt: HostRuntime) {
+    let rows: [(&[u8], Option<Meld>); 22] = [
+        (b"chi:123m", Some(Meld::Chi(Kind::at(0)))),
+        (b"chi:340m", Some(Meld::Chi(Kind::at(2)))),
+        (b"chi:534p", Some(Meld::Chi(Kind::at(11)))),
+        (b"chi:987s", Some(Meld::Chi(Kind::at(24)))),
+        (b"pon:1z1z1z", Some(Meld::Pon(Kind::at(27)))),
+        (b"pon:055m", Some(Meld::Pon(Kind::at(4)))),
+        (b"kan:7777z", Some(Meld::Kan(Kind::at(33)))),
+        (b"ankan:11z11z", Some(Meld::Ankan(Kind::at(27)))),
+        (b"pon:112z", None),
+        (b"chi:890m", None),
+        (b"chi:89m1p", None),
+        (b"chi:123z", None),
+        (b"chi:12m", None),
+        (b"chi:1234m", None),
+        (b"pon:1111z", None),
+        (b"kan:111z", None),
+        (b"ankan:", None),
+        (b"pon:111", None),
+        (b"Pon:111z", None),
+        (b"pon:111z ", None),
+        (b"chi", None),
+        (b"123m", None),
+    ];
+    for (text, meld) in rows {
+        assert_eq!(rt; Meld::read(text), meld);
+    }
+}
+
+#[test]
+fn indicates_dora(rt: HostRuntime) {
+    let rows = [
+        (0, 1),
+        (4, 5),
+        (8, 0),
+        (9, 10),
+        (17, 9),
+        (18, 19),
+        (26, 18),
+        (27, 28),
+        (29, 30),
+        (30, 27),
+        (31, 32),
+        (32, 33),
+        (33, 31),
+    ];
+    for (indicator, dora) in rows {
+        assert_eq!(rt;
+            Kind::new(indicator).map(dora_of),
+            Kind::new(dora),
+            "at {indicator}"
+        );
+    }
+}
+
+#[test]
+fn counts_red_fives(rt: HostRuntime) -> Result<(), Fail> {
+    let rows: [(&[u8], [u8; 3]); 6] = [
+        (b"123406789m22s34p", [1, 0, 0]),
+        (b"234m067m345p67s99s", [1, 0, 0]),
+        (b"0055p0s", [0, 2, 1]),
+        (b"chi:340m,pon:055p", [1, 1, 0]),
+        (b"5m5p5s", [0, 0, 0]),
+        (b"0", [0, 0, 0]),
+    ];
+    for (text, wanted) in rows {
+        let [characters, circles, bamboos] = wanted;
+        assert_eq!(rt;
+            Some(reds_of(text)),
+            Reds::new(characters, circles, bamboos)
+        );
+    }
+    assert_eq!(rt; Reds::new(5, 0, 0), None);
+    assert_eq!(rt; Reds::new(0, 5, 0), None);
+    assert_eq!(rt; Reds::new(0, 0, 5), None);
+    let reds = Reds::new(4, 1, 2).ok_or("at most four of each")?;
+    let both = reds.joined(&reds_of(b"0p0s"));
+    assert_eq!(rt; [both.get(0), both.get(1), both.get(2)], [4, 2, 3]);
+    assert_eq!(rt; both.total(), 9);
+    assert_eq!(rt; Reds::none().total(), 0);
+    Ok(())
+}
+
+#[test]
+fn adds_up_melds_and_blocks(rt: HostRuntime) {
+    let mut melds = Melds::new();
+    assert!(rt; melds.concealed());
+    melds.push(Meld::Ankan(Kind::at(27)));
+    assert!(rt; melds.concealed());
+    assert!(rt; melds.has_kong());
+    let run = Meld::Chi(Kind::at(2));
+    assert!(rt; run.is_proper());
+    assert!(rt; !Meld::Chi(Kind::at(7)).is_proper());
+    if run.is_proper() && melds.count() < 4 {
+        melds.push(run);
+    }
+    assert!(rt; !melds.concealed());
+    assert_eq!(rt; melds.count(), 2);
+    assert_eq!(rt; melds.get(1), Some(run));
+    assert_eq!(rt; melds.get(2), None);
+    assert_eq!(rt; melds.tiles(Kind::at(27)), 4);
+    assert_eq!(rt; melds.tiles(Kind::at(4)), 1);
+    assert_eq!(rt; melds.tiles(Kind::at(5)), 0);
+    assert!(rt; !run.is_kong());
+    assert!(rt; run.is_open());
+
+    let three = Kind::at(2);
+    assert_eq!(rt; Block::Run(Kind::at(0)).tiles(three), 1);
+    assert_eq!(rt; Block::Triplet(three).tiles(three), 3);
+    assert_eq!(rt; Block::Pair(three).tiles(three), 2);
+    assert!(rt; !Block::Pair(three).contains(Kind::at(3)));
+}
