@@ -1,5 +1,6 @@
 pub mod Blocks
 pub mod Joins
 pub mod LaneLemmas
+pub mod OneMore
 pub mod Spread
 pub mod Steps

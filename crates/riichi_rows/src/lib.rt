@@ -9,6 +9,7 @@
 
 mod join;
 mod lanes;
+pub mod laws;
 mod open;
 mod ranks;
 mod row;

@@ -463,14 +463,14 @@ module _ (hand : List ℕ) (melds : List Meld) (c0 c1 c2 c3 k0 k1 k2 k3 : List �
       back : EntryLacks a b c d c0 c1 c2 c3 k0 k1 k2 k3 sets n x → StandardLacks hand melds sets n x
       back k =
           let e = k.entries in
-          let r0 = reached0 n e in
-          let r1 = reached1 n e in
-          let r2 = reached2 n e in
-          let r3 = reached3 n e in
-          ⊎_elim (λ s. lacks_in0 n e (reach s.choice) r1 r2 r3 x s.rank s.is_kind s.is_rank s.choice.lacks_rank)
-          (λ others. ⊎_elim (λ s. lacks_in1 n e r0 (reach s.choice) r2 r3 x s.rank s.is_kind s.is_rank s.choice.lacks_rank)
-          (λ others. ⊎_elim (λ s. lacks_in2 n e r0 r1 (reach s.choice) r3 x s.rank s.is_kind s.is_rank s.choice.lacks_rank)
-          (λ s. lacks_in3 n e r0 r1 r2 (reach s.choice) x s.rank s.is_kind (omega (arith, s.is_kind)) s.choice.lacks_rank) others) others) k.lacks_kind
+          let reach0 = reached0 n e in
+          let reach1 = reached1 n e in
+          let reach2 = reached2 n e in
+          let reach3 = reached3 n e in
+          ⊎_elim (λ s. lacks_in0 n e (reach s.choice) reach1 reach2 reach3 x s.rank s.is_kind s.is_rank s.choice.lacks_rank)
+          (λ others. ⊎_elim (λ s. lacks_in1 n e reach0 (reach s.choice) reach2 reach3 x s.rank s.is_kind s.is_rank s.choice.lacks_rank)
+          (λ others. ⊎_elim (λ s. lacks_in2 n e reach0 reach1 (reach s.choice) reach3 x s.rank s.is_kind s.is_rank s.choice.lacks_rank)
+          (λ s. lacks_in3 n e reach0 reach1 reach2 (reach s.choice) x s.rank s.is_kind (omega (arith, s.is_kind)) s.choice.lacks_rank) others) others) k.lacks_kind
         where
           reach : {runs : Bool} {counts caps : List ℕ} {s p l r : ℕ} → ChoiceLacks runs counts caps s p l r → LackReached runs counts caps s p l
           reach c = record { blocks = c.blocks; is_choice = c.is_choice; lacks = c.lacks }

@@ -8,8 +8,11 @@ pub mod FourSuits
 pub mod KeptRows
 pub mod LiveLemmas
 pub mod Members
+pub mod OneMore
 pub mod OrphanLemmas
+pub mod OrphansLacked
 pub mod PairLemmas
+pub mod ReadyLemmas
 pub mod RemovalLemmas
 pub mod ShapeFacts
 pub mod TextLemmas

@@ -7,6 +7,7 @@ pub mod Lacked
 pub mod LiveCopies
 pub mod Orphans
 pub mod Pairs
+pub mod Ready
 pub mod Rows
 pub mod Suits
 pub mod Text

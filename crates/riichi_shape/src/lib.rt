@@ -1,4 +1,13 @@
 //! How far a hand is from winning, and which tiles bring it nearer.
+//!
+//! `shape` answers a `riichi_hand::ShapeRecord` by a `ShapeAnswer`: its shanten, and what it
+//! `Accepts`. Thirteen tiles accept the kinds of a `LiveList`, which lower the shanten, each with
+//! its live copies. Of fourteen tiles a `DiscardList` has each `Discard` that leaves the least
+//! shanten, with the list that the rest then accepts. `shanten` and `accepted` are the parts alone,
+//! and `shape_text` is the answer on a line. A hand is measured by its four suit rows, which
+//! `riichi_rows` makes and joins; a tile that is added or removed changes one of them.
+//!
+//! So `123456789m1134p` is ready: `shanten` is 0, and `accepted` has four live 2p and four 5p.
 #![tactic(auto)]
 
 mod acceptance;
@@ -8,6 +17,7 @@ mod discard;
 mod discard_list;
 mod distance;
 mod hand_rows;
+pub mod laws;
 mod live_list;
 mod orphans;
 mod pairs;

@@ -1,0 +1,128 @@
+-- The kinds that the least thirteen orphans lack.
+use Rattle.std.proofs.Common.{◌≡◌, ℕ, ◌+◌, ◌<◌, ◌≤◌, Bool, true, false, cond, IsTrue, ◌⊎◌, inl, inr, List, map, eqb, refl, sym, ap, ◌∙◌, ⊎_elim, arith}
+use Rattle.std.proofs.lemmas.Bool.{cases_lt}
+use Rattle.std.proofs.lemmas.Bool.Decides.{nat_tests}
+use Rattle.std.specs.Prelude.{slice_index}
+use Rattle.riichi_tiles.specs.Melds.{tiles}
+use Rattle.riichi_tiles.specs.declared.meld.Meld.{Meld}
+use Rattle.riichi_shape.specs.Distance.{OrphansReached}
+use Rattle.riichi_shape.specs.Lacked.{FormLacks, OrphansLaw}
+use Rattle.riichi_shape.specs.Orphans.{IsThirteenOrphans, orphan_kinds, is_orphan, orphan_tiles}
+use Rattle.riichi_shape.specs.Winning.{lacking}
+use Rattle.riichi_shape.proofs.Distances.{orphan_few}
+use Rattle.riichi_shape.proofs.OrphanLemmas.{lack_is, orphans_at, orphans_wanted, missing_one, extra}
+use Rattle.riichi_shape.proofs.PairLemmas.{total_of}
+
+-- what a hand with h tiles of x says, where the orphans with the kind t twice have more
+some_missing : (t x h : ℕ) (here : Bool) → h < cond here (cond (eqb x t) 2 1) 0 → (here ≡ true) × ((h ≡ 0) ⊎ ((h ≡ 1) × (x ≡ t)))
+some_missing t x h true less = (refl, by_test (eqb x t) refl)
+  where
+    by_test : (b : Bool) → eqb x t ≡ b → (h ≡ 0) ⊎ ((h ≡ 1) × (x ≡ t))
+    by_test b e = grind (arith, nat_tests)
+some_missing t x h false less = absurd (omega (arith, less))
+
+at_least_one : (t x : ℕ) → is_orphan x ≡ true → 0 < orphan_tiles t x
+at_least_one t x is = ap_less (is_orphan x) (eqb x t) is
+  where
+    ap_less : (b c : Bool) → b ≡ true → 0 < cond b (cond c 2 1) 0
+    ap_less b c e = grind arith
+
+two_of : (x : ℕ) → is_orphan x ≡ true → orphan_tiles x x ≡ 2
+two_of x is = two_there (is_orphan x) (eqb x x) is (same x) (orphan_tiles x x) refl
+  where
+    same : (x : ℕ) → eqb x x ≡ true
+    same x = grind (arith, nat_tests)
+
+    two_there : (b c : Bool) → b ≡ true → c ≡ true → (n : ℕ) → n ≡ cond b (cond c 2 1) 0 → n ≡ 2
+    two_there true true e e' n is = is
+    two_there true false e e' n is = absurd (grind arith)
+    two_there false c e e' n is = absurd (grind arith)
+
+extra_one : (h : ℕ) → h < 2 → extra h ≡ 1
+extra_one h low = grind (arith, nat_tests)
+
+extra_none : (h : ℕ) → 2 ≤ h → extra h ≡ 0
+extra_none h high = grind (arith, nat_tests)
+
+module _ (hand : List ℕ) (melds : List Meld) (n x : ℕ) (inside : x < 34) (no_melds : (k : ℕ) → k < 34 → tiles melds k ≡ 0) (reached : OrphansReached hand n) (bound : (wanted : List ℕ) → IsThirteenOrphans wanted → n ≤ lacking hand wanted) where
+  abbrev missing : ℕ
+  missing = total_of missing_one (map (slice_index hand) orphan_kinds)
+
+  n_is : n ≡ missing + extra (slice_index hand reached.thirteen_orphans.doubled)
+  n_is = sym reached.lacks ∙ lack_is hand reached.thirteen_orphans.doubled reached.thirteen_orphans.doubles_orphan reached.wanted reached.thirteen_orphans.at
+
+  subst_le : (a b c : ℕ) → a ≤ b → b ≡ c → a ≤ c
+  subst_le a b c h e = omega arith
+
+  with_kind : (k : ℕ) → is_orphan k ≡ true → n ≤ missing + extra (slice_index hand k)
+  with_kind k is =
+      subst_le n (lacking hand (orphans_wanted hand k)) (missing + extra (slice_index hand k)) (bound (orphans_wanted hand k) (record { doubled = k; doubles_orphan = is; at = orphans_at hand k }))
+      (lack_is hand k is (orphans_wanted hand k) (orphans_at hand k))
+
+  there : FormLacks IsThirteenOrphans hand melds n x → IsTrue (is_orphan x) × ((slice_index hand x ≡ 0) ⊎ ((slice_index hand x ≡ 1) × ((k : ℕ) → IsTrue (is_orphan k) → slice_index hand k ≤ 1)))
+  there w =
+      let e : n ≡ missing + extra (slice_index hand w.is_form.doubled) = sym w.lacks ∙ lack_is hand w.is_form.doubled w.is_form.doubles_orphan w.wanted w.is_form.at in
+      let less : slice_index hand x < orphan_tiles w.is_form.doubled x = subst_less (slice_index hand x) (slice_index w.wanted x) (orphan_tiles w.is_form.doubled x) w.lacks_kind (w.is_form.at x inside) in
+      let m = some_missing w.is_form.doubled x (slice_index hand x) (is_orphan x) less in
+      (m.0, ⊎_elim (λ none. inl none) (λ one. inr (one.0, λ k is. single k is e (extra_one (slice_index hand w.is_form.doubled) (same one.0 one.1)))) m.1)
+    where
+      subst_less : (a b c : ℕ) → a < b → b ≡ c → a < c
+      subst_less a b c h e = omega arith
+
+      same : {t : ℕ} → slice_index hand x ≡ 1 → x ≡ t → slice_index hand t < 2
+      same {t} one at = omega (arith, one, ap (slice_index hand) at)
+
+      single : {v : ℕ} → (k : ℕ) → is_orphan k ≡ true → n ≡ missing + v → v ≡ 1 → slice_index hand k ≤ 1
+      single {v} k is e one = ⊎_elim (λ low. omega (arith, low)) (λ high. absurd (contradict (extra (slice_index hand k)) v missing (with_kind k is) e one (extra_none (slice_index hand k) high))) (cases_lt (slice_index hand k) 2)
+        where
+          contradict : (z v m : ℕ) → n ≤ m + z → n ≡ m + v → v ≡ 1 → z ≡ 0 → ⊥
+          contradict z v m h e one none = omega arith
+
+  pub orphans_back : IsTrue (is_orphan x) × ((slice_index hand x ≡ 0) ⊎ ((slice_index hand x ≡ 1) × ((k : ℕ) → IsTrue (is_orphan k) → slice_index hand k ≤ 1))) → FormLacks IsThirteenOrphans hand melds n x
+  orphans_back lacked = ⊎_elim (λ none. as_reached none) (λ one. with_x one.0 (one.1 reached.thirteen_orphans.doubled reached.thirteen_orphans.doubles_orphan)) lacked.1
+    where
+      few : (k t w : ℕ) → k < 34 → w ≡ orphan_tiles t k → w + tiles melds k ≤ 4
+      few k t w low e = sum_few w (orphan_tiles t k) (tiles melds k) e (orphan_few t k) (no_melds k low)
+        where
+          sum_few : (w o m : ℕ) → w ≡ o → o ≤ 2 → m ≡ 0 → w + m ≤ 4
+          sum_few w o m e h z = omega arith
+
+      more : (h w o : ℕ) → w ≡ o → h < o → h < w
+      more h w o e less = omega arith
+
+      as_reached : slice_index hand x ≡ 0 → FormLacks IsThirteenOrphans hand melds n x
+      as_reached none = record {
+        wanted = reached.wanted;
+        is_form = reached.thirteen_orphans;
+        within_four = record { at = λ k low. few k reached.thirteen_orphans.doubled (slice_index reached.wanted k) low (reached.thirteen_orphans.at k low) };
+        lacks = reached.lacks;
+        lacks_kind = more (slice_index hand x) (slice_index reached.wanted x) (orphan_tiles reached.thirteen_orphans.doubled x) (reached.thirteen_orphans.at x inside) (zero_less (slice_index hand x) (orphan_tiles reached.thirteen_orphans.doubled x) none (at_least_one reached.thirteen_orphans.doubled x lacked.0));
+      }
+        where
+          zero_less : (h o : ℕ) → h ≡ 0 → 0 < o → h < o
+          zero_less h o e less = omega arith
+
+      with_x : slice_index hand x ≡ 1 → slice_index hand reached.thirteen_orphans.doubled ≤ 1 → FormLacks IsThirteenOrphans hand melds n x
+      with_x one single = record {
+        wanted = orphans_wanted hand x;
+        is_form = record { doubled = x; doubles_orphan = lacked.0; at = orphans_at hand x };
+        within_four = record { at = λ k low. few k x (slice_index (orphans_wanted hand x) k) low (orphans_at hand x k low) };
+        lacks = lack_is hand x lacked.0 (orphans_wanted hand x) (orphans_at hand x)
+            ∙ sums (extra (slice_index hand x)) (extra (slice_index hand reached.thirteen_orphans.doubled)) missing (extra_one (slice_index hand x) (below (slice_index hand x) one)) (extra_one (slice_index hand reached.thirteen_orphans.doubled) (omega (arith, single))) n_is;
+        lacks_kind = more (slice_index hand x) (slice_index (orphans_wanted hand x) x) (orphan_tiles x x) (orphans_at hand x x inside) (one_less (slice_index hand x) (orphan_tiles x x) one (two_of x lacked.0));
+      }
+        where
+          below : (h : ℕ) → h ≡ 1 → h < 2
+          below h e = omega arith
+
+          one_less : (h o : ℕ) → h ≡ 1 → o ≡ 2 → h < o
+          one_less h o e e' = omega arith
+
+          sums : (a b m : ℕ) → a ≡ 1 → b ≡ 1 → n ≡ m + b → m + a ≡ n
+          sums a b m ea eb e = omega arith
+
+  pub orphans_there : FormLacks IsThirteenOrphans hand melds n x → IsTrue (is_orphan x) × ((slice_index hand x ≡ 0) ⊎ ((slice_index hand x ≡ 1) × ((k : ℕ) → IsTrue (is_orphan k) → slice_index hand k ≤ 1)))
+  orphans_there w = there w
+
+pub orphans_lacked : OrphansLaw
+orphans_lacked hand melds n x inside no_melds reached bound = (orphans_there hand melds n x inside no_melds reached bound, orphans_back hand melds n x inside no_melds reached bound)

@@ -1,0 +1,213 @@
+-- Thirteen tiles, and the fourteen of a winning multiset.
+use Rattle.std.proofs.Common.{◌≡◌, ◌≢◌, ℕ, zero, suc, ◌+◌, ◌-◌, ◌*◌, ◌<◌, ◌≤◌, ◌%◌, Bool, true, false, cond, ◌⊎◌, inl, inr, List, [], ◌∷◌, length, slice_set, eqb, get_or, get_or-set_other, get_or-set_same, refl, sym, ap, ◌∙◌, ⊎_elim, subst, arith}
+use Rattle.std.proofs.lemmas.Bool.{cases_lt, false≢true}
+use Rattle.std.proofs.lemmas.Bool.Decides.{nat_tests}
+use Rattle.std.proofs.lemmas.List.Elements.{All-head, All-tail}
+use Rattle.std.specs.List.{sum}
+use Rattle.std.specs.Prelude.{All, slice_index, sum_by, ◌↔◌}
+use Rattle.riichi_tiles.specs.Blocks.{IsRunLow, IsSet, copies, total}
+use Rattle.riichi_tiles.specs.Melds.{every_kind}
+use Rattle.riichi_tiles.specs.declared.block.Block.{Block}
+use Rattle.riichi_tiles.specs.declared.block.Block.TheVariants.{Run, Triplet, Pair}
+use Rattle.riichi_tiles.specs.declared.meld.Meld.{Meld}
+use Rattle.riichi_hand.specs.Hand.{size}
+use Rattle.riichi_rows.proofs.Spread.{eqb_is, is_eqb, spread, spread_none, spread_shift, spread_sum, spread_with, sum_range}
+use Rattle.riichi_shape.specs.Accepted.{with_one}
+use Rattle.riichi_shape.specs.Distance.{IsDistance}
+use Rattle.riichi_shape.specs.Orphans.{IsThirteenOrphans, orphan_tiles}
+use Rattle.riichi_shape.specs.Pairs.{IsSevenPairs}
+use Rattle.riichi_shape.specs.Ready.{IsReady, ReadyLaw}
+use Rattle.riichi_shape.specs.Winning.{HasWinningForm, IsSetsAndPair, IsWinning, WithinFour, lacking}
+use Rattle.riichi_shape.proofs.OrphanLemmas.{lack_is}
+use Rattle.riichi_shape.proofs.PairLemmas.{spread_total, sum_is_total, total_of}
+use Rattle.riichi_shape.proofs.Uniqueness.{SameTiles}
+
+-- ---- how many tiles a winning multiset has
+
+abbrev point : ℕ → ℕ → ℕ → ℕ
+point place n k = cond (eqb k place) n 0
+
+point_sum : (place n : ℕ) → place < 34 → spread (point place n) 0 34 ≡ n
+point_sum place n inside =
+    spread_with (point place n) (λ k. 0) (λ k. n) place (λ k. sums (point place n k)) 0 34 (omega arith) (omega arith) ∙ ap (λ m. m + n) (spread_none (λ k. 0) 0 34 (λ k low high. refl)) ∙ omega arith
+  where
+    sums : (m : ℕ) → m ≡ 0 + m
+    sums m = omega arith
+
+run_points : (low k : ℕ) → copies (Run low) k ≡ point low 1 k + point (low + 1) 1 k + point (low + 2) 1 k
+run_points low k = grind (arith, nat_tests)
+
+run_below : (low : ℕ) → IsRunLow low → low + 2 < 27
+run_below low is = let few = is.0 in let within = is.1 in omega arith
+
+set_tiles : (b : Block) → IsSet b → spread (copies b) 0 34 ≡ 3
+set_tiles (Run low) is =
+    let below = run_below low is in
+    let front = spread_sum (point low 1) (point (low + 1) 1) (λ k. point low 1 k + point (low + 1) 1 k) (λ k. refl) 0 34 in
+    let all = spread_sum (λ k. point low 1 k + point (low + 1) 1 k) (point (low + 2) 1) (copies (Run low)) (run_points low) 0 34 in
+    omega (arith, front, all, point_sum low 1 (omega (arith, below)), point_sum (low + 1) 1 (omega (arith, below)), point_sum (low + 2) 1 (omega (arith, below)))
+set_tiles (Triplet held) is = point_sum held 3 is
+set_tiles (Pair held) is = absurd is
+
+sets_tiles : (bs : List Block) → All IsSet bs → spread (total bs) 0 34 ≡ 3 * length bs
+sets_tiles [] all = spread_none (total []) 0 34 (λ k low high. refl)
+sets_tiles (b ∷ bs) all =
+    omega (arith, set_tiles b (All-head IsSet b bs all), sets_tiles bs (All-tail IsSet b bs all), spread_sum (copies b) (total bs) (total (b ∷ bs)) (λ k. refl) 0 34)
+
+standard_tiles : (sets : ℕ) (wanted : List ℕ) → IsSetsAndPair sets wanted → spread (slice_index wanted) 0 34 ≡ 3 * sets + 2
+standard_tiles sets wanted is =
+    let told = spread_shift (slice_index wanted) (total (Pair is.pair ∷ is.blocks)) 0 0 34 (λ k low. is.adds_up (0 + k) (omega arith)) in
+    let apart = spread_sum (copies (Pair is.pair)) (total is.blocks) (total (Pair is.pair ∷ is.blocks)) (λ k. refl) 0 34 in
+    omega (arith, told, apart, point_sum is.pair 2 is.is_kind, sets_tiles is.blocks is.are_sets, is.has_sets)
+
+nothing_held : (n : ℕ) → n - slice_index [] 0 ≡ n
+nothing_held n = omega arith
+
+orphans_tiles : (wanted : List ℕ) → IsThirteenOrphans wanted → spread (slice_index wanted) 0 34 ≡ 14
+unfolding total_of
+orphans_tiles wanted is =
+    spread_shift (slice_index wanted) (λ k. slice_index wanted k - slice_index [] k) 0 0 34 (λ k low. all_of (slice_index wanted (0 + k)))
+    ∙ sym (sum_range (λ k. slice_index wanted k - slice_index [] k) 0 34) ∙ lack_is [] is.doubled is.doubles_orphan wanted is.at
+  where
+    all_of : (n : ℕ) → n ≡ n - 0
+    all_of n = omega arith
+
+tiles_of_winning : (melds : List Meld) (wanted : List ℕ) → length melds ≤ 4 → IsWinning melds wanted → spread (slice_index wanted) 0 34 + 3 * length melds ≡ 14
+tiles_of_winning melds wanted few is =
+    ⊎_elim (λ standard. omega (arith, standard_tiles (4 - length melds) wanted standard, few))
+    (λ special. ⊎_elim (λ pairs. omega (arith, pairs.0, pairs.1.fourteen, sum_range (slice_index wanted) 0 34)) (λ orphans. omega (arith, orphans.0, orphans_tiles wanted orphans.1)) special) is.form
+
+-- ---- what is lacked, and what is left over
+
+balance : (w h : ℕ → ℕ) (a n : ℕ) → spread (λ k. w k - h k) a n + spread h a n ≡ spread (λ k. h k - w k) a n + spread w a n
+balance w h a n =
+    let left = spread_sum (λ k. w k - h k) h (λ k. (w k - h k) + h k) (λ k. refl) a n in
+    let right = spread_sum (λ k. h k - w k) w (λ k. (w k - h k) + h k) (λ k. greater (w k) (h k)) a n in
+    omega (arith, left, right)
+  where
+    greater : (w h : ℕ) → (w - h) + h ≡ (h - w) + w
+    greater w h = omega arith
+
+-- a sum of 0 has no term, and a sum of 1 has one
+all_none : (d : ℕ → ℕ) (a n : ℕ) → spread d a n ≡ 0 → (k : ℕ) → a ≤ k → k < a + n → d k ≡ 0
+unfolding spread
+all_none d a zero none k low high = absurd (omega arith)
+all_none d a (suc n) none k low high = ⊎_elim (λ later. all_none d (a + 1) n (omega arith) k (omega arith) (omega arith)) (λ here. omega (arith, ap d (same here))) (cases_lt a k)
+  where
+    same : k ≤ a → k ≡ a
+    same h = omega arith
+
+record OnePlace (d : ℕ → ℕ) (a n : ℕ) : Type 0 where
+  pub place : ℕ
+  pub low : a ≤ place
+  pub high : place < a + n
+  pub one : d place ≡ 1
+  pub others : (k : ℕ) → a ≤ k → k < a + n → k ≢ place → d k ≡ 0
+
+one_first : (d : ℕ → ℕ) (a n : ℕ) → d a ≡ 1 → spread d (a + 1) n ≡ 0 → OnePlace d a (suc n)
+one_first d a n one none = record {
+  place = a;
+  low = omega arith;
+  high = omega arith;
+  one = one;
+  others = λ k low high ne. all_none d (a + 1) n none k (⊎_elim (λ h. omega (arith, h)) (λ h. absurd (ne (omega (arith, h, low)))) (cases_lt a k)) (omega arith);
+}
+
+one_later : (d : ℕ → ℕ) (a n : ℕ) → d a ≡ 0 → OnePlace d (a + 1) n → OnePlace d a (suc n)
+one_later d a n none rest = record {
+  place = rest.place;
+  low = omega (arith, rest.low);
+  high = omega (arith, rest.high);
+  one = rest.one;
+  others = λ k low high ne. ⊎_elim (λ later. rest.others k (omega (arith, later)) (omega arith) ne) (λ here. ap d (same k low here) ∙ none) (cases_lt a k);
+}
+  where
+    same : (k : ℕ) → a ≤ k → k ≤ a → k ≡ a
+    same k low high = omega arith
+
+one_place : (d : ℕ → ℕ) (a n : ℕ) → spread d a n ≡ 1 → OnePlace d a n
+unfolding spread
+one_place d a zero one = absurd (omega arith)
+one_place d a (suc n) one = ⊎_elim (λ some. one_first d a n (omega (arith, one, some)) (omega (arith, one, some))) (λ none. one_later d a n (omega (arith, none)) (one_place d (a + 1) n (omega (arith, one, none)))) (cases_lt 0 (d a))
+
+-- ---- the same tiles win alike
+
+winning_same : (melds : List Meld) (wanted same : List ℕ) → SameTiles same wanted → IsWinning melds wanted → IsWinning melds same
+winning_same melds wanted same are is = record {
+  form = ⊎_elim (λ s. inl (record { blocks = s.blocks; are_sets = s.are_sets; has_sets = s.has_sets; pair = s.pair; is_kind = s.is_kind; adds_up = λ kind low. are.at kind low ∙ s.adds_up kind low }))
+      (λ special. ⊎_elim (λ p. inr (inl (p.0, pairs p.1))) (λ o. inr (inr (o.0, orphans o.1))) special) is.form;
+  within_four = record { at = λ kind low. omega (arith, are.at kind low, is.within_four.at kind low) };
+}
+  where
+    pairs : IsSevenPairs wanted → IsSevenPairs same
+    pairs p = record {
+      two_or_none = λ kind low. ⊎_elim (λ none. inl (are.at kind low ∙ none)) (λ two. inr (are.at kind low ∙ two)) (p.two_or_none kind low);
+      fourteen = sum_range (slice_index same) 0 34 ∙ spread_shift (slice_index same) (slice_index wanted) 0 0 34 (λ k low. are.at (0 + k) (omega arith)) ∙ sym (sum_range (slice_index wanted) 0 34) ∙ p.fourteen;
+    }
+
+    orphans : IsThirteenOrphans wanted → IsThirteenOrphans same
+    orphans o = record { doubled = o.doubled; doubles_orphan = o.doubles_orphan; at = λ kind low. are.at kind low ∙ o.at kind low }
+
+-- ---- a hand of thirteen
+
+apart : (k place : ℕ) → eqb k place ≡ false → k ≢ place
+apart k place e same = false≢true (sym e ∙ is_eqb k place same)
+
+one_more_at : (hand : List ℕ) (kind : ℕ) → kind < length hand → slice_index (with_one hand kind) kind ≡ slice_index hand kind + 1
+one_more_at hand kind low = rw get_or-set_same refl
+
+one_more_past : (hand : List ℕ) (kind other : ℕ) → other ≢ kind → slice_index (with_one hand kind) other ≡ slice_index hand other
+one_more_past hand kind other ne = rw get_or-set_other refl
+
+module _ (hand : List ℕ) (melds : List Meld) (n : ℕ) (long : length hand ≡ 34) (thirteen : size hand melds ≡ 13) (is : IsDistance hand melds n) where
+  few : length melds ≤ 4
+  few = omega arith
+
+  held : spread (slice_index hand) 0 34 ≡ sum hand
+  held = ap (spread (slice_index hand) 0) (sym long) ∙ spread_total (λ n. n) hand ∙ sym (sum_is_total (λ n. n) hand)
+
+  -- a winning multiset lacks one more than what is left over of the hand
+  lacks_more : (wanted : List ℕ) → IsWinning melds wanted → lacking hand wanted ≡ spread (λ k. slice_index hand k - slice_index wanted k) 0 34 + 1
+  lacks_more wanted winning =
+      omega (arith, balance (slice_index wanted) (slice_index hand) 0 34, tiles_of_winning melds wanted few winning, held, thirteen, sum_range (λ k. slice_index wanted k - slice_index hand k) 0 34)
+
+  some_lack : 0 < n
+  some_lack = omega (arith, lacks_more is.wanted is.is_winning, is.reached)
+
+  ready : n ≡ 1 → IsReady hand melds
+  ready one = record { kind = p.place; is_kind = p.high; is_winning = winning_same melds is.wanted (with_one hand p.place) (record { at = at }) is.is_winning }
+    where
+      none_left : spread (λ k. slice_index hand k - slice_index is.wanted k) 0 34 ≡ 0
+      none_left = omega (arith, lacks_more is.wanted is.is_winning, is.reached, one)
+
+      one_lacked : spread (λ k. slice_index is.wanted k - slice_index hand k) 0 34 ≡ 1
+      one_lacked = omega (arith, sum_range (λ k. slice_index is.wanted k - slice_index hand k) 0 34, is.reached, one)
+
+      p : OnePlace (λ k. slice_index is.wanted k - slice_index hand k) 0 34
+      p = one_place (λ k. slice_index is.wanted k - slice_index hand k) 0 34 one_lacked
+
+      left_at : (k : ℕ) → k < 34 → slice_index hand k - slice_index is.wanted k ≡ 0
+      left_at k low = all_none (λ k. slice_index hand k - slice_index is.wanted k) 0 34 none_left k (omega arith) (omega arith)
+
+      at : (k : ℕ) → k < 34 → slice_index (with_one hand p.place) k ≡ slice_index is.wanted k
+      at k low = by_test (eqb k p.place) refl
+        where
+          by_test : (t : Bool) → eqb k p.place ≡ t → slice_index (with_one hand p.place) k ≡ slice_index is.wanted k
+          by_test true e = let here = eqb_is k p.place e in ap (slice_index (with_one hand p.place)) here ∙ omega (arith, one_more_at hand p.place (omega (arith, p.high)), p.one, left_at p.place p.high) ∙ sym (ap (slice_index is.wanted) here)
+          by_test false e = omega (arith, one_more_past hand p.place k (apart k p.place e), p.others k (omega arith) (omega arith) (apart k p.place e), left_at k low)
+
+  completes : IsReady hand melds → n ≡ 1
+  completes r = omega (arith, some_lack, is.none_less (with_one hand r.kind) r.is_winning, lacks_one)
+    where
+      lacks_at : (k : ℕ) (t : Bool) → eqb k r.kind ≡ t → slice_index (with_one hand r.kind) k - slice_index hand k ≡ cond t 1 0
+      lacks_at k true e = let here = eqb_is k r.kind e in omega (arith, ap (slice_index (with_one hand r.kind)) here, ap (slice_index hand) here, one_more_at hand r.kind (omega (arith, r.is_kind)))
+      lacks_at k false e = omega (arith, one_more_past hand r.kind k (apart k r.kind e))
+
+      lacks_one : lacking hand (with_one hand r.kind) ≡ 1
+      lacks_one =
+          sum_range (λ k. slice_index (with_one hand r.kind) k - slice_index hand k) 0 34
+          ∙ spread_shift (λ k. slice_index (with_one hand r.kind) k - slice_index hand k) (point r.kind 1) 0 0 34 (λ k low. lacks_at (0 + k) (eqb (0 + k) r.kind) refl)
+          ∙ point_sum r.kind 1 r.is_kind
+
+pub ready_is : ReadyLaw
+ready_is hand melds n long thirteen is = (some_lack hand melds n long thirteen is, (ready hand melds n long thirteen is, completes hand melds n long thirteen is))

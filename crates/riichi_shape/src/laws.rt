@@ -1,0 +1,33 @@
+//! Laws over the definitions alone: which kinds bring a hand nearer, told by the winning multisets
+//! that lack least.
+ghost use Rattle.riichi_shape.specs.Lacked.{AcceptanceLaw, FormsLaw, JoinLaw, OrphansLaw};
+ghost use Rattle.riichi_shape.specs.Ready.{ReadyLaw};
+
+/// One more tile of a kind lowers the distance exactly where some least winning multiset lacks
+/// that kind.
+pub fn acceptance()
+    ensures { AcceptanceLaw }
+{}
+
+/// A kind is lacked at the least lack by sets and a pair, by seven pairs or by thirteen orphans,
+/// each looked at alone.
+pub fn forms()
+    ensures { FormsLaw }
+{}
+
+/// Which kinds the least winning multisets by sets and a pair lack is told by the rows of the hand
+/// alone.
+pub fn joins()
+    ensures { JoinLaw }
+{}
+
+/// The kinds that the least thirteen orphans lack, told by the counts.
+pub fn orphans()
+    ensures { OrphansLaw }
+{}
+
+/// Thirteen tiles always lack one, so their shanten is never below 0; and it is 0 exactly where
+/// some tile completes a winning multiset.
+pub fn ready()
+    ensures { ReadyLaw }
+{}
