@@ -1,20 +1,38 @@
 # Rows of the built program, read by ./test: it gives `program`, an empty folder `room`, and the counts `passed` and `failed`.
 
-# row STATUS OUTPUT ERRORS WORDS..: runs the program on WORDS with the file `room/input` as its input, and compares.
-# ERRORS is a text that must stand in what it says on standard error; an empty one means that it says nothing.
-touch "$room/input"
-row() {
-  local status=$1 output=$2 errors=$3
-  shift 3
-  local got ended
-  got=$("$program" "$@" < "$room/input" 2> "$room/said")
-  ended=$?
-  if [ "$ended" = "$status" ] && [ "$got" = "$output" ] && { [ -n "$errors" ] && grep -qF -- "$errors" "$room/said" || { [ -z "$errors" ] && [ ! -s "$room/said" ]; }; }; then
+# told NAME WANTED GOT: counts one row, and says where it differs
+told() {
+  if [ "$2" = "$3" ]; then
     passed=$((passed + 1))
   else
     failed=$((failed + 1))
-    echo "FAILED: riichi_desk $*: status $ended, wanted $status; wrote '$got', wanted '$output'; said '$(head -c 300 "$room/said")', wanted '$errors'"
+    echo "FAILED: $1: wanted '$(head -c 400 <<< "$2")', got '$(head -c 400 <<< "$3")'"
   fi
+}
+
+# row STATUS OUTPUT ERRORS WORDS..: runs the program on WORDS with the file `room/input` as its input, and compares.
+# ERRORS is a text that must stand in what it says on standard error; an empty one means that it says nothing.
+: > "$room/input"
+row() {
+  local status=$1 output=$2 errors=$3 got said
+  shift 3
+  got=$("$program" "$@" < "$room/input" 2> "$room/said"; echo "status $?")
+  said=silent
+  if [ -s "$room/said" ]; then
+    said="said something else: $(head -c 300 "$room/said")"
+    [ -n "$errors" ] && grep -qF -- "$errors" "$room/said" && said="said $errors"
+  fi
+  told "riichi_desk $*" "${output:+$output
+}status $status ${errors:+said }${errors:-silent}" "$got $said"
+}
+
+# answers INPUT WANTED: the command `line` answers the file INPUT as the file WANTED says
+answers() {
+  local status=0 got
+  grep -q '^refused' "$2" && status=1
+  "$program" line < "$1" > "$room/answers" 2> "$room/said"
+  got=$?
+  told "line < $1" "status $status: $(sha256sum < "$2")" "status $got: $(sha256sum < "$room/answers")"
 }
 
 # the command waits
@@ -33,4 +51,36 @@ row 2 '' "unrecognized subcommand 'fly'" fly
 row 2 '' "unexpected argument 'B' found" waits A B
 row 2 '' '<HAND>' waits
 row 2 '' 'UTF-8' waits $'\xff'
+row 2 '' "unexpected argument 'file' found" line file
 row 0 'riichi_desk 0.1.0' '' --version
+
+# the command line: no input, a page of lines with its answers, and each example of the rules
+row 0 '' '' line
+printf '# table three\nwaits 1112345678999m\n\nwaits 8z\r\nwaits 123456789m1134p' > "$room/input"
+row 1 $'waits 123456789m\nrefused N5 hand at 0\nwaits 25p' '' line
+: > "$room/input"
+answers examples/rules.lines examples/rules.answers
+answers examples/rules-two.lines examples/rules-two.answers
+awk '/^=> / { print last > lines; print substr($0, 4) > wanted } { last = $0 }' lines="$room/rules.lines" wanted="$room/rules.wanted" docs/RULES.md
+answers "$room/rules.lines" "$room/rules.wanted"
+
+# someone types: the answer to a line comes before the next line is sent
+coproc desk { "$program" line; }
+echo 'waits 1112345678999m' >&"${desk[1]}"
+read -r -t 20 typed <&"${desk[0]}"
+told 'an answer before the next line' 'waits 123456789m' "${typed:-nothing}"
+echo 'waits 8z' >&"${desk[1]}"
+read -r -t 20 typed <&"${desk[0]}"
+told 'the answer to the next line' 'refused N5 hand at 0' "${typed:-nothing}"
+eval "exec ${desk[1]}>&-"
+wait "$desk_PID" 2> /dev/null
+
+# one line of ten million bytes, then one more
+{ head -c 10000000 /dev/zero | tr '\0' 'm'; printf '\nwaits 8z\n'; } > "$room/long"
+told 'a line of ten million bytes' $'refused H1\nrefused N5 hand at 0' "$("$program" line < "$room/long")"
+
+# who reads the answers goes away, and a full disk
+yes 'waits 1112345678999m' | head -n 100000 > "$room/many"
+{ "$program" line < "$room/many" 2> "$room/said"; echo "status $?" >> "$room/said"; } | head -n 1 > /dev/null
+told 'the reader of the answers goes away' $'riichi_desk: fault F2\nstatus 3' "$(cat "$room/said")"
+told 'a full disk' $'riichi_desk: fault F2\nstatus 3' "$("$program" line < "$room/many" 2>&1 > /dev/full; echo "status $?")"

@@ -24,7 +24,6 @@ mod line_kind;
 mod outbox;
 mod profile;
 mod report;
-mod split;
 mod teller;
 mod text;
 mod waits;

@@ -1,96 +1,72 @@
 //! The line that answers a hand of thirteen concealed tiles.
-ghost use Rattle.std.specs.Prelude.{◌≡◌, ◌≢◌, ℕ, ◌+◌, ◌≤◌, List, ◌++◌, true, false, length, codes, decimal};
+ghost use Rattle.std.specs.Prelude.{◌≡◌, ◌≢◌, ℕ, List, true, false};
 ghost use Rattle.std.specs.List.{sum};
 ghost use Rattle.riichi_tiles.specs.Notation.{Spells, IsFirstFault};
 ghost use Rattle.riichi_tiles.specs.declared.notation.NotationFault.{NotationFault};
-ghost use Rattle.arrayvec.specs.ArrayString.{array_string_len};
-ghost use Rattle.desk_lines.specs.Answer.{IsWaitsText, IsWaitsOf, code_text, fault_text};
+ghost use Rattle.riichi_tiles.specs.Tiles.{IsCounts};
+ghost use Rattle.riichi_split.specs.Waits.{waits_of, waits_text};
+ghost use Rattle.riichi_hand.specs.FaultTexts.{fault_text};
+ghost use Rattle.riichi_hand.specs.declared.fault.LineCode.TheVariants.{H8};
+ghost use Rattle.riichi_hand.specs.declared.fault.LineFault.TheVariants.{Line, Notation};
+ghost use Rattle.riichi_hand.specs.declared.fault.TextName.TheVariants.{Hand};
+ghost use Rattle.desk_lines.specs.WaitsLine.{concealed_hand};
 
-use crate::split::waits;
 use arrayvec::ArrayString;
-use itoa::Buffer;
-use riichi_tiles::{KindSet, NotationCode, NotationFault, read_counts, write_kinds};
+use riichi_hand::{HandRecord, LineFault, TextName, fault_text};
+use riichi_split::{waits, waits_text};
+use riichi_tiles::{Counts, Melds, read_counts};
 
 /// The text of an answer, and whether it is a refusal.
 #[derive(Clone, Copy)]
 pub struct WaitsLine {
+    /// One line, without its line feed.
     pub text: ArrayString<48>,
+    /// The hand was refused: the text says why.
     pub refused: bool,
 }
 
-/// `waits` and the kinds, or a dash where there are none.
-pub fn waits_text(waits: KindSet) -> ArrayString<48>
-    ensures { IsWaitsText waits result.bytes }
-{
-    let mut text = ArrayString::new();
-    text.push_str("waits ");
-    if waits.is_empty() {
-        text.push_str("-");
-    } else {
-        text.push_str(write_kinds(waits).as_str());
-    }
-    text
-}
-
-fn code_text(code: NotationCode) -> &'static str
-    ensures value { result.now ≡ code_text code }
-    ensures short { length result.now ≡ 2 }
-{
-    match code {
-        NotationCode::N1 => "N1",
-        NotationCode::N2 => "N2",
-        NotationCode::N3 => "N3",
-        NotationCode::N4 => "N4",
-        NotationCode::N5 => "N5",
-        NotationCode::N6 => "N6",
-    }
-}
-
-/// What is wrong with the text of a hand, and where.
-fn fault_text(fault: NotationFault) -> ArrayString<48>
-    ensures { result.bytes ≡ fault_text fault }
-{
-    let mut text = ArrayString::new();
-    text.push_str("refused ");
-    text.push_str(code_text(fault.code));
-    text.push_str(" hand at ");
-    let mut buffer = Buffer::new();
-    text.push_str(buffer.format(fault.place));
-    text
-}
-
-/// The waits of a hand of thirteen concealed tiles, or what is wrong with it.
+/// What the command `waits` prints for a hand in notation: `waits` and the kinds that complete its thirteen concealed
+/// tiles, or the refusal `N1` to `N6` of its text, or `H8` where it has another number of tiles.
 pub fn waits_answer(hand: &[u8]) -> WaitsLine
     ensures waits { (counts : List ℕ) → Spells hand.now counts → sum counts ≡ 13
-        → IsWaitsOf counts result.text.bytes × (result.refused ≡ false) }
+        → (result.text.bytes ≡ waits_text (waits_of (concealed_hand counts))) × (result.refused ≡ false) }
     ensures not_thirteen { (counts : List ℕ) → Spells hand.now counts → sum counts ≢ 13
-        → (result.text.bytes ≡ codes "refused H8") × (result.refused ≡ true) }
+        → (result.text.bytes ≡ fault_text (Line H8)) × (result.refused ≡ true) }
     ensures fault { (fault : NotationFault) → IsFirstFault hand.now fault
-        → (result.text.bytes ≡ fault_text fault) × (result.refused ≡ true) }
+        → (result.text.bytes ≡ fault_text (Notation Hand fault)) × (result.refused ≡ true) }
 {
-    let counts = match read_counts(hand) {
-        Ok(counts) => counts,
-        Err(fault) => {
-            let text = fault_text(fault);
-            return WaitsLine {
-                text,
-                refused: true,
-            };
-        }
-    };
-    if counts.total() == 13 {
-        let text = waits_text(waits(&counts));
-        WaitsLine {
-            text,
+    match read_counts(hand) {
+        Ok(counts) => answer_counts(counts),
+        Err(fault) => refusal(&LineFault::Notation(TextName::Hand, fault)),
+    }
+}
+
+/// The answer to some tiles that are a hand of their own.
+fn answer_counts(counts: Counts) -> WaitsLine
+    requires { IsCounts counts }
+    ensures waits { sum counts ≡ 13
+        → (result.text.bytes ≡ waits_text (waits_of (concealed_hand counts))) × (result.refused ≡ false) }
+    ensures not_thirteen { sum counts ≢ 13
+        → (result.text.bytes ≡ fault_text (Line H8)) × (result.refused ≡ true) }
+{
+    match HandRecord::new(counts, Melds::new()) {
+        Ok(hand) => WaitsLine {
+            text: waits_text(waits(&hand)),
             refused: false,
-        }
-    } else {
-        let mut text = ArrayString::new();
-        text.push_str("refused H8");
-        WaitsLine {
-            text,
-            refused: true,
-        }
+        },
+        Err(fault) => refusal(&fault),
+    }
+}
+
+fn refusal(fault: &LineFault) -> WaitsLine
+    ensures text { result.text.bytes ≡ fault_text fault.now }
+    ensures refused { result.refused ≡ true }
+{
+    let mut text = ArrayString::new();
+    text.push_str(fault_text(fault).as_str());
+    WaitsLine {
+        text,
+        refused: true,
     }
 }
 

@@ -1,6 +1,7 @@
 //! What keeps the program from an answer, and how it is told.
 use clap::Error;
 use clap::error::ErrorKind;
+use desk_lines::DeskFault;
 use std::alloc::AllocError;
 use std::io::{Eprint, Print};
 
@@ -11,22 +12,26 @@ pub enum Failure {
     Words(Error),
     /// The words aren't text.
     Text,
-    /// The output can't be written: F2.
-    Write,
-    /// There is no memory: F3.
-    Memory,
+    /// Input, output or memory failed.
+    Desk(DeskFault),
 }
 
 impl From<AllocError> for Failure {
     fn from(_error: AllocError) -> Failure {
-        Failure::Memory
+        Failure::Desk(DeskFault::Memory)
+    }
+}
+
+impl From<DeskFault> for Failure {
+    fn from(fault: DeskFault) -> Failure {
+        Failure::Desk(fault)
     }
 }
 
 impl From<Error> for Failure {
     fn from(error: Error) -> Failure {
         match error.kind() {
-            ErrorKind::OutOfMemory => Failure::Memory,
+            ErrorKind::OutOfMemory => Failure::Desk(DeskFault::Memory),
             _ => Failure::Words(error),
         }
     }
@@ -46,13 +51,25 @@ pub fn report<R: Print + Eprint>(rt: &R, failure: &Failure) -> u8 {
             let _ = eprintln!(rt; "error: the words of the command line aren't UTF-8 text");
             2
         }
-        Failure::Write => {
-            let _ = eprintln!(rt; "riichi_desk: fault F2");
-            3
+        Failure::Desk(fault) => {
+            let code = code_of(*fault);
+            let _ = eprintln!(rt; "riichi_desk: fault {code}");
+            status_of(*fault)
         }
-        Failure::Memory => {
-            let _ = eprintln!(rt; "riichi_desk: fault F3");
-            4
-        }
+    }
+}
+
+fn code_of(fault: DeskFault) -> &'static str {
+    match fault {
+        DeskFault::Read => "F1",
+        DeskFault::Write => "F2",
+        DeskFault::Memory => "F3",
+    }
+}
+
+fn status_of(fault: DeskFault) -> u8 {
+    match fault {
+        DeskFault::Read | DeskFault::Write => 3,
+        DeskFault::Memory => 4,
     }
 }

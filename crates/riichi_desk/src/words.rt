@@ -6,6 +6,8 @@ use std::alloc::{AllocError, Global};
 pub enum Request<'a> {
     /// The waits of this hand.
     Waits(&'a str),
+    /// The answers to the record lines of standard input.
+    Line,
 }
 
 /// The commands and their words.
@@ -14,7 +16,8 @@ pub fn commands<'a>(alloc: Global) -> Result<Command<'a>, AllocError> {
         .version("0.1.0")
         .about("A scoring desk for riichi mahjong: hands in Tenhou notation in, answers out")
         .subcommand_required(true)
-        .subcommand(waits_command(alloc)?)
+        .subcommand(waits_command(alloc)?)?
+        .subcommand(line_command(alloc))
 }
 
 fn waits_command<'a>(alloc: Global) -> Result<Command<'a>, AllocError> {
@@ -26,8 +29,16 @@ fn waits_command<'a>(alloc: Global) -> Result<Command<'a>, AllocError> {
         .arg(hand)
 }
 
+fn line_command<'a>(alloc: Global) -> Command<'a> {
+    Command::new(alloc, "line")
+        .about("Answers hands from standard input, one a line: wins, waits, shapes")
+}
+
 /// What the words ask for; none where they name no command of ours.
 pub fn request_of<'a>(matches: &ArgMatches<'a>) -> Option<Request<'a>> {
+    if matches.subcommand_matches("line").is_some() {
+        return Some(Request::Line);
+    }
     let waits = matches.subcommand_matches("waits")?;
     let hand = waits.get_str("HAND")?;
     Some(Request::Waits(hand))

@@ -1,5 +1,5 @@
 -- The greatest of some scores.
-use Rattle.std.proofs.Common.{◌≡◌, ℕ, ◌<◌, Bool, true, false, cond, Option, Some, None, List, [], ◌∷◌, ◌++◌, length, append_assoc, append-nil, refl, sym, ap, ◌∙◌, subst, inl, inr, ◌⊎◌, ltb, eqb, arith}
+use Rattle.std.proofs.Common.{◌≡◌, ℕ, ◌<◌, ◌≤◌, Bool, true, false, cond, Option, Some, None, List, [], ◌∷◌, ◌++◌, length, append_assoc, append-nil, refl, sym, ap, ◌∙◌, subst, inl, inr, ◌⊎◌, ltb, eqb, arith}
 use Rattle.std.specs.List.{fold}
 use Rattle.std.proofs.lemmas.Bool.Decides.{nat_tests}
 use Rattle.std.proofs.lemmas.List.Elements.{All-contains}
@@ -7,15 +7,17 @@ use Rattle.riichi_tiles.specs.Tiles.{IsCounts}
 use Rattle.riichi_tiles.specs.declared.meld.Meld.{Meld}
 use Rattle.riichi_hand.specs.declared.win.WinParts.{WinParts}
 use Rattle.riichi_split.specs.declared.reading.Reading.{Reading}
+use Rattle.riichi_split.specs.declared.reading.Reading.TheVariants.{Standard, SevenPairs, Orphans}
 use Rattle.riichi_split.specs.Readings.{AreTheReadings}
 use Rattle.riichi_split.proofs.Lists.{IsIn, in-left, in-right, in-cases, in-Contains, Contains-in}
 use Rattle.riichi_score.specs.declared.score.Score.{Score}
 use Rattle.riichi_score.specs.declared.answer.WinAnswer.{WinAnswer}
 use Rattle.riichi_score.specs.declared.answer.WinAnswer.TheVariants.{Won, NoYaku, NoWin}
+use Rattle.riichi_score.specs.Fu.{HasFourSets}
 use Rattle.riichi_score.specs.Scores.{score_of, hand_of, IsReadingOf}
-use Rattle.riichi_score.specs.EveryReading.{readings_of}
+use Rattle.riichi_split.specs.ReadingsOf.{readings_of}
 use Rattle.riichi_score.specs.Best.{rank, is_above, IsBestOf, IsBest, better, best_among, best_of}
-use Rattle.riichi_score.proofs.EveryReading.{readings_of-sound, readings_of-complete}
+use Rattle.riichi_split.proofs.EveryReading.{every_reading}
 
 -- not above is transitive, for lists of one length
 below-step : (x y z : ℕ) (a b c : Bool) → cond (ltb y x) true (cond (ltb x y) false a) ≡ false → cond (ltb z y) true (cond (ltb y z) false b) ≡ false → (a ≡ false → b ≡ false → c ≡ false) → cond (ltb z x) true (cond (ltb x z) false c) ≡ false
@@ -141,6 +143,18 @@ AreReadingsOf-from w hand melds winning all a b c h =
     (subst (λ (x : List Meld). AreTheReadings hand (length x) w.winning all) b
     (subst (λ (x : ℕ). AreTheReadings hand (length melds) x all) c h)))
 
+four_sets : (w : WinParts) (r : Reading) → IsReadingOf w r → HasFourSets r w
+four_sets w (Standard sets pair done) h = h.0.four
+four_sets w SevenPairs h = tt
+four_sets w Orphans h = tt
+
+-- the next reading is one of the hand
+pub next_has_four_sets : (w : WinParts) (all before left rest : List Reading) (r : Reading) (a : WinAnswer) → AreReadingsOf w all → IsSoFar w all before left a → left ≡ r ∷ rest → HasFourSets r w
+next_has_four_sets w all before left rest r a readings h e =
+    let there : IsIn r (before ++ r ∷ rest) = in-right r before (r ∷ rest) (inl refl) in
+    let all_there = h.parts ∙ ap (λ x. before ++ x) e in
+    four_sets w r (readings.sound r (subst (λ (x : List Reading). IsIn r x) (sym all_there) there))
+
 pub best-end : (w : WinParts) (all before left : List Reading) (a : WinAnswer) → AreReadingsOf w all → IsSoFar w all before left a → left ≡ [] → IsBest w a
 best-end w all before left a readings h e =
     let same : before ≡ all = sym (h.parts ∙ ap (λ x. before ++ x) e ∙ append-nil before) in
@@ -160,13 +174,8 @@ pub best_among-IsBestOf : (w : WinParts) (readings : List Reading) → IsBestOf 
 best_among-IsBestOf w readings = among-more w [] readings NoWin (λ r h. h)
 
 -- the list of every reading
-pub best_of-IsBest : (w : WinParts) → IsCounts (hand_of w) → IsBest w (best_of w)
+pub best_of-IsBest : (w : WinParts) → IsCounts (hand_of w) → length w.melds ≤ 4 → IsBest w (best_of w)
 unfolding best_of
-best_of-IsBest w counts =
+best_of-IsBest w counts melds =
     let all = readings_of (hand_of w) (length w.melds) w.winning in
-    best-all w all (best_among w all)
-    (record {
-      sound = λ r i. readings_of-sound (hand_of w) (length w.melds) w.winning r counts i;
-      complete = λ r q. readings_of-complete (hand_of w) (length w.melds) w.winning r q;
-    })
-    (best_among-IsBestOf w all)
+    best-all w all (best_among w all) (AreReadingsOf-list w all (every_reading (hand_of w) (length w.melds) w.winning counts.each_kind melds)) (best_among-IsBestOf w all)

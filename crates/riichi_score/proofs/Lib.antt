@@ -1,4 +1,3 @@
-pub mod EveryReading
 pub mod Wins
 pub mod DoraSums
 pub mod Greatest

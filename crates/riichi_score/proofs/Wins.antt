@@ -1,5 +1,5 @@
 -- What the type of a win record says of its parts.
-use Rattle.std.proofs.Common.{◌≡◌, ℕ, ◌+◌, ◌<◌, ◌≤◌, Bool, true, false, not, ◌||◌, Option, Some, None, List, [], ◌∷◌, length, drop, refl, ltb, arith, subst, get_or, ◌∙◌, ap, sym, eqb, cond}
+use Rattle.std.proofs.Common.{◌≡◌, ℕ, ◌+◌, ◌*◌, ◌<◌, ◌≤◌, Bool, true, false, not, ◌||◌, Option, Some, None, List, [], ◌∷◌, length, drop, refl, ltb, arith, subst, get_or, ◌∙◌, ap, sym, eqb, cond}
 use Rattle.std.proofs.lemmas.Bool.Decides.{nat_tests}
 use Rattle.std.proofs.lemmas.List.Folds.{list_any_at}
 use Rattle.std.proofs.lemmas.List.FromFn.{get_or-range_with_len, length-range_with_len}
@@ -33,6 +33,13 @@ few a dora ura h = grind (arith, nat_tests)
 -- at most ten indicators
 pub ten_indicators : (win : WinParts) → IsWin win → sum win.dora + sum win.ura ≤ 10
 ten_indicators win h = few _ (sum win.dora) (sum win.ura) (is_clear win h).size
+
+thirteen : (held melds : ℕ) (b c : Bool) → (not (eqb (held + 3 * melds) 13) || b || c) ≡ false → melds ≤ 4
+thirteen held melds b c h = grind (arith, nat_tests)
+
+-- at most four melds
+pub four_melds : (win : WinParts) → IsWin win → length win.melds ≤ 4
+four_melds win h = thirteen (sum win.concealed) (length win.melds) (ltb 5 (sum win.dora)) (ltb 5 (sum win.ura)) (is_clear win h).size
 
 four : (b : Bool) (n : ℕ) → b ≡ ltb 4 n → (b ≡ true → true ≡ false) → n ≤ 4
 four true n e f = absurd (let c = f refl in cc)

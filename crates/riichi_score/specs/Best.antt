@@ -7,7 +7,7 @@ use Rattle.riichi_yaku.specs.YakuSets.{is_yakuman}
 use Rattle.riichi_score.specs.declared.score.Score.{Score}
 use Rattle.riichi_score.specs.declared.answer.WinAnswer.{WinAnswer}
 use Rattle.riichi_score.specs.declared.answer.WinAnswer.TheVariants.{Won, NoYaku, NoWin}
-use Rattle.riichi_score.specs.EveryReading.{readings_of}
+use Rattle.riichi_split.specs.ReadingsOf.{readings_of}
 use Rattle.riichi_score.specs.Scores.{score_of, hand_of, IsReadingOf}
 
 -- what scores are compared by, the first first: base points, a yakuman before a counted hand, han, fu, the set as a number

@@ -2,7 +2,6 @@ pub mod Base
 pub mod Dora
 pub mod Payment
 pub mod Fu
-pub mod EveryReading
 pub mod Scores
 pub mod Best
 pub mod Text

@@ -2,18 +2,10 @@
 use Rattle.std.specs.Prelude.{ℕ, ◌+◌, ◌*◌, ◌/◌, Bool, true, false, if◌then◌else◌}
 use Rattle.riichi_hand.specs.declared.win.By.{By}
 use Rattle.riichi_hand.specs.declared.win.By.TheVariants as by
-use Rattle.riichi_hand.specs.declared.win.Wind.{Wind}
-use Rattle.riichi_hand.specs.declared.win.Wind.TheVariants.{East, South, West, North}
 use Rattle.riichi_hand.specs.declared.win.WinParts.{WinParts}
+use Rattle.riichi_yaku.specs.Yakuman.{is_dealer}
 use Rattle.riichi_score.specs.declared.payers.Payment.{Payment}
 use Rattle.riichi_score.specs.declared.payers.Payment.TheVariants.{Ron, Tsumo, DealerTsumo}
-
--- East is the dealer
-abbrev pub is_dealer : Wind → Bool
-is_dealer East = true
-is_dealer South = false
-is_dealer West = false
-is_dealer North = false
 
 -- rounded up to the next hundred
 abbrev pub up : ℕ → ℕ

@@ -1,4 +1,12 @@
-//! The score of a winning hand.
+//! What a win is worth: `best` gives the `WinAnswer` of a `WinRecord`, and `win_text` writes it on one line.
+//!
+//! A `Score` is that of one reading of the hand: its han (`han`, with the `dora`) and its `fu` give the
+//! `base_points`, these what each player pays (`payment`, a `Payment`), and that the winner's `gain`.
+//! The yaku are those of riichi_yaku, whose `yaku` and `YakuSet` stand here again. `best` is the greatest
+//! score among the readings that have a yaku.
+//!
+//! Of 234m567m345p67s99s won by ron with 5s, `win_text(&best(&win))` says
+//! `won 1 han 30 fu 1000 gain 1000 pinfu`.
 #![tactic(auto)]
 
 mod answer;
@@ -8,6 +16,8 @@ mod payers;
 mod points;
 mod score;
 mod settlement;
+#[cfg(test)]
+mod tests;
 mod text;
 
 pub use answer::{WinAnswer, best};

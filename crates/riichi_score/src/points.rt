@@ -1,13 +1,12 @@
 //! The fu of a reading.
 ghost use Rattle.std.specs.Prelude.{◌≡◌, ◌≤◌, length};
 ghost use Rattle.std.specs.List.{sum_by};
-ghost use Rattle.riichi_hand.specs.Win.{is_ron};
 ghost use Rattle.riichi_score.specs.Fu as spec;
 
-use riichi_hand::{By, WinRecord};
+use riichi_hand::WinRecord;
 use riichi_split::Reading;
 use riichi_tiles::{Block, Kind};
-use riichi_yaku::{HandBlock, blocks_of, is_orphan, is_pinfu, pair_fu, wait_fu};
+use riichi_yaku::{HandBlock, blocks_of, is_orphan, is_pinfu, is_ron, pair_fu, wait_fu};
 
 /// The fu of a reading of the win. That of a standard reading is rounded up to the next ten.
 #[tactic(auto, unfolding(crate::specs::Fu::fu_of))]
@@ -42,20 +41,11 @@ fn standard_fu(blocks: &[HandBlock], reading: &Reading, done: &Block, win: &WinR
     up_to_ten(sum + open_fu(win, sum))
 }
 
-fn is_ron(win: &WinRecord) -> bool
-    ensures { result ≡ is_ron win.now.by }
-{
-    match win.by() {
-        By::Ron => true,
-        By::Tsumo => false,
-    }
-}
-
 fn ron_fu(win: &WinRecord) -> u8
     ensures value { result ≡ spec.ron_fu win.now }
     ensures most { result ≤ 10 }
 {
-    if win.melds().concealed() && is_ron(win) {
+    if win.melds().concealed() && is_ron(win.by()) {
         10
     } else {
         0
@@ -66,7 +56,7 @@ fn draw_fu(pinfu: bool, win: &WinRecord) -> u8
     ensures value { result ≡ spec.draw_fu pinfu win.now }
     ensures most { result ≤ 2 }
 {
-    if is_ron(win) || pinfu { 0 } else { 2 }
+    if is_ron(win.by()) || pinfu { 0 } else { 2 }
 }
 
 fn blocks_fu(blocks: &[HandBlock], win: &WinRecord) -> u8
@@ -105,7 +95,7 @@ fn open_fu(win: &WinRecord, sum: u8) -> u8
     ensures value { result ≡ spec.open_fu win.now sum }
     ensures most { result ≤ 10 }
 {
-    if !win.melds().concealed() && is_ron(win) && sum == 20 {
+    if !win.melds().concealed() && is_ron(win.by()) && sum == 20 {
         10
     } else {
         0

@@ -3,7 +3,8 @@ ghost use Rattle.std.specs.Prelude.{◌≡◌, ◌+◌, ◌≤◌};
 ghost use Rattle.riichi_score.specs.Payment as spec;
 
 use crate::payers::Payment;
-use riichi_hand::{By, WinRecord, Wind};
+use riichi_hand::{By, WinRecord};
+use riichi_yaku::is_dealer;
 
 /// What is paid for a win of so many base points: East is the dealer, and each counter adds 300 points in all.
 pub fn payment(base: u32, win: &WinRecord) -> Payment
@@ -43,15 +44,6 @@ fn by_tsumo(base: u32, dealer: bool, counters: u8) -> Payment
             other: up(base) + counters,
             dealer: double,
         }
-    }
-}
-
-fn is_dealer(seat: Wind) -> bool
-    ensures { result ≡ spec.is_dealer seat }
-{
-    match seat {
-        Wind::East => true,
-        Wind::South | Wind::West | Wind::North => false,
     }
 }
 

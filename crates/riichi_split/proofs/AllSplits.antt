@@ -121,22 +121,22 @@ in-from_choices c wanted p (suc n) x s l e q =
       | inr u ↦ in-right s (split_of p (sets_beside c wanted p n)) (from_choices c wanted p n) (in-from_choices c wanted p n x s (omega arith) e q)
     ]
 
-from_pairs-inv : (c : List ℕ) (wanted m n : ℕ) (s : Split) → IsIn s (from_pairs c wanted m n) → (s.pair < n) × ((x : ℕ) × (x < m) × (sets_beside c wanted s.pair x ≡ Some s.sets))
+from_pairs-inv : (c : List ℕ) (wanted m first n : ℕ) (s : Split) → IsIn s (from_pairs c wanted m first n) → (s.pair < first + n) × ((x : ℕ) × (x < m) × (sets_beside c wanted s.pair x ≡ Some s.sets))
 unfolding from_pairs
-from_pairs-inv c wanted m zero s h = absurd h
-from_pairs-inv c wanted m (suc n) s h =
-    elim (in-cases s (from_choices c wanted n m) (from_pairs c wanted m n) h) [
-      | inl a ↦ let i = from_choices-inv c wanted n m s a in (omega (arith, i.0), (i.1.0, i.1.1, ap (λ z. sets_beside c wanted z i.1.0) (sym i.0) ∙ i.1.2))
-      | inr b ↦ let i = from_pairs-inv c wanted m n s b in (omega (arith, i.0), i.1)
+from_pairs-inv c wanted m first zero s h = absurd h
+from_pairs-inv c wanted m first (suc n) s h =
+    elim (in-cases s (from_choices c wanted (first + n) m) (from_pairs c wanted m first n) h) [
+      | inl a ↦ let i = from_choices-inv c wanted (first + n) m s a in (omega (arith, i.0), (i.1.0, i.1.1, ap (λ z. sets_beside c wanted z i.1.0) (sym i.0) ∙ i.1.2))
+      | inr b ↦ let i = from_pairs-inv c wanted m first n s b in (omega (arith, i.0), i.1)
     ]
 
-in-from_pairs : (c : List ℕ) (wanted m n x : ℕ) (s : Split) → s.pair < n → x < m → sets_beside c wanted s.pair x ≡ Some s.sets → IsIn s (from_pairs c wanted m n)
+in-from_pairs : (c : List ℕ) (wanted m first n x : ℕ) (s : Split) → first ≤ s.pair → s.pair < first + n → x < m → sets_beside c wanted s.pair x ≡ Some s.sets → IsIn s (from_pairs c wanted m first n)
 unfolding from_pairs
-in-from_pairs c wanted m zero x s l h e = absurd (omega arith)
-in-from_pairs c wanted m (suc n) x s l h e =
-    elim (cases_eq n s.pair) [
-      | inl i ↦ in-left s (from_choices c wanted n m) (from_pairs c wanted m n) (in-from_choices c wanted n m x s h (ap (λ z. sets_beside c wanted z x) i ∙ e) i)
-      | inr u ↦ in-right s (from_choices c wanted n m) (from_pairs c wanted m n) (in-from_pairs c wanted m n x s (omega arith) h e)
+in-from_pairs c wanted m first zero x s k l h e = absurd (omega arith)
+in-from_pairs c wanted m first (suc n) x s k l h e =
+    elim (cases_eq (first + n) s.pair) [
+      | inl i ↦ in-left s (from_choices c wanted (first + n) m) (from_pairs c wanted m first n) (in-from_choices c wanted (first + n) m x s h (ap (λ z. sets_beside c wanted z x) i ∙ e) i)
+      | inr u ↦ in-right s (from_choices c wanted (first + n) m) (from_pairs c wanted m first n) (in-from_pairs c wanted m first n x s k (omega arith) h e)
     ]
 
 -- two choices that leave one split are one
@@ -157,25 +157,29 @@ Differ-from_choices c wanted p (suc n) =
     let e = same-number c wanted p n j.1.0 s.sets i.0 j.1.2 in
     absurd (omega (arith, e, j.1.1)))
 
-Differ-from_pairs : (c : List ℕ) (wanted m n : ℕ) → Differ (from_pairs c wanted m n)
+Differ-from_pairs : (c : List ℕ) (wanted m first n : ℕ) → Differ (from_pairs c wanted m first n)
 unfolding from_pairs
-Differ-from_pairs c wanted m zero = tt
-Differ-from_pairs c wanted m (suc n) =
-    Differ-append (from_choices c wanted n m) (from_pairs c wanted m n) (Differ-from_choices c wanted n m) (Differ-from_pairs c wanted m n)
+Differ-from_pairs c wanted m first zero = tt
+Differ-from_pairs c wanted m first (suc n) =
+    Differ-append (from_choices c wanted (first + n) m) (from_pairs c wanted m first n) (Differ-from_choices c wanted (first + n) m) (Differ-from_pairs c wanted m first n)
     (λ s a b.
-    let i = from_choices-inv c wanted n m s a in
-    let j = from_pairs-inv c wanted m n s b in
+    let i = from_choices-inv c wanted (first + n) m s a in
+    let j = from_pairs-inv c wanted m first n s b in
     absurd (omega (arith, i.0, j.0)))
 
 no_choices : (c : List ℕ) (wanted p : ℕ) (splits : List Split) → from_choices c wanted p 0 ++ splits ≡ splits
 unfolding from_choices
 no_choices c wanted p splits = refl
 
-pub the_splits : (c : List ℕ) (wanted melds p : ℕ) → IsCounts c → wanted + melds ≡ 4 → AreTheSplits c melds (from_choices c wanted p 0 ++ from_pairs c wanted (2 ^ min 4 (threes c)) 34)
-the_splits c wanted melds p counts w =
-    let all = from_pairs c wanted (2 ^ min 4 (threes c)) 34 in
+-- the pair of each split is one of these kinds
+abbrev pub HasPairsAmong : List ℕ → ℕ → ℕ → Type 0
+HasPairsAmong c first kinds = (melds : ℕ) (sets : List Block) (pair : ℕ) → IsSplit c melds sets pair → (first ≤ pair) × (pair < first + kinds)
+
+pub the_splits : (c : List ℕ) (wanted melds p first kinds : ℕ) → IsCounts c → wanted + melds ≡ 4 → first + kinds ≤ 34 → HasPairsAmong c first kinds → AreTheSplits c melds (from_choices c wanted p 0 ++ from_pairs c wanted (2 ^ min 4 (threes c)) first kinds)
+the_splits c wanted melds p first kinds counts w l among =
+    let all = from_pairs c wanted (2 ^ min 4 (threes c)) first kinds in
     rw (no_choices c wanted p all) (record {
-      sound = All-in (λ s. IsSplit c melds s.sets s.pair) all (λ s h. let i = from_pairs-inv c wanted (2 ^ min 4 (threes c)) 34 s h in IsSplit-from c wanted melds s.pair i.1.0 s.sets counts w i.0 i.1.2);
-      complete = λ s h. let i = choice-from c wanted melds s.pair s.sets counts w h in Contains-in s all (in-from_pairs c wanted (2 ^ min 4 (threes c)) 34 i.0 s h.pair_is_kind i.1 i.2);
-      once = AllPairs-differ all (Differ-from_pairs c wanted (2 ^ min 4 (threes c)) 34);
+      sound = All-in (λ s. IsSplit c melds s.sets s.pair) all (λ s h. let i = from_pairs-inv c wanted (2 ^ min 4 (threes c)) first kinds s h in IsSplit-from c wanted melds s.pair i.1.0 s.sets counts w (omega (arith, i.0)) i.1.2);
+      complete = λ s h. let i = choice-from c wanted melds s.pair s.sets counts w h in let q = among melds s.sets s.pair h in Contains-in s all (in-from_pairs c wanted (2 ^ min 4 (threes c)) first kinds i.0 s q.0 q.1 i.1 i.2);
+      once = AllPairs-differ all (Differ-from_pairs c wanted (2 ^ min 4 (threes c)) first kinds);
     })

@@ -1,4 +1,5 @@
 pub mod Placed
+pub mod Suits
 pub mod Lists
 pub mod Cuts
 pub mod Sound
@@ -13,3 +14,4 @@ pub mod Collections
 pub mod EveryReading
 pub mod AnyTile
 pub mod Marks
+pub mod Orders

@@ -1,5 +1,5 @@
 -- One step along the choices, and along the pairs.
-use Rattle.std.proofs.Common.{is_some, MatchOption, ◌≡◌, ℕ, suc, ◌-◌, ◌<◌, Bool, true, false, cond, Option, Some, None, List, [], ◌∷◌, ◌++◌, get_or, slice_set, refl, sym, ap, ◌∙◌, arith, ltb, zero}
+use Rattle.std.proofs.Common.{◌+◌, is_some, MatchOption, ◌≡◌, ℕ, suc, ◌-◌, ◌<◌, Bool, true, false, cond, Option, Some, None, List, [], ◌∷◌, ◌++◌, get_or, slice_set, refl, sym, ap, ◌∙◌, arith, ltb, zero}
 use Rattle.std.proofs.lemmas.Bool.Decides.{nat_tests}
 use Rattle.riichi_tiles.specs.declared.block.Block.{Block}
 use Rattle.riichi_split.specs.Cuts.{sets_beside, split_of, from_choices, from_pairs, cut_from}
@@ -15,16 +15,16 @@ pub from_choices-none : (c : List ℕ) (wanted p n : ℕ) → n ≡ 0 → from_c
 unfolding from_choices
 from_choices-none c wanted p n e = ap (from_choices c wanted p) e
 
-pairs-suc : (c : List ℕ) (wanted m x n : ℕ) → n ≡ suc x → from_pairs c wanted m n ≡ from_choices c wanted x m ++ from_pairs c wanted m x
+pairs-suc : (c : List ℕ) (wanted m first x n : ℕ) → n ≡ suc x → from_pairs c wanted m first n ≡ from_choices c wanted (first + x) m ++ from_pairs c wanted m first x
 unfolding from_pairs
-pairs-suc c wanted m x n e = ap (from_pairs c wanted m) e
+pairs-suc c wanted m first x n e = ap (from_pairs c wanted m first) e
 
-pub from_pairs-step : (c : List ℕ) (wanted m n : ℕ) → 0 < n → from_pairs c wanted m n ≡ from_choices c wanted (n - 1) m ++ from_pairs c wanted m (n - 1)
-from_pairs-step c wanted m n l = pairs-suc c wanted m (n - 1) n (omega arith)
+pub from_pairs-step : (c : List ℕ) (wanted m first n : ℕ) → 0 < n → from_pairs c wanted m first n ≡ from_choices c wanted (first + (n - 1)) m ++ from_pairs c wanted m first (n - 1)
+from_pairs-step c wanted m first n l = pairs-suc c wanted m first (n - 1) n (omega arith)
 
-pub from_pairs-none : (c : List ℕ) (wanted m n : ℕ) → n ≡ 0 → from_pairs c wanted m n ≡ []
+pub from_pairs-none : (c : List ℕ) (wanted m first n : ℕ) → n ≡ 0 → from_pairs c wanted m first n ≡ []
 unfolding from_pairs
-from_pairs-none c wanted m n e = ap (from_pairs c wanted m) e
+from_pairs-none c wanted m first n e = ap (from_pairs c wanted m first) e
 
 beside-none : (b : Bool) (p : ℕ) (o : Option (List Block)) → b ≡ true → split_of p (cond b None o) ≡ []
 beside-none true p o e = refl
@@ -46,5 +46,5 @@ pub sets-passed : (c : List ℕ) (wanted p n m : ℕ) (o : Option (List Block)) 
 sets-passed c wanted p n m None l e s h = sym (from_choices-step c wanted p n None l e) ∙ h
 sets-passed c wanted p n m (Some sets) l e s h = absurd (cc)
 
-pub splits-ended : (c : List ℕ) (wanted p m a b : ℕ) → from_choices c wanted p a ≡ [] → from_pairs c wanted m b ≡ [] → from_choices c wanted p a ++ from_pairs c wanted m b ≡ []
-splits-ended c wanted p m a b e f = ap (λ z. z ++ from_pairs c wanted m b) e ∙ f
+pub splits-ended : (c : List ℕ) (wanted p m a first b : ℕ) → from_choices c wanted p a ≡ [] → from_pairs c wanted m first b ≡ [] → from_choices c wanted p a ++ from_pairs c wanted m first b ≡ []
+splits-ended c wanted p m a first b e f = ap (λ z. z ++ from_pairs c wanted m first b) e ∙ f

@@ -53,22 +53,27 @@ unfoldable pub from_choices : List ℕ → ℕ → ℕ → ℕ → List Split
 from_choices counts wanted pair zero = []
 from_choices counts wanted pair (suc choices) = split_of pair (sets_beside counts wanted pair choices) ++ from_choices counts wanted pair choices
 
--- the splits with the pairs below a number
-unfoldable pub from_pairs : List ℕ → ℕ → ℕ → ℕ → List Split
-from_pairs counts wanted choices zero = []
-from_pairs counts wanted choices (suc pair) = from_choices counts wanted pair choices ++ from_pairs counts wanted choices pair
+-- the splits with a pair of one of so many kinds, from a kind on
+unfoldable pub from_pairs : List ℕ → ℕ → ℕ → ℕ → ℕ → List Split
+from_pairs counts wanted choices first zero = []
+from_pairs counts wanted choices first (suc more) = from_choices counts wanted (first + more) choices ++ from_pairs counts wanted choices first more
+
+-- the tiles of so many kinds, from a kind on
+unfoldable pub suit_total : (ℕ → ℕ) → ℕ → ℕ → ℕ
+suit_total copies first zero = 0
+suit_total copies first (suc kinds) = suit_total copies first kinds + copies (first + kinds)
 
 -- how many kinds have three tiles or more
 abbrev pub threes : List ℕ → ℕ
 threes counts = count_by (λ n. nat_le 3 n) counts
 
 -- what the fields of `Splits` keep
-pub record IsReady (counts : List ℕ) (wanted choices choices_left pairs_left : ℕ) : Type 0 where
+pub record IsReady (counts : List ℕ) (wanted choices choices_left first pairs_left : ℕ) : Type 0 where
   pub each_kind : length counts ≡ 34
   pub at_most_four : wanted ≤ 4
   pub choices_few : choices ≤ 16
   pub left_few : choices_left ≤ 16
-  pub pairs_few : pairs_left ≤ 34
+  pub pairs_few : first + pairs_left ≤ 34
 
 -- the list has each split once, and nothing else
 pub record AreTheSplits (counts : List ℕ) (melds : ℕ) (splits : List Split) : Type 0 where

@@ -3,12 +3,16 @@
 
 mod cutting;
 mod done;
+pub mod laws;
 mod reading;
 mod readings;
 mod sets;
 mod special;
 mod split;
 mod splits;
+mod suit;
+#[cfg(test)]
+mod tests;
 mod waiting;
 mod winning;
 

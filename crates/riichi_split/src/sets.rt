@@ -40,7 +40,7 @@ impl Sets {
         ensures value { result ≡ length self.now }
         ensures at_most_four { result ≤ 4 }
     {
-        self.count
+        self.as_slice().len()
     }
 
     pub fn is_empty(&self) -> bool

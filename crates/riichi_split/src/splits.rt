@@ -1,10 +1,11 @@
-ghost use Rattle.std.specs.Prelude.{◌≡◌, ℕ, ◌-◌, ◌/◌, ◌<◌, ◌≤◌, ◌^◌, min, MatchOption, [], ◌∷◌, ◌++◌, length};
+ghost use Rattle.std.specs.Prelude.{◌≡◌, ℕ, ◌+◌, ◌<◌, ◌≤◌, ◌^◌, min, MatchOption, [], ◌∷◌, ◌++◌, length};
 ghost use Rattle.std.specs.Iterator.{YieldsFirst, item_count};
 ghost use Rattle.riichi_split.specs.Cuts.{sets_beside, from_choices, from_pairs, threes};
 
 use crate::cutting::cut;
 use crate::sets::Sets;
 use crate::split::Split;
+use crate::suit::suit_of_pair;
 use riichi_tiles::{Counts, Kind};
 use std::iter::FusedIterator;
 use std::marker::Model;
@@ -19,7 +20,8 @@ pub(crate) struct Splits {
     // The choices below `choices_left` are still to be tried with this pair.
     pair: Kind,
     choices_left: usize,
-    // The pairs of a kind below this number are still to be tried.
+    // The pairs of so many kinds, from the first kind of their suit on, are still to be tried.
+    first: usize,
     pairs_left: usize,
 }
 
@@ -34,7 +36,7 @@ impl Model for Splits {
 
     ghost view = { splits_left };
 
-    ghost invariant = { λ s. IsReady s.counts s.wanted s.choices s.choices_left s.pairs_left };
+    ghost invariant = { λ s. IsReady s.counts s.wanted s.choices s.choices_left s.first s.pairs_left };
 }
 
 impl Splits {
@@ -46,13 +48,15 @@ impl Splits {
         ensures { AreTheSplits counts.now melds result }
     {
         let counts = counts.to_array();
+        let suit = suit_of_pair(&counts);
         Splits {
             counts,
             wanted: 4 - melds,
             choices: choices_of(&counts),
             pair: Kind::at(0),
             choices_left: 0,
-            pairs_left: 34,
+            first: suit.first,
+            pairs_left: suit.kinds,
         }
     }
 }
@@ -73,7 +77,7 @@ impl Iterator for Splits {
                     pair: self.pair,
                 });
             }
-            self.pair = next_pair(&self.counts, &mut self.pairs_left)?;
+            self.pair = next_pair(&self.counts, self.first, &mut self.pairs_left)?;
             self.choices_left = self.choices;
         }
     }
@@ -127,19 +131,19 @@ fn next_sets(
     None
 }
 
-/// The next kind below a number that has a pair.
-fn next_pair(counts: &[u8; 34], pairs: &mut usize) -> Option<Kind>
-    requires { pairs.old ≤ 34 }
-    ensures fewer { MatchOption result (pairs.new ≡ 0) (λ _. pairs.new < pairs.old) }
+/// The next kind with a pair, of so many kinds from the first on.
+fn next_pair(counts: &[u8; 34], first: usize, kinds: &mut usize) -> Option<Kind>
+    requires { first + kinds.old ≤ 34 }
+    ensures fewer { MatchOption result (kinds.new ≡ 0) (λ _. kinds.new < kinds.old) }
     ensures splits { (wanted choices : ℕ) → MatchOption result
-        (from_pairs counts.now wanted choices pairs.old ≡ [])
-        (λ pair. from_pairs counts.now wanted choices pairs.old
-        ≡ from_choices counts.now wanted pair choices ++ from_pairs counts.now wanted choices pairs.new) }
+        (from_pairs counts.now wanted choices first kinds.old ≡ [])
+        (λ pair. from_pairs counts.now wanted choices first kinds.old
+        ≡ from_choices counts.now wanted pair choices ++ from_pairs counts.now wanted choices first kinds.new) }
 {
-    while *pairs > 0 {
-        *pairs -= 1;
-        if counts[*pairs] >= 2 {
-            return Some(Kind::at(*pairs as u8));
+    while *kinds > 0 {
+        *kinds -= 1;
+        if counts[first + *kinds] >= 2 {
+            return Some(Kind::at((first + *kinds) as u8));
         }
     }
     None

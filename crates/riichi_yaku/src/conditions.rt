@@ -9,6 +9,7 @@ use crate::outside::{Outside, outside_of};
 use crate::runs::{Runs, runs_of};
 use crate::tiles::{Tiles, tiles_of};
 use crate::triplets::{Triplets, triplets_of};
+use crate::yaku_set::FIRST_YAKUMAN;
 use crate::yakuman::{Yakuman, yakuman_of};
 use crate::{YakuSet, all_tiles, blocks_of};
 use riichi_hand::WinRecord;
@@ -44,7 +45,7 @@ fn yakuman_alone(ordinary: u64, yakuman: u64) -> u64
     if yakuman == 0 {
         ordinary
     } else {
-        536_870_912 * yakuman
+        FIRST_YAKUMAN * yakuman
     }
 }
 

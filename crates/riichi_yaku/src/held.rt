@@ -1,26 +1,29 @@
 //! Every tile of a win.
-ghost use Rattle.std.specs.Prelude.{◌≡◌, ◌≤◌};
-ghost use Rattle.riichi_hand.specs.Win.{copies_held};
+ghost use Rattle.std.specs.Prelude.{◌≡◌, ◌+◌, ◌<◌, ◌≤◌, ℕ, nat_eq, slice_index, if◌then◌else◌};
+ghost use Rattle.riichi_tiles.specs.Melds.{tiles};
 ghost use Rattle.riichi_yaku.specs.Held as spec;
 
 use riichi_hand::WinRecord;
-use riichi_tiles::Kind;
+use riichi_tiles::{Kind, Melds};
 
 /// How many of each kind are among the concealed tiles, the winning tile and the melds.
 pub fn all_tiles(win: &WinRecord) -> [u8; 34]
     ensures { result ≡ spec.all_tiles win.now }
 {
-    let mut tiles = [0; 34];
-    for number in 0..34 {
-        tiles[number as usize] = copies_held(win, Kind::at(number));
+    let mut tiles = win.concealed().to_array();
+    tiles[win.winning().index()] += 1;
+    let melds = win.melds();
+    if melds.count() > 0 {
+        add_melds(&mut tiles, &melds);
     }
     tiles
 }
 
-fn copies_held(win: &WinRecord, kind: Kind) -> u8
-    ensures value { result ≡ copies_held win.now kind }
-    ensures most { result ≤ 21 }
+fn add_melds(held: &mut [u8; 34], melds: &Melds)
+    requires { (kind : ℕ) → slice_index held.old kind ≤ 5 }
+    ensures { (kind : ℕ) → kind < 34 → slice_index held.new kind ≡ slice_index held.old kind + tiles melds.now kind }
 {
-    let winning = if win.winning() == kind { 1 } else { 0 };
-    win.concealed().get(kind) + win.melds().tiles(kind) + winning
+    for number in 0..34 {
+        held[number as usize] += melds.tiles(Kind::at(number));
+    }
 }

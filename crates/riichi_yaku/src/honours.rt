@@ -5,7 +5,7 @@ ghost use Rattle.riichi_yaku.specs.Kinds.{dragons, winds};
 
 use crate::HandBlock;
 use crate::blocks::{has_pair, has_triplet};
-use crate::kinds::{GREEN, RED, WHITE};
+use crate::kinds::{EAST, GREEN, KINDS, RED, WHITE};
 use riichi_hand::WinRecord;
 use riichi_tiles::Kind;
 
@@ -53,38 +53,38 @@ fn is_prevalent_wind(blocks: &[HandBlock], win: &WinRecord) -> bool
 pub(crate) fn has_dragon_triplets(blocks: &[HandBlock]) -> bool
     ensures { result ≡ spec.has_triplets blocks.now dragons }
 {
-    (31..34).all(|kind| has_triplet(blocks, kind))
+    (WHITE..KINDS).all(|kind| has_triplet(blocks, kind))
 }
 
 pub(crate) fn has_wind_triplets(blocks: &[HandBlock]) -> bool
     ensures { result ≡ spec.has_triplets blocks.now winds }
 {
-    (27..31).all(|kind| has_triplet(blocks, kind))
+    (EAST..WHITE).all(|kind| has_triplet(blocks, kind))
 }
 
 fn has_other_dragon_triplets(blocks: &[HandBlock], last: usize) -> bool
     ensures { result ≡ spec.has_other_triplets blocks.now dragons last }
 {
-    (31..34).all(|kind| kind == last || has_triplet(blocks, kind))
+    (WHITE..KINDS).all(|kind| kind == last || has_triplet(blocks, kind))
 }
 
 fn has_other_wind_triplets(blocks: &[HandBlock], last: usize) -> bool
     ensures { result ≡ spec.has_other_triplets blocks.now winds last }
 {
-    (27..31).all(|kind| kind == last || has_triplet(blocks, kind))
+    (EAST..WHITE).all(|kind| kind == last || has_triplet(blocks, kind))
 }
 
 fn is_little_three_dragons(blocks: &[HandBlock]) -> bool
     ensures { result ≡ spec.is_little_three_dragons blocks.now }
 {
-    (31..34).any(|last| has_pair(blocks, last) && has_other_dragon_triplets(blocks, last))
+    (WHITE..KINDS).any(|last| has_pair(blocks, last) && has_other_dragon_triplets(blocks, last))
 }
 
 /// Triplets of three winds, and a pair of the fourth.
 pub(crate) fn has_wind_triplets_and_pair(blocks: &[HandBlock]) -> bool
     ensures { result ≡ spec.has_triplets_and_pair blocks.now winds }
 {
-    (27..31).any(|last| has_pair(blocks, last) && has_other_wind_triplets(blocks, last))
+    (EAST..WHITE).any(|last| has_pair(blocks, last) && has_other_wind_triplets(blocks, last))
 }
 
 pub(crate) fn honours_of(blocks: &[HandBlock], win: &WinRecord) -> Honours

@@ -2,6 +2,13 @@
 ghost use Rattle.std.specs.Prelude.{◌≡◌};
 ghost use Rattle.riichi_yaku.specs.Kinds as spec;
 
+/// How many kinds there are.
+pub(crate) const KINDS: usize = 34;
+
+/// The first of the winds: East, South, West, North.
+pub(crate) const EAST: usize = 27;
+
+// The dragons.
 pub(crate) const WHITE: usize = 31;
 
 pub(crate) const GREEN: usize = 32;
@@ -12,14 +19,14 @@ pub(crate) const RED: usize = 33;
 pub(crate) fn is_honour(kind: usize) -> bool
     ensures { result ≡ spec.is_honour kind }
 {
-    kind >= 27
+    kind >= EAST
 }
 
 /// A 1 or a 9 of a suit.
 pub(crate) fn is_terminal(kind: usize) -> bool
     ensures { result ≡ spec.is_terminal kind }
 {
-    kind < 27 && (kind % 9 == 0 || kind % 9 == 8)
+    kind < EAST && (kind % 9 == 0 || kind % 9 == 8)
 }
 
 /// A terminal or an honour.

@@ -18,6 +18,8 @@ mod luck;
 mod outside;
 mod runs;
 mod table;
+#[cfg(test)]
+mod tests;
 mod tiles;
 mod triplets;
 mod waits;

@@ -5,7 +5,7 @@ ghost use Rattle.riichi_yaku.specs.Kinds as kinds;
 ghost use Rattle.riichi_yaku.specs.Tiles as spec;
 
 use crate::blocks::{is_orphans, is_seven_pairs};
-use crate::kinds::{is_honour, is_of_suit, is_orphan, is_simple};
+use crate::kinds::{EAST, KINDS, is_honour, is_of_suit, is_orphan, is_simple};
 use riichi_split::Reading;
 
 /// Which yaku of every tile hold.
@@ -21,7 +21,7 @@ pub(crate) struct Tiles {
 fn are_simples(tiles: &[u8; 34]) -> bool
     ensures { result ≡ words.every kinds.is_simple tiles.now }
 {
-    (0..34).all(|kind| is_simple(kind) || tiles[kind] == 0)
+    (0..KINDS).all(|kind| is_simple(kind) || tiles[kind] == 0)
 }
 
 fn is_all_simples(reading: &Reading, tiles: &[u8; 34]) -> bool
@@ -33,7 +33,7 @@ fn is_all_simples(reading: &Reading, tiles: &[u8; 34]) -> bool
 fn are_orphans(tiles: &[u8; 34]) -> bool
     ensures { result ≡ words.every kinds.is_orphan tiles.now }
 {
-    (0..34).all(|kind| is_orphan(kind) || tiles[kind] == 0)
+    (0..KINDS).all(|kind| is_orphan(kind) || tiles[kind] == 0)
 }
 
 fn is_all_terminals_and_honours(reading: &Reading, tiles: &[u8; 34]) -> bool
@@ -45,13 +45,13 @@ fn is_all_terminals_and_honours(reading: &Reading, tiles: &[u8; 34]) -> bool
 fn are_of_suit_or_honours(tiles: &[u8; 34], suit: usize) -> bool
     ensures { result ≡ words.every (λ kind. kinds.is_of_suit suit kind || kinds.is_honour kind) tiles.now }
 {
-    (0..34).all(|kind| is_of_suit(suit, kind) || is_honour(kind) || tiles[kind] == 0)
+    (0..KINDS).all(|kind| is_of_suit(suit, kind) || is_honour(kind) || tiles[kind] == 0)
 }
 
 fn has_suit(tiles: &[u8; 34], suit: usize) -> bool
     ensures { result ≡ words.some (kinds.is_of_suit suit) tiles.now }
 {
-    (0..34).any(|kind| is_of_suit(suit, kind) && tiles[kind] > 0)
+    (0..KINDS).any(|kind| is_of_suit(suit, kind) && tiles[kind] > 0)
 }
 
 fn has_suit_alone(tiles: &[u8; 34], suit: usize) -> bool
@@ -69,7 +69,7 @@ fn has_one_suit(tiles: &[u8; 34]) -> bool
 fn has_honours(tiles: &[u8; 34]) -> bool
     ensures { result ≡ words.some kinds.is_honour tiles.now }
 {
-    (0..34).any(|kind| is_honour(kind) && tiles[kind] > 0)
+    (EAST..KINDS).any(|kind| tiles[kind] > 0)
 }
 
 fn is_half_flush(reading: &Reading, tiles: &[u8; 34]) -> bool
@@ -82,7 +82,7 @@ fn is_half_flush(reading: &Reading, tiles: &[u8; 34]) -> bool
 pub(crate) fn are_of_suit(tiles: &[u8; 34], suit: usize) -> bool
     ensures { result ≡ words.every (kinds.is_of_suit suit) tiles.now }
 {
-    (0..34).all(|kind| is_of_suit(suit, kind) || tiles[kind] == 0)
+    (0..KINDS).all(|kind| is_of_suit(suit, kind) || tiles[kind] == 0)
 }
 
 fn are_of_one_suit(tiles: &[u8; 34]) -> bool

@@ -4,6 +4,9 @@ ghost use Rattle.riichi_yaku.specs.YakuSets as spec;
 
 use std::marker::Model;
 
+/// The bit of the first yakuman, which has number 29.
+pub(crate) const FIRST_YAKUMAN: u64 = 1 << 29;
+
 /// A set of yaku, seen as the number whose bit n says that yaku number n is in it.
 #[derive(Clone, Copy, Debug, PartialEq, Eq)]
 pub struct YakuSet {
@@ -47,7 +50,7 @@ impl YakuSet {
     pub fn is_yakuman(self) -> bool
         ensures { result ≡ spec.is_yakuman self }
     {
-        self.bits >= 536_870_912
+        self.bits >= FIRST_YAKUMAN
     }
 
     /// The number itself.

@@ -8,7 +8,7 @@ ghost use Rattle.riichi_yaku.specs.Yakuman as spec;
 use crate::HandBlock;
 use crate::blocks::{concealed_triplets_among, is_orphans, is_standard, kongs_among};
 use crate::honours::{has_dragon_triplets, has_wind_triplets, has_wind_triplets_and_pair};
-use crate::kinds::{is_green_tile, is_honour, is_of_suit, is_terminal};
+use crate::kinds::{KINDS, is_green_tile, is_honour, is_of_suit, is_terminal};
 use crate::tiles::are_of_suit;
 use riichi_hand::{WinRecord, Wind};
 use riichi_split::Reading;
@@ -52,7 +52,7 @@ fn gate_copies(suit: usize, kind: usize) -> u8
 fn has_gates(tiles: &[u8; 34], suit: usize) -> bool
     ensures { result ≡ spec.has_gates tiles.now suit }
 {
-    (0..34).all(|kind| tiles[kind] >= gate_copies(suit, kind))
+    (0..KINDS).all(|kind| tiles[kind] >= gate_copies(suit, kind))
 }
 
 fn has_suit_with_gates(tiles: &[u8; 34], suit: usize) -> bool
@@ -106,7 +106,7 @@ fn is_big_four_winds(blocks: &[HandBlock]) -> bool
 fn are_honours(tiles: &[u8; 34]) -> bool
     ensures { result ≡ words.every kinds.is_honour tiles.now }
 {
-    (0..34).all(|kind| is_honour(kind) || tiles[kind] == 0)
+    (0..KINDS).all(|kind| is_honour(kind) || tiles[kind] == 0)
 }
 
 fn is_all_honours(reading: &Reading, tiles: &[u8; 34]) -> bool
@@ -118,7 +118,7 @@ fn is_all_honours(reading: &Reading, tiles: &[u8; 34]) -> bool
 fn are_terminals(tiles: &[u8; 34]) -> bool
     ensures { result ≡ words.every kinds.is_terminal tiles.now }
 {
-    (0..34).all(|kind| is_terminal(kind) || tiles[kind] == 0)
+    (0..KINDS).all(|kind| is_terminal(kind) || tiles[kind] == 0)
 }
 
 fn is_all_terminals(reading: &Reading, tiles: &[u8; 34]) -> bool
@@ -130,7 +130,7 @@ fn is_all_terminals(reading: &Reading, tiles: &[u8; 34]) -> bool
 fn are_green(tiles: &[u8; 34]) -> bool
     ensures { result ≡ words.every kinds.is_green_tile tiles.now }
 {
-    (0..34).all(|kind| is_green_tile(kind) || tiles[kind] == 0)
+    (0..KINDS).all(|kind| is_green_tile(kind) || tiles[kind] == 0)
 }
 
 fn is_all_green(reading: &Reading, tiles: &[u8; 34]) -> bool

@@ -2,9 +2,9 @@ use Rattle.std.proofs.Common.{◌≡◌, ℕ, ◌≤◌}
 use Rattle.riichi_split.specs.Cuts.{from_pairs}
 use Rattle.riichi_split.proofs.splits.next_pair.Given as goal
 
-abbrev pub invariant-loop-pairs : goal.invariant-loop-pairs
-invariant-loop-pairs l =
-    (l.pairs ≤ l.initial.pairs) × ((wanted choices : ℕ) → from_pairs l.counts wanted choices l.pairs ≡ from_pairs l.counts wanted choices l.initial.pairs)
+abbrev pub invariant-loop-kinds : goal.invariant-loop-kinds
+invariant-loop-kinds l =
+    (l.kinds ≤ l.initial.kinds) × ((wanted choices : ℕ) → from_pairs l.counts wanted choices l.first l.kinds ≡ from_pairs l.counts wanted choices l.first l.initial.kinds)
 
-abbrev pub decreases-loop-pairs : goal.decreases-loop-pairs
-decreases-loop-pairs l = l.pairs
+abbrev pub decreases-loop-kinds : goal.decreases-loop-kinds
+decreases-loop-kinds l = l.kinds

@@ -9,7 +9,7 @@ pub returns : goal.returns
 returns c =
     let four : 4 - c.args.melds + c.args.melds ≡ 4 = omega arith in
     let counts : IsCounts c.to_array-counts.result = rw c.to_array-counts.ensures.value c.to_array-counts.ensures.counts in
-    rw (← c.to_array-counts.ensures.value, c.choices_of.ensures) (the_splits c.to_array-counts.result (4 - c.args.melds) c.args.melds c.at.result counts four)
+    rw (← c.to_array-counts.ensures.value, c.choices_of.ensures) (the_splits c.to_array-counts.result (4 - c.args.melds) c.args.melds c.at.result c.suit_of_pair-suit.result.first c.suit_of_pair-suit.result.kinds counts four c.suit_of_pair-suit.ensures.within c.suit_of_pair-suit.ensures.pair)
 
 pub invariant_of-result : goal.invariant_of-result
 invariant_of-result c =
@@ -19,5 +19,5 @@ invariant_of-result c =
       at_most_four = omega arith;
       choices_few = omega (arith, c.choices_of.ensures, few);
       left_few = omega arith;
-      pairs_few = omega arith;
+      pairs_few = c.suit_of_pair-suit.ensures.within;
     }

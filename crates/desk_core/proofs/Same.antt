@@ -1,0 +1,148 @@
+-- Two jobs are one where `==` says so: the derived test of each record is that of its fields.
+use Rattle.std.proofs.Common.{◌≡◌, ℕ, Bool, true, false, List, refl, ap, rules}
+use Rattle.std.specs.Prelude.{◌&&◌, nat_eq}
+use Rattle.std.specs.Bool.{Decides, beq}
+use Rattle.std.specs.Cmp.{unsigned_Decides, booleans_Decides}
+use Rattle.std.proofs.lemmas.Slice.Eq.{slice_eq-Decides}
+use Rattle.riichi_tiles.specs.declared.meld.Meld.{Meld}
+use Rattle.riichi_hand.specs.declared.win.Flags.{Flags}
+use Rattle.riichi_hand.specs.declared.win.Wind.{Wind}
+use Rattle.riichi_hand.specs.declared.win.By.{By}
+use Rattle.riichi_hand.specs.declared.win.Rules.{Rules}
+use Rattle.riichi_hand.specs.declared.win.WinParts.{WinParts}
+use Rattle.riichi_hand.specs.declared.job.Job.{Job}
+use Rattle.riichi_hand.specs.declared.job.Job.TheVariants as kind
+use Rattle.riichi_hand.specs.HandParts.{HandParts, ShapeParts}
+use Rattle.riichi_tiles.specs.contracts.meld.MeldPartialEq.TheImpl.{ghosts as meld}
+use Rattle.riichi_tiles.specs.contracts.melds.MeldsPartialEq.TheImpl.{ghosts as melds}
+use Rattle.riichi_tiles.specs.contracts.counts.CountsPartialEq.TheImpl.{ghosts as counts}
+use Rattle.riichi_tiles.specs.contracts.reds.RedsPartialEq.TheImpl.{ghosts as reds}
+use Rattle.riichi_hand.specs.contracts.win.FlagsPartialEq.TheImpl.{ghosts as flags}
+use Rattle.riichi_hand.specs.contracts.win.WindPartialEq.TheImpl.{ghosts as wind}
+use Rattle.riichi_hand.specs.contracts.win.ByPartialEq.TheImpl.{ghosts as by}
+use Rattle.riichi_hand.specs.contracts.win.RulesPartialEq.TheImpl.{ghosts as rules_are}
+use Rattle.riichi_hand.specs.contracts.hand.HandRecordPartialEq.TheImpl.{ghosts as hand}
+use Rattle.riichi_hand.specs.contracts.shape.ShapeRecordPartialEq.TheImpl.{ghosts as shape}
+use Rattle.riichi_hand.specs.contracts.win.WinPartsPartialEq.TheImpl.{ghosts as parts}
+use Rattle.riichi_hand.specs.contracts.job.JobPartialEq.TheImpl.{ghosts as job}
+use Rattle.riichi_hand.specs.contracts.job.JobEq.TheImpl.Laws.{laws-law as job_equiv}
+
+and_true : (a b : Bool) → (a && b) ≡ true → (a ≡ true) × (b ≡ true)
+and_true true b h = (refl, h)
+and_true false b h = cc
+
+same_bools : (a b : Bool) → beq a b ≡ true → a ≡ b
+same_bools a b h = (booleans_Decides a b).0 h
+
+same_meld : (a b : Meld) → Decides (meld.eq a b) (a ≡ b)
+same_meld a b = search rules
+
+same_melds : (a b : List Meld) → Decides (melds.eq a b) (a ≡ b)
+same_melds a b = slice_eq-Decides same_meld a b (melds.eq a b) refl
+
+same_counts : (a b : List ℕ) → counts.eq a b ≡ true → a ≡ b
+same_counts a b h = search rules
+
+same_reds : (a b : List ℕ) → reds.eq a b ≡ true → a ≡ b
+same_reds a b h = search rules
+
+same_wind : (a b : Wind) → wind.eq a b ≡ true → a ≡ b
+same_wind a b h = search rules
+
+same_by : (a b : By) → by.eq a b ≡ true → a ≡ b
+same_by a b h = search rules
+
+same_rules : (a b : Rules) → rules_are.eq a b ≡ true → a ≡ b
+same_rules a b h = search rules
+
+same_flags : (a b : Flags) → flags.eq a b ≡ true → a ≡ b
+same_flags a b h =
+    let i = and_true _ _ h in
+    let r = and_true _ _ i.1 in
+    let c = and_true _ _ r.1 in
+    let l = and_true _ _ c.1 in
+    let flags_of : Bool → Bool → Bool → Bool → Bool → Flags = λ v w x y z. record { ippatsu = v; rinshan = w; chankan = x; last = y; first = z } in
+    let same : flags_of a.ippatsu a.rinshan a.chankan a.last a.first ≡ b =
+    rw (same_bools a.ippatsu b.ippatsu i.0, same_bools a.rinshan b.rinshan r.0, same_bools a.chankan b.chankan c.0, same_bools a.last b.last l.0, same_bools a.first b.first l.1) refl in same
+
+same_hand : (a b : HandParts) → hand.eq a b ≡ true → a ≡ b
+same_hand a b h =
+    let both = and_true (counts.eq a.concealed b.concealed) (melds.eq a.melds b.melds) h in
+    let parts_of : List ℕ → List Meld → HandParts = λ x y. record { concealed = x; melds = y } in
+    let same : parts_of a.concealed a.melds ≡ b =
+    rw (same_counts a.concealed b.concealed both.0, (same_melds a.melds b.melds).0 both.1) refl in same
+
+same_shape : (a b : ShapeParts) → shape.eq a b ≡ true → a ≡ b
+same_shape a b h =
+    let tiles = and_true (counts.eq a.tiles b.tiles) _ h in
+    let both = and_true (melds.eq a.melds b.melds) (counts.eq a.seen b.seen) tiles.1 in
+    let parts_of : List ℕ → List Meld → List ℕ → ShapeParts = λ x y z. record { tiles = x; melds = y; seen = z } in
+    let same : parts_of a.tiles a.melds a.seen ≡ b =
+    rw (same_counts a.tiles b.tiles tiles.0, (same_melds a.melds b.melds).0 both.0, same_counts a.seen b.seen both.1) refl in same
+
+same_numbers : (a b : ℕ) → nat_eq a b ≡ true → a ≡ b
+same_numbers a b h = (unsigned_Decides a b).0 h
+
+same_parts : (a b : WinParts) → parts.eq a b ≡ true → a ≡ b
+same_parts a b h =
+    let by_rules = and_true (rules_are.eq a.rules b.rules) _ h in
+    let by_concealed = and_true (counts.eq a.concealed b.concealed) _ by_rules.1 in
+    let by_melds = and_true (melds.eq a.melds b.melds) _ by_concealed.1 in
+    let by_winning = and_true (nat_eq a.winning b.winning) _ by_melds.1 in
+    let by_by = and_true (by.eq a.by b.by) _ by_winning.1 in
+    let by_seat = and_true (wind.eq a.seat b.seat) _ by_by.1 in
+    let by_round = and_true (wind.eq a.round b.round) _ by_seat.1 in
+    let by_riichi = and_true (nat_eq a.riichi b.riichi) _ by_round.1 in
+    let by_flags = and_true (flags.eq a.flags b.flags) _ by_riichi.1 in
+    let by_dora = and_true (counts.eq a.dora b.dora) _ by_flags.1 in
+    let by_ura = and_true (counts.eq a.ura b.ura) _ by_dora.1 in
+    let by_counters = and_true (nat_eq a.counters b.counters) _ by_ura.1 in
+    let by_sticks = and_true (nat_eq a.sticks b.sticks) (reds.eq a.reds b.reds) by_counters.1 in
+    let whole : WinParts = record {
+      rules = a.rules;
+      concealed = a.concealed;
+      melds = a.melds;
+      winning = a.winning;
+      by = a.by;
+      seat = a.seat;
+      round = a.round;
+      riichi = a.riichi;
+      flags = a.flags;
+      dora = a.dora;
+      ura = a.ura;
+      counters = a.counters;
+      sticks = a.sticks;
+      reds = a.reds;
+    } in
+    let same : whole ≡ b =
+    rw (
+      same_rules a.rules b.rules by_rules.0,
+      same_counts a.concealed b.concealed by_concealed.0,
+      (same_melds a.melds b.melds).0 by_melds.0,
+      same_numbers a.winning b.winning by_winning.0,
+      same_by a.by b.by by_by.0,
+      same_wind a.seat b.seat by_seat.0,
+      same_wind a.round b.round by_round.0,
+      same_numbers a.riichi b.riichi by_riichi.0,
+      same_flags a.flags b.flags by_flags.0,
+      same_counts a.dora b.dora by_dora.0,
+      same_counts a.ura b.ura by_ura.0,
+      same_numbers a.counters b.counters by_counters.0,
+      same_numbers a.sticks b.sticks by_sticks.0,
+      same_reds a.reds b.reds by_sticks.1,
+    ) refl in same
+
+same_job : (a b : Job) → job.eq a b ≡ true → a ≡ b
+same_job (kind.Win a) (kind.Win b) h = ap kind.Win (same_parts a b h)
+same_job (kind.Waits a) (kind.Waits b) h = ap kind.Waits (same_hand a b h)
+same_job (kind.Shape a) (kind.Shape b) h = ap kind.Shape (same_shape a b h)
+same_job (kind.Win a) (kind.Waits b) h = cc
+same_job (kind.Win a) (kind.Shape b) h = cc
+same_job (kind.Waits a) (kind.Win b) h = cc
+same_job (kind.Waits a) (kind.Shape b) h = cc
+same_job (kind.Shape a) (kind.Win b) h = cc
+same_job (kind.Shape a) (kind.Waits b) h = cc
+
+-- `==` of two jobs says whether they are one
+pub job_eq-Decides : (a b : Job) → Decides (job.eq a b) (a ≡ b)
+job_eq-Decides a b = (same_job a b, λ same. rw same (job_equiv.refl b))

@@ -1,0 +1,59 @@
+use Rattle.std.proofs.Common.{◌≡◌, ℕ, ◌+◌, ◌-◌, ◌<◌, ◌≤◌, List, map, length, Some, false, refl, sym, ap, ◌∙◌, arith}
+use Rattle.std.specs.Prelude.{slice_get, option_map}
+use Rattle.std.proofs.lemmas.Bool.{false≢true}
+use Rattle.std.proofs.lemmas.List.{length-map, map-set}
+use Rattle.desk_core.specs.Entry.{seen, TakesIn}
+use Rattle.desk_core.specs.declared.arrived.Arrived.{Arrived}
+use Rattle.desk_core.specs.declared.arrived.Arrived.TheVariants as arrived
+use Rattle.desk_core.specs.declared.ticket.Ticket.{Ticket}
+use Rattle.desk_core.specs.declared.entry.Entry.{Entry}
+use Rattle.desk_core.proofs.Lists.{slice_get-map, slice_get-read, not_lt}
+use Rattle.desk_core.specs.contracts.lane.Lane.{the_view}
+use Rattle.desk_core.proofs.Steps.{IsStep-from_own, arrive_given, arrive_unknown, arrive_in_window}
+use Rattle.desk_core.proofs.lane.Lane.arrive.Goals as goal
+use Rattle.desk_core.proofs.lane.Lane.arrive.Goals.{in-None, in-Some}
+
+pub returns-then-ticket-self-2-clause-step : goal.returns-then-ticket-self-2-clause-step
+returns-then-ticket-self-2-clause-step c = λ own.
+    let lane = the_view c.self.inside in
+    let about : c.args.piece.ticket.table ≡ c.self.inside.table = own ∙ ap (λ l. l.table) (sym c.self.view_is) in
+    let before : c.args.piece.ticket.seq < c.self.inside.next = rw (← c.ticket-ticket.ensures) c.if-ticket-self-2.true in
+    rw (← c.self.view_is) (IsStep-from_own lane _ _ _ about refl (arrive_given lane c.args.piece before))
+
+pub returns-clause-step : goal.returns-clause-step
+returns-clause-step c = λ own.
+    let lane = the_view c.self.inside in
+    let items : List Entry = c.self.inside.window.items in
+    let k : ℕ = c.ticket-ticket.result.seq - c.self.inside.next in
+    let about : c.args.piece.ticket.table ≡ c.self.inside.table = own ∙ ap (λ l. l.table) (sym c.self.view_is) in
+    let same_seq : c.ticket-ticket.result.seq ≡ c.args.piece.ticket.seq = ap (λ (t : Ticket). t.seq) c.ticket-ticket.ensures in
+    let seq : c.self.inside.next + k ≡ c.args.piece.ticket.seq = omega (arith, c.if-ticket-self-2.false) in
+    elim c.match-get_mut.branch [
+      | in-None w ↦
+          let past : length items ≤ k = not_lt k (length items) (λ more. false≢true (w.in-None.ensures.variant.1 (omega arith))) in
+          let unknown : c.self.inside.next + length (map seen items) ≤ c.args.piece.ticket.seq = omega (arith, past, length-map items seen) in
+          rw (w.self-inside-is, w.result-is, ← c.self.view_is) (IsStep-from_own lane _ _ _ about refl (arrive_unknown lane c.args.piece unknown))
+      | in-Some w ↦
+          let within : k < length items = omega (arith, w.in-Some.ensures.variant.0 refl) in
+          let there : slice_get (map seen items) k ≡ Some (seen w.in-Some.entry.now) =
+          slice_get-map seen items k ∙ ap (option_map seen) (slice_get-read items k w.in-Some.entry.now within w.in-Some.ensures.value) in
+          let step = IsStep-from_own lane _ _ _ about refl (arrive_in_window lane c.args.piece k (seen w.in-Some.entry.now) w.arrive.result (seen w.arrive.new.self) seq there w.arrive.ensures.outcome) in
+          rw (w.self-inside-is, w.result-is, ← c.self.view_is, map-set) step
+    ]
+
+pub returns-clause-accepted : goal.returns-clause-accepted
+returns-clause-accepted c = λ accepted.
+    let items : List Entry = c.self.inside.window.items in
+    let k : ℕ = c.ticket-ticket.result.seq - c.self.inside.next in
+    let same_seq : c.ticket-ticket.result.seq ≡ c.args.piece.ticket.seq = ap (λ (t : Ticket). t.seq) c.ticket-ticket.ensures in
+    let seq : c.self.inside.next + k ≡ c.args.piece.ticket.seq = omega (arith, c.if-ticket-self-2.false) in
+    elim c.match-get_mut.branch [
+      | in-None w ↦ let other : Arrived = c.match-get_mut.result in cc
+      | in-Some w ↦
+          let within : k < length items = omega (arith, w.in-Some.ensures.variant.0 refl) in
+          let result : w.arrive.result ≡ arrived.Accepted = sym w.result-is ∙ accepted in
+          let outcome : TakesIn (seen w.in-Some.entry.now) c.args.piece.job arrived.Accepted (seen w.arrive.new.self) = rw result at w.arrive.ensures.outcome in
+          let there : slice_get (map seen items) k ≡ Some (c.args.piece.job, false) =
+          slice_get-map seen items k ∙ ap (option_map seen) (slice_get-read items k w.in-Some.entry.now within w.in-Some.ensures.value) ∙ ap Some outcome.0 in
+          rw (w.self-inside-is, ← c.self.view_is, map-set, outcome.1) (k, seq, there, refl)
+    ]

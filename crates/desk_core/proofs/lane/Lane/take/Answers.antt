@@ -1,0 +1,44 @@
+use Rattle.std.proofs.Common.{◌≡◌, List, [], ◌∷◌, drop, map, refl, ap, arith}
+use Rattle.std.proofs.lemmas.Bool.{false≢true}
+use Rattle.desk_core.specs.contracts.lane.Lane.{the_view}
+use Rattle.desk_core.specs.Entry.{seen}
+use Rattle.desk_core.specs.declared.entry.Entry.{Entry}
+use Rattle.desk_core.specs.declared.entry.Entry.TheVariants as entry
+use Rattle.desk_core.proofs.Lists.{first_is, nil_is}
+use Rattle.desk_core.proofs.Steps.{IsStep-from_own, take_answer, take_waiting, take_open, take_finished}
+use Rattle.desk_core.proofs.lane.Lane.take.Goals as goal
+
+pub returns-in-Some-Scored : goal.returns-in-Some-Scored
+returns-in-Some-Scored c =
+    let lane = the_view c.self.inside in
+    let items : List Entry = c.self.inside.window.items in
+    let piece = c.in-Some-Scored.piece in
+    let front : items ≡ entry.Scored piece ∷ drop 1 items =
+    first_is items (entry.Scored piece) (omega (arith, c.in-Some-Scored.ensures.variant.0 refl)) (rw c.in-Some-Scored.field-0-is at c.in-Some-Scored.ensures.lookup) in
+    let step = IsStep-from_own lane _ _ _ refl refl (take_answer lane piece.job (map seen (drop 1 items)) (ap (map seen) front)) in
+    record {
+      step = rw (← c.self.view_is, c.answer-answer.ensures, c.pop_front.ensures.rest) step;
+      first = rw (← c.self.view_is, c.answer-answer.ensures, c.pop_front.ensures.rest) (piece.job, map seen (drop 1 items), ap (map seen) front, refl, refl, refl);
+    }
+
+pub returns-in-Some-Waiting : goal.returns-in-Some-Waiting
+returns-in-Some-Waiting c =
+    let lane = the_view c.self.inside in
+    let items : List Entry = c.self.inside.window.items in
+    let job = c.in-Some-Waiting.field-0-0 in
+    let front : items ≡ entry.Waiting job ∷ drop 1 items =
+    first_is items (entry.Waiting job) (omega (arith, c.in-Some-Waiting.ensures.variant.0 refl)) (rw c.in-Some-Waiting.field-0-is at c.in-Some-Waiting.ensures.lookup) in
+    let step = IsStep-from_own lane _ _ _ refl refl (take_waiting lane job (map seen (drop 1 items)) (ap (map seen) front)) in
+    record { step = rw (← c.self.view_is) step; first = refl }
+
+pub returns-in-None : goal.returns-in-None
+returns-in-None c =
+    let lane = the_view c.self.inside in
+    let none : c.self.inside.window.items ≡ [] = nil_is _ (λ more. false≢true (c.in-None.ensures.variant.1 (omega arith))) in
+    record { step = rw (← c.self.view_is) (IsStep-from_own lane _ _ _ refl refl (take_finished lane (ap (map seen) none) c.if-self.true)); first = rw (← c.self.view_is) (ap (map seen) none, c.if-self.true, refl) }
+
+pub returns-in-None-2 : goal.returns-in-None-2
+returns-in-None-2 c =
+    let lane = the_view c.self.inside in
+    let none : c.self.inside.window.items ≡ [] = nil_is _ (λ more. false≢true (c.in-None.ensures.variant.1 (omega arith))) in
+    record { step = rw (← c.self.view_is) (IsStep-from_own lane _ _ _ refl refl (take_open lane (ap (map seen) none) c.if-self.false)); first = refl }

@@ -1,0 +1,15 @@
+-- What a taking answers, and leaves of the lane.
+use Rattle.std.specs.Prelude.{◌≡◌, ◌+◌, Bool, true, List, [], ◌∷◌}
+use Rattle.desk_core.specs.Value.{value_of}
+use Rattle.desk_core.specs.LaneState.{LaneState}
+use Rattle.riichi_hand.specs.declared.job.Job.{Job}
+use Rattle.desk_core.specs.declared.taken.Taken.{Taken}
+use Rattle.desk_core.specs.declared.taken.Taken.TheVariants as taken
+
+-- the value of the first job where its piece has arrived; else the lane stays
+abbrev pub GivesFirst : LaneState → Taken → LaneState → Type 0
+GivesFirst old (taken.Answer seq answer) new =
+    (job : Job) × (rest : List (Job × Bool)) × (old.window ≡ (job, true) ∷ rest) × (seq ≡ old.next) × (answer ≡ value_of job)
+    × (new ≡ record old { next = old.next + 1; window = rest })
+GivesFirst old taken.Waiting new = new ≡ old
+GivesFirst old taken.Finished new = (old.window ≡ []) × (old.closed ≡ true) × (new ≡ old)

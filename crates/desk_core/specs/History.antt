@@ -1,0 +1,139 @@
+-- What the events of a desk and their replies so far say of each table.
+use Rattle.std.specs.Prelude.{◌≡◌, ◌≢◌, ℕ, ◌<◌, ◌≤◌, ◌==◌, ◌⊎◌, Bool, true, false, not, nat_lt, List, [], ◌∷◌, ◌++◌, length, take, map, filter, Option, Some, None, option_map, slice_get, MatchBool}
+use Rattle.std.specs.List.{list_any, filter_map, take_while, enumerate_from}
+use Rattle.desk_core.specs.Value.{value_of}
+use Rattle.desk_core.specs.Ticketed.{Ticketed}
+use Rattle.riichi_hand.specs.declared.job.Job.{Job}
+use Rattle.desk_core.specs.declared.answer.Answer.{Answer}
+use Rattle.desk_core.specs.declared.event.Event.{Event}
+use Rattle.desk_core.specs.declared.event.Event.TheVariants.{Submit, Arrive, Close, Take}
+use Rattle.desk_core.specs.declared.reply.Reply.{Reply}
+use Rattle.desk_core.specs.declared.reply.Reply.TheVariants as reply
+use Rattle.desk_core.specs.declared.refusal.SubmitFault.TheVariants as fault
+use Rattle.desk_core.specs.declared.arrived.Arrived.TheVariants as arrived
+use Rattle.desk_core.specs.declared.taken.Taken.TheVariants as taken
+use Rattle.desk_core.specs.declared.lane.TheConstants.{LIMIT}
+
+-- an event with its reply; a history is the list of the turns so far, the oldest first
+abbrev pub Turn : Type 0
+Turn = Event × Reply
+
+-- the table that an event is about
+abbrev pub table_of : Event → ℕ
+table_of (Submit table job) = table
+table_of (Arrive piece) = piece.ticket.table
+table_of (Close table) = table
+table_of (Take table) = table
+
+-- the turns of one table
+abbrev pub turns_of : ℕ → List Turn → List Turn
+turns_of table history = filter (λ turn. table_of turn.0 == table) history
+
+-- The definitions below are on the turns of one table.
+
+abbrev pub is_close : Event → Bool
+is_close (Close table) = true
+is_close (Submit table job) = false
+is_close (Arrive piece) = false
+is_close (Take table) = false
+
+-- the job of a submission that was not refused for want of memory or by the limit
+abbrev pub submitted_job : Event → Reply → Option Job
+submitted_job (Submit table job) (reply.Refused fault.Memory) = None
+submitted_job (Submit table job) (reply.Refused fault.Limit) = None
+submitted_job (Submit table job) reply = Some job
+submitted_job event reply = None
+
+-- the jobs submitted before the table closed, in order
+abbrev pub submitted : List Turn → List Job
+submitted turns = filter_map (λ turn. submitted_job turn.0 turn.1) (take_while (λ turn. not (is_close turn.0)) turns)
+
+-- whether the table has closed
+abbrev pub is_closed : List Turn → Bool
+is_closed turns = list_any (λ turn. is_close turn.0) turns
+
+-- at place q a piece came for ticket i with the job submitted under it, after that ticket was given out
+pub record ArrivedAt (turns : List Turn) (i q : ℕ) : Type 0 where
+  pub piece : Ticketed
+  pub reply : Reply
+  pub turn : slice_get turns q ≡ Some (Arrive piece, reply)
+  pub seq : piece.ticket.seq ≡ i
+  pub job : slice_get (submitted turns) i ≡ Some piece.job
+  pub known : i < length (submitted (take q turns))
+
+-- the piece of ticket i has arrived
+abbrev pub HasArrived : List Turn → ℕ → Type 0
+HasArrived turns i = (q : ℕ) × ArrivedAt turns i q
+
+abbrev pub answer_in : Reply → Option (ℕ × Answer)
+answer_in (reply.Taken (taken.Answer seq answer)) = Some (seq, answer)
+answer_in reply = None
+
+-- the answers that the table was given, with their numbers, in order
+abbrev pub given : List Turn → List (ℕ × Answer)
+given turns = filter_map (λ turn. answer_in turn.1) turns
+
+-- the ticket whose answer is given next
+abbrev pub next_ticket : List Turn → ℕ
+next_ticket turns = length (given turns)
+
+-- each ticket was given
+abbrev pub AllGiven : List Turn → Type 0
+AllGiven turns = next_ticket turns ≡ length (submitted turns)
+
+-- the reply to a submission: closed, over the limit, want of memory, or the next number
+abbrev pub SubmitReply : List Turn → ℕ → Reply → Type 0
+SubmitReply turns table (reply.Refused fault.Closed) = is_closed turns ≡ true
+SubmitReply turns table (reply.Refused fault.Limit) = (is_closed turns ≡ false) × (length (submitted turns) ≡ LIMIT)
+SubmitReply turns table (reply.Refused fault.Memory) = (is_closed turns ≡ false) × (length (submitted turns) ≢ LIMIT)
+SubmitReply turns table (reply.Ticket ticket) =
+    (is_closed turns ≡ false) × (length (submitted turns) ≢ LIMIT)
+    × (ticket ≡ record { table = table; seq = length (submitted turns) })
+SubmitReply turns table reply = ⊥
+
+-- the reply to a piece: a stranger where the ticket was not given out, doubled where its piece has
+-- arrived, a stranger where the job is another, and accepted
+abbrev pub ArriveReply : List Turn → Ticketed → Reply → Type 0
+ArriveReply turns piece (reply.Arrived arrived.Stranger) =
+    (length (submitted turns) ≤ piece.ticket.seq)
+    ⊎ ((¬ HasArrived turns piece.ticket.seq) × (slice_get (submitted turns) piece.ticket.seq ≢ Some piece.job))
+ArriveReply turns piece (reply.Arrived arrived.Doubled) = HasArrived turns piece.ticket.seq
+ArriveReply turns piece (reply.Arrived arrived.Accepted) =
+    (¬ HasArrived turns piece.ticket.seq) × (slice_get (submitted turns) piece.ticket.seq ≡ Some piece.job)
+ArriveReply turns piece reply = ⊥
+
+-- the reply to a taking: the answer of the next ticket where its piece has arrived, the end where
+-- the table has closed and each was given, and else to wait
+abbrev pub TakeReply : List Turn → Reply → Type 0
+TakeReply turns (reply.Taken (taken.Answer seq answer)) =
+    (seq ≡ next_ticket turns) × HasArrived turns seq
+    × (option_map value_of (slice_get (submitted turns) seq) ≡ Some answer)
+TakeReply turns (reply.Taken taken.Finished) =
+    (¬ HasArrived turns (next_ticket turns)) × (is_closed turns ≡ true) × AllGiven turns
+TakeReply turns (reply.Taken taken.Waiting) =
+    (¬ HasArrived turns (next_ticket turns)) × (¬ ((is_closed turns ≡ true) × AllGiven turns))
+TakeReply turns reply = ⊥
+
+-- the reply to an event, after these turns of its table
+abbrev pub ReplyOf : List Turn → Event → Reply → Type 0
+ReplyOf turns (Submit table job) replied = SubmitReply turns table replied
+ReplyOf turns (Arrive piece) replied = ArriveReply turns piece replied
+ReplyOf turns (Close table) replied = replied ≡ reply.Closed (not (is_closed turns))
+ReplyOf turns (Take table) replied = TakeReply turns replied
+
+-- the same at a desk of so many tables
+abbrev pub DeskReplyOf : ℕ → List Turn → Turn → Type 0
+DeskReplyOf tables history turn =
+    MatchBool (nat_lt (table_of turn.0) tables) (ReplyOf (turns_of (table_of turn.0) history) turn.0 turn.1) (turn.1 ≡ reply.NoTable)
+
+-- after the history, each of these turns has the reply that it must have
+abbrev pub IsLegalAfter : ℕ → List Turn → List Turn → Type 0
+IsLegalAfter tables history [] = Unit {0}
+IsLegalAfter tables history (turn ∷ turns) = DeskReplyOf tables history turn × IsLegalAfter tables (history ++ turn ∷ []) turns
+
+abbrev pub IsLegal : ℕ → List Turn → Type 0
+IsLegal tables history = IsLegalAfter tables [] history
+
+-- the answers given are the values of the jobs, from the first one on, each with its number
+abbrev pub GivenInOrder : List Turn → Type 0
+GivenInOrder turns = given turns ≡ enumerate_from 0 (map value_of (take (next_ticket turns) (submitted turns)))

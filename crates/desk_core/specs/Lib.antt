@@ -1,0 +1,11 @@
+pub mod AnswerText
+pub mod Desk
+pub mod Determined
+pub mod Entry
+pub mod GivesFirst
+pub mod History
+pub mod LaneState
+pub mod Replies
+pub mod Step
+pub mod Ticketed
+pub mod Value

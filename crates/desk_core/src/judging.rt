@@ -1,0 +1,20 @@
+ghost use Rattle.std.specs.Prelude.{◌≡◌};
+ghost use Rattle.desk_core.specs.Value.{value_of};
+
+use crate::answer::Answer;
+use riichi_hand::Job;
+use riichi_score::best;
+use riichi_split::waits;
+
+/// The value of a job: the best score of a win, the waits of a hand, or the shanten and the
+/// accepted tiles of a shape.
+#[tactic(auto, unfolding(crate::specs::Value::value_of))]
+pub fn judge(job: &Job) -> Answer
+    ensures { result ≡ value_of job.now }
+{
+    match job {
+        Job::Win(win) => Answer::Win(best(win)),
+        Job::Waits(hand) => Answer::Waits(waits(hand)),
+        Job::Shape(_) => Answer::Shape,
+    }
+}

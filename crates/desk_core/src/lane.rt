@@ -1,0 +1,181 @@
+ghost use Rattle.std.specs.Prelude.{◌≡◌, ◌≢◌, ◌↔◌, ℕ, ◌<◌, ◌+◌, length, [], true, false, IsTrue, IfErr, OnOk, OnErr};
+
+use crate::arrived::Arrived;
+use crate::entry::Entry;
+use crate::event::Event;
+use crate::piece::Piece;
+use crate::refusal::{SubmitBack, SubmitFault};
+use crate::reply::Reply;
+use crate::taken::Taken;
+use crate::ticket::Ticket;
+use riichi_hand::Job;
+use std::alloc::Global;
+use std::collections::VecDeque;
+use std::marker::Model;
+
+/// How many jobs a table may submit, given answers included.
+pub const LIMIT: u32 = 1_000_000;
+
+/// One table: its jobs from the first one whose answer was not given yet.
+#[derive(Drop)]
+pub struct Lane {
+    table: u32,
+    next: u32,
+    window: VecDeque<Entry>,
+    closed: bool,
+}
+
+impl Model for Lane {
+    ghost use Rattle.std.specs.Prelude.{◌+◌, ◌≤◌, length, map};
+    ghost use Rattle.desk_core.specs.LaneState.{LaneState};
+
+    ghost Value = { LaneState };
+
+    ghost use Rattle.desk_core.specs.Entry.{seen};
+
+    ghost view = { λ l. record { table = l.table; next = l.next; window = map seen l.window.items; closed = l.closed } };
+
+    ghost invariant = { λ l. l.next + length l.window.items ≤ 1000000 };
+}
+
+impl Lane {
+    ghost use Rattle.desk_core.specs.History.{table_of};
+    ghost use Rattle.desk_core.specs.Step.{IsStep, StandsFor};
+    ghost use Rattle.desk_core.specs.LaneState.{new_lane, with_job, TakesInPiece};
+    ghost use Rattle.desk_core.specs.GivesFirst.{GivesFirst};
+    ghost use Rattle.desk_core.specs.Replies.{submit_reply};
+
+    /// A table with no jobs. It takes no memory.
+    pub fn new(alloc: Global, table: u32) -> Lane
+        ensures empty { result ≡ new_lane table }
+        ensures stands { (tables : ℕ) → table < tables → StandsFor result tables [] }
+    {
+        Lane {
+            table,
+            next: 0,
+            window: VecDeque::new(alloc),
+            closed: false,
+        }
+    }
+
+    /// The table's number.
+    pub fn table(&self) -> u32
+        ensures { result ≡ self.now.table }
+    {
+        self.table
+    }
+
+    /// Whether the table has closed, so that a job is refused by C1.
+    pub fn closed(&self) -> bool
+        ensures { result ≡ self.now.closed }
+    {
+        self.closed
+    }
+
+    /// Whether the table has submitted as many jobs as it may, so that a job is refused by C2.
+    pub fn full(&self) -> bool
+        ensures { IsTrue result ↔ (self.now.next + length self.now.window ≡ LIMIT) }
+    {
+        self.next as usize + self.window.len() == LIMIT as usize
+    }
+
+    /// Submits a job, and makes the room for its answer. Tickets are numbered from 0 without gaps.
+    pub fn submit(&mut self, job: Job) -> Result<Ticket, SubmitBack>
+        ensures step { IsStep self.old (Event.Submit self.old.table job) (submit_reply result) self.new }
+        ensures back { IfErr result (λ back. back.job ≡ job) }
+        ensures err { OnErr result (self.new ≡ self.old) }
+        ensures ok { OnOk result (self.new ≡ with_job self.old job) }
+    {
+        if self.closed {
+            return Err(SubmitBack {
+                fault: SubmitFault::Closed,
+                job,
+            });
+        }
+        if self.full() {
+            return Err(SubmitBack {
+                fault: SubmitFault::Limit,
+                job,
+            });
+        }
+        let seq = self.next + self.window.len() as u32;
+        match self.window.push_back(Entry::waiting(&job)) {
+            Ok(()) => Ok(Ticket {
+                table: self.table,
+                seq,
+            }),
+            Err(_) => Err(SubmitBack {
+                fault: SubmitFault::Memory,
+                job,
+            }),
+        }
+    }
+
+    /// Takes in a piece: a stranger where its ticket is another table's or was not given out,
+    /// doubled where a piece was accepted for it, whatever job this one carries, a stranger where
+    /// another job was submitted under it, and else accepted. It takes no memory.
+    pub fn arrive(&mut self, piece: Piece) -> Arrived
+        ensures step { piece.ticket.table ≡ self.old.table → IsStep self.old (Event.Arrive piece) (Reply.Arrived result) self.new }
+        ensures other_table { piece.ticket.table ≢ self.old.table → result ≡ Arrived.Stranger }
+        ensures accepted { result ≡ Arrived.Accepted → TakesInPiece self.old piece self.new }
+        ensures kept { result ≢ Arrived.Accepted → self.new ≡ self.old }
+    {
+        let ticket = piece.ticket();
+        if ticket.table != self.table {
+            return Arrived::Stranger;
+        }
+        if ticket.seq < self.next {
+            return Arrived::Doubled;
+        }
+        let place = (ticket.seq - self.next) as usize;
+        match self.window.get_mut(place) {
+            None => Arrived::Stranger,
+            Some(entry) => entry.arrive(piece),
+        }
+    }
+
+    /// Closes the table to further jobs: true the first time.
+    pub fn close(&mut self) -> bool
+        ensures step { IsStep self.old (Event.Close self.old.table) (Reply.Closed result) self.new }
+        ensures closed { self.new ≡ record self.old { closed = true } }
+    {
+        let first = !self.closed;
+        self.closed = true;
+        first
+    }
+
+    /// Gives the next answer where its piece has arrived, and forgets the job. It takes no memory.
+    pub fn take(&mut self) -> Taken
+        ensures step { IsStep self.old (Event.Take self.old.table) (Reply.Taken result) self.new }
+        ensures first { GivesFirst self.old result self.new }
+    {
+        match self.window.front() {
+            Some(Entry::Scored(piece)) => {
+                let answer = piece.answer();
+                let seq = self.next;
+                let _ = self.window.pop_front();
+                self.next += 1;
+                Taken::Answer { seq, answer }
+            }
+            Some(Entry::Waiting(_)) => Taken::Waiting,
+            None if self.closed => Taken::Finished,
+            None => Taken::Waiting,
+        }
+    }
+
+    /// What an event of this table does and replies.
+    pub(crate) fn serve(&mut self, event: Event) -> Reply
+        ensures step { table_of event ≡ self.old.table → IsStep self.old event result self.new }
+        ensures table { self.new.table ≡ self.old.table }
+    {
+        match event {
+            Event::Submit { job, .. } => match self.submit(job) {
+                Ok(ticket) => Reply::Ticket(ticket),
+                Err(back) => Reply::Refused(back.fault),
+            },
+            Event::Arrive(piece) => Reply::Arrived(self.arrive(piece)),
+            Event::Close { .. } => Reply::Closed(self.close()),
+            Event::Take { .. } => Reply::Taken(self.take()),
+        }
+    }
+}

@@ -1,0 +1,12 @@
+//! Laws of the definitions that the contracts cite.
+
+ghost use Rattle.std.specs.Prelude.{◌≡◌, ℕ, List};
+ghost use Rattle.desk_core.specs.Determined.{IsRunOf};
+ghost use Rattle.desk_core.specs.declared.event.Event.{Event};
+ghost use Rattle.desk_core.specs.declared.reply.Reply.{Reply};
+
+/// Two runs of the same events that meet no want of memory have the same replies.
+pub fn replies_are_determined()
+    ensures { (tables : ℕ) (events : List Event) (first second : List Reply)
+        → IsRunOf tables events first → IsRunOf tables events second → first ≡ second }
+{}

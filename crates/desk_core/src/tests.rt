@@ -1,0 +1,266 @@
+use crate::{
+    Answer, Arrived, CoreFault, DeskCore, Event, LIMIT, Lane, Piece, Reply, SubmitFault, Taken,
+    Ticket, answer_text, judge,
+};
+use riichi_hand::{By, Flags, HandRecord, Job, Rules, ShapeRecord, WinParts, WinRecord, Wind};
+use riichi_score::WinAnswer;
+use riichi_tiles::{Counts, Kind, Meld, Melds, Reds, read_counts};
+use std::alloc::Global;
+
+/// The waits of a hand of concealed tiles.
+fn waits_job(hand: &[u8]) -> Option<Job> {
+    let tiles = read_counts(hand).ok()?;
+    let hand = HandRecord::new(tiles, Melds::new()).ok()?;
+    Some(Job::Waits(hand))
+}
+
+/// One tile beside four melds, and another one called: a hand with no reading, which is the
+/// quickest job to judge.
+fn quick_job() -> Option<Job> {
+    let mut melds = Melds::new();
+    melds.push(Meld::Pon(Kind::at(0)));
+    melds.push(Meld::Pon(Kind::at(2)));
+    melds.push(Meld::Pon(Kind::at(4)));
+    melds.push(Meld::Pon(Kind::at(6)));
+    let parts = WinParts {
+        rules: Rules::One,
+        concealed: read_counts(b"1z").ok()?,
+        melds,
+        winning: Kind::at(28),
+        by: By::Ron,
+        seat: Wind::East,
+        round: Wind::East,
+        riichi: 0,
+        flags: Flags::none(),
+        dora: Counts::new(),
+        ura: Counts::new(),
+        counters: 0,
+        sticks: 0,
+        reds: Reds::none(),
+    };
+    Some(Job::Win(WinRecord::new(parts).ok()?))
+}
+
+/// The shape of concealed tiles.
+fn shape_job(tiles: &[u8]) -> Option<Job> {
+    let tiles = read_counts(tiles).ok()?;
+    let shape = ShapeRecord::new(tiles, Melds::new(), Counts::new()).ok()?;
+    Some(Job::Shape(shape))
+}
+
+const FIRST: Ticket = Ticket { table: 0, seq: 0 };
+
+/// The event at a place of a short day at a desk of one table.
+fn event_at(place: usize, job: Job) -> Event {
+    match place {
+        0 | 6 | 7 => Event::Take { table: 0 },
+        1 => Event::Submit { table: 1, job },
+        2 | 4 => Event::Submit { table: 0, job },
+        5 => Event::Arrive(Piece::score(FIRST, job)),
+        _ => Event::Close { table: 0 },
+    }
+}
+
+/// The events of the short day; none where memory was refused.
+fn a_short_day(alloc: Global, job: Job) -> Option<Vec<Event>> {
+    let mut events = Vec::new(alloc);
+    for place in 0..9 {
+        events.push(event_at(place, job)).ok()?;
+    }
+    Some(events)
+}
+
+/// What the day is replied.
+fn its_replies(job: &Job) -> [Reply; 9] {
+    [
+        Reply::Taken(Taken::Waiting),
+        Reply::NoTable,
+        Reply::Ticket(FIRST),
+        Reply::Closed(true),
+        Reply::Refused(SubmitFault::Closed),
+        Reply::Arrived(Arrived::Accepted),
+        Reply::Taken(Taken::Answer {
+            seq: 0,
+            answer: judge(job),
+        }),
+        Reply::Taken(Taken::Finished),
+        Reply::Closed(false),
+    ]
+}
+
+/// What it is replied where the one submission finds no memory.
+const WITHOUT_MEMORY: [Reply; 9] = [
+    Reply::Taken(Taken::Waiting),
+    Reply::NoTable,
+    Reply::Refused(SubmitFault::Memory),
+    Reply::Closed(true),
+    Reply::Refused(SubmitFault::Closed),
+    Reply::Arrived(Arrived::Stranger),
+    Reply::Taken(Taken::Finished),
+    Reply::Taken(Taken::Finished),
+    Reply::Closed(false),
+];
+
+#[test]
+fn answers_and_their_texts(rt: HostRuntime) {
+    let waits = waits_job(b"1112345678999m").map(|job| judge(&job));
+    assert!(rt;
+        matches!(waits, Some(answer) if answer_text(&answer).as_str() == "waits 123456789m")
+    );
+    let none = waits_job(b"123456789m1111z").map(|job| judge(&job));
+    assert!(rt; matches!(none, Some(answer) if answer_text(&answer).as_str() == "waits -"));
+}
+
+#[test]
+fn a_win_and_its_text(rt: HostRuntime) {
+    let answer = quick_job().map(|job| judge(&job));
+    assert!(rt; answer == Some(Answer::Win(WinAnswer::NoWin)));
+    assert!(rt; matches!(answer, Some(answer) if answer_text(&answer).as_str() == "no win"));
+}
+
+#[test]
+fn a_lane_of_each_call(rt: HostRuntime) {
+    let (Some(job), Some(other)) = (waits_job(b"1112345678999m"), shape_job(b"123456789m1134p"))
+    else {
+        assert!(rt; false);
+        return;
+    };
+    let mut lane = Lane::new(rt.alloc(), 7);
+    assert_eq!(rt; lane.table(), 7);
+    let ticket = Ticket { table: 7, seq: 0 };
+    let submitted = lane.submit(job);
+    if let Err(back) = submitted {
+        // One request for memory may be refused, and nothing was changed then.
+        assert!(rt; back.fault == SubmitFault::Memory && back.job == job);
+        assert!(rt; lane.submit(job) == Ok(ticket));
+    } else {
+        assert!(rt; submitted == Ok(ticket));
+    }
+    assert!(rt; lane.take() == Taken::Waiting);
+    assert!(rt; lane.arrive(Piece::score(FIRST, job)) == Arrived::Stranger);
+    assert!(rt; lane.arrive(Piece::score(ticket, other)) == Arrived::Stranger);
+    let piece = Piece::score(ticket, job);
+    assert!(rt; piece.ticket() == ticket && piece.job() == job && piece.answer() == judge(&job));
+    assert!(rt; lane.arrive(piece) == Arrived::Accepted);
+    assert!(rt; lane.arrive(Piece::score(ticket, other)) == Arrived::Doubled);
+    assert!(rt; !lane.full() && !lane.closed());
+    assert!(rt; lane.close() && !lane.close() && lane.closed());
+    assert!(rt;
+        lane.take()
+            == Taken::Answer {
+                seq: 0,
+                answer: judge(&job)
+            }
+    );
+    assert!(rt; lane.take() == Taken::Finished);
+}
+
+/// A desk, where one request for memory may be refused.
+fn a_desk(alloc: Global, tables: u32) -> Option<DeskCore> {
+    match DeskCore::new(alloc, tables) {
+        Err(CoreFault::Memory) => DeskCore::new(alloc, tables).ok(),
+        made => made.ok(),
+    }
+}
+
+/// The replies of a run of the short day on a new desk, where one request for memory may be refused.
+fn replies_of_a_run(alloc: Global, job: Job) -> Option<Vec<Reply>> {
+    let mut desk = a_desk(alloc, 1)?;
+    let events = match a_short_day(alloc, job) {
+        None => a_short_day(alloc, job)?,
+        Some(events) => events,
+    };
+    match desk.run(events) {
+        Ok(replies) => Some(replies),
+        Err(back) => desk.run(back.events).ok(),
+    }
+}
+
+#[test]
+fn a_run_replies(rt: HostRuntime) {
+    let Some(job) = waits_job(b"1112345678999m") else {
+        assert!(rt; false);
+        return;
+    };
+    let Some(replies) = replies_of_a_run(rt.alloc(), job) else {
+        assert!(rt; false);
+        return;
+    };
+    if replies.as_slice() == WITHOUT_MEMORY.as_slice() {
+        let Some(replies) = replies_of_a_run(rt.alloc(), job) else {
+            assert!(rt; false);
+            return;
+        };
+        assert!(rt; replies.as_slice() == its_replies(&job).as_slice());
+    } else {
+        assert!(rt; replies.as_slice() == its_replies(&job).as_slice());
+    }
+}
+
+#[test]
+fn a_run_over_no_events(rt: HostRuntime) {
+    let Some(mut desk) = a_desk(rt.alloc(), 64) else {
+        assert!(rt; false);
+        return;
+    };
+    let none = desk.run(Vec::new(rt.alloc()));
+    assert!(rt; matches!(none, Ok(replies) if replies.is_empty()));
+}
+
+#[test]
+fn steps_reply(rt: HostRuntime) {
+    let Some(job) = waits_job(b"1112345678999m") else {
+        assert!(rt; false);
+        return;
+    };
+    let Some(mut desk) = a_desk(rt.alloc(), 1) else {
+        assert!(rt; false);
+        return;
+    };
+    let wanted = its_replies(&job);
+    for (place, wanted) in wanted.iter().enumerate() {
+        let reply = desk.step(event_at(place, job));
+        if reply == Reply::Refused(SubmitFault::Memory) {
+            assert!(rt; desk.step(event_at(place, job)) == *wanted);
+        } else {
+            assert!(rt; reply == *wanted);
+        }
+    }
+}
+
+#[test]
+fn numbers_of_tables(rt: HostRuntime) {
+    assert!(rt; matches!(DeskCore::new(rt.alloc(), 0), Err(CoreFault::Tables)));
+    assert!(rt; matches!(DeskCore::new(rt.alloc(), 65), Err(CoreFault::Tables)));
+    assert!(rt; a_desk(rt.alloc(), 64).is_some());
+}
+
+#[test]
+fn a_lane_takes_its_limit(rt: HostRuntime) {
+    let (Some(job), Some(other)) = (quick_job(), shape_job(b"123456789m1134p")) else {
+        assert!(rt; false);
+        return;
+    };
+    let mut lane = Lane::new(rt.alloc(), 0);
+    for seq in 0..LIMIT {
+        let ticket = Ticket { table: 0, seq };
+        if lane.submit(job).is_err() {
+            assert!(rt; lane.submit(job) == Ok(ticket));
+        }
+        assert!(rt; lane.arrive(Piece::score(ticket, job)) == Arrived::Accepted);
+        assert!(rt; matches!(lane.take(), Taken::Answer { seq: given, .. } if given == seq));
+    }
+    assert!(rt; lane.full());
+    let back = lane.submit(job);
+    assert!(rt; matches!(back, Err(back) if back.fault == SubmitFault::Limit && back.job == job));
+    assert!(rt; lane.arrive(Piece::score(FIRST, other)) == Arrived::Doubled);
+    let next = Ticket {
+        table: 0,
+        seq: LIMIT,
+    };
+    assert!(rt; lane.arrive(Piece::score(next, job)) == Arrived::Stranger);
+    assert!(rt; lane.close());
+    let back = lane.submit(job);
+    assert!(rt; matches!(back, Err(back) if back.fault == SubmitFault::Closed && back.job == job));
+    assert!(rt; lane.take() == Taken::Finished);
+}

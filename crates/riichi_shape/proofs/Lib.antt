@@ -1,0 +1,15 @@
+pub mod AcceptedLemmas
+pub mod BySuit
+pub mod Counted
+pub mod DiscardLemmas
+pub mod Distances
+pub mod Exists
+pub mod FourSuits
+pub mod LiveLemmas
+pub mod Members
+pub mod OrphanLemmas
+pub mod PairLemmas
+pub mod RemovalLemmas
+pub mod ShapeFacts
+pub mod TextLemmas
+pub mod Uniqueness

@@ -1,0 +1,176 @@
+-- The kinds whose removal leaves the least distance.
+use Rattle.std.proofs.Common.{◌≡◌, ℕ, zero, suc, ◌+◌, ◌-◌, ◌<◌, ◌≤◌, Bool, true, false, cond, ◌⊎◌, inl, inr, List, [], ◌∷◌, map, length, eqb, leb, ltb, refl, sym, ap, ◌∙◌, ⊎_elim, arith}
+use Rattle.std.proofs.lemmas.Bool.{cases_lt, lt-ltb}
+use Rattle.std.proofs.lemmas.Bool.Decides.{nat_tests}
+use Rattle.std.specs.List.{filter, list_all, range_with_len, sum}
+use Rattle.std.specs.Prelude.{slice_index, nat_le, nat_lt, ◌==◌, ◌&&◌}
+use Rattle.riichi_tiles.specs.Melds.{every_kind}
+use Rattle.riichi_tiles.specs.declared.meld.Meld.{Meld}
+use Rattle.riichi_rows.proofs.Spread.{spread, spread_add}
+use Rattle.riichi_shape.specs.declared.discard.Discard.{Discard}
+use Rattle.riichi_shape.specs.Discards.{AreDistancesWithout, IsLeastOf, discard_of, discards_of, distance_without, in_order, inserted, is_best, is_discard, is_held, live_with}
+use Rattle.riichi_shape.proofs.DiscardLemmas.{inserted_length}
+use Rattle.riichi_shape.proofs.PairLemmas.{spread_total, sum_is_total}
+use Rattle.riichi_shape.proofs.Members.{Among, all_among, all_of, among_filter, among_range, from_filter, from_range}
+
+bool_same : (a b : Bool) → (a ≡ true → b ≡ true) → (b ≡ true → a ≡ true) → a ≡ b
+bool_same true true there back = refl
+bool_same true false there back = sym (there refl)
+bool_same false true there back = back refl
+bool_same false false there back = refl
+
+eqb_of : (m n : ℕ) → m ≡ n → (m == n) ≡ true
+eqb_of m n e = grind (arith, nat_tests)
+
+of_eqb : (m n : ℕ) → (m == n) ≡ true → m ≡ n
+of_eqb m n e = grind (arith, nat_tests)
+
+leb_of : (m n : ℕ) → m ≤ n → leb m n ≡ true
+leb_of m n h = grind (arith, nat_tests)
+
+of_leb : (m n : ℕ) → leb m n ≡ true → m ≤ n
+of_leb m n e = grind (arith, nat_tests)
+
+ltb_of : (m n : ℕ) → m < n → ltb m n ≡ true
+ltb_of m n h = grind (arith, nat_tests)
+
+of_ltb : (m n : ℕ) → ltb m n ≡ true → m < n
+of_ltb m n e = grind (arith, nat_tests)
+
+module _ (hand : List ℕ) (melds : List Meld) (distances : List ℕ) (least : ℕ) (are : AreDistancesWithout hand melds distances) (is : IsLeastOf distances least) (kind : ℕ) (inside : kind < 34) (held : 0 < slice_index hand kind) where
+  abbrev no_less : ℕ → Bool
+  no_less other = nat_le (distance_without hand melds kind) (distance_without hand melds other)
+
+  there : (slice_index distances kind == least) ≡ true → is_best hand melds kind ≡ true
+  there e = all_of no_less (filter (is_held hand) every_kind) each
+    where
+      each : (other : ℕ) → Among other (filter (is_held hand) every_kind) → no_less other ≡ true
+      each other h =
+          let r = from_filter (is_held hand) other every_kind h in
+          let within = (from_range other 0 34 r.0).1 in
+          let there = of_ltb 0 (slice_index hand other) r.1 in
+          leb_of (distance_without hand melds kind) (distance_without hand melds other) (omega (arith, are.held kind inside held, are.held other within there, is.bound other within, of_eqb (slice_index distances kind) least e))
+
+  back : is_best hand melds kind ≡ true → (slice_index distances kind == least) ≡ true
+  back all = eqb_of (slice_index distances kind) least (⊎_elim at_held at_other (cases_lt 0 (slice_index hand is.place)))
+    where
+      at_held : 0 < slice_index hand is.place → slice_index distances kind ≡ least
+      at_held h =
+          let t = all_among no_less is.place (filter (is_held hand) every_kind) all (among_filter (is_held hand) is.place every_kind (among_range is.place 0 34 (omega arith) (omega (arith, is.is_kind))) (ltb_of 0 (slice_index hand is.place) h)) in
+          omega (arith, of_leb (distance_without hand melds kind) (distance_without hand melds is.place) t, are.held kind inside held, are.held is.place is.is_kind h, is.reached, is.bound kind inside)
+
+      at_other : slice_index hand is.place ≤ 0 → slice_index distances kind ≡ least
+      at_other h = absurd (omega (arith, are.others is.place is.is_kind (omega (arith, h)), is.reached, is.bound kind inside, are.few kind inside held))
+
+  pub best_is : (slice_index distances kind == least) ≡ is_best hand melds kind
+  best_is = bool_same (slice_index distances kind == least) (is_best hand melds kind) there back
+
+-- ---- the discards of the kinds from one on
+
+unfoldable pub discards_from : List ℕ → List Meld → List ℕ → ℕ → ℕ → List Discard
+discards_from hand melds seen a n = in_order (map (discard_of hand melds seen) (filter (is_discard hand melds) (range_with_len a n)))
+
+pub discards_all : (hand : List ℕ) (melds : List Meld) (seen : List ℕ) → discards_from hand melds seen 0 34 ≡ discards_of hand melds seen
+unfolding discards_from discards_of
+discards_all hand melds seen = refl
+
+pub discards_none : (hand : List ℕ) (melds : List Meld) (seen : List ℕ) (a : ℕ) → discards_from hand melds seen a 0 ≡ []
+unfolding discards_from in_order
+discards_none hand melds seen a = refl
+
+module _ (hand : List ℕ) (melds : List Meld) (seen : List ℕ) where
+  chosen_next : (t : Bool) (kind : ℕ) (kinds : List ℕ) → in_order (map (discard_of hand melds seen) (cond t (kind ∷ kinds) kinds)) ≡ cond t (inserted (discard_of hand melds seen kind) (in_order (map (discard_of hand melds seen) kinds))) (in_order (map (discard_of hand melds seen) kinds))
+  unfolding in_order
+  chosen_next true kind kinds = refl
+  chosen_next false kind kinds = refl
+
+  discards_next : (kind n : ℕ) → discards_from hand melds seen kind (suc n) ≡ cond (is_discard hand melds kind) (inserted (discard_of hand melds seen kind) (discards_from hand melds seen (kind + 1) n)) (discards_from hand melds seen (kind + 1) n)
+  unfolding discards_from
+  discards_next kind n = chosen_next (is_discard hand melds kind) kind (filter (is_discard hand melds) (range_with_len (kind + 1) n))
+
+-- ---- one kind less, from the greatest down
+
+module _ (hand : List ℕ) (melds : List Meld) (seen : List ℕ) (number : ℕ) (some : 0 < number) (most : number ≤ 34) where
+  discards_at : discards_from hand melds seen (number - 1) (34 - (number - 1)) ≡ cond (is_discard hand melds (number - 1)) (inserted (discard_of hand melds seen (number - 1)) (discards_from hand melds seen number (34 - number))) (discards_from hand melds seen number (34 - number))
+  discards_at =
+      ap (discards_from hand melds seen (number - 1)) count ∙ discards_next hand melds seen (number - 1) (34 - number)
+      ∙ ap (λ k. cond (is_discard hand melds (number - 1)) (inserted (discard_of hand melds seen (number - 1)) (discards_from hand melds seen k (34 - number))) (discards_from hand melds seen k (34 - number))) next
+    where
+      count : 34 - (number - 1) ≡ suc (34 - number)
+      count = omega arith
+
+      next : number - 1 + 1 ≡ number
+      next = omega arith
+
+  spread_at : spread (slice_index hand) (number - 1) (34 - (number - 1)) ≡ slice_index hand (number - 1) + spread (slice_index hand) number (34 - number)
+  unfolding spread
+  spread_at =
+      ap (spread (slice_index hand) (number - 1)) count ∙ ap (λ k. slice_index hand (number - 1) + spread (slice_index hand) k (34 - number)) next
+    where
+      count : 34 - (number - 1) ≡ suc (34 - number)
+      count = omega arith
+
+      next : number - 1 + 1 ≡ number
+      next = omega arith
+
+  pub still_room : (list : List Discard) → length hand ≡ 34 → sum hand ≤ 14 → 0 < slice_index hand (number - 1) → length list ≤ spread (slice_index hand) number (34 - number) → length list < 14
+  still_room list long few held so_many =
+      let whole = spread_add (slice_index hand) 0 (number - 1) (34 - (number - 1)) in
+      omega (arith, whole, all, parts, here, spread_at, so_many, held, few)
+    where
+      all : spread (slice_index hand) 0 34 ≡ sum hand
+      all = ap (spread (slice_index hand) 0) (sym long) ∙ spread_total (λ n. n) hand ∙ sym (sum_is_total (λ n. n) hand)
+
+      parts : spread (slice_index hand) 0 34 ≡ spread (slice_index hand) 0 (number - 1 + (34 - (number - 1)))
+      parts = ap (spread (slice_index hand) 0) count
+        where
+          count : 34 ≡ number - 1 + (34 - (number - 1))
+          count = omega arith
+
+      here : spread (slice_index hand) (0 + (number - 1)) (34 - (number - 1)) ≡ spread (slice_index hand) (number - 1) (34 - (number - 1))
+      here = ap (λ k. spread (slice_index hand) k (34 - (number - 1))) first
+        where
+          first : 0 + (number - 1) ≡ number - 1
+          first = omega arith
+
+  module _ (distances : List ℕ) (least : ℕ) (are : AreDistancesWithout hand melds distances) (is : IsLeastOf distances least) (list : List Discard) (so_far : list ≡ discards_from hand melds seen number (34 - number)) where
+    pub put_list : (next : List Discard) (discard : Discard) (kind : ℕ) → kind ≡ number - 1 → discard ≡ discard_of hand melds seen kind → 0 < slice_index hand kind → slice_index distances (number - 1) ≡ least → next ≡ inserted discard list → next ≡ discards_from hand melds seen (number - 1) (34 - (number - 1))
+    put_list next discard kind kind_is discard_is held equal next_is =
+        next_is ∙ ap (λ d. inserted d list) (discard_is ∙ ap (discard_of hand melds seen) kind_is) ∙ ap (inserted (discard_of hand melds seen (number - 1))) so_far
+        ∙ sym (discards_at ∙ ap (λ t. cond t (inserted (discard_of hand melds seen (number - 1)) (discards_from hand melds seen number (34 - number))) (discards_from hand melds seen number (34 - number))) chosen)
+      where
+        there : 0 < slice_index hand (number - 1)
+        there = omega (arith, held, ap (slice_index hand) kind_is)
+
+        chosen : is_discard hand melds (number - 1) ≡ true
+        chosen = both (is_held hand (number - 1)) (is_best hand melds (number - 1)) (ltb_of 0 (slice_index hand (number - 1)) there) (sym (best_is hand melds distances least are is (number - 1) (omega arith) there) ∙ eqb_of (slice_index distances (number - 1)) least equal)
+          where
+            both : (a b : Bool) → a ≡ true → b ≡ true → (a && b) ≡ true
+            both true b e h = h
+            both false b e h = e
+
+    left_list : (is_discard hand melds (number - 1) ≡ false) → list ≡ discards_from hand melds seen (number - 1) (34 - (number - 1))
+    left_list chosen = so_far ∙ sym (discards_at ∙ ap (λ t. cond t (inserted (discard_of hand melds seen (number - 1)) (discards_from hand melds seen number (34 - number))) (discards_from hand melds seen number (34 - number))) chosen)
+
+    either_false : (a b : Bool) → (a ≡ false) ⊎ (b ≡ false) → (a && b) ≡ false
+    either_false true b h = ⊎_elim (λ e. cc) (λ e. e) h
+    either_false false b h = refl
+
+    not_held : (h : ℕ) → h ≤ 0 → ltb 0 h ≡ false
+    not_held h none = grind (arith, nat_tests)
+
+    not_equal : (m n : ℕ) → (m ≡ n → ⊥) → (m == n) ≡ false
+    not_equal m n ne = grind (arith, nat_tests)
+
+    pub left_unheld : slice_index hand (number - 1) ≤ 0 → list ≡ discards_from hand melds seen (number - 1) (34 - (number - 1))
+    left_unheld none = left_list (either_false (is_held hand (number - 1)) (is_best hand melds (number - 1)) (inl (not_held (slice_index hand (number - 1)) none)))
+
+    pub left_worse : 0 < slice_index hand (number - 1) → (slice_index distances (number - 1) ≡ least → ⊥) → list ≡ discards_from hand melds seen (number - 1) (34 - (number - 1))
+    left_worse held worse =
+        left_list (either_false (is_held hand (number - 1)) (is_best hand melds (number - 1)) (inr (sym (best_is hand melds distances least are is (number - 1) (omega arith) held) ∙ not_equal (slice_index distances (number - 1)) least worse)))
+
+  pub put_few : (list : List Discard) (discard : Discard) → length list ≤ spread (slice_index hand) number (34 - number) → 0 < slice_index hand (number - 1) → length (inserted discard list) ≤ spread (slice_index hand) (number - 1) (34 - (number - 1))
+  put_few list discard few held = omega (arith, inserted_length discard list, few, held, spread_at)
+
+  pub left_few : (list : List Discard) → length list ≤ spread (slice_index hand) number (34 - number) → length list ≤ spread (slice_index hand) (number - 1) (34 - (number - 1))
+  left_few list few = omega (arith, few, spread_at)

@@ -1,0 +1,61 @@
+-- What is known of the parts of a shape.
+use Rattle.std.proofs.Common.{◌≡◌, ℕ, ◌+◌, ◌<◌, ◌≤◌, ℤ, Bool, true, false, ◌⊎◌, inl, inr, List, [], ◌∷◌, None, Some, ltb, refl, sym, ap, ◌∙◌, ⊎_elim, arith}
+use Rattle.std.proofs.lemmas.Bool.Decides.{nat_tests}
+use Rattle.std.specs.List.{list_any, sum}
+use Rattle.std.specs.Prelude.{not, slice_index, nat_lt, ◌==◌, ◌||◌}
+use Rattle.riichi_tiles.specs.Melds.{every_kind, tiles}
+use Rattle.riichi_hand.specs.Faults.{coded, first_fault}
+use Rattle.riichi_hand.specs.Hand.{IsShape, copies_with, has_five_seen, is_thirteen_or_more, size}
+use Rattle.riichi_hand.specs.HandParts.{ShapeParts}
+use Rattle.riichi_hand.specs.declared.fault.LineCode.{LineCode}
+use Rattle.riichi_hand.specs.declared.fault.LineCode.TheVariants.{H8, H9}
+use Rattle.riichi_tiles.specs.declared.meld.Meld.{Meld}
+use Rattle.riichi_shape.specs.Answer.{accepts_of, shape_of}
+use Rattle.riichi_shape.specs.EveryWinning.{shanten_of}
+use Rattle.riichi_shape.specs.declared.accepts.Accepts.{Accepts}
+use Rattle.riichi_shape.specs.declared.shape_answer.ShapeAnswer.{ShapeAnswer}
+use Rattle.riichi_shape.proofs.Members.{Among, among_range}
+
+no_faults : (a b : Bool) → first_fault (coded H8 (not a) ∷ coded H9 b ∷ []) ≡ None → (a ≡ true) × (b ≡ false)
+no_faults true false e = (refl, refl)
+no_faults true true e = cc
+no_faults false b e = cc
+
+none_of : {A : Type 0} (p : A → Bool) (xs : List A) (x : A) → list_any p xs ≡ false → Among x xs → p x ≡ false
+none_of p [] x none h = absurd h
+none_of p (y ∷ xs) x none h = let both = neither (p y) (list_any p xs) none in ⊎_elim (λ e. ap p e ∙ both.0) (λ later. none_of p xs x both.1 later) h
+  where
+    neither : (a b : Bool) → (a || b) ≡ false → (a ≡ false) × (b ≡ false)
+    neither true b e = cc
+    neither false b e = (refl, e)
+
+not_above : (m n : ℕ) → ltb m n ≡ false → n ≤ m
+not_above m n e = grind (arith, nat_tests)
+
+either_size : (n : ℕ) → ((n == 13) || (n == 14)) ≡ true → n ≤ 14
+either_size n e = grind (arith, nat_tests)
+
+module _ (parts : ShapeParts) (is : IsShape parts) where
+  pub copies_few : (kind : ℕ) → kind < 34 → copies_with parts kind ≤ 4
+  copies_few kind low =
+      not_above 4 (copies_with parts kind) (none_of (λ kind. nat_lt 4 (copies_with parts kind)) every_kind kind (no_faults (is_thirteen_or_more parts.tiles parts.melds) (has_five_seen parts) is).1 (among_range kind 0 34 (omega arith) (omega arith)))
+
+  pub tiles_few : sum parts.tiles ≤ 14
+  tiles_few = omega (arith, either_size (size parts.tiles parts.melds) (no_faults (is_thirteen_or_more parts.tiles parts.melds) (has_five_seen parts) is).0)
+
+  pub melds_few : (kind : ℕ) → kind < 34 → tiles parts.melds kind ≤ 4
+  melds_few kind low = omega (arith, copies_few kind low)
+
+  pub seen_few : (kind : ℕ) → kind < 34 → 0 < slice_index parts.tiles kind → slice_index parts.seen kind < 4
+  seen_few kind low held = omega (arith, copies_few kind low, held)
+
+-- the parts of the answer make the answer
+pub answer_is : (parts : ShapeParts) (hand : List ℕ) (melds : List Meld) (seen : List ℕ) (shanten : ℤ) (accepts : Accepts) → hand ≡ parts.tiles → melds ≡ parts.melds → seen ≡ parts.seen →
+    shanten ≡ shanten_of hand melds → accepts ≡ accepts_of (record { tiles = hand; melds = melds; seen = seen }) → ◌≡◌ {A = ShapeAnswer} (record { shanten = shanten; accepts = accepts }) (shape_of parts)
+unfolding shape_of
+answer_is parts hand melds seen shanten accepts eh em es e e' =
+    both (e ∙ ap (λ h. shanten_of h melds) eh ∙ ap (shanten_of parts.tiles) em)
+    (e' ∙ ap (λ h. accepts_of (record { tiles = h; melds = melds; seen = seen })) eh ∙ ap (λ m. accepts_of (record { tiles = parts.tiles; melds = m; seen = seen })) em ∙ ap (λ s. accepts_of (record { tiles = parts.tiles; melds = parts.melds; seen = s })) es)
+  where
+    both : {s s' : ℤ} {a a' : Accepts} → s ≡ s' → a ≡ a' → ◌≡◌ {A = ShapeAnswer} (record { shanten = s; accepts = a }) (record { shanten = s'; accepts = a' })
+    both e e' = cc

@@ -1,0 +1,112 @@
+-- The text of the accepted kinds and of the discards.
+use Rattle.std.proofs.Common.{◌≡◌, ℕ, zero, suc, ◌+◌, ◌<◌, ◌≤◌, Bool, true, false, cond, List, [], ◌∷◌, ◌++◌, map, length, take, Some, None, ltb, refl, sym, ap, ◌∙◌, inl, subst, arith}
+use Rattle.std.proofs.lemmas.Bool.Decides.{nat_tests}
+use Rattle.std.proofs.lemmas.List.{append-nil, flat_map_more}
+use Rattle.std.proofs.lemmas.List.Sums.{sum_by-cons}
+use Rattle.std.specs.List.{filter, flat_map, range_with_len}
+use Rattle.std.specs.Prelude.{nat_lt, slice_get, slice_index, sum_by}
+use Rattle.riichi_tiles.specs.Melds.{every_kind}
+use Rattle.riichi_shape.specs.LiveCopies.{live_in, pairs_of}
+use Rattle.riichi_shape.specs.Text.{discard_text, kinds_text, pair_text}
+use Rattle.riichi_shape.specs.declared.discard.Discard.{Discard}
+use Rattle.riichi_shape.proofs.Members.{Among, from_filter, from_map}
+
+-- the pairs of the kinds below a number
+unfoldable pub pairs_below : List ℕ → ℕ → List (ℕ × ℕ)
+pairs_below copies n = map (λ kind. (kind, slice_index copies kind)) (filter (λ kind. nat_lt 0 (slice_index copies kind)) (range_with_len 0 n))
+
+pub pairs_all : (copies : List ℕ) → pairs_below copies 34 ≡ pairs_of copies
+unfolding pairs_below pairs_of
+pairs_all copies = refl
+
+pub pairs_none : (copies : List ℕ) → pairs_below copies 0 ≡ []
+unfolding pairs_below
+pairs_none copies = refl
+
+chosen_last : {X : Type 0} (f : ℕ → X) (p : ℕ → Bool) (a n : ℕ) → map f (filter p (range_with_len a (suc n))) ≡ map f (filter p (range_with_len a n)) ++ cond (p (a + n)) (f (a + n) ∷ []) []
+chosen_last f p a zero = at_front (p a) ∙ ap (λ k. cond (p k) (f k ∷ []) []) (same a)
+  where
+    same : (a : ℕ) → a ≡ a + 0
+    same a = omega arith
+
+    at_front : (t : Bool) → map f (cond t (a ∷ []) []) ≡ cond t (f a ∷ []) []
+    at_front true = refl
+    at_front false = refl
+chosen_last f p a (suc n) = by_test (p a) (chosen_last f p (a + 1) n ∙ ap (λ k. map f (filter p (range_with_len (a + 1) n)) ++ cond (p k) (f k ∷ []) []) (same a n))
+  where
+    same : (a n : ℕ) → a + 1 + n ≡ a + suc n
+    same a n = omega arith
+
+    by_test : (t : Bool) → map f (filter p (range_with_len (a + 1) (suc n))) ≡ map f (filter p (range_with_len (a + 1) n)) ++ cond (p (a + suc n)) (f (a + suc n) ∷ []) [] →
+        map f (cond t (a ∷ filter p (range_with_len (a + 1) (suc n))) (filter p (range_with_len (a + 1) (suc n)))) ≡ map f (cond t (a ∷ filter p (range_with_len (a + 1) n)) (filter p (range_with_len (a + 1) n))) ++ cond (p (a + suc n)) (f (a + suc n) ∷ []) []
+    by_test true rest = ap (λ xs. f a ∷ xs) rest
+    by_test false rest = rest
+
+pairs_more : (copies : List ℕ) (n : ℕ) → pairs_below copies (n + 1) ≡ pairs_below copies n ++ cond (ltb 0 (slice_index copies n)) ((n, slice_index copies n) ∷ []) []
+unfolding pairs_below
+pairs_more copies n =
+    ap (λ m. map (λ kind. (kind, slice_index copies kind)) (filter (λ kind. nat_lt 0 (slice_index copies kind)) (range_with_len 0 m))) (next n)
+    ∙ chosen_last (λ kind. (kind, slice_index copies kind)) (λ kind. nat_lt 0 (slice_index copies kind)) 0 n
+    ∙ ap (λ k. map (λ kind. (kind, slice_index copies kind)) (filter (λ kind. nat_lt 0 (slice_index copies kind)) (range_with_len 0 n)) ++ cond (ltb 0 (slice_index copies k)) ((k, slice_index copies k) ∷ []) []) (same n)
+  where
+    next : (n : ℕ) → n + 1 ≡ suc n
+    next n = omega arith
+
+    same : (n : ℕ) → 0 + n ≡ n
+    same n = omega arith
+
+is_live : (h : ℕ) → 0 < h → ltb 0 h ≡ true
+is_live h some = grind (arith, nat_tests)
+
+not_live : (h : ℕ) → h ≤ 0 → ltb 0 h ≡ false
+not_live h none = grind (arith, nat_tests)
+
+pub text_more : (copies : List ℕ) (n : ℕ) (before : List ℕ) → 0 < slice_index copies n → (before ++ flat_map pair_text (pairs_below copies n)) ++ pair_text (n, slice_index copies n) ≡ before ++ flat_map pair_text (pairs_below copies (n + 1))
+text_more copies n before some =
+    flat_map_more pair_text before (pairs_below copies n) (n, slice_index copies n)
+    ∙ sym (ap (λ ps. before ++ flat_map pair_text ps) (pairs_more copies n ∙ ap (λ t. pairs_below copies n ++ cond t ((n, slice_index copies n) ∷ []) []) (is_live (slice_index copies n) some)))
+
+pub text_same : (copies : List ℕ) (n : ℕ) (before : List ℕ) → slice_index copies n ≤ 0 → before ++ flat_map pair_text (pairs_below copies n) ≡ before ++ flat_map pair_text (pairs_below copies (n + 1))
+text_same copies n before none =
+    sym (ap (λ ps. before ++ flat_map pair_text ps) (pairs_more copies n ∙ ap (λ t. pairs_below copies n ++ cond t ((n, slice_index copies n) ∷ []) []) (not_live (slice_index copies n) none) ∙ append-nil (pairs_below copies n)))
+
+-- ---- no kind
+
+pub kinds_some : (pairs : List (ℕ × ℕ)) → (pairs ≡ [] → ⊥) → kinds_text pairs ≡ flat_map pair_text pairs
+kinds_some [] some = absurd (some refl)
+kinds_some (pair ∷ pairs) some = refl
+
+pub empty_is : (copies : List ℕ) (pairs : List (ℕ × ℕ)) → pairs_of copies ≡ pairs → live_in pairs ≡ 0 → pairs ≡ []
+unfolding pairs_of
+empty_is copies [] e none = refl
+empty_is copies (pair ∷ pairs) e none =
+    let there = subst (λ (ps : List (ℕ × ℕ)). Among pair ps) (sym e) (inl refl) in
+    let r = from_map (λ kind. (kind, slice_index copies kind)) pair (filter (λ kind. nat_lt 0 (slice_index copies kind)) every_kind) there in
+    let t = from_filter (λ kind. nat_lt 0 (slice_index copies kind)) r.0 every_kind r.1 in
+    absurd (omega (arith, above (slice_index copies r.0) t.1, ap (λ p. p.1) r.2, sum_by-cons (λ p. p.1) pair pairs, none))
+  where
+    above : (h : ℕ) → ltb 0 h ≡ true → 0 < h
+    above h e = grind (arith, nat_tests)
+
+-- ---- discards
+
+taken : {X : Type 0} (xs : List X) (i : ℕ) (x : X) → slice_get xs i ≡ Some x → take (suc i) xs ≡ take i xs ++ x ∷ []
+taken [] i x e = cc
+taken (y ∷ xs) zero x e = same y x e xs
+  where
+    same : {X : Type 0} (y x : X) → Some y ≡ Some x → (xs : List X) → take (suc zero) (y ∷ xs) ≡ x ∷ []
+    same y x e xs = cc
+taken (y ∷ xs) (suc i) x e = ap (λ ys. y ∷ ys) (taken xs i x e)
+
+pub discard_more : (discards : List Discard) (before : List ℕ) (i : ℕ) (discard : Discard) → slice_get discards i ≡ Some discard →
+    (before ++ flat_map discard_text (take i discards)) ++ discard_text discard ≡ before ++ flat_map discard_text (take (i + 1) discards)
+discard_more discards before i discard e =
+    flat_map_more discard_text before (take i discards) discard ∙ sym (ap (λ ds. before ++ flat_map discard_text ds) (ap (λ n. take n discards) (next i) ∙ taken discards i discard e))
+  where
+    next : (n : ℕ) → n + 1 ≡ suc n
+    next n = omega arith
+
+pub some_there : {X : Type 0} (xs : List X) (i : ℕ) → i < length xs → slice_get xs i ≡ None → ⊥
+some_there [] i low e = absurd (omega arith)
+some_there (x ∷ xs) zero low e = cc
+some_there (x ∷ xs) (suc i) low e = some_there xs i (omega arith) e

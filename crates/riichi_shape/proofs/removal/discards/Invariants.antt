@@ -1,0 +1,11 @@
+use Rattle.std.proofs.Common.{◌≡◌, ◌-◌, ◌≤◌, get_or, length}
+use Rattle.std.specs.Prelude.{slice_index}
+use Rattle.riichi_rows.proofs.Spread.{spread}
+use Rattle.riichi_shape.proofs.RemovalLemmas.{discards_from}
+use Rattle.riichi_shape.proofs.removal.discards.Given as goal
+
+abbrev pub invariant-loop-number : goal.invariant-loop-number
+invariant-loop-number l = record {
+  so_far : l.list ≡ discards_from l.hand l.melds l.seen l.number (34 - l.number);
+  few : length l.list ≤ spread (slice_index l.hand) l.number (34 - l.number);
+}

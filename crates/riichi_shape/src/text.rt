@@ -1,0 +1,147 @@
+//! The text of a shape's answer.
+ghost use Rattle.std.specs.Prelude.{ℕ, ◌≡◌, ◌+◌, ◌*◌, ◌<◌, ◌≤◌, ◌++◌, length, slice_index, decimal};
+ghost use Rattle.std.specs.List.{flat_map};
+ghost use Rattle.arrayvec.specs.ArrayString.{array_string_len};
+ghost use Rattle.riichi_shape.specs.LiveCopies.{pairs_of};
+ghost use Rattle.riichi_shape.specs.Text as spec;
+
+use crate::accepts::Accepts;
+use crate::discard::Discard;
+use crate::discard_list::DiscardList;
+use crate::live_list::LiveList;
+use crate::shape_answer::ShapeAnswer;
+use arrayvec::ArrayString;
+use itoa::Buffer;
+use riichi_tiles::Kind;
+
+fn letter_of(kind: Kind) -> char
+    ensures value { result ≡ spec.letter_of kind }
+    ensures ascii { result < 128 }
+{
+    let number = kind.index();
+    if number < 9 {
+        'm'
+    } else if number < 18 {
+        'p'
+    } else if number < 27 {
+        's'
+    } else {
+        'z'
+    }
+}
+
+fn push_kind(text: &mut ArrayString<3072>, kind: Kind)
+    requires { array_string_len text.old + 2 ≤ 3072 }
+    ensures bytes { text.new.bytes ≡ text.old.bytes ++ spec.kind_text kind }
+    ensures len { array_string_len text.new ≡ array_string_len text.old + 2 }
+{
+    text.push((b'1' + kind.index() as u8 % 9) as char);
+    text.push(letter_of(kind));
+}
+
+fn push_pair(text: &mut ArrayString<3072>, kind: Kind, live: u8)
+    requires room { array_string_len text.old + 5 ≤ 3072 }
+    requires live { live ≤ 4 }
+    ensures bytes { text.new.bytes ≡ text.old.bytes ++ spec.pair_text (kind, live) }
+    ensures len { array_string_len text.new ≡ array_string_len text.old + 5 }
+{
+    text.push(' ');
+    push_kind(text, kind);
+    text.push(':');
+    text.push((b'0' + live) as char);
+}
+
+/// Writes each kind that has live copies.
+fn push_pairs(text: &mut ArrayString<3072>, copies: &[u8; 34])
+    requires room { array_string_len text.old + 170 ≤ 3072 }
+    requires few { (k : ℕ) → slice_index copies.now k ≤ 4 }
+    ensures bytes { text.new.bytes ≡ text.old.bytes ++ flat_map spec.pair_text (pairs_of copies.now) }
+    ensures len { array_string_len text.new ≤ array_string_len text.old + 170 }
+{
+    for number in 0..34u8 {
+        let live = copies[number as usize];
+        if live > 0 {
+            push_pair(text, Kind::at(number), live);
+        }
+    }
+}
+
+/// Writes the kinds of a list, or a dash.
+fn push_kinds(text: &mut ArrayString<3072>, list: &LiveList)
+    requires { array_string_len text.old + 170 ≤ 3072 }
+    ensures bytes { text.new.bytes ≡ text.old.bytes ++ spec.kinds_text list.now }
+    ensures len { array_string_len text.new ≤ array_string_len text.old + 170 }
+{
+    if list.is_empty() {
+        text.push_str(" -");
+    } else {
+        push_pairs(text, &list.copies());
+    }
+}
+
+fn push_number(text: &mut ArrayString<3072>, number: u32)
+    requires { array_string_len text.old + 10 ≤ 3072 }
+    ensures bytes { text.new.bytes ≡ text.old.bytes ++ decimal number }
+    ensures len { array_string_len text.new ≤ array_string_len text.old + 10 }
+{
+    let mut buffer = Buffer::new();
+    text.push_str(buffer.format(number));
+}
+
+#[tactic(auto, unfolding(crate::specs::Text::list_text))]
+fn push_list(text: &mut ArrayString<3072>, list: &LiveList)
+    requires { array_string_len text.old + 194 ≤ 3072 }
+    ensures bytes { text.new.bytes ≡ text.old.bytes ++ spec.list_text list.now }
+    ensures len { array_string_len text.new ≤ array_string_len text.old + 194 }
+{
+    text.push_str(" accepts");
+    push_kinds(text, list);
+    text.push_str(" live ");
+    push_number(text, list.live());
+}
+
+#[tactic(auto, unfolding(crate::specs::Text::discard_text))]
+fn push_discard(text: &mut ArrayString<3072>, discard: &Discard)
+    requires { array_string_len text.old + 205 ≤ 3072 }
+    ensures bytes { text.new.bytes ≡ text.old.bytes ++ spec.discard_text discard.now }
+    ensures len { array_string_len text.new ≤ array_string_len text.old + 205 }
+{
+    text.push_str(" discard ");
+    push_kind(text, discard.kind);
+    push_list(text, &discard.accepted);
+}
+
+fn push_discards(text: &mut ArrayString<3072>, discards: &DiscardList)
+    requires { array_string_len text.old + 2870 ≤ 3072 }
+    ensures { text.new.bytes ≡ text.old.bytes ++ flat_map spec.discard_text discards.now }
+{
+    for place in 0..discards.len() {
+        if let Some(discard) = discards.get(place) {
+            push_discard(text, &discard);
+        }
+    }
+}
+
+#[tactic(auto, unfolding(crate::specs::Text::accepts_text))]
+fn push_accepts(text: &mut ArrayString<3072>, accepts: &Accepts)
+    requires { array_string_len text.old + 2870 ≤ 3072 }
+    ensures { text.new.bytes ≡ text.old.bytes ++ spec.accepts_text accepts.now }
+{
+    match accepts {
+        Accepts::Thirteen(accepted) => push_list(text, accepted),
+        Accepts::Fourteen(discards) => push_discards(text, discards),
+    }
+}
+
+/// The answer on one line, without the line's end.
+#[tactic(auto, unfolding(crate::specs::Text::text_of))]
+pub fn shape_text(answer: &ShapeAnswer) -> ArrayString<3072>
+    ensures { result.bytes ≡ spec.text_of answer.now }
+{
+    let mut text = ArrayString::new();
+    let mut buffer = Buffer::new();
+    text.push_str("shanten ");
+    text.push_str(buffer.format(answer.shanten));
+    push_accepts(&mut text, &answer.accepts);
+    text
+}

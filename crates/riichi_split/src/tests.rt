@@ -1,0 +1,120 @@
+use super::*;
+use riichi_hand::HandRecord;
+use riichi_tiles::{Block, Counts, Kind, KindSet, Meld, Melds, read_counts};
+use std::test::Fail;
+
+fn tiles(text: &[u8]) -> Result<Counts, Fail> {
+    Ok(read_counts(text).ok().ok_or("a text of tiles")?)
+}
+
+fn count_readings(text: &[u8], melds: &Melds, winning: u8) -> Result<usize, Fail> {
+    let winning = Kind::new(winning).ok_or("a kind")?;
+    let mut count = 0usize;
+    for _reading in Readings::new(&tiles(text)?, melds, winning) {
+        count = count.saturating_add(1);
+    }
+    Ok(count)
+}
+
+// The numbers for tiles that read in many ways are an outside program's.
+#[test]
+fn gives_each_reading(rt: HostRuntime) -> Result<(), Fail> {
+    let rows: [(&[u8], u8, usize); 8] = [
+        (b"999978m444p567s22s", 8, 2),
+        (b"112233m556677p99s", 26, 2),
+        (b"1111m2233p4455s66z", 32, 0),
+        (b"66677778888999m", 7, 8),
+        (b"19m19p19s12345677z", 33, 1),
+        (b"1122m3344p5566s77z", 33, 1),
+        (b"111222333m456p77z", 0, 2),
+        (b"123456789m1122z", 27, 0),
+    ];
+    for (text, winning, count) in rows {
+        assert_eq!(rt; count_readings(text, &Melds::new(), winning)?, count);
+    }
+    let mut melds = Melds::new();
+    melds.push(Meld::Pon(Kind::at(27)));
+    assert_eq!(rt; count_readings(b"22234567778m", &melds, 7)?, 1);
+    assert_eq!(rt; count_readings(b"1122334455667m", &melds, 6)?, 0);
+    Ok(())
+}
+
+#[test]
+fn completes_the_triplet_or_the_run(rt: HostRuntime) -> Result<(), Fail> {
+    let counts = tiles(b"999978m444p567s22s")?;
+    let mut dones: [Option<Block>; 2] = [None, None];
+    let mut place = 0;
+    for reading in Readings::new(&counts, &Melds::new(), Kind::at(8)) {
+        let Reading::Standard { sets, pair, done } = reading else {
+            return Err("a standard reading".into());
+        };
+        assert_eq!(rt; pair, Kind::at(19));
+        assert_eq!(rt; sets.len(), 4);
+        assert!(rt; !sets.is_empty());
+        assert_eq!(rt; sets.get(0), Some(Block::Run(Kind::at(6))));
+        assert_eq!(rt; sets.get(1), Some(Block::Triplet(Kind::at(8))));
+        assert_eq!(rt; sets.as_slice()[2], Block::Triplet(Kind::at(12)));
+        assert_eq!(rt; sets.get(3), Some(Block::Run(Kind::at(22))));
+        assert_eq!(rt; sets.get(4), None);
+        if place < 2 {
+            dones[place] = Some(done);
+            place += 1;
+        }
+    }
+    assert_eq!(rt; dones, [Some(Block::Run(Kind::at(6))), Some(Block::Triplet(Kind::at(8)))]);
+    Ok(())
+}
+
+#[test]
+fn tells_a_win(rt: HostRuntime) -> Result<(), Fail> {
+    let rows: [(&[u8], u8, bool); 8] = [
+        (b"999978m444p567s22s", 0, true),
+        (b"1111m2233p4455s66z", 0, false),
+        (b"1122m3344p5566s77z", 0, true),
+        (b"19m19p19s12345677z", 0, true),
+        (b"22234567778m", 1, true),
+        (b"22234567778m", 5, false),
+        (b"11z", 4, true),
+        (b"1122m3344p5566s77z", 1, false),
+    ];
+    for (text, melds, won) in rows {
+        assert_eq!(rt; is_win(&tiles(text)?, melds), won);
+    }
+    Ok(())
+}
+
+fn waits_of(text: &[u8], melds: Melds) -> Result<KindSet, Fail> {
+    let hand = HandRecord::new(tiles(text)?, melds).ok().ok_or("a hand")?;
+    Ok(waits(&hand))
+}
+
+#[test]
+fn tells_the_waits(rt: HostRuntime) -> Result<(), Fail> {
+    let rows: [(&[u8], &str); 8] = [
+        (b"1112345678999m", "waits 123456789m"),
+        (b"123456789m1111z", "waits -"),
+        (b"19m19p19s1234567z", "waits 19m19p19s1234567z"),
+        (b"1133m5577p2288s4z", "waits 4z"),
+        (b"123456789m1122z", "waits 12z"),
+        (b"67789m23344440s", "waits 58m"),
+        (b"23214312144z11p", "waits 1p3z"),
+        (b"11222p55666777z", "waits 1p5z"),
+    ];
+    for (text, written) in rows {
+        assert_eq!(rt; waits_text(waits_of(text, Melds::new())?).as_str(), written);
+    }
+    let mut melds = Melds::new();
+    melds.push(Meld::Pon(Kind::at(27)));
+    let written = waits_text(waits_of(b"2223456777m", melds)?);
+    assert_eq!(rt; written.as_str(), "waits 12345678m");
+    // The melds hold all four of the only kind that would complete the hand.
+    let mut held = Melds::new();
+    held.push(Meld::Kan(Kind::at(0)));
+    assert_eq!(rt; waits_text(waits_of(b"23m456p456s22z", held)?).as_str(), "waits 4m");
+    Ok(())
+}
+
+#[test]
+fn states_the_law(_rt: HostRuntime) {
+    laws::each_collection_has_one_order();
+}
