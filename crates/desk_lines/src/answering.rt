@@ -9,6 +9,7 @@ use super::line_kind::LineKind;
 use super::outbox::Outbox;
 use riichi_hand::{Job, Rules, fault_text, read_line};
 use riichi_score::{best, win_text};
+use riichi_shape::{shape, shape_text};
 use riichi_split::{waits, waits_text};
 
 /// Puts the answer to a line into the outbox, where it has one.
@@ -39,6 +40,6 @@ fn put_job(job: &Job, outbox: &mut Outbox)
     match job {
         Job::Win(win) => outbox.put_line(win_text(&best(win)).as_str().as_bytes()),
         Job::Waits(hand) => outbox.put_line(waits_text(waits(hand)).as_str().as_bytes()),
-        Job::Shape(_) => outbox.put_line(b"shape"),
+        Job::Shape(asked) => outbox.put_line(shape_text(&shape(asked)).as_str().as_bytes()),
     }
 }

@@ -21,7 +21,7 @@ fn answer(rt: &impl Abort, text: &[u8], answers: &[u8], answered: u64, refused: 
 }
 
 #[test]
-fn wins(rt: HostRuntime) -> Result<(), Fail> {
+fn records(rt: HostRuntime) -> Result<(), Fail> {
     for (line, told) in [
         ("win 234m567m345p67s99s on=5s by=tsumo seat=S round=E", "won 2 han 20 fu 400/700 gain 1500 fully-concealed pinfu"),
         ("win 234m567m345p67s99s on=5s by=tsumo seat=E round=E counters=2 sticks=1", "won 2 han 20 fu 900 all gain 3700 fully-concealed pinfu"),
@@ -42,6 +42,11 @@ fn wins(rt: HostRuntime) -> Result<(), Fail> {
         ("win 123456789m22s34p on=2p by=ron seat=S round=E", "won 3 han 30 fu 3900 gain 3900 pinfu pure-straight"),
         ("win 123456789m22s34p on=9s by=ron seat=S round=E", "no win"),
         ("win 456m22s34p open=chi:123m,chi:678p on=2p by=ron seat=S round=E", "no yaku"),
+        ("shape 123456789m1134p", "shanten 0 accepts 2p:4 5p:4 live 8"),
+        ("shape 123456789m1134p seen=2222p", "shanten 0 accepts 5p:4 live 4"),
+        ("shape 123456789m11348p", "shanten 0 discard 8p accepts 2p:4 5p:4 live 8"),
+        ("shape 11z open=pon:222z,chi:123m,chi:123m,chi:123m", "shanten -1 discard 1z accepts 1z:2 live 2"),
+        ("shape 12z open=pon:333z,chi:123m,chi:123m,chi:123m seen=222z", "shanten 0 discard 2z accepts 1z:3 live 3 discard 1z accepts - live 0"),
         ("waits 2223456777m open=pon:111z", "waits 12345678m"),
         ("waits 123456789m1111z", "waits -"),
     ] {
