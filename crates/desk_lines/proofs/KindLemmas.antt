@@ -9,6 +9,9 @@ use Rattle.riichi_score.specs.declared.answer.WinAnswer.{WinAnswer}
 use Rattle.riichi_score.specs.declared.answer.WinAnswer.TheVariants.{Won, NoYaku, NoWin}
 use Rattle.riichi_score.specs.Best.{best_of}
 use Rattle.riichi_score.specs.Text.{text_of}
+use Rattle.riichi_shape.specs.declared.shape_answer.ShapeAnswer.{ShapeAnswer}
+use Rattle.riichi_shape.specs.Answer.{shape_of}
+use Rattle.riichi_shape.specs.Text.{text_of as shape_text}
 use Rattle.desk_lines.specs.LineAnswer.{job_text}
 use Rattle.desk_lines.specs.LineAnswers.{is_refusal}
 
@@ -22,9 +25,13 @@ is_refusal-win NoWin = refl
 is_refusal-win NoYaku = refl
 is_refusal-win (Won score) = refl
 
+is_refusal-shape : (answer : ShapeAnswer) → is_refusal (shape_text answer) ≡ false
+unfolding shape_text
+is_refusal-shape answer = refl
+
 pub is_refusal-job : (job : Job) → is_refusal (job_text job) ≡ false
 is_refusal-job (Win win) = is_refusal-win (best_of win)
 is_refusal-job (Waits hand) = refl
-is_refusal-job (Shape shape) = refl
+is_refusal-job (Shape shape) = is_refusal-shape (shape_of shape)
 
 pub ruleset kinds = (is_refusal-fault, is_refusal-job)

@@ -4,8 +4,8 @@ use Rattle.riichi_hand.specs.declared.win.Rules.{Rules}
 use Rattle.riichi_hand.specs.declared.win.Rules.TheVariants.{One}
 use Rattle.desk_streams.specs.declared.sink.Sink.{Ghosts as OfSink}
 use Rattle.desk_lines.specs.declared.report.DeskReport.{DeskReport}
-use Rattle.desk_lines.specs.declared.report.Answered.{Answered}
-use Rattle.desk_lines.specs.declared.report.Answered.TheVariants.{Nothing, Told, Refused}
+use Rattle.desk_lines.specs.declared.line_kind.LineKind.{LineKind}
+use Rattle.desk_lines.specs.declared.line_kind.LineKind.TheVariants.{NoRecord, Answered, Refused}
 use Rattle.desk_lines.specs.declared.teller.Teller.{Teller}
 use Rattle.desk_lines.specs.Profile.{profile_of, rules_of}
 use Rattle.desk_lines.specs.LineAnswer.{answer_of}
@@ -27,10 +27,10 @@ abbrev pub told_by : Option Rules → List ℕ → Option (List ℕ)
 told_by None line = if is_some (profile_of line) then None else answer_of One line
 told_by (Some rules) line = answer_of rules line
 
--- what a line was answered
-abbrev pub kind_of : Option (List ℕ) → Answered
-kind_of None = Nothing
-kind_of (Some text) = if is_refusal text then Refused else Told
+-- what a line with this answer is
+abbrev pub kind_of : Option (List ℕ) → LineKind
+kind_of None = NoRecord
+kind_of (Some text) = if is_refusal text then Refused else Answered
 
 -- one more answer is counted
 abbrev pub report_after : DeskReport → Option (List ℕ) → DeskReport

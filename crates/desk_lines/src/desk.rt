@@ -85,7 +85,8 @@ impl Desk {
             → StopsWriting ⟦<W as Sink>⟧ start writer.new fault (answers text)) }
     {
         if !self.held.is_empty() {
-            self.teller.answer(line_in(self.held.as_slice()), writer)?;
+            let last = line_in(self.held.as_slice());
+            self.teller.answer(last, writer)?;
         }
         self.teller.flush(writer)?;
         Ok(self.teller.report())

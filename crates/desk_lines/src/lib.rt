@@ -1,12 +1,26 @@
 //! The lines of the desk: what a text of hands is answered.
 //!
-//! `waits_answer` answers one hand, as the command `waits` prints it.
+//! [`desk_text`] answers the record lines that a `desk_streams::Source` gives, one line for each, and
+//! writes the answers into a `desk_streams::Sink`. It tells in a [`DeskReport`] how many were answered and
+//! how many refused, or in a [`DeskFault`] why it gave up. `waits_answer` answers one hand, as the command
+//! `waits` prints it.
+//!
+//! Inside, `Desk` cuts the bytes into lines and keeps the front of one that has not ended in a
+//! `LineBuffer`; `Teller` answers line by line, under the profile that the first line may set; `Outbox`
+//! keeps answers until they are written in one piece.
+//!
+//! ```text
+//! let mut reader = FromReader::new(rt.reader());
+//! let mut writer = ToWriter::new(io::writer(&rt));
+//! let report = desk_text(&mut reader, &mut writer)?;
+//! ```
 #![tactic(auto)]
 
 mod answering;
 mod desk;
 mod fault;
 mod line_buffer;
+mod line_kind;
 mod outbox;
 mod profile;
 mod report;
@@ -18,3 +32,6 @@ pub use fault::DeskFault;
 pub use report::DeskReport;
 pub use text::desk_text;
 pub use waits::{WaitsLine, waits_answer};
+
+#[cfg(test)]
+mod tests;

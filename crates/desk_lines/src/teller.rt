@@ -8,9 +8,10 @@ ghost use Rattle.desk_lines.specs.Teller.{told_by, rules_by, report_after, Stand
 
 use super::answering::put_answer;
 use super::fault::DeskFault;
+use super::line_kind::LineKind;
 use super::outbox::Outbox;
 use super::profile::profile_of;
-use super::report::{Answered, DeskReport};
+use super::report::DeskReport;
 use desk_streams::Sink;
 use riichi_hand::Rules;
 
@@ -104,9 +105,9 @@ impl Teller {
         ensures told { self.new.outbox.bytes.items ≡ self.old.outbox.bytes.items ++ with_line_feed (answer_of rules line.now) }
     {
         match put_answer(rules, line, &mut self.outbox) {
-            Answered::Nothing => {}
-            Answered::Told => self.report.answered += 1,
-            Answered::Refused => self.report.refused += 1,
+            LineKind::NoRecord => {}
+            LineKind::Answered => self.report.answered += 1,
+            LineKind::Refused => self.report.refused += 1,
         }
     }
 }

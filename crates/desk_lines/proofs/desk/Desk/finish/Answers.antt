@@ -22,7 +22,7 @@ returns-in_err-flush-clause-stops g c =
     rw (p.1, p.2) (λ start text holds. c.in_err-flush.ensures.stops start (lines text) (
       elim c.if-not-is_empty.branch [
         | then-not-is_empty+in_ok-answer w ↦
-            let line : w.line_in.result.now ≡ without_return c.args.self.held.bytes.items = w.line_in.ensures ∙ ap without_return w.as_slice.ensures in
+            let line : w.line_in-last.result.now ≡ without_return c.args.self.held.bytes.items = w.line_in-last.ensures ∙ ap without_return w.as_slice.ensures in
             rw (w.self-is, w.writer-is) (Stands-last sink start c.args.self c.args.writer.now text holds (λ none. search rules) w.answer.new.self w.answer.new.writer
             (subst (λ (l : List ℕ). Stands sink start (ended_lines text ++ l ∷ []) w.answer.new.self w.answer.new.writer) line (w.in_ok-answer.ensures.stands start (ended_lines text) holds.stands)))
         | else-not-is_empty w ↦ rw (w.self-is, w.writer-is) (Stands-no_last sink start c.args.self c.args.writer.now text holds (c.is_empty.ensures.0 w.if-not-is_empty.false))
@@ -34,7 +34,7 @@ returns-clause-ends g c start text holds =
     let stood : Stands sink start (lines text) c.if-not-is_empty.self.teller c.if-not-is_empty.writer =
     elim c.if-not-is_empty.branch [
       | then-not-is_empty+in_ok-answer w ↦
-          let line : w.line_in.result.now ≡ without_return c.args.self.held.bytes.items = w.line_in.ensures ∙ ap without_return w.as_slice.ensures in
+          let line : w.line_in-last.result.now ≡ without_return c.args.self.held.bytes.items = w.line_in-last.ensures ∙ ap without_return w.as_slice.ensures in
           rw (w.self-is, w.writer-is) (Stands-last sink start c.args.self c.args.writer.now text holds (λ none. search rules) w.answer.new.self w.answer.new.writer
           (subst (λ (l : List ℕ). Stands sink start (ended_lines text ++ l ∷ []) w.answer.new.self w.answer.new.writer) line (w.in_ok-answer.ensures.stands start (ended_lines text) holds.stands)))
       | else-not-is_empty w ↦ rw (w.self-is, w.writer-is) (Stands-no_last sink start c.args.self c.args.writer.now text holds (c.is_empty.ensures.0 w.if-not-is_empty.false))
