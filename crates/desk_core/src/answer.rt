@@ -1,4 +1,5 @@
 use riichi_score::WinAnswer;
+use riichi_shape::ShapeAnswer;
 use riichi_tiles::KindSet;
 
 /// What a job is worth.
@@ -7,5 +8,5 @@ pub enum Answer {
     Win(WinAnswer),
     /// The kinds that the hand waits for.
     Waits(KindSet),
-    Shape,
+    Shape(ShapeAnswer),
 }

@@ -4,6 +4,7 @@ ghost use Rattle.desk_core.specs.Value.{value_of};
 use crate::answer::Answer;
 use riichi_hand::Job;
 use riichi_score::best;
+use riichi_shape::shape;
 use riichi_split::waits;
 
 /// The value of a job: the best score of a win, the waits of a hand, or the shanten and the
@@ -15,6 +16,6 @@ pub fn judge(job: &Job) -> Answer
     match job {
         Job::Win(win) => Answer::Win(best(win)),
         Job::Waits(hand) => Answer::Waits(waits(hand)),
-        Job::Shape(_) => Answer::Shape,
+        Job::Shape(tiles) => Answer::Shape(shape(tiles)),
     }
 }

@@ -121,6 +121,9 @@ fn answers_and_their_texts(rt: HostRuntime) {
     );
     let none = waits_job(b"123456789m1111z").map(|job| judge(&job));
     assert!(rt; matches!(none, Some(answer) if answer_text(&answer).as_str() == "waits -"));
+    let shape = shape_job(b"123456789m1134p").map(|job| judge(&job));
+    let text = "shanten 0 accepts 2p:4 5p:4 live 8";
+    assert!(rt; matches!(shape, Some(answer) if answer_text(&answer).as_str() == text));
 }
 
 #[test]

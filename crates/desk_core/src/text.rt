@@ -4,6 +4,7 @@ ghost use Rattle.desk_core.specs.AnswerText as spec;
 use crate::answer::Answer;
 use arrayvec::ArrayString;
 use riichi_score::win_text;
+use riichi_shape::shape_text;
 use riichi_split::waits_text;
 
 /// The answer on one line, without the line's end.
@@ -15,7 +16,7 @@ pub fn answer_text(answer: &Answer) -> ArrayString<3072>
     match answer {
         Answer::Win(win) => text.push_str(win_text(win).as_str()),
         Answer::Waits(kinds) => text.push_str(waits_text(*kinds).as_str()),
-        Answer::Shape => {}
+        Answer::Shape(shape) => text.push_str(shape_text(shape).as_str()),
     }
     text
 }
