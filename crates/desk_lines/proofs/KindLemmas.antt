@@ -1,18 +1,18 @@
 -- Which answers begin with `refused`.
 use Rattle.std.proofs.Common.{◌≡◌, ℕ, List, true, false, refl}
 use Rattle.riichi_hand.specs.declared.job.Job.{Job}
-use Rattle.riichi_hand.specs.declared.job.Job.TheVariants.{Win, Waits, Shape}
 use Rattle.riichi_hand.specs.declared.fault.LineFault.{LineFault}
 use Rattle.riichi_hand.specs.declared.fault.LineFault.TheVariants.{Line, Notation}
 use Rattle.riichi_hand.specs.FaultTexts.{fault_text}
 use Rattle.riichi_score.specs.declared.answer.WinAnswer.{WinAnswer}
 use Rattle.riichi_score.specs.declared.answer.WinAnswer.TheVariants.{Won, NoYaku, NoWin}
-use Rattle.riichi_score.specs.Best.{best_of}
 use Rattle.riichi_score.specs.Text.{text_of}
 use Rattle.riichi_shape.specs.declared.shape_answer.ShapeAnswer.{ShapeAnswer}
-use Rattle.riichi_shape.specs.Answer.{shape_of}
 use Rattle.riichi_shape.specs.Text.{text_of as shape_text}
-use Rattle.desk_lines.specs.LineAnswer.{job_text}
+use Rattle.desk_core.specs.AnswerText.{answer_text}
+use Rattle.desk_core.specs.Value.{value_of}
+use Rattle.desk_core.specs.declared.answer.Answer.{Answer}
+use Rattle.desk_core.specs.declared.answer.Answer.TheVariants as answer
 use Rattle.desk_lines.specs.LineAnswers.{is_refusal}
 
 pub is_refusal-fault : (fault : LineFault) → is_refusal (fault_text fault) ≡ true
@@ -29,9 +29,13 @@ is_refusal-shape : (answer : ShapeAnswer) → is_refusal (shape_text answer) ≡
 unfolding shape_text
 is_refusal-shape answer = refl
 
-pub is_refusal-job : (job : Job) → is_refusal (job_text job) ≡ false
-is_refusal-job (Win win) = is_refusal-win (best_of win)
-is_refusal-job (Waits hand) = refl
-is_refusal-job (Shape shape) = is_refusal-shape (shape_of shape)
+is_refusal-answer : (answer : Answer) → is_refusal (answer_text answer) ≡ false
+unfolding answer_text
+is_refusal-answer (answer.Win win) = is_refusal-win win
+is_refusal-answer (answer.Waits kinds) = refl
+is_refusal-answer (answer.Shape shape) = is_refusal-shape shape
+
+pub is_refusal-job : (job : Job) → is_refusal (answer_text (value_of job)) ≡ false
+is_refusal-job job = is_refusal-answer (value_of job)
 
 pub ruleset kinds = (is_refusal-fault, is_refusal-job)

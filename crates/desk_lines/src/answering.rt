@@ -1,16 +1,16 @@
 //! The answer to one line.
 ghost use Rattle.std.specs.Prelude.{◌≡◌, ◌∷◌, ◌++◌, []};
-ghost use Rattle.desk_lines.specs.LineAnswer.{answer_of, job_text};
+ghost use Rattle.desk_core.specs.AnswerText.{answer_text};
+ghost use Rattle.desk_core.specs.Value.{value_of};
+ghost use Rattle.desk_lines.specs.LineAnswer.{answer_of};
 ghost use Rattle.desk_lines.specs.LineAnswers.{with_line_feed};
 ghost use Rattle.desk_lines.specs.Outbox.{HasRoom};
 ghost use Rattle.desk_lines.specs.Teller.{kind_of};
 
 use super::line_kind::LineKind;
 use super::outbox::Outbox;
+use desk_core::{answer_text, judge};
 use riichi_hand::{Job, Rules, fault_text, read_line};
-use riichi_score::{best, win_text};
-use riichi_shape::{shape, shape_text};
-use riichi_split::{waits, waits_text};
 
 /// Puts the answer to a line into the outbox, where it has one.
 #[tactic(auto, using(crate::proofs::KindLemmas::kinds), unfolding(crate::specs::LineAnswer::answer_of))]
@@ -35,11 +35,8 @@ pub(crate) fn put_answer(rules: Rules, line: &[u8], outbox: &mut Outbox) -> Line
 /// Puts the answer to a job into the outbox.
 fn put_job(job: &Job, outbox: &mut Outbox)
     requires { HasRoom outbox.old }
-    ensures { outbox.new.bytes.items ≡ outbox.old.bytes.items ++ (job_text job.now ++ 10 ∷ []) }
+    ensures { outbox.new.bytes.items ≡ outbox.old.bytes.items ++ (answer_text (value_of job.now) ++ 10 ∷ []) }
 {
-    match job {
-        Job::Win(win) => outbox.put_line(win_text(&best(win)).as_str().as_bytes()),
-        Job::Waits(hand) => outbox.put_line(waits_text(waits(hand)).as_str().as_bytes()),
-        Job::Shape(asked) => outbox.put_line(shape_text(&shape(asked)).as_str().as_bytes()),
-    }
+    let answer = judge(job);
+    outbox.put_line(answer_text(&answer).as_str().as_bytes());
 }
