@@ -1,9 +1,12 @@
 -- Sets of yaku, by their flags.
-use Rattle.std.proofs.Common.{◌≡◌, ℕ, zero, suc, ◌+◌, ◌*◌, ◌/◌, ◌%◌, ◌^◌, Bool, true, false, not, ◌||◌, cond, nat_eq, List, [], ◌∷◌, ◌++◌, replicate, get_or, refl, sym, ap, ◌∙◌, arith}
+use Rattle.std.proofs.Common.{◌≡◌, ℕ, zero, suc, ◌+◌, ◌*◌, ◌/◌, ◌%◌, ◌^◌, Bool, true, false, not, ◌||◌, cond, nat_eq, List, [], ◌∷◌, ◌++◌, replicate, length, ◌<◌, ◌≤◌, nat_le, get_or, refl, sym, ap, subst, ◌∙◌, arith}
 use Rattle.std.specs.Int.{bit_at}
 use Rattle.std.specs.List.{list_any}
 use Rattle.std.proofs.Math.Nat.{two-pow-succ, add-mul, one-mul}
 use Rattle.std.proofs.lemmas.Nat.Bits.{bit_at_lowest, bit_at-suc, bit_at-zero}
+use Rattle.std.proofs.Math.ListN.{get_or-append}
+use Rattle.std.proofs.lemmas.List.{get_or-replicate}
+use Rattle.std.proofs.lemmas.Bool.{leb-true}
 use Rattle.std.proofs.lemmas.Bool.Decides.{nat_tests}
 use Rattle.riichi_yaku.specs.YakuSets.{number_of, has_number}
 use Rattle.riichi_yaku.specs.Conditions.{yakuman_alone}
@@ -60,3 +63,23 @@ chosen false os ys e =
 
 pub number_of-yakuman_alone : (os ys : List Bool) → cond (nat_eq (number_of ys) 0) (number_of os) (2 ^ 29 * number_of ys) ≡ number_of (yakuman_alone os ys)
 number_of-yakuman_alone os ys = chosen (nat_eq (number_of ys) 0) os ys (any-number_of ys)
+
+lt-step : (b : Bool) (n p : ℕ) → n < p → cond b 1 0 + 2 * n < p + p
+lt-step true n p h = omega (arith, h)
+lt-step false n p h = omega (arith, h)
+
+number_of-lt : (flags : List Bool) → number_of flags < 2 ^ length flags
+number_of-lt [] = omega arith
+number_of-lt (b ∷ flags) = omega (arith, lt-step b (number_of flags) (2 ^ length flags) (number_of-lt flags), two-pow-succ (length flags))
+
+alone : (b : Bool) (os ys : List Bool) → length os ≡ 29 → nat_le (2 ^ 29) (number_of (cond b (replicate 29 false ++ ys) (os ++ replicate 12 false))) ≡ true → (n : ℕ) → n < 29 → get_or (cond b (replicate 29 false ++ ys) (os ++ replicate 12 false)) n false ≡ false
+alone true os ys long h n below = get_or-append (replicate 29 false) ys false n below ∙ get_or-replicate 29 n false false below
+alone false os ys long h n below =
+    let small : number_of os < 2 ^ 29 = subst (λ (k : ℕ). number_of os < 2 ^ k) long (number_of-lt os) in
+    let large : 2 ^ 29 ≤ number_of (os ++ replicate 12 false) = leb-true (2 ^ 29) (number_of (os ++ replicate 12 false)) h in
+    let same = number_of-before 12 os in
+    absurd (omega (arith, small, large, same))
+
+-- where a yakuman is in the set, no flag below the first of them is set
+pub yakuman_alone-below : (os ys : List Bool) → length os ≡ 29 → nat_le (2 ^ 29) (number_of (yakuman_alone os ys)) ≡ true → (n : ℕ) → n < 29 → get_or (yakuman_alone os ys) n false ≡ false
+yakuman_alone-below os ys = alone (list_any (λ flag. flag) ys) os ys

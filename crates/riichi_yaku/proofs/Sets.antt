@@ -1,5 +1,5 @@
 -- The set of a reading, from the answers of the families.
-use Rattle.std.proofs.Common.{◌≡◌, ℕ, List, ap, ◌∙◌}
+use Rattle.std.proofs.Common.{◌≡◌, ◌<◌, ◌^◌, ℕ, Bool, true, false, nat_le, List, refl, ap, ◌∙◌}
 use Rattle.riichi_hand.specs.declared.win.WinParts.{WinParts}
 use Rattle.riichi_split.specs.declared.reading.Reading.{Reading}
 use Rattle.riichi_yaku.specs.declared.hand_block.HandBlock.{HandBlock}
@@ -21,7 +21,7 @@ use Rattle.riichi_yaku.specs.Tiles.{tiles_of}
 use Rattle.riichi_yaku.specs.Yakuman.{yakuman_of}
 use Rattle.riichi_yaku.specs.YakuSets.{number_of, has_number}
 use Rattle.riichi_yaku.specs.Conditions.{ordinary_flags, yakuman_flags, yakuman_alone, flags_of, holds, yaku_of}
-use Rattle.riichi_yaku.proofs.Flags.{has_number-number_of}
+use Rattle.riichi_yaku.proofs.Flags.{has_number-number_of, yakuman_alone-below}
 
 abbrev pub of_families : Luck → Honours → Runs → Outside → Triplets → Tiles → Yakuman → ℕ
 of_families luck honours runs outside triplets tiles yakuman = number_of (yakuman_alone (ordinary_flags luck honours runs outside triplets tiles) (yakuman_flags yakuman))
@@ -58,3 +58,13 @@ of_families-is reading w blocks held luck honours runs outside triplets tiles ya
 pub has_number-yaku_of : (reading : Reading) (w : WinParts) (number : ℕ) → has_number (yaku_of reading w) number ≡ holds reading w number
 unfolding yaku_of holds
 has_number-yaku_of reading w number = has_number-number_of (flags_of reading w) number
+
+-- where a yakuman is in the set, none of the others is
+pub yaku_of-alone : (reading : Reading) (w : WinParts) → nat_le (2 ^ 29) (yaku_of reading w) ≡ true → (number : ℕ) → number < 29 → has_number (yaku_of reading w) number ≡ false
+unfolding yaku_of
+yaku_of-alone reading w h number below =
+    let blocks : List HandBlock = blocks_of reading w in
+    let held : List ℕ = all_tiles w in
+    let ordinary : List Bool = ordinary_flags (luck_of w) (honours_of blocks w) (runs_of blocks reading w) (outside_of blocks) (triplets_of blocks) (tiles_of reading held) in
+    has_number-number_of (flags_of reading w) number
+    ∙ yakuman_alone-below ordinary (yakuman_flags (yakuman_of blocks reading held w)) refl h number below

@@ -1,7 +1,7 @@
 //! The yaku that hold of a reading.
-ghost use Rattle.std.specs.Prelude.{◌≡◌, ◌<◌, ◌≤◌, ◌*◌, ◌^◌, ◌==◌, ℕ, length, if◌then◌else◌};
+ghost use Rattle.std.specs.Prelude.{◌≡◌, ◌<◌, ◌≤◌, ◌*◌, ◌^◌, ◌==◌, ℕ, IsTrue, false, length, if◌then◌else◌};
 ghost use Rattle.riichi_yaku.specs.Conditions as spec;
-ghost use Rattle.riichi_yaku.specs.YakuSets.{number_of, has_number};
+ghost use Rattle.riichi_yaku.specs.YakuSets.{number_of, has_number, is_yakuman};
 
 use crate::honours::{Honours, honours_of};
 use crate::luck::{Luck, luck_of};
@@ -19,6 +19,7 @@ use riichi_split::Reading;
 pub fn yaku(reading: &Reading, win: &WinRecord) -> YakuSet
     ensures value { result ≡ spec.yaku_of reading.now win.now }
     ensures each { (number : ℕ) → has_number result number ≡ spec.holds reading.now win.now number }
+    ensures alone { IsTrue (is_yakuman result) → (number : ℕ) → number < 29 → has_number result number ≡ false }
 {
     let blocks = blocks_of(reading, win);
     let blocks = blocks.as_slice();

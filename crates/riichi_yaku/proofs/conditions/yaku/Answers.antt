@@ -1,8 +1,8 @@
-use Rattle.std.proofs.Common.{◌*◌, ◌^◌, ap, ◌∙◌, cond, nat_eq, List, Bool}
+use Rattle.std.proofs.Common.{◌*◌, ◌^◌, ap, sym, nat_le, ◌∙◌, cond, nat_eq, List, Bool}
 use Rattle.riichi_yaku.specs.YakuSets.{number_of, has_number}
 use Rattle.riichi_yaku.specs.Conditions.{ordinary_flags, yakuman_flags}
 use Rattle.riichi_yaku.proofs.Flags.{number_of-yakuman_alone}
-use Rattle.riichi_yaku.proofs.Sets.{AreFamilies, of_families-is, has_number-yaku_of}
+use Rattle.riichi_yaku.proofs.Sets.{AreFamilies, of_families-is, has_number-yaku_of, yaku_of-alone}
 use Rattle.riichi_yaku.proofs.conditions.yaku.Goals as goal
 
 pub returns-clause-value : goal.returns-clause-value
@@ -37,3 +37,8 @@ returns-clause-value c =
 
 pub returns-clause-each : goal.returns-clause-each
 returns-clause-each c = λ number. ap (λ set. has_number set number) (returns-clause-value c) ∙ has_number-yaku_of c.args.reading.now c.args.win.now number
+
+pub returns-clause-alone : goal.returns-clause-alone
+returns-clause-alone c = λ yakuman number below.
+    let is = returns-clause-value c in
+    ap (λ set. has_number set number) is ∙ yaku_of-alone c.args.reading.now c.args.win.now (ap (nat_le (2 ^ 29)) (sym is) ∙ yakuman) number below
