@@ -1,5 +1,5 @@
 -- A win has one best answer.
-use Rattle.std.proofs.Common.{◌≡◌, ℕ, ◌+◌, ◌<◌, Bool, true, false, cond, Option, Some, None, List, [], ◌∷◌, length, refl, sym, ap, ◌∙◌, subst, ltb, leb, eqb, arith}
+use Rattle.std.proofs.Common.{◌≡◌, ℕ, Bool, true, false, cond, Some, None, List, [], ◌∷◌, length, refl, sym, ap, ◌∙◌, subst, ltb, eqb, arith}
 use Rattle.std.proofs.lemmas.Bool.Decides.{nat_tests}
 use Rattle.riichi_hand.specs.declared.win.WinParts.{WinParts}
 use Rattle.riichi_split.specs.declared.reading.Reading.{Reading}
@@ -10,8 +10,8 @@ use Rattle.riichi_score.specs.declared.answer.WinAnswer.{WinAnswer}
 use Rattle.riichi_score.specs.declared.answer.WinAnswer.TheVariants.{Won, NoYaku, NoWin}
 use Rattle.riichi_score.specs.Dora.{dora_of}
 use Rattle.riichi_score.specs.Fu.{fu_of}
-use Rattle.riichi_score.specs.Scores.{with_base, limit, counted, scored, score_of, IsReadingOf}
-use Rattle.riichi_score.specs.Best.{rank, is_above, IsBestOf, IsBest}
+use Rattle.riichi_score.specs.Scores.{with_base, limit, counted, score_of}
+use Rattle.riichi_score.specs.Best.{rank, is_above, IsBest}
 
 -- ---- the rank tells the score
 

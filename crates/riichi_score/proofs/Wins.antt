@@ -1,11 +1,10 @@
 -- What the type of a win record says of its parts.
-use Rattle.std.proofs.Common.{◌≡◌, ℕ, ◌+◌, ◌*◌, ◌<◌, ◌≤◌, Bool, true, false, not, ◌||◌, Option, Some, None, List, [], ◌∷◌, length, drop, refl, ltb, arith, subst, get_or, ◌∙◌, ap, sym, eqb, cond}
+use Rattle.std.proofs.Common.{◌≡◌, ℕ, ◌+◌, ◌*◌, ◌<◌, ◌≤◌, Bool, true, false, not, ◌||◌, Option, None, List, ◌∷◌, length, drop, refl, ltb, arith, get_or, ◌∙◌, ap, sym, eqb, cond}
 use Rattle.std.proofs.lemmas.Bool.Decides.{nat_tests}
 use Rattle.std.proofs.lemmas.List.Folds.{list_any_at}
 use Rattle.std.proofs.lemmas.List.FromFn.{get_or-range_with_len, length-range_with_len}
 use Rattle.std.specs.List.{sum, list_any, range_with_len}
 use Rattle.riichi_tiles.specs.Melds.{tiles}
-use Rattle.riichi_hand.specs.declared.fault.LineCode.{LineCode}
 use Rattle.riichi_hand.specs.declared.fault.LineCode.TheVariants.{H4, H8, H9}
 use Rattle.riichi_hand.specs.declared.fault.LineFault.{LineFault}
 use Rattle.riichi_hand.specs.declared.win.WinParts.{WinParts}

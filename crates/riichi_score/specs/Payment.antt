@@ -1,5 +1,5 @@
 -- What a win pays, and what the winner gains.
-use Rattle.std.specs.Prelude.{ℕ, ◌+◌, ◌*◌, ◌/◌, Bool, true, false, if◌then◌else◌}
+use Rattle.std.specs.Prelude.{ℕ, ◌+◌, ◌*◌, ◌/◌, Bool, if◌then◌else◌}
 use Rattle.riichi_hand.specs.declared.win.By.{By}
 use Rattle.riichi_hand.specs.declared.win.By.TheVariants as by
 use Rattle.riichi_hand.specs.declared.win.WinParts.{WinParts}

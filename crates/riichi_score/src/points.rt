@@ -8,7 +8,8 @@ use riichi_split::Reading;
 use riichi_tiles::{Block, Kind};
 use riichi_yaku::{HandBlock, blocks_of, is_orphan, is_pinfu, is_ron, pair_fu, wait_fu};
 
-/// The fu of a reading of the win. That of a standard reading is rounded up to the next ten.
+/// The fu of a reading of the win, whose sets and melds are four. That of a standard reading is the sum
+/// of its rows, rounded up to the next ten; seven pairs have 25, thirteen orphans none.
 #[tactic(auto, unfolding(crate::specs::Fu::fu_of))]
 pub fn fu(reading: &Reading, win: &WinRecord) -> u8
     requires { spec.HasFourSets reading.now win.now }

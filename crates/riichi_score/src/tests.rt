@@ -22,7 +22,7 @@ fn answers(rt: &impl Abort, rules: Rules, rows: &[(&str, &str)]) -> Result<(), F
 }
 
 #[test]
-fn the_first_profile(rt: HostRuntime) -> Result<(), Fail> {
+fn runs_and_draws(rt: HostRuntime) -> Result<(), Fail> {
     answers(
         &rt,
         Rules::One,
@@ -40,9 +40,46 @@ fn the_first_profile(rt: HostRuntime) -> Result<(), Fail> {
                 "won yakuman 16000 all gain 48000 blessing-of-heaven",
             ),
             (
+                "win 123456789m22s34p on=2p by=ron seat=S round=E",
+                "won 3 han 30 fu 3900 gain 3900 pinfu pure-straight",
+            ),
+            ("win 123456789m22s34p on=9s by=ron seat=S round=E", "no win"),
+        ],
+    )
+}
+
+#[test]
+fn open_hands(rt: HostRuntime) -> Result<(), Fail> {
+    answers(
+        &rt,
+        Rules::One,
+        &[
+            (
                 "win 567m345p67s88s open=chi:234m on=5s by=ron seat=S round=E",
                 "won 1 han 30 fu 1000 gain 1000 all-simples",
             ),
+            (
+                "win 234m567m34p99s open=ankan:1111z on=2p by=tsumo seat=S round=E flags=rinshan dora=1p",
+                "won 4 han 60 fu 2000/4000 gain 8000 fully-concealed prevalent-wind after-a-kong dora 1",
+            ),
+            (
+                "win 11223m789p99s open=pon:111z on=3m by=ron seat=S round=E",
+                "won 2 han 30 fu 2000 gain 2000 prevalent-wind outside-hand",
+            ),
+            (
+                "win 456m22s34p open=chi:123m,chi:678p on=2p by=ron seat=S round=E",
+                "no yaku",
+            ),
+        ],
+    )
+}
+
+#[test]
+fn several_readings(rt: HostRuntime) -> Result<(), Fail> {
+    answers(
+        &rt,
+        Rules::One,
+        &[
             (
                 "win 111222333p78m99s on=9m by=ron seat=S round=E",
                 "won 5 han 30 fu 8000 gain 8000 pinfu pure-double-chow terminals-in-all-sets",
@@ -67,16 +104,12 @@ fn the_first_profile(rt: HostRuntime) -> Result<(), Fail> {
                 "win 234m567m345p67s11z on=8s by=ron seat=E round=E riichi=1",
                 "won 1 han 40 fu 2000 gain 2000 riichi",
             ),
-            (
-                "win 234m567m34p99s open=ankan:1111z on=2p by=tsumo seat=S round=E flags=rinshan dora=1p",
-                "won 4 han 60 fu 2000/4000 gain 8000 fully-concealed prevalent-wind after-a-kong dora 1",
-            ),
         ],
     )
 }
 
 #[test]
-fn triplets_yakuman_and_none(rt: HostRuntime) -> Result<(), Fail> {
+fn triplets_and_yakuman(rt: HostRuntime) -> Result<(), Fail> {
     answers(
         &rt,
         Rules::One,
@@ -97,72 +130,70 @@ fn triplets_yakuman_and_none(rt: HostRuntime) -> Result<(), Fail> {
                 "win 1112345678999m on=5m by=ron seat=S round=E riichi=1 dora=4m",
                 "won yakuman 32000 gain 32000 nine-gates",
             ),
-            (
-                "win 123456789m22s34p on=2p by=ron seat=S round=E",
-                "won 3 han 30 fu 3900 gain 3900 pinfu pure-straight",
-            ),
-            ("win 123456789m22s34p on=9s by=ron seat=S round=E", "no win"),
-            (
-                "win 456m22s34p open=chi:123m,chi:678p on=2p by=ron seat=S round=E",
-                "no yaku",
-            ),
-            (
-                "win 11223m789p99s open=pon:111z on=3m by=ron seat=S round=E",
-                "won 2 han 30 fu 2000 gain 2000 prevalent-wind outside-hand",
-            ),
         ],
     )
 }
 
-/// Red fives and raised base points: what the first profile says of the lines, and then the second.
+// A red five, four han 30 fu, three han 60 fu; a red five that wins; one in a meld; no yaku.
+const STRAIGHT: &str = "win 123406789m22s34p on=2p by=ron seat=S round=E";
+
+const INDICATED: &str = "win 123456789m22s34p on=2p by=ron seat=S round=E dora=1p";
+
+const KONG: &str =
+    "win 234m567m34p99s open=ankan:1111z on=2p by=tsumo seat=S round=E flags=rinshan";
+
+const PINFU: &str = "win 234m067m345p67s99s on=0s by=ron seat=S round=E";
+
+const SIMPLES: &str = "win 567m345p67s88s open=chi:340m on=5s by=ron seat=S round=E";
+
+const NOTHING: &str = "win 406m22s34p open=chi:123m,chi:678p on=2p by=ron seat=S round=E";
+
 #[test]
-fn both_profiles(rt: HostRuntime) -> Result<(), Fail> {
-    let straight = "win 123406789m22s34p on=2p by=ron seat=S round=E";
-    let indicated = "win 123456789m22s34p on=2p by=ron seat=S round=E dora=1p";
-    let kong = "win 234m567m34p99s open=ankan:1111z on=2p by=tsumo seat=S round=E flags=rinshan";
-    let pinfu = "win 234m067m345p67s99s on=0s by=ron seat=S round=E";
-    let simples = "win 567m345p67s88s open=chi:340m on=5s by=ron seat=S round=E";
-    let nothing = "win 406m22s34p open=chi:123m,chi:678p on=2p by=ron seat=S round=E";
+fn the_first_profile(rt: HostRuntime) -> Result<(), Fail> {
     answers(
         &rt,
         Rules::One,
         &[
             (
-                straight,
+                STRAIGHT,
                 "won 3 han 30 fu 3900 gain 3900 pinfu pure-straight",
             ),
             (
-                indicated,
+                INDICATED,
                 "won 4 han 30 fu 7700 gain 7700 pinfu pure-straight dora 1",
             ),
             (
-                kong,
+                KONG,
                 "won 3 han 60 fu 2000/3900 gain 7900 fully-concealed prevalent-wind after-a-kong",
             ),
-            (pinfu, "won 1 han 30 fu 1000 gain 1000 pinfu"),
-            (simples, "won 1 han 30 fu 1000 gain 1000 all-simples"),
-            (nothing, "no yaku"),
+            (PINFU, "won 1 han 30 fu 1000 gain 1000 pinfu"),
+            (SIMPLES, "won 1 han 30 fu 1000 gain 1000 all-simples"),
+            (NOTHING, "no yaku"),
         ],
-    )?;
+    )
+}
+
+#[test]
+fn the_second_profile(rt: HostRuntime) -> Result<(), Fail> {
     answers(
         &rt,
         Rules::Two,
         &[
             (
-                straight,
+                STRAIGHT,
                 "won 4 han 30 fu 8000 gain 8000 pinfu pure-straight dora 1",
             ),
             (
-                indicated,
+                INDICATED,
                 "won 4 han 30 fu 8000 gain 8000 pinfu pure-straight dora 1",
             ),
             (
-                kong,
+                KONG,
                 "won 3 han 60 fu 2000/4000 gain 8000 fully-concealed prevalent-wind after-a-kong",
             ),
-            (pinfu, "won 3 han 30 fu 3900 gain 3900 pinfu dora 2"),
-            (simples, "won 2 han 30 fu 2000 gain 2000 all-simples dora 1"),
-            (nothing, "no yaku"),
+            (PINFU, "won 3 han 30 fu 3900 gain 3900 pinfu dora 2"),
+            (SIMPLES, "won 2 han 30 fu 2000 gain 2000 all-simples dora 1"),
+            (NOTHING, "no yaku"),
         ],
     )
 }

@@ -1,11 +1,10 @@
-use Rattle.std.proofs.Common.{◌≡◌, List, ◌∙◌, sym, subst, ap}
+use Rattle.std.proofs.Common.{List, sym, subst}
 use Rattle.riichi_tiles.specs.Tiles.{IsCounts}
 use Rattle.riichi_split.specs.declared.reading.Reading.{Reading}
 use Rattle.riichi_score.proofs.Greatest.{AreReadingsOf, AreReadingsOf-from, so_far-more, next_has_four_sets, best-end, best_of-IsBest}
 use Rattle.riichi_score.proofs.Uniqueness.{same_best}
 use Rattle.riichi_score.proofs.Wins.{four_melds}
 use Rattle.riichi_score.specs.Best as spec
-use Rattle.riichi_score.specs.Scores.{hand_of}
 use Rattle.riichi_score.proofs.answer.best.Goals as goal
 
 pub score_of-requires-clause-sets : goal.score_of-requires-clause-sets

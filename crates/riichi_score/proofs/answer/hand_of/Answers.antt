@@ -1,4 +1,4 @@
-use Rattle.std.proofs.Common.{◌≡◌, ℕ, ◌<◌, subst, sym, arith, rules, get_or}
+use Rattle.std.proofs.Common.{◌<◌, subst, sym, rules, get_or}
 use Rattle.riichi_hand.specs.declared.win.WinParts.{WinParts}
 use Rattle.riichi_score.proofs.Wins.{room_for_winning}
 use Rattle.riichi_score.proofs.answer.hand_of.Goals as goal

@@ -1,4 +1,4 @@
-use Rattle.std.proofs.Common.{◌≡◌, ◌+◌, ℕ, sym, ◌∙◌, ap, sum_by, arith}
+use Rattle.std.proofs.Common.{◌≡◌, ◌+◌, sym, ◌∙◌, ap, sum_by, arith}
 use Rattle.std.specs.List.{range_with_len}
 use Rattle.riichi_score.specs.Dora.{kind_dora}
 use Rattle.riichi_score.proofs.DoraSums.{kinds_more, most}
