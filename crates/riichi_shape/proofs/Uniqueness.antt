@@ -1,12 +1,13 @@
 -- The distance is one number: the least lack over the list of every winning multiset.
-use Rattle.std.proofs.Common.{◌≡◌, ℕ, zero, suc, ◌+◌, ◌-◌, ◌<◌, ◌≤◌, ◌%◌, Bool, true, false, cond, ◌⊎◌, inl, inr, List, [], ◌∷◌, ◌++◌, map, length, get_or, eqb, leb, refl, sym, ap, ◌∙◌, ⊎_elim, subst, arith}
-use Rattle.std.proofs.lemmas.Bool.{cases_lt, false≢true}
+use Rattle.std.proofs.Common.{◌≡◌, ℕ, zero, suc, ◌+◌, ◌-◌, ◌<◌, ◌≤◌, ◌%◌, Bool, true, false, cond, ◌⊎◌, inl, inr, List, [], ◌∷◌, ◌++◌, map, length, get_or, eqb, leb, ltb, refl, sym, ap, ◌∙◌, ⊎_elim, subst, arith}
+use Rattle.std.proofs.lemmas.Bool.{false≢true, lt-ltb, ltb-true}
 use Rattle.std.proofs.lemmas.Bool.Decides.{nat_tests}
 use Rattle.std.proofs.lemmas.List.Elements.{All-nil, All-cons, All-head, All-tail}
 use Rattle.std.specs.List.{filter, list_any, range_with_len}
-use Rattle.std.specs.Prelude.{All, IsTrue, slice_index, sum_by, nat_le, ◌==◌, ◌||◌}
+use Rattle.std.specs.Prelude.{All, IsTrue, slice_index, sum_by, nat_le, ◌==◌, ◌&&◌, ◌||◌}
 use Rattle.riichi_tiles.specs.Blocks.{IsSet, IsRunLow, copies, total}
-use Rattle.riichi_tiles.specs.Melds.{every_kind, is_run, tiles}
+use Rattle.riichi_tiles.specs.Melds.{every_kind, tiles}
+use Rattle.riichi_tiles.specs.Tiles.{begins_run}
 use Rattle.riichi_tiles.specs.declared.block.Block.{Block}
 use Rattle.riichi_tiles.specs.declared.block.Block.TheVariants.{Run, Triplet, Pair}
 use Rattle.riichi_tiles.specs.declared.meld.Meld.{Meld}
@@ -37,38 +38,34 @@ lacking_same hand w v same =
 
 -- ---- sets
 
-is_run_of : (low : ℕ) → IsRunLow low → is_run low ≡ true
-is_run_of low is = by_suit low (split low is.0 is.1)
+begins_at : (low : ℕ) → IsRunLow low → begins_run low ≡ true
+begins_at low is = both (ltb low 27) (ltb (low % 9) 7) (lt-ltb low 27 is.0) (lt-ltb (low % 9) 7 is.1)
   where
-    split : (low : ℕ) → low < 27 → low % 9 < 7 → (low ≤ 6) ⊎ ((9 ≤ low) × (low ≤ 15)) ⊎ ((18 ≤ low) × (low ≤ 24))
-    split low h m = ⊎_elim (λ a. inl (omega arith)) (λ a. inr (⊎_elim (λ b. inl (omega arith, omega arith)) (λ b. inr (omega arith, omega arith)) (cases_lt low 18))) (cases_lt low 9)
+    both : (a b : Bool) → a ≡ true → b ≡ true → (a && b) ≡ true
+    both true b e h = h
+    both false b e h = e
 
-    by_suit : (low : ℕ) → (low ≤ 6) ⊎ ((9 ≤ low) × (low ≤ 15)) ⊎ ((18 ≤ low) × (low ≤ 24)) → is_run low ≡ true
-    by_suit low h = grind (arith, nat_tests)
-
-run_low : (low : ℕ) → is_run low ≡ true → IsRunLow low
-run_low low e = by_suit low (split low e)
+run_low : (low : ℕ) → begins_run low ≡ true → IsRunLow low
+run_low low e = let t = both (ltb low 27) (ltb (low % 9) 7) e in (ltb-true low 27 t.0, ltb-true (low % 9) 7 t.1)
   where
-    split : (low : ℕ) → is_run low ≡ true → (low ≤ 6) ⊎ ((9 ≤ low) × (low ≤ 15)) ⊎ ((18 ≤ low) × (low ≤ 24))
-    split low e = grind (arith, nat_tests)
-
-    by_suit : (low : ℕ) → (low ≤ 6) ⊎ ((9 ≤ low) × (low ≤ 15)) ⊎ ((18 ≤ low) × (low ≤ 24)) → IsRunLow low
-    by_suit low h = ⊎_elim (λ a. (omega arith, omega arith)) (λ rest. ⊎_elim (λ a. (let l = a.0 in let m = a.1 in (omega arith, omega arith))) (λ a. (let l = a.0 in let m = a.1 in (omega arith, omega arith))) rest) h
+    both : (a b : Bool) → (a && b) ≡ true → (a ≡ true) × (b ≡ true)
+    both true b e = (refl, e)
+    both false b e = absurd (false≢true e)
 
 among_sets : (b : Block) → IsSet b → Among b every_set
 unfolding every_set
 among_sets (Run low) is =
-    among_right (Run low) (map Triplet every_kind) (map Run (filter is_run every_kind))
-    (among_map Run low (filter is_run every_kind) (among_filter is_run low every_kind (among_range low 0 34 (omega arith) (omega (arith, is.0))) (is_run_of low is)))
-among_sets (Triplet held) is = among_left (Triplet held) (map Triplet every_kind) (map Run (filter is_run every_kind)) (among_map Triplet held every_kind (among_range held 0 34 (omega arith) (omega arith)))
+    among_right (Run low) (map Triplet every_kind) (map Run (filter begins_run every_kind))
+    (among_map Run low (filter begins_run every_kind) (among_filter begins_run low every_kind (among_range low 0 34 (omega arith) (omega (arith, is.0))) (begins_at low is)))
+among_sets (Triplet held) is = among_left (Triplet held) (map Triplet every_kind) (map Run (filter begins_run every_kind)) (among_map Triplet held every_kind (among_range held 0 34 (omega arith) (omega arith)))
 among_sets (Pair held) is = absurd is
 
 from_sets : (b : Block) → Among b every_set → IsSet b
 unfolding every_set
 from_sets b h =
     ⊎_elim (λ triplets. (let r = from_map Triplet b every_kind triplets in subst (λ (v : Block). IsSet v) (sym r.2) (from_range r.0 0 34 r.1).1))
-    (λ runs. (let r = from_map Run b (filter is_run every_kind) runs in subst (λ (v : Block). IsSet v) (sym r.2) (run_low r.0 (from_filter is_run r.0 every_kind r.1).1)))
-    (among_either b (map Triplet every_kind) (map Run (filter is_run every_kind)) h)
+    (λ runs. (let r = from_map Run b (filter begins_run every_kind) runs in subst (λ (v : Block). IsSet v) (sym r.2) (run_low r.0 (from_filter begins_run r.0 every_kind r.1).1)))
+    (among_either b (map Triplet every_kind) (map Run (filter begins_run every_kind)) h)
 
 each_set : (bs : List Block) → All IsSet bs → (b : Block) → Among b bs → Among b every_set
 each_set [] all b h = absurd h

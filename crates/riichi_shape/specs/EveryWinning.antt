@@ -2,7 +2,8 @@
 use Rattle.std.specs.Prelude.{ℕ, zero, suc, ◌+◌, ◌-◌, ◌==◌, Bool, nat_le, min, ℤ, pos, ◌-ℤ◌, List, [], ◌∷◌, ◌++◌, map, filter, length, slice_index, sum_by}
 use Rattle.std.specs.List.{flat_map, list_all}
 use Rattle.riichi_tiles.specs.Blocks.{total}
-use Rattle.riichi_tiles.specs.Melds.{every_kind, is_run, tiles}
+use Rattle.riichi_tiles.specs.Melds.{every_kind, tiles}
+use Rattle.riichi_tiles.specs.Tiles.{begins_run}
 use Rattle.riichi_tiles.specs.declared.block.Block.{Block}
 use Rattle.riichi_tiles.specs.declared.block.Block.TheVariants.{Run, Triplet, Pair}
 use Rattle.riichi_tiles.specs.declared.meld.Meld.{Meld}
@@ -16,7 +17,7 @@ lists_of things (suc n) = flat_map (λ first. map (λ rest. first ∷ rest) (lis
 
 -- every triplet and every run
 unfoldable pub every_set : List Block
-every_set = map Triplet every_kind ++ map Run (filter is_run every_kind)
+every_set = map Triplet every_kind ++ map Run (filter begins_run every_kind)
 
 -- the multiset of some blocks
 unfoldable pub counts_of : List Block → List ℕ
