@@ -1,24 +1,24 @@
 -- The distance is one number: the least lack over the list of every winning multiset.
-use Rattle.std.proofs.Common.{◌≡◌, ℕ, zero, suc, ◌+◌, ◌-◌, ◌<◌, ◌≤◌, ◌%◌, Bool, true, false, cond, ◌⊎◌, inl, inr, List, [], ◌∷◌, ◌++◌, map, length, get_or, eqb, leb, ltb, refl, sym, ap, ◌∙◌, ⊎_elim, subst, arith}
+use Rattle.std.proofs.Common.{◌≡◌, ℕ, zero, suc, ◌+◌, ◌-◌, ◌<◌, ◌≤◌, ◌%◌, Bool, true, false, inl, inr, List, [], ◌∷◌, ◌++◌, map, length, eqb, leb, ltb, refl, sym, ap, ◌∙◌, ⊎_elim, subst, arith}
 use Rattle.std.proofs.lemmas.Bool.{false≢true, lt-ltb, ltb-true}
 use Rattle.std.proofs.lemmas.Bool.Decides.{nat_tests}
 use Rattle.std.proofs.lemmas.List.Elements.{All-nil, All-cons, All-head, All-tail}
-use Rattle.std.specs.List.{filter, list_any, range_with_len}
-use Rattle.std.specs.Prelude.{All, IsTrue, slice_index, sum_by, nat_le, ◌==◌, ◌&&◌, ◌||◌}
-use Rattle.riichi_tiles.specs.Blocks.{IsSet, IsRunLow, copies, total}
+use Rattle.std.specs.List.{filter, list_any}
+use Rattle.std.specs.Prelude.{All, slice_index, sum_by, nat_le, ◌==◌, ◌&&◌, ◌||◌}
+use Rattle.riichi_tiles.specs.Blocks.{IsSet, IsRunLow, total}
 use Rattle.riichi_tiles.specs.Melds.{every_kind, tiles}
 use Rattle.riichi_tiles.specs.Tiles.{begins_run}
 use Rattle.riichi_tiles.specs.declared.block.Block.{Block}
 use Rattle.riichi_tiles.specs.declared.block.Block.TheVariants.{Run, Triplet, Pair}
 use Rattle.riichi_tiles.specs.declared.meld.Meld.{Meld}
-use Rattle.riichi_rows.proofs.Spread.{spread, sum_range, spread_shift, eqb_is, is_eqb}
+use Rattle.riichi_rows.proofs.Spread.{sum_range, spread_shift, eqb_is, is_eqb}
 use Rattle.riichi_shape.specs.Distance.{IsDistance}
 use Rattle.riichi_shape.specs.EveryWinning.{lists_of, every_set, counts_of, every_sets_and_pair, every_seven_pairs, every_orphans, every_special, is_within_four, every_winning, least, distance_of}
-use Rattle.riichi_shape.specs.Orphans.{IsThirteenOrphans, is_orphan, orphan_kinds, orphan_tiles}
+use Rattle.riichi_shape.specs.Orphans.{IsThirteenOrphans, orphan_kinds, orphan_tiles}
 use Rattle.riichi_shape.specs.Pairs.{IsSevenPairs}
 use Rattle.riichi_shape.specs.Winning.{HasWinningForm, IsSetsAndPair, IsWinning, WithinFour, lacking}
 use Rattle.riichi_shape.proofs.OrphanLemmas.{or_true}
-use Rattle.riichi_shape.proofs.Members.{Among, IsListOf, all_among, all_of, among_either, among_filter, among_flat_map, among_get_or, among_left, among_lists, among_map, among_range, among_right, from_filter, from_flat_map, from_lists, from_map, from_range, least_is, length_map_range, map_range_at}
+use Rattle.riichi_shape.proofs.Members.{Among, all_among, all_of, among_either, among_filter, among_flat_map, among_get_or, among_left, among_lists, among_map, among_range, among_right, from_filter, from_flat_map, from_lists, from_map, from_range, least_is, length_map_range, map_range_at}
 
 -- two multisets with the same tiles
 pub record SameTiles (w v : List ℕ) : Type 0 where
