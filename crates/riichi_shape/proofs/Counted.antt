@@ -1,9 +1,9 @@
 -- Sets and a pair as one list of blocks.
-use Rattle.std.proofs.Common.{◌≡◌, ℕ, zero, suc, ◌+◌, ◌*◌, ◌<◌, ◌≤◌, ◌%◌, ◌/◌, ◌⊎◌, inl, inr, List, [], ◌∷◌, length, map, refl, sym, ap, ◌∙◌, arith}
+use Rattle.std.proofs.Common.{◌≡◌, ℕ, ◌+◌, ◌<◌, List, [], ◌∷◌, length, refl, ◌∙◌, arith}
 use Rattle.std.proofs.lemmas.List.Elements.{All-nil, All-cons, All-head, All-tail}
 use Rattle.std.proofs.lemmas.List.Sums.{sum_by-cons}
-use Rattle.std.specs.Prelude.{All, count_by, sum_by, slice_index}
-use Rattle.riichi_tiles.specs.Blocks.{IsSet, IsRunLow, copies, total}
+use Rattle.std.specs.Prelude.{All, count_by, slice_index}
+use Rattle.riichi_tiles.specs.Blocks.{IsSet, IsRunLow, total}
 use Rattle.riichi_tiles.specs.declared.block.Block.{Block}
 use Rattle.riichi_tiles.specs.declared.block.Block.TheVariants.{Run, Triplet, Pair}
 use Rattle.riichi_rows.specs.Suit.{is_set, is_pair}

@@ -4,10 +4,10 @@ use Rattle.std.proofs.lemmas.List.Sums.{sum_by-cons}
 use Rattle.std.proofs.lemmas.List.{append-nil, drop_all, length-drop, length-take-le, set-append_right, take_all}
 use borrow.Rule.Slice.PartMut.{put_mid}
 use Rattle.std.proofs.lemmas.Bool.{lt-ltb}
-use Rattle.std.specs.Prelude.{count_by, is_some, nat_le, nat_lt, sum_by, unwrap_or}
+use Rattle.std.specs.Prelude.{count_by, is_some, nat_le, nat_lt, unwrap_or}
 use Rattle.std.specs.List.{position, position_or_len}
 use Rattle.riichi_shape.specs.declared.discard.Discard.{Discard}
-use Rattle.riichi_shape.specs.Discards.{discards_in, gives_way, in_order, inserted, live_with, placed}
+use Rattle.riichi_shape.specs.Discards.{discards_in, gives_way, inserted, live_with, placed}
 
 abbrev one_if : Option Discard → ℕ
 one_if place = cond (is_some place) 1 0

@@ -1,11 +1,10 @@
 -- The join of four suit rows is the least lack over the winning multisets by sets and a pair.
-use Rattle.std.proofs.Common.{◌≡◌, ℕ, zero, suc, ◌+◌, ◌-◌, ◌<◌, ◌≤◌, Bool, true, false, IsTrue, ◌⊎◌, inl, inr, List, [], ◌∷◌, ◌++◌, get_or, refl, sym, ap, ◌∙◌, ⊎_elim, subst, Option, Some, None, arith}
+use Rattle.std.proofs.Common.{◌≡◌, ℕ, ◌+◌, ◌-◌, ◌<◌, ◌≤◌, Bool, true, false, IsTrue, ◌⊎◌, inl, inr, List, [], ◌∷◌, ◌++◌, refl, sym, ap, ◌∙◌, ⊎_elim, subst, Option, Some, None, arith}
 use Rattle.std.proofs.lemmas.Bool.{cases_lt}
 use Rattle.std.proofs.lemmas.Bool.Decides.{nat_tests}
 use Rattle.std.proofs.lemmas.List.Elements.{All-head, All-tail, All-append}
-use Rattle.std.proofs.lemmas.List.Sums.{sum_by-cons, sum_by-append}
-use Rattle.std.specs.Prelude.{All, slice_index, sum_by, count_by, ◌↔◌}
-use Rattle.std.specs.List.{range_with_len}
+use Rattle.std.proofs.lemmas.List.Sums.{sum_by-append}
+use Rattle.std.specs.Prelude.{All, slice_index, count_by, ◌↔◌}
 use Rattle.riichi_rows.specs.Lacked.{ChoiceLacks}
 use Rattle.riichi_shape.specs.Lacked.{SuitLacks, EntryLacks, StandardLacks}
 use Rattle.riichi_rows.specs.Join.{EntriesSum, IsLeastJoin}
@@ -19,7 +18,7 @@ use Rattle.riichi_shape.specs.Distance.{StandardReached, IsLeastStandard}
 use Rattle.riichi_shape.specs.Suits.{IsSuitOf}
 use Rattle.riichi_shape.specs.Winning.{IsSetsAndPair, WithinFour, lacking}
 use Rattle.riichi_shape.proofs.Counted.{AreCounted, IsOfKinds, counted, uncounted}
-use Rattle.riichi_rows.proofs.Blocks.{block_sum, block_sum-cons, block_sum-nil, sum_by_is_sum, tiles_of, tiles_is_sum, total-append, set_of, has_pair}
+use Rattle.riichi_rows.proofs.Blocks.{block_sum, block_sum-cons, block_sum-nil, tiles_of, tiles_is_sum, total-append, set_of, has_pair}
 use Rattle.riichi_rows.proofs.Spread.{spread, sum_range, spread_add, at_same_number, spread_shift, spread_none, table, table_at}
 use Rattle.riichi_shape.proofs.BySuit.{part, IsBase, tiles_part, sets_by_suit, pairs_by_suit, part_in_suit, raised, tiles_within, tiles_outside, sets_raised, pairs_raised, raised_kinds, raised_honours}
 

@@ -1,16 +1,15 @@
 -- Live copies as counts and as pairs.
-use Rattle.std.proofs.Common.{◌≡◌, ℕ, zero, suc, ◌+◌, ◌<◌, ◌≤◌, Bool, true, false, cond, List, [], ◌∷◌, map, length, take, get_or, eqb, ltb, refl, sym, ap, ◌∙◌, arith}
+use Rattle.std.proofs.Common.{◌≡◌, ℕ, zero, suc, ◌+◌, ◌<◌, ◌≤◌, Bool, true, false, cond, List, ◌∷◌, map, length, take, get_or, eqb, ltb, refl, sym, ap, ◌∙◌, arith}
 use Rattle.std.proofs.lemmas.Bool.Decides.{nat_tests}
 use Rattle.std.proofs.lemmas.List.{ext_get_or, take_all}
 use Rattle.std.proofs.lemmas.List.Sums.{sum_by-cons}
 use Rattle.std.specs.List.{filter, range_with_len, sum}
 use Rattle.std.specs.Prelude.{slice_index, sum_by, nat_lt, ◌==◌}
 use Rattle.riichi_tiles.specs.Melds.{every_kind}
-use Rattle.riichi_tiles.specs.Tiles.{IsCounts}
 use Rattle.riichi_rows.proofs.Spread.{spread, spread_none, spread_shift, spread_with}
 use Rattle.riichi_shape.specs.LiveCopies.{AreLive, copies_from, copies_in, live_in, pairs_of}
 use Rattle.riichi_shape.proofs.Members.{length_map_range, map_range_at}
-use Rattle.riichi_shape.proofs.PairLemmas.{spread_total, sum_is_total, total_of}
+use Rattle.riichi_shape.proofs.PairLemmas.{spread_total, sum_is_total}
 
 -- ---- a sum over the chosen of successive numbers
 

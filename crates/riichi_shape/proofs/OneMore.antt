@@ -1,7 +1,6 @@
 -- One more tile of a kind: the distance falls where a winning multiset with the least lack lacks that kind.
-use Rattle.std.proofs.Common.{◌≡◌, ℕ, ◌+◌, ◌-◌, ◌<◌, ◌≤◌, ◌⊎◌, inl, inr, List, sym, ap, ◌∙◌, ⊎_elim, arith}
+use Rattle.std.proofs.Common.{ℕ, ◌+◌, ◌-◌, ◌<◌, inl, inr, List, sym, ap, ◌∙◌, ⊎_elim, arith}
 use Rattle.std.specs.Prelude.{slice_index}
-use Rattle.riichi_tiles.specs.declared.meld.Meld.{Meld}
 use Rattle.riichi_rows.specs.Lacked.{IsOneMore}
 use Rattle.riichi_rows.proofs.Spread.{Falls, falls, sum_range}
 use Rattle.riichi_shape.specs.Lacked.{WinningLacks, AcceptanceLaw, FormsLaw}

@@ -1,5 +1,5 @@
 -- Thirteen orphans: one tile for each kind that is missing, and one where none is held twice.
-use Rattle.std.proofs.Common.{◌≡◌, ℕ, zero, suc, ◌+◌, ◌-◌, ◌<◌, ◌≤◌, Bool, true, false, cond, ◌⊎◌, inl, inr, List, [], ◌∷◌, length, map, leb, eqb, refl, sym, ap, ◌∙◌, ⊎_elim, arith}
+use Rattle.std.proofs.Common.{◌≡◌, ℕ, ◌+◌, ◌-◌, ◌<◌, ◌≤◌, Bool, true, false, cond, ◌⊎◌, inl, inr, List, [], ◌∷◌, length, map, leb, eqb, refl, sym, ap, ◌∙◌, ⊎_elim, arith}
 use Rattle.std.proofs.lemmas.Bool.{cases_lt}
 use Rattle.std.proofs.lemmas.Bool.Decides.{nat_tests}
 use Rattle.std.specs.List.{list_any}
@@ -7,7 +7,7 @@ use Rattle.std.specs.Prelude.{count_by, slice_index, nat_le, ◌==◌, ◌||◌}
 use Rattle.riichi_shape.specs.Distance.{OrphansReached}
 use Rattle.riichi_shape.specs.Orphans.{IsThirteenOrphans, orphan_kinds, is_orphan, orphan_tiles}
 use Rattle.riichi_shape.specs.Winning.{lacking}
-use Rattle.riichi_rows.proofs.Spread.{spread, sum_range, spread_shift, table, table_at, at_same_number, spread_with, eqb_is, is_eqb, not_eqb}
+use Rattle.riichi_rows.proofs.Spread.{spread, sum_range, spread_shift, table, table_at, at_same_number, spread_with, eqb_is, is_eqb}
 use Rattle.riichi_shape.proofs.PairLemmas.{total_of, sum_is_total}
 
 abbrev pub missing_one : ℕ → ℕ

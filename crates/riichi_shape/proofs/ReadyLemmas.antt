@@ -1,12 +1,11 @@
 -- Thirteen tiles, and the fourteen of a winning multiset.
-use Rattle.std.proofs.Common.{◌≡◌, ◌≢◌, ℕ, zero, suc, ◌+◌, ◌-◌, ◌*◌, ◌<◌, ◌≤◌, ◌%◌, Bool, true, false, cond, ◌⊎◌, inl, inr, List, [], ◌∷◌, length, slice_set, eqb, get_or, get_or-set_other, get_or-set_same, refl, sym, ap, ◌∙◌, ⊎_elim, subst, arith}
+use Rattle.std.proofs.Common.{◌≡◌, ◌≢◌, ℕ, zero, suc, ◌+◌, ◌-◌, ◌*◌, ◌<◌, ◌≤◌, Bool, true, false, cond, inl, inr, List, [], ◌∷◌, length, eqb, get_or-set_other, get_or-set_same, refl, sym, ap, ◌∙◌, ⊎_elim, arith}
 use Rattle.std.proofs.lemmas.Bool.{cases_lt, false≢true}
 use Rattle.std.proofs.lemmas.Bool.Decides.{nat_tests}
 use Rattle.std.proofs.lemmas.List.Elements.{All-head, All-tail}
 use Rattle.std.specs.List.{sum}
-use Rattle.std.specs.Prelude.{All, slice_index, sum_by, ◌↔◌}
+use Rattle.std.specs.Prelude.{All, slice_index}
 use Rattle.riichi_tiles.specs.Blocks.{IsRunLow, IsSet, copies, total}
-use Rattle.riichi_tiles.specs.Melds.{every_kind}
 use Rattle.riichi_tiles.specs.declared.block.Block.{Block}
 use Rattle.riichi_tiles.specs.declared.block.Block.TheVariants.{Run, Triplet, Pair}
 use Rattle.riichi_tiles.specs.declared.meld.Meld.{Meld}
@@ -14,10 +13,10 @@ use Rattle.riichi_hand.specs.Hand.{size}
 use Rattle.riichi_rows.proofs.Spread.{eqb_is, is_eqb, spread, spread_none, spread_shift, spread_sum, spread_with, sum_range}
 use Rattle.riichi_shape.specs.Accepted.{with_one}
 use Rattle.riichi_shape.specs.Distance.{IsDistance}
-use Rattle.riichi_shape.specs.Orphans.{IsThirteenOrphans, orphan_tiles}
+use Rattle.riichi_shape.specs.Orphans.{IsThirteenOrphans}
 use Rattle.riichi_shape.specs.Pairs.{IsSevenPairs}
 use Rattle.riichi_shape.specs.Ready.{IsReady, ReadyLaw}
-use Rattle.riichi_shape.specs.Winning.{HasWinningForm, IsSetsAndPair, IsWinning, WithinFour, lacking}
+use Rattle.riichi_shape.specs.Winning.{IsSetsAndPair, IsWinning, lacking}
 use Rattle.riichi_shape.proofs.OrphanLemmas.{lack_is}
 use Rattle.riichi_shape.proofs.PairLemmas.{spread_total, sum_is_total, total_of}
 use Rattle.riichi_shape.proofs.Uniqueness.{SameTiles}

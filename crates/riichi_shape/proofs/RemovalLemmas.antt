@@ -1,14 +1,14 @@
 -- The kinds whose removal leaves the least distance.
-use Rattle.std.proofs.Common.{◌≡◌, ℕ, zero, suc, ◌+◌, ◌-◌, ◌<◌, ◌≤◌, Bool, true, false, cond, ◌⊎◌, inl, inr, List, [], ◌∷◌, map, length, eqb, leb, ltb, refl, sym, ap, ◌∙◌, ⊎_elim, arith}
-use Rattle.std.proofs.lemmas.Bool.{cases_lt, lt-ltb}
+use Rattle.std.proofs.Common.{◌≡◌, ℕ, suc, ◌+◌, ◌-◌, ◌<◌, ◌≤◌, Bool, true, false, cond, ◌⊎◌, inl, inr, List, [], ◌∷◌, map, length, leb, ltb, refl, sym, ap, ◌∙◌, ⊎_elim, arith}
+use Rattle.std.proofs.lemmas.Bool.{cases_lt}
 use Rattle.std.proofs.lemmas.Bool.Decides.{nat_tests}
-use Rattle.std.specs.List.{filter, list_all, range_with_len, sum}
-use Rattle.std.specs.Prelude.{slice_index, nat_le, nat_lt, ◌==◌, ◌&&◌}
+use Rattle.std.specs.List.{filter, range_with_len, sum}
+use Rattle.std.specs.Prelude.{slice_index, nat_le, ◌==◌, ◌&&◌}
 use Rattle.riichi_tiles.specs.Melds.{every_kind}
 use Rattle.riichi_tiles.specs.declared.meld.Meld.{Meld}
 use Rattle.riichi_rows.proofs.Spread.{spread, spread_add}
 use Rattle.riichi_shape.specs.declared.discard.Discard.{Discard}
-use Rattle.riichi_shape.specs.Discards.{AreDistancesWithout, IsLeastOf, discard_of, discards_of, distance_without, in_order, inserted, is_best, is_discard, is_held, live_with}
+use Rattle.riichi_shape.specs.Discards.{AreDistancesWithout, IsLeastOf, discard_of, discards_of, distance_without, in_order, inserted, is_best, is_discard, is_held}
 use Rattle.riichi_shape.proofs.DiscardLemmas.{inserted_length}
 use Rattle.riichi_shape.proofs.PairLemmas.{spread_total, sum_is_total}
 use Rattle.riichi_shape.proofs.Members.{Among, all_among, all_of, among_filter, among_range, from_filter, from_range}

@@ -1,5 +1,5 @@
 -- What is known of the parts of a shape.
-use Rattle.std.proofs.Common.{◌≡◌, ℕ, ◌+◌, ◌<◌, ◌≤◌, ℤ, Bool, true, false, ◌⊎◌, inl, inr, List, [], ◌∷◌, None, Some, ltb, refl, sym, ap, ◌∙◌, ⊎_elim, arith}
+use Rattle.std.proofs.Common.{◌≡◌, ℕ, ◌<◌, ◌≤◌, ℤ, Bool, true, false, List, [], ◌∷◌, None, ltb, refl, ap, ◌∙◌, ⊎_elim, arith}
 use Rattle.std.proofs.lemmas.Bool.Decides.{nat_tests}
 use Rattle.std.specs.List.{list_any, sum}
 use Rattle.std.specs.Prelude.{not, slice_index, nat_lt, ◌==◌, ◌||◌}
@@ -7,7 +7,6 @@ use Rattle.riichi_tiles.specs.Melds.{every_kind, tiles}
 use Rattle.riichi_hand.specs.Faults.{coded, first_fault}
 use Rattle.riichi_hand.specs.Hand.{IsShape, copies_with, has_five_seen, is_thirteen_or_more, size}
 use Rattle.riichi_hand.specs.HandParts.{ShapeParts}
-use Rattle.riichi_hand.specs.declared.fault.LineCode.{LineCode}
 use Rattle.riichi_hand.specs.declared.fault.LineCode.TheVariants.{H8, H9}
 use Rattle.riichi_tiles.specs.declared.meld.Meld.{Meld}
 use Rattle.riichi_shape.specs.Answer.{accepts_of, shape_of}

@@ -4,7 +4,7 @@ use Rattle.std.proofs.lemmas.Bool.Decides.{nat_tests}
 use Rattle.std.proofs.lemmas.List.{append-nil, flat_map_more}
 use Rattle.std.proofs.lemmas.List.Sums.{sum_by-cons}
 use Rattle.std.specs.List.{filter, flat_map, range_with_len}
-use Rattle.std.specs.Prelude.{nat_lt, slice_get, slice_index, sum_by}
+use Rattle.std.specs.Prelude.{nat_lt, slice_get, slice_index}
 use Rattle.riichi_tiles.specs.Melds.{every_kind}
 use Rattle.riichi_shape.specs.LiveCopies.{live_in, pairs_of}
 use Rattle.riichi_shape.specs.Text.{discard_text, kinds_text, pair_text}

@@ -1,24 +1,24 @@
 -- The distance is one number: the least lack over the list of every winning multiset.
-use Rattle.std.proofs.Common.{◌≡◌, ℕ, zero, suc, ◌+◌, ◌-◌, ◌<◌, ◌≤◌, ◌%◌, Bool, true, false, cond, ◌⊎◌, inl, inr, List, [], ◌∷◌, ◌++◌, map, length, get_or, eqb, leb, refl, sym, ap, ◌∙◌, ⊎_elim, subst, arith}
-use Rattle.std.proofs.lemmas.Bool.{cases_lt, false≢true, and_parts, lt-ltb, ltb-true}
+use Rattle.std.proofs.Common.{◌≡◌, ℕ, zero, suc, ◌+◌, ◌-◌, ◌<◌, ◌≤◌, ◌%◌, Bool, true, false, inl, inr, List, [], ◌∷◌, ◌++◌, map, length, eqb, leb, ltb, refl, sym, ap, ◌∙◌, ⊎_elim, subst, arith}
+use Rattle.std.proofs.lemmas.Bool.{false≢true, lt-ltb, ltb-true}
 use Rattle.std.proofs.lemmas.Bool.Decides.{nat_tests}
 use Rattle.std.proofs.lemmas.List.Elements.{All-nil, All-cons, All-head, All-tail}
-use Rattle.std.specs.List.{filter, list_any, range_with_len}
-use Rattle.std.specs.Prelude.{All, IsTrue, slice_index, sum_by, nat_le, nat_lt, ◌==◌, ◌||◌}
-use Rattle.riichi_tiles.specs.Blocks.{IsSet, IsRunLow, copies, total}
-use Rattle.riichi_tiles.specs.Tiles.{begins_run}
+use Rattle.std.specs.List.{filter, list_any}
+use Rattle.std.specs.Prelude.{All, slice_index, sum_by, nat_le, ◌==◌, ◌&&◌, ◌||◌}
+use Rattle.riichi_tiles.specs.Blocks.{IsSet, IsRunLow, total}
 use Rattle.riichi_tiles.specs.Melds.{every_kind, tiles}
+use Rattle.riichi_tiles.specs.Tiles.{begins_run}
 use Rattle.riichi_tiles.specs.declared.block.Block.{Block}
 use Rattle.riichi_tiles.specs.declared.block.Block.TheVariants.{Run, Triplet, Pair}
 use Rattle.riichi_tiles.specs.declared.meld.Meld.{Meld}
-use Rattle.riichi_rows.proofs.Spread.{spread, sum_range, spread_shift, eqb_is, is_eqb}
+use Rattle.riichi_rows.proofs.Spread.{sum_range, spread_shift, eqb_is, is_eqb}
 use Rattle.riichi_shape.specs.Distance.{IsDistance}
 use Rattle.riichi_shape.specs.EveryWinning.{lists_of, every_set, counts_of, every_sets_and_pair, every_seven_pairs, every_orphans, every_special, is_within_four, every_winning, least, distance_of}
-use Rattle.riichi_shape.specs.Orphans.{IsThirteenOrphans, is_orphan, orphan_kinds, orphan_tiles}
+use Rattle.riichi_shape.specs.Orphans.{IsThirteenOrphans, orphan_kinds, orphan_tiles}
 use Rattle.riichi_shape.specs.Pairs.{IsSevenPairs}
 use Rattle.riichi_shape.specs.Winning.{HasWinningForm, IsSetsAndPair, IsWinning, WithinFour, lacking}
 use Rattle.riichi_shape.proofs.OrphanLemmas.{or_true}
-use Rattle.riichi_shape.proofs.Members.{Among, IsListOf, all_among, all_of, among_either, among_filter, among_flat_map, among_get_or, among_left, among_lists, among_map, among_range, among_right, from_filter, from_flat_map, from_lists, from_map, from_range, least_is, length_map_range, map_range_at}
+use Rattle.riichi_shape.proofs.Members.{Among, all_among, all_of, among_either, among_filter, among_flat_map, among_get_or, among_left, among_lists, among_map, among_range, among_right, from_filter, from_flat_map, from_lists, from_map, from_range, least_is, length_map_range, map_range_at}
 
 -- two multisets with the same tiles
 pub record SameTiles (w v : List ℕ) : Type 0 where
@@ -38,17 +38,25 @@ lacking_same hand w v same =
 
 -- ---- sets
 
-begins_run_of : (low : ℕ) → IsRunLow low → begins_run low ≡ true
-begins_run_of low is = let of_suit = lt-ltb low 27 is.0 in let before_eight = lt-ltb (low % 9) 7 is.1 in rw (of_suit, before_eight) refl
+begins_at : (low : ℕ) → IsRunLow low → begins_run low ≡ true
+begins_at low is = both (ltb low 27) (ltb (low % 9) 7) (lt-ltb low 27 is.0) (lt-ltb (low % 9) 7 is.1)
+  where
+    both : (a b : Bool) → a ≡ true → b ≡ true → (a && b) ≡ true
+    both true b e h = h
+    both false b e h = e
 
 run_low : (low : ℕ) → begins_run low ≡ true → IsRunLow low
-run_low low e = let parts = and_parts (nat_lt low 27) (nat_lt (low % 9) 7) e in (ltb-true low 27 parts.0, ltb-true (low % 9) 7 parts.1)
+run_low low e = let t = both (ltb low 27) (ltb (low % 9) 7) e in (ltb-true low 27 t.0, ltb-true (low % 9) 7 t.1)
+  where
+    both : (a b : Bool) → (a && b) ≡ true → (a ≡ true) × (b ≡ true)
+    both true b e = (refl, e)
+    both false b e = absurd (false≢true e)
 
 among_sets : (b : Block) → IsSet b → Among b every_set
 unfolding every_set
 among_sets (Run low) is =
     among_right (Run low) (map Triplet every_kind) (map Run (filter begins_run every_kind))
-    (among_map Run low (filter begins_run every_kind) (among_filter begins_run low every_kind (among_range low 0 34 (omega arith) (omega (arith, is.0))) (begins_run_of low is)))
+    (among_map Run low (filter begins_run every_kind) (among_filter begins_run low every_kind (among_range low 0 34 (omega arith) (omega (arith, is.0))) (begins_at low is)))
 among_sets (Triplet held) is = among_left (Triplet held) (map Triplet every_kind) (map Run (filter begins_run every_kind)) (among_map Triplet held every_kind (among_range held 0 34 (omega arith) (omega arith)))
 among_sets (Pair held) is = absurd is
 

@@ -54,13 +54,7 @@ fn least_of(distances: &[u8; 34]) -> u8
 }
 
 /// The discard of a kind, and what is accepted after it. The tile that is discarded is not live.
-fn discard_of(
-    rows: &HandRows,
-    hand: &Counts,
-    melds: &Melds,
-    seen: &Counts,
-    kind: Kind,
-) -> Discard
+fn discard_of(rows: &HandRows, hand: &Counts, melds: &Melds, seen: &Counts, kind: Kind) -> Discard
     requires melded { (k : ℕ) → k < 34 → tiles melds.now k ≤ 4 }
     requires rows { AreRowsOf hand.now melds.now rows.now }
     requires held { 0 < slice_index hand.now kind }

@@ -1,5 +1,4 @@
-use Rattle.std.proofs.Common.{◌≤◌, ◌-◌, ◌*◌, arith}
-use Rattle.std.specs.Prelude.{slice_index}
+use Rattle.std.proofs.Common.{◌-◌, ◌*◌, arith}
 use Rattle.riichi_shape.proofs.PairLemmas.{count_twos, count_ones, held_is, pairs_bound, pairs_reached}
 use Rattle.riichi_shape.proofs.pairs.pairs_distance.Goals as goal
 

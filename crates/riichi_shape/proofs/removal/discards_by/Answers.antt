@@ -1,4 +1,4 @@
-use Rattle.std.proofs.Common.{◌≡◌, ◌<◌, ◌≤◌, ◌-◌, length, sym, ap, ◌∙◌, subst, ℕ, arith}
+use Rattle.std.proofs.Common.{◌≡◌, ◌<◌, ◌-◌, length, sym, ap, ◌∙◌, arith}
 use Rattle.std.specs.Prelude.{slice_index}
 use Rattle.riichi_shape.proofs.RemovalLemmas.{discards_all, discards_from, discards_none, left_few, left_unheld, left_worse, put_few, put_list, still_room}
 use Rattle.riichi_shape.proofs.removal.discards_by.Goals as goal

@@ -1,4 +1,4 @@
-use Rattle.std.proofs.Common.{◌≡◌, length, ap, ◌∙◌, arith, rules}
+use Rattle.std.proofs.Common.{◌≡◌, length, ap, ◌∙◌, rules}
 use Rattle.std.specs.Prelude.{count_by, is_some}
 use Rattle.riichi_shape.proofs.DiscardLemmas.{count_places}
 use Rattle.riichi_shape.proofs.discard_list.DiscardList.len.Goals as goal

@@ -1,4 +1,3 @@
-use Rattle.std.proofs.Common.{arith}
 use Rattle.riichi_shape.proofs.LiveLemmas.{told_at}
 use Rattle.riichi_shape.proofs.live_list.LiveList.get.Goals as goal
 
