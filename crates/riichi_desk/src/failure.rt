@@ -1,4 +1,7 @@
 //! What keeps the program from an answer, and how it is told.
+ghost use Rattle.std.specs.Prelude.{◌≡◌};
+ghost use Rattle.riichi_desk.specs.Statuses as spec;
+
 use clap::Error;
 use clap::error::ErrorKind;
 use desk_lines::DeskFault;
@@ -59,7 +62,9 @@ pub fn report<R: Print + Eprint>(rt: &R, failure: &Failure) -> u8 {
     }
 }
 
-fn code_of(fault: DeskFault) -> &'static str {
+fn code_of(fault: DeskFault) -> &'static str
+    ensures { result.now ≡ spec.code_of fault }
+{
     match fault {
         DeskFault::Read => "F1",
         DeskFault::Write => "F2",
@@ -67,7 +72,9 @@ fn code_of(fault: DeskFault) -> &'static str {
     }
 }
 
-fn status_of(fault: DeskFault) -> u8 {
+fn status_of(fault: DeskFault) -> u8
+    ensures { result ≡ spec.status_of fault }
+{
     match fault {
         DeskFault::Read | DeskFault::Write => 3,
         DeskFault::Memory => 4,
