@@ -61,7 +61,13 @@ row 1 $'waits 123456789m\nrefused N5 hand at 0\nwaits 25p' '' line
 : > "$room/input"
 answers examples/rules.lines examples/rules.answers
 answers examples/rules-two.lines examples/rules-two.answers
-awk '/^=> / { print last > lines; print substr($0, 4) > wanted } { last = $0 }' lines="$room/rules.lines" wanted="$room/rules.wanted" docs/RULES.md
+# in docs/RULES.md an answer stands below its line, after `=> `; a block that begins with `rules 2` is of the second profile
+echo 'rules 2' > "$room/rules-two.lines"
+awk '/^```/ { name = "rules" } $0 == "rules 2" { name = "rules-two" }
+  /^=> / { print last > room "/" name ".lines.told"; print substr($0, 4) > room "/" name ".wanted" } { last = $0 }' room="$room" docs/RULES.md
+cat "$room/rules.lines.told" >> "$room/rules.lines"
+cat "$room/rules-two.lines.told" >> "$room/rules-two.lines"
+answers "$room/rules-two.lines" "$room/rules-two.wanted"
 answers "$room/rules.lines" "$room/rules.wanted"
 
 # someone types: the answer to a line comes before the next line is sent
