@@ -1,4 +1,4 @@
-ghost use Rattle.std.specs.Prelude.{◌≡◌, ◌≢◌, ◌↔◌, ℕ, ◌<◌, ◌+◌, length, [], true, false, IsTrue, IfErr, OnOk, OnErr};
+ghost use Rattle.std.specs.Prelude.{◌≡◌, ◌≢◌, ◌↔◌, ℕ, ◌<◌, ◌+◌, List, length, [], true, false, IsTrue, IfErr, OnOk, OnErr};
 
 use crate::arrived::Arrived;
 use crate::entry::Entry;
@@ -39,7 +39,7 @@ impl Model for Lane {
 }
 
 impl Lane {
-    ghost use Rattle.desk_core.specs.History.{table_of};
+    ghost use Rattle.desk_core.specs.History.{Turn, table_of, turns_of, submitted, is_closed};
     ghost use Rattle.desk_core.specs.Step.{IsStep, StandsFor};
     ghost use Rattle.desk_core.specs.LaneState.{new_lane, with_job, TakesInPiece};
     ghost use Rattle.desk_core.specs.GivesFirst.{GivesFirst};
@@ -67,14 +67,18 @@ impl Lane {
 
     /// Whether the table has closed, so that a job is refused by C1.
     pub fn closed(&self) -> bool
-        ensures { result ≡ self.now.closed }
+        ensures value { result ≡ self.now.closed }
+        ensures told { (tables : ℕ) (history : List Turn) → StandsFor self.now tables history
+            → result ≡ is_closed (turns_of self.now.table history) }
     {
         self.closed
     }
 
     /// Whether the table has submitted as many jobs as it may, so that a job is refused by C2.
     pub fn full(&self) -> bool
-        ensures { IsTrue result ↔ (self.now.next + length self.now.window ≡ LIMIT) }
+        ensures value { IsTrue result ↔ (self.now.next + length self.now.window ≡ LIMIT) }
+        ensures submitted { (tables : ℕ) (history : List Turn) → StandsFor self.now tables history
+            → IsTrue result ↔ (length (submitted (turns_of self.now.table history)) ≡ LIMIT) }
     {
         self.next as usize + self.window.len() == LIMIT as usize
     }

@@ -18,14 +18,14 @@ pub returns-then-full-clause-step : goal.returns-then-full-clause-step
 returns-then-full-clause-step c =
     let lane = the_view c.self.inside in
     let full : lane.next + length lane.window ≡ 1000000 =
-    subst (λ (l : LaneState). l.next + length l.window ≡ 1000000) (sym c.self.view_is) (c.full.ensures.0 c.if-full.true) in
+    subst (λ (l : LaneState). l.next + length l.window ≡ 1000000) (sym c.self.view_is) (c.full.ensures.value.0 c.if-full.true) in
     rw (← c.self.view_is) (IsStep-from_own lane _ _ _ refl refl (submit_over_limit lane c.args.job c.if-self.false full))
 
 pub returns-clause-step : goal.returns-clause-step
 returns-clause-step c =
     let lane = the_view c.self.inside in
     let room : lane.next + length lane.window ≢ 1000000 =
-    subst (λ (l : LaneState). l.next + length l.window ≢ 1000000) (sym c.self.view_is) (λ full. false≢true (sym c.if-full.false ∙ c.full.ensures.1 full)) in
+    subst (λ (l : LaneState). l.next + length l.window ≢ 1000000) (sym c.self.view_is) (λ full. false≢true (sym c.if-full.false ∙ c.full.ensures.value.1 full)) in
     elim c.match-push_back.branch [
       | in-Ok w ↦
           let count : c.len.result ≡ length (map seen c.self.inside.window.items) = omega (arith, c.len.ensures, length-map c.self.inside.window.items seen) in
