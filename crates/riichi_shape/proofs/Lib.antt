@@ -9,6 +9,7 @@ pub mod KeptRows
 pub mod LiveLemmas
 pub mod Members
 pub mod OneMore
+pub mod OrderLemmas
 pub mod OrphanLemmas
 pub mod OrphansLacked
 pub mod PairLemmas

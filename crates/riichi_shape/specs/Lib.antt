@@ -5,6 +5,7 @@ pub mod Distance
 pub mod EveryWinning
 pub mod Lacked
 pub mod LiveCopies
+pub mod Ordered
 pub mod Orphans
 pub mod Pairs
 pub mod Ready

@@ -1,6 +1,7 @@
 //! Laws over the definitions alone: which kinds bring a hand nearer, told by the winning multisets
 //! that lack least.
 ghost use Rattle.riichi_shape.specs.Lacked.{AcceptanceLaw, FormsLaw, JoinLaw, OrphansLaw};
+ghost use Rattle.riichi_shape.specs.Ordered.{OrderLaw};
 ghost use Rattle.riichi_shape.specs.Ready.{ReadyLaw};
 
 /// One more tile of a kind lowers the distance exactly where some least winning multiset lacks
@@ -30,4 +31,10 @@ pub fn orphans()
 /// some tile completes a winning multiset.
 pub fn ready()
     ensures { ReadyLaw }
+{}
+
+/// Each discard of a hand stands before those with fewer live copies in all, and among those with
+/// as many before those of greater kinds.
+pub fn order()
+    ensures { OrderLaw }
 {}
