@@ -24,7 +24,6 @@ Differ-flagged : (b : Bool) (x : Reading) → Differ (flagged b x)
 Differ-flagged true x = (λ h. h, tt)
 Differ-flagged false x = tt
 
-
 -- ---- the readings of splits
 
 read_with-sets : (s t : Split) (d e : Block) → read_with s d ≡ read_with t e → s ≡ t

@@ -52,6 +52,11 @@ pick-second : (b : Bool) (o : Option (List Block)) → b ≡ false → cond b No
 pick-second true o e = absurd (cc)
 pick-second false o e = refl
 
+beside-is : (c : List ℕ) (wanted p x : ℕ) (bs : List Block) → 2 ≤ get_or c p 0 → cut_from 0 (set c p (get_or c p 0 - 2)) 0 0 wanted x ≡ Some bs → sets_beside c wanted p x ≡ Some bs
+beside-is c wanted p x bs h e =
+    let t : ltb (get_or c p 0) 2 ≡ false = grind (arith, nat_tests) in
+    pick-second (ltb (get_or c p 0) 2) (cut_from 0 (set c p (get_or c p 0 - 2)) 0 0 wanted x) t ∙ e
+
 small-by : (c : List ℕ) → ((k : ℕ) → get_or c k 0 ≤ 4) → AllByRecursion (λ n. n ≤ 4) c
 small-by [] h = tt
 small-by (n ∷ ns) h = (h 0, small-by ns (λ k. h (suc k)))
@@ -85,8 +90,7 @@ choice-from c wanted melds p bs counts w h =
     let up : 2 ^ wanted ≤ 2 ^ 4 = pow_mono {i = wanted} {j = 4} few in
     let fewer : 2 ^ threes rest ≤ 2 ^ threes c = pow_mono (threes-less c p (get_or c p 0 - 2) in_range (omega arith)) in
     let own_few = few_choices rest 0 0 0 wanted f.0 bs f.2 in
-    let t : ltb (get_or c p 0) 2 ≡ false = grind (arith, nat_tests) in
-    (f.0, least f.0 (threes c) (omega (arith, f.1)) (omega arith), pick-second (ltb (get_or c p 0) 2) _ t ∙ f.2)
+    (f.0, least f.0 (threes c) (omega (arith, f.1)) (omega arith), beside-is c wanted p f.0 bs has f.2)
 
 -- ---- all splits
 

@@ -76,23 +76,26 @@ some_tile c melds (inr (inr o)) =
     (d, omega (arith, e, h))
 
 pub win-iff : (c : List ℕ) (melds : ℕ) → HasShape c melds ↔ IsWin c melds
-win-iff c melds =
-    (λ s. let t = some_tile c melds s in (t.0, t.1, reading-from c melds t.0 t.1 s),
-    λ w. shape-of c melds w.0 w.2.0 w.2.1)
+win-iff c melds = (
+  λ s. let t = some_tile c melds s in (t.0, t.1, reading-from c melds t.0 t.1 s),
+  λ w. shape-of c melds w.0 w.2.0 w.2.1,
+)
 
 -- ---- the first of some splits
 
 pub split-iff : (c : List ℕ) (melds : ℕ) (splits rest : List Split) (first : Option Split) → AreTheSplits c melds splits → YieldsFirst (λ left. left) splits first rest → IsTrue (is_some first) ↔ HasSplit c melds
-split-iff c melds splits rest None are y =
-    (λ t. absurd (cc),
-    λ h. let split : Split = record { sets = h.0; pair = h.1 } in
-    let i = in-Contains split splits (are.complete split h.2) in
-    let P : List Split → Type 0 = λ z. IsIn split z in
-    absurd (subst P y.0 i))
-split-iff c melds splits rest (Some split) are y =
-    (λ t. let P : List Split → Type 0 = λ z. IsIn split z in
-    (split.sets, split.pair, in-All (λ s. IsSplit c melds s.sets s.pair) splits are.sound split (subst P (sym y) (inl refl))),
-    λ h. refl)
+split-iff c melds splits rest None are y = (
+  λ t. absurd (cc),
+  λ h. let split : Split = record { sets = h.0; pair = h.1 } in
+      let i = in-Contains split splits (are.complete split h.2) in
+      let P : List Split → Type 0 = λ z. IsIn split z in
+      absurd (subst P y.0 i),
+)
+split-iff c melds splits rest (Some split) are y = (
+  λ t. let P : List Split → Type 0 = λ z. IsIn split z in
+      (split.sets, split.pair, in-All (λ s. IsSplit c melds s.sets s.pair) splits are.sound split (subst P (sym y) (inl refl))),
+  λ h. refl,
+)
 
 -- ---- a list of readings that is not empty
 

@@ -38,9 +38,10 @@ same-kind a b set h g =
     ]
 
 Differ-sets_at : (k : ℕ) → Differ (sets_at k)
-Differ-sets_at k =
-    (λ h. let i = in-when-inv (begins_run k) (Triplet k) (Run k ∷ []) h in elim i.1 [ inl e ↦ absurd (cc) | inr z ↦ z ],
-    Differ-when (begins_run k) (Run k ∷ []) (λ h. h, tt))
+Differ-sets_at k = (
+  λ h. let i = in-when-inv (begins_run k) (Triplet k) (Run k ∷ []) h in elim i.1 [ inl e ↦ absurd (cc) | inr z ↦ z ],
+  Differ-when (begins_run k) (Run k ∷ []) (λ h. h, tt),
+)
 
 Differ-every_set : Differ every_set
 unfolding every_set

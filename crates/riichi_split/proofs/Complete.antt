@@ -11,7 +11,7 @@ use Rattle.riichi_tiles.specs.declared.block.Block.{Block}
 use Rattle.riichi_tiles.specs.declared.block.Block.TheVariants.{Run, Triplet, Pair}
 use Rattle.riichi_split.specs.declared.cutting.Choice.{Choice}
 use Rattle.riichi_tiles.specs.Blocks.{copies, total, IsRunLow, IsSet, IsOrderedFrom}
-use Rattle.riichi_split.specs.Cuts.{begun, joined, cut_from}
+use Rattle.riichi_split.specs.Cuts.{choice_of, begun, joined, cut_from}
 use Rattle.riichi_split.proofs.Cuts.{IsChoice, choice_of-is, cut_from-cons, cut_from-nil}
 use Rattle.riichi_split.proofs.Sound.{carried, IsCut, begun-total, none_below, same-total, order-weaker}
 
@@ -128,6 +128,9 @@ nil-found k one two left h z =
     let up : 0 < 2 ^ left = pow_pos left in
     (0, up, cut_from-nil k one two left 0 ∙ ap (λ b. cond {A = Option (List Block)} b (Some []) None) (eq-eqb (one + two + left + 0) 0 (omega arith)))
 
+found-is : (k n : ℕ) (ns : List ℕ) (one two left choices : ℕ) (c : Choice) (bs rest : List Block) → choice_of k n (one + two) left choices ≡ Some c → cut_from (k + 1) ns c.runs one (left - (c.triplets + c.runs)) c.choices ≡ Some rest → bs ≡ begun k c ++ rest → cut_from k (n ∷ ns) one two left choices ≡ Some bs
+found-is k n ns one two left choices c bs rest e f p = cut_from-cons k n ns one two left choices (Some c) e ∙ ap (joined (begun k c)) f ∙ ap Some (sym p)
+
 found-step : (n : ℕ) (ns : List ℕ) (k one two left t r : ℕ) (bs rest : List Block) → n ≤ 4 → IsCut k (n ∷ ns) one two left bs → IsPeeled k t r bs rest → (IsCut (k + 1) ns r one (left - (t + r)) rest → IsFound (k + 1) ns r one (left - (t + r)) rest) → IsFound k (n ∷ ns) one two left bs
 found-step n ns k one two left t r bs rest small h p ih =
     let low = none_below rest (2 * k + 2) k p.sets p.order (omega arith) in
@@ -143,7 +146,7 @@ found-step n ns k one two left t r bs rest small h p ih =
     let i = ih cut in
     let c : Choice = record { triplets = t; runs = r; choices = i.0 } in
     let e = choice_of-is k n (one + two) left (chosen-below t r i.0) c (peeled-choice k n t r (one + two) left i.0 uses small (omega arith) p.may) in
-    (chosen-below t r i.0, peeled-small t r left i.0 (omega arith) (omega arith) i.1, cut_from-cons k n ns one two left (chosen-below t r i.0) (Some c) e ∙ ap (joined (begun k c)) i.2 ∙ ap Some (sym p.parts))
+    (chosen-below t r i.0, peeled-small t r left i.0 (omega arith) (omega arith) i.1, found-is k n ns one two left (chosen-below t r i.0) c bs rest e i.2 p.parts)
 
 pub found-by : (ns : List ℕ) (k one two left : ℕ) (bs : List Block) → AllByRecursion (λ n. n ≤ 4) ns → IsCut k ns one two left bs → IsFound k ns one two left bs
 found-by [] k one two left bs small h =

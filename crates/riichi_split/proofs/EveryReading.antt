@@ -133,13 +133,14 @@ from-twos (n ∷ ns) h = and_from (eqb n 0 || eqb n 2) (list_all (λ m. eqb m 0 
 seven-iff : (c : List ℕ) (melds : ℕ) → IsTrue (are_seven_pairs c melds) ↔ IsSevenPairs c melds
 seven-iff c melds =
     let twos = list_all (λ n. eqb n 0 || eqb n 2) c in
-    let seven = eqb (count_by (λ n. eqb n 2) c) 7 in
-    (λ t. record {
-      no_meld = same-number melds 0 (and-left (eqb melds 0) (twos && seven) t);
-      twos = twos-from c (and-left twos seven (and-right (eqb melds 0) (twos && seven) t));
-      seven = same-number (count_by (λ n. eqb n 2) c) 7 (and-right twos seven (and-right (eqb melds 0) (twos && seven) t));
-    },
-    λ h. and_from (eqb melds 0) (twos && seven) (number-same melds 0 h.no_meld) (and_from twos seven (from-twos c h.twos) (number-same (count_by (λ n. eqb n 2) c) 7 h.seven)))
+    let seven = eqb (count_by (λ n. eqb n 2) c) 7 in (
+      λ t. record {
+        no_meld = same-number melds 0 (and-left (eqb melds 0) (twos && seven) t);
+        twos = twos-from c (and-left twos seven (and-right (eqb melds 0) (twos && seven) t));
+        seven = same-number (count_by (λ n. eqb n 2) c) 7 (and-right twos seven (and-right (eqb melds 0) (twos && seven) t));
+      },
+      λ h. and_from (eqb melds 0) (twos && seven) (number-same melds 0 h.no_meld) (and_from twos seven (from-twos c h.twos) (number-same (count_by (λ n. eqb n 2) c) 7 h.seven)),
+    )
 
 orphans-with : (c : List ℕ) (d : ℕ) → are_orphans_with c d ≡ true → IsTrue (is_orphan d) × ((k : ℕ) → k < 34 → get_or c k 0 ≡ orphan_copies d k)
 orphans-with c d t =
@@ -153,14 +154,15 @@ with-orphans c d o h =
 
 orphans-iff : (c : List ℕ) (melds : ℕ) → IsTrue (are_orphans c melds) ↔ IsOrphans c melds
 orphans-iff c melds =
-    let some = list_any (are_orphans_with c) every_kind in
-    (λ t. let i = any-in (are_orphans_with c) every_kind (and-right (eqb melds 0) some t) in
-    let o = orphans-with c i.0 i.2 in
-    record {
-      no_meld = same-number melds 0 (and-left (eqb melds 0) some t);
-      twice = (i.0, o.0, omega (arith, (in-range-inv 34 0 i.0 i.1).1), o.1);
-    },
-    λ h. and_from (eqb melds 0) some (number-same melds 0 h.no_meld) (any-from (are_orphans_with c) every_kind h.twice.0 (in-range 34 0 h.twice.0 (omega arith) (omega (arith, h.twice.2))) (with-orphans c h.twice.0 h.twice.1 h.twice.3)))
+    let some = list_any (are_orphans_with c) every_kind in (
+      λ t. let i = any-in (are_orphans_with c) every_kind (and-right (eqb melds 0) some t) in
+          let o = orphans-with c i.0 i.2 in
+          record {
+            no_meld = same-number melds 0 (and-left (eqb melds 0) some t);
+            twice = (i.0, o.0, omega (arith, (in-range-inv 34 0 i.0 i.1).1), o.1);
+          },
+      λ h. and_from (eqb melds 0) some (number-same melds 0 h.no_meld) (any-from (are_orphans_with c) every_kind h.twice.0 (in-range 34 0 h.twice.0 (omega arith) (omega (arith, h.twice.2))) (with-orphans c h.twice.0 h.twice.1 h.twice.3)),
+    )
 
 pub every_reading : (c : List ℕ) (melds w : ℕ) → length c ≡ 34 → melds ≤ 4 → AreTheReadings c melds w (readings_of c melds w)
 unfolding readings_of

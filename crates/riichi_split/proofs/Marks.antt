@@ -59,9 +59,10 @@ is_wait-iff : (hand : HandParts) (kind : ℕ) → kind < 34 → IsCounts hand.co
 is_wait-iff hand kind l counts few =
     let some = ltb 0 (length (readings_of (with_one hand.concealed kind) (length hand.melds) kind)) in
     let held = ltb (copies_held hand.concealed hand.melds kind) 4 in
-    let test = reading-test hand kind counts few in
-    (λ t. record { of_a_kind = l; some_left = let h : held ≡ true = and-left held some t in grind (arith, nat_tests); completes = test.0 (and-right held some t) },
-    λ w. let h : held ≡ true = let s = w.some_left in grind (arith, nat_tests) in sym (first-true held some h) ∙ test.1 w.completes)
+    let test = reading-test hand kind counts few in (
+      λ t. record { of_a_kind = l; some_left = let h : held ≡ true = and-left held some t in grind (arith, nat_tests); completes = test.0 (and-right held some t) },
+      λ w. let h : held ≡ true = let s = w.some_left in grind (arith, nat_tests) in sym (first-true held some h) ∙ test.1 w.completes,
+    )
 
 -- ---- all kinds
 

@@ -5,5 +5,4 @@ ghost use Rattle.riichi_split.specs.Laws.{EachCollectionHasOneOrder};
 /// same sets, pair and completed block are one value.
 pub fn each_collection_has_one_order()
     ensures { EachCollectionHasOneOrder }
-{
-}
+{}

@@ -107,12 +107,7 @@ fn sets_beside(counts: &[u8; 34], wanted: usize, pair: Kind, choices: usize) -> 
 }
 
 /// The next sets beside a pair, of the choices below a number.
-fn next_sets(
-    counts: &[u8; 34],
-    wanted: usize,
-    pair: Kind,
-    choices: &mut usize,
-) -> Option<Sets>
+fn next_sets(counts: &[u8; 34], wanted: usize, pair: Kind, choices: &mut usize) -> Option<Sets>
     requires { wanted ≤ 4 }
     ensures fewer { choices.new ≤ choices.old }
     ensures sets { MatchOption result

@@ -61,7 +61,13 @@ fn completes_the_triplet_or_the_run(rt: HostRuntime) -> Result<(), Fail> {
             place += 1;
         }
     }
-    assert_eq!(rt; dones, [Some(Block::Run(Kind::at(6))), Some(Block::Triplet(Kind::at(8)))]);
+    assert_eq!(rt;
+        dones,
+        [
+            Some(Block::Run(Kind::at(6))),
+            Some(Block::Triplet(Kind::at(8)))
+        ]
+    );
     Ok(())
 }
 
@@ -110,7 +116,10 @@ fn tells_the_waits(rt: HostRuntime) -> Result<(), Fail> {
     // The melds hold all four of the only kind that would complete the hand.
     let mut held = Melds::new();
     held.push(Meld::Kan(Kind::at(0)));
-    assert_eq!(rt; waits_text(waits_of(b"23m456p456s22z", held)?).as_str(), "waits 4m");
+    assert_eq!(rt;
+        waits_text(waits_of(b"23m456p456s22z", held)?).as_str(),
+        "waits 4m"
+    );
     Ok(())
 }
 

@@ -14,15 +14,17 @@ pub loop-number-preserved : goal.loop-number-preserved
 loop-number-preserved c =
     let hand : HandParts = record { concealed = c.concealed-tiles.result; melds = c.melds-melds.result } in
     let M : List Bool → Type 0 = λ marks. MarksTo hand (c.loop-number.number + 1) marks in
-    let kind = c.at-kind.ensures in
-    (elim c.if-is_wait.branch [
-      | then-is_wait w ↦
-          let wait = sym w.if-is_wait.true ∙ c.is_wait.ensures.value ∙ ap (is_wait hand) kind in
-          subst M (sym (w.waits-is ∙ w.insert.ensures ∙ ap (λ k. set c.loop-number.waits k true) kind)) (MarksTo-yes hand c.loop-number.number c.loop-number.waits (omega arith) wait c.loop-number.invariant.0)
-      | else-is_wait w ↦
-          let wait = sym w.if-is_wait.false ∙ c.is_wait.ensures.value ∙ ap (is_wait hand) kind in
-          subst M (sym w.waits-is) (MarksTo-no hand c.loop-number.number c.loop-number.waits wait c.loop-number.invariant.0)
-    ], λ _. c.is_wait.ensures.counts)
+    let kind = c.at-kind.ensures in (
+      elim c.if-is_wait.branch [
+        | then-is_wait w ↦
+            let wait = sym w.if-is_wait.true ∙ c.is_wait.ensures.value ∙ ap (is_wait hand) kind in
+            subst M (sym (w.waits-is ∙ w.insert.ensures ∙ ap (λ k. set c.loop-number.waits k true) kind)) (MarksTo-yes hand c.loop-number.number c.loop-number.waits (omega arith) wait c.loop-number.invariant.0)
+        | else-is_wait w ↦
+            let wait = sym w.if-is_wait.false ∙ c.is_wait.ensures.value ∙ ap (is_wait hand) kind in
+            subst M (sym w.waits-is) (MarksTo-no hand c.loop-number.number c.loop-number.waits wait c.loop-number.invariant.0)
+      ],
+      λ _. c.is_wait.ensures.counts,
+    )
 
 pub returns-clause-value : goal.returns-clause-value
 returns-clause-value c =
