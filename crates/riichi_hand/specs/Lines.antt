@@ -50,14 +50,17 @@ text_faults parts =
     ∷ coded H7 (not (is_some (melds_in (value Open parts))))
     ∷ []
 
--- a win has one winning tile; then the faults of what the job is told as
+-- A win has one winning tile. Then come the faults of what the job is told as; of these a win's own H4, for numbers out of range,
+-- can't hold of a line.
 abbrev pub job_faults : Rules → LineParts → Texts → JobName → List (Option LineFault)
 job_faults rules parts texts Win = coded H8 (not (is_some (only_kind texts.on))) ∷ win_faults (told_win rules parts texts)
 job_faults rules parts texts Waits = hand_faults (told_hand texts)
 job_faults rules parts texts Shape = shape_faults (told_shape texts)
 
 abbrev pub faults_of : Rules → List ℕ → LineParts → List (Option LineFault)
-faults_of rules line parts = word_faults line ++ (entry_faults parts ++ (text_faults parts ++ job_faults rules parts (texts_of parts) parts.job))
+faults_of rules line parts =
+    word_faults line ++ (entry_faults parts ++ (text_faults parts
+    ++ job_faults rules parts (texts_of parts) parts.job))
 
 -- a comment, spaces alone, or nothing
 abbrev pub is_no_record : List ℕ → Bool

@@ -11,7 +11,8 @@ use super::values::{read_by, read_number, read_riichi, read_wind};
 
 /// The key and the value of a word, where the job has the key and the key may have the value.
 pub(crate) fn read_entry(job: JobName, word: &[u8]) -> Option<(Key, &[u8])>
-    ensures { MatchOption result (entry_of job word.now ≡ None) (λ entry. entry_of job word.now ≡ Some (entry.0, entry.1.now)) }
+    ensures { MatchOption result (entry_of job word.now ≡ None)
+        (λ entry. entry_of job word.now ≡ Some (entry.0, entry.1.now)) }
 {
     let (name, value) = split_at_mark(word, b'=')?;
     let key = Key::read(name)?;

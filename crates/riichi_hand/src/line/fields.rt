@@ -15,7 +15,7 @@ use super::key::Key;
 pub(crate) struct Fields<'a> {
     pub(crate) has_bad_word: bool,
     pub(crate) has_doubled_key: bool,
-    pub(crate) values: [Option<&'a [u8]>; 12],
+    pub(crate) values: [Option<&'a [u8]>; Key::COUNT],
 }
 
 impl<'a> Fields<'a> {
@@ -25,7 +25,7 @@ impl<'a> Fields<'a> {
         Fields {
             has_bad_word: false,
             has_doubled_key: false,
-            values: [None; 12],
+            values: [None; Key::COUNT],
         }
     }
 
@@ -44,7 +44,8 @@ impl<'a> Fields<'a> {
 
     /// The fields after one more word.
     fn with(self, job: JobName, word: &'a [u8]) -> Fields<'a>
-        ensures { (words : List (List ℕ)) → entries_in self.entry ≡ entries_of job words → entries_in result ≡ entries_of job (words ++ word.now ∷ []) }
+        ensures { (words : List (List ℕ)) → entries_in self.entry ≡ entries_of job words
+            → entries_in result ≡ entries_of job (words ++ word.now ∷ []) }
     {
         let Some((key, value)) = read_entry(job, word) else {
             return Fields {
@@ -66,7 +67,11 @@ impl<'a> Fields<'a> {
 }
 
 /// The values with one more, in the place of its key.
-fn put<'a>(values: [Option<&'a [u8]>; 12], key: Key, value: &'a [u8]) -> [Option<&'a [u8]>; 12]
+fn put<'a>(
+    values: [Option<&'a [u8]>; Key::COUNT],
+    key: Key,
+    value: &'a [u8],
+) -> [Option<&'a [u8]>; Key::COUNT]
     ensures here { slice_index_or result (number_of_key key) None ≡ Some value.entry }
     ensures elsewhere { result ≡ slice_set values.entry (number_of_key key) (Some value.entry) }
 {

@@ -22,7 +22,8 @@ pub(crate) fn read_flags(value: &[u8]) -> Option<Flags>
 
 /// The flags of items and of one more.
 fn with_flag(flags: Flags, item: &[u8]) -> Option<Flags>
-    ensures { (items : List (List ℕ)) → are_flags items ≡ true → flags ≡ flags_in items → result ≡ flags_of_items (items ++ item.now ∷ []) }
+    ensures { (items : List (List ℕ)) → are_flags items ≡ true → flags ≡ flags_in items
+        → result ≡ flags_of_items (items ++ item.now ∷ []) }
 {
     if item == b"ippatsu".as_slice() {
         unless(

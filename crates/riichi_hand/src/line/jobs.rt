@@ -20,6 +20,7 @@ use crate::shape::ShapeRecord;
 use crate::win::{By, Flags, Rules, WinParts, WinRecord, Wind};
 use riichi_tiles::{Counts, Kind, Reds, reds_of};
 
+/// The job of the parts, or the first fault of what it is told as.
 #[tactic(auto, unfolding(crate::specs::Steps::job_or_fault, crate::specs::Steps::win_or_fault, crate::specs::Hand::hand_of, crate::specs::Hand::shape_of))]
 pub(crate) fn make_job(rules: Rules, parts: &Parts<'_>, texts: &Texts) -> Result<Job, LineFault>
     ensures { result ≡ job_or_fault rules (parts_in parts.now) texts.now }
@@ -31,6 +32,7 @@ pub(crate) fn make_job(rules: Rules, parts: &Parts<'_>, texts: &Texts) -> Result
     }
 }
 
+/// The win, where there is one winning tile and the record takes the parts.
 #[tactic(auto, unfolding(crate::specs::Steps::win_or_fault, crate::specs::Win::win_of))]
 fn make_win(rules: Rules, parts: &Parts<'_>, texts: &Texts) -> Result<WinRecord, LineFault>
     ensures { result ≡ win_or_fault rules (parts_in parts.now) texts.now }
@@ -65,7 +67,7 @@ fn lowest_kind(counts: &Counts) -> Option<Kind>
 fn win_parts(rules: Rules, parts: &Parts<'_>, texts: &Texts, winning: Kind) -> WinParts
     ensures { result ≡ win_parts rules (parts_in parts.now) texts.now winning }
 {
-    let fields = parts.fields;
+    let fields = &parts.fields;
     WinParts {
         rules,
         concealed: texts.hand,
@@ -88,7 +90,7 @@ fn win_parts(rules: Rules, parts: &Parts<'_>, texts: &Texts, winning: Kind) -> W
 fn reds_of_line(parts: &Parts<'_>) -> Reds
     ensures { result ≡ reds (parts_in parts.now) }
 {
-    let fields = parts.fields;
+    let fields = &parts.fields;
     reds_of(parts.hand)
         .joined(&reds_of(fields.text(Key::On)))
         .joined(&reds_of(fields.text(Key::Open)))

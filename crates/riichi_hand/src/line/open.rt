@@ -25,7 +25,8 @@ pub(crate) fn read_melds(value: &[u8]) -> Option<Melds>
 
 /// The melds of items and of one more.
 fn with_meld(melds: Melds, item: &[u8]) -> Option<Melds>
-    ensures { (items : List (List ℕ)) → Some melds ≡ melds_of_items items → result ≡ melds_of_items (items ++ item.now ∷ []) }
+    ensures { (items : List (List ℕ)) → Some melds ≡ melds_of_items items
+        → result ≡ melds_of_items (items ++ item.now ∷ []) }
 {
     let meld = Meld::read(item)?;
     if melds.count() == MOST_MELDS {

@@ -19,7 +19,8 @@ use crate::win::Rules;
 /// The longest line that is read.
 const MOST_LINE: usize = 4096;
 
-/// The job of a line, nothing for a blank line or a comment, or the line's first fault.
+/// The job of a line, `None` for a comment or a line of spaces alone or nothing, or the line's first fault. The line comes without
+/// the line feed and the carriage return that ended it.
 #[tactic(auto, unfolding(crate::specs::Lines::outcome_of))]
 pub fn read_line(rules: Rules, line: &[u8]) -> Result<Option<Job>, LineFault>
     ensures { result ≡ outcome_of rules line.now }
@@ -36,7 +37,7 @@ pub fn read_line(rules: Rules, line: &[u8]) -> Result<Option<Job>, LineFault>
     }
 }
 
-/// A comment, spaces alone, or nothing.
+/// The line says nothing: it is a comment, spaces alone, or empty.
 fn is_blank(line: &[u8]) -> bool
     ensures { result ≡ is_no_record line.now }
 {
@@ -52,7 +53,7 @@ fn is_all_spaces(line: &[u8]) -> bool
     line.iter().all(|byte| *byte == b' ')
 }
 
-/// The job of a line that is a record, or the first fault.
+/// The job of a line that is a record, or the first fault. Its words decide H1 to H3.
 #[tactic(auto, unfolding(crate::specs::Steps::record_or_fault, crate::specs::Steps::entries_or_fault))]
 fn read_record(rules: Rules, line: &[u8]) -> Result<Job, LineFault>
     ensures { result ≡ record_or_fault rules line.now }
@@ -82,7 +83,7 @@ fn has_other_byte(line: &[u8]) -> bool
     line.iter().any(|byte| *byte < 0x20 || *byte > 0x7e)
 }
 
-/// The job of what the words say, or the first fault.
+/// The job of the parts, or the first fault. Their entries decide H4 to H6.
 #[tactic(auto, unfolding(crate::specs::Steps::entries_or_fault, crate::specs::Steps::texts_or_fault))]
 fn read_parts(rules: Rules, parts: &Parts<'_>) -> Result<Job, LineFault>
     ensures { result ≡ entries_or_fault rules (parts_in parts.now) }
@@ -103,7 +104,7 @@ fn read_parts(rules: Rules, parts: &Parts<'_>) -> Result<Job, LineFault>
 fn is_missing(parts: &Parts<'_>) -> bool
     ensures { result ≡ list_any (is_missing (parts_in parts.now)) (needed parts.now.job) }
 {
-    let fields = parts.fields;
+    let fields = &parts.fields;
     match parts.job {
         JobName::Win => {
             fields.value(Key::On).is_none()

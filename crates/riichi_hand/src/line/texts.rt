@@ -25,12 +25,12 @@ pub(crate) struct Texts {
     pub(crate) melds: Melds,
 }
 
-/// The texts are looked at in the order of their faults, and the melds after them.
+/// The job of the parts, or the first fault. The texts are looked at in the order of their faults, and the melds after them.
 #[tactic(auto, unfolding(crate::specs::Steps::texts_or_fault))]
 pub(crate) fn read_texts(rules: Rules, parts: &Parts<'_>) -> Result<Job, LineFault>
     ensures { result ≡ texts_or_fault rules (parts_in parts.now) }
 {
-    let fields = parts.fields;
+    let fields = &parts.fields;
     let hand = read_text(TextName::Hand, parts.hand)?;
     let on = read_optional(TextName::On, fields.value(Key::On))?;
     let dora = read_optional(TextName::Dora, fields.value(Key::Dora))?;
@@ -52,7 +52,9 @@ pub(crate) fn read_texts(rules: Rules, parts: &Parts<'_>) -> Result<Job, LineFau
 
 /// The tiles of a notation text, or its fault.
 fn read_text(name: TextName, text: &[u8]) -> Result<Counts, LineFault>
-    ensures { MatchResult result (λ counts. (text_fault name (Some text.now) ≡ None) × (counts ≡ counts_of text.now)) (λ fault. text_fault name (Some text.now) ≡ Some fault) }
+    ensures { MatchResult result
+        (λ counts. (text_fault name (Some text.now) ≡ None) × (counts ≡ counts_of text.now))
+        (λ fault. text_fault name (Some text.now) ≡ Some fault) }
 {
     match read_counts(text) {
         Ok(counts) => Ok(counts),
@@ -62,7 +64,9 @@ fn read_text(name: TextName, text: &[u8]) -> Result<Counts, LineFault>
 
 /// No tiles where the text is missing.
 fn read_optional(name: TextName, text: Option<&[u8]>) -> Result<Counts, LineFault>
-    ensures { let text = option_map (λ text. text.now) text.entry in MatchResult result (λ counts. (text_fault name text ≡ None) × (counts ≡ counts_in text)) (λ fault. text_fault name text ≡ Some fault) }
+    ensures { let text = option_map (λ text. text.now) text.entry in MatchResult result
+        (λ counts. (text_fault name text ≡ None) × (counts ≡ counts_in text))
+        (λ fault. text_fault name text ≡ Some fault) }
 {
     match text {
         None => Ok(Counts::new()),
