@@ -64,10 +64,17 @@ four_each win zero h lt = omega arith
 four_each win (suc n) h lt =
     subst (λ (m : ℕ). AtMostFourEach win m) (add-one n) (four_more win n h (omega arith) (four_each win n h (omega arith)))
 
--- at most 40 in all
-pub most : (win : WinParts) (n : ℕ) → IsWin win → n ≤ 34 → total win n ≤ 40
+four_shown : (win : WinParts) (n : ℕ) → IsWin win → n ≤ 34 → total win n ≤ 4 * (sum win.dora + sum win.ura)
 unfolding AtMostFourEach
-most win n h lt =
+four_shown win n h lt =
     let dora = held_of_first win.dora n in
     let ura = held_of_first win.ura n in
-    omega (arith, four_each win n h lt, dora, ura, ten_indicators win h, sum_by-take-le (λ (x : ℕ). x) win.dora n, sum_by-take-le (λ (x : ℕ). x) win.ura n)
+    omega (arith, four_each win n h lt, dora, ura, sum_by-take-le (λ (x : ℕ). x) win.dora n, sum_by-take-le (λ (x : ℕ). x) win.ura n)
+
+-- at most 40 in all
+pub most : (win : WinParts) (n : ℕ) → IsWin win → n ≤ 34 → total win n ≤ 40
+most win n h lt = omega (arith, four_shown win n h lt, ten_indicators win h)
+
+-- none without an indicator
+pub none_shown : (win : WinParts) (n : ℕ) → IsWin win → n ≤ 34 → sum win.dora + sum win.ura ≡ 0 → 0 ≡ total win n
+none_shown win n h lt e = omega (arith, four_shown win n h lt, e)

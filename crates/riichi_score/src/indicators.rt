@@ -35,6 +35,9 @@ fn indicator_dora(win: &WinParts) -> u8
     ensures value { result ≡ sum_by (spec.kind_dora win.now) every_kind }
     ensures most { result ≤ 40 }
 {
+    if win.dora.total() + win.ura.total() == 0 {
+        return 0;
+    }
     let mut sum = 0;
     for number in 0..34 {
         sum += kind_dora(win, Kind::at(number));

@@ -1,6 +1,7 @@
 //! The fu of a reading.
 ghost use Rattle.std.specs.Prelude.{◌≡◌, ◌≤◌, length};
 ghost use Rattle.std.specs.List.{sum_by};
+ghost use Rattle.riichi_yaku.specs.Runs.{is_pinfu};
 ghost use Rattle.riichi_score.specs.Fu as spec;
 
 use riichi_hand::WinRecord;
@@ -37,7 +38,7 @@ fn standard_fu(blocks: &[HandBlock], reading: &Reading, done: &Block, win: &WinR
     ensures value { result ≡ spec.standard_fu blocks.now reading.now done.now win.now }
     ensures most { result ≤ 200 }
 {
-    let drawn = draw_fu(is_pinfu(blocks, reading, win), win);
+    let drawn = draw_fu(blocks, reading, win);
     let sum = 20 + ron_fu(win) + drawn + blocks_fu(blocks, win) + wait_fu(win.winning(), done);
     up_to_ten(sum + open_fu(win, sum))
 }
@@ -53,11 +54,15 @@ fn ron_fu(win: &WinRecord) -> u8
     }
 }
 
-fn draw_fu(pinfu: bool, win: &WinRecord) -> u8
-    ensures value { result ≡ spec.draw_fu pinfu win.now }
+fn draw_fu(blocks: &[HandBlock], reading: &Reading, win: &WinRecord) -> u8
+    ensures value { result ≡ spec.draw_fu (is_pinfu blocks.now reading.now win.now) win.now }
     ensures most { result ≤ 2 }
 {
-    if is_ron(win.by()) || pinfu { 0 } else { 2 }
+    if is_ron(win.by()) || is_pinfu(blocks, reading, win) {
+        0
+    } else {
+        2
+    }
 }
 
 fn blocks_fu(blocks: &[HandBlock], win: &WinRecord) -> u8

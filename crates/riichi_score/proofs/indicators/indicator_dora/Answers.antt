@@ -1,8 +1,16 @@
 use Rattle.std.proofs.Common.{◌≡◌, ◌+◌, sym, ◌∙◌, ap, sum_by, arith}
 use Rattle.std.specs.List.{range_with_len}
 use Rattle.riichi_score.specs.Dora.{kind_dora}
-use Rattle.riichi_score.proofs.DoraSums.{kinds_more, most}
+use Rattle.riichi_score.proofs.DoraSums.{kinds_more, most, none_shown}
+use Rattle.riichi_score.proofs.Wins.{ten_indicators}
 use Rattle.riichi_score.proofs.indicators.indicator_dora.Goals as goal
+
+pub overflow_add-total : goal.overflow_add-total
+overflow_add-total c = omega (arith, ten_indicators c.args.win.now c.requires, c.total.ensures.value, c.total-2.ensures.value)
+
+pub returns-then-total-eq0-clause-value : goal.returns-then-total-eq0-clause-value
+returns-then-total-eq0-clause-value c =
+    none_shown c.args.win.now 34 c.requires (omega arith) (omega (arith, c.if-total-eq0.true, c.total.ensures.value, c.total-2.ensures.value))
 
 pub overflow_add-sum : goal.overflow_add-sum
 overflow_add-sum c =
