@@ -59,6 +59,7 @@ row 0 '' '' line
 printf '# table three\nwaits 1112345678999m\n\nwaits 8z\r\nwaits 123456789m1134p' > "$room/input"
 row 1 $'waits 123456789m\nrefused N5 hand at 0\nwaits 25p' '' line
 : > "$room/input"
+answers examples/club-night.lines examples/club-night.answers
 answers examples/rules.lines examples/rules.answers
 answers examples/rules-two.lines examples/rules-two.answers
 # in docs/RULES.md an answer stands below its line, after `=> `; a block that begins with `rules 2` is of the second profile
