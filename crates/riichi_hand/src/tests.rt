@@ -87,425 +87,435 @@ fn fronts(rt: &impl Abort, line: &[u8], marks: &[u8], text: &str) {
     }
 }
 
+/// Wins, with the marks of their fronts and the text of `!`.
+static WINS: [(&[u8], &[u8], &str); 22] = [
+    (
+        b"win 234m567m345p67s99s on=5s by=tsumo seat=S round=E",
+        b"223366666666666666666664466664444444664444466444444J",
+        "",
+    ),
+    (
+        b"win 234m567m345p67s99s on=5s by=tsumo seat=E round=E counters=2 sticks=1",
+        b"223366666666666666666664466664444444664444466444444JJ444444444JJ4444444J",
+        "",
+    ),
+    (
+        b"win 234m567m345p67s99s on=5s by=tsumo seat=E round=E flags=first",
+        b"223366666666666666666664466664444444664444466444444JJ4444444444J",
+        "",
+    ),
+    (
+        b"win 567m345p67s88s open=chi:234m on=5s by=ron seat=S round=E",
+        b"22336666666666666664444666666666644666644444664444466444444J",
+        "",
+    ),
+    (
+        b"win 111222333p78m99s on=9m by=ron seat=S round=E",
+        b"22336666666666666666644666644444664444466444444J",
+        "",
+    ),
+    (
+        b"win 112233m556677p9s on=9s by=ron seat=S round=E",
+        b"22336666666666666666644666644444664444466444444J",
+        "",
+    ),
+    (
+        b"win 1133m5577p2288s4z on=4z by=tsumo seat=W round=E",
+        b"22336666666666666666664466664444444664444466444444J",
+        "",
+    ),
+    (
+        b"win 223344m556677m8m on=8m by=ron seat=S round=E riichi=1 dora=1m",
+        b"22336666666666666666644666644444664444466444444JJ4444444JJ4444!dJ",
+        "refused N1 dora at 0",
+    ),
+    (
+        b"win 99978m444p567s22s on=9m by=ron seat=S round=E riichi=1",
+        b"223366666666666666666644666644444664444466444444JJ4444444J",
+        "",
+    ),
+    (
+        b"win 234m567m345p67s11z on=8s by=ron seat=E round=E riichi=1",
+        b"2233666666666666666666644666644444664444466444444JJ4444444J",
+        "",
+    ),
+    (
+        b"win 234m567m34p99s open=ankan:1111z on=2p by=tsumo seat=S round=E flags=rinshan dora=1p",
+        b"2233666666666666666444466666666666664466664444444664444466444444JJ444444444444JJ4444!dJ",
+        "refused N1 dora at 0",
+    ),
+    (
+        b"win 222m444p666s33m88s on=8s by=ron seat=S round=E",
+        b"2233666666666666666666644666644444664444466444444J",
+        "",
+    ),
+    (
+        b"win 222m444p666s33m88s on=8s by=tsumo seat=S round=E",
+        b"223366666666666666666664466664444444664444466444444J",
+        "",
+    ),
+    (
+        b"win 19m19p19s1234567z on=1m by=ron seat=E round=E",
+        b"223366666666666666666644666644444664444466444444J",
+        "",
+    ),
+    (
+        b"win 1112345678999m on=5m by=ron seat=S round=E riichi=1 dora=4m",
+        b"223366666666666666644666644444664444466444444JJ4444444JJ4444!dJ",
+        "refused N1 dora at 0",
+    ),
+    (
+        b"win 123456789m22s34p on=2p by=ron seat=S round=E",
+        b"22336666666666666666644666644444664444466444444J",
+        "",
+    ),
+    (
+        b"win 123456789m22s34p on=9s by=ron seat=S round=E",
+        b"22336666666666666666644666644444664444466444444J",
+        "",
+    ),
+    (
+        b"win 456m22s34p open=chi:123m,chi:678p on=2p by=ron seat=S round=E",
+        b"2233666666666664444666666666666666666644666644444664444466444444J",
+        "",
+    ),
+    (
+        b"win 123406789m22s34p on=2p by=ron seat=S round=E",
+        b"22336666666666666666644666644444664444466444444J",
+        "",
+    ),
+    (
+        b"win 234m067m345p67s99s on=0s by=ron seat=S round=E",
+        b"2233666666666666666666644666644444664444466444444J",
+        "",
+    ),
+    (
+        b"win 567m345p67s88s open=chi:340m on=5s by=ron seat=S round=E",
+        b"22336666666666666664444666666666644666644444664444466444444J",
+        "",
+    ),
+    (
+        b"win 406m22s34p open=chi:123m,chi:678p on=2p by=ron seat=S round=E",
+        b"2233666666666664444666666666666666666644666644444664444466444444J",
+        "",
+    ),
+];
+
 #[test]
 fn answers_each_front_of_a_win(rt: HostRuntime) {
-    let rows: [(&[u8], &[u8], &str); 22] = [
-        (
-            b"win 234m567m345p67s99s on=5s by=tsumo seat=S round=E",
-            b"223366666666666666666664466664444444664444466444444J",
-            "",
-        ),
-        (
-            b"win 234m567m345p67s99s on=5s by=tsumo seat=E round=E counters=2 sticks=1",
-            b"223366666666666666666664466664444444664444466444444JJ444444444JJ4444444J",
-            "",
-        ),
-        (
-            b"win 234m567m345p67s99s on=5s by=tsumo seat=E round=E flags=first",
-            b"223366666666666666666664466664444444664444466444444JJ4444444444J",
-            "",
-        ),
-        (
-            b"win 567m345p67s88s open=chi:234m on=5s by=ron seat=S round=E",
-            b"22336666666666666664444666666666644666644444664444466444444J",
-            "",
-        ),
-        (
-            b"win 111222333p78m99s on=9m by=ron seat=S round=E",
-            b"22336666666666666666644666644444664444466444444J",
-            "",
-        ),
-        (
-            b"win 112233m556677p9s on=9s by=ron seat=S round=E",
-            b"22336666666666666666644666644444664444466444444J",
-            "",
-        ),
-        (
-            b"win 1133m5577p2288s4z on=4z by=tsumo seat=W round=E",
-            b"22336666666666666666664466664444444664444466444444J",
-            "",
-        ),
-        (
-            b"win 223344m556677m8m on=8m by=ron seat=S round=E riichi=1 dora=1m",
-            b"22336666666666666666644666644444664444466444444JJ4444444JJ4444!dJ",
-            "refused N1 dora at 0",
-        ),
-        (
-            b"win 99978m444p567s22s on=9m by=ron seat=S round=E riichi=1",
-            b"223366666666666666666644666644444664444466444444JJ4444444J",
-            "",
-        ),
-        (
-            b"win 234m567m345p67s11z on=8s by=ron seat=E round=E riichi=1",
-            b"2233666666666666666666644666644444664444466444444JJ4444444J",
-            "",
-        ),
-        (
-            b"win 234m567m34p99s open=ankan:1111z on=2p by=tsumo seat=S round=E flags=rinshan dora=1p",
-            b"2233666666666666666444466666666666664466664444444664444466444444JJ444444444444JJ4444!dJ",
-            "refused N1 dora at 0",
-        ),
-        (
-            b"win 222m444p666s33m88s on=8s by=ron seat=S round=E",
-            b"2233666666666666666666644666644444664444466444444J",
-            "",
-        ),
-        (
-            b"win 222m444p666s33m88s on=8s by=tsumo seat=S round=E",
-            b"223366666666666666666664466664444444664444466444444J",
-            "",
-        ),
-        (
-            b"win 19m19p19s1234567z on=1m by=ron seat=E round=E",
-            b"223366666666666666666644666644444664444466444444J",
-            "",
-        ),
-        (
-            b"win 1112345678999m on=5m by=ron seat=S round=E riichi=1 dora=4m",
-            b"223366666666666666644666644444664444466444444JJ4444444JJ4444!dJ",
-            "refused N1 dora at 0",
-        ),
-        (
-            b"win 123456789m22s34p on=2p by=ron seat=S round=E",
-            b"22336666666666666666644666644444664444466444444J",
-            "",
-        ),
-        (
-            b"win 123456789m22s34p on=9s by=ron seat=S round=E",
-            b"22336666666666666666644666644444664444466444444J",
-            "",
-        ),
-        (
-            b"win 456m22s34p open=chi:123m,chi:678p on=2p by=ron seat=S round=E",
-            b"2233666666666664444666666666666666666644666644444664444466444444J",
-            "",
-        ),
-        (
-            b"win 123406789m22s34p on=2p by=ron seat=S round=E",
-            b"22336666666666666666644666644444664444466444444J",
-            "",
-        ),
-        (
-            b"win 234m067m345p67s99s on=0s by=ron seat=S round=E",
-            b"2233666666666666666666644666644444664444466444444J",
-            "",
-        ),
-        (
-            b"win 567m345p67s88s open=chi:340m on=5s by=ron seat=S round=E",
-            b"22336666666666666664444666666666644666644444664444466444444J",
-            "",
-        ),
-        (
-            b"win 406m22s34p open=chi:123m,chi:678p on=2p by=ron seat=S round=E",
-            b"2233666666666664444666666666666666666644666644444664444466444444J",
-            "",
-        ),
-    ];
-    for (line, marks, text) in rows {
+    for (line, marks, text) in &WINS {
         fronts(&rt, line, marks, text);
     }
 }
+
+/// Waits, shapes and a comment, in the same way.
+static OTHER_LINES: [(&[u8], &[u8], &str); 13] = [
+    (b"waits 1112345678999m", b"222233hhhhhhhhhhhhhJ", ""),
+    (
+        b"waits 2223456777m open=pon:111z",
+        b"222233hhhhhhhhhh88444477777777J",
+        "",
+    ),
+    (b"waits 123456789m1111z", b"222233hhhhhhhhh8hhhhJ", ""),
+    (b"shape 123456789m1134p", b"222233hhhhhhhhh8hhhhJ", ""),
+    (
+        b"shape 123456789m1134p seen=2222p",
+        b"222233hhhhhhhhh8hhhhJJ4444!ssssJ",
+        "refused N1 seen at 0",
+    ),
+    (b"shape 123456789m11348p", b"222233hhhhhhhhh8hhhhhJ", ""),
+    (b"shape 123456789m1111z", b"222233hhhhhhhhh8hhhhJ", ""),
+    (
+        b"shape 1z open=pon:111z,chi:123m,chi:123m,chi:123m",
+        b"222233h88444477777777877777777877777777877777777J",
+        "",
+    ),
+    (
+        b"shape 11z open=pon:222z,chi:123m,chi:123m,chi:123m",
+        b"222233hh88444477777777877777777877777777877777777J",
+        "",
+    ),
+    (
+        b"shape 12z open=pon:333z,chi:123m,chi:123m,chi:123m seen=222z",
+        b"222233hh88444477777777877777777877777777877777777JJ4444!sssJ",
+        "refused N1 seen at 0",
+    ),
+    (b"# table three", b"-------------", ""),
+    (b"waits 8z", b"222233h!", "refused N5 hand at 0"),
+    (b"waits 123456789m1134p", b"222233hhhhhhhhh8hhhhJ", ""),
+];
 
 #[test]
 fn answers_each_front_of_other_lines(rt: HostRuntime) {
-    let rows: [(&[u8], &[u8], &str); 13] = [
-        (b"waits 1112345678999m", b"222233hhhhhhhhhhhhhJ", ""),
-        (
-            b"waits 2223456777m open=pon:111z",
-            b"222233hhhhhhhhhh88444477777777J",
-            "",
-        ),
-        (b"waits 123456789m1111z", b"222233hhhhhhhhh8hhhhJ", ""),
-        (b"shape 123456789m1134p", b"222233hhhhhhhhh8hhhhJ", ""),
-        (
-            b"shape 123456789m1134p seen=2222p",
-            b"222233hhhhhhhhh8hhhhJJ4444!ssssJ",
-            "refused N1 seen at 0",
-        ),
-        (b"shape 123456789m11348p", b"222233hhhhhhhhh8hhhhhJ", ""),
-        (b"shape 123456789m1111z", b"222233hhhhhhhhh8hhhhJ", ""),
-        (
-            b"shape 1z open=pon:111z,chi:123m,chi:123m,chi:123m",
-            b"222233h88444477777777877777777877777777877777777J",
-            "",
-        ),
-        (
-            b"shape 11z open=pon:222z,chi:123m,chi:123m,chi:123m",
-            b"222233hh88444477777777877777777877777777877777777J",
-            "",
-        ),
-        (
-            b"shape 12z open=pon:333z,chi:123m,chi:123m,chi:123m seen=222z",
-            b"222233hh88444477777777877777777877777777877777777JJ4444!sssJ",
-            "refused N1 seen at 0",
-        ),
-        (b"# table three", b"-------------", ""),
-        (b"waits 8z", b"222233h!", "refused N5 hand at 0"),
-        (b"waits 123456789m1134p", b"222233hhhhhhhhh8hhhhJ", ""),
-    ];
-    for (line, marks, text) in rows {
+    for (line, marks, text) in &OTHER_LINES {
         fronts(&rt, line, marks, text);
     }
 }
+
+/// Refused lines, and last the text of the whole line.
+static REFUSED_LINES: [(&[u8], &[u8], &str, &str); 18] = [
+    (b"waits 1m\t", b"222233h81", "", "refused H1"),
+    (b"score 1m", b"22222222", "", "refused H2"),
+    (b"waits", b"22223", "", "refused H3"),
+    (b"win on=5s", b"223366333", "", "refused H3"),
+    (b"waits 1m seen=2m", b"222233h884444444", "", "refused H4"),
+    (
+        b"waits 12x3m",
+        b"222233hh!!!",
+        "refused N2 hand at 2",
+        "refused N2 hand at 2",
+    ),
+    (
+        b"waits 9x2z",
+        b"222233h!!!",
+        "refused N2 hand at 1",
+        "refused N2 hand at 1",
+    ),
+    (b"waits 12m3", b"222233hh8h", "", "refused N3 hand at 4"),
+    (
+        b"waits 1mp",
+        b"222233h8!",
+        "refused N4 hand at 2",
+        "refused N4 hand at 2",
+    ),
+    (
+        b"win 8z on=8z by=ron seat=S round=E",
+        b"223366644666644444664444466444444!",
+        "refused N5 hand at 0",
+        "refused N5 hand at 0",
+    ),
+    (
+        b"waits 11111m",
+        b"222233hhhhh!",
+        "refused N6 hand at 4",
+        "refused N6 hand at 4",
+    ),
+    (
+        b"waits 05555m",
+        b"222233hhhhh!",
+        "refused N6 hand at 4",
+        "refused N6 hand at 4",
+    ),
+    (
+        b"waits 2223456777m open=pon:112z",
+        b"222233hhhhhhhhhh884444777777777",
+        "",
+        "refused H7",
+    ),
+    (
+        b"waits 2223456777m open=",
+        b"222233hhhhhhhhhh8844447",
+        "",
+        "refused H7",
+    ),
+    (
+        b"waits 123456789m111z",
+        b"222233hhhhhhhhh8hhh8",
+        "",
+        "refused H8",
+    ),
+    (
+        b"waits 1112345678999m open=pon:111z",
+        b"222233hhhhhhhhhhhhhJJ4444777777778",
+        "",
+        "refused H8",
+    ),
+    (
+        b"win 111m234m567p678s9s on=9s by=ron seat=S round=E dora=11m",
+        b"2233666666666666666666644666644444664444466444444JJ4444!dd9",
+        "refused N1 dora at 0",
+        "refused H9",
+    ),
+    (
+        b"win 567m345p67s88s open=chi:234m on=5s by=ron seat=S round=E riichi=1",
+        b"22336666666666666664444666666666644666644444664444466444444JJ4444444A",
+        "",
+        "refused H10",
+    ),
+];
 
 #[test]
 fn answers_each_front_of_a_refused_line(rt: HostRuntime) {
-    let rows: [(&[u8], &[u8], &str, &str); 18] = [
-        (b"waits 1m\t", b"222233h81", "", "refused H1"),
-        (b"score 1m", b"22222222", "", "refused H2"),
-        (b"waits", b"22223", "", "refused H3"),
-        (b"win on=5s", b"223366333", "", "refused H3"),
-        (b"waits 1m seen=2m", b"222233h884444444", "", "refused H4"),
-        (
-            b"waits 12x3m",
-            b"222233hh!!!",
-            "refused N2 hand at 2",
-            "refused N2 hand at 2",
-        ),
-        (
-            b"waits 9x2z",
-            b"222233h!!!",
-            "refused N2 hand at 1",
-            "refused N2 hand at 1",
-        ),
-        (b"waits 12m3", b"222233hh8h", "", "refused N3 hand at 4"),
-        (
-            b"waits 1mp",
-            b"222233h8!",
-            "refused N4 hand at 2",
-            "refused N4 hand at 2",
-        ),
-        (
-            b"win 8z on=8z by=ron seat=S round=E",
-            b"223366644666644444664444466444444!",
-            "refused N5 hand at 0",
-            "refused N5 hand at 0",
-        ),
-        (
-            b"waits 11111m",
-            b"222233hhhhh!",
-            "refused N6 hand at 4",
-            "refused N6 hand at 4",
-        ),
-        (
-            b"waits 05555m",
-            b"222233hhhhh!",
-            "refused N6 hand at 4",
-            "refused N6 hand at 4",
-        ),
-        (
-            b"waits 2223456777m open=pon:112z",
-            b"222233hhhhhhhhhh884444777777777",
-            "",
-            "refused H7",
-        ),
-        (
-            b"waits 2223456777m open=",
-            b"222233hhhhhhhhhh8844447",
-            "",
-            "refused H7",
-        ),
-        (
-            b"waits 123456789m111z",
-            b"222233hhhhhhhhh8hhh8",
-            "",
-            "refused H8",
-        ),
-        (
-            b"waits 1112345678999m open=pon:111z",
-            b"222233hhhhhhhhhhhhhJJ4444777777778",
-            "",
-            "refused H8",
-        ),
-        (
-            b"win 111m234m567p678s9s on=9s by=ron seat=S round=E dora=11m",
-            b"2233666666666666666666644666644444664444466444444JJ4444!dd9",
-            "refused N1 dora at 0",
-            "refused H9",
-        ),
-        (
-            b"win 567m345p67s88s open=chi:234m on=5s by=ron seat=S round=E riichi=1",
-            b"22336666666666666664444666666666644666644444664444466444444JJ4444444A",
-            "",
-            "refused H10",
-        ),
-    ];
-    for (line, marks, text, whole) in rows {
+    for (line, marks, text, whole) in &REFUSED_LINES {
         fronts(&rt, line, marks, text);
         expect(&rt, line, whole);
     }
 }
+
+/// Refused wins, in the same way.
+static REFUSED_WINS: [(&[u8], &[u8], &str, &str); 11] = [
+    (
+        b"win 234m567m345p67s99s on=5s by=ron seat=S round=E by=draw",
+        b"2233666666666666666666644666644444664444466444444JJ4444444",
+        "",
+        "refused H4",
+    ),
+    (
+        b"win 234m567m345p67s99s on=5s by=ron seat=S round=E counters=100",
+        b"2233666666666666666666644666644444664444466444444JJ444444444JJ4",
+        "",
+        "refused H4",
+    ),
+    (
+        b"win 234m567m345p67s99s on=5s by=ron seat=S round=E on=5s",
+        b"2233666666666666666666644666644444664444466444444JJ44555",
+        "",
+        "refused H5",
+    ),
+    (
+        b"win 234m567m345p67s99s by=ron seat=S round=E",
+        b"22336666666666666666666444446644444664444446",
+        "",
+        "refused H6",
+    ),
+    (
+        b"win 234m567m345p67s99s on= by=ron seat=S round=E",
+        b"22336666666666666666666446644444664444466444444!",
+        "refused N1 on at 0",
+        "refused N1 on at 0",
+    ),
+    (
+        b"win 234m567m345p67s99s on=5s by=ron seat=S round=E flags=ippatsu",
+        b"2233666666666666666666644666644444664444466444444JJ444444444444B",
+        "",
+        "refused H11",
+    ),
+    (
+        b"win 234m567m345p67s99s on=5s by=ron seat=S round=E ura=1m",
+        b"2233666666666666666666644666644444664444466444444JJ444!uB",
+        "refused N1 ura at 0",
+        "refused H11",
+    ),
+    (
+        b"win 234m567m345p67s99s on=5s by=ron seat=S round=E flags=rinshan",
+        b"2233666666666666666666644666644444664444466444444JJ444444444444C",
+        "",
+        "refused H12",
+    ),
+    (
+        b"win 234m567m345p67s99s on=5s by=tsumo seat=S round=E flags=chankan",
+        b"223366666666666666666664466664444444664444466444444JJ444444444444D",
+        "",
+        "refused H13",
+    ),
+    (
+        b"win 234m567m345p67s99s on=5s by=ron seat=S round=E flags=chankan,last",
+        b"2233666666666666666666644666644444664444466444444JJ444444444444J4444E",
+        "",
+        "refused H14",
+    ),
+    (
+        b"win 234m567m345p67s99s on=5s by=ron seat=S round=E flags=first",
+        b"2233666666666666666666644666644444664444466444444JJ4444444444F",
+        "",
+        "refused H15",
+    ),
+];
 
 #[test]
 fn answers_each_front_of_a_refused_win(rt: HostRuntime) {
-    let rows: [(&[u8], &[u8], &str, &str); 11] = [
-        (
-            b"win 234m567m345p67s99s on=5s by=ron seat=S round=E by=draw",
-            b"2233666666666666666666644666644444664444466444444JJ4444444",
-            "",
-            "refused H4",
-        ),
-        (
-            b"win 234m567m345p67s99s on=5s by=ron seat=S round=E counters=100",
-            b"2233666666666666666666644666644444664444466444444JJ444444444JJ4",
-            "",
-            "refused H4",
-        ),
-        (
-            b"win 234m567m345p67s99s on=5s by=ron seat=S round=E on=5s",
-            b"2233666666666666666666644666644444664444466444444JJ44555",
-            "",
-            "refused H5",
-        ),
-        (
-            b"win 234m567m345p67s99s by=ron seat=S round=E",
-            b"22336666666666666666666444446644444664444446",
-            "",
-            "refused H6",
-        ),
-        (
-            b"win 234m567m345p67s99s on= by=ron seat=S round=E",
-            b"22336666666666666666666446644444664444466444444!",
-            "refused N1 on at 0",
-            "refused N1 on at 0",
-        ),
-        (
-            b"win 234m567m345p67s99s on=5s by=ron seat=S round=E flags=ippatsu",
-            b"2233666666666666666666644666644444664444466444444JJ444444444444B",
-            "",
-            "refused H11",
-        ),
-        (
-            b"win 234m567m345p67s99s on=5s by=ron seat=S round=E ura=1m",
-            b"2233666666666666666666644666644444664444466444444JJ444!uB",
-            "refused N1 ura at 0",
-            "refused H11",
-        ),
-        (
-            b"win 234m567m345p67s99s on=5s by=ron seat=S round=E flags=rinshan",
-            b"2233666666666666666666644666644444664444466444444JJ444444444444C",
-            "",
-            "refused H12",
-        ),
-        (
-            b"win 234m567m345p67s99s on=5s by=tsumo seat=S round=E flags=chankan",
-            b"223366666666666666666664466664444444664444466444444JJ444444444444D",
-            "",
-            "refused H13",
-        ),
-        (
-            b"win 234m567m345p67s99s on=5s by=ron seat=S round=E flags=chankan,last",
-            b"2233666666666666666666644666644444664444466444444JJ444444444444J4444E",
-            "",
-            "refused H14",
-        ),
-        (
-            b"win 234m567m345p67s99s on=5s by=ron seat=S round=E flags=first",
-            b"2233666666666666666666644666644444664444466444444JJ4444444444F",
-            "",
-            "refused H15",
-        ),
-    ];
-    for (line, marks, text, whole) in rows {
+    for (line, marks, text, whole) in &REFUSED_WINS {
         fronts(&rt, line, marks, text);
         expect(&rt, line, whole);
     }
 }
 
+/// Lines that are easy to get wrong, and their texts; none for a job.
+static TRAPS: [(&[u8], &str); 35] = [
+    (b"shape 123456789m", "refused H8"),
+    (b"shape 123456789m1111z seen=1z", "refused H9"),
+    (b"shape 123456789m1134p seen=", "refused N1 seen at 0"),
+    (b"waits 1m open=chi:123m,chi:123m,chi:123m,pon:999p", ""),
+    (b"waits 8x9z", "refused N2 hand at 1"),
+    (b"waits 811111z", "refused N5 hand at 0"),
+    (b"waits 5550m0m", "refused N6 hand at 5"),
+    (b"waits 1112345678999m =x", "refused H4"),
+    (b"waits 1112345678999m open=pon=111z", "refused H7"),
+    (b"waits 2223456777m open=pon:111z,", "refused H7"),
+    (b"waits 2223456777m open=pon:1z1z1z", ""),
+    (
+        b"waits 1m open=pon:111z,pon:222z,pon:333z,pon:444z,pon:555z",
+        "refused H7",
+    ),
+    (b"waits 1m open=pon:1111z", "refused H7"),
+    (
+        b"win 234m567m345p67s99s on=5s on=5s by=ron seat=S",
+        "refused H5",
+    ),
+    (
+        b"win 234m567m345p67s99s on=55s by=ron seat=S round=E",
+        "refused H8",
+    ),
+    (
+        b"win 234m567m345p67s99s on=5s by=ron seat=S round=E dora=11111m",
+        "refused N6 dora at 4",
+    ),
+    (
+        b"win 234m567m345p67s99s on=5s by=ron seat=S round=E dora=123456p",
+        "refused H8",
+    ),
+    (
+        b"win 1x on=1y by=ron seat=S round=E dora=1 ura=1",
+        "refused N2 hand at 1",
+    ),
+    (
+        b"win 1m on=1y by=ron seat=S round=E dora=1 ura=1",
+        "refused N2 on at 1",
+    ),
+    (
+        b"win 1m on=1m by=ron seat=S round=E dora=1 ura=x",
+        "refused N3 dora at 1",
+    ),
+    (
+        b"win 1m on=1m by=ron seat=S round=E dora=1m ura=x open=x",
+        "refused N2 ura at 0",
+    ),
+    (b"shape 1m seen=x open=x", "refused N2 seen at 0"),
+    (b"rules 2", "refused H2"),
+    (b" # a comment", "refused H2"),
+    (b"waits 1112345678999m\r", "refused H1"),
+    (b"  waits   2223456777m   open=pon:111z  ", ""),
+    (
+        b"win 234m567m345p67s99s on=5s by=ron seat=S round=E riichi=2 flags=ippatsu,last ura=4m5p counters=05",
+        "",
+    ),
+    (
+        b"win 234m567m345p67s99s on=5s by=ron seat=S round=E flags=",
+        "refused H4",
+    ),
+    (
+        b"win 234m567m345p67s99s on=5s by=ron seat=S round=E flags=last,last",
+        "refused H4",
+    ),
+    (
+        b"win 234m567m345p67s99s on=5s by=ron seat=S round=E riichi=3",
+        "refused H4",
+    ),
+    (
+        b"win 234m567m345p67s99s on=5s by=ron seat=X round=E",
+        "refused H4",
+    ),
+    (
+        b"win 234m567m345p67s99s on=5s by=ron seat=S round=E counters=",
+        "refused H4",
+    ),
+    (
+        b"win 234m567m345p67s99s on=5s by=ron seat=S round=E sticks=1a",
+        "refused H4",
+    ),
+    (
+        b"win 234m567m34p99s open=ankan:1111z on=2p by=tsumo seat=S round=E flags=rinshan,last",
+        "refused H14",
+    ),
+    (
+        b"win 34m567m345p99s open=ankan:1111z on=2m by=tsumo seat=S round=E flags=first",
+        "refused H15",
+    ),
+];
+
 #[test]
 fn tells_the_first_fault(rt: HostRuntime) {
-    let rows: [(&[u8], &str); 35] = [
-        (b"shape 123456789m", "refused H8"),
-        (b"shape 123456789m1111z seen=1z", "refused H9"),
-        (b"shape 123456789m1134p seen=", "refused N1 seen at 0"),
-        (b"waits 1m open=chi:123m,chi:123m,chi:123m,pon:999p", ""),
-        (b"waits 8x9z", "refused N2 hand at 1"),
-        (b"waits 811111z", "refused N5 hand at 0"),
-        (b"waits 5550m0m", "refused N6 hand at 5"),
-        (b"waits 1112345678999m =x", "refused H4"),
-        (b"waits 1112345678999m open=pon=111z", "refused H7"),
-        (b"waits 2223456777m open=pon:111z,", "refused H7"),
-        (b"waits 2223456777m open=pon:1z1z1z", ""),
-        (
-            b"waits 1m open=pon:111z,pon:222z,pon:333z,pon:444z,pon:555z",
-            "refused H7",
-        ),
-        (b"waits 1m open=pon:1111z", "refused H7"),
-        (
-            b"win 234m567m345p67s99s on=5s on=5s by=ron seat=S",
-            "refused H5",
-        ),
-        (
-            b"win 234m567m345p67s99s on=55s by=ron seat=S round=E",
-            "refused H8",
-        ),
-        (
-            b"win 234m567m345p67s99s on=5s by=ron seat=S round=E dora=11111m",
-            "refused N6 dora at 4",
-        ),
-        (
-            b"win 234m567m345p67s99s on=5s by=ron seat=S round=E dora=123456p",
-            "refused H8",
-        ),
-        (
-            b"win 1x on=1y by=ron seat=S round=E dora=1 ura=1",
-            "refused N2 hand at 1",
-        ),
-        (
-            b"win 1m on=1y by=ron seat=S round=E dora=1 ura=1",
-            "refused N2 on at 1",
-        ),
-        (
-            b"win 1m on=1m by=ron seat=S round=E dora=1 ura=x",
-            "refused N3 dora at 1",
-        ),
-        (
-            b"win 1m on=1m by=ron seat=S round=E dora=1m ura=x open=x",
-            "refused N2 ura at 0",
-        ),
-        (b"shape 1m seen=x open=x", "refused N2 seen at 0"),
-        (b"rules 2", "refused H2"),
-        (b" # a comment", "refused H2"),
-        (b"waits 1112345678999m\r", "refused H1"),
-        (b"  waits   2223456777m   open=pon:111z  ", ""),
-        (
-            b"win 234m567m345p67s99s on=5s by=ron seat=S round=E riichi=2 flags=ippatsu,last ura=4m5p counters=05",
-            "",
-        ),
-        (
-            b"win 234m567m345p67s99s on=5s by=ron seat=S round=E flags=",
-            "refused H4",
-        ),
-        (
-            b"win 234m567m345p67s99s on=5s by=ron seat=S round=E flags=last,last",
-            "refused H4",
-        ),
-        (
-            b"win 234m567m345p67s99s on=5s by=ron seat=S round=E riichi=3",
-            "refused H4",
-        ),
-        (
-            b"win 234m567m345p67s99s on=5s by=ron seat=X round=E",
-            "refused H4",
-        ),
-        (
-            b"win 234m567m345p67s99s on=5s by=ron seat=S round=E counters=",
-            "refused H4",
-        ),
-        (
-            b"win 234m567m345p67s99s on=5s by=ron seat=S round=E sticks=1a",
-            "refused H4",
-        ),
-        (
-            b"win 234m567m34p99s open=ankan:1111z on=2p by=tsumo seat=S round=E flags=rinshan,last",
-            "refused H14",
-        ),
-        (
-            b"win 34m567m345p99s open=ankan:1111z on=2m by=tsumo seat=S round=E flags=first",
-            "refused H15",
-        ),
-    ];
-    for (line, text) in rows {
+    for (line, text) in &TRAPS {
         expect(&rt, line, text);
     }
 }

@@ -25,46 +25,22 @@ fn with_flag(flags: Flags, item: &[u8]) -> Option<Flags>
     ensures { (items : List (List ℕ)) → are_flags items ≡ true → flags ≡ flags_in items
         → result ≡ flags_of_items (items ++ item.now ∷ []) }
 {
+    let mut set = flags;
     if item == b"ippatsu".as_slice() {
-        unless(
-            flags.ippatsu,
-            Flags {
-                ippatsu: true,
-                ..flags
-            },
-        )
+        set.ippatsu = true;
+        unless(flags.ippatsu, set)
     } else if item == b"rinshan".as_slice() {
-        unless(
-            flags.rinshan,
-            Flags {
-                rinshan: true,
-                ..flags
-            },
-        )
+        set.rinshan = true;
+        unless(flags.rinshan, set)
     } else if item == b"chankan".as_slice() {
-        unless(
-            flags.chankan,
-            Flags {
-                chankan: true,
-                ..flags
-            },
-        )
+        set.chankan = true;
+        unless(flags.chankan, set)
     } else if item == b"last".as_slice() {
-        unless(
-            flags.last,
-            Flags {
-                last: true,
-                ..flags
-            },
-        )
+        set.last = true;
+        unless(flags.last, set)
     } else if item == b"first".as_slice() {
-        unless(
-            flags.first,
-            Flags {
-                first: true,
-                ..flags
-            },
-        )
+        set.first = true;
+        unless(flags.first, set)
     } else {
         None
     }
