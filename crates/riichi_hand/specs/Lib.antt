@@ -3,3 +3,12 @@ pub mod Faults
 pub mod FaultTexts
 pub mod Hand
 pub mod Win
+pub mod Words
+pub mod Values
+pub mod Keys
+pub mod Entries
+pub mod Parts
+pub mod Texts
+pub mod Jobs
+pub mod Lines
+pub mod Steps

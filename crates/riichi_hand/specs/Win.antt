@@ -1,8 +1,7 @@
 -- What must be true of a win.
-use Rattle.std.specs.Prelude.{◌≡◌, ◌==◌, ◌&&◌, ◌||◌, not, ℕ, ◌+◌, ◌*◌, Bool, true, false, List, [], ◌∷◌, ◌++◌, length, Option, None, Some, Result, Ok, Err, if◌then◌else◌, nat_lt, nat_eq, slice_index}
-use Rattle.std.specs.List.{sum, list_any, list_all}
+use Rattle.std.specs.Prelude.{◌≡◌, ◌==◌, ◌&&◌, ◌||◌, not, ℕ, ◌+◌, Bool, true, false, List, [], ◌∷◌, length, Option, None, Result, if◌then◌else◌, nat_lt, nat_eq, slice_index}
+use Rattle.std.specs.List.{sum, list_any}
 use Rattle.riichi_tiles.specs.Melds.{every_kind, tiles, are_concealed, is_kong}
-use Rattle.riichi_tiles.specs.declared.meld.Meld.{Meld}
 use Rattle.riichi_hand.specs.declared.fault.LineCode.TheVariants.{H4, H8, H9, H10, H11, H12, H13, H14, H15, H16}
 use Rattle.riichi_hand.specs.declared.fault.LineFault.{LineFault}
 use Rattle.riichi_hand.specs.declared.win.By.{By}

@@ -1,16 +1,37 @@
-//! Records of hands, and the lines that they are told as. A `WinRecord`, a `HandRecord` and a
-//! `ShapeRecord` are seen as the parts they keep, and have no fault by their types; `read_line`
-//! gives the `Job` of a line, or the line's first fault.
+//! Hands as they are asked of the desk, and the lines that tell them.
+//!
+//! A [`Job`] is what is asked: a [`WinRecord`] is scored, a [`HandRecord`] waits for tiles, a [`ShapeRecord`] is some steps from
+//! a win. Each record keeps the conditions of its tiles and flags by its type, since its constructor answers the first
+//! [`LineFault`] of what it is given, so whoever holds a record needs no test. [`WinParts`] is what a win is told as, with
+//! [`Rules`], [`By`], [`Wind`] and [`Flags`].
+//!
+//! [`read_line`] reads a record line, as `win 234m567m345p67s99s on=5s by=ron seat=S round=E`: it answers the job, nothing for a
+//! comment or a blank line, or the first fault of the line, which [`fault_text`] tells. A [`LineCode`] is a fault of the line or
+//! of the record; a fault of a notation text comes with the text's [`TextName`]. Lines, keys and codes are told in
+//! docs/NOTATION.md.
+//!
+//! All of these are plain values: each can be copied and compared, and no call takes memory.
+//!
+//! ```
+//! read_line(Rules::One, b"waits 1112345678999m");            // Ok(Some(Job::Waits(..)))
+//! read_line(Rules::One, b"# a comment");                     // Ok(None)
+//! let fault = read_line(Rules::One, b"waits 12x3m").err()?;  // LineFault::Notation(TextName::Hand, ..)
+//! fault_text(&fault).as_str();                               // "refused N2 hand at 2"
+//! ```
 #![tactic(auto)]
 
 mod fault;
 mod hand;
 mod job;
+mod line;
 mod shape;
+#[cfg(test)]
+mod tests;
 mod win;
 
 pub use fault::{LineCode, LineFault, TextName, fault_text};
 pub use hand::HandRecord;
 pub use job::Job;
+pub use line::read_line;
 pub use shape::ShapeRecord;
 pub use win::{By, Flags, Rules, WinParts, WinRecord, Wind};

@@ -7,33 +7,46 @@ use crate::hand::is_thirteen;
 use riichi_tiles::{Counts, Kind, Melds, Reds};
 use std::marker::Model;
 
-/// The rule profile: with the first, a red five is a plain five.
+/// The rule profile of a win.
 #[derive(Clone, Copy, Debug, PartialEq, Eq)]
 pub enum Rules {
+    /// A red five is a plain five.
     One,
+    /// Each red five is one han of dora, and four han with 30 fu are a mangan.
     Two,
 }
 
+/// How a hand is won.
 #[derive(Clone, Copy, Debug, PartialEq, Eq)]
 pub enum By {
+    /// On another player's discard.
     Ron,
+    /// By self-draw.
     Tsumo,
 }
 
+/// A wind, as the seat of a player or as the prevalent wind of a round.
 #[derive(Clone, Copy, Debug, PartialEq, Eq)]
 pub enum Wind {
+    /// The seat East is the dealer.
     East,
     South,
     West,
     North,
 }
 
+/// The circumstances of a win that some yaku ask for.
 #[derive(Clone, Copy, Debug, PartialEq, Eq)]
 pub struct Flags {
+    /// Within one turn of riichi.
     pub ippatsu: bool,
+    /// On the tile drawn after a kong.
     pub rinshan: bool,
+    /// On the tile that another player adds to a triplet for a kong.
     pub chankan: bool,
+    /// On the last tile drawn or discarded.
     pub last: bool,
+    /// On the first draw, before any call.
     pub first: bool,
 }
 
@@ -52,6 +65,7 @@ impl Wind {
 }
 
 impl Flags {
+    /// None set.
     pub fn none() -> Flags
         ensures { result ≡ spec.no_flags }
     {
@@ -65,23 +79,32 @@ impl Flags {
     }
 }
 
-/// What a win is told as.
+/// What a win is told as: any values of these types. [`WinRecord::new`] tests them.
 #[derive(Clone, Copy, Debug, PartialEq, Eq)]
 pub struct WinParts {
     pub rules: Rules,
+    /// The concealed tiles before the winning tile.
     pub concealed: Counts,
     pub melds: Melds,
+    /// The kind of the winning tile.
     pub winning: Kind,
     pub by: By,
+    /// The winner's wind.
     pub seat: Wind,
+    /// The prevalent wind.
     pub round: Wind,
     /// 0, 1, or 2 for double riichi.
     pub riichi: u8,
     pub flags: Flags,
+    /// The dora indicators, at most five.
     pub dora: Counts,
+    /// The indicators under them, at most five, and none without riichi.
     pub ura: Counts,
+    /// The counters on the table, 0 to 99, each worth 300 points.
     pub counters: u8,
+    /// The riichi sticks on the table, 0 to 99, each worth 1000 points.
     pub sticks: u8,
+    /// The red fives among hand, melds and winning tile.
     pub reds: Reds,
 }
 
@@ -106,7 +129,8 @@ impl Model for WinRecord {
 }
 
 impl WinRecord {
-    /// The record of the parts, or the first of their faults. Under the first profile no red five is kept.
+    /// The record of the parts, or the first of their faults: H4 for a number out of range, then H8 to H15, and under the second
+    /// profile H16. Under the first profile no red five is kept.
     #[tactic(auto, unfolding(crate::specs::Win::win_of))]
     pub fn new(parts: WinParts) -> Result<WinRecord, LineFault>
         ensures { result ≡ spec.win_of parts }
@@ -151,6 +175,7 @@ impl WinRecord {
         }
     }
 
+    /// All that the win was told as, without the red fives under the first profile.
     pub fn parts(&self) -> WinParts
         ensures value { result ≡ self.now }
         ensures win { spec.IsWin self.now }
@@ -158,84 +183,98 @@ impl WinRecord {
         self.parts
     }
 
+    /// The rule profile.
     pub fn rules(&self) -> Rules
         ensures { result ≡ self.now.rules }
     {
         self.parts.rules
     }
 
+    /// The concealed tiles before the winning tile.
     pub fn concealed(&self) -> Counts
         ensures { result ≡ self.now.concealed }
     {
         self.parts.concealed
     }
 
+    /// The melds, in the order in which they were told.
     pub fn melds(&self) -> Melds
         ensures { result ≡ self.now.melds }
     {
         self.parts.melds
     }
 
+    /// The kind of the winning tile.
     pub fn winning(&self) -> Kind
         ensures { result ≡ self.now.winning }
     {
         self.parts.winning
     }
 
+    /// By ron or by tsumo.
     pub fn by(&self) -> By
         ensures { result ≡ self.now.by }
     {
         self.parts.by
     }
 
+    /// The winner's wind; East is the dealer.
     pub fn seat(&self) -> Wind
         ensures { result ≡ self.now.seat }
     {
         self.parts.seat
     }
 
+    /// The prevalent wind.
     pub fn round(&self) -> Wind
         ensures { result ≡ self.now.round }
     {
         self.parts.round
     }
 
+    /// 0, 1, or 2 for double riichi.
     pub fn riichi(&self) -> u8
         ensures { result ≡ self.now.riichi }
     {
         self.parts.riichi
     }
 
+    /// The circumstances of the win.
     pub fn flags(&self) -> Flags
         ensures { result ≡ self.now.flags }
     {
         self.parts.flags
     }
 
+    /// The dora indicators, at most five.
     pub fn dora(&self) -> Counts
         ensures { result ≡ self.now.dora }
     {
         self.parts.dora
     }
 
+    /// The indicators under them, at most five, and none without riichi.
     pub fn ura(&self) -> Counts
         ensures { result ≡ self.now.ura }
     {
         self.parts.ura
     }
 
+    /// The counters on the table, 0 to 99.
     pub fn counters(&self) -> u8
         ensures { result ≡ self.now.counters }
     {
         self.parts.counters
     }
 
+    /// The riichi sticks on the table, 0 to 99.
     pub fn sticks(&self) -> u8
         ensures { result ≡ self.now.sticks }
     {
         self.parts.sticks
     }
 
+    /// The red fives among hand, melds and winning tile; none under the first profile.
     pub fn reds(&self) -> Reds
         ensures { result ≡ self.now.reds }
     {
@@ -250,6 +289,7 @@ fn is_out_of_range(parts: &WinParts) -> bool
     parts.riichi > 2 || parts.counters > 99 || parts.sticks > 99
 }
 
+/// Not thirteen tiles before the winning one, or over five indicators of a sort.
 fn has_wrong_size(parts: &WinParts) -> bool
     ensures { result ≡ spec.has_wrong_size parts.now }
 {
@@ -272,6 +312,7 @@ fn has_five_copies(parts: &WinParts) -> bool
     (0..34).any(|number| copies_of(parts, Kind::at(number)) > 4)
 }
 
+/// The copies of a kind, with those among the indicators.
 fn copies_of(parts: &WinParts, kind: Kind) -> u8
     ensures { result ≡ spec.copies_in parts.now kind }
 {
@@ -287,6 +328,7 @@ fn copies_held(parts: &WinParts, kind: Kind) -> u8
     parts.concealed.get(kind) + parts.melds.tiles(kind) + one
 }
 
+/// Rinshan with last or ippatsu, or chankan with last.
 fn are_exclusive(flags: Flags) -> bool
     ensures { result ≡ spec.are_exclusive flags }
 {
@@ -310,6 +352,7 @@ fn has_other_flag(flags: Flags) -> bool
     flags.ippatsu || flags.rinshan || flags.chankan || flags.last
 }
 
+/// More red fives of a suit than fives.
 fn has_too_many_reds(parts: &WinParts) -> bool
     ensures { result ≡ spec.has_too_many_reds parts.now }
 {

@@ -1,0 +1,6 @@
+pub mod WordLemmas
+pub mod CutLemmas
+pub mod FlagLemmas
+pub mod FieldLemmas
+pub mod MeldLemmas
+pub mod OutcomeLemmas

@@ -1,0 +1,19 @@
+-- The words of a line, and the items of a value.
+use Rattle.std.specs.Prelude.{ℕ, ◌==◌, List, [], ◌∷◌, Bool, true, false, filter}
+use Rattle.std.specs.List.{slice_split}
+
+abbrev pub is_word : List ℕ → Bool
+is_word [] = false
+is_word (byte ∷ bytes) = true
+
+-- Words are separated by one or more spaces. Spaces at either end don't count.
+abbrev pub words_of : List ℕ → List (List ℕ)
+words_of line = filter is_word (slice_split (λ byte. byte == 32) line)
+
+-- Items are separated by one comma each, so an item may be empty.
+abbrev pub items_of : List ℕ → List (List ℕ)
+items_of value = slice_split (λ byte. byte == 44) value
+
+abbrev pub begins_with_space : List ℕ → Bool
+begins_with_space [] = false
+begins_with_space (byte ∷ bytes) = byte == 32

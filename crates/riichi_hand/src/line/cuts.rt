@@ -1,0 +1,56 @@
+//! The words of a line, and texts cut at a mark.
+ghost use Rattle.std.specs.Prelude.{◌≡◌, ◌<◌, ◌≤◌, ◌==◌, [], ◌∷◌, false, true, length, MatchOption, None, Some, not, take, drop};
+ghost use Rattle.std.specs.List.{list_all};
+ghost use Rattle.riichi_tiles.specs.Melds.{cut_at};
+ghost use Rattle.riichi_hand.specs.Words.{words_of, begins_with_space};
+
+/// The first word of a text, and what comes after it.
+pub(crate) fn next_word(text: &[u8]) -> Option<(&[u8], &[u8])>
+    ensures { MatchOption result (words_of text.now ≡ [])
+        (λ found. (words_of text.now ≡ found.0.now ∷ words_of found.1.now) × (length found.1.now < length text.now)) }
+{
+    let text = without_spaces(text);
+    if text.is_empty() {
+        return None;
+    }
+    Some(text.split_at(word_len(text)))
+}
+
+/// The text without the spaces that it begins with.
+fn without_spaces(text: &[u8]) -> &[u8]
+    ensures words { words_of result.now ≡ words_of text.now }
+    ensures begins { begins_with_space result.now ≡ false }
+    ensures shorter { length result.now ≤ length text.now }
+{
+    let mut rest = text;
+    while let [b' ', ..] = rest {
+        rest = &rest[1..];
+    }
+    rest
+}
+
+/// How many bytes come before the first space.
+fn word_len(text: &[u8]) -> usize
+    ensures bound { result ≤ length text.now }
+    ensures word { list_all (λ byte. not (byte == 32)) (take result text.now) ≡ true }
+    ensures rest { result < length text.now → begins_with_space (drop result text.now) ≡ true }
+{
+    let mut len = 0;
+    while len < text.len() && text[len] != b' ' {
+        len += 1;
+    }
+    len
+}
+
+/// What stands before and after the first mark.
+pub(crate) fn split_at_mark(text: &[u8], mark: u8) -> Option<(&[u8], &[u8])>
+    ensures { MatchOption result (cut_at mark text.now ≡ None)
+        (λ cut. (cut_at mark text.now ≡ Some (cut.0.now, cut.1.now)) × (length cut.1.now < length text.now)) }
+{
+    for (place, byte) in text.iter().enumerate() {
+        if *byte == mark {
+            return Some((&text[..place], &text[place + 1..]));
+        }
+    }
+    None
+}

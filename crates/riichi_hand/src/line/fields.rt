@@ -1,0 +1,96 @@
+//! What the words after the hand say.
+ghost use Rattle.std.specs.Prelude.{◌≡◌, ◌∷◌, ◌++◌, [], Some, None, List, ℕ, option_map, unwrap_or, slice_index_or, slice_set};
+ghost use Rattle.riichi_hand.specs.declared.line.job_name.JobName.{JobName};
+ghost use Rattle.riichi_hand.specs.Keys.{number_of_key};
+ghost use Rattle.riichi_hand.specs.Words.{words_of};
+ghost use Rattle.riichi_hand.specs.Entries.{entries_of, entries_in};
+
+use super::cuts::next_word;
+use super::entry::read_entry;
+use super::job_name::JobName;
+use super::key::Key;
+
+/// Whether a word was no entry of the job, whether a key came again, and the first value of each key in the key's place.
+#[derive(Clone, Copy)]
+pub(crate) struct Fields<'a> {
+    pub(crate) has_bad_word: bool,
+    pub(crate) has_doubled_key: bool,
+    pub(crate) values: [Option<&'a [u8]>; Key::COUNT],
+}
+
+impl<'a> Fields<'a> {
+    fn new() -> Fields<'a>
+        ensures { (job : JobName) → entries_in result ≡ entries_of job [] }
+    {
+        Fields {
+            has_bad_word: false,
+            has_doubled_key: false,
+            values: [None; Key::COUNT],
+        }
+    }
+
+    pub(crate) fn value(&self, key: Key) -> Option<&'a [u8]>
+        ensures { option_map (λ value. value.now) result ≡ (entries_in self.now).value key }
+    {
+        self.values[key.index()]
+    }
+
+    /// The value of a key, or nothing where it is missing.
+    pub(crate) fn text(&self, key: Key) -> &'a [u8]
+        ensures { result.now ≡ unwrap_or ((entries_in self.now).value key) [] }
+    {
+        self.value(key).unwrap_or(&[])
+    }
+
+    /// The fields after one more word.
+    fn with(self, job: JobName, word: &'a [u8]) -> Fields<'a>
+        ensures { (words : List (List ℕ)) → entries_in self.entry ≡ entries_of job words
+            → entries_in result ≡ entries_of job (words ++ word.now ∷ []) }
+    {
+        let Some((key, value)) = read_entry(job, word) else {
+            return Fields {
+                has_bad_word: true,
+                ..self
+            };
+        };
+        if self.value(key).is_some() {
+            return Fields {
+                has_doubled_key: true,
+                ..self
+            };
+        }
+        Fields {
+            values: put(self.values, key, value),
+            ..self
+        }
+    }
+}
+
+/// The values with one more, in the place of its key.
+fn put<'a>(
+    values: [Option<&'a [u8]>; Key::COUNT],
+    key: Key,
+    value: &'a [u8],
+) -> [Option<&'a [u8]>; Key::COUNT]
+    ensures here { slice_index_or result (number_of_key key) None ≡ Some value.entry }
+    ensures elsewhere { result ≡ slice_set values.entry (number_of_key key) (Some value.entry) }
+{
+    let mut values = values;
+    values[key.index()] = Some(value);
+    values
+}
+
+/// The fields of the words of a text.
+pub(crate) fn read_fields(job: JobName, text: &[u8]) -> Fields<'_>
+    ensures { entries_in result ≡ entries_of job (words_of text.now) }
+{
+    let mut fields = Fields::new();
+    let mut rest = text;
+    loop {
+        let Some((word, after)) = next_word(rest) else {
+            return fields;
+        };
+        fields = fields.with(job, word);
+        rest = after;
+    }
+}

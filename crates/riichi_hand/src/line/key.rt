@@ -1,0 +1,76 @@
+ghost use Rattle.std.specs.Prelude.{◌≡◌, ◌<◌};
+ghost use Rattle.riichi_hand.specs.Keys.{key_named, number_of_key};
+
+/// The keys of a record line.
+#[derive(Clone, Copy)]
+pub(crate) enum Key {
+    On,
+    By,
+    Seat,
+    Round,
+    Open,
+    Riichi,
+    Flags,
+    Dora,
+    Ura,
+    Counters,
+    Sticks,
+    Seen,
+}
+
+impl Key {
+    /// How many keys there are.
+    pub(crate) const COUNT: usize = 12;
+
+    pub(crate) fn index(self) -> usize
+        ensures value { result ≡ number_of_key self }
+        ensures within { result < Self.COUNT }
+    {
+        match self {
+            Key::On => 0,
+            Key::By => 1,
+            Key::Seat => 2,
+            Key::Round => 3,
+            Key::Open => 4,
+            Key::Riichi => 5,
+            Key::Flags => 6,
+            Key::Dora => 7,
+            Key::Ura => 8,
+            Key::Counters => 9,
+            Key::Sticks => 10,
+            Key::Seen => 11,
+        }
+    }
+
+    pub(crate) fn read(name: &[u8]) -> Option<Key>
+        ensures { result ≡ key_named name.now }
+    {
+        if name == b"on".as_slice() {
+            Some(Key::On)
+        } else if name == b"by".as_slice() {
+            Some(Key::By)
+        } else if name == b"seat".as_slice() {
+            Some(Key::Seat)
+        } else if name == b"round".as_slice() {
+            Some(Key::Round)
+        } else if name == b"open".as_slice() {
+            Some(Key::Open)
+        } else if name == b"riichi".as_slice() {
+            Some(Key::Riichi)
+        } else if name == b"flags".as_slice() {
+            Some(Key::Flags)
+        } else if name == b"dora".as_slice() {
+            Some(Key::Dora)
+        } else if name == b"ura".as_slice() {
+            Some(Key::Ura)
+        } else if name == b"counters".as_slice() {
+            Some(Key::Counters)
+        } else if name == b"sticks".as_slice() {
+            Some(Key::Sticks)
+        } else if name == b"seen".as_slice() {
+            Some(Key::Seen)
+        } else {
+            None
+        }
+    }
+}
