@@ -9,7 +9,7 @@ use Rattle.riichi_hand.specs.declared.win.Rules.{Rules}
 use Rattle.riichi_hand.specs.declared.win.Rules.TheVariants.{One}
 use Rattle.riichi_hand.specs.Lines.{outcome_of}
 use Rattle.desk_lines.specs.Lines.{without_return}
-use Rattle.desk_lines.specs.Profile.{profile_of, profile_of_words, rules_of, record_lines}
+use Rattle.desk_lines.specs.Profile.{profile_of, rules_of, record_lines}
 use Rattle.desk_lines.specs.LineAnswer.{answer_of}
 use Rattle.desk_lines.specs.LineAnswers.{with_line_feed, answers_to, is_answered, is_refused, report_on}
 use Rattle.desk_lines.specs.Teller.{rules_after, rules_by, told_by, report_after}

@@ -1,8 +1,7 @@
 -- One more byte at the end of a text.
-use Rattle.std.proofs.Common.{◌≡◌, ℕ, inl, inr, List, [], ◌∷◌, ◌++◌, true, false, cond, nat_eq, map, refl, sym, ◌∙◌, ap, append_assoc}
+use Rattle.std.proofs.Common.{◌≡◌, ℕ, inl, inr, List, [], ◌∷◌, ◌++◌, Bool, true, false, cond, nat_eq, map, refl, sym, ◌∙◌, ap, append_assoc}
 use Rattle.std.proofs.lemmas.List.{map-append, append-nil}
 use Rattle.std.proofs.lemmas.Bool.{cases_eq, ne_eqb}
-use Rattle.std.proofs.Common.{Bool}
 use Rattle.std.specs.Prelude.{not, ◌&&◌}
 use Rattle.desk_lines.specs.Lines.{Cut, in_front, with_front, cut_of, without_return, ended_lines, is_plain}
 

@@ -1,5 +1,5 @@
 -- What a teller has told once it has answered one more line.
-use Rattle.std.proofs.Common.{◌≡◌, ℕ, List, [], ◌∷◌, ◌++◌, Option, Some, take, refl, sym, subst, ◌∙◌, ap, append_assoc}
+use Rattle.std.proofs.Common.{◌≡◌, ℕ, List, [], ◌∷◌, ◌++◌, Some, take, sym, subst, ◌∙◌, ap, append_assoc}
 use Rattle.std.proofs.lemmas.List.{append-nil}
 use Rattle.desk_streams.specs.declared.sink.Sink.{Ghosts as OfSink}
 use Rattle.desk_lines.specs.declared.teller.Teller.{Teller}

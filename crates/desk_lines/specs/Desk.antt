@@ -1,5 +1,5 @@
 -- What a desk keeps between two bytes.
-use Rattle.std.specs.Prelude.{◌≡◌, ℕ, List, Option, take}
+use Rattle.std.specs.Prelude.{◌≡◌, ℕ, List, take}
 use Rattle.desk_streams.specs.declared.sink.Sink.{Ghosts as OfSink}
 use Rattle.desk_lines.specs.declared.desk.Desk.{Desk}
 use Rattle.desk_lines.specs.Lines.{cut_of, ended_lines}

@@ -1,7 +1,6 @@
 -- The answers to the lines of a stream, as text and as a count.
-use Rattle.std.specs.Prelude.{ℕ, ◌+◌, List, [], ◌∷◌, ◌++◌, Bool, true, false, not, Option, None, Some, nat_eq, codes, count_by}
+use Rattle.std.specs.Prelude.{ℕ, ◌+◌, List, [], ◌∷◌, ◌++◌, Bool, false, not, Option, None, Some, nat_eq, codes, count_by}
 use Rattle.std.specs.List.{flat_map, starts_with}
-use Rattle.riichi_hand.specs.declared.win.Rules.{Rules}
 use Rattle.desk_lines.specs.declared.report.DeskReport.{DeskReport}
 use Rattle.desk_lines.specs.Lines.{lines}
 use Rattle.desk_lines.specs.Profile.{rules_of, record_lines}

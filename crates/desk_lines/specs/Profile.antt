@@ -1,5 +1,5 @@
 -- The rule profile of a stream. Its first line may set it, and is no record then.
-use Rattle.std.specs.Prelude.{ℕ, ◌==◌, List, [], ◌∷◌, length, ◌||◌, Option, None, Some, is_some, unwrap_or, nat_lt, if◌then◌else◌, codes}
+use Rattle.std.specs.Prelude.{ℕ, List, [], ◌∷◌, length, ◌||◌, Option, None, Some, is_some, unwrap_or, nat_lt, if◌then◌else◌, codes}
 use Rattle.std.specs.List.{list_any}
 use Rattle.std.specs.Str.{bytes_eq}
 use Rattle.riichi_hand.specs.declared.win.Rules.{Rules}

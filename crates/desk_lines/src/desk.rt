@@ -35,11 +35,7 @@ impl Desk {
     }
 
     /// Takes the next bytes, and writes the answers to all lines that have ended.
-    pub(crate) fn feed<W: Sink>(
-        &mut self,
-        bytes: &[u8],
-        writer: &mut W,
-    ) -> Result<(), DeskFault>
+    pub(crate) fn feed<W: Sink>(&mut self, bytes: &[u8], writer: &mut W) -> Result<(), DeskFault>
         requires { count_of self.old.teller.report + length bytes.now < 2 ^ 64 }
         ensures holds { OnOk result ((start : W) (text : List ℕ) → Holds ⟦<W as Sink>⟧ start self.old writer.old text
             → Holds ⟦<W as Sink>⟧ start self.new writer.new (text ++ bytes.now)) }

@@ -47,11 +47,7 @@ impl Teller {
     }
 
     /// Answers the next line. The answers that stand in the way of its own are written first.
-    pub(crate) fn answer<W: Sink>(
-        &mut self,
-        line: &[u8],
-        writer: &mut W,
-    ) -> Result<(), DeskFault>
+    pub(crate) fn answer<W: Sink>(&mut self, line: &[u8], writer: &mut W) -> Result<(), DeskFault>
         requires { count_of self.old.report + 1 < 2 ^ 64 }
         ensures stands { OnOk result ((start : W) (lines : List (List ℕ)) → Stands ⟦<W as Sink>⟧ start lines self.old writer.old
             → Stands ⟦<W as Sink>⟧ start (lines ++ line.now ∷ []) self.new writer.new) }

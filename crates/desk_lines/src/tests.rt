@@ -6,8 +6,7 @@ use std::process::Abort;
 use std::test::Fail;
 
 /// A comment, an empty line, a line with a carriage return, and a last line without an end.
-const TEXT: &[u8] =
-    b"# table three\nwaits 1112345678999m\n\nwaits 8z\r\nwaits 123456789m1134p";
+const TEXT: &[u8] = b"# table three\nwaits 1112345678999m\n\nwaits 8z\r\nwaits 123456789m1134p";
 
 const ANSWERS: &[u8] = b"waits 123456789m\nrefused N5 hand at 0\nwaits 25p\n";
 
@@ -17,36 +16,108 @@ fn answer(rt: &impl Abort, text: &[u8], answers: &[u8], answered: u64, refused: 
     let mut writer: BytesOut<2048> = BytesOut::new(1000, None);
     let report = desk_text(&mut reader, &mut writer);
     assert_eq!(rt; writer.bytes(), answers);
-    assert!(rt; report == Ok(DeskReport { answered, refused }), "{answered} {refused}");
+    assert!(rt;
+        report == Ok(DeskReport { answered, refused }),
+        "{answered} {refused}"
+    );
 }
 
 #[test]
 fn records(rt: HostRuntime) -> Result<(), Fail> {
     for (line, told) in [
-        ("win 234m567m345p67s99s on=5s by=tsumo seat=S round=E", "won 2 han 20 fu 400/700 gain 1500 fully-concealed pinfu"),
-        ("win 234m567m345p67s99s on=5s by=tsumo seat=E round=E counters=2 sticks=1", "won 2 han 20 fu 900 all gain 3700 fully-concealed pinfu"),
-        ("win 234m567m345p67s99s on=5s by=tsumo seat=E round=E flags=first", "won yakuman 16000 all gain 48000 blessing-of-heaven"),
-        ("win 567m345p67s88s open=chi:234m on=5s by=ron seat=S round=E", "won 1 han 30 fu 1000 gain 1000 all-simples"),
-        ("win 111222333p78m99s on=9m by=ron seat=S round=E", "won 5 han 30 fu 8000 gain 8000 pinfu pure-double-chow terminals-in-all-sets"),
-        ("win 112233m556677p9s on=9s by=ron seat=S round=E", "won 3 han 40 fu 5200 gain 5200 twice-pure-double-chow"),
-        ("win 1133m5577p2288s4z on=4z by=tsumo seat=W round=E", "won 3 han 25 fu 800/1600 gain 3200 fully-concealed seven-pairs"),
-        ("win 223344m556677m8m on=8m by=ron seat=S round=E riichi=1 dora=1m", "won 14 han 30 fu 32000 gain 32000 riichi pinfu all-simples twice-pure-double-chow full-flush dora 2"),
-        ("win 99978m444p567s22s on=9m by=ron seat=S round=E riichi=1", "won 1 han 50 fu 1600 gain 1600 riichi"),
-        ("win 234m567m345p67s11z on=8s by=ron seat=E round=E riichi=1", "won 1 han 40 fu 2000 gain 2000 riichi"),
-        ("win 234m567m34p99s open=ankan:1111z on=2p by=tsumo seat=S round=E flags=rinshan dora=1p", "won 4 han 60 fu 2000/4000 gain 8000 fully-concealed prevalent-wind after-a-kong dora 1"),
-        ("win 222m444p666s33m88s on=8s by=ron seat=S round=E", "won 5 han 50 fu 8000 gain 8000 all-simples all-pungs three-concealed-pungs"),
-        ("win 222m444p666s33m88s on=8s by=tsumo seat=S round=E", "won yakuman 8000/16000 gain 32000 four-concealed-pungs"),
-        ("win 19m19p19s1234567z on=1m by=ron seat=E round=E", "won yakuman 48000 gain 48000 thirteen-orphans"),
-        ("win 1112345678999m on=5m by=ron seat=S round=E riichi=1 dora=4m", "won yakuman 32000 gain 32000 nine-gates"),
-        ("win 11223m789p99s open=pon:111z on=3m by=ron seat=S round=E", "won 2 han 30 fu 2000 gain 2000 prevalent-wind outside-hand"),
-        ("win 123456789m22s34p on=2p by=ron seat=S round=E", "won 3 han 30 fu 3900 gain 3900 pinfu pure-straight"),
+        (
+            "win 234m567m345p67s99s on=5s by=tsumo seat=S round=E",
+            "won 2 han 20 fu 400/700 gain 1500 fully-concealed pinfu",
+        ),
+        (
+            "win 234m567m345p67s99s on=5s by=tsumo seat=E round=E counters=2 sticks=1",
+            "won 2 han 20 fu 900 all gain 3700 fully-concealed pinfu",
+        ),
+        (
+            "win 234m567m345p67s99s on=5s by=tsumo seat=E round=E flags=first",
+            "won yakuman 16000 all gain 48000 blessing-of-heaven",
+        ),
+        (
+            "win 567m345p67s88s open=chi:234m on=5s by=ron seat=S round=E",
+            "won 1 han 30 fu 1000 gain 1000 all-simples",
+        ),
+        (
+            "win 111222333p78m99s on=9m by=ron seat=S round=E",
+            "won 5 han 30 fu 8000 gain 8000 pinfu pure-double-chow terminals-in-all-sets",
+        ),
+        (
+            "win 112233m556677p9s on=9s by=ron seat=S round=E",
+            "won 3 han 40 fu 5200 gain 5200 twice-pure-double-chow",
+        ),
+        (
+            "win 1133m5577p2288s4z on=4z by=tsumo seat=W round=E",
+            "won 3 han 25 fu 800/1600 gain 3200 fully-concealed seven-pairs",
+        ),
+        (
+            "win 223344m556677m8m on=8m by=ron seat=S round=E riichi=1 dora=1m",
+            "won 14 han 30 fu 32000 gain 32000 riichi pinfu all-simples twice-pure-double-chow full-flush dora 2",
+        ),
+        (
+            "win 99978m444p567s22s on=9m by=ron seat=S round=E riichi=1",
+            "won 1 han 50 fu 1600 gain 1600 riichi",
+        ),
+        (
+            "win 234m567m345p67s11z on=8s by=ron seat=E round=E riichi=1",
+            "won 1 han 40 fu 2000 gain 2000 riichi",
+        ),
+        (
+            "win 234m567m34p99s open=ankan:1111z on=2p by=tsumo seat=S round=E flags=rinshan dora=1p",
+            "won 4 han 60 fu 2000/4000 gain 8000 fully-concealed prevalent-wind after-a-kong dora 1",
+        ),
+        (
+            "win 222m444p666s33m88s on=8s by=ron seat=S round=E",
+            "won 5 han 50 fu 8000 gain 8000 all-simples all-pungs three-concealed-pungs",
+        ),
+        (
+            "win 222m444p666s33m88s on=8s by=tsumo seat=S round=E",
+            "won yakuman 8000/16000 gain 32000 four-concealed-pungs",
+        ),
+        (
+            "win 19m19p19s1234567z on=1m by=ron seat=E round=E",
+            "won yakuman 48000 gain 48000 thirteen-orphans",
+        ),
+        (
+            "win 1112345678999m on=5m by=ron seat=S round=E riichi=1 dora=4m",
+            "won yakuman 32000 gain 32000 nine-gates",
+        ),
+        (
+            "win 11223m789p99s open=pon:111z on=3m by=ron seat=S round=E",
+            "won 2 han 30 fu 2000 gain 2000 prevalent-wind outside-hand",
+        ),
+        (
+            "win 123456789m22s34p on=2p by=ron seat=S round=E",
+            "won 3 han 30 fu 3900 gain 3900 pinfu pure-straight",
+        ),
         ("win 123456789m22s34p on=9s by=ron seat=S round=E", "no win"),
-        ("win 456m22s34p open=chi:123m,chi:678p on=2p by=ron seat=S round=E", "no yaku"),
-        ("shape 123456789m1134p", "shanten 0 accepts 2p:4 5p:4 live 8"),
-        ("shape 123456789m1134p seen=2222p", "shanten 0 accepts 5p:4 live 4"),
-        ("shape 123456789m11348p", "shanten 0 discard 8p accepts 2p:4 5p:4 live 8"),
-        ("shape 11z open=pon:222z,chi:123m,chi:123m,chi:123m", "shanten -1 discard 1z accepts 1z:2 live 2"),
-        ("shape 12z open=pon:333z,chi:123m,chi:123m,chi:123m seen=222z", "shanten 0 discard 2z accepts 1z:3 live 3 discard 1z accepts - live 0"),
+        (
+            "win 456m22s34p open=chi:123m,chi:678p on=2p by=ron seat=S round=E",
+            "no yaku",
+        ),
+        (
+            "shape 123456789m1134p",
+            "shanten 0 accepts 2p:4 5p:4 live 8",
+        ),
+        (
+            "shape 123456789m1134p seen=2222p",
+            "shanten 0 accepts 5p:4 live 4",
+        ),
+        (
+            "shape 123456789m11348p",
+            "shanten 0 discard 8p accepts 2p:4 5p:4 live 8",
+        ),
+        (
+            "shape 11z open=pon:222z,chi:123m,chi:123m,chi:123m",
+            "shanten -1 discard 1z accepts 1z:2 live 2",
+        ),
+        (
+            "shape 12z open=pon:333z,chi:123m,chi:123m,chi:123m seen=222z",
+            "shanten 0 discard 2z accepts 1z:3 live 3 discard 1z accepts - live 0",
+        ),
         ("waits 2223456777m open=pon:111z", "waits 12345678m"),
         ("waits 123456789m1111z", "waits -"),
     ] {
@@ -59,7 +130,13 @@ fn records(rt: HostRuntime) -> Result<(), Fail> {
 #[test]
 fn refusals(rt: HostRuntime) -> Result<(), Fail> {
     let win = "win 234m567m345p67s99s on=5s by=ron seat=S round=E";
-    answer(&rt, win.as_bytes(), b"won 1 han 30 fu 1000 gain 1000 pinfu\n", 1, 0);
+    answer(
+        &rt,
+        win.as_bytes(),
+        b"won 1 han 30 fu 1000 gain 1000 pinfu\n",
+        1,
+        0,
+    );
     for (more, code) in [
         ("by=draw", "H4"),
         ("counters=100", "H4"),
@@ -81,7 +158,10 @@ fn refusals(rt: HostRuntime) -> Result<(), Fail> {
         ("win on=5s", "H3"),
         ("waits 1m seen=2m", "H4"),
         ("win 234m567m345p67s99s by=ron seat=S round=E", "H6"),
-        ("win 234m567m345p67s99s on= by=ron seat=S round=E", "N1 on at 0"),
+        (
+            "win 234m567m345p67s99s on= by=ron seat=S round=E",
+            "N1 on at 0",
+        ),
         ("waits 12x3m", "N2 hand at 2"),
         ("waits 9x2z", "N2 hand at 1"),
         ("waits 12m3", "N3 hand at 4"),
@@ -91,9 +171,18 @@ fn refusals(rt: HostRuntime) -> Result<(), Fail> {
         ("waits 2223456777m open=pon:112z", "H7"),
         ("waits 2223456777m open=", "H7"),
         ("waits 123456789m111z", "H8"),
-        ("win 111m234m567p678s9s on=9s by=ron seat=S round=E dora=11m", "H9"),
-        ("win 567m345p67s88s open=chi:234m on=5s by=ron seat=S round=E riichi=1", "H10"),
-        ("win 234m567m345p67s99s on=5s by=tsumo seat=S round=E flags=chankan", "H13"),
+        (
+            "win 111m234m567p678s9s on=9s by=ron seat=S round=E dora=11m",
+            "H9",
+        ),
+        (
+            "win 567m345p67s88s open=chi:234m on=5s by=ron seat=S round=E riichi=1",
+            "H10",
+        ),
+        (
+            "win 234m567m345p67s99s on=5s by=tsumo seat=S round=E flags=chankan",
+            "H13",
+        ),
     ] {
         let told = format!(in rt.alloc(); "refused {fault}\n")?;
         answer(&rt, line.as_bytes(), told.as_bytes(), 0, 1);
@@ -127,7 +216,13 @@ fn profiles(rt: HostRuntime) {
         };
         assert!(rt; refused == 0 || answers.try_push_str(refusal).is_ok());
         assert!(rt; answers.try_push_str(told).is_ok());
-        answer(&rt, text.as_str().as_bytes(), answers.as_str().as_bytes(), 1, refused);
+        answer(
+            &rt,
+            text.as_str().as_bytes(),
+            answers.as_str().as_bytes(),
+            1,
+            refused,
+        );
     }
     answer(&rt, b"rules 2", b"", 0, 0);
     answer(&rt, b"rules 1\nrules 2", b"refused H2\n", 0, 1);
@@ -188,7 +283,10 @@ fn stops_at_each_failing_read(rt: HostRuntime) {
     for failing in 1..69u64 {
         let mut reader = BytesIn::new(TEXT, 1, Some(failing));
         let mut writer: BytesOut<64> = BytesOut::new(7, None);
-        assert!(rt; desk_text(&mut reader, &mut writer) == Err(DeskFault::Read), "{failing}");
+        assert!(rt;
+            desk_text(&mut reader, &mut writer) == Err(DeskFault::Read),
+            "{failing}"
+        );
         let told = match failing {
             0..36 => 0,
             36..47 => 17,
@@ -203,8 +301,15 @@ fn stops_at_each_failing_write(rt: HostRuntime) {
     for failing in 1..49u64 {
         let mut reader = BytesIn::new(TEXT, 5, None);
         let mut writer: BytesOut<64> = BytesOut::new(1, Some(failing));
-        assert!(rt; desk_text(&mut reader, &mut writer) == Err(DeskFault::Write), "{failing}");
-        assert_eq!(rt; writer.bytes(), &ANSWERS[..failing as usize - 1], "{failing}");
+        assert!(rt;
+            desk_text(&mut reader, &mut writer) == Err(DeskFault::Write),
+            "{failing}"
+        );
+        assert_eq!(rt;
+            writer.bytes(),
+            &ANSWERS[..failing as usize - 1],
+            "{failing}"
+        );
     }
     let mut reader = BytesIn::new(TEXT, 100, None);
     let mut writer: BytesOut<9> = BytesOut::new(100, None);

@@ -1,6 +1,5 @@
-use Rattle.std.proofs.Common.{◌≡◌, ◌<◌, ◌+◌, ◌-◌, ◌∙◌, List, ℕ, ◌∷◌, ◌++◌, sym, ap, length, take, drop, get_or, arith, drop-cons, length-drop, add-one, true}
+use Rattle.std.proofs.Common.{◌≡◌, ◌<◌, ◌+◌, ◌-◌, ◌∙◌, List, ℕ, ◌∷◌, ◌++◌, sym, ap, length, take, drop, get_or, arith, drop-cons, length-drop, add-one}
 use Rattle.std.proofs.lemmas.List.{take-append-drop, take_all}
-use Rattle.desk_lines.specs.Lines.{is_plain}
 use Rattle.desk_lines.proofs.desk.cut_line.Goals as goal
 
 -- a text around its byte at a place

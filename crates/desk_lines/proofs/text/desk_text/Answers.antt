@@ -13,28 +13,33 @@ use Rattle.desk_lines.proofs.text.desk_text.Goals as goal
 
 pub loop-turn-init : goal.loop-turn-init
 loop-turn-init g c =
-    let new = c.new-desk.ensures in ([], record {
-      gives = record { appended = sym (append-nil (g.R.Source.given c.args.reader.now)); taken = Consumes-nil (g.R.Source.left c.args.reader.now) };
-      holds = Holds-new g.W.Sink c.new-desk.result c.args.writer.now new.held new.rules new.report new.outbox;
-      empty = new.outbox;
-      reads = refl;
-      calls = omega arith;
-      count = let none = ap count_of new.report in omega arith;
-    })
+    let new = c.new-desk.ensures in (
+      [],
+      record {
+        gives = record { appended = sym (append-nil (g.R.Source.given c.args.reader.now)); taken = Consumes-nil (g.R.Source.left c.args.reader.now) };
+        holds = Holds-new g.W.Sink c.new-desk.result c.args.writer.now new.held new.rules new.report new.outbox;
+        empty = new.outbox;
+        reads = refl;
+        calls = omega arith;
+        count = let none = ap count_of new.report in omega arith;
+      },
+    )
 
 pub loop-turn-preserved : goal.loop-turn-preserved
 loop-turn-preserved g c =
     let source = g.R.Source in
     let kept = c.loop-turn.invariant in
-    let bytes = take c.in-Ok.count c.read.new.buffer in
-    (kept.0 ++ bytes, record {
-      gives = Gives-more source c.args.reader.now c.loop-turn.reader c.read.new.self kept.0 bytes kept.1.gives c.in-Ok.ensures.given c.in-Ok.ensures.left.0;
-      holds = c.in_ok-feed-in-Ok.ensures.holds c.args.writer.now kept.0 kept.1.holds;
-      empty = c.in_ok-feed-in-Ok.ensures.empty;
-      reads = let same = c.in-Ok.ensures.failures in let before = kept.1.reads in omega arith;
-      calls = let more = c.in-Ok.ensures.calls in let before = kept.1.calls in omega arith;
-      count = let more = c.in_ok-feed-in-Ok.ensures.count in let before = kept.1.count in let lengths = length-take c.in-Ok.count c.read.new.buffer in omega arith;
-    })
+    let bytes = take c.in-Ok.count c.read.new.buffer in (
+      kept.0 ++ bytes,
+      record {
+        gives = Gives-more source c.args.reader.now c.loop-turn.reader c.read.new.self kept.0 bytes kept.1.gives c.in-Ok.ensures.given c.in-Ok.ensures.left.0;
+        holds = c.in_ok-feed-in-Ok.ensures.holds c.args.writer.now kept.0 kept.1.holds;
+        empty = c.in_ok-feed-in-Ok.ensures.empty;
+        reads = let same = c.in-Ok.ensures.failures in let before = kept.1.reads in omega arith;
+        calls = let more = c.in-Ok.ensures.calls in let before = kept.1.calls in omega arith;
+        count = let more = c.in_ok-feed-in-Ok.ensures.count in let before = kept.1.count in let lengths = length-take c.in-Ok.count c.read.new.buffer in omega arith;
+      },
+    )
 
 -- the end was read
 pub returns-in-Ok-eq0-clause-ok : goal.returns-in-Ok-eq0-clause-ok

@@ -18,11 +18,14 @@ whole : (text front rest bytes : List ℕ) → bytes ≡ front ++ rest → (text
 whole text front rest bytes parts = append_assoc text front rest ∙ ap (λ all. text ++ all) (sym parts)
 
 pub loop-line-init : goal.loop-line-init
-loop-line-init g c = ([], record {
-  parts = refl;
-  holds = λ start text holds. subst (λ (all : List ℕ). Holds g.W.Sink start c.args.self.now c.args.writer.now all) (sym (append-nil text)) holds;
-  count = omega arith;
-})
+loop-line-init g c = (
+  [],
+  record {
+    parts = refl;
+    holds = λ start text holds. subst (λ (all : List ℕ). Holds g.W.Sink start c.args.self.now c.args.writer.now all) (sym (append-nil text)) holds;
+    count = omega arith;
+  },
+)
 
 pub loop-line-preserved : goal.loop-line-preserved
 loop-line-preserved g c =
@@ -30,13 +33,15 @@ loop-line-preserved g c =
     let front = kept.0 in
     let line = c.in-Some.line.now in
     let after = c.in-Some.after.now in
-    let cut : c.loop-line.rest.now ≡ line ++ 10 ∷ after = c.in-Some.ensures.0 in
-    (front ++ (line ++ 10 ∷ []), record {
-      parts = kept.1.parts ∙ ap (λ all. front ++ all) cut ∙ longer_front front line after;
-      holds = λ start text holds. subst (λ (all : List ℕ). Holds g.W.Sink start c.end_line.new.self c.end_line.new.writer all) (append_assoc text front (line ++ 10 ∷ []))
-          (c.in_ok-end_line.ensures.holds start (text ++ front) (kept.1.holds start text holds));
-      count = let lengths = ap length cut in let more = length-append line (10 ∷ after) in let before = kept.1.count in omega arith;
-    })
+    let cut : c.loop-line.rest.now ≡ line ++ 10 ∷ after = c.in-Some.ensures.0 in (
+      front ++ (line ++ 10 ∷ []),
+      record {
+        parts = kept.1.parts ∙ ap (λ all. front ++ all) cut ∙ longer_front front line after;
+        holds = λ start text holds. subst (λ (all : List ℕ). Holds g.W.Sink start c.end_line.new.self c.end_line.new.writer all) (append_assoc text front (line ++ 10 ∷ []))
+            (c.in_ok-end_line.ensures.holds start (text ++ front) (kept.1.holds start text holds));
+        count = let lengths = ap length cut in let more = length-append line (10 ∷ after) in let before = kept.1.count in omega arith;
+      },
+    )
 
 pub returns-in_err-end_line-clause-stops : goal.returns-in_err-end_line-clause-stops
 returns-in_err-end_line-clause-stops g c =

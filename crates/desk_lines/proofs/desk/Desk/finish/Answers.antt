@@ -1,4 +1,4 @@
-use Rattle.std.proofs.Common.{◌≡◌, ◌∙◌, ◌++◌, [], ◌∷◌, List, ℕ, ap, sym, subst, rules}
+use Rattle.std.proofs.Common.{◌≡◌, ◌∙◌, ◌++◌, [], ◌∷◌, List, ℕ, ap, subst, rules}
 use Rattle.std.proofs.lemmas.Result.{err_from_is_err_and}
 use Rattle.desk_lines.specs.Lines.{cut_of, ended_lines, last_line, lines, without_return}
 use Rattle.desk_lines.specs.Teller.{Stands}
@@ -20,13 +20,13 @@ returns-in_err-flush-clause-stops g c =
     let sink = g.W.Sink in
     let p = err_from_is_err_and c.from_residual-in_err-flush.result c.from_residual-in_err-flush.ensures.1 in
     rw (p.1, p.2) (λ start text holds. c.in_err-flush.ensures.stops start (lines text) (
-      elim c.if-not-is_empty.branch [
-        | then-not-is_empty+in_ok-answer w ↦
-            let line : w.line_in-last.result.now ≡ without_return c.args.self.held.bytes.items = w.line_in-last.ensures ∙ ap without_return w.as_slice.ensures in
-            rw (w.self-is, w.writer-is) (Stands-last sink start c.args.self c.args.writer.now text holds (λ none. search rules) w.answer.new.self w.answer.new.writer
-            (subst (λ (l : List ℕ). Stands sink start (ended_lines text ++ l ∷ []) w.answer.new.self w.answer.new.writer) line (w.in_ok-answer.ensures.stands start (ended_lines text) holds.stands)))
-        | else-not-is_empty w ↦ rw (w.self-is, w.writer-is) (Stands-no_last sink start c.args.self c.args.writer.now text holds (c.is_empty.ensures.0 w.if-not-is_empty.false))
-      ]))
+    elim c.if-not-is_empty.branch [
+      | then-not-is_empty+in_ok-answer w ↦
+          let line : w.line_in-last.result.now ≡ without_return c.args.self.held.bytes.items = w.line_in-last.ensures ∙ ap without_return w.as_slice.ensures in
+          rw (w.self-is, w.writer-is) (Stands-last sink start c.args.self c.args.writer.now text holds (λ none. search rules) w.answer.new.self w.answer.new.writer
+          (subst (λ (l : List ℕ). Stands sink start (ended_lines text ++ l ∷ []) w.answer.new.self w.answer.new.writer) line (w.in_ok-answer.ensures.stands start (ended_lines text) holds.stands)))
+      | else-not-is_empty w ↦ rw (w.self-is, w.writer-is) (Stands-no_last sink start c.args.self c.args.writer.now text holds (c.is_empty.ensures.0 w.if-not-is_empty.false))
+    ]))
 
 pub returns-clause-ends : goal.returns-clause-ends
 returns-clause-ends g c start text holds =
