@@ -21,17 +21,18 @@ pub fn commands<'a>(alloc: Global) -> Result<Command<'a>, AllocError> {
 }
 
 fn waits_command<'a>(alloc: Global) -> Result<Command<'a>, AllocError> {
-    let hand = Arg::new(alloc, "HAND")
-        .required(true)
-        .help("Thirteen tiles: digits, then m, p, s or z, such as 1112345678999m");
+    let hand = Arg::new(alloc, "HAND").required(true).help(
+        "Thirteen tiles: digits, then m, p, s or z, such as 1112345678999m",
+    );
     Command::new(alloc, "waits")
         .about("Prints the kinds of tile that complete a hand of thirteen concealed tiles")
         .arg(hand)
 }
 
 fn line_command<'a>(alloc: Global) -> Command<'a> {
-    Command::new(alloc, "line")
-        .about("Answers hands from standard input, one a line: wins, waits, shapes")
+    Command::new(alloc, "line").about(
+        "Answers hands from standard input, one a line: wins, waits, shapes",
+    )
 }
 
 /// What the words ask for; none where they name no command of ours.
