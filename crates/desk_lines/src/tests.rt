@@ -22,110 +22,148 @@ fn answer(rt: &impl Abort, text: &[u8], answers: &[u8], answered: u64, refused: 
     );
 }
 
+/// Records of each job, and their answers.
+static RECORDS: [(&str, &str); 26] = [
+    (
+        "win 234m567m345p67s99s on=5s by=tsumo seat=S round=E",
+        "won 2 han 20 fu 400/700 gain 1500 fully-concealed pinfu",
+    ),
+    (
+        "win 234m567m345p67s99s on=5s by=tsumo seat=E round=E counters=2 sticks=1",
+        "won 2 han 20 fu 900 all gain 3700 fully-concealed pinfu",
+    ),
+    (
+        "win 234m567m345p67s99s on=5s by=tsumo seat=E round=E flags=first",
+        "won yakuman 16000 all gain 48000 blessing-of-heaven",
+    ),
+    (
+        "win 567m345p67s88s open=chi:234m on=5s by=ron seat=S round=E",
+        "won 1 han 30 fu 1000 gain 1000 all-simples",
+    ),
+    (
+        "win 111222333p78m99s on=9m by=ron seat=S round=E",
+        "won 5 han 30 fu 8000 gain 8000 pinfu pure-double-chow terminals-in-all-sets",
+    ),
+    (
+        "win 112233m556677p9s on=9s by=ron seat=S round=E",
+        "won 3 han 40 fu 5200 gain 5200 twice-pure-double-chow",
+    ),
+    (
+        "win 1133m5577p2288s4z on=4z by=tsumo seat=W round=E",
+        "won 3 han 25 fu 800/1600 gain 3200 fully-concealed seven-pairs",
+    ),
+    (
+        "win 223344m556677m8m on=8m by=ron seat=S round=E riichi=1 dora=1m",
+        "won 14 han 30 fu 32000 gain 32000 riichi pinfu all-simples twice-pure-double-chow full-flush dora 2",
+    ),
+    (
+        "win 99978m444p567s22s on=9m by=ron seat=S round=E riichi=1",
+        "won 1 han 50 fu 1600 gain 1600 riichi",
+    ),
+    (
+        "win 234m567m345p67s11z on=8s by=ron seat=E round=E riichi=1",
+        "won 1 han 40 fu 2000 gain 2000 riichi",
+    ),
+    (
+        "win 234m567m34p99s open=ankan:1111z on=2p by=tsumo seat=S round=E flags=rinshan dora=1p",
+        "won 4 han 60 fu 2000/4000 gain 8000 fully-concealed prevalent-wind after-a-kong dora 1",
+    ),
+    (
+        "win 222m444p666s33m88s on=8s by=ron seat=S round=E",
+        "won 5 han 50 fu 8000 gain 8000 all-simples all-pungs three-concealed-pungs",
+    ),
+    (
+        "win 222m444p666s33m88s on=8s by=tsumo seat=S round=E",
+        "won yakuman 8000/16000 gain 32000 four-concealed-pungs",
+    ),
+    (
+        "win 19m19p19s1234567z on=1m by=ron seat=E round=E",
+        "won yakuman 48000 gain 48000 thirteen-orphans",
+    ),
+    (
+        "win 1112345678999m on=5m by=ron seat=S round=E riichi=1 dora=4m",
+        "won yakuman 32000 gain 32000 nine-gates",
+    ),
+    (
+        "win 11223m789p99s open=pon:111z on=3m by=ron seat=S round=E",
+        "won 2 han 30 fu 2000 gain 2000 prevalent-wind outside-hand",
+    ),
+    (
+        "win 123456789m22s34p on=2p by=ron seat=S round=E",
+        "won 3 han 30 fu 3900 gain 3900 pinfu pure-straight",
+    ),
+    ("win 123456789m22s34p on=9s by=ron seat=S round=E", "no win"),
+    (
+        "win 456m22s34p open=chi:123m,chi:678p on=2p by=ron seat=S round=E",
+        "no yaku",
+    ),
+    (
+        "shape 123456789m1134p",
+        "shanten 0 accepts 2p:4 5p:4 live 8",
+    ),
+    (
+        "shape 123456789m1134p seen=2222p",
+        "shanten 0 accepts 5p:4 live 4",
+    ),
+    (
+        "shape 123456789m11348p",
+        "shanten 0 discard 8p accepts 2p:4 5p:4 live 8",
+    ),
+    (
+        "shape 11z open=pon:222z,chi:123m,chi:123m,chi:123m",
+        "shanten -1 discard 1z accepts 1z:2 live 2",
+    ),
+    (
+        "shape 12z open=pon:333z,chi:123m,chi:123m,chi:123m seen=222z",
+        "shanten 0 discard 2z accepts 1z:3 live 3 discard 1z accepts - live 0",
+    ),
+    ("waits 2223456777m open=pon:111z", "waits 12345678m"),
+    ("waits 123456789m1111z", "waits -"),
+];
+
 #[test]
 fn records(rt: HostRuntime) -> Result<(), Fail> {
-    for (line, told) in [
-        (
-            "win 234m567m345p67s99s on=5s by=tsumo seat=S round=E",
-            "won 2 han 20 fu 400/700 gain 1500 fully-concealed pinfu",
-        ),
-        (
-            "win 234m567m345p67s99s on=5s by=tsumo seat=E round=E counters=2 sticks=1",
-            "won 2 han 20 fu 900 all gain 3700 fully-concealed pinfu",
-        ),
-        (
-            "win 234m567m345p67s99s on=5s by=tsumo seat=E round=E flags=first",
-            "won yakuman 16000 all gain 48000 blessing-of-heaven",
-        ),
-        (
-            "win 567m345p67s88s open=chi:234m on=5s by=ron seat=S round=E",
-            "won 1 han 30 fu 1000 gain 1000 all-simples",
-        ),
-        (
-            "win 111222333p78m99s on=9m by=ron seat=S round=E",
-            "won 5 han 30 fu 8000 gain 8000 pinfu pure-double-chow terminals-in-all-sets",
-        ),
-        (
-            "win 112233m556677p9s on=9s by=ron seat=S round=E",
-            "won 3 han 40 fu 5200 gain 5200 twice-pure-double-chow",
-        ),
-        (
-            "win 1133m5577p2288s4z on=4z by=tsumo seat=W round=E",
-            "won 3 han 25 fu 800/1600 gain 3200 fully-concealed seven-pairs",
-        ),
-        (
-            "win 223344m556677m8m on=8m by=ron seat=S round=E riichi=1 dora=1m",
-            "won 14 han 30 fu 32000 gain 32000 riichi pinfu all-simples twice-pure-double-chow full-flush dora 2",
-        ),
-        (
-            "win 99978m444p567s22s on=9m by=ron seat=S round=E riichi=1",
-            "won 1 han 50 fu 1600 gain 1600 riichi",
-        ),
-        (
-            "win 234m567m345p67s11z on=8s by=ron seat=E round=E riichi=1",
-            "won 1 han 40 fu 2000 gain 2000 riichi",
-        ),
-        (
-            "win 234m567m34p99s open=ankan:1111z on=2p by=tsumo seat=S round=E flags=rinshan dora=1p",
-            "won 4 han 60 fu 2000/4000 gain 8000 fully-concealed prevalent-wind after-a-kong dora 1",
-        ),
-        (
-            "win 222m444p666s33m88s on=8s by=ron seat=S round=E",
-            "won 5 han 50 fu 8000 gain 8000 all-simples all-pungs three-concealed-pungs",
-        ),
-        (
-            "win 222m444p666s33m88s on=8s by=tsumo seat=S round=E",
-            "won yakuman 8000/16000 gain 32000 four-concealed-pungs",
-        ),
-        (
-            "win 19m19p19s1234567z on=1m by=ron seat=E round=E",
-            "won yakuman 48000 gain 48000 thirteen-orphans",
-        ),
-        (
-            "win 1112345678999m on=5m by=ron seat=S round=E riichi=1 dora=4m",
-            "won yakuman 32000 gain 32000 nine-gates",
-        ),
-        (
-            "win 11223m789p99s open=pon:111z on=3m by=ron seat=S round=E",
-            "won 2 han 30 fu 2000 gain 2000 prevalent-wind outside-hand",
-        ),
-        (
-            "win 123456789m22s34p on=2p by=ron seat=S round=E",
-            "won 3 han 30 fu 3900 gain 3900 pinfu pure-straight",
-        ),
-        ("win 123456789m22s34p on=9s by=ron seat=S round=E", "no win"),
-        (
-            "win 456m22s34p open=chi:123m,chi:678p on=2p by=ron seat=S round=E",
-            "no yaku",
-        ),
-        (
-            "shape 123456789m1134p",
-            "shanten 0 accepts 2p:4 5p:4 live 8",
-        ),
-        (
-            "shape 123456789m1134p seen=2222p",
-            "shanten 0 accepts 5p:4 live 4",
-        ),
-        (
-            "shape 123456789m11348p",
-            "shanten 0 discard 8p accepts 2p:4 5p:4 live 8",
-        ),
-        (
-            "shape 11z open=pon:222z,chi:123m,chi:123m,chi:123m",
-            "shanten -1 discard 1z accepts 1z:2 live 2",
-        ),
-        (
-            "shape 12z open=pon:333z,chi:123m,chi:123m,chi:123m seen=222z",
-            "shanten 0 discard 2z accepts 1z:3 live 3 discard 1z accepts - live 0",
-        ),
-        ("waits 2223456777m open=pon:111z", "waits 12345678m"),
-        ("waits 123456789m1111z", "waits -"),
-    ] {
+    for (line, told) in RECORDS {
         let told = format!(in rt.alloc(); "{told}\n")?;
         answer(&rt, line.as_bytes(), told.as_bytes(), 1, 0);
     }
     Ok(())
 }
+
+/// Lines that are refused whole, and what is told of them.
+static REFUSED: [(&str, &str); 19] = [
+    ("waits 1m\t", "H1"),
+    ("score 1m", "H2"),
+    ("waits", "H3"),
+    ("win on=5s", "H3"),
+    ("waits 1m seen=2m", "H4"),
+    ("win 234m567m345p67s99s by=ron seat=S round=E", "H6"),
+    (
+        "win 234m567m345p67s99s on= by=ron seat=S round=E",
+        "N1 on at 0",
+    ),
+    ("waits 12x3m", "N2 hand at 2"),
+    ("waits 9x2z", "N2 hand at 1"),
+    ("waits 12m3", "N3 hand at 4"),
+    ("waits 1mp", "N4 hand at 2"),
+    ("win 8z on=8z by=ron seat=S round=E", "N5 hand at 0"),
+    ("waits 11111m", "N6 hand at 4"),
+    ("waits 2223456777m open=pon:112z", "H7"),
+    ("waits 2223456777m open=", "H7"),
+    ("waits 123456789m111z", "H8"),
+    (
+        "win 111m234m567p678s9s on=9s by=ron seat=S round=E dora=11m",
+        "H9",
+    ),
+    (
+        "win 567m345p67s88s open=chi:234m on=5s by=ron seat=S round=E riichi=1",
+        "H10",
+    ),
+    (
+        "win 234m567m345p67s99s on=5s by=tsumo seat=S round=E flags=chankan",
+        "H13",
+    ),
+];
 
 #[test]
 fn refusals(rt: HostRuntime) -> Result<(), Fail> {
@@ -151,39 +189,7 @@ fn refusals(rt: HostRuntime) -> Result<(), Fail> {
         let told = format!(in rt.alloc(); "refused {code}\n")?;
         answer(&rt, line.as_bytes(), told.as_bytes(), 0, 1);
     }
-    for (line, fault) in [
-        ("waits 1m\t", "H1"),
-        ("score 1m", "H2"),
-        ("waits", "H3"),
-        ("win on=5s", "H3"),
-        ("waits 1m seen=2m", "H4"),
-        ("win 234m567m345p67s99s by=ron seat=S round=E", "H6"),
-        (
-            "win 234m567m345p67s99s on= by=ron seat=S round=E",
-            "N1 on at 0",
-        ),
-        ("waits 12x3m", "N2 hand at 2"),
-        ("waits 9x2z", "N2 hand at 1"),
-        ("waits 12m3", "N3 hand at 4"),
-        ("waits 1mp", "N4 hand at 2"),
-        ("win 8z on=8z by=ron seat=S round=E", "N5 hand at 0"),
-        ("waits 11111m", "N6 hand at 4"),
-        ("waits 2223456777m open=pon:112z", "H7"),
-        ("waits 2223456777m open=", "H7"),
-        ("waits 123456789m111z", "H8"),
-        (
-            "win 111m234m567p678s9s on=9s by=ron seat=S round=E dora=11m",
-            "H9",
-        ),
-        (
-            "win 567m345p67s88s open=chi:234m on=5s by=ron seat=S round=E riichi=1",
-            "H10",
-        ),
-        (
-            "win 234m567m345p67s99s on=5s by=tsumo seat=S round=E flags=chankan",
-            "H13",
-        ),
-    ] {
+    for (line, fault) in REFUSED {
         let told = format!(in rt.alloc(); "refused {fault}\n")?;
         answer(&rt, line.as_bytes(), told.as_bytes(), 0, 1);
     }
