@@ -1,4 +1,4 @@
-use Rattle.std.proofs.Common.{◌≡◌, ◌+◌, ◌-◌, length, ◌∙◌, sym, arith}
+use Rattle.std.proofs.Common.{◌≡◌, ◌+◌, ◌-◌, length, ◌∙◌, arith}
 use Rattle.riichi_tiles.specs.Melds.{melds_in}
 use Rattle.riichi_tiles.proofs.Same.{pointwise-placed}
 use Rattle.riichi_tiles.proofs.melds.MeldsPartialEq.eq.Goals as goal
