@@ -73,14 +73,15 @@ answers "$room/rules.lines" "$room/rules.wanted"
 
 # someone types: the answer to a line comes before the next line is sent
 coproc desk { "$program" line; }
-echo 'waits 1112345678999m' >&"${desk[1]}"
-read -r -t 20 typed <&"${desk[0]}"
+to_desk=${desk[1]} from_desk=${desk[0]} typist=$desk_PID
+echo 'waits 1112345678999m' >&"$to_desk"
+read -r -t 20 typed <&"$from_desk"
 told 'an answer before the next line' 'waits 123456789m' "${typed:-nothing}"
-echo 'waits 8z' >&"${desk[1]}"
-read -r -t 20 typed <&"${desk[0]}"
+echo 'waits 8z' >&"$to_desk"
+read -r -t 20 typed <&"$from_desk"
 told 'the answer to the next line' 'refused N5 hand at 0' "${typed:-nothing}"
-eval "exec ${desk[1]}>&-"
-wait "$desk_PID" 2> /dev/null
+eval "exec $to_desk>&-"
+wait "$typist" 2> /dev/null
 
 # one line of ten million bytes, then one more
 { head -c 10000000 /dev/zero | tr '\0' 'm'; printf '\nwaits 8z\n'; } > "$room/long"
