@@ -1,12 +1,14 @@
 -- A line whose first tests have passed.
-use Rattle.std.proofs.Common.{◌≡◌, ℕ, List, ◌∷◌, false, Option, Some, None, Ok, Err, refl, ap}
-use Rattle.std.specs.Prelude.{is_some, MatchOption}
+use Rattle.std.proofs.Common.{◌≡◌, ◌≤◌, ℕ, List, ◌∷◌, false, Option, Some, None, Ok, Err, refl, ap}
+use Rattle.std.specs.Prelude.{is_some, MatchOption, length}
 use Rattle.std.specs.List.{list_any}
+use Rattle.std.proofs.lemmas.Bool.{le-ltb}
 use Rattle.riichi_tiles.specs.declared.meld.Meld.{Meld}
 use Rattle.riichi_hand.specs.declared.fault.LineFault.{LineFault}
 use Rattle.riichi_hand.specs.declared.fault.TextName.TheVariants.{Hand, On, Dora, Ura, Seen}
 use Rattle.riichi_hand.specs.declared.win.Rules.{Rules}
 use Rattle.riichi_hand.specs.declared.win.WinParts.{WinParts}
+use Rattle.riichi_hand.specs.declared.job.Job.{Job}
 use Rattle.riichi_hand.specs.declared.job.Job.TheVariants as jobs
 use Rattle.riichi_hand.specs.declared.line.job_name.JobName.{JobName}
 use Rattle.riichi_hand.specs.declared.line.job_name.JobName.TheVariants as names
@@ -16,7 +18,10 @@ use Rattle.riichi_hand.specs.Faults.{told}
 use Rattle.riichi_hand.specs.Words.{words_of}
 use Rattle.riichi_hand.specs.Keys.{job_named}
 use Rattle.riichi_hand.specs.Entries.{Entries, entries_of, cut_at_equals}
-use Rattle.riichi_hand.specs.Lines.{LineParts, line_parts, value, text_fault, melds_in, texts_of, is_other_byte, win_or_fault, job_or_fault, texts_or_fault, entries_or_fault, record_or_fault}
+use Rattle.riichi_hand.specs.Parts.{LineParts, line_parts, value}
+use Rattle.riichi_hand.specs.Texts.{text_fault, melds_in, texts_of}
+use Rattle.riichi_hand.specs.Lines.{is_other_byte, is_no_record, outcome_of}
+use Rattle.riichi_hand.specs.Steps.{win_or_fault, job_or_fault, texts_or_fault, entries_or_fault, record_or_fault}
 
 told-err : {X Y : Type 0} (first : Option LineFault) (x : X) (y : Y) (fault : LineFault) → Err fault ≡ told first x → Err fault ≡ told first y
 told-err None x y fault is = absurd (cc)
@@ -55,3 +60,12 @@ entries_or_fault-words rules line job word hand words printed are named no_entry
 pub told_none : {X : Type 0} (option : Option X) (P : Type 0) (Q : X → Type 0) → MatchOption option P Q → is_some option ≡ false → P
 told_none None P Q told none = told
 told_none (Some x) P Q told none = absurd (cc)
+
+-- the outcome of a record line
+pub outcome-ok : (rules : Rules) (line : List ℕ) (job : Job) → length line ≤ 4096 → is_no_record line ≡ false → Ok job ≡ record_or_fault rules line → Ok (Some job) ≡ outcome_of rules line
+unfolding record_or_fault outcome_of
+outcome-ok rules line job short some read = rw (le-ltb 4096 (length line) short, some) (told-ok _ Some _ job read)
+
+pub outcome-err : (rules : Rules) (line : List ℕ) (fault : LineFault) → length line ≤ 4096 → is_no_record line ≡ false → Err fault ≡ record_or_fault rules line → Err fault ≡ outcome_of rules line
+unfolding record_or_fault outcome_of
+outcome-err rules line fault short some refused = rw (le-ltb 4096 (length line) short, some) (told-err _ _ _ fault refused)

@@ -7,4 +7,8 @@ pub mod Words
 pub mod Values
 pub mod Keys
 pub mod Entries
+pub mod Parts
+pub mod Texts
+pub mod Jobs
 pub mod Lines
+pub mod Steps

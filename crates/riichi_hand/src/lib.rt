@@ -13,5 +13,6 @@ mod win;
 pub use fault::{LineCode, LineFault, TextName, fault_text};
 pub use hand::HandRecord;
 pub use job::Job;
+pub use line::{next_word, read_line};
 pub use shape::ShapeRecord;
 pub use win::{By, Flags, Rules, WinParts, WinRecord, Wind};

@@ -12,4 +12,5 @@ mod record;
 mod texts;
 mod values;
 
+pub use cuts::next_word;
 pub use record::read_line;

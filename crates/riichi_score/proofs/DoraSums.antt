@@ -30,7 +30,7 @@ one_more : (counts : List ℕ) (n : ℕ) → held counts n ≤ sum (take n count
 one_more counts n h =
     let more = kinds_more (λ kind. get_or counts kind 0) n in
     elim (cases_lt n (length counts)) [
-      inl lt ↦ omega (arith, more, sum_by_more (λ (x : ℕ). x) counts n 0 lt)
+      | inl lt ↦ omega (arith, more, sum_by_more (λ (x : ℕ). x) counts n 0 lt)
       | inr past ↦ omega (arith, more, get_or_past counts n 0 past, ap (λ x. sum x) (take_all n counts past), ap (λ x. sum x) (take_all (n + 1) counts (omega arith)))
     ]
 

@@ -327,8 +327,7 @@ in-candidates-inv number sets pair done (inr (inr i)) = in-some-inv number sets 
 
 sound : (counts : List ℕ) (melds winning : ℕ) (reading : Reading) → IsCounts counts → IsIn reading (candidates (4 - melds)) → is_reading counts melds winning reading ≡ true → IsReading counts melds winning reading
 sound counts melds winning (Standard sets pair done) c i h =
-    let t = both (is_split counts melds sets pair) (ltb 0 (copies done winning)) h in
-    (
+    let t = both (is_split counts melds sets pair) (ltb 0 (copies done winning)) h in (
       IsSplit-from counts melds sets pair c t.0,
       record {
         is_there = Contains-in done (sets ++ Pair pair ∷ []) (in-candidates-inv (4 - melds) sets pair done i);

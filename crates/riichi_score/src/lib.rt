@@ -19,3 +19,6 @@ pub use riichi_yaku::{YakuSet, yaku};
 pub use score::Score;
 pub use settlement::payment;
 pub use text::win_text;
+
+#[cfg(test)]
+mod tests;

@@ -7,7 +7,7 @@ use Rattle.riichi_tiles.specs.Blocks.{copies}
 use Rattle.riichi_split.specs.Dones.{same_block, is_among, dones}
 use Rattle.riichi_split.proofs.Lists.{or-cases, or-right, IsIn, Differ}
 
-same-block : (a b : Block) → same_block a b ≡ true → a ≡ b
+pub same-block : (a b : Block) → same_block a b ≡ true → a ≡ b
 same-block (Run a) (Run b) e = ap Run (grind (arith, nat_tests))
 same-block (Run a) (Triplet b) e = absurd (cc)
 same-block (Run a) (Pair b) e = absurd (cc)
@@ -18,7 +18,7 @@ same-block (Pair a) (Run b) e = absurd (cc)
 same-block (Pair a) (Triplet b) e = absurd (cc)
 same-block (Pair a) (Pair b) e = ap Pair (grind (arith, nat_tests))
 
-same_block-self : (a : Block) → same_block a a ≡ true
+pub same_block-self : (a : Block) → same_block a a ≡ true
 same_block-self (Run a) = grind (arith, nat_tests)
 same_block-self (Triplet a) = grind (arith, nat_tests)
 same_block-self (Pair a) = grind (arith, nat_tests)

@@ -13,3 +13,4 @@ pub mod Collections
 pub mod EveryReading
 pub mod AnyTile
 pub mod Marks
+pub mod Orders

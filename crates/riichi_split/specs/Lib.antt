@@ -7,3 +7,4 @@ pub mod Cuts
 pub mod Dones
 pub mod SplitsLeft
 pub mod Left
+pub mod Laws

@@ -3,6 +3,7 @@
 
 mod cutting;
 mod done;
+pub mod laws;
 mod reading;
 mod readings;
 mod sets;

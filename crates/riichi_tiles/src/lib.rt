@@ -10,7 +10,7 @@
 //! [`write_kinds`] write it. [`Meld::read`] reads a meld, as `chi:340m`, and [`reds_of`] the red fives of a text, where they
 //! stand as `0`. The notation itself is told in docs/NOTATION.md.
 //!
-//! All of these are plain values: each can be copied and compared, and no call takes memory or fails.
+//! All of these are plain values: each can be copied and compared. No call takes memory, and the readers take any bytes.
 //!
 //! ```
 //! let hand = read_counts(b"5m123p044s")?;

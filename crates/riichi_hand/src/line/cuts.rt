@@ -5,7 +5,7 @@ ghost use Rattle.riichi_tiles.specs.Melds.{cut_at};
 ghost use Rattle.riichi_hand.specs.Words.{words_of, begins_with_space};
 
 /// The first word of a text, and what comes after it.
-pub(crate) fn next_word(text: &[u8]) -> Option<(&[u8], &[u8])>
+pub fn next_word(text: &[u8]) -> Option<(&[u8], &[u8])>
     ensures { MatchOption result (words_of text.now ≡ [])
         (λ found. (words_of text.now ≡ found.0.now ∷ words_of found.1.now) × (length found.1.now < length text.now)) }
 {

@@ -2,7 +2,10 @@
 ghost use Rattle.std.specs.Prelude.{◌≡◌, nat_lt, slice_index};
 ghost use Rattle.std.specs.List.{find};
 ghost use Rattle.riichi_tiles.specs.Melds.{every_kind};
-ghost use Rattle.riichi_hand.specs.Lines.{job_or_fault, win_or_fault, win_parts, reds, only_kind, parts_in};
+ghost use Rattle.riichi_hand.specs.Parts.{parts_in};
+ghost use Rattle.riichi_hand.specs.Texts.{only_kind, reds};
+ghost use Rattle.riichi_hand.specs.Jobs.{win_parts};
+ghost use Rattle.riichi_hand.specs.Steps.{job_or_fault, win_or_fault};
 
 use super::flags::read_flags;
 use super::job_name::JobName;
@@ -17,7 +20,7 @@ use crate::shape::ShapeRecord;
 use crate::win::{By, Flags, Rules, WinParts, WinRecord, Wind};
 use riichi_tiles::{Counts, Kind, Reds, reds_of};
 
-#[tactic(auto, unfolding(crate::specs::Lines::job_or_fault, crate::specs::Lines::win_or_fault, crate::specs::Hand::hand_of, crate::specs::Hand::shape_of))]
+#[tactic(auto, unfolding(crate::specs::Steps::job_or_fault, crate::specs::Steps::win_or_fault, crate::specs::Hand::hand_of, crate::specs::Hand::shape_of))]
 pub(crate) fn make_job(rules: Rules, parts: &Parts<'_>, texts: &Texts) -> Result<Job, LineFault>
     ensures { result ≡ job_or_fault rules (parts_in parts.now) texts.now }
 {
@@ -28,7 +31,7 @@ pub(crate) fn make_job(rules: Rules, parts: &Parts<'_>, texts: &Texts) -> Result
     }
 }
 
-#[tactic(auto, unfolding(crate::specs::Lines::win_or_fault, crate::specs::Win::win_of))]
+#[tactic(auto, unfolding(crate::specs::Steps::win_or_fault, crate::specs::Win::win_of))]
 fn make_win(rules: Rules, parts: &Parts<'_>, texts: &Texts) -> Result<WinRecord, LineFault>
     ensures { result ≡ win_or_fault rules (parts_in parts.now) texts.now }
 {

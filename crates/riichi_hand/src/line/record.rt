@@ -2,7 +2,9 @@
 ghost use Rattle.std.specs.Prelude.{◌≡◌, ◌==◌};
 ghost use Rattle.std.specs.List.{list_any, list_all};
 ghost use Rattle.riichi_hand.specs.Keys.{needed};
-ghost use Rattle.riichi_hand.specs.Lines.{outcome_of, record_or_fault, entries_or_fault, is_no_record, is_other_byte, is_missing, parts_in};
+ghost use Rattle.riichi_hand.specs.Parts.{is_missing, parts_in};
+ghost use Rattle.riichi_hand.specs.Lines.{outcome_of, is_no_record, is_other_byte};
+ghost use Rattle.riichi_hand.specs.Steps.{record_or_fault, entries_or_fault};
 
 use super::cuts::{next_word, split_at_mark};
 use super::fields::read_fields;
@@ -51,7 +53,7 @@ fn is_all_spaces(line: &[u8]) -> bool
 }
 
 /// The job of a line that is a record, or the first fault.
-#[tactic(auto, unfolding(crate::specs::Lines::record_or_fault, crate::specs::Lines::entries_or_fault))]
+#[tactic(auto, unfolding(crate::specs::Steps::record_or_fault, crate::specs::Steps::entries_or_fault))]
 fn read_record(rules: Rules, line: &[u8]) -> Result<Job, LineFault>
     ensures { result ≡ record_or_fault rules line.now }
 {
@@ -81,7 +83,7 @@ fn has_other_byte(line: &[u8]) -> bool
 }
 
 /// The job of what the words say, or the first fault.
-#[tactic(auto, unfolding(crate::specs::Lines::entries_or_fault, crate::specs::Lines::texts_or_fault))]
+#[tactic(auto, unfolding(crate::specs::Steps::entries_or_fault, crate::specs::Steps::texts_or_fault))]
 fn read_parts(rules: Rules, parts: &Parts<'_>) -> Result<Job, LineFault>
     ensures { result ≡ entries_or_fault rules (parts_in parts.now) }
 {

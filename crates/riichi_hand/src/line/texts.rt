@@ -1,6 +1,8 @@
 //! The notation texts and the melds of a line.
 ghost use Rattle.std.specs.Prelude.{◌≡◌, None, Some, MatchResult, option_map};
-ghost use Rattle.riichi_hand.specs.Lines.{text_fault, counts_in, melds_in, texts_or_fault, parts_in};
+ghost use Rattle.riichi_hand.specs.Parts.{parts_in};
+ghost use Rattle.riichi_hand.specs.Texts.{text_fault, counts_in, melds_in};
+ghost use Rattle.riichi_hand.specs.Steps.{texts_or_fault};
 ghost use Rattle.riichi_tiles.specs.Notation.{counts_of};
 
 use super::jobs::make_job;
@@ -24,7 +26,7 @@ pub(crate) struct Texts {
 }
 
 /// The texts are looked at in the order of their faults, and the melds after them.
-#[tactic(auto, unfolding(crate::specs::Lines::texts_or_fault))]
+#[tactic(auto, unfolding(crate::specs::Steps::texts_or_fault))]
 pub(crate) fn read_texts(rules: Rules, parts: &Parts<'_>) -> Result<Job, LineFault>
     ensures { result ≡ texts_or_fault rules (parts_in parts.now) }
 {

@@ -3,7 +3,9 @@ use Rattle.std.specs.List.{list_any}
 use Rattle.riichi_hand.specs.Words.{words_of}
 use Rattle.riichi_hand.specs.Keys.{job_named}
 use Rattle.riichi_hand.specs.Entries.{Entries, cut_at_equals}
-use Rattle.riichi_hand.specs.Lines.{entries_or_fault, is_other_byte, line_parts}
+use Rattle.riichi_hand.specs.Parts.{line_parts}
+use Rattle.riichi_hand.specs.Lines.{is_other_byte}
+use Rattle.riichi_hand.specs.Steps.{entries_or_fault}
 use Rattle.riichi_hand.proofs.OutcomeLemmas.{entries_or_fault-words, told_none}
 use Rattle.riichi_hand.proofs.line.record.read_record.Goals as goal
 

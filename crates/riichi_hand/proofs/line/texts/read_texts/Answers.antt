@@ -4,7 +4,8 @@ use Rattle.std.specs.Prelude.{unwrap_or}
 use Rattle.riichi_hand.specs.declared.fault.TextName.TheVariants.{On, Dora, Ura, Seen}
 use Rattle.riichi_hand.specs.declared.line.key.Key.TheVariants as key
 use Rattle.riichi_hand.specs.declared.line.texts.Texts.{Texts}
-use Rattle.riichi_hand.specs.Lines.{text_fault, counts_in, melds_in, texts_of, parts_in, value}
+use Rattle.riichi_hand.specs.Parts.{parts_in, value}
+use Rattle.riichi_hand.specs.Texts.{text_fault, counts_in, melds_in, texts_of}
 use Rattle.riichi_hand.proofs.OutcomeLemmas.{job_or_fault-texts}
 use Rattle.riichi_hand.proofs.line.texts.read_texts.Goals as goal
 

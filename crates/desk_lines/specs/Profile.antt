@@ -1,0 +1,29 @@
+-- The rule profile of a stream. Its first line may set it, and is no record then.
+use Rattle.std.specs.Prelude.{ℕ, ◌==◌, List, [], ◌∷◌, length, ◌||◌, Option, None, Some, is_some, unwrap_or, nat_lt, if◌then◌else◌, codes}
+use Rattle.std.specs.List.{list_any}
+use Rattle.std.specs.Str.{bytes_eq}
+use Rattle.riichi_hand.specs.declared.win.Rules.{Rules}
+use Rattle.riichi_hand.specs.declared.win.Rules.TheVariants.{One, Two}
+use Rattle.riichi_hand.specs.Words.{words_of}
+use Rattle.riichi_hand.specs.Lines.{is_other_byte}
+
+abbrev pub profile_numbered : List ℕ → Option Rules
+profile_numbered number = if bytes_eq number (codes "1") then Some One else if bytes_eq number (codes "2") then Some Two else None
+
+abbrev pub profile_of_words : List (List ℕ) → Option Rules
+profile_of_words (word ∷ number ∷ []) = if bytes_eq word (codes "rules") then profile_numbered number else None
+profile_of_words words = None
+
+-- `rules 1` or `rules 2`, in a line of at most 4,096 bytes, all of them printed ASCII
+unfoldable pub profile_of : List ℕ → Option Rules
+profile_of line = if nat_lt 4096 (length line) || list_any is_other_byte line then None else profile_of_words (words_of line)
+
+-- the profile of a stream with these lines
+abbrev pub rules_of : List (List ℕ) → Rules
+rules_of [] = One
+rules_of (line ∷ lines) = unwrap_or (profile_of line) One
+
+-- the lines that can be records
+abbrev pub record_lines : List (List ℕ) → List (List ℕ)
+record_lines [] = []
+record_lines (line ∷ lines) = if is_some (profile_of line) then lines else line ∷ lines

@@ -1,0 +1,52 @@
+-- What calls on a reader and a writer did.
+use Rattle.std.specs.Prelude.{◌≡◌, ℕ, ◌+◌, ◌<◌, ◌≤◌, ◌⊎◌, List, ◌++◌, Result, Ok, Err}
+use Rattle.std.specs.Io.KnownBytes.{Appends, Consumes, IsAtEnd}
+use Rattle.desk_streams.specs.declared.sink.Sink.{Ghosts as OfSink}
+use Rattle.desk_streams.specs.declared.source.Source.{Ghosts as OfSource}
+use Rattle.desk_lines.specs.declared.fault.DeskFault.{DeskFault}
+use Rattle.desk_lines.specs.declared.fault.DeskFault.TheVariants.{Write}
+use Rattle.desk_lines.specs.Lines.{ended_lines, lines}
+
+-- text begins with front
+abbrev pub IsFront : List ℕ → List ℕ → Type 0
+IsFront front text = (rest : List ℕ) × (text ≡ front ++ rest)
+
+-- All of the text was written, and the writer did not fail.
+pub record WritesAll {W : Type 0} (sink : OfSink W) (old new : W) (text : List ℕ) : Type 0 where
+  pub appended : sink.written new ≡ sink.written old ++ text
+  pub held : Appends (sink.contents old) (sink.contents new) text
+  pub not_failed : sink.failures new ≡ sink.failures old
+
+-- A front of the text was written, and then the writer failed.
+pub record StopsWriting {W : Type 0} (sink : OfSink W) (old new : W) (fault : DeskFault) (text : List ℕ) : Type 0 where
+  pub fault_is : fault ≡ Write
+  pub front : List ℕ
+  pub is_front : IsFront front text
+  pub appended : sink.written new ≡ sink.written old ++ front
+  pub held : Appends (sink.contents old) (sink.contents new) front
+  pub failed : sink.failures old < sink.failures new
+
+-- a text was written, or its writing stopped
+abbrev pub Writes : {W T : Type 0} → OfSink W → W → W → Result T DeskFault → List ℕ → Type 0
+Writes sink old new (Ok value) text = WritesAll sink old new text
+Writes sink old new (Err fault) text = StopsWriting sink old new fault text
+
+-- The reader gave this text.
+pub record Gives {R : Type 0} (source : OfSource R) (old new : R) (text : List ℕ) : Type 0 where
+  pub appended : source.given new ≡ source.given old ++ text
+  pub taken : Consumes (source.left old) (source.left new) text
+
+-- The reader gave this text with no failed call, and then found its end.
+pub record GivesAll {R : Type 0} (source : OfSource R) (old new : R) (text : List ℕ) : Type 0 where
+  pub gives : Gives source old new text
+  pub ended : source.is_ended new
+  pub none_left : IsAtEnd (source.left new)
+  pub not_failed : source.failures new ≡ source.failures old
+
+-- a call failed, or there were so many calls with no end
+abbrev pub FailsOrGoesOn : {R : Type 0} → OfSource R → ℕ → R → R → Type 0
+FailsOrGoesOn source most old new = (source.failures old < source.failures new) ⊎ (source.calls old + most ≤ source.calls new)
+
+-- The whole lines of a text: those that a line feed ends, and where the text has ended the last line too.
+abbrev pub AreWhole : Type 0 → List ℕ → List (List ℕ) → Type 0
+AreWhole is_ended text whole = (whole ≡ ended_lines text) ⊎ (is_ended × (whole ≡ lines text))

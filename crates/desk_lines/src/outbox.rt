@@ -1,0 +1,71 @@
+//! Answer lines on their way to the writer.
+ghost use Rattle.std.specs.Prelude.{◌≡◌, ◌+◌, ◌<◌, [], ◌∷◌, ◌++◌, length, IsTrue, ◌↔◌, OnOk};
+ghost use Rattle.desk_lines.specs.Streams.{Writes};
+
+use super::fault::DeskFault;
+use arrayvec::ArrayVec;
+use desk_streams::Sink;
+
+/// Room for many answer lines, so that they are written in large pieces.
+const ROOM: usize = 65_536;
+
+/// The longest answer line: a text of 3,072 bytes, and a line feed.
+const LONGEST_ANSWER: usize = 3_073;
+
+/// Answer lines that were not written yet.
+#[derive(Drop)]
+pub(crate) struct Outbox {
+    bytes: ArrayVec<u8, ROOM>,
+}
+
+impl Outbox {
+    ghost use Rattle.desk_lines.specs.Outbox.{HasRoom};
+
+    pub(crate) fn new() -> Outbox
+        ensures { result.bytes.items ≡ [] }
+    {
+        Outbox {
+            bytes: ArrayVec::new(),
+        }
+    }
+
+    /// Whether any answer line fits.
+    pub(crate) fn has_room(&self) -> bool
+        ensures { IsTrue result ↔ HasRoom self.now }
+    {
+        self.bytes.remaining_capacity() >= LONGEST_ANSWER
+    }
+
+    /// Adds a line with this text.
+    pub(crate) fn put_line(&mut self, text: &[u8])
+        requires { length self.old.bytes.items + length text.now < ROOM }
+        ensures { self.new.bytes.items ≡ self.old.bytes.items ++ (text.now ++ 10 ∷ []) }
+    {
+        self.bytes.try_extend_from_slice(text).unwrap();
+        self.bytes.push(b'\n');
+    }
+
+    /// Writes all that is here. Any failed write ends it.
+    pub(crate) fn flush<W: Sink>(&mut self, writer: &mut W) -> Result<(), DeskFault>
+        ensures writes { Writes ⟦<W as Sink>⟧ writer.old writer.new result self.old.bytes.items }
+        ensures empty { OnOk result (self.new.bytes.items ≡ []) }
+    {
+        write_all(writer, self.bytes.as_slice())?;
+        self.bytes.clear();
+        Ok(())
+    }
+}
+
+/// Writes all of a text. Any failed write ends it, and one that takes nothing has failed.
+fn write_all<W: Sink>(writer: &mut W, text: &[u8]) -> Result<(), DeskFault>
+    ensures { Writes ⟦<W as Sink>⟧ writer.old writer.new result text.now }
+{
+    let mut rest = text;
+    while !rest.is_empty() {
+        match writer.write(rest) {
+            Ok(0) | Err(_) => return Err(DeskFault::Write),
+            Ok(count) => rest = &rest[count..],
+        }
+    }
+    Ok(())
+}

@@ -1,0 +1,45 @@
+//! The rule profile that a stream's first line can set.
+ghost use Rattle.std.specs.Prelude.{◌≡◌, ◌<◌};
+ghost use Rattle.std.specs.List.{list_any};
+ghost use Rattle.riichi_hand.specs.Lines.{is_other_byte};
+ghost use Rattle.desk_lines.specs.Profile.{profile_numbered, profile_of};
+
+use riichi_hand::{Rules, next_word};
+
+/// The longest line that is read as a record.
+const MOST_LINE: usize = 4_096;
+
+/// The profile that a first line sets: its words are `rules` and the profile's number.
+#[tactic(auto, unfolding(crate::specs::Profile::profile_of))]
+pub(crate) fn profile_of(line: &[u8]) -> Option<Rules>
+    ensures { result ≡ profile_of line.now }
+{
+    if line.len() > MOST_LINE || has_other_byte(line) {
+        return None;
+    }
+    let (word, rest) = next_word(line)?;
+    let (number, rest) = next_word(rest)?;
+    if next_word(rest).is_some() || word != b"rules".as_slice() {
+        return None;
+    }
+    profile_numbered(number)
+}
+
+fn profile_numbered(number: &[u8]) -> Option<Rules>
+    ensures { result ≡ profile_numbered number.now }
+{
+    if number == b"1".as_slice() {
+        Some(Rules::One)
+    } else if number == b"2".as_slice() {
+        Some(Rules::Two)
+    } else {
+        None
+    }
+}
+
+/// Whether a byte isn't printed ASCII.
+fn has_other_byte(line: &[u8]) -> bool
+    ensures { result ≡ list_any is_other_byte line.now }
+{
+    line.iter().any(|byte| *byte < b' ' || *byte > b'~')
+}

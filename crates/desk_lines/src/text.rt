@@ -1,0 +1,55 @@
+//! A text over streams.
+ghost use Rattle.std.specs.Prelude.{◌≡◌, ◌+◌, ◌<◌, ◌≤◌, ℕ, List, IfOk, IsErrOf};
+ghost use Rattle.desk_lines.specs.Lines.{ended_lines, lines};
+ghost use Rattle.desk_lines.specs.LineAnswers.{answers, answers_to, report_on};
+ghost use Rattle.desk_lines.specs.Streams.{Gives, GivesAll, WritesAll, StopsWriting, AreWhole, FailsOrGoesOn};
+
+use super::desk::Desk;
+use super::fault::DeskFault;
+use super::report::DeskReport;
+use desk_streams::{Sink, Source};
+
+/// The bytes that one read asks for.
+const CHUNK: usize = 65_536;
+
+/// After so many reads with no end the reader counts as failed.
+const MOST_READS: u64 = 4_294_967_295;
+
+/// Answers the record lines that a reader gives, one line for each. It reads and writes in large
+/// pieces; the answers to all lines that have ended are written before it reads again. It takes no
+/// memory, and has no limit on the number of lines.
+pub fn desk_text<R: Source, W: Sink>(
+    reader: &mut R,
+    writer: &mut W,
+) -> Result<DeskReport, DeskFault>
+    // The reader was read to its end, and the answers to what it gave were written.
+    ensures ok { IfOk result (λ report. (text : List ℕ)
+        × GivesAll ⟦<R as Source>⟧ reader.old reader.new text
+        × WritesAll ⟦<W as Sink>⟧ writer.old writer.new (answers text)
+        × (report ≡ report_on (lines text))) }
+
+    // A read failed, or there were too many: the answers to the lines that had ended were written.
+    ensures read_failed { IsErrOf result DeskFault.Read → FailsOrGoesOn ⟦<R as Source>⟧ MOST_READS reader.old reader.new
+        × ((text : List ℕ)
+        × Gives ⟦<R as Source>⟧ reader.old reader.new text
+        × WritesAll ⟦<W as Sink>⟧ writer.old writer.new (answers_to (ended_lines text))) }
+
+    // A write failed: a front of the answers to the whole lines that the reader gave was written.
+    ensures write_failed { IsErrOf result DeskFault.Write → (text : List ℕ) × (whole : List (List ℕ))
+        × Gives ⟦<R as Source>⟧ reader.old reader.new text
+        × AreWhole (R.is_ended reader.new) text whole
+        × StopsWriting ⟦<W as Sink>⟧ writer.old writer.new DeskFault.Write (answers_to whole) }
+
+    ensures no_memory { IsErrOf result DeskFault.Memory → ⊥ }
+{
+    let mut desk = Desk::new();
+    let mut chunk = [0; CHUNK];
+    for turn in 0..MOST_READS {
+        match reader.read(&mut chunk) {
+            Err(_) => return Err(DeskFault::Read),
+            Ok(0) => return desk.finish(writer),
+            Ok(count) => desk.feed(&chunk[..count], writer)?,
+        }
+    }
+    Err(DeskFault::Read)
+}

@@ -1,0 +1,4 @@
+pub mod Calls
+pub mod Journal
+pub mod BytesIn
+pub mod BytesOut

@@ -1,0 +1,73 @@
+use super::*;
+use std::test::Fail;
+
+/// Reads to the end or to the first failure, and tells whether the end came.
+fn read_out(reader: &mut impl Source, kept: &mut BytesOut<16>, room: usize) -> bool {
+    let mut buffer = [0; 8];
+    for _ in 0..32u8 {
+        match reader.read(&mut buffer[..room.min(8)]) {
+            Ok(0) => return true,
+            Ok(count) => {
+                if kept.write(&buffer[..count]).is_err() {
+                    return false;
+                }
+            }
+            Err(_) => return false,
+        }
+    }
+    false
+}
+
+#[test]
+fn gives_the_bytes_in_pieces(rt: HostRuntime) {
+    for (most, room) in [(1, 8), (3, 8), (1000, 8), (1000, 1), (2, 3)] {
+        assert!(rt; most > 0);
+        let mut reader = BytesIn::new(b"waits 8z", most, None);
+        let mut kept: BytesOut<16> = BytesOut::new(1000, None);
+        assert!(rt; read_out(&mut reader, &mut kept, room), "{most} {room}");
+        assert_eq!(rt; kept.bytes(), b"waits 8z".as_slice());
+    }
+}
+
+#[test]
+fn fails_at_the_chosen_read(rt: HostRuntime) {
+    for (failing, told) in [(1, ""), (2, "wai"), (3, "waits "), (4, "waits 8z")] {
+        let mut reader = BytesIn::new(b"waits 8z", 3, Some(failing));
+        let mut kept: BytesOut<16> = BytesOut::new(1000, None);
+        assert!(rt; !read_out(&mut reader, &mut kept, 8), "{failing}");
+        assert_eq!(rt; kept.bytes(), told.as_bytes(), "{failing}");
+    }
+    let mut reader = BytesIn::new(b"waits 8z", 3, Some(5));
+    let mut kept: BytesOut<16> = BytesOut::new(1000, None);
+    assert!(rt; read_out(&mut reader, &mut kept, 8));
+}
+
+#[test]
+fn takes_what_it_has_room_for(rt: HostRuntime) {
+    let mut kept: BytesOut<4> = BytesOut::new(3, Some(3));
+    assert_eq!(rt; kept.write(b"").ok(), Some(0));
+    assert_eq!(rt; kept.write(b"waits").ok(), Some(3));
+    assert!(rt; kept.write(b"ts").is_err(), "the chosen one");
+    assert_eq!(rt; kept.write(b"ts").ok(), Some(1));
+    assert!(rt; kept.write(b"s").is_err(), "it is full");
+    assert_eq!(rt; kept.write(b"").ok(), Some(0));
+    assert_eq!(rt; kept.bytes(), b"wait".as_slice());
+}
+
+#[test]
+fn wraps_readers_and_writers_of_std(rt: HostRuntime) -> Result<(), Fail> {
+    let mut reader = FromReader::new(b"waits 8z".as_slice());
+    let mut buffer = [0; 5];
+    assert_eq!(rt; reader.read(&mut buffer)?, 5);
+    assert_eq!(rt; buffer.as_slice(), b"waits".as_slice());
+    assert_eq!(rt; reader.read(&mut buffer)?, 3);
+    assert_eq!(rt; reader.read(&mut buffer)?, 0);
+
+    let mut room = [0; 8];
+    let mut writer = ToWriter::new(room.as_mut_slice());
+    assert_eq!(rt; writer.write(b"waits")?, 5);
+    assert_eq!(rt; writer.write(b"")?, 0);
+    assert_eq!(rt; writer.write(b" 8z!")?, 3);
+    assert_eq!(rt; writer.write(b"!")?, 0);
+    Ok(())
+}

@@ -1,0 +1,48 @@
+-- What the notation texts and the melds of a line spell.
+use Rattle.std.specs.Prelude.{ℕ, ◌==◌, List, [], Option, None, Some, nat_lt, unwrap_or, option_map, if◌then◌else◌, replicate, slice_index}
+use Rattle.std.specs.List.{find, sum}
+use Rattle.riichi_tiles.specs.Notation.{notation_fault, counts_of}
+use Rattle.riichi_tiles.specs.Melds.{every_kind}
+use Rattle.riichi_tiles.specs.Reds.{reds_in, joined}
+use Rattle.riichi_tiles.specs.declared.meld.Meld.{Meld}
+use Rattle.riichi_hand.specs.declared.fault.LineFault.{LineFault}
+use Rattle.riichi_hand.specs.declared.fault.LineFault.TheVariants.{Notation}
+use Rattle.riichi_hand.specs.declared.fault.TextName.{TextName}
+use Rattle.riichi_hand.specs.declared.line.key.Key.TheVariants.{On, Dora, Ura, Seen, Open}
+use Rattle.riichi_hand.specs.declared.line.texts.Texts.{Texts}
+use Rattle.riichi_hand.specs.Values.{melds_of}
+use Rattle.riichi_hand.specs.Parts.{LineParts, value, text}
+
+-- A notation text that may be missing: its fault, and its counts.
+
+abbrev pub text_fault : TextName → Option (List ℕ) → Option LineFault
+text_fault name None = None
+text_fault name (Some text) = option_map (Notation name) (notation_fault text)
+
+abbrev pub counts_in : Option (List ℕ) → List ℕ
+counts_in None = replicate 34 0
+counts_in (Some text) = counts_of text
+
+-- melds that may be missing
+abbrev pub melds_in : Option (List ℕ) → Option (List Meld)
+melds_in None = Some []
+melds_in (Some value) = melds_of value
+
+-- What the texts of a line spell. Where one has a fault, what stands here doesn't matter.
+abbrev pub texts_of : LineParts → Texts
+texts_of parts = record {
+  hand = counts_of parts.hand;
+  on = counts_in (value On parts);
+  dora = counts_in (value Dora parts);
+  ura = counts_in (value Ura parts);
+  seen = counts_in (value Seen parts);
+  melds = unwrap_or (melds_in (value Open parts)) [];
+}
+
+-- the kind of the only tile
+abbrev pub only_kind : List ℕ → Option ℕ
+only_kind counts = if sum counts == 1 then find (λ kind. nat_lt 0 (slice_index counts kind)) every_kind else None
+
+-- the digits 0 of the hand, of the winning tile and of the melds
+abbrev pub reds : LineParts → List ℕ
+reds parts = joined (joined (reds_in parts.hand) (reds_in (text On parts))) (reds_in (text Open parts))

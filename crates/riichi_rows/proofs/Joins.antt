@@ -1,0 +1,178 @@
+-- The least sum of two rows, entry by entry of the first.
+use Rattle.std.proofs.Common.{◌≡◌, ℕ, zero, suc, ◌+◌, ◌-◌, ◌<◌, ◌≤◌, min, Bool, true, false, cond, ◌⊎◌, inl, inr, refl, sym, ap, ◌∙◌, ⊎_elim, subst, ltb, Option, Some, None, arith}
+use Rattle.std.proofs.lemmas.Bool.{cases_lt, ltb-true, lt-ltb}
+use Rattle.riichi_rows.specs.Lanes.{capped, with_set, with_pair}
+use Rattle.riichi_rows.specs.Join.{IsLeastSum, SumReached, EntriesSum, IsLeastJoin}
+use Rattle.riichi_rows.specs.Suit.{entry_of}
+
+-- the values with n sets more
+pub record IsMoved (g moved : ℕ → ℕ → ℕ) (n : ℕ) : Type 0 where
+  pub at : (s p : ℕ) → n + s ≤ 4 → p ≤ 1 → moved (n + s) p ≡ g s p
+  pub before : (s p : ℕ) → s < n → s ≤ 4 → p ≤ 1 → moved s p ≡ 255
+
+-- the least sums with fewer than n sets from f
+pub record LeastSoFar (f g h : ℕ → ℕ → ℕ) (n : ℕ) : Type 0 where
+  pub bound : (s p s' p' : ℕ) → s < n → s + s' ≤ 4 → p + p' ≤ 1 → h (s + s') (p + p') ≤ f s p + g s' p'
+  pub reached : (s p : ℕ) → s ≤ 4 → p ≤ 1 → h s p < 255 → SumReached f g s p (h s p)
+
+at_same : (h : ℕ → ℕ → ℕ) (s s' p p' : ℕ) → s ≡ s' → p ≡ p' → h s p ≡ h s' p'
+at_same h s s' p p' es ep = cc
+
+pub moved_first : (g : ℕ → ℕ → ℕ) → IsMoved g g 0
+moved_first g = record { at = λ s p hs hp. at_same g (0 + s) s p p (omega arith) refl; before = λ s p h hs hp. absurd (omega arith) }
+
+pub moved_more : (g moved next : ℕ → ℕ → ℕ) (n : ℕ) → IsMoved g moved n → ((s p : ℕ) → s < 5 → p < 2 → next s p ≡ with_set moved s p) → IsMoved g next (n + 1)
+moved_more g moved next n is same = record { at = later; before = earlier }
+  where
+    later : (s p : ℕ) → n + 1 + s ≤ 4 → p ≤ 1 → next (n + 1 + s) p ≡ g s p
+    later s p hs hp =
+        at_same next (n + 1 + s) (suc (n + s)) p p (omega arith) refl ∙ same (suc (n + s)) p (omega arith) (omega arith) ∙ is.at s p (omega arith) hp
+
+    earlier : (s p : ℕ) → s < n + 1 → s ≤ 4 → p ≤ 1 → next s p ≡ 255
+    earlier zero p h hs hp = same 0 p (omega arith) (omega arith)
+    earlier (suc s) p h hs hp = same (suc s) p (omega arith) (omega arith) ∙ is.before s p (omega arith) (omega arith) hp
+
+pub min_is : (a b : ℕ) → (min a b ≡ a) ⊎ (min a b ≡ b)
+min_is a b = grind arith
+
+cases_below : (s n : ℕ) → (s < n) ⊎ ((k : ℕ) × (s ≡ n + k))
+cases_below s n = ⊎_elim (λ h. inl h) (λ h. inr (s - n, omega arith)) (cases_lt s n)
+
+module _ (f g h moved next : ℕ → ℕ → ℕ) (n x y : ℕ) (few : n ≤ 4) (is : IsMoved g moved n) (so_far : LeastSoFar f g h n) (x_is : x ≡ f n 0) (y_is : y ≡ f n 1)
+    (same : (s p : ℕ) → s < 5 → p < 2 → next s p ≡ min (min (h s p) (capped (moved s p + x))) (capped (with_pair moved s p + y))) where
+  more_bound : (s p s' p' : ℕ) → s < n + 1 → s + s' ≤ 4 → p + p' ≤ 1 → next (s + s') (p + p') ≤ f s p + g s' p'
+  more_bound s p s' p' hs ss pp = ⊎_elim (λ lower. old lower) (λ here. new p p' pp here) (cases_lt s n)
+    where
+      old : s < n → next (s + s') (p + p') ≤ f s p + g s' p'
+      old lower = omega (arith, same (s + s') (p + p') (omega arith) (omega arith), so_far.bound s p s' p' lower ss pp)
+
+      new : (p p' : ℕ) → p + p' ≤ 1 → n ≤ s → next (s + s') (p + p') ≤ f s p + g s' p'
+      new zero p' pp here =
+          let s_is : s ≡ n = omega arith in
+          let place = at_same moved (s + s') (n + s') (0 + p') p' (omega arith) (omega arith) in
+          omega (arith, same (s + s') (0 + p') (omega arith) (omega arith), place, is.at s' p' (omega arith) (omega arith), at_same f s n 0 0 s_is refl)
+      new (suc zero) zero pp here =
+          let s_is : s ≡ n = omega arith in
+          let place = at_same next (s + s') (n + s') (1 + 0) 1 (omega arith) (omega arith) in
+          omega (arith, place, same (n + s') 1 (omega arith) (omega arith), is.at s' 0 (omega arith) (omega arith), at_same f s n 1 1 s_is refl)
+      new (suc zero) (suc p') pp here = absurd (omega arith)
+      new (suc (suc p)) p' pp here = absurd (omega arith)
+
+  plain_reached : (s p v : ℕ) → s ≤ 4 → p ≤ 1 → v < 255 → v ≡ capped (moved s p + x) → SumReached f g s p v
+  plain_reached s p v hs hp low e = ⊎_elim (λ lower. absurd (omega (arith, is.before s p lower hs hp))) (λ here. found here) (cases_lt s n)
+    where
+      found : n ≤ s → SumReached f g s p v
+      found here =
+          let place = at_same moved s (n + (s - n)) p p (omega arith) refl in
+          record { left_sets = n; left_pairs = 0; right_sets = s - n; right_pairs = p; sets = omega arith; pairs = omega arith; value = omega (arith, place, is.at (s - n) p (omega arith) hp) }
+
+  pair_reached : (s p v : ℕ) → s ≤ 4 → p ≤ 1 → v < 255 → v ≡ capped (with_pair moved s p + y) → SumReached f g s p v
+  pair_reached s zero v hs hp low e = absurd (omega arith)
+  pair_reached s (suc p) v hs hp low e = ⊎_elim (λ lower. absurd (omega (arith, is.before s p lower hs (omega arith)))) (λ here. found here) (cases_lt s n)
+    where
+      found : n ≤ s → SumReached f g s (suc p) v
+      found here =
+          let place = at_same moved s (n + (s - n)) p p (omega arith) refl in
+          record { left_sets = n; left_pairs = 1; right_sets = s - n; right_pairs = p; sets = omega arith; pairs = omega arith; value = omega (arith, place, is.at (s - n) p (omega arith) (omega arith)) }
+
+  more_reached : (s p : ℕ) → s ≤ 4 → p ≤ 1 → next s p < 255 → SumReached f g s p (next s p)
+  more_reached s p hs hp low =
+      let e = same s p (omega arith) (omega arith) in
+      let old : ℕ = h s p in
+      let plain : ℕ = capped (moved s p + x) in
+      let pair : ℕ = capped (with_pair moved s p + y) in
+      ⊎_elim (λ outer. ⊎_elim (λ inner. kept (e ∙ outer ∙ inner)) (λ inner. plain_reached s p (next s p) hs hp low (e ∙ outer ∙ inner)) (min_is old plain))
+      (λ outer. pair_reached s p (next s p) hs hp low (e ∙ outer)) (min_is (min old plain) pair)
+    where
+      kept : next s p ≡ h s p → SumReached f g s p (next s p)
+      kept same_value = subst (λ (v : ℕ). SumReached f g s p v) (sym same_value) (so_far.reached s p hs hp (omega arith))
+
+  pub more : LeastSoFar f g next (n + 1)
+  more = record { bound = more_bound; reached = more_reached }
+
+pub none_so_far : (f g h : ℕ → ℕ → ℕ) → ((s p : ℕ) → s < 5 → p < 2 → h s p ≡ 255) → LeastSoFar f g h 0
+none_so_far f g h none = record {
+  bound = λ s p s' p' low ss pp. absurd (omega arith);
+  reached = λ s p hs hp low. absurd (omega (arith, none s p (omega arith) (omega arith)));
+}
+
+-- all sets of f were joined
+pub least_sum : (f g h : ℕ → ℕ → ℕ) → LeastSoFar f g h 5 → IsLeastSum f g h
+least_sum f g h so_far = record {
+  bound = λ s p s' p' ss pp. so_far.bound s p s' p' (omega arith) ss pp;
+  reached = so_far.reached;
+}
+
+-- ---- four rows
+
+entry_is : (v n : ℕ) → entry_of v ≡ Some n → (v ≡ n) × (v < 255)
+entry_is v n e = by_test (ltb v 255) refl
+  where
+    by_test : (t : Bool) → ltb v 255 ≡ t → (v ≡ n) × (v < 255)
+    by_test true l = let e' : Some v ≡ Some n = ap (λ t. cond t (Some v) None) (sym l) ∙ e in (cc, ltb-true v 255 l)
+    by_test false l = let e' : None ≡ Some n = ap (λ t. cond t (Some v) None) (sym l) ∙ e in cc
+
+entry_some : (v : ℕ) → v < 255 → entry_of v ≡ Some v
+entry_some v low = ap (λ t. cond t (Some v) None) (lt-ltb v 255 low)
+
+abbrev pub entries : (ℕ → ℕ → ℕ) → ℕ → ℕ → Option ℕ
+entries f s p = entry_of (f s p)
+
+abbrev pub IsSmall : (ℕ → ℕ → ℕ) → Type 0
+IsSmall f = (s p : ℕ) → s < 5 → p < 2 → f s p < 255 → f s p ≤ 36
+
+module _ (a b c d left right all : ℕ → ℕ → ℕ) (left_least : IsLeastSum a b left) (right_least : IsLeastSum c d right) (all_least : IsLeastSum left right all) (sets : ℕ) (few : sets ≤ 4)
+    (small_a : (s p : ℕ) → s < 5 → p < 2 → a s p < 255 → a s p ≤ 36) (small_b : (s p : ℕ) → s < 5 → p < 2 → b s p < 255 → b s p ≤ 36)
+    (small_c : (s p : ℕ) → s < 5 → p < 2 → c s p < 255 → c s p ≤ 36) (small_d : (s p : ℕ) → s < 5 → p < 2 → d s p < 255 → d s p ≤ 36) where
+  join_bound : (n : ℕ) → EntriesSum (entries a) (entries b) (entries c) (entries d) sets n → (all sets 1 ≤ n) × (n ≤ 144)
+  join_bound n e =
+      let s0 = e.split.sets_0 in
+      let s1 = e.split.sets_1 in
+      let s2 = e.split.sets_2 in
+      let s3 = e.split.sets_3 in
+      let p0 = e.split.pairs_0 in
+      let p1 = e.split.pairs_1 in
+      let p2 = e.split.pairs_2 in
+      let p3 = e.split.pairs_3 in
+      let e0 = entry_is (a s0 p0) e.lack_0 e.entry_0 in
+      let e1 = entry_is (b s1 p1) e.lack_1 e.entry_1 in
+      let e2 = entry_is (c s2 p2) e.lack_2 e.entry_2 in
+      let e3 = entry_is (d s3 p3) e.lack_3 e.entry_3 in
+      let m0 = small_a s0 p0 (omega (arith, e.has_sets)) (omega (arith, e.has_pair)) e0.1 in
+      let m1 = small_b s1 p1 (omega (arith, e.has_sets)) (omega (arith, e.has_pair)) e1.1 in
+      let m2 = small_c s2 p2 (omega (arith, e.has_sets)) (omega (arith, e.has_pair)) e2.1 in
+      let m3 = small_d s3 p3 (omega (arith, e.has_sets)) (omega (arith, e.has_pair)) e3.1 in
+      let l = left_least.bound s0 p0 s1 p1 (omega (arith, e.has_sets)) (omega (arith, e.has_pair)) in
+      let r = right_least.bound s2 p2 s3 p3 (omega (arith, e.has_sets)) (omega (arith, e.has_pair)) in
+      let t = all_least.bound (s0 + s1) (p0 + p1) (s2 + s3) (p2 + p3) (omega (arith, e.has_sets)) (omega (arith, e.has_pair)) in
+      let place = at_same all sets (s0 + s1 + (s2 + s3)) 1 (p0 + p1 + (p2 + p3)) (omega (arith, e.has_sets)) (omega (arith, e.has_pair)) in
+      (omega (arith, place, t, l, r, e0.0, e1.0, e2.0, e3.0, e.total), omega (arith, m0, m1, m2, m3, e0.0, e1.0, e2.0, e3.0, e.total))
+
+  join_reached : all sets 1 < 255 → EntriesSum (entries a) (entries b) (entries c) (entries d) sets (all sets 1)
+  join_reached low =
+      let t = all_least.reached sets 1 few (omega arith) low in
+      let l = left_least.reached t.left_sets t.left_pairs (omega (arith, t.sets)) (omega (arith, t.pairs)) (omega (arith, t.value)) in
+      let r = right_least.reached t.right_sets t.right_pairs (omega (arith, t.sets)) (omega (arith, t.pairs)) (omega (arith, t.value)) in
+      record {
+        split = record { sets_0 = l.left_sets; sets_1 = l.right_sets; sets_2 = r.left_sets; sets_3 = r.right_sets; pairs_0 = l.left_pairs; pairs_1 = l.right_pairs; pairs_2 = r.left_pairs; pairs_3 = r.right_pairs };
+        has_sets = omega (arith, t.sets, l.sets, r.sets);
+        has_pair = omega (arith, t.pairs, l.pairs, r.pairs);
+        lack_0 = a l.left_sets l.left_pairs;
+        lack_1 = b l.right_sets l.right_pairs;
+        lack_2 = c r.left_sets r.left_pairs;
+        lack_3 = d r.right_sets r.right_pairs;
+        entry_0 = entry_some _ (omega (arith, t.value, l.value, r.value));
+        entry_1 = entry_some _ (omega (arith, t.value, l.value, r.value));
+        entry_2 = entry_some _ (omega (arith, t.value, l.value, r.value));
+        entry_3 = entry_some _ (omega (arith, t.value, l.value, r.value));
+        total = omega (arith, t.value, l.value, r.value);
+      }
+
+  pub join_some : (n : ℕ) → n < 255 → n ≡ all sets 1 → IsLeastJoin (entries a) (entries b) (entries c) (entries d) sets (Some n)
+  join_some n low same = (
+    subst (λ (v : ℕ). EntriesSum (entries a) (entries b) (entries c) (entries d) sets v) (sym same) (join_reached (omega (arith, low, same))),
+    λ m e. omega (arith, same, (join_bound m e).0),
+  )
+
+  pub join_none : (n : ℕ) → 255 ≤ n → n ≡ all sets 1 → IsLeastJoin (entries a) (entries b) (entries c) (entries d) sets None
+  join_none n high same = λ m e. (let bound = join_bound m e in omega (arith, high, same, bound.0, bound.1))

@@ -1,0 +1,7 @@
+pub mod Columns
+pub mod Join
+pub mod Lacked
+pub mod Lanes
+pub mod Open
+pub mod Row
+pub mod Suit

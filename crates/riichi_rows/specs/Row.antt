@@ -1,0 +1,13 @@
+-- What a suit row shows.
+use Rattle.std.specs.Prelude.{ℕ, Option, List, ◌≡◌, ◌∷◌, []}
+use Rattle.riichi_rows.specs.Join.{IsLeastJoin}
+use Rattle.riichi_rows.specs.Suit.{row_entries}
+use Rattle.riichi_rows.specs.declared.row.SuitRow.{SuitRow}
+
+-- the entry of so many sets and pairs
+abbrev pub entries_of : SuitRow → ℕ → ℕ → Option ℕ
+entries_of row = row_entries row.entries.lacks
+
+-- the least join of a list of four rows
+pub record IsLeastJoinOf (rows : List SuitRow) (sets : ℕ) (least : Option ℕ) : Type 0 where
+  pub at : (a b c d : SuitRow) → rows ≡ a ∷ b ∷ c ∷ d ∷ [] → IsLeastJoin (entries_of a) (entries_of b) (entries_of c) (entries_of d) sets least

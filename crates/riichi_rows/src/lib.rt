@@ -1,0 +1,18 @@
+//! Suit rows: what one suit lacks of so many sets, with a pair and without one.
+//!
+//! A `SuitRow` holds for up to four sets, with and without a pair, the least number of tiles that
+//! a suit lacks of any choice of blocks, or none where no choice keeps within the caps.
+//! `suit_row` makes it in one pass over the nine ranks, and `join_rows` is the least sum of four
+//! rows with one pair in all. So the row of no tiles says `row.get(2, true) == Some(8)`: two sets
+//! and a pair are eight tiles.
+#![tactic(auto)]
+
+mod join;
+mod lanes;
+mod open;
+mod ranks;
+mod row;
+
+pub use join::join_rows;
+pub use ranks::suit_row;
+pub use row::SuitRow;

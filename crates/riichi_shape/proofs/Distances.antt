@@ -1,0 +1,99 @@
+-- The least of the three distances is the distance.
+use Rattle.std.proofs.Common.{◌≡◌, ℕ, ◌+◌, ◌-◌, ◌<◌, ◌≤◌, min, ◌⊎◌, inl, inr, List, zero, suc, Bool, true, false, cond, Some, None, ap, ⊎_elim, sym, ◌∙◌, eqb, length, subst, Option, arith}
+use Rattle.std.proofs.lemmas.Bool.{cases_lt}
+use Rattle.std.specs.Prelude.{slice_index}
+use Rattle.riichi_tiles.specs.Melds.{tiles}
+use Rattle.riichi_tiles.specs.declared.meld.Meld.{Meld}
+use Rattle.riichi_rows.proofs.Joins.{min_is}
+use Rattle.riichi_rows.proofs.Spread.{spread, sum_range}
+use Rattle.riichi_shape.specs.Distance.{IsDistance, IsLeastStandard, OrphansReached, PairsReached}
+use Rattle.riichi_shape.specs.Orphans.{IsThirteenOrphans, orphan_tiles, is_orphan}
+use Rattle.riichi_shape.specs.Pairs.{IsSevenPairs}
+use Rattle.riichi_shape.specs.Winning.{IsWinning, lacking}
+use Rattle.riichi_shape.proofs.Exists.{StandardExists, standard_exists, melds_few}
+
+each_below : (f : ℕ → ℕ) (a n k : ℕ) → a ≤ k → k < a + n → f k ≤ spread f a n
+unfolding spread
+each_below f a zero k low high = absurd (omega arith)
+each_below f a (suc n) k low high = ⊎_elim (λ later. omega (arith, each_below f (a + 1) n k (omega arith) (omega arith))) (λ here. omega (arith, ap f (same here))) (cases_lt a k)
+  where
+    same : k ≤ a → k ≡ a
+    same here = omega arith
+
+pub orphan_few : (t k : ℕ) → orphan_tiles t k ≤ 2
+orphan_few t k = at_most_two (is_orphan k) (eqb k t)
+  where
+    at_most_two : (b c : Bool) → cond b (cond c 2 1) 0 ≤ 2
+    at_most_two true true = omega arith
+    at_most_two true false = omega arith
+    at_most_two false c = omega arith
+
+pub least_beside : (hand : List ℕ) (melds : List Meld) (melded : ℕ) (o : Option ℕ) → melded ≡ length melds → IsLeastStandard hand melds (4 - melded) o → IsLeastStandard hand melds (4 - length melds) o
+least_beside hand melds melded o e least = subst (λ (n : ℕ). IsLeastStandard hand melds (4 - n) o) e least
+
+module _ (hand : List ℕ) (melds : List Meld) (at_most_four : length melds ≤ 4) (of_a_kind : (kind : ℕ) → kind < 34 → tiles melds kind ≤ 4) where
+  exists : StandardExists hand melds (4 - length melds)
+  exists = standard_exists hand melds (4 - length melds) (omega arith) of_a_kind (omega (arith, sum_range (tiles melds) 0 34, melds_few melds 0 34))
+
+  pub never_none : IsLeastStandard hand melds (4 - length melds) None → ⊥
+  never_none least = least exists.wanted exists.sets_and_pair exists.within_four
+
+  module _ (n : ℕ) (least : IsLeastStandard hand melds (4 - length melds) (Some n)) where
+    pub standard_few : n ≤ 14
+    standard_few = omega (arith, least.1 exists.wanted exists.sets_and_pair exists.within_four, exists.lacks)
+
+    pub open_distance : 0 < length melds → IsDistance hand melds n
+    open_distance some = record {
+      wanted = least.0.wanted;
+      is_winning = record { form = inl least.0.sets_and_pair; within_four = least.0.within_four };
+      reached = least.0.lacks;
+      none_less = λ other is. ⊎_elim (λ standard. least.1 other standard is.within_four) (λ special. absurd (⊎_elim (λ s. omega (arith, some, s.0)) (λ s. omega (arith, some, s.0)) special)) is.form;
+    }
+
+    module _ (none : length melds ≡ 0) (q o r : ℕ) (pairs_bound : (wanted : List ℕ) → IsSevenPairs wanted → q ≤ lacking hand wanted) (pairs_reached : PairsReached hand q)
+        (orphans_bound : (wanted : List ℕ) → IsThirteenOrphans wanted → o ≤ lacking hand wanted) (orphans_reached : OrphansReached hand o) (r_is : r ≡ min n (min q o)) where
+      no_melds : (k : ℕ) → k < 34 → tiles melds k ≡ 0
+      no_melds k low = omega (arith, each_below (tiles melds) 0 34 k (omega arith) (omega arith), melds_few melds 0 34, none)
+
+      none_less : (other : List ℕ) → IsWinning melds other → r ≤ lacking hand other
+      none_less other is =
+          ⊎_elim (λ standard. (let b = least.1 other standard is.within_four in omega (arith, b, r_is)))
+          (λ special. ⊎_elim (λ pairs. (let b = pairs_bound other pairs.1 in omega (arith, b, r_is))) (λ orphans. (let b = orphans_bound other orphans.1 in omega (arith, b, r_is))) special)
+          is.form
+
+      two_or_none_few : (w : ℕ) → (w ≡ 0) ⊎ (w ≡ 2) → w ≤ 2
+      two_or_none_few w h = ⊎_elim (λ e. omega (arith, e)) (λ e. omega (arith, e)) h
+
+      by_standard : r ≡ n → IsDistance hand melds r
+      by_standard e = record {
+        wanted = least.0.wanted;
+        is_winning = record { form = inl least.0.sets_and_pair; within_four = least.0.within_four };
+        reached = least.0.lacks ∙ sym e;
+        none_less = none_less;
+      }
+
+      by_pairs : r ≡ q → IsDistance hand melds r
+      by_pairs e = record {
+        wanted = pairs_reached.wanted;
+        is_winning = record {
+          form = inr (inl (none, pairs_reached.seven_pairs));
+          within_four = record { at = λ k low. omega (arith, no_melds k low, two_or_none_few (slice_index pairs_reached.wanted k) (pairs_reached.seven_pairs.two_or_none k low)) };
+        };
+        reached = pairs_reached.lacks ∙ sym e;
+        none_less = none_less;
+      }
+
+      by_orphans : r ≡ o → IsDistance hand melds r
+      by_orphans e = record {
+        wanted = orphans_reached.wanted;
+        is_winning = record {
+          form = inr (inr (none, orphans_reached.thirteen_orphans));
+          within_four = record { at = λ k low. (let few = orphan_few orphans_reached.thirteen_orphans.doubled k in omega (arith, no_melds k low, orphans_reached.thirteen_orphans.at k low, few)) };
+        };
+        reached = orphans_reached.lacks ∙ sym e;
+        none_less = none_less;
+      }
+
+      pub closed_distance : IsDistance hand melds r
+      closed_distance =
+          ⊎_elim (λ standard. by_standard (r_is ∙ standard)) (λ special. ⊎_elim (λ pairs. by_pairs (r_is ∙ special ∙ pairs)) (λ orphans. by_orphans (r_is ∙ special ∙ orphans)) (min_is q o)) (min_is n (min q o))

@@ -1,0 +1,11 @@
+pub mod AcceptedLemmas
+pub mod BySuit
+pub mod Counted
+pub mod Distances
+pub mod Exists
+pub mod FourSuits
+pub mod LiveLemmas
+pub mod Members
+pub mod OrphanLemmas
+pub mod PairLemmas
+pub mod Uniqueness

@@ -1,0 +1,142 @@
+-- Thirteen orphans: one tile for each kind that is missing, and one where none is held twice.
+use Rattle.std.proofs.Common.{◌≡◌, ℕ, zero, suc, ◌+◌, ◌-◌, ◌<◌, ◌≤◌, Bool, true, false, cond, ◌⊎◌, inl, inr, List, [], ◌∷◌, length, map, leb, eqb, refl, sym, ap, ◌∙◌, ⊎_elim, arith}
+use Rattle.std.proofs.lemmas.Bool.{cases_lt}
+use Rattle.std.proofs.lemmas.Bool.Decides.{nat_tests}
+use Rattle.std.specs.List.{list_any}
+use Rattle.std.specs.Prelude.{count_by, slice_index, nat_le, ◌==◌, ◌||◌}
+use Rattle.riichi_shape.specs.Distance.{OrphansReached}
+use Rattle.riichi_shape.specs.Orphans.{IsThirteenOrphans, orphan_kinds, is_orphan, orphan_tiles}
+use Rattle.riichi_shape.specs.Winning.{lacking}
+use Rattle.riichi_rows.proofs.Spread.{spread, sum_range, spread_shift, table, table_at, at_same_number, spread_with, eqb_is, is_eqb, not_eqb}
+use Rattle.riichi_shape.proofs.PairLemmas.{total_of, sum_is_total}
+
+abbrev pub missing_one : ℕ → ℕ
+missing_one h = cond (eqb h 0) 1 0
+
+-- what a second tile costs
+abbrev pub extra : ℕ → ℕ
+extra h = cond (leb 2 h) 0 1
+
+orphan_lack : (t k h : ℕ) (here : Bool) → (eqb k t ≡ true → here ≡ true) → cond here (cond (eqb k t) 2 1) 0 - h ≡ cond here (missing_one h) 0 + cond (eqb k t) (extra h) 0
+orphan_lack t k h here same = grind (arith, nat_tests)
+
+-- ---- the kind held twice
+
+pub or_true : (a b : Bool) → (a || b) ≡ true → (a ≡ true) ⊎ (b ≡ true)
+or_true true b e = inl refl
+or_true false b e = inr e
+
+-- counts a kind held twice
+abbrev two : ℕ → ℕ
+two h = cond (leb 2 h) 1 0
+
+-- counts a number that is no kind
+abbrev beyond : ℕ → ℕ
+beyond k = cond (leb 34 k) 1 0
+
+extra_is : (h : ℕ) → extra h + two h ≡ 1
+extra_is h = grind (arith, nat_tests)
+
+none_doubled : (h : ℕ → ℕ) (ks : List ℕ) (t : ℕ) → total_of two (map h ks) ≡ 0 → list_any (eqb t) ks ≡ true → two (h t) ≡ 0
+unfolding total_of
+none_doubled h [] t none here = absurd (grind arith)
+none_doubled h (k ∷ ks) t none here =
+    ⊎_elim (λ first. ap (λ k. two (h k)) (eqb_is t k first) ∙ omega (arith, none)) (λ later. none_doubled h ks t (omega (arith, none)) later) (or_true (eqb t k) (list_any (eqb t) ks) here)
+
+record Doubled (h : ℕ → ℕ) (ks : List ℕ) : Type 0 where
+  pub kind : ℕ
+  pub is_one : list_any (eqb kind) ks ≡ true
+  pub twice : 0 < two (h kind)
+
+some_doubled : (h : ℕ → ℕ) (ks : List ℕ) → 0 < total_of two (map h ks) → Doubled h ks
+unfolding total_of
+some_doubled h [] some = absurd (omega (arith, some))
+some_doubled h (k ∷ ks) some =
+    ⊎_elim (λ first. record { kind = k; is_one = ap (λ b. b || list_any (eqb k) ks) (is_eqb k k refl); twice = first })
+    (λ later. (let d = some_doubled h ks (omega (arith, some, later)) in record { kind = d.kind; is_one = or_right (eqb d.kind k) (list_any (eqb d.kind) ks) d.is_one; twice = d.twice }))
+    (cases_lt 0 (two (h k)))
+  where
+    or_right : (a b : Bool) → b ≡ true → (a || b) ≡ true
+    or_right true b e = refl
+    or_right false b e = e
+
+below : (ks : List ℕ) (t : ℕ) → total_of beyond ks ≡ 0 → list_any (eqb t) ks ≡ true → t < 34
+unfolding total_of
+below [] t all here = absurd (grind arith)
+below (k ∷ ks) t all here = ⊎_elim (λ first. small k t (eqb_is t k first) (omega (arith, all))) (λ later. below ks t (omega (arith, all)) later) (or_true (eqb t k) (list_any (eqb t) ks) here)
+  where
+    small : (k t : ℕ) → t ≡ k → beyond k ≡ 0 → t < 34
+    small k t e low = grind (arith, nat_tests)
+
+orphan_below : (t : ℕ) → is_orphan t ≡ true → t < 34
+unfolding total_of
+orphan_below t is = below orphan_kinds t refl is
+
+-- those that are missing are the rest of the thirteen
+missing_or_held : (xs : List ℕ) → total_of missing_one xs + total_of (λ x. cond (leb 1 x) 1 0) xs ≡ length xs
+unfolding total_of
+missing_or_held [] = refl
+missing_or_held (x ∷ xs) = omega (arith, one_of x, missing_or_held xs)
+  where
+    one_of : (x : ℕ) → missing_one x + cond (leb 1 x) 1 0 ≡ 1
+    one_of x = grind (arith, nat_tests)
+
+pub missing_count : (hand held : List ℕ) (some : ℕ) → held ≡ map (slice_index hand) orphan_kinds → some ≡ count_by (λ x. nat_le 1 x) held → 13 - some ≡ count_by (λ x. x == 0) held
+missing_count hand held some are counted =
+    let thirteen : length held ≡ 13 = ap length are in
+    omega (arith, counted, missing_or_held held, sum_is_total missing_one held, sum_is_total (λ x. cond (leb 1 x) 1 0) held, thirteen)
+
+module _ (hand : List ℕ) where
+  abbrev lack_of_one : ℕ → ℕ
+  lack_of_one k = cond (is_orphan k) (missing_one (slice_index hand k)) 0
+
+  missing_is : spread lack_of_one 0 34 ≡ total_of missing_one (map (slice_index hand) orphan_kinds)
+  unfolding spread total_of
+  missing_is = omega arith
+
+  pub lack_is : (t : ℕ) → is_orphan t ≡ true → (wanted : List ℕ) → ((k : ℕ) → k < 34 → slice_index wanted k ≡ orphan_tiles t k) → lacking hand wanted ≡ total_of missing_one (map (slice_index hand) orphan_kinds) + extra (slice_index hand t)
+  lack_is t is wanted at =
+      let whole = sum_range (λ k. slice_index wanted k - slice_index hand k) 0 34 in
+      let same = spread_shift (λ k. slice_index wanted k - slice_index hand k) (λ k. orphan_tiles t k - slice_index hand k) 0 0 34 (λ r h. ap (λ w. w - slice_index hand (0 + r)) (at (0 + r) (omega arith))) in
+      let split = spread_with (λ k. orphan_tiles t k - slice_index hand k) lack_of_one (λ k. extra (slice_index hand k)) t
+      (λ k. orphan_lack t k (slice_index hand k) (is_orphan k) (λ e. ap is_orphan (eqb_is k t e) ∙ is)) 0 34 (omega arith) (omega (arith, orphan_below t is)) in
+      whole ∙ same ∙ split ∙ ap (λ n. n + extra (slice_index hand t)) missing_is
+
+  abbrev pub orphans_wanted : ℕ → List ℕ
+  orphans_wanted t = table (orphan_tiles t) 0 34
+
+  pub orphans_at : (t k : ℕ) → k < 34 → slice_index (orphans_wanted t) k ≡ orphan_tiles t k
+  orphans_at t k h = table_at (orphan_tiles t) 0 34 k h ∙ at_same_number (orphan_tiles t) (0 + k) k (omega arith)
+
+  pub are_orphans : (t n : ℕ) → is_orphan t ≡ true → n ≡ total_of missing_one (map (slice_index hand) orphan_kinds) + extra (slice_index hand t) → OrphansReached hand n
+  are_orphans t n is e = record {
+    wanted = orphans_wanted t;
+    thirteen_orphans = record { doubled = t; doubles_orphan = is; at = orphans_at t };
+    lacks = lack_is t is (orphans_wanted t) (orphans_at t) ∙ sym e;
+  }
+
+  module _ (held : List ℕ) (held_are : held ≡ map (slice_index hand) orphan_kinds) (missing doubled : ℕ) (missing_are : missing ≡ count_by (λ x. x == 0) held) (doubled_are : doubled ≡ count_by (λ x. nat_le 2 x) held) where
+    missing_total : missing ≡ total_of missing_one (map (slice_index hand) orphan_kinds)
+    missing_total = missing_are ∙ sum_is_total missing_one held ∙ ap (λ xs. total_of missing_one xs) held_are
+
+    doubled_total : doubled ≡ total_of two (map (slice_index hand) orphan_kinds)
+    doubled_total = doubled_are ∙ sum_is_total two held ∙ ap (λ xs. total_of two xs) held_are
+
+    pub bound_doubled : (wanted : List ℕ) → IsThirteenOrphans wanted → missing ≤ lacking hand wanted
+    bound_doubled wanted is = let e = lack_is is.doubled is.doubles_orphan wanted is.at in omega (arith, missing_total, e)
+
+    pub reached_doubled : 0 < doubled → OrphansReached hand missing
+    reached_doubled some =
+        let d = some_doubled (slice_index hand) orphan_kinds (omega (arith, some, doubled_total)) in
+        are_orphans d.kind missing d.is_one (omega (arith, missing_total, d.twice, extra_is (slice_index hand d.kind)))
+
+    pub bound_single : doubled ≤ 0 → (wanted : List ℕ) → IsThirteenOrphans wanted → missing + 1 ≤ lacking hand wanted
+    bound_single none wanted is =
+        let e = lack_is is.doubled is.doubles_orphan wanted is.at in
+        let single = none_doubled (slice_index hand) orphan_kinds is.doubled (omega (arith, none, doubled_total)) is.doubles_orphan in
+        omega (arith, missing_total, e, single, extra_is (slice_index hand is.doubled))
+
+    pub reached_single : doubled ≤ 0 → OrphansReached hand (missing + 1)
+    reached_single none =
+        let single = none_doubled (slice_index hand) orphan_kinds 0 (omega (arith, none, doubled_total)) refl in
+        are_orphans 0 (missing + 1) refl (omega (arith, missing_total, single, extra_is (slice_index hand 0)))

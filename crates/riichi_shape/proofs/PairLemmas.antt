@@ -1,0 +1,223 @@
+-- Seven pairs: the best choice takes kinds held twice, then kinds held once.
+use Rattle.std.proofs.Common.{◌≡◌, ℕ, zero, suc, ◌+◌, ◌-◌, ◌*◌, ◌<◌, ◌≤◌, min, cond, ◌⊎◌, inl, inr, List, [], ◌∷◌, length, get_or, leb, eqb, refl, sym, ap, ◌∙◌, ⊎_elim, arith}
+use Rattle.std.proofs.lemmas.Bool.Decides.{nat_tests}
+use Rattle.std.proofs.lemmas.List.Sums.{sum_by-cons}
+use Rattle.std.specs.Prelude.{sum_by, count_by, nat_le, slice_index, ◌==◌}
+use Rattle.riichi_shape.specs.Distance.{PairsReached}
+use Rattle.riichi_shape.specs.Pairs.{IsSevenPairs}
+use Rattle.riichi_shape.specs.Winning.{lacking}
+use Rattle.riichi_tiles.specs.Melds.{every_kind}
+use Rattle.riichi_rows.proofs.Spread.{spread, spread_sum, sum_range, spread_shift, table, table_at, at_same_number}
+
+abbrev pub two : ℕ → ℕ
+two h = cond (leb 2 h) 1 0
+
+abbrev pub one : ℕ → ℕ
+one h = cond (eqb h 1) 1 0
+
+abbrev nil : ℕ → ℕ
+nil h = cond (eqb h 0) 1 0
+
+of_two : (h : ℕ) → (two (suc (suc h)) ≡ 1) × (one (suc (suc h)) ≡ 0) × (nil (suc (suc h)) ≡ 0)
+of_two h = grind (arith, nat_tests)
+
+-- ---- lists side by side
+
+unfoldable pub total_of : (ℕ → ℕ) → List ℕ → ℕ
+total_of f [] = 0
+total_of f (x ∷ xs) = f x + total_of f xs
+
+pub sum_is_total : (f : ℕ → ℕ) (xs : List ℕ) → sum_by f xs ≡ total_of f xs
+unfolding total_of
+sum_is_total f [] = refl
+sum_is_total f (x ∷ xs) = sum_by-cons f x xs ∙ ap (λ n. f x + n) (sum_is_total f xs)
+
+lack_beside : List ℕ → List ℕ → ℕ
+lack_beside [] ws = 0
+lack_beside (h ∷ hs) [] = 0
+lack_beside (h ∷ hs) (w ∷ ws) = (w - h) + lack_beside hs ws
+
+lack_is : (hs ws : List ℕ) → length ws ≡ length hs → spread (λ k. get_or ws k 0 - get_or hs k 0) 0 (length hs) ≡ lack_beside hs ws
+unfolding lack_beside spread
+lack_is [] ws long = refl
+lack_is (h ∷ hs) [] long = absurd (omega arith)
+lack_is (h ∷ hs) (w ∷ ws) long =
+    let shifted = spread_shift (λ k. get_or (w ∷ ws) k 0 - get_or (h ∷ hs) k 0) (λ k. get_or ws k 0 - get_or hs k 0) (0 + 1) 0 (length hs) (λ r low. moved r) in
+    omega (arith, shifted, lack_is hs ws (omega arith))
+  where
+    moved : (r : ℕ) → get_or (w ∷ ws) (0 + 1 + r) 0 - get_or (h ∷ hs) (0 + 1 + r) 0 ≡ get_or ws (0 + r) 0 - get_or hs (0 + r) 0
+    moved r = ap (λ k. get_or (w ∷ ws) k 0 - get_or (h ∷ hs) k 0) (number r) ∙ ap (λ k. get_or ws k 0 - get_or hs k 0) (back r)
+      where
+        number : (r : ℕ) → 0 + 1 + r ≡ suc r
+        number r = omega arith
+
+        back : (r : ℕ) → r ≡ 0 + r
+        back r = omega arith
+
+-- ---- no seven pairs lack less
+
+record Chosen (h w : ℕ → ℕ) (a n : ℕ) : Type 0 where
+  pub from_twos : ℕ
+  pub from_ones : ℕ
+  pub from_none : ℕ
+  pub twos : from_twos ≤ spread (λ k. two (h k)) a n
+  pub ones : from_ones ≤ spread (λ k. one (h k)) a n
+  pub tiles : spread w a n ≡ 2 * (from_twos + from_ones + from_none)
+  pub lacks : spread (λ k. w k - h k) a n ≡ from_ones + 2 * from_none
+
+chosen : (h w : ℕ → ℕ) (a n : ℕ) → ((k : ℕ) → k < a + n → (w k ≡ 0) ⊎ (w k ≡ 2)) → Chosen h w a n
+unfolding spread
+chosen h w a zero each = record { from_twos = 0; from_ones = 0; from_none = 0; twos = omega arith; ones = omega arith; tiles = omega arith; lacks = omega arith }
+chosen h w a (suc n) each =
+    let rest = chosen h w (a + 1) n (λ k low. each k (omega arith)) in
+    ⊎_elim (λ none. skip rest none) (λ taken. take_by rest taken (h a) refl) (each a (omega arith))
+  where
+    skip : Chosen h w (a + 1) n → w a ≡ 0 → Chosen h w a (suc n)
+    skip rest none = record {
+      from_twos = rest.from_twos;
+      from_ones = rest.from_ones;
+      from_none = rest.from_none;
+      twos = omega (arith, rest.twos);
+      ones = omega (arith, rest.ones);
+      tiles = omega (arith, rest.tiles);
+      lacks = omega (arith, rest.lacks);
+    }
+
+    take_by : Chosen h w (a + 1) n → w a ≡ 2 → (held : ℕ) → h a ≡ held → Chosen h w a (suc n)
+    take_by rest taken zero e = record {
+      from_twos = rest.from_twos;
+      from_ones = rest.from_ones;
+      from_none = suc rest.from_none;
+      twos = omega (arith, rest.twos);
+      ones = omega (arith, rest.ones);
+      tiles = omega (arith, rest.tiles);
+      lacks = omega (arith, rest.lacks);
+    }
+    take_by rest taken (suc zero) e = record {
+      from_twos = rest.from_twos;
+      from_ones = suc rest.from_ones;
+      from_none = rest.from_none;
+      twos = omega (arith, rest.twos);
+      ones = (let here : one (h a) ≡ 1 = grind (arith, nat_tests) in omega (arith, rest.ones, here));
+      tiles = omega (arith, rest.tiles);
+      lacks = omega (arith, rest.lacks);
+    }
+    take_by rest taken (suc (suc held)) e = record {
+      from_twos = suc rest.from_twos;
+      from_ones = rest.from_ones;
+      from_none = rest.from_none;
+      twos = (let here : two (h a) ≡ 1 = grind (arith, nat_tests) in omega (arith, rest.twos, here));
+      ones = omega (arith, rest.ones);
+      tiles = omega (arith, rest.tiles);
+      lacks = omega (arith, rest.lacks);
+    }
+
+-- ---- some seven pairs lack as much
+
+record Picked (hs : List ℕ) (p s z : ℕ) : Type 0 where
+  pub wanted : List ℕ
+  pub long : length wanted ≡ length hs
+  pub each : (k : ℕ) → (get_or wanted k 0 ≡ 0) ⊎ (get_or wanted k 0 ≡ 2)
+  pub tiles : total_of (λ w. w) wanted ≡ 2 * (p + s + z)
+  pub lacks : lack_beside hs wanted ≡ s + 2 * z
+
+each_more : (w : ℕ) (ws : List ℕ) → (w ≡ 0) ⊎ (w ≡ 2) → ((k : ℕ) → (get_or ws k 0 ≡ 0) ⊎ (get_or ws k 0 ≡ 2)) → (k : ℕ) → (get_or (w ∷ ws) k 0 ≡ 0) ⊎ (get_or (w ∷ ws) k 0 ≡ 2)
+each_more w ws here rest zero = here
+each_more w ws here rest (suc k) = rest k
+
+skipped : (h : ℕ) (hs : List ℕ) (p s z : ℕ) → Picked hs p s z → Picked (h ∷ hs) p s z
+unfolding total_of lack_beside
+skipped h hs p s z r = record { wanted = 0 ∷ r.wanted; long = ap suc r.long; each = each_more 0 r.wanted (inl refl) r.each; tiles = omega (arith, r.tiles); lacks = omega (arith, r.lacks) }
+
+taken : (h : ℕ) (hs : List ℕ) (p s z p' s' z' : ℕ) → Picked hs p s z → 1 + p + s + z ≡ p' + s' + z' → (2 - h) + (s + 2 * z) ≡ s' + 2 * z' → Picked (h ∷ hs) p' s' z'
+unfolding total_of lack_beside
+taken h hs p s z p' s' z' r more lack = record { wanted = 2 ∷ r.wanted; long = ap suc r.long; each = each_more 2 r.wanted (inr refl) r.each; tiles = omega (arith, r.tiles); lacks = omega (arith, r.lacks) }
+
+picked : (hs : List ℕ) (p s z : ℕ) → p ≤ total_of two hs → s ≤ total_of one hs → z ≤ total_of nil hs → Picked hs p s z
+unfolding total_of lack_beside
+picked [] p s z hp hs' hz = record { wanted = []; long = refl; each = λ k. inl refl; tiles = omega arith; lacks = omega arith }
+picked (zero ∷ hs) p s zero hp hs' hz = skipped 0 hs p s 0 (picked hs p s 0 (omega arith) (omega arith) (omega arith))
+picked (zero ∷ hs) p s (suc z) hp hs' hz = taken 0 hs p s z p s (suc z) (picked hs p s z (omega arith) (omega arith) (omega arith)) (omega arith) (omega arith)
+picked (suc zero ∷ hs) p zero z hp hs' hz = skipped 1 hs p 0 z (picked hs p 0 z (omega arith) (omega arith) (omega arith))
+picked (suc zero ∷ hs) p (suc s) z hp hs' hz = taken 1 hs p s z p (suc s) z (picked hs p s z (omega arith) (omega arith) (omega arith)) (omega arith) (omega arith)
+picked (suc (suc h) ∷ hs) zero s z hp hs' hz = skipped (suc (suc h)) hs 0 s z (picked hs 0 s z (omega arith) (omega (arith, of_two h)) (omega (arith, of_two h)))
+picked (suc (suc h) ∷ hs) (suc p) s z hp hs' hz = taken (suc (suc h)) hs p s z (suc p) s z (picked hs p s z (omega (arith, of_two h)) (omega (arith, of_two h)) (omega (arith, of_two h))) (omega arith) (omega arith)
+
+classes : (hs : List ℕ) → total_of two hs + total_of one hs + total_of nil hs ≡ length hs
+unfolding total_of
+classes [] = refl
+classes (zero ∷ hs) = omega (arith, classes hs)
+classes (suc zero ∷ hs) = omega (arith, classes hs)
+classes (suc (suc h) ∷ hs) = omega (arith, of_two h, classes hs)
+
+pub spread_total : (f : ℕ → ℕ) (xs : List ℕ) → spread (λ k. f (get_or xs k 0)) 0 (length xs) ≡ total_of f xs
+unfolding total_of spread
+spread_total f [] = refl
+spread_total f (x ∷ xs) =
+    let shifted = spread_shift (λ k. f (get_or (x ∷ xs) k 0)) (λ k. f (get_or xs k 0)) (0 + 1) 0 (length xs) (λ r low. moved r) in
+    omega (arith, shifted, spread_total f xs)
+  where
+    number : (r : ℕ) → 0 + 1 + r ≡ suc r
+    number r = omega arith
+
+    back : (r : ℕ) → r ≡ 0 + r
+    back r = omega arith
+
+    moved : (r : ℕ) → f (get_or (x ∷ xs) (0 + 1 + r) 0) ≡ f (get_or xs (0 + r) 0)
+    moved r = ap (λ k. f (get_or (x ∷ xs) k 0)) (number r) ∙ ap (λ k. f (get_or xs k 0)) (back r)
+
+same_count : (f : ℕ → ℕ) (m n : ℕ) → m ≡ n → spread f 0 m ≡ spread f 0 n
+same_count f m n e = ap (λ n. spread f 0 n) e
+
+length_table : (f : ℕ → ℕ) (a n : ℕ) → length (table f a n) ≡ n
+unfolding table
+length_table f a zero = refl
+length_table f a (suc n) = ap suc (length_table f (a + 1) n)
+
+total_table : (f h : ℕ → ℕ) (a n : ℕ) → total_of f (table h a n) ≡ spread (λ k. f (h k)) a n
+unfolding table total_of spread
+total_table f h a zero = refl
+total_table f h a (suc n) = ap (λ m. f (h a) + m) (total_table f h (a + 1) n)
+
+module _ (hand : List ℕ) (twos ones r : ℕ) (twos_are : twos ≡ spread (λ k. two (slice_index hand k)) 0 34) (ones_are : ones ≡ spread (λ k. one (slice_index hand k)) 0 34) (r_is : r ≡ 14 - 2 * min twos 7 - min ones (7 - min twos 7)) where
+  pub pairs_bound : (wanted : List ℕ) → IsSevenPairs wanted → r ≤ lacking hand wanted
+  pairs_bound wanted is =
+      let c = chosen (slice_index hand) (slice_index wanted) 0 34 (λ k low. is.two_or_none k (omega arith)) in
+      omega (arith, c.twos, c.ones, c.tiles, c.lacks, sum_range (slice_index wanted) 0 34, sum_range (λ k. slice_index wanted k - slice_index hand k) 0 34, is.fourteen)
+
+  abbrev held : List ℕ
+  held = table (slice_index hand) 0 34
+
+  same_held : (w : ℕ → ℕ) → spread (λ k. w k - slice_index hand k) 0 34 ≡ spread (λ k. w k - slice_index held k) 0 34
+  same_held w = spread_shift (λ k. w k - slice_index hand k) (λ k. w k - slice_index held k) 0 0 34
+      (λ k low. ap (λ h. w (0 + k) - h) (sym (table_at (slice_index hand) 0 34 (0 + k) (omega arith) ∙ at_same_number (slice_index hand) (0 + (0 + k)) (0 + k) (omega arith))))
+
+  pub pairs_reached : PairsReached hand r
+  pairs_reached =
+      let p : ℕ = min twos 7 in
+      let s : ℕ = min ones (7 - p) in
+      let long = length_table (slice_index hand) 0 34 in
+      let t = total_table two (slice_index hand) 0 34 in
+      let o = total_table one (slice_index hand) 0 34 in
+      let n = classes held in
+      let w = picked held p s (7 - p - s) (omega arith) (omega arith) (omega arith) in
+      record {
+        wanted = w.wanted;
+        seven_pairs = record { two_or_none = λ k low. w.each k; fourteen = sum_range (slice_index w.wanted) 0 34 ∙ same_count (slice_index w.wanted) 34 (length w.wanted) (sym long ∙ sym w.long) ∙ spread_total (λ x. x) w.wanted ∙ omega (arith, w.tiles) };
+        lacks = sum_range (λ k. slice_index w.wanted k - slice_index hand k) 0 34 ∙ same_held (slice_index w.wanted) ∙ same_count (λ k. slice_index w.wanted k - slice_index held k) 34 (length held) (sym long) ∙ lack_is held w.wanted w.long ∙ omega (arith, w.lacks);
+      }
+
+-- ---- kinds counted
+
+two_or_one : (h : ℕ) → cond (leb 1 h) 1 0 ≡ two h + one h
+two_or_one h = grind (arith, nat_tests)
+
+pub count_twos : (hand : List ℕ) (twos : ℕ) → twos ≡ count_by (λ kind. nat_le 2 (slice_index hand kind)) every_kind → twos ≡ spread (λ k. two (slice_index hand k)) 0 34
+count_twos hand twos are = are ∙ sum_range (λ k. two (slice_index hand k)) 0 34
+
+pub held_is : (hand : List ℕ) (twos held : ℕ) → twos ≡ count_by (λ kind. nat_le 2 (slice_index hand kind)) every_kind → held ≡ count_by (λ kind. nat_le 1 (slice_index hand kind)) every_kind → held ≡ twos + spread (λ k. one (slice_index hand k)) 0 34
+held_is hand twos held twos_are held_are =
+    omega (arith, count_twos hand twos twos_are, held_are, sum_range (λ k. cond (leb 1 (slice_index hand k)) 1 0) 0 34, spread_sum (λ k. two (slice_index hand k)) (λ k. one (slice_index hand k)) (λ k. cond (leb 1 (slice_index hand k)) 1 0) (λ k. two_or_one (slice_index hand k)) 0 34)
+
+pub count_ones : (hand : List ℕ) (twos held : ℕ) → twos ≡ count_by (λ kind. nat_le 2 (slice_index hand kind)) every_kind → held ≡ count_by (λ kind. nat_le 1 (slice_index hand kind)) every_kind → held - twos ≡ spread (λ k. one (slice_index hand k)) 0 34
+count_ones hand twos held twos_are held_are = omega (arith, held_is hand twos held twos_are held_are)

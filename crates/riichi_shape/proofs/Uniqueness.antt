@@ -1,0 +1,275 @@
+-- The distance is one number: the least lack over the list of every winning multiset.
+use Rattle.std.proofs.Common.{◌≡◌, ℕ, zero, suc, ◌+◌, ◌-◌, ◌<◌, ◌≤◌, ◌%◌, Bool, true, false, cond, ◌⊎◌, inl, inr, List, [], ◌∷◌, ◌++◌, map, length, get_or, eqb, leb, refl, sym, ap, ◌∙◌, ⊎_elim, subst, arith}
+use Rattle.std.proofs.lemmas.Bool.{cases_lt, false≢true}
+use Rattle.std.proofs.lemmas.Bool.Decides.{nat_tests}
+use Rattle.std.proofs.lemmas.List.Elements.{All-nil, All-cons, All-head, All-tail}
+use Rattle.std.specs.List.{filter, list_any, range_with_len}
+use Rattle.std.specs.Prelude.{All, IsTrue, slice_index, sum_by, nat_le, ◌==◌, ◌||◌}
+use Rattle.riichi_tiles.specs.Blocks.{IsSet, IsRunLow, copies, total}
+use Rattle.riichi_tiles.specs.Melds.{every_kind, is_run, tiles}
+use Rattle.riichi_tiles.specs.declared.block.Block.{Block}
+use Rattle.riichi_tiles.specs.declared.block.Block.TheVariants.{Run, Triplet, Pair}
+use Rattle.riichi_tiles.specs.declared.meld.Meld.{Meld}
+use Rattle.riichi_rows.proofs.Spread.{spread, sum_range, spread_shift, eqb_is, is_eqb}
+use Rattle.riichi_shape.specs.Distance.{IsDistance}
+use Rattle.riichi_shape.specs.EveryWinning.{lists_of, every_set, counts_of, every_sets_and_pair, every_seven_pairs, every_orphans, every_special, is_within_four, every_winning, least, distance_of}
+use Rattle.riichi_shape.specs.Orphans.{IsThirteenOrphans, is_orphan, orphan_kinds, orphan_tiles}
+use Rattle.riichi_shape.specs.Pairs.{IsSevenPairs}
+use Rattle.riichi_shape.specs.Winning.{HasWinningForm, IsSetsAndPair, IsWinning, WithinFour, lacking}
+use Rattle.riichi_shape.proofs.OrphanLemmas.{or_true}
+use Rattle.riichi_shape.proofs.Members.{Among, IsListOf, all_among, all_of, among_either, among_filter, among_flat_map, among_get_or, among_left, among_lists, among_map, among_range, among_right, from_filter, from_flat_map, from_lists, from_map, from_range, least_is, length_map_range, map_range_at}
+
+-- two multisets with the same tiles
+pub record SameTiles (w v : List ℕ) : Type 0 where
+  pub at : (kind : ℕ) → kind < 34 → slice_index w kind ≡ slice_index v kind
+
+-- some element has the same tiles
+pub record Listed (ws : List (List ℕ)) (wanted : List ℕ) : Type 0 where
+  pub listed : List ℕ
+  pub among : Among listed ws
+  pub same : SameTiles listed wanted
+
+pub lacking_same : (hand w v : List ℕ) → SameTiles w v → lacking hand w ≡ lacking hand v
+lacking_same hand w v same =
+    sum_range (λ k. slice_index w k - slice_index hand k) 0 34
+    ∙ spread_shift (λ k. slice_index w k - slice_index hand k) (λ k. slice_index v k - slice_index hand k) 0 0 34 (λ k low. ap (λ n. n - slice_index hand (0 + k)) (same.at (0 + k) (omega arith)))
+    ∙ sym (sum_range (λ k. slice_index v k - slice_index hand k) 0 34)
+
+-- ---- sets
+
+is_run_of : (low : ℕ) → IsRunLow low → is_run low ≡ true
+is_run_of low is = by_suit low (split low is.0 is.1)
+  where
+    split : (low : ℕ) → low < 27 → low % 9 < 7 → (low ≤ 6) ⊎ ((9 ≤ low) × (low ≤ 15)) ⊎ ((18 ≤ low) × (low ≤ 24))
+    split low h m = ⊎_elim (λ a. inl (omega arith)) (λ a. inr (⊎_elim (λ b. inl (omega arith, omega arith)) (λ b. inr (omega arith, omega arith)) (cases_lt low 18))) (cases_lt low 9)
+
+    by_suit : (low : ℕ) → (low ≤ 6) ⊎ ((9 ≤ low) × (low ≤ 15)) ⊎ ((18 ≤ low) × (low ≤ 24)) → is_run low ≡ true
+    by_suit low h = grind (arith, nat_tests)
+
+run_low : (low : ℕ) → is_run low ≡ true → IsRunLow low
+run_low low e = by_suit low (split low e)
+  where
+    split : (low : ℕ) → is_run low ≡ true → (low ≤ 6) ⊎ ((9 ≤ low) × (low ≤ 15)) ⊎ ((18 ≤ low) × (low ≤ 24))
+    split low e = grind (arith, nat_tests)
+
+    by_suit : (low : ℕ) → (low ≤ 6) ⊎ ((9 ≤ low) × (low ≤ 15)) ⊎ ((18 ≤ low) × (low ≤ 24)) → IsRunLow low
+    by_suit low h = ⊎_elim (λ a. (omega arith, omega arith)) (λ rest. ⊎_elim (λ a. (let l = a.0 in let m = a.1 in (omega arith, omega arith))) (λ a. (let l = a.0 in let m = a.1 in (omega arith, omega arith))) rest) h
+
+among_sets : (b : Block) → IsSet b → Among b every_set
+unfolding every_set
+among_sets (Run low) is =
+    among_right (Run low) (map Triplet every_kind) (map Run (filter is_run every_kind))
+    (among_map Run low (filter is_run every_kind) (among_filter is_run low every_kind (among_range low 0 34 (omega arith) (omega (arith, is.0))) (is_run_of low is)))
+among_sets (Triplet held) is = among_left (Triplet held) (map Triplet every_kind) (map Run (filter is_run every_kind)) (among_map Triplet held every_kind (among_range held 0 34 (omega arith) (omega arith)))
+among_sets (Pair held) is = absurd is
+
+from_sets : (b : Block) → Among b every_set → IsSet b
+unfolding every_set
+from_sets b h =
+    ⊎_elim (λ triplets. (let r = from_map Triplet b every_kind triplets in subst (λ (v : Block). IsSet v) (sym r.2) (from_range r.0 0 34 r.1).1))
+    (λ runs. (let r = from_map Run b (filter is_run every_kind) runs in subst (λ (v : Block). IsSet v) (sym r.2) (run_low r.0 (from_filter is_run r.0 every_kind r.1).1)))
+    (among_either b (map Triplet every_kind) (map Run (filter is_run every_kind)) h)
+
+each_set : (bs : List Block) → All IsSet bs → (b : Block) → Among b bs → Among b every_set
+each_set [] all b h = absurd h
+each_set (c ∷ bs) all b h =
+    ⊎_elim (λ e. subst (λ (v : Block). Among v every_set) (sym e) (among_sets c (All-head IsSet c bs all))) (λ later. each_set bs (All-tail IsSet c bs all) b later) h
+
+all_sets : (bs : List Block) → ((b : Block) → Among b bs → Among b every_set) → All IsSet bs
+all_sets [] each = All-nil IsSet
+all_sets (b ∷ bs) each = All-cons IsSet b bs (from_sets b (each b (inl refl))) (all_sets bs (λ c h. each c (inr h)))
+
+counts_at : (bs : List Block) (k : ℕ) → k < 34 → slice_index (counts_of bs) k ≡ total bs k
+unfolding counts_of
+counts_at bs k h = map_range_at (total bs) 0 34 k h ∙ ap (λ n. total bs n) (same k)
+  where
+    same : (k : ℕ) → 0 + k ≡ k
+    same k = omega arith
+
+listed_sets : (sets : ℕ) (wanted : List ℕ) → IsSetsAndPair sets wanted → Listed (every_sets_and_pair sets) wanted
+unfolding every_sets_and_pair
+listed_sets sets wanted is = record {
+  listed = counts_of (Pair is.pair ∷ is.blocks);
+  among = among_flat_map (λ pair. map (λ blocks. counts_of (Pair pair ∷ blocks)) (lists_of every_set sets)) is.pair (counts_of (Pair is.pair ∷ is.blocks)) every_kind (among_range is.pair 0 34 (omega arith) (omega (arith, is.is_kind)))
+      (among_map (λ blocks. counts_of (Pair is.pair ∷ blocks)) is.blocks (lists_of every_set sets) (among_lists every_set sets is.blocks is.has_sets (each_set is.blocks is.are_sets)));
+  same = record { at = λ kind low. counts_at (Pair is.pair ∷ is.blocks) kind low ∙ sym (is.adds_up kind low) };
+}
+
+sets_listed : (sets : ℕ) (wanted : List ℕ) → Among wanted (every_sets_and_pair sets) → IsSetsAndPair sets wanted
+unfolding every_sets_and_pair
+sets_listed sets wanted h =
+    let by_pair = from_flat_map (λ pair. map (λ blocks. counts_of (Pair pair ∷ blocks)) (lists_of every_set sets)) wanted every_kind h in
+    let by_blocks = from_map (λ blocks. counts_of (Pair by_pair.0 ∷ blocks)) wanted (lists_of every_set sets) by_pair.2 in
+    let list = from_lists every_set sets by_blocks.0 by_blocks.1 in
+    record {
+      blocks = by_blocks.0;
+      are_sets = all_sets by_blocks.0 list.each;
+      has_sets = list.long;
+      pair = by_pair.0;
+      is_kind = (from_range by_pair.0 0 34 by_pair.1).1;
+      adds_up = λ kind low. ap (λ w. slice_index w kind) by_blocks.2 ∙ counts_at (Pair by_pair.0 ∷ by_blocks.0) kind low;
+    }
+
+-- ---- seven pairs
+
+is_fourteen : (n : ℕ) → n ≡ 14 → (n == 14) ≡ true
+is_fourteen n e = grind (arith, nat_tests)
+
+fourteen_is : (n : ℕ) → (n == 14) ≡ true → n ≡ 14
+fourteen_is n e = grind (arith, nat_tests)
+
+abbrev tiles_of_all : List ℕ → ℕ
+tiles_of_all wanted = sum_by (slice_index wanted) every_kind
+
+all_same : (w v : List ℕ) → SameTiles w v → tiles_of_all w ≡ tiles_of_all v
+all_same w v same = sum_range (slice_index w) 0 34 ∙ spread_shift (slice_index w) (slice_index v) 0 0 34 (λ k low. same.at (0 + k) (omega arith)) ∙ sym (sum_range (slice_index v) 0 34)
+
+copied : (wanted : List ℕ) → SameTiles (map (slice_index wanted) every_kind) wanted
+copied wanted = record { at = λ kind low. map_range_at (slice_index wanted) 0 34 kind low ∙ ap (slice_index wanted) (same kind) }
+  where
+    same : (k : ℕ) → 0 + k ≡ k
+    same k = omega arith
+
+listed_pairs : (wanted : List ℕ) → IsSevenPairs wanted → Listed every_seven_pairs wanted
+unfolding every_seven_pairs
+listed_pairs wanted is = record {
+  listed = map (slice_index wanted) every_kind;
+  among = among_filter (λ w. tiles_of_all w == 14) (map (slice_index wanted) every_kind) (lists_of (0 ∷ 2 ∷ []) 34)
+      (among_lists (0 ∷ 2 ∷ []) 34 (map (slice_index wanted) every_kind) (length_map_range (slice_index wanted) 0 34) each)
+      (is_fourteen (tiles_of_all (map (slice_index wanted) every_kind)) (all_same (map (slice_index wanted) every_kind) wanted (copied wanted) ∙ is.fourteen));
+  same = copied wanted;
+}
+  where
+    each : (n : ℕ) → Among n (map (slice_index wanted) every_kind) → Among n (0 ∷ 2 ∷ [])
+    each n h =
+        let r = from_map (slice_index wanted) n every_kind h in
+        ⊎_elim (λ none. inl (r.2 ∙ none)) (λ two. inr (inl (r.2 ∙ two))) (is.two_or_none r.0 (from_range r.0 0 34 r.1).1)
+
+pairs_listed : (wanted : List ℕ) → Among wanted every_seven_pairs → IsSevenPairs wanted
+unfolding every_seven_pairs
+pairs_listed wanted h =
+    let r = from_filter (λ w. tiles_of_all w == 14) wanted (lists_of (0 ∷ 2 ∷ []) 34) h in
+    let list = from_lists (0 ∷ 2 ∷ []) 34 wanted r.0 in
+    record {
+      two_or_none = λ kind low. ⊎_elim (λ none. inl none) (λ rest. ⊎_elim (λ two. inr two) (λ no. absurd no) rest) (list.each (slice_index wanted kind) (among_get_or wanted kind (omega (arith, list.long))));
+      fourteen = fourteen_is (tiles_of_all wanted) r.1;
+    }
+
+-- ---- orphans
+
+among_any : (k : ℕ) (ks : List ℕ) → list_any (eqb k) ks ≡ true → Among k ks
+among_any k [] e = absurd (false≢true e)
+among_any k (x ∷ ks) e = ⊎_elim (λ t. inl (eqb_is k x t)) (λ later. inr (among_any k ks later)) (or_true (eqb k x) (list_any (eqb k) ks) e)
+
+or_left : (a b : Bool) → a ≡ true → (a || b) ≡ true
+or_left true b e = refl
+or_left false b e = absurd (false≢true e)
+
+or_right : (a b : Bool) → b ≡ true → (a || b) ≡ true
+or_right true b e = refl
+or_right false b e = e
+
+any_among : (k : ℕ) (ks : List ℕ) → Among k ks → list_any (eqb k) ks ≡ true
+any_among k [] h = absurd h
+any_among k (x ∷ ks) h =
+    ⊎_elim (λ e. or_left (eqb k x) (list_any (eqb k) ks) (is_eqb k x e)) (λ later. or_right (eqb k x) (list_any (eqb k) ks) (any_among k ks later)) h
+
+listed_orphans : (wanted : List ℕ) → IsThirteenOrphans wanted → Listed every_orphans wanted
+unfolding every_orphans
+listed_orphans wanted is = record {
+  listed = map (orphan_tiles is.doubled) every_kind;
+  among = among_map (λ doubled. map (orphan_tiles doubled) every_kind) is.doubled orphan_kinds (among_any is.doubled orphan_kinds is.doubles_orphan);
+  same = record { at = λ kind low. map_range_at (orphan_tiles is.doubled) 0 34 kind low ∙ ap (orphan_tiles is.doubled) (same kind) ∙ sym (is.at kind low) };
+}
+  where
+    same : (k : ℕ) → 0 + k ≡ k
+    same k = omega arith
+
+orphans_listed : (wanted : List ℕ) → Among wanted every_orphans → IsThirteenOrphans wanted
+unfolding every_orphans
+orphans_listed wanted h =
+    let r = from_map (λ doubled. map (orphan_tiles doubled) every_kind) wanted orphan_kinds h in
+    record {
+      doubled = r.0;
+      doubles_orphan = any_among r.0 orphan_kinds r.1;
+      at = λ kind low. ap (λ w. slice_index w kind) r.2 ∙ map_range_at (orphan_tiles r.0) 0 34 kind low ∙ ap (orphan_tiles r.0) (same kind);
+    }
+  where
+    same : (k : ℕ) → 0 + k ≡ k
+    same k = omega arith
+
+-- ---- all forms
+
+listed_form : (melds : ℕ) (wanted : List ℕ) → HasWinningForm melds wanted → Listed (every_sets_and_pair (4 - melds) ++ every_special melds) wanted
+unfolding every_special
+listed_form melds wanted form = ⊎_elim by_sets (λ special. ⊎_elim (λ pairs. by_pairs melds pairs.0 pairs.1) (λ orphans. by_orphans melds orphans.0 orphans.1) special) form
+  where
+    by_sets : IsSetsAndPair (4 - melds) wanted → Listed (every_sets_and_pair (4 - melds) ++ every_special melds) wanted
+    by_sets is = let l = listed_sets (4 - melds) wanted is in record { listed = l.listed; among = among_left l.listed (every_sets_and_pair (4 - melds)) (every_special melds) l.among; same = l.same }
+
+    by_pairs : (melds : ℕ) → melds ≡ 0 → IsSevenPairs wanted → Listed (every_sets_and_pair (4 - melds) ++ every_special melds) wanted
+    by_pairs zero none is =
+        let l = listed_pairs wanted is in
+        record { listed = l.listed; among = among_right l.listed (every_sets_and_pair 4) (every_seven_pairs ++ every_orphans) (among_left l.listed every_seven_pairs every_orphans l.among); same = l.same }
+    by_pairs (suc melds) none is = absurd (omega arith)
+
+    by_orphans : (melds : ℕ) → melds ≡ 0 → IsThirteenOrphans wanted → Listed (every_sets_and_pair (4 - melds) ++ every_special melds) wanted
+    by_orphans zero none is =
+        let l = listed_orphans wanted is in
+        record { listed = l.listed; among = among_right l.listed (every_sets_and_pair 4) (every_seven_pairs ++ every_orphans) (among_right l.listed every_seven_pairs every_orphans l.among); same = l.same }
+    by_orphans (suc melds) none is = absurd (omega arith)
+
+special_listed : (melds : ℕ) (wanted : List ℕ) → Among wanted (every_special melds) → HasWinningForm melds wanted
+unfolding every_special
+special_listed zero wanted h =
+    ⊎_elim (λ pairs. inr (inl (refl, pairs_listed wanted pairs))) (λ orphans. inr (inr (refl, orphans_listed wanted orphans))) (among_either wanted every_seven_pairs every_orphans h)
+special_listed (suc melds) wanted h = absurd h
+
+form_listed : (melds : ℕ) (wanted : List ℕ) → Among wanted (every_sets_and_pair (4 - melds) ++ every_special melds) → HasWinningForm melds wanted
+form_listed melds wanted h =
+    ⊎_elim (λ sets. inl (sets_listed (4 - melds) wanted sets)) (λ special. special_listed melds wanted special) (among_either wanted (every_sets_and_pair (4 - melds)) (every_special melds) h)
+
+leb_of : (a b : ℕ) → a ≤ b → leb a b ≡ true
+leb_of a b h = grind (arith, nat_tests)
+
+of_leb : (a b : ℕ) → leb a b ≡ true → a ≤ b
+of_leb a b e = grind (arith, nat_tests)
+
+four_of : (melds : List Meld) (wanted listed : List ℕ) → SameTiles listed wanted → WithinFour melds wanted → is_within_four melds listed ≡ true
+unfolding is_within_four
+four_of melds wanted listed same four =
+    all_of (λ kind. nat_le (slice_index listed kind + tiles melds kind) 4) every_kind
+    (λ kind h. (let inside = (from_range kind 0 34 h).1 in leb_of (slice_index listed kind + tiles melds kind) 4 (omega (arith, four.at kind inside, same.at kind inside))))
+
+of_four : (melds : List Meld) (wanted : List ℕ) → is_within_four melds wanted ≡ true → WithinFour melds wanted
+unfolding is_within_four
+of_four melds wanted e = record {
+  at = λ kind low. of_leb (slice_index wanted kind + tiles melds kind) 4 (all_among (λ kind. nat_le (slice_index wanted kind + tiles melds kind) 4) kind every_kind e (among_range kind 0 34 (omega arith) (omega arith)));
+}
+
+pub listed_winning : (melds : List Meld) (wanted : List ℕ) → IsWinning melds wanted → Listed (every_winning melds) wanted
+unfolding every_winning
+listed_winning melds wanted is =
+    let l = listed_form (length melds) wanted is.form in
+    record {
+      listed = l.listed;
+      among = among_filter (is_within_four melds) l.listed (every_sets_and_pair (4 - length melds) ++ every_special (length melds)) l.among (four_of melds wanted l.listed l.same is.within_four);
+      same = l.same;
+    }
+
+pub winning_listed : (melds : List Meld) (wanted : List ℕ) → Among wanted (every_winning melds) → IsWinning melds wanted
+unfolding every_winning
+winning_listed melds wanted h =
+    let r = from_filter (is_within_four melds) wanted (every_sets_and_pair (4 - length melds) ++ every_special (length melds)) h in
+    record { form = form_listed (length melds) wanted r.0; within_four = of_four melds wanted r.1 }
+
+-- ---- the least
+
+pub distance_is : (hand : List ℕ) (melds : List Meld) (n : ℕ) → IsDistance hand melds n → n ≡ distance_of hand melds
+unfolding distance_of
+distance_is hand melds n is =
+    let l = listed_winning melds is.wanted is.is_winning in
+    let among = among_map (lacking hand) l.listed (every_winning melds) l.among in
+    let least_one = least_is (map (lacking hand) (every_winning melds)) (lacking hand l.listed) among in
+    let back = from_map (lacking hand) (least (map (lacking hand) (every_winning melds))) (every_winning melds) least_one.1 in
+    omega (arith, least_one.0, lacking_same hand l.listed is.wanted l.same, is.reached, is.none_less back.0 (winning_listed melds back.0 back.1), back.2)

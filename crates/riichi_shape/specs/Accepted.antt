@@ -1,0 +1,29 @@
+-- Which kinds bring a hand nearer, and how many copies of them are live.
+use Rattle.std.specs.Prelude.{ℕ, ◌+◌, ◌-◌, ◌==◌, ◌&&◌, Bool, nat_lt, if◌then◌else◌, List, [], ◌∷◌, map, filter, slice_index, slice_set, sum_by}
+use Rattle.riichi_tiles.specs.Melds.{every_kind}
+use Rattle.riichi_tiles.specs.declared.meld.Meld.{Meld}
+use Rattle.riichi_hand.specs.Hand.{copies_held}
+use Rattle.riichi_shape.specs.EveryWinning.{distance_of}
+
+-- one tile of the kind more, and one less
+abbrev pub with_one : List ℕ → ℕ → List ℕ
+with_one hand kind = slice_set hand kind (slice_index hand kind + 1)
+
+abbrev pub without_one : List ℕ → ℕ → List ℕ
+without_one hand kind = slice_set hand kind (slice_index hand kind - 1)
+
+-- the copies of a kind that are not in the hand, the melds or seen elsewhere
+abbrev pub live_of : List ℕ → List Meld → List ℕ → ℕ → ℕ
+live_of hand melds seen kind = 4 - (copies_held hand melds kind + slice_index seen kind)
+
+-- a kind is accepted where it has a live copy and one more tile of it lowers the distance
+abbrev pub is_accepted : List ℕ → List Meld → List ℕ → ℕ → Bool
+is_accepted hand melds seen kind = nat_lt 0 (live_of hand melds seen kind) && nat_lt (distance_of (with_one hand kind) melds) (distance_of hand melds)
+
+-- the live copies of a kind that is accepted
+abbrev pub accepted_copies : List ℕ → List Meld → List ℕ → ℕ → ℕ
+accepted_copies hand melds seen kind = if is_accepted hand melds seen kind then live_of hand melds seen kind else 0
+
+-- the accepted kinds with their live copies, ascending
+unfoldable pub accepted_of : List ℕ → List Meld → List ℕ → List (ℕ × ℕ)
+accepted_of hand melds seen = map (λ kind. (kind, live_of hand melds seen kind)) (filter (is_accepted hand melds seen) every_kind)

@@ -1,0 +1,56 @@
+-- Which tile to discard from a hand of fourteen, and what it then accepts.
+use Rattle.std.specs.Prelude.{ℕ, ◌-◌, ◌&&◌, Bool, nat_le, nat_lt, if◌then◌else◌, List, [], ◌∷◌, ◌++◌, map, filter, replicate, length, slice_index, Option, None, Some}
+use Rattle.std.specs.List.{list_all}
+use Rattle.riichi_tiles.specs.Melds.{every_kind}
+use Rattle.riichi_tiles.specs.declared.meld.Meld.{Meld}
+use Rattle.riichi_shape.specs.Accepted.{accepted_of, with_one, without_one}
+use Rattle.riichi_shape.specs.EveryWinning.{distance_of}
+use Rattle.riichi_shape.specs.LiveCopies.{live_in}
+use Rattle.riichi_shape.specs.declared.discard.Discard.{Discard}
+
+-- the distance that is left without a tile of the kind
+abbrev pub distance_without : List ℕ → List Meld → ℕ → ℕ
+distance_without hand melds kind = distance_of (without_one hand kind) melds
+
+-- a kind of the hand
+abbrev pub is_held : List ℕ → ℕ → Bool
+is_held hand kind = nat_lt 0 (slice_index hand kind)
+
+-- no other removal leaves a lesser distance
+abbrev pub is_best : List ℕ → List Meld → ℕ → Bool
+is_best hand melds kind = list_all (λ other. nat_le (distance_without hand melds kind) (distance_without hand melds other)) (filter (is_held hand) every_kind)
+
+-- a discard has the accepted list of the hand without its tile, which is then seen
+abbrev pub discard_of : List ℕ → List Meld → List ℕ → ℕ → Discard
+discard_of hand melds seen kind = record { kind = kind; accepted = accepted_of (without_one hand kind) melds (with_one seen kind) }
+
+-- more live copies in all first, then the kind's number; a discard goes before those of greater kinds that have no more
+abbrev pub live_with : Discard → ℕ
+live_with discard = live_in discard.accepted
+
+unfoldable pub inserted : Discard → List Discard → List Discard
+inserted discard [] = discard ∷ []
+inserted discard (next ∷ rest) = if nat_le (live_with next) (live_with discard) then discard ∷ next ∷ rest else next ∷ inserted discard rest
+
+unfoldable pub in_order : List Discard → List Discard
+in_order [] = []
+in_order (discard ∷ rest) = inserted discard (in_order rest)
+
+abbrev pub is_discard : List ℕ → List Meld → ℕ → Bool
+is_discard hand melds kind = is_held hand kind && is_best hand melds kind
+
+-- the discards of a hand
+unfoldable pub discards_of : List ℕ → List Meld → List ℕ → List Discard
+discards_of hand melds seen = in_order (map (discard_of hand melds seen) (filter (is_discard hand melds) every_kind))
+
+-- Discards stand in the first of fourteen places.
+abbrev pub as_list : Option Discard → List Discard
+as_list None = []
+as_list (Some discard) = discard ∷ []
+
+abbrev pub discards_in : List (Option Discard) → List Discard
+discards_in [] = []
+discards_in (place ∷ places) = as_list place ++ discards_in places
+
+abbrev pub placed : List Discard → List (Option Discard)
+placed discards = map Some discards ++ replicate (14 - length discards) None

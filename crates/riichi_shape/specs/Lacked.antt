@@ -1,0 +1,81 @@
+-- Which kinds bring a hand nearer to a winning multiset.
+use Rattle.std.specs.Prelude.{◌≡◌, ℕ, ◌+◌, ◌-◌, ◌<◌, ◌≤◌, ◌↔◌, ◌⊎◌, Bool, true, false, IsTrue, List, slice_index, length, Option, Some}
+use Rattle.riichi_tiles.specs.Melds.{tiles}
+use Rattle.riichi_tiles.specs.declared.meld.Meld.{Meld}
+use Rattle.riichi_rows.specs.Join.{EntriesSum, IsLeastJoin}
+use Rattle.riichi_rows.specs.Lacked.{ChoiceLacks, IsOneMore}
+use Rattle.riichi_rows.specs.Suit.{IsSuitRow}
+use Rattle.riichi_shape.specs.Distance.{IsDistance, OrphansReached}
+use Rattle.riichi_shape.specs.Orphans.{IsThirteenOrphans, is_orphan}
+use Rattle.riichi_shape.specs.Pairs.{IsSevenPairs}
+use Rattle.riichi_shape.specs.Suits.{IsSuitOf}
+use Rattle.riichi_shape.specs.Winning.{IsSetsAndPair, IsWinning, WithinFour, lacking}
+
+-- some winning multiset that lacks n tiles has more of the kind x than the hand
+pub record WinningLacks (hand : List ℕ) (melds : List Meld) (n x : ℕ) : Type 0 where
+  pub wanted : List ℕ
+  pub is_winning : IsWinning melds wanted
+  pub lacks : lacking hand wanted ≡ n
+  pub lacks_kind : slice_index hand x < slice_index wanted x
+
+-- one more tile of the kind x lowers the distance exactly where some winning multiset with the least lack lacks x
+abbrev pub AcceptanceLaw : Type 0
+AcceptanceLaw =
+    (hand more : List ℕ) (melds : List Meld) (n m x : ℕ) → x < 34 → IsOneMore x hand more →
+    IsDistance hand melds n → IsDistance more melds m → (m < n) ↔ WinningLacks hand melds n x
+
+-- the same of one form, sets and a pair
+pub record StandardLacks (hand : List ℕ) (melds : List Meld) (sets n x : ℕ) : Type 0 where
+  pub wanted : List ℕ
+  pub sets_and_pair : IsSetsAndPair sets wanted
+  pub within_four : WithinFour melds wanted
+  pub lacks : lacking hand wanted ≡ n
+  pub lacks_kind : slice_index hand x < slice_index wanted x
+
+-- the same of a kind x of the suit that begins at the kind base
+pub record SuitLacks (runs : Bool) (base : ℕ) (counts caps : List ℕ) (sets pairs n x : ℕ) : Type 0 where
+  pub rank : ℕ
+  pub is_rank : rank < 9
+  pub is_kind : x ≡ base + rank
+  pub choice : ChoiceLacks runs counts caps sets pairs n rank
+
+-- four entries of the rows sum to n, and some least choice of the suit of x lacks x
+pub record EntryLacks (a b c d : ℕ → ℕ → Option ℕ) (c0 c1 c2 c3 k0 k1 k2 k3 : List ℕ) (sets n x : ℕ) : Type 0 where
+  pub entries : EntriesSum a b c d sets n
+  pub lacks_kind :
+      SuitLacks true 0 c0 k0 entries.split.sets_0 entries.split.pairs_0 entries.lack_0 x
+      ⊎ SuitLacks true 9 c1 k1 entries.split.sets_1 entries.split.pairs_1 entries.lack_1 x
+      ⊎ SuitLacks true 18 c2 k2 entries.split.sets_2 entries.split.pairs_2 entries.lack_2 x
+      ⊎ SuitLacks false 27 c3 k3 entries.split.sets_3 entries.split.pairs_3 entries.lack_3 x
+
+-- over the rows of the hand alone: some least winning multiset by sets and a pair lacks x exactly where x is lacked by
+-- a least choice of its suit, for sets and pairs at which the four entries sum to the least
+abbrev pub JoinLaw : Type 0
+JoinLaw =
+    (hand : List ℕ) (melds : List Meld) (c0 c1 c2 c3 k0 k1 k2 k3 : List ℕ) →
+    IsSuitOf 0 9 hand melds c0 k0 → IsSuitOf 9 9 hand melds c1 k1 → IsSuitOf 18 9 hand melds c2 k2 → IsSuitOf 27 7 hand melds c3 k3 →
+    (a b c d : ℕ → ℕ → Option ℕ) → IsSuitRow true c0 k0 a → IsSuitRow true c1 k1 b → IsSuitRow true c2 k2 c → IsSuitRow false c3 k3 d →
+    (sets n x : ℕ) → sets ≤ 4 → ((k : ℕ) → k < 34 → tiles melds k ≤ 4) → IsLeastJoin a b c d sets (Some n) → x < 34 →
+    StandardLacks hand melds sets n x ↔ EntryLacks a b c d c0 c1 c2 c3 k0 k1 k2 k3 sets n x
+
+-- seven pairs, or thirteen orphans, that lack n tiles and have more of the kind x than the hand
+pub record FormLacks (IsForm : List ℕ → Type 0) (hand : List ℕ) (melds : List Meld) (n x : ℕ) : Type 0 where
+  pub wanted : List ℕ
+  pub is_form : IsForm wanted
+  pub within_four : WithinFour melds wanted
+  pub lacks : lacking hand wanted ≡ n
+  pub lacks_kind : slice_index hand x < slice_index wanted x
+
+-- a kind is lacked at the least lack in one of the three forms, each of which is looked at alone
+abbrev pub FormsLaw : Type 0
+FormsLaw =
+    (hand : List ℕ) (melds : List Meld) (n x : ℕ) → WinningLacks hand melds n x ↔
+    (StandardLacks hand melds (4 - length melds) n x ⊎ ((length melds ≡ 0) × FormLacks IsSevenPairs hand melds n x) ⊎ ((length melds ≡ 0) × FormLacks IsThirteenOrphans hand melds n x))
+
+-- the kinds that the least thirteen orphans lack, for the least n: orphans that the hand has not, and those that it has
+-- once where it has none twice
+abbrev pub OrphansLaw : Type 0
+OrphansLaw =
+    (hand : List ℕ) (melds : List Meld) (n x : ℕ) → x < 34 → ((k : ℕ) → k < 34 → tiles melds k ≡ 0) →
+    OrphansReached hand n → ((wanted : List ℕ) → IsThirteenOrphans wanted → n ≤ lacking hand wanted) →
+    FormLacks IsThirteenOrphans hand melds n x ↔ (IsTrue (is_orphan x) × ((slice_index hand x ≡ 0) ⊎ ((slice_index hand x ≡ 1) × ((k : ℕ) → IsTrue (is_orphan k) → slice_index hand k ≤ 1))))

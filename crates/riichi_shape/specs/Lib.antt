@@ -1,0 +1,10 @@
+pub mod Accepted
+pub mod Discards
+pub mod Distance
+pub mod EveryWinning
+pub mod Lacked
+pub mod LiveCopies
+pub mod Orphans
+pub mod Pairs
+pub mod Suits
+pub mod Winning

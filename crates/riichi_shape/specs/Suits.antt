@@ -1,0 +1,18 @@
+-- The four suits of a hand, each with the most tiles of a kind that a winning multiset may hold beside the melds.
+use Rattle.std.specs.Prelude.{◌≡◌, ◌==◌, ℕ, ◌+◌, ◌-◌, ◌<◌, ◌≤◌, List, Option, slice_index}
+use Rattle.riichi_rows.specs.Suit.{IsSuitRow}
+use Rattle.riichi_tiles.specs.Melds.{tiles}
+use Rattle.riichi_tiles.specs.declared.meld.Meld.{Meld}
+
+-- the counts and caps of the suit that begins at the kind base and has so many ranks
+pub record IsSuitOf (base width : ℕ) (hand : List ℕ) (melds : List Meld) (counts caps : List ℕ) : Type 0 where
+  pub counts_at : (rank : ℕ) → rank < width → slice_index counts rank ≡ slice_index hand (base + rank)
+  pub caps_at : (rank : ℕ) → rank < width → slice_index caps rank ≡ 4 - tiles melds (base + rank)
+  pub none_past : (rank : ℕ) → width ≤ rank → rank < 9 → slice_index caps rank ≡ 0
+
+-- the row of that suit; a suit of nine ranks has runs
+pub record IsRowOf (hand : List ℕ) (melds : List Meld) (base width : ℕ) (row : ℕ → ℕ → Option ℕ) : Type 0 where
+  pub counts : List ℕ
+  pub caps : List ℕ
+  pub suit : IsSuitOf base width hand melds counts caps
+  pub is_row : IsSuitRow (width == 9) counts caps row

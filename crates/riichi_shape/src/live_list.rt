@@ -1,0 +1,56 @@
+//! The kinds that a hand accepts.
+ghost use Rattle.std.specs.Prelude.{ℕ, ◌≡◌, ◌≤◌, length, slice_index};
+ghost use Rattle.riichi_shape.specs.LiveCopies.{copies_in, live_in, pairs_of};
+
+use riichi_tiles::Kind;
+use std::marker::Model;
+
+/// How many copies are live of each kind, none of most; seen as the list of the kinds that have
+/// live copies, ascending, each with their number.
+#[derive(Clone, Copy, Debug, PartialEq, Eq)]
+pub struct LiveList {
+    copies: [u8; 34],
+}
+
+impl Model for LiveList {
+    ghost use Rattle.std.specs.Prelude.{ℕ, List};
+    ghost use Rattle.riichi_shape.specs.LiveCopies.{AreLive, copies_from, pairs_of};
+
+    ghost Value = { List (ℕ × ℕ) };
+
+    ghost view = { λ l. pairs_of l.copies };
+
+    ghost invariant = { λ l. AreLive l.copies };
+
+    ghost inverse = { λ p. record { copies = copies_from p } };
+}
+
+impl LiveList {
+    /// The list of these live copies.
+    pub(crate) fn new(copies: [u8; 34]) -> LiveList
+        requires { (kind : ℕ) → slice_index copies kind ≤ 4 }
+        ensures { result ≡ pairs_of copies }
+    {
+        LiveList { copies }
+    }
+
+    /// How many copies of a kind are live.
+    pub fn get(&self, kind: Kind) -> u8
+        ensures value { result ≡ copies_in self.now kind }
+        ensures most { result ≤ 4 }
+    {
+        self.copies[kind.index()]
+    }
+
+    /// How many tiles are live in all.
+    pub fn live(&self) -> u32
+        ensures value { result ≡ live_in self.now }
+        ensures most { result ≤ 136 }
+    {
+        let mut live = 0;
+        for copies in &self.copies {
+            live += *copies as u32;
+        }
+        live
+    }
+}
