@@ -32,6 +32,8 @@ mod size;
 mod steps;
 mod stop_seat;
 mod table_seat;
+#[cfg(test)]
+mod tests;
 mod view;
 mod worked;
 mod worker_seat;
