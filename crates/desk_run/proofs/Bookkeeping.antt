@@ -1,18 +1,16 @@
 -- A submission, an arrival and a taking keep a table's book.
-use Rattle.std.proofs.Common.{◌≡◌, ℕ, zero, suc, ◌+◌, ◌-◌, ◌<◌, ◌≤◌, ◌≢◌, Bool, true, false, List, [], ◌∷◌, ◌++◌, length, set, sym, refl, ap, ◌∙◌, subst, arith, eqb, eq-eqb, ◌&&◌, ◌⊎◌, inl, inr, ⊎_elim, length-set, length-append, None, Some}
-use mathlib.Core.Logic.{dite}
-use native.Mathlib.Decide.{ℕ_discrete}
+use Rattle.std.proofs.Common.{◌≡◌, ℕ, zero, suc, ◌+◌, ◌-◌, ◌<◌, ◌≤◌, ◌≢◌, Bool, true, false, List, [], ◌∷◌, ◌++◌, length, set, sym, refl, ap, ◌∙◌, subst, arith, eqb, eq-eqb, ◌&&◌, ◌⊎◌, inl, inr, ⊎_elim, length-set, length-append, Some}
 use mathlib.Core.Option.{some, some-injective, some-ne-none}
 use lib.ListN.{get_elem?}
 use Rattle.atomic_table.proofs.Lists.{at_set, set_here, set_else, at_longer, at_last}
 use Rattle.std.proofs.lemmas.Bool.{false≢true}
-use Rattle.desk_core.specs.LaneState.{LaneState, with_job, new_lane, TakesInPiece, Awaits}
+use Rattle.desk_core.specs.LaneState.{LaneState, with_job, TakesInPiece, Awaits}
 use Rattle.desk_core.specs.GivesFirst.{GivesFirst}
 use Rattle.desk_core.specs.declared.taken.Taken.{Taken}
 use Rattle.desk_core.specs.declared.taken.Taken.TheVariants as taken
 use Rattle.std.specs.Prelude.{slice_get}
 use Rattle.std.proofs.lemmas.Option.{same_Some}
-use Rattle.desk_run.specs.Counts.{total, one_if, same_ticket}
+use Rattle.desk_run.specs.Counts.{one_if, same_ticket}
 use Rattle.desk_run.specs.Books.{Agrees, IsPending, ticket, offered, outs, one_out, is_out, times_out}
 use Rattle.desk_core.specs.declared.ticket.Ticket.{Ticket}
 use Rattle.riichi_hand.specs.declared.job.Job.{Job}
@@ -72,7 +70,7 @@ submitted lane k lots kept job b =
     let mine : get_elem? lots k ≡ some Kept = b.kept_are (length kept) k (at_last kept k (length kept) refl) in
     let near = there_is lots k Kept mine in
     let new : (y : Ticket) (j : ℕ) (a : Job) → get_elem? lots j ≡ some (Out y a) → x ≢ y = λ y j a e same. let p = place_of lane y a (b.pending j y a e) in
-        let h = there_is window p.0 (a, false) p.2 in let q : next + p.0 ≡ y.seq = p.1 in let s : next + length window ≡ y.seq = ap (λ (z : Ticket). z.seq) same in omega arith in
+    let h = there_is window p.0 (a, false) p.2 in let q : next + p.0 ≡ y.seq = p.1 in let s : next + length window ≡ y.seq = ap (λ (z : Ticket). z.seq) same in omega arith in
     record {
       kept_are = λ i j e. let h = there_is kept i j e in
           set_else lots k j (Out x job) (λ same. let c = b.once i (length kept) k (at_longer kept (k ∷ []) i k (subst (λ (z : ℕ). get_elem? kept i ≡ some z) same e)) (at_last kept k (length kept) refl) in omega arith) ∙ b.kept_are i j (at_longer kept (k ∷ []) i j e);
@@ -80,15 +78,15 @@ submitted lane k lots kept job b =
       counted = let c = b.counted in let t = total-set one_out lots k Kept (Out x job) mine in omega (arith, length-append kept (k ∷ []), length-set lots k (Out x job));
       pending = λ j y a e. ⊎_elim
           (λ (t : (j ≡ k) × (Out x job ≡ Out y a)). let s = out_ticket x y job a t.1 in let d = out_job x y job a t.1 in
-              subst (λ (z : Ticket). IsPending (with_job lane job) z a) s (subst (λ (z : Job). IsPending (with_job lane job) x z) d (is_pending (with_job lane job) x job (length window) refl refl (at_last window (job, false) (length window) refl))))
+          subst (λ (z : Ticket). IsPending (with_job lane job) z a) s (subst (λ (z : Job). IsPending (with_job lane job) x z) d (is_pending (with_job lane job) x job (length window) refl refl (at_last window (job, false) (length window) refl))))
           (λ (t : (j ≢ k) × (get_elem? lots j ≡ some (Out y a))). let d = b.pending j y a t.1 in let p = place_of lane y a d in is_pending (with_job lane job) y a p.0 d.0 p.1 (at_longer window ((job, false) ∷ []) p.0 (a, false) p.2))
           (at_set lots k j (Out x job) (Out y a) e);
       listed = λ i a e. let y : Ticket = ticket lane.table (next + i) in let t = total-set (λ lot. one_if (is_out y lot)) lots k Kept (Out x job) mine in ⊎_elim
           (λ (h : (i < length window) × (get_elem? window i ≡ some (a, false))). let c = b.listed i a h.1 in
-              ⊎_elim (λ (s : (y ≡ x) × (one_if (same_ticket y x) ≤ 1)). let d : next + i ≡ next + length window = ap (λ (z : Ticket). z.seq) s.0 in let g = h.0 in absurd (omega arith)) (λ s. omega arith) (tested y x))
+          ⊎_elim (λ (s : (y ≡ x) × (one_if (same_ticket y x) ≤ 1)). let d : next + i ≡ next + length window = ap (λ (z : Ticket). z.seq) s.0 in let g = h.0 in absurd (omega arith)) (λ s. omega arith) (tested y x))
           (λ (h : (i ≡ length window) × (◌≡◌ {A = Job × Bool} (job, false) (a, false))). let same : y ≡ x = ap (λ (n : ℕ). ticket lane.table (next + n)) h.0 in
-              let z : times_out y lots ≡ 0 = ap (λ (u : Ticket). times_out u lots) same ∙ none_out x lots (λ j u c d. new u j c d) in
-              let s : one_if (same_ticket y x) ≡ 1 = ap (λ (u : Ticket). one_if (same_ticket u x)) same ∙ one (same_ticket x x) (same_self x) in omega arith)
+          let z : times_out y lots ≡ 0 = ap (λ (u : Ticket). times_out u lots) same ∙ none_out x lots (λ j u c d. new u j c d) in
+          let s : one_if (same_ticket y x) ≡ 1 = ap (λ (u : Ticket). one_if (same_ticket u x)) same ∙ one (same_ticket x x) (same_self x) in omega arith)
           (at_push window (job, false) (a, false) i e);
     }
 
@@ -108,21 +106,21 @@ received lane k place lots kept piece seq waits out b =
           (at_push kept k j i e);
       once = λ i j l e d. ⊎_elim
           (λ (h : (i < length kept) × (get_elem? kept i ≡ some l)). ⊎_elim (λ (g : (j < length kept) × (get_elem? kept j ≡ some l)). b.once i j l h.1 g.1)
-              (λ (g : (j ≡ length kept) × (k ≡ l)). absurd (not_kept (ap (λ (n : ℕ). get_elem? lots n) g.1 ∙ b.kept_are i l h.1))) (at_push kept k l j d))
+          (λ (g : (j ≡ length kept) × (k ≡ l)). absurd (not_kept (ap (λ (n : ℕ). get_elem? lots n) g.1 ∙ b.kept_are i l h.1))) (at_push kept k l j d))
           (λ (h : (i ≡ length kept) × (k ≡ l)). ⊎_elim (λ (g : (j < length kept) × (get_elem? kept j ≡ some l)). absurd (not_kept (ap (λ (n : ℕ). get_elem? lots n) h.1 ∙ b.kept_are j l g.1)))
-              (λ (g : (j ≡ length kept) × (k ≡ l)). h.0 ∙ sym g.0) (at_push kept k l j d))
+          (λ (g : (j ≡ length kept) × (k ≡ l)). h.0 ∙ sym g.0) (at_push kept k l j d))
           (at_push kept k l i e);
       counted = let c = b.counted in let t = total-set one_out lots k (Out x piece.job) Kept out in omega (arith, length-append kept (k ∷ []), length-set lots k Kept);
       pending = λ j y a e. ⊎_elim
           (λ (t : (j ≡ k) × (Kept ≡ Out y a)). let d = t.1 in cc)
           (λ (t : (j ≢ k) × (get_elem? lots j ≡ some (Out y a))). let d = b.pending j y a t.1 in let p = place_of lane y a d in
-              is_pending (record lane { window = set window place (piece.job, true) }) y a p.0 d.0 p.1 (set_else window place p.0 (piece.job, true) (λ same. let s : y ≡ x = ticket_is y x (d.0 ∙ sym mine.0) (sym p.1 ∙ (ap (λ (n : ℕ). next + n) same ∙ seq)) in
-                  out_once x lots j k a piece.job single (subst (λ (z : Ticket). get_elem? lots j ≡ some (Out z a)) s t.1) out t.0) ∙ p.2))
+          is_pending (record lane { window = set window place (piece.job, true) }) y a p.0 d.0 p.1 (set_else window place p.0 (piece.job, true) (λ same. let s : y ≡ x = ticket_is y x (d.0 ∙ sym mine.0) (sym p.1 ∙ (ap (λ (n : ℕ). next + n) same ∙ seq)) in
+          out_once x lots j k a piece.job single (subst (λ (z : Ticket). get_elem? lots j ≡ some (Out z a)) s t.1) out t.0) ∙ p.2))
           (at_set lots k j Kept (Out y a) e);
       listed = λ i a e. let y : Ticket = ticket lane.table (next + i) in let t = total-set (λ lot. one_if (is_out y lot)) lots k (Out x piece.job) Kept out in ⊎_elim
           (λ (h : (i ≡ place) × (◌≡◌ {A = Job × Bool} (piece.job, true) (a, false))). absurd (waits_or_not piece.job a h.1))
           (λ (h : (i ≢ place) × (get_elem? window i ≡ some (a, false))). let c = b.listed i a h.1 in
-              ⊎_elim (λ (s : (y ≡ x) × (one_if (same_ticket y x) ≤ 1)). absurd (h.0 (let d : next + i ≡ x.seq = ap (λ (z : Ticket). z.seq) s.0 in omega arith))) (λ s. omega arith) (tested y x))
+          ⊎_elim (λ (s : (y ≡ x) × (one_if (same_ticket y x) ≤ 1)). absurd (h.0 (let d : next + i ≡ x.seq = ap (λ (z : Ticket). z.seq) s.0 in omega arith))) (λ s. omega arith) (tested y x))
           (at_set window place i (piece.job, true) (a, false) e);
     }
 
@@ -152,7 +150,7 @@ pub received_as : (lane new : LaneState) (k : ℕ) (lots : List Lot) (ks ls : Li
     → Agrees new (set lots k Kept) ls
 received_as lane new k lots ks ls piece out b taken e = subst (λ (l : LaneState). Agrees l (set lots k Kept) ls) (sym taken.3)
     (subst (λ (l : List ℕ). Agrees (record lane { window = set lane.window taken.0 (piece.job, true) }) (set lots k Kept) l) (sym e)
-      (received lane k taken.0 lots ks piece taken.1 (some_at lane.window taken.0 (piece.job, false) taken.2) out b))
+    (received lane k taken.0 lots ks piece taken.1 (some_at lane.window taken.0 (piece.job, false) taken.2) out b))
 
 pub given_as : (lane new : LaneState) (lots : List Lot) (ks : List ℕ) (answer : Taken) → Agrees lane lots ks → GivesFirst lane answer new → Agrees new lots ks
 given_as lane new lots ks (taken.Answer seq answer) b g = subst (λ (l : LaneState). Agrees l lots ks) (sym g.5) (given lane lots ks g.0 g.1 g.2 b)

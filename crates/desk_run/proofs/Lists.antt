@@ -57,8 +57,8 @@ pub apart : (t u n j k : ℕ) → t ≢ u → j < n → k < n → t * n + j ≢ 
 apart t u n j k ne hj hk e =
     let a : ℕ = t * n in let b : ℕ = u * n in let e' : a + j ≡ b + k = e in
     dite (dec_le (suc t) u)
-      (λ h. let m : a + n ≤ b = further t u n h in omega arith)
-      (λ h. let m : b + n ≤ a = further u t n (omega arith) in omega arith)
+    (λ h. let m : a + n ≤ b = further t u n h in omega arith)
+    (λ h. let m : b + n ≤ a = further u t n (omega arith) in omega arith)
 
 pub within : (t u n k : ℕ) → t < u → k < n → t * n + k < u * n
 within t u n k h hk = let a : ℕ = t * n in let b : ℕ = u * n in let m : a + n ≤ b = further t u n h in let r : a + k < b = omega arith in r

@@ -54,7 +54,7 @@ still vs id q word v w home lot me a b f (kept e h l n) = kept e h l (holders_sa
 still vs id q word v w home lot me a b f (ready x job e h l n z) = ready x job e h l (holders_same vs id q v w me (b ∙ sym a) ∙ n) (finishes_same vs id x v w me (f x job l) ∙ z)
 still vs id q word v w home lot me a b f (taken x job e h l n held z) = taken x job e h l (holders_same vs id q v w me (b ∙ sym a) ∙ n)
     (λ i u y at has here. ⊎_elim (λ (t : (i ≡ id) × (w ≡ Worker u)). absurd (false≢true (sym b ∙ (ap (holds_at q) t.1 ∙ is_holding u y q has here))))
-        (λ (t : (i ≢ id) × (get_elem? vs i ≡ some (Worker u))). held i u y t.1 has here) (at_set vs id i w (Worker u) at))
+    (λ (t : (i ≢ id) × (get_elem? vs i ≡ some (Worker u))). held i u y t.1 has here) (at_set vs id i w (Worker u) at))
     (finishes_same vs id x v w me (f x job l) ∙ z)
 still vs id q word v w home lot me a b f (done piece e h l n) = done piece e h l (holders_same vs id q v w me (b ∙ sym a) ∙ n)
 
@@ -91,24 +91,24 @@ at_place size s o id p n v w home lot offers me near wide same mine others quiet
           (subst (λ (c : ℕ). (m < get_or s.words 0 0 → c ≡ 1) × (get_or s.words 0 0 ≤ m → c ≡ 0)) (sym (numbered_same s.views id m v w me (same m))) (o.numbers m));
       seats = λ j u at. subst (λ (r : ℕ). Seated size (put o.lots p lot) offers r u) (sym halt)
           (⊎_elim (λ (t : (j ≡ id) × (w ≡ u)). subst (Seated size (put o.lots p lot) offers (get_or s.words 1 0)) t.1 mine)
-              (λ (t : (j ≢ id) × (get_elem? s.views j ≡ some u)). others j u t.1 t.0) (at_set s.views id j w u at));
+          (λ (t : (j ≢ id) × (get_elem? s.views j ≡ some u)). others j u t.1 t.0) (at_set s.views id j w u at));
       unentered = λ t h. unentered t (subst (λ (r : ℕ). r ≤ t) roll h);
       unstopped = λ h. halt ∙ o.unstopped (subst (λ (r : ℕ). r ≤ size.tables + size.workers) roll h);
       places = λ q h. dite (ℕ_discrete q p)
           (λ e. let here : get_or ws (2 + q) 0 ≡ n = ap (λ (r : ℕ). get_or ws (2 + r) 0) e ∙ get_or-set_same s.words (2 + p) n 0 (omega arith) in
-              subst (λ (r : ℕ). Standing (get_or ws (2 + r) 0) (get_elem? (set s.homes p home) r) (put o.lots p lot r) r (set s.views id w)) (sym e)
-              (along n (get_or ws (2 + p) 0) (some home) (get_elem? (set s.homes p home) p) lot (put o.lots p lot p) p (set s.views id w)
-                  (sym (get_or-set_same s.words (2 + p) n 0 (omega arith))) (sym (set_here s.homes p home (omega arith))) (sym (put_here o.lots p p lot refl)) stands))
+          subst (λ (r : ℕ). Standing (get_or ws (2 + r) 0) (get_elem? (set s.homes p home) r) (put o.lots p lot r) r (set s.views id w)) (sym e)
+          (along n (get_or ws (2 + p) 0) (some home) (get_elem? (set s.homes p home) p) lot (put o.lots p lot p) p (set s.views id w)
+          (sym (get_or-set_same s.words (2 + p) n 0 (omega arith))) (sym (set_here s.homes p home (omega arith))) (sym (put_here o.lots p p lot refl)) stands))
           (λ ne. along (get_or s.words (2 + q) 0) (get_or ws (2 + q) 0) (get_elem? s.homes q) (get_elem? (set s.homes p home) q) (o.lots q) (put o.lots p lot q) q (set s.views id w)
-              (sym (get_or-set_other s.words (2 + p) (2 + q) n 0 (λ e. ne (omega arith)))) (sym (set_else s.homes p q home ne)) (sym (put_else o.lots p q lot ne))
-              (still s.views id q (get_or s.words (2 + q) 0) v w (get_elem? s.homes q) (o.lots q) me (quiet q ne).0 (quiet q ne).1 (λ x job l. kept_finished q x job ne h l) (o.places q h)));
+          (sym (get_or-set_other s.words (2 + p) (2 + q) n 0 (λ e. ne (omega arith)))) (sym (set_else s.homes p q home ne)) (sym (put_else o.lots p q lot ne))
+          (still s.views id q (get_or s.words (2 + q) 0) v w (get_elem? s.homes q) (o.lots q) me (quiet q ne).0 (quiet q ne).1 (λ x job l. kept_finished q x job ne h l) (o.places q h)));
       own = λ q x job h l. dite (ℕ_discrete q p)
           (λ e. subst (λ (r : ℕ). (x.table * size.places ≤ r) × (r < x.table * size.places + size.places) × (x.seq < offers x.table)) (sym e) (owns x job (sym (put_here o.lots p q lot e) ∙ l)))
           (λ ne. let t = o.own q x job h (sym (put_else o.lots p q lot ne) ∙ l) in let m = more x.table in (t.0, t.1, omega (arith, t.2)));
       differ = λ q r x a b h g l m. dite (ℕ_discrete q p)
           (λ e. dite (ℕ_discrete r p) (λ d. e ∙ sym d) (λ nd. absurd (differs r x a b nd g (sym (put_here o.lots p q lot e) ∙ l) (sym (put_else o.lots p r lot nd) ∙ m))))
           (λ ne. dite (ℕ_discrete r p) (λ d. absurd (differs q x b a ne h (sym (put_here o.lots p r lot d) ∙ m) (sym (put_else o.lots p q lot ne) ∙ l)))
-              (λ nd. o.differ q r x a b h g (sym (put_else o.lots p q lot ne) ∙ l) (sym (put_else o.lots p r lot nd) ∙ m)));
+          (λ nd. o.differ q r x a b h g (sym (put_else o.lots p q lot ne) ∙ l) (sym (put_else o.lots p r lot nd) ∙ m)));
       once = once;
       offered = offered;
     }
@@ -148,10 +148,14 @@ others_at size s o id k m v lot me hk base j (Worker u) at ne = o.seats j (Worke
 others_at size s o id k m v lot me hk base j (Stop u) at ne = o.seats j (Stop u) at
 others_at size s o id k m v lot me hk base j (Table u) at ne =
     let t = o.seats j (Table u) at in
-    let differ : u.number ≢ v.number = λ e. apart_numbers size s o id j v.number (Table v) (Table u) ne me at (eq-eqb v.number v.number refl) (eq-eqb u.number v.number e) in
-    (t.0, t.1, t.2, (λ i l e. let near : i < length u.lots = there_is u.lots i l e in
-        put_else o.lots (v.base + k) (u.base + i) lot (λ d. apart u.number v.number size.places i k differ (omega arith) hk (ap (λ (r : ℕ). r + i) (sym t.1) ∙ (d ∙ ap (λ (r : ℕ). r + k) base))) ∙ t.3 i l e),
-      t.4 ∙ sym (put_else o.offers v.number u.number m differ))
+    let differ : u.number ≢ v.number = λ e. apart_numbers size s o id j v.number (Table v) (Table u) ne me at (eq-eqb v.number v.number refl) (eq-eqb u.number v.number e) in (
+      t.0,
+      t.1,
+      t.2,
+      (λ i l e. let near : i < length u.lots = there_is u.lots i l e in
+          put_else o.lots (v.base + k) (u.base + i) lot (λ d. apart u.number v.number size.places i k differ (omega arith) hk (ap (λ (r : ℕ). r + i) (sym t.1) ∙ (d ∙ ap (λ (r : ℕ). r + k) base))) ∙ t.3 i l e),
+      t.4 ∙ sym (put_else o.offers v.number u.number m differ),
+    )
 
 -- a step of a table at its place k
 pub table_step : (size : BoardSize) (s : St) (o : Orderly size s) (id k n m : ℕ) (v : TableView) (home : Option Content) (lot old : Lot)
@@ -168,22 +172,25 @@ table_step size s o id k n m v home lot old me wide at_k more stands free fits =
     let others = others_at size s o id k m v lot me hk t.1 in
     let low : v.number < get_or s.words 0 0 = below_roll size s o id v.number (Table v) me (eq-eqb v.number v.number refl) in
     let rise : (r : ℕ) → o.offers r ≤ put o.offers v.number m r = λ r. dite (ℕ_discrete r v.number)
-        (λ e. let a = put_here o.offers v.number r m e in let b = ap o.offers e in let c = t.4 in omega arith) (λ ne. let a = put_else o.offers v.number r m ne in omega arith) in
-    at_place size s o id p n (Table v) (Table (changed v k lot m)) home lot (put o.offers v.number m) me near wide (λ r. refl)
-      (t.0, t.1, length-set v.lots k lot ∙ t.2,
-        (λ i l e. ⊎_elim (λ (y : (i ≡ k) × (lot ≡ l)). put_here o.lots p (v.base + i) lot (ap (λ (r : ℕ). v.base + r) y.0) ∙ y.1)
-            (λ (y : (i ≢ k) × (get_elem? v.lots i ≡ some l)). put_else o.lots p (v.base + i) lot (λ d. let ne = y.0 in ne (omega arith)) ∙ t.3 i l y.1) (at_set v.lots k i lot l e)),
-        sym (put_here o.offers v.number v.number m refl))
-      others (λ q ne. (refl, refl)) (stands free)
-      (λ r h. let ne : r ≢ v.number = λ e. omega arith in let u = o.unentered r h in
-        (put_else o.offers v.number r m ne ∙ u.0, λ i hi. put_else o.lots p (r * size.places + i) lot (λ d. apart r v.number size.places i k ne hi hk (d ∙ ap (λ (b : ℕ). b + k) t.1)) ∙ u.1 i hi))
-      (λ q x job ne h l. refl)
-      (λ x job l. let f = fits x job l in let b : x.table * size.places ≡ v.base = ap (λ (r : ℕ). r * size.places) f.0 ∙ sym t.1 in
-        let c = put_here o.offers v.number x.table m f.0 in (omega (arith, b), omega (arith, b), omega (arith, c, f.2)))
-      rise
-      (λ q x a b ne h l e. let f = fits x a l in let w = o.own q x b h e in let c = ap o.offers f.0 in let d = t.4 in omega (arith, w.2, f.1))
-      (λ x. let e = finishes_same s.views id x (Table v) (Table (changed v k lot m)) me refl in let a = o.once x in omega arith)
-      (λ x h. finishes_same s.views id x (Table v) (Table (changed v k lot m)) me refl ∙ o.offered x (let r = rise x.table in omega arith))
+    (λ e. let a = put_here o.offers v.number r m e in let b = ap o.offers e in let c = t.4 in omega arith) (λ ne. let a = put_else o.offers v.number r m ne in omega arith) in
+    at_place size s o id p n (Table v) (Table (changed v k lot m)) home lot (put o.offers v.number m) me near wide (λ r. refl) (
+      t.0,
+      t.1,
+      length-set v.lots k lot ∙ t.2,
+      (λ i l e. ⊎_elim (λ (y : (i ≡ k) × (lot ≡ l)). put_here o.lots p (v.base + i) lot (ap (λ (r : ℕ). v.base + r) y.0) ∙ y.1)
+          (λ (y : (i ≢ k) × (get_elem? v.lots i ≡ some l)). put_else o.lots p (v.base + i) lot (λ d. let ne = y.0 in ne (omega arith)) ∙ t.3 i l y.1) (at_set v.lots k i lot l e)),
+      sym (put_here o.offers v.number v.number m refl),
+    )
+    others (λ q ne. (refl, refl)) (stands free)
+    (λ r h. let ne : r ≢ v.number = λ e. omega arith in let u = o.unentered r h in
+    (put_else o.offers v.number r m ne ∙ u.0, λ i hi. put_else o.lots p (r * size.places + i) lot (λ d. apart r v.number size.places i k ne hi hk (d ∙ ap (λ (b : ℕ). b + k) t.1)) ∙ u.1 i hi))
+    (λ q x job ne h l. refl)
+    (λ x job l. let f = fits x job l in let b : x.table * size.places ≡ v.base = ap (λ (r : ℕ). r * size.places) f.0 ∙ sym t.1 in
+    let c = put_here o.offers v.number x.table m f.0 in (omega (arith, b), omega (arith, b), omega (arith, c, f.2)))
+    rise
+    (λ q x a b ne h l e. let f = fits x a l in let w = o.own q x b h e in let c = ap o.offers f.0 in let d = t.4 in omega (arith, w.2, f.1))
+    (λ x. let e = finishes_same s.views id x (Table v) (Table (changed v k lot m)) me refl in let a = o.once x in omega arith)
+    (λ x h. finishes_same s.views id x (Table v) (Table (changed v k lot m)) me refl ∙ o.offered x (let r = rise x.table in omega arith))
 
 -- a step of a worker at the place p, of which it may finish the ticket
 pub worker_step : (size : BoardSize) (s : St) (o : Orderly size s) (id p n : ℕ) (v w : WorkerView) (home : Option Content)
@@ -198,16 +205,16 @@ worker_step size s o id p n v w home me wide near same quiet stands kept_finishe
     let t = o.seats id (Worker v) me in
     let lots_same : (q : ℕ) → put o.lots p (o.lots p) q ≡ o.lots q = λ q. dite (ℕ_discrete q p) (λ e. put_here o.lots p q (o.lots p) e ∙ ap o.lots (sym e)) (λ ne. put_else o.lots p q (o.lots p) ne) in
     at_place size s o id p n (Worker v) (Worker w) home (o.lots p) o.offers me near wide (λ m. ap (λ (r : ℕ). eqb r m) same.0)
-      (subst (λ (r : ℕ). size.tables ≤ r) (sym same.0) t.0, subst (λ (r : ℕ). r < size.tables + size.workers) (sym same.0) t.1, λ e. t.2 (sym same.1 ∙ e))
-      (λ j u at ne. seated_along size o.lots (put o.lots p (o.lots p)) o.offers (get_or s.words 1 0) u (λ q. sym (lots_same q)) (o.seats j u at))
-      quiet stands
-      (λ r h. let u = o.unentered r h in (u.0, λ i hi. lots_same (r * size.places + i) ∙ u.1 i hi))
-      kept_finished
-      (λ x job l. o.own p x job near l)
-      (λ r. omega arith)
-      (λ q x a b ne h l e. ne (o.differ q p x b a h near e l))
-      (λ x. (counts x).0)
-      (λ x. (counts x).1)
+    (subst (λ (r : ℕ). size.tables ≤ r) (sym same.0) t.0, subst (λ (r : ℕ). r < size.tables + size.workers) (sym same.0) t.1, λ e. t.2 (sym same.1 ∙ e))
+    (λ j u at ne. seated_along size o.lots (put o.lots p (o.lots p)) o.offers (get_or s.words 1 0) u (λ q. sym (lots_same q)) (o.seats j u at))
+    quiet stands
+    (λ r h. let u = o.unentered r h in (u.0, λ i hi. lots_same (r * size.places + i) ∙ u.1 i hi))
+    kept_finished
+    (λ x job l. o.own p x job near l)
+    (λ r. omega arith)
+    (λ q x a b ne h l e. ne (o.differ q p x b a h near e l))
+    (λ x. (counts x).0)
+    (λ x. (counts x).1)
 
 -- a step that touches no place
 pub at_seat : (size : BoardSize) (s : St) (o : Orderly size s) (id : ℕ) (v w : View) (ws : List ℕ)
@@ -246,8 +253,8 @@ pub unmoved : (size : BoardSize) (s : St) (o : Orderly size s) (id i : ℕ) (v w
     → Orderly size (board (set s.words i (get_or s.words i 0)) s.homes (set s.views id w))
 unmoved size s o id i v w me same mine quiet fin = subst (λ (ws : List ℕ). Orderly size (board ws s.homes (set s.views id w))) (sym (set-get_or s.words i 0))
     (at_seat size s o id v w s.words me refl (λ p. refl)
-      (λ n. subst (λ (c : ℕ). (n < get_or s.words 0 0 → c ≡ 1) × (get_or s.words 0 0 ≤ n → c ≡ 0)) (sym (numbered_same s.views id n v w me (same n))) (o.numbers n))
-      mine (λ j u at ne. o.seats j u at) quiet fin (omega arith) o.unstopped)
+    (λ n. subst (λ (c : ℕ). (n < get_or s.words 0 0 → c ≡ 1) × (get_or s.words 0 0 ≤ n → c ≡ 0)) (sym (numbered_same s.views id n v w me (same n))) (o.numbers n))
+    mine (λ j u at ne. o.seats j u at) quiet fin (omega arith) o.unstopped)
 
 -- What is known of a place by its word, by what its table's view lists, or by a worker that holds it
 pub fresh_place : (word p : ℕ) (home : Option (Option Content)) (lot : Lot) (vs : List View) → lot ≡ Fresh → Standing word home lot p vs → (home ≡ some (some Empty)) × (holders p vs ≡ 0)

@@ -1,5 +1,5 @@
 -- What a table's seat has after each of its steps.
-use Rattle.std.proofs.Common.{◌≡◌, ℕ, zero, suc, ◌+◌, ◌<◌, ◌≤◌, ◌≢◌, Bool, true, false, List, [], ◌∷◌, ◌++◌, length, set, get_or, sym, refl, ap, ◌∙◌, subst, arith, length-set, length-append, append_assoc, get_or-set_other, get_or-set_same, ◌*◌, replicate}
+use Rattle.std.proofs.Common.{◌≡◌, ℕ, zero, suc, ◌+◌, ◌<◌, ◌≤◌, Bool, true, false, List, [], ◌∷◌, ◌++◌, length, set, get_or, sym, refl, ap, ◌∙◌, subst, arith, length-set, length-append, get_or-set_other, get_or-set_same, ◌*◌, replicate}
 use Rattle.std.proofs.lemmas.List.{append-nil}
 use mathlib.Core.Option.{some}
 use lib.ListN.{get_elem?}
@@ -27,7 +27,6 @@ use Rattle.desk_run.specs.declared.lot.Lot.TheVariants.{Fresh, Kept, Out}
 use Rattle.desk_run.specs.declared.view.TableView.{TableView}
 use Rattle.desk_run.specs.declared.view.View.{View}
 use Rattle.desk_run.specs.declared.view.View.TheVariants.{Table}
-use Rattle.desk_run.proofs.Lists.{total-set}
 
 carried_push : (base k : ℕ) (ls : List ℕ) → carried_by base (ls ++ k ∷ []) ≡ (base + k, Empty) ∷ carried_by base ls
 carried_push base k [] = refl

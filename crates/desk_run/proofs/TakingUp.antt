@@ -1,14 +1,12 @@
 -- A table takes up its places, one after the other.
-use Rattle.std.proofs.Common.{◌≡◌, ℕ, zero, suc, ◌+◌, ◌<◌, ◌≤◌, ◌≢◌, List, [], ◌∷◌, ◌++◌, length, set, sym, refl, ap, ◌∙◌, subst, arith, ◌⊎◌, inl, inr, ⊎_elim, length-set, length-append, replicate}
+use Rattle.std.proofs.Common.{◌≡◌, ℕ, zero, suc, ◌+◌, ◌<◌, ◌≤◌, List, [], ◌∷◌, ◌++◌, length, set, sym, refl, ap, ◌∙◌, subst, arith, ⊎_elim, length-set, length-append, replicate}
 use mathlib.Core.Logic.{dite}
 use native.Mathlib.Decide.{ℕ_discrete}
 use mathlib.Core.Option.{some, some-injective, some-ne-none}
 use lib.ListN.{get_elem?}
-use Rattle.atomic_table.proofs.Lists.{at_set, set_here, set_else}
+use Rattle.atomic_table.proofs.Lists.{set_here, set_else}
 use Rattle.desk_core.specs.LaneState.{LaneState, new_lane}
 use Rattle.desk_run.specs.Books.{Agrees, outs, one_out}
-use Rattle.desk_core.specs.declared.ticket.Ticket.{Ticket}
-use Rattle.riichi_hand.specs.declared.job.Job.{Job}
 use Rattle.desk_run.specs.declared.lot.Lot.{Lot}
 use Rattle.desk_run.specs.declared.lot.Lot.TheVariants.{Fresh, Kept, Out}
 use Rattle.desk_run.proofs.Lists.{total-set, term_le}
@@ -50,9 +48,9 @@ one_up n lots kept near b = record {
       (λ (h : (i ≡ length kept) × (n ≡ k)). subst (λ (m : ℕ). get_elem? (set lots n Kept) m ≡ some Kept) h.1 (set_here lots n Kept near)) (at_push kept n k i e);
   once = λ i j k e d. ⊎_elim
       (λ (h : (i < length kept) × (get_elem? kept i ≡ some k)). ⊎_elim (λ (g : (j < length kept) × (get_elem? kept j ≡ some k)). b.once i j k h.1 g.1)
-          (λ (g : (j ≡ length kept) × (n ≡ k)). let l = b.below i k h.1 in let s = g.1 in absurd (omega arith)) (at_push kept n k j d))
+      (λ (g : (j ≡ length kept) × (n ≡ k)). let l = b.below i k h.1 in let s = g.1 in absurd (omega arith)) (at_push kept n k j d))
       (λ (h : (i ≡ length kept) × (n ≡ k)). ⊎_elim (λ (g : (j < length kept) × (get_elem? kept j ≡ some k)). let l = b.below j k g.1 in let s = h.1 in absurd (omega arith))
-          (λ (g : (j ≡ length kept) × (n ≡ k)). h.0 ∙ sym g.0) (at_push kept n k j d))
+      (λ (g : (j ≡ length kept) × (n ≡ k)). h.0 ∙ sym g.0) (at_push kept n k j d))
       (at_push kept n k i e);
   below = λ i k e. ⊎_elim (λ (h : (i < length kept) × (get_elem? kept i ≡ some k)). let l = b.below i k h.1 in omega arith) (λ (h : (i ≡ length kept) × (n ≡ k)). let s = h.1 in omega arith) (at_push kept n k i e);
   up = λ j h. dite (ℕ_discrete j n) (λ e. subst (λ (m : ℕ). get_elem? (set lots n Kept) m ≡ some Kept) (sym e) (set_here lots n Kept near))

@@ -1,5 +1,5 @@
 -- When a table's offer is refused.
-use Rattle.std.specs.Prelude.{◌≡◌, ◌≢◌, Bool, true, false, List, length}
+use Rattle.std.specs.Prelude.{◌≡◌, ◌≢◌, true, false, List, length}
 use Rattle.desk_core.specs.LaneState.{LaneState}
 use Rattle.desk_core.specs.declared.lane.TheConstants.{LIMIT}
 use Rattle.desk_run.specs.Books.{offered, outs}

@@ -14,7 +14,9 @@ ghost use Rattle.desk_run.specs.declared.content.Content.TheVariants.{Empty, Off
 
 use crate::board::Board;
 use crate::content::Content;
-use crate::rule::{Another, Claim, EnterStop, EnterTable, EnterWorker, Fetch, Finish, Halt, Look, Submit, TakeUp};
+use crate::rule::{
+    Another, Claim, EnterStop, EnterTable, EnterWorker, Fetch, Finish, Halt, Look, Submit, TakeUp,
+};
 use crate::view::View;
 use desk_core::{Piece, Ticket};
 use riichi_hand::Job;
@@ -86,9 +88,7 @@ impl Board {
         ensures id { seat.new.table_id ≡ seat.old.table_id }
         ensures me { seat.new.me ≡ (Table (with_lot (table_of seat.old.me.0) _lot Kept), (place, Empty) ∷ seat.old.me.1) }
     {
-        self.table
-            .shared
-            .store::<TakeUp>(seat, FIRST + place, IDLE);
+        self.table.shared.store::<TakeUp>(seat, FIRST + place, IDLE);
     }
 
     /// The ticket and the job, where the place was ready. Its content is then with the seat.

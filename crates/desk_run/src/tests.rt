@@ -43,8 +43,20 @@ fn the_board_on_one_thread(rt: HostRuntime) -> Result<(), Fail> {
     assert!(rt; first != second);
     assert!(rt; worker.work_once(&board, &mut NoGate) == Worked::Nothing);
     assert!(rt; table.collect(&board) == 2);
-    assert!(rt; table.take() == Taken::Answer { seq: 0, answer: judge(&a) });
-    assert!(rt; table.take() == Taken::Answer { seq: 1, answer: judge(&b) });
+    assert!(rt;
+        table.take()
+            == Taken::Answer {
+                seq: 0,
+                answer: judge(&a)
+            }
+    );
+    assert!(rt;
+        table.take()
+            == Taken::Answer {
+                seq: 1,
+                answer: judge(&b)
+            }
+    );
     assert!(rt; table.submit(&board, a) == Ok(ticket(2)));
     assert!(rt; !worker.stopped(&board));
     stop.stop(&board);

@@ -15,8 +15,11 @@ at_place : {v : View} {p q : ℕ} {x : Content} {more : List (ℕ × Content)} �
 at_place {v} {p} {q} {x} {more} e = ap (λ (r : ℕ). let n : SeatState = (v, (r, x) ∷ more) in n) (sym e)
 
 pub compare_exchange-requires : goal.compare_exchange-requires
-compare_exchange-requires c = (search rules, omega arith,
-    may_fetch _ c.args.self.now.size _ _ _ _ c.args.self.now.keyed c.args.self.now.sized.1 c.args._lot c.requires.lot.0 c.requires.table.0 (omega arith) c.requires.lot.1)
+compare_exchange-requires c = (
+  search rules,
+  omega arith,
+  may_fetch _ c.args.self.now.size _ _ _ _ c.args.self.now.keyed c.args.self.now.sized.1 c.args._lot c.requires.lot.0 c.requires.table.0 (omega arith) c.requires.lot.1,
+)
 
 pub exchange-requires : goal.exchange-requires
 exchange-requires c = let t = (c.compare_exchange.ensures.2 c.args._lot (omega arith)).0 c.if-compare_exchange-ne-DONE.false in

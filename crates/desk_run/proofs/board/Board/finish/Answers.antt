@@ -15,7 +15,7 @@ use Rattle.desk_run.proofs.board.Board.finish.Goals as goal
 pub store-requires : goal.store-requires
 store-requires c = let old : SeatState = c.args.seat.now.me in let piece : Ticketed = c.args.piece in
     let is : c.exchange.new.seat.me ≡ (Worker (worker_of old.0), (c.args.place, Done piece) ∷ rest old.1) =
-        c.exchange.ensures.3 ∙ ap (λ (v : View). let n : SeatState = (v, (c.args.place, Done piece) ∷ rest old.1) in n) c.requires.held.0 in
+    c.exchange.ensures.3 ∙ ap (λ (v : View). let n : SeatState = (v, (c.args.place, Done piece) ∷ rest old.1) in n) c.requires.held.0 in
     (search rules, omega arith, may_finish _ c.args.self.now.size _ _ _ _ c.args.self.now.keyed c.args.self.now.sized.1 c.args.place (worker_of old.0) (record { place = c.args.place; ticket = piece.ticket; job = piece.job }) piece (rest old.1) is refl c.requires.held.1 refl refl refl (search rules))
 
 pub returns-clause-me : goal.returns-clause-me

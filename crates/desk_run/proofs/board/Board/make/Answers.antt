@@ -1,4 +1,4 @@
-use Rattle.std.proofs.Common.{rules, arith, ◌≡◌, ◌∙◌, ap}
+use Rattle.std.proofs.Common.{arith, ◌∙◌, ap}
 use Rattle.desk_run.specs.declared.size.BoardSize.{BoardSize}
 use Rattle.desk_run.proofs.Parting.{more_tables, more_workers}
 use Rattle.desk_run.proofs.board.Board.make.Goals as goal

@@ -1,7 +1,5 @@
 use Rattle.std.proofs.Common.{rules, arith, ℕ, ◌≡◌, ◌+◌, ◌∷◌, List, ap, ◌∙◌}
 use Rattle.atomic_table.specs.Table.{rest}
-use Rattle.desk_core.specs.declared.ticket.Ticket.{Ticket}
-use Rattle.riichi_hand.specs.declared.job.Job.{Job}
 use Rattle.desk_run.specs.Plays.{table_of, SeatState}
 use Rattle.desk_run.specs.declared.content.Content.{Content}
 use Rattle.desk_run.specs.declared.content.Content.TheVariants.{Offer}
@@ -19,9 +17,11 @@ offered_at old new lot place content e t p =
 pub store-requires : goal.store-requires
 store-requires c =
     let old : SeatState = c.args.seat.now.me in let more : List (ℕ × Content) = rest old.1 in
-    let is = offered_at old c.exchange.new.seat.me c.args._lot c.args.place (Offer c.args.ticket c.args.job.now) (c.exchange.ensures.3 ∙ ap (λ (x : Content). let n : SeatState = (old.0, (c.args.place, x) ∷ more) in n) c.offer.ensures) c.requires.table.0 c.requires.table.1 in
-    (search rules, omega arith,
-      may_offer _ c.args.self.now.size _ _ _ _ c.args.self.now.keyed c.args.self.now.sized.1 c.args._lot (table_of old.0) c.args.ticket c.args.job.now more is (omega arith) c.requires.kept c.requires.ticket.0 c.requires.ticket.1)
+    let is = offered_at old c.exchange.new.seat.me c.args._lot c.args.place (Offer c.args.ticket c.args.job.now) (c.exchange.ensures.3 ∙ ap (λ (x : Content). let n : SeatState = (old.0, (c.args.place, x) ∷ more) in n) c.offer.ensures) c.requires.table.0 c.requires.table.1 in (
+      search rules,
+      omega arith,
+      may_offer _ c.args.self.now.size _ _ _ _ c.args.self.now.keyed c.args.self.now.sized.1 c.args._lot (table_of old.0) c.args.ticket c.args.job.now more is (omega arith) c.requires.kept c.requires.ticket.0 c.requires.ticket.1,
+    )
 
 pub returns-clause-me : goal.returns-clause-me
 returns-clause-me c =

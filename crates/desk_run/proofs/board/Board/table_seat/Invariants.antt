@@ -1,4 +1,4 @@
-use Rattle.std.proofs.Common.{◌≡◌, ◌++◌, ◌≤◌, ◌<◌, ◌*◌, [], length, vec_len, vec_capacity}
+use Rattle.std.proofs.Common.{◌≡◌, ◌≤◌, ◌*◌, length, vec_capacity}
 use Rattle.desk_core.specs.LaneState.{new_lane}
 use Rattle.desk_run.specs.Plays.{table_of}
 use Rattle.desk_run.specs.Sitting.{Sits, board_name}

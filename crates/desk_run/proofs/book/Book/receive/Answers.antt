@@ -1,4 +1,4 @@
-use Rattle.std.proofs.Common.{rules, arith, ◌≡◌, subst}
+use Rattle.std.proofs.Common.{arith, subst}
 use Rattle.desk_core.specs.Step.{IsStep}
 use Rattle.desk_core.specs.declared.arrived.Arrived.{Arrived}
 use Rattle.desk_core.specs.declared.event.Event.TheVariants.{Arrive}

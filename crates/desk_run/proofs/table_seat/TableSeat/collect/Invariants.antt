@@ -1,4 +1,4 @@
-use Rattle.std.proofs.Common.{◌≡◌, ◌++◌, ◌≤◌, ◌<◌, length, vec_len}
+use Rattle.std.proofs.Common.{◌≡◌, ◌++◌, ◌≤◌, ◌<◌, length}
 use Rattle.desk_run.specs.Plays.{table_of}
 use Rattle.desk_run.specs.Sitting.{Collects, out_places, board_name}
 use Rattle.desk_run.proofs.table_seat.TableSeat.collect.Given as goal

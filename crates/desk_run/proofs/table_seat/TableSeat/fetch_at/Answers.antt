@@ -1,4 +1,4 @@
-use Rattle.std.proofs.Common.{rules, arith, ◌≡◌, ◌+◌, ap, ◌∙◌, sym, List, ℕ}
+use Rattle.std.proofs.Common.{rules, ◌≡◌, ap, ◌∙◌, sym, List}
 use mathlib.Core.Option.{some}
 use lib.ListN.{get_elem?}
 use Rattle.atomic_table.proofs.Lists.{at_index}
@@ -18,7 +18,8 @@ invariant_of-self-in-Some-clause-sits c = let b = c.args.self.now in
 
 pub returns-in-Some-clause-fetched : goal.returns-in-Some-clause-fetched
 returns-in-Some-clause-fetched c _ = let b = c.args.self.now in let piece = c.in-Some.piece in
-    let out : get_elem? b.book.lots.items c.args.lot ≡ some (Out piece.ticket piece.job) = ap (λ (l : List Lot). get_elem? l c.args.lot) (sym b.sits.lots_are) ∙ c.in-Some.ensures.some.0 in
-    (one_collected b.book.lane _ c.args.lot _ _ piece out c.receive.ensures.lane c.receive.ensures.step c.receive.ensures.lots.0,
+    let out : get_elem? b.book.lots.items c.args.lot ≡ some (Out piece.ticket piece.job) = ap (λ (l : List Lot). get_elem? l c.args.lot) (sym b.sits.lots_are) ∙ c.in-Some.ensures.some.0 in (
+      one_collected b.book.lane _ c.args.lot _ _ piece out c.receive.ensures.lane c.receive.ensures.step c.receive.ensures.lots.0,
       c.receive.ensures.lots.0,
-      ap (λ (m : SeatState). (table_of m.0).lost) c.in-Some.ensures.some.1)
+      ap (λ (m : SeatState). (table_of m.0).lost) c.in-Some.ensures.some.1,
+    )

@@ -1,4 +1,3 @@
-use Rattle.std.proofs.Common.{rules, arith, ◌≡◌, ◌+◌}
 use Rattle.desk_run.proofs.Seating.{front_rest, sits_offered}
 use Rattle.desk_run.proofs.table_seat.TableSeat.submit.Goals as goal
 

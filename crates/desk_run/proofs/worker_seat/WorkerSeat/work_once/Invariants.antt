@@ -1,4 +1,4 @@
-use Rattle.std.proofs.Common.{◌≡◌, ◌++◌, ◌≤◌}
+use Rattle.std.proofs.Common.{◌≡◌, ◌++◌}
 use Rattle.desk_run.specs.Plays.{worker_of}
 use Rattle.desk_run.specs.Sitting.{places_from, board_name}
 use Rattle.desk_run.proofs.worker_seat.WorkerSeat.work_once.Given as goal
