@@ -93,5 +93,5 @@ returns-clause-awaited c = λ awaited.
           let there : slice_get (map seen items) k ≡ Some (seen w.in-Some.entry.now) =
           slice_get-map seen items k ∙ ap (option_map seen) (slice_get-read items k w.in-Some.entry.now within w.in-Some.ensures.value) in
           w.result-is ∙ accepts (seen w.in-Some.entry.now) c.args.piece.job w.arrive.result (seen w.arrive.new.self) w.arrive.ensures.outcome
-            (same_Some _ _ (sym there ∙ waits))
+          (same_Some _ _ (sym there ∙ waits))
     ]
