@@ -7,3 +7,4 @@ pub mod Books
 pub mod Offers
 pub mod Sitting
 pub mod Parts
+pub mod Played

@@ -27,14 +27,21 @@ mod making;
 mod offer;
 mod opening;
 mod parts;
+mod playing;
 mod rule;
+mod run_fault;
+mod running;
 mod size;
+mod start;
 mod steps;
 mod stop_seat;
 mod table_seat;
+#[cfg(test)]
+mod tests;
 mod view;
 mod worked;
 mod worker_seat;
+mod working;
 
 pub use board::Board;
 pub use gate::{Gate, NoGate};
