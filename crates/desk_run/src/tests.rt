@@ -15,6 +15,12 @@ fn ticket(seq: u32) -> Ticket {
     Ticket { table: 0, seq }
 }
 
+/// What a table takes: the value of this job, under this number.
+fn given(seq: u32, job: &Job) -> Taken {
+    let answer = judge(job);
+    Taken::Answer { seq, answer }
+}
+
 #[test]
 fn the_board_on_one_thread(rt: HostRuntime) -> Result<(), Fail> {
     let a = job(&rt, b"waits 1112345678999m");
@@ -43,20 +49,8 @@ fn the_board_on_one_thread(rt: HostRuntime) -> Result<(), Fail> {
     assert!(rt; first != second);
     assert!(rt; worker.work_once(&board, &mut NoGate) == Worked::Nothing);
     assert!(rt; table.collect(&board) == 2);
-    assert!(rt;
-        table.take()
-            == Taken::Answer {
-                seq: 0,
-                answer: judge(&a)
-            }
-    );
-    assert!(rt;
-        table.take()
-            == Taken::Answer {
-                seq: 1,
-                answer: judge(&b)
-            }
-    );
+    assert!(rt; table.take() == given(0, &a));
+    assert!(rt; table.take() == given(1, &b));
     assert!(rt; table.submit(&board, a) == Ok(ticket(2)));
     assert!(rt; !worker.stopped(&board));
     stop.stop(&board);
