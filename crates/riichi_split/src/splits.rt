@@ -1,8 +1,8 @@
-ghost use Rattle.std.specs.Prelude.{◌≡◌, ℕ, ◌+◌, ◌<◌, ◌≤◌, MatchOption, [], ◌∷◌, ◌++◌, length};
+ghost use Rattle.std.specs.Prelude.{◌≡◌, ℕ, ◌+◌, ◌<◌, ◌≤◌, MatchOption, ◌&&◌, nat_le, [], ◌∷◌, ◌++◌, drop, length, slice_index};
 ghost use Rattle.std.specs.Iterator.{YieldsFirst, item_count};
-ghost use Rattle.riichi_split.specs.Cuts.{sets_beside, from_choices, from_pairs, choices_beside};
+ghost use Rattle.riichi_split.specs.Cuts.{may_have_runs, sets_beside, from_choices, from_pairs, choices_beside};
 
-use crate::cutting::cut;
+use crate::cutting::{cut, may_have_runs};
 use crate::sets::Sets;
 use crate::split::Split;
 use crate::suit::suit_of_pair;
@@ -82,14 +82,26 @@ impl Iterator for Splits {
 
 impl FusedIterator for Splits {}
 
-/// How many numbers can make the choices beside a pair: a bit for each kind with three tiles, four at
-/// most.
+fn is_in_doubt(counts: &[u8; 34], kind: usize) -> bool
+    requires { kind < 34 }
+    ensures { result ≡ nat_le 3 (slice_index counts.now kind) && may_have_runs (drop (kind + 1) counts.now) }
+{
+    counts[kind] >= 3 && may_have_runs(counts, kind)
+}
+
+/// How many numbers can make the choices beside a pair: a bit for each kind that has three tiles, as
+/// the two above it have, four at most.
 fn choices_of(counts: &[u8; 34]) -> usize
     ensures value { result ≡ choices_beside counts.now }
     ensures few { result ≤ 16 }
 {
-    let threes = counts.iter().filter(|count| **count >= 3).count();
-    1 << threes.min(4)
+    let mut doubts = 0usize;
+    for kind in 0..34 {
+        if is_in_doubt(counts, kind) {
+            doubts += 1;
+        }
+    }
+    1 << doubts.min(4)
 }
 
 /// The sets that some choices leave beside a pair.
