@@ -78,9 +78,10 @@ abbrev pub choices_beside : List ℕ → ℕ
 choices_beside counts = 2 ^ min 4 (doubts counts)
 
 -- what the fields of `Splits` keep
-pub record IsReady (counts : List ℕ) (wanted choices_left first pairs_left : ℕ) : Type 0 where
+pub record IsReady (counts : List ℕ) (wanted choices choices_left first pairs_left : ℕ) : Type 0 where
   pub each_kind : length counts ≡ 34
   pub at_most_four : wanted ≤ 4
+  pub choices_few : choices ≤ 16
   pub left_few : choices_left ≤ 16
   pub pairs_few : first + pairs_left ≤ 34
 

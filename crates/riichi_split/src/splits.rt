@@ -15,6 +15,8 @@ use std::marker::Model;
 pub(crate) struct Splits {
     counts: [u8; 34],
     wanted: usize,
+    // So many numbers make the choices beside any pair.
+    choices: usize,
     // The choices below `choices_left` are still to be tried with this pair.
     pair: Kind,
     choices_left: usize,
@@ -34,7 +36,7 @@ impl Model for Splits {
 
     ghost view = { splits_left };
 
-    ghost invariant = { λ s. IsReady s.counts s.wanted s.choices_left s.first s.pairs_left };
+    ghost invariant = { λ s. IsReady s.counts s.wanted s.choices s.choices_left s.first s.pairs_left };
 }
 
 impl Splits {
@@ -50,6 +52,7 @@ impl Splits {
         Splits {
             counts,
             wanted: 4 - melds,
+            choices: choices_of(&counts),
             pair: Kind::at(0),
             choices_left: 0,
             first: suit.first,
@@ -75,7 +78,7 @@ impl Iterator for Splits {
                 });
             }
             self.pair = next_pair(&self.counts, self.first, &mut self.pairs_left)?;
-            self.choices_left = choices_of(&self.counts);
+            self.choices_left = self.choices;
         }
     }
 }
