@@ -1,7 +1,7 @@
 use super::*;
 use riichi_hand::{By, Job, Rules, WinRecord, Wind, read_line};
 use riichi_split::{Reading, Readings};
-use riichi_tiles::{Block, Kind, read_counts};
+use riichi_tiles::{Block, Counts, Kind, read_counts};
 use std::process::Abort;
 use std::test::Fail;
 
@@ -12,27 +12,17 @@ fn job(line: &str) -> Result<Job, Fail> {
     Ok(job.ok_or("a job")?)
 }
 
-/// The last reading of a win.
-fn reading(win: &WinRecord) -> Result<Reading, Fail> {
-    let parts = win.parts();
-    let mut hand = parts.concealed;
-    hand.add(parts.winning);
-    let mut last = None;
-    for reading in Readings::new(&hand, &parts.melds, parts.winning) {
-        last = Some(reading);
-    }
-    Ok(last.ok_or("a reading")?)
+fn counts(text: &str) -> Result<Counts, Fail> {
+    Ok(read_counts(text.as_bytes()).ok().ok_or("a text of tiles")?)
 }
 
 fn tiles(text: &str) -> Result<[u8; 34], Fail> {
-    let counts = read_counts(text.as_bytes()).ok().ok_or("a text of tiles")?;
-    Ok(counts.to_array())
+    Ok(counts(text)?.to_array())
 }
 
 // 111m 567p 33s, a concealed kong of 9m and an open triplet of the Green dragon: won by ron, the triplet 111m is open.
-fn open_hand(rt: &impl Abort, win: &WinRecord) -> Result<(), Fail> {
-    let reading = reading(win)?;
-    let blocks = blocks_of(&reading, win);
+fn open_hand(rt: &impl Abort, reading: &Reading, win: &WinRecord) {
+    let blocks = blocks_of(reading, win);
     let blocks = blocks.as_slice();
     let run = HandBlock::Run(Kind::at(13));
     let pair = HandBlock::Pair(Kind::at(20));
@@ -57,9 +47,11 @@ fn open_hand(rt: &impl Abort, win: &WinRecord) -> Result<(), Fail> {
     assert_eq!(rt; triplets_among(blocks), 3);
     assert_eq!(rt; concealed_triplets_among(blocks), 1);
     assert_eq!(rt; kongs_among(blocks), 1);
-    assert!(rt; is_standard(&reading) && !is_seven_pairs(&reading) && !is_orphans(&reading));
-    assert!(rt; !has_two_sided_wait(&reading, win.winning()));
+    assert!(rt; is_standard(reading) && !is_seven_pairs(reading) && !is_orphans(reading));
     assert!(rt; has_plain_pair(blocks, win));
+}
+
+fn pairs_and_tiles(rt: &impl Abort, win: &WinRecord) {
     assert_eq!(rt; pair_fu(win, Kind::at(20)), 0);
     assert_eq!(rt; pair_fu(win, Kind::at(31)), 2);
     assert_eq!(rt; pair_fu(win, Kind::at(27)), 4);
@@ -68,88 +60,107 @@ fn open_hand(rt: &impl Abort, win: &WinRecord) -> Result<(), Fail> {
         (all[0], all[8], all[14], all[20], all[32]),
         (3, 4, 1, 2, 3)
     );
-    Ok(())
 }
 
 #[test]
 fn looks_at_an_open_hand(rt: HostRuntime) -> Result<(), Fail> {
+    let hand = counts("111m567p33s")?;
     let job = job("win 11m567p33s open=ankan:9999m,pon:666z on=1m by=ron seat=E round=E")?;
-    match &job {
-        Job::Win(win) => open_hand(&rt, win),
-        _ => Err("a win")?,
+    if let Job::Win(win) = &job {
+        let mut is_read = false;
+        for reading in Readings::new(&hand, &win.melds(), win.winning()) {
+            open_hand(&rt, &reading, win);
+            is_read = true;
+        }
+        assert!(rt; is_read);
+        pairs_and_tiles(&rt, win);
     }
+    Ok(())
 }
 
-// (line, whether all blocks have an orphan, all a terminal, some an honour, whether the wait is two-sided)
+// Whether all blocks have an orphan, all a terminal, some an honour, and whether the wait is two-sided.
+fn kinds_in_blocks(reading: &Reading, win: &WinRecord) -> [bool; 4] {
+    let blocks = blocks_of(reading, win);
+    let blocks = blocks.as_slice();
+    [
+        all_have_orphans(blocks),
+        all_have_terminals(blocks),
+        some_has_honour(blocks),
+        has_two_sided_wait(reading, win.winning()),
+    ]
+}
+
 #[test]
 fn looks_at_the_kinds_in_blocks(rt: HostRuntime) -> Result<(), Fail> {
     let rows = [
         (
+            "123m789m12399p789s",
             "win 123m789m12399p78s on=9s by=ron seat=E round=E",
-            true,
-            true,
-            false,
-            true,
+            [true, true, false, true],
         ),
         (
+            "123m789m12399p789s",
             "win 123m789m12399p89s on=7s by=ron seat=E round=E",
-            true,
-            true,
-            false,
-            false,
+            [true, true, false, false],
         ),
         (
+            "123m789m123p11z789s",
             "win 123m789m123p11z78s on=9s by=ron seat=E round=E",
-            true,
-            false,
-            true,
-            true,
+            [true, false, true, true],
         ),
         (
-            "win 123m789m123p44p78s on=6s by=ron seat=E round=E",
-            false,
-            false,
-            false,
-            true,
+            "123m789m12344p678s",
+            "win 123m789m12344p78s on=6s by=ron seat=E round=E",
+            [false, false, false, true],
         ),
     ];
-    for (line, orphans, terminals, honour, two_sided) in rows {
+    for (hand, line, wanted) in rows {
+        let hand = counts(hand)?;
         let job = job(line)?;
         if let Job::Win(win) = &job {
-            let reading = reading(win)?;
-            let blocks = blocks_of(&reading, win);
-            let blocks = blocks.as_slice();
-            assert_eq!(rt; all_have_orphans(blocks), orphans, "{line}");
-            assert_eq!(rt; all_have_terminals(blocks), terminals, "{line}");
-            assert_eq!(rt; some_has_honour(blocks), honour, "{line}");
-            assert_eq!(rt;
-                has_two_sided_wait(&reading, win.winning()),
-                two_sided,
-                "{line}"
-            );
+            let mut is_read = false;
+            for reading in Readings::new(&hand, &win.melds(), win.winning()) {
+                is_read = true;
+                assert!(rt; kinds_in_blocks(&reading, win) == wanted, "{line}");
+            }
+            assert!(rt; is_read, "{line}");
         }
     }
     Ok(())
 }
 
 // Seven pairs and thirteen orphans have no blocks.
+fn special(rt: &impl Abort, reading: &Reading, win: &WinRecord, seven_pairs: bool) {
+    assert!(rt; blocks_of(reading, win).is_empty() && !is_standard(reading));
+    assert_eq!(rt; is_seven_pairs(reading), seven_pairs);
+    assert_eq!(rt; is_orphans(reading), !seven_pairs);
+    assert!(rt; !has_plain_pair(&[], win) && !has_two_sided_wait(reading, win.winning()));
+}
+
 #[test]
 fn looks_at_special_readings(rt: HostRuntime) -> Result<(), Fail> {
     let rows = [
-        ("win 1133557799m22z1z on=1z by=ron seat=E round=E", true),
-        ("win 19m19p19s1234567z on=1z by=ron seat=E round=E", false),
+        (
+            "1133557799m2211z",
+            "win 1133557799m22z1z on=1z by=ron seat=E round=E",
+            true,
+        ),
+        (
+            "19m19p19s11234567z",
+            "win 19m19p19s1234567z on=1z by=ron seat=E round=E",
+            false,
+        ),
     ];
-    for (line, seven_pairs) in rows {
+    for (hand, line, seven_pairs) in rows {
+        let hand = counts(hand)?;
         let job = job(line)?;
         if let Job::Win(win) = &job {
-            let reading = reading(win)?;
-            assert!(rt;
-                blocks_of(&reading, win).is_empty() && !is_standard(&reading),
-                "{line}"
-            );
-            assert_eq!(rt; is_seven_pairs(&reading), seven_pairs, "{line}");
-            assert_eq!(rt; is_orphans(&reading), !seven_pairs, "{line}");
-            assert!(rt; !has_plain_pair(&[], win), "{line}");
+            let mut is_read = false;
+            for reading in Readings::new(&hand, &win.melds(), win.winning()) {
+                special(&rt, &reading, win, seven_pairs);
+                is_read = true;
+            }
+            assert!(rt; is_read, "{line}");
         }
     }
     Ok(())
