@@ -2,7 +2,7 @@
 use Rattle.std.proofs.Common.{◌≡◌, ℕ, zero, suc, ◌+◌, ◌<◌, ◌≤◌, Bool, true, false, List, [], ◌∷◌, ◌++◌, length, map, take, set, get_or, sym, refl, ap, ◌∙◌, subst, arith, length-append, append_assoc, append-nil}
 use Rattle.std.proofs.lemmas.Bool.{false≢true}
 use Rattle.std.proofs.lemmas.List.{length-map, map-append}
-use mathlib.Core.Option.{some, some-injective, some-ne-none}
+use mathlib.Core.Option.{some, some-injective}
 use lib.ListN.{get_elem?}
 use Rattle.desk_core.specs.Value.{value_of}
 use Rattle.desk_core.specs.LaneState.{LaneState, new_lane, with_job, TakesInPiece}
@@ -20,13 +20,15 @@ use Rattle.atomic_table.proofs.Lists.{set_else}
 use Rattle.desk_run.specs.Parts.{IsNewTable, AreNewTables}
 use Rattle.desk_run.specs.declared.table_seat.TableSeat.{TableSeat}
 use Rattle.desk_run.proofs.Bookkeeping.{some_at}
+use Rattle.std.specs.Global.{Vec}
+use Rattle.desk_run.specs.Runs.{AreValues}
 
-take-next : (n : ℕ) (jobs : List Job) (job : Job) → n < length jobs → job ≡ get_or jobs n job → take (n + 1) jobs ≡ take n jobs ++ job ∷ []
-take-next zero [] job h e = absurd (omega arith)
-take-next zero (x ∷ xs) job h e = ap (λ (y : Job). y ∷ []) (sym e)
-take-next (suc n) [] job h e = absurd (omega arith)
-take-next (suc n) (x ∷ xs) job h e = let same : suc n + 1 ≡ suc (n + 1) = omega arith in
-    ap (λ (m : ℕ). take m (x ∷ xs)) same ∙ ap (λ (l : List Job). x ∷ l) (take-next n xs job (omega arith) e)
+take-next : {A : Type 0} (n : ℕ) (list : List A) (a : A) → n < length list → a ≡ get_or list n a → take (n + 1) list ≡ take n list ++ a ∷ []
+take-next zero [] a h e = absurd (omega arith)
+take-next zero (x ∷ xs) a h e = ap (λ y. y ∷ []) (sym e)
+take-next (suc n) [] a h e = absurd (omega arith)
+take-next (suc n) (x ∷ xs) a h e = let same : suc n + 1 ≡ suc (n + 1) = omega arith in
+    ap (λ (m : ℕ). take m (x ∷ xs)) same ∙ ap (λ l. x ∷ l) (take-next n xs a (omega arith) e)
 
 take-whole : (jobs : List Job) → take (length jobs) jobs ≡ jobs
 take-whole [] = refl
@@ -117,3 +119,14 @@ all_new id places tables new i t h at = new i t at
 
 pub fewer_new : (n : ℕ) (id : TableId) (places : ℕ) (tables more : List TableSeat) (t : TableSeat) → AreNewFrom n id places tables → more ≡ set tables n t → AreNewFrom (n + 1) id places more
 fewer_new n id places tables more t new e i u h at = new i u (omega arith) (sym (set_else tables n i t (λ same. omega arith)) ∙ (ap (λ (l : List TableSeat). get_elem? l i) (sym e) ∙ at))
+
+-- one table more was played
+pub values_more : (jobs : List (Vec Job)) (answers more : List (Vec Answer)) (n : ℕ) (list : Vec Job) (given : Vec Answer) → n < length jobs → list ≡ get_or jobs n list → given.items ≡ values list.items → more ≡ answers ++ given ∷ []
+    → AreValues (take n jobs) answers → AreValues (take (n + 1) jobs) more
+values_more jobs answers more n list given near at is e b =
+    ap (map (λ (v : Vec Answer). v.items)) e
+    ∙ map-append (λ (v : Vec Answer). v.items) answers (given ∷ [])
+    ∙ ap (λ l. l ++ given.items ∷ []) b
+    ∙ ap (λ a. map (λ (v : Vec Job). values v.items) (take n jobs) ++ a ∷ []) is
+    ∙ sym (map-append (λ (v : Vec Job). values v.items) (take n jobs) (list ∷ []))
+    ∙ ap (map (λ (v : Vec Job). values v.items)) (sym (take-next n jobs list near at))

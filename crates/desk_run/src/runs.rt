@@ -1,6 +1,6 @@
 //! Whole runs: the answers of many tables' jobs, with a thread for each worker.
-ghost use Rattle.std.specs.Prelude.{◌≡◌, ◌↔◌, Err, IfOk, IsTrue, vec_len, OnErr};
-ghost use Rattle.desk_run.specs.Runs.{IsRunnable, AreValues};
+ghost use Rattle.std.specs.Prelude.{◌≡◌, ◌≢◌, ◌↔◌, Err, IfOk, IsTrue, length, vec_len};
+ghost use Rattle.desk_run.specs.Runs.{IsRunnable, IsReady, AreValues};
 
 use crate::board::Board;
 use crate::gate::{Gate, NoGate};
@@ -111,8 +111,10 @@ pub fn run_tables_started<R: Threads + Wait + Sync, G: Gate + Send + Drop, S: St
     thread::scope(
         thread::scope_env(),
         rt,
-        move |scope| -> Result<Vec<Vec<Answer>>, RunFault> {
-            hall.run(scope, rt, alloc, jobs, posts, start)
-        },
+        move |scope| -> Result<Vec<Vec<Answer>>, RunFault>
+            requires { IsReady hall (length jobs.now) }
+            ensures range { result ≢ Err RunFault.Range }
+            ensures values { IfOk result (λ answers. AreValues jobs.entry.now answers.items) }
+        { hall.run(scope, rt, alloc, jobs, posts, start) },
     )
 }

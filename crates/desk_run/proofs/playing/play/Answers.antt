@@ -1,5 +1,5 @@
-use Rattle.std.proofs.Common.{rules, arith, ◌≡◌, ◌≤◌, ap, ◌∙◌}
-use Rattle.desk_run.proofs.Plays.{played_collected, played_given, played_same, played_out, room_for, played_new}
+use Rattle.std.proofs.Common.{arith, ap, ◌∙◌}
+use Rattle.desk_run.proofs.Plays.{played_collected, played_given, played_same, played_out, room_for}
 use Rattle.desk_run.proofs.playing.play.Goals as goal
 
 pub push_reserved-requires : goal.push_reserved-requires
