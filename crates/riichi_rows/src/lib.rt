@@ -8,6 +8,7 @@
 //! makes each anew.
 #![tactic(auto)]
 
+mod added;
 mod join;
 mod lanes;
 pub mod laws;

@@ -1,0 +1,16 @@
+use Rattle.std.proofs.Common.{◌≡◌, [], drop, arith}
+use Rattle.std.proofs.lemmas.List.{drop_all}
+use Rattle.riichi_rows.specs.Open.{LeastOpen}
+use Rattle.riichi_rows.proofs.ranks.lanes_with_runs.Goals as goal
+
+pub loop-rank-init : goal.loop-rank-init
+loop-rank-init c =
+    let counts_end : drop 9 c.args.counts.now ≡ [] = drop_all 9 c.args.counts.now (omega arith) in
+    let caps_end : drop 9 c.args.caps.now ≡ [] = drop_all 9 c.args.caps.now (omega arith) in
+    rw (counts_end, caps_end) c.closed-later.ensures
+
+pub returns : goal.returns
+returns c =
+    let at_first : c.loop-rank.rank ≡ 0 = omega arith in
+    let whole : LeastOpen c.args.counts.now c.args.caps.now c.loop-rank.later = rw at_first at c.loop-rank.invariant in
+    whole.zero_open.zero_begun
