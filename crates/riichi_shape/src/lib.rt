@@ -16,6 +16,8 @@ mod answering;
 mod discard;
 mod discard_list;
 mod distance;
+mod hand_forms;
+mod hand_joins;
 mod hand_rows;
 pub mod laws;
 mod live_list;
@@ -23,6 +25,7 @@ mod orphans;
 mod pairs;
 mod removal;
 mod shape_answer;
+mod special;
 mod suit_of_hand;
 #[cfg(test)]
 mod tests;
