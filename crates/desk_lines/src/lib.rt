@@ -3,7 +3,8 @@
 //! [`desk_text`] answers the record lines that a `desk_streams::Source` gives, one line for each, and
 //! writes the answers into a `desk_streams::Sink`. It tells in a [`DeskReport`] how many were answered and
 //! how many refused, or in a [`DeskFault`] why it gave up. `waits_answer` answers one hand, as the command
-//! `waits` prints it.
+//! `waits` prints it. `is_ready` tells whether a hand is ready, and [`laws`] that its shanten and its waits
+//! agree on that.
 //!
 //! Inside, `Desk` cuts the bytes into lines and keeps the front of one that has not ended in a
 //! `LineBuffer`; `Teller` answers line by line, under the profile that the first line may set; `Outbox`
@@ -19,16 +20,19 @@
 mod answering;
 mod desk;
 mod fault;
+pub mod laws;
 mod line_buffer;
 mod line_kind;
 mod outbox;
 mod profile;
+mod ready;
 mod report;
 mod teller;
 mod text;
 mod waits;
 
 pub use fault::DeskFault;
+pub use ready::is_ready;
 pub use report::DeskReport;
 pub use text::desk_text;
 pub use waits::{WaitsLine, waits_answer};

@@ -11,6 +11,7 @@ use crate::distance::shanten_by;
 use crate::hand_rows::HandRows;
 use crate::removal::discards_by;
 use crate::shape_answer::ShapeAnswer;
+use riichi_cache::RowCache;
 use riichi_hand::ShapeRecord;
 use riichi_rows::{FreshRows, RowSource};
 use riichi_tiles::{Counts, Melds};
@@ -57,4 +58,11 @@ pub fn shape(asked: &ShapeRecord) -> ShapeAnswer
     ensures { result ≡ shape_of asked.now }
 {
     shape_by(&mut FreshRows, asked)
+}
+
+/// The same by the rows of a cache, which keeps those that it makes.
+pub fn shape_with(cache: &mut RowCache, asked: &ShapeRecord) -> ShapeAnswer
+    ensures { result ≡ shape_of asked.now }
+{
+    shape_by(cache, asked)
 }

@@ -1,0 +1,9 @@
+pub mod Counts
+pub mod Views
+pub mod Rule
+pub mod Plays
+pub mod Seats
+pub mod Books
+pub mod Offers
+pub mod Sitting
+pub mod Parts
