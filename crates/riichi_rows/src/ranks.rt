@@ -13,8 +13,10 @@ fn lanes_with_runs(counts: &[u8; 9], caps: &[u8; 9]) -> Lanes
     requires { (r : ℕ) → r < 9 → slice_index caps.now r ≤ 4 }
     ensures { LeastLanes true counts.now caps.now 0 0 result.lacks }
 {
-    let mut later = Open::closed();
-    for rank in (0..9).rev() {
+    // No run begins at the last two ranks: apart from the loop, their steps are a third as long.
+    let last = Open::closed().before(counts[8], caps[8]);
+    let mut later = last.before(counts[7], caps[7]);
+    for rank in (0..7).rev() {
         later = later.before(counts[rank], caps[rank]);
     }
     later.zero.zero
