@@ -4,13 +4,14 @@ use Rattle.riichi_tiles.specs.Melds.{tiles}
 use Rattle.riichi_tiles.specs.declared.meld.Meld.{Meld}
 use Rattle.riichi_rows.specs.Row.{AreJoinedThree, entries_of}
 use Rattle.riichi_shape.specs.Special.{SpecialLacks}
-use Rattle.riichi_shape.specs.Suits.{IsRowOf}
+use Rattle.riichi_shape.specs.Suits.{AreHandCaps, IsRowOf}
 use Rattle.riichi_shape.specs.declared.hand_forms.HandForms.{HandForms}
 use Rattle.riichi_shape.specs.declared.hand_joins.HandJoins.{HandJoins}
 use Rattle.riichi_shape.specs.declared.hand_rows.HandRows.{HandRows}
 
--- each is the row of its suit of the hand
+-- each is the row of its suit of the hand, and the caps are those that the melds leave
 pub record AreRowsOf (hand : List ℕ) (melds : List Meld) (rows : HandRows) : Type 0 where
+  pub caps : AreHandCaps melds rows.caps
   pub characters : IsRowOf hand melds 0 9 (entries_of rows.characters)
   pub circles : IsRowOf hand melds 9 9 (entries_of rows.circles)
   pub bamboos : IsRowOf hand melds 18 9 (entries_of rows.bamboos)
@@ -24,8 +25,9 @@ pub record DifferAt (kind : ℕ) (before after : List ℕ) : Type 0 where
 abbrev pub IsMeldedFew : List Meld → Type 0
 IsMeldedFew melds = (kind : ℕ) → kind < 34 → tiles melds kind ≤ 4
 
--- beside each suit the join of the rows of the other three
+-- beside each suit the join of the rows of the other three, with the same caps
 pub record AreJoinsOf (rows : HandRows) (joins : HandJoins) : Type 0 where
+  pub caps : joins.caps ≡ rows.caps
   pub beside_characters : AreJoinedThree rows.circles rows.bamboos rows.honours joins.beside_characters
   pub beside_circles : AreJoinedThree rows.characters rows.bamboos rows.honours joins.beside_circles
   pub beside_bamboos : AreJoinedThree rows.honours rows.characters rows.circles joins.beside_bamboos

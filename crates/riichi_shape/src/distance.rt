@@ -45,7 +45,7 @@ pub(crate) fn distance_changed<R: RowSource>(
     ensures few { result ≤ 14 }
 {
     let melded = melds.count() as u8;
-    let Some(standard) = joins.standard_changed(source, kind, hand, melds, 4 - melded) else {
+    let Some(standard) = joins.standard_changed(source, kind, hand, 4 - melded) else {
         unreachable!()
     };
     if standard <= floor {

@@ -1,18 +1,20 @@
 //! The rows of a hand joined beside each suit.
-ghost use Rattle.std.specs.Prelude.{ℕ, ◌<◌, ◌≤◌};
-ghost use Rattle.riichi_tiles.specs.Melds.{tiles};
+ghost use Rattle.std.specs.Prelude.{◌≤◌, List};
+ghost use Rattle.riichi_tiles.specs.declared.meld.Meld.{Meld};
 ghost use Rattle.riichi_shape.specs.Distance.{IsLeastStandard};
-ghost use Rattle.riichi_shape.specs.Rows.{AreJoinsBeside, AreJoinsOf};
+ghost use Rattle.riichi_shape.specs.Rows.{AreJoinsBeside, AreJoinsOf, IsMeldedFew};
 
+use crate::hand_caps::HandCaps;
 use crate::hand_rows::HandRows;
 use crate::suit_of_hand::suit_row_of;
 use riichi_rows::{JoinedRows, RowSource, join_two};
-use riichi_tiles::{Counts, Kind, Melds};
+use riichi_tiles::{Counts, Kind};
 
 /// Beside each suit the rows of the other three, joined. They are kept while a tile of the suit is
 /// added or removed.
 #[derive(Clone, Copy)]
 pub(crate) struct HandJoins {
+    pub(crate) caps: HandCaps,
     pub(crate) beside_characters: JoinedRows,
     pub(crate) beside_circles: JoinedRows,
     pub(crate) beside_bamboos: JoinedRows,
@@ -27,6 +29,7 @@ impl HandJoins {
         let low = join_two(&rows.characters, &rows.circles);
         let high = join_two(&rows.bamboos, &rows.honours);
         HandJoins {
+            caps: rows.caps,
             beside_characters: high.and(&rows.circles),
             beside_circles: high.and(&rows.characters),
             beside_bamboos: low.and(&rows.honours),
@@ -41,26 +44,23 @@ impl HandJoins {
         source: &mut R,
         kind: Kind,
         hand: &Counts,
-        melds: &Melds,
         sets: u8,
     ) -> Option<u8>
-        requires sets { sets ≤ 4 }
-        requires melded { (k : ℕ) → k < 34 → tiles melds.now k ≤ 4 }
-        requires joins { AreJoinsBeside kind hand.now melds.now self.now }
-        ensures { IsLeastStandard hand.now melds.now sets result }
+        requires { sets ≤ 4 }
+        ensures { (melds : List Meld) → AreJoinsBeside kind hand.now melds self.now → IsMeldedFew melds → IsLeastStandard hand.now melds sets result }
     {
         let number = kind.index();
         if number < 9 {
-            let row = suit_row_of(source, hand, melds, 0, 9);
+            let row = suit_row_of(source, hand, &self.caps.characters, 0, 9);
             self.beside_characters.with(&row, sets)
         } else if number < 18 {
-            let row = suit_row_of(source, hand, melds, 9, 9);
+            let row = suit_row_of(source, hand, &self.caps.circles, 9, 9);
             self.beside_circles.with(&row, sets)
         } else if number < 27 {
-            let row = suit_row_of(source, hand, melds, 18, 9);
+            let row = suit_row_of(source, hand, &self.caps.bamboos, 18, 9);
             self.beside_bamboos.with(&row, sets)
         } else {
-            let row = suit_row_of(source, hand, melds, 27, 7);
+            let row = suit_row_of(source, hand, &self.caps.honours, 27, 7);
             self.beside_honours.with(&row, sets)
         }
     }

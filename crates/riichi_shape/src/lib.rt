@@ -17,6 +17,7 @@ mod answering;
 mod discard;
 mod discard_list;
 mod distance;
+mod hand_caps;
 mod hand_forms;
 mod hand_joins;
 mod hand_rows;
@@ -27,6 +28,7 @@ mod pairs;
 mod removal;
 mod shape_answer;
 mod special;
+mod suit_caps;
 mod suit_of_hand;
 #[cfg(test)]
 mod tests;

@@ -84,7 +84,7 @@ fn discard_of<R: RowSource>(
     let mut shown = *seen;
     rest.remove(kind);
     shown.add(kind);
-    let rows = rows.changed_at(source, kind, &rest, melds);
+    let rows = rows.changed_at(source, kind, &rest);
     Discard {
         kind,
         accepted: accepted_by(source, &rows, &rest, melds, &shown),
