@@ -181,7 +181,7 @@ impl<'b> Player<'b> {
         let mut answers = Vec::new(alloc);
         let mut next = 0;
         for _ in rt.forever() {
-            if next == jobs.len() {
+            if next >= jobs.len() {
                 seat.close();
             } else if seat.submit(board, jobs[next]).is_ok() {
                 next += 1;
