@@ -30,12 +30,12 @@ pub less_same : (a b : ℕ) → a ≤ b → b ≤ a → a ≡ b
 less_same a b h k = omega arith
 
 -- by the tiles taken on the left, by the runs begun on the right
-module _ (z0 z2 z3 o0 o2 o3 t0 t2 t3 : ℕ) (few : z0 ≤ 255) (none : t3 ≡ 255) where
+module _ (z0 z2 z3 o0 o2 o3 v0 v2 v3 : ℕ) (few : z0 ≤ 255) (none : v3 ≡ 255) where
   by_tiles : ℕ
-  by_tiles = min (min (min (min z0 o0) (min z2 t0)) (min z3 o2)) (min o3 t2)
+  by_tiles = min (min (min (min z0 o0) (min z2 v0)) (min z3 o2)) (min o3 v2)
 
   by_runs : ℕ
-  by_runs = min (min (min (min z0 z3) z2) (min (min o0 o3) o2)) (min (min t0 t3) t2)
+  by_runs = min (min (min (min z0 z3) z2) (min (min o0 o3) o2)) (min (min v0 v3) v2)
 
   at_z0 : by_tiles ≤ z0
   unfolding by_tiles
@@ -58,7 +58,7 @@ module _ (z0 z2 z3 o0 o2 o3 t0 t2 t3 : ℕ) (few : z0 ≤ 255) (none : t3 ≡ 25
       (both_above _ _ _ (left_below _ _ _ (left_below _ _ _ (left_below _ _ _ (right_below _ _ _ (omega arith))))) (left_below _ _ _ (right_below _ _ _ (right_below _ _ _ (omega arith)))))
       (both_above _ _ _ (left_below _ _ _ (right_below _ _ _ (left_below _ _ _ (right_below _ _ _ (omega arith))))) (right_below _ _ _ (right_below _ _ _ (omega arith))))
 
-  same_least : min (min (min (min z0 o0) (min z2 t0)) (min z3 o2)) (min o3 t2) ≡ min (min (min (min z0 z3) z2) (min (min o0 o3) o2)) (min (min t0 t3) t2)
+  same_least : min (min (min (min z0 o0) (min z2 v0)) (min z3 o2)) (min o3 v2) ≡ min (min (min (min z0 z3) z2) (min (min o0 o3) o2)) (min (min v0 v3) v2)
   unfolding by_tiles by_runs
   same_least = less_same _ _ tiles_below runs_below
 
@@ -120,7 +120,7 @@ pub rank_with_runs : (counts caps : List ℕ) (a b w have limit : ℕ) → a + b
     HasLanes three (λ s p. capped (lane x.three.lacks s p + c3)) → HasLanes four (λ s p. capped (lane x.four.lacks s p + c4)) →
     HasLanes to_one (λ s p. min (lane zero s p) (lane one s p)) → HasLanes to_two (λ s p. min (lane to_one s p) (lane two s p)) → HasLanes to_three (λ s p. min (lane to_two s p) (lane three s p)) →
     HasLanes result (λ s p. min (lane to_three s p) (lane four s p)) → LeastLanes true (have ∷ counts) (limit ∷ caps) a b result
-rank_with_runs counts caps a b w have limit sum few later x is least c0 c1 c2 c3 c4 e0 e1 e2 e3 e4 no_tile one two three four to_one to_two to_three result zr or tw th fr r1 r2 r3 rs = record { at = at_lane }
+rank_with_runs counts caps a b w have limit sum few later x is least c0 c1 c2 c3 c4 e0 e1 e2 e3 e4 no_tile one two three four to_one to_two to_three result zr or tw th fr q1 q2 q3 rs = record { at = at_lane }
   where
     value : (s p : ℕ) → s < 5 → p < 2 → lane result s p ≡ row_value true (values later) w have limit s p
     value s p hs hp =
@@ -129,9 +129,9 @@ rank_with_runs counts caps a b w have limit sum few later x is least c0 c1 c2 c3
         let double = tw s p hs hp in
         let triple = th s p hs hp in
         let most = fr s p hs hp in
-        let first = r1 s p hs hp in
-        let second = r2 s p hs hp in
-        let third = r3 s p hs hp in
+        let first = q1 s p hs hp in
+        let second = q2 s p hs hp in
+        let third = q3 s p hs hp in
         let last = rs s p hs hp in
         let all = regrouped have limit few later x is w c0 c1 c2 c3 c4 e0 e1 e2 e3 e4 s p hs hp in
         cc
