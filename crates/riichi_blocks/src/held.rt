@@ -3,11 +3,19 @@ ghost use Rattle.std.specs.Prelude.{◌≡◌, ◌+◌, ◌<◌, ◌≤◌, ℕ,
 ghost use Rattle.riichi_tiles.specs.Melds.{tiles};
 ghost use Rattle.riichi_blocks.specs.Held as spec;
 
+use crate::AllTiles;
 use riichi_hand::WinRecord;
 use riichi_tiles::{Kind, Melds};
 
-/// How many of each kind are among the concealed tiles, the winning tile and the melds.
-pub fn all_tiles(win: &WinRecord) -> [u8; 34]
+/// The concealed tiles, the winning tile and the tiles of the melds.
+pub fn all_tiles(win: &WinRecord) -> AllTiles
+    ensures { result ≡ spec.all_tiles win.now }
+{
+    AllTiles::new(counts_of(win))
+}
+
+/// How many of each kind are among them.
+fn counts_of(win: &WinRecord) -> [u8; 34]
     ensures { result ≡ spec.all_tiles win.now }
 {
     let mut tiles = win.concealed().to_array();

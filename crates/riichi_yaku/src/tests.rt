@@ -102,7 +102,7 @@ fn tells_an_open_hand(rt: HostRuntime) -> Result<(), Fail> {
         assert_eq!(rt; word(10), "seat-wind");
         assert_eq!(rt; han_of(set, false), 2);
         let blocks = blocks_of(&reading, &win);
-        assert!(rt; !is_pinfu(blocks.as_slice(), &reading, &win));
+        assert!(rt; !is_pinfu(&blocks, &reading, &win));
     }
     Ok(())
 }

@@ -1,7 +1,7 @@
 use Rattle.std.proofs.Common.{◌+◌, set, get_or, ap, ◌∙◌, sym, length, length-set, arith}
 use Rattle.riichi_tiles.specs.Melds.{tiles}
 use Rattle.riichi_blocks.proofs.Additions.{none-melded, all_tiles-from}
-use Rattle.riichi_blocks.proofs.held.all_tiles.Goals as goal
+use Rattle.riichi_blocks.proofs.held.counts_of.Goals as goal
 
 pub returns-then-count-gt0 : goal.returns-then-count-gt0
 returns-then-count-gt0 c =
