@@ -12,7 +12,7 @@ use Rattle.riichi_blocks.specs.declared.hand_block.HandBlock.{HandBlock}
 use Rattle.riichi_blocks.specs.declared.hand_block.HandBlock.TheVariants.{Run, Triplet, Kong, Pair}
 use Rattle.riichi_blocks.specs.HandBlocks.{is_run, is_run_from, is_triplet, is_triplet_of, is_concealed_triplet, is_kong}
 use Rattle.riichi_blocks.specs.Tally.{IsTally}
-use Rattle.riichi_blocks.proofs.Additions.{get_or-one_more}
+use Rattle.riichi_blocks.proofs.Additions.{get_or-more}
 
 or-false : (b : Bool) → (b || false) ≡ b
 or-false true = refl
@@ -80,7 +80,7 @@ IsTally-run blocks from of r t c k low room within w =
       at_most_nine = omega (arith, room, length-append blocks (block ∷ []));
       every_run = length-set from low (get_or from low 0 + 1) ∙ w.every_run;
       every_triplet = w.every_triplet;
-      runs_from_are = λ kind h. omega (arith, get_or-one_more from low kind (omega (arith, within, w.every_run)), count-push (is_run_from kind) blocks block, w.runs_from_are kind h);
+      runs_from_are = λ kind h. omega (arith, get_or-more from low kind 1 (omega (arith, within, w.every_run)), count-push (is_run_from kind) blocks block, w.runs_from_are kind h);
       triplets_of_are = λ kind h. w.triplets_of_are kind h ∙ unmarked blocks kind block refl;
       runs_are = omega (arith, count-push is_run blocks block, w.runs_are);
       triplets_are = omega (arith, count-push is_triplet blocks block, w.triplets_are);

@@ -1,12 +1,9 @@
 //! All tiles of a hand, and words on them.
-ghost use Rattle.std.specs.Prelude.{◌≡◌, ◌<◌, ◌||◌, ℕ, false, slice_index_or};
+ghost use Rattle.std.specs.Prelude.{◌≡◌, ◌<◌, ◌||◌, not};
 ghost use Rattle.riichi_blocks.specs.Held as spec;
 ghost use Rattle.riichi_blocks.specs.Kinds as kinds;
 
-use crate::held_kinds::{
-    are_green, are_honours, are_of_suit, are_of_suit_or_honours, are_orphans, are_simples,
-    are_terminals, has_honours, has_suit,
-};
+use crate::held_kinds::{are_green, are_orphans, are_simples, are_terminals, some_in};
 use std::marker::Model;
 
 /// Every tile of a win, seen as the count of each kind. What conditions ask of them again and again is told once.
@@ -41,16 +38,28 @@ impl AllTiles {
     pub fn new(counts: [u8; 34]) -> AllTiles
         ensures { result ≡ counts }
     {
+        let characters = some_in(&counts, 0, 9);
+        let circles = some_in(&counts, 9, 18);
+        let bamboos = some_in(&counts, 18, 27);
+        let honours = some_in(&counts, 27, 34);
         AllTiles {
             simples: are_simples(&counts),
             orphans: are_orphans(&counts),
             terminals: are_terminals(&counts),
-            honours: are_honours(&counts),
+            honours: none_of(characters, circles, bamboos),
             green: are_green(&counts),
-            some_honour: has_honours(&counts),
-            of_suit: of_suits(&counts),
-            of_suit_or_honours: of_suits_or_honours(&counts),
-            some_of_suit: some_of_suits(&counts),
+            some_honour: honours,
+            of_suit: [
+                none_of(circles, bamboos, honours),
+                none_of(characters, bamboos, honours),
+                none_of(characters, circles, honours),
+            ],
+            of_suit_or_honours: [
+                none_of(circles, bamboos, false),
+                none_of(characters, bamboos, false),
+                none_of(characters, circles, false),
+            ],
+            some_of_suit: [characters, circles, bamboos],
             counts,
         }
     }
@@ -129,32 +138,8 @@ impl AllTiles {
     }
 }
 
-fn of_suits(counts: &[u8; 34]) -> [bool; 3]
-    ensures { (suit : ℕ) → suit < 3 → slice_index_or result suit false ≡ spec.every (kinds.is_of_suit suit) counts.now }
+fn none_of(first: bool, second: bool, third: bool) -> bool
+    ensures { result ≡ not (first || (second || third)) }
 {
-    [
-        are_of_suit(counts, 0),
-        are_of_suit(counts, 1),
-        are_of_suit(counts, 2),
-    ]
-}
-
-fn of_suits_or_honours(counts: &[u8; 34]) -> [bool; 3]
-    ensures { (suit : ℕ) → suit < 3 → slice_index_or result suit false ≡ spec.every (λ kind. kinds.is_of_suit suit kind || kinds.is_honour kind) counts.now }
-{
-    [
-        are_of_suit_or_honours(counts, 0),
-        are_of_suit_or_honours(counts, 1),
-        are_of_suit_or_honours(counts, 2),
-    ]
-}
-
-fn some_of_suits(counts: &[u8; 34]) -> [bool; 3]
-    ensures { (suit : ℕ) → suit < 3 → slice_index_or result suit false ≡ spec.some (kinds.is_of_suit suit) counts.now }
-{
-    [
-        has_suit(counts, 0),
-        has_suit(counts, 1),
-        has_suit(counts, 2),
-    ]
+    !(first || second || third)
 }
