@@ -1,7 +1,9 @@
 //! The program beside plain Rust: the same lines, in one run, as ratios.
 //!
-//! `bench PROGRAM [LINES]` times both; `bench answer < FILE` writes the answers of plain Rust alone.
+//! `bench PROGRAM [LINES]` times both; `bench answer < FILE` writes the answers of plain Rust alone;
+//! `bench best TIMED` times the best score alone (`time_best` makes the program TIMED).
 mod answer;
+mod best;
 mod input;
 mod line;
 mod score;
@@ -51,6 +53,12 @@ fn main() -> std::io::Result<()> {
             std::io::stdin().read_to_end(&mut text)?;
             std::io::stdout().write_all(&answer::answers(&text))
         }
+        Some("best") => {
+            if !best::measure(&words[2])? {
+                std::process::exit(1);
+            }
+            Ok(())
+        }
         Some("lines") => std::io::stdout().write_all(&input::lines(&words[2], words[3].parse().unwrap_or(1000))),
         Some(program) => {
             let count = words.get(2).and_then(|word| word.parse().ok()).unwrap_or(100_000);
@@ -62,7 +70,7 @@ fn main() -> std::io::Result<()> {
             Ok(())
         }
         None => {
-            eprintln!("usage: bench PROGRAM [LINES] | bench answer < FILE | bench lines win|waits|shape13|shape14 COUNT");
+            eprintln!("usage: bench PROGRAM [LINES] | bench best TIMED | bench answer < FILE | bench lines win|waits|shape13|shape14 COUNT");
             std::process::exit(2)
         }
     }

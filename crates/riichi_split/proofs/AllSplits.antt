@@ -1,18 +1,17 @@
 -- The list of all splits has each split of the definition once, and nothing else.
-use Rattle.std.proofs.Common.{◌≡◌, ℕ, zero, suc, ◌+◌, ◌-◌, ◌^◌, ◌<◌, ◌≤◌, Bool, true, false, cond, inl, inr, Option, Some, None, List, [], ◌∷◌, ◌++◌, length, get_or, set, min, refl, sym, ap, ◌∙◌, arith, ltb, leb, eqb}
+use Rattle.std.proofs.Common.{◌≡◌, ℕ, zero, suc, ◌+◌, ◌-◌, ◌^◌, ◌<◌, ◌≤◌, Bool, true, false, cond, inl, inr, Option, Some, None, List, [], ◌∷◌, ◌++◌, length, get_or, set, min, refl, sym, ap, ◌∙◌, arith, ltb, eqb}
 use Rattle.std.specs.List.{AllByRecursion}
 use Rattle.std.proofs.Math.Pow.{pow_mono}
 use Rattle.std.proofs.lemmas.Bool.{cases_eq, cases_lt}
 use Rattle.std.proofs.lemmas.Bool.Decides.{nat_tests}
 use Rattle.std.proofs.lemmas.List.{length-set, get_or-set_other}
-use Rattle.std.proofs.lemmas.List.Sums.{sum_by-set}
 use Rattle.std.proofs.lemmas.Grind.{get_or-set_at}
 use Rattle.riichi_tiles.specs.Tiles.{IsCounts}
 use Rattle.riichi_tiles.specs.declared.block.Block.{Block}
 use Rattle.riichi_tiles.specs.Blocks.{total}
 use Rattle.riichi_split.specs.declared.split.Split.{Split}
 use Rattle.riichi_split.specs.Readings.{IsSplit}
-use Rattle.riichi_split.specs.Cuts.{AreTheSplits, cut_from, sets_beside, split_of, from_choices, from_pairs, threes}
+use Rattle.riichi_split.specs.Cuts.{AreTheSplits, cut_from, sets_beside, split_of, from_choices, from_pairs, doubts}
 use Rattle.riichi_split.proofs.Lists.{IsIn, Differ, in-left, in-right, in-cases, Differ-append, Contains-in, All-in, AllPairs-differ}
 use Rattle.riichi_split.proofs.Sound.{carried, IsCut, IsCut-from, same_choices, few_choices, same-total}
 use Rattle.riichi_split.proofs.Complete.{found-by, IsFound}
@@ -61,9 +60,26 @@ small-by : (c : List ℕ) → ((k : ℕ) → get_or c k 0 ≤ 4) → AllByRecurs
 small-by [] h = tt
 small-by (n ∷ ns) h = (h 0, small-by ns (λ k. h (suc k)))
 
--- a pair less leaves no more kinds with three tiles
-threes-less : (c : List ℕ) (p v : ℕ) → p < length c → v ≤ get_or c p 0 → threes (set c p v) ≤ threes c
-threes-less c p v l h = let e = sum_by-set (λ n. cond (leb 3 n) 1 0) c p v 0 l in grind (arith, nat_tests)
+-- fewer tiles leave no more kinds in doubt
+fewer-doubts : (xs ys : List ℕ) → length xs ≡ length ys → ((k : ℕ) → get_or xs k 0 ≤ get_or ys k 0) → doubts xs ≤ doubts ys
+unfolding doubts
+fewer-doubts [] [] e h = omega arith
+fewer-doubts [] (y ∷ ys) e h = absurd (omega arith)
+fewer-doubts (x ∷ xs) [] e h = absurd (omega arith)
+fewer-doubts (x ∷ xs) (y ∷ ys) e h =
+    let more = fewer-doubts xs ys (omega arith) (λ k. h (suc k)) in
+    let own = h 0 in let next = h 1 in let third = h 2 in
+    grind (arith, nat_tests)
+
+fewer-tiles : (c : List ℕ) (p v k : ℕ) → p < length c → v ≤ get_or c p 0 → get_or (set c p v) k 0 ≤ get_or c k 0
+fewer-tiles c p v k l h =
+    elim (cases_eq k p) [
+      | inl e ↦ let g = get_or-set_at c p k v 0 e l in let f : get_or c k 0 ≡ get_or c p 0 = ap (λ x. get_or c x 0) e in omega arith
+      | inr n ↦ let g = get_or-set_other c p k v 0 n in omega arith
+    ]
+
+doubts-less : (c : List ℕ) (p v : ℕ) → p < length c → v ≤ get_or c p 0 → doubts (set c p v) ≤ doubts c
+doubts-less c p v l h = fewer-doubts (set c p v) c (simp length-set refl) (λ k. fewer-tiles c p v k l h)
 
 least : (x n : ℕ) → x < 2 ^ 4 → x < 2 ^ n → x < 2 ^ min 4 n
 least x n h i =
@@ -72,7 +88,7 @@ least x n h i =
       | inr g ↦ let e : 2 ^ n ≤ 2 ^ min 4 n = pow_mono {i = n} {j = min 4 n} (omega arith) in omega arith
     ]
 
-pub choice-from : (c : List ℕ) (wanted melds p : ℕ) (bs : List Block) → IsCounts c → wanted + melds ≡ 4 → IsSplit c melds bs p → (x : ℕ) × (x < 2 ^ min 4 (threes c)) × (sets_beside c wanted p x ≡ Some bs)
+pub choice-from : (c : List ℕ) (wanted melds p : ℕ) (bs : List Block) → IsCounts c → wanted + melds ≡ 4 → IsSplit c melds bs p → (x : ℕ) × (x < 2 ^ min 4 (doubts c)) × (sets_beside c wanted p x ≡ Some bs)
 choice-from c wanted melds p bs counts w h =
     let rest = set c p (get_or c p 0 - 2) in
     let in_range : p < length c = omega (arith, counts.each_kind, h.pair_is_kind) in
@@ -88,9 +104,9 @@ choice-from c wanted melds p bs counts w h =
     let f : IsFound 0 rest 0 0 wanted bs = found-by rest 0 0 0 wanted bs small cut in
     let few : wanted ≤ 4 = omega arith in
     let up : 2 ^ wanted ≤ 2 ^ 4 = pow_mono {i = wanted} {j = 4} few in
-    let fewer : 2 ^ threes rest ≤ 2 ^ threes c = pow_mono (threes-less c p (get_or c p 0 - 2) in_range (omega arith)) in
+    let fewer : 2 ^ doubts rest ≤ 2 ^ doubts c = pow_mono (doubts-less c p (get_or c p 0 - 2) in_range (omega arith)) in
     let own_few = few_choices rest 0 0 0 wanted f.0 bs f.2 in
-    (f.0, least f.0 (threes c) (omega (arith, f.1)) (omega arith), beside-is c wanted p f.0 bs has f.2)
+    (f.0, least f.0 (doubts c) (omega (arith, f.1)) (omega arith), beside-is c wanted p f.0 bs has f.2)
 
 -- ---- all splits
 
@@ -179,11 +195,11 @@ no_choices c wanted p splits = refl
 abbrev pub HasPairsAmong : List ℕ → ℕ → ℕ → Type 0
 HasPairsAmong c first kinds = (melds : ℕ) (sets : List Block) (pair : ℕ) → IsSplit c melds sets pair → (first ≤ pair) × (pair < first + kinds)
 
-pub the_splits : (c : List ℕ) (wanted melds p first kinds : ℕ) → IsCounts c → wanted + melds ≡ 4 → first + kinds ≤ 34 → HasPairsAmong c first kinds → AreTheSplits c melds (from_choices c wanted p 0 ++ from_pairs c wanted (2 ^ min 4 (threes c)) first kinds)
+pub the_splits : (c : List ℕ) (wanted melds p first kinds : ℕ) → IsCounts c → wanted + melds ≡ 4 → first + kinds ≤ 34 → HasPairsAmong c first kinds → AreTheSplits c melds (from_choices c wanted p 0 ++ from_pairs c wanted (2 ^ min 4 (doubts c)) first kinds)
 the_splits c wanted melds p first kinds counts w l among =
-    let all = from_pairs c wanted (2 ^ min 4 (threes c)) first kinds in
+    let all = from_pairs c wanted (2 ^ min 4 (doubts c)) first kinds in
     rw (no_choices c wanted p all) (record {
-      sound = All-in (λ s. IsSplit c melds s.sets s.pair) all (λ s h. let i = from_pairs-inv c wanted (2 ^ min 4 (threes c)) first kinds s h in IsSplit-from c wanted melds s.pair i.1.0 s.sets counts w (omega (arith, i.0)) i.1.2);
-      complete = λ s h. let i = choice-from c wanted melds s.pair s.sets counts w h in let q = among melds s.sets s.pair h in Contains-in s all (in-from_pairs c wanted (2 ^ min 4 (threes c)) first kinds i.0 s q.0 q.1 i.1 i.2);
-      once = AllPairs-differ all (Differ-from_pairs c wanted (2 ^ min 4 (threes c)) first kinds);
+      sound = All-in (λ s. IsSplit c melds s.sets s.pair) all (λ s h. let i = from_pairs-inv c wanted (2 ^ min 4 (doubts c)) first kinds s h in IsSplit-from c wanted melds s.pair i.1.0 s.sets counts w (omega (arith, i.0)) i.1.2);
+      complete = λ s h. let i = choice-from c wanted melds s.pair s.sets counts w h in let q = among melds s.sets s.pair h in Contains-in s all (in-from_pairs c wanted (2 ^ min 4 (doubts c)) first kinds i.0 s q.0 q.1 i.1 i.2);
+      once = AllPairs-differ all (Differ-from_pairs c wanted (2 ^ min 4 (doubts c)) first kinds);
     })

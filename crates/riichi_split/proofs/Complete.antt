@@ -1,5 +1,5 @@
 -- Each list of ordered sets that uses up the counts is given by `cut_from`, for some number of choices.
-use Rattle.std.proofs.Common.{◌≡◌, ℕ, zero, suc, ◌+◌, ◌-◌, ◌*◌, ◌^◌, ◌<◌, ◌≤◌, cond, inl, inr, Option, Some, None, List, [], ◌∷◌, ◌++◌, length, get_or, replicate, refl, sym, ap, ◌∙◌, subst, arith, ltb, eqb, eq-eqb, length-append}
+use Rattle.std.proofs.Common.{◌≡◌, Bool, true, false, ℕ, zero, suc, ◌+◌, ◌-◌, ◌*◌, ◌^◌, ◌<◌, ◌≤◌, cond, inl, inr, Option, Some, None, List, [], ◌∷◌, ◌++◌, length, get_or, replicate, refl, sym, ap, ◌∙◌, subst, arith, ltb, eqb, eq-eqb, length-append}
 use Rattle.std.specs.List.{AllByRecursion}
 use Rattle.std.proofs.lemmas.Bool.{cases_lt}
 use Rattle.std.proofs.lemmas.Bool.Decides.{nat_tests}
@@ -11,7 +11,7 @@ use Rattle.riichi_tiles.specs.declared.block.Block.{Block}
 use Rattle.riichi_tiles.specs.declared.block.Block.TheVariants.{Run, Triplet, Pair}
 use Rattle.riichi_split.specs.declared.cutting.Choice.{Choice}
 use Rattle.riichi_tiles.specs.Blocks.{copies, total, IsRunLow, IsSet, IsOrderedFrom}
-use Rattle.riichi_split.specs.Cuts.{choice_of, begun, joined, cut_from}
+use Rattle.riichi_split.specs.Cuts.{choice_of, may_have_runs, begun, joined, cut_from}
 use Rattle.riichi_split.proofs.Cuts.{IsChoice, choice_of-is, cut_from-cons, cut_from-nil}
 use Rattle.riichi_split.proofs.Sound.{carried, IsCut, begun-total, none_below, same-total, order-weaker}
 
@@ -83,30 +83,41 @@ abbrev pub IsFound : ℕ → List ℕ → ℕ → ℕ → ℕ → List Block →
 IsFound k ns one two left bs = (choices : ℕ) × (choices < 2 ^ left) × (cut_from k ns one two left choices ≡ Some bs)
 
 -- the choice at a kind, from the blocks that were peeled
-abbrev chosen-below : ℕ → ℕ → ℕ → ℕ
-chosen-below t r x = cond (ltb (3 * t + r) 3) x (t + 2 * x)
+abbrev chosen-below : Bool → ℕ → ℕ → ℕ → ℕ
+chosen-below in_doubt t r x = cond (ltb (3 * t + r) 3) x (cond in_doubt (t + 2 * x) x)
 
-peeled-choice : (k n t r below left x : ℕ) → n ≡ below + 3 * t + r → n ≤ 4 → t + r ≤ left → (0 < r → IsRunLow k) → IsChoice k n below left (chosen-below t r x) (record { triplets = t; runs = r; choices = x })
-peeled-choice k n t r below left x e f room may = record {
+-- three free tiles with no three runs are a triplet
+sure-triplet : (t r : ℕ) (in_doubt : Bool) → t ≤ 1 → 3 ≤ 3 * t + r → (3 ≤ r → in_doubt ≡ true) → in_doubt ≡ false → t ≡ 1
+sure-triplet zero r in_doubt s h three d = absurd (let e = three (omega arith) in cc)
+sure-triplet (suc zero) r in_doubt s h three d = refl
+sure-triplet (suc (suc t)) r in_doubt s h three d = absurd (omega arith)
+
+peeled-choice : (k n t r below left x : ℕ) (in_doubt : Bool) → n ≡ below + 3 * t + r → n ≤ 4 → t + r ≤ left → (0 < r → IsRunLow k) → (3 ≤ r → in_doubt ≡ true) → IsChoice k n in_doubt below left (chosen-below in_doubt t r x) (record { triplets = t; runs = r; choices = x })
+peeled-choice k n t r below left x in_doubt e f room may three = record {
   uses = e;
   single = omega arith;
   room = room;
   may = may;
   idle = λ h. grind (arith, nat_tests);
-  bit = λ h. grind (arith, nat_tests);
+  certain = λ h d. (sure-triplet t r in_doubt (omega arith) (omega arith) three d, grind (arith, nat_tests));
+  bit = λ h d. grind (arith, nat_tests);
 }
 
-peeled-small : (t r left x : ℕ) → t ≤ 1 → t + r ≤ left → x < 2 ^ (left - (t + r)) → chosen-below t r x < 2 ^ left
-peeled-small t r left x s room h =
+peeled-small : (t r left x : ℕ) (in_doubt : Bool) → t ≤ 1 → t + r ≤ left → x < 2 ^ (left - (t + r)) → chosen-below in_doubt t r x < 2 ^ left
+peeled-small t r left x false s room h =
+    let up : 2 ^ (left - (t + r)) ≤ 2 ^ left = pow_mono (omega arith) in
+    let e : chosen-below false t r x ≡ x = grind (arith, nat_tests) in
+    omega arith
+peeled-small t r left x true s room h =
     elim (cases_lt (3 * t + r) 3) [
       | inr some ↦
           let up : 2 ^ suc (left - (t + r)) ≤ 2 ^ left = pow_mono (omega arith) in
           let two : 2 ^ suc (left - (t + r)) ≡ 2 ^ (left - (t + r)) + 2 ^ (left - (t + r)) = two-pow-succ (left - (t + r)) in
-          let e : chosen-below t r x ≡ t + 2 * x = grind (arith, nat_tests) in
+          let e : chosen-below true t r x ≡ t + 2 * x = grind (arith, nat_tests) in
           omega arith
       | inl none ↦
           let up : 2 ^ (left - (t + r)) ≤ 2 ^ left = pow_mono (omega arith) in
-          let e : chosen-below t r x ≡ x = grind (arith, nat_tests) in
+          let e : chosen-below true t r x ≡ x = grind (arith, nat_tests) in
           omega arith
     ]
 
@@ -128,7 +139,7 @@ nil-found k one two left h z =
     let up : 0 < 2 ^ left = pow_pos left in
     (0, up, cut_from-nil k one two left 0 ∙ ap (λ b. cond {A = Option (List Block)} b (Some []) None) (eq-eqb (one + two + left + 0) 0 (omega arith)))
 
-found-is : (k n : ℕ) (ns : List ℕ) (one two left choices : ℕ) (c : Choice) (bs rest : List Block) → choice_of k n (one + two) left choices ≡ Some c → cut_from (k + 1) ns c.runs one (left - (c.triplets + c.runs)) c.choices ≡ Some rest → bs ≡ begun k c ++ rest → cut_from k (n ∷ ns) one two left choices ≡ Some bs
+found-is : (k n : ℕ) (ns : List ℕ) (one two left choices : ℕ) (c : Choice) (bs rest : List Block) → choice_of k n (may_have_runs ns) (one + two) left choices ≡ Some c → cut_from (k + 1) ns c.runs one (left - (c.triplets + c.runs)) c.choices ≡ Some rest → bs ≡ begun k c ++ rest → cut_from k (n ∷ ns) one two left choices ≡ Some bs
 found-is k n ns one two left choices c bs rest e f p = cut_from-cons k n ns one two left choices (Some c) e ∙ ap (joined (begun k c)) f ∙ ap Some (sym p)
 
 found-step : (n : ℕ) (ns : List ℕ) (k one two left t r : ℕ) (bs rest : List Block) → n ≤ 4 → IsCut k (n ∷ ns) one two left bs → IsPeeled k t r bs rest → (IsCut (k + 1) ns r one (left - (t + r)) rest → IsFound (k + 1) ns r one (left - (t + r)) rest) → IsFound k (n ∷ ns) one two left bs
@@ -145,8 +156,10 @@ found-step n ns k one two left t r bs rest small h p ih =
     } in
     let i = ih cut in
     let c : Choice = record { triplets = t; runs = r; choices = i.0 } in
-    let e = choice_of-is k n (one + two) left (chosen-below t r i.0) c (peeled-choice k n t r (one + two) left i.0 uses small (omega arith) p.may) in
-    (chosen-below t r i.0, peeled-small t r left i.0 (omega arith) (omega arith) i.1, found-is k n ns one two left (chosen-below t r i.0) c bs rest e i.2 p.parts)
+    let three : 3 ≤ r → may_have_runs ns ≡ true = λ many-runs. let a = cut.adds 0 in let b = cut.adds 1 in grind (arith, nat_tests) in
+    let number = chosen-below (may_have_runs ns) t r i.0 in
+    let e = choice_of-is k n (may_have_runs ns) (one + two) left number c (peeled-choice k n t r (one + two) left i.0 (may_have_runs ns) uses small (omega arith) p.may three) in
+    (number, peeled-small t r left i.0 (may_have_runs ns) (omega arith) (omega arith) i.1, found-is k n ns one two left number c bs rest e i.2 p.parts)
 
 pub found-by : (ns : List ℕ) (k one two left : ℕ) (bs : List Block) → AllByRecursion (λ n. n ≤ 4) ns → IsCut k ns one two left bs → IsFound k ns one two left bs
 found-by [] k one two left bs small h =

@@ -7,30 +7,33 @@ use Rattle.std.proofs.lemmas.List.{length-replicate}
 use Rattle.riichi_tiles.specs.declared.block.Block.{Block}
 use Rattle.riichi_split.specs.declared.cutting.Choice.{Choice}
 use Rattle.riichi_tiles.specs.Blocks.{IsRunLow}
-use Rattle.riichi_split.specs.Cuts.{choice_of, begun, joined, cut_from}
+use Rattle.riichi_split.specs.Cuts.{choice_of, may_have_runs, begun, joined, cut_from}
 
 -- ---- one kind
 
-pub record IsChoice (k n below left choices : ℕ) (c : Choice) : Type 0 where
+pub record IsChoice (k n : ℕ) (in_doubt : Bool) (below left choices : ℕ) (c : Choice) : Type 0 where
   pub uses : n ≡ below + 3 * c.triplets + c.runs
   pub single : c.triplets ≤ 1
   pub room : c.triplets + c.runs ≤ left
   pub may : 0 < c.runs → IsRunLow k
   pub idle : n < below + 3 → c.choices ≡ choices
-  pub bit : below + 3 ≤ n → choices ≡ c.triplets + 2 * c.choices
+  pub certain : below + 3 ≤ n → in_doubt ≡ false → (c.triplets ≡ 1) × (c.choices ≡ choices)
+  pub bit : below + 3 ≤ n → in_doubt ≡ true → choices ≡ c.triplets + 2 * c.choices
 
-pub IsChoice-from : (k n below left choices : ℕ) (c : Choice) → choice_of k n below left choices ≡ Some c → IsChoice k n below left choices c
-IsChoice-from k n below left choices c e = record {
+pub IsChoice-from : (k n : ℕ) (in_doubt : Bool) (below left choices : ℕ) (c : Choice) → choice_of k n in_doubt below left choices ≡ Some c → IsChoice k n in_doubt below left choices c
+IsChoice-from k n in_doubt below left choices c e = record {
   uses = grind (arith, nat_tests);
   single = grind (arith, nat_tests);
   room = grind (arith, nat_tests);
   may = λ h. grind (arith, nat_tests);
   idle = λ h. grind (arith, nat_tests);
-  bit = λ h. grind (arith, nat_tests);
+  certain = λ h d. (grind (arith, nat_tests), grind (arith, nat_tests));
+  bit = λ h d. grind (arith, nat_tests);
 }
 
-pub choice_of-is : (k n below left choices : ℕ) (c : Choice) → IsChoice k n below left choices c → choice_of k n below left choices ≡ Some c
-choice_of-is k n below left choices c h = grind (arith, nat_tests)
+pub choice_of-is : (k n : ℕ) (in_doubt : Bool) (below left choices : ℕ) (c : Choice) → IsChoice k n in_doubt below left choices c → choice_of k n in_doubt below left choices ≡ Some c
+choice_of-is k n true below left choices c h = grind (arith, nat_tests)
+choice_of-is k n false below left choices c h = grind (arith, nat_tests)
 
 -- ---- the loop of `split`
 
@@ -42,7 +45,7 @@ joined-joined xs ys (Some bs) = ap Some (sym (append_assoc xs ys bs))
 abbrev pub after : ℕ → List ℕ → ℕ → ℕ → Choice → Option (List Block)
 after k ns one left c = joined (begun k c) (cut_from (k + 1) ns c.runs one (left - (c.triplets + c.runs)) c.choices)
 
-pub cut_from-cons : (k n : ℕ) (ns : List ℕ) (one two left choices : ℕ) (o : Option Choice) → choice_of k n (one + two) left choices ≡ o → cut_from k (n ∷ ns) one two left choices ≡ option_and_then (after k ns one left) o
+pub cut_from-cons : (k n : ℕ) (ns : List ℕ) (one two left choices : ℕ) (o : Option Choice) → choice_of k n (may_have_runs ns) (one + two) left choices ≡ o → cut_from k (n ∷ ns) one two left choices ≡ option_and_then (after k ns one left) o
 unfolding cut_from
 cut_from-cons k n ns one two left choices o e = ap (option_and_then (after k ns one left)) e
 
@@ -59,17 +62,17 @@ pub record IsPartWay (counts : List ℕ) (wanted all : ℕ) (k : ℕ) (sets : Li
   pub few : (one ≤ 4) × (two ≤ 4)
   pub rest : cut_from 0 counts 0 0 wanted all ≡ joined sets (cut_from k (drop k counts) one two left choices)
 
-pub IsPartWay-more : (counts : List ℕ) (wanted all k : ℕ) (sets : List Block) (one two left choices : ℕ) (c : Choice) → k < length counts → wanted ≤ 4 → IsPartWay counts wanted all k sets one two left choices → choice_of k (get_or counts k 0) (one + two) left choices ≡ Some c → IsPartWay counts wanted all (k + 1) (sets ++ begun k c) c.runs one (left - (c.triplets + c.runs)) c.choices
+pub IsPartWay-more : (counts : List ℕ) (wanted all k : ℕ) (sets : List Block) (one two left choices : ℕ) (c : Choice) → k < length counts → wanted ≤ 4 → IsPartWay counts wanted all k sets one two left choices → choice_of k (get_or counts k 0) (may_have_runs (drop (k + 1) counts)) (one + two) left choices ≡ Some c → IsPartWay counts wanted all (k + 1) (sets ++ begun k c) c.runs one (left - (c.triplets + c.runs)) c.choices
 IsPartWay-more counts wanted all k sets one two left choices c in_range small h e =
     let d : drop k counts ≡ get_or counts k 0 ∷ drop (k + 1) counts = rw add-one (drop-cons counts k 0 in_range) in
-    let ok : IsChoice k (get_or counts k 0) (one + two) left choices c = IsChoice-from k (get_or counts k 0) (one + two) left choices c e in
+    let ok : IsChoice k (get_or counts k 0) (may_have_runs (drop (k + 1) counts)) (one + two) left choices c = IsChoice-from k (get_or counts k 0) (may_have_runs (drop (k + 1) counts)) (one + two) left choices c e in
     record {
       room = simp (length-append, length-replicate) (omega (arith, ok.room, h.room));
       few = (omega (arith, ok.room, h.room), h.few.0);
       rest = h.rest ∙ ap (λ ns. joined sets (cut_from k ns one two left choices)) d ∙ ap (joined sets) (cut_from-cons k (get_or counts k 0) (drop (k + 1) counts) one two left choices (Some c) e) ∙ joined-joined sets (begun k c) _;
     }
 
-pub none_from_part : (counts : List ℕ) (wanted all k : ℕ) (sets : List Block) (one two left choices : ℕ) → k < length counts → IsPartWay counts wanted all k sets one two left choices → choice_of k (get_or counts k 0) (one + two) left choices ≡ None → cut_from 0 counts 0 0 wanted all ≡ None
+pub none_from_part : (counts : List ℕ) (wanted all k : ℕ) (sets : List Block) (one two left choices : ℕ) → k < length counts → IsPartWay counts wanted all k sets one two left choices → choice_of k (get_or counts k 0) (may_have_runs (drop (k + 1) counts)) (one + two) left choices ≡ None → cut_from 0 counts 0 0 wanted all ≡ None
 none_from_part counts wanted all k sets one two left choices in_range h e =
     let d : drop k counts ≡ get_or counts k 0 ∷ drop (k + 1) counts = rw add-one (drop-cons counts k 0 in_range) in
     h.rest ∙ ap (λ ns. joined sets (cut_from k ns one two left choices)) d ∙ ap (joined sets) (cut_from-cons k (get_or counts k 0) (drop (k + 1) counts) one two left choices None e)
@@ -82,7 +85,7 @@ cut_from-end counts wanted all k sets one two left choices past h =
 pub IsPartWay-skip : (counts : List ℕ) (wanted all k : ℕ) (sets : List Block) (one two left choices : ℕ) → k < length counts → wanted ≤ 4 → get_or counts k 0 ≡ 0 → one ≡ 0 → two ≡ 0 → IsPartWay counts wanted all k sets one two left choices → IsPartWay counts wanted all (k + 1) sets one two left choices
 IsPartWay-skip counts wanted all k sets one two left choices in_range small none e f h =
     let c : Choice = record { triplets = 0; runs = 0; choices = choices } in
-    let is : choice_of k (get_or counts k 0) (one + two) left choices ≡ Some c = grind (arith, nat_tests) in
+    let is : choice_of k (get_or counts k 0) (may_have_runs (drop (k + 1) counts)) (one + two) left choices ≡ Some c = grind (arith, nat_tests) in
     let more = IsPartWay-more counts wanted all k sets one two left choices c in_range small h is in
     let front : sets ++ begun k c ≡ sets = append-nil sets in
     let same : left - (0 + 0) ≡ left = omega arith in

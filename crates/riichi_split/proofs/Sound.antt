@@ -1,17 +1,16 @@
 -- What `cut_from` gives is a list of ordered sets which uses up the counts, and each such list is given, for one number of choices.
-use Rattle.std.proofs.Common.{leb, ◌^◌, ◌≡◌, ℕ, zero, suc, ◌+◌, ◌-◌, ◌*◌, ◌<◌, ◌≤◌, Bool, true, false, cond, inl, inr, Option, Some, None, List, [], ◌∷◌, ◌++◌, length, get_or, replicate, refl, sym, ap, ◌∙◌, subst, arith, ltb, eqb, length-append, option_and_then}
+use Rattle.std.proofs.Common.{leb, ◌&&◌, ◌^◌, ◌≡◌, ℕ, zero, suc, ◌+◌, ◌-◌, ◌*◌, ◌<◌, ◌≤◌, Bool, true, false, cond, inl, inr, Option, Some, None, List, [], ◌∷◌, ◌++◌, length, get_or, replicate, refl, sym, ap, ◌∙◌, subst, arith, ltb, eqb, length-append, option_and_then}
 use Rattle.std.specs.List.{AllByRecursion}
 use Rattle.std.proofs.lemmas.Bool.{cases_lt}
 use Rattle.std.proofs.lemmas.Bool.Decides.{nat_tests}
 use Rattle.std.proofs.lemmas.List.{length-replicate}
-use Rattle.std.proofs.lemmas.List.Sums.{sum_by-cons}
 use Rattle.std.proofs.Math.Pow.{pow_mono}
 use Rattle.std.proofs.Math.Nat.{two-pow-succ}
 use Rattle.riichi_tiles.specs.declared.block.Block.{Block}
 use Rattle.riichi_tiles.specs.declared.block.Block.TheVariants.{Run, Triplet, Pair}
 use Rattle.riichi_split.specs.declared.cutting.Choice.{Choice}
 use Rattle.riichi_tiles.specs.Blocks.{copies, total, IsRunLow, IsSet, IsOrderedFrom}
-use Rattle.riichi_split.specs.Cuts.{choice_of, begun, joined, cut_from, threes}
+use Rattle.riichi_split.specs.Cuts.{choice_of, may_have_runs, begun, joined, cut_from, doubts}
 use Rattle.riichi_split.proofs.Cuts.{IsChoice, IsChoice-from, cut_from-cons, cut_from-nil, after}
 
 -- the tiles at j kinds above k that belong to runs begun one and two kinds below k
@@ -64,7 +63,7 @@ pub same-total : (bs : List Block) (i j : ℕ) → i ≡ j → total bs i ≡ to
 same-total bs i j e = ap (total bs) e
 
 -- one kind more
-adds-more : (k n : ℕ) (ns : List ℕ) (one two left choices : ℕ) (c : Choice) (bs : List Block) → IsChoice k n (one + two) left choices c → total bs k ≡ 0 → ((j : ℕ) → get_or ns j 0 ≡ carried c.runs one j + total bs (k + 1 + j)) → (j : ℕ) → get_or (n ∷ ns) j 0 ≡ carried one two j + total (begun k c ++ bs) (k + j)
+adds-more : (k n : ℕ) (ns : List ℕ) (one two left choices : ℕ) (c : Choice) (bs : List Block) → IsChoice k n (may_have_runs ns) (one + two) left choices c → total bs k ≡ 0 → ((j : ℕ) → get_or ns j 0 ≡ carried c.runs one j + total bs (k + 1 + j)) → (j : ℕ) → get_or (n ∷ ns) j 0 ≡ carried one two j + total (begun k c ++ bs) (k + j)
 adds-more k n ns one two left choices c bs ok low h zero =
     let e = begun-total k 0 c bs in let z = same-total bs (k + 0) k (omega arith) in let u = ok.uses in omega arith
 adds-more k n ns one two left choices c bs ok low h (suc zero) =
@@ -113,7 +112,7 @@ end-cut k one two left choices true bs t e =
     subst P n (record { many = omega arith; sets = tt; order = tt; adds = λ j. nothing-carried one two j (omega arith) })
 end-cut k one two left choices false bs t e = absurd (cc)
 
-pub cut-more : (k n : ℕ) (ns : List ℕ) (one two left choices : ℕ) (c : Choice) (rest : List Block) → k < 34 → IsChoice k n (one + two) left choices c → IsCut (k + 1) ns c.runs one (left - (c.triplets + c.runs)) rest → IsCut k (n ∷ ns) one two left (begun k c ++ rest)
+pub cut-more : (k n : ℕ) (ns : List ℕ) (one two left choices : ℕ) (c : Choice) (rest : List Block) → k < 34 → IsChoice k n (may_have_runs ns) (one + two) left choices c → IsCut (k + 1) ns c.runs one (left - (c.triplets + c.runs)) rest → IsCut k (n ∷ ns) one two left (begun k c ++ rest)
 cut-more k n ns one two left choices c rest l ok h =
     let o : IsOrderedFrom (2 * k + 2) rest = order-weaker rest (2 * (k + 1)) (2 * k + 2) (omega arith) h.order in
     record {
@@ -123,12 +122,12 @@ cut-more k n ns one two left choices c rest l ok h =
       adds = adds-more k n ns one two left choices c rest ok (none_below rest (2 * k + 2) k h.sets o (omega arith)) h.adds;
     }
 
-cut-from-chosen : (n : ℕ) (ns : List ℕ) (k one two left choices : ℕ) (bs : List Block) → k < 34 → ((c : Choice) (rest : List Block) → cut_from (k + 1) ns c.runs one (left - (c.triplets + c.runs)) c.choices ≡ Some rest → IsCut (k + 1) ns c.runs one (left - (c.triplets + c.runs)) rest) → (o : Option Choice) → choice_of k n (one + two) left choices ≡ o → option_and_then (after k ns one left) o ≡ Some bs → IsCut k (n ∷ ns) one two left bs
+cut-from-chosen : (n : ℕ) (ns : List ℕ) (k one two left choices : ℕ) (bs : List Block) → k < 34 → ((c : Choice) (rest : List Block) → cut_from (k + 1) ns c.runs one (left - (c.triplets + c.runs)) c.choices ≡ Some rest → IsCut (k + 1) ns c.runs one (left - (c.triplets + c.runs)) rest) → (o : Option Choice) → choice_of k n (may_have_runs ns) (one + two) left choices ≡ o → option_and_then (after k ns one left) o ≡ Some bs → IsCut k (n ∷ ns) one two left bs
 cut-from-chosen n ns k one two left choices bs l ih None o e = absurd (cc)
 cut-from-chosen n ns k one two left choices bs l ih (Some c) o e =
     let j = joined-inv (begun k c) bs (cut_from (k + 1) ns c.runs one (left - (c.triplets + c.runs)) c.choices) e in
     let P : List Block → Type 0 = λ x. IsCut k (n ∷ ns) one two left x in
-    subst P (sym j.2) (cut-more k n ns one two left choices c j.0 l (IsChoice-from k n (one + two) left choices c o) (ih c j.0 j.1))
+    subst P (sym j.2) (cut-more k n ns one two left choices c j.0 l (IsChoice-from k n (may_have_runs ns) (one + two) left choices c o) (ih c j.0 j.1))
 
 pub IsCut-from : (ns : List ℕ) (k one two left choices : ℕ) (bs : List Block) → k + length ns ≡ 34 → cut_from k ns one two left choices ≡ Some bs → IsCut k ns one two left bs
 IsCut-from [] k one two left choices bs l e = end-cut k one two left choices _ bs refl (sym (cut_from-nil k one two left choices) ∙ e)
@@ -162,22 +161,31 @@ same-end k one two left choices others true true bs t u e f =
 same-end k one two left choices others false d bs t u e f = absurd (cc)
 same-end k one two left choices others true false bs t u e f = absurd (cc)
 
-same-after : (n : ℕ) (ns : List ℕ) (k one two left choices others : ℕ) (bs : List Block) → ((r m x y : ℕ) (rest : List Block) → cut_from (k + 1) ns r one m x ≡ Some rest → cut_from (k + 1) ns r one m y ≡ Some rest → x ≡ y) → (o p : Option Choice) → choice_of k n (one + two) left choices ≡ o → choice_of k n (one + two) left others ≡ p → option_and_then (after k ns one left) o ≡ Some bs → option_and_then (after k ns one left) p ≡ Some bs → choices ≡ others
+same-number : (n below choices others : ℕ) (c d : Choice) (in_doubt : Bool) → c.triplets ≡ d.triplets → c.choices ≡ d.choices → (n < below + 3 → c.choices ≡ choices) → (n < below + 3 → d.choices ≡ others) → (below + 3 ≤ n → in_doubt ≡ false → (c.triplets ≡ 1) × (c.choices ≡ choices)) → (below + 3 ≤ n → in_doubt ≡ false → (d.triplets ≡ 1) × (d.choices ≡ others)) → (below + 3 ≤ n → in_doubt ≡ true → choices ≡ c.triplets + 2 * c.choices) → (below + 3 ≤ n → in_doubt ≡ true → others ≡ d.triplets + 2 * d.choices) → choices ≡ others
+same-number n below choices others c d true s q xi yi xc yc xb yb =
+    elim (cases_lt n (below + 3)) [
+      | inl h ↦ omega (arith, xi h, yi h, q)
+      | inr h ↦ omega (arith, xb (omega arith) refl, yb (omega arith) refl, q, s)
+    ]
+same-number n below choices others c d false s q xi yi xc yc xb yb =
+    elim (cases_lt n (below + 3)) [
+      | inl h ↦ omega (arith, xi h, yi h, q)
+      | inr h ↦ let x = xc (omega arith) refl in let y = yc (omega arith) refl in omega (arith, x.1, y.1, q)
+    ]
+
+same-after : (n : ℕ) (ns : List ℕ) (k one two left choices others : ℕ) (bs : List Block) → ((r m x y : ℕ) (rest : List Block) → cut_from (k + 1) ns r one m x ≡ Some rest → cut_from (k + 1) ns r one m y ≡ Some rest → x ≡ y) → (o p : Option Choice) → choice_of k n (may_have_runs ns) (one + two) left choices ≡ o → choice_of k n (may_have_runs ns) (one + two) left others ≡ p → option_and_then (after k ns one left) o ≡ Some bs → option_and_then (after k ns one left) p ≡ Some bs → choices ≡ others
 same-after n ns k one two left choices others bs ih None p a b e f = absurd (cc)
 same-after n ns k one two left choices others bs ih (Some c) None a b e f = absurd (cc)
 same-after n ns k one two left choices others bs ih (Some c) (Some d) a b e f =
     let i = joined-inv (begun k c) bs (cut_from (k + 1) ns c.runs one (left - (c.triplets + c.runs)) c.choices) e in
     let j = joined-inv (begun k d) bs (cut_from (k + 1) ns d.runs one (left - (d.triplets + d.runs)) d.choices) f in
-    let x = IsChoice-from k n (one + two) left choices c a in
-    let y = IsChoice-from k n (one + two) left others d b in
+    let x = IsChoice-from k n (may_have_runs ns) (one + two) left choices c a in
+    let y = IsChoice-from k n (may_have_runs ns) (one + two) left others d b in
     let s = begun-same c.triplets c.runs d.triplets d.runs k i.0 j.0 x.single y.single (omega (arith, x.uses, y.uses)) (sym i.2 ∙ j.2) in
     let g : cut_from (k + 1) ns c.runs one (left - (c.triplets + c.runs)) d.choices ≡ Some i.0 =
     ap (λ r. cut_from (k + 1) ns r one (left - (c.triplets + c.runs)) d.choices) s.1 ∙ ap (λ m. cut_from (k + 1) ns d.runs one m d.choices) (omega (arith, s.0, s.1)) ∙ j.1 ∙ ap Some (sym s.2) in
     let q = ih c.runs (left - (c.triplets + c.runs)) c.choices d.choices i.0 i.1 g in
-    elim (cases_lt n (one + two + 3)) [
-      | inl h ↦ omega (arith, x.idle h, y.idle (omega arith), q)
-      | inr h ↦ omega (arith, x.bit (omega arith), y.bit (omega arith), q, s.0)
-    ]
+    same-number n (one + two) choices others c d (may_have_runs ns) s.0 q x.idle y.idle x.certain y.certain x.bit y.bit
 
 pub same_choices : (ns : List ℕ) (k one two left choices others : ℕ) (bs : List Block) → cut_from k ns one two left choices ≡ Some bs → cut_from k ns one two left others ≡ Some bs → choices ≡ others
 same_choices [] k one two left choices others bs e f =
@@ -191,29 +199,42 @@ few-end : (k one two left choices : ℕ) (b : Bool) (bs : List Block) → b ≡ 
 few-end k one two left choices true bs t e = let z : one + two + left + choices ≡ 0 = grind (arith, nat_tests) in omega arith
 few-end k one two left choices false bs t e = absurd (cc)
 
-few-step : (n m below t rest choices : ℕ) → t ≤ 1 → rest < 2 ^ m → (n < below + 3 → rest ≡ choices) → (below + 3 ≤ n → choices ≡ t + 2 * rest) → choices < 2 ^ (cond (leb 3 n) 1 0 + m)
-few-step n m below t rest choices single h idle bit =
+few-step : (n m below t rest choices : ℕ) (in_doubt : Bool) → t ≤ 1 → rest < 2 ^ m → (n < below + 3 → rest ≡ choices) → (below + 3 ≤ n → in_doubt ≡ false → (t ≡ 1) × (rest ≡ choices)) → (below + 3 ≤ n → in_doubt ≡ true → choices ≡ t + 2 * rest) → choices < 2 ^ (m + cond (leb 3 n && in_doubt) 1 0)
+few-step n m below t rest choices false single h idle certain bit =
+    let up : 2 ^ m ≤ 2 ^ (m + cond (leb 3 n && false) 1 0) = pow_mono (omega arith) in
+    elim (cases_lt n (below + 3)) [
+      | inl l ↦ omega (arith, idle l)
+      | inr g ↦ let c = certain (omega arith) refl in omega (arith, c.1)
+    ]
+few-step n m below t rest choices true single h idle certain bit =
     let two : 2 ^ suc m ≡ 2 ^ m + 2 ^ m = two-pow-succ m in
     elim (cases_lt n (below + 3)) [
       | inl l ↦
-          let up : 2 ^ m ≤ 2 ^ (cond (leb 3 n) 1 0 + m) = pow_mono (omega arith) in
+          let up : 2 ^ m ≤ 2 ^ (m + cond (leb 3 n && true) 1 0) = pow_mono (omega arith) in
           omega (arith, idle l)
       | inr g ↦
-          let e : cond (leb 3 n) 1 0 + m ≡ suc m = grind (arith, nat_tests) in
-          let up : 2 ^ suc m ≤ 2 ^ (cond (leb 3 n) 1 0 + m) = pow_mono (omega arith) in
-          omega (arith, bit (omega arith))
+          let e : m + cond (leb 3 n && true) 1 0 ≡ suc m = grind (arith, nat_tests) in
+          let up : 2 ^ suc m ≤ 2 ^ (m + cond (leb 3 n && true) 1 0) = pow_mono (omega arith) in
+          omega (arith, bit (omega arith) refl)
     ]
 
-few-chosen : (n : ℕ) (ns : List ℕ) (k one two left choices : ℕ) (bs : List Block) → ((c : Choice) (rest : List Block) → cut_from (k + 1) ns c.runs one (left - (c.triplets + c.runs)) c.choices ≡ Some rest → c.choices < 2 ^ threes ns) → (o : Option Choice) → choice_of k n (one + two) left choices ≡ o → option_and_then (after k ns one left) o ≡ Some bs → choices < 2 ^ threes (n ∷ ns)
+pub doubts-cons : (n : ℕ) (ns : List ℕ) → doubts (n ∷ ns) ≡ doubts ns + cond (leb 3 n && may_have_runs ns) 1 0
+unfolding doubts
+doubts-cons n ns = refl
+
+pub doubts-nil : doubts [] ≡ 0
+unfolding doubts
+doubts-nil = refl
+
+few-chosen : (n : ℕ) (ns : List ℕ) (k one two left choices : ℕ) (bs : List Block) → ((c : Choice) (rest : List Block) → cut_from (k + 1) ns c.runs one (left - (c.triplets + c.runs)) c.choices ≡ Some rest → c.choices < 2 ^ doubts ns) → (o : Option Choice) → choice_of k n (may_have_runs ns) (one + two) left choices ≡ o → option_and_then (after k ns one left) o ≡ Some bs → choices < 2 ^ doubts (n ∷ ns)
 few-chosen n ns k one two left choices bs ih None o e = absurd (cc)
 few-chosen n ns k one two left choices bs ih (Some c) o e =
     let j = joined-inv (begun k c) bs (cut_from (k + 1) ns c.runs one (left - (c.triplets + c.runs)) c.choices) e in
-    let i = IsChoice-from k n (one + two) left choices c o in
-    let e : threes (n ∷ ns) ≡ cond (leb 3 n) 1 0 + threes ns = sum_by-cons (λ m. cond (leb 3 m) 1 0) n ns in
-    rw e (few-step n (threes ns) (one + two) c.triplets c.choices choices i.single (ih c j.0 j.1) i.idle i.bit)
+    let i = IsChoice-from k n (may_have_runs ns) (one + two) left choices c o in
+    rw (doubts-cons n ns) (few-step n (doubts ns) (one + two) c.triplets c.choices choices (may_have_runs ns) i.single (ih c j.0 j.1) i.idle i.certain i.bit)
 
--- no more choices are made than there are kinds with three tiles
-pub few_choices : (ns : List ℕ) (k one two left choices : ℕ) (bs : List Block) → cut_from k ns one two left choices ≡ Some bs → choices < 2 ^ threes ns
-few_choices [] k one two left choices bs e = few-end k one two left choices _ bs refl (sym (cut_from-nil k one two left choices) ∙ e)
+-- no more choices are made than there are kinds in doubt
+pub few_choices : (ns : List ℕ) (k one two left choices : ℕ) (bs : List Block) → cut_from k ns one two left choices ≡ Some bs → choices < 2 ^ doubts ns
+few_choices [] k one two left choices bs e = rw doubts-nil (few-end k one two left choices _ bs refl (sym (cut_from-nil k one two left choices) ∙ e))
 few_choices (n ∷ ns) k one two left choices bs e =
     few-chosen n ns k one two left choices bs (λ c rest f. few_choices ns (k + 1) c.runs one (left - (c.triplets + c.runs)) c.choices rest f) _ refl (sym (cut_from-cons k n ns one two left choices _ refl) ∙ e)

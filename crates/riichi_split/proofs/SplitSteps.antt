@@ -1,8 +1,11 @@
 -- One step along the choices, and along the pairs.
-use Rattle.std.proofs.Common.{◌+◌, is_some, MatchOption, ◌≡◌, ℕ, suc, ◌-◌, ◌<◌, Bool, true, false, cond, Option, Some, None, List, [], ◌∷◌, ◌++◌, get_or, slice_set, refl, sym, ap, ◌∙◌, arith, ltb, zero}
+use Rattle.std.proofs.Common.{◌≤◌, ◌&&◌, leb, length, drop, add-one, ◌+◌, is_some, MatchOption, ◌≡◌, ℕ, suc, ◌-◌, ◌<◌, Bool, true, false, cond, Option, Some, None, List, [], ◌∷◌, ◌++◌, get_or, slice_set, refl, sym, ap, ◌∙◌, arith, ltb, zero}
 use Rattle.std.proofs.lemmas.Bool.Decides.{nat_tests}
+use Rattle.std.proofs.Math.Seq.{drop-cons}
+use Rattle.std.proofs.Math.ListN.{drop_of_length-le}
 use Rattle.riichi_tiles.specs.declared.block.Block.{Block}
-use Rattle.riichi_split.specs.Cuts.{sets_beside, split_of, from_choices, from_pairs, cut_from}
+use Rattle.riichi_split.proofs.Sound.{doubts-cons, doubts-nil}
+use Rattle.riichi_split.specs.Cuts.{doubts, may_have_runs, sets_beside, split_of, from_choices, from_pairs, cut_from}
 
 choices-suc : (c : List ℕ) (wanted p x n : ℕ) (o : Option (List Block)) → n ≡ suc x → o ≡ sets_beside c wanted p x → from_choices c wanted p n ≡ split_of p o ++ from_choices c wanted p x
 unfolding from_choices
@@ -48,3 +51,12 @@ sets-passed c wanted p n m (Some sets) l e s h = absurd (cc)
 
 pub splits-ended : (c : List ℕ) (wanted p m a first b : ℕ) → from_choices c wanted p a ≡ [] → from_pairs c wanted m first b ≡ [] → from_choices c wanted p a ++ from_pairs c wanted m first b ≡ []
 splits-ended c wanted p m a first b e f = ap (λ z. z ++ from_pairs c wanted m first b) e ∙ f
+
+-- one kind more that may be in doubt
+pub doubts-step : (c : List ℕ) (k : ℕ) → k < length c → doubts (drop k c) ≡ doubts (drop (k + 1) c) + cond (leb 3 (get_or c k 0) && may_have_runs (drop (k + 1) c)) 1 0
+doubts-step c k l =
+    let d : drop k c ≡ get_or c k 0 ∷ drop (k + 1) c = rw add-one (drop-cons c k 0 l) in
+    ap doubts d ∙ doubts-cons (get_or c k 0) (drop (k + 1) c)
+
+pub doubts-end : (c : List ℕ) (k : ℕ) → length c ≤ k → doubts (drop k c) ≡ 0
+doubts-end c k l = ap doubts (drop_of_length-le c l) ∙ doubts-nil

@@ -1,6 +1,5 @@
 -- How the search cuts tiles into sets, kind by kind from the lowest. No public clause cites this.
 use Rattle.std.specs.Prelude.{◌^◌, min, ℕ, zero, suc, ◌+◌, ◌-◌, ◌*◌, ◌/◌, ◌%◌, Bool, false, ◌&&◌, not, Option, Some, None, List, [], ◌∷◌, ◌++◌, if◌then◌else◌, nat_lt, ◌==◌, replicate, slice_index, slice_set, option_and_then, ◌≡◌, ◌≤◌, length, nat_le, All, AllPairs, Contains, ◌≢◌}
-use Rattle.std.specs.List.{count_by}
 use Rattle.riichi_tiles.specs.declared.block.Block.{Block}
 use Rattle.riichi_tiles.specs.declared.block.Block.TheVariants.{Run, Triplet}
 use Rattle.riichi_split.specs.Readings.{IsSplit}
@@ -18,12 +17,17 @@ begins kind left triplets runs choices =
     (if nat_lt 0 runs && not (may_run kind) then None else
     Some (record { triplets = triplets; runs = runs; choices = choices }))
 
--- what begins at a kind with so many tiles, of which `below` belong to runs begun below: with three tiles free, the next bit says whether a triplet does
-abbrev pub choice_of : ℕ → ℕ → ℕ → ℕ → ℕ → Option Choice
-choice_of kind held below left choices =
+-- the first two kinds have three tiles or more: three runs might begin just below them
+abbrev pub may_have_runs : List ℕ → Bool
+may_have_runs above = nat_le 3 (slice_index above 0) && nat_le 3 (slice_index above 1)
+
+-- what begins at a kind with so many tiles, of which `below` belong to runs begun below. Three free tiles are a triplet; where they are in doubt, since three runs might begin there, the next bit says whether they are
+abbrev pub choice_of : ℕ → ℕ → Bool → ℕ → ℕ → ℕ → Option Choice
+choice_of kind held in_doubt below left choices =
     if nat_lt held below then None else
     (if nat_lt (held - below) 3 then begins kind left 0 (held - below) choices else
-    begins kind left (choices % 2) (held - below - 3 * (choices % 2)) (choices / 2))
+    (if in_doubt then begins kind left (choices % 2) (held - below - 3 * (choices % 2)) (choices / 2) else
+    begins kind left 1 (held - below - 3) choices))
 
 -- the sets that begin at a kind
 abbrev pub begun : ℕ → Choice → List Block
@@ -37,7 +41,7 @@ joined front (Some rest) = Some (front ++ rest)
 unfoldable pub cut_from : ℕ → List ℕ → ℕ → ℕ → ℕ → ℕ → Option (List Block)
 cut_from kind [] one two left choices = if one + two + left + choices == 0 then Some [] else None
 cut_from kind (held ∷ counts) one two left choices =
-    option_and_then (λ choice. joined (begun kind choice) (cut_from (kind + 1) counts choice.runs one (left - (choice.triplets + choice.runs)) choice.choices)) (choice_of kind held (one + two) left choices)
+    option_and_then (λ choice. joined (begun kind choice) (cut_from (kind + 1) counts choice.runs one (left - (choice.triplets + choice.runs)) choice.choices)) (choice_of kind held (may_have_runs counts) (one + two) left choices)
 
 -- the sets that some choices leave beside a pair
 abbrev pub sets_beside : List ℕ → ℕ → ℕ → ℕ → Option (List Block)
@@ -64,18 +68,20 @@ unfoldable pub suit_total : (ℕ → ℕ) → ℕ → ℕ → ℕ
 suit_total copies first zero = 0
 suit_total copies first (suc kinds) = suit_total copies first kinds + copies (first + kinds)
 
--- how many kinds have three tiles or more
-abbrev pub threes : List ℕ → ℕ
-threes counts = count_by (λ held. nat_le 3 held) counts
+-- how many kinds have three tiles or more, as the two kinds above them have
+unfoldable pub doubts : List ℕ → ℕ
+doubts [] = 0
+doubts (held ∷ counts) = doubts counts + (if nat_le 3 held && may_have_runs counts then 1 else 0)
 
--- how many numbers can make the choices: a bit for each kind with three tiles, four at most
+-- how many numbers can make the choices: a bit for each such kind, four at most
 abbrev pub choices_beside : List ℕ → ℕ
-choices_beside counts = 2 ^ min 4 (threes counts)
+choices_beside counts = 2 ^ min 4 (doubts counts)
 
 -- what the fields of `Splits` keep
-pub record IsReady (counts : List ℕ) (wanted choices_left first pairs_left : ℕ) : Type 0 where
+pub record IsReady (counts : List ℕ) (wanted choices choices_left first pairs_left : ℕ) : Type 0 where
   pub each_kind : length counts ≡ 34
   pub at_most_four : wanted ≤ 4
+  pub choices_few : choices ≤ 16
   pub left_few : choices_left ≤ 16
   pub pairs_few : first + pairs_left ≤ 34
 

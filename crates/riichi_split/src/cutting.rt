@@ -1,6 +1,6 @@
 //! One way to cut tiles into sets, by a number that makes the choices.
-ghost use Rattle.std.specs.Prelude.{◌≡◌, ◌+◌, ◌<◌, ◌≤◌, ◌++◌, length, replicate};
-ghost use Rattle.riichi_split.specs.Cuts.{may_run, begins, choice_of, begun, cut_from};
+ghost use Rattle.std.specs.Prelude.{◌≡◌, ◌+◌, ◌<◌, ◌≤◌, ◌++◌, drop, length, replicate, slice_index};
+ghost use Rattle.riichi_split.specs.Cuts.{may_run, may_have_runs, begins, choice_of, begun, cut_from};
 
 use crate::sets::Sets;
 use riichi_tiles::{Block, Kind};
@@ -31,12 +31,27 @@ fn begins(kind: usize, left: usize, choice: Choice) -> Option<Choice>
     }
 }
 
-/// What begins at a kind with `count` tiles, of which `below` belong to runs begun below. With three
-/// tiles free, the next of the choices' bits says whether a triplet does.
-fn choose(kind: usize, count: usize, below: usize, left: usize, choices: usize) -> Option<Choice>
-    requires { count < 256 }
-    ensures { result ≡ choice_of kind count below left choices }
+/// Whether both kinds above one have three tiles or more: three runs might begin at the kind.
+pub(crate) fn may_have_runs(counts: &[u8; 34], kind: usize) -> bool
+    requires { kind < 34 }
+    ensures { result ≡ may_have_runs (drop (kind + 1) counts.now) }
 {
+    kind < 32 && counts[kind + 1] >= 3 && counts[kind + 2] >= 3
+}
+
+/// What begins at a kind, where `below` of its tiles belong to runs begun below. Three free tiles are
+/// a triplet, but where three runs might begin the next of the choices' bits says whether they are.
+fn choose(
+    counts: &[u8; 34],
+    kind: usize,
+    below: usize,
+    left: usize,
+    choices: usize,
+) -> Option<Choice>
+    requires { kind < 34 }
+    ensures { result ≡ choice_of kind (slice_index counts.now kind) (may_have_runs (drop (kind + 1) counts.now)) below left choices }
+{
+    let count = counts[kind] as usize;
     if count < below {
         return None;
     }
@@ -49,11 +64,15 @@ fn choose(kind: usize, count: usize, below: usize, left: usize, choices: usize) 
         };
         return begins(kind, left, choice);
     }
-    let triplets = choices % 2;
+    let (triplets, choices) = if may_have_runs(counts, kind) {
+        (choices % 2, choices / 2)
+    } else {
+        (1, choices)
+    };
     let choice = Choice {
         triplets,
         runs: free - 3 * triplets,
-        choices: choices / 2,
+        choices,
     };
     begins(kind, left, choice)
 }
@@ -81,7 +100,7 @@ pub(crate) fn cut(counts: &[u8; 34], wanted: usize, choices: usize) -> Option<Se
         if *count == 0 && one == 0 && two == 0 {
             continue;
         }
-        let choice = choose(index, *count as usize, one + two, left, choices)?;
+        let choice = choose(counts, index, one + two, left, choices)?;
         begin(&mut sets, Kind::at(index as u8), choice);
         two = one;
         one = choice.runs;

@@ -1,8 +1,8 @@
-ghost use Rattle.std.specs.Prelude.{◌≡◌, ℕ, ◌+◌, ◌<◌, ◌≤◌, MatchOption, [], ◌∷◌, ◌++◌, length};
+ghost use Rattle.std.specs.Prelude.{◌≡◌, ℕ, ◌+◌, ◌<◌, ◌≤◌, MatchOption, ◌&&◌, nat_le, [], ◌∷◌, ◌++◌, drop, length, slice_index};
 ghost use Rattle.std.specs.Iterator.{YieldsFirst, item_count};
-ghost use Rattle.riichi_split.specs.Cuts.{sets_beside, from_choices, from_pairs, choices_beside};
+ghost use Rattle.riichi_split.specs.Cuts.{may_have_runs, sets_beside, from_choices, from_pairs, choices_beside};
 
-use crate::cutting::cut;
+use crate::cutting::{cut, may_have_runs};
 use crate::sets::Sets;
 use crate::split::Split;
 use crate::suit::suit_of_pair;
@@ -15,6 +15,8 @@ use std::marker::Model;
 pub(crate) struct Splits {
     counts: [u8; 34],
     wanted: usize,
+    // So many numbers make the choices beside any pair.
+    choices: usize,
     // The choices below `choices_left` are still to be tried with this pair.
     pair: Kind,
     choices_left: usize,
@@ -34,7 +36,7 @@ impl Model for Splits {
 
     ghost view = { splits_left };
 
-    ghost invariant = { λ s. IsReady s.counts s.wanted s.choices_left s.first s.pairs_left };
+    ghost invariant = { λ s. IsReady s.counts s.wanted s.choices s.choices_left s.first s.pairs_left };
 }
 
 impl Splits {
@@ -50,6 +52,7 @@ impl Splits {
         Splits {
             counts,
             wanted: 4 - melds,
+            choices: choices_of(&counts),
             pair: Kind::at(0),
             choices_left: 0,
             first: suit.first,
@@ -75,21 +78,33 @@ impl Iterator for Splits {
                 });
             }
             self.pair = next_pair(&self.counts, self.first, &mut self.pairs_left)?;
-            self.choices_left = choices_of(&self.counts);
+            self.choices_left = self.choices;
         }
     }
 }
 
 impl FusedIterator for Splits {}
 
-/// How many numbers can make the choices beside a pair: a bit for each kind with three tiles, four at
-/// most.
+fn is_in_doubt(counts: &[u8; 34], kind: usize) -> bool
+    requires { kind < 34 }
+    ensures { result ≡ nat_le 3 (slice_index counts.now kind) && may_have_runs (drop (kind + 1) counts.now) }
+{
+    counts[kind] >= 3 && may_have_runs(counts, kind)
+}
+
+/// How many numbers can make the choices beside a pair: a bit for each kind that has three tiles, as
+/// the two above it have, four at most.
 fn choices_of(counts: &[u8; 34]) -> usize
     ensures value { result ≡ choices_beside counts.now }
     ensures few { result ≤ 16 }
 {
-    let threes = counts.iter().filter(|count| **count >= 3).count();
-    1 << threes.min(4)
+    let mut doubts = 0usize;
+    for kind in 0..34 {
+        if is_in_doubt(counts, kind) {
+            doubts += 1;
+        }
+    }
+    1 << doubts.min(4)
 }
 
 /// The sets that some choices leave beside a pair.

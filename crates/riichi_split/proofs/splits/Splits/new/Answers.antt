@@ -7,4 +7,4 @@ pub returns : goal.returns
 returns c =
     let four : 4 - c.args.melds + c.args.melds ≡ 4 = omega arith in
     let counts : IsCounts c.to_array-counts.result = rw c.to_array-counts.ensures.value c.to_array-counts.ensures.counts in
-    rw (← c.to_array-counts.ensures.value) (the_splits c.to_array-counts.result (4 - c.args.melds) c.args.melds c.at.result c.suit_of_pair-suit.result.first c.suit_of_pair-suit.result.kinds counts four c.suit_of_pair-suit.ensures.within c.suit_of_pair-suit.ensures.pair)
+    rw (c.choices_of.ensures.value, ← c.to_array-counts.ensures.value) (the_splits c.to_array-counts.result (4 - c.args.melds) c.args.melds c.at.result c.suit_of_pair-suit.result.first c.suit_of_pair-suit.result.kinds counts four c.suit_of_pair-suit.ensures.within c.suit_of_pair-suit.ensures.pair)

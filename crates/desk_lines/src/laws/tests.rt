@@ -1,0 +1,6 @@
+use super::*;
+
+#[test]
+fn states_the_law(_rt: HostRuntime) {
+    ready_exactly_where_it_waits();
+}
