@@ -1,64 +1,91 @@
--- One more of a kind, and the tiles of melds.
-use Rattle.std.proofs.Common.{◌≡◌, ℕ, ◌+◌, ◌<◌, ◌≤◌, inl, inr, cond, length-set, ◌∙◌, nat_eq, List, [], ◌∷◌, refl, length, set, get_or, sym, ap, arith}
+-- More of a kind, and the tiles of melds.
+use Rattle.std.proofs.Common.{◌≡◌, ℕ, ◌+◌, ◌*◌, ◌<◌, ◌≤◌, inl, inr, cond, ◌∙◌, Bool, true, false, ◌&&◌, nat_eq, nat_le, List, [], ◌∷◌, ◌++◌, Some, refl, length, set, get_or, take, sym, ap, arith}
+use Rattle.std.specs.List.{slice_get, list_all}
+use Rattle.std.proofs.lemmas.List.Folds.{list_all_at}
+use Rattle.std.proofs.lemmas.List.{take_more}
+use Rattle.std.proofs.lemmas.Option.{slice_get_within, get_or_from_slice_get}
+use Rattle.std.proofs.lemmas.Bool.Decides.{nat_tests}
 use Rattle.std.proofs.lemmas.List.{get_or-set_other}
 use Rattle.std.proofs.lemmas.Grind.{get_or-set_at}
+use Rattle.std.proofs.lemmas.Bool.{true≢false}
 use Rattle.std.proofs.lemmas.Bool.Decides.{eqb_tells}
 use Rattle.riichi_tiles.specs.declared.meld.Meld.{Meld}
-use Rattle.riichi_tiles.specs.Melds.{tiles}
+use Rattle.riichi_tiles.specs.declared.meld.Meld.TheVariants.{Chi, Pon, Kan, Ankan}
+use Rattle.riichi_tiles.specs.Melds.{is_meld, tiles, tiles_of}
 use Rattle.riichi_hand.specs.declared.win.WinParts.{WinParts}
 use Rattle.riichi_hand.specs.Win.{copies_held}
 use Rattle.riichi_blocks.specs.Held.{all_tiles}
 use Rattle.std.proofs.lemmas.List.FromFn.{fill_by_all}
 
--- one more at a place
-pub get_or-one_more : (counts : List ℕ) (place kind : ℕ) → place < length counts → get_or (set counts place (get_or counts place 0 + 1)) kind 0 ≡ get_or counts kind 0 + cond (nat_eq place kind) 1 0
-get_or-one_more counts place kind h =
+-- so many more at a place
+pub get_or-more : (counts : List ℕ) (place kind more : ℕ) → place < length counts → get_or (set counts place (get_or counts place 0 + more)) kind 0 ≡ get_or counts kind 0 + cond (nat_eq place kind) more 0
+get_or-more counts place kind more h =
     elim (eqb_tells place kind) [
       | inl t ↦
-          let one : cond {A = ℕ} (nat_eq place kind) 1 0 ≡ 1 = ap (λ b. cond b 1 0) t.0 in
+          let one : cond {A = ℕ} (nat_eq place kind) more 0 ≡ more = ap (λ b. cond b more 0) t.0 in
           let same : get_or counts kind 0 ≡ get_or counts place 0 = ap (λ k. get_or counts k 0) (sym t.1) in
-          omega (arith, get_or-set_at counts place kind (get_or counts place 0 + 1) 0 (sym t.1) h, one, same)
+          omega (arith, get_or-set_at counts place kind (get_or counts place 0 + more) 0 (sym t.1) h, one, same)
       | inr f ↦
-          let none : cond {A = ℕ} (nat_eq place kind) 1 0 ≡ 0 = ap (λ b. cond b 1 0) f.0 in
-          omega (arith, get_or-set_other counts place kind (get_or counts place 0 + 1) 0 (λ e. f.1 (sym e)), none)
+          let none : cond {A = ℕ} (nat_eq place kind) more 0 ≡ 0 = ap (λ b. cond b more 0) f.0 in
+          omega (arith, get_or-set_other counts place kind (get_or counts place 0 + more) 0 (λ e. f.1 (sym e)), none)
     ]
 
--- the kinds below the number have the melds' tiles, the others are as they were
-pub record AreAdded (old now : List ℕ) (melds : List Meld) (number : ℕ) : Type 0 where
-  pub each_kind : length now ≡ 34
-  pub added : (kind : ℕ) → kind < number → get_or now kind 0 ≡ get_or old kind 0 + tiles melds kind
-  pub kept : (kind : ℕ) → number ≤ kind → get_or now kind 0 ≡ get_or old kind 0
+-- the tiles of a run, one after another
+pub tiles-run : (low kind : ℕ) → cond {A = ℕ} (nat_le low kind && nat_le kind (low + 2)) 1 0 ≡ cond (nat_eq low kind) 1 0 + cond (nat_eq (low + 1) kind) 1 0 + cond (nat_eq (low + 2) kind) 1 0
+tiles-run low kind = grind (arith, nat_tests)
 
-pub AreAdded-more : (old now : List ℕ) (melds : List Meld) (number more : ℕ) → number < 34 → more ≡ tiles melds number → AreAdded old now melds number → AreAdded old (set now number (get_or now number 0 + more)) melds (number + 1)
-AreAdded-more old now melds number more h e w =
+-- one meld more
+pub tiles-push : (melds : List Meld) (meld : Meld) (kind : ℕ) → tiles (melds ++ meld ∷ []) kind ≡ tiles melds kind + tiles_of meld kind
+tiles-push [] meld kind = omega arith
+tiles-push (first ∷ melds) meld kind = omega (arith, tiles-push melds meld kind)
+
+take-one_more : (melds : List Meld) (place : ℕ) (meld : Meld) → slice_get melds place ≡ Some meld → take (place + 1) melds ≡ take place melds ++ meld ∷ []
+take-one_more melds place meld is =
+    let within = slice_get_within melds place meld is in
+    take_more melds place meld within ∙ ap (λ m. take place melds ++ m ∷ []) (get_or_from_slice_get melds place meld meld is)
+
+by-test : (b : Bool) → (b ≡ false → ⊥) → b ≡ true
+by-test true h = refl
+by-test false h = absurd (h refl)
+
+-- each of the melds is a proper one
+pub proper-at : (melds : List Meld) (place : ℕ) (meld : Meld) → slice_get melds place ≡ Some meld → list_all is_meld melds ≡ true → is_meld meld ≡ true
+proper-at melds place meld is all =
+    ap is_meld (sym (get_or_from_slice_get melds place meld meld is))
+    ∙ by-test (is_meld (get_or melds place meld)) (λ no. true≢false (sym all ∙ list_all_at is_meld melds place meld (slice_get_within melds place meld is) no))
+
+at-most : (b : Bool) (n m : ℕ) → n ≤ m → cond b n 0 ≤ m
+at-most true n m h = h
+at-most false n m h = omega arith
+
+of-meld-most : (meld : Meld) (kind : ℕ) → tiles_of meld kind ≤ 4
+of-meld-most (Chi low) kind = at-most (nat_le low kind && nat_le kind (low + 2)) 1 4 (omega arith)
+of-meld-most (Pon held) kind = at-most (nat_eq held kind) 3 4 (omega arith)
+of-meld-most (Kan held) kind = at-most (nat_eq held kind) 4 4 (omega arith)
+of-meld-most (Ankan held) kind = at-most (nat_eq held kind) 4 4 (omega arith)
+
+-- the tiles of so many melds are added
+pub record AreAdded (old now : List ℕ) (melds : List Meld) (place : ℕ) : Type 0 where
+  pub added : (kind : ℕ) → get_or now kind 0 ≡ get_or old kind 0 + tiles (take place melds) kind
+  pub most : (kind : ℕ) → get_or now kind 0 ≤ 5 + 4 * place
+
+pub AreAdded-none : (old : List ℕ) (melds : List Meld) → ((kind : ℕ) → get_or old kind 0 ≤ 5) → AreAdded old old melds 0
+AreAdded-none old melds few = record { added = λ kind. omega arith; most = λ kind. omega (arith, few kind) }
+
+pub AreAdded-more : (old now next : List ℕ) (melds : List Meld) (place : ℕ) (meld : Meld) → slice_get melds place ≡ Some meld → ((kind : ℕ) → get_or next kind 0 ≡ get_or now kind 0 + tiles_of meld kind) → AreAdded old now melds place → AreAdded old next melds (place + 1)
+AreAdded-more old now next melds place meld is each w =
     record {
-      each_kind = length-set now number (get_or now number 0 + more) ∙ w.each_kind;
-      added = λ kind below. elim (eqb_tells kind number) [
-        | inl t ↦
-            let here = get_or-set_at now number kind (get_or now number 0 + more) 0 t.1 (omega (arith, h, w.each_kind)) in
-            let was = w.kept number (omega arith) in
-            let kind-old : get_or old kind 0 ≡ get_or old number 0 = ap (λ k. get_or old k 0) t.1 in
-            let kind-more : tiles melds kind ≡ tiles melds number = ap (tiles melds) t.1 in
-            omega (arith, here, was, e, kind-old, kind-more)
-        | inr f ↦
-            let other = get_or-set_other now number kind (get_or now number 0 + more) 0 f.1 in
-            let lower : kind < number = omega (arith, below, f.1) in
-            omega (arith, other, w.added kind lower)
-      ];
-      kept = λ kind above.
-          let other = get_or-set_other now number kind (get_or now number 0 + more) 0 (λ q. absurd (omega (arith, q, above))) in
-          omega (arith, other, w.kept kind (omega (arith, above)));
+      added = λ kind.
+          let more : tiles (take (place + 1) melds) kind ≡ tiles (take place melds) kind + tiles_of meld kind = ap (λ ms. tiles ms kind) (take-one_more melds place meld is) ∙ tiles-push (take place melds) meld kind in
+          omega (arith, each kind, w.added kind, more);
+      most = λ kind. omega (arith, each kind, w.most kind, of-meld-most meld kind);
     }
-
-pub none-melded : (melds : List Meld) (kind : ℕ) → length melds ≡ 0 → tiles melds kind ≡ 0
-none-melded [] kind h = refl
-none-melded (meld ∷ melds) kind h = absurd (omega (arith, h))
 
 -- the concealed tiles with one more of the winning kind, and then the melds' tiles, are all tiles
 pub all_tiles-from : (w : WinParts) (concealed : List ℕ) (winning : ℕ) (all : List ℕ) → concealed ≡ w.concealed → winning ≡ w.winning → winning < length concealed → length all ≡ 34 → ((kind : ℕ) → kind < 34 → get_or all kind 0 ≡ get_or (set concealed winning (get_or concealed winning 0 + 1)) kind 0 + tiles w.melds kind) → all ≡ all_tiles w
 all_tiles-from w concealed winning all e f within long each =
     fill_by_all (copies_held w) all 34 0 long (λ kind h.
-    let one = get_or-one_more concealed winning kind within in
+    let one = get_or-more concealed winning kind 1 within in
     let held : get_or concealed kind 0 ≡ get_or w.concealed kind 0 = ap (λ l. get_or l kind 0) e in
     let won : cond {A = ℕ} (nat_eq winning kind) 1 0 ≡ cond (nat_eq w.winning kind) 1 0 = ap (λ n. cond (nat_eq n kind) 1 0) f in
     omega (arith, each kind h, one, held, won))

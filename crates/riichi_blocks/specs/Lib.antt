@@ -1,6 +1,8 @@
 pub mod Kinds
 pub mod Held
 pub mod HandBlocks
+pub mod Tally
+pub mod Told
 pub mod BlockKinds
 pub mod Winner
 pub mod Pairs

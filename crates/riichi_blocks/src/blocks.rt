@@ -1,146 +1,177 @@
-//! Words on blocks. A triplet is a triplet or a kong.
-ghost use Rattle.std.specs.Prelude.{◌≡◌, count_by};
+//! The blocks of a hand, and words on them. A triplet is a triplet or a kong.
+ghost use Rattle.std.specs.Prelude.{◌≡◌, ◌<◌, ◌≤◌, [], ◌∷◌, ◌++◌, length, count_by, if◌then◌else◌};
 ghost use Rattle.std.specs.List.{list_any};
 ghost use Rattle.riichi_blocks.specs.HandBlocks as spec;
+ghost use Rattle.riichi_blocks.specs.declared.hand_block.HandBlock.TheVariants as variants;
 
 use crate::HandBlock;
-use riichi_split::Reading;
+use arrayvec::ArrayVec;
+use riichi_tiles::Kind;
+use std::marker::Model;
 
-/// Whether the reading is one of sets and a pair.
-pub fn is_standard(reading: &Reading) -> bool
-    ensures { result ≡ spec.is_standard reading.now }
-{
-    matches!(reading, Reading::Standard { .. })
+/// The blocks of a whole hand, seen as their list. What conditions ask of them again and again is counted as they are pushed.
+#[derive(Drop)]
+pub struct Blocks {
+    list: ArrayVec<HandBlock, 9>,
+    // How many runs begin with each kind, and whether there is a triplet of it.
+    runs_from: [u8; 34],
+    triplets_of: [bool; 34],
+    runs: usize,
+    triplets: usize,
+    concealed: usize,
+    kongs: usize,
 }
 
-/// Whether the reading is seven pairs.
-pub fn is_seven_pairs(reading: &Reading) -> bool
-    ensures { result ≡ spec.is_seven_pairs reading.now }
-{
-    matches!(reading, Reading::SevenPairs)
+impl Model for Blocks {
+    ghost use Rattle.std.specs.Prelude.{List};
+    ghost use Rattle.riichi_blocks.specs.declared.hand_block.HandBlock.{HandBlock};
+    ghost use Rattle.riichi_blocks.specs.Tally.{IsTally};
+
+    ghost Value = { List HandBlock };
+
+    ghost view = { λ b. b.list.items };
+
+    ghost invariant = { λ b. IsTally b.list.items b.runs_from b.triplets_of b.runs b.triplets b.concealed b.kongs };
 }
 
-/// Whether the reading is thirteen orphans.
-pub fn is_orphans(reading: &Reading) -> bool
-    ensures { result ≡ spec.is_orphans reading.now }
-{
-    matches!(reading, Reading::Orphans)
-}
-
-fn is_run(block: &HandBlock) -> bool
-    ensures { result ≡ spec.is_run block.now }
-{
-    matches!(block, HandBlock::Run(_))
-}
-
-fn is_run_from(low: usize, block: &HandBlock) -> bool
-    ensures { result ≡ spec.is_run_from low block.now }
-{
-    match block {
-        HandBlock::Run(held) => held.index() == low,
-        _ => false,
-    }
-}
-
-fn is_triplet(block: &HandBlock) -> bool
-    ensures { result ≡ spec.is_triplet block.now }
-{
-    matches!(block, HandBlock::Triplet { .. } | HandBlock::Kong { .. })
-}
-
-fn is_triplet_of(kind: usize, block: &HandBlock) -> bool
-    ensures { result ≡ spec.is_triplet_of kind block.now }
-{
-    match block {
-        HandBlock::Triplet { kind: held, .. } | HandBlock::Kong { kind: held, .. } => {
-            held.index() == kind
+impl Blocks {
+    /// No blocks.
+    pub fn new() -> Blocks
+        ensures { result ≡ [] }
+    {
+        Blocks {
+            list: ArrayVec::new(),
+            runs_from: [0; 34],
+            triplets_of: [false; 34],
+            runs: 0,
+            triplets: 0,
+            concealed: 0,
+            kongs: 0,
         }
-        _ => false,
+    }
+
+    pub fn as_slice(&self) -> &[HandBlock]
+        ensures value { result.now ≡ self.now }
+        ensures most { length result.now ≤ 9 }
+    {
+        self.list.as_slice()
+    }
+
+    /// One more block, where there are fewer than nine.
+    pub fn push(&mut self, block: HandBlock)
+        requires { length self.old < 9 }
+        ensures { self.new ≡ self.old ++ block ∷ [] }
+    {
+        match block {
+            HandBlock::Run(low) => self.push_run(low),
+            HandBlock::Triplet { kind, concealed } => self.push_triplet(kind, concealed),
+            HandBlock::Kong { kind, concealed } => self.push_kong(kind, concealed),
+            HandBlock::Pair(kind) => self.push_pair(kind),
+        }
+    }
+
+    fn push_run(&mut self, low: Kind)
+        requires { length self.old < 9 }
+        ensures { self.new ≡ self.old ++ variants.Run low ∷ [] }
+    {
+        self.list.push(HandBlock::Run(low));
+        self.runs_from[low.index()] += 1;
+        self.runs += 1;
+    }
+
+    fn push_triplet(&mut self, kind: Kind, concealed: bool)
+        requires { length self.old < 9 }
+        ensures { self.new ≡ self.old ++ variants.Triplet kind concealed ∷ [] }
+    {
+        self.list.push(HandBlock::Triplet { kind, concealed });
+        self.triplets_of[kind.index()] = true;
+        self.triplets += 1;
+        self.concealed += one_if(concealed);
+    }
+
+    fn push_kong(&mut self, kind: Kind, concealed: bool)
+        requires { length self.old < 9 }
+        ensures { self.new ≡ self.old ++ variants.Kong kind concealed ∷ [] }
+    {
+        self.list.push(HandBlock::Kong { kind, concealed });
+        self.triplets_of[kind.index()] = true;
+        self.triplets += 1;
+        self.concealed += one_if(concealed);
+        self.kongs += 1;
+    }
+
+    fn push_pair(&mut self, kind: Kind)
+        requires { length self.old < 9 }
+        ensures { self.new ≡ self.old ++ variants.Pair kind ∷ [] }
+    {
+        self.list.push(HandBlock::Pair(kind));
+    }
+
+    /// Whether some block is the run from this kind on.
+    pub fn has_run(&self, low: usize) -> bool
+        requires { low < 34 }
+        ensures { result ≡ spec.has_run self.now low }
+    {
+        self.runs_from[low] > 0
+    }
+
+    /// Whether some block is a triplet or a kong of this kind.
+    pub fn has_triplet(&self, kind: usize) -> bool
+        requires { kind < 34 }
+        ensures { result ≡ spec.has_triplet self.now kind }
+    {
+        self.triplets_of[kind]
+    }
+
+    /// How many blocks are the run that this one is. None where it is no run.
+    pub fn runs_equal_to(&self, block: &HandBlock) -> usize
+        ensures { result ≡ spec.runs_equal_to self.now block.now }
+    {
+        match block {
+            HandBlock::Run(low) => self.runs_from[low.index()] as usize,
+            _ => 0,
+        }
+    }
+
+    /// How many blocks are runs.
+    pub fn runs(&self) -> usize
+        ensures { result ≡ count_by spec.is_run self.now }
+    {
+        self.runs
+    }
+
+    /// Whether some block is a run.
+    pub fn has_runs(&self) -> bool
+        ensures { result ≡ list_any spec.is_run self.now }
+    {
+        self.runs > 0
+    }
+
+    /// How many blocks are triplets or kongs.
+    pub fn triplets(&self) -> usize
+        ensures { result ≡ count_by spec.is_triplet self.now }
+    {
+        self.triplets
+    }
+
+    /// How many blocks are concealed triplets or concealed kongs.
+    pub fn concealed_triplets(&self) -> usize
+        ensures { result ≡ count_by spec.is_concealed_triplet self.now }
+    {
+        self.concealed
+    }
+
+    /// How many blocks are kongs.
+    pub fn kongs(&self) -> usize
+        ensures { result ≡ count_by spec.is_kong self.now }
+    {
+        self.kongs
     }
 }
 
-fn is_concealed_triplet(block: &HandBlock) -> bool
-    ensures { result ≡ spec.is_concealed_triplet block.now }
+fn one_if(is_so: bool) -> usize
+    ensures value { result ≡ (if is_so then 1 else 0) }
+    ensures most { result ≤ 1 }
 {
-    match block {
-        HandBlock::Triplet { concealed, .. } | HandBlock::Kong { concealed, .. } => *concealed,
-        _ => false,
-    }
-}
-
-fn is_kong(block: &HandBlock) -> bool
-    ensures { result ≡ spec.is_kong block.now }
-{
-    matches!(block, HandBlock::Kong { .. })
-}
-
-/// Whether some block is the run from this kind on.
-pub fn has_run(blocks: &[HandBlock], low: usize) -> bool
-    ensures { result ≡ spec.has_run blocks.now low }
-{
-    blocks.iter().any(|block| is_run_from(low, block))
-}
-
-/// Whether some block is a triplet or a kong of this kind.
-pub fn has_triplet(blocks: &[HandBlock], kind: usize) -> bool
-    ensures { result ≡ spec.has_triplet blocks.now kind }
-{
-    blocks.iter().any(|block| is_triplet_of(kind, block))
-}
-
-fn runs_from(blocks: &[HandBlock], low: usize) -> usize
-    ensures { result ≡ count_by (spec.is_run_from low) blocks.now }
-{
-    blocks
-        .iter()
-        .filter(|block| is_run_from(low, block))
-        .count()
-}
-
-/// How many blocks are the run that this one is. None where it is no run.
-pub fn runs_equal_to(blocks: &[HandBlock], block: &HandBlock) -> usize
-    ensures { result ≡ spec.runs_equal_to blocks.now block.now }
-{
-    match block {
-        HandBlock::Run(low) => runs_from(blocks, low.index()),
-        _ => 0,
-    }
-}
-
-/// Whether some block is a run.
-pub fn some_is_run(blocks: &[HandBlock]) -> bool
-    ensures { result ≡ list_any spec.is_run blocks.now }
-{
-    blocks.iter().any(is_run)
-}
-
-/// How many blocks are runs.
-pub fn runs_among(blocks: &[HandBlock]) -> usize
-    ensures { result ≡ count_by spec.is_run blocks.now }
-{
-    blocks.iter().filter(|block| is_run(block)).count()
-}
-
-/// How many blocks are triplets or kongs.
-pub fn triplets_among(blocks: &[HandBlock]) -> usize
-    ensures { result ≡ count_by spec.is_triplet blocks.now }
-{
-    blocks.iter().filter(|block| is_triplet(block)).count()
-}
-
-/// How many blocks are concealed triplets or concealed kongs.
-pub fn concealed_triplets_among(blocks: &[HandBlock]) -> usize
-    ensures { result ≡ count_by spec.is_concealed_triplet blocks.now }
-{
-    blocks
-        .iter()
-        .filter(|block| is_concealed_triplet(block))
-        .count()
-}
-
-/// How many blocks are kongs.
-pub fn kongs_among(blocks: &[HandBlock]) -> usize
-    ensures { result ≡ count_by spec.is_kong blocks.now }
-{
-    blocks.iter().filter(|block| is_kong(block)).count()
+    if is_so { 1 } else { 0 }
 }

@@ -16,14 +16,13 @@ fn counts(text: &str) -> Result<Counts, Fail> {
     Ok(read_counts(text.as_bytes()).ok().ok_or("a text of tiles")?)
 }
 
-fn tiles(text: &str) -> Result<[u8; 34], Fail> {
-    Ok(counts(text)?.to_array())
+fn tiles(text: &str) -> Result<AllTiles, Fail> {
+    Ok(AllTiles::new(counts(text)?.to_array()))
 }
 
 // 111m 567p 33s, a concealed kong of 9m and an open triplet of the Green dragon: won by ron, the triplet 111m is open.
 fn open_hand(rt: &impl Abort, reading: &Reading, win: &WinRecord) {
     let blocks = blocks_of(reading, win);
-    let blocks = blocks.as_slice();
     let run = HandBlock::Run(Kind::at(13));
     let pair = HandBlock::Pair(Kind::at(20));
     let claimed = HandBlock::Triplet {
@@ -38,17 +37,17 @@ fn open_hand(rt: &impl Abort, reading: &Reading, win: &WinRecord) {
         kind: Kind::at(32),
         concealed: false,
     };
-    assert!(rt; blocks == [claimed, run, pair, kong, called].as_slice());
-    assert!(rt; has_run(blocks, 13) && !has_run(blocks, 14) && some_is_run(blocks));
-    assert!(rt; has_triplet(blocks, 0) && has_triplet(blocks, GREEN) && !has_triplet(blocks, 20));
-    assert_eq!(rt; runs_equal_to(blocks, &run), 1);
-    assert_eq!(rt; runs_equal_to(blocks, &kong), 0);
-    assert_eq!(rt; runs_among(blocks), 1);
-    assert_eq!(rt; triplets_among(blocks), 3);
-    assert_eq!(rt; concealed_triplets_among(blocks), 1);
-    assert_eq!(rt; kongs_among(blocks), 1);
+    assert!(rt; blocks.as_slice() == [claimed, run, pair, kong, called].as_slice());
+    assert!(rt; blocks.has_run(13) && !blocks.has_run(14) && blocks.has_runs());
+    assert!(rt; blocks.has_triplet(0) && blocks.has_triplet(GREEN) && !blocks.has_triplet(20));
+    assert_eq!(rt; blocks.runs_equal_to(&run), 1);
+    assert_eq!(rt; blocks.runs_equal_to(&kong), 0);
+    assert_eq!(rt; blocks.runs(), 1);
+    assert_eq!(rt; blocks.triplets(), 3);
+    assert_eq!(rt; blocks.concealed_triplets(), 1);
+    assert_eq!(rt; blocks.kongs(), 1);
     assert!(rt; is_standard(reading) && !is_seven_pairs(reading) && !is_orphans(reading));
-    assert!(rt; has_plain_pair(blocks, win));
+    assert!(rt; has_plain_pair(blocks.as_slice(), win));
 }
 
 fn pairs_and_tiles(rt: &impl Abort, win: &WinRecord) {
@@ -56,6 +55,7 @@ fn pairs_and_tiles(rt: &impl Abort, win: &WinRecord) {
     assert_eq!(rt; pair_fu(win, Kind::at(31)), 2);
     assert_eq!(rt; pair_fu(win, Kind::at(27)), 4);
     let all = all_tiles(win);
+    let all = all.counts();
     assert_eq!(rt;
         (all[0], all[8], all[14], all[20], all[32]),
         (3, 4, 1, 2, 3)
@@ -131,7 +131,7 @@ fn looks_at_the_kinds_in_blocks(rt: HostRuntime) -> Result<(), Fail> {
 
 // Seven pairs and thirteen orphans have no blocks.
 fn special(rt: &impl Abort, reading: &Reading, win: &WinRecord, seven_pairs: bool) {
-    assert!(rt; blocks_of(reading, win).is_empty() && !is_standard(reading));
+    assert!(rt; blocks_of(reading, win).as_slice().is_empty() && !is_standard(reading));
     assert_eq!(rt; is_seven_pairs(reading), seven_pairs);
     assert_eq!(rt; is_orphans(reading), !seven_pairs);
     assert!(rt; !has_plain_pair(&[], win) && !has_two_sided_wait(reading, win.winning()));
@@ -168,16 +168,16 @@ fn looks_at_special_readings(rt: HostRuntime) -> Result<(), Fail> {
 
 #[test]
 fn looks_at_all_tiles(rt: HostRuntime) -> Result<(), Fail> {
-    assert!(rt; are_simples(&tiles("28m5p28s")?) && !are_simples(&tiles("289m")?));
-    assert!(rt; are_orphans(&tiles("19m17z")?) && !are_orphans(&tiles("19m8p")?));
-    assert!(rt; are_terminals(&tiles("19m19p19s")?) && !are_terminals(&tiles("19m1z")?));
-    assert!(rt; are_honours(&tiles("1234567z")?) && !are_honours(&tiles("9s1z")?));
-    assert!(rt; are_green(&tiles("23468s6z")?) && !are_green(&tiles("5s")?));
-    assert!(rt; are_of_suit(&tiles("19p")?, 1) && !are_of_suit(&tiles("19p1z")?, 1));
-    assert!(rt; are_of_suit_or_honours(&tiles("19p1z")?, 1));
-    assert!(rt; !are_of_suit_or_honours(&tiles("1m19p1z")?, 1));
-    assert!(rt; has_suit(&tiles("9m1s")?, 2) && !has_suit(&tiles("9m1s")?, 1));
-    assert!(rt; has_honours(&tiles("9s1z")?) && !has_honours(&tiles("9s")?));
+    assert!(rt; tiles("28m5p28s")?.are_simples() && !tiles("289m")?.are_simples());
+    assert!(rt; tiles("19m17z")?.are_orphans() && !tiles("19m8p")?.are_orphans());
+    assert!(rt; tiles("19m19p19s")?.are_terminals() && !tiles("19m1z")?.are_terminals());
+    assert!(rt; tiles("1234567z")?.are_honours() && !tiles("9s1z")?.are_honours());
+    assert!(rt; tiles("23468s6z")?.are_green() && !tiles("5s")?.are_green());
+    assert!(rt; tiles("19p")?.are_of_suit(1) && !tiles("19p1z")?.are_of_suit(1));
+    assert!(rt; tiles("19p1z")?.are_of_suit_or_honours(1));
+    assert!(rt; !tiles("1m19p1z")?.are_of_suit_or_honours(1));
+    assert!(rt; tiles("9m1s")?.has_suit(2) && !tiles("9m1s")?.has_suit(1));
+    assert!(rt; tiles("9s1z")?.has_honours() && !tiles("9s")?.has_honours());
     Ok(())
 }
 
@@ -197,5 +197,17 @@ fn knows_kinds_waits_and_winners(rt: HostRuntime) -> Result<(), Fail> {
     assert_eq!(rt; wait_fu(Kind::at(6), &Block::Triplet(Kind::at(6))), 0);
     assert!(rt; is_ron(By::Ron) && !is_ron(By::Tsumo));
     assert!(rt; is_dealer(Wind::East) && !is_dealer(Wind::North));
+    Ok(())
+}
+
+#[test]
+fn counts_blocks_as_they_come(rt: HostRuntime) -> Result<(), Fail> {
+    let mut blocks = Blocks::new();
+    let run = HandBlock::Run(Kind::at(9));
+    blocks.push(run);
+    blocks.push(run);
+    assert_eq!(rt; blocks.runs_equal_to(&run), 2);
+    assert_eq!(rt; blocks.runs(), 2);
+    assert!(rt; !blocks.has_triplet(9));
     Ok(())
 }

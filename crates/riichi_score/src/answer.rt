@@ -7,6 +7,7 @@ ghost use Rattle.riichi_score.specs.Scores.{hand_of};
 
 use crate::dora;
 use crate::score::{Score, score_of};
+use riichi_blocks::all_tiles;
 use riichi_hand::WinRecord;
 use riichi_split::Readings;
 use riichi_tiles::Counts;
@@ -28,10 +29,11 @@ pub fn best(win: &WinRecord) -> WinAnswer
     ensures greatest { spec.IsBest win.now result }
 {
     let dora = dora(win);
+    let tiles = all_tiles(win);
     let hand = hand_of(win);
     let mut best = WinAnswer::NoWin;
     for reading in Readings::new(&hand, &win.melds(), win.winning()) {
-        best = better(best, score_of(&reading, win, dora));
+        best = better(best, score_of(&reading, &tiles, win, dora));
     }
     best
 }

@@ -1,10 +1,11 @@
 //! The fu of a reading.
 ghost use Rattle.std.specs.Prelude.{◌≡◌, ◌≤◌, length};
 ghost use Rattle.std.specs.List.{sum_by};
+ghost use Rattle.riichi_blocks.specs.HandBlocks.{blocks_of};
 ghost use Rattle.riichi_yaku.specs.Runs.{is_pinfu};
 ghost use Rattle.riichi_score.specs.Fu as spec;
 
-use riichi_blocks::{HandBlock, blocks_of, is_orphan, is_ron, pair_fu, wait_fu};
+use riichi_blocks::{Blocks, HandBlock, blocks_of, is_orphan, is_ron, pair_fu, wait_fu};
 use riichi_hand::WinRecord;
 use riichi_split::Reading;
 use riichi_tiles::{Block, Kind};
@@ -18,11 +19,21 @@ pub fn fu(reading: &Reading, win: &WinRecord) -> u8
     ensures value { result ≡ spec.fu_of reading.now win.now }
     ensures most { result ≤ 200 }
 {
-    let blocks = blocks_of(reading, win);
-    fu_from(blocks.as_slice(), reading, win)
+    fu_among(&blocks_of(reading, win), reading, win)
 }
 
-fn fu_from(blocks: &[HandBlock], reading: &Reading, win: &WinRecord) -> u8
+/// The fu of a reading, by its blocks.
+#[tactic(auto, unfolding(crate::specs::Fu::fu_of))]
+pub(crate) fn fu_among(blocks: &Blocks, reading: &Reading, win: &WinRecord) -> u8
+    requires sets { spec.HasFourSets reading.now win.now }
+    requires blocks { blocks.now ≡ blocks_of reading.now win.now }
+    ensures value { result ≡ spec.fu_of reading.now win.now }
+    ensures most { result ≤ 200 }
+{
+    fu_from(blocks, reading, win)
+}
+
+fn fu_from(blocks: &Blocks, reading: &Reading, win: &WinRecord) -> u8
     requires { length blocks.now ≤ 5 }
     ensures value { result ≡ spec.fu_from blocks.now reading.now win.now }
     ensures most { result ≤ 200 }
@@ -34,7 +45,7 @@ fn fu_from(blocks: &[HandBlock], reading: &Reading, win: &WinRecord) -> u8
     }
 }
 
-fn standard_fu(blocks: &[HandBlock], reading: &Reading, done: &Block, win: &WinRecord) -> u8
+fn standard_fu(blocks: &Blocks, reading: &Reading, done: &Block, win: &WinRecord) -> u8
     requires { length blocks.now ≤ 5 }
     ensures value { result ≡ spec.standard_fu blocks.now reading.now done.now win.now }
     ensures most { result ≤ 200 }
@@ -55,7 +66,7 @@ fn ron_fu(win: &WinRecord) -> u8
     }
 }
 
-fn draw_fu(blocks: &[HandBlock], reading: &Reading, win: &WinRecord) -> u8
+fn draw_fu(blocks: &Blocks, reading: &Reading, win: &WinRecord) -> u8
     ensures value { result ≡ spec.draw_fu (is_pinfu blocks.now reading.now win.now) win.now }
     ensures most { result ≤ 2 }
 {
@@ -66,13 +77,13 @@ fn draw_fu(blocks: &[HandBlock], reading: &Reading, win: &WinRecord) -> u8
     }
 }
 
-fn blocks_fu(blocks: &[HandBlock], win: &WinRecord) -> u8
+fn blocks_fu(blocks: &Blocks, win: &WinRecord) -> u8
     requires { length blocks.now ≤ 5 }
     ensures value { result ≡ sum_by (spec.block_fu win.now) blocks.now }
     ensures most { result ≤ 160 }
 {
     let mut sum = 0;
-    for block in blocks {
+    for block in blocks.as_slice() {
         sum += block_fu(win, block);
     }
     sum

@@ -1,13 +1,16 @@
 //! The score of a reading.
 ghost use Rattle.std.specs.Prelude.{◌≡◌, ◌≤◌};
+ghost use Rattle.riichi_blocks.specs.Held.{all_tiles};
 ghost use Rattle.riichi_score.specs.Dora.{dora_of};
 ghost use Rattle.riichi_score.specs.Fu.{HasFourSets};
 ghost use Rattle.riichi_score.specs.Scores as spec;
 
-use crate::{Payment, base_points, fu, gain, han, payment};
+use crate::points::fu_among;
+use crate::{Payment, base_points, gain, han, payment};
+use riichi_blocks::{AllTiles, blocks_of};
 use riichi_hand::WinRecord;
 use riichi_split::Reading;
-use riichi_yaku::{YakuSet, yaku};
+use riichi_yaku::{YakuSet, yaku_among};
 
 /// What a reading is worth. Of a yakuman han, fu and dora are 0.
 #[derive(Clone, Copy, Debug, PartialEq, Eq)]
@@ -24,15 +27,23 @@ pub struct Score {
     pub gain: u32,
 }
 
-/// The score of a reading, if it has a yaku. The dora are those of the win.
+/// The score of a reading, if it has a yaku. All tiles and the dora are those of the win.
 #[tactic(auto, unfolding(crate::specs::Scores::score_of))]
-pub(crate) fn score_of(reading: &Reading, win: &WinRecord, dora: u8) -> Option<Score>
+pub(crate) fn score_of(
+    reading: &Reading,
+    tiles: &AllTiles,
+    win: &WinRecord,
+    dora: u8,
+) -> Option<Score>
     requires sets { HasFourSets reading.now win.now }
+    requires tiles { tiles.now ≡ all_tiles win.now }
     requires dora { dora ≡ dora_of win.now }
     requires most { dora ≤ 52 }
     ensures { result ≡ spec.score_of reading.now win.now }
 {
-    scored(yaku(reading, win), fu(reading, win), dora, win)
+    let blocks = blocks_of(reading, win);
+    let yaku = yaku_among(&blocks, reading, tiles, win);
+    scored(yaku, fu_among(&blocks, reading, win), dora, win)
 }
 
 fn scored(yaku: YakuSet, fu: u8, dora: u8, win: &WinRecord) -> Option<Score>

@@ -1,5 +1,7 @@
 //! The yaku that hold of a reading.
 ghost use Rattle.std.specs.Prelude.{◌≡◌, ◌<◌, ◌≤◌, ◌*◌, ◌^◌, ◌==◌, ℕ, IsTrue, false, length, if◌then◌else◌};
+ghost use Rattle.riichi_blocks.specs.HandBlocks.{blocks_of};
+ghost use Rattle.riichi_blocks.specs.Held.{all_tiles};
 ghost use Rattle.riichi_yaku.specs.Conditions as spec;
 ghost use Rattle.riichi_yaku.specs.YakuSets.{number_of, has_number, is_yakuman};
 
@@ -12,7 +14,7 @@ use crate::tiles::{Tiles, tiles_of};
 use crate::triplets::{Triplets, triplets_of};
 use crate::yaku_set::FIRST_YAKUMAN;
 use crate::yakuman::{Yakuman, yakuman_of};
-use riichi_blocks::{all_tiles, blocks_of};
+use riichi_blocks::{AllTiles, Blocks, all_tiles, blocks_of};
 use riichi_hand::WinRecord;
 use riichi_split::Reading;
 
@@ -22,18 +24,24 @@ pub fn yaku(reading: &Reading, win: &WinRecord) -> YakuSet
     ensures each { (number : ℕ) → has_number result number ≡ spec.holds reading.now win.now number }
     ensures alone { IsTrue (is_yakuman result) → (number : ℕ) → number < 29 → has_number result number ≡ false }
 {
-    let blocks = blocks_of(reading, win);
-    let blocks = blocks.as_slice();
-    let tiles = all_tiles(win);
+    yaku_among(&blocks_of(reading, win), reading, &all_tiles(win), win)
+}
+
+/// The yaku that hold of a reading, by its blocks and every tile of the win, for a caller that has these.
+pub fn yaku_among(blocks: &Blocks, reading: &Reading, tiles: &AllTiles, win: &WinRecord) -> YakuSet
+    requires blocks { blocks.now ≡ blocks_of reading.now win.now }
+    requires tiles { tiles.now ≡ all_tiles win.now }
+    ensures { result ≡ spec.yaku_of reading.now win.now }
+{
     let ordinary = ordinary(
         &luck_of(win),
         &honours_of(blocks, win),
         &runs_of(blocks, reading, win),
         &outside_of(blocks),
         &triplets_of(blocks),
-        &tiles_of(reading, &tiles),
+        &tiles_of(reading, tiles),
     );
-    let yakuman = yakuman(&yakuman_of(blocks, reading, &tiles, win));
+    let yakuman = yakuman(&yakuman_of(blocks, reading, tiles, win));
     YakuSet::new(yakuman_alone(ordinary, yakuman))
 }
 

@@ -3,7 +3,7 @@ ghost use Rattle.std.specs.Prelude.{◌≡◌};
 ghost use Rattle.riichi_yaku.specs.Honours as spec;
 ghost use Rattle.riichi_blocks.specs.Kinds.{dragons, winds};
 
-use riichi_blocks::{EAST, GREEN, HandBlock, KINDS, RED, WHITE, has_triplet, is_dragon, is_wind};
+use riichi_blocks::{Blocks, EAST, GREEN, HandBlock, KINDS, RED, WHITE, is_dragon, is_wind};
 use riichi_hand::WinRecord;
 
 /// Which yaku of winds and dragons hold.
@@ -17,62 +17,62 @@ pub(crate) struct Honours {
     pub little_three_dragons: bool,
 }
 
-fn is_white_dragon(blocks: &[HandBlock]) -> bool
+fn is_white_dragon(blocks: &Blocks) -> bool
     ensures { result ≡ spec.is_white_dragon blocks.now }
 {
-    has_triplet(blocks, WHITE)
+    blocks.has_triplet(WHITE)
 }
 
-fn is_green_dragon(blocks: &[HandBlock]) -> bool
+fn is_green_dragon(blocks: &Blocks) -> bool
     ensures { result ≡ spec.is_green_dragon blocks.now }
 {
-    has_triplet(blocks, GREEN)
+    blocks.has_triplet(GREEN)
 }
 
-fn is_red_dragon(blocks: &[HandBlock]) -> bool
+fn is_red_dragon(blocks: &Blocks) -> bool
     ensures { result ≡ spec.is_red_dragon blocks.now }
 {
-    has_triplet(blocks, RED)
+    blocks.has_triplet(RED)
 }
 
-fn is_seat_wind(blocks: &[HandBlock], win: &WinRecord) -> bool
+fn is_seat_wind(blocks: &Blocks, win: &WinRecord) -> bool
     ensures { result ≡ spec.is_seat_wind blocks.now win.now }
 {
-    has_triplet(blocks, win.seat().kind().index())
+    blocks.has_triplet(win.seat().kind().index())
 }
 
-fn is_prevalent_wind(blocks: &[HandBlock], win: &WinRecord) -> bool
+fn is_prevalent_wind(blocks: &Blocks, win: &WinRecord) -> bool
     ensures { result ≡ spec.is_prevalent_wind blocks.now win.now }
 {
-    has_triplet(blocks, win.round().kind().index())
+    blocks.has_triplet(win.round().kind().index())
 }
 
-pub(crate) fn has_dragon_triplets(blocks: &[HandBlock]) -> bool
+pub(crate) fn has_dragon_triplets(blocks: &Blocks) -> bool
     ensures { result ≡ spec.has_triplets blocks.now dragons }
 {
-    (WHITE..KINDS).all(|kind| has_triplet(blocks, kind))
+    (WHITE..KINDS).all(|kind| blocks.has_triplet(kind))
 }
 
-pub(crate) fn has_wind_triplets(blocks: &[HandBlock]) -> bool
+pub(crate) fn has_wind_triplets(blocks: &Blocks) -> bool
     ensures { result ≡ spec.has_triplets blocks.now winds }
 {
-    (EAST..WHITE).all(|kind| has_triplet(blocks, kind))
+    (EAST..WHITE).all(|kind| blocks.has_triplet(kind))
 }
 
-fn has_other_dragon_triplets(blocks: &[HandBlock], last: usize) -> bool
+fn has_other_dragon_triplets(blocks: &Blocks, last: usize) -> bool
     ensures { result ≡ spec.has_other_triplets blocks.now dragons last }
 {
-    (WHITE..KINDS).all(|kind| kind == last || has_triplet(blocks, kind))
+    (WHITE..KINDS).all(|kind| kind == last || blocks.has_triplet(kind))
 }
 
-fn has_other_wind_triplets(blocks: &[HandBlock], last: usize) -> bool
+fn has_other_wind_triplets(blocks: &Blocks, last: usize) -> bool
     ensures { result ≡ spec.has_other_triplets blocks.now winds last }
 {
-    (EAST..WHITE).all(|kind| kind == last || has_triplet(blocks, kind))
+    (EAST..WHITE).all(|kind| kind == last || blocks.has_triplet(kind))
 }
 
 /// A pair of dragons, and triplets of the others.
-fn is_last_dragon(blocks: &[HandBlock], block: &HandBlock) -> bool
+fn is_last_dragon(blocks: &Blocks, block: &HandBlock) -> bool
     ensures { result ≡ spec.is_last_dragon blocks.now block.now }
 {
     match block {
@@ -83,14 +83,17 @@ fn is_last_dragon(blocks: &[HandBlock], block: &HandBlock) -> bool
     }
 }
 
-fn is_little_three_dragons(blocks: &[HandBlock]) -> bool
+fn is_little_three_dragons(blocks: &Blocks) -> bool
     ensures { result ≡ spec.is_little_three_dragons blocks.now }
 {
-    blocks.iter().any(|block| is_last_dragon(blocks, block))
+    blocks
+        .as_slice()
+        .iter()
+        .any(|block| is_last_dragon(blocks, block))
 }
 
 /// A pair of winds, and triplets of the others.
-pub(crate) fn is_last_wind(blocks: &[HandBlock], block: &HandBlock) -> bool
+pub(crate) fn is_last_wind(blocks: &Blocks, block: &HandBlock) -> bool
     ensures { result ≡ spec.is_last_wind blocks.now block.now }
 {
     match block {
@@ -101,7 +104,7 @@ pub(crate) fn is_last_wind(blocks: &[HandBlock], block: &HandBlock) -> bool
     }
 }
 
-pub(crate) fn honours_of(blocks: &[HandBlock], win: &WinRecord) -> Honours
+pub(crate) fn honours_of(blocks: &Blocks, win: &WinRecord) -> Honours
     ensures { result ≡ spec.honours_of blocks.now win.now }
 {
     Honours {

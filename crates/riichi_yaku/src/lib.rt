@@ -20,7 +20,7 @@ mod triplets;
 mod yaku_set;
 mod yakuman;
 
-pub use conditions::yaku;
+pub use conditions::{yaku, yaku_among};
 pub use runs::is_pinfu;
 pub use table::{han_of, word, words_of};
 pub use yaku_set::YakuSet;

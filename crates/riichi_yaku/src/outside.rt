@@ -2,9 +2,7 @@
 ghost use Rattle.std.specs.Prelude.{◌≡◌};
 ghost use Rattle.riichi_yaku.specs.Outside as spec;
 
-use riichi_blocks::{
-    HandBlock, all_have_orphans, all_have_terminals, some_has_honour, some_is_run,
-};
+use riichi_blocks::{Blocks, all_have_orphans, all_have_terminals, some_has_honour};
 
 /// Which of these yaku hold.
 #[derive(Clone, Copy)]
@@ -13,19 +11,21 @@ pub(crate) struct Outside {
     pub terminals_in_all_sets: bool,
 }
 
-fn is_outside_hand(blocks: &[HandBlock]) -> bool
+fn is_outside_hand(blocks: &Blocks) -> bool
     ensures { result ≡ spec.is_outside_hand blocks.now }
 {
-    all_have_orphans(blocks) && some_is_run(blocks) && some_has_honour(blocks)
+    all_have_orphans(blocks.as_slice()) && blocks.has_runs() && some_has_honour(blocks.as_slice())
 }
 
-fn is_terminals_in_all_sets(blocks: &[HandBlock]) -> bool
+fn is_terminals_in_all_sets(blocks: &Blocks) -> bool
     ensures { result ≡ spec.is_terminals_in_all_sets blocks.now }
 {
-    all_have_terminals(blocks) && !some_has_honour(blocks) && some_is_run(blocks)
+    all_have_terminals(blocks.as_slice())
+        && !some_has_honour(blocks.as_slice())
+        && blocks.has_runs()
 }
 
-pub(crate) fn outside_of(blocks: &[HandBlock]) -> Outside
+pub(crate) fn outside_of(blocks: &Blocks) -> Outside
     ensures { result ≡ spec.outside_of blocks.now }
 {
     Outside {

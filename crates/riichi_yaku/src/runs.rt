@@ -2,9 +2,7 @@
 ghost use Rattle.std.specs.Prelude.{◌≡◌, ◌<◌};
 ghost use Rattle.riichi_yaku.specs.Runs as spec;
 
-use riichi_blocks::{
-    HandBlock, has_plain_pair, has_run, has_two_sided_wait, runs_among, runs_equal_to,
-};
+use riichi_blocks::{Blocks, HandBlock, has_plain_pair, has_two_sided_wait};
 use riichi_hand::WinRecord;
 use riichi_split::Reading;
 
@@ -18,56 +16,60 @@ pub(crate) struct Runs {
     pub twice_pure_double_chow: bool,
 }
 
-fn are_four_runs(blocks: &[HandBlock]) -> bool
+fn are_four_runs(blocks: &Blocks) -> bool
     ensures { result ≡ spec.are_four_runs blocks.now }
 {
-    runs_among(blocks) == 4
+    blocks.runs() == 4
 }
 
 /// A concealed hand of four runs, a pair that earns no fu and a two-sided wait.
-pub fn is_pinfu(blocks: &[HandBlock], reading: &Reading, win: &WinRecord) -> bool
+pub fn is_pinfu(blocks: &Blocks, reading: &Reading, win: &WinRecord) -> bool
     ensures { result ≡ spec.is_pinfu blocks.now reading.now win.now }
 {
     win.melds().concealed()
         && are_four_runs(blocks)
-        && has_plain_pair(blocks, win)
+        && has_plain_pair(blocks.as_slice(), win)
         && has_two_sided_wait(reading, win.winning())
 }
 
-fn has_equal_runs(blocks: &[HandBlock]) -> bool
+fn has_equal_runs(blocks: &Blocks) -> bool
     ensures { result ≡ spec.has_equal_runs blocks.now }
 {
-    blocks.iter().any(|block| runs_equal_to(blocks, block) >= 2)
+    blocks
+        .as_slice()
+        .iter()
+        .any(|block| blocks.runs_equal_to(block) >= 2)
 }
 
-fn are_runs_paired(blocks: &[HandBlock]) -> bool
+fn are_runs_paired(blocks: &Blocks) -> bool
     ensures { result ≡ spec.are_runs_paired blocks.now }
 {
     blocks
+        .as_slice()
         .iter()
-        .all(|block| runs_equal_to(blocks, block) % 2 == 0)
+        .all(|block| blocks.runs_equal_to(block) % 2 == 0)
 }
 
-fn is_twice_pure_double_chow(blocks: &[HandBlock], win: &WinRecord) -> bool
+fn is_twice_pure_double_chow(blocks: &Blocks, win: &WinRecord) -> bool
     ensures { result ≡ spec.is_twice_pure_double_chow blocks.now win.now }
 {
     win.melds().concealed() && are_four_runs(blocks) && are_runs_paired(blocks)
 }
 
-fn is_pure_double_chow(blocks: &[HandBlock], win: &WinRecord) -> bool
+fn is_pure_double_chow(blocks: &Blocks, win: &WinRecord) -> bool
     ensures { result ≡ spec.is_pure_double_chow blocks.now win.now }
 {
     win.melds().concealed() && has_equal_runs(blocks) && !is_twice_pure_double_chow(blocks, win)
 }
 
-fn has_run_in_each_suit(blocks: &[HandBlock], low: usize) -> bool
+fn has_run_in_each_suit(blocks: &Blocks, low: usize) -> bool
     requires { low < 34 }
     ensures { result ≡ spec.has_run_in_each_suit blocks.now low }
 {
-    low < 9 && has_run(blocks, low + 9) && has_run(blocks, low + 18)
+    low < 9 && blocks.has_run(low + 9) && blocks.has_run(low + 18)
 }
 
-fn begins_triple_chow(blocks: &[HandBlock], block: &HandBlock) -> bool
+fn begins_triple_chow(blocks: &Blocks, block: &HandBlock) -> bool
     ensures { result ≡ spec.begins_triple_chow blocks.now block.now }
 {
     match block {
@@ -76,20 +78,23 @@ fn begins_triple_chow(blocks: &[HandBlock], block: &HandBlock) -> bool
     }
 }
 
-fn is_mixed_triple_chow(blocks: &[HandBlock]) -> bool
+fn is_mixed_triple_chow(blocks: &Blocks) -> bool
     ensures { result ≡ spec.is_mixed_triple_chow blocks.now }
 {
-    blocks.iter().any(|block| begins_triple_chow(blocks, block))
+    blocks
+        .as_slice()
+        .iter()
+        .any(|block| begins_triple_chow(blocks, block))
 }
 
-fn has_straight_from(blocks: &[HandBlock], low: usize) -> bool
+fn has_straight_from(blocks: &Blocks, low: usize) -> bool
     requires { low < 34 }
     ensures { result ≡ spec.has_straight_from blocks.now low }
 {
-    low % 9 == 0 && has_run(blocks, low + 3) && has_run(blocks, low + 6)
+    low % 9 == 0 && blocks.has_run(low + 3) && blocks.has_run(low + 6)
 }
 
-fn begins_straight(blocks: &[HandBlock], block: &HandBlock) -> bool
+fn begins_straight(blocks: &Blocks, block: &HandBlock) -> bool
     ensures { result ≡ spec.begins_straight blocks.now block.now }
 {
     match block {
@@ -98,13 +103,16 @@ fn begins_straight(blocks: &[HandBlock], block: &HandBlock) -> bool
     }
 }
 
-fn is_pure_straight(blocks: &[HandBlock]) -> bool
+fn is_pure_straight(blocks: &Blocks) -> bool
     ensures { result ≡ spec.is_pure_straight blocks.now }
 {
-    blocks.iter().any(|block| begins_straight(blocks, block))
+    blocks
+        .as_slice()
+        .iter()
+        .any(|block| begins_straight(blocks, block))
 }
 
-pub(crate) fn runs_of(blocks: &[HandBlock], reading: &Reading, win: &WinRecord) -> Runs
+pub(crate) fn runs_of(blocks: &Blocks, reading: &Reading, win: &WinRecord) -> Runs
     ensures { result ≡ spec.runs_of blocks.now reading.now win.now }
 {
     Runs {

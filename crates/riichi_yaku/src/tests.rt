@@ -1,5 +1,5 @@
 use super::*;
-use riichi_blocks::blocks_of;
+use riichi_blocks::{all_tiles, blocks_of};
 use riichi_hand::{By, Flags, Rules, WinParts, WinRecord, Wind};
 use riichi_split::Readings;
 use riichi_tiles::{Counts, Kind, Meld, Melds, Reds, read_counts};
@@ -102,7 +102,8 @@ fn tells_an_open_hand(rt: HostRuntime) -> Result<(), Fail> {
         assert_eq!(rt; word(10), "seat-wind");
         assert_eq!(rt; han_of(set, false), 2);
         let blocks = blocks_of(&reading, &win);
-        assert!(rt; !is_pinfu(blocks.as_slice(), &reading, &win));
+        assert!(rt; !is_pinfu(&blocks, &reading, &win));
+        assert!(rt; yaku_among(&blocks, &reading, &all_tiles(&win), &win) == set);
     }
     Ok(())
 }

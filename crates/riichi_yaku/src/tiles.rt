@@ -1,11 +1,8 @@
 //! The yaku of every tile of the hand, by the count of each kind.
-ghost use Rattle.std.specs.Prelude.{◌≡◌};
+ghost use Rattle.std.specs.Prelude.{◌≡◌, ◌<◌};
 ghost use Rattle.riichi_yaku.specs.Tiles as spec;
 
-use riichi_blocks::{
-    are_of_suit, are_of_suit_or_honours, are_orphans, are_simples, has_honours, has_suit,
-    is_orphans, is_seven_pairs,
-};
+use riichi_blocks::{AllTiles, is_orphans, is_seven_pairs};
 use riichi_split::Reading;
 
 /// Which yaku of every tile hold.
@@ -18,49 +15,50 @@ pub(crate) struct Tiles {
     pub full_flush: bool,
 }
 
-fn is_all_simples(reading: &Reading, tiles: &[u8; 34]) -> bool
+fn is_all_simples(reading: &Reading, tiles: &AllTiles) -> bool
     ensures { result ≡ spec.is_all_simples reading.now tiles.now }
 {
-    !is_orphans(reading) && are_simples(tiles)
+    !is_orphans(reading) && tiles.are_simples()
 }
 
-fn is_all_terminals_and_honours(reading: &Reading, tiles: &[u8; 34]) -> bool
+fn is_all_terminals_and_honours(reading: &Reading, tiles: &AllTiles) -> bool
     ensures { result ≡ spec.is_all_terminals_and_honours reading.now tiles.now }
 {
-    !is_orphans(reading) && are_orphans(tiles)
+    !is_orphans(reading) && tiles.are_orphans()
 }
 
-fn has_suit_alone(tiles: &[u8; 34], suit: usize) -> bool
+fn has_suit_alone(tiles: &AllTiles, suit: usize) -> bool
+    requires { suit < 3 }
     ensures { result ≡ spec.has_suit_alone tiles.now suit }
 {
-    are_of_suit_or_honours(tiles, suit) && has_suit(tiles, suit)
+    tiles.are_of_suit_or_honours(suit) && tiles.has_suit(suit)
 }
 
-fn has_one_suit(tiles: &[u8; 34]) -> bool
+fn has_one_suit(tiles: &AllTiles) -> bool
     ensures { result ≡ spec.has_one_suit tiles.now }
 {
     (0..3).any(|suit| has_suit_alone(tiles, suit))
 }
 
-fn is_half_flush(reading: &Reading, tiles: &[u8; 34]) -> bool
+fn is_half_flush(reading: &Reading, tiles: &AllTiles) -> bool
     ensures { result ≡ spec.is_half_flush reading.now tiles.now }
 {
-    !is_orphans(reading) && has_one_suit(tiles) && has_honours(tiles)
+    !is_orphans(reading) && has_one_suit(tiles) && tiles.has_honours()
 }
 
-fn are_of_one_suit(tiles: &[u8; 34]) -> bool
+fn are_of_one_suit(tiles: &AllTiles) -> bool
     ensures { result ≡ spec.are_of_one_suit tiles.now }
 {
-    (0..3).any(|suit| are_of_suit(tiles, suit))
+    (0..3).any(|suit| tiles.are_of_suit(suit))
 }
 
-fn is_full_flush(reading: &Reading, tiles: &[u8; 34]) -> bool
+fn is_full_flush(reading: &Reading, tiles: &AllTiles) -> bool
     ensures { result ≡ spec.is_full_flush reading.now tiles.now }
 {
     !is_orphans(reading) && are_of_one_suit(tiles)
 }
 
-pub(crate) fn tiles_of(reading: &Reading, tiles: &[u8; 34]) -> Tiles
+pub(crate) fn tiles_of(reading: &Reading, tiles: &AllTiles) -> Tiles
     ensures { result ≡ spec.tiles_of reading.now tiles.now }
 {
     Tiles {

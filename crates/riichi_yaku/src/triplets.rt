@@ -2,9 +2,7 @@
 ghost use Rattle.std.specs.Prelude.{◌≡◌, ◌<◌};
 ghost use Rattle.riichi_yaku.specs.Triplets as spec;
 
-use riichi_blocks::{
-    HandBlock, concealed_triplets_among, has_triplet, kongs_among, triplets_among,
-};
+use riichi_blocks::{Blocks, HandBlock};
 
 /// Which yaku of triplets hold.
 #[derive(Clone, Copy)]
@@ -15,14 +13,14 @@ pub(crate) struct Triplets {
     pub three_concealed_pungs: bool,
 }
 
-fn has_triplet_in_each_suit(blocks: &[HandBlock], kind: usize) -> bool
+fn has_triplet_in_each_suit(blocks: &Blocks, kind: usize) -> bool
     requires { kind < 34 }
     ensures { result ≡ spec.has_triplet_in_each_suit blocks.now kind }
 {
-    kind < 9 && has_triplet(blocks, kind + 9) && has_triplet(blocks, kind + 18)
+    kind < 9 && blocks.has_triplet(kind + 9) && blocks.has_triplet(kind + 18)
 }
 
-fn begins_triple_pung(blocks: &[HandBlock], block: &HandBlock) -> bool
+fn begins_triple_pung(blocks: &Blocks, block: &HandBlock) -> bool
     ensures { result ≡ spec.begins_triple_pung blocks.now block.now }
 {
     match block {
@@ -33,31 +31,34 @@ fn begins_triple_pung(blocks: &[HandBlock], block: &HandBlock) -> bool
     }
 }
 
-fn is_triple_pung(blocks: &[HandBlock]) -> bool
+fn is_triple_pung(blocks: &Blocks) -> bool
     ensures { result ≡ spec.is_triple_pung blocks.now }
 {
-    blocks.iter().any(|block| begins_triple_pung(blocks, block))
+    blocks
+        .as_slice()
+        .iter()
+        .any(|block| begins_triple_pung(blocks, block))
 }
 
-fn is_three_kongs(blocks: &[HandBlock]) -> bool
+fn is_three_kongs(blocks: &Blocks) -> bool
     ensures { result ≡ spec.is_three_kongs blocks.now }
 {
-    kongs_among(blocks) >= 3
+    blocks.kongs() >= 3
 }
 
-fn is_all_pungs(blocks: &[HandBlock]) -> bool
+fn is_all_pungs(blocks: &Blocks) -> bool
     ensures { result ≡ spec.is_all_pungs blocks.now }
 {
-    triplets_among(blocks) == 4
+    blocks.triplets() == 4
 }
 
-fn is_three_concealed_pungs(blocks: &[HandBlock]) -> bool
+fn is_three_concealed_pungs(blocks: &Blocks) -> bool
     ensures { result ≡ spec.is_three_concealed_pungs blocks.now }
 {
-    concealed_triplets_among(blocks) >= 3
+    blocks.concealed_triplets() >= 3
 }
 
-pub(crate) fn triplets_of(blocks: &[HandBlock]) -> Triplets
+pub(crate) fn triplets_of(blocks: &Blocks) -> Triplets
     ensures { result ≡ spec.triplets_of blocks.now }
 {
     Triplets {

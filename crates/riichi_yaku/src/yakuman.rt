@@ -1,12 +1,11 @@
 //! The yakuman.
-ghost use Rattle.std.specs.Prelude.{◌≡◌, ◌==◌, length};
+ghost use Rattle.std.specs.Prelude.{◌≡◌, ◌<◌, ◌==◌, length};
 ghost use Rattle.std.specs.List.{list_any, range_with_len};
 ghost use Rattle.riichi_yaku.specs.Yakuman as spec;
 
 use crate::honours::{has_dragon_triplets, has_wind_triplets, is_last_wind};
 use riichi_blocks::{
-    HandBlock, KINDS, are_green, are_honours, are_of_suit, are_terminals, concealed_triplets_among,
-    is_dealer, is_of_suit, is_orphans, is_standard, is_terminal, kongs_among,
+    AllTiles, Blocks, KINDS, is_dealer, is_of_suit, is_orphans, is_standard, is_terminal,
 };
 use riichi_hand::WinRecord;
 use riichi_split::Reading;
@@ -47,19 +46,20 @@ fn gate_copies(suit: usize, kind: usize) -> u8
     }
 }
 
-fn has_gates(tiles: &[u8; 34], suit: usize) -> bool
-    ensures { result ≡ spec.has_gates tiles.now suit }
+fn has_gates(counts: &[u8; 34], suit: usize) -> bool
+    ensures { result ≡ spec.has_gates counts.now suit }
 {
-    (0..KINDS).all(|kind| tiles[kind] >= gate_copies(suit, kind))
+    (0..KINDS).all(|kind| counts[kind] >= gate_copies(suit, kind))
 }
 
-fn has_suit_with_gates(tiles: &[u8; 34], suit: usize) -> bool
+fn has_suit_with_gates(tiles: &AllTiles, suit: usize) -> bool
+    requires { suit < 3 }
     ensures { result ≡ spec.has_suit_with_gates tiles.now suit }
 {
-    are_of_suit(tiles, suit) && has_gates(tiles, suit)
+    tiles.are_of_suit(suit) && has_gates(tiles.counts(), suit)
 }
 
-fn has_all_gates(tiles: &[u8; 34]) -> bool
+fn has_all_gates(tiles: &AllTiles) -> bool
     ensures { result ≡ list_any (spec.has_suit_with_gates tiles.now) (range_with_len 0 3) }
 {
     (0..3).any(|suit| has_suit_with_gates(tiles, suit))
@@ -71,58 +71,61 @@ fn has_no_meld(win: &WinRecord) -> bool
     win.melds().count() == 0
 }
 
-fn is_nine_gates(reading: &Reading, tiles: &[u8; 34], win: &WinRecord) -> bool
+fn is_nine_gates(reading: &Reading, tiles: &AllTiles, win: &WinRecord) -> bool
     ensures { result ≡ spec.is_nine_gates reading.now tiles.now win.now }
 {
     is_standard(reading) && has_no_meld(win) && has_all_gates(tiles)
 }
 
-fn is_four_concealed_pungs(blocks: &[HandBlock]) -> bool
+fn is_four_concealed_pungs(blocks: &Blocks) -> bool
     ensures { result ≡ spec.is_four_concealed_pungs blocks.now }
 {
-    concealed_triplets_among(blocks) == 4
+    blocks.concealed_triplets() == 4
 }
 
-fn is_big_three_dragons(blocks: &[HandBlock]) -> bool
+fn is_big_three_dragons(blocks: &Blocks) -> bool
     ensures { result ≡ spec.is_big_three_dragons blocks.now }
 {
     has_dragon_triplets(blocks)
 }
 
-fn is_little_four_winds(blocks: &[HandBlock]) -> bool
+fn is_little_four_winds(blocks: &Blocks) -> bool
     ensures { result ≡ spec.is_little_four_winds blocks.now }
 {
-    blocks.iter().any(|block| is_last_wind(blocks, block))
+    blocks
+        .as_slice()
+        .iter()
+        .any(|block| is_last_wind(blocks, block))
 }
 
-fn is_big_four_winds(blocks: &[HandBlock]) -> bool
+fn is_big_four_winds(blocks: &Blocks) -> bool
     ensures { result ≡ spec.is_big_four_winds blocks.now }
 {
     has_wind_triplets(blocks)
 }
 
-fn is_all_honours(reading: &Reading, tiles: &[u8; 34]) -> bool
+fn is_all_honours(reading: &Reading, tiles: &AllTiles) -> bool
     ensures { result ≡ spec.is_all_honours reading.now tiles.now }
 {
-    !is_orphans(reading) && are_honours(tiles)
+    !is_orphans(reading) && tiles.are_honours()
 }
 
-fn is_all_terminals(reading: &Reading, tiles: &[u8; 34]) -> bool
+fn is_all_terminals(reading: &Reading, tiles: &AllTiles) -> bool
     ensures { result ≡ spec.is_all_terminals reading.now tiles.now }
 {
-    is_standard(reading) && are_terminals(tiles)
+    is_standard(reading) && tiles.are_terminals()
 }
 
-fn is_all_green(reading: &Reading, tiles: &[u8; 34]) -> bool
+fn is_all_green(reading: &Reading, tiles: &AllTiles) -> bool
     ensures { result ≡ spec.is_all_green reading.now tiles.now }
 {
-    is_standard(reading) && are_green(tiles)
+    is_standard(reading) && tiles.are_green()
 }
 
-fn is_four_kongs(blocks: &[HandBlock]) -> bool
+fn is_four_kongs(blocks: &Blocks) -> bool
     ensures { result ≡ spec.is_four_kongs blocks.now }
 {
-    kongs_among(blocks) == 4
+    blocks.kongs() == 4
 }
 
 fn is_blessing_of_heaven(win: &WinRecord) -> bool
@@ -138,9 +141,9 @@ fn is_blessing_of_earth(win: &WinRecord) -> bool
 }
 
 pub(crate) fn yakuman_of(
-    blocks: &[HandBlock],
+    blocks: &Blocks,
     reading: &Reading,
-    tiles: &[u8; 34],
+    tiles: &AllTiles,
     win: &WinRecord,
 ) -> Yakuman
     ensures { result ≡ spec.yakuman_of blocks.now reading.now tiles.now win.now }

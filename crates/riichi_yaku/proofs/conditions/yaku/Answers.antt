@@ -1,44 +1,12 @@
-use Rattle.std.proofs.Common.{◌*◌, ◌^◌, ap, sym, nat_le, ◌∙◌, cond, nat_eq, List, Bool}
-use Rattle.riichi_yaku.specs.YakuSets.{number_of, has_number}
-use Rattle.riichi_yaku.specs.Conditions.{ordinary_flags, yakuman_flags}
-use Rattle.riichi_yaku.proofs.Flags.{number_of-yakuman_alone}
-use Rattle.riichi_yaku.proofs.Sets.{AreFamilies, of_families-is, has_number-yaku_of, yaku_of-alone}
+use Rattle.std.proofs.Common.{◌^◌, ap, sym, nat_le, ◌∙◌}
+use Rattle.riichi_yaku.specs.YakuSets.{has_number}
+use Rattle.riichi_yaku.proofs.Sets.{has_number-yaku_of, yaku_of-alone}
 use Rattle.riichi_yaku.proofs.conditions.yaku.Goals as goal
 
-pub returns-clause-value : goal.returns-clause-value
-returns-clause-value c =
-    let blocks = c.as_slice-blocks.result.now in
-    let luck = c.luck_of.result in
-    let honours = c.honours_of.result in
-    let runs = c.runs_of.result in
-    let outside = c.outside_of.result in
-    let triplets = c.triplets_of.result in
-    let tiles = c.tiles_of.result in
-    let yakuman = c.yakuman_of.result in
-    let ordinary : List Bool = ordinary_flags luck honours runs outside triplets tiles in
-    let families : AreFamilies c.args.reading.now c.args.win.now blocks c.all_tiles-tiles.result luck honours runs outside triplets tiles yakuman =
-    record {
-      blocks_are = c.as_slice-blocks.ensures.value ∙ c.blocks_of-blocks.ensures;
-      held_are = c.all_tiles-tiles.ensures;
-      luck_is = c.luck_of.ensures;
-      honours_are = c.honours_of.ensures;
-      runs_are = c.runs_of.ensures;
-      outside_is = c.outside_of.ensures;
-      triplets_are = c.triplets_of.ensures;
-      tiles_are = c.tiles_of.ensures;
-      yakuman_are = c.yakuman_of.ensures;
-    } in
-    c.new.ensures
-    ∙ c.yakuman_alone.ensures.value
-    ∙ ap (λ o. cond (nat_eq c.yakuman-yakuman.result 0) o (2 ^ 29 * c.yakuman-yakuman.result)) c.ordinary-ordinary.ensures.value
-    ∙ ap (λ y. cond (nat_eq y 0) (number_of ordinary) (2 ^ 29 * y)) c.yakuman-yakuman.ensures.value
-    ∙ number_of-yakuman_alone ordinary (yakuman_flags yakuman)
-    ∙ of_families-is _ _ _ _ _ _ _ _ _ _ _ families
-
 pub returns-clause-each : goal.returns-clause-each
-returns-clause-each c = λ number. ap (λ set. has_number set number) (returns-clause-value c) ∙ has_number-yaku_of c.args.reading.now c.args.win.now number
+returns-clause-each c = λ number. ap (λ set. has_number set number) c.yaku_among.ensures ∙ has_number-yaku_of c.args.reading.now c.args.win.now number
 
 pub returns-clause-alone : goal.returns-clause-alone
 returns-clause-alone c = λ yakuman number below.
-    let is = returns-clause-value c in
+    let is = c.yaku_among.ensures in
     ap (λ set. has_number set number) is ∙ yaku_of-alone c.args.reading.now c.args.win.now (ap (nat_le (2 ^ 29)) (sym is) ∙ yakuman) number below

@@ -1,0 +1,134 @@
+-- What is counted of blocks, with one block more.
+use Rattle.std.proofs.Common.{◌≡◌, ℕ, ◌+◌, ◌<◌, inl, inr, cond, Bool, true, false, ◌||◌, length-append, length-set, ◌∙◌, nat_eq, nat_lt, List, [], ◌∷◌, ◌++◌, refl, length, set, get_or, replicate, sym, ap, arith}
+use Rattle.std.specs.Prelude.{count_by}
+use Rattle.std.specs.List.{list_any}
+use Rattle.std.proofs.lemmas.List.{get_or-set_other, get_or-replicate}
+use Rattle.std.proofs.lemmas.List.Sums.{sum_by-append}
+use Rattle.std.proofs.lemmas.List.Folds.{list_any-append}
+use Rattle.std.proofs.lemmas.Grind.{get_or-set_at}
+use Rattle.std.proofs.lemmas.Bool.{lt-ltb}
+use Rattle.std.proofs.lemmas.Bool.Decides.{eqb_tells}
+use Rattle.riichi_blocks.specs.declared.hand_block.HandBlock.{HandBlock}
+use Rattle.riichi_blocks.specs.declared.hand_block.HandBlock.TheVariants.{Run, Triplet, Kong, Pair}
+use Rattle.riichi_blocks.specs.HandBlocks.{is_run, is_run_from, is_triplet, is_triplet_of, is_concealed_triplet, is_kong}
+use Rattle.riichi_blocks.specs.Tally.{IsTally}
+use Rattle.riichi_blocks.proofs.Additions.{get_or-more}
+
+or-false : (b : Bool) → (b || false) ≡ b
+or-false true = refl
+or-false false = refl
+
+or-true : (b : Bool) → (b || true) ≡ true
+or-true true = refl
+or-true false = refl
+
+count-push : (p : HandBlock → Bool) (blocks : List HandBlock) (block : HandBlock) → count_by p (blocks ++ block ∷ []) ≡ count_by p blocks + cond (p block) 1 0
+count-push p blocks block =
+    let e = sum_by-append (λ (b : HandBlock). cond {A = ℕ} (p b) 1 0) blocks (block ∷ []) in
+    omega (arith, e)
+
+any-push : (p : HandBlock → Bool) (blocks : List HandBlock) (block : HandBlock) → list_any p (blocks ++ block ∷ []) ≡ (list_any p blocks || p block)
+any-push p blocks block = list_any-append p blocks (block ∷ []) ∙ ap (λ b. list_any p blocks || b) (or-false (p block))
+
+one-more : (b : Bool) (total n : ℕ) (any : Bool) → total ≡ cond b 1 0 + n → nat_lt 0 n ≡ any → nat_lt 0 total ≡ (b || any)
+one-more true total n any e h = lt-ltb 0 total (omega (arith, e))
+one-more false total n any e h = ap (nat_lt 0) (let same : total ≡ n = omega (arith, e) in same) ∙ h
+
+-- some block is so where one or more are counted
+pub counted-any : (p : HandBlock → Bool) (blocks : List HandBlock) → nat_lt 0 (count_by p blocks) ≡ list_any p blocks
+counted-any p [] = refl
+counted-any p (block ∷ blocks) =
+    let e = sum_by-append (λ (b : HandBlock). cond {A = ℕ} (p b) 1 0) (block ∷ []) blocks in
+    one-more (p block) (count_by p (block ∷ blocks)) (count_by p blocks) (list_any p blocks) (omega (arith, e)) (counted-any p blocks)
+
+-- the mark of one kind more
+marked : (blocks : List HandBlock) (marks : List Bool) (held kind : ℕ) (block : HandBlock) → held < length marks → is_triplet_of kind block ≡ nat_eq held kind → get_or marks kind false ≡ list_any (is_triplet_of kind) blocks → get_or (set marks held true) kind false ≡ list_any (is_triplet_of kind) (blocks ++ block ∷ [])
+marked blocks marks held kind block within is was =
+    let any = any-push (is_triplet_of kind) blocks block in
+    elim (eqb_tells held kind) [
+      | inl t ↦
+          get_or-set_at marks held kind true false (sym t.1) within
+          ∙ sym (any ∙ ap (λ b. list_any (is_triplet_of kind) blocks || b) (is ∙ t.0) ∙ or-true (list_any (is_triplet_of kind) blocks))
+      | inr f ↦
+          get_or-set_other marks held kind true false (λ e. f.1 (sym e))
+          ∙ was
+          ∙ sym (any ∙ ap (λ b. list_any (is_triplet_of kind) blocks || b) (is ∙ f.0) ∙ or-false (list_any (is_triplet_of kind) blocks))
+    ]
+
+-- the mark of a kind stays where the block is no triplet
+unmarked : (blocks : List HandBlock) (kind : ℕ) (block : HandBlock) → is_triplet_of kind block ≡ false → list_any (is_triplet_of kind) blocks ≡ list_any (is_triplet_of kind) (blocks ++ block ∷ [])
+unmarked blocks kind block is =
+    sym (any-push (is_triplet_of kind) blocks block ∙ ap (λ b. list_any (is_triplet_of kind) blocks || b) is ∙ or-false (list_any (is_triplet_of kind) blocks))
+
+pub IsTally-none : IsTally [] (replicate 34 0) (replicate 34 false) 0 0 0 0
+IsTally-none = record {
+  at_most_nine = omega arith;
+  every_run = refl;
+  every_triplet = refl;
+  runs_from_are = λ kind h. get_or-replicate 34 kind 0 0 h;
+  triplets_of_are = λ kind h. get_or-replicate 34 kind false false h;
+  runs_are = refl;
+  triplets_are = refl;
+  concealed_are = refl;
+  kongs_are = refl;
+}
+
+pub IsTally-run : (blocks : List HandBlock) (from : List ℕ) (of : List Bool) (r t c k low : ℕ) → length blocks < 9 → low < 34 → IsTally blocks from of r t c k → IsTally (blocks ++ Run low ∷ []) (set from low (get_or from low 0 + 1)) of (r + 1) t c k
+IsTally-run blocks from of r t c k low room within w =
+    let block : HandBlock = Run low in
+    record {
+      at_most_nine = omega (arith, room, length-append blocks (block ∷ []));
+      every_run = length-set from low (get_or from low 0 + 1) ∙ w.every_run;
+      every_triplet = w.every_triplet;
+      runs_from_are = λ kind h. omega (arith, get_or-more from low kind 1 (omega (arith, within, w.every_run)), count-push (is_run_from kind) blocks block, w.runs_from_are kind h);
+      triplets_of_are = λ kind h. w.triplets_of_are kind h ∙ unmarked blocks kind block refl;
+      runs_are = omega (arith, count-push is_run blocks block, w.runs_are);
+      triplets_are = omega (arith, count-push is_triplet blocks block, w.triplets_are);
+      concealed_are = omega (arith, count-push is_concealed_triplet blocks block, w.concealed_are);
+      kongs_are = omega (arith, count-push is_kong blocks block, w.kongs_are);
+    }
+
+pub IsTally-triplet : (blocks : List HandBlock) (from : List ℕ) (of : List Bool) (r t c k held one : ℕ) (shut : Bool) → length blocks < 9 → held < 34 → one ≡ cond shut 1 0 → IsTally blocks from of r t c k → IsTally (blocks ++ Triplet held shut ∷ []) from (set of held true) r (t + 1) (c + one) k
+IsTally-triplet blocks from of r t c k held one shut room within e w =
+    let block : HandBlock = Triplet held shut in
+    record {
+      at_most_nine = omega (arith, room, length-append blocks (block ∷ []));
+      every_run = w.every_run;
+      every_triplet = length-set of held true ∙ w.every_triplet;
+      runs_from_are = λ kind h. omega (arith, count-push (is_run_from kind) blocks block, w.runs_from_are kind h);
+      triplets_of_are = λ kind h. marked blocks of held kind block (omega (arith, within, w.every_triplet)) refl (w.triplets_of_are kind h);
+      runs_are = omega (arith, count-push is_run blocks block, w.runs_are);
+      triplets_are = omega (arith, count-push is_triplet blocks block, w.triplets_are);
+      concealed_are = omega (arith, count-push is_concealed_triplet blocks block, w.concealed_are, e);
+      kongs_are = omega (arith, count-push is_kong blocks block, w.kongs_are);
+    }
+
+pub IsTally-kong : (blocks : List HandBlock) (from : List ℕ) (of : List Bool) (r t c k held one : ℕ) (shut : Bool) → length blocks < 9 → held < 34 → one ≡ cond shut 1 0 → IsTally blocks from of r t c k → IsTally (blocks ++ Kong held shut ∷ []) from (set of held true) r (t + 1) (c + one) (k + 1)
+IsTally-kong blocks from of r t c k held one shut room within e w =
+    let block : HandBlock = Kong held shut in
+    record {
+      at_most_nine = omega (arith, room, length-append blocks (block ∷ []));
+      every_run = w.every_run;
+      every_triplet = length-set of held true ∙ w.every_triplet;
+      runs_from_are = λ kind h. omega (arith, count-push (is_run_from kind) blocks block, w.runs_from_are kind h);
+      triplets_of_are = λ kind h. marked blocks of held kind block (omega (arith, within, w.every_triplet)) refl (w.triplets_of_are kind h);
+      runs_are = omega (arith, count-push is_run blocks block, w.runs_are);
+      triplets_are = omega (arith, count-push is_triplet blocks block, w.triplets_are);
+      concealed_are = omega (arith, count-push is_concealed_triplet blocks block, w.concealed_are, e);
+      kongs_are = omega (arith, count-push is_kong blocks block, w.kongs_are);
+    }
+
+pub IsTally-pair : (blocks : List HandBlock) (from : List ℕ) (of : List Bool) (r t c k held : ℕ) → length blocks < 9 → IsTally blocks from of r t c k → IsTally (blocks ++ Pair held ∷ []) from of r t c k
+IsTally-pair blocks from of r t c k held room w =
+    let block : HandBlock = Pair held in
+    record {
+      at_most_nine = omega (arith, room, length-append blocks (block ∷ []));
+      every_run = w.every_run;
+      every_triplet = w.every_triplet;
+      runs_from_are = λ kind h. omega (arith, count-push (is_run_from kind) blocks block, w.runs_from_are kind h);
+      triplets_of_are = λ kind h. w.triplets_of_are kind h ∙ unmarked blocks kind block refl;
+      runs_are = omega (arith, count-push is_run blocks block, w.runs_are);
+      triplets_are = omega (arith, count-push is_triplet blocks block, w.triplets_are);
+      concealed_are = omega (arith, count-push is_concealed_triplet blocks block, w.concealed_are);
+      kongs_are = omega (arith, count-push is_kong blocks block, w.kongs_are);
+    }

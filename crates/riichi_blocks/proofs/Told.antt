@@ -1,0 +1,68 @@
+-- What holds of each suit, from whether some tile is of it.
+use Rattle.std.proofs.Common.{◌≡◌, ◌∙◌, ℕ, zero, suc, ◌<◌, Bool, true, false, not, ◌&&◌, ◌||◌, nat_eq, nat_lt, List, [], ◌∷◌, ◌++◌, get_or, refl, sym, ap, arith}
+use Rattle.std.specs.Prelude.{slice_index}
+use Rattle.std.specs.List.{list_all, list_any, range_with_len}
+use Rattle.std.proofs.lemmas.List.Folds.{list_any-append}
+use Rattle.std.proofs.lemmas.Bool.Decides.{nat_tests}
+use Rattle.riichi_tiles.specs.Melds.{every_kind}
+use Rattle.riichi_blocks.specs.Held.{every}
+use Rattle.riichi_blocks.specs.Kinds.{is_honour, is_of_suit}
+use Rattle.riichi_blocks.specs.Told.{some_in}
+
+pub of-three : (is_so : ℕ → Bool) (first second third : Bool) → first ≡ is_so 0 → second ≡ is_so 1 → third ≡ is_so 2 → (suit : ℕ) → suit < 3 → get_or (first ∷ second ∷ third ∷ []) suit false ≡ is_so suit
+of-three is_so first second third a b c zero h = a
+of-three is_so first second third a b c (suc zero) h = b
+of-three is_so first second third a b c (suc (suc zero)) h = c
+of-three is_so first second third a b c (suc (suc (suc suit))) h = absurd (omega (arith, h))
+
+zero-test : (n : ℕ) → nat_eq n 0 ≡ not (nat_lt 0 n)
+zero-test zero = refl
+zero-test (suc n) =
+    let no : nat_eq (suc n) 0 ≡ false = grind (arith, nat_tests) in
+    let yes : nat_lt 0 (suc n) ≡ true = grind (arith, nat_tests) in
+    no ∙ ap not (sym yes)
+
+neither : (a b : Bool) → (not a && not b) ≡ not (a || b)
+neither true b = refl
+neither false b = refl
+
+one : (b : Bool) (n : ℕ) (rest : Bool) → ((b || nat_eq n 0) && not rest) ≡ not ((not b && nat_lt 0 n) || rest)
+one true n rest = refl
+one false n rest = ap (λ a. a && not rest) (zero-test n) ∙ neither (nat_lt 0 n) rest
+
+pub none-of : {a b c x y z : Bool} → a ≡ x → b ≡ y → c ≡ z → not (a || (b || c)) ≡ not (x || (y || z))
+none-of {a} {b} {c} {x} {y} {z} e f g = ap (λ first. not (first || (b || c))) e ∙ ap (λ second. not (x || (second || c))) f ∙ ap (λ third. not (x || (y || third))) g
+
+-- every tile is so where none is not so
+every-none : (is_so : ℕ → Bool) (tiles kinds : List ℕ) → list_all (λ kind. is_so kind || nat_eq (slice_index tiles kind) 0) kinds ≡ not (list_any (λ kind. not (is_so kind) && nat_lt 0 (slice_index tiles kind)) kinds)
+every-none is_so tiles [] = refl
+every-none is_so tiles (kind ∷ kinds) =
+    ap (λ b. (is_so kind || nat_eq (slice_index tiles kind) 0) && b) (every-none is_so tiles kinds)
+    ∙ one (is_so kind) (slice_index tiles kind) (list_any (λ kind. not (is_so kind) && nat_lt 0 (slice_index tiles kind)) kinds)
+
+-- kinds in three parts
+three : (tiles first second third : List ℕ) → list_any (λ kind. nat_lt 0 (slice_index tiles kind)) (first ++ (second ++ third)) ≡ (list_any (λ kind. nat_lt 0 (slice_index tiles kind)) first || (list_any (λ kind. nat_lt 0 (slice_index tiles kind)) second || list_any (λ kind. nat_lt 0 (slice_index tiles kind)) third))
+three tiles first second third =
+    list_any-append (λ kind. nat_lt 0 (slice_index tiles kind)) first (second ++ third)
+    ∙ ap (λ b. list_any (λ kind. nat_lt 0 (slice_index tiles kind)) first || b) (list_any-append (λ kind. nat_lt 0 (slice_index tiles kind)) second third)
+
+pub all-honours : (tiles : List ℕ) → not (some_in tiles 0 9 || (some_in tiles 9 9 || some_in tiles 18 9)) ≡ every is_honour tiles
+all-honours tiles = sym (every-none is_honour tiles every_kind ∙ ap not (three tiles (range_with_len 0 9) (range_with_len 9 9) (range_with_len 18 9)))
+
+pub all-characters : (tiles : List ℕ) → not (some_in tiles 9 9 || (some_in tiles 18 9 || some_in tiles 27 7)) ≡ every (is_of_suit 0) tiles
+all-characters tiles = sym (every-none (is_of_suit 0) tiles every_kind ∙ ap not (three tiles (range_with_len 9 9) (range_with_len 18 9) (range_with_len 27 7)))
+
+pub all-circles : (tiles : List ℕ) → not (some_in tiles 0 9 || (some_in tiles 18 9 || some_in tiles 27 7)) ≡ every (is_of_suit 1) tiles
+all-circles tiles = sym (every-none (is_of_suit 1) tiles every_kind ∙ ap not (three tiles (range_with_len 0 9) (range_with_len 18 9) (range_with_len 27 7)))
+
+pub all-bamboos : (tiles : List ℕ) → not (some_in tiles 0 9 || (some_in tiles 9 9 || some_in tiles 27 7)) ≡ every (is_of_suit 2) tiles
+all-bamboos tiles = sym (every-none (is_of_suit 2) tiles every_kind ∙ ap not (three tiles (range_with_len 0 9) (range_with_len 9 9) (range_with_len 27 7)))
+
+pub characters-or-honours : (tiles : List ℕ) → not (some_in tiles 9 9 || (some_in tiles 18 9 || false)) ≡ every (λ kind. is_of_suit 0 kind || is_honour kind) tiles
+characters-or-honours tiles = sym (every-none (λ kind. is_of_suit 0 kind || is_honour kind) tiles every_kind ∙ ap not (three tiles (range_with_len 9 9) (range_with_len 18 9) []))
+
+pub circles-or-honours : (tiles : List ℕ) → not (some_in tiles 0 9 || (some_in tiles 18 9 || false)) ≡ every (λ kind. is_of_suit 1 kind || is_honour kind) tiles
+circles-or-honours tiles = sym (every-none (λ kind. is_of_suit 1 kind || is_honour kind) tiles every_kind ∙ ap not (three tiles (range_with_len 0 9) (range_with_len 18 9) []))
+
+pub bamboos-or-honours : (tiles : List ℕ) → not (some_in tiles 0 9 || (some_in tiles 9 9 || false)) ≡ every (λ kind. is_of_suit 2 kind || is_honour kind) tiles
+bamboos-or-honours tiles = sym (every-none (λ kind. is_of_suit 2 kind || is_honour kind) tiles every_kind ∙ ap not (three tiles (range_with_len 0 9) (range_with_len 9 9) []))
