@@ -28,3 +28,6 @@ last_worker id ts us t new e = new (length us) t (ap (λ (l : List WorkerSeat). 
 
 pub last_table : (id : TableId) (places : ℕ) (ts us : List TableSeat) (t : TableSeat) → AreNewTables id places ts → ts ≡ us ++ t ∷ [] → IsNewTable id places (length us) t
 last_table id places ts us t new e = new (length us) t (ap (λ (l : List TableSeat). get_elem? l (length us)) e ∙ at_last us t (length us) refl)
+
+pub fewer_tables : (id : TableId) (places : ℕ) (ts us : List TableSeat) (t : TableSeat) → AreNewTables id places ts → ts ≡ us ++ t ∷ [] → AreNewTables id places us
+fewer_tables id places ts us t new e i u at = new i u (ap (λ (l : List TableSeat). get_elem? l i) e ∙ at_longer us (t ∷ []) i u at)

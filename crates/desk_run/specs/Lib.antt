@@ -7,3 +7,5 @@ pub mod Books
 pub mod Offers
 pub mod Sitting
 pub mod Parts
+pub mod Played
+pub mod Runs

@@ -13,13 +13,18 @@ use Rattle.desk_run.specs.declared.content.Content.{Content}
 use Rattle.desk_run.specs.declared.content.Content.TheVariants.{Empty}
 use Rattle.desk_run.specs.declared.lot.Lot.{Lot}
 use Rattle.desk_run.specs.declared.lot.Lot.TheVariants.{Fresh, Kept, Out}
-use Rattle.atomic_table.specs.Seated.{TableId}
+use base.Stored.{Coded-set}
+use Rattle.atomic_table.specs.Seated.{TableId, table_id_coded}
 use Rattle.desk_run.specs.Plays.{SeatState, table_of, worker_of}
 use Rattle.desk_run.specs.declared.view.View.TheVariants.{Table, Worker}
 use Rattle.desk_run.specs.declared.board.Board.{Board}
 
 abbrev pub board_name : Board → TableId
 board_name board = board.table.shared.table_id
+
+-- two names of boards are equal in one way at most
+pub same_board : (a b : TableId) → IsProp (a ≡ b)
+same_board = Coded-set table_id_coded
 
 -- a worker that holds nothing
 abbrev pub Idles : SeatState → Type 0

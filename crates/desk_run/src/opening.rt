@@ -9,7 +9,7 @@ use crate::parts::{BoardFault, BoardParts};
 use crate::size::BoardSize;
 use std::alloc::{AllocError, Global};
 
-fn in_range(size: BoardSize) -> bool
+pub(crate) fn in_range(size: BoardSize) -> bool
     ensures { IsTrue result ↔ IsInRange size.tables size.workers size.places }
 {
     (1 <= size.tables && size.tables <= 64)

@@ -1,3 +1,5 @@
+mod threads;
+
 use crate::{Board, BoardFault, BoardParts, NoGate, OfferFault, Worked};
 use desk_core::{Taken, Ticket, judge};
 use riichi_hand::{Job, Rules, read_line};
@@ -9,6 +11,15 @@ fn job(rt: &impl Abort, line: &[u8]) -> Job {
         Ok(Some(job)) => job,
         _ => panic!(rt; "no job"),
     }
+}
+
+/// The jobs of which most tests are made.
+fn waits_a(rt: &impl Abort) -> Job {
+    job(rt, b"waits 1112345678999m")
+}
+
+fn shape_b(rt: &impl Abort) -> Job {
+    job(rt, b"shape 123456789m1134p")
 }
 
 fn ticket(seq: u32) -> Ticket {
@@ -23,8 +34,7 @@ fn given(seq: u32, job: &Job) -> Taken {
 
 #[test]
 fn the_board_on_one_thread(rt: HostRuntime) -> Result<(), Fail> {
-    let a = job(&rt, b"waits 1112345678999m");
-    let b = job(&rt, b"waits 123456789m1234p");
+    let (a, b) = (waits_a(&rt), shape_b(&rt));
     let Ok(parts) = Board::new(rt.alloc(), 1, 1, 2) else {
         panic!(rt; "no board")
     };

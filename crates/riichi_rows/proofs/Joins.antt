@@ -15,7 +15,7 @@ pub record LeastSoFar (f g h : ℕ → ℕ → ℕ) (n : ℕ) : Type 0 where
   pub bound : (s p s' p' : ℕ) → s < n → s + s' ≤ 4 → p + p' ≤ 1 → h (s + s') (p + p') ≤ f s p + g s' p'
   pub reached : (s p : ℕ) → s ≤ 4 → p ≤ 1 → h s p < 255 → SumReached f g s p (h s p)
 
-at_same : (h : ℕ → ℕ → ℕ) (s s' p p' : ℕ) → s ≡ s' → p ≡ p' → h s p ≡ h s' p'
+pub at_same : (h : ℕ → ℕ → ℕ) (s s' p p' : ℕ) → s ≡ s' → p ≡ p' → h s p ≡ h s' p'
 at_same h s s' p p' es ep = cc
 
 pub moved_first : (g : ℕ → ℕ → ℕ) → IsMoved g g 0
@@ -105,14 +105,14 @@ least_sum f g h so_far = record {
 
 -- ---- four rows
 
-entry_is : (v n : ℕ) → entry_of v ≡ Some n → (v ≡ n) × (v < 255)
+pub entry_is : (v n : ℕ) → entry_of v ≡ Some n → (v ≡ n) × (v < 255)
 entry_is v n e = by_test (ltb v 255) refl
   where
     by_test : (t : Bool) → ltb v 255 ≡ t → (v ≡ n) × (v < 255)
     by_test true l = let e' : Some v ≡ Some n = ap (λ t. cond t (Some v) None) (sym l) ∙ e in (cc, ltb-true v 255 l)
     by_test false l = let e' : None ≡ Some n = ap (λ t. cond t (Some v) None) (sym l) ∙ e in cc
 
-entry_some : (v : ℕ) → v < 255 → entry_of v ≡ Some v
+pub entry_some : (v : ℕ) → v < 255 → entry_of v ≡ Some v
 entry_some v low = ap (λ t. cond t (Some v) None) (lt-ltb v 255 low)
 
 abbrev pub entries : (ℕ → ℕ → ℕ) → ℕ → ℕ → Option ℕ

@@ -1,5 +1,6 @@
 -- What the operations on sixteen lanes give at one lane.
-use Rattle.std.proofs.Common.{◌≡◌, ℕ, zero, suc, ◌+◌, ◌-◌, ◌<◌, ◌≤◌, ◌%◌, ◌^◌, min, false, cond, List, [], ◌∷◌, ◌++◌, map, length, get_or, replicate, ltb, w8, refl, sym, ap, ◌∙◌, arith}
+use Rattle.std.proofs.Common.{◌≡◌, ℕ, zero, suc, ◌+◌, ◌-◌, ◌<◌, ◌≤◌, ◌%◌, ◌^◌, min, false, cond, List, [], ◌∷◌, ◌++◌, map, length, get_or, replicate, ltb, refl, sym, ap, ◌∙◌, arith}
+use Rattle.std.proofs.Common as width
 use Rattle.std.proofs.lemmas.Bool.Decides.{nat_tests}
 use Rattle.std.proofs.lemmas.List.{get_or_append_left, get_or_default, get_or_at}
 use Rattle.std.proofs.lemmas.Simd.{get_or-zip2, get_or-replicate, length-replicate, tops_compared, length-sel_l, get_or-sel_l, length-zip2}
@@ -10,7 +11,7 @@ abbrev pub lesser : List ℕ → List ℕ → List ℕ
 lesser xs ys = sel_l (map (top 7) (zip2 (λ a b. cond (ltb a b) 255 0) xs ys)) xs ys
 
 tests_is : (xs ys : List ℕ) → map (top 7) (zip2 (λ a b. cond (ltb a b) 255 0) xs ys) ≡ zip2 ltb xs ys
-tests_is xs ys = tops_compared w8 ltb xs ys
+tests_is xs ys = tops_compared width.w8 ltb xs ys
 
 lesser_is : (xs ys : List ℕ) → lesser xs ys ≡ sel_l (zip2 ltb xs ys) xs ys
 lesser_is xs ys = ap (λ ms. sel_l ms xs ys) (tests_is xs ys)

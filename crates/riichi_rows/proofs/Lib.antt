@@ -1,6 +1,9 @@
 pub mod Blocks
+pub mod JoinOrders
 pub mod Joins
 pub mod LaneLemmas
+pub mod OneChanged
 pub mod OneMore
+pub mod RankLanes
 pub mod Spread
 pub mod Steps

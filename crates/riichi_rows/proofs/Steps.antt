@@ -1,11 +1,16 @@
 -- One rank more: the least lack from a rank on, out of the least lacks from the next rank on.
-use Rattle.std.proofs.Common.{◌≡◌, ℕ, zero, suc, ◌+◌, ◌-◌, ◌*◌, ◌<◌, ◌≤◌, min, Bool, true, false, ◌⊎◌, inl, inr, List, [], ◌∷◌, refl, sym, ap, ◌∙◌, ⊎_elim, arith}
+use Rattle.std.proofs.Common.{◌≡◌, ℕ, zero, suc, ◌+◌, ◌-◌, ◌*◌, ◌<◌, ◌≤◌, min, Bool, true, false, ◌⊎◌, inl, inr, List, [], ◌∷◌, refl, sym, ◌∙◌, ⊎_elim, arith}
 use Rattle.std.proofs.lemmas.Bool.{false≢true}
 use Rattle.std.proofs.lemmas.Bool.Decides.{nat_tests}
-use Rattle.riichi_rows.specs.declared.open.Begun.{Begun}
-use Rattle.riichi_rows.specs.Lanes.{lane, HasLanes, capped, with_set, with_pair}
-use Rattle.riichi_rows.specs.Open.{cost, with_blocks, LeastBegun}
+use Rattle.riichi_rows.specs.Lanes.{lane, HasLanes, capped, nothing, with_set, with_pair}
+use Rattle.riichi_rows.specs.Open.{cost}
 use Rattle.riichi_rows.specs.Columns.{Column, held, MayRun, Fits, lack_from, sets_in, pairs_in, Reaches, LeastFrom, LeastLanes}
+
+-- the best of adding nothing, a triplet or a pair to w tiles of the rank
+abbrev pub with_blocks : (ℕ → ℕ → ℕ) → ℕ → ℕ → ℕ → ℕ → ℕ → ℕ
+with_blocks f w have limit s p =
+    min (min (capped (f s p + cost have limit w)) (capped (with_set f s p + cost have limit (w + 3))))
+    (capped (with_pair f s p + cost have limit (w + 2)))
 
 cost_within : (have limit n : ℕ) → n ≤ limit → cost have limit n ≡ n - have
 cost_within have limit n h = grind (arith, nat_tests)
@@ -144,24 +149,24 @@ row_value false g w have limit s p = with_blocks (g 0) w have limit s p
 
 -- the values g of the next rank, by the runs begun here, are least
 pub record LeastAfter (runs : Bool) (counts caps : List ℕ) (a : ℕ) (g : ℕ → ℕ → ℕ → ℕ) : Type 0 where
-  pub at : (u s p : ℕ) → u < 3 → s < 5 → p < 2 → LeastFrom runs counts caps u a s p (g u s p)
+  pub at : (u s p : ℕ) → u < 3 → MayRun runs u → s < 5 → p < 2 → LeastFrom runs counts caps u a s p (g u s p)
 
 module _ (runs : Bool) (counts caps : List ℕ) (a b have limit : ℕ) (g : ℕ → ℕ → ℕ → ℕ) (few : limit ≤ 4) (after : LeastAfter runs counts caps a g) where
   -- the columns after this one, as g has them
-  later_least : (u : ℕ) (xs : List Column) → u < 3 → Fits runs caps u a xs → sets_in xs < 5 → pairs_in xs < 2 → g u (sets_in xs) (pairs_in xs) ≤ lack_from counts u a xs
-  later_least u xs below fits fs fp = (after.at u (sets_in xs) (pairs_in xs) below fs fp).least xs fits refl refl
+  later_least : (u : ℕ) (xs : List Column) → u < 3 → MayRun runs u → Fits runs caps u a xs → sets_in xs < 5 → pairs_in xs < 2 → g u (sets_in xs) (pairs_in xs) ≤ lack_from counts u a xs
+  later_least u xs below may fits fs fp = (after.at u (sets_in xs) (pairs_in xs) below may fs fp).least xs fits refl refl
 
   begun_none : (t d s p : ℕ) (xs : List Column) → a + b + 3 * t + 2 * d ≤ limit → Fits runs caps 0 a xs → t + sets_in xs ≡ s → d + pairs_in xs ≡ p → s < 5 → p < 2 → with_blocks (g 0) (a + b) have limit s p ≤ (a + b + 3 * t + 2 * d - have) + lack_from counts 0 a xs
   begun_none t d s p xs h fits es ep ls lp =
-      least_blocks (g 0) (a + b) have limit t d (sets_in xs) (pairs_in xs) s p (lack_from counts 0 a xs) h few es ep lp (later_least 0 xs (omega arith) fits (omega arith) (omega arith))
+      least_blocks (g 0) (a + b) have limit t d (sets_in xs) (pairs_in xs) s p (lack_from counts 0 a xs) h few es ep lp (later_least 0 xs (omega arith) (inl refl) fits (omega arith) (omega arith))
 
-  begun_one : (t d s p : ℕ) (xs : List Column) → a + b + 1 + 3 * t + 2 * d ≤ limit → Fits runs caps 1 a xs → 1 + t + sets_in xs ≡ s → d + pairs_in xs ≡ p → s < 5 → p < 2 → with_blocks (with_set (g 1)) (a + b + 1) have limit s p ≤ (a + b + 1 + 3 * t + 2 * d - have) + lack_from counts 1 a xs
-  begun_one t d s p xs h fits es ep ls lp =
-      least_blocks (with_set (g 1)) (a + b + 1) have limit t d (suc (sets_in xs)) (pairs_in xs) s p (lack_from counts 1 a xs) h few (omega arith) ep lp (later_least 1 xs (omega arith) fits (omega arith) (omega arith))
+  begun_one : runs ≡ true → (t d s p : ℕ) (xs : List Column) → a + b + 1 + 3 * t + 2 * d ≤ limit → Fits runs caps 1 a xs → 1 + t + sets_in xs ≡ s → d + pairs_in xs ≡ p → s < 5 → p < 2 → with_blocks (with_set (g 1)) (a + b + 1) have limit s p ≤ (a + b + 1 + 3 * t + 2 * d - have) + lack_from counts 1 a xs
+  begun_one may t d s p xs h fits es ep ls lp =
+      least_blocks (with_set (g 1)) (a + b + 1) have limit t d (suc (sets_in xs)) (pairs_in xs) s p (lack_from counts 1 a xs) h few (omega arith) ep lp (later_least 1 xs (omega arith) (inr may) fits (omega arith) (omega arith))
 
-  begun_two : (t d s p : ℕ) (xs : List Column) → a + b + 2 + 3 * t + 2 * d ≤ limit → Fits runs caps 2 a xs → 2 + t + sets_in xs ≡ s → d + pairs_in xs ≡ p → s < 5 → p < 2 → with_blocks (with_set (with_set (g 2))) (a + b + 2) have limit s p ≤ (a + b + 2 + 3 * t + 2 * d - have) + lack_from counts 2 a xs
-  begun_two t d s p xs h fits es ep ls lp =
-      least_blocks (with_set (with_set (g 2))) (a + b + 2) have limit t d (suc (suc (sets_in xs))) (pairs_in xs) s p (lack_from counts 2 a xs) h few (omega arith) ep lp (later_least 2 xs (omega arith) fits (omega arith) (omega arith))
+  begun_two : runs ≡ true → (t d s p : ℕ) (xs : List Column) → a + b + 2 + 3 * t + 2 * d ≤ limit → Fits runs caps 2 a xs → 2 + t + sets_in xs ≡ s → d + pairs_in xs ≡ p → s < 5 → p < 2 → with_blocks (with_set (with_set (g 2))) (a + b + 2) have limit s p ≤ (a + b + 2 + 3 * t + 2 * d - have) + lack_from counts 2 a xs
+  begun_two may t d s p xs h fits es ep ls lp =
+      least_blocks (with_set (with_set (g 2))) (a + b + 2) have limit t d (suc (suc (sets_in xs))) (pairs_in xs) s p (lack_from counts 2 a xs) h few (omega arith) ep lp (later_least 2 xs (omega arith) (inr may) fits (omega arith) (omega arith))
 
 -- how a value of a row came about
 record Origin (runs : Bool) (g : ℕ → ℕ → ℕ → ℕ) (w have limit s p v : ℕ) : Type 0 where
@@ -221,10 +226,10 @@ module _ (runs : Bool) (counts caps : List ℕ) (a b have limit : ℕ) (g : ℕ 
       let bound = begun_none runs counts caps a b have limit g few after t d s p xs (omega arith) fits (omega arith) ep ls lp in
       omega arith
   few_begun true same (suc zero) t d s p xs lu may h fits es ep ls lp =
-      let bound = begun_one runs counts caps a b have limit g few after t d s p xs (omega arith) fits (omega arith) ep ls lp in
+      let bound = begun_one runs counts caps a b have limit g few after same t d s p xs (omega arith) fits (omega arith) ep ls lp in
       omega arith
   few_begun true same (suc (suc zero)) t d s p xs lu may h fits es ep ls lp =
-      let bound = begun_two runs counts caps a b have limit g few after t d s p xs (omega arith) fits (omega arith) ep ls lp in
+      let bound = begun_two runs counts caps a b have limit g few after same t d s p xs (omega arith) fits (omega arith) ep ls lp in
       omega arith
   few_begun true same (suc (suc (suc u))) t d s p xs lu may h fits es ep ls lp = absurd (omega arith)
 
@@ -247,7 +252,7 @@ module _ (runs : Bool) (counts caps : List ℕ) (a b have limit : ℕ) (g : ℕ 
   step_reached : (s p v : ℕ) → s < 5 → p < 2 → v ≡ row_value runs g (a + b) have limit s p → v < 255 → Reaches runs (have ∷ counts) (limit ∷ caps) a b s p v
   step_reached s p v ls lp e low =
       let r = row_reached runs g (a + b) have limit s p v low e in
-      let later = (after.at r.begun r.later_sets r.later_pairs r.few (omega (arith, r.has_sets)) (omega (arith, r.has_pairs))).reached r.below in
+      let later = (after.at r.begun r.later_sets r.later_pairs r.few r.may_run (omega (arith, r.has_sets)) (omega (arith, r.has_pairs))).reached r.below in
       record {
         columns = record { runs = r.begun; triplets = r.triplets; pairs = r.pairs } ∷ later.columns;
         fits = (omega (arith, r.in_cap), r.may_run, later.fits);
@@ -274,62 +279,15 @@ end_least runs a b s p v zero_there only_there = record {
     end_bound [] fits es ep = let z = zero_there (fits.0, fits.1, sym es, sym ep) in omega arith
     end_bound (x ∷ xs) fits es ep = absurd fits
 
--- ---- from the lanes of the code to the values
-
-abbrev values : Begun → ℕ → ℕ → ℕ → ℕ
-values x zero = lane x.zero.lacks
-values x (suc zero) = lane x.one.lacks
-values x (suc (suc u)) = lane x.two.lacks
-
-after_begun : (runs : Bool) (counts caps : List ℕ) (a : ℕ) (x : Begun) → LeastBegun runs counts caps a x → (u s p : ℕ) → u < 3 → s < 5 → p < 2 → LeastFrom runs counts caps u a s p (values x u s p)
-after_begun runs counts caps a x least zero s p hu hs hp = least.zero_begun.at s p hs hp
-after_begun runs counts caps a x least (suc zero) s p hu hs hp = least.one_begun.at s p hs hp
-after_begun runs counts caps a x least (suc (suc zero)) s p hu hs hp = least.two_begun.at s p hs hp
-after_begun runs counts caps a x least (suc (suc (suc u))) s p hu hs hp = absurd (omega arith)
-
-with_set_same : (f h : ℕ → ℕ → ℕ) → ((s p : ℕ) → s < 5 → p < 2 → f s p ≡ h s p) → (s p : ℕ) → s < 5 → p < 2 → with_set f s p ≡ with_set h s p
-with_set_same f h same zero p hs hp = refl
-with_set_same f h same (suc s) p hs hp = same s p (omega arith) hp
-
-with_pair_same : (f h : ℕ → ℕ → ℕ) → ((s p : ℕ) → s < 5 → p < 2 → f s p ≡ h s p) → (s p : ℕ) → s < 5 → p < 2 → with_pair f s p ≡ with_pair h s p
-with_pair_same f h same s zero hs hp = refl
-with_pair_same f h same s (suc p) hs hp = same s p hs (omega arith)
-
-with_blocks_same : (f h : ℕ → ℕ → ℕ) (w have limit : ℕ) → ((s p : ℕ) → s < 5 → p < 2 → f s p ≡ h s p) → (s p : ℕ) → s < 5 → p < 2 → with_blocks f w have limit s p ≡ with_blocks h w have limit s p
-with_blocks_same f h w have limit same s p hs hp =
-    let plain = same s p hs hp in
-    let triplet = with_set_same f h same s p hs hp in
-    let pair = with_pair_same f h same s p hs hp in
-    cc
-
-pub lanes_with_runs : (runs : Bool) → runs ≡ true → (counts caps : List ℕ) (a b w have limit : ℕ) → a + b ≡ w → limit ≤ 4 → (x : Begun) → LeastBegun runs counts caps a x →
-    (none_begun one_more one_begun two_more two_most two_begun fewer result : List ℕ) →
-    HasLanes none_begun (with_blocks (lane x.zero.lacks) w have limit) →
-    HasLanes one_more (with_set (lane x.one.lacks)) → HasLanes one_begun (with_blocks (lane one_more) (w + 1) have limit) →
-    HasLanes two_more (with_set (lane x.two.lacks)) → HasLanes two_most (with_set (lane two_more)) → HasLanes two_begun (with_blocks (lane two_most) (w + 2) have limit) →
-    HasLanes fewer (λ s p. min (lane none_begun s p) (lane one_begun s p)) → HasLanes result (λ s p. min (lane fewer s p) (lane two_begun s p)) →
-    LeastLanes runs (have ∷ counts) (limit ∷ caps) a b result
-lanes_with_runs runs t counts caps a b w have limit sum few x least none_begun one_more one_begun two_more two_most two_begun fewer result nb om ob tm tt' tb fw rs = record { at = at_lane }
+pub nothing_least : (runs : Bool) (lanes : List ℕ) → HasLanes lanes nothing → LeastLanes runs [] [] 0 0 lanes
+nothing_least runs lanes has = record { at = λ s p hs hp. end_least runs 0 0 s p (lane lanes s p) (λ all. there s p hs hp all.2 all.3) (λ low. found s p hs hp low) }
   where
-    value : (s p : ℕ) → s < 5 → p < 2 → lane result s p ≡ row_value true (values x) w have limit s p
-    value s p hs hp =
-        let one = ob s p hs hp ∙ with_blocks_same (lane one_more) (with_set (lane x.one.lacks)) (w + 1) have limit om s p hs hp in
-        let two_set = λ (s : ℕ) (p : ℕ) (hs : s < 5) (hp : p < 2). tt' s p hs hp ∙ with_set_same (lane two_more) (with_set (lane x.two.lacks)) tm s p hs hp in
-        let two = tb s p hs hp ∙ with_blocks_same (lane two_most) (with_set (with_set (lane x.two.lacks))) (w + 2) have limit two_set s p hs hp in
-        let none = nb s p hs hp in
-        let f = fw s p hs hp in
-        let r = rs s p hs hp in
-        cc
+    there : (s p : ℕ) → s < 5 → p < 2 → s ≡ 0 → p ≡ 0 → lane lanes s p ≡ 0
+    there zero zero hs hp es ep = has 0 0 hs hp
+    there zero (suc p) hs hp es ep = absurd (omega arith)
+    there (suc s) p hs hp es ep = absurd (omega arith)
 
-    at_lane : (s p : ℕ) → s < 5 → p < 2 → LeastFrom runs (have ∷ counts) (limit ∷ caps) a b s p (lane result s p)
-    at_lane s p hs hp =
-        step runs counts caps a b have limit (values x) few (record { at = after_begun runs counts caps a x least }) s p (lane result s p) hs hp
-        (value s p hs hp ∙ ap (λ n. row_value true (values x) n have limit s p) (sym sum) ∙ ap (λ r. row_value r (values x) (a + b) have limit s p) (sym t))
-
-pub lanes_without_runs : (runs : Bool) → runs ≡ false → (counts caps : List ℕ) (a b w have limit : ℕ) → a + b ≡ w → limit ≤ 4 → (x : Begun) → LeastBegun runs counts caps a x → (result : List ℕ) → HasLanes result (with_blocks (lane x.zero.lacks) w have limit) → LeastLanes runs (have ∷ counts) (limit ∷ caps) a b result
-lanes_without_runs runs f counts caps a b w have limit sum few x least result rs = record { at = at_lane }
-  where
-    at_lane : (s p : ℕ) → s < 5 → p < 2 → LeastFrom runs (have ∷ counts) (limit ∷ caps) a b s p (lane result s p)
-    at_lane s p hs hp =
-        step runs counts caps a b have limit (values x) few (record { at = after_begun runs counts caps a x least }) s p (lane result s p) hs hp
-        (rs s p hs hp ∙ ap (λ n. row_value false (values x) n have limit s p) (sym sum) ∙ ap (λ r. row_value r (values x) (a + b) have limit s p) (sym f))
+    found : (s p : ℕ) → s < 5 → p < 2 → lane lanes s p < 255 → (◌≡◌ {A = ℕ} 0 0) × (◌≡◌ {A = ℕ} 0 0) × (s ≡ 0) × (p ≡ 0) × (lane lanes s p ≡ 0)
+    found zero zero hs hp low = (refl, refl, refl, refl, has 0 0 hs hp)
+    found zero (suc p) hs hp low = absurd (omega (arith, has 0 (suc p) hs hp))
+    found (suc s) p hs hp low = absurd (omega (arith, has (suc s) p hs hp))

@@ -1,7 +1,8 @@
--- What the lanes of a rank are, by the runs that are open there.
-use Rattle.std.specs.Prelude.{ℕ, ◌+◌, ◌-◌, min, Bool, nat_le, if◌then◌else◌, List}
+-- What the lanes of a rank are where there are runs, by the runs that are open there.
+use Rattle.std.specs.Prelude.{ℕ, ◌-◌, min, true, nat_le, if◌then◌else◌, List}
 use Rattle.riichi_rows.specs.Columns.{LeastLanes}
-use Rattle.riichi_rows.specs.Lanes.{capped, with_set, with_pair}
+use Rattle.riichi_rows.specs.Lanes.{HasLanes, lane, with_set, with_pair}
+use Rattle.riichi_rows.specs.declared.added.Added.{Added}
 use Rattle.riichi_rows.specs.declared.open.Begun.{Begun}
 use Rattle.riichi_rows.specs.declared.open.Open.{Open}
 
@@ -9,20 +10,22 @@ use Rattle.riichi_rows.specs.declared.open.Open.{Open}
 abbrev pub cost : ℕ → ℕ → ℕ → ℕ
 cost have limit n = if nat_le n limit then n - have else 255
 
--- the best of adding nothing, a triplet or a pair to w tiles of the rank
-abbrev pub with_blocks : (ℕ → ℕ → ℕ) → ℕ → ℕ → ℕ → ℕ → ℕ → ℕ
-with_blocks f w have limit s p =
-    min (min (capped (f s p + cost have limit w)) (capped (with_set f s p + cost have limit (w + 3))))
-    (capped (with_pair f s p + cost have limit (w + 2)))
-
 -- with u runs begun at this rank, for u up to 2, and a runs one rank before
-pub record LeastBegun (runs : Bool) (counts caps : List ℕ) (a : ℕ) (x : Begun) : Type 0 where
-  pub zero_begun : LeastLanes runs counts caps 0 a x.zero.lacks
-  pub one_begun : LeastLanes runs counts caps 1 a x.one.lacks
-  pub two_begun : LeastLanes runs counts caps 2 a x.two.lacks
+pub record LeastBegun (counts caps : List ℕ) (a : ℕ) (x : Begun) : Type 0 where
+  pub zero_begun : LeastLanes true counts caps 0 a x.zero.lacks
+  pub one_begun : LeastLanes true counts caps 1 a x.one.lacks
+  pub two_begun : LeastLanes true counts caps 2 a x.two.lacks
 
 -- with a runs begun one rank before, for a up to 2, and b runs two ranks before
-pub record LeastOpen (runs : Bool) (counts caps : List ℕ) (x : Open) : Type 0 where
-  pub zero_open : LeastBegun runs counts caps 0 x.zero
-  pub one_open : LeastBegun runs counts caps 1 x.one
-  pub two_open : LeastBegun runs counts caps 2 x.two
+pub record LeastOpen (counts caps : List ℕ) (x : Open) : Type 0 where
+  pub zero_open : LeastBegun counts caps 0 x.zero
+  pub one_open : LeastBegun counts caps 1 x.one
+  pub two_open : LeastBegun counts caps 2 x.two
+
+-- the better of what takes so many tiles of a rank: no run, one or two that begin there, with a triplet or a pair or neither
+pub record IsAdded (later : Begun) (x : Added) : Type 0 where
+  pub no_tile : HasLanes x.zero.lacks (lane later.zero.lacks)
+  pub one_tile : HasLanes x.one.lacks (with_set (lane later.one.lacks))
+  pub two_tiles : HasLanes x.two.lacks (λ s p. min (with_pair (lane later.zero.lacks) s p) (with_set (with_set (lane later.two.lacks)) s p))
+  pub three_tiles : HasLanes x.three.lacks (λ s p. min (with_set (lane later.zero.lacks) s p) (with_pair (with_set (lane later.one.lacks)) s p))
+  pub four_tiles : HasLanes x.four.lacks (λ s p. min (with_set (with_set (lane later.one.lacks)) s p) (with_pair (with_set (with_set (lane later.two.lacks))) s p))

@@ -8,7 +8,7 @@ use crate::lanes::{Lanes, NONE};
 use crate::row::SuitRow;
 
 /// The least sums of an entry of each.
-fn join_lanes(left: Lanes, right: Lanes) -> Lanes
+pub(crate) fn join_lanes(left: Lanes, right: Lanes) -> Lanes
     ensures { IsLeastSum (lane left.lacks) (lane right.lacks) (lane result.lacks) }
 {
     let lacks = left.lacks.to_array();

@@ -8,7 +8,9 @@
 //! makes each anew.
 #![tactic(auto)]
 
+mod added;
 mod join;
+mod joined;
 mod lanes;
 pub mod laws;
 mod open;
@@ -17,6 +19,7 @@ mod row;
 mod row_source;
 
 pub use join::join_rows;
+pub use joined::{JoinedRows, join_two};
 pub use ranks::suit_row;
 pub use row::SuitRow;
 pub use row_source::{FreshRows, RowSource};

@@ -7,13 +7,13 @@ use Rattle.riichi_hand.specs.Win.{is_ron}
 use Rattle.riichi_hand.specs.declared.win.WinParts.{WinParts}
 use Rattle.riichi_split.specs.declared.reading.Reading.{Reading}
 use Rattle.riichi_split.specs.declared.reading.Reading.TheVariants.{Standard, SevenPairs, Orphans}
-use Rattle.riichi_yaku.specs.declared.hand_block.HandBlock.{HandBlock}
-use Rattle.riichi_yaku.specs.declared.hand_block.HandBlock.TheVariants.{Run, Triplet, Kong, Pair}
-use Rattle.riichi_yaku.specs.HandBlocks.{blocks_of}
-use Rattle.riichi_yaku.specs.Honours.{pair_fu}
-use Rattle.riichi_yaku.specs.Kinds.{is_orphan}
+use Rattle.riichi_blocks.specs.declared.hand_block.HandBlock.{HandBlock}
+use Rattle.riichi_blocks.specs.declared.hand_block.HandBlock.TheVariants.{Run, Triplet, Kong, Pair}
+use Rattle.riichi_blocks.specs.HandBlocks.{blocks_of}
+use Rattle.riichi_blocks.specs.Pairs.{pair_fu}
+use Rattle.riichi_blocks.specs.Kinds.{is_orphan}
 use Rattle.riichi_yaku.specs.Runs.{is_pinfu}
-use Rattle.riichi_yaku.specs.Waits.{wait_fu}
+use Rattle.riichi_blocks.specs.Waits.{wait_fu}
 
 -- concealed hand won by ron: 10
 abbrev pub ron_fu : WinParts → ℕ

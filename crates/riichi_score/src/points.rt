@@ -4,10 +4,11 @@ ghost use Rattle.std.specs.List.{sum_by};
 ghost use Rattle.riichi_yaku.specs.Runs.{is_pinfu};
 ghost use Rattle.riichi_score.specs.Fu as spec;
 
+use riichi_blocks::{HandBlock, blocks_of, is_orphan, is_ron, pair_fu, wait_fu};
 use riichi_hand::WinRecord;
 use riichi_split::Reading;
 use riichi_tiles::{Block, Kind};
-use riichi_yaku::{HandBlock, blocks_of, is_orphan, is_pinfu, is_ron, pair_fu, wait_fu};
+use riichi_yaku::is_pinfu;
 
 /// The fu of a reading of the win, whose sets and melds are four. That of a standard reading is the sum
 /// of its rows, rounded up to the next ten; seven pairs have 25, thirteen orphans none.

@@ -3,8 +3,8 @@ ghost use Rattle.std.specs.Prelude.{◌≡◌, ◌+◌, ◌≤◌};
 ghost use Rattle.riichi_score.specs.Payment as spec;
 
 use crate::payers::Payment;
+use riichi_blocks::is_dealer;
 use riichi_hand::{By, WinRecord};
-use riichi_yaku::is_dealer;
 
 /// What is paid for a win of so many base points: East is the dealer, and each counter adds 300 points in all.
 pub fn payment(base: u32, win: &WinRecord) -> Payment

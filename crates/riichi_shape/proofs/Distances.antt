@@ -1,5 +1,5 @@
 -- The least of the three distances is the distance.
-use Rattle.std.proofs.Common.{◌≡◌, ℕ, ◌+◌, ◌-◌, ◌<◌, ◌≤◌, min, ◌⊎◌, inl, inr, List, zero, suc, Bool, true, false, cond, Some, None, ap, ⊎_elim, sym, ◌∙◌, eqb, length, subst, Option, arith}
+use Rattle.std.proofs.Common.{◌≡◌, ℕ, ◌+◌, ◌-◌, ◌<◌, ◌≤◌, min, ◌⊎◌, inl, inr, List, zero, suc, Bool, true, false, cond, Some, None, refl, ap, ⊎_elim, sym, ◌∙◌, eqb, length, subst, Option, arith}
 use Rattle.std.proofs.lemmas.Bool.{cases_lt}
 use Rattle.std.specs.Prelude.{slice_index}
 use Rattle.riichi_tiles.specs.Melds.{tiles}
@@ -7,8 +7,8 @@ use Rattle.riichi_tiles.specs.declared.meld.Meld.{Meld}
 use Rattle.riichi_rows.proofs.Joins.{min_is}
 use Rattle.riichi_rows.proofs.Spread.{spread, sum_range}
 use Rattle.riichi_shape.specs.Distance.{IsDistance, IsLeastStandard, OrphansReached, PairsReached}
-use Rattle.riichi_shape.specs.Orphans.{IsThirteenOrphans, orphan_tiles, is_orphan}
-use Rattle.riichi_shape.specs.Pairs.{IsSevenPairs}
+use Rattle.riichi_shape.specs.Orphans.{orphan_tiles, is_orphan}
+use Rattle.riichi_shape.specs.Special.{IsSpecialDistance, SpecialLacks}
 use Rattle.riichi_shape.specs.Winning.{IsWinning, lacking}
 use Rattle.riichi_shape.proofs.Exists.{StandardExists, standard_exists, melds_few}
 
@@ -42,58 +42,56 @@ module _ (hand : List ℕ) (melds : List Meld) (at_most_four : length melds ≤ 
     pub standard_few : n ≤ 14
     standard_few = omega (arith, least.1 exists.wanted exists.sets_and_pair exists.within_four, exists.lacks)
 
-    pub open_distance : 0 < length melds → IsDistance hand melds n
-    open_distance some = record {
+    -- what is above neither the least standard lack nor the special forms' is above no lack
+    none_below : (r floor : ℕ) → SpecialLacks hand melds floor → r ≤ n → r ≤ floor → (other : List ℕ) → IsWinning melds other → r ≤ lacking hand other
+    none_below r floor special below under other is =
+        ⊎_elim (λ standard. (let b = least.1 other standard is.within_four in omega (arith, b, below))) (λ forms. (let b = special.bound other forms in omega (arith, b, under))) is.form
+
+    by_standard : (r floor : ℕ) → SpecialLacks hand melds floor → r ≡ n → r ≤ floor → IsDistance hand melds r
+    by_standard r floor special e under = record {
       wanted = least.0.wanted;
       is_winning = record { form = inl least.0.sets_and_pair; within_four = least.0.within_four };
-      reached = least.0.lacks;
-      none_less = λ other is. ⊎_elim (λ standard. least.1 other standard is.within_four) (λ special. absurd (⊎_elim (λ s. omega (arith, some, s.0)) (λ s. omega (arith, some, s.0)) special)) is.form;
+      reached = least.0.lacks ∙ sym e;
+      none_less = none_below r floor special (omega (arith, e)) under;
     }
 
-    module _ (none : length melds ≡ 0) (q o r : ℕ) (pairs_bound : (wanted : List ℕ) → IsSevenPairs wanted → q ≤ lacking hand wanted) (pairs_reached : PairsReached hand q)
-        (orphans_bound : (wanted : List ℕ) → IsThirteenOrphans wanted → o ≤ lacking hand wanted) (orphans_reached : OrphansReached hand o) (r_is : r ≡ min n (min q o)) where
-      no_melds : (k : ℕ) → k < 34 → tiles melds k ≡ 0
-      no_melds k low = omega (arith, each_below (tiles melds) 0 34 k (omega arith) (omega arith), melds_few melds 0 34, none)
+    -- where the special forms can lack no fewer
+    pub low_distance : (floor : ℕ) → SpecialLacks hand melds floor → n ≤ floor → IsDistance hand melds n
+    low_distance floor special under = by_standard n floor special refl under
 
-      none_less : (other : List ℕ) → IsWinning melds other → r ≤ lacking hand other
-      none_less other is =
-          ⊎_elim (λ standard. (let b = least.1 other standard is.within_four in omega (arith, b, r_is)))
-          (λ special. ⊎_elim (λ pairs. (let b = pairs_bound other pairs.1 in omega (arith, b, r_is))) (λ orphans. (let b = orphans_bound other orphans.1 in omega (arith, b, r_is))) special)
-          is.form
+    module _ (q r : ℕ) (special : IsSpecialDistance hand melds q) (r_is : r ≡ min n q) where
+      module _ (none : length melds ≡ 0) where
+        no_melds : (k : ℕ) → k < 34 → tiles melds k ≡ 0
+        no_melds k low = omega (arith, each_below (tiles melds) 0 34 k (omega arith) (omega arith), melds_few melds 0 34, none)
 
-      two_or_none_few : (w : ℕ) → (w ≡ 0) ⊎ (w ≡ 2) → w ≤ 2
-      two_or_none_few w h = ⊎_elim (λ e. omega (arith, e)) (λ e. omega (arith, e)) h
+        two_or_none_few : (w : ℕ) → (w ≡ 0) ⊎ (w ≡ 2) → w ≤ 2
+        two_or_none_few w h = ⊎_elim (λ e. omega (arith, e)) (λ e. omega (arith, e)) h
 
-      by_standard : r ≡ n → IsDistance hand melds r
-      by_standard e = record {
-        wanted = least.0.wanted;
-        is_winning = record { form = inl least.0.sets_and_pair; within_four = least.0.within_four };
-        reached = least.0.lacks ∙ sym e;
-        none_less = none_less;
-      }
+        by_pairs : PairsReached hand q → r ≡ q → IsDistance hand melds r
+        by_pairs reached e = record {
+          wanted = reached.wanted;
+          is_winning = record {
+            form = inr (inl (none, reached.seven_pairs));
+            within_four = record { at = λ k low. omega (arith, no_melds k low, two_or_none_few (slice_index reached.wanted k) (reached.seven_pairs.two_or_none k low)) };
+          };
+          reached = reached.lacks ∙ sym e;
+          none_less = none_below r q special.none_less (omega (arith, r_is)) (omega (arith, r_is));
+        }
 
-      by_pairs : r ≡ q → IsDistance hand melds r
-      by_pairs e = record {
-        wanted = pairs_reached.wanted;
-        is_winning = record {
-          form = inr (inl (none, pairs_reached.seven_pairs));
-          within_four = record { at = λ k low. omega (arith, no_melds k low, two_or_none_few (slice_index pairs_reached.wanted k) (pairs_reached.seven_pairs.two_or_none k low)) };
-        };
-        reached = pairs_reached.lacks ∙ sym e;
-        none_less = none_less;
-      }
+        by_orphans : OrphansReached hand q → r ≡ q → IsDistance hand melds r
+        by_orphans reached e = record {
+          wanted = reached.wanted;
+          is_winning = record {
+            form = inr (inr (none, reached.thirteen_orphans));
+            within_four = record { at = λ k low. (let few = orphan_few reached.thirteen_orphans.doubled k in omega (arith, no_melds k low, reached.thirteen_orphans.at k low, few)) };
+          };
+          reached = reached.lacks ∙ sym e;
+          none_less = none_below r q special.none_less (omega (arith, r_is)) (omega (arith, r_is));
+        }
 
-      by_orphans : r ≡ o → IsDistance hand melds r
-      by_orphans e = record {
-        wanted = orphans_reached.wanted;
-        is_winning = record {
-          form = inr (inr (none, orphans_reached.thirteen_orphans));
-          within_four = record { at = λ k low. (let few = orphan_few orphans_reached.thirteen_orphans.doubled k in omega (arith, no_melds k low, orphans_reached.thirteen_orphans.at k low, few)) };
-        };
-        reached = orphans_reached.lacks ∙ sym e;
-        none_less = none_less;
-      }
+      by_special : r ≡ q → IsDistance hand melds r
+      by_special e = ⊎_elim (λ some. absurd (let far = special.beside some in let few = standard_few in omega (arith, far, few, r_is, e)))
+          (λ none. (let no : length melds ≡ 0 = omega (arith, none) in ⊎_elim (λ pairs. by_pairs no pairs e) (λ orphans. by_orphans no orphans e) (special.reached no))) (cases_lt 0 (length melds))
 
-      pub closed_distance : IsDistance hand melds r
-      closed_distance =
-          ⊎_elim (λ standard. by_standard (r_is ∙ standard)) (λ special. ⊎_elim (λ pairs. by_pairs (r_is ∙ special ∙ pairs)) (λ orphans. by_orphans (r_is ∙ special ∙ orphans)) (min_is q o)) (min_is n (min q o))
+      pub whole_distance : IsDistance hand melds r
+      whole_distance = ⊎_elim (λ standard. by_standard r q special.none_less (r_is ∙ standard) (omega (arith, r_is))) (λ least_special. by_special (r_is ∙ least_special)) (min_is n q)

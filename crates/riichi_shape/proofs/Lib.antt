@@ -5,10 +5,12 @@ pub mod DiscardLemmas
 pub mod Distances
 pub mod Exists
 pub mod FourSuits
+pub mod KeptJoins
 pub mod KeptRows
 pub mod LiveLemmas
 pub mod Members
 pub mod OneMore
+pub mod OneTile
 pub mod OrderLemmas
 pub mod OrphanLemmas
 pub mod OrphansLacked

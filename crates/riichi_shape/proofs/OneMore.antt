@@ -8,7 +8,7 @@ use Rattle.riichi_shape.specs.Winning.{lacking}
 
 -- ---- a whole hand
 
-hand_falls : (hand more wanted : List ℕ) (x : ℕ) → x < 34 → IsOneMore x hand more → Falls (slice_index hand) (slice_index wanted) x (lacking hand wanted) (lacking more wanted)
+pub hand_falls : (hand more wanted : List ℕ) (x : ℕ) → x < 34 → IsOneMore x hand more → Falls (slice_index hand) (slice_index wanted) x (lacking hand wanted) (lacking more wanted)
 hand_falls hand more wanted x inside one =
     let f = falls (slice_index hand) (slice_index more) (slice_index wanted) x one.here one.elsewhere 34 inside in
     let e = sum_range (λ k. slice_index wanted k - slice_index hand k) 0 34 in

@@ -1,5 +1,5 @@
 -- Seven pairs: the best choice takes kinds held twice, then kinds held once.
-use Rattle.std.proofs.Common.{◌≡◌, ℕ, zero, suc, ◌+◌, ◌-◌, ◌*◌, ◌<◌, ◌≤◌, min, cond, ◌⊎◌, inl, inr, List, [], ◌∷◌, length, get_or, leb, eqb, refl, sym, ap, ◌∙◌, ⊎_elim, arith}
+use Rattle.std.proofs.Common.{◌≡◌, ℕ, zero, suc, ◌+◌, ◌-◌, ◌*◌, ◌<◌, ◌≤◌, min, Bool, cond, ◌⊎◌, inl, inr, List, [], ◌∷◌, length, get_or, leb, eqb, refl, sym, ap, ◌∙◌, ⊎_elim, arith}
 use Rattle.std.proofs.lemmas.Bool.Decides.{nat_tests}
 use Rattle.std.proofs.lemmas.List.Sums.{sum_by-cons}
 use Rattle.std.specs.Prelude.{sum_by, count_by, nat_le, slice_index}
@@ -208,6 +208,12 @@ module _ (hand : List ℕ) (twos ones r : ℕ) (twos_are : twos ≡ spread (λ k
       }
 
 -- ---- kinds counted
+
+-- the counts that pass a test, by kind
+pub counted_kinds : (p : ℕ → Bool) (hand : List ℕ) → length hand ≡ 34 → count_by p hand ≡ count_by (λ kind. p (slice_index hand kind)) every_kind
+counted_kinds p hand long =
+    sum_is_total (λ n. cond (p n) 1 0) hand ∙ sym (spread_total (λ n. cond (p n) 1 0) hand) ∙ same_count (λ k. cond (p (slice_index hand k)) 1 0) (length hand) 34 long
+    ∙ sym (sum_range (λ k. cond (p (slice_index hand k)) 1 0) 0 34)
 
 two_or_one : (h : ℕ) → cond (leb 1 h) 1 0 ≡ two h + one h
 two_or_one h = grind (arith, nat_tests)

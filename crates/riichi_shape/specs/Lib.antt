@@ -10,6 +10,7 @@ pub mod Orphans
 pub mod Pairs
 pub mod Ready
 pub mod Rows
+pub mod Special
 pub mod Suits
 pub mod Text
 pub mod Winning

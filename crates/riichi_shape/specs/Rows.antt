@@ -1,13 +1,17 @@
--- The four rows of a hand.
+-- The four rows of a hand, and what is kept of them while a tile changes.
 use Rattle.std.specs.Prelude.{◌≡◌, ◌≢◌, ℕ, ◌<◌, ◌≤◌, List, slice_index}
 use Rattle.riichi_tiles.specs.Melds.{tiles}
 use Rattle.riichi_tiles.specs.declared.meld.Meld.{Meld}
-use Rattle.riichi_rows.specs.Row.{entries_of}
-use Rattle.riichi_shape.specs.Suits.{IsRowOf}
+use Rattle.riichi_rows.specs.Row.{AreJoinedThree, entries_of}
+use Rattle.riichi_shape.specs.Special.{SpecialLacks}
+use Rattle.riichi_shape.specs.Suits.{AreHandCaps, IsRowOf}
+use Rattle.riichi_shape.specs.declared.hand_forms.HandForms.{HandForms}
+use Rattle.riichi_shape.specs.declared.hand_joins.HandJoins.{HandJoins}
 use Rattle.riichi_shape.specs.declared.hand_rows.HandRows.{HandRows}
 
--- each is the row of its suit of the hand
+-- each is the row of its suit of the hand, and the caps are those that the melds leave
 pub record AreRowsOf (hand : List ℕ) (melds : List Meld) (rows : HandRows) : Type 0 where
+  pub caps : AreHandCaps melds rows.caps
   pub characters : IsRowOf hand melds 0 9 (entries_of rows.characters)
   pub circles : IsRowOf hand melds 9 9 (entries_of rows.circles)
   pub bamboos : IsRowOf hand melds 18 9 (entries_of rows.bamboos)
@@ -20,3 +24,28 @@ pub record DifferAt (kind : ℕ) (before after : List ℕ) : Type 0 where
 -- no kind is melded more than four times
 abbrev pub IsMeldedFew : List Meld → Type 0
 IsMeldedFew melds = (kind : ℕ) → kind < 34 → tiles melds kind ≤ 4
+
+-- beside each suit the join of the rows of the other three, with the same caps
+pub record AreJoinsOf (rows : HandRows) (joins : HandJoins) : Type 0 where
+  pub caps : joins.caps ≡ rows.caps
+  pub beside_characters : AreJoinedThree rows.circles rows.bamboos rows.honours joins.beside_characters
+  pub beside_circles : AreJoinedThree rows.characters rows.bamboos rows.honours joins.beside_circles
+  pub beside_bamboos : AreJoinedThree rows.honours rows.characters rows.circles joins.beside_bamboos
+  pub beside_honours : AreJoinedThree rows.bamboos rows.characters rows.circles joins.beside_honours
+
+-- the joins of the rows of a hand
+pub record AreJoinsOfHand (hand : List ℕ) (melds : List Meld) (joins : HandJoins) : Type 0 where
+  pub rows : HandRows
+  pub are_rows : AreRowsOf hand melds rows
+  pub are_joins : AreJoinsOf rows joins
+
+-- the joins of a hand that differs at one kind alone
+pub record AreJoinsBeside (kind : ℕ) (hand : List ℕ) (melds : List Meld) (joins : HandJoins) : Type 0 where
+  pub before : List ℕ
+  pub joins_before : AreJoinsOfHand before melds joins
+  pub differ : DifferAt kind before hand
+
+-- the joins of a hand, and no seven pairs or thirteen orphans that lack fewer tiles than it says
+pub record AreFormsOf (hand : List ℕ) (melds : List Meld) (forms : HandForms) : Type 0 where
+  pub are_joins : AreJoinsOfHand hand melds forms.joins
+  pub special : SpecialLacks hand melds forms.special

@@ -3,12 +3,25 @@ use Rattle.std.specs.Prelude.{◌≡◌, ◌==◌, ℕ, ◌+◌, ◌-◌, ◌<�
 use Rattle.riichi_rows.specs.Suit.{IsSuitRow}
 use Rattle.riichi_tiles.specs.Melds.{tiles}
 use Rattle.riichi_tiles.specs.declared.meld.Meld.{Meld}
+use Rattle.riichi_shape.specs.declared.hand_caps.HandCaps.{HandCaps}
 
 -- the counts and caps of the suit that begins at the kind base and has so many ranks
 pub record IsSuitOf (base width : ℕ) (hand : List ℕ) (melds : List Meld) (counts caps : List ℕ) : Type 0 where
   pub counts_at : (rank : ℕ) → rank < width → slice_index counts rank ≡ slice_index hand (base + rank)
   pub caps_at : (rank : ℕ) → rank < width → slice_index caps rank ≡ 4 - tiles melds (base + rank)
   pub none_past : (rank : ℕ) → width ≤ rank → rank < 9 → slice_index caps rank ≡ 0
+
+-- these caps alone
+pub record AreCapsOf (base width : ℕ) (melds : List Meld) (caps : List ℕ) : Type 0 where
+  pub caps_at : (rank : ℕ) → rank < width → slice_index caps rank ≡ 4 - tiles melds (base + rank)
+  pub none_past : (rank : ℕ) → width ≤ rank → slice_index caps rank ≡ 0
+
+-- the caps of the four suits
+pub record AreHandCaps (melds : List Meld) (caps : HandCaps) : Type 0 where
+  pub characters : AreCapsOf 0 9 melds caps.characters.left
+  pub circles : AreCapsOf 9 9 melds caps.circles.left
+  pub bamboos : AreCapsOf 18 9 melds caps.bamboos.left
+  pub honours : AreCapsOf 27 7 melds caps.honours.left
 
 -- the row of that suit; a suit of nine ranks has runs
 pub record IsRowOf (hand : List ℕ) (melds : List Meld) (base width : ℕ) (row : ℕ → ℕ → Option ℕ) : Type 0 where

@@ -3,9 +3,10 @@ ghost use Rattle.std.specs.Prelude.{ℕ, ◌≡◌, ◌<◌, ◌≤◌, slice_in
 ghost use Rattle.riichi_tiles.specs.Melds.{tiles};
 ghost use Rattle.riichi_shape.specs.Accepted.{accepted_copies, accepted_of, live_of, with_one};
 ghost use Rattle.riichi_shape.specs.EveryWinning.{distance_of};
-ghost use Rattle.riichi_shape.specs.Rows.{AreRowsOf};
+ghost use Rattle.riichi_shape.specs.Rows.{AreFormsOf, AreRowsOf};
 
-use crate::distance::distance_by;
+use crate::distance::{distance_by, distance_changed};
+use crate::hand_forms::HandForms;
 use crate::hand_rows::HandRows;
 use crate::live_list::LiveList;
 use riichi_rows::{FreshRows, RowSource};
@@ -22,26 +23,26 @@ fn live_copies(hand: &Counts, melds: &Melds, seen: &Counts, kind: Kind) -> u8
 /// The distance with one tile of the kind more.
 fn distance_with<R: RowSource>(
     source: &mut R,
-    rows: &HandRows,
+    forms: &HandForms,
     hand: &Counts,
     melds: &Melds,
     kind: Kind,
 ) -> u8
     requires melded { (k : ℕ) → k < 34 → tiles melds.now k ≤ 4 }
-    requires rows { AreRowsOf hand.now melds.now rows.now }
+    requires forms { AreFormsOf hand.now melds.now forms.now }
     requires room { slice_index hand.now kind < 4 }
     ensures { result ≡ distance_of (with_one hand.now kind) melds.now }
 {
     let mut more = *hand;
     more.add(kind);
-    let rows = rows.changed_at(source, kind, &more, melds);
-    distance_by(&rows, &more, melds)
+    let special = forms.special.saturating_sub(1);
+    distance_changed(source, &forms.joins, kind, special, &more, melds)
 }
 
 /// The live copies of a kind that is accepted, and 0 of another.
 fn copies_accepted<R: RowSource>(
     source: &mut R,
-    rows: &HandRows,
+    forms: &HandForms,
     hand: &Counts,
     melds: &Melds,
     seen: &Counts,
@@ -49,13 +50,13 @@ fn copies_accepted<R: RowSource>(
     lacks: u8,
 ) -> u8
     requires melded { (k : ℕ) → k < 34 → tiles melds.now k ≤ 4 }
-    requires rows { AreRowsOf hand.now melds.now rows.now }
+    requires forms { AreFormsOf hand.now melds.now forms.now }
     requires lacks { lacks ≡ distance_of hand.now melds.now }
     ensures value { result ≡ accepted_copies hand.now melds.now seen.now kind }
     ensures most { result ≤ 4 }
 {
     let live = live_copies(hand, melds, seen, kind);
-    if live > 0 && distance_with(source, rows, hand, melds, kind) < lacks {
+    if live > 0 && distance_with(source, forms, hand, melds, kind) < lacks {
         live
     } else {
         0
@@ -75,10 +76,11 @@ pub(crate) fn accepted_by<R: RowSource>(
     ensures { result ≡ accepted_of hand.now melds.now seen.now }
 {
     let lacks = distance_by(rows, hand, melds);
+    let forms = HandForms::new(rows, hand, melds);
     let mut copies = [0; 34];
     for number in 0..34u8 {
         let kind = Kind::at(number);
-        copies[number as usize] = copies_accepted(source, rows, hand, melds, seen, kind, lacks);
+        copies[number as usize] = copies_accepted(source, &forms, hand, melds, seen, kind, lacks);
     }
     LiveList::new(copies)
 }

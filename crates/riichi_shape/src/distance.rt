@@ -3,13 +3,14 @@ ghost use Rattle.std.specs.Prelude.{ℕ, ◌≡◌, ◌≤◌, ◌<◌};
 ghost use Rattle.riichi_tiles.specs.Melds.{tiles};
 ghost use Rattle.riichi_shape.specs.Distance.{IsDistance, NoneLacksLess, ShantenReached};
 ghost use Rattle.riichi_shape.specs.EveryWinning.{distance_of, shanten_of};
-ghost use Rattle.riichi_shape.specs.Rows.{AreRowsOf};
+ghost use Rattle.riichi_shape.specs.Rows.{AreJoinsBeside, AreRowsOf};
+ghost use Rattle.riichi_shape.specs.Special.{SpecialLacks};
 
+use crate::hand_joins::HandJoins;
 use crate::hand_rows::HandRows;
-use crate::orphans::orphans_distance;
-use crate::pairs::pairs_distance;
-use riichi_rows::FreshRows;
-use riichi_tiles::{Counts, Melds};
+use crate::special::special_distance;
+use riichi_rows::{FreshRows, RowSource};
+use riichi_tiles::{Counts, Kind, Melds};
 
 /// The least number of tiles that the hand lacks of a winning multiset, by the hand's rows.
 pub(crate) fn distance_by(rows: &HandRows, hand: &Counts, melds: &Melds) -> u8
@@ -23,11 +24,35 @@ pub(crate) fn distance_by(rows: &HandRows, hand: &Counts, melds: &Melds) -> u8
     let Some(standard) = rows.standard_distance(4 - melded) else {
         unreachable!()
     };
-    if melded > 0 {
-        return standard;
+    standard.min(special_distance(hand, melds))
+}
+
+/// The distance of a hand that has changed at one kind since its rows were joined. No seven pairs
+/// or thirteen orphans lack fewer tiles than `floor`, and they are looked at only where they can be
+/// least.
+pub(crate) fn distance_changed<R: RowSource>(
+    source: &mut R,
+    joins: &HandJoins,
+    kind: Kind,
+    floor: u8,
+    hand: &Counts,
+    melds: &Melds,
+) -> u8
+    requires melded { (k : ℕ) → k < 34 → tiles melds.now k ≤ 4 }
+    requires joins { AreJoinsBeside kind hand.now melds.now joins.now }
+    requires floor { SpecialLacks hand.now melds.now floor }
+    ensures value { result ≡ distance_of hand.now melds.now }
+    ensures few { result ≤ 14 }
+{
+    let melded = melds.count() as u8;
+    let Some(standard) = joins.standard_changed(source, kind, hand, 4 - melded) else {
+        unreachable!()
+    };
+    if standard <= floor {
+        standard
+    } else {
+        standard.min(special_distance(hand, melds))
     }
-    let special = pairs_distance(hand).min(orphans_distance(hand));
-    standard.min(special as u8)
 }
 
 /// The shanten of a hand, by its rows.

@@ -17,6 +17,9 @@ mod answering;
 mod discard;
 mod discard_list;
 mod distance;
+mod hand_caps;
+mod hand_forms;
+mod hand_joins;
 mod hand_rows;
 pub mod laws;
 mod live_list;
@@ -24,6 +27,8 @@ mod orphans;
 mod pairs;
 mod removal;
 mod shape_answer;
+mod special;
+mod suit_caps;
 mod suit_of_hand;
 #[cfg(test)]
 mod tests;

@@ -5,16 +5,28 @@ ghost use Rattle.riichi_shape.specs.Distance.{PairsReached};
 ghost use Rattle.riichi_shape.specs.Pairs.{IsSevenPairs};
 ghost use Rattle.riichi_shape.specs.Winning.{lacking};
 
-use riichi_tiles::{Counts, Kind};
+use riichi_tiles::Counts;
+
+/// How many of the counts are so high or higher.
+fn counts_from(counts: &[u8; 34], times: u8) -> u8
+    ensures value { result ≡ count_by (λ held. nat_le times held) counts.now }
+    ensures most { result ≤ 34 }
+{
+    let mut kinds = 0;
+    for held in counts {
+        if *held >= times {
+            kinds += 1;
+        }
+    }
+    kinds
+}
 
 /// How many kinds are held so many times or more.
 fn kinds_held(hand: &Counts, times: u8) -> usize
     ensures value { result ≡ count_by (λ kind. nat_le times (slice_index hand.now kind)) every_kind }
     ensures most { result ≤ 34 }
 {
-    (0..34)
-        .filter(|kind| hand.get(Kind::at(*kind)) >= times)
-        .count()
+    counts_from(&hand.to_array(), times) as usize
 }
 
 /// The least number of tiles that the hand lacks of seven different pairs.

@@ -3,12 +3,13 @@ ghost use Rattle.std.specs.Prelude.{ℕ, ◌≡◌, ◌<◌, ◌≤◌, slice_in
 ghost use Rattle.std.specs.List.{sum};
 ghost use Rattle.riichi_tiles.specs.Melds.{tiles};
 ghost use Rattle.riichi_shape.specs.Discards as spec;
-ghost use Rattle.riichi_shape.specs.Rows.{AreRowsOf};
+ghost use Rattle.riichi_shape.specs.Rows.{AreFormsOf, AreRowsOf};
 
 use crate::acceptance::accepted_by;
 use crate::discard::Discard;
 use crate::discard_list::DiscardList;
-use crate::distance::distance_by;
+use crate::distance::distance_changed;
+use crate::hand_forms::HandForms;
 use crate::hand_rows::HandRows;
 use riichi_rows::RowSource;
 use riichi_tiles::{Counts, Kind, Melds};
@@ -16,39 +17,38 @@ use riichi_tiles::{Counts, Kind, Melds};
 /// The distance without one tile of the kind.
 fn distance_without<R: RowSource>(
     source: &mut R,
-    rows: &HandRows,
+    forms: &HandForms,
     hand: &Counts,
     melds: &Melds,
     kind: Kind,
 ) -> u8
     requires melded { (k : ℕ) → k < 34 → tiles melds.now k ≤ 4 }
-    requires rows { AreRowsOf hand.now melds.now rows.now }
+    requires forms { AreFormsOf hand.now melds.now forms.now }
     requires held { 0 < slice_index hand.now kind }
     ensures value { result ≡ spec.distance_without hand.now melds.now kind }
     ensures few { result ≤ 14 }
 {
     let mut rest = *hand;
     rest.remove(kind);
-    let rows = rows.changed_at(source, kind, &rest, melds);
-    distance_by(&rows, &rest, melds)
+    distance_changed(source, &forms.joins, kind, forms.special, &rest, melds)
 }
 
 /// The distance without each kind of the hand, and for another kind more than any distance.
 fn distances_without<R: RowSource>(
     source: &mut R,
-    rows: &HandRows,
+    forms: &HandForms,
     hand: &Counts,
     melds: &Melds,
 ) -> [u8; 34]
     requires melded { (k : ℕ) → k < 34 → tiles melds.now k ≤ 4 }
-    requires rows { AreRowsOf hand.now melds.now rows.now }
+    requires forms { AreFormsOf hand.now melds.now forms.now }
     ensures { spec.AreDistancesWithout hand.now melds.now result }
 {
     let mut distances = [u8::MAX; 34];
     for number in 0..34u8 {
         let kind = Kind::at(number);
         if hand.get(kind) > 0 {
-            distances[number as usize] = distance_without(source, rows, hand, melds, kind);
+            distances[number as usize] = distance_without(source, forms, hand, melds, kind);
         }
     }
     distances
@@ -84,7 +84,7 @@ fn discard_of<R: RowSource>(
     let mut shown = *seen;
     rest.remove(kind);
     shown.add(kind);
-    let rows = rows.changed_at(source, kind, &rest, melds);
+    let rows = rows.changed_at(source, kind, &rest);
     Discard {
         kind,
         accepted: accepted_by(source, &rows, &rest, melds, &shown),
@@ -105,7 +105,8 @@ pub(crate) fn discards_by<R: RowSource>(
     requires room { (k : ℕ) → k < 34 → 0 < slice_index hand.now k → slice_index seen.now k < 4 }
     ensures { result ≡ spec.discards_of hand.now melds.now seen.now }
 {
-    let distances = distances_without(source, rows, hand, melds);
+    let forms = HandForms::new(rows, hand, melds);
+    let distances = distances_without(source, &forms, hand, melds);
     let least = least_of(&distances);
     let mut list = DiscardList::new();
     for number in (0..34u8).rev() {

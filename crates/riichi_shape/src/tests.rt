@@ -6,6 +6,7 @@ use crate::{
     shape_text, shape_with, suit_row,
 };
 use riichi_hand::ShapeRecord;
+use riichi_rows::join_two;
 use riichi_tiles::{Counts, Kind, Meld, Melds, read_counts};
 use std::alloc::Global;
 use std::process::Abort;
@@ -57,7 +58,7 @@ fn check_with(rt: &impl Abort, cache: &mut RowCache, row: &Row) -> Result<(), Fa
 
 // A ready hand, live copies that are seen, a hand of fourteen; four copies of 1z of which no fifth
 // is wanted; melds that leave one copy of a kind; a complete hand, and discards in their order.
-const ROWS: [Row; 10] = [
+const ROWS: [Row; 12] = [
     Row {
         hand: "123456789m1134p",
         melds: &[],
@@ -117,6 +118,18 @@ const ROWS: [Row; 10] = [
         melds: &["kan:2222z", "ankan:3333z", "pon:444z", "pon:555z"],
         seen: "",
         text: "shanten 0 accepts 1z:3 live 3",
+    },
+    Row {
+        hand: "1133m5577p2299s45z",
+        melds: &[],
+        seen: "",
+        text: "shanten 0 discard 4z accepts 5z:3 live 3 discard 5z accepts 4z:3 live 3",
+    },
+    Row {
+        hand: "19m19p19s1234566z8p",
+        melds: &[],
+        seen: "",
+        text: "shanten 0 discard 8p accepts 7z:4 live 4",
     },
 ];
 
@@ -181,6 +194,35 @@ fn rows_of_no_tiles(rt: HostRuntime) -> Result<(), Fail> {
     assert_eq!(rt; join_rows(&[row, row, row, row], 4), Some(14));
     assert_eq!(rt; join_rows(&[closed, closed, closed, row], 1), Some(5));
     assert_eq!(rt; join_rows(&[closed, closed, closed, closed], 0), None);
+    Ok(())
+}
+
+#[test]
+fn rows_kept_joined(rt: HostRuntime) -> Result<(), Fail> {
+    let row = suit_row([0; 9], [4; 9], true);
+    let closed = suit_row([0; 9], [0; 9], true);
+    let one_open = join_two(&row, &closed).and(&closed);
+    assert_eq!(rt; one_open.with(&closed, 4), Some(14));
+    assert_eq!(rt; one_open.with(&row, 4), Some(14));
+    let none_open = join_two(&closed, &closed).and(&closed);
+    assert_eq!(rt; none_open.with(&row, 1), Some(5));
+    assert_eq!(rt; none_open.with(&closed, 0), None);
+    Ok(())
+}
+
+#[test]
+fn rows_of_some_tiles(rt: HostRuntime) -> Result<(), Fail> {
+    let runs = suit_row([2, 2, 2, 0, 0, 0, 0, 0, 0], [4; 9], true);
+    assert_eq!(rt; runs.get(2, false), Some(0));
+    assert_eq!(rt; runs.get(2, true), Some(2));
+    assert_eq!(rt; runs.get(1, true), Some(1));
+    let honours = suit_row(
+        [1, 1, 1, 0, 0, 0, 0, 0, 0],
+        [4, 4, 4, 4, 4, 4, 4, 0, 0],
+        false,
+    );
+    assert_eq!(rt; honours.get(1, false), Some(2));
+    assert_eq!(rt; honours.get(1, true), Some(3));
     Ok(())
 }
 

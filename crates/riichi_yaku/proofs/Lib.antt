@@ -3,4 +3,3 @@ pub mod Sums
 pub mod Flags
 pub mod Sets
 pub mod Words
-pub mod Additions

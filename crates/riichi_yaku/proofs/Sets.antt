@@ -2,7 +2,7 @@
 use Rattle.std.proofs.Common.{◌≡◌, ◌<◌, ◌^◌, ℕ, Bool, true, false, nat_le, List, refl, ap, ◌∙◌}
 use Rattle.riichi_hand.specs.declared.win.WinParts.{WinParts}
 use Rattle.riichi_split.specs.declared.reading.Reading.{Reading}
-use Rattle.riichi_yaku.specs.declared.hand_block.HandBlock.{HandBlock}
+use Rattle.riichi_blocks.specs.declared.hand_block.HandBlock.{HandBlock}
 use Rattle.riichi_yaku.specs.declared.luck.Luck.{Luck}
 use Rattle.riichi_yaku.specs.declared.honours.Honours.{Honours}
 use Rattle.riichi_yaku.specs.declared.runs.Runs.{Runs}
@@ -10,8 +10,8 @@ use Rattle.riichi_yaku.specs.declared.outside.Outside.{Outside}
 use Rattle.riichi_yaku.specs.declared.triplets.Triplets.{Triplets}
 use Rattle.riichi_yaku.specs.declared.tiles.Tiles.{Tiles}
 use Rattle.riichi_yaku.specs.declared.yakuman.Yakuman.{Yakuman}
-use Rattle.riichi_yaku.specs.HandBlocks.{blocks_of}
-use Rattle.riichi_yaku.specs.Held.{all_tiles}
+use Rattle.riichi_blocks.specs.HandBlocks.{blocks_of}
+use Rattle.riichi_blocks.specs.Held.{all_tiles}
 use Rattle.riichi_yaku.specs.Luck.{luck_of}
 use Rattle.riichi_yaku.specs.Honours.{honours_of}
 use Rattle.riichi_yaku.specs.Runs.{runs_of}

@@ -10,8 +10,8 @@ use Rattle.riichi_yaku.specs.declared.outside.Outside.{Outside}
 use Rattle.riichi_yaku.specs.declared.triplets.Triplets.{Triplets}
 use Rattle.riichi_yaku.specs.declared.tiles.Tiles.{Tiles}
 use Rattle.riichi_yaku.specs.declared.yakuman.Yakuman.{Yakuman}
-use Rattle.riichi_yaku.specs.HandBlocks.{blocks_of}
-use Rattle.riichi_yaku.specs.Held.{all_tiles}
+use Rattle.riichi_blocks.specs.HandBlocks.{blocks_of}
+use Rattle.riichi_blocks.specs.Held.{all_tiles}
 use Rattle.riichi_yaku.specs.Luck.{luck_of}
 use Rattle.riichi_yaku.specs.Honours.{honours_of}
 use Rattle.riichi_yaku.specs.Runs.{runs_of}

@@ -1,13 +1,13 @@
--- The yaku of winds and dragons, and the fu of a pair of them.
-use Rattle.std.specs.Prelude.{ℕ, ◌+◌, Bool, false, ◌&&◌, ◌||◌, ◌==◌, nat_le, List, if◌then◌else◌}
+-- The yaku of winds and dragons.
+use Rattle.std.specs.Prelude.{ℕ, Bool, false, ◌&&◌, ◌||◌, ◌==◌, List}
 use Rattle.std.specs.List.{list_any, list_all}
 use Rattle.riichi_hand.specs.declared.win.WinParts.{WinParts}
 use Rattle.riichi_hand.specs.Win.{wind_kind}
-use Rattle.riichi_yaku.specs.declared.hand_block.HandBlock.{HandBlock}
-use Rattle.riichi_yaku.specs.declared.hand_block.HandBlock.TheVariants.{Run, Triplet, Kong, Pair}
+use Rattle.riichi_blocks.specs.declared.hand_block.HandBlock.{HandBlock}
+use Rattle.riichi_blocks.specs.declared.hand_block.HandBlock.TheVariants.{Run, Triplet, Kong, Pair}
 use Rattle.riichi_yaku.specs.declared.honours.Honours.{Honours}
-use Rattle.riichi_yaku.specs.HandBlocks.{has_triplet}
-use Rattle.riichi_yaku.specs.Kinds.{white, green, red, winds, dragons, is_wind, is_dragon}
+use Rattle.riichi_blocks.specs.HandBlocks.{has_triplet}
+use Rattle.riichi_blocks.specs.Kinds.{white, green, red, winds, dragons, is_wind, is_dragon}
 
 -- 7: a triplet of White
 abbrev pub is_white_dragon : List HandBlock → Bool
@@ -64,10 +64,3 @@ honours_of blocks parts = record {
   prevalent_wind = is_prevalent_wind blocks parts;
   little_three_dragons = is_little_three_dragons blocks;
 }
-
--- The fu of a pair of this kind: of dragons 2, of the seat wind 2, of the prevalent wind 2; both winds 4.
-abbrev pub pair_fu : WinParts → ℕ → ℕ
-pair_fu parts kind =
-    (if nat_le white kind then 2 else 0)
-    + (if kind == wind_kind parts.seat then 2 else 0)
-    + (if kind == wind_kind parts.round then 2 else 0)

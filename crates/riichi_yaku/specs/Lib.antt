@@ -1,9 +1,5 @@
-pub mod Kinds
-pub mod Held
-pub mod HandBlocks
 pub mod Luck
 pub mod Honours
-pub mod Waits
 pub mod Runs
 pub mod Outside
 pub mod Triplets

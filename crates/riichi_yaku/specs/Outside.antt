@@ -1,36 +1,10 @@
 -- The yaku whose every set and pair has a terminal or an honour.
-use Rattle.std.specs.Prelude.{ℕ, ◌%◌, Bool, false, not, ◌&&◌, ◌||◌, ◌==◌, List}
+use Rattle.std.specs.Prelude.{Bool, not, ◌&&◌, List}
 use Rattle.std.specs.List.{list_any, list_all}
-use Rattle.riichi_yaku.specs.declared.hand_block.HandBlock.{HandBlock}
-use Rattle.riichi_yaku.specs.declared.hand_block.HandBlock.TheVariants.{Run, Triplet, Kong, Pair}
+use Rattle.riichi_blocks.specs.declared.hand_block.HandBlock.{HandBlock}
 use Rattle.riichi_yaku.specs.declared.outside.Outside.{Outside}
-use Rattle.riichi_yaku.specs.HandBlocks.{is_run}
-use Rattle.riichi_yaku.specs.Kinds.{is_honour, is_terminal, is_orphan}
-
--- a run 123 or 789 has a 1 or a 9
-abbrev pub is_outer_run : ℕ → Bool
-is_outer_run low = low % 9 == 0 || low % 9 == 6
-
--- the block has a terminal or an honour
-abbrev pub has_orphan : HandBlock → Bool
-has_orphan (Run low) = is_outer_run low
-has_orphan (Triplet kind concealed) = is_orphan kind
-has_orphan (Kong kind concealed) = is_orphan kind
-has_orphan (Pair kind) = is_orphan kind
-
--- the block has a terminal
-abbrev pub has_terminal : HandBlock → Bool
-has_terminal (Run low) = is_outer_run low
-has_terminal (Triplet kind concealed) = is_terminal kind
-has_terminal (Kong kind concealed) = is_terminal kind
-has_terminal (Pair kind) = is_terminal kind
-
--- the block is of honours
-abbrev pub has_honour : HandBlock → Bool
-has_honour (Run low) = false
-has_honour (Triplet kind concealed) = is_honour kind
-has_honour (Kong kind concealed) = is_honour kind
-has_honour (Pair kind) = is_honour kind
+use Rattle.riichi_blocks.specs.HandBlocks.{is_run}
+use Rattle.riichi_blocks.specs.BlockKinds.{has_orphan, has_terminal, has_honour}
 
 -- 17: each set and the pair has a terminal or honour; at least one run; at least one honour
 abbrev pub is_outside_hand : List HandBlock → Bool

@@ -4,19 +4,12 @@ use Rattle.std.specs.List.{list_any, list_all}
 use Rattle.riichi_tiles.specs.Melds.{are_concealed}
 use Rattle.riichi_hand.specs.declared.win.WinParts.{WinParts}
 use Rattle.riichi_split.specs.declared.reading.Reading.{Reading}
-use Rattle.riichi_yaku.specs.declared.hand_block.HandBlock.{HandBlock}
-use Rattle.riichi_yaku.specs.declared.hand_block.HandBlock.TheVariants.{Run, Triplet, Kong, Pair}
+use Rattle.riichi_blocks.specs.declared.hand_block.HandBlock.{HandBlock}
+use Rattle.riichi_blocks.specs.declared.hand_block.HandBlock.TheVariants.{Run, Triplet, Kong, Pair}
 use Rattle.riichi_yaku.specs.declared.runs.Runs.{Runs}
-use Rattle.riichi_yaku.specs.HandBlocks.{is_run, has_run, runs_equal_to}
-use Rattle.riichi_yaku.specs.Honours.{pair_fu}
-use Rattle.riichi_yaku.specs.Waits.{has_two_sided_wait}
-
--- a pair that earns no fu
-abbrev pub is_plain_pair : WinParts → HandBlock → Bool
-is_plain_pair parts (Run low) = false
-is_plain_pair parts (Triplet kind concealed) = false
-is_plain_pair parts (Kong kind concealed) = false
-is_plain_pair parts (Pair kind) = pair_fu parts kind == 0
+use Rattle.riichi_blocks.specs.HandBlocks.{is_run, has_run, runs_equal_to}
+use Rattle.riichi_blocks.specs.Pairs.{is_plain_pair}
+use Rattle.riichi_blocks.specs.Waits.{has_two_sided_wait}
 
 -- four runs
 abbrev pub are_four_runs : List HandBlock → Bool

@@ -3,9 +3,9 @@ use Rattle.std.specs.Prelude.{ℕ, Bool, not, ◌&&◌, ◌||◌, List}
 use Rattle.std.specs.List.{list_any, range_with_len}
 use Rattle.riichi_split.specs.declared.reading.Reading.{Reading}
 use Rattle.riichi_yaku.specs.declared.tiles.Tiles.{Tiles}
-use Rattle.riichi_yaku.specs.HandBlocks.{is_seven_pairs, is_orphans}
-use Rattle.riichi_yaku.specs.Held.{every, some}
-use Rattle.riichi_yaku.specs.Kinds.{is_honour, is_orphan, is_simple, is_of_suit}
+use Rattle.riichi_blocks.specs.HandBlocks.{is_seven_pairs, is_orphans}
+use Rattle.riichi_blocks.specs.Held.{every, some}
+use Rattle.riichi_blocks.specs.Kinds.{is_honour, is_orphan, is_simple, is_of_suit}
 
 -- 6: every tile is a simple
 abbrev pub is_all_simples : Reading → List ℕ → Bool

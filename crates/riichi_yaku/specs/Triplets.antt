@@ -1,10 +1,10 @@
 -- The yaku of triplets and kongs.
 use Rattle.std.specs.Prelude.{ℕ, ◌+◌, Bool, false, ◌&&◌, ◌==◌, nat_le, nat_lt, List, count_by}
 use Rattle.std.specs.List.{list_any}
-use Rattle.riichi_yaku.specs.declared.hand_block.HandBlock.{HandBlock}
-use Rattle.riichi_yaku.specs.declared.hand_block.HandBlock.TheVariants.{Run, Triplet, Kong, Pair}
+use Rattle.riichi_blocks.specs.declared.hand_block.HandBlock.{HandBlock}
+use Rattle.riichi_blocks.specs.declared.hand_block.HandBlock.TheVariants.{Run, Triplet, Kong, Pair}
 use Rattle.riichi_yaku.specs.declared.triplets.Triplets.{Triplets}
-use Rattle.riichi_yaku.specs.HandBlocks.{is_triplet, is_kong, is_concealed_triplet, has_triplet}
+use Rattle.riichi_blocks.specs.HandBlocks.{is_triplet, is_kong, is_concealed_triplet, has_triplet}
 
 -- the kind is of characters, and triplets of the same number are there in circles and bamboos
 abbrev pub has_triplet_in_each_suit : List HandBlock → ℕ → Bool

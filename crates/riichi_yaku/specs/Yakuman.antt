@@ -1,17 +1,16 @@
 -- The yakuman.
-use Rattle.std.specs.Prelude.{ℕ, Bool, true, false, not, ◌&&◌, ◌==◌, nat_le, List, length, count_by, slice_index, if◌then◌else◌}
+use Rattle.std.specs.Prelude.{ℕ, Bool, not, ◌&&◌, ◌==◌, nat_le, List, length, count_by, slice_index, if◌then◌else◌}
 use Rattle.std.specs.List.{list_any, list_all, range_with_len}
 use Rattle.riichi_tiles.specs.Melds.{every_kind}
-use Rattle.riichi_hand.specs.declared.win.Wind.{Wind}
-use Rattle.riichi_hand.specs.declared.win.Wind.TheVariants.{East, South, West, North}
 use Rattle.riichi_hand.specs.declared.win.WinParts.{WinParts}
 use Rattle.riichi_split.specs.declared.reading.Reading.{Reading}
-use Rattle.riichi_yaku.specs.declared.hand_block.HandBlock.{HandBlock}
+use Rattle.riichi_blocks.specs.declared.hand_block.HandBlock.{HandBlock}
 use Rattle.riichi_yaku.specs.declared.yakuman.Yakuman.{Yakuman}
-use Rattle.riichi_yaku.specs.HandBlocks.{is_standard, is_orphans, is_concealed_triplet, is_kong}
+use Rattle.riichi_blocks.specs.HandBlocks.{is_standard, is_orphans, is_concealed_triplet, is_kong}
+use Rattle.riichi_blocks.specs.Winner.{is_dealer}
 use Rattle.riichi_yaku.specs.Honours.{has_triplets, is_last_wind}
-use Rattle.riichi_yaku.specs.Held.{every}
-use Rattle.riichi_yaku.specs.Kinds.{winds, dragons, is_honour, is_terminal, is_of_suit, is_green_tile}
+use Rattle.riichi_blocks.specs.Held.{every}
+use Rattle.riichi_blocks.specs.Kinds.{winds, dragons, is_honour, is_terminal, is_of_suit, is_green_tile}
 
 -- 29: the reading is thirteen orphans
 abbrev pub is_thirteen_orphans : Reading → Bool
@@ -64,13 +63,6 @@ is_all_green reading tiles = is_standard reading && every is_green_tile tiles
 -- 38: four kongs
 abbrev pub is_four_kongs : List HandBlock → Bool
 is_four_kongs blocks = count_by is_kong blocks == 4
-
--- the dealer's seat
-abbrev pub is_dealer : Wind → Bool
-is_dealer East = true
-is_dealer South = false
-is_dealer West = false
-is_dealer North = false
 
 -- 39: a win in the first turn by the dealer; any reading
 abbrev pub is_blessing_of_heaven : WinParts → Bool

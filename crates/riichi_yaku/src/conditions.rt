@@ -3,6 +3,7 @@ ghost use Rattle.std.specs.Prelude.{◌≡◌, ◌<◌, ◌≤◌, ◌*◌, ◌^
 ghost use Rattle.riichi_yaku.specs.Conditions as spec;
 ghost use Rattle.riichi_yaku.specs.YakuSets.{number_of, has_number, is_yakuman};
 
+use crate::YakuSet;
 use crate::honours::{Honours, honours_of};
 use crate::luck::{Luck, luck_of};
 use crate::outside::{Outside, outside_of};
@@ -11,7 +12,7 @@ use crate::tiles::{Tiles, tiles_of};
 use crate::triplets::{Triplets, triplets_of};
 use crate::yaku_set::FIRST_YAKUMAN;
 use crate::yakuman::{Yakuman, yakuman_of};
-use crate::{YakuSet, all_tiles, blocks_of};
+use riichi_blocks::{all_tiles, blocks_of};
 use riichi_hand::WinRecord;
 use riichi_split::Reading;
 

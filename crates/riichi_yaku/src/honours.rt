@@ -1,13 +1,10 @@
-//! The yaku of winds and dragons, and the fu of a pair of them.
-ghost use Rattle.std.specs.Prelude.{◌≡◌, ◌≤◌};
+//! The yaku of winds and dragons.
+ghost use Rattle.std.specs.Prelude.{◌≡◌};
 ghost use Rattle.riichi_yaku.specs.Honours as spec;
-ghost use Rattle.riichi_yaku.specs.Kinds.{dragons, winds};
+ghost use Rattle.riichi_blocks.specs.Kinds.{dragons, winds};
 
-use crate::HandBlock;
-use crate::blocks::has_triplet;
-use crate::kinds::{EAST, GREEN, KINDS, RED, WHITE, is_dragon, is_wind};
+use riichi_blocks::{EAST, GREEN, HandBlock, KINDS, RED, WHITE, has_triplet, is_dragon, is_wind};
 use riichi_hand::WinRecord;
-use riichi_tiles::Kind;
 
 /// Which yaku of winds and dragons hold.
 #[derive(Clone, Copy)]
@@ -115,15 +112,4 @@ pub(crate) fn honours_of(blocks: &[HandBlock], win: &WinRecord) -> Honours
         prevalent_wind: is_prevalent_wind(blocks, win),
         little_three_dragons: is_little_three_dragons(blocks),
     }
-}
-
-/// The fu of a pair of this kind. One that is both the seat wind and the prevalent wind earns 4.
-pub fn pair_fu(win: &WinRecord, kind: Kind) -> u8
-    ensures value { result ≡ spec.pair_fu win.now kind }
-    ensures most { result ≤ 6 }
-{
-    let dragon = if kind.index() >= WHITE { 2 } else { 0 };
-    let seat = if kind == win.seat().kind() { 2 } else { 0 };
-    let round = if kind == win.round().kind() { 2 } else { 0 };
-    dragon + seat + round
 }

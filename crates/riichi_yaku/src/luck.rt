@@ -1,9 +1,9 @@
 //! The yaku of how the hand was won.
 ghost use Rattle.std.specs.Prelude.{◌≡◌};
-ghost use Rattle.riichi_hand.specs.Win as win_spec;
 ghost use Rattle.riichi_yaku.specs.Luck as spec;
 
-use riichi_hand::{By, WinRecord};
+use riichi_blocks::is_ron;
+use riichi_hand::WinRecord;
 
 /// Which yaku hold of how the hand was won.
 #[derive(Clone, Copy)]
@@ -15,16 +15,6 @@ pub(crate) struct Luck {
     pub after_a_kong: bool,
     pub robbing_the_kong: bool,
     pub last_tile: bool,
-}
-
-/// Whether the win is by ron.
-pub fn is_ron(by: By) -> bool
-    ensures { result ≡ win_spec.is_ron by }
-{
-    match by {
-        By::Ron => true,
-        By::Tsumo => false,
-    }
 }
 
 fn is_riichi(win: &WinRecord) -> bool

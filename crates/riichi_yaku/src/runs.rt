@@ -1,12 +1,10 @@
 //! The yaku of runs.
 ghost use Rattle.std.specs.Prelude.{◌≡◌, ◌<◌};
-ghost use Rattle.std.specs.List.{list_any};
 ghost use Rattle.riichi_yaku.specs.Runs as spec;
 
-use crate::HandBlock;
-use crate::blocks::{has_run, runs_among, runs_equal_to};
-use crate::honours::pair_fu;
-use crate::waits::has_two_sided_wait;
+use riichi_blocks::{
+    HandBlock, has_plain_pair, has_run, has_two_sided_wait, runs_among, runs_equal_to,
+};
 use riichi_hand::WinRecord;
 use riichi_split::Reading;
 
@@ -18,21 +16,6 @@ pub(crate) struct Runs {
     pub mixed_triple_chow: bool,
     pub pure_straight: bool,
     pub twice_pure_double_chow: bool,
-}
-
-fn is_plain_pair(win: &WinRecord, block: &HandBlock) -> bool
-    ensures { result ≡ spec.is_plain_pair win.now block.now }
-{
-    match block {
-        HandBlock::Pair(kind) => pair_fu(win, *kind) == 0,
-        _ => false,
-    }
-}
-
-fn has_plain_pair(blocks: &[HandBlock], win: &WinRecord) -> bool
-    ensures { result ≡ list_any (spec.is_plain_pair win.now) blocks.now }
-{
-    blocks.iter().any(|block| is_plain_pair(win, block))
 }
 
 fn are_four_runs(blocks: &[HandBlock]) -> bool

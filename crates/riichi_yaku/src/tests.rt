@@ -1,7 +1,8 @@
 use super::*;
+use riichi_blocks::blocks_of;
 use riichi_hand::{By, Flags, Rules, WinParts, WinRecord, Wind};
 use riichi_split::Readings;
-use riichi_tiles::{Block, Counts, Kind, Meld, Melds, Reds, read_counts};
+use riichi_tiles::{Counts, Kind, Meld, Melds, Reds, read_counts};
 use std::test::Fail;
 
 fn tiles(text: &[u8]) -> Result<Counts, Fail> {
@@ -101,15 +102,7 @@ fn tells_an_open_hand(rt: HostRuntime) -> Result<(), Fail> {
         assert_eq!(rt; word(10), "seat-wind");
         assert_eq!(rt; han_of(set, false), 2);
         let blocks = blocks_of(&reading, &win);
-        assert_eq!(rt; blocks.len(), 5);
         assert!(rt; !is_pinfu(blocks.as_slice(), &reading, &win));
     }
-    assert_eq!(rt; pair_fu(&win, Kind::at(19)), 0);
-    assert_eq!(rt; pair_fu(&win, Kind::at(27)), 4);
-    let done = Block::Pair(Kind::at(20));
-    assert_eq!(rt; wait_fu(Kind::at(20), &done), 2);
-    assert_eq!(rt; all_tiles(&win)[27], 3);
-    assert!(rt; is_orphan(8) && is_orphan(33) && !is_orphan(7));
-    assert!(rt; is_ron(win.by()) && is_dealer(win.seat()));
     Ok(())
 }

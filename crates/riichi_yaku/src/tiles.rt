@@ -1,11 +1,11 @@
 //! The yaku of every tile of the hand, by the count of each kind.
-ghost use Rattle.std.specs.Prelude.{◌≡◌, ◌||◌};
-ghost use Rattle.riichi_yaku.specs.Held as words;
-ghost use Rattle.riichi_yaku.specs.Kinds as kinds;
+ghost use Rattle.std.specs.Prelude.{◌≡◌};
 ghost use Rattle.riichi_yaku.specs.Tiles as spec;
 
-use crate::blocks::{is_orphans, is_seven_pairs};
-use crate::kinds::{EAST, KINDS, is_honour, is_of_suit, is_orphan, is_simple};
+use riichi_blocks::{
+    are_of_suit, are_of_suit_or_honours, are_orphans, are_simples, has_honours, has_suit,
+    is_orphans, is_seven_pairs,
+};
 use riichi_split::Reading;
 
 /// Which yaku of every tile hold.
@@ -18,40 +18,16 @@ pub(crate) struct Tiles {
     pub full_flush: bool,
 }
 
-fn are_simples(tiles: &[u8; 34]) -> bool
-    ensures { result ≡ words.every kinds.is_simple tiles.now }
-{
-    (0..KINDS).all(|kind| is_simple(kind) || tiles[kind] == 0)
-}
-
 fn is_all_simples(reading: &Reading, tiles: &[u8; 34]) -> bool
     ensures { result ≡ spec.is_all_simples reading.now tiles.now }
 {
     !is_orphans(reading) && are_simples(tiles)
 }
 
-fn are_orphans(tiles: &[u8; 34]) -> bool
-    ensures { result ≡ words.every kinds.is_orphan tiles.now }
-{
-    (0..KINDS).all(|kind| is_orphan(kind) || tiles[kind] == 0)
-}
-
 fn is_all_terminals_and_honours(reading: &Reading, tiles: &[u8; 34]) -> bool
     ensures { result ≡ spec.is_all_terminals_and_honours reading.now tiles.now }
 {
     !is_orphans(reading) && are_orphans(tiles)
-}
-
-fn are_of_suit_or_honours(tiles: &[u8; 34], suit: usize) -> bool
-    ensures { result ≡ words.every (λ kind. kinds.is_of_suit suit kind || kinds.is_honour kind) tiles.now }
-{
-    (0..KINDS).all(|kind| is_of_suit(suit, kind) || is_honour(kind) || tiles[kind] == 0)
-}
-
-fn has_suit(tiles: &[u8; 34], suit: usize) -> bool
-    ensures { result ≡ words.some (kinds.is_of_suit suit) tiles.now }
-{
-    (0..KINDS).any(|kind| is_of_suit(suit, kind) && tiles[kind] > 0)
 }
 
 fn has_suit_alone(tiles: &[u8; 34], suit: usize) -> bool
@@ -66,23 +42,10 @@ fn has_one_suit(tiles: &[u8; 34]) -> bool
     (0..3).any(|suit| has_suit_alone(tiles, suit))
 }
 
-fn has_honours(tiles: &[u8; 34]) -> bool
-    ensures { result ≡ words.some kinds.is_honour tiles.now }
-{
-    (EAST..KINDS).any(|kind| tiles[kind] > 0)
-}
-
 fn is_half_flush(reading: &Reading, tiles: &[u8; 34]) -> bool
     ensures { result ≡ spec.is_half_flush reading.now tiles.now }
 {
     !is_orphans(reading) && has_one_suit(tiles) && has_honours(tiles)
-}
-
-/// Every tile is of this suit.
-pub(crate) fn are_of_suit(tiles: &[u8; 34], suit: usize) -> bool
-    ensures { result ≡ words.every (kinds.is_of_suit suit) tiles.now }
-{
-    (0..KINDS).all(|kind| is_of_suit(suit, kind) || tiles[kind] == 0)
 }
 
 fn are_of_one_suit(tiles: &[u8; 34]) -> bool

@@ -2,8 +2,9 @@
 ghost use Rattle.std.specs.Prelude.{◌≡◌, ◌<◌};
 ghost use Rattle.riichi_yaku.specs.Triplets as spec;
 
-use crate::HandBlock;
-use crate::blocks::{concealed_triplets_among, has_triplet, kongs_among, triplets_among};
+use riichi_blocks::{
+    HandBlock, concealed_triplets_among, has_triplet, kongs_among, triplets_among,
+};
 
 /// Which yaku of triplets hold.
 #[derive(Clone, Copy)]

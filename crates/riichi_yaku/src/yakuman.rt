@@ -1,16 +1,14 @@
 //! The yakuman.
 ghost use Rattle.std.specs.Prelude.{◌≡◌, ◌==◌, length};
 ghost use Rattle.std.specs.List.{list_any, range_with_len};
-ghost use Rattle.riichi_yaku.specs.Held as words;
-ghost use Rattle.riichi_yaku.specs.Kinds as kinds;
 ghost use Rattle.riichi_yaku.specs.Yakuman as spec;
 
-use crate::HandBlock;
-use crate::blocks::{concealed_triplets_among, is_orphans, is_standard, kongs_among};
 use crate::honours::{has_dragon_triplets, has_wind_triplets, is_last_wind};
-use crate::kinds::{KINDS, is_green_tile, is_honour, is_of_suit, is_terminal};
-use crate::tiles::are_of_suit;
-use riichi_hand::{WinRecord, Wind};
+use riichi_blocks::{
+    HandBlock, KINDS, are_green, are_honours, are_of_suit, are_terminals, concealed_triplets_among,
+    is_dealer, is_of_suit, is_orphans, is_standard, is_terminal, kongs_among,
+};
+use riichi_hand::WinRecord;
 use riichi_split::Reading;
 
 /// Which yakuman hold.
@@ -103,34 +101,16 @@ fn is_big_four_winds(blocks: &[HandBlock]) -> bool
     has_wind_triplets(blocks)
 }
 
-fn are_honours(tiles: &[u8; 34]) -> bool
-    ensures { result ≡ words.every kinds.is_honour tiles.now }
-{
-    (0..KINDS).all(|kind| is_honour(kind) || tiles[kind] == 0)
-}
-
 fn is_all_honours(reading: &Reading, tiles: &[u8; 34]) -> bool
     ensures { result ≡ spec.is_all_honours reading.now tiles.now }
 {
     !is_orphans(reading) && are_honours(tiles)
 }
 
-fn are_terminals(tiles: &[u8; 34]) -> bool
-    ensures { result ≡ words.every kinds.is_terminal tiles.now }
-{
-    (0..KINDS).all(|kind| is_terminal(kind) || tiles[kind] == 0)
-}
-
 fn is_all_terminals(reading: &Reading, tiles: &[u8; 34]) -> bool
     ensures { result ≡ spec.is_all_terminals reading.now tiles.now }
 {
     is_standard(reading) && are_terminals(tiles)
-}
-
-fn are_green(tiles: &[u8; 34]) -> bool
-    ensures { result ≡ words.every kinds.is_green_tile tiles.now }
-{
-    (0..KINDS).all(|kind| is_green_tile(kind) || tiles[kind] == 0)
 }
 
 fn is_all_green(reading: &Reading, tiles: &[u8; 34]) -> bool
@@ -143,13 +123,6 @@ fn is_four_kongs(blocks: &[HandBlock]) -> bool
     ensures { result ≡ spec.is_four_kongs blocks.now }
 {
     kongs_among(blocks) == 4
-}
-
-/// Whether this is the seat East.
-pub fn is_dealer(seat: Wind) -> bool
-    ensures { result ≡ spec.is_dealer seat }
-{
-    matches!(seat, Wind::East)
 }
 
 fn is_blessing_of_heaven(win: &WinRecord) -> bool

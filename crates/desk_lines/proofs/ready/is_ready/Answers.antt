@@ -1,4 +1,5 @@
-use Rattle.std.proofs.Common.{◌≡◌, ◌↔◌, ℕ, ℤ, pos, true, IsTrue, nat_eq, of_z, to_z, w8, FitsSigned, sym, ap, ◌∙◌, arith}
+use Rattle.std.proofs.Common.{◌≡◌, ◌↔◌, ℕ, ℤ, pos, true, IsTrue, nat_eq, of_z, to_z, FitsSigned, sym, ap, ◌∙◌, arith}
+use Rattle.std.proofs.Common as width
 use Rattle.std.proofs.lemmas.Bool.Decides.{nat_tests}
 use Rattle.std.proofs.lemmas.Int.{to_z-of_z}
 use Rattle.riichi_tiles.specs.Tiles.{IsCounts}
@@ -15,10 +16,10 @@ shanten-requires c = λ kind low.
 same_number : (a b : ℕ) → nat_eq a b ≡ true → a ≡ b
 same_number a b same = grind (arith, nat_tests)
 
-is_zero : (z : ℤ) → FitsSigned w8 z → IsTrue (nat_eq (of_z w8 z) 0) ↔ (z ≡ pos 0)
+is_zero : (z : ℤ) → FitsSigned width.w8 z → IsTrue (nat_eq (of_z width.w8 z) 0) ↔ (z ≡ pos 0)
 is_zero z fits = (
-  λ test. sym (to_z-of_z w8 z fits) ∙ ap (to_z w8) (same_number (of_z w8 z) 0 test),
-  λ zero. ap (λ z. nat_eq (of_z w8 z) 0) zero,
+  λ test. sym (to_z-of_z width.w8 z fits) ∙ ap (to_z width.w8) (same_number (of_z width.w8 z) 0 test),
+  λ zero. ap (λ z. nat_eq (of_z width.w8 z) 0) zero,
 )
 
 pub returns-clause-shanten : goal.returns-clause-shanten

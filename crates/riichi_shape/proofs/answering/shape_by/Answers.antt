@@ -1,4 +1,5 @@
-use Rattle.std.proofs.Common.{◌≡◌, ap, ◌∙◌, to_z, of_z, w8, rules, arith}
+use Rattle.std.proofs.Common.{◌≡◌, ap, ◌∙◌, to_z, of_z, rules, arith}
+use Rattle.std.proofs.Common as width
 use Rattle.riichi_tiles.specs.Melds.{tiles}
 use Rattle.riichi_shape.proofs.ShapeFacts.{answer_is, melds_few, seen_few, tiles_few}
 use Rattle.riichi_shape.proofs.answering.shape_by.Goals as goal
@@ -20,6 +21,6 @@ accepts-requires-clause-room g c = rw (c.tiles-hand.ensures.value, c.seen-seen.e
 
 pub returns : goal.returns
 returns g c =
-    let same : to_z w8 (of_z w8 c.shanten_by.result) ≡ c.shanten_by.result = search rules in
-    answer_is c.args.asked.now c.tiles-hand.result c.melds-melds.result c.seen-seen.result (to_z w8 (of_z w8 c.shanten_by.result)) c.accepts.result
+    let same : to_z width.w8 (of_z width.w8 c.shanten_by.result) ≡ c.shanten_by.result = search rules in
+    answer_is c.args.asked.now c.tiles-hand.result c.melds-melds.result c.seen-seen.result (to_z width.w8 (of_z width.w8 c.shanten_by.result)) c.accepts.result
     c.tiles-hand.ensures.value c.melds-melds.ensures c.seen-seen.ensures (same ∙ c.shanten_by.ensures.value) c.accepts.ensures

@@ -7,4 +7,4 @@ use Rattle.riichi_shape.proofs.removal.discard_of.Goals as goal
 pub accepted_by-requires-clause-rows : goal.accepted_by-requires-clause-rows
 accepted_by-requires-clause-rows g c =
     let hand = c.args.hand.now in
-    c.changed_at-rows.ensures hand c.requires.rows (subst (λ (after : List ℕ). DifferAt c.args.kind hand after) (sym c.remove.ensures.value) (set_differs hand c.args.kind (slice_index hand c.args.kind - 1)))
+    c.changed_at-rows.ensures hand c.args.melds.now c.requires.rows (subst (λ (after : List ℕ). DifferAt c.args.kind hand after) (sym c.remove.ensures.value) (set_differs hand c.args.kind (slice_index hand c.args.kind - 1)))

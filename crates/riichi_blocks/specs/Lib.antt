@@ -1,0 +1,7 @@
+pub mod Kinds
+pub mod Held
+pub mod HandBlocks
+pub mod BlockKinds
+pub mod Winner
+pub mod Pairs
+pub mod Waits

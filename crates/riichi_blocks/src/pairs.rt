@@ -1,0 +1,36 @@
+//! The pair, and the fu that it earns.
+ghost use Rattle.std.specs.Prelude.{◌≡◌, ◌≤◌};
+ghost use Rattle.std.specs.List.{list_any};
+ghost use Rattle.riichi_blocks.specs.Pairs as spec;
+
+use crate::HandBlock;
+use crate::kinds::WHITE;
+use riichi_hand::WinRecord;
+use riichi_tiles::Kind;
+
+/// The fu of a pair of this kind. One that is both the seat wind and the prevalent wind earns 4.
+pub fn pair_fu(win: &WinRecord, kind: Kind) -> u8
+    ensures value { result ≡ spec.pair_fu win.now kind }
+    ensures most { result ≤ 6 }
+{
+    let dragon = if kind.index() >= WHITE { 2 } else { 0 };
+    let seat = if kind == win.seat().kind() { 2 } else { 0 };
+    let round = if kind == win.round().kind() { 2 } else { 0 };
+    dragon + seat + round
+}
+
+fn is_plain_pair(win: &WinRecord, block: &HandBlock) -> bool
+    ensures { result ≡ spec.is_plain_pair win.now block.now }
+{
+    match block {
+        HandBlock::Pair(kind) => pair_fu(win, *kind) == 0,
+        _ => false,
+    }
+}
+
+/// Whether the pair earns no fu. Without blocks there is no pair.
+pub fn has_plain_pair(blocks: &[HandBlock], win: &WinRecord) -> bool
+    ensures { result ≡ list_any (spec.is_plain_pair win.now) blocks.now }
+{
+    blocks.iter().any(|block| is_plain_pair(win, block))
+}

@@ -1,0 +1,201 @@
+use super::*;
+use riichi_hand::{By, Job, Rules, WinRecord, Wind, read_line};
+use riichi_split::{Reading, Readings};
+use riichi_tiles::{Block, Counts, Kind, read_counts};
+use std::process::Abort;
+use std::test::Fail;
+
+fn job(line: &str) -> Result<Job, Fail> {
+    let job = read_line(Rules::One, line.as_bytes())
+        .ok()
+        .ok_or("a line without a fault")?;
+    Ok(job.ok_or("a job")?)
+}
+
+fn counts(text: &str) -> Result<Counts, Fail> {
+    Ok(read_counts(text.as_bytes()).ok().ok_or("a text of tiles")?)
+}
+
+fn tiles(text: &str) -> Result<[u8; 34], Fail> {
+    Ok(counts(text)?.to_array())
+}
+
+// 111m 567p 33s, a concealed kong of 9m and an open triplet of the Green dragon: won by ron, the triplet 111m is open.
+fn open_hand(rt: &impl Abort, reading: &Reading, win: &WinRecord) {
+    let blocks = blocks_of(reading, win);
+    let blocks = blocks.as_slice();
+    let run = HandBlock::Run(Kind::at(13));
+    let pair = HandBlock::Pair(Kind::at(20));
+    let claimed = HandBlock::Triplet {
+        kind: Kind::at(0),
+        concealed: false,
+    };
+    let kong = HandBlock::Kong {
+        kind: Kind::at(8),
+        concealed: true,
+    };
+    let called = HandBlock::Triplet {
+        kind: Kind::at(32),
+        concealed: false,
+    };
+    assert!(rt; blocks == [claimed, run, pair, kong, called].as_slice());
+    assert!(rt; has_run(blocks, 13) && !has_run(blocks, 14) && some_is_run(blocks));
+    assert!(rt; has_triplet(blocks, 0) && has_triplet(blocks, GREEN) && !has_triplet(blocks, 20));
+    assert_eq!(rt; runs_equal_to(blocks, &run), 1);
+    assert_eq!(rt; runs_equal_to(blocks, &kong), 0);
+    assert_eq!(rt; runs_among(blocks), 1);
+    assert_eq!(rt; triplets_among(blocks), 3);
+    assert_eq!(rt; concealed_triplets_among(blocks), 1);
+    assert_eq!(rt; kongs_among(blocks), 1);
+    assert!(rt; is_standard(reading) && !is_seven_pairs(reading) && !is_orphans(reading));
+    assert!(rt; has_plain_pair(blocks, win));
+}
+
+fn pairs_and_tiles(rt: &impl Abort, win: &WinRecord) {
+    assert_eq!(rt; pair_fu(win, Kind::at(20)), 0);
+    assert_eq!(rt; pair_fu(win, Kind::at(31)), 2);
+    assert_eq!(rt; pair_fu(win, Kind::at(27)), 4);
+    let all = all_tiles(win);
+    assert_eq!(rt;
+        (all[0], all[8], all[14], all[20], all[32]),
+        (3, 4, 1, 2, 3)
+    );
+}
+
+#[test]
+fn looks_at_an_open_hand(rt: HostRuntime) -> Result<(), Fail> {
+    let hand = counts("111m567p33s")?;
+    let job = job("win 11m567p33s open=ankan:9999m,pon:666z on=1m by=ron seat=E round=E")?;
+    if let Job::Win(win) = &job {
+        let mut is_read = false;
+        for reading in Readings::new(&hand, &win.melds(), win.winning()) {
+            open_hand(&rt, &reading, win);
+            is_read = true;
+        }
+        assert!(rt; is_read);
+        pairs_and_tiles(&rt, win);
+    }
+    Ok(())
+}
+
+// Whether all blocks have an orphan, all a terminal, some an honour, and whether the wait is two-sided.
+fn kinds_in_blocks(reading: &Reading, win: &WinRecord) -> [bool; 4] {
+    let blocks = blocks_of(reading, win);
+    let blocks = blocks.as_slice();
+    [
+        all_have_orphans(blocks),
+        all_have_terminals(blocks),
+        some_has_honour(blocks),
+        has_two_sided_wait(reading, win.winning()),
+    ]
+}
+
+#[test]
+fn looks_at_the_kinds_in_blocks(rt: HostRuntime) -> Result<(), Fail> {
+    let rows = [
+        (
+            "123m789m12399p789s",
+            "win 123m789m12399p78s on=9s by=ron seat=E round=E",
+            [true, true, false, true],
+        ),
+        (
+            "123m789m12399p789s",
+            "win 123m789m12399p89s on=7s by=ron seat=E round=E",
+            [true, true, false, false],
+        ),
+        (
+            "123m789m123p11z789s",
+            "win 123m789m123p11z78s on=9s by=ron seat=E round=E",
+            [true, false, true, true],
+        ),
+        (
+            "123m789m12344p678s",
+            "win 123m789m12344p78s on=6s by=ron seat=E round=E",
+            [false, false, false, true],
+        ),
+    ];
+    for (hand, line, wanted) in rows {
+        let hand = counts(hand)?;
+        let job = job(line)?;
+        if let Job::Win(win) = &job {
+            let mut is_read = false;
+            for reading in Readings::new(&hand, &win.melds(), win.winning()) {
+                is_read = true;
+                assert!(rt; kinds_in_blocks(&reading, win) == wanted, "{line}");
+            }
+            assert!(rt; is_read, "{line}");
+        }
+    }
+    Ok(())
+}
+
+// Seven pairs and thirteen orphans have no blocks.
+fn special(rt: &impl Abort, reading: &Reading, win: &WinRecord, seven_pairs: bool) {
+    assert!(rt; blocks_of(reading, win).is_empty() && !is_standard(reading));
+    assert_eq!(rt; is_seven_pairs(reading), seven_pairs);
+    assert_eq!(rt; is_orphans(reading), !seven_pairs);
+    assert!(rt; !has_plain_pair(&[], win) && !has_two_sided_wait(reading, win.winning()));
+}
+
+#[test]
+fn looks_at_special_readings(rt: HostRuntime) -> Result<(), Fail> {
+    let rows = [
+        (
+            "1133557799m2211z",
+            "win 1133557799m22z1z on=1z by=ron seat=E round=E",
+            true,
+        ),
+        (
+            "19m19p19s11234567z",
+            "win 19m19p19s1234567z on=1z by=ron seat=E round=E",
+            false,
+        ),
+    ];
+    for (hand, line, seven_pairs) in rows {
+        let hand = counts(hand)?;
+        let job = job(line)?;
+        if let Job::Win(win) = &job {
+            let mut is_read = false;
+            for reading in Readings::new(&hand, &win.melds(), win.winning()) {
+                special(&rt, &reading, win, seven_pairs);
+                is_read = true;
+            }
+            assert!(rt; is_read, "{line}");
+        }
+    }
+    Ok(())
+}
+
+#[test]
+fn looks_at_all_tiles(rt: HostRuntime) -> Result<(), Fail> {
+    assert!(rt; are_simples(&tiles("28m5p28s")?) && !are_simples(&tiles("289m")?));
+    assert!(rt; are_orphans(&tiles("19m17z")?) && !are_orphans(&tiles("19m8p")?));
+    assert!(rt; are_terminals(&tiles("19m19p19s")?) && !are_terminals(&tiles("19m1z")?));
+    assert!(rt; are_honours(&tiles("1234567z")?) && !are_honours(&tiles("9s1z")?));
+    assert!(rt; are_green(&tiles("23468s6z")?) && !are_green(&tiles("5s")?));
+    assert!(rt; are_of_suit(&tiles("19p")?, 1) && !are_of_suit(&tiles("19p1z")?, 1));
+    assert!(rt; are_of_suit_or_honours(&tiles("19p1z")?, 1));
+    assert!(rt; !are_of_suit_or_honours(&tiles("1m19p1z")?, 1));
+    assert!(rt; has_suit(&tiles("9m1s")?, 2) && !has_suit(&tiles("9m1s")?, 1));
+    assert!(rt; has_honours(&tiles("9s1z")?) && !has_honours(&tiles("9s")?));
+    Ok(())
+}
+
+#[test]
+fn knows_kinds_waits_and_winners(rt: HostRuntime) -> Result<(), Fail> {
+    assert!(rt; is_wind(EAST) && is_wind(30) && !is_wind(26) && !is_wind(WHITE));
+    assert!(rt; is_dragon(WHITE) && is_dragon(RED) && !is_dragon(30));
+    assert!(rt; is_terminal(8) && is_terminal(18) && !is_terminal(7) && !is_terminal(EAST));
+    assert!(rt; is_orphan(8) && is_orphan(33) && !is_orphan(7));
+    assert!(rt; is_of_suit(1, 9) && is_of_suit(1, 17) && !is_of_suit(1, 18));
+    assert_eq!(rt; KINDS, 34);
+    let run = Block::Run(Kind::at(6));
+    assert_eq!(rt; wait_fu(Kind::at(6), &run), 2);
+    assert_eq!(rt; wait_fu(Kind::at(7), &run), 2);
+    assert_eq!(rt; wait_fu(Kind::at(8), &run), 0);
+    assert_eq!(rt; wait_fu(Kind::at(6), &Block::Pair(Kind::at(6))), 2);
+    assert_eq!(rt; wait_fu(Kind::at(6), &Block::Triplet(Kind::at(6))), 0);
+    assert!(rt; is_ron(By::Ron) && !is_ron(By::Tsumo));
+    assert!(rt; is_dealer(Wind::East) && !is_dealer(Wind::North));
+    Ok(())
+}

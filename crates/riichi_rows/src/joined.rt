@@ -1,0 +1,55 @@
+//! Rows that are kept joined while another row changes.
+ghost use Rattle.std.specs.Prelude.{ℕ, ◌≤◌};
+ghost use Rattle.riichi_rows.specs.Join.{IsLeastJoin, IsLeastSum};
+ghost use Rattle.riichi_rows.specs.Lanes.{lane};
+ghost use Rattle.riichi_rows.specs.Row.{entries_of, AreJoinedThree};
+ghost use Rattle.riichi_rows.specs.declared.row.SuitRow.{SuitRow};
+
+use crate::join::join_lanes;
+use crate::lanes::{Lanes, NONE};
+use crate::row::SuitRow;
+
+/// The least sums of the rows of some suits, by sets and pairs.
+#[derive(Clone, Copy)]
+pub struct JoinedRows {
+    pub(crate) sums: Lanes,
+}
+
+/// The rows of two suits.
+pub fn join_two(left: &SuitRow, right: &SuitRow) -> JoinedRows
+    ensures { IsLeastSum (lane left.now.entries.lacks) (lane right.now.entries.lacks) (lane result.sums.lacks) }
+{
+    JoinedRows {
+        sums: join_lanes(left.entries, right.entries),
+    }
+}
+
+impl JoinedRows {
+    /// These and the row of one suit more.
+    pub fn and(&self, row: &SuitRow) -> JoinedRows
+        ensures { IsLeastSum (lane row.now.entries.lacks) (lane self.now.sums.lacks) (lane result.sums.lacks) }
+    {
+        JoinedRows {
+            sums: join_lanes(row.entries, self.sums),
+        }
+    }
+
+    /// Where these are the rows of three suits: the least sum of four entries, one of them of
+    /// `row`, whose sets add up to the number asked, with one pair in all.
+    pub fn with(&self, row: &SuitRow, sets: u8) -> Option<u8>
+        requires { sets ≤ 4 }
+        ensures { (b c d : SuitRow) → AreJoinedThree b c d self.now → IsLeastJoin (entries_of row.now) (entries_of b) (entries_of c) (entries_of d) sets result }
+    {
+        let lacks = row.entries.lacks.to_array();
+        let sums = self.sums.lacks.to_array();
+        let mut least = NONE;
+        for taken in 0..sets + 1 {
+            let here = taken as usize;
+            let there = (sets - taken) as usize;
+            let plain = lacks[here].saturating_add(sums[8 + there]);
+            let paired = lacks[8 + here].saturating_add(sums[there]);
+            least = least.min(plain).min(paired);
+        }
+        if least < NONE { Some(least) } else { None }
+    }
+}

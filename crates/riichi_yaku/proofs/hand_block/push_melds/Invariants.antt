@@ -1,6 +1,0 @@
-use Rattle.std.proofs.Common.{◌≡◌, ◌++◌, ◌+◌, ◌≤◌, map, take, length}
-use Rattle.riichi_yaku.specs.HandBlocks.{of_meld}
-use Rattle.riichi_yaku.proofs.hand_block.push_melds.Given as goal
-
-abbrev pub invariant-loop-place : goal.invariant-loop-place
-invariant-loop-place l = (l.blocks.items ≡ l.fn.blocks.items ++ map of_meld (take l.place l.melds)) × (length l.blocks.items ≤ 5 + l.place)
