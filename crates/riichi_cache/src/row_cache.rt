@@ -1,9 +1,8 @@
 //! The rows that were asked for last.
-ghost use Rattle.std.specs.Prelude.{ℕ, ◌≡◌, ◌<◌, ◌≤◌, Contains, IfOk, IfSome, slice_index};
+ghost use Rattle.std.specs.Prelude.{ℕ, ◌≡◌, ◌<◌, ◌≤◌, IfOk, slice_index};
 ghost use Rattle.riichi_rows.specs.Row.{entries_of};
 ghost use Rattle.riichi_rows.specs.Suit.{IsSuitRow};
-ghost use Rattle.riichi_rows.specs.declared.row.SuitRow.{SuitRow};
-ghost use Rattle.riichi_cache.specs.declared.row_key.RowKey.{RowKey};
+ghost use Rattle.riichi_cache.specs.Kept.{AreRows};
 
 use crate::memory::Memory;
 use crate::row_key::RowKey;
@@ -46,32 +45,25 @@ impl RowCache {
             Err(_) => Err(Memory),
         }
     }
-
-    /// Keeps the row of a key, in place of the one that was asked for least recently where all
-    /// places are taken; without memory it keeps none.
-    fn keep(&mut self, key: RowKey, row: SuitRow)
-        requires { IsSuitRow key.runs key.counts key.caps (entries_of row) }
-        ensures { self.new ≡ self.old }
-    {
-        let _ = self.rows.put(key, row);
-    }
-
-    /// The row of a key, where it is kept.
-    fn kept(&mut self, key: &RowKey) -> Option<SuitRow>
-        ensures row { IfSome result (λ row. IsSuitRow key.now.runs key.now.counts key.now.caps (entries_of row)) }
-        ensures capacity { self.new ≡ self.old }
-    {
-        find(&mut self.rows, key)
-    }
 }
 
-/// The row under a key, which becomes the one that was asked for last.
-fn find(rows: &mut LruCache<RowKey, SuitRow>, key: &RowKey) -> Option<SuitRow>
-    ensures found { IfSome result (λ row. Contains rows.old.entries (key.now, row)) }
-    ensures none_new { (entry : RowKey × SuitRow) → Contains rows.new.entries entry → Contains rows.old.entries entry }
+/// The row of a key, which is kept and becomes the one that was asked for last; where it is made and
+/// all places are taken, the one that was asked for least recently goes. Without memory it is not kept.
+fn kept_row(rows: &mut LruCache<RowKey, SuitRow>, key: RowKey) -> SuitRow
+    requires caps { (r : ℕ) → r < 9 → slice_index key.caps r ≤ 4 }
+    requires rows { AreRows rows.old.entries }
+    ensures row { IsSuitRow key.runs key.counts key.caps (entries_of result) }
+    ensures rows { AreRows rows.new.entries }
     ensures capacity { rows.new.cap ≡ rows.old.cap }
 {
-    rows.get(key).copied()
+    let make = || -> SuitRow
+        requires { (r : ℕ) → r < 9 → slice_index key.caps r ≤ 4 }
+        ensures { IsSuitRow key.runs key.counts key.caps (entries_of result) }
+    { suit_row(key.counts, key.caps, key.runs) };
+    match rows.get_or_insert(key, make) {
+        Ok(row) => *row,
+        Err(_) => suit_row(key.counts, key.caps, key.runs),
+    }
 }
 
 impl RowSource for RowCache {
@@ -81,11 +73,6 @@ impl RowSource for RowCache {
             caps: *caps,
             runs,
         };
-        if let Some(row) = self.kept(&key) {
-            return row;
-        }
-        let row = suit_row(*counts, *caps, runs);
-        self.keep(key, row);
-        row
+        kept_row(&mut self.rows, key)
     }
 }
