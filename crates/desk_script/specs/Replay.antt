@@ -1,5 +1,5 @@
 -- What a script is answered.
-use Rattle.std.specs.Prelude.{◌≡◌, ℕ, List, [], ◌∷◌, length}
+use Rattle.std.specs.Prelude.{◌≡◌, ℕ, List, [], ◌∷◌, ◌++◌, length, Option}
 use Rattle.std.specs.List.{zip, filter_map}
 use Rattle.desk_core.specs.History.{IsLegal}
 use Rattle.desk_core.specs.LaneState.{LaneState}
@@ -43,3 +43,9 @@ pub record Tells (script : ScriptState) (lines : List (List ℕ)) (told : List T
   pub desk : DeskStandsFor script.lanes (zip (events_of (asked_on lines)) replies)
   pub tables : length script.lanes ≡ 64
   pub told_are : told ≡ told_with (asked_on lines) replies
+
+-- The next line of a script was told something with this text, whatever the lines before.
+pub record AnswersLine (old new : ScriptState) (line : List ℕ) (text : Option (List ℕ)) : Type 0 where
+  pub told : Told
+  pub text_is : text ≡ told_text told
+  pub tells : (lines : List (List ℕ)) (before : List Told) → Tells old lines before → Tells new (lines ++ line ∷ []) (before ++ told ∷ [])

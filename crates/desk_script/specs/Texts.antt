@@ -1,5 +1,6 @@
 -- What a line of a script is told, as text.
 use Rattle.std.specs.Prelude.{ℕ, List, ◌++◌, Bool, true, false, Option, None, Some, codes, decimal}
+use Rattle.arrayvec.specs.ArrayString.{ArrayString}
 use Rattle.riichi_hand.specs.FaultTexts.{fault_text}
 use Rattle.desk_core.specs.AnswerText.{answer_text}
 use Rattle.desk_core.specs.declared.refusal.SubmitFault.{SubmitFault}
@@ -55,3 +56,8 @@ told_text tell.Nothing = None
 told_text (tell.Refused refusal) = Some (refusal_text refusal)
 told_text (tell.Table number) = Some (codes "table " ++ decimal number)
 told_text (tell.Replied reply) = Some (reply_text reply)
+
+-- the bytes of a text, where there is one
+abbrev pub bytes_of : Option ArrayString → Option (List ℕ)
+bytes_of None = None
+bytes_of (Some text) = Some text.bytes

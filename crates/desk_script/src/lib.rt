@@ -2,7 +2,7 @@
 //!
 //! A [`Script`] reads one line at a time. A line is no command, or it is told at once why it is refused or
 //! which number a new table has, or it asks the desk for something: to take a job, a piece or a closing, or
-//! to give the next answer. What it is told is a [`Told`], and `told_text` is its line.
+//! to give the next answer. What it is told is a [`Told`], and `told_text` is the line that tells it.
 //!
 //! Inside, `read_command` reads the words of a line, `Names` numbers the tables in the order in which they
 //! were opened, and `ask` joins the two: what a line asks, after the names that are open. The desk itself is
@@ -10,9 +10,9 @@
 //!
 //! ```text
 //! let mut script = Script::new(alloc)?;
-//! script.answer(b"open east")?;                           // Told::Table(0)
-//! script.answer(b"submit east waits 1112345678999m")?;    // Told::Replied(Reply::Ticket(..))
-//! script.answer(b"fly")?;                                 // Told::Refused(Refusal::NoCommand)
+//! script.answer(b"open east")?;                           // `table 0`
+//! script.answer(b"submit east waits 1112345678999m")?;    // `ticket 0`
+//! script.answer(b"fly")?;                                 // `refused P1`
 //! ```
 #![tactic(auto)]
 
@@ -31,7 +31,7 @@ mod words;
 
 pub use refusal::Refusal;
 pub use script::Script;
-pub use text::told_text;
+pub use text::{LONGEST, told_text};
 pub use told::Told;
 
 #[cfg(test)]

@@ -1,13 +1,15 @@
 //! A script, line by line.
-ghost use Rattle.std.specs.Prelude.{◌≡◌, ℕ, List, [], ◌∷◌, ◌++◌, IfOk, OnErr};
-ghost use Rattle.desk_script.specs.declared.told.Told.{Told};
+ghost use Rattle.std.specs.Prelude.{◌≡◌, [], IfOk, OnErr};
 ghost use Rattle.desk_script.specs.Asked.{asked_by, opens};
-ghost use Rattle.desk_script.specs.Replay.{Tells};
+ghost use Rattle.desk_script.specs.Replay.{Tells, AnswersLine};
+ghost use Rattle.desk_script.specs.Texts.{bytes_of};
 
 use crate::asked::Asked;
 use crate::asking::ask;
 use crate::names::Names;
+use crate::text::{LONGEST, told_text};
 use crate::told::Told;
+use arrayvec::ArrayString;
 use desk_core::DeskCore;
 use std::alloc::{AllocError, Global};
 use std::marker::Model;
@@ -44,16 +46,19 @@ impl Script {
         }
     }
 
-    /// What the next line is told. A submission that finds no memory is told so; only where a new table's name
-    /// finds none there is no answer, and the script is as before.
-    pub fn answer(&mut self, line: &[u8]) -> Result<Told, AllocError>
-        ensures told { IfOk result (λ told. (lines : List (List ℕ)) (before : List Told) → Tells self.old lines before
-            → Tells self.new (lines ++ line.now ∷ []) (before ++ told ∷ [])) }
+    /// The line that the next line is answered with, without the line's end; none where it is told nothing. A
+    /// submission that finds no memory is told so; only where a new table's name finds none there is no answer, and
+    /// the script is as before.
+    pub fn answer(&mut self, line: &[u8]) -> Result<Option<ArrayString<LONGEST>>, AllocError>
+        ensures told { IfOk result (λ text. AnswersLine self.old self.new line.now (bytes_of text)) }
         ensures err { OnErr result ((self.new ≡ self.old) × (asked_by self.old.names line.now ≡ opens self.old.names)) }
     {
         match ask(&mut self.names, line)? {
-            Asked::Told(told) => Ok(told),
-            Asked::Event(event) => Ok(Told::Replied(self.core.step(event))),
+            Asked::Told(told) => Ok(told_text(&told)),
+            Asked::Event(event) => {
+                let told = Told::Replied(self.core.step(event));
+                Ok(told_text(&told))
+            }
         }
     }
 }

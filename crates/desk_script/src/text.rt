@@ -1,5 +1,5 @@
 //! What a line of a script is told, as text.
-ghost use Rattle.std.specs.Prelude.{◌≡◌, ◌++◌, ◌+◌, ◌≤◌, decimal, MatchOption, Some, None};
+ghost use Rattle.std.specs.Prelude.{◌≡◌, ◌++◌, ◌+◌, ◌≤◌, decimal};
 ghost use Rattle.arrayvec.specs.ArrayString.{array_string_len};
 ghost use Rattle.desk_script.specs.Texts as spec;
 
@@ -11,12 +11,12 @@ use itoa::Buffer;
 use riichi_hand::fault_text;
 
 /// The longest text: an answer of 3,072 bytes behind a word and a ticket's number.
-const LONGEST: usize = 3_096;
+pub const LONGEST: usize = 3_096;
 
 /// The line that a line of a script is told, without the line's end; none where it is told nothing.
 #[tactic(auto, unfolding(crate::specs::Texts::told_text))]
 pub fn told_text(told: &Told) -> Option<ArrayString<LONGEST>>
-    ensures { MatchOption result (spec.told_text told.now ≡ None) (λ text. spec.told_text told.now ≡ Some text.bytes) }
+    ensures { spec.bytes_of result ≡ spec.told_text told.now }
 {
     let mut text = ArrayString::new();
     match told {
