@@ -2,13 +2,13 @@
 //!
 //! [`desk_text`] answers the record lines that a `desk_streams::Source` gives, one line for each, and
 //! writes the answers into a `desk_streams::Sink`. It tells in a [`DeskReport`] how many were answered and
-//! how many refused, or in a [`DeskFault`] why it gave up. `waits_answer` answers one hand, as the command
-//! `waits` prints it.
+//! how many refused, or in a [`DeskFault`] why it gave up. [`replay_text`] does so with the commands of a
+//! script, over a desk of 64 tables. `waits_answer` answers one hand, as the command `waits` prints it.
 //!
 //! Inside, `tell_lines` reads a stream to its end. `Desk` cuts the bytes into lines and keeps the front of
 //! one that has not ended in a `LineBuffer`; a `Teller` answers line by line; `Told` counts the answers, and
 //! its `Outbox` keeps them until they are written in one piece. `Records` is the teller of record lines,
-//! under the profile that the first line may set.
+//! under the profile that the first line may set; a `desk_script::Script` is that of a script.
 //!
 //! ```text
 //! let mut reader = FromReader::new(rt.reader());
@@ -26,13 +26,16 @@ mod outbox;
 mod profile;
 mod reading;
 mod records;
+mod replay;
 mod report;
+mod scripts;
 mod teller;
 mod text;
 mod told;
 mod waits;
 
 pub use fault::DeskFault;
+pub use replay::replay_text;
 pub use report::DeskReport;
 pub use text::desk_text;
 pub use waits::{WaitsLine, waits_answer};
