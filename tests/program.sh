@@ -26,6 +26,15 @@ row() {
 }status $status ${errors:+said }${errors:-silent}" "$got $said"
 }
 
+# replays INPUT WANTED: the command `replay` answers the file INPUT as the file WANTED says
+replays() {
+  local status=0 got
+  grep -q '^refused' "$2" && status=1
+  "$program" replay "$1" < /dev/null > "$room/answers" 2> "$room/said"
+  got=$?
+  told "replay $1" "status $status: $(sha256sum < "$2")" "status $got: $(sha256sum < "$room/answers")"
+}
+
 # answers INPUT WANTED: the command `line` answers the file INPUT as the file WANTED says
 answers() {
   local status=0 got
@@ -92,3 +101,19 @@ yes 'waits 1112345678999m' | head -n 100000 > "$room/many"
 { "$program" line < "$room/many" 2> "$room/said"; echo "status $?" >> "$room/said"; } | head -n 1 > /dev/null
 told 'the reader of the answers goes away' $'riichi_desk: fault F2\nstatus 3' "$(cat "$room/said")"
 told 'a full disk' $'riichi_desk: fault F2\nstatus 3' "$("$program" line < "$room/many" 2>&1 > /dev/full; echo "status $?")"
+
+# a script: two tables, each answer and each refusal; a table too many; no file; a full disk
+replays examples/replay.lines examples/replay.answers
+printf 'open east\nsubmit east waits 1112345678999m\n' > "$room/script"
+row 0 $'table 0\nticket 0' '' replay "$room/script"
+for number in $(seq 0 63); do echo "open t$number"; done > "$room/script"
+echo 'open t64' >> "$room/script"
+{ for number in $(seq 0 63); do echo "table $number"; done; echo 'refused P4'; } > "$room/wanted"
+replays "$room/script" "$room/wanted"
+: > "$room/script"
+row 0 '' '' replay "$room/script"
+row 3 '' "riichi_desk: cannot open $room/none" replay "$room/none"
+row 3 '' 'riichi_desk: fault F1' replay "$room"
+row 2 '' '<FILE>' replay
+row 2 '' "unexpected argument 'B' found" replay A B
+told 'a script and a full disk' $'riichi_desk: fault F2\nstatus 3' "$("$program" replay examples/replay.lines 2>&1 > /dev/full; echo "status $?")"

@@ -2,14 +2,14 @@
 //!
 //! [`desk_text`] answers the record lines that a `desk_streams::Source` gives, one line for each, and
 //! writes the answers into a `desk_streams::Sink`. It tells in a [`DeskReport`] how many were answered and
-//! how many refused, or in a [`DeskFault`] why it gave up. `waits_answer` answers one hand, as the command
-//! `waits` prints it. `is_ready` tells whether a hand is ready, and [`laws`] that its shanten and its waits
-//! agree on that.
+//! how many refused, or in a [`DeskFault`] why it gave up. [`replay_text`] does so with the commands of a
+//! script, over a desk of 64 tables. `waits_answer` answers one hand, as the command `waits` prints it.
+//! `is_ready` tells whether a hand is ready, and [`laws`] that its shanten and its waits agree on that.
 //!
 //! Inside, `tell_lines` reads a stream to its end. `Desk` cuts the bytes into lines and keeps the front of
 //! one that has not ended in a `LineBuffer`; a `Teller` answers line by line; `Told` counts the answers, and
 //! its `Outbox` keeps them until they are written in one piece. `Records` is the teller of record lines,
-//! under the profile that the first line may set.
+//! under the profile that the first line may set; a `desk_script::Script` is that of a script.
 //!
 //! ```text
 //! let mut reader = FromReader::new(rt.reader());
@@ -29,7 +29,9 @@ mod profile;
 mod reading;
 mod ready;
 mod records;
+mod replay;
 mod report;
+mod scripts;
 mod teller;
 mod text;
 mod told;
@@ -37,6 +39,7 @@ mod waits;
 
 pub use fault::DeskFault;
 pub use ready::is_ready;
+pub use replay::replay_text;
 pub use report::DeskReport;
 pub use text::desk_text;
 pub use waits::{WaitsLine, waits_answer};

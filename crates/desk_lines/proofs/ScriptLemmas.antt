@@ -1,0 +1,46 @@
+-- What a script has answered once one more line was read.
+use Rattle.std.proofs.Common.{◌≡◌, ℕ, ◌<◌, inl, inr, List, [], ◌∷◌, ◌++◌, length, Option, refl, sym, subst, ap, ◌∙◌}
+use Rattle.std.specs.List.{zip, filter_map}
+use Rattle.std.proofs.lemmas.List.Elements.{filter_map-append}
+use Rattle.desk_core.specs.History.{IsLegal}
+use Rattle.desk_script.specs.declared.told.Told.{Told}
+use Rattle.desk_script.specs.Asked.{asked_on, events_of}
+use Rattle.desk_script.specs.Texts.{told_text}
+use Rattle.desk_script.specs.Replay.{ScriptState, Tells, Replays, told_with, AnswersLine as AnswersScript}
+use Rattle.desk_script.proofs.Scripts.{Tells-alike}
+use Rattle.desk_lines.specs.Telling.{answers_in, IsToldAs}
+use Rattle.desk_lines.specs.Scripts.{TellsScript, ReplaysFirst}
+
+-- a line may be told as this one
+Tells-as : (script : ScriptState) (lines : List (List ℕ)) (told : List Told) (line next : List ℕ) → IsToldAs 8192 line next → Tells script (lines ++ line ∷ []) told → Tells script (lines ++ next ∷ []) told
+Tells-as script lines told line next (inl same) tells = subst (λ (l : List ℕ). Tells script (lines ++ l ∷ []) told) same tells
+Tells-as script lines told line next (inr long) tells = Tells-alike script lines told line next long.0 long.1 tells
+
+-- one more line was answered
+pub TellsScript-line : (old new : ScriptState) (lines answers : List (List ℕ)) (line next : List ℕ) (text : Option (List ℕ)) → IsToldAs 8192 line next
+    → AnswersScript old new line text → TellsScript old lines answers → TellsScript new (lines ++ next ∷ []) (answers ++ answers_in text)
+TellsScript-line old new lines answers line next text as_this answered tells =
+    let told = answered.told in (
+      tells.0 ++ told ∷ [],
+      Tells-as new lines (tells.0 ++ told ∷ []) line next as_this (answered.tells lines tells.0 tells.1),
+      ap (λ front. front ++ answers_in text) tells.2 ∙ ap (λ t. filter_map told_text tells.0 ++ answers_in t) answered.text_is ∙ sym (filter_map-append told_text tells.0 (told ∷ [])),
+    )
+
+-- what a script has answered are answers to its lines
+pub replays : (script : ScriptState) (lines answers : List (List ℕ)) → TellsScript script lines answers → Replays lines answers
+replays script lines answers tells = record {
+  replies = tells.1.replies;
+  replied = record {
+    count = tells.1.count;
+    legal = subst (λ (tables : ℕ). IsLegal tables (zip (events_of (asked_on lines)) tells.1.replies)) tells.1.tables tells.1.desk.legal;
+  };
+  answers_are = tells.2 ∙ ap (filter_map told_text) tells.1.told_are;
+}
+
+-- the first of some lines were answered
+pub replays_first : (script : ScriptState) (lines first others answers : List (List ℕ)) → lines ≡ first ++ others → TellsScript script first answers → ReplaysFirst lines answers
+replays_first script lines first others answers parts tells = record { first = first; others = others; parts = parts; replays = replays script first answers tells }
+
+-- before the first line
+pub replays_none : ReplaysFirst [] []
+replays_none = record { first = []; others = []; parts = refl; replays = record { replies = []; replied = record { count = refl; legal = tt }; answers_are = refl } }

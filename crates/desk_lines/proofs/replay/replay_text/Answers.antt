@@ -1,0 +1,59 @@
+use Rattle.std.proofs.Common.{◌≡◌, ◌∙◌, [], List, ℕ, ap, refl, sym, inl, arith, Err}
+use Rattle.std.proofs.KnownBytes.{Consumes-nil}
+use Rattle.std.proofs.lemmas.List.{append-nil}
+use Rattle.std.proofs.lemmas.Result.{err_from_is_err_and}
+use Rattle.desk_script.proofs.Only.{only_replay}
+use Rattle.desk_lines.specs.declared.fault.DeskFault.TheVariants.{Read, Write, Memory}
+use Rattle.desk_lines.specs.Lines.{lines, ended_lines}
+use Rattle.desk_lines.proofs.StreamLemmas.{WritesAll-nil}
+use Rattle.desk_lines.proofs.ToldLemmas.{Stands-written}
+use Rattle.desk_lines.proofs.ScriptLemmas.{replays, replays_first, replays_none}
+use Rattle.desk_lines.proofs.replay.replay_text.Goals as goal
+
+pub new-desk-requires : goal.new-desk-requires
+new-desk-requires g c = (omega arith, ([], c.in-Ok.ensures, refl))
+
+pub returns-in-Err-clause-no_memory : goal.returns-in-Err-clause-no_memory
+returns-in-Err-clause-no_memory g c is = (
+  [],
+  [],
+  [],
+  record { appended = sym (append-nil (g.R.Source.given c.args.reader.now)); taken = Consumes-nil (g.R.Source.left c.args.reader.now) },
+  inl refl,
+  replays_none,
+  WritesAll-nil g.W.Sink c.args.writer.now,
+)
+
+pub returns-clause-ok : goal.returns-clause-ok
+returns-clause-ok g c =
+    let ok = c.in_ok-told.ensures.ok in
+    let text = ok.0 in
+    let stands = ok.2 in
+    let replayed = replays _ (lines text) stands.answers stands.tells in
+    (text, stands.answers, ok.1, replayed, only_replay (lines text) stands.answers replayed, Stands-written g.W.Sink _ c.args.writer.now (lines text) c.in_ok-told.told c.tell_lines.new.writer stands c.in_ok-told.ensures.empty, c.report.ensures ∙ stands.report)
+
+pub returns-in_err-told-clause-read_failed : goal.returns-in_err-told-clause-read_failed
+returns-in_err-told-clause-read_failed g c is =
+    let p = err_from_is_err_and c.from_residual.result c.from_residual.ensures.1 in
+    let same : c.in_err-told.field-0.0 ≡ Read = (let given = p.1 in let fault = p.2 in cc) in
+    let failed = c.tell_lines.ensures.read_failed (c.in_err-told.was ∙ ap Err same) in
+    let text = failed.1.0 in
+    let told = failed.1.1 in
+    let stands = failed.1.3 in
+    (failed.0, (text, stands.answers, failed.1.2, replays _ (ended_lines text) stands.answers stands.tells, Stands-written g.W.Sink _ c.args.writer.now (ended_lines text) told c.tell_lines.new.writer stands failed.1.4))
+
+pub returns-in_err-told-clause-write_failed : goal.returns-in_err-told-clause-write_failed
+returns-in_err-told-clause-write_failed g c is =
+    let p = err_from_is_err_and c.from_residual.result c.from_residual.ensures.1 in
+    let same : c.in_err-told.field-0.0 ≡ Write = (let given = p.1 in let fault = p.2 in cc) in
+    let failed = c.tell_lines.ensures.write_failed (c.in_err-told.was ∙ ap Err same) in
+    let stops = failed.4 in
+    (failed.0, failed.1, stops.answers, failed.2, failed.3, replays_first stops.last failed.1 stops.first stops.others stops.answers stops.parts stops.tells, stops.stops)
+
+pub returns-in_err-told-clause-no_memory : goal.returns-in_err-told-clause-no_memory
+returns-in_err-told-clause-no_memory g c is =
+    let p = err_from_is_err_and c.from_residual.result c.from_residual.ensures.1 in
+    let same : c.in_err-told.field-0.0 ≡ Memory = (let given = p.1 in let fault = p.2 in cc) in
+    let failed = c.tell_lines.ensures.no_memory (c.in_err-told.was ∙ ap Err same) in
+    let stops = failed.4 in
+    (failed.0, failed.1, stops.answers, failed.2, failed.3, replays_first stops.last failed.1 stops.first stops.others stops.answers stops.parts stops.tells, stops.stops)

@@ -1,0 +1,69 @@
+//! The answers to a script, over streams.
+ghost use Rattle.std.specs.Prelude.{◌≡◌, ℕ, List, IfOk, IsErrOf};
+ghost use Rattle.desk_script.specs.Replay.{Replays};
+ghost use Rattle.desk_script.specs.OnlyReplay.{IsOnlyReplay};
+ghost use Rattle.desk_lines.specs.Lines.{ended_lines, lines};
+ghost use Rattle.desk_lines.specs.Telling.{text_of, report_of};
+ghost use Rattle.desk_lines.specs.Scripts.{ReplaysFirst};
+ghost use Rattle.desk_lines.specs.Streams.{Gives, GivesAll, WritesAll, StopsWriting, AreWhole, FailsOrGoesOn};
+
+use super::desk::Desk;
+use super::fault::DeskFault;
+use super::reading::{MOST_READS, tell_lines};
+use super::report::DeskReport;
+use desk_script::Script;
+use desk_streams::{Sink, Source};
+use std::alloc::Global;
+
+/// A line of 8,192 bytes and its carriage return fit. One byte more shows a longer line.
+const SCRIPT_ROOM: usize = 8_194;
+
+/// Answers the commands of a script that a reader gives, one line for each, over a desk of 64 tables. Records are
+/// read under the first profile. A submission that finds no memory is told so in its line; where a new table's name
+/// or the desk itself finds none, that ends the script.
+pub fn replay_text<R: Source, W: Sink>(
+    alloc: Global,
+    reader: &mut R,
+    writer: &mut W,
+) -> Result<DeskReport, DeskFault>
+    // The reader was read to its end, and answers to its lines were written. They are the only ones where none of
+    // them tells of a want of memory.
+    ensures ok { IfOk result (λ report. (text : List ℕ) × (answers : List (List ℕ))
+        × GivesAll ⟦<R as Source>⟧ reader.old reader.new text
+        × Replays (lines text) answers
+        × IsOnlyReplay (lines text) answers
+        × WritesAll ⟦<W as Sink>⟧ writer.old writer.new (text_of answers)
+        × (report ≡ report_of answers)) }
+
+    // A read failed, or there were too many: answers to the lines that had ended were written.
+    ensures read_failed { IsErrOf result DeskFault.Read → FailsOrGoesOn ⟦<R as Source>⟧ MOST_READS reader.old reader.new
+        × ((text : List ℕ) × (answers : List (List ℕ))
+        × Gives ⟦<R as Source>⟧ reader.old reader.new text
+        × Replays (ended_lines text) answers
+        × WritesAll ⟦<W as Sink>⟧ writer.old writer.new (text_of answers)) }
+
+    // A write failed: a front of answers to the first of the whole lines that the reader gave was written.
+    ensures write_failed { IsErrOf result DeskFault.Write → (text : List ℕ) × (whole answers : List (List ℕ))
+        × Gives ⟦<R as Source>⟧ reader.old reader.new text
+        × AreWhole (R.is_ended reader.new) text whole
+        × ReplaysFirst whole answers
+        × StopsWriting ⟦<W as Sink>⟧ writer.old writer.new (text_of answers) }
+
+    // Memory ran out: answers to the first of the whole lines that the reader gave were written.
+    ensures no_memory { IsErrOf result DeskFault.Memory → (text : List ℕ) × (whole answers : List (List ℕ))
+        × Gives ⟦<R as Source>⟧ reader.old reader.new text
+        × AreWhole (R.is_ended reader.new) text whole
+        × ReplaysFirst whole answers
+        × WritesAll ⟦<W as Sink>⟧ writer.old writer.new (text_of answers) }
+{
+    let script = match Script::new(alloc) {
+        Ok(script) => script,
+        Err(_) => return Err(DeskFault::Memory),
+    };
+    let desk: Desk<Script, SCRIPT_ROOM> = Desk::new(script);
+    let told = tell_lines(desk, reader, writer)?;
+    Ok(told.report())
+}
+
+#[cfg(test)]
+mod tests;

@@ -1,0 +1,43 @@
+//! Answers the lines of a script one by one.
+ghost use Rattle.std.specs.Prelude.{◌≡◌, ◌≤◌, ◌++◌, Some, length};
+ghost use Rattle.desk_lines.specs.Outbox.{HasRoom};
+ghost use Rattle.desk_lines.specs.Telling.{with_line_feed, kind_of};
+
+use super::line_kind::LineKind;
+use super::outbox::Outbox;
+use super::teller::Teller;
+use desk_script::Script;
+use std::alloc::AllocError;
+
+impl Teller for Script {
+    ghost use Rattle.desk_script.specs.Asked.{asked_by, opens};
+    ghost use Rattle.desk_lines.specs.Scripts.{TellsScript};
+
+    ghost most = { 8192 };
+
+    ghost tells = { TellsScript };
+
+    ghost wants_memory = { λ script line. asked_by script.names line ≡ opens script.names };
+
+    fn tell(&mut self, line: &[u8], outbox: &mut Outbox) -> Result<LineKind, AllocError> {
+        match self.answer(line)? {
+            None => Ok(LineKind::NoRecord),
+            Some(text) => Ok(put_text(text.as_str().as_bytes(), outbox)),
+        }
+    }
+}
+
+/// Puts an answer into the outbox.
+fn put_text(text: &[u8], outbox: &mut Outbox) -> LineKind
+    requires room { HasRoom outbox.old }
+    requires short { length text.now ≤ 3096 }
+    ensures kind { result ≡ kind_of (Some text.now) }
+    ensures told { outbox.new.bytes.items ≡ outbox.old.bytes.items ++ with_line_feed (Some text.now) }
+{
+    outbox.put_line(text);
+    if text.starts_with(b"refused") {
+        LineKind::Refused
+    } else {
+        LineKind::Answered
+    }
+}

@@ -1,0 +1,6 @@
+pub mod Lists
+pub mod Scripts
+pub mod Only
+pub mod NameLemmas
+pub mod SeqLemmas
+pub mod WordLemmas

@@ -1,0 +1,10 @@
+/// What a command is about.
+#[derive(Clone, Copy)]
+pub(crate) enum Action {
+    Open,
+    Submit,
+    /// A piece for the ticket of this number.
+    Arrive { seq: u32 },
+    Close,
+    Take,
+}

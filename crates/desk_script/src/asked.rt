@@ -1,0 +1,11 @@
+use crate::told::Told;
+use desk_core::Event;
+
+/// What a line asks.
+#[derive(Drop)]
+pub(crate) enum Asked {
+    /// Nothing of the desk: it is told this.
+    Told(Told),
+    /// This of the desk.
+    Event(Event),
+}

@@ -1,0 +1,38 @@
+//! The script of a desk: commands of tables in, what each is told out.
+//!
+//! A [`Script`] reads one line at a time. A line is no command, or it is told at once why it is refused or
+//! which number a new table has, or it asks the desk for something: to take a job, a piece or a closing, or
+//! to give the next answer. What it is told is a [`Told`], and `told_text` is the line that tells it.
+//!
+//! Inside, `read_command` reads the words of a line, `Names` numbers the tables in the order in which they
+//! were opened, and `ask` joins the two: what a line asks, after the names that are open. The desk itself is
+//! a `desk_core::DeskCore` of 64 tables.
+//!
+//! ```text
+//! let mut script = Script::new(alloc)?;
+//! script.answer(b"open east")?;                           // `table 0`
+//! script.answer(b"submit east waits 1112345678999m")?;    // `ticket 0`
+//! script.answer(b"fly")?;                                 // `refused P1`
+//! ```
+#![tactic(auto)]
+
+mod action;
+mod asked;
+mod asking;
+mod command;
+pub mod laws;
+mod names;
+mod refusal;
+mod script;
+mod seq;
+mod text;
+mod told;
+mod words;
+
+pub use refusal::Refusal;
+pub use script::Script;
+pub use text::{LONGEST, told_text};
+pub use told::Told;
+
+#[cfg(test)]
+mod tests;

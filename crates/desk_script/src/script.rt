@@ -1,0 +1,64 @@
+//! A script, line by line.
+ghost use Rattle.std.specs.Prelude.{◌≡◌, [], IfOk, OnErr};
+ghost use Rattle.desk_script.specs.Asked.{asked_by, opens};
+ghost use Rattle.desk_script.specs.Replay.{Tells, AnswersLine};
+ghost use Rattle.desk_script.specs.Texts.{bytes_of};
+
+use crate::asked::Asked;
+use crate::asking::ask;
+use crate::names::Names;
+use crate::text::{LONGEST, told_text};
+use crate::told::Told;
+use arrayvec::ArrayString;
+use desk_core::DeskCore;
+use std::alloc::{AllocError, Global};
+use std::marker::Model;
+
+/// How many tables a script's desk has.
+const TABLES: u32 = 64;
+
+/// A script: the names of the open tables, and the desk that they are at.
+#[derive(Drop)]
+pub struct Script {
+    names: Names,
+    core: DeskCore,
+}
+
+impl Model for Script {
+    ghost use Rattle.desk_script.specs.Replay.{ScriptState};
+
+    ghost Value = { ScriptState };
+
+    ghost view = { λ s. record { names = s.names; lanes = s.core } };
+}
+
+impl Script {
+    /// A script of which no line was read yet. It keeps the memory for 64 tables.
+    pub fn new(alloc: Global) -> Result<Script, AllocError>
+        ensures { IfOk result (λ script. Tells script [] []) }
+    {
+        match DeskCore::new(alloc, TABLES) {
+            Ok(core) => Ok(Script {
+                names: Names::new(alloc),
+                core,
+            }),
+            Err(_) => Err(AllocError),
+        }
+    }
+
+    /// The line that the next line is answered with, without the line's end; none where it is told nothing. A
+    /// submission that finds no memory is told so; only where a new table's name finds none there is no answer, and
+    /// the script is as before.
+    pub fn answer(&mut self, line: &[u8]) -> Result<Option<ArrayString<LONGEST>>, AllocError>
+        ensures told { IfOk result (λ text. AnswersLine self.old self.new line.now (bytes_of text)) }
+        ensures err { OnErr result ((self.new ≡ self.old) × (asked_by self.old.names line.now ≡ opens self.old.names)) }
+    {
+        match ask(&mut self.names, line)? {
+            Asked::Told(told) => Ok(told_text(&told)),
+            Asked::Event(event) => {
+                let told = Told::Replied(self.core.step(event));
+                Ok(told_text(&told))
+            }
+        }
+    }
+}

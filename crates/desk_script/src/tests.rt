@@ -1,0 +1,131 @@
+//! Scripts line by line.
+use super::*;
+use arrayvec::ArrayString;
+use std::io::Print;
+use std::process::Abort;
+
+const HAND: &str = "waits 1112345678999m";
+
+const SHAPE: &str = "shape 123456789m1134p";
+
+/// A line, with A and B for the two records, and what it is told.
+static SCRIPT: [(&str, &str); 22] = [
+    ("open east", "table 0"),
+    ("submit east A", "ticket 0"),
+    ("submit east B", "ticket 1"),
+    ("arrive east 1 B", "accepted"),
+    ("take east", "waiting"),
+    ("arrive east 0 B", "stranger"),
+    ("arrive east 0 A", "accepted"),
+    ("arrive east 0 A", "doubled"),
+    ("take east", "answer 0 waits 123456789m"),
+    ("take east", "answer 1 shanten 0 accepts 2p:4 5p:4 live 8"),
+    ("arrive east 0 B", "doubled"),
+    ("arrive east 5 A", "stranger"),
+    ("close east", "closed"),
+    ("submit east A", "refused C1"),
+    ("take east", "finished"),
+    ("close east", "closed before"),
+    ("open west", "table 1"),
+    ("close west", "closed"),
+    ("take west", "finished"),
+    ("open east", "refused P3"),
+    ("take north", "refused P2"),
+    ("fly", "refused P1"),
+];
+
+/// A line with the record that its last letter stands for.
+fn spelled(line: &str) -> ArrayString<64> {
+    let (front, record) = match line.as_bytes().split_last() {
+        Some((b'A', _)) => (line.split_at(line.len() - 1).0, HAND),
+        Some((b'B', _)) => (line.split_at(line.len() - 1).0, SHAPE),
+        _ => (line, ""),
+    };
+    let mut text = ArrayString::new();
+    let _ = text.try_push_str(front);
+    let _ = text.try_push_str(record);
+    text
+}
+
+/// Has a script answer a line, and compares what it is told; an empty text is nothing. Tells whether there was memory:
+/// where there was none, a submission is told so, or the script stays without an answer.
+fn tells(rt: &(impl Abort + Print), script: &mut Script, line: &[u8], wanted: &str) -> bool {
+    let had_memory = match script.answer(line) {
+        Ok(Some(text)) if text.as_str() == "refused C3" => false,
+        Ok(Some(text)) => {
+            assert_eq!(rt; text.as_str(), wanted);
+            true
+        }
+        Ok(None) => {
+            assert_eq!(rt; "", wanted);
+            true
+        }
+        Err(_) => false,
+    };
+    if !had_memory {
+        let _ = println!(rt; "memory was refused");
+    }
+    had_memory
+}
+
+#[test]
+fn a_day_at_two_tables(rt: HostRuntime) {
+    let Ok(mut script) = Script::new(rt.alloc()) else {
+        let _ = println!(rt; "memory was refused");
+        return;
+    };
+    for (line, wanted) in SCRIPT {
+        if !tells(&rt, &mut script, spelled(line).as_str().as_bytes(), wanted) {
+            return;
+        }
+    }
+}
+
+/// Lines after `open east`.
+static FORMS: [(&str, &str); 30] = [
+    ("", ""),
+    ("   ", ""),
+    ("# open west", ""),
+    (" # open west", "refused P1"),
+    ("open", "refused P1"),
+    ("open west side", "refused P1"),
+    ("OPEN west", "refused P1"),
+    ("open we.st", "refused P1"),
+    ("open 12345678901234567890123456789012", "table 1"),
+    ("open 123456789012345678901234567890123", "refused P1"),
+    ("  open   West_-9  ", "table 2"),
+    ("close east now", "refused P1"),
+    ("take east 0", "refused P1"),
+    ("submit east", "refused P1"),
+    ("submit east   ", "refused P1"),
+    ("submit east #", "refused P1"),
+    ("submit   east   waits 1m", "refused H8"),
+    ("submit east fly", "refused H2"),
+    ("submit east waits 8z", "refused N5 hand at 0"),
+    ("submit north fly", "refused P2"),
+    ("submit east rules 2", "refused H2"),
+    ("arrive east waits 1m", "refused P1"),
+    ("arrive east 12345678 fly", "refused P1"),
+    ("arrive east 1234567 fly", "refused H2"),
+    ("arrive east 1234567", "refused P1"),
+    ("arrive east 0000000 waits 1112345678999m", "stranger"),
+    ("arrive east -1 waits 1112345678999m", "refused P1"),
+    ("arrive east 0 #", "refused P1"),
+    ("rules 1", "refused P1"),
+    ("take north now", "refused P1"),
+];
+
+#[test]
+fn forms_of_commands(rt: HostRuntime) {
+    let Ok(mut script) = Script::new(rt.alloc()) else {
+        let _ = println!(rt; "memory was refused");
+        return;
+    };
+    let mut has_memory = tells(&rt, &mut script, b"open east", "table 0");
+    for (line, wanted) in FORMS {
+        if has_memory {
+            has_memory = tells(&rt, &mut script, line.as_bytes(), wanted);
+        }
+    }
+    laws::answers_are_determined();
+}
