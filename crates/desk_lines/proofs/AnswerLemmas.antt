@@ -22,7 +22,7 @@ answers_under-last rules lines line =
     flat_map-append (λ line. with_line_feed (answer_of rules line)) lines (line ∷ []) ∙ ap (λ text. answers_under rules lines ++ text) (append-nil (with_line_feed (answer_of rules line)))
 
 -- all but the first line are records
-record_lines-more : (line : List ℕ) (lines more : List (List ℕ)) → record_lines ((line ∷ lines) ++ more) ≡ record_lines (line ∷ lines) ++ more
+pub record_lines-more : (line : List ℕ) (lines more : List (List ℕ)) → record_lines ((line ∷ lines) ++ more) ≡ record_lines (line ∷ lines) ++ more
 record_lines-more line lines more = elim (is_some (profile_of line)) as (λ test. cond test (lines ++ more) (line ∷ lines ++ more) ≡ cond test lines (line ∷ lines) ++ more) [ true ↦ refl | false ↦ refl ]
 
 first_answer : (line : List ℕ) (profile : Option Rules) → flat_map (λ l. with_line_feed (answer_of (unwrap_or profile One) l)) (cond (is_some profile) [] (line ∷ [])) ≡ with_line_feed (cond (is_some profile) None (answer_of One line))
@@ -77,7 +77,7 @@ too_long : (rules : Rules) (line : List ℕ) → 4096 < length line → answer_o
 unfolding answer_of outcome_of
 too_long rules line long = rw (lt-ltb 4096 (length line) long) refl
 
-no_profile : (line : List ℕ) → 4096 < length line → profile_of line ≡ None
+pub no_profile : (line : List ℕ) → 4096 < length line → profile_of line ≡ None
 unfolding profile_of
 no_profile line long = rw (lt-ltb 4096 (length line) long) refl
 

@@ -17,6 +17,8 @@
 #![tactic(auto)]
 
 mod answering;
+mod asked;
+mod collecting;
 mod desk;
 mod fault;
 mod line_buffer;
@@ -24,12 +26,15 @@ mod line_kind;
 mod outbox;
 mod profile;
 mod report;
+mod tables;
 mod teller;
 mod text;
 mod waits;
 
+pub use asked::Asked;
 pub use fault::DeskFault;
 pub use report::DeskReport;
+pub use tables::write_tables;
 pub use text::desk_text;
 pub use waits::{WaitsLine, waits_answer};
 
