@@ -20,11 +20,19 @@ tables_from number (answers ∷ tables) = (table_line number ++ answers) ++ tabl
 abbrev pub tables_text : List (List ℕ) → List ℕ
 tables_text tables = tables_from 0 tables
 
+-- the answers of the first table, and those of the others
+abbrev pub first_answers : List (List Answer) → List Answer
+first_answers [] = []
+first_answers (given ∷ answers) = given
+
+abbrev pub other_answers : List (List Answer) → List (List Answer)
+other_answers [] = []
+other_answers (given ∷ answers) = answers
+
 -- the answer lines of each table
 abbrev pub told_tables : List (List Asked) → List (List Answer) → List (List ℕ)
 told_tables [] answers = []
-told_tables (asked ∷ tables) [] = told asked [] ∷ told_tables tables []
-told_tables (asked ∷ tables) (given ∷ answers) = told asked given ∷ told_tables tables answers
+told_tables (asked ∷ tables) answers = told asked (first_answers answers) ∷ told_tables tables (other_answers answers)
 
 -- This text was sent since the start: what of it was not written yet is in the outbox.
 pub record Sends {W : Type 0} (sink : OfSink W) (start : W) (text : List ℕ) (outbox : Outbox) (writer : W) : Type 0 where

@@ -1,7 +1,7 @@
 //! The answers of several tables, one after the other.
 ghost use Rattle.std.specs.Prelude.{◌≡◌, ◌+◌, ◌≤◌, ℕ, List, [], ◌∷◌, ◌++◌, length, map, OnOk, IfOk, IfErr};
 ghost use Rattle.desk_lines.specs.Asked.{line_told, answers_after, told};
-ghost use Rattle.desk_lines.specs.Tables.{table_line, tables_text, told_tables, Sends};
+ghost use Rattle.desk_lines.specs.Tables.{table_line, tables_text, first_answers, other_answers, told_tables, Sends};
 ghost use Rattle.desk_lines.specs.Streams.{Writes, StopsWriting};
 
 use super::asked::Asked;
@@ -28,14 +28,17 @@ pub fn write_tables<W: Sink>(
     for (number, asked) in tables.iter().enumerate() {
         let (given, after) = first_table(rest);
         send_number(number, &mut outbox, writer)?;
-        send_answers(asked, given, &mut outbox, writer)?;
+        send_answers(asked.as_slice(), given, &mut outbox, writer)?;
         rest = after;
     }
     outbox.flush(writer)
 }
 
 /// The answers of the first table, and those of the others.
-fn first_table(answers: &[Vec<Answer>]) -> (&[Answer], &[Vec<Answer>]) {
+fn first_table(answers: &[Vec<Answer>]) -> (&[Answer], &[Vec<Answer>])
+    ensures first { result.0.now ≡ first_answers (map (λ given. given.items) answers.now) }
+    ensures others { map (λ given. given.items) result.1.now ≡ other_answers (map (λ given. given.items) answers.now) }
+{
     match answers.split_first() {
         Some((first, after)) => (first.as_slice(), after),
         None => (&[], answers),
