@@ -1,13 +1,18 @@
 //! The command line.
-use clap::{Arg, ArgMatches, Command};
+use clap::{Arg, ArgMatches, Command, value_parser};
 use std::alloc::{AllocError, Global};
 
 /// What the command line asks for.
-pub enum Request<'a> {
+pub enum Request<'m, 'a> {
     /// The waits of this hand.
     Waits(&'a str),
     /// The answers to the record lines of standard input.
     Line,
+    /// The answers to the record lines of files, each a table, by so many workers.
+    Score {
+        files: &'m [&'a str],
+        workers: u32,
+    },
 }
 
 /// The commands and their words.
@@ -17,7 +22,8 @@ pub fn commands<'a>(alloc: Global) -> Result<Command<'a>, AllocError> {
         .about("A scoring desk for riichi mahjong: hands in Tenhou notation in, answers out")
         .subcommand_required(true)
         .subcommand(waits_command(alloc)?)?
-        .subcommand(line_command(alloc))
+        .subcommand(line_command(alloc))?
+        .subcommand(score_command(alloc)?)
 }
 
 fn waits_command<'a>(alloc: Global) -> Result<Command<'a>, AllocError> {
@@ -35,10 +41,32 @@ fn line_command<'a>(alloc: Global) -> Command<'a> {
     )
 }
 
+fn score_command<'a>(alloc: Global) -> Result<Command<'a>, AllocError> {
+    let workers = Arg::new(alloc, "workers")
+        .long("workers")
+        .value_name("N")
+        .value_parser(value_parser!(u32).range(1..=16))
+        .default_value("4")
+        .help("How many threads judge hands");
+    let files = Arg::new(alloc, "FILE")
+        .required(true)
+        .num_args(1..)
+        .help("Hands, one a line: each file is a table, and 64 are the most");
+    Command::new(alloc, "score")
+        .about("Answers hands from files, table by table, with many threads")
+        .arg(workers)?
+        .arg(files)
+}
+
 /// What the words ask for; none where they name no command of ours.
-pub fn request_of<'a>(matches: &ArgMatches<'a>) -> Option<Request<'a>> {
+pub fn request_of<'m, 'a>(matches: &'m ArgMatches<'a>) -> Option<Request<'m, 'a>> {
     if matches.subcommand_matches("line").is_some() {
         return Some(Request::Line);
+    }
+    if let Some(score) = matches.subcommand_matches("score") {
+        let files = score.get_strs("FILE")?;
+        let workers = score.get_one("workers")?;
+        return Some(Request::Score { files, workers });
     }
     let waits = matches.subcommand_matches("waits")?;
     let hand = waits.get_str("HAND")?;
