@@ -1,5 +1,5 @@
 //! What the tables ask, read to the end before anything is answered.
-ghost use Rattle.std.specs.Prelude.{◌≡◌, ℕ, List, [], ◌∷◌, ◌++◌, OnOk, IfOk, IsErrOf};
+ghost use Rattle.std.specs.Prelude.{◌≡◌, ℕ, List, [], ◌∷◌, ◌++◌, ◌+◌, OnOk, IfOk, IfErr, IfSome, IsErrOf};
 ghost use Rattle.desk_lines.specs.Lines.{lines};
 ghost use Rattle.desk_lines.specs.Asked.{jobs_of, asked_of};
 ghost use Rattle.desk_lines.specs.LineAnswers.{report_on};
@@ -70,4 +70,14 @@ impl Tables {
         self.jobs.push(jobs).map_err(|_| ScoreFault::Memory)?;
         self.asked.push(asked).map_err(|_| ScoreFault::Memory)
     }
+}
+
+/// Two counts together; none where a `u64` can't hold them.
+fn sum_of(one: DeskReport, other: DeskReport) -> Option<DeskReport>
+    ensures { IfSome result (λ sum. (sum.answered ≡ one.answered + other.answered) × (sum.refused ≡ one.refused + other.refused)) }
+{
+    Some(DeskReport {
+        answered: one.answered.checked_add(other.answered)?,
+        refused: one.refused.checked_add(other.refused)?,
+    })
 }
