@@ -1,15 +1,14 @@
 -- A hand without melds: thirteen tiles, and no other number.
-use Rattle.std.proofs.Common.{◌≡◌, ◌≢◌, ◌⊎◌, ℕ, ◌+◌, ◌*◌, ◌<◌, ◌≤◌, List, [], ◌∷◌, Bool, true, false, not, refl, sym, ap, ◌∙◌, sum, slice_index, inl, inr, arith, Ok, Err, Result, nat_lt, length}
-use Rattle.std.specs.Prelude.{◌==◌, Option, None, Some}
+use Rattle.std.proofs.Common.{◌≡◌, ◌≢◌, ℕ, ◌+◌, ◌≤◌, List, [], ◌∷◌, Bool, true, false, refl, ap, ◌∙◌, sum, slice_index, inl, inr, arith, Ok, Err, Result, nat_lt}
+use Rattle.std.specs.Prelude.{◌==◌}
 use Rattle.std.specs.List.{list_any}
 use Rattle.std.proofs.lemmas.Bool.Decides.{eqb_tells, nat_tests}
 use Rattle.riichi_tiles.specs.Tiles.{IsCounts}
 use Rattle.riichi_tiles.specs.Melds.{every_kind}
 use Rattle.riichi_tiles.specs.declared.meld.Meld.{Meld}
 use Rattle.riichi_hand.specs.HandParts.{HandParts}
-use Rattle.riichi_hand.specs.Hand.{size, has_five_copies, hand_faults, hand_of}
-use Rattle.riichi_hand.specs.Faults.{coded, first_fault, told}
-use Rattle.riichi_hand.specs.declared.fault.LineCode.TheVariants.{H8, H9}
+use Rattle.riichi_hand.specs.Hand.{size, has_five_copies, hand_of}
+use Rattle.riichi_hand.specs.declared.fault.LineCode.TheVariants.{H8}
 use Rattle.riichi_hand.specs.declared.fault.LineFault.{LineFault}
 use Rattle.riichi_hand.specs.declared.fault.LineFault.TheVariants.{Line}
 use Rattle.desk_lines.specs.WaitsLine.{concealed_hand}

@@ -1,5 +1,5 @@
 -- Which answers begin with `refused`.
-use Rattle.std.proofs.Common.{◌≡◌, ℕ, List, true, false, refl}
+use Rattle.std.proofs.Common.{◌≡◌, true, false, refl}
 use Rattle.riichi_hand.specs.declared.job.Job.{Job}
 use Rattle.riichi_hand.specs.declared.fault.LineFault.{LineFault}
 use Rattle.riichi_hand.specs.declared.fault.LineFault.TheVariants.{Line, Notation}
@@ -13,7 +13,7 @@ use Rattle.desk_core.specs.AnswerText.{answer_text}
 use Rattle.desk_core.specs.Value.{value_of}
 use Rattle.desk_core.specs.declared.answer.Answer.{Answer}
 use Rattle.desk_core.specs.declared.answer.Answer.TheVariants as answer
-use Rattle.desk_lines.specs.LineAnswers.{is_refusal}
+use Rattle.desk_lines.specs.Telling.{is_refusal}
 
 pub is_refusal-fault : (fault : LineFault) → is_refusal (fault_text fault) ≡ true
 is_refusal-fault (Line code) = refl

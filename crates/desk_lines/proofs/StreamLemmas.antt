@@ -1,5 +1,5 @@
 -- One more read, and one more write.
-use Rattle.std.proofs.Common.{◌≡◌, ℕ, List, [], ◌++◌, Result, Err, refl, sym, subst, ◌∙◌, ap, append_assoc, arith}
+use Rattle.std.proofs.Common.{◌≡◌, ◌≢◌, ℕ, List, [], ◌∷◌, ◌++◌, Result, Ok, Err, refl, sym, subst, ◌∙◌, ap, append_assoc, arith}
 use Rattle.std.proofs.lemmas.List.{append-nil}
 use Rattle.std.specs.Prelude.{IfErr}
 use Rattle.std.specs.Io.KnownBytes.{Consumes}
@@ -7,8 +7,8 @@ use Rattle.std.proofs.KnownBytes.{Appends-nil, Appends-trans, Consumes-trans}
 use Rattle.desk_streams.specs.declared.source.Source.{Ghosts as OfSource}
 use Rattle.desk_streams.specs.declared.sink.Sink.{Ghosts as OfSink}
 use Rattle.desk_lines.specs.declared.fault.DeskFault.{DeskFault}
-use Rattle.desk_lines.specs.declared.fault.DeskFault.TheVariants.{Read, Write, Memory}
-use Rattle.desk_lines.specs.Streams.{IsFront, WritesAll, StopsWriting, Gives}
+use Rattle.desk_lines.specs.declared.fault.DeskFault.TheVariants.{Write}
+use Rattle.desk_lines.specs.Streams.{IsProperFront, WritesAll, StopsWriting, Writes, Gives}
 
 pub Gives-more : {R : Type 0} (source : OfSource R) (old mid new : R) (text bytes : List ℕ) → Gives source old mid text
     → source.given new ≡ source.given mid ++ bytes → Consumes (source.left mid) (source.left new) bytes → Gives source old new (text ++ bytes)
@@ -17,14 +17,19 @@ Gives-more source old mid new text bytes gives more taken = record {
   taken = Consumes-trans (source.left old) (source.left mid) (source.left new) text bytes gives.taken taken;
 }
 
-pub IsFront-nil : (text : List ℕ) → IsFront [] text
-IsFront-nil text = (text, refl)
+pub IsProperFront-append : (before front text : List ℕ) → IsProperFront front text → IsProperFront (before ++ front) (before ++ text)
+IsProperFront-append before front text is = (is.0, ap (λ all. before ++ all) is.1 ∙ sym (append_assoc before front is.0), is.2)
 
-pub IsFront-append : (before front text : List ℕ) → IsFront front text → IsFront (before ++ front) (before ++ text)
-IsFront-append before front text is = (is.0, ap (λ all. before ++ all) is.1 ∙ sym (append_assoc before front is.0))
+append-some : (rest more : List ℕ) → rest ≢ [] → rest ++ more ≢ []
+append-some [] more some = absurd (some refl)
+append-some (byte ∷ rest) more some = λ is. cc
 
-pub IsFront-more : (front text more : List ℕ) → IsFront front text → IsFront front (text ++ more)
-IsFront-more front text more is = (is.0 ++ more, ap (λ all. all ++ more) is.1 ∙ append_assoc front is.0 more)
+pub IsProperFront-more : (front text more : List ℕ) → IsProperFront front text → IsProperFront front (text ++ more)
+IsProperFront-more front text more is = (is.0 ++ more, ap (λ all. all ++ more) is.1 ∙ append_assoc front is.0 more, append-some is.0 more is.2)
+
+pub no_front_of_none : (front : List ℕ) → IsProperFront front [] → ⊥
+no_front_of_none [] is = is.2 (sym is.1)
+no_front_of_none (byte ∷ front) is = let no = is.1 in cc
 
 module _ {W : Type 0} (sink : OfSink W) where
   pub WritesAll-nil : (writer : W) → WritesAll sink writer writer []
@@ -43,23 +48,21 @@ module _ {W : Type 0} (sink : OfSink W) where
   }
 
   -- a text was written, and then the writing of more stopped
-  pub StopsWriting-after : (start old new : W) (fault : DeskFault) (text more : List ℕ) → WritesAll sink start old text → StopsWriting sink old new fault more
-      → StopsWriting sink start new fault (text ++ more)
-  StopsWriting-after start old new fault text more first stops = record {
-    fault_is = stops.fault_is;
+  pub StopsWriting-after : (start old new : W) (text more : List ℕ) → WritesAll sink start old text → StopsWriting sink old new more
+      → StopsWriting sink start new (text ++ more)
+  StopsWriting-after start old new text more first stops = record {
     front = text ++ stops.front;
-    is_front = IsFront-append text stops.front more stops.is_front;
+    is_front = IsProperFront-append text stops.front more stops.is_front;
     appended = stops.appended ∙ ap (λ all. all ++ stops.front) first.appended ∙ append_assoc (sink.written start) text stops.front;
     held = Appends-trans (sink.contents start) (sink.contents old) (sink.contents new) text stops.front first.held stops.held;
     failed = let same = first.not_failed in let grew = stops.failed in omega arith;
   }
 
   -- the text that was to be written went on
-  pub StopsWriting-more : (start new : W) (fault : DeskFault) (text more : List ℕ) → StopsWriting sink start new fault text → StopsWriting sink start new fault (text ++ more)
-  StopsWriting-more start new fault text more stops = record {
-    fault_is = stops.fault_is;
+  pub StopsWriting-more : (start new : W) (text more : List ℕ) → StopsWriting sink start new text → StopsWriting sink start new (text ++ more)
+  StopsWriting-more start new text more stops = record {
     front = stops.front;
-    is_front = IsFront-more stops.front text more stops.is_front;
+    is_front = IsProperFront-more stops.front text more stops.is_front;
     appended = stops.appended;
     held = stops.held;
     failed = stops.failed;
@@ -69,9 +72,8 @@ module _ {W : Type 0} (sink : OfSink W) where
 pub err_at : {T E : Type 0} (r : Result T E) (P : E → Type 0) → IfErr r P → (e : E) → r ≡ Err e → P e
 err_at {T = T} {E = E} r P holds e is = subst (λ (s : Result T E). IfErr s P) is holds
 
--- only a write failed
-pub never_read : Read ≡ Write → ⊥
-never_read is = cc
-
-pub never_memory : Memory ≡ Write → ⊥
-never_memory is = cc
+-- what holds where a write failed, at whatever error a writing has
+pub if_stopped : {W T : Type 0} (sink : OfSink W) (old new : W) (result : Result T DeskFault) (text : List ℕ) (P : DeskFault → Type 0) → Writes sink old new result text
+    → (StopsWriting sink old new text → P Write) → IfErr result P
+if_stopped sink old new (Ok value) text P writes stops = tt
+if_stopped sink old new (Err fault) text P writes stops = subst P (sym writes.0) (stops writes.1)

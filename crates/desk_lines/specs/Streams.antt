@@ -1,5 +1,5 @@
 -- What calls on a reader and a writer did.
-use Rattle.std.specs.Prelude.{◌≡◌, ℕ, ◌+◌, ◌<◌, ◌≤◌, ◌⊎◌, List, ◌++◌, Result, Ok, Err}
+use Rattle.std.specs.Prelude.{◌≡◌, ◌≢◌, ℕ, ◌+◌, ◌<◌, ◌≤◌, ◌⊎◌, List, [], ◌++◌, Result, Ok, Err}
 use Rattle.std.specs.Io.KnownBytes.{Appends, Consumes, IsAtEnd}
 use Rattle.desk_streams.specs.declared.sink.Sink.{Ghosts as OfSink}
 use Rattle.desk_streams.specs.declared.source.Source.{Ghosts as OfSource}
@@ -7,9 +7,9 @@ use Rattle.desk_lines.specs.declared.fault.DeskFault.{DeskFault}
 use Rattle.desk_lines.specs.declared.fault.DeskFault.TheVariants.{Write}
 use Rattle.desk_lines.specs.Lines.{ended_lines, lines}
 
--- text begins with front
-abbrev pub IsFront : List ℕ → List ℕ → Type 0
-IsFront front text = (rest : List ℕ) × (text ≡ front ++ rest)
+-- text begins with front and goes on
+abbrev pub IsProperFront : List ℕ → List ℕ → Type 0
+IsProperFront front text = (rest : List ℕ) × (text ≡ front ++ rest) × (rest ≢ [])
 
 -- All of the text was written, and the writer did not fail.
 pub record WritesAll {W : Type 0} (sink : OfSink W) (old new : W) (text : List ℕ) : Type 0 where
@@ -17,11 +17,10 @@ pub record WritesAll {W : Type 0} (sink : OfSink W) (old new : W) (text : List �
   pub held : Appends (sink.contents old) (sink.contents new) text
   pub not_failed : sink.failures new ≡ sink.failures old
 
--- A front of the text was written, and then the writer failed.
-pub record StopsWriting {W : Type 0} (sink : OfSink W) (old new : W) (fault : DeskFault) (text : List ℕ) : Type 0 where
-  pub fault_is : fault ≡ Write
+-- A front of the text was written, not all of it, and then the writer failed.
+pub record StopsWriting {W : Type 0} (sink : OfSink W) (old new : W) (text : List ℕ) : Type 0 where
   pub front : List ℕ
-  pub is_front : IsFront front text
+  pub is_front : IsProperFront front text
   pub appended : sink.written new ≡ sink.written old ++ front
   pub held : Appends (sink.contents old) (sink.contents new) front
   pub failed : sink.failures old < sink.failures new
@@ -29,7 +28,7 @@ pub record StopsWriting {W : Type 0} (sink : OfSink W) (old new : W) (fault : De
 -- a text was written, or its writing stopped
 abbrev pub Writes : {W T : Type 0} → OfSink W → W → W → Result T DeskFault → List ℕ → Type 0
 Writes sink old new (Ok value) text = WritesAll sink old new text
-Writes sink old new (Err fault) text = StopsWriting sink old new fault text
+Writes sink old new (Err fault) text = (fault ≡ Write) × StopsWriting sink old new text
 
 -- The reader gave this text.
 pub record Gives {R : Type 0} (source : OfSource R) (old new : R) (text : List ℕ) : Type 0 where

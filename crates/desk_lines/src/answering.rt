@@ -3,9 +3,8 @@ ghost use Rattle.std.specs.Prelude.{◌≡◌, ◌∷◌, ◌++◌, []};
 ghost use Rattle.desk_core.specs.AnswerText.{answer_text};
 ghost use Rattle.desk_core.specs.Value.{value_of};
 ghost use Rattle.desk_lines.specs.LineAnswer.{answer_of};
-ghost use Rattle.desk_lines.specs.LineAnswers.{with_line_feed};
 ghost use Rattle.desk_lines.specs.Outbox.{HasRoom};
-ghost use Rattle.desk_lines.specs.Teller.{kind_of};
+ghost use Rattle.desk_lines.specs.Telling.{with_line_feed, kind_of};
 
 use super::line_kind::LineKind;
 use super::outbox::Outbox;

@@ -1,48 +1,47 @@
 //! The desk: bytes in, answer lines out.
-ghost use Rattle.std.specs.Prelude.{◌≡◌, ◌+◌, ◌<◌, ◌≤◌, ◌^◌, ◌==◌, ℕ, List, [], ◌∷◌, ◌++◌, true, length, None, Some, MatchOption, OnOk, IfOk, IfErr};
+ghost use Rattle.std.specs.Prelude.{◌≡◌, ◌+◌, ◌<◌, ◌≤◌, ◌^◌, ◌==◌, ℕ, List, [], ◌∷◌, ◌++◌, true, length, MatchOption, OnOk, IfOk, IfErr};
 ghost use Rattle.desk_lines.specs.Lines.{ended_lines, lines, without_return, is_plain};
-ghost use Rattle.desk_lines.specs.LineAnswers.{answers_to, answers, report_on, count_of};
-ghost use Rattle.desk_lines.specs.Streams.{WritesAll, StopsWriting};
-ghost use Rattle.desk_lines.specs.Desk.{Holds};
+ghost use Rattle.desk_lines.specs.Telling.{count_of};
+ghost use Rattle.desk_lines.specs.Told.{Stands, StopsTelling};
+ghost use Rattle.desk_lines.specs.Desk.{IsNew, Holds};
 
 use super::fault::DeskFault;
 use super::line_buffer::LineBuffer;
-use super::report::DeskReport;
 use super::teller::Teller;
+use super::told::Told;
 use desk_streams::Sink;
 
-/// A line of 4,096 bytes and its carriage return fit. One byte more shows a longer line.
-const LINE_ROOM: usize = 4_098;
-
-/// What is kept between two reads: the front of a line, and what was answered.
+/// What is kept between two reads: the front of a line, and what the lines before it were told. Of a line it
+/// holds `ROOM` bytes, which are two more than those that the teller tells apart: a carriage return, and one
+/// byte that shows a longer line.
 #[derive(Drop)]
-pub(crate) struct Desk {
-    held: LineBuffer<LINE_ROOM>,
-    teller: Teller,
+pub(crate) struct Desk<T, const ROOM: usize> {
+    held: LineBuffer<ROOM>,
+    told: Told<T>,
 }
 
-impl Desk {
-    pub(crate) fn new() -> Desk
-        ensures held { result.held.bytes.items ≡ [] }
-        ensures rules { result.teller.rules ≡ None }
-        ensures report { result.teller.report ≡ report_on [] }
-        ensures outbox { result.teller.outbox.bytes.items ≡ [] }
+impl<T: Teller + Drop, const ROOM: usize> Desk<T, ROOM> {
+    /// A desk that has taken nothing, with a teller that has taken no line.
+    pub(crate) fn new(teller: T) -> Desk<T, ROOM>
+        requires { T.tells teller [] [] }
+        ensures { IsNew ⟦<T as Teller>⟧ result }
     {
         Desk {
             held: LineBuffer::new(),
-            teller: Teller::new(),
+            told: Told::new(teller),
         }
     }
 
     /// Takes the next bytes, and writes the answers to all lines that have ended.
     pub(crate) fn feed<W: Sink>(&mut self, bytes: &[u8], writer: &mut W) -> Result<(), DeskFault>
-        requires { count_of self.old.teller.report + length bytes.now < 2 ^ 64 }
-        ensures holds { OnOk result ((start : W) (text : List ℕ) → Holds ⟦<W as Sink>⟧ start self.old writer.old text
-            → Holds ⟦<W as Sink>⟧ start self.new writer.new (text ++ bytes.now)) }
-        ensures stops { IfErr result (λ fault. (start : W) (text : List ℕ) → Holds ⟦<W as Sink>⟧ start self.old writer.old text
-            → StopsWriting ⟦<W as Sink>⟧ start writer.new fault (answers_to (ended_lines (text ++ bytes.now)))) }
-        ensures empty { OnOk result (self.new.teller.outbox.bytes.items ≡ []) }
-        ensures count { count_of self.new.teller.report ≤ count_of self.old.teller.report + length bytes.now }
+        requires room { T.most + 2 ≤ ROOM }
+        requires count { count_of self.old.told.report + length bytes.now < 2 ^ 64 }
+        ensures holds { OnOk result ((start : W) (text : List ℕ) → Holds ⟦<W as Sink>⟧ ⟦<T as Teller>⟧ start self.old writer.old text
+            → Holds ⟦<W as Sink>⟧ ⟦<T as Teller>⟧ start self.new writer.new (text ++ bytes.now)) }
+        ensures stops { IfErr result (λ fault. (start : W) (text : List ℕ) → Holds ⟦<W as Sink>⟧ ⟦<T as Teller>⟧ start self.old writer.old text
+            → StopsTelling ⟦<W as Sink>⟧ ⟦<T as Teller>⟧ start writer.new fault (ended_lines (text ++ bytes.now))) }
+        ensures empty { OnOk result (self.new.told.outbox.bytes.items ≡ []) }
+        ensures count { count_of self.new.told.report ≤ count_of self.old.told.report + length bytes.now }
     {
         let mut rest = bytes;
         while let Some((line, after)) = cut_line(rest) {
@@ -50,42 +49,46 @@ impl Desk {
             rest = after;
         }
         self.held.hold(rest);
-        self.teller.flush(writer)
+        self.told.flush(writer)
     }
 
     /// Answers the line that these bytes end.
     fn end_line<W: Sink>(&mut self, bytes: &[u8], writer: &mut W) -> Result<(), DeskFault>
         requires plain { is_plain bytes.now ≡ true }
-        requires count { count_of self.old.teller.report + 1 < 2 ^ 64 }
-        ensures holds { OnOk result ((start : W) (text : List ℕ) → Holds ⟦<W as Sink>⟧ start self.old writer.old text
-            → Holds ⟦<W as Sink>⟧ start self.new writer.new (text ++ (bytes.now ++ 10 ∷ []))) }
-        ensures stops { IfErr result (λ fault. (start : W) (text : List ℕ) → Holds ⟦<W as Sink>⟧ start self.old writer.old text
-            → StopsWriting ⟦<W as Sink>⟧ start writer.new fault (answers_to (ended_lines text))) }
-        ensures count { count_of self.new.teller.report ≤ count_of self.old.teller.report + 1 }
+        requires room { T.most + 2 ≤ ROOM }
+        requires count { count_of self.old.told.report + 1 < 2 ^ 64 }
+        ensures holds { OnOk result ((start : W) (text : List ℕ) → Holds ⟦<W as Sink>⟧ ⟦<T as Teller>⟧ start self.old writer.old text
+            → Holds ⟦<W as Sink>⟧ ⟦<T as Teller>⟧ start self.new writer.new (text ++ (bytes.now ++ 10 ∷ []))) }
+        ensures stops { IfErr result (λ fault. (start : W) (text : List ℕ) → Holds ⟦<W as Sink>⟧ ⟦<T as Teller>⟧ start self.old writer.old text
+            → StopsTelling ⟦<W as Sink>⟧ ⟦<T as Teller>⟧ start writer.new fault (ended_lines text)) }
+        ensures count { count_of self.new.told.report ≤ count_of self.old.told.report + 1 }
     {
         if self.held.is_empty() {
-            return self.teller.answer(line_in(bytes), writer);
+            return self.told.answer(line_in(bytes), writer);
         }
         self.held.hold(bytes);
-        self.teller.answer(line_in(self.held.as_slice()), writer)?;
+        self.told.answer(line_in(self.held.as_slice()), writer)?;
         self.held.clear();
         Ok(())
     }
 
-    /// Answers the last line, where no line feed ends it.
-    pub(crate) fn finish<W: Sink>(mut self, writer: &mut W) -> Result<DeskReport, DeskFault>
-        requires { count_of self.teller.report + 1 < 2 ^ 64 }
-        ensures ends { IfOk result (λ report. (start : W) (text : List ℕ) → Holds ⟦<W as Sink>⟧ start self writer.old text
-            → WritesAll ⟦<W as Sink>⟧ start writer.new (answers text) × (report ≡ report_on (lines text))) }
-        ensures stops { IfErr result (λ fault. (start : W) (text : List ℕ) → Holds ⟦<W as Sink>⟧ start self writer.old text
-            → StopsWriting ⟦<W as Sink>⟧ start writer.new fault (answers text)) }
+    /// Answers the last line, where no line feed ends it, and writes what is left.
+    pub(crate) fn finish<W: Sink>(self, writer: &mut W) -> Result<Told<T>, DeskFault>
+        requires room { T.most + 2 ≤ ROOM }
+        requires count { count_of self.told.report + 1 < 2 ^ 64 }
+        ensures ends { IfOk result (λ told. (start : W) (text : List ℕ) → Holds ⟦<W as Sink>⟧ ⟦<T as Teller>⟧ start self writer.old text
+            → Stands ⟦<W as Sink>⟧ ⟦<T as Teller>⟧ start (lines text) told writer.new) }
+        ensures empty { IfOk result (λ told. told.outbox.bytes.items ≡ []) }
+        ensures stops { IfErr result (λ fault. (start : W) (text : List ℕ) → Holds ⟦<W as Sink>⟧ ⟦<T as Teller>⟧ start self writer.old text
+            → StopsTelling ⟦<W as Sink>⟧ ⟦<T as Teller>⟧ start writer.new fault (lines text)) }
     {
-        if !self.held.is_empty() {
-            let last = line_in(self.held.as_slice());
-            self.teller.answer(last, writer)?;
+        let Desk { held, mut told } = self;
+        if !held.is_empty() {
+            let last = line_in(held.as_slice());
+            told.answer(last, writer)?;
         }
-        self.teller.flush(writer)?;
-        Ok(self.teller.report())
+        told.flush(writer)?;
+        Ok(told)
     }
 }
 

@@ -5,9 +5,10 @@
 //! how many refused, or in a [`DeskFault`] why it gave up. `waits_answer` answers one hand, as the command
 //! `waits` prints it.
 //!
-//! Inside, `Desk` cuts the bytes into lines and keeps the front of one that has not ended in a
-//! `LineBuffer`; `Teller` answers line by line, under the profile that the first line may set; `Outbox`
-//! keeps answers until they are written in one piece.
+//! Inside, `tell_lines` reads a stream to its end. `Desk` cuts the bytes into lines and keeps the front of
+//! one that has not ended in a `LineBuffer`; a `Teller` answers line by line; `Told` counts the answers, and
+//! its `Outbox` keeps them until they are written in one piece. `Records` is the teller of record lines,
+//! under the profile that the first line may set.
 //!
 //! ```text
 //! let mut reader = FromReader::new(rt.reader());
@@ -25,10 +26,13 @@ mod line_buffer;
 mod line_kind;
 mod outbox;
 mod profile;
+mod reading;
+mod records;
 mod report;
 mod tables;
 mod teller;
 mod text;
+mod told;
 mod waits;
 
 pub use asked::Asked;

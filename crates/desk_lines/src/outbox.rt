@@ -9,8 +9,8 @@ use desk_streams::Sink;
 /// Room for many answer lines, so that they are written in large pieces.
 const ROOM: usize = 65_536;
 
-/// The longest answer line: a text of 3,072 bytes, and a line feed.
-const LONGEST_ANSWER: usize = 3_073;
+/// The longest answer line: a text of 3,072 bytes behind a word and a number, and a line feed.
+const LONGEST_ANSWER: usize = 3_087;
 
 /// Answer lines that were not written yet.
 #[derive(Drop)]

@@ -1,19 +1,18 @@
 //! A text over streams.
-ghost use Rattle.std.specs.Prelude.{◌≡◌, ◌+◌, ◌<◌, ◌≤◌, ℕ, List, IfOk, IsErrOf};
+ghost use Rattle.std.specs.Prelude.{◌≡◌, ℕ, List, IfOk, IsErrOf};
 ghost use Rattle.desk_lines.specs.Lines.{ended_lines, lines};
 ghost use Rattle.desk_lines.specs.LineAnswers.{answers, answers_to, report_on};
 ghost use Rattle.desk_lines.specs.Streams.{Gives, GivesAll, WritesAll, StopsWriting, AreWhole, FailsOrGoesOn};
 
 use super::desk::Desk;
 use super::fault::DeskFault;
+use super::reading::{MOST_READS, tell_lines};
+use super::records::Records;
 use super::report::DeskReport;
 use desk_streams::{Sink, Source};
 
-/// The bytes that one read asks for.
-const CHUNK: usize = 65_536;
-
-/// After so many reads with no end the reader counts as failed.
-const MOST_READS: u64 = 4_294_967_295;
+/// A record line of 4,096 bytes and its carriage return fit. One byte more shows a longer line.
+const RECORD_ROOM: usize = 4_098;
 
 /// Answers the record lines that a reader gives, one line for each. It reads and writes in large
 /// pieces; the answers to all lines that have ended are written before it reads again. It takes no
@@ -38,18 +37,11 @@ pub fn desk_text<R: Source, W: Sink>(
     ensures write_failed { IsErrOf result DeskFault.Write → (text : List ℕ) × (whole : List (List ℕ))
         × Gives ⟦<R as Source>⟧ reader.old reader.new text
         × AreWhole (R.is_ended reader.new) text whole
-        × StopsWriting ⟦<W as Sink>⟧ writer.old writer.new DeskFault.Write (answers_to whole) }
+        × StopsWriting ⟦<W as Sink>⟧ writer.old writer.new (answers_to whole) }
 
     ensures no_memory { IsErrOf result DeskFault.Memory → ⊥ }
 {
-    let mut desk = Desk::new();
-    let mut chunk = [0; CHUNK];
-    for turn in 0..MOST_READS {
-        match reader.read(&mut chunk) {
-            Err(_) => return Err(DeskFault::Read),
-            Ok(0) => return desk.finish(writer),
-            Ok(count) => desk.feed(&chunk[..count], writer)?,
-        }
-    }
-    Err(DeskFault::Read)
+    let desk: Desk<Records, RECORD_ROOM> = Desk::new(Records::new());
+    let told = tell_lines(desk, reader, writer)?;
+    Ok(told.report())
 }

@@ -1,109 +1,21 @@
-use Rattle.std.proofs.Common.{◌≡◌, ◌∙◌, ◌++◌, [], List, ℕ, ap, sym, subst, refl, take, inl, inr, arith}
-use Rattle.std.proofs.KnownBytes.{Consumes-nil}
-use Rattle.std.proofs.lemmas.List.{append-nil, length-take}
-use Rattle.std.proofs.lemmas.Result.{MatchResult-weaker, err_from_is_err_and}
-use Rattle.desk_lines.specs.declared.fault.DeskFault.{DeskFault}
-use Rattle.desk_lines.specs.declared.fault.DeskFault.TheVariants.{Read, Write, Memory}
-use Rattle.desk_lines.specs.Lines.{ended_lines, lines}
-use Rattle.desk_lines.specs.LineAnswers.{answers_to, count_of}
-use Rattle.desk_lines.specs.Streams.{Gives, StopsWriting}
-use Rattle.desk_lines.proofs.StreamLemmas.{Gives-more, err_at, never_read, never_memory}
-use Rattle.desk_lines.proofs.DeskLemmas.{Holds-new}
+use Rattle.std.proofs.Common.{◌≡◌, ◌∙◌, ap, refl, Err}
+use Rattle.std.proofs.lemmas.Result.{err_from_is_err_and}
+use Rattle.desk_lines.specs.declared.fault.DeskFault.TheVariants.{Write, Memory}
+use Rattle.desk_lines.proofs.AnswerLemmas.{front_of_answers}
 use Rattle.desk_lines.proofs.text.desk_text.Goals as goal
 
-pub loop-turn-init : goal.loop-turn-init
-loop-turn-init g c =
-    let new = c.new-desk.ensures in (
-      [],
-      record {
-        gives = record { appended = sym (append-nil (g.R.Source.given c.args.reader.now)); taken = Consumes-nil (g.R.Source.left c.args.reader.now) };
-        holds = Holds-new g.W.Sink c.new-desk.result c.args.writer.now new.held new.rules new.report new.outbox;
-        empty = new.outbox;
-        reads = refl;
-        calls = omega arith;
-        count = let none = ap count_of new.report in omega arith;
-      },
-    )
-
-pub loop-turn-preserved : goal.loop-turn-preserved
-loop-turn-preserved g c =
-    let source = g.R.Source in
-    let kept = c.loop-turn.invariant in
-    let bytes = take c.in-Ok.count c.read.new.buffer in (
-      kept.0 ++ bytes,
-      record {
-        gives = Gives-more source c.args.reader.now c.loop-turn.reader c.read.new.self kept.0 bytes kept.1.gives c.in-Ok.ensures.given c.in-Ok.ensures.left.0;
-        holds = c.in_ok-feed-in-Ok.ensures.holds c.args.writer.now kept.0 kept.1.holds;
-        empty = c.in_ok-feed-in-Ok.ensures.empty;
-        reads = let same = c.in-Ok.ensures.failures in let before = kept.1.reads in omega arith;
-        calls = let more = c.in-Ok.ensures.calls in let before = kept.1.calls in omega arith;
-        count = let more = c.in_ok-feed-in-Ok.ensures.count in let before = kept.1.count in let lengths = length-take c.in-Ok.count c.read.new.buffer in omega arith;
-      },
-    )
-
--- the end was read
-pub returns-in-Ok-eq0-clause-ok : goal.returns-in-Ok-eq0-clause-ok
-returns-in-Ok-eq0-clause-ok g c =
-    let source = g.R.Source in
-    let kept = c.loop-turn.invariant in
-    let text = kept.0 in
-    let none : c.in-Ok-eq0.field-0 ≡ 0 = c.in-Ok-eq0.field-0-test in
-    let gives = subst (λ (all : List ℕ). Gives source c.args.reader.now c.read.new.self all) (ap (λ count. text ++ take count c.read.new.buffer) none ∙ append-nil text)
-    (Gives-more source c.args.reader.now c.loop-turn.reader c.read.new.self text (take c.in-Ok-eq0.field-0 c.read.new.buffer) kept.1.gives c.in-Ok-eq0.ensures.given c.in-Ok-eq0.ensures.left.0) in
-    MatchResult-weaker c.finish.result c.finish.ensures.ends (λ report ends.
-    let end = ends c.args.writer.now text kept.1.holds in
-    (text, record { gives = gives; ended = c.in-Ok-eq0.ensures.ended none (omega arith); none_left = c.in-Ok-eq0.ensures.left.1 none (omega arith); not_failed = let same = c.in-Ok-eq0.ensures.failures in let before = kept.1.reads in omega arith }, end.0, end.1))
-    (λ fault told. told)
-
-pub returns-in-Ok-eq0-clause-read_failed : goal.returns-in-Ok-eq0-clause-read_failed
-returns-in-Ok-eq0-clause-read_failed g c is =
-    let kept = c.loop-turn.invariant in
-    let stop = err_at c.finish.result _ c.finish.ensures.stops Read is c.args.writer.now kept.0 kept.1.holds in
-    absurd (never_read stop.fault_is)
-
-pub returns-in-Ok-eq0-clause-no_memory : goal.returns-in-Ok-eq0-clause-no_memory
-returns-in-Ok-eq0-clause-no_memory g c is =
-    let kept = c.loop-turn.invariant in
-    let stop = err_at c.finish.result _ c.finish.ensures.stops Memory is c.args.writer.now kept.0 kept.1.holds in
-    never_memory stop.fault_is
-
-pub returns-in-Ok-eq0-clause-write_failed : goal.returns-in-Ok-eq0-clause-write_failed
-returns-in-Ok-eq0-clause-write_failed g c is =
-    let source = g.R.Source in
-    let kept = c.loop-turn.invariant in
-    let text = kept.0 in
-    let none : c.in-Ok-eq0.field-0 ≡ 0 = c.in-Ok-eq0.field-0-test in
-    let gives = subst (λ (all : List ℕ). Gives source c.args.reader.now c.read.new.self all) (ap (λ count. text ++ take count c.read.new.buffer) none ∙ append-nil text)
-    (Gives-more source c.args.reader.now c.loop-turn.reader c.read.new.self text (take c.in-Ok-eq0.field-0 c.read.new.buffer) kept.1.gives c.in-Ok-eq0.ensures.given c.in-Ok-eq0.ensures.left.0) in
-    (text, lines text, gives, inr (c.in-Ok-eq0.ensures.ended none (omega arith), refl), err_at c.finish.result _ c.finish.ensures.stops Write is c.args.writer.now text kept.1.holds)
-
--- the writing of an answer to a line among the bytes that came was cut short
-pub returns-in_err-feed-in-Ok-clause-read_failed : goal.returns-in_err-feed-in-Ok-clause-read_failed
-returns-in_err-feed-in-Ok-clause-read_failed g c is =
-    let kept = c.loop-turn.invariant in
+pub returns-in_err-told-clause-write_failed : goal.returns-in_err-told-clause-write_failed
+returns-in_err-told-clause-write_failed g c is =
     let p = err_from_is_err_and c.from_residual.result c.from_residual.ensures.1 in
-    let stop = c.in_err-feed-in-Ok.ensures.stops c.args.writer.now kept.0 kept.1.holds in
-    let same : Read ≡ Write = (let given = p.1 in let fault = p.2 in let kind = stop.fault_is in cc) in
-    absurd (never_read same)
+    let same : c.in_err-told.field-0.0 ≡ Write = (let given = p.1 in let fault = p.2 in cc) in
+    let failed = c.tell_lines.ensures.write_failed (c.in_err-told.was ∙ ap Err same) in
+    let stops = failed.4 in
+    (failed.0, failed.1, failed.2, failed.3, front_of_answers g.W.Sink c.args.writer.now c.tell_lines.new.writer stops.last failed.1 stops.first stops.others stops.answers stops.parts stops.tells stops.stops)
 
-pub returns-in_err-feed-in-Ok-clause-no_memory : goal.returns-in_err-feed-in-Ok-clause-no_memory
-returns-in_err-feed-in-Ok-clause-no_memory g c is =
-    let kept = c.loop-turn.invariant in
+pub returns-in_err-told-clause-no_memory : goal.returns-in_err-told-clause-no_memory
+returns-in_err-told-clause-no_memory g c is =
     let p = err_from_is_err_and c.from_residual.result c.from_residual.ensures.1 in
-    let stop = c.in_err-feed-in-Ok.ensures.stops c.args.writer.now kept.0 kept.1.holds in
-    let same : Memory ≡ Write = (let given = p.1 in let fault = p.2 in let kind = stop.fault_is in cc) in
-    never_memory same
-
-pub returns-in_err-feed-in-Ok-clause-write_failed : goal.returns-in_err-feed-in-Ok-clause-write_failed
-returns-in_err-feed-in-Ok-clause-write_failed g c is =
-    let source = g.R.Source in
-    let kept = c.loop-turn.invariant in
-    let bytes = take c.in-Ok.count c.read.new.buffer in
-    let text = kept.0 ++ bytes in
-    let stop = c.in_err-feed-in-Ok.ensures.stops c.args.writer.now kept.0 kept.1.holds in (
-      text,
-      ended_lines text,
-      Gives-more source c.args.reader.now c.loop-turn.reader c.read.new.self kept.0 bytes kept.1.gives c.in-Ok.ensures.given c.in-Ok.ensures.left.0,
-      inl refl,
-      subst (λ (fault : DeskFault). StopsWriting g.W.Sink c.args.writer.now c.feed.new.writer fault (answers_to (ended_lines text))) stop.fault_is stop,
-    )
+    let same : c.in_err-told.field-0.0 ≡ Memory = (let given = p.1 in let fault = p.2 in cc) in
+    let failed = c.tell_lines.ensures.no_memory (c.in_err-told.was ∙ ap Err same) in
+    let wanted = failed.4.wanted refl in
+    wanted.1

@@ -1,12 +1,6 @@
-use Rattle.std.proofs.Common.{◌≡◌, ◌≢◌, ℕ, List, [], Bool, true, false, Result, Ok, Err, refl, sym, ◌∙◌, ap, sum}
-use Rattle.riichi_hand.specs.HandParts.{HandParts}
-use Rattle.riichi_hand.specs.Hand.{hand_of}
+use Rattle.std.proofs.Common.{refl, sym, ◌∙◌, ap}
 use Rattle.riichi_hand.specs.FaultTexts.{fault_text}
-use Rattle.riichi_hand.specs.declared.fault.LineCode.TheVariants.{H8}
-use Rattle.riichi_hand.specs.declared.fault.LineFault.{LineFault}
-use Rattle.riichi_hand.specs.declared.fault.LineFault.TheVariants.{Line}
 use Rattle.riichi_split.specs.Waits.{waits_of, waits_text}
-use Rattle.desk_lines.specs.WaitsLine.{concealed_hand}
 use Rattle.desk_lines.proofs.ConcealedHands.{of_thirteen, of_another, ok_is, not_err, not_ok, err_is}
 use Rattle.desk_lines.proofs.waits.answer_counts.Goals as goal
 

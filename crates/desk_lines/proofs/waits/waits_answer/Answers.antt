@@ -1,5 +1,4 @@
-use Rattle.std.proofs.Common.{◌≡◌, ◌≢◌, ℕ, List, Bool, true, false, Ok, Err, refl, sym, ◌∙◌, ap, subst, sum}
-use Rattle.riichi_tiles.specs.declared.notation.NotationFault.{NotationFault}
+use Rattle.std.proofs.Common.{◌≡◌, ◌≢◌, ℕ, List, true, false, sym, ◌∙◌, ap, subst, sum}
 use Rattle.riichi_hand.specs.FaultTexts.{fault_text}
 use Rattle.riichi_hand.specs.declared.fault.LineFault.TheVariants.{Line, Notation}
 use Rattle.riichi_hand.specs.declared.fault.TextName.TheVariants.{Hand}

@@ -1,19 +1,20 @@
-use Rattle.std.proofs.Common.{◌≡◌, ◌∙◌, ◌++◌, [], ◌∷◌, List, ℕ, take, ap, subst}
+use Rattle.std.proofs.Common.{◌≡◌, ◌∙◌, ◌++◌, [], List, ℕ, take, ap, sym, subst}
 use Rattle.std.proofs.lemmas.Result.{MatchResult-weaker, err_from_is_err_and}
 use Rattle.desk_lines.specs.Lines.{cut_of, ended_lines, without_return}
-use Rattle.desk_lines.specs.Teller.{Stands}
-use Rattle.desk_lines.proofs.DeskLemmas.{Holds-line, front_alone, front_held}
+use Rattle.desk_lines.specs.Telling.{IsToldAs}
+use Rattle.desk_lines.proofs.DeskLemmas.{Holds-line, told_alone, told_held}
 use Rattle.desk_lines.proofs.desk.Desk.end_line.Goals as goal
 
 pub returns-then-is_empty-clause-holds : goal.returns-then-is_empty-clause-holds
 returns-then-is_empty-clause-holds g c =
-    let sink = g.W.Sink in
     let bytes = c.args.bytes.now in
-    let none : c.args.self.now.held.bytes.items ≡ [] = c.is_empty.ensures.0 c.if-is_empty.true in
+    let held = c.args.self.now.held.bytes.items in
+    let none : held ≡ [] = c.is_empty.ensures.0 c.if-is_empty.true in
     MatchResult-weaker c.answer.result c.answer.ensures.stands (λ _ answered start text holds.
-    Holds-line sink start _ c.answer.new.writer text bytes bytes c.requires.plain (front_alone c.args.self.now.held.bytes.items (cut_of text).rest bytes holds.held none)
-    (subst (λ (line : List ℕ). Stands sink start (ended_lines text ++ line ∷ []) c.answer.new.self c.answer.new.writer) c.line_in.ensures (answered start (ended_lines text) holds.stands))
-    none) (λ fault stops. stops)
+    let whole = without_return ((cut_of text).rest ++ bytes) in
+    let as_this : IsToldAs g.T.Teller.most c.line_in.result.now whole =
+    subst (λ (line : List ℕ). IsToldAs g.T.Teller.most line whole) (sym c.line_in.ensures) (told_alone g.T.Teller.most g.row.ROOM c.requires.room held (cut_of text).rest bytes holds.held none) in
+    Holds-line g.W.Sink g.T.Teller start _ c.answer.new.writer text bytes c.requires.plain (answered start (ended_lines text) whole as_this holds.stands) none) (λ fault stops. stops)
 
 pub returns-then-is_empty-clause-stops : goal.returns-then-is_empty-clause-stops
 returns-then-is_empty-clause-stops g c =
@@ -26,10 +27,10 @@ returns-in_err-answer-clause-stops g c =
 
 pub returns-clause-holds : goal.returns-clause-holds
 returns-clause-holds g c start text holds =
-    let sink = g.W.Sink in
     let bytes = c.args.bytes.now in
     let held = c.args.self.now.held.bytes.items in
-    let line : c.line_in-2.result.now ≡ without_return (take 4098 (held ++ bytes)) = c.line_in-2.ensures ∙ ap without_return (c.as_slice.ensures ∙ c.hold.ensures) in
-    Holds-line sink start _ c.answer-2.new.writer text bytes (take 4098 (held ++ bytes)) c.requires.plain (front_held held (cut_of text).rest bytes holds.held)
-    (subst (λ (l : List ℕ). Stands sink start (ended_lines text ++ l ∷ []) c.answer-2.new.self c.answer-2.new.writer) line (c.in_ok-answer.ensures.stands start (ended_lines text) holds.stands))
-    c.clear.ensures
+    let line : c.line_in-2.result.now ≡ without_return (take g.row.ROOM (held ++ bytes)) = c.line_in-2.ensures ∙ ap without_return (c.as_slice.ensures ∙ c.hold.ensures) in
+    let whole = without_return ((cut_of text).rest ++ bytes) in
+    let as_this : IsToldAs g.T.Teller.most c.line_in-2.result.now whole =
+    subst (λ (l : List ℕ). IsToldAs g.T.Teller.most l whole) (sym line) (told_held g.T.Teller.most g.row.ROOM c.requires.room held (cut_of text).rest bytes holds.held) in
+    Holds-line g.W.Sink g.T.Teller start _ c.answer-2.new.writer text bytes c.requires.plain (c.in_ok-answer.ensures.stands start (ended_lines text) whole as_this holds.stands) c.clear.ensures

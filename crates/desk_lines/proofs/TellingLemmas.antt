@@ -1,0 +1,57 @@
+-- One more answer, and the front of a line.
+use Rattle.std.proofs.Common.{◌≡◌, ℕ, ◌+◌, ◌≤◌, inl, inr, List, [], ◌∷◌, ◌++◌, Bool, true, false, cond, nat_eq, length, take, Option, Some, None, sym, ◌∙◌, ap, arith, zero-add, add-zero}
+use Rattle.std.specs.Prelude.{not, count_by}
+use Rattle.std.proofs.lemmas.List.{append-nil, take_all, length-take}
+use Rattle.std.proofs.lemmas.Grind.{flat_map-append}
+use Rattle.std.proofs.lemmas.List.Sums.{sum_by-append}
+use Rattle.std.proofs.lemmas.Bool.{cases_lt}
+use Rattle.desk_lines.specs.declared.report.DeskReport.{DeskReport}
+use Rattle.desk_lines.specs.declared.line_kind.LineKind.TheVariants.{Answered, Refused}
+use Rattle.desk_lines.specs.Lines.{without_return}
+use Rattle.desk_lines.specs.Telling.{text_of, with_line_feed, is_refusal, report_of, report_with, answers_in, kind_of, IsToldAs}
+
+pub text_of-append : (answers more : List (List ℕ)) → text_of (answers ++ more) ≡ text_of answers ++ text_of more
+text_of-append answers more = flat_map-append (λ answer. answer ++ 10 ∷ []) answers more
+
+pub text_of-more : (answers : List (List ℕ)) (answer : Option (List ℕ)) → text_of (answers ++ answers_in answer) ≡ text_of answers ++ with_line_feed answer
+text_of-more answers None = ap text_of (append-nil answers) ∙ sym (append-nil (text_of answers))
+text_of-more answers (Some answer) = text_of-append answers (answer ∷ []) ∙ ap (λ more. text_of answers ++ more) (append-nil (answer ++ 10 ∷ []))
+
+counted-last : (test : List ℕ → Bool) (answers : List (List ℕ)) (answer : List ℕ) → count_by test (answers ++ answer ∷ []) ≡ count_by test answers + cond (test answer) 1 0
+counted-last test answers answer =
+    sum_by-append (λ answer. cond (test answer) 1 0) answers (answer ∷ []) ∙ ap (λ n. count_by test answers + n) (zero-add (cond (test answer) 1 0))
+
+-- the answer as a test of it says, counted
+counted_so : (refused : Bool) (report : DeskReport)
+    → (let counted : DeskReport = record { answered = report.answered + cond (not refused) 1 0; refused = report.refused + cond refused 1 0 } in counted) ≡ report_with report (cond refused Refused Answered)
+counted_so true report = ap (λ (n : ℕ). let counted : DeskReport = record { answered = n; refused = report.refused + 1 } in counted) (add-zero report.answered)
+counted_so false report = ap (λ (n : ℕ). let counted : DeskReport = record { answered = report.answered + 1; refused = n } in counted) (add-zero report.refused)
+
+-- one more answer is counted
+pub report_of-more : (answers : List (List ℕ)) (answer : Option (List ℕ)) → report_of (answers ++ answers_in answer) ≡ report_with (report_of answers) (kind_of answer)
+report_of-more answers None = ap report_of (append-nil answers)
+report_of-more answers (Some answer) =
+    let answered = counted-last (λ text. not (is_refusal text)) answers answer in
+    let refused = counted-last is_refusal answers answer in
+    ap (λ (n : ℕ). let counted : DeskReport = record { answered = n; refused = count_by is_refusal (answers ++ answer ∷ []) } in counted) answered
+    ∙ ap (λ (n : ℕ). let counted : DeskReport = record { answered = count_by (λ text. not (is_refusal text)) answers + cond (not (is_refusal answer)) 1 0; refused = n } in counted) refused
+    ∙ counted_so (is_refusal answer) (report_of answers)
+
+without_return_short : (line : List ℕ) → length line ≤ length (without_return line) + 1
+without_return_short [] = omega arith
+without_return_short (byte ∷ []) = elim (nat_eq byte 13) as (λ test. 1 ≤ length (cond test [] (byte ∷ [])) + 1) [ true ↦ omega arith | false ↦ omega arith ]
+without_return_short (byte ∷ next ∷ bytes) = let shorter = without_return_short (next ∷ bytes) in omega arith
+
+-- A line of which only a front is kept may be told as the whole: it is no longer than what is kept, or so long that it is told as any such line.
+pub told_by_front : (most room : ℕ) → most + 2 ≤ room → (line other : List ℕ) → take room line ≡ take room other → IsToldAs most (without_return line) (without_return other)
+told_by_front most room enough line other same = elim (cases_lt (most + 1) (length line)) as (λ _. IsToldAs most (without_return line) (without_return other)) [
+  | inl longer ↦
+      let kept = length-take room line in let kept_other = length-take room other in let lengths = ap length same in
+      let front = without_return_short line in let front_other = without_return_short other in
+      inr (omega arith, omega arith)
+  | inr short ↦
+      let kept = length-take room line in let kept_other = length-take room other in let lengths = ap length same in
+      let whole : take room line ≡ line = take_all room line (omega arith) in
+      let whole_other : take room other ≡ other = take_all room other (omega arith) in
+      inl (ap without_return (sym whole ∙ same ∙ whole_other))
+]

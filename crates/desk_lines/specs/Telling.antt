@@ -1,0 +1,56 @@
+-- What was told of some lines: the answers, each a text without its line feed.
+use Rattle.std.specs.Prelude.{◌≡◌, ℕ, ◌+◌, ◌<◌, ◌⊎◌, List, [], ◌∷◌, ◌++◌, length, Bool, not, Option, None, Some, nat_eq, codes, if◌then◌else◌}
+use Rattle.std.specs.List.{flat_map, starts_with, count_by, cons_option}
+use Rattle.desk_lines.specs.declared.report.DeskReport.{DeskReport}
+use Rattle.desk_lines.specs.declared.line_kind.LineKind.{LineKind}
+use Rattle.desk_lines.specs.declared.line_kind.LineKind.TheVariants.{NoRecord, Answered, Refused}
+
+-- answers as they are written
+abbrev pub text_of : List (List ℕ) → List ℕ
+text_of answers = flat_map (λ answer. answer ++ 10 ∷ []) answers
+
+-- an answer that begins with `refused`
+abbrev pub is_refusal : List ℕ → Bool
+is_refusal answer = starts_with nat_eq answer (codes "refused")
+
+-- what is written for the answer to a line
+abbrev pub with_line_feed : Option (List ℕ) → List ℕ
+with_line_feed None = []
+with_line_feed (Some answer) = answer ++ 10 ∷ []
+
+-- how many answers begin with `refused`, and how many don't
+abbrev pub report_of : List (List ℕ) → DeskReport
+report_of answers = record {
+  answered = count_by (λ answer. not (is_refusal answer)) answers;
+  refused = count_by is_refusal answers;
+}
+
+-- the lines that a report counts
+abbrev pub count_of : DeskReport → ℕ
+count_of report = report.answered + report.refused
+
+-- one more line is counted
+abbrev pub report_with : DeskReport → LineKind → DeskReport
+report_with report NoRecord = report
+report_with report Answered = record { answered = report.answered + 1; refused = report.refused }
+report_with report Refused = record { answered = report.answered; refused = report.refused + 1 }
+
+-- the answers to a line: one or none
+abbrev pub answers_in : Option (List ℕ) → List (List ℕ)
+answers_in answer = cons_option answer []
+
+-- what a line with this answer is
+abbrev pub kind_of : Option (List ℕ) → LineKind
+kind_of None = NoRecord
+kind_of (Some answer) = if is_refusal answer then Refused else Answered
+
+-- a line may be told as another one: where they are one line, or both have more bytes than are told apart
+abbrev pub IsToldAs : ℕ → List ℕ → List ℕ → Type 0
+IsToldAs most line other = (line ≡ other) ⊎ ((most < length line) × (most < length other))
+
+-- The next line was answered so, and any that may be told as this one: the answer was put behind the text that stood there.
+pub record AnswersLine {T : Type 0} (most : ℕ) (tells : T → List (List ℕ) → List (List ℕ) → Type 0) (old new : T) (line : List ℕ) (kind : LineKind) (before after : List ℕ) : Type 0 where
+  pub answer : Option (List ℕ)
+  pub kind_is : kind ≡ kind_of answer
+  pub put : after ≡ before ++ with_line_feed answer
+  pub tells_more : (lines told : List (List ℕ)) (next : List ℕ) → IsToldAs most line next → tells old lines told → tells new (lines ++ next ∷ []) (told ++ answers_in answer)
