@@ -74,7 +74,7 @@ same_answer : (rules : Option Rules) (line next : List ℕ) → IsToldAs 4096 li
 same_answer rules line next (inl same) = ap (told_by rules) same
 same_answer rules line next (inr long) = told_long rules line long.0 ∙ sym (told_long rules next long.1)
 
-same_rules : (rules : Option Rules) (line next : List ℕ) → IsToldAs 4096 line next → rules_by rules line ≡ rules_by rules next
+pub same_rules : (rules : Option Rules) (line next : List ℕ) → IsToldAs 4096 line next → rules_by rules line ≡ rules_by rules next
 same_rules rules line next (inl same) = ap (rules_by rules) same
 same_rules rules line next (inr long) = rules_long rules line long.0 ∙ sym (rules_long rules next long.1)
 

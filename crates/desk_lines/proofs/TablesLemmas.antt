@@ -5,6 +5,7 @@ use Rattle.desk_core.specs.declared.answer.Answer.{Answer}
 use Rattle.desk_lines.specs.declared.asked.Asked.{Asked}
 use Rattle.desk_lines.specs.declared.asked.Asked.TheVariants.{NextJob}
 use Rattle.desk_lines.specs.declared.fault.DeskFault.{DeskFault}
+use Rattle.desk_lines.specs.declared.fault.DeskFault.TheVariants.{Write}
 use Rattle.desk_lines.specs.declared.outbox.Outbox.{Outbox}
 use Rattle.desk_lines.specs.Asked.{line_told, answers_after, told}
 use Rattle.desk_lines.specs.Streams.{Writes, WritesAll, StopsWriting}
@@ -43,11 +44,11 @@ module _ {W : Type 0} (sink : OfSink W) (start : W) where
   Sends-more text front line outbox writer sends = subst (λ (all : List ℕ). Sends sink start all outbox writer) (append_assoc text front line) sends
 
   -- the sending of more was cut short
-  pub StopsWriting-front : (text front rest all : List ℕ) (new : W) (fault : DeskFault) → all ≡ front ++ rest → StopsWriting sink start new fault (text ++ front)
-      → StopsWriting sink start new fault (text ++ all)
-  StopsWriting-front text front rest all new fault parts stops =
-      subst (λ (whole : List ℕ). StopsWriting sink start new fault whole) (append_assoc text front rest ∙ ap (λ a. text ++ a) (sym parts))
-      (StopsWriting-more sink start new fault (text ++ front) rest stops)
+  pub StopsWriting-front : (text front rest all : List ℕ) (new : W) → all ≡ front ++ rest → StopsWriting sink start new (text ++ front)
+      → StopsWriting sink start new (text ++ all)
+  StopsWriting-front text front rest all new parts stops =
+      subst (λ (whole : List ℕ). StopsWriting sink start new whole) (append_assoc text front rest ∙ ap (λ a. text ++ a) (sym parts))
+      (StopsWriting-more sink start new (text ++ front) rest stops)
 
   -- what was in the outbox was written, or its writing stopped
   pub Sends-written : {T : Type 0} (text : List ℕ) (outbox : Outbox) (writer new : W) (result : Result T DeskFault) → Sends sink start text outbox writer → Writes sink writer new result outbox.bytes.items
@@ -55,4 +56,4 @@ module _ {W : Type 0} (sink : OfSink W) (start : W) where
   Sends-written text outbox writer new (Ok value) sends writes =
       subst (λ (all : List ℕ). WritesAll sink start new all) sends.told (WritesAll-trans sink start writer new sends.sent outbox.bytes.items sends.writes writes)
   Sends-written text outbox writer new (Err fault) sends stops =
-      subst (λ (all : List ℕ). StopsWriting sink start new fault all) sends.told (StopsWriting-after sink start writer new fault sends.sent outbox.bytes.items sends.writes stops)
+      (stops.0, subst (λ (all : List ℕ). StopsWriting sink start new all) sends.told (StopsWriting-after sink start writer new sends.sent outbox.bytes.items sends.writes stops.1))

@@ -36,6 +36,7 @@ mod told;
 mod waits;
 
 pub use asked::Asked;
+pub use collecting::{Collected, collect_text};
 pub use fault::DeskFault;
 pub use report::DeskReport;
 pub use tables::write_tables;

@@ -1,5 +1,5 @@
 //! The answers of several tables, one after the other.
-ghost use Rattle.std.specs.Prelude.{◌≡◌, ◌+◌, ◌≤◌, ℕ, List, [], ◌∷◌, ◌++◌, length, map, OnOk, IfOk, IfErr};
+ghost use Rattle.std.specs.Prelude.{◌≡◌, ◌+◌, ◌≤◌, ℕ, List, [], ◌∷◌, ◌++◌, length, map, OnOk, OnErr, IfOk, IfErr};
 ghost use Rattle.desk_lines.specs.Asked.{line_told, answers_after, told};
 ghost use Rattle.desk_lines.specs.Tables.{table_line, tables_text, first_answers, other_answers, told_tables, Sends};
 ghost use Rattle.desk_lines.specs.Streams.{Writes, StopsWriting};
@@ -49,8 +49,9 @@ fn first_table(answers: &[Vec<Answer>]) -> (&[Answer], &[Vec<Answer>])
 fn send_number<W: Sink>(number: usize, outbox: &mut Outbox, writer: &mut W) -> Result<(), DeskFault>
     ensures sends { OnOk result ((start : W) (text : List ℕ) → Sends ⟦<W as Sink>⟧ start text outbox.old writer.old
         → Sends ⟦<W as Sink>⟧ start (text ++ table_line number) outbox.new writer.new) }
-    ensures stops { IfErr result (λ fault. (start : W) (text : List ℕ) → Sends ⟦<W as Sink>⟧ start text outbox.old writer.old
-        → StopsWriting ⟦<W as Sink>⟧ start writer.new fault text) }
+    ensures stops { OnErr result ((start : W) (text : List ℕ) → Sends ⟦<W as Sink>⟧ start text outbox.old writer.old
+        → StopsWriting ⟦<W as Sink>⟧ start writer.new text) }
+    ensures fault { IfErr result (λ fault. fault ≡ DeskFault.Write) }
 {
     let mut buffer = Buffer::new();
     let mut text: ArrayString<48> = ArrayString::new();
@@ -68,8 +69,9 @@ fn send_answers<W: Sink>(
 ) -> Result<(), DeskFault>
     ensures sends { OnOk result ((start : W) (text : List ℕ) → Sends ⟦<W as Sink>⟧ start text outbox.old writer.old
         → Sends ⟦<W as Sink>⟧ start (text ++ told asked.now answers.now) outbox.new writer.new) }
-    ensures stops { IfErr result (λ fault. (start : W) (text : List ℕ) → Sends ⟦<W as Sink>⟧ start text outbox.old writer.old
-        → StopsWriting ⟦<W as Sink>⟧ start writer.new fault (text ++ told asked.now answers.now)) }
+    ensures stops { OnErr result ((start : W) (text : List ℕ) → Sends ⟦<W as Sink>⟧ start text outbox.old writer.old
+        → StopsWriting ⟦<W as Sink>⟧ start writer.new (text ++ told asked.now answers.now)) }
+    ensures fault { IfErr result (λ fault. fault ≡ DeskFault.Write) }
 {
     let mut rest = answers;
     for line in asked {
@@ -88,8 +90,9 @@ fn send_asked<'a, W: Sink>(
     ensures rest { IfOk result (λ rest. rest.now ≡ answers_after line.now answers.now) }
     ensures sends { OnOk result ((start : W) (text : List ℕ) → Sends ⟦<W as Sink>⟧ start text outbox.old writer.old
         → Sends ⟦<W as Sink>⟧ start (text ++ line_told line.now answers.now) outbox.new writer.new) }
-    ensures stops { IfErr result (λ fault. (start : W) (text : List ℕ) → Sends ⟦<W as Sink>⟧ start text outbox.old writer.old
-        → StopsWriting ⟦<W as Sink>⟧ start writer.new fault text) }
+    ensures stops { OnErr result ((start : W) (text : List ℕ) → Sends ⟦<W as Sink>⟧ start text outbox.old writer.old
+        → StopsWriting ⟦<W as Sink>⟧ start writer.new text) }
+    ensures fault { IfErr result (λ fault. fault ≡ DeskFault.Write) }
 {
     match line {
         Asked::Refusal(fault) => {
@@ -111,8 +114,9 @@ fn send_line<W: Sink>(line: &[u8], outbox: &mut Outbox, writer: &mut W) -> Resul
     requires { length line.now ≤ 3072 }
     ensures sends { OnOk result ((start : W) (text : List ℕ) → Sends ⟦<W as Sink>⟧ start text outbox.old writer.old
         → Sends ⟦<W as Sink>⟧ start (text ++ (line.now ++ 10 ∷ [])) outbox.new writer.new) }
-    ensures stops { IfErr result (λ fault. (start : W) (text : List ℕ) → Sends ⟦<W as Sink>⟧ start text outbox.old writer.old
-        → StopsWriting ⟦<W as Sink>⟧ start writer.new fault text) }
+    ensures stops { OnErr result ((start : W) (text : List ℕ) → Sends ⟦<W as Sink>⟧ start text outbox.old writer.old
+        → StopsWriting ⟦<W as Sink>⟧ start writer.new text) }
+    ensures fault { IfErr result (λ fault. fault ≡ DeskFault.Write) }
 {
     if !outbox.has_room() {
         outbox.flush(writer)?;

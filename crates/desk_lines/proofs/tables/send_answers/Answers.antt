@@ -16,7 +16,7 @@ loop-line-preserved g c =
         all = kept.1.all ∙ ap (λ rest. kept.0 ++ rest) (told-next lines place c.loop-line.rest.now (omega arith) ∙ ap (λ answers. line ++ told (drop (place + 1) lines) answers) (sym c.in_ok-rest.ensures.rest))
             ∙ sym (append_assoc kept.0 line (told (drop (place + 1) lines) c.in_ok-rest.rest.now));
         sends = λ start text sends.
-        Sends-more g.W.Sink start text kept.0 line c.send_asked.new.outbox c.send_asked.new.writer (c.in_ok-rest.ensures.sends start (text ++ kept.0) (kept.1.sends start text sends));
+            Sends-more g.W.Sink start text kept.0 line c.send_asked.new.outbox c.send_asked.new.writer (c.in_ok-rest.ensures.sends start (text ++ kept.0) (kept.1.sends start text sends));
       },
     )
 
@@ -24,6 +24,6 @@ pub returns-in_err-rest-clause-stops : goal.returns-in_err-rest-clause-stops
 returns-in_err-rest-clause-stops g c =
     let kept = c.loop-line.invariant in
     let p = err_from_is_err_and c.from_residual.result c.from_residual.ensures.1 in
-    rw (p.1, p.2) (λ start text sends.
-    StopsWriting-front g.W.Sink start text kept.0 (told (drop c.loop-line.line-index c.args.asked.now) c.loop-line.rest.now) (told c.args.asked.now c.args.answers.now) c.send_asked.new.writer c.in_err-rest.field-0.0
+    rw p.1 (λ start text sends.
+    StopsWriting-front g.W.Sink start text kept.0 (told (drop c.loop-line.line-index c.args.asked.now) c.loop-line.rest.now) (told c.args.asked.now c.args.answers.now) c.send_asked.new.writer
     kept.1.all (c.in_err-rest.ensures.stops start (text ++ kept.0) (kept.1.sends start text sends)))

@@ -34,8 +34,11 @@ pub returns-in_err-send_number : goal.returns-in_err-send_number
 returns-in_err-send_number g c =
     let kept = c.loop-number.invariant in
     let p = err_from_is_err_and c.from_residual.result c.from_residual.ensures.1 in
-    rw (p.1, p.2) (StopsWriting-front g.W.Sink c.args.writer.now [] kept.0 _ _ c.send_number.new.writer c.in_err-send_number.field-0.0 kept.1.all
-    (c.in_err-send_number.ensures.stops c.args.writer.now kept.0 kept.1.sends))
+    rw p.1 (
+      p.2 ∙ c.in_err-send_number.ensures.fault,
+      StopsWriting-front g.W.Sink c.args.writer.now [] kept.0 _ _ c.send_number.new.writer kept.1.all
+          (c.in_err-send_number.ensures.stops c.args.writer.now kept.0 kept.1.sends),
+    )
 
 pub returns-in_err-send_answers : goal.returns-in_err-send_answers
 returns-in_err-send_answers g c =
@@ -44,10 +47,13 @@ returns-in_err-send_answers g c =
     let number = c.loop-number.number in
     let p = err_from_is_err_and c.from_residual-in_err-send_answers.result c.from_residual-in_err-send_answers.ensures.1 in
     let stops = c.in_err-send_answers.ensures.stops c.args.writer.now (kept.0 ++ table_line number) (c.in_ok-send_number.ensures.sends c.args.writer.now kept.0 kept.1.sends) in
-    rw (p.1, p.2) (StopsWriting-front g.W.Sink c.args.writer.now [] ((kept.0 ++ table_line number) ++ told c.index-tables-number.result.items (first_answers given)) _ _ c.send_answers.new.writer c.in_err-send_answers.field-0.0
-    (tables-step (λ asked. asked.items) _ kept.0 c.args.tables.now number c.index-tables-number.result given (map (λ given. given.items) c.first_table.result.1.now) (omega arith) c.index-tables-number.is
-    c.first_table.ensures.others kept.1.all)
-    (rw (← c.as_slice.ensures.value, ← c.first_table.ensures.first) stops))
+    rw p.1 (
+      p.2 ∙ c.in_err-send_answers.ensures.fault,
+      StopsWriting-front g.W.Sink c.args.writer.now [] ((kept.0 ++ table_line number) ++ told c.index-tables-number.result.items (first_answers given)) _ _ c.send_answers.new.writer
+          (tables-step (λ asked. asked.items) _ kept.0 c.args.tables.now number c.index-tables-number.result given (map (λ given. given.items) c.first_table.result.1.now) (omega arith) c.index-tables-number.is
+          c.first_table.ensures.others kept.1.all)
+          (rw (← c.as_slice.ensures.value, ← c.first_table.ensures.first) stops),
+    )
 
 pub returns : goal.returns
 returns g c =
