@@ -24,6 +24,7 @@ pub enum ScoreFault {
 }
 
 impl From<DeskFault> for ScoreFault {
+    ghost use Rattle.std.specs.Prelude.{◌≡◌};
     ghost use Rattle.desk_score.specs.Faults.{desk_fault};
 
     ghost from_gives = { λ fault given. given ≡ desk_fault fault };
@@ -38,6 +39,7 @@ impl From<DeskFault> for ScoreFault {
 }
 
 impl From<RunFault> for ScoreFault {
+    ghost use Rattle.std.specs.Prelude.{◌≡◌};
     ghost use Rattle.desk_score.specs.Faults.{run_fault};
 
     ghost from_gives = { λ fault given. given ≡ run_fault fault };
