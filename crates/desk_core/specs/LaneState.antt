@@ -24,6 +24,12 @@ TakesInPiece old piece new =
     (place : ℕ) × (old.next + place ≡ piece.ticket.seq) × (slice_get old.window place ≡ Some (piece.job, false))
     × (new ≡ record old { window = slice_set old.window place (piece.job, true) })
 
+-- the ticket of the piece was given out for its job, and no piece has arrived for it
+abbrev pub Awaits : LaneState → Ticketed → Type 0
+Awaits lane piece =
+    (piece.ticket.table ≡ lane.table)
+    × ((place : ℕ) × (lane.next + place ≡ piece.ticket.seq) × (slice_get lane.window place ≡ Some (piece.job, false)))
+
 -- so many new lanes, each for the table of its place
 pub record IsNewDesk (tables : ℕ) (lanes : List LaneState) : Type 0 where
   pub count : length lanes ≡ tables

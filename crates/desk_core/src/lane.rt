@@ -1,4 +1,4 @@
-ghost use Rattle.std.specs.Prelude.{◌≡◌, ◌≢◌, ◌↔◌, ℕ, ◌<◌, ◌+◌, List, length, [], true, false, IsTrue, IfErr, OnOk, OnErr};
+ghost use Rattle.std.specs.Prelude.{◌≡◌, ◌≢◌, ◌↔◌, ℕ, ◌<◌, ◌+◌, List, length, [], true, false, IsTrue, IfOk, IfErr, OnOk, OnErr};
 
 use crate::arrived::Arrived;
 use crate::entry::Entry;
@@ -41,7 +41,7 @@ impl Model for Lane {
 impl Lane {
     ghost use Rattle.desk_core.specs.History.{Turn, table_of, turns_of, submitted, is_closed};
     ghost use Rattle.desk_core.specs.Step.{IsStep, StandsFor};
-    ghost use Rattle.desk_core.specs.LaneState.{new_lane, with_job, TakesInPiece};
+    ghost use Rattle.desk_core.specs.LaneState.{new_lane, with_job, TakesInPiece, Awaits};
     ghost use Rattle.desk_core.specs.GivesFirst.{GivesFirst};
     ghost use Rattle.desk_core.specs.Replies.{submit_reply};
 
@@ -89,6 +89,7 @@ impl Lane {
         ensures back { IfErr result (λ back. back.job ≡ job) }
         ensures err { OnErr result (self.new ≡ self.old) }
         ensures ok { OnOk result (self.new ≡ with_job self.old job) }
+        ensures ticket { IfOk result (λ ticket. ticket ≡ record { table = self.old.table; seq = self.old.next + length self.old.window }) }
     {
         if self.closed {
             return Err(SubmitBack {
@@ -122,6 +123,7 @@ impl Lane {
         ensures step { piece.ticket.table ≡ self.old.table → IsStep self.old (Event.Arrive piece) (Reply.Arrived result) self.new }
         ensures other_table { piece.ticket.table ≢ self.old.table → result ≡ Arrived.Stranger }
         ensures accepted { result ≡ Arrived.Accepted → TakesInPiece self.old piece self.new }
+        ensures awaited { Awaits self.old piece → result ≡ Arrived.Accepted }
         ensures kept { result ≢ Arrived.Accepted → self.new ≡ self.old }
     {
         let ticket = piece.ticket();

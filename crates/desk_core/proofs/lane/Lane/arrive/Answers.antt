@@ -1,4 +1,6 @@
-use Rattle.std.proofs.Common.{◌≡◌, ℕ, ◌+◌, ◌-◌, ◌<◌, ◌≤◌, List, map, length, Some, false, refl, sym, ap, ◌∙◌, arith}
+use Rattle.std.proofs.Common.{◌≡◌, ℕ, ◌+◌, ◌-◌, ◌<◌, ◌≤◌, List, map, length, Bool, Some, false, refl, sym, ap, ◌∙◌, arith}
+use Rattle.std.proofs.lemmas.Option.{same_Some, slice_get_within}
+use Rattle.riichi_hand.specs.declared.job.Job.{Job}
 use Rattle.std.specs.Prelude.{slice_get, option_map}
 use Rattle.std.proofs.lemmas.Bool.{false≢true}
 use Rattle.std.proofs.lemmas.List.{length-map, map-set}
@@ -56,4 +58,40 @@ returns-clause-accepted c = λ accepted.
           let there : slice_get (map seen items) k ≡ Some (c.args.piece.job, false) =
           slice_get-map seen items k ∙ ap (option_map seen) (slice_get-read items k w.in-Some.entry.now within w.in-Some.ensures.value) ∙ ap Some outcome.0 in
           rw (w.self-inside-is, ← c.self.view_is, map-set, outcome.1) (k, seq, there, refl)
+    ]
+
+pub returns-then-ticket-self-clause-awaited : goal.returns-then-ticket-self-clause-awaited
+returns-then-ticket-self-clause-awaited c = λ awaited. absurd (c.if-ticket-self.true (ap (λ (t : Ticket). t.table) c.ticket-ticket.ensures ∙ awaited.0 ∙ ap (λ l. l.table) (sym c.self.view_is)))
+
+pub returns-then-ticket-self-2-clause-awaited : goal.returns-then-ticket-self-2-clause-awaited
+returns-then-ticket-self-2-clause-awaited c = λ awaited.
+    let before : c.args.piece.ticket.seq < c.self.inside.next = rw (← c.ticket-ticket.ensures) c.if-ticket-self-2.true in
+    let seq : c.self.inside.next + awaited.1.0 ≡ c.args.piece.ticket.seq = ap (λ l. l.next + awaited.1.0) c.self.view_is ∙ awaited.1.1 in
+    absurd (omega arith)
+
+accepts : (old : Job × Bool) (job : Job) (result : Arrived) (new : Job × Bool) → TakesIn old job result new → old ≡ (job, false) → result ≡ arrived.Accepted
+accepts old job arrived.Doubled new taken same = absurd (false≢true (sym (ap (λ e. e.1) same) ∙ taken.0))
+accepts old job arrived.Stranger new taken same = absurd (taken.1 (ap (λ e. e.0) same))
+accepts old job arrived.Accepted new taken same = refl
+
+pub returns-clause-awaited : goal.returns-clause-awaited
+returns-clause-awaited c = λ awaited.
+    let items : List Entry = c.self.inside.window.items in
+    let k : ℕ = c.ticket-ticket.result.seq - c.self.inside.next in
+    let same_seq : c.ticket-ticket.result.seq ≡ c.args.piece.ticket.seq = ap (λ (t : Ticket). t.seq) c.ticket-ticket.ensures in
+    let seq : c.self.inside.next + awaited.1.0 ≡ c.args.piece.ticket.seq = ap (λ l. l.next + awaited.1.0) c.self.view_is ∙ awaited.1.1 in
+    let same_place : awaited.1.0 ≡ k = omega (arith, c.if-ticket-self-2.false) in
+    let waits : slice_get (map seen items) k ≡ Some (c.args.piece.job, false) =
+    ap (λ n. slice_get (map seen items) n) (sym same_place) ∙ ap (λ l. slice_get l.window awaited.1.0) c.self.view_is ∙ awaited.1.2 in
+    elim c.match-get_mut.branch [
+      | in-None w ↦
+          let past : length items ≤ k = not_lt k (length items) (λ more. false≢true (w.in-None.ensures.variant.1 (omega arith))) in
+          let near : k < length (map seen items) = slice_get_within (map seen items) k _ waits in
+          absurd (omega (arith, length-map items seen))
+      | in-Some w ↦
+          let within : k < length items = omega (arith, w.in-Some.ensures.variant.0 refl) in
+          let there : slice_get (map seen items) k ≡ Some (seen w.in-Some.entry.now) =
+          slice_get-map seen items k ∙ ap (option_map seen) (slice_get-read items k w.in-Some.entry.now within w.in-Some.ensures.value) in
+          w.result-is ∙ accepts (seen w.in-Some.entry.now) c.args.piece.job w.arrive.result (seen w.arrive.new.self) w.arrive.ensures.outcome
+          (same_Some _ _ (sym there ∙ waits))
     ]

@@ -1,0 +1,15 @@
+use Rattle.std.proofs.Common.{◌≡◌, ◌≤◌, ◌*◌, length, vec_capacity}
+use Rattle.desk_core.specs.LaneState.{new_lane}
+use Rattle.desk_run.specs.Plays.{table_of}
+use Rattle.desk_run.specs.Sitting.{Sits, board_name}
+use Rattle.desk_run.proofs.TakingUp.{TakenUp}
+use Rattle.desk_run.proofs.board.Board.table_seat.Given as goal
+
+abbrev pub invariant-loop-lot : goal.invariant-loop-lot
+invariant-loop-lot l = record {
+  id : l.seat.table_id ≡ board_name l.self;
+  sits : Sits l.seat.me l.base (new_lane l.number) (table_of l.seat.me.0).lots l.kept.items;
+  up : TakenUp l.lot (table_of l.seat.me.0).lots l.kept.items;
+  base : l.base ≡ l.number * l.self.size.places;
+  places : (l.places ≡ l.self.size.places) × (length (table_of l.seat.me.0).lots ≡ l.places) × (l.places ≤ vec_capacity l.kept);
+}

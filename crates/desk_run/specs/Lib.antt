@@ -1,0 +1,11 @@
+pub mod Counts
+pub mod Views
+pub mod Rule
+pub mod Plays
+pub mod Seats
+pub mod Books
+pub mod Offers
+pub mod Sitting
+pub mod Parts
+pub mod Played
+pub mod Runs

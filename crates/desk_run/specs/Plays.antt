@@ -1,0 +1,93 @@
+-- What each step tells: of the step, the seat before, the number found and the seat after.
+use Rattle.std.specs.Prelude.{◌≡◌, ◌≢◌, ℕ, ◌+◌, ◌==◌, true, false, ◌∷◌, Some}
+use mathlib.Core.Option as ghost_option
+use lib.ListN.{get_elem?}
+use Rattle.atomic_table.specs.Table.{Me, Step, rest}
+use Rattle.desk_run.specs.Counts.{times}
+use Rattle.desk_run.specs.Views.{new_table, new_worker, with_lot, offering, table_lost, holding, worker_lost, having_finished, looking}
+use Rattle.desk_core.specs.declared.ticket.Ticket.{Ticket}
+use Rattle.riichi_hand.specs.declared.job.Job.{Job}
+use Rattle.desk_core.specs.Ticketed.{Ticketed}
+use Rattle.desk_run.specs.declared.content.Content.{Content}
+use Rattle.desk_run.specs.declared.content.Content.TheVariants.{Empty, Offer, Done}
+use Rattle.desk_run.specs.declared.size.BoardSize.{BoardSize}
+use Rattle.desk_run.specs.declared.lot.Lot.TheVariants.{Kept, Out}
+use Rattle.desk_run.specs.declared.held.Held.{Held}
+use Rattle.desk_run.specs.declared.view.TableView.{TableView}
+use Rattle.desk_run.specs.declared.view.WorkerView.{WorkerView}
+use Rattle.desk_run.specs.declared.view.StopView.{StopView}
+use Rattle.desk_run.specs.declared.view.View.{View}
+use Rattle.desk_run.specs.declared.view.View.TheVariants.{Entering, Table, Worker, Stop}
+
+abbrev pub SeatState : Type 0
+SeatState = Me Content View
+
+abbrev pub Play : Type 1
+Play = Step Content → SeatState → ℕ → SeatState → Type 0
+
+abbrev pub no_size : BoardSize
+no_size = record { tables = 0; workers = 0; places = 0 }
+
+abbrev pub size_seen : View → BoardSize
+size_seen (Entering size) = size
+size_seen (Table v) = no_size
+size_seen (Worker v) = no_size
+size_seen (Stop v) = no_size
+
+abbrev pub table_of : View → TableView
+table_of (Entering size) = new_table 0 size
+table_of (Table v) = v
+table_of (Worker v) = new_table 0 no_size
+table_of (Stop v) = new_table 0 no_size
+
+abbrev pub worker_of : View → WorkerView
+worker_of (Entering size) = new_worker 0
+worker_of (Table v) = new_worker 0
+worker_of (Worker v) = v
+worker_of (Stop v) = new_worker 0
+
+abbrev pub stop_of : View → StopView
+stop_of (Entering size) = record { number = 0; knows_stop = false }
+stop_of (Table v) = record { number = 0; knows_stop = false }
+stop_of (Worker v) = record { number = 0; knows_stop = false }
+stop_of (Stop v) = v
+
+abbrev pub entered_table : Play
+entered_table st m r n = (r ≡ st.first → n ≡ (Table (new_table r (size_seen m.0)), m.1)) × (r ≢ st.first → n ≡ m)
+
+abbrev pub entered_worker : Play
+entered_worker st m r n = (r ≡ st.first → n ≡ (Worker (new_worker r), m.1)) × (r ≢ st.first → n ≡ m)
+
+abbrev pub entered_stop : Play
+entered_stop st m r n = (r ≡ st.first → n ≡ (Stop (record { number = r; knows_stop = false }), m.1)) × (r ≢ st.first → n ≡ m)
+
+abbrev pub took_up : Play
+took_up st m r n = (k : ℕ) → let v = table_of m.0 in st.word ≡ 2 + (v.base + k) → n ≡ (Table (with_lot v k Kept), (v.base + k, Empty) ∷ m.1)
+
+-- the offer at the front of the seat's slots has gone home
+abbrev pub offered : Play
+offered st m r n = (k : ℕ) (x : Ticket) (job : Job) → let v = table_of m.0 in st.word ≡ 2 + (v.base + k) → m.1 ≡ (v.base + k, Offer x job) ∷ rest m.1 → n ≡ (Table (offering v k x job), rest m.1)
+
+-- an offer was found, whose ticket the worker now holds
+abbrev pub Claims : SeatState → ℕ → SeatState → Type 0
+Claims m p n = (x : Ticket) × (job : Job) × (n ≡ (Worker (holding (worker_of m.0) p x job), (p, Offer x job) ∷ m.1))
+
+abbrev pub claimed : Play
+claimed st m r n = (p : ℕ) → st.word ≡ 2 + p → (r ≡ st.first → Claims m p n) × (r ≢ st.first → n ≡ (Worker (worker_lost (worker_of m.0) p), m.1))
+
+abbrev pub finished : Play
+finished st m r n = (h : Held) → let v = worker_of m.0 in v.held ≡ Some h → (n ≡ (Worker (having_finished v h.ticket), rest m.1)) × (times h.ticket v.finished ≡ 0)
+
+-- the piece for the ticket that was out at the place, with its job
+abbrev pub Fetches : SeatState → ℕ → SeatState → Type 0
+Fetches m k n = (piece : Ticketed) × (get_elem? (table_of m.0).lots k ≡ ghost_option.some (Out piece.ticket piece.job)) × (n ≡ (Table (with_lot (table_of m.0) k Kept), ((table_of m.0).base + k, Done piece) ∷ m.1))
+
+abbrev pub fetched : Play
+fetched st m r n = (k : ℕ) → let v = table_of m.0 in st.word ≡ 2 + (v.base + k) → (r ≡ st.first → Fetches m k n) × (r ≢ st.first → n ≡ (Table (table_lost v (v.base + k)), m.1))
+
+abbrev pub stopped : Play
+stopped st m r n = n ≡ (Stop (record { number = (stop_of m.0).number; knows_stop = true }), m.1)
+
+-- once the worker knows of the stop, it finds 1 again
+abbrev pub looked : Play
+looked st m r n = (n ≡ (Worker (looking (worker_of m.0) (r == 1)), m.1)) × ((worker_of m.0).knows_stop ≡ true → r ≡ 1)

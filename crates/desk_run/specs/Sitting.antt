@@ -1,0 +1,72 @@
+-- What a seat that is not in a call has.
+use Rattle.std.specs.Prelude.{◌≡◌, ℕ, zero, suc, ◌+◌, List, [], ◌∷◌, ◌++◌, None, length, slice_set, slice_index_or}
+use mathlib.Core.Option as ghost_option
+use lib.ListN.{get_elem?}
+use Rattle.desk_core.specs.LaneState.{LaneState, TakesInPiece}
+use Rattle.desk_core.specs.Step.{IsStep}
+use Rattle.desk_core.specs.declared.event.Event.TheVariants.{Arrive}
+use Rattle.desk_core.specs.declared.reply.Reply.TheVariants as reply
+use Rattle.desk_core.specs.declared.arrived.Arrived.TheVariants as arrived
+use Rattle.desk_run.specs.Books.{offered}
+use Rattle.desk_core.specs.Ticketed.{Ticketed}
+use Rattle.desk_run.specs.declared.content.Content.{Content}
+use Rattle.desk_run.specs.declared.content.Content.TheVariants.{Empty}
+use Rattle.desk_run.specs.declared.lot.Lot.{Lot}
+use Rattle.desk_run.specs.declared.lot.Lot.TheVariants.{Fresh, Kept, Out}
+use base.Stored.{Coded-set}
+use Rattle.atomic_table.specs.Seated.{TableId, table_id_coded}
+use Rattle.desk_run.specs.Plays.{SeatState, table_of, worker_of}
+use Rattle.desk_run.specs.declared.view.View.TheVariants.{Table, Worker}
+use Rattle.desk_run.specs.declared.board.Board.{Board}
+
+abbrev pub board_name : Board → TableId
+board_name board = board.table.shared.table_id
+
+-- two names of boards are equal in one way at most
+pub same_board : (a b : TableId) → IsProp (a ≡ b)
+same_board = Coded-set table_id_coded
+
+-- a worker that holds nothing
+abbrev pub Idles : SeatState → Type 0
+Idles m = (m.0 ≡ Worker (worker_of m.0)) × ((worker_of m.0).held ≡ None) × (m.1 ≡ [])
+
+-- n places from p on
+abbrev pub places_from : ℕ → ℕ → List ℕ
+places_from p zero = []
+places_from p (suc n) = places_from p n ++ (p + n) ∷ []
+
+-- the empty contents that a table carries: the place kept last comes first
+abbrev pub carried_by : ℕ → List ℕ → List (ℕ × Content)
+carried_by base [] = []
+carried_by base (k ∷ ks) = carried_by base ks ++ (base + k, Empty) ∷ []
+
+-- A table's seat: its view lists what the table's book has
+pub record Sits (m : SeatState) (base : ℕ) (lane : LaneState) (lots : List Lot) (kept : List ℕ) : Type 0 where
+  pub is_table : m.0 ≡ Table (table_of m.0)
+  pub number : (table_of m.0).number ≡ lane.table
+  pub base_is : (table_of m.0).base ≡ base
+  pub lots_are : (table_of m.0).lots ≡ lots
+  pub offers : (table_of m.0).offers ≡ offered lane
+  pub carried : m.1 ≡ carried_by base kept
+
+-- the places out among the first n
+abbrev pub place_if_out : ℕ → Lot → List ℕ
+place_if_out p Fresh = []
+place_if_out p Kept = []
+place_if_out p (Out x job) = p ∷ []
+
+abbrev pub out_places : ℕ → List Lot → ℕ → List ℕ
+out_places base lots zero = []
+out_places base lots (suc n) = out_places base lots n ++ place_if_out (base + n) (slice_index_or lots n Fresh)
+
+-- Each of the pieces was that of a place that was out. The lane accepted it, and its place is kept.
+abbrev pub AreFetched : List Ticketed → LaneState → List Lot → LaneState → List Lot → Type 0
+AreFetched [] lane lots new_lane new_lots = (new_lane ≡ lane) × (new_lots ≡ lots)
+AreFetched (piece ∷ pieces) lane lots new_lane new_lots =
+    (k : ℕ) × (next : LaneState) × (get_elem? lots k ≡ ghost_option.some (Out piece.ticket piece.job))
+    × TakesInPiece lane piece next × IsStep lane (Arrive piece) (reply.Arrived arrived.Accepted) next
+    × AreFetched pieces next (slice_set lots k Kept) new_lane new_lots
+
+-- so many pieces were fetched
+abbrev pub Collects : ℕ → LaneState → List Lot → LaneState → List Lot → Type 0
+Collects n lane lots new_lane new_lots = (pieces : List Ticketed) × (length pieces ≡ n) × AreFetched pieces lane lots new_lane new_lots

@@ -1,0 +1,82 @@
+//! A run from the calling thread: it plays all tables while the workers work in threads.
+ghost use Rattle.std.specs.Prelude.{◌≡◌, ◌≢◌, ℕ, Err, IfOk, length};
+ghost use Rattle.desk_run.specs.Parts.{AreNewTables};
+ghost use Rattle.desk_run.specs.Runs.{AreValues, IsReady};
+ghost use Rattle.desk_run.specs.Sitting.{board_name};
+
+use crate::board::Board;
+use crate::gate::Gate;
+use crate::playing::play;
+use crate::post::{Post, start_workers};
+use crate::run_fault::RunFault;
+use crate::start::Start;
+use crate::stop_seat::StopSeat;
+use crate::table_seat::TableSeat;
+use desk_core::Answer;
+use riichi_hand::Job;
+use std::alloc::{AllocError, Global};
+use std::sync::Wait;
+use std::thread::{Scope, Threads};
+
+// Plays each table with its list of jobs.
+fn play_all<R: Wait>(
+    rt: &R,
+    alloc: Global,
+    board: &Board,
+    tables: &mut Vec<TableSeat>,
+    jobs: &[Vec<Job>],
+) -> Result<Vec<Vec<Answer>>, AllocError>
+    requires tables { (places : ℕ) × AreNewTables (board_name board.now) places tables.old.items }
+    requires count { length tables.old.items ≡ length jobs.now }
+    ensures { IfOk result (λ answers. AreValues jobs.now answers.items) }
+{
+    let mut answers = Vec::with_capacity(alloc, jobs.len())?;
+    for table in 0..jobs.len() {
+        let list = jobs[table].as_slice();
+        answers.push_reserved(play(rt, alloc, board, &mut tables[table], list)?);
+    }
+    Ok(answers)
+}
+
+/// What the calling thread has at the board: the seats of the tables, and the seat that stops the
+/// workers.
+#[derive(Drop)]
+pub(crate) struct Hall<'b> {
+    pub(crate) board: &'b Board,
+    pub(crate) tables: Vec<TableSeat>,
+    pub(crate) stop: StopSeat,
+}
+
+impl<'b> Hall<'b> {
+    /// Starts the workers, plays all tables, and stops the workers in every case.
+    pub(crate) fn run<'s, E, R, G, S>(
+        self,
+        scope: &Scope<'s, E>,
+        rt: &'s R,
+        alloc: Global,
+        jobs: &[Vec<Job>],
+        posts: Vec<Post<'s, G>>,
+        start: &mut S,
+    ) -> Result<Vec<Vec<Answer>>, RunFault>
+    where
+        R: Threads + Wait + Sync + 's,
+        G: Gate + Send + Drop + 's,
+        S: Start,
+        requires { IsReady self (length jobs.now) }
+        ensures range { result ≢ Err RunFault.Range }
+        ensures values { IfOk result (λ answers. AreValues jobs.now answers.items) }
+    {
+        let Hall {
+            board,
+            mut tables,
+            mut stop,
+        } = self;
+        let answers = if start_workers(scope, rt, posts, start) {
+            play_all(rt, alloc, board, &mut tables, jobs).map_err(|_| RunFault::Memory)
+        } else {
+            Err(RunFault::Thread)
+        };
+        stop.stop(board);
+        answers
+    }
+}

@@ -1,0 +1,263 @@
+//! Runs over threads.
+ghost use Rattle.std.specs.Prelude.{◌≡◌};
+ghost use Rattle.desk_run.specs.Sitting.{board_name, same_board};
+
+use super::{job, shape_b, waits_a};
+use crate::post::{Post, start_workers};
+use crate::start::Always;
+use crate::{
+    Board, BoardParts, Gate, NoGate, RunFault, Start, TableSeat, run_tables, run_tables_started,
+    run_tables_with,
+};
+use desk_core::{Answer, Taken, Ticket, answer_text, judge};
+use riichi_hand::Job;
+use std::alloc::{AllocError, Global};
+use std::process::Abort;
+use std::sync::Wait;
+use std::sync::atomic::AtomicBool;
+use std::sync::atomic::Ordering::SeqCst;
+use std::test::Fail;
+use std::thread;
+use std::thread::{Scope, Threads};
+
+/// Whether the tables were answered so, list by list.
+fn are(answers: &[Vec<Answer>], wanted: &[&[Answer]]) -> bool {
+    answers.len() == wanted.len()
+        && answers
+            .iter()
+            .zip(wanted)
+            .all(|(given, list)| given.as_slice() == *list)
+}
+
+#[test]
+fn answers_in_order_for_every_number_of_workers(rt: HostRuntime) -> Result<(), Fail> {
+    let alloc = rt.alloc();
+    let (a, b) = (waits_a(&rt), shape_b(&rt));
+    let (first, second) = (judge(&a), judge(&b));
+    assert!(rt; answer_text(&first).as_str() == "waits 123456789m");
+    assert!(rt; answer_text(&second).as_str() == "shanten 0 accepts 2p:4 5p:4 live 8");
+    let jobs = [
+        vec![in alloc; a, b, a]?,
+        Vec::new(alloc),
+        vec![in alloc; b]?,
+    ];
+    for (workers, places) in [(1, 1), (3, 4)] {
+        match run_tables(&rt, alloc, &jobs, workers, places) {
+            Ok(answers) => {
+                assert!(rt; are(&answers, &[&[first, second, first], &[], &[second]]));
+            }
+            Err(_) => panic!(rt; "no answers"),
+        }
+    }
+    Ok(())
+}
+
+#[test]
+fn runs_out_of_range(rt: HostRuntime) -> Result<(), Fail> {
+    let alloc = rt.alloc();
+    let a = waits_a(&rt);
+    let one = [vec![in alloc; a]?];
+    let many = [vec![in alloc; a; 1_000_001]?];
+    let runs: [(&[Vec<Job>], u32, u32); 4] = [
+        (&[], 1, 1),
+        (&one, 0, 1),
+        (&one, 1, 33),
+        (&many, 1, 1),
+    ];
+    for (jobs, workers, places) in runs {
+        let answers = run_tables(&rt, alloc, jobs, workers, places);
+        assert!(rt; answers.is_err_and(|fault| fault == RunFault::Range));
+    }
+    Ok(())
+}
+
+/// A gate that waits until the other job has come as far.
+#[derive(Clone, Copy, Drop)]
+struct Meeting<'f> {
+    first: &'f AtomicBool,
+    second: &'f AtomicBool,
+    missed: &'f AtomicBool,
+}
+
+impl<'f> Gate for Meeting<'f> {
+    fn before_finish(&mut self, ticket: Ticket) {
+        let (own, other) = if ticket.seq == 0 {
+            (self.first, self.second)
+        } else {
+            (self.second, self.first)
+        };
+        own.store(true, SeqCst);
+        for _look in 0..1_000_000_000u32 {
+            if other.load(SeqCst) {
+                return;
+            }
+        }
+        self.missed.store(true, SeqCst);
+    }
+}
+
+#[test]
+fn two_workers_meet(rt: HostRuntime) -> Result<(), Fail> {
+    let alloc = rt.alloc();
+    let (a, b) = (waits_a(&rt), shape_b(&rt));
+    let (first, second, missed) = (
+        AtomicBool::new(false),
+        AtomicBool::new(false),
+        AtomicBool::new(false),
+    );
+    let gate = Meeting {
+        first: &first,
+        second: &second,
+        missed: &missed,
+    };
+    let jobs = [vec![in alloc; a, b]?];
+    match run_tables_with(&rt, alloc, &jobs, vec![in alloc; gate, gate]?, 2) {
+        Ok(answers) => assert!(rt; are(&answers, &[&[judge(&a), judge(&b)]])),
+        Err(_) => panic!(rt; "no answers"),
+    }
+    assert!(rt; !missed.load(SeqCst));
+    Ok(())
+}
+
+/// Refuses the worker of this number, and counts how often it was asked.
+#[derive(Drop)]
+struct RefusedAt {
+    worker: u32,
+    asked: u32,
+}
+
+impl Start for RefusedAt {
+    fn start(&mut self, worker: u32) -> bool {
+        let in_turn = worker == self.asked;
+        self.asked = self.asked.saturating_add(1);
+        in_turn && worker != self.worker
+    }
+}
+
+#[test]
+fn a_worker_that_cannot_be_started(rt: HostRuntime) -> Result<(), Fail> {
+    let alloc = rt.alloc();
+    let (a, b) = (waits_a(&rt), shape_b(&rt));
+    let jobs = [vec![in alloc; a, b]?];
+    for worker in 0..4 {
+        let mut start = RefusedAt { worker, asked: 0 };
+        let gates = vec![in alloc; NoGate; 3]?;
+        match run_tables_started(&rt, alloc, &jobs, gates, 2, &mut start) {
+            Ok(answers) => {
+                assert!(rt; worker == 3 && start.asked == 3);
+                assert!(rt; are(&answers, &[&[judge(&a), judge(&b)]]));
+            }
+            Err(fault) => {
+                assert!(rt; fault == RunFault::Thread && start.asked == worker + 1);
+            }
+        }
+    }
+    Ok(())
+}
+
+/// A table at its board, with its jobs.
+#[derive(Drop)]
+struct Player<'b> {
+    board: &'b Board,
+    seat: TableSeat,
+    jobs: &'b [Job],
+    ghost here: { seat.seat.table_id ≡ board_name board.now } by { same_board _ _ },
+}
+
+impl<'b> Player<'b> {
+    fn new(board: &'b Board, seat: TableSeat, jobs: &'b [Job]) -> Player<'b>
+        requires { seat.seat.table_id ≡ board_name board.now }
+    {
+        Player { board, seat, jobs }
+    }
+
+    /// Submits the jobs, and gathers the answers that come in order.
+    fn play<R: Wait>(self, rt: &R, alloc: Global) -> Result<Vec<Answer>, AllocError> {
+        let Player {
+            board,
+            mut seat,
+            jobs,
+        } = self;
+        let mut answers = Vec::new(alloc);
+        let mut next = 0;
+        for _ in rt.forever() {
+            if next >= jobs.len() {
+                seat.close();
+            } else if seat.submit(board, jobs[next]).is_ok() {
+                next += 1;
+            }
+            seat.collect(board);
+            match seat.take() {
+                Taken::Answer { seq, answer } if seq as usize == answers.len() => answers.push(
+                    answer,
+                )?,
+                Taken::Answer { seq: _, answer: _ } => return Ok(answers),
+                Taken::Waiting => thread::yield_now(),
+                Taken::Finished => return Ok(answers),
+            }
+        }
+        unreachable!()
+    }
+}
+
+/// What the two tables were given, each played in a thread of its own. The workers are stopped
+/// when both have ended.
+fn play_both<'s, E, R: Threads + Wait + Sync + 's>(
+    scope: &Scope<'s, E>,
+    rt: &'s R,
+    alloc: Global,
+    players: (Player<'s>, Player<'s>),
+) -> Option<(Vec<Answer>, Vec<Answer>)> {
+    let (first, second) = players;
+    let first = scope.spawn(move || first.play(rt, alloc).ok()).ok()?;
+    let second = scope.spawn(move || second.play(rt, alloc).ok()).ok()?;
+    let (first, second) = (first.join(rt), second.join(rt));
+    Some((first?, second?))
+}
+
+#[test]
+fn two_tables_and_two_workers_in_threads(rt: HostRuntime) -> Result<(), Fail> {
+    let alloc = rt.alloc();
+    let (a, b) = (waits_a(&rt), shape_b(&rt));
+    let Ok(parts) = Board::new(alloc, 2, 2, 2) else {
+        panic!(rt; "no board")
+    };
+    let BoardParts {
+        board,
+        mut tables,
+        workers,
+        mut stop,
+    } = parts;
+    let board = &board;
+    let (Some(second), Some(first)) = (tables.pop(), tables.pop()) else {
+        panic!(rt; "no seat")
+    };
+    let posts = Post::all(alloc, board, workers, vec![in alloc; NoGate; 2]?)?;
+    let jobs = ([a, b, a], [b, b, a, b]);
+    let first = Player::new(board, first, &jobs.0);
+    let second = Player::new(board, second, &jobs.1);
+    let rt = &rt;
+    let answers = thread::scope(
+        thread::scope_env(),
+        rt,
+        move |scope| -> Option<(Vec<Answer>, Vec<Answer>)>
+            requires { stop.seat.table_id ≡ board_name board.now }
+        {
+            let started = start_workers(scope, rt, posts, &mut Always);
+            let answers = if started {
+                play_both(scope, rt, alloc, (first, second))
+            } else {
+                None
+            };
+            stop.stop(board);
+            answers
+        },
+    );
+    let Some(answers) = answers else {
+        panic!(*rt; "no answers")
+    };
+    let (first, second) = (judge(&a), judge(&b));
+    assert!(*rt; answers.0.as_slice() == [first, second, first].as_slice());
+    assert!(*rt; answers.1.as_slice() == [second, second, first, second].as_slice());
+    Ok(())
+}
