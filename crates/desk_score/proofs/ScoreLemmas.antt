@@ -50,7 +50,7 @@ pub score_of-told : (asked : List (Vec Asked Global)) (jobs : List (Vec Job Glob
     → tables_text (told_tables (map (λ list. list.items) asked) (map (λ list. list.items) given)) ≡ score_of texts
 score_of-told asked jobs given texts same_asked same_jobs are =
     let same_given : map (λ (list : Vec Answer Global). list.items) given ≡ map (λ text. values (text_jobs text)) texts =
-        are ∙ sym (map-map values (λ (list : Vec Job Global). list.items) jobs) ∙ ap (map values) same_jobs ∙ map-map values text_jobs texts in
+    are ∙ sym (map-map values (λ (list : Vec Job Global). list.items) jobs) ∙ ap (map values) same_jobs ∙ map-map values text_jobs texts in
     ap (λ a. tables_text (told_tables a (map (λ (list : Vec Answer Global). list.items) given))) same_asked
     ∙ ap (λ b. tables_text (told_tables (map text_asked texts) b)) same_given ∙ ap tables_text (told_tables-answers texts)
 

@@ -12,7 +12,9 @@ use std::sync::Wait;
 use std::thread::Threads;
 
 /// Reads the words, writes the answer, and tells the exit status: 1 where a line of the answer is a refusal.
-pub fn answer<R: Input + Print + Eprint + Env + Files + AllocGlobal + Threads + Wait + Sync>(rt: &R) -> u8 {
+pub fn answer<R: Input + Print + Eprint + Env + Files + AllocGlobal + Threads + Wait + Sync>(
+    rt: &R,
+) -> u8 {
     let words = match words_of(rt) {
         Ok(words) => words,
         Err(failure) => return report(rt, &failure),

@@ -9,10 +9,7 @@ pub enum Request<'m, 'a> {
     /// The answers to the record lines of standard input.
     Line,
     /// The answers to the record lines of files, each a table, by so many workers.
-    Score {
-        files: &'m [&'a str],
-        workers: u32,
-    },
+    Score { files: &'m [&'a str], workers: u32 },
 }
 
 /// The commands and their words.
@@ -48,10 +45,9 @@ fn score_command<'a>(alloc: Global) -> Result<Command<'a>, AllocError> {
         .value_parser(value_parser!(u32).range(1..=16))
         .default_value("4")
         .help("How many threads judge hands");
-    let files = Arg::new(alloc, "FILE")
-        .required(true)
-        .num_args(1..)
-        .help("Hands, one a line: each file is a table, and 64 are the most");
+    let files = Arg::new(alloc, "FILE").required(true).num_args(1..).help(
+        "Hands, one a line: each file is a table, and 64 are the most",
+    );
     Command::new(alloc, "score")
         .about("Answers hands from files, table by table, with many threads")
         .arg(workers)?

@@ -25,7 +25,7 @@ returns-in_err-answers-clause-range g c is =
     let in_range = c.in_range.ensures.0 c.if-not-in_range.false in
     let slice = c.as_slice.ensures.value in
     let tables : c.len.result ≡ length c.as_slice.result.now =
-        c.len.ensures ∙ c.args.readers.ok.0 ∙ AllGive-length g.R.Source c.args.readers.items read.0 read.1 ∙ sym (as_many c.in_ok-tables.tables.jobs.items read.0 read.2.jobs) ∙ sym (ap length slice) in
+    c.len.ensures ∙ c.args.readers.ok.0 ∙ AllGive-length g.R.Source c.args.readers.items read.0 read.1 ∙ sym (as_many c.in_ok-tables.tables.jobs.items read.0 read.2.jobs) ∙ sym (ap length slice) in
     let over = c.in_err-answers.ensures.range.0 (ap Err fault) in
     inr (read.0, read.1, λ within. over (subst (λ (n : ℕ). IsInRange n c.args.workers 8) tables in_range, rw slice (within-jobs LIMIT c.in_ok-tables.tables.jobs.items read.0 read.2.jobs within)))
 
