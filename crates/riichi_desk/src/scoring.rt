@@ -34,7 +34,9 @@ fn open_files<'a, R: Files + AllocGlobal>(
     let mut readers = Vec::new(rt.alloc());
     for file in files {
         let reader = open_file(rt, *file)?;
-        readers.push(FromReader::new(reader))?;
+        if readers.push(FromReader::new(reader)).is_err() {
+            return Err(Failure::Fault(ScoreFault::Memory));
+        }
     }
     Ok(readers)
 }
