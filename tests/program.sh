@@ -61,6 +61,10 @@ row 2 '' "unexpected argument 'B' found" waits A B
 row 2 '' '<HAND>' waits
 row 2 '' 'UTF-8' waits $'\xff'
 row 2 '' "unexpected argument 'file' found" line file
+row 2 '' '<FILE>...' score
+row 2 '' "invalid value '0' for '--workers <N>'" score --workers 0 file
+row 2 '' "invalid value '17' for '--workers <N>'" score --workers 17 file
+row 2 '' "invalid value 'many' for '--workers <N>'" score --workers many file
 row 0 'riichi_desk 0.1.0' '' --version
 
 # the command line: no input, a page of lines with its answers, and each example of the rules
@@ -117,3 +121,25 @@ row 3 '' 'riichi_desk: fault F1' replay "$room"
 row 2 '' '<FILE>' replay
 row 2 '' "unexpected argument 'B' found" replay A B
 told 'a script and a full disk' $'riichi_desk: fault F2\nstatus 3' "$("$program" replay examples/replay.lines 2>&1 > /dev/full; echo "status $?")"
+# the command score: two tables, the profile of one, files that aren't there, too many files, a full disk
+printf 'waits 1112345678999m\nwaits 8z\n' > "$room/first"
+: > "$room/second"
+printf 'rules 2\nwin 123406789m22s34p on=2p by=ron seat=S round=E\n' > "$room/third"
+two=$'table 0\nwaits 123456789m\nrefused N5 hand at 0\ntable 1'
+row 1 "$two" '' score "$room/first" "$room/second"
+row 1 "$two" '' score --workers 1 "$room/first" "$room/second"
+row 1 "$two" '' score --workers 16 "$room/first" "$room/second"
+row 0 $'table 0\ntable 1\nwon 4 han 30 fu 8000 gain 8000 pinfu pure-straight dora 1' '' score "$room/second" "$room/third"
+row 3 '' "riichi_desk: cannot open $room/none" score "$room/first" "$room/none" "$room/neither"
+row 3 '' 'riichi_desk: fault F1' score "$room/first" "$room"
+many=()
+for ((i = 0; i < 64; i++)); do many+=("$room/second"); done
+row 0 "$(for ((i = 0; i < 64; i++)); do echo "table $i"; done)" '' score "${many[@]}"
+row 2 '' 'riichi_desk: fault B1' score "${many[@]}" "$room/none"
+told 'a full disk at the end of a score' $'riichi_desk: fault F2\nstatus 3' "$("$program" score "$room/first" 2>&1 > /dev/full; echo "status $?")"
+# each table of a score is answered as `line` answers its file, whatever the workers
+for workers in 1 4 16; do
+  { echo 'table 0'; cat examples/rules.answers; echo 'table 1'; cat examples/club-night.answers; echo 'table 2'; cat examples/rules-two.answers; } > "$room/wanted"
+  "$program" score --workers $workers examples/rules.lines examples/club-night.lines examples/rules-two.lines > "$room/answers" 2> "$room/said"
+  told "score of the examples by $workers workers" "$(sha256sum < "$room/wanted")" "$(sha256sum < "$room/answers")"
+done

@@ -25,7 +25,7 @@ answers_under-last : (rules : Rules) (lines : List (List ℕ)) (line : List ℕ)
 answers_under-last rules lines line = filter_map-append (answer_of rules) lines (line ∷ [])
 
 -- all but the first line are records
-record_lines-more : (line : List ℕ) (lines more : List (List ℕ)) → record_lines ((line ∷ lines) ++ more) ≡ record_lines (line ∷ lines) ++ more
+pub record_lines-more : (line : List ℕ) (lines more : List (List ℕ)) → record_lines ((line ∷ lines) ++ more) ≡ record_lines (line ∷ lines) ++ more
 record_lines-more line lines more = elim (is_some (profile_of line)) as (λ test. cond test (lines ++ more) (line ∷ lines ++ more) ≡ cond test lines (line ∷ lines) ++ more) [ true ↦ refl | false ↦ refl ]
 
 first_answer : (line : List ℕ) (profile : Option Rules) → filter_map (answer_of (unwrap_or profile One)) (cond (is_some profile) [] (line ∷ [])) ≡ answers_in (cond (is_some profile) None (answer_of One line))
@@ -58,7 +58,7 @@ too_long : (rules : Rules) (line : List ℕ) → 4096 < length line → answer_o
 unfolding answer_of outcome_of
 too_long rules line long = rw (lt-ltb 4096 (length line) long) refl
 
-no_profile : (line : List ℕ) → 4096 < length line → profile_of line ≡ None
+pub no_profile : (line : List ℕ) → 4096 < length line → profile_of line ≡ None
 unfolding profile_of
 no_profile line long = rw (lt-ltb 4096 (length line) long) refl
 
@@ -74,7 +74,7 @@ same_answer : (rules : Option Rules) (line next : List ℕ) → IsToldAs 4096 li
 same_answer rules line next (inl same) = ap (told_by rules) same
 same_answer rules line next (inr long) = told_long rules line long.0 ∙ sym (told_long rules next long.1)
 
-same_rules : (rules : Option Rules) (line next : List ℕ) → IsToldAs 4096 line next → rules_by rules line ≡ rules_by rules next
+pub same_rules : (rules : Option Rules) (line next : List ℕ) → IsToldAs 4096 line next → rules_by rules line ≡ rules_by rules next
 same_rules rules line next (inl same) = ap (rules_by rules) same
 same_rules rules line next (inr long) = rules_long rules line long.0 ∙ sym (rules_long rules next long.1)
 

@@ -19,6 +19,8 @@
 #![tactic(auto)]
 
 mod answering;
+mod asked;
+mod collecting;
 mod desk;
 mod fault;
 pub mod laws;
@@ -32,15 +34,19 @@ mod records;
 mod replay;
 mod report;
 mod scripts;
+mod tables;
 mod teller;
 mod text;
 mod told;
 mod waits;
 
+pub use asked::Asked;
+pub use collecting::{Collected, collect_text};
 pub use fault::DeskFault;
 pub use ready::is_ready;
 pub use replay::replay_text;
 pub use report::DeskReport;
+pub use tables::write_tables;
 pub use text::desk_text;
 pub use waits::{WaitsLine, waits_answer};
 

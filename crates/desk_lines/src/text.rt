@@ -12,7 +12,7 @@ use super::report::DeskReport;
 use desk_streams::{Sink, Source};
 
 /// A record line of 4,096 bytes and its carriage return fit. One byte more shows a longer line.
-const RECORD_ROOM: usize = 4_098;
+pub(crate) const RECORD_ROOM: usize = 4_098;
 
 /// Answers the record lines that a reader gives, one line for each. It reads and writes in large
 /// pieces; the answers to all lines that have ended are written before it reads again. It takes no

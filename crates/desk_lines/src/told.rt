@@ -37,6 +37,14 @@ impl<T: Teller + Drop> Told<T> {
         }
     }
 
+    /// The teller, where all is written.
+    pub(crate) fn into_teller(self) -> T
+        ensures { result ≡ self.teller }
+    {
+        let Told { teller, .. } = self;
+        teller
+    }
+
     pub(crate) fn report(&self) -> DeskReport
         ensures { result ≡ self.now.report }
     {

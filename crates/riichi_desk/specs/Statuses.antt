@@ -1,16 +1,20 @@
--- How a fault of the desk is told, and the exit status of the program.
+-- How a fault is told, and the exit status of the program.
 use Rattle.std.specs.Prelude.{ℕ, List, codes}
-use Rattle.desk_lines.specs.declared.fault.DeskFault.{DeskFault}
-use Rattle.desk_lines.specs.declared.fault.DeskFault.TheVariants.{Read, Write, Memory}
+use Rattle.desk_score.specs.declared.score_fault.ScoreFault.{ScoreFault}
+use Rattle.desk_score.specs.declared.score_fault.ScoreFault.TheVariants.{Read, Write, Memory, Range, Thread}
 
 -- the code of a fault
-abbrev pub code_of : DeskFault → List ℕ
+abbrev pub code_of : ScoreFault → List ℕ
 code_of Read = codes "F1"
 code_of Write = codes "F2"
 code_of Memory = codes "F3"
+code_of Range = codes "B1"
+code_of Thread = codes "B4"
 
--- 3 where input or output failed, 4 where there was no memory
-abbrev pub status_of : DeskFault → ℕ
+-- 2 where there was too much, 3 where input or output failed, 4 where there was no memory or no thread
+abbrev pub status_of : ScoreFault → ℕ
+status_of Range = 2
 status_of Read = 3
 status_of Write = 3
 status_of Memory = 4
+status_of Thread = 4

@@ -1,49 +1,81 @@
 //! Carries out what the command line asks for.
-use crate::failure::Failure;
+use crate::failure::{Failure, report};
+use crate::files::open_file;
+use crate::scoring::score_files;
 use crate::words::{Request, commands, request_of};
-use desk_lines::{DeskFault, desk_text, waits_answer};
+use desk_lines::{desk_text, replay_text, waits_answer};
+use desk_score::ScoreFault;
 use desk_streams::{FromReader, ToWriter};
 use std::env::{self, Env};
-use std::io::{self, Input, Print};
+use std::io::{self, Eprint, Input, Print};
+use std::rt::Files;
+use std::sync::Wait;
+use std::thread::Threads;
 
-/// Reads the words and writes the answer: whether a line of it is a refusal.
-pub fn answer<R: Input + Print + Env + AllocGlobal>(rt: &R) -> Result<bool, Failure> {
-    let words = match env::args(rt) {
-        Ok(words) => words.collect::<Vec<String>>(rt.alloc())?,
-        Err(error) => {
-            return Err(match error.kind() {
-                io::ErrorKind::OutOfMemory => Failure::Desk(DeskFault::Memory),
-                _ => Failure::Text,
-            });
-        }
+/// Reads the words, writes the answer, and tells the exit status: 1 where a line of the answer is a refusal.
+pub fn answer<R: Input + Print + Eprint + Env + Files + AllocGlobal + Threads + Wait + Sync>(
+    rt: &R,
+) -> u8 {
+    let words = match words_of(rt) {
+        Ok(words) => words,
+        Err(failure) => return report(rt, &failure),
     };
-    answer_words(rt, words.as_slice())
+    match answer_words(rt, words.as_slice()) {
+        Ok(is_refused) => is_refused as u8,
+        Err(failure) => report(rt, &failure),
+    }
+}
+
+fn words_of<R: Env + AllocGlobal>(rt: &R) -> Result<Vec<String>, Failure<'static>> {
+    match env::args(rt) {
+        Ok(words) => Ok(words.collect::<Vec<String>>(rt.alloc())?),
+        Err(error) => Err(match error.kind() {
+            io::ErrorKind::OutOfMemory => Failure::Fault(ScoreFault::Memory),
+            _ => Failure::Text,
+        }),
+    }
 }
 
 /// Carries out what the words ask for; the first is the name of the program.
-fn answer_words<R: Input + Print + AllocGlobal>(rt: &R, words: &[String]) -> Result<bool, Failure> {
+fn answer_words<'a, R: Input + Print + Files + Threads + Wait + Sync + AllocGlobal>(
+    rt: &R,
+    words: &'a [String],
+) -> Result<bool, Failure<'a>> {
     let matches = commands(rt.alloc())?.try_get_matches_from(words)?;
     match request_of(&matches) {
         Some(Request::Waits(hand)) => print_waits(rt, hand),
         Some(Request::Line) => answer_lines(rt),
+        Some(Request::Replay(file)) => replay_file(rt, file),
+        Some(Request::Score { files, workers }) => score_files(rt, files, workers),
         None => Err(Failure::Text),
     }
 }
 
 /// Prints the waits of a hand, or why it can't be read.
-fn print_waits<R: Print>(rt: &R, hand: &str) -> Result<bool, Failure> {
+fn print_waits<R: Print>(rt: &R, hand: &str) -> Result<bool, Failure<'static>> {
     let line = waits_answer(hand.as_bytes());
     let text = line.text;
     match println!(rt; "{text}") {
         Ok(()) => Ok(line.refused),
-        Err(_) => Err(Failure::Desk(DeskFault::Write)),
+        Err(_) => Err(Failure::Fault(ScoreFault::Write)),
     }
 }
 
 /// Answers the record lines of standard input on standard output.
-fn answer_lines<R: Input + Print>(rt: &R) -> Result<bool, Failure> {
+fn answer_lines<R: Input + Print>(rt: &R) -> Result<bool, Failure<'static>> {
     let mut reader = FromReader::new(rt.reader());
     let mut writer = ToWriter::new(io::writer(rt));
     let report = desk_text(&mut reader, &mut writer)?;
+    Ok(report.refused > 0)
+}
+
+/// Answers the script of a file on standard output.
+fn replay_file<'a, R: Print + Files + AllocGlobal>(
+    rt: &R,
+    file: &'a str,
+) -> Result<bool, Failure<'a>> {
+    let mut reader = FromReader::new(open_file(rt, file)?);
+    let mut writer = ToWriter::new(io::writer(rt));
+    let report = replay_text(rt.alloc(), &mut reader, &mut writer)?;
     Ok(report.refused > 0)
 }

@@ -5,44 +5,53 @@ ghost use Rattle.riichi_desk.specs.Statuses as spec;
 use clap::Error;
 use clap::error::ErrorKind;
 use desk_lines::DeskFault;
+use desk_score::ScoreFault;
 use std::alloc::AllocError;
 use std::io::{Eprint, Print};
 
 /// What keeps the program from an answer.
 #[derive(Debug, Drop)]
-pub enum Failure {
+pub enum Failure<'a> {
     /// The words are no command; clap says why, or shows the help that was asked for.
     Words(Error),
     /// The words aren't text.
     Text,
-    /// Input, output or memory failed.
-    Desk(DeskFault),
+    /// This file can't be opened.
+    CannotOpen(&'a str),
+    /// Input, output, memory or a thread failed, or there is too much.
+    Fault(ScoreFault),
 }
 
-impl From<AllocError> for Failure {
-    fn from(_error: AllocError) -> Failure {
-        Failure::Desk(DeskFault::Memory)
+impl<'a> From<AllocError> for Failure<'a> {
+    fn from(_error: AllocError) -> Failure<'a> {
+        Failure::Fault(ScoreFault::Memory)
     }
 }
 
-impl From<DeskFault> for Failure {
-    fn from(fault: DeskFault) -> Failure {
-        Failure::Desk(fault)
+impl<'a> From<DeskFault> for Failure<'a> {
+    fn from(fault: DeskFault) -> Failure<'a> {
+        Failure::Fault(ScoreFault::from(fault))
     }
 }
 
-impl From<Error> for Failure {
-    fn from(error: Error) -> Failure {
+impl<'a> From<ScoreFault> for Failure<'a> {
+    fn from(fault: ScoreFault) -> Failure<'a> {
+        Failure::Fault(fault)
+    }
+}
+
+impl<'a> From<Error> for Failure<'a> {
+    fn from(error: Error) -> Failure<'a> {
         match error.kind() {
-            ErrorKind::OutOfMemory => Failure::Desk(DeskFault::Memory),
+            ErrorKind::OutOfMemory => Failure::Fault(ScoreFault::Memory),
             _ => Failure::Words(error),
         }
     }
 }
 
-/// Says on standard error why the program stops, and tells its exit status: 2 for a fault of the command line, 3 for
-/// input or output, 4 for memory; 0 where help or the version was asked for.
-pub fn report<R: Print + Eprint>(rt: &R, failure: &Failure) -> u8 {
+/// Says on standard error why the program stops, and tells its exit status: 2 for a fault of the command line or too much
+/// of something, 3 for input or output, 4 for memory or a thread; 0 where help or the version was asked for.
+pub fn report<R: Print + Eprint>(rt: &R, failure: &Failure<'_>) -> u8 {
     match failure {
         Failure::Words(error) => {
             if error.print(rt).is_err() {
@@ -54,7 +63,12 @@ pub fn report<R: Print + Eprint>(rt: &R, failure: &Failure) -> u8 {
             let _ = eprintln!(rt; "error: the words of the command line aren't UTF-8 text");
             2
         }
-        Failure::Desk(fault) => {
+        Failure::CannotOpen(file) => {
+            let file = *file;
+            let _ = eprintln!(rt; "riichi_desk: cannot open {file}");
+            3
+        }
+        Failure::Fault(fault) => {
             let code = code_of(*fault);
             let _ = eprintln!(rt; "riichi_desk: fault {code}");
             status_of(*fault)
@@ -62,21 +76,24 @@ pub fn report<R: Print + Eprint>(rt: &R, failure: &Failure) -> u8 {
     }
 }
 
-fn code_of(fault: DeskFault) -> &'static str
+fn code_of(fault: ScoreFault) -> &'static str
     ensures { result.now ≡ spec.code_of fault }
 {
     match fault {
-        DeskFault::Read => "F1",
-        DeskFault::Write => "F2",
-        DeskFault::Memory => "F3",
+        ScoreFault::Read => "F1",
+        ScoreFault::Write => "F2",
+        ScoreFault::Memory => "F3",
+        ScoreFault::Range => "B1",
+        ScoreFault::Thread => "B4",
     }
 }
 
-fn status_of(fault: DeskFault) -> u8
+fn status_of(fault: ScoreFault) -> u8
     ensures { result ≡ spec.status_of fault }
 {
     match fault {
-        DeskFault::Read | DeskFault::Write => 3,
-        DeskFault::Memory => 4,
+        ScoreFault::Range => 2,
+        ScoreFault::Read | ScoreFault::Write => 3,
+        ScoreFault::Memory | ScoreFault::Thread => 4,
     }
 }

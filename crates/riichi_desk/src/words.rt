@@ -1,13 +1,17 @@
 //! The command line.
-use clap::{Arg, ArgMatches, Command};
+use clap::{Arg, ArgMatches, Command, value_parser};
 use std::alloc::{AllocError, Global};
 
 /// What the command line asks for.
-pub enum Request<'a> {
+pub enum Request<'m, 'a> {
     /// The waits of this hand.
     Waits(&'a str),
     /// The answers to the record lines of standard input.
     Line,
+    /// The answers to the script of this file.
+    Replay(&'a str),
+    /// The answers to the record lines of files, each a table, by so many workers.
+    Score { files: &'m [&'a str], workers: u32 },
 }
 
 /// The commands and their words.
@@ -17,7 +21,9 @@ pub fn commands<'a>(alloc: Global) -> Result<Command<'a>, AllocError> {
         .about("A scoring desk for riichi mahjong: hands in Tenhou notation in, answers out")
         .subcommand_required(true)
         .subcommand(waits_command(alloc)?)?
-        .subcommand(line_command(alloc))
+        .subcommand(line_command(alloc))?
+        .subcommand(replay_command(alloc)?)?
+        .subcommand(score_command(alloc)?)
 }
 
 fn waits_command<'a>(alloc: Global) -> Result<Command<'a>, AllocError> {
@@ -35,10 +41,43 @@ fn line_command<'a>(alloc: Global) -> Command<'a> {
     )
 }
 
+fn replay_command<'a>(alloc: Global) -> Result<Command<'a>, AllocError> {
+    let file = Arg::new(alloc, "FILE")
+        .required(true)
+        .help("A script: open, submit, arrive, close, take, one a line");
+    Command::new(alloc, "replay")
+        .about("Answers a script of tables that submit hands and are given their answers in order")
+        .arg(file)
+}
+
+fn score_command<'a>(alloc: Global) -> Result<Command<'a>, AllocError> {
+    let workers = Arg::new(alloc, "workers")
+        .long("workers")
+        .value_name("N")
+        .value_parser(value_parser!(u32).range(1..=16))
+        .default_value("4")
+        .help("How many threads judge hands");
+    let files = Arg::new(alloc, "FILE").required(true).num_args(1..).help(
+        "Hands, one a line: each file is a table, and 64 are the most",
+    );
+    Command::new(alloc, "score")
+        .about("Answers hands from files, table by table, with many threads")
+        .arg(workers)?
+        .arg(files)
+}
+
 /// What the words ask for; none where they name no command of ours.
-pub fn request_of<'a>(matches: &ArgMatches<'a>) -> Option<Request<'a>> {
+pub fn request_of<'m, 'a>(matches: &'m ArgMatches<'a>) -> Option<Request<'m, 'a>> {
     if matches.subcommand_matches("line").is_some() {
         return Some(Request::Line);
+    }
+    if let Some(replay) = matches.subcommand_matches("replay") {
+        return Some(Request::Replay(replay.get_str("FILE")?));
+    }
+    if let Some(score) = matches.subcommand_matches("score") {
+        let files = score.get_strs("FILE")?;
+        let workers = score.get_one("workers")?;
+        return Some(Request::Score { files, workers });
     }
     let waits = matches.subcommand_matches("waits")?;
     let hand = waits.get_str("HAND")?;

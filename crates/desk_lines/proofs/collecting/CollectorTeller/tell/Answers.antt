@@ -1,0 +1,14 @@
+use Rattle.std.proofs.Common.{◌∙◌, None, refl, sym}
+use Rattle.std.proofs.lemmas.List.{append-nil}
+use Rattle.desk_lines.proofs.AskedLemmas.{Collects-line}
+use Rattle.desk_lines.proofs.collecting.CollectorTeller.tell.Goals as goal
+
+pub returns-clause-told : goal.returns-clause-told
+returns-clause-told c =
+    let took = c.in_ok-take_line.ensures in record {
+      answer = None;
+      kind_is = refl;
+      put = sym (append-nil c.args._outbox.now.bytes.items);
+      tells_more = λ lines told next as_this untold.
+          (Collects-line c.args.self.now c.take_line.new.self c.args.line.now next lines as_this untold.0 took.rules took.jobs took.asked, append-nil told ∙ untold.1);
+    }

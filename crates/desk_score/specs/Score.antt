@@ -1,0 +1,44 @@
+-- What a score over several readers writes and tells.
+use Rattle.std.specs.Prelude.{◌≡◌, ℕ, ◌+◌, ◌≤◌, List, [], ◌∷◌, ◌++◌, All, length, map}
+use Rattle.std.specs.List.{sum_by}
+use Rattle.desk_streams.specs.declared.source.Source.{Ghosts as OfSource}
+use Rattle.desk_core.specs.declared.lane.TheConstants.{LIMIT}
+use Rattle.desk_lines.specs.declared.report.DeskReport.{DeskReport}
+use Rattle.desk_lines.specs.Lines.{lines}
+use Rattle.desk_lines.specs.LineAnswers.{answers, report_on}
+use Rattle.desk_lines.specs.Asked.{jobs_of}
+use Rattle.desk_lines.specs.Streams.{GivesAll, FailsOrGoesOn}
+use Rattle.desk_lines.specs.Tables.{tables_text}
+
+-- the answers to each text, behind the number of its table
+abbrev pub score_of : List (List ℕ) → List ℕ
+score_of texts = tables_text (map answers texts)
+
+-- the answer lines of all texts that don't begin with `refused`, and those that do
+abbrev pub score_report : List (List ℕ) → DeskReport
+score_report texts = record {
+  answered = sum_by (λ text. (report_on (lines text)).answered) texts;
+  refused = sum_by (λ text. (report_on (lines text)).refused) texts;
+}
+
+-- no text has more jobs than a table may submit
+abbrev pub AreWithinLimit : List (List ℕ) → Type 0
+AreWithinLimit texts = All (λ text. length (jobs_of (lines text)) ≤ LIMIT) texts
+
+-- each reader gave its text, to the end
+abbrev pub AllGive : {R : Type 0} → OfSource R → List R → List (List ℕ) → Type 0
+AllGive source [] [] = Unit {0}
+AllGive source [] (text ∷ texts) = ⊥
+AllGive source (reader ∷ readers) [] = ⊥
+AllGive {R = R} source (reader ∷ readers) (text ∷ texts) = ((ended : R) × GivesAll source reader ended text) × AllGive source readers texts
+
+-- The first readers gave their texts, to the end, and the next one failed or gave no end within so many reads.
+pub record StopsReading {R : Type 0} (source : OfSource R) (most : ℕ) (readers : List R) : Type 0 where
+  pub first : List R
+  pub texts : List (List ℕ)
+  pub reader : R
+  pub others : List R
+  pub parts : readers ≡ first ++ reader ∷ others
+  pub given : AllGive source first texts
+  pub last : R
+  pub fails : FailsOrGoesOn source most reader last

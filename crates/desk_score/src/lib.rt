@@ -1,0 +1,24 @@
+//! The answers to the texts of many tables, judged by many workers.
+//!
+//! [`score_text`] reads several `desk_streams::Source`s to their ends, each the text of a table, has the
+//! workers of `desk_run` judge all jobs, and writes the answers table by table. It tells in a
+//! `desk_lines::DeskReport` how many lines were answered and how many refused, or in a [`ScoreFault`] why
+//! it gave up.
+//!
+//! Inside, `Tables` is what the readers ask: `desk_lines::collect_text` takes each text apart into its jobs
+//! and its refused lines, and `desk_lines::write_tables` puts the answers back into their places.
+//!
+//! ```text
+//! let report = score_text(&rt, rt.alloc(), readers, 4, &mut writer)?;
+//! ```
+#![tactic(auto)]
+
+mod score;
+mod score_fault;
+mod tables;
+
+pub use score::score_text;
+pub use score_fault::ScoreFault;
+
+#[cfg(test)]
+mod tests;

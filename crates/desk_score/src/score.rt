@@ -1,0 +1,68 @@
+//! The answers to the texts of several readers, each a table of its own.
+ghost use Rattle.std.specs.Prelude.{◌≡◌, ◌≢◌, ◌↔◌, ◌⊎◌, ◌≤◌, ℕ, List, length, IsTrue, IfOk, IfErr, IsErrOf};
+ghost use Rattle.desk_run.specs.Parts.{IsInRange};
+ghost use Rattle.desk_lines.specs.Streams.{WritesAll, StopsWriting};
+ghost use Rattle.desk_score.specs.Score.{score_of, score_report, AreWithinLimit, AllGive, StopsReading};
+
+use crate::score_fault::ScoreFault;
+use crate::tables::Tables;
+use desk_lines::{DeskReport, write_tables};
+use desk_run::run_tables;
+use desk_streams::{Sink, Source};
+use std::alloc::Global;
+use std::sync::Wait;
+use std::thread::Threads;
+
+/// The most readers.
+const MOST_READERS: usize = 64;
+
+/// The most workers.
+const MOST_WORKERS: u32 = 16;
+
+/// How many jobs of a table are on the board at once.
+const PLACES: u32 = 8;
+
+/// Reads 1 to 64 readers to their ends, has 1 to 16 workers judge all their jobs in threads of their own,
+/// and writes for each reader, numbered from 0, the line `table` with its number and then what `desk_text`
+/// would answer to its text. The first line of each text may set the profile of that text. Nothing is
+/// written before all is judged.
+pub fn score_text<H: Threads + Wait + Sync, R: Source + Drop, W: Sink>(
+    rt: &H,
+    alloc: Global,
+    readers: Vec<R>,
+    workers: u32,
+    writer: &mut W,
+) -> Result<DeskReport, ScoreFault>
+    // The readers were read to their ends, and the answers to what they gave were written.
+    ensures ok { IfOk result (λ report. (texts : List (List ℕ))
+        × AllGive ⟦<R as Source>⟧ readers.items texts
+        × AreWithinLimit texts
+        × WritesAll ⟦<W as Sink>⟧ writer.old writer.new (score_of texts)
+        × (report ≡ score_report texts)) }
+
+    // Numbers of readers and workers are tested before anything is read, numbers of jobs once all is read.
+    ensures first_range { ¬ IsInRange (length readers.items) workers 8 → result ≡ Err ScoreFault.Range }
+    ensures range { IsErrOf result ScoreFault.Range → (¬ IsInRange (length readers.items) workers 8)
+        ⊎ ((texts : List (List ℕ)) × AllGive ⟦<R as Source>⟧ readers.items texts × (¬ AreWithinLimit texts)) }
+    ensures read_failed { IsErrOf result ScoreFault.Read → StopsReading ⟦<R as Source>⟧ 4294967295 readers.items }
+
+    // Nothing was written but where a write failed, and then a front of the answers.
+    ensures unwritten { IfErr result (λ fault. fault ≢ ScoreFault.Write → writer.new ≡ writer.old) }
+    ensures write_failed { IsErrOf result ScoreFault.Write → (texts : List (List ℕ))
+        × AllGive ⟦<R as Source>⟧ readers.items texts
+        × StopsWriting ⟦<W as Sink>⟧ writer.old writer.new (score_of texts) }
+{
+    if !in_range(readers.len(), workers) {
+        return Err(ScoreFault::Range);
+    }
+    let tables = Tables::read(alloc, readers)?;
+    let answers = run_tables(rt, alloc, tables.jobs.as_slice(), workers, PLACES)?;
+    write_tables(tables.asked.as_slice(), answers.as_slice(), writer)?;
+    Ok(tables.report)
+}
+
+fn in_range(readers: usize, workers: u32) -> bool
+    ensures { IsTrue result ↔ IsInRange readers workers PLACES }
+{
+    (1..=MOST_READERS).contains(&readers) && (1..=MOST_WORKERS).contains(&workers)
+}

@@ -1,0 +1,164 @@
+//! Rows of several readers.
+use super::*;
+use desk_lines::DeskReport;
+use desk_streams::{BytesIn, BytesOut};
+use std::alloc::Global;
+use std::process::Abort;
+use std::sync::Wait;
+use std::test::Fail;
+use std::thread::Threads;
+
+/// A hand that is answered and one that is refused.
+const FIRST: &[u8] = b"waits 1112345678999m\nwaits 8z\n";
+
+/// The answers to these as the first of two tables, of which the second asks nothing.
+const ANSWERS: &[u8] = b"table 0\nwaits 123456789m\nrefused N5 hand at 0\ntable 1\n";
+
+/// Two readers with these texts, a byte a read; of the first the read of the number `failing` fails.
+fn two_readers<'a>(
+    alloc: Global,
+    first: &'a [u8],
+    second: &'a [u8],
+    failing: Option<u64>,
+) -> Result<Vec<BytesIn<'a>>, Fail> {
+    let mut readers = Vec::new(alloc);
+    readers.push(BytesIn::new(first, 1, failing))?;
+    readers.push(BytesIn::new(second, 1, None))?;
+    Ok(readers)
+}
+
+/// So many readers that give nothing.
+fn empty_readers(alloc: Global, count: usize) -> Result<Vec<BytesIn<'static>>, Fail> {
+    let mut readers = Vec::new(alloc);
+    for _ in 0..count {
+        readers.push(BytesIn::new(b"", 1, None))?;
+    }
+    Ok(readers)
+}
+
+/// What is written, and what is told of it.
+fn score<R: Threads + Wait + Sync + Abort>(
+    rt: &R,
+    alloc: Global,
+    readers: Vec<BytesIn<'_>>,
+    workers: u32,
+    answers: &[u8],
+    report: Result<DeskReport, ScoreFault>,
+) {
+    let mut writer: BytesOut<2048> = BytesOut::new(1000, None);
+    let told = score_text(rt, alloc, readers, workers, &mut writer);
+    assert!(rt; told == report, "{workers} workers");
+    assert_eq!(rt; writer.bytes(), answers);
+}
+
+#[test]
+fn two_tables(rt: HostRuntime) -> Result<(), Fail> {
+    let alloc = rt.alloc();
+    let report = Ok(DeskReport {
+        answered: 1,
+        refused: 1,
+    });
+    for workers in [1, 16] {
+        let readers = two_readers(alloc, FIRST, b"", None)?;
+        score(&rt, alloc, readers, workers, ANSWERS, report);
+    }
+    for workers in [0, 17] {
+        let readers = two_readers(alloc, FIRST, b"", None)?;
+        score(&rt, alloc, readers, workers, b"", Err(ScoreFault::Range));
+    }
+    Ok(())
+}
+
+#[test]
+fn numbers_of_readers(rt: HostRuntime) -> Result<(), Fail> {
+    let alloc = rt.alloc();
+    let none = DeskReport {
+        answered: 0,
+        refused: 0,
+    };
+    let mut tables = String::new(alloc);
+    for number in 0..64 {
+        let line = format!(in alloc; "table {number}\n")?;
+        tables.push_str(line.as_str())?;
+    }
+    score(
+        &rt,
+        alloc,
+        empty_readers(alloc, 64)?,
+        4,
+        tables.as_bytes(),
+        Ok(none),
+    );
+    for count in [0, 65] {
+        score(
+            &rt,
+            alloc,
+            empty_readers(alloc, count)?,
+            4,
+            b"",
+            Err(ScoreFault::Range),
+        );
+    }
+    Ok(())
+}
+
+/// Nothing is written, whichever read fails: one for each byte, and one that would find the end.
+#[test]
+fn a_failed_read(rt: HostRuntime) -> Result<(), Fail> {
+    let alloc = rt.alloc();
+    for failing in 1..FIRST.len() as u64 + 2 {
+        let readers = two_readers(alloc, FIRST, b"", Some(failing))?;
+        score(&rt, alloc, readers, 1, b"", Err(ScoreFault::Read));
+    }
+    Ok(())
+}
+
+/// Each byte before the failed write is there, and no further one.
+#[test]
+fn a_failed_write(rt: HostRuntime) -> Result<(), Fail> {
+    let alloc = rt.alloc();
+    for (place, _) in ANSWERS.iter().enumerate() {
+        let mut writer: BytesOut<2048> = BytesOut::new(1, Some(place as u64 + 1));
+        let readers = two_readers(alloc, FIRST, b"", None)?;
+        let told = score_text(&rt, alloc, readers, 1, &mut writer);
+        assert!(rt; told == Err(ScoreFault::Write), "{place}");
+        assert_eq!(rt; writer.bytes(), &ANSWERS[..place]);
+    }
+    Ok(())
+}
+
+/// A table's first line sets the profile of that table alone.
+#[test]
+fn a_profile_of_one_table(rt: HostRuntime) -> Result<(), Fail> {
+    let alloc = rt.alloc();
+    let first = b"rules 2\nwin 123406789m22s34p on=2p by=ron seat=S round=E\n";
+    let second = b"win 123406789m22s34p on=2p by=ron seat=S round=E\n";
+    let answers =
+        b"table 0\nwon 4 han 30 fu 8000 gain 8000 pinfu pure-straight dora 1\ntable 1\nwon 3 han 30 fu 3900 gain 3900 pinfu pure-straight\n";
+    let report = Ok(DeskReport {
+        answered: 2,
+        refused: 0,
+    });
+    let readers = two_readers(alloc, first, second, None)?;
+    score(&rt, alloc, readers, 2, answers, report);
+    Ok(())
+}
+
+#[test]
+fn messages(rt: HostRuntime) -> Result<(), Fail> {
+    let told = [
+        (ScoreFault::Read, "F1: a read failed, or gave no end"),
+        (ScoreFault::Write, "F2: a write failed"),
+        (ScoreFault::Memory, "F3: memory ran out"),
+        (
+            ScoreFault::Range,
+            "B1: too many or too few tables, workers or jobs",
+        ),
+        (ScoreFault::Thread, "B4: a worker could not be started"),
+    ];
+    for (fault, text) in told {
+        let message = format!(in rt.alloc(); "{fault}")?;
+        assert_eq!(rt; message.as_str(), text);
+    }
+    Ok(())
+}

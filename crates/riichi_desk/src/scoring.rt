@@ -1,0 +1,42 @@
+//! The command `score`: files of hands, each a table.
+use crate::failure::Failure;
+use crate::files::open_file;
+use desk_score::{ScoreFault, score_text};
+use desk_streams::{FromReader, ToWriter};
+use std::io::{self, Print};
+use std::rt::Files;
+use std::sync::Wait;
+use std::thread::Threads;
+
+/// The most files. That there are more is told before any is opened.
+const MOST_FILES: usize = 64;
+
+/// Answers the record lines of files on standard output, table by table: whether a line is refused.
+pub fn score_files<'a, R: Files + Print + Threads + Wait + Sync + AllocGlobal>(
+    rt: &R,
+    files: &[&'a str],
+    workers: u32,
+) -> Result<bool, Failure<'a>> {
+    if files.len() > MOST_FILES {
+        return Err(Failure::Fault(ScoreFault::Range));
+    }
+    let readers = open_files(rt, files)?;
+    let mut writer = ToWriter::new(io::writer(rt));
+    let report = score_text(rt, rt.alloc(), readers, workers, &mut writer)?;
+    Ok(report.refused > 0)
+}
+
+/// Opens the files in the order given. The first that can't be opened ends it.
+fn open_files<'a, R: Files + AllocGlobal>(
+    rt: &R,
+    files: &[&'a str],
+) -> Result<Vec<FromReader<R::File>>, Failure<'a>> {
+    let mut readers = Vec::new(rt.alloc());
+    for file in files {
+        let reader = open_file(rt, *file)?;
+        if readers.push(FromReader::new(reader)).is_err() {
+            return Err(Failure::Fault(ScoreFault::Memory));
+        }
+    }
+    Ok(readers)
+}
