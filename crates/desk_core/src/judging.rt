@@ -4,7 +4,7 @@ ghost use Rattle.desk_core.specs.Value.{value_of};
 use crate::answer::Answer;
 use riichi_hand::Job;
 use riichi_score::best;
-use riichi_shape::shape;
+use riichi_shape::{RowCache, shape, shape_with};
 use riichi_split::waits;
 
 /// The value of a job: the best score of a win, the waits of a hand, or the shanten and the
@@ -17,5 +17,16 @@ pub fn judge(job: &Job) -> Answer
         Job::Win(win) => Answer::Win(best(win)),
         Job::Waits(hand) => Answer::Waits(waits(hand)),
         Job::Shape(tiles) => Answer::Shape(shape(tiles)),
+    }
+}
+
+/// The same, where a shape is answered by the rows of a cache, which keeps those that it makes.
+#[tactic(auto, unfolding(crate::specs::Value::value_of))]
+pub fn judge_with(cache: &mut RowCache, job: &Job) -> Answer
+    ensures { result ≡ value_of job.now }
+{
+    match job {
+        Job::Shape(tiles) => Answer::Shape(shape_with(cache, tiles)),
+        _ => judge(job),
     }
 }

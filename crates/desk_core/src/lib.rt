@@ -34,7 +34,7 @@ pub use answer::Answer;
 pub use arrived::Arrived;
 pub use desk::DeskCore;
 pub use event::Event;
-pub use judging::judge;
+pub use judging::{judge, judge_with};
 pub use lane::{LIMIT, Lane};
 pub use piece::Piece;
 pub use refusal::{CoreFault, RunBack, SubmitBack, SubmitFault};

@@ -1,9 +1,10 @@
 ghost use Rattle.std.specs.Prelude.{◌≡◌};
 
 use crate::answer::Answer;
-use crate::judging::judge;
+use crate::judging::{judge, judge_with};
 use crate::ticket::Ticket;
 use riichi_hand::Job;
+use riichi_shape::RowCache;
 use std::marker::Model;
 
 /// A ticket with a job and its answer, which by this type is the job's value.
@@ -29,17 +30,35 @@ impl Model for Piece {
 impl Piece {
     ghost use Rattle.desk_core.specs.Value.{value_of};
 
+    /// A job with its value.
+    fn answered(ticket: Ticket, job: Job, answer: Answer) -> Piece
+        requires { answer ≡ value_of job }
+        ensures ticket { result.ticket ≡ ticket }
+        ensures job { result.job ≡ job }
+    {
+        Piece {
+            ticket,
+            job,
+            answer,
+        }
+    }
+
     /// Judges the job.
     pub fn score(ticket: Ticket, job: Job) -> Piece
         ensures ticket { result.ticket ≡ ticket }
         ensures job { result.job ≡ job }
     {
         let answer = judge(&job);
-        Piece {
-            ticket,
-            job,
-            answer,
-        }
+        Piece::answered(ticket, job, answer)
+    }
+
+    /// Judges the job, a shape by the rows of a cache, which keeps those that it makes.
+    pub fn score_with(cache: &mut RowCache, ticket: Ticket, job: Job) -> Piece
+        ensures ticket { result.ticket ≡ ticket }
+        ensures job { result.job ≡ job }
+    {
+        let answer = judge_with(cache, &job);
+        Piece::answered(ticket, job, answer)
     }
 
     pub fn ticket(&self) -> Ticket

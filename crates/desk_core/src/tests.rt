@@ -1,9 +1,10 @@
 use crate::{
     Answer, Arrived, CoreFault, DeskCore, Event, LIMIT, Lane, Piece, Reply, RunBack, SubmitFault,
-    Taken, Ticket, answer_text, judge,
+    Taken, Ticket, answer_text, judge, judge_with,
 };
 use riichi_hand::{By, Flags, HandRecord, Job, Rules, ShapeRecord, WinParts, WinRecord, Wind};
 use riichi_score::WinAnswer;
+use riichi_shape::RowCache;
 use riichi_tiles::{Counts, Kind, Meld, Melds, Reds, read_counts};
 use std::alloc::{AllocError, Global};
 
@@ -131,6 +132,32 @@ fn a_win_and_its_text(rt: HostRuntime) {
     let answer = quick_job().map(|job| judge(&job));
     assert!(rt; answer == Some(Answer::Win(WinAnswer::NoWin)));
     assert!(rt; matches!(answer, Some(answer) if answer_text(&answer).as_str() == "no win"));
+}
+
+#[test]
+fn the_same_by_a_cache(rt: HostRuntime) {
+    // One request for memory may be refused.
+    let made = RowCache::new(rt.alloc(), 4).or_else(|_| RowCache::new(rt.alloc(), 4));
+    let Ok(mut cache) = made else {
+        assert!(rt; false);
+        return;
+    };
+    let jobs = [
+        waits_job(b"1112345678999m"),
+        shape_job(b"123456789m1134p"),
+        shape_job(b"123456789m1111z"),
+        shape_job(b"123456789m1134p"),
+        quick_job(),
+    ];
+    for job in &jobs {
+        let Some(job) = job else {
+            assert!(rt; false);
+            return;
+        };
+        assert!(rt; judge_with(&mut cache, job) == judge(job));
+        let piece = Piece::score_with(&mut cache, FIRST, *job);
+        assert!(rt; piece.ticket() == FIRST && piece.job() == *job && piece.answer() == judge(job));
+    }
 }
 
 #[test]

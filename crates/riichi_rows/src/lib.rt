@@ -4,7 +4,8 @@
 //! a suit lacks of any choice of blocks, or none where no choice keeps within the caps.
 //! `suit_row` makes it in one pass over the nine ranks, and `join_rows` is the least sum of four
 //! rows with one pair in all. So the row of no tiles says `row.get(2, true) == Some(8)`: two sets
-//! and a pair are eight tiles.
+//! and a pair are eight tiles. A `RowSource` is what answers for rows, and `FreshRows` the one that
+//! makes each anew.
 #![tactic(auto)]
 
 mod join;
@@ -13,7 +14,9 @@ pub mod laws;
 mod open;
 mod ranks;
 mod row;
+mod row_source;
 
 pub use join::join_rows;
 pub use ranks::suit_row;
 pub use row::SuitRow;
+pub use row_source::{FreshRows, RowSource};

@@ -1,5 +1,5 @@
 -- The accepted kinds as counts and as pairs.
-use Rattle.std.proofs.Common.{◌≡◌, ℕ, zero, suc, ◌+◌, ◌<◌, ◌≤◌, Bool, true, false, cond, List, ◌∷◌, map, get_or, ltb, replicate, refl, sym, ap, ◌∙◌, arith}
+use Rattle.std.proofs.Common.{◌≡◌, ℕ, zero, suc, ◌+◌, ◌<◌, ◌≤◌, Bool, true, false, cond, List, [], ◌∷◌, map, get_or, ltb, replicate, slice_set, refl, sym, ap, ◌∙◌, arith}
 use Rattle.std.proofs.lemmas.Bool.Decides.{nat_tests}
 use Rattle.std.specs.List.{filter, range_with_len}
 use Rattle.std.specs.Prelude.{slice_index, nat_lt, ◌&&◌}
@@ -52,3 +52,10 @@ pub zeros_few : (n k : ℕ) → get_or (replicate n 0) k 0 ≤ 4
 zeros_few zero k = omega arith
 zeros_few (suc n) zero = omega arith
 zeros_few (suc n) (suc k) = zeros_few n k
+
+pub set_few : (xs : List ℕ) (i v : ℕ) → v ≤ 4 → ((k : ℕ) → get_or xs k 0 ≤ 4) → (k : ℕ) → get_or (slice_set xs i v) k 0 ≤ 4
+set_few [] i v few were k = were k
+set_few (x ∷ xs) zero v few were zero = few
+set_few (x ∷ xs) zero v few were (suc k) = were (suc k)
+set_few (x ∷ xs) (suc i) v few were zero = were zero
+set_few (x ∷ xs) (suc i) v few were (suc k) = set_few xs i v few (λ j. were (suc j)) k

@@ -8,6 +8,7 @@ ghost use Rattle.riichi_shape.specs.Rows.{AreRowsOf};
 use crate::distance::distance_by;
 use crate::hand_rows::HandRows;
 use crate::live_list::LiveList;
+use riichi_rows::{FreshRows, RowSource};
 use riichi_tiles::{Counts, Kind, Melds};
 
 /// The copies of a kind that are in neither the hand nor the melds, and not seen elsewhere.
@@ -19,7 +20,13 @@ fn live_copies(hand: &Counts, melds: &Melds, seen: &Counts, kind: Kind) -> u8
 }
 
 /// The distance with one tile of the kind more.
-fn distance_with(rows: &HandRows, hand: &Counts, melds: &Melds, kind: Kind) -> u8
+fn distance_with<R: RowSource>(
+    source: &mut R,
+    rows: &HandRows,
+    hand: &Counts,
+    melds: &Melds,
+    kind: Kind,
+) -> u8
     requires melded { (k : ℕ) → k < 34 → tiles melds.now k ≤ 4 }
     requires rows { AreRowsOf hand.now melds.now rows.now }
     requires room { slice_index hand.now kind < 4 }
@@ -27,12 +34,13 @@ fn distance_with(rows: &HandRows, hand: &Counts, melds: &Melds, kind: Kind) -> u
 {
     let mut more = *hand;
     more.add(kind);
-    let rows = rows.changed_at(kind, &more, melds);
+    let rows = rows.changed_at(source, kind, &more, melds);
     distance_by(&rows, &more, melds)
 }
 
 /// The live copies of a kind that is accepted, and 0 of another.
-fn copies_accepted(
+fn copies_accepted<R: RowSource>(
+    source: &mut R,
     rows: &HandRows,
     hand: &Counts,
     melds: &Melds,
@@ -47,7 +55,7 @@ fn copies_accepted(
     ensures most { result ≤ 4 }
 {
     let live = live_copies(hand, melds, seen, kind);
-    if live > 0 && distance_with(rows, hand, melds, kind) < lacks {
+    if live > 0 && distance_with(source, rows, hand, melds, kind) < lacks {
         live
     } else {
         0
@@ -55,7 +63,13 @@ fn copies_accepted(
 }
 
 /// The accepted kinds of a hand, by its rows.
-pub(crate) fn accepted_by(rows: &HandRows, hand: &Counts, melds: &Melds, seen: &Counts) -> LiveList
+pub(crate) fn accepted_by<R: RowSource>(
+    source: &mut R,
+    rows: &HandRows,
+    hand: &Counts,
+    melds: &Melds,
+    seen: &Counts,
+) -> LiveList
     requires melded { (kind : ℕ) → kind < 34 → tiles melds.now kind ≤ 4 }
     requires rows { AreRowsOf hand.now melds.now rows.now }
     ensures { result ≡ accepted_of hand.now melds.now seen.now }
@@ -64,7 +78,7 @@ pub(crate) fn accepted_by(rows: &HandRows, hand: &Counts, melds: &Melds, seen: &
     let mut copies = [0; 34];
     for number in 0..34u8 {
         let kind = Kind::at(number);
-        copies[number as usize] = copies_accepted(rows, hand, melds, seen, kind, lacks);
+        copies[number as usize] = copies_accepted(source, rows, hand, melds, seen, kind, lacks);
     }
     LiveList::new(copies)
 }
@@ -75,5 +89,6 @@ pub fn accepted(hand: &Counts, melds: &Melds, seen: &Counts) -> LiveList
     requires { (kind : ℕ) → kind < 34 → tiles melds.now kind ≤ 4 }
     ensures { result ≡ accepted_of hand.now melds.now seen.now }
 {
-    accepted_by(&HandRows::new(hand, melds), hand, melds, seen)
+    let rows = HandRows::new(&mut FreshRows, hand, melds);
+    accepted_by(&mut FreshRows, &rows, hand, melds, seen)
 }

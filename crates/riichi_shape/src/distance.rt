@@ -8,6 +8,7 @@ ghost use Rattle.riichi_shape.specs.Rows.{AreRowsOf};
 use crate::hand_rows::HandRows;
 use crate::orphans::orphans_distance;
 use crate::pairs::pairs_distance;
+use riichi_rows::FreshRows;
 use riichi_tiles::{Counts, Melds};
 
 /// The least number of tiles that the hand lacks of a winning multiset, by the hand's rows.
@@ -49,5 +50,5 @@ pub fn shanten(hand: &Counts, melds: &Melds) -> i8
     ensures reached { ShantenReached hand.now melds.now result }
     ensures none_less { NoneLacksLess hand.now melds.now result }
 {
-    shanten_by(&HandRows::new(hand, melds), hand, melds)
+    shanten_by(&HandRows::new(&mut FreshRows, hand, melds), hand, melds)
 }

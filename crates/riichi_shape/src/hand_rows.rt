@@ -6,7 +6,7 @@ ghost use Rattle.riichi_shape.specs.Rows.{AreRowsOf, DifferAt, IsMeldedFew};
 ghost use Rattle.riichi_tiles.specs.declared.meld.Meld.{Meld};
 
 use crate::suit_of_hand::suit_row_of;
-use riichi_rows::{SuitRow, join_rows};
+use riichi_rows::{RowSource, SuitRow, join_rows};
 use riichi_tiles::{Counts, Kind, Melds};
 
 /// The row of each suit. They are kept while tiles are added and removed: a tile changes one.
@@ -20,42 +20,48 @@ pub(crate) struct HandRows {
 
 impl HandRows {
     /// The rows of a hand.
-    pub(crate) fn new(hand: &Counts, melds: &Melds) -> HandRows
+    pub(crate) fn new<R: RowSource>(source: &mut R, hand: &Counts, melds: &Melds) -> HandRows
         requires { (k : ℕ) → k < 34 → tiles melds.now k ≤ 4 }
         ensures { AreRowsOf hand.now melds.now result }
     {
         HandRows {
-            characters: suit_row_of(hand, melds, 0, 9),
-            circles: suit_row_of(hand, melds, 9, 9),
-            bamboos: suit_row_of(hand, melds, 18, 9),
-            honours: suit_row_of(hand, melds, 27, 7),
+            characters: suit_row_of(source, hand, melds, 0, 9),
+            circles: suit_row_of(source, hand, melds, 9, 9),
+            bamboos: suit_row_of(source, hand, melds, 18, 9),
+            honours: suit_row_of(source, hand, melds, 27, 7),
         }
     }
 
     /// The rows of a hand that has changed at one kind, of which alone the suit is looked at again.
-    pub(crate) fn changed_at(&self, kind: Kind, hand: &Counts, melds: &Melds) -> HandRows
+    pub(crate) fn changed_at<R: RowSource>(
+        &self,
+        source: &mut R,
+        kind: Kind,
+        hand: &Counts,
+        melds: &Melds,
+    ) -> HandRows
         requires { (k : ℕ) → k < 34 → tiles melds.now k ≤ 4 }
         ensures { (before : List ℕ) → AreRowsOf before melds.now self.now → DifferAt kind before hand.now → AreRowsOf hand.now melds.now result }
     {
         let number = kind.index();
         if number < 9 {
             HandRows {
-                characters: suit_row_of(hand, melds, 0, 9),
+                characters: suit_row_of(source, hand, melds, 0, 9),
                 ..*self
             }
         } else if number < 18 {
             HandRows {
-                circles: suit_row_of(hand, melds, 9, 9),
+                circles: suit_row_of(source, hand, melds, 9, 9),
                 ..*self
             }
         } else if number < 27 {
             HandRows {
-                bamboos: suit_row_of(hand, melds, 18, 9),
+                bamboos: suit_row_of(source, hand, melds, 18, 9),
                 ..*self
             }
         } else {
             HandRows {
-                honours: suit_row_of(hand, melds, 27, 7),
+                honours: suit_row_of(source, hand, melds, 27, 7),
                 ..*self
             }
         }

@@ -5,7 +5,8 @@
 //! its live copies. Of fourteen tiles a `DiscardList` has each `Discard` that leaves the least
 //! shanten, with the list that the rest then accepts. `shanten` and `accepted` are the parts alone,
 //! and `shape_text` is the answer on a line. A hand is measured by its four suit rows, which
-//! `riichi_rows` makes and joins; a tile that is added or removed changes one of them.
+//! `riichi_rows` makes and joins; a tile that is added or removed changes one of them. `shape_with`
+//! is `shape` by the rows of a `RowCache`, which many hands share.
 //!
 //! So `123456789m1134p` is ready: `shanten` is 0, and `accepted` has four live 2p and four 5p.
 #![tactic(auto)]
@@ -30,11 +31,12 @@ mod text;
 
 pub use acceptance::accepted;
 pub use accepts::Accepts;
-pub use answering::shape;
+pub use answering::{shape, shape_with};
 pub use discard::Discard;
 pub use discard_list::DiscardList;
 pub use distance::shanten;
 pub use live_list::LiveList;
+pub use riichi_cache::{Memory, RowCache};
 pub use riichi_rows::{SuitRow, join_rows, suit_row};
 pub use shape_answer::ShapeAnswer;
 pub use text::shape_text;

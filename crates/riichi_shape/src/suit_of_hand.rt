@@ -4,7 +4,7 @@ ghost use Rattle.riichi_tiles.specs.Melds.{tiles};
 ghost use Rattle.riichi_rows.specs.Row.{entries_of};
 ghost use Rattle.riichi_shape.specs.Suits.{IsRowOf};
 
-use riichi_rows::{SuitRow, suit_row};
+use riichi_rows::{RowSource, SuitRow};
 use riichi_tiles::{Counts, Kind, Melds};
 
 /// The counts of a suit, from its first kind on.
@@ -36,7 +36,13 @@ fn suit_caps(melds: &Melds, first: u8, ranks: u8) -> [u8; 9]
 }
 
 /// The row of one suit of a hand. Honours have seven ranks and no runs.
-pub(crate) fn suit_row_of(hand: &Counts, melds: &Melds, first: u8, ranks: u8) -> SuitRow
+pub(crate) fn suit_row_of<R: RowSource>(
+    source: &mut R,
+    hand: &Counts,
+    melds: &Melds,
+    first: u8,
+    ranks: u8,
+) -> SuitRow
     requires ranks { ranks ≤ 9 }
     requires within { first + ranks ≤ 34 }
     requires melded { (k : ℕ) → k < 34 → tiles melds.now k ≤ 4 }
@@ -44,5 +50,5 @@ pub(crate) fn suit_row_of(hand: &Counts, melds: &Melds, first: u8, ranks: u8) ->
 {
     let counts = suit_counts(hand, first, ranks);
     let caps = suit_caps(melds, first, ranks);
-    suit_row(counts, caps, ranks == 9)
+    source.row(&counts, &caps, ranks == 9)
 }

@@ -1,9 +1,13 @@
 //! Worked hands and their answers.
+ghost use Rattle.std.specs.Prelude.{◌<◌, ◌≤◌};
+
 use crate::{
-    Accepts, DiscardList, ShapeAnswer, accepted, join_rows, shanten, shape, shape_text, suit_row,
+    Accepts, DiscardList, Memory, RowCache, ShapeAnswer, accepted, join_rows, shanten, shape,
+    shape_text, shape_with, suit_row,
 };
 use riichi_hand::ShapeRecord;
 use riichi_tiles::{Counts, Kind, Meld, Melds, read_counts};
+use std::alloc::Global;
 use std::process::Abort;
 use std::test::Fail;
 
@@ -33,9 +37,21 @@ fn melds(texts: &[&str]) -> Result<Melds, Fail> {
     Ok(melds)
 }
 
-fn check(rt: &impl Abort, row: &Row) -> Result<(), Fail> {
+fn asked_in(row: &Row) -> Result<ShapeRecord, Fail> {
     let asked = ShapeRecord::new(tiles(row.hand)?, melds(row.melds)?, tiles(row.seen)?)?;
-    assert_eq!(rt; shape_text(&shape(&asked)).as_str(), row.text);
+    Ok(asked)
+}
+
+fn check(rt: &impl Abort, row: &Row) -> Result<(), Fail> {
+    assert_eq!(rt; shape_text(&shape(&asked_in(row)?)).as_str(), row.text);
+    Ok(())
+}
+
+fn check_with(rt: &impl Abort, cache: &mut RowCache, row: &Row) -> Result<(), Fail> {
+    let asked = asked_in(row)?;
+    let answer = shape_with(cache, &asked);
+    assert_eq!(rt; shape_text(&answer).as_str(), row.text);
+    assert!(rt; answer == shape(&asked));
     Ok(())
 }
 
@@ -165,5 +181,38 @@ fn rows_of_no_tiles(rt: HostRuntime) -> Result<(), Fail> {
     assert_eq!(rt; join_rows(&[row, row, row, row], 4), Some(14));
     assert_eq!(rt; join_rows(&[closed, closed, closed, row], 1), Some(5));
     assert_eq!(rt; join_rows(&[closed, closed, closed, closed], 0), None);
+    Ok(())
+}
+
+/// A cache, where one request for memory may be refused.
+fn a_cache(alloc: Global, capacity: usize) -> Result<RowCache, Memory>
+    requires some { 0 < capacity }
+    requires most { capacity ≤ 65536 }
+{
+    RowCache::new(alloc, capacity).or_else(|_| RowCache::new(alloc, capacity))
+}
+
+#[test]
+fn a_cache_of_one_row(rt: HostRuntime) -> Result<(), Fail> {
+    let mut cache = a_cache(rt.alloc(), 1).map_err(|_| "no memory twice")?;
+    for place in [0, 3, 0, 4] {
+        check_with(&rt, &mut cache, &ROWS[place])?;
+    }
+    Ok(())
+}
+
+fn check_rows_with(rt: &impl Abort, made: Result<RowCache, Memory>) -> Result<(), Fail> {
+    let mut cache = made.map_err(|_| "no memory twice")?;
+    for row in &ROWS {
+        check_with(rt, &mut cache, row)?;
+    }
+    Ok(())
+}
+
+#[test]
+fn caches_of_every_size(rt: HostRuntime) -> Result<(), Fail> {
+    check_rows_with(&rt, a_cache(rt.alloc(), 1))?;
+    check_rows_with(&rt, a_cache(rt.alloc(), 2))?;
+    check_rows_with(&rt, a_cache(rt.alloc(), 65_536))?;
     Ok(())
 }

@@ -5,6 +5,6 @@ use Rattle.riichi_shape.proofs.KeptRows.{set_differs}
 use Rattle.riichi_shape.proofs.acceptance.distance_with.Goals as goal
 
 pub distance_by-requires-clause-rows : goal.distance_by-requires-clause-rows
-distance_by-requires-clause-rows c =
+distance_by-requires-clause-rows g c =
     let hand = c.args.hand.now in
     c.changed_at-rows.ensures hand c.requires.rows (subst (λ (after : List ℕ). DifferAt c.args.kind hand after) (sym c.add.ensures.value) (set_differs hand c.args.kind (slice_index hand c.args.kind + 1)))

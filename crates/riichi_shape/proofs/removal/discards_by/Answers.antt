@@ -5,19 +5,19 @@ use Rattle.riichi_shape.proofs.removal.discards_by.Goals as goal
 use Rattle.riichi_shape.proofs.removal.discards_by.Goals.{else-get-gt0-via-then-get-gt0+else-distances-number, else-get-gt0-via-else-get-gt0}
 
 pub loop-number-init : goal.loop-number-init
-loop-number-init c = record {
+loop-number-init g c = record {
   so_far = c.new-list.ensures ∙ sym (discards_none c.args.hand.now c.args.melds.now c.args.seen.now 34);
   few = omega (arith, ap length c.new-list.ensures);
 }
 
 pub insert-requires : goal.insert-requires
-insert-requires c =
+insert-requires g c =
     let hand = c.args.hand.now in
     let held : 0 < slice_index hand (c.loop-number.number - 1) = omega (arith, c.if-get-gt0.true, c.get.ensures.value, ap (slice_index hand) c.at-kind.ensures) in
     still_room hand c.args.melds.now c.args.seen.now c.loop-number.number c.loop-number-test.true c.loop-number.auto.number c.loop-number.list c.get.ensures.counts.each_kind c.requires.few held c.loop-number.invariant.few
 
 pub loop-number-preserved-then-distances-number : goal.loop-number-preserved-then-distances-number
-loop-number-preserved-then-distances-number c =
+loop-number-preserved-then-distances-number g c =
     let hand = c.args.hand.now in
     let held : 0 < slice_index hand c.at-kind.result = omega (arith, c.if-get-gt0.true, c.get.ensures.value) in
     let there : 0 < slice_index hand (c.loop-number.number - 1) = omega (arith, held, ap (slice_index hand) c.at-kind.ensures) in
@@ -29,7 +29,7 @@ loop-number-preserved-then-distances-number c =
     }
 
 pub loop-number-preserved : goal.loop-number-preserved
-loop-number-preserved c =
+loop-number-preserved g c =
     let hand = c.args.hand.now in
     record {
       so_far = elim c.else-get-gt0.branch [
@@ -46,6 +46,6 @@ loop-number-preserved c =
     }
 
 pub returns : goal.returns
-returns c =
+returns g c =
     let at_first : c.loop-number.number ≡ 0 = omega arith in
     c.loop-number.invariant.so_far ∙ ap (λ k. discards_from c.args.hand.now c.args.melds.now c.args.seen.now k (34 - k)) at_first ∙ discards_all c.args.hand.now c.args.melds.now c.args.seen.now

@@ -3,7 +3,7 @@ use Rattle.std.proofs.lemmas.Simd.{get_or-replicate}
 use Rattle.riichi_shape.proofs.removal.distances_without.Goals as goal
 
 pub loop-number-init : goal.loop-number-init
-loop-number-init c = record {
+loop-number-init g c = record {
   long = refl;
   held = λ k low. absurd (omega arith);
   few = λ k low. absurd (omega arith);

@@ -1,0 +1,5 @@
+//! Want of memory.
+
+/// There was no memory.
+#[derive(Clone, Copy, Debug, PartialEq, Eq)]
+pub struct Memory;

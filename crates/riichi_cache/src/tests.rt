@@ -1,0 +1,51 @@
+//! A cache answers as fresh rows do, whatever it keeps.
+ghost use Rattle.std.specs.Prelude.{◌≤◌};
+
+use crate::{Memory, RowCache};
+use riichi_rows::{FreshRows, RowSource, SuitRow};
+use std::alloc::Global;
+use std::process::Abort;
+use std::test::Fail;
+
+/// A cache of one place, where one request for memory may be refused.
+fn one_place(alloc: Global) -> Result<RowCache, Memory> {
+    RowCache::new(alloc, 1).or_else(|_| RowCache::new(alloc, 1))
+}
+
+fn is_same(one: &SuitRow, other: &SuitRow) -> bool {
+    (0..5u8).all(|sets| {
+        one.get(sets, false) == other.get(sets, false)
+            && one.get(sets, true) == other.get(sets, true)
+    })
+}
+
+fn check(
+    rt: &impl Abort,
+    cache: &mut RowCache,
+    counts: [u8; 9],
+    cap: u8,
+    runs: bool,
+) -> Result<(), Fail>
+    requires { cap ≤ 4 }
+{
+    let caps = [cap; 9];
+    let row = cache.row(&counts, &caps, runs);
+    assert!(rt; is_same(&row, &FreshRows.row(&counts, &caps, runs)));
+    Ok(())
+}
+
+// Keys that differ in counts, caps or runs alone, each of them twice.
+#[test]
+fn rows_of_keys_that_are_alike(rt: HostRuntime) -> Result<(), Fail> {
+    let mut cache = one_place(rt.alloc()).map_err(|_| "no memory twice")?;
+    let counts = [1, 1, 1, 0, 0, 0, 2, 0, 0];
+    for _ in 0..2 {
+        check(&rt, &mut cache, counts, 4, true)?;
+        check(&rt, &mut cache, counts, 4, true)?;
+        check(&rt, &mut cache, counts, 2, true)?;
+        check(&rt, &mut cache, counts, 2, false)?;
+        check(&rt, &mut cache, [0; 9], 2, false)?;
+    }
+    assert_eq!(rt; cache.row(&[0; 9], &[4; 9], true).get(2, true), Some(8));
+    Ok(())
+}

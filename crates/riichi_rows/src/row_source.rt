@@ -1,0 +1,26 @@
+//! Where the rows of suits come from.
+ghost use Rattle.std.specs.Prelude.{ℕ, ◌<◌, ◌≤◌, slice_index};
+ghost use Rattle.riichi_rows.specs.Row.{entries_of};
+ghost use Rattle.riichi_rows.specs.Suit.{IsSuitRow};
+
+use crate::ranks::suit_row;
+use crate::row::SuitRow;
+
+/// What answers for suit rows: it may make each one anew, or keep those that it has made.
+pub trait RowSource {
+    /// The row of a suit, of which a choice holds no kind oftener than its cap. Honours have no
+    /// runs, and their last two counts and caps are 0.
+    fn row(&mut self, counts: &[u8; 9], caps: &[u8; 9], runs: bool) -> SuitRow
+        requires { (r : ℕ) → r < 9 → slice_index caps.now r ≤ 4 }
+        ensures { IsSuitRow runs counts.now caps.now (entries_of result) };
+}
+
+/// Makes each row anew, and keeps none.
+#[derive(Clone, Copy, Debug)]
+pub struct FreshRows;
+
+impl RowSource for FreshRows {
+    fn row(&mut self, counts: &[u8; 9], caps: &[u8; 9], runs: bool) -> SuitRow {
+        suit_row(*counts, *caps, runs)
+    }
+}
