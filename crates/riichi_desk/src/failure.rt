@@ -15,6 +15,8 @@ pub enum Failure {
     Words(Error),
     /// The words aren't text.
     Text,
+    /// The file with this path can't be opened.
+    Unopened(String),
     /// Input, output or memory failed.
     Desk(DeskFault),
 }
@@ -41,7 +43,7 @@ impl From<Error> for Failure {
 }
 
 /// Says on standard error why the program stops, and tells its exit status: 2 for a fault of the command line, 3 for
-/// input or output, 4 for memory; 0 where help or the version was asked for.
+/// input, output or a file that can't be opened, 4 for memory; 0 where help or the version was asked for.
 pub fn report<R: Print + Eprint>(rt: &R, failure: &Failure) -> u8 {
     match failure {
         Failure::Words(error) => {
@@ -53,6 +55,10 @@ pub fn report<R: Print + Eprint>(rt: &R, failure: &Failure) -> u8 {
         Failure::Text => {
             let _ = eprintln!(rt; "error: the words of the command line aren't UTF-8 text");
             2
+        }
+        Failure::Unopened(path) => {
+            let _ = eprintln!(rt; "riichi_desk: cannot open {path}");
+            3
         }
         Failure::Desk(fault) => {
             let code = code_of(*fault);
