@@ -1,8 +1,9 @@
 //! Whole scripts. Where memory is refused, a script ends by `DeskFault::Memory`, or a submission is told so.
 use super::*;
+use arrayvec::{ArrayString, ArrayVec};
 use desk_streams::{BytesIn, BytesOut};
+use std::io::Print;
 use std::process::Abort;
-use std::test::Fail;
 
 /// Two tables, a job of each kind but a win, and each answer and refusal that they can have.
 const SCRIPT: &[u8] = b"open east
@@ -71,9 +72,9 @@ fn is_front(written: &[u8], answers: &[u8]) -> bool {
     true
 }
 
-/// Replays a text, and compares what is written and counted.
+/// Replays a text, and compares what is written and counted. Where memory was refused, it says so.
 fn replay(
-    rt: &(impl Abort + AllocGlobal),
+    rt: &(impl Abort + AllocGlobal + Print),
     text: &[u8],
     answers: &[u8],
     answered: u64,
@@ -88,10 +89,10 @@ fn replay(
                 "{answered} {refused}"
             );
         }
-        Ok(_) | Err(DeskFault::Memory) => assert!(rt;
-            is_front(writer.bytes(), answers),
-            "another answer"
-        ),
+        Ok(_) | Err(DeskFault::Memory) => {
+            let _ = println!(rt; "memory was refused");
+            assert!(rt; is_front(writer.bytes(), answers), "another answer");
+        }
         Err(fault) => assert!(rt; false, "{fault}"),
     }
 }
@@ -101,62 +102,60 @@ fn two_tables(rt: HostRuntime) {
     replay(&rt, SCRIPT, ANSWERS, 18, 4);
     replay(&rt, b"", b"", 0, 0);
     replay(&rt, b"# nothing\n\n   \n", b"", 0, 0);
-    replay(
-        &rt,
-        b"rules 2\nopen a\r\nopen b",
-        b"refused P1\ntable 0\ntable 1\n",
-        2,
-        1,
-    );
+    let text = b"rules 2\nopen a\r\nopen b";
+    replay(&rt, text, b"refused P1\ntable 0\ntable 1\n", 2, 1);
 }
 
-/// A text of some bytes, made longer by spaces.
-fn padded(
-    rt: &impl AllocGlobal,
-    front: &[u8],
-    text: &[u8],
-    length: usize,
-) -> Result<Vec<u8>, Fail> {
-    let mut all = Vec::new(rt.alloc());
-    all.extend_from_slice(front)?;
-    all.extend_from_slice(text)?;
+/// A text of some bytes behind a front, made longer by spaces, and an ending.
+fn padded(front: &[u8], text: &[u8], length: usize, ending: &[u8]) -> ArrayVec<u8, 20_100> {
+    let mut all = ArrayVec::new();
+    let _ = all.try_extend_from_slice(front);
+    let _ = all.try_extend_from_slice(text);
     for _ in text.len()..length {
-        all.push(b' ')?;
+        let _ = all.try_push(b' ');
     }
-    Ok(all)
+    let _ = all.try_extend_from_slice(ending);
+    all
 }
 
 #[test]
-fn lines_up_to_the_limit(rt: HostRuntime) -> Result<(), Fail> {
+fn lines_up_to_the_limit(rt: HostRuntime) {
     const HAND: &[u8] = b"waits 1112345678999m";
-    let whole = padded(&rt, b"open east\nsubmit east ", HAND, 4096)?;
+    let whole = padded(b"open east\nsubmit east ", HAND, 4096, b"\n");
     replay(&rt, whole.as_slice(), b"table 0\nticket 0\n", 2, 0);
-    let longer = padded(&rt, b"open east\nsubmit east ", HAND, 4097)?;
+    let longer = padded(b"open east\nsubmit east ", HAND, 4097, b"");
     replay(&rt, longer.as_slice(), b"table 0\nrefused H1\n", 1, 1);
-    for (length, ending, told, refused) in [
-        (8192usize, "\n", "table 0\n", 0),
-        (8192, "\r\n", "table 0\n", 0),
-        (8193, "\n", "refused P1\n", 1),
-        (8193, "", "refused P1\n", 1),
-        (20_000, "\r\n", "refused P1\n", 1),
-    ] {
-        let mut line = padded(&rt, b"", b"open east", length)?;
-        line.extend_from_slice(ending.as_bytes())?;
-        replay(&rt, line.as_slice(), told.as_bytes(), 1 - refused, refused);
+    for (length, ending) in [(8192, "\n"), (8192, "\r\n"), (8192, "")] {
+        let line = padded(b"", b"open east", length, ending.as_bytes());
+        replay(&rt, line.as_slice(), b"table 0\n", 1, 0);
     }
-    Ok(())
+    for (length, ending) in [(8193, "\n"), (8193, ""), (20_000, "\r\n")] {
+        let line = padded(b"", b"open east", length, ending.as_bytes());
+        replay(&rt, line.as_slice(), b"refused P1\n", 0, 1);
+    }
+}
+
+/// Adds a line with a word and a number below 100.
+fn push_numbered(text: &mut ArrayString<2048>, word: &str, number: u8) {
+    let _ = text.try_push_str(word);
+    if number >= 10 {
+        let _ = text.try_push((b'0' + number / 10) as char);
+    }
+    let _ = text.try_push((b'0' + number % 10) as char);
+    let _ = text.try_push('\n');
 }
 
 #[test]
-fn one_table_too_many(rt: HostRuntime) -> Result<(), Fail> {
-    let mut text = String::new(rt.alloc());
-    let mut answers = String::new(rt.alloc());
+fn one_table_too_many(rt: HostRuntime) {
+    let mut text = ArrayString::new();
+    let mut answers = ArrayString::new();
     for number in 0..64u8 {
-        text.push_str(format!(in rt.alloc(); "open table-{number}\n")?.as_str())?;
-        answers.push_str(format!(in rt.alloc(); "table {number}\n")?.as_str())?;
+        push_numbered(&mut text, "open table-", number);
+        push_numbered(&mut answers, "table ", number);
     }
-    text.push_str("open table-64\nopen table-63\nopen table-0\ntake table-64\ntake table-63\n")?;
-    answers.push_str("refused P4\nrefused P3\nrefused P3\nrefused P2\nwaiting\n")?;
+    let more = "open table-64\nopen table-63\nopen table-0\ntake table-64\ntake table-63\n";
+    let _ = text.try_push_str(more);
+    let _ = answers.try_push_str("refused P4\nrefused P3\nrefused P3\nrefused P2\nwaiting\n");
     replay(
         &rt,
         text.as_str().as_bytes(),
@@ -164,24 +163,21 @@ fn one_table_too_many(rt: HostRuntime) -> Result<(), Fail> {
         65,
         4,
     );
-    Ok(())
 }
 
 /// The answers to the lines that have ended are written before each read.
 #[test]
 fn stops_at_each_failing_read(rt: HostRuntime) {
-    for read in 0..SCRIPT.len() {
-        let mut reader = BytesIn::new(SCRIPT, 1, Some(read as u64 + 1));
+    for read in 1..443u64 {
+        let mut reader = BytesIn::new(SCRIPT, 1, Some(read));
         let mut writer: BytesOut<1024> = BytesOut::new(7, None);
-        match replay_text(rt.alloc(), &mut reader, &mut writer) {
+        let fault = replay_text(rt.alloc(), &mut reader, &mut writer);
+        match fault {
             Err(DeskFault::Read) => {
-                assert_eq!(rt;
-                    count_lines(writer.bytes()),
-                    count_lines(&SCRIPT[..read]),
-                    "{read}"
-                );
+                let ended = count_lines(&SCRIPT[..read as usize - 1]);
+                assert_eq!(rt; count_lines(writer.bytes()), ended, "{read}");
             }
-            other => assert!(rt; other == Err(DeskFault::Memory), "{read}"),
+            fault => assert!(rt; fault == Err(DeskFault::Memory), "{read}"),
         }
         assert!(rt; is_front(writer.bytes(), ANSWERS), "{read}");
     }
@@ -189,12 +185,13 @@ fn stops_at_each_failing_read(rt: HostRuntime) {
 
 #[test]
 fn stops_at_each_failing_write(rt: HostRuntime) {
-    for write in 0..ANSWERS.len() {
+    for write in 1..255u64 {
         let mut reader = BytesIn::new(SCRIPT, 50, None);
-        let mut writer: BytesOut<1024> = BytesOut::new(1, Some(write as u64 + 1));
-        match replay_text(rt.alloc(), &mut reader, &mut writer) {
-            Err(DeskFault::Write) => assert_eq!(rt; writer.bytes().len(), write),
-            other => assert!(rt; other == Err(DeskFault::Memory), "{write}"),
+        let mut writer: BytesOut<1024> = BytesOut::new(1, Some(write));
+        let fault = replay_text(rt.alloc(), &mut reader, &mut writer);
+        match fault {
+            Err(DeskFault::Write) => assert_eq!(rt; writer.bytes().len() as u64, write - 1),
+            fault => assert!(rt; fault == Err(DeskFault::Memory), "{write}"),
         }
         assert!(rt; is_front(writer.bytes(), ANSWERS), "{write}");
     }
