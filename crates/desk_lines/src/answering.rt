@@ -2,14 +2,21 @@
 ghost use Rattle.std.specs.Prelude.{◌≡◌, ◌∷◌, ◌++◌, []};
 ghost use Rattle.desk_core.specs.AnswerText.{answer_text};
 ghost use Rattle.desk_core.specs.Value.{value_of};
+ghost use Rattle.riichi_score.specs.Best.{best_of};
+ghost use Rattle.riichi_score.specs.Text as spec_win;
+ghost use Rattle.riichi_shape.specs.Answer.{shape_of};
+ghost use Rattle.riichi_shape.specs.Text as spec_shape;
+ghost use Rattle.riichi_split.specs.Waits as spec_waits;
 ghost use Rattle.desk_lines.specs.LineAnswer.{answer_of};
 ghost use Rattle.desk_lines.specs.Outbox.{HasRoom};
 ghost use Rattle.desk_lines.specs.Telling.{with_line_feed, kind_of};
 
 use super::line_kind::LineKind;
 use super::outbox::Outbox;
-use desk_core::{answer_text, judge};
-use riichi_hand::{Job, Rules, fault_text, read_line};
+use riichi_hand::{HandRecord, Job, Rules, ShapeRecord, WinRecord, fault_text, read_line};
+use riichi_score::{best, win_text};
+use riichi_shape::{shape, shape_text};
+use riichi_split::{waits, waits_text};
 
 /// Puts the answer to a line into the outbox, where it has one.
 #[tactic(auto, using(crate::proofs::KindLemmas::kinds), unfolding(crate::specs::LineAnswer::answer_of))]
@@ -31,11 +38,36 @@ pub(crate) fn put_answer(rules: Rules, line: &[u8], outbox: &mut Outbox) -> Line
     }
 }
 
-/// Puts the answer to a job into the outbox.
+/// Puts the answer to a job into the outbox. Each sort by itself: the room of the longest text costs time for the others.
+#[tactic(auto, using(crate::proofs::JobTexts::job_texts))]
 fn put_job(job: &Job, outbox: &mut Outbox)
     requires { HasRoom outbox.old }
     ensures { outbox.new.bytes.items ≡ outbox.old.bytes.items ++ (answer_text (value_of job.now) ++ 10 ∷ []) }
 {
-    let answer = judge(job);
-    outbox.put_line(answer_text(&answer).as_str().as_bytes());
+    match job {
+        Job::Win(win) => put_win(win, outbox),
+        Job::Waits(hand) => put_waits(hand, outbox),
+        Job::Shape(tiles) => put_shape(tiles, outbox),
+    }
+}
+
+fn put_win(win: &WinRecord, outbox: &mut Outbox)
+    requires { HasRoom outbox.old }
+    ensures { outbox.new.bytes.items ≡ outbox.old.bytes.items ++ (spec_win.text_of (best_of win.now) ++ 10 ∷ []) }
+{
+    outbox.put_line(win_text(&best(win)).as_str().as_bytes());
+}
+
+fn put_waits(hand: &HandRecord, outbox: &mut Outbox)
+    requires { HasRoom outbox.old }
+    ensures { outbox.new.bytes.items ≡ outbox.old.bytes.items ++ (spec_waits.waits_text (spec_waits.waits_of hand.now) ++ 10 ∷ []) }
+{
+    outbox.put_line(waits_text(waits(hand)).as_str().as_bytes());
+}
+
+fn put_shape(tiles: &ShapeRecord, outbox: &mut Outbox)
+    requires { HasRoom outbox.old }
+    ensures { outbox.new.bytes.items ≡ outbox.old.bytes.items ++ (spec_shape.text_of (shape_of tiles.now) ++ 10 ∷ []) }
+{
+    outbox.put_line(shape_text(&shape(tiles)).as_str().as_bytes());
 }
