@@ -4,8 +4,9 @@
 //! a suit lacks of any choice of blocks, or none where no choice keeps within the caps.
 //! `suit_row` makes it in one pass over the nine ranks, and `join_rows` is the least sum of four
 //! rows with one pair in all. So the row of no tiles says `row.get(2, true) == Some(8)`: two sets
-//! and a pair are eight tiles. A `RowSource` is what answers for rows, and `FreshRows` the one that
-//! makes each anew.
+//! and a pair are eight tiles. Where one row changes, `join_two` and `JoinedRows` keep the other
+//! three joined. A `RowSource` is what answers for rows, and `FreshRows` the one that makes each
+//! anew.
 #![tactic(auto)]
 
 mod added;
