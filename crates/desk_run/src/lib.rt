@@ -11,7 +11,7 @@
 //! ```text
 //! let parts = Board::new(alloc, 1, 1, 8)?;
 //! let ticket = table.submit(&board, job)?;          // lays the job at a place
-//! let _ = worker.work_once(&board, &mut NoGate);    // Worked::Did(ticket)
+//! let _ = worker.work_once(&board, &mut NoGate, &mut cache);    // Worked::Did(ticket)
 //! let _ = table.collect(&board);                    // 1
 //! let _ = table.take();                             // Taken::Answer { seq: 0, answer: judge(&job) }
 //! ```

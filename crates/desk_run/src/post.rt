@@ -8,6 +8,7 @@ use crate::gate::Gate;
 use crate::start::Start;
 use crate::worked::Worked;
 use crate::worker_seat::WorkerSeat;
+use riichi_shape::RowCache;
 use std::alloc::{AllocError, Global};
 use std::sync::Wait;
 use std::thread;
@@ -15,21 +16,31 @@ use std::thread::{Scope, Threads};
 
 const MOST_WORKERS: u32 = 16;
 
-/// A worker at its board, with its gate.
+// How many suit rows each worker keeps.
+const KEPT_ROWS: usize = 512;
+
+/// A worker at its board, with its gate and the suit rows that it keeps.
 #[derive(Drop)]
 pub(crate) struct Post<'b, G> {
     board: &'b Board,
     seat: WorkerSeat,
     gate: G,
+    cache: RowCache,
     ghost here: { seat.seat.table_id ≡ board_name board.now } by { same_board _ _ },
 }
 
 // Works until it knows of the stop and finds nothing ready.
-fn work<R: Wait, G: Gate>(rt: &R, board: &Board, seat: &mut WorkerSeat, gate: &mut G)
+fn work<R: Wait, G: Gate>(
+    rt: &R,
+    board: &Board,
+    seat: &mut WorkerSeat,
+    gate: &mut G,
+    cache: &mut RowCache,
+)
     requires { seat.old.seat.table_id ≡ board_name board.now }
 {
     for _ in rt.forever() {
-        if seat.work_once(board, gate) == Worked::Nothing {
+        if seat.work_once(board, gate, cache) == Worked::Nothing {
             if seat.stopped(board) {
                 return;
             }
@@ -39,10 +50,15 @@ fn work<R: Wait, G: Gate>(rt: &R, board: &Board, seat: &mut WorkerSeat, gate: &m
 }
 
 impl<'b, G: Gate + Drop> Post<'b, G> {
-    fn new(board: &'b Board, seat: WorkerSeat, gate: G) -> Post<'b, G>
+    fn new(board: &'b Board, seat: WorkerSeat, gate: G, cache: RowCache) -> Post<'b, G>
         requires { seat.seat.table_id ≡ board_name board.now }
     {
-        Post { board, seat, gate }
+        Post {
+            board,
+            seat,
+            gate,
+            cache,
+        }
     }
 
     /// The posts of the workers and their gates, the last one first.
@@ -59,7 +75,10 @@ impl<'b, G: Gate + Drop> Post<'b, G> {
             let (Some(seat), Some(gate)) = (workers.pop(), gates.pop()) else {
                 return Ok(posts);
             };
-            posts.push(Post::new(board, seat, gate))?;
+            let Ok(cache) = RowCache::new(alloc, KEPT_ROWS) else {
+                return Err(AllocError);
+            };
+            posts.push(Post::new(board, seat, gate, cache))?;
         }
         Ok(posts)
     }
@@ -69,8 +88,9 @@ impl<'b, G: Gate + Drop> Post<'b, G> {
             board,
             mut seat,
             mut gate,
+            mut cache,
         } = self;
-        work(rt, board, &mut seat, &mut gate);
+        work(rt, board, &mut seat, &mut gate, &mut cache);
     }
 }
 

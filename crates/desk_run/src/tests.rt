@@ -3,6 +3,7 @@ mod threads;
 use crate::{Board, BoardFault, BoardParts, NoGate, OfferFault, Worked};
 use desk_core::{Taken, Ticket, judge};
 use riichi_hand::{Job, Rules, read_line};
+use riichi_shape::RowCache;
 use std::process::Abort;
 use std::test::Fail;
 
@@ -52,12 +53,15 @@ fn the_board_on_one_thread(rt: HostRuntime) -> Result<(), Fail> {
     assert!(rt; table.submit(&board, b) == Ok(ticket(1)));
     let refused = table.submit(&board, a);
     assert!(rt; refused.is_err_and(|back| back.fault == OfferFault::NoPlace && back.job == a));
-    let first = worker.work_once(&board, &mut NoGate);
-    let second = worker.work_once(&board, &mut NoGate);
+    let Ok(mut cache) = RowCache::new(rt.alloc(), 16) else {
+        panic!(rt; "no cache")
+    };
+    let first = worker.work_once(&board, &mut NoGate, &mut cache);
+    let second = worker.work_once(&board, &mut NoGate, &mut cache);
     assert!(rt; first == Worked::Did(ticket(0)) || first == Worked::Did(ticket(1)));
     assert!(rt; second == Worked::Did(ticket(0)) || second == Worked::Did(ticket(1)));
     assert!(rt; first != second);
-    assert!(rt; worker.work_once(&board, &mut NoGate) == Worked::Nothing);
+    assert!(rt; worker.work_once(&board, &mut NoGate, &mut cache) == Worked::Nothing);
     assert!(rt; table.collect(&board) == 2);
     assert!(rt; table.take() == given(0, &a));
     assert!(rt; table.take() == given(1, &b));

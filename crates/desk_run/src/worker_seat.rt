@@ -9,6 +9,7 @@ use crate::gate::Gate;
 use crate::steps::Seat;
 use crate::worked::Worked;
 use desk_core::{Piece, Ticket};
+use riichi_shape::RowCache;
 
 /// The seat of a worker, which between calls holds no place.
 #[derive(Drop)]
@@ -31,7 +32,13 @@ impl WorkerSeat {
     }
 
     // Tries to claim the place, and does its job.
-    fn work_at<G: Gate>(&mut self, board: &Board, gate: &mut G, place: usize) -> Option<Ticket>
+    fn work_at<G: Gate>(
+        &mut self,
+        board: &Board,
+        gate: &mut G,
+        cache: &mut RowCache,
+        place: usize,
+    ) -> Option<Ticket>
         requires id { self.old.seat.table_id ≡ board_name board.now }
         requires near { place < (board_name board.now).slots }
         ensures board { self.new.seat.table_id ≡ self.old.seat.table_id }
@@ -39,7 +46,7 @@ impl WorkerSeat {
         ensures nothing { IfNone result (((worker_of self.new.seat.me.0).finished ≡ (worker_of self.old.seat.me.0).finished) × ((worker_of self.new.seat.me.0).lost ≡ (worker_of self.old.seat.me.0).lost ++ place ∷ [])) }
     {
         let (ticket, job) = board.claim(&mut self.seat, place)?;
-        let piece = Piece::score(ticket, job);
+        let piece = Piece::score_with(cache, ticket, job);
         gate.before_finish(ticket);
         board.finish(&mut self.seat, place, piece);
         Some(ticket)
@@ -47,14 +54,19 @@ impl WorkerSeat {
 
     /// Goes once over the places until it claims one that is ready, scores its job, calls the gate,
     /// puts the piece back and marks it done.
-    pub fn work_once<G: Gate>(&mut self, board: &Board, gate: &mut G) -> Worked
+    pub fn work_once<G: Gate>(
+        &mut self,
+        board: &Board,
+        gate: &mut G,
+        cache: &mut RowCache,
+    ) -> Worked
         requires { self.old.seat.table_id ≡ board_name board.now }
         ensures board { self.new.seat.table_id ≡ self.old.seat.table_id }
         ensures did { (x : _) → result ≡ Did x → ((worker_of self.new.seat.me.0).finished ≡ (worker_of self.old.seat.me.0).finished ++ x ∷ []) × (times x (worker_of self.old.seat.me.0).finished ≡ 0) }
         ensures nothing { result ≡ Nothing → ((worker_of self.new.seat.me.0).finished ≡ (worker_of self.old.seat.me.0).finished) × ((worker_of self.new.seat.me.0).lost ≡ (worker_of self.old.seat.me.0).lost ++ places_from 0 (board_name board.now).slots) }
     {
         for place in 0..board.place_count() {
-            if let Some(ticket) = self.work_at(board, gate, place) {
+            if let Some(ticket) = self.work_at(board, gate, cache, place) {
                 return Worked::Did(ticket);
             }
         }
