@@ -1,9 +1,8 @@
 //! Files that are read.
 use crate::failure::Failure;
 use desk_score::ScoreFault;
-use std::fs;
-use std::io;
 use std::rt::Files;
+use std::{fs, io};
 
 /// Opens a file to be read.
 pub fn open_file<'a, R: Files>(rt: &R, file: &'a str) -> Result<R::File, Failure<'a>> {
