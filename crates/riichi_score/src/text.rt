@@ -6,7 +6,7 @@ ghost use Rattle.riichi_score.specs.Text as spec;
 use crate::{Payment, Score, WinAnswer};
 use arrayvec::ArrayString;
 use itoa::Buffer;
-use riichi_yaku::words_of;
+use riichi_yaku::push_words;
 
 /// The answer on one line, without the line's end.
 #[tactic(auto, unfolding(crate::specs::Text::text_of))]
@@ -31,7 +31,7 @@ fn push_score(text: &mut ArrayString<1024>, score: &Score)
     push_payment(text, &score.payment);
     text.push_str(" gain ");
     push_number(text, score.gain);
-    text.push_str(words_of(score.yaku).as_str());
+    push_words(text, score.yaku);
     push_dora(text, score.dora);
 }
 

@@ -34,26 +34,26 @@ words_bound (row ∷ rows) number set =
 pub words_most : (set : ℕ) → length (words_from 0 table set) ≤ 593
 words_most set = words_bound table 0 set
 
--- what is written, and what is left
-pub record AreWordsTo (number set : ℕ) (text : List ℕ) : Type 0 where
+-- what is written behind a text, and what is left
+pub record AreWordsTo (number set : ℕ) (before text : List ℕ) : Type 0 where
   pub in_range : number ≤ 41
-  pub whole : text ++ words_from number (drop number table) set ≡ words_from 0 table set
+  pub whole : text ++ words_from number (drop number table) set ≡ before ++ words_from 0 table set
 
-pub AreWordsTo-room : (number set : ℕ) (text : List ℕ) → number < 41 → AreWordsTo number set text → length text + length (spaced_if (has_number set number) (word_of number)) ≤ 600
-AreWordsTo-room number set text h w =
+pub AreWordsTo-room : (number set : ℕ) (before text : List ℕ) → number < 41 → length before + 593 ≤ 1024 → AreWordsTo number set before text → length text + length (spaced_if (has_number set number) (word_of number)) ≤ 1024
+AreWordsTo-room number set before text h room w =
     let one : List ℕ = spaced_if (has_number set number) (word_of number) in
     let rest : List ℕ = words_from (number + 1) (drop (number + 1) table) set in
-    let e : text ++ (one ++ rest) ≡ words_from 0 table set = ap (λ x. text ++ x) (sym (words_more number set h)) ∙ w.whole in
-    omega (arith, ap length e, length-append text (one ++ rest), length-append one rest, words_most set)
+    let e : text ++ (one ++ rest) ≡ before ++ words_from 0 table set = ap (λ x. text ++ x) (sym (words_more number set h)) ∙ w.whole in
+    omega (arith, ap length e, length-append text (one ++ rest), length-append one rest, length-append before (words_from 0 table set), words_most set, room)
 
-pub AreWordsTo-more : (number set : ℕ) (text : List ℕ) → number < 41 → AreWordsTo number set text → AreWordsTo (number + 1) set (text ++ spaced_if (has_number set number) (word_of number))
-AreWordsTo-more number set text h w =
+pub AreWordsTo-more : (number set : ℕ) (before text : List ℕ) → number < 41 → AreWordsTo number set before text → AreWordsTo (number + 1) set before (text ++ spaced_if (has_number set number) (word_of number))
+AreWordsTo-more number set before text h w =
     let one : List ℕ = spaced_if (has_number set number) (word_of number) in
     record {
       in_range = omega arith;
       whole = append_assoc text one (words_from (number + 1) (drop (number + 1) table) set) ∙ ap (λ x. text ++ x) (sym (words_more number set h)) ∙ w.whole;
     }
 
-pub AreWordsTo-most : (number set : ℕ) (text : List ℕ) → AreWordsTo number set text → length text ≤ 593
-AreWordsTo-most number set text w =
-    omega (arith, ap length w.whole, length-append text (words_from number (drop number table) set), words_most set)
+pub AreWordsTo-most : (number set : ℕ) (before text : List ℕ) → AreWordsTo number set before text → length text ≤ length before + 593
+AreWordsTo-most number set before text w =
+    omega (arith, ap length w.whole, length-append text (words_from number (drop number table) set), length-append before (words_from 0 table set), words_most set)

@@ -22,5 +22,5 @@ mod yakuman;
 
 pub use conditions::{yaku, yaku_among};
 pub use runs::is_pinfu;
-pub use table::{han_of, word, words_of};
+pub use table::{han_of, push_words, word};
 pub use yaku_set::YakuSet;

@@ -108,22 +108,21 @@ fn word_in(words: &[&'static str; 41], number: u8) -> &'static str
     words[number as usize]
 }
 
-/// The words of a set in the order of their numbers, each after a space.
+/// Writes the words of a set behind a text, in the order of their numbers, each after a space.
 #[tactic(auto, unfolding(crate::specs::Table::words_of))]
-pub fn words_of(set: YakuSet) -> ArrayString<600>
-    ensures value { result.bytes ≡ spec.words_of set }
-    ensures most { length result.bytes ≤ 593 }
+pub fn push_words(text: &mut ArrayString<1024>, set: YakuSet)
+    requires { length text.old.bytes + 593 ≤ 1024 }
+    ensures value { text.new.bytes ≡ text.old.bytes ++ spec.words_of set }
+    ensures most { length text.new.bytes ≤ length text.old.bytes + 593 }
 {
-    let mut text = ArrayString::new();
     for number in 0..41 {
-        push_word(&mut text, set, number);
+        push_word(text, set, number);
     }
-    text
 }
 
-fn push_word(text: &mut ArrayString<600>, set: YakuSet, number: u8)
+fn push_word(text: &mut ArrayString<1024>, set: YakuSet, number: u8)
     requires number { number < 41 }
-    requires room { length text.old.bytes + length (spec.spaced_if (has_number set number) (spec.word_of number)) ≤ 600 }
+    requires room { length text.old.bytes + length (spec.spaced_if (has_number set number) (spec.word_of number)) ≤ 1024 }
     ensures { text.new.bytes ≡ text.old.bytes ++ spec.spaced_if (has_number set number) (spec.word_of number) }
 {
     if set.contains(number) {

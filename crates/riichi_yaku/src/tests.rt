@@ -1,4 +1,5 @@
 use super::*;
+use arrayvec::ArrayString;
 use riichi_blocks::{all_tiles, blocks_of};
 use riichi_hand::{By, Flags, Rules, WinParts, WinRecord, Wind};
 use riichi_split::Readings;
@@ -43,6 +44,12 @@ fn drawn(text: &[u8], winning: u8) -> Result<YakuSet, Fail> {
         set = Some(yaku(&reading, &win));
     }
     Ok(set.ok_or("a reading")?)
+}
+
+fn words_of(set: YakuSet) -> ArrayString<1024> {
+    let mut text = ArrayString::new();
+    push_words(&mut text, set);
+    text
 }
 
 // Each hand has one reading.
