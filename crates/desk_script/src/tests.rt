@@ -1,6 +1,6 @@
 //! Scripts line by line.
 use super::*;
-use arrayvec::ArrayString;
+use arrayvec::ArrayVec;
 use std::io::Print;
 use std::process::Abort;
 
@@ -35,15 +35,15 @@ static SCRIPT: [(&str, &str); 22] = [
 ];
 
 /// A line with the record that its last letter stands for.
-fn spelled(line: &str) -> ArrayString<64> {
+fn spelled(line: &str) -> ArrayVec<u8, 64> {
     let (front, record) = match line.as_bytes().split_last() {
-        Some((b'A', _)) => (line.split_at(line.len() - 1).0, HAND),
-        Some((b'B', _)) => (line.split_at(line.len() - 1).0, SHAPE),
-        _ => (line, ""),
+        Some((b'A', front)) => (front, HAND.as_bytes()),
+        Some((b'B', front)) => (front, SHAPE.as_bytes()),
+        _ => (line.as_bytes(), "".as_bytes()),
     };
-    let mut text = ArrayString::new();
-    let _ = text.try_push_str(front);
-    let _ = text.try_push_str(record);
+    let mut text = ArrayVec::new();
+    let _ = text.try_extend_from_slice(front);
+    let _ = text.try_extend_from_slice(record);
     text
 }
 
@@ -75,7 +75,7 @@ fn a_day_at_two_tables(rt: HostRuntime) {
         return;
     };
     for (line, wanted) in SCRIPT {
-        if !tells(&rt, &mut script, spelled(line).as_str().as_bytes(), wanted) {
+        if !tells(&rt, &mut script, spelled(line).as_slice(), wanted) {
             return;
         }
     }
