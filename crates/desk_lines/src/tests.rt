@@ -1,7 +1,6 @@
 //! Rows of whole texts.
 use super::*;
 use arrayvec::ArrayString;
-use desk_core::judge;
 use desk_streams::{BytesIn, BytesOut, FromReader, ToWriter};
 use std::process::Abort;
 use std::test::Fail;
@@ -334,34 +333,5 @@ fn messages(rt: HostRuntime) -> Result<(), Fail> {
         let text = format!(in rt.alloc(); "{fault}")?;
         assert_eq!(rt; text.as_str(), message);
     }
-    Ok(())
-}
-
-/// The same text as a table's, taken apart into its jobs and what is refused, and told with the jobs' answers.
-#[test]
-fn a_table_taken_apart(rt: HostRuntime) -> Result<(), Fail> {
-    let alloc = rt.alloc();
-    let mut reader = BytesIn::new(TEXT, 1, None);
-    let Ok(collected) = collect_text(alloc, &mut reader) else {
-        assert!(rt; false, "not collected");
-        return Ok(());
-    };
-    let report = DeskReport {
-        answered: 2,
-        refused: 1,
-    };
-    assert!(rt; collected.report == report);
-    let mut given = Vec::new(alloc);
-    for job in &collected.jobs {
-        given.push(judge(job))?;
-    }
-    let asked = vec![in alloc; collected.asked]?;
-    let answers = vec![in alloc; given]?;
-    let mut writer: BytesOut<2048> = BytesOut::new(7, None);
-    let told = write_tables(asked.as_slice(), answers.as_slice(), &mut writer);
-    assert!(rt; told == Ok(()));
-    let (line, rest) = writer.bytes().split_at(8);
-    assert_eq!(rt; line, b"table 0\n".as_slice());
-    assert_eq!(rt; rest, ANSWERS);
     Ok(())
 }
