@@ -1,13 +1,16 @@
 -- In each suit sets have a multiple of three tiles, so the pair's suit is known by its tiles.
-use Rattle.std.proofs.Common.{◌≡◌, ℕ, zero, suc, ◌+◌, ◌*◌, ◌%◌, ◌<◌, ◌≤◌, ◌⊎◌, inl, inr, Bool, true, false, cond, ◌&&◌, List, [], ◌∷◌, get_or, refl, sym, ap, ◌∙◌, arith, eqb, ltb, leb}
+use Rattle.std.proofs.Common.{◌≡◌, ℕ, zero, suc, ◌+◌, ◌*◌, ◌%◌, ◌<◌, ◌≤◌, ◌⊎◌, inl, inr, Bool, true, false, cond, ◌&&◌, List, [], ◌∷◌, length, get_or, refl, sym, ap, ◌∙◌, arith, eqb, ltb, leb}
 use Rattle.std.specs.List.{AllByRecursion}
-use Rattle.std.proofs.lemmas.Bool.{cases_lt}
+use Rattle.std.proofs.lemmas.Bool.{cases_lt, cases_eq, eq-eqb, ne_eqb}
+use Rattle.std.proofs.lemmas.List.{get_or-set_other}
+use Rattle.std.proofs.lemmas.Grind.{get_or-set_at}
 use Rattle.std.proofs.lemmas.Bool.Decides.{nat_tests}
 use Rattle.riichi_tiles.specs.declared.block.Block.{Block}
 use Rattle.riichi_tiles.specs.declared.block.Block.TheVariants.{Run, Triplet, Pair}
 use Rattle.riichi_tiles.specs.Blocks.{copies, total, IsRunLow, IsSet}
 use Rattle.riichi_split.specs.Readings.{IsSplit}
 use Rattle.riichi_split.specs.Cuts.{suit_total}
+use Rattle.riichi_split.specs.Waits.{with_one}
 
 pub suit_total-suc : (f : ℕ → ℕ) (first n : ℕ) → suit_total f first (suc n) ≡ suit_total f first n + f (first + n)
 unfolding suit_total
@@ -51,6 +54,29 @@ total-run low first n =
     let b = suit_total-add (only 1 low) (λ k. only 1 (low + 1) k + only 1 (low + 2) k) first n in
     let d = suit_total-add (only 1 (low + 1)) (only 1 (low + 2)) first n in
     omega (arith, a, b, d, total-only 1 low first n, total-only 1 (low + 1) first n, total-only 1 (low + 2) first n)
+
+one-at : (c : List ℕ) (kind k : ℕ) → kind < length c → get_or (with_one c kind) k 0 ≡ get_or c k 0 + only 1 kind k
+one-at c kind k within = elim (cases_eq k kind) [
+  | inl same ↦ get_or-set_at c kind k (get_or c kind 0 + 1) 0 same within ∙ (rw (same, eq-eqb kind kind refl) refl)
+  | inr other ↦ get_or-set_other c kind k (get_or c kind 0 + 1) 0 other ∙ (rw (ne_eqb k kind other) (omega arith))
+]
+
+-- one more tile of a kind
+total-with_one : (c : List ℕ) (kind first n : ℕ) → kind < length c → suit_total (λ k. get_or (with_one c kind) k 0) first n ≡ suit_total (λ k. get_or c k 0) first n + cond (inside first n kind) 1 0
+total-with_one c kind first n within =
+    let a = suit_total-same (λ k. get_or (with_one c kind) k 0) (λ k. get_or c k 0 + only 1 kind k) first n (λ k. one-at c kind k within) in
+    let b = suit_total-add (λ k. get_or c k 0) (only 1 kind) first n in
+    omega (arith, a, b, total-only 1 kind first n)
+
+pub rest-of_its_suit : (c : List ℕ) (kind first n rest : ℕ) → kind < length c → first ≤ kind → kind < first + n → rest ≡ suit_total (λ k. get_or c k 0) first n % 3 → (rest + 1) % 3 ≡ suit_total (λ k. get_or (with_one c kind) k 0) first n % 3
+rest-of_its_suit c kind first n rest within low high is =
+    let t = total-with_one c kind first n within in grind (arith, nat_tests, t, is)
+
+pub rest-of_another_suit : (c : List ℕ) (kind first n rest : ℕ) → kind < length c → (kind < first) ⊎ (first + n ≤ kind) → rest ≡ suit_total (λ k. get_or c k 0) first n % 3 → rest ≡ suit_total (λ k. get_or (with_one c kind) k 0) first n % 3
+rest-of_another_suit c kind first n rest within (inl below) is =
+    let t = total-with_one c kind first n within in grind (arith, nat_tests, t, is)
+rest-of_another_suit c kind first n rest within (inr above) is =
+    let t = total-with_one c kind first n within in grind (arith, nat_tests, t, is)
 
 -- each run has a multiple of three tiles among these kinds
 RunsFit : ℕ → ℕ → Type 0

@@ -4,6 +4,7 @@ pub mod Winning
 pub mod Waits
 pub mod Sets
 pub mod Cuts
+pub mod Rests
 pub mod Dones
 pub mod SplitsLeft
 pub mod Left

@@ -7,6 +7,7 @@ use crate::sets::Sets;
 use crate::special::{is_orphans, is_seven_pairs};
 use crate::split::Split;
 use crate::splits::Splits;
+use crate::suit::Rests;
 use riichi_tiles::{Counts, Kind, Melds};
 use std::iter::FusedIterator;
 use std::marker::Model;
@@ -55,7 +56,7 @@ impl Readings {
                 pair: Kind::at(0),
             },
             place: 1,
-            splits: Splits::new(counts, melds),
+            splits: Splits::new(counts, melds, Rests::of(&counts.to_array())),
         }
     }
 }

@@ -2,8 +2,10 @@
 ghost use Rattle.std.specs.Prelude.{◌≡◌, ◌↔◌, ◌<◌, ℕ};
 ghost use Rattle.riichi_tiles.specs.Tiles.{IsCounts, IsMarked};
 ghost use Rattle.riichi_split.specs.Waits as spec;
+ghost use Rattle.riichi_split.specs.Rests.{AreRestsOf};
 
-use crate::winning::is_win;
+use crate::suit::Rests;
+use crate::winning::is_win_with;
 use arrayvec::ArrayString;
 use riichi_hand::HandRecord;
 use riichi_tiles::{Counts, Kind, KindSet, Melds, write_kinds};
@@ -15,18 +17,21 @@ pub fn waits(hand: &HandRecord) -> KindSet
 {
     let tiles = hand.concealed();
     let melds = hand.melds();
+    let rests = Rests::of(&tiles.to_array());
     let mut waits = KindSet::new();
     for number in 0..34 {
         let kind = Kind::at(number);
-        if is_wait(&tiles, &melds, kind) {
+        if is_wait(&tiles, &melds, rests, kind) {
             waits.insert(kind);
         }
     }
     waits
 }
 
-fn is_wait(tiles: &Counts, melds: &Melds, kind: Kind) -> bool
-    requires { kind < 34 }
+/// Whether the hand waits for the kind, with what it leaves over in each suit.
+fn is_wait(tiles: &Counts, melds: &Melds, rests: Rests, kind: Kind) -> bool
+    requires kind { kind < 34 }
+    requires rests { AreRestsOf tiles.now rests }
     ensures value { result ≡ spec.is_wait (record { concealed = tiles.now; melds = melds.now }) kind }
     ensures counts { IsCounts tiles.now }
 {
@@ -35,7 +40,7 @@ fn is_wait(tiles: &Counts, melds: &Melds, kind: Kind) -> bool
     }
     let mut completed = *tiles;
     completed.add(kind);
-    is_win(&completed, melds.count() as u8)
+    is_win_with(&completed, melds.count() as u8, rests.with(kind))
 }
 
 /// The text of some waits: `waits` and their kinds, `waits -` where there are none.

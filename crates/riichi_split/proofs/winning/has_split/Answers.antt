@@ -7,7 +7,7 @@ pub returns-then-not-has_suit_of_pair : goal.returns-then-not-has_suit_of_pair
 returns-then-not-has_suit_of_pair c = (
   λ holds. absurd (false≢true holds),
   λ split.
-      let has = c.has_suit_of_pair.ensures c.args.melds (rw c.to_array.ensures.value split) in
+      let has = c.has_suit_of_pair.ensures c.args.counts.now c.args.melds c.requires split in
       let hasnt = c.if-not-has_suit_of_pair.true in sym (rw has at hasnt),
 )
 
