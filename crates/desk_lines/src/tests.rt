@@ -363,7 +363,10 @@ fn tables_without_answers(rt: HostRuntime) -> Result<(), Fail> {
     tables.push(Vec::new(alloc))?;
     let mut writer: BytesOut<64> = BytesOut::new(7, None);
     assert!(rt; write_tables(tables.as_slice(), &[], &mut writer) == Ok(()));
-    assert_eq!(rt; writer.bytes(), b"table 0\nrefused H8\ntable 1\n".as_slice());
+    assert_eq!(rt;
+        writer.bytes(),
+        b"table 0\nrefused H8\ntable 1\n".as_slice()
+    );
     Ok(())
 }
 
