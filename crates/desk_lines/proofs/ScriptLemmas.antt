@@ -1,12 +1,12 @@
 -- What a script has answered once one more line was read.
-use Rattle.std.proofs.Common.{◌≡◌, ℕ, ◌<◌, inl, inr, List, [], ◌∷◌, ◌++◌, length, Option, refl, sym, subst, ap, ◌∙◌}
+use Rattle.std.proofs.Common.{◌≡◌, ℕ, inl, inr, List, [], ◌∷◌, ◌++◌, Option, refl, sym, subst, ap, ◌∙◌}
 use Rattle.std.specs.List.{zip, filter_map}
 use Rattle.std.proofs.lemmas.List.Elements.{filter_map-append}
 use Rattle.desk_core.specs.History.{IsLegal}
 use Rattle.desk_script.specs.declared.told.Told.{Told}
 use Rattle.desk_script.specs.Asked.{asked_on, events_of}
 use Rattle.desk_script.specs.Texts.{told_text}
-use Rattle.desk_script.specs.Replay.{ScriptState, Tells, Replays, told_with, AnswersLine as AnswersScript}
+use Rattle.desk_script.specs.Replay.{ScriptState, Tells, Replays, AnswersLine as AnswersScript}
 use Rattle.desk_script.proofs.Scripts.{Tells-alike}
 use Rattle.desk_script.proofs.Continued.{replay_goes_on}
 use Rattle.desk_lines.specs.Telling.{answers_in, IsToldAs}
