@@ -4,6 +4,7 @@ ghost use Rattle.riichi_split.specs.Winning.{HasReading, IsWin, HasSplit, HasSha
 
 use crate::special::{is_orphans, is_seven_pairs};
 use crate::splits::Splits;
+use crate::suit::suit_of_pair;
 use riichi_tiles::Counts;
 
 /// The tiles have a reading beside so many melds. It does not matter which of them wins.
@@ -28,6 +29,16 @@ fn has_split(counts: &Counts, melds: usize) -> bool
     if melds > 4 {
         return false;
     }
+    if !has_suit_of_pair(&counts.to_array()) {
+        return false;
+    }
     let mut splits = Splits::new(counts, melds);
     splits.next().is_some()
+}
+
+/// Whether some suit can have the pair. Most tiles that have no split are told so.
+fn has_suit_of_pair(counts: &[u8; 34]) -> bool
+    ensures { (melds : ℕ) → HasSplit counts.now melds → IsTrue result }
+{
+    suit_of_pair(counts).kinds > 0
 }
