@@ -6,6 +6,8 @@
 #include <stdatomic.h>
 #include <stdio.h>
 #include <stdlib.h>
+#include <sys/syscall.h>
+#include <unistd.h>
 
 static atomic_long requests;
 static atomic_long refused = -1;
@@ -51,4 +53,11 @@ __attribute__((destructor)) static void tell(void) {
     long count = requests;
     FILE *file = name ? fopen(name, "w") : NULL;
     if (file) fprintf(file, "%ld\n", count), fclose(file);
+}
+
+// A program may end without a way through its destructors.
+void _exit(int status) {
+    tell();
+    syscall(SYS_exit_group, status);
+    __builtin_unreachable();
 }

@@ -1,3 +1,4 @@
+pub mod Continued
 pub mod Desks
 pub mod Facts
 pub mod Histories

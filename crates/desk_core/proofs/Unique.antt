@@ -103,7 +103,7 @@ reply_unique turns (Take table) a b first second differ other =
     let same = taken_in turns b second in
     what.1 ∙ ap reply.Taken (take_unique turns what.0 same.0 (rw what.1 at first) (rw same.1 at second)) ∙ sym same.1
 
-desk_reply_unique : (tables : ℕ) (history : List Turn) (event : Event) (a b : Reply) → DeskReplyOf tables history (event, a) → DeskReplyOf tables history (event, b) → ¬ NoMemory a → ¬ NoMemory b → a ≡ b
+pub desk_reply_unique : (tables : ℕ) (history : List Turn) (event : Event) (a b : Reply) → DeskReplyOf tables history (event, a) → DeskReplyOf tables history (event, b) → ¬ NoMemory a → ¬ NoMemory b → a ≡ b
 desk_reply_unique tables history event a b first second differ other = by_range (ltb (table_of event) tables) refl first second
   where
     by_range : (r : Bool) → ltb (table_of event) tables ≡ r → MatchBool (ltb (table_of event) tables) (ReplyOf (turns_of (table_of event) history) event a) (a ≡ reply.NoTable) → MatchBool (ltb (table_of event) tables) (ReplyOf (turns_of (table_of event) history) event b) (b ≡ reply.NoTable) → a ≡ b

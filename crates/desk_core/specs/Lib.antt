@@ -1,4 +1,5 @@
 pub mod AnswerText
+pub mod Continued
 pub mod Desk
 pub mod Determined
 pub mod Entry

@@ -1,6 +1,6 @@
 use crate::{
     Answer, Arrived, CoreFault, DeskCore, Event, LIMIT, Lane, Piece, Reply, RunBack, SubmitFault,
-    Taken, Ticket, answer_text, judge, judge_with,
+    Taken, Ticket, answer_text, judge, judge_with, laws,
 };
 use riichi_hand::{By, Flags, HandRecord, Job, Rules, ShapeRecord, WinParts, WinRecord, Wind};
 use riichi_score::WinAnswer;
@@ -301,4 +301,10 @@ fn a_lane_takes_its_limit(rt: HostRuntime) {
     let back = lane.submit(job);
     assert!(rt; matches!(back, Err(back) if back.fault == SubmitFault::Closed && back.job == job));
     assert!(rt; lane.take() == Taken::Finished);
+}
+
+#[test]
+fn states_the_laws(_rt: HostRuntime) {
+    laws::replies_are_determined();
+    laws::each_history_goes_on();
 }

@@ -7,11 +7,11 @@ use Rattle.std.specs.Prelude.{codes, is_some, unwrap_or}
 use Rattle.riichi_hand.specs.declared.win.Rules.{Rules}
 use Rattle.riichi_hand.specs.declared.win.Rules.TheVariants.{One}
 use Rattle.riichi_hand.specs.Lines.{outcome_of}
-use Rattle.desk_lines.specs.Profile.{profile_of, rules_of, record_lines}
+use Rattle.desk_lines.specs.Profile.{profile_of, rules_of, record_lines, rules_by}
 use Rattle.desk_lines.specs.LineAnswer.{answer_of}
 use Rattle.desk_lines.specs.LineAnswers.{answers_on, answers_to}
 use Rattle.desk_lines.specs.Telling.{text_of, answers_in, IsToldAs}
-use Rattle.desk_lines.specs.Records.{rules_after, rules_by, told_by, TellsRecords}
+use Rattle.desk_lines.specs.Records.{rules_after, told_under, told_by, TellsRecords}
 use Rattle.desk_lines.specs.declared.records.Records.{Records}
 use Rattle.desk_lines.specs.Streams.{StopsWriting}
 use Rattle.desk_streams.specs.declared.sink.Sink.{Ghosts as OfSink}
@@ -28,7 +28,7 @@ answers_under-last rules lines line = filter_map-append (answer_of rules) lines 
 pub record_lines-more : (line : List ℕ) (lines more : List (List ℕ)) → record_lines ((line ∷ lines) ++ more) ≡ record_lines (line ∷ lines) ++ more
 record_lines-more line lines more = elim (is_some (profile_of line)) as (λ test. cond test (lines ++ more) (line ∷ lines ++ more) ≡ cond test lines (line ∷ lines) ++ more) [ true ↦ refl | false ↦ refl ]
 
-first_answer : (line : List ℕ) (profile : Option Rules) → filter_map (answer_of (unwrap_or profile One)) (cond (is_some profile) [] (line ∷ [])) ≡ answers_in (cond (is_some profile) None (answer_of One line))
+first_answer : (line : List ℕ) (profile : Option Rules) → filter_map (answer_of (unwrap_or profile One)) (cond (is_some profile) [] (line ∷ [])) ≡ answers_in (told_under (cond (is_some profile) None (Some One)) line)
 first_answer line None = refl
 first_answer line (Some rules) = refl
 

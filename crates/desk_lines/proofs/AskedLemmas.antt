@@ -1,5 +1,5 @@
 -- What one more line asks, and how what was asked is told.
-use Rattle.std.proofs.Common.{◌≡◌, ℕ, ◌+◌, ◌-◌, ◌<◌, inl, inr, List, [], ◌∷◌, ◌++◌, Bool, true, false, cond, flat_map, length, map, Option, Some, None, Result, Ok, Err, refl, sym, ◌∙◌, ap, arith}
+use Rattle.std.proofs.Common.{◌≡◌, ℕ, ◌+◌, ◌-◌, ◌<◌, inl, inr, List, [], ◌∷◌, ◌++◌, Bool, cond, flat_map, length, map, Option, Some, None, Result, Ok, Err, refl, sym, ◌∙◌, ap, arith}
 use Rattle.std.proofs.lemmas.List.{map-append}
 use Rattle.std.proofs.lemmas.List.Sums.{sum_by-cons}
 use Rattle.std.proofs.lemmas.Grind.{flat_map-append}
@@ -18,17 +18,17 @@ use Rattle.desk_core.specs.AnswerText.{answer_text}
 use Rattle.desk_core.specs.Value.{value_of}
 use Rattle.desk_lines.specs.declared.report.DeskReport.{DeskReport}
 use Rattle.desk_lines.specs.declared.collecting.Collector.{Collector}
-use Rattle.desk_lines.specs.Profile.{profile_of, rules_of, record_lines}
+use Rattle.desk_lines.specs.Profile.{profile_of, rules_of, record_lines, rules_by}
 use Rattle.desk_lines.specs.LineAnswer.{answer_of, outcome_text}
 use Rattle.desk_lines.specs.LineAnswers.{answers_to, report_on}
 use Rattle.desk_lines.specs.Telling.{text_of, is_refusal, IsToldAs}
-use Rattle.desk_lines.specs.Records.{rules_after, rules_by}
-use Rattle.desk_lines.specs.Asked.{outcomes, jobs_in, asked_in, jobs_of, asked_of, outcome_by, told}
+use Rattle.desk_lines.specs.Records.{rules_after}
+use Rattle.desk_lines.specs.Asked.{outcomes, jobs_in, asked_in, jobs_of, asked_of, outcome_under, outcome_by, told}
 use Rattle.desk_lines.specs.Collector.{Collects}
 use Rattle.desk_lines.proofs.AnswerLemmas.{record_lines-more, no_profile, rules_after-last, same_rules}
 use Rattle.desk_lines.proofs.KindLemmas.{is_refusal-fault, is_refusal-job}
 
-first_outcome : (line : List ℕ) (profile : Option Rules) → map (outcome_of (unwrap_or profile One)) (cond (is_some profile) [] (line ∷ [])) ≡ cond (is_some profile) [] (outcome_of One line ∷ [])
+first_outcome : (line : List ℕ) (profile : Option Rules) → map (outcome_of (unwrap_or profile One)) (cond (is_some profile) [] (line ∷ [])) ≡ outcome_under (cond (is_some profile) None (Some One)) line
 first_outcome line None = refl
 first_outcome line (Some rules) = refl
 

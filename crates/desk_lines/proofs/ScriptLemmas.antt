@@ -1,15 +1,16 @@
 -- What a script has answered once one more line was read.
-use Rattle.std.proofs.Common.{◌≡◌, ℕ, ◌<◌, inl, inr, List, [], ◌∷◌, ◌++◌, length, Option, refl, sym, subst, ap, ◌∙◌}
+use Rattle.std.proofs.Common.{◌≡◌, ℕ, inl, inr, List, [], ◌∷◌, ◌++◌, Option, refl, sym, subst, ap, ◌∙◌}
 use Rattle.std.specs.List.{zip, filter_map}
 use Rattle.std.proofs.lemmas.List.Elements.{filter_map-append}
 use Rattle.desk_core.specs.History.{IsLegal}
 use Rattle.desk_script.specs.declared.told.Told.{Told}
 use Rattle.desk_script.specs.Asked.{asked_on, events_of}
 use Rattle.desk_script.specs.Texts.{told_text}
-use Rattle.desk_script.specs.Replay.{ScriptState, Tells, Replays, told_with, AnswersLine as AnswersScript}
+use Rattle.desk_script.specs.Replay.{ScriptState, Tells, Replays, AnswersLine as AnswersScript}
 use Rattle.desk_script.proofs.Scripts.{Tells-alike}
+use Rattle.desk_script.proofs.Continued.{replay_goes_on}
 use Rattle.desk_lines.specs.Telling.{answers_in, IsToldAs}
-use Rattle.desk_lines.specs.Scripts.{TellsScript, ReplaysFirst}
+use Rattle.desk_lines.specs.Scripts.{TellsScript}
 
 -- a line may be told as this one
 Tells-as : (script : ScriptState) (lines : List (List ℕ)) (told : List Told) (line next : List ℕ) → IsToldAs 8192 line next → Tells script (lines ++ line ∷ []) told → Tells script (lines ++ next ∷ []) told
@@ -37,10 +38,12 @@ replays script lines answers tells = record {
   answers_are = tells.2 ∙ ap (filter_map told_text) tells.1.told_are;
 }
 
--- the first of some lines were answered
-pub replays_first : (script : ScriptState) (lines first others answers : List (List ℕ)) → lines ≡ first ++ others → TellsScript script first answers → ReplaysFirst lines answers
-replays_first script lines first others answers parts tells = record { first = first; others = others; parts = parts; replays = replays script first answers tells }
+-- the first of some lines were answered, and so there are answers to all of them that begin with these
+pub replays_whole : (script : ScriptState) (lines first others answers : List (List ℕ)) → lines ≡ first ++ others → TellsScript script first answers → (more : List (List ℕ)) × Replays lines (answers ++ more)
+replays_whole script lines first others answers parts tells =
+    let on = replay_goes_on first others answers (replays script first answers tells) in
+    (on.0, subst (λ (ls : List (List ℕ)). Replays ls (answers ++ on.0)) (sym parts) on.1)
 
 -- before the first line
-pub replays_none : ReplaysFirst [] []
-replays_none = record { first = []; others = []; parts = refl; replays = record { replies = []; replied = record { count = refl; legal = tt }; answers_are = refl } }
+pub replays_none : Replays [] []
+replays_none = record { replies = []; replied = record { count = refl; legal = tt }; answers_are = refl }

@@ -1,11 +1,10 @@
 -- What was sent once more of the tables was told.
-use Rattle.std.proofs.Common.{◌≡◌, ℕ, ◌+◌, ◌<◌, suc, List, [], ◌∷◌, ◌++◌, length, drop, get_or, map, Result, Ok, Err, refl, sym, subst, ◌∙◌, ap, append_assoc, add-one, drop-cons}
+use Rattle.std.proofs.Common.{◌≡◌, ℕ, ◌+◌, ◌<◌, suc, List, ◌∷◌, ◌++◌, length, drop, get_or, map, Result, Ok, Err, refl, sym, subst, ◌∙◌, ap, append_assoc, add-one, drop-cons}
 use Rattle.desk_streams.specs.declared.sink.Sink.{Ghosts as OfSink}
 use Rattle.desk_core.specs.declared.answer.Answer.{Answer}
 use Rattle.desk_lines.specs.declared.asked.Asked.{Asked}
 use Rattle.desk_lines.specs.declared.asked.Asked.TheVariants.{NextJob}
 use Rattle.desk_lines.specs.declared.fault.DeskFault.{DeskFault}
-use Rattle.desk_lines.specs.declared.fault.DeskFault.TheVariants.{Write}
 use Rattle.desk_lines.specs.declared.outbox.Outbox.{Outbox}
 use Rattle.desk_lines.specs.Asked.{line_told, answers_after, told}
 use Rattle.desk_lines.specs.Streams.{Writes, WritesAll, StopsWriting}

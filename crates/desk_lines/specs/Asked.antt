@@ -1,8 +1,7 @@
 -- What the lines of a table ask: jobs, and in their places among the answers the faults of lines.
-use Rattle.std.specs.Prelude.{ℕ, List, [], ◌∷◌, ◌++◌, map, Option, None, Some, is_some, if◌then◌else◌, Result, Ok, Err}
+use Rattle.std.specs.Prelude.{ℕ, List, [], ◌∷◌, ◌++◌, map, Option, None, Some, Result, Ok, Err}
 use Rattle.std.specs.List.{flat_map}
 use Rattle.riichi_hand.specs.declared.win.Rules.{Rules}
-use Rattle.riichi_hand.specs.declared.win.Rules.TheVariants.{One}
 use Rattle.riichi_hand.specs.declared.job.Job.{Job}
 use Rattle.riichi_hand.specs.declared.fault.LineFault.{LineFault}
 use Rattle.riichi_hand.specs.FaultTexts.{fault_text}
@@ -11,7 +10,7 @@ use Rattle.desk_core.specs.AnswerText.{answer_text}
 use Rattle.desk_core.specs.declared.answer.Answer.{Answer}
 use Rattle.desk_lines.specs.declared.asked.Asked.{Asked}
 use Rattle.desk_lines.specs.declared.asked.Asked.TheVariants.{NextJob, Refusal}
-use Rattle.desk_lines.specs.Profile.{profile_of, rules_of, record_lines}
+use Rattle.desk_lines.specs.Profile.{rules_of, record_lines, record_rules}
 
 -- what the lines that can be records are
 abbrev pub outcomes : List (List ℕ) → List (Result (Option Job) LineFault)
@@ -53,7 +52,11 @@ abbrev pub told : List Asked → List Answer → List ℕ
 told [] answers = []
 told (line ∷ lines) answers = line_told line answers ++ told lines (answers_after line answers)
 
+-- what a line is that is a record under these rules, or none
+abbrev pub outcome_under : Option Rules → List ℕ → List (Result (Option Job) LineFault)
+outcome_under None line = []
+outcome_under (Some rules) line = outcome_of rules line ∷ []
+
 -- what one more line is
 abbrev pub outcome_by : Option Rules → List ℕ → List (Result (Option Job) LineFault)
-outcome_by None line = if is_some (profile_of line) then [] else outcome_of One line ∷ []
-outcome_by (Some rules) line = outcome_of rules line ∷ []
+outcome_by rules line = outcome_under (record_rules rules line) line

@@ -27,3 +27,13 @@ rules_of (line ∷ lines) = unwrap_or (profile_of line) One
 abbrev pub record_lines : List (List ℕ) → List (List ℕ)
 record_lines [] = []
 record_lines (line ∷ lines) = if is_some (profile_of line) then lines else line ∷ lines
+
+-- the profile once one more line was read
+abbrev pub rules_by : Option Rules → List ℕ → Rules
+rules_by None line = unwrap_or (profile_of line) One
+rules_by (Some rules) line = rules
+
+-- under which profile one more line is a record; none where it sets the profile
+abbrev pub record_rules : Option Rules → List ℕ → Option Rules
+record_rules None line = if is_some (profile_of line) then None else Some One
+record_rules (Some rules) line = Some rules

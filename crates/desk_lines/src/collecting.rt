@@ -5,7 +5,7 @@ ghost use Rattle.riichi_hand.specs.Lines.{outcome_of};
 ghost use Rattle.desk_lines.specs.Lines.{lines};
 ghost use Rattle.desk_lines.specs.LineAnswers.{report_on};
 ghost use Rattle.desk_lines.specs.Asked.{jobs_in, asked_in, jobs_of, asked_of, outcome_by};
-ghost use Rattle.desk_lines.specs.Records.{rules_by};
+ghost use Rattle.desk_lines.specs.Profile.{rules_by};
 ghost use Rattle.desk_lines.specs.Streams.{GivesAll, FailsOrGoesOn};
 
 use super::asked::Asked;
@@ -13,7 +13,7 @@ use super::desk::Desk;
 use super::fault::DeskFault;
 use super::line_kind::LineKind;
 use super::outbox::Outbox;
-use super::profile::profile_of;
+use super::profile::record_rules;
 use super::reading::{MOST_READS, tell_lines};
 use super::report::DeskReport;
 use super::teller::Teller;
@@ -101,15 +101,10 @@ impl Collector {
         ensures jobs { OnOk result (self.new.jobs.items ≡ self.old.jobs.items ++ flat_map jobs_in (outcome_by self.old.rules line.now)) }
         ensures asked { OnOk result (self.new.asked.items ≡ self.old.asked.items ++ flat_map asked_in (outcome_by self.old.rules line.now)) }
     {
-        if let Some(rules) = self.rules {
-            return self.take_record(rules, line);
+        match record_rules(&mut self.rules, line) {
+            Some(rules) => self.take_record(rules, line),
+            None => Ok(()),
         }
-        if let Some(rules) = profile_of(line) {
-            self.rules = Some(rules);
-            return Ok(());
-        }
-        self.rules = Some(Rules::One);
-        self.take_record(Rules::One, line)
     }
 
     /// Takes a line that is no profile.

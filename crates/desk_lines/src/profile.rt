@@ -1,13 +1,30 @@
 //! The rule profile that a stream's first line can set.
-ghost use Rattle.std.specs.Prelude.{◌≡◌, ◌<◌};
+ghost use Rattle.std.specs.Prelude.{◌≡◌, ◌<◌, Some};
 ghost use Rattle.std.specs.List.{list_any};
 ghost use Rattle.riichi_hand.specs.Lines.{is_other_byte};
-ghost use Rattle.desk_lines.specs.Profile.{profile_numbered, profile_of};
+ghost use Rattle.desk_lines.specs.Profile.{profile_numbered, profile_of, rules_by, record_rules};
 
 use riichi_hand::{Rules, next_word};
 
 /// The longest line that is read as a record.
 const MOST_LINE: usize = 4_096;
+
+/// Takes the next line of a stream, whose profile is none before its first line. Answers under which profile the
+/// line is a record; none where it sets the profile.
+pub(crate) fn record_rules(stream: &mut Option<Rules>, line: &[u8]) -> Option<Rules>
+    ensures stream { stream.new ≡ Some (rules_by stream.old line.now) }
+    ensures record { result ≡ record_rules stream.old line.now }
+{
+    if stream.is_some() {
+        return *stream;
+    }
+    let set = profile_of(line);
+    *stream = Some(set.unwrap_or(Rules::One));
+    match set {
+        Some(_) => None,
+        None => Some(Rules::One),
+    }
+}
 
 /// The profile that a first line sets: its words are `rules` and the profile's number.
 #[tactic(auto, unfolding(crate::specs::Profile::profile_of))]

@@ -2,13 +2,14 @@
 ghost use Rattle.std.specs.Prelude.{◌≡◌, ◌++◌, Some, None};
 ghost use Rattle.desk_lines.specs.LineAnswer.{answer_of};
 ghost use Rattle.desk_lines.specs.Outbox.{HasRoom};
-ghost use Rattle.desk_lines.specs.Records.{told_by, rules_by};
+ghost use Rattle.desk_lines.specs.Records.{told_by};
+ghost use Rattle.desk_lines.specs.Profile.{rules_by};
 ghost use Rattle.desk_lines.specs.Telling.{with_line_feed, kind_of};
 
 use super::answering::put_answer;
 use super::line_kind::LineKind;
 use super::outbox::Outbox;
-use super::profile::profile_of;
+use super::profile::record_rules;
 use super::teller::Teller;
 use riichi_hand::Rules;
 use std::alloc::AllocError;
@@ -34,15 +35,10 @@ impl Records {
         ensures kind { result ≡ kind_of (told_by self.old.rules line.now) }
         ensures told { outbox.new.bytes.items ≡ outbox.old.bytes.items ++ with_line_feed (told_by self.old.rules line.now) }
     {
-        if let Some(rules) = self.rules {
-            return put_answer(rules, line, outbox);
+        match record_rules(&mut self.rules, line) {
+            Some(rules) => put_answer(rules, line, outbox),
+            None => LineKind::NoRecord,
         }
-        if let Some(rules) = profile_of(line) {
-            self.rules = Some(rules);
-            return LineKind::NoRecord;
-        }
-        self.rules = Some(Rules::One);
-        put_answer(Rules::One, line, outbox)
     }
 }
 

@@ -1,10 +1,9 @@
 //! The answers to a script, over streams.
-ghost use Rattle.std.specs.Prelude.{◌≡◌, ℕ, List, IfOk, IsErrOf};
+ghost use Rattle.std.specs.Prelude.{◌≡◌, ◌++◌, ℕ, List, IfOk, IsErrOf};
 ghost use Rattle.desk_script.specs.Replay.{Replays};
 ghost use Rattle.desk_script.specs.OnlyReplay.{IsOnlyReplay};
 ghost use Rattle.desk_lines.specs.Lines.{ended_lines, lines};
 ghost use Rattle.desk_lines.specs.Telling.{text_of, report_of};
-ghost use Rattle.desk_lines.specs.Scripts.{ReplaysFirst};
 ghost use Rattle.desk_lines.specs.Streams.{Gives, GivesAll, WritesAll, StopsWriting, AreWhole, FailsOrGoesOn};
 
 use super::desk::Desk;
@@ -42,19 +41,19 @@ pub fn replay_text<R: Source, W: Sink>(
         × Replays (ended_lines text) answers
         × WritesAll ⟦<W as Sink>⟧ writer.old writer.new (text_of answers)) }
 
-    // A write failed: a front of answers to the first of the whole lines that the reader gave was written.
+    // A write failed: there are answers to all whole lines that the reader gave, and a front of their text was written.
     ensures write_failed { IsErrOf result DeskFault.Write → (text : List ℕ) × (whole answers : List (List ℕ))
         × Gives ⟦<R as Source>⟧ reader.old reader.new text
         × AreWhole (R.is_ended reader.new) text whole
-        × ReplaysFirst whole answers
+        × Replays whole answers
         × StopsWriting ⟦<W as Sink>⟧ writer.old writer.new (text_of answers) }
 
-    // Memory ran out: answers to the first of the whole lines that the reader gave were written.
-    ensures no_memory { IsErrOf result DeskFault.Memory → (text : List ℕ) × (whole answers : List (List ℕ))
+    // Memory ran out: there are answers to all whole lines that the reader gave, and the first of them were written.
+    ensures no_memory { IsErrOf result DeskFault.Memory → (text : List ℕ) × (whole first others : List (List ℕ))
         × Gives ⟦<R as Source>⟧ reader.old reader.new text
         × AreWhole (R.is_ended reader.new) text whole
-        × ReplaysFirst whole answers
-        × WritesAll ⟦<W as Sink>⟧ writer.old writer.new (text_of answers) }
+        × Replays whole (first ++ others)
+        × WritesAll ⟦<W as Sink>⟧ writer.old writer.new (text_of first) }
 {
     let script = match Script::new(alloc) {
         Ok(script) => script,

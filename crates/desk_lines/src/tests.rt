@@ -2,6 +2,8 @@
 use super::*;
 use arrayvec::ArrayString;
 use desk_streams::{BytesIn, BytesOut, FromReader, ToWriter};
+use riichi_hand::{LineCode, LineFault, TextName};
+use riichi_tiles::{NotationCode, NotationFault};
 use std::process::Abort;
 use std::test::Fail;
 
@@ -321,6 +323,51 @@ fn stops_at_each_failing_write(rt: HostRuntime) {
     let mut writer: BytesOut<9> = BytesOut::new(100, None);
     assert!(rt; desk_text(&mut reader, &mut writer) == Err(DeskFault::Write));
     assert_eq!(rt; writer.bytes(), b"waits 123".as_slice());
+}
+
+/// What a text asks: the answers to its jobs, and the fault of a line in its place between them.
+#[test]
+fn a_text_taken_apart(rt: HostRuntime) -> Result<(), Fail> {
+    let mut reader = BytesIn::new(TEXT, 1, None);
+    let Ok(collected) = collect_text(rt.alloc(), &mut reader) else {
+        assert!(rt; false, "not collected");
+        return Ok(());
+    };
+    let report = DeskReport {
+        answered: 2,
+        refused: 1,
+    };
+    assert!(rt; collected.report == report);
+    assert_eq!(rt; collected.jobs.len(), 2);
+    let fault = NotationFault {
+        code: NotationCode::N5,
+        place: 0,
+    };
+    let asked = [
+        Asked::NextJob,
+        Asked::Refusal(LineFault::Notation(TextName::Hand, fault)),
+        Asked::NextJob,
+    ];
+    assert!(rt; collected.asked.as_slice() == asked.as_slice());
+    Ok(())
+}
+
+/// A table that asks for one refusal, and one that asks for nothing.
+#[test]
+fn tables_without_answers(rt: HostRuntime) -> Result<(), Fail> {
+    let alloc = rt.alloc();
+    let mut first = Vec::new(alloc);
+    first.push(Asked::Refusal(LineFault::Line(LineCode::H8)))?;
+    let mut tables = Vec::new(alloc);
+    tables.push(first)?;
+    tables.push(Vec::new(alloc))?;
+    let mut writer: BytesOut<64> = BytesOut::new(7, None);
+    assert!(rt; write_tables(tables.as_slice(), &[], &mut writer) == Ok(()));
+    assert_eq!(rt;
+        writer.bytes(),
+        b"table 0\nrefused H8\ntable 1\n".as_slice()
+    );
+    Ok(())
 }
 
 #[test]

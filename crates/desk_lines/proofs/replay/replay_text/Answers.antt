@@ -1,13 +1,16 @@
-use Rattle.std.proofs.Common.{◌≡◌, ◌∙◌, [], List, ℕ, ap, refl, sym, inl, arith, Err}
+use Rattle.std.proofs.Common.{◌≡◌, ◌∙◌, ◌++◌, [], List, ℕ, ap, refl, sym, subst, inl, arith, Err}
 use Rattle.std.proofs.KnownBytes.{Consumes-nil}
 use Rattle.std.proofs.lemmas.List.{append-nil}
 use Rattle.std.proofs.lemmas.Result.{err_from_is_err_and}
 use Rattle.desk_script.proofs.Only.{only_replay}
 use Rattle.desk_lines.specs.declared.fault.DeskFault.TheVariants.{Read, Write, Memory}
 use Rattle.desk_lines.specs.Lines.{lines, ended_lines}
-use Rattle.desk_lines.proofs.StreamLemmas.{WritesAll-nil}
+use Rattle.desk_lines.specs.Streams.{StopsWriting}
+use Rattle.desk_lines.specs.Telling.{text_of}
+use Rattle.desk_lines.proofs.StreamLemmas.{WritesAll-nil, StopsWriting-more}
+use Rattle.desk_lines.proofs.TellingLemmas.{text_of-append}
 use Rattle.desk_lines.proofs.ToldLemmas.{Stands-written}
-use Rattle.desk_lines.proofs.ScriptLemmas.{replays, replays_first, replays_none}
+use Rattle.desk_lines.proofs.ScriptLemmas.{replays, replays_whole, replays_none}
 use Rattle.desk_lines.proofs.replay.replay_text.Goals as goal
 
 pub new-desk-requires : goal.new-desk-requires
@@ -15,6 +18,7 @@ new-desk-requires g c = (omega arith, ([], c.in-Ok.ensures, refl))
 
 pub returns-in-Err-clause-no_memory : goal.returns-in-Err-clause-no_memory
 returns-in-Err-clause-no_memory g c is = (
+  [],
   [],
   [],
   [],
@@ -48,7 +52,16 @@ returns-in_err-told-clause-write_failed g c is =
     let same : c.in_err-told.field-0.0 ≡ Write = (let given = p.1 in let fault = p.2 in cc) in
     let failed = c.tell_lines.ensures.write_failed (c.in_err-told.was ∙ ap Err same) in
     let stops = failed.4 in
-    (failed.0, failed.1, stops.answers, failed.2, failed.3, replays_first stops.last failed.1 stops.first stops.others stops.answers stops.parts stops.tells, stops.stops)
+    let all = replays_whole stops.last failed.1 stops.first stops.others stops.answers stops.parts stops.tells in (
+      failed.0,
+      failed.1,
+      stops.answers ++ all.0,
+      failed.2,
+      failed.3,
+      all.1,
+      subst (λ (written : List ℕ). StopsWriting g.W.Sink c.args.writer.now c.tell_lines.new.writer written) (sym (text_of-append stops.answers all.0))
+          (StopsWriting-more g.W.Sink c.args.writer.now c.tell_lines.new.writer (text_of stops.answers) (text_of all.0) stops.stops),
+    )
 
 pub returns-in_err-told-clause-no_memory : goal.returns-in_err-told-clause-no_memory
 returns-in_err-told-clause-no_memory g c is =
@@ -56,4 +69,5 @@ returns-in_err-told-clause-no_memory g c is =
     let same : c.in_err-told.field-0.0 ≡ Memory = (let given = p.1 in let fault = p.2 in cc) in
     let failed = c.tell_lines.ensures.no_memory (c.in_err-told.was ∙ ap Err same) in
     let stops = failed.4 in
-    (failed.0, failed.1, stops.answers, failed.2, failed.3, replays_first stops.last failed.1 stops.first stops.others stops.answers stops.parts stops.tells, stops.stops)
+    let all = replays_whole stops.last failed.1 stops.first stops.others stops.answers stops.parts stops.tells in
+    (failed.0, failed.1, stops.answers, all.0, failed.2, failed.3, all.1, stops.stops)

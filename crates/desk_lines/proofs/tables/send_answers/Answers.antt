@@ -1,4 +1,4 @@
-use Rattle.std.proofs.Common.{◌≡◌, ◌∙◌, ◌+◌, ◌<◌, ℕ, List, ◌++◌, ap, sym, get_or, length, drop, append_assoc, arith}
+use Rattle.std.proofs.Common.{◌∙◌, ◌+◌, ◌++◌, ap, sym, get_or, drop, append_assoc, arith}
 use Rattle.std.proofs.lemmas.Result.{err_from_is_err_and}
 use Rattle.desk_lines.specs.declared.asked.Asked.TheVariants.{NextJob}
 use Rattle.desk_lines.specs.Asked.{told, line_told}

@@ -1,8 +1,8 @@
-use Rattle.std.proofs.Common.{◌≡◌, ◌∙◌, ◌+◌, ◌<◌, ◌≤◌, ℕ, List, [], ◌++◌, refl, ap, sym, subst, get_or, length, drop, map, append_assoc, arith}
+use Rattle.std.proofs.Common.{◌≡◌, ◌∙◌, ℕ, List, [], ◌++◌, refl, ap, sym, subst, drop, map, arith}
 use Rattle.std.proofs.lemmas.List.{append-nil, drop_all}
-use Rattle.std.proofs.lemmas.Result.{err_from_is_err_and, MatchResult-weaker}
+use Rattle.std.proofs.lemmas.Result.{err_from_is_err_and}
 use Rattle.desk_lines.specs.Asked.{told}
-use Rattle.desk_lines.specs.Tables.{table_line, tables_from, tables_text, told_tables, first_answers, Sends}
+use Rattle.desk_lines.specs.Tables.{table_line, tables_from, told_tables, first_answers, Sends}
 use Rattle.desk_lines.proofs.StreamLemmas.{WritesAll-nil}
 use Rattle.desk_lines.proofs.TablesLemmas.{tables-step, StopsWriting-front, Sends-written}
 use Rattle.desk_lines.proofs.tables.write_tables.Goals as goal

@@ -1,0 +1,50 @@
+-- The answers to some lines of a script go on with answers to any more lines.
+use Rattle.std.proofs.Common.{◌≡◌, ℕ, List, [], ◌∷◌, ◌++◌, length, refl, sym, subst, ap, ◌∙◌, arith, length-append}
+use Rattle.std.specs.List.{zip, filter_map}
+use Rattle.std.proofs.lemmas.List.Elements.{filter_map-append}
+use Rattle.desk_core.proofs.Continued.{CanGoOn-legal}
+use Rattle.desk_core.specs.History.{Turn, IsLegal}
+use Rattle.desk_core.specs.declared.event.Event.{Event}
+use Rattle.desk_core.specs.declared.reply.Reply.{Reply}
+use Rattle.desk_script.specs.declared.told.Told.TheVariants as tell
+use Rattle.desk_script.specs.declared.asked.Asked.{Asked}
+use Rattle.desk_script.specs.declared.asked.Asked.TheVariants as ask
+use Rattle.desk_script.specs.Asked.{asked_by, names_by, names_from, asked_from, names_after, asked_on, event_in, events_of}
+use Rattle.desk_script.specs.Texts.{told_text}
+use Rattle.desk_script.specs.Replay.{told_with, Replays}
+use Rattle.desk_script.proofs.Lists.{zip-append}
+
+asked_from-append : (names lines others : List (List ℕ)) → asked_from names (lines ++ others) ≡ asked_from names lines ++ asked_from (names_from names lines) others
+asked_from-append names [] others = refl
+asked_from-append names (line ∷ lines) others = ap (λ rest. asked_by names line ∷ rest) (asked_from-append (names_by names line) lines others)
+
+told_with-append : (asked others : List Asked) (replies more : List Reply) → length replies ≡ length (events_of asked) → told_with (asked ++ others) (replies ++ more) ≡ told_with asked replies ++ told_with others more
+told_with-append [] others [] more same = refl
+told_with-append [] others (reply ∷ replies) more same = absurd (omega arith)
+told_with-append (ask.Told told ∷ asked) others replies more same = ap (λ rest. told ∷ rest) (told_with-append asked others replies more same)
+told_with-append (ask.Event event ∷ asked) others [] more same = absurd (omega arith)
+told_with-append (ask.Event event ∷ asked) others (reply ∷ replies) more same = ap (λ rest. tell.Replied reply ∷ rest) (told_with-append asked others replies more (omega arith))
+
+pub replay_goes_on : (lines others answers : List (List ℕ)) → Replays lines answers → (more : List (List ℕ)) × Replays (lines ++ others) (answers ++ more)
+replay_goes_on lines others answers one =
+    let asked = asked_on lines in
+    let next = asked_from (names_after lines) others in
+    let asked_is : asked_on (lines ++ others) ≡ asked ++ next = asked_from-append [] lines others in
+    let events_are : events_of (asked_on (lines ++ others)) ≡ events_of asked ++ events_of next = ap events_of asked_is ∙ filter_map-append event_in asked next in
+    let on = CanGoOn-legal 64 (zip (events_of asked) one.replies) one.replied.legal (events_of next) in
+    let replies = one.replies ++ on.0 in
+    let turns_are : zip (events_of (asked_on (lines ++ others))) replies ≡ zip (events_of asked) one.replies ++ zip (events_of next) on.0 =
+    ap (λ (es : List Event). zip es replies) events_are ∙ zip-append (events_of asked) (events_of next) one.replies on.0 one.replied.count in
+    let told_are : told_with (asked_on (lines ++ others)) replies ≡ told_with asked one.replies ++ told_with next on.0 =
+    ap (λ (a : List Asked). told_with a replies) asked_is ∙ told_with-append asked next one.replies on.0 one.replied.count in (
+      filter_map told_text (told_with next on.0),
+      record {
+        replies = replies;
+        replied = record {
+          count = let events = ap length events_are in omega (arith, length-append one.replies on.0, length-append (events_of asked) (events_of next), one.replied.count, on.1.count);
+          legal = subst (λ (h : List Turn). IsLegal 64 h) (sym turns_are) on.1.legal;
+        };
+        answers_are = ap (λ all. all ++ filter_map told_text (told_with next on.0)) one.answers_are
+            ∙ sym (filter_map-append told_text (told_with asked one.replies) (told_with next on.0)) ∙ ap (filter_map told_text) (sym told_are);
+      },
+    )
