@@ -66,6 +66,7 @@ row 2 '' "invalid value '0' for '--workers <N>'" score --workers 0 file
 row 2 '' "invalid value '17' for '--workers <N>'" score --workers 17 file
 row 2 '' "invalid value 'many' for '--workers <N>'" score --workers many file
 row 0 'riichi_desk 0.1.0' '' --version
+told 'the help names the commands' 4 "$("$program" --help | grep -cE '^  (waits|line|replay|score) ')"
 
 # the command line: no input, a page of lines with its answers, and each example of the rules
 row 0 '' '' line
@@ -104,6 +105,8 @@ told 'a line of ten million bytes' $'refused H1\nrefused N5 hand at 0' "$("$prog
 yes 'waits 1112345678999m' | head -n 100000 > "$room/many"
 { "$program" line < "$room/many" 2> "$room/said"; echo "status $?" >> "$room/said"; } | head -n 1 > /dev/null
 told 'the reader of the answers goes away' $'riichi_desk: fault F2\nstatus 3' "$(cat "$room/said")"
+told 'a hand and a full disk' $'riichi_desk: fault F2\nstatus 3' "$("$program" waits 1112345678999m 2>&1 > /dev/full; echo "status $?")"
+told 'lines from a folder' $'riichi_desk: fault F1\nstatus 3' "$("$program" line < "$room" 2>&1; echo "status $?")"
 told 'a full disk' $'riichi_desk: fault F2\nstatus 3' "$("$program" line < "$room/many" 2>&1 > /dev/full; echo "status $?")"
 
 # a script: two tables, each answer and each refusal; a table too many; no file; a full disk

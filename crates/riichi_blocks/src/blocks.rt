@@ -50,6 +50,7 @@ impl Blocks {
         }
     }
 
+    /// The blocks, in their order.
     pub fn as_slice(&self) -> &[HandBlock]
         ensures value { result.now ≡ self.now }
         ensures most { length result.now ≤ 9 }

@@ -20,7 +20,7 @@ fn tiles(text: &str) -> Result<AllTiles, Fail> {
     Ok(AllTiles::new(counts(text)?.to_array()))
 }
 
-// 111m 567p 33s, a concealed kong of 9m and an open triplet of the Green dragon: won by ron, the triplet 111m is open.
+/// 111m 567p 33s, a concealed kong of 9m and an open triplet of the Green dragon: won by ron, the triplet 111m is open.
 fn open_hand(rt: &impl Abort, reading: &Reading, win: &WinRecord) {
     let blocks = blocks_of(reading, win);
     let run = HandBlock::Run(Kind::at(13));
@@ -78,7 +78,7 @@ fn looks_at_an_open_hand(rt: HostRuntime) -> Result<(), Fail> {
     Ok(())
 }
 
-// Whether all blocks have an orphan, all a terminal, some an honour, and whether the wait is two-sided.
+/// Whether all blocks have an orphan, all a terminal, some an honour, and whether the wait is two-sided.
 fn kinds_in_blocks(reading: &Reading, win: &WinRecord) -> [bool; 4] {
     let blocks = blocks_of(reading, win);
     let blocks = blocks.as_slice();
@@ -129,7 +129,7 @@ fn looks_at_the_kinds_in_blocks(rt: HostRuntime) -> Result<(), Fail> {
     Ok(())
 }
 
-// Seven pairs and thirteen orphans have no blocks.
+/// Seven pairs and thirteen orphans have no blocks.
 fn special(rt: &impl Abort, reading: &Reading, win: &WinRecord, seven_pairs: bool) {
     assert!(rt; blocks_of(reading, win).as_slice().is_empty() && !is_standard(reading));
     assert_eq!(rt; is_seven_pairs(reading), seven_pairs);

@@ -34,7 +34,7 @@ fn check(
     Ok(())
 }
 
-// Keys that differ in counts, caps or runs alone, each of them twice.
+/// Keys that differ in counts, caps or runs alone, each of them twice.
 #[test]
 fn rows_of_keys_that_are_alike(rt: HostRuntime) -> Result<(), Fail> {
     let mut cache = one_place(rt.alloc()).map_err(|_| "no memory twice")?;

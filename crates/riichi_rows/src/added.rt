@@ -23,6 +23,7 @@ pub fn cost(have: u8, limit: u8, used: u8) -> u8
     requires { limit ≤ 4 }
     ensures { result ≡ cost have limit used }
 {
+    // No limit is above four; said here, it lets the compiler drop the costs of five tiles and more.
     if used <= limit.min(4) {
         used.saturating_sub(have)
     } else {

@@ -15,7 +15,7 @@ up points = (points + 99) / 100 * 100
 abbrev pub by_ron : ℕ → Bool → ℕ → Payment
 by_ron base dealer counters = Ron (up ((if dealer then 6 else 4) * base) + 300 * counters)
 
--- each pays the dealer twice the base points; another winner has the base points of each, twice of the dealer; and each pays 100 for each counter
+-- each pays a winning dealer twice the base points; each other pays another winner the base points, the dealer twice that; and each payer 100 more for each counter
 abbrev pub by_tsumo : ℕ → Bool → ℕ → Payment
 by_tsumo base dealer counters =
     if dealer then DealerTsumo (up (2 * base) + 100 * counters)

@@ -134,7 +134,7 @@ fn triplets_and_yakuman(rt: HostRuntime) -> Result<(), Fail> {
     )
 }
 
-// A red five, four han 30 fu, three han 60 fu; a red five that wins; one in a meld; no yaku.
+/// A red five, four han 30 fu, three han 60 fu; a red five that wins; one in a meld; no yaku.
 const STRAIGHT: &str = "win 123406789m22s34p on=2p by=ron seat=S round=E";
 
 const INDICATED: &str = "win 123456789m22s34p on=2p by=ron seat=S round=E dora=1p";

@@ -2,7 +2,7 @@
 ghost use Rattle.std.specs.Prelude.{◌<◌, ◌≤◌};
 
 use crate::{
-    Accepts, DiscardList, Memory, RowCache, ShapeAnswer, accepted, join_rows, shanten, shape,
+    Accepts, DiscardList, Memory, RowCache, ShapeAnswer, accepted, join_rows, laws, shanten, shape,
     shape_text, shape_with, suit_row,
 };
 use riichi_hand::ShapeRecord;
@@ -56,8 +56,8 @@ fn check_with(rt: &impl Abort, cache: &mut RowCache, row: &Row) -> Result<(), Fa
     Ok(())
 }
 
-// A ready hand, live copies that are seen, a hand of fourteen; four copies of 1z of which no fifth
-// is wanted; melds that leave one copy of a kind; a complete hand, and discards in their order.
+/// A ready hand, live copies that are seen, a hand of fourteen; four copies of 1z of which no fifth
+/// is wanted; melds that leave one copy of a kind; a complete hand, and discards in their order.
 const ROWS: [Row; 12] = [
     Row {
         hand: "123456789m1134p",
@@ -249,6 +249,17 @@ fn check_rows_with(rt: &impl Abort, made: Result<RowCache, Memory>) -> Result<()
         check_with(rt, &mut cache, row)?;
     }
     Ok(())
+}
+
+#[test]
+fn states_the_laws(_rt: HostRuntime) {
+    laws::acceptance();
+    laws::forms();
+    laws::joins();
+    laws::orphans();
+    laws::ready();
+    laws::order();
+    riichi_rows::laws::entries();
 }
 
 #[test]

@@ -45,12 +45,14 @@ impl Sets {
         self.as_slice().len()
     }
 
+    /// Whether there is no set.
     pub fn is_empty(&self) -> bool
         ensures { IsTrue result ↔ (self.now ≡ []) }
     {
         self.count == 0
     }
 
+    /// The sets, in their order.
     pub fn as_slice(&self) -> &[Block]
         ensures value { result.now ≡ self.now }
         ensures at_most_four { length result.now ≤ 4 }

@@ -16,7 +16,7 @@ fn count_readings(text: &[u8], melds: &Melds, winning: u8) -> Result<usize, Fail
     Ok(count)
 }
 
-// The numbers for tiles that read in many ways are an outside program's.
+/// The numbers for tiles that read in many ways are an outside program's.
 #[test]
 fn gives_each_reading(rt: HostRuntime) -> Result<(), Fail> {
     let rows: [(&[u8], u8, usize); 8] = [
@@ -113,7 +113,7 @@ fn tells_the_waits(rt: HostRuntime) -> Result<(), Fail> {
     melds.push(Meld::Pon(Kind::at(27)));
     let written = waits_text(waits_of(b"2223456777m", melds)?);
     assert_eq!(rt; written.as_str(), "waits 12345678m");
-    // The melds hold all four of the only kind that would complete the hand.
+    // The meld holds all four 1m, one of the two kinds that would complete the hand.
     let mut held = Melds::new();
     held.push(Meld::Kan(Kind::at(0)));
     assert_eq!(rt;

@@ -52,7 +52,7 @@ fn words_of(set: YakuSet) -> ArrayString<1024> {
     text
 }
 
-// Each hand has one reading.
+/// Whichever of its readings is taken, each hand has these yaku.
 #[test]
 fn tells_the_yaku(rt: HostRuntime) -> Result<(), Fail> {
     let rows: [(&[u8], u8, &str, u8); 8] = [

@@ -40,6 +40,7 @@ impl YakuSet {
         number < 64 && has_bit(self.bits, number)
     }
 
+    /// Whether no yaku is in the set.
     pub fn is_empty(self) -> bool
         ensures { result ≡ (self == 0) }
     {
