@@ -53,6 +53,7 @@ impl Board {
         requires number { (number < self.now.size.tables) × (self.now.size.tables ≤ 64) × (self.now.size.places ≤ 32) }
         ensures board { IfOk result (λ t. t.seat.table_id ≡ board_name self.now) }
         ensures lane { IfOk result (λ t. t.book.lane ≡ new_lane number) }
+        ensures base { IfOk result (λ t. t.base ≡ number * self.now.size.places) }
         ensures lots { IfOk result (λ t. (outs t.book.lots.items ≡ 0) × (length t.book.lots.items ≡ self.now.size.places)) }
     {
         let places = self.size.places as usize;
