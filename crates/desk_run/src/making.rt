@@ -29,6 +29,7 @@ fn empty_places(alloc: Global, count: usize) -> Result<Vec<Content>, AllocError>
 }
 
 impl Board {
+    /// A board with no places taken up, and a seat that has not entered.
     pub(crate) fn lay(alloc: Global, size: BoardSize) -> Result<(Board, Seat), AllocError>
         requires { (size.tables ≤ 64) × (size.places ≤ 32) }
         ensures { IfOk result (λ r. (r.1.table_id ≡ board_name r.0) × (r.0.size ≡ size) × (r.1.me ≡ (Entering size, []))) }

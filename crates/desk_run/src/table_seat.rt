@@ -56,7 +56,7 @@ impl TableSeat {
         }
     }
 
-    // Tries to fetch the piece of the ticket that is out at the place.
+    /// Tries to fetch the piece of the ticket that is out at the place.
     fn fetch_at(&mut self, board: &Board, lot: usize) -> bool
         requires id { self.old.seat.table_id ≡ board_name board.now }
         requires near { lot < vec_len self.old.book.lots }

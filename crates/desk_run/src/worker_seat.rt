@@ -31,7 +31,7 @@ impl WorkerSeat {
         board.look(&mut self.seat)
     }
 
-    // Tries to claim the place, and does its job.
+    /// Tries to claim the place, and does its job.
     fn work_at<G: Gate>(
         &mut self,
         board: &Board,
