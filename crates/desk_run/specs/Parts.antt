@@ -1,5 +1,5 @@
 -- The seats that a new board gives.
-use Rattle.std.specs.Prelude.{◌≡◌, ℕ, ◌≤◌, false, List, [], length}
+use Rattle.std.specs.Prelude.{◌≡◌, ℕ, ◌*◌, ◌≤◌, false, List, [], length}
 use mathlib.Core.Option as ghost_option
 use lib.ListN.{get_elem?}
 use Rattle.desk_core.specs.LaneState.{new_lane}
@@ -14,9 +14,9 @@ abbrev pub IsInRange : ℕ → ℕ → ℕ → Type 0
 IsInRange tables workers places =
     (1 ≤ tables) × (tables ≤ 64) × (1 ≤ workers) × (workers ≤ 16) × (1 ≤ places) × (places ≤ 32)
 
--- table i of the board: its lane is new, and none of its places is out
+-- table i of the board: its lane is new, none of its places is out, and they stand after those of the tables before it
 abbrev pub IsNewTable : TableId → ℕ → ℕ → TableSeat → Type 0
-IsNewTable id places i t = (t.seat.table_id ≡ id) × (t.book.lane ≡ new_lane i) × (outs t.book.lots.items ≡ 0) × (length t.book.lots.items ≡ places)
+IsNewTable id places i t = (t.seat.table_id ≡ id) × (t.book.lane ≡ new_lane i) × (outs t.book.lots.items ≡ 0) × (length t.book.lots.items ≡ places) × (t.base ≡ i * places)
 
 abbrev pub AreNewTables : TableId → ℕ → List TableSeat → Type 0
 AreNewTables id places tables = (i : ℕ) (t : TableSeat) → get_elem? tables i ≡ ghost_option.some t → IsNewTable id places i t

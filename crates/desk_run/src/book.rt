@@ -23,7 +23,7 @@ use std::alloc::{AllocError, Global};
 pub struct Book {
     pub(crate) lane: Lane,
     pub(crate) lots: Vec<Lot>,
-    // The seat has the contents of these places, in this order from the last one on.
+    /// The seat has the contents of these places, in this order from the last one on.
     pub(crate) kept: Vec<usize>,
     ghost room: { vec_len lots ≤ vec_capacity kept },
     ghost agrees: { Agrees lane lots.items kept.items },

@@ -2,6 +2,7 @@ use desk_core::Ticket;
 
 /// What is called between the scoring of a job and the step that marks it done.
 pub trait Gate {
+    /// Called when the job of the ticket has been scored and is not yet marked done.
     fn before_finish(&mut self, ticket: Ticket);
 }
 

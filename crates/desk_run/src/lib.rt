@@ -9,7 +9,9 @@
 //! between the score of a job and the step that marks it done.
 //!
 //! ```text
-//! let parts = Board::new(alloc, 1, 1, 8)?;
+//! let BoardParts { board, mut tables, mut workers, .. } = Board::new(alloc, 1, 1, 8)?;
+//! let (Some(mut table), Some(mut worker)) = (tables.pop(), workers.pop()) else { .. };
+//! let mut cache = RowCache::new(alloc, 512)?;
 //! let ticket = table.submit(&board, job)?;          // lays the job at a place
 //! let _ = worker.work_once(&board, &mut NoGate, &mut cache);    // Worked::Did(ticket)
 //! let _ = table.collect(&board);                    // 1

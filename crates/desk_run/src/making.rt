@@ -29,6 +29,7 @@ fn empty_places(alloc: Global, count: usize) -> Result<Vec<Content>, AllocError>
 }
 
 impl Board {
+    /// A board with no places taken up, and a seat that has not entered.
     pub(crate) fn lay(alloc: Global, size: BoardSize) -> Result<(Board, Seat), AllocError>
         requires { (size.tables ≤ 64) × (size.places ≤ 32) }
         ensures { IfOk result (λ r. (r.1.table_id ≡ board_name r.0) × (r.0.size ≡ size) × (r.1.me ≡ (Entering size, []))) }
@@ -53,6 +54,7 @@ impl Board {
         requires number { (number < self.now.size.tables) × (self.now.size.tables ≤ 64) × (self.now.size.places ≤ 32) }
         ensures board { IfOk result (λ t. t.seat.table_id ≡ board_name self.now) }
         ensures lane { IfOk result (λ t. t.book.lane ≡ new_lane number) }
+        ensures base { IfOk result (λ t. t.base ≡ number * self.now.size.places) }
         ensures lots { IfOk result (λ t. (outs t.book.lots.items ≡ 0) × (length t.book.lots.items ≡ self.now.size.places)) }
     {
         let places = self.size.places as usize;

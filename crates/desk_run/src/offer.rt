@@ -4,7 +4,7 @@ ghost use Rattle.std.specs.Prelude.{◌≡◌};
 
 use riichi_hand::Job;
 
-/// The first of these that holds.
+/// Why a job was not offered: the first of these that holds.
 #[derive(Clone, Copy, PartialEq, Eq, Debug)]
 pub enum OfferFault {
     /// C1: the table has closed.

@@ -9,6 +9,7 @@ use crate::parts::{BoardFault, BoardParts};
 use crate::size::BoardSize;
 use std::alloc::{AllocError, Global};
 
+/// Whether it is 1 to 64 tables, 1 to 16 workers and 1 to 32 places for each table.
 pub(crate) fn in_range(size: BoardSize) -> bool
     ensures { IsTrue result ↔ IsInRange size.tables size.workers size.places }
 {
@@ -18,6 +19,7 @@ pub(crate) fn in_range(size: BoardSize) -> bool
 }
 
 impl Board {
+    /// The board of this size, with all its seats.
     fn make(alloc: Global, size: BoardSize) -> Result<BoardParts, AllocError>
         requires { IsInRange size.tables size.workers size.places }
         ensures counts { IfOk result (λ parts. (vec_len parts.tables ≡ size.tables) × (vec_len parts.workers ≡ size.workers)) }

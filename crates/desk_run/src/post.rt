@@ -16,7 +16,7 @@ use std::thread::{Scope, Threads};
 
 const MOST_WORKERS: u32 = 16;
 
-// How many suit rows each worker keeps.
+/// How many suit rows each worker keeps.
 const KEPT_ROWS: usize = 512;
 
 /// A worker at its board, with its gate and the suit rows that it keeps.
@@ -29,7 +29,7 @@ pub(crate) struct Post<'b, G> {
     ghost here: { seat.seat.table_id ≡ board_name board.now } by { same_board _ _ },
 }
 
-// Works until it knows of the stop and finds nothing ready.
+/// Works until it knows of the stop and finds nothing ready.
 fn work<R: Wait, G: Gate>(
     rt: &R,
     board: &Board,

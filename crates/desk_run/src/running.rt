@@ -18,7 +18,7 @@ use std::alloc::{AllocError, Global};
 use std::sync::Wait;
 use std::thread::{Scope, Threads};
 
-// Plays each table with its list of jobs.
+/// Plays each table with its list of jobs, one table after the other.
 fn play_all<R: Wait>(
     rt: &R,
     alloc: Global,

@@ -18,6 +18,8 @@ use std::sync::Wait;
 use std::thread;
 use std::thread::Threads;
 
+/// Whether a board for these lists of jobs is in range, and no table has more jobs than it may
+/// submit.
 fn is_runnable(jobs: &[Vec<Job>], workers: usize, places: u32) -> bool
     ensures { IsTrue result ↔ IsRunnable jobs.now workers places }
 {

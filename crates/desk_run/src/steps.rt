@@ -23,7 +23,7 @@ use riichi_hand::Job;
 
 pub type Seat = atomic_table::Seat<Content, View>;
 
-// The word of the stop. Word 0 is the roll, and each place has a word from FIRST on.
+// Word 0 is the roll, word 1 the stop, and each place has a word from FIRST on.
 const ROLL: usize = 0;
 
 const STOP: usize = 1;
@@ -123,6 +123,7 @@ impl Board {
         shared.store::<Finish>(seat, FIRST + place, DONE);
     }
 
+    /// Sets the stop word.
     pub(crate) fn halt(&self, seat: &mut Seat)
         requires id { seat.old.table_id ≡ board_id self.now }
         requires stop { IsStop seat.old.me }
@@ -143,7 +144,7 @@ impl Board {
         self.table.shared.load::<Look>(seat, STOP) == 1
     }
 
-    // Each of these three gives the seat the next number, or changes nothing.
+    /// Enters as the table of this number where it is the next one, and else changes nothing.
     pub(crate) fn enter_table(&self, seat: &mut Seat, number: u64) -> bool
         requires id { seat.old.table_id ≡ board_id self.now }
         requires new { (seat.old.me.0 ≡ Entering self.now.size) × (number < self.now.size.tables) × (number < 2 ^ 32) }
@@ -156,6 +157,7 @@ impl Board {
             == number
     }
 
+    /// Enters as the worker of this number where it is the next one, and else changes nothing.
     pub(crate) fn enter_worker(&self, seat: &mut Seat, number: u64) -> bool
         requires id { seat.old.table_id ≡ board_id self.now }
         requires new { (seat.old.me.0 ≡ Entering self.now.size) × (self.now.size.tables ≤ number) × (number < self.now.size.tables + self.now.size.workers) × (number < 2 ^ 32) }
@@ -168,6 +170,8 @@ impl Board {
             == number
     }
 
+    /// Enters as the seat that stops the workers where this number is the next one, and else
+    /// changes nothing.
     pub(crate) fn enter_stop(&self, seat: &mut Seat, number: u64) -> bool
         requires id { seat.old.table_id ≡ board_id self.now }
         requires new { (seat.old.me.0 ≡ Entering self.now.size) × (number ≡ self.now.size.tables + self.now.size.workers) × (number < 2 ^ 32) }

@@ -36,6 +36,8 @@ impl TableSeat {
     pub fn submit(&mut self, board: &Board, job: Job) -> Result<Ticket, OfferBack>
         requires { self.old.seat.table_id ≡ board_name board.now }
         ensures board { self.new.seat.table_id ≡ self.old.seat.table_id }
+        ensures base { self.new.base ≡ self.old.base }
+        ensures lost { (table_of self.new.seat.me.0).lost ≡ (table_of self.old.seat.me.0).lost }
         ensures ticket { IfOk result (λ x. x ≡ ticket self.old.book.lane.table (offered self.old.book.lane)) }
         ensures lane { IfOk result (λ _. self.new.book.lane ≡ with_job self.old.book.lane job) }
         ensures step { IfOk result (λ x. IsStep self.old.book.lane (Submit self.old.book.lane.table job) (reply.Ticket x) self.new.book.lane) }
@@ -54,7 +56,7 @@ impl TableSeat {
         }
     }
 
-    // Tries to fetch the piece of the ticket that is out at the place.
+    /// Tries to fetch the piece of the ticket that is out at the place.
     fn fetch_at(&mut self, board: &Board, lot: usize) -> bool
         requires id { self.old.seat.table_id ≡ board_name board.now }
         requires near { lot < vec_len self.old.book.lots }
@@ -78,6 +80,7 @@ impl TableSeat {
     pub fn collect(&mut self, board: &Board) -> u32
         requires { self.old.seat.table_id ≡ board_name board.now }
         ensures board { self.new.seat.table_id ≡ self.old.seat.table_id }
+        ensures base { self.new.base ≡ self.old.base }
         ensures arrived { Collects result self.old.book.lane self.old.book.lots.items self.new.book.lane self.new.book.lots.items }
         ensures lost { (table_of self.new.seat.me.0).lost ≡ (table_of self.old.seat.me.0).lost ++ out_places self.old.base self.new.book.lots.items (length self.new.book.lots.items) }
     {
@@ -94,7 +97,7 @@ impl TableSeat {
     pub fn take(&mut self) -> Taken
         ensures step { IsStep self.old.book.lane (Take self.old.book.lane.table) (reply.Taken result) self.new.book.lane }
         ensures first { GivesFirst self.old.book.lane result self.new.book.lane }
-        ensures same { (self.new.seat ≡ self.old.seat) × (self.new.book.lots.items ≡ self.old.book.lots.items) }
+        ensures same { (self.new.seat ≡ self.old.seat) × (self.new.base ≡ self.old.base) × (self.new.book.lots.items ≡ self.old.book.lots.items) }
     {
         self.book.take()
     }
@@ -103,7 +106,7 @@ impl TableSeat {
     pub fn close(&mut self) -> bool
         ensures step { IsStep self.old.book.lane (Close self.old.book.lane.table) (reply.Closed result) self.new.book.lane }
         ensures closed { self.new.book.lane ≡ record self.old.book.lane { closed = true } }
-        ensures same { (self.new.seat ≡ self.old.seat) × (self.new.book.lots.items ≡ self.old.book.lots.items) }
+        ensures same { (self.new.seat ≡ self.old.seat) × (self.new.base ≡ self.old.base) × (self.new.book.lots.items ≡ self.old.book.lots.items) }
     {
         self.book.close()
     }

@@ -31,7 +31,7 @@ impl WorkerSeat {
         board.look(&mut self.seat)
     }
 
-    // Tries to claim the place, and does its job.
+    /// Tries to claim the place, and does its job.
     fn work_at<G: Gate>(
         &mut self,
         board: &Board,
@@ -44,6 +44,7 @@ impl WorkerSeat {
         ensures board { self.new.seat.table_id ≡ self.old.seat.table_id }
         ensures did { IfSome result (λ x. ((worker_of self.new.seat.me.0).finished ≡ (worker_of self.old.seat.me.0).finished ++ x ∷ []) × (times x (worker_of self.old.seat.me.0).finished ≡ 0)) }
         ensures nothing { IfNone result (((worker_of self.new.seat.me.0).finished ≡ (worker_of self.old.seat.me.0).finished) × ((worker_of self.new.seat.me.0).lost ≡ (worker_of self.old.seat.me.0).lost ++ place ∷ [])) }
+        ensures stop { ((worker_of self.new.seat.me.0).knows_stop ≡ (worker_of self.old.seat.me.0).knows_stop) × ((worker_of self.new.seat.me.0).looks ≡ (worker_of self.old.seat.me.0).looks) }
     {
         let (ticket, job) = board.claim(&mut self.seat, place)?;
         let piece = Piece::score_with(cache, ticket, job);
@@ -64,6 +65,7 @@ impl WorkerSeat {
         ensures board { self.new.seat.table_id ≡ self.old.seat.table_id }
         ensures did { (x : _) → result ≡ Did x → ((worker_of self.new.seat.me.0).finished ≡ (worker_of self.old.seat.me.0).finished ++ x ∷ []) × (times x (worker_of self.old.seat.me.0).finished ≡ 0) }
         ensures nothing { result ≡ Nothing → ((worker_of self.new.seat.me.0).finished ≡ (worker_of self.old.seat.me.0).finished) × ((worker_of self.new.seat.me.0).lost ≡ (worker_of self.old.seat.me.0).lost ++ places_from 0 (board_name board.now).slots) }
+        ensures stop { ((worker_of self.new.seat.me.0).knows_stop ≡ (worker_of self.old.seat.me.0).knows_stop) × ((worker_of self.new.seat.me.0).looks ≡ (worker_of self.old.seat.me.0).looks) }
     {
         for place in 0..board.place_count() {
             if let Some(ticket) = self.work_at(board, gate, cache, place) {

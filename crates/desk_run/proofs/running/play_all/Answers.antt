@@ -1,11 +1,19 @@
-use Rattle.std.proofs.Common.{◌≡◌, ap, ◌∙◌, refl, arith, length-set, le_refl}
+use Rattle.std.proofs.Common.{rules, ◌≡◌, ap, ◌∙◌, refl, arith, length-set, le_refl}
 use mathlib.Core.Option.{some}
 use lib.ListN.{get_elem?}
 use Rattle.atomic_table.proofs.Lists.{at_index}
 use Rattle.desk_run.specs.Sitting.{board_name}
 use Rattle.desk_run.specs.Played.{values}
-use Rattle.desk_run.proofs.Plays.{fewer_new, values_more}
+use Rattle.desk_run.proofs.Plays.{all_new, fewer_new, values_more}
 use Rattle.desk_run.proofs.running.play_all.Goals as goal
+
+pub loop-table-init : goal.loop-table-init
+loop-table-init g c = record {
+  tables = (c.requires.tables.0, all_new (board_name c.args.board.now) c.requires.tables.0 c.args.tables.now.items c.requires.tables.1);
+  count = c.requires.count;
+  room = search rules;
+  played = search rules;
+}
 
 pub play-requires-clause-board : goal.play-requires-clause-board
 play-requires-clause-board g c = let b = c.loop-table.invariant in
