@@ -1,5 +1,5 @@
 -- What holds of the turns of each table of a legal history.
-use Rattle.std.proofs.Common.{◌≡◌, ℕ, suc, ◌<◌, ◌≤◌, Bool, true, false, ltb, eqb, List, [], ◌∷◌, ◌++◌, length, take, map, Some, None, Option, refl, sym, ap, zero-add, ◌∙◌, subst, ⊎_elim, arith, length-append, length-take, append_assoc, append-nil}
+use Rattle.std.proofs.Common.{◌≡◌, ℕ, suc, ◌<◌, ◌≤◌, Bool, true, false, cond, ltb, eqb, List, [], ◌∷◌, ◌++◌, length, take, map, Some, None, Option, refl, sym, ap, zero-add, ◌∙◌, subst, ⊎_elim, arith, length-append, length-take, append_assoc, append-nil}
 use Rattle.std.specs.Prelude.{slice_get, if◌then◌else◌, option_map}
 use Rattle.std.specs.List.{enumerate_from}
 use Rattle.std.proofs.lemmas.List.{take-append-le, map-append, length-map}
@@ -118,18 +118,20 @@ turns_of-push table history turn =
     filter-append (λ t. eqb (table_of t.0) table) history (turn ∷ [])
     ∙ append-cond (eqb (table_of turn.0) table) (turns_of table history) turn
 
+-- a turn of a table has the reply that is due after the table's own turns
+own_reply : (tables table : ℕ) (history : List Turn) (turn : Turn) → table < tables → eqb (table_of turn.0) table ≡ true → DeskReplyOf tables history turn → ReplyOf (turns_of table history) turn.0 turn.1
+own_reply tables table history turn within own legal =
+    let same : table_of turn.0 ≡ table = eqb-true (table_of turn.0) table own in
+    let in_range : ltb (table_of turn.0) tables ≡ true = lt-ltb (table_of turn.0) tables (omega arith) in
+    let replied : ReplyOf (turns_of (table_of turn.0) history) turn.0 turn.1 = rw in_range at legal in
+    subst (λ t. ReplyOf (turns_of t history) turn.0 turn.1) same replied
+
 IsSound-turn : (tables table : ℕ) (history : List Turn) (turn : Turn) → table < tables → IsSound (turns_of table history) → DeskReplyOf tables history turn → IsSound (turns_of table (history ++ turn ∷ []))
 IsSound-turn tables table history turn within sound legal = rw turns_of-push (by_table (eqb (table_of turn.0) table) refl)
   where
     by_table : (b : Bool) → eqb (table_of turn.0) table ≡ b → IsSound (if b then turns_of table history ++ turn ∷ [] else turns_of table history)
     by_table false other = sound
-    by_table true own =
-        let same : table_of turn.0 ≡ table = eqb-true (table_of turn.0) table own in
-        let in_range : ltb (table_of turn.0) tables ≡ true = lt-ltb (table_of turn.0) tables (omega arith) in
-        let replied : ReplyOf (turns_of (table_of turn.0) history) turn.0 turn.1 = rw in_range at legal in
-        let own_reply : ReplyOf (turns_of table history) turn.0 turn.1 =
-        subst (λ t. ReplyOf (turns_of t history) turn.0 turn.1) same replied in
-        IsSound-push (turns_of table history) turn.0 turn.1 sound own_reply
+    by_table true own = IsSound-push (turns_of table history) turn.0 turn.1 sound (own_reply tables table history turn within own legal)
 
 pub IsSound-from_legal : (tables table : ℕ) (history rest : List Turn) → table < tables → IsSound (turns_of table history) → IsLegalAfter tables history rest → IsSound (turns_of table (history ++ rest))
 IsSound-from_legal tables table history [] within sound legal = rw (append-nil history) sound
@@ -159,4 +161,32 @@ IsLegalAfter-split tables history [] more legal = (tt, rw append-nil legal)
 IsLegalAfter-split tables history (turn ∷ turns) more legal =
     let parts = IsLegalAfter-split tables (history ++ turn ∷ []) turns more legal.1 in
     let rest : IsLegalAfter tables (history ++ (turn ∷ turns)) more = rw append_assoc at parts.1 in
+    ((legal.0, parts.0), rest)
+
+-- after some turns of a table, each of these turns of it has the reply that it must have
+abbrev pub AreOwnReplies : List Turn → List Turn → Type 0
+AreOwnReplies before [] = Unit {0}
+AreOwnReplies before (turn ∷ turns) = ReplyOf before turn.0 turn.1 × AreOwnReplies (before ++ turn ∷ []) turns
+
+AreOwnReplies-from_legal : (tables table : ℕ) (history rest : List Turn) → table < tables → IsLegalAfter tables history rest → AreOwnReplies (turns_of table history) (turns_of table rest)
+AreOwnReplies-from_legal tables table history [] within legal = tt
+AreOwnReplies-from_legal tables table history (turn ∷ rest) within legal =
+    by_table (eqb (table_of turn.0) table) refl
+    (subst (λ turns. AreOwnReplies turns (turns_of table rest)) (turns_of-push table history turn)
+    (AreOwnReplies-from_legal tables table (history ++ turn ∷ []) rest within legal.1))
+  where
+    by_table : (b : Bool) → eqb (table_of turn.0) table ≡ b → AreOwnReplies (if b then turns_of table history ++ turn ∷ [] else turns_of table history) (turns_of table rest) → AreOwnReplies (turns_of table history) (cond b (turn ∷ turns_of table rest) (turns_of table rest))
+    by_table false other after = after
+    by_table true own after = (own_reply tables table history turn within own legal.0, after)
+
+-- each turn of a table in a legal history has the reply that is due after those of the table before it
+pub AreOwnReplies-IsLegal : (tables table : ℕ) (history : List Turn) → table < tables → IsLegal tables history → AreOwnReplies [] (turns_of table history)
+AreOwnReplies-IsLegal tables table history within legal = AreOwnReplies-from_legal tables table [] history within legal
+
+-- the same of a table's turns
+pub AreOwnReplies-split : (before turns more : List Turn) → AreOwnReplies before (turns ++ more) → AreOwnReplies before turns × AreOwnReplies (before ++ turns) more
+AreOwnReplies-split before [] more legal = (tt, rw append-nil legal)
+AreOwnReplies-split before (turn ∷ turns) more legal =
+    let parts = AreOwnReplies-split (before ++ turn ∷ []) turns more legal.1 in
+    let rest : AreOwnReplies (before ++ (turn ∷ turns)) more = rw append_assoc at parts.1 in
     ((legal.0, parts.0), rest)

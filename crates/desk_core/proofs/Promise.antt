@@ -1,16 +1,15 @@
 -- The promise of a whole run.
-use Rattle.std.proofs.Common.{◌≡◌, ℕ, suc, ◌+◌, ◌<◌, ◌≤◌, true, ltb, eqb, List, [], ◌∷◌, ◌++◌, length, drop, map, Some, refl, sym, ap, ◌∙◌, subst, arith, length-append, zero-add}
+use Rattle.std.proofs.Common.{◌≡◌, ℕ, suc, ◌+◌, ◌≤◌, List, [], ◌∷◌, ◌++◌, length, drop, map, Some, refl, sym, ap, ◌∙◌, arith, length-append, zero-add}
 use Rattle.std.specs.Prelude.{slice_get, option_map}
 use Rattle.std.specs.List.{enumerate_from}
 use Rattle.std.proofs.lemmas.List.{length-map}
-use Rattle.std.proofs.lemmas.Bool.{lt-ltb, eq-eqb}
 use Rattle.std.proofs.lemmas.List.FromFn.{length-enumerate_from}
 use Rattle.desk_core.proofs.Lists.{drop_past, drop-get, slice_get-map, slice_get-enumerate_from}
 use Rattle.desk_core.proofs.Histories.{HasArrived-push, given-push}
-use Rattle.desk_core.proofs.Facts.{IsSound-IsLegal, IsLegalAfter-split, turns_of-push}
+use Rattle.desk_core.proofs.Facts.{IsSound-IsLegal, AreOwnReplies, AreOwnReplies-IsLegal, AreOwnReplies-split}
 use Rattle.desk_core.proofs.Steps.{take_submits_nothing}
 use Rattle.desk_core.specs.Value.{value_of}
-use Rattle.desk_core.specs.History.{Turn, turns_of, submitted, HasArrived, given, answer_in, next_ticket, TakeReply, IsLegal, IsLegalAfter}
+use Rattle.desk_core.specs.History.{Turn, turns_of, submitted, HasArrived, given, answer_in, next_ticket, TakeReply, IsLegal}
 use Rattle.desk_core.specs.Desk.{AllArrived, answers_left, takings, KeepsItsPromise}
 use Rattle.desk_core.specs.declared.answer.Answer.{Answer}
 use Rattle.desk_core.specs.declared.event.Event.TheVariants.{Take}
@@ -33,42 +32,33 @@ answer-from_arrived turns (reply.Refused fault) has legal = absurd legal
 answer-from_arrived turns (reply.Arrived what) has legal = absurd legal
 answer-from_arrived turns (reply.Closed first) has legal = absurd legal
 
-takings_answer : (tables table : ℕ) (before : List Turn) (replies : List Reply) → table < tables → IsLegalAfter tables before (takings table replies) → AllArrived (turns_of table before) → next_ticket (turns_of table before) + length replies ≡ length (submitted (turns_of table before)) → replies ≡ map answered (answers_left (turns_of table before))
-takings_answer tables table before [] within legal all count =
-    let own = turns_of table before in
-    let past : length (enumerate_from 0 (map value_of (submitted own))) ≤ next_ticket own =
+takings_answer : (table : ℕ) (before : List Turn) (replies : List Reply) → AreOwnReplies before (takings table replies) → AllArrived before → next_ticket before + length replies ≡ length (submitted before) → replies ≡ map answered (answers_left before)
+takings_answer table before [] legal all count =
+    let past : length (enumerate_from 0 (map value_of (submitted before))) ≤ next_ticket before =
     (rw (length-enumerate_from, length-map) (omega (arith, count))) in
-    ap (map answered) (sym (drop_past (next_ticket own) (enumerate_from 0 (map value_of (submitted own))) past))
-takings_answer tables table before (replied ∷ replies) within legal all count =
-    let own = turns_of table before in
+    ap (map answered) (sym (drop_past (next_ticket before) (enumerate_from 0 (map value_of (submitted before))) past))
+takings_answer table before (replied ∷ replies) legal all count =
     let turn : Turn = (Take table, replied) in
-    let next = next_ticket own in
-    let has : HasArrived own next = all next (omega arith) in
-    let in_range : ltb table tables ≡ true = lt-ltb table tables within in
-    let take_reply : TakeReply own replied = rw in_range at legal.0 in
-    let found = answer-from_arrived own replied has take_reply in
+    let after : List Turn = before ++ turn ∷ [] in
+    let next = next_ticket before in
+    let has : HasArrived before next = all next (omega arith) in
+    let found = answer-from_arrived before replied has legal.0 in
     let answer : Answer = found.0 in
-    let itself : eqb table table ≡ true = eq-eqb table table refl in
-    let own' : turns_of table (before ++ turn ∷ []) ≡ own ++ turn ∷ [] = turns_of-push table before turn ∙ (rw itself refl) in
-    let jobs : submitted (turns_of table (before ++ turn ∷ [])) ≡ submitted own = ap submitted own' ∙ take_submits_nothing own table replied in
+    let jobs : submitted after ≡ submitted before = take_submits_nothing before table replied in
     let some : answer_in replied ≡ Some (next, answer) = ap answer_in found.1 in
-    let more : given (own ++ turn ∷ []) ≡ given own ++ (next, answer) ∷ [] = given-push own turn ∙ (rw some refl) in
-    let next' : next_ticket (turns_of table (before ++ turn ∷ [])) ≡ suc next =
-    ap next_ticket own' ∙ ap length more ∙ (rw length-append (omega arith)) in
-    let all' : AllArrived (turns_of table (before ++ turn ∷ [])) = λ i below.
-    subst (λ turns. HasArrived turns i) (sym own') (HasArrived-push own turn i (all i (omega (arith, below, ap length jobs)))) in
-    let count' : next_ticket (turns_of table (before ++ turn ∷ [])) + length replies ≡ length (submitted (turns_of table (before ++ turn ∷ []))) =
-    omega (arith, next', ap length jobs, count) in
-    let later : replies ≡ map answered (answers_left (turns_of table (before ++ turn ∷ []))) =
-    takings_answer tables table (before ++ turn ∷ []) replies within legal.1 all' count' in
-    let values = enumerate_from 0 (map value_of (submitted own)) in
+    let more : given after ≡ given before ++ (next, answer) ∷ [] = given-push before turn ∙ (rw some refl) in
+    let next' : next_ticket after ≡ suc next = ap length more ∙ (rw length-append (omega arith)) in
+    let all' : AllArrived after = λ i below. HasArrived-push before turn i (all i (omega (arith, below, ap length jobs))) in
+    let count' : next_ticket after + length replies ≡ length (submitted after) = omega (arith, next', ap length jobs, count) in
+    let later : replies ≡ map answered (answers_left after) = takings_answer table after replies legal.1 all' count' in
+    let values = enumerate_from 0 (map value_of (submitted before)) in
     let later' : replies ≡ map answered (drop (suc next) values) =
     later
-    ∙ ap (λ xs. map answered (drop (next_ticket (turns_of table (before ++ turn ∷ []))) (enumerate_from 0 (map value_of xs)))) jobs
+    ∙ ap (λ xs. map answered (drop (next_ticket after) (enumerate_from 0 (map value_of xs)))) jobs
     ∙ ap (λ n. map answered (drop n values)) next' in
     let there : slice_get values next ≡ Some (next, answer) =
-    slice_get-enumerate_from 0 (map value_of (submitted own)) next
-    ∙ ap (option_map (λ x. (0 + next, x))) (slice_get-map value_of (submitted own) next ∙ found.2)
+    slice_get-enumerate_from 0 (map value_of (submitted before)) next
+    ∙ ap (option_map (λ x. (0 + next, x))) (slice_get-map value_of (submitted before) next ∙ found.2)
     ∙ ap (λ n. Some (n, answer)) (zero-add next) in
     ap (λ r. r ∷ replies) found.1
     ∙ ap (λ rs. answered (next, answer) ∷ rs) later'
@@ -80,8 +70,9 @@ KeepsItsPromise-IsLegal tables history legal =
       legal = legal;
       in_order = λ table within. (IsSound-IsLegal tables table history within legal).values;
       gives_all = λ table within before replies rest same all count.
-          let whole : IsLegal tables ((before ++ takings table replies) ++ rest) = rw same legal in
-          let front = IsLegalAfter-split tables [] (before ++ takings table replies) rest whole in
-          let parts = IsLegalAfter-split tables [] before (takings table replies) front.0 in
-          takings_answer tables table before replies within parts.1 all count;
+          let own : AreOwnReplies [] (turns_of table history) = AreOwnReplies-IsLegal tables table history within legal in
+          let whole : AreOwnReplies [] ((before ++ takings table replies) ++ rest) = rw same own in
+          let front = AreOwnReplies-split [] (before ++ takings table replies) rest whole in
+          let parts = AreOwnReplies-split [] before (takings table replies) front.0 in
+          takings_answer table before replies parts.1 all count;
     }

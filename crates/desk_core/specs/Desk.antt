@@ -33,17 +33,18 @@ answers_left turns = drop (next_ticket turns) (enumerate_from 0 (map value_of (s
 abbrev pub takings : ℕ → List Reply → List Turn
 takings table replies = map (λ replied. (Take table, replied)) replies
 
--- Where each piece of a table has arrived, as many takings as it has jobs not yet given answer each of them.
+-- On a table's turns: after turns by which each piece has arrived, as many takings of the table in
+-- a row as jobs not yet given answer each of them, whatever the other tables did between.
 abbrev pub GivesAll : ℕ → List Turn → Type 0
-GivesAll table history =
-    (before : List Turn) (replies : List Reply) (rest : List Turn) → before ++ takings table replies ++ rest ≡ history
-    → AllArrived (turns_of table before)
-    → next_ticket (turns_of table before) + length replies ≡ length (submitted (turns_of table before))
-    → replies ≡ map (λ answer. reply.Taken (taken.Answer answer.0 answer.1)) (answers_left (turns_of table before))
+GivesAll table turns =
+    (before : List Turn) (replies : List Reply) (rest : List Turn) → before ++ takings table replies ++ rest ≡ turns
+    → AllArrived before
+    → next_ticket before + length replies ≡ length (submitted before)
+    → replies ≡ map (λ answer. reply.Taken (taken.Answer answer.0 answer.1)) (answers_left before)
 
 -- each reply is the one that it must be; each table was given the values of its jobs in order, each once;
 -- and once every piece has arrived, taking gives them all
 pub record KeepsItsPromise (tables : ℕ) (history : List Turn) : Type 0 where
   pub legal : IsLegal tables history
   pub in_order : (table : ℕ) → table < tables → GivenInOrder (turns_of table history)
-  pub gives_all : (table : ℕ) → table < tables → GivesAll table history
+  pub gives_all : (table : ℕ) → table < tables → GivesAll table (turns_of table history)

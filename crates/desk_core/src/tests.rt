@@ -2,7 +2,9 @@ use crate::{
     Answer, Arrived, CoreFault, DeskCore, Event, LIMIT, Lane, Piece, Reply, RunBack, SubmitFault,
     Taken, Ticket, answer_text, judge, judge_with, laws,
 };
-use riichi_hand::{By, Flags, HandRecord, Job, Rules, ShapeRecord, WinParts, WinRecord, Wind};
+use riichi_hand::{
+    By, Flags, HandRecord, Job, Rules, ShapeRecord, WinParts, WinRecord, Wind, read_line,
+};
 use riichi_score::WinAnswer;
 use riichi_shape::RowCache;
 use riichi_tiles::{Counts, Kind, Meld, Melds, Reds, read_counts};
@@ -195,6 +197,41 @@ fn a_lane_of_each_call(rt: HostRuntime) {
             }
     );
     assert!(rt; lane.take() == Taken::Finished);
+}
+
+/// The job of a record line.
+fn job_of(rules: Rules, line: &[u8]) -> Option<Job> {
+    read_line(rules, line).ok()?
+}
+
+/// A lane with this job, where one request for memory may be refused.
+fn a_lane_with(alloc: Global, job: &Job) -> Option<Lane> {
+    let mut lane = Lane::new(alloc, 0);
+    if lane.submit(*job).is_err() {
+        let _ = lane.submit(*job).ok()?;
+    }
+    Some(lane)
+}
+
+#[test]
+fn another_profile_or_five_is_another_job(rt: HostRuntime) {
+    let red = b"win 123406789m22s34p on=2p by=ron seat=S round=E";
+    let plain = b"win 123456789m22s34p on=2p by=ron seat=S round=E";
+    let (Some(job), Some(of_plain), Some(of_one)) = (
+        job_of(Rules::Two, red),
+        job_of(Rules::Two, plain),
+        job_of(Rules::One, red),
+    ) else {
+        assert!(rt; false);
+        return;
+    };
+    let Some(mut lane) = a_lane_with(rt.alloc(), &job) else {
+        assert!(rt; false);
+        return;
+    };
+    assert!(rt; lane.arrive(Piece::score(FIRST, of_plain)) == Arrived::Stranger);
+    assert!(rt; lane.arrive(Piece::score(FIRST, of_one)) == Arrived::Stranger);
+    assert!(rt; lane.arrive(Piece::score(FIRST, job)) == Arrived::Accepted);
 }
 
 /// A desk, where one request for memory may be refused.

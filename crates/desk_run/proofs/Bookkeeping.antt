@@ -154,7 +154,7 @@ received_as lane new k lots ks ls piece out b taken e = subst (λ (l : LaneState
 
 pub given_as : (lane new : LaneState) (lots : List Lot) (ks : List ℕ) (answer : Taken) → Agrees lane lots ks → GivesFirst lane answer new → Agrees new lots ks
 given_as lane new lots ks (taken.Answer seq answer) b g = subst (λ (l : LaneState). Agrees l lots ks) (sym g.5) (given lane lots ks g.0 g.1 g.2 b)
-given_as lane new lots ks taken.Waiting b g = subst (λ (l : LaneState). Agrees l lots ks) (sym g) b
+given_as lane new lots ks taken.Waiting b g = subst (λ (l : LaneState). Agrees l lots ks) (sym g.1) b
 given_as lane new lots ks taken.Finished b g = subst (λ (l : LaneState). Agrees l lots ks) (sym g.2) b
 
 pub closed_as : (lane new : LaneState) (lots : List Lot) (ks : List ℕ) → Agrees lane lots ks → new ≡ record lane { closed = true } → Agrees new lots ks

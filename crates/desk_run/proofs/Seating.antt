@@ -92,7 +92,7 @@ pub given_offers : (lane new : LaneState) (answer : Taken) → GivesFirst lane a
 given_offers lane new (taken.Answer seq answer) g = let n : ℕ = lane.next in let rest : List (Job × Bool) = g.1 in
     let l : length lane.window ≡ suc (length rest) = ap (λ (z : List (Job × Bool)). length z) g.2 in
     (ap (λ (z : LaneState). z.table) g.5, ap offered g.5 ∙ (let e : (n + 1) + length rest ≡ n + length lane.window = omega arith in e))
-given_offers lane new taken.Waiting g = (ap (λ (z : LaneState). z.table) g, ap offered g)
+given_offers lane new taken.Waiting g = (ap (λ (z : LaneState). z.table) g.1, ap offered g.1)
 given_offers lane new taken.Finished g = (ap (λ (z : LaneState). z.table) g.2, ap offered g.2)
 
 pub one_collected : (lane new : LaneState) (k : ℕ) (old more : List Lot) (piece : Ticketed) → get_elem? old k ≡ some (Out piece.ticket piece.job) → TakesInPiece lane piece new

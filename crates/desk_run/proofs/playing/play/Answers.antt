@@ -24,7 +24,7 @@ loop-preserved g c = let i = c.loop.invariant in
       tt,
       ap (λ s. s.table_id) c.take.ensures.same.0 ∙ c.collect.ensures.board ∙ c.offer_next.ensures.board ∙ i.2,
       i.3,
-      played_same _ _ _ _ _ c.in-Waiting.ensures.first p,
+      played_same _ _ _ _ _ c.in-Waiting.ensures.first.1 p,
     )
 
 pub returns-in-Finished : goal.returns-in-Finished

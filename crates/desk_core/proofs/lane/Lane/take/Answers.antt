@@ -1,4 +1,4 @@
-use Rattle.std.proofs.Common.{◌≡◌, List, [], ◌∷◌, drop, map, refl, ap, arith}
+use Rattle.std.proofs.Common.{◌≡◌, List, [], ◌∷◌, drop, map, refl, ap, inl, inr, arith}
 use Rattle.std.proofs.lemmas.Bool.{false≢true}
 use Rattle.desk_core.specs.contracts.lane.Lane.{the_view}
 use Rattle.desk_core.specs.Entry.{seen}
@@ -29,7 +29,7 @@ returns-in-Some-Waiting c =
     let front : items ≡ entry.Waiting job ∷ drop 1 items =
     first_is items (entry.Waiting job) (omega (arith, c.in-Some-Waiting.ensures.variant.0 refl)) (rw c.in-Some-Waiting.field-0-is at c.in-Some-Waiting.ensures.lookup) in
     let step = IsStep-from_own lane _ _ _ refl refl (take_waiting lane job (map seen (drop 1 items)) (ap (map seen) front)) in
-    record { step = rw (← c.self.view_is) step; first = refl }
+    record { step = rw (← c.self.view_is) step; first = rw (← c.self.view_is) (inl (job, map seen (drop 1 items), ap (map seen) front), refl) }
 
 pub returns-in-None : goal.returns-in-None
 returns-in-None c =
@@ -41,4 +41,4 @@ pub returns-in-None-2 : goal.returns-in-None-2
 returns-in-None-2 c =
     let lane = the_view c.self.inside in
     let none : c.self.inside.window.items ≡ [] = nil_is _ (λ more. false≢true (c.in-None.ensures.variant.1 (omega arith))) in
-    record { step = rw (← c.self.view_is) (IsStep-from_own lane _ _ _ refl refl (take_open lane (ap (map seen) none) c.if-self.false)); first = refl }
+    record { step = rw (← c.self.view_is) (IsStep-from_own lane _ _ _ refl refl (take_open lane (ap (map seen) none) c.if-self.false)); first = rw (← c.self.view_is) (inr (ap (map seen) none, c.if-self.false), refl) }
