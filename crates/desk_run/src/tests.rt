@@ -1,9 +1,14 @@
 mod threads;
 
-use crate::{Board, BoardFault, BoardParts, NoGate, OfferFault, Worked};
+ghost use Rattle.std.specs.Prelude.{◌≡◌, IfOk};
+ghost use Rattle.desk_run.specs.Parts.{AreNewTables, AreNewWorkers};
+ghost use Rattle.desk_run.specs.Sitting.{board_name};
+
+use crate::{Board, BoardFault, BoardParts, NoGate, OfferBack, OfferFault, TableSeat, Worked};
 use desk_core::{Taken, Ticket, judge};
 use riichi_hand::{Job, Rules, read_line};
 use riichi_shape::RowCache;
+use std::alloc::Global;
 use std::process::Abort;
 use std::test::Fail;
 
@@ -33,10 +38,35 @@ fn given(seq: u32, job: &Job) -> Taken {
     Taken::Answer { seq, answer }
 }
 
+/// A board, where one request for memory may be refused.
+fn a_board(alloc: Global, tables: u32, workers: u32, places: u32) -> Result<BoardParts, BoardFault>
+    ensures tables { IfOk result (λ parts. AreNewTables (board_name parts.board) places parts.tables.items) }
+    ensures workers { IfOk result (λ parts. AreNewWorkers (board_name parts.board) parts.workers.items) }
+    ensures stop { IfOk result (λ parts. parts.stop.seat.table_id ≡ board_name parts.board) }
+{
+    match Board::new(alloc, tables, workers, places) {
+        Err(BoardFault::Memory) => Board::new(alloc, tables, workers, places),
+        made => made,
+    }
+}
+
+/// Submits, where one request for memory may be refused.
+fn submit(table: &mut TableSeat, board: &Board, job: Job) -> Result<Ticket, OfferBack>
+    requires { table.old.seat.table_id ≡ board_name board.now }
+    ensures board { table.new.seat.table_id ≡ table.old.seat.table_id }
+{
+    match table.submit(board, job) {
+        Err(back) if back.fault == OfferFault::Memory && back.job == job => {
+            table.submit(board, job)
+        }
+        found => found,
+    }
+}
+
 #[test]
 fn the_board_on_one_thread(rt: HostRuntime) -> Result<(), Fail> {
     let (a, b) = (waits_a(&rt), shape_b(&rt));
-    let Ok(parts) = Board::new(rt.alloc(), 1, 1, 2) else {
+    let Ok(parts) = a_board(rt.alloc(), 1, 1, 2) else {
         panic!(rt; "no board")
     };
     let BoardParts {
@@ -49,11 +79,12 @@ fn the_board_on_one_thread(rt: HostRuntime) -> Result<(), Fail> {
         panic!(rt; "no seat")
     };
     assert!(rt; table.table() == 0);
-    assert!(rt; table.submit(&board, a) == Ok(ticket(0)));
-    assert!(rt; table.submit(&board, b) == Ok(ticket(1)));
-    let refused = table.submit(&board, a);
+    assert!(rt; submit(&mut table, &board, a) == Ok(ticket(0)));
+    assert!(rt; submit(&mut table, &board, b) == Ok(ticket(1)));
+    let refused = submit(&mut table, &board, a);
     assert!(rt; refused.is_err_and(|back| back.fault == OfferFault::NoPlace && back.job == a));
-    let Ok(mut cache) = RowCache::new(rt.alloc(), 16) else {
+    let made = RowCache::new(rt.alloc(), 16).or_else(|_| RowCache::new(rt.alloc(), 16));
+    let Ok(mut cache) = made else {
         panic!(rt; "no cache")
     };
     let first = worker.work_once(&board, &mut NoGate, &mut cache);
@@ -65,7 +96,7 @@ fn the_board_on_one_thread(rt: HostRuntime) -> Result<(), Fail> {
     assert!(rt; table.collect(&board) == 2);
     assert!(rt; table.take() == given(0, &a));
     assert!(rt; table.take() == given(1, &b));
-    assert!(rt; table.submit(&board, a) == Ok(ticket(2)));
+    assert!(rt; submit(&mut table, &board, a) == Ok(ticket(2)));
     assert!(rt; !worker.stopped(&board));
     stop.stop(&board);
     assert!(rt; worker.stopped(&board));
