@@ -12,6 +12,7 @@ use riichi_hand::Job;
 use std::alloc::Global;
 use std::collections::VecDeque;
 use std::marker::Model;
+use std::mem::replace;
 
 /// How many jobs a table may submit, given answers included.
 pub const LIMIT: u32 = 1_000_000;
@@ -145,9 +146,7 @@ impl Lane {
         ensures step { IsStep self.old (Event.Close self.old.table) (Reply.Closed result) self.new }
         ensures closed { self.new ≡ record self.old { closed = true } }
     {
-        let first = !self.closed;
-        self.closed = true;
-        first
+        !replace(&mut self.closed, true)
     }
 
     /// Gives the next answer where its piece has arrived, and forgets the job. It takes no memory.
