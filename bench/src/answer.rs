@@ -1,8 +1,10 @@
 //! The answers of a text, line by line.
 use crate::line::{read_line, Job, LineFault};
+use crate::rows::Ranks;
 use crate::score::{best, write_answer};
-use crate::shape::{write_shape, write_waits};
+use crate::shape::write_shape;
 use crate::tiles::write_number;
+use crate::waits::write_waits;
 
 fn profile_of(line: &[u8]) -> Option<bool> {
     let mut words = line.split(|&byte| byte == b' ').filter(|word| !word.is_empty());
@@ -13,12 +15,12 @@ fn profile_of(line: &[u8]) -> Option<bool> {
     }
 }
 
-fn answer_line(out: &mut Vec<u8>, is_two: bool, line: &[u8]) {
+fn answer_line(out: &mut Vec<u8>, ranks: &mut [Ranks; 3], is_two: bool, line: &[u8]) {
     match read_line(is_two, line) {
         Ok(None) => return,
         Ok(Some(Job::Win(win))) => write_answer(out, &win, &best(&win)),
         Ok(Some(Job::Waits(counts, melds))) => write_waits(out, &counts, &melds),
-        Ok(Some(Job::Shape(counts, melds, seen))) => write_shape(out, &counts, &melds, &seen),
+        Ok(Some(Job::Shape(counts, melds, seen))) => write_shape(out, ranks, &counts, &melds, &seen),
         Err(LineFault::Coded(code)) => {
             out.extend_from_slice(b"refused H");
             write_number(out, code.into());
@@ -38,6 +40,7 @@ fn answer_line(out: &mut Vec<u8>, is_two: bool, line: &[u8]) {
 /// The answers of a whole text.
 pub fn answers(text: &[u8]) -> Vec<u8> {
     let mut out = Vec::with_capacity(text.len() + text.len() / 2);
+    let mut ranks = [Ranks::new(); 3];
     let mut is_two = false;
     let whole = text.strip_suffix(b"\n").unwrap_or(text);
     if text.is_empty() {
@@ -51,7 +54,7 @@ pub fn answers(text: &[u8]) -> Vec<u8> {
                 continue;
             }
         }
-        answer_line(&mut out, is_two, line);
+        answer_line(&mut out, &mut ranks, is_two, line);
     }
     out
 }

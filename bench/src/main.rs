@@ -5,10 +5,14 @@
 mod answer;
 mod best;
 mod input;
+mod kinds;
 mod line;
+mod pen;
+mod rows;
 mod score;
 mod shape;
 mod tiles;
+mod waits;
 
 use std::io::{Read, Write};
 use std::process::{Command, Stdio};
