@@ -1,6 +1,6 @@
 //! Readings of a won hand, fu, yaku, payment.
 use crate::line::Win;
-use crate::tiles::{dora_of, write_number, Counts, Meld};
+use crate::tiles::{write_number, Counts, Meld};
 
 #[derive(Clone, Copy, PartialEq, Eq)]
 enum Shape {
@@ -320,7 +320,7 @@ fn pair_suit(counts: &Counts) -> Option<usize> {
 }
 
 fn count_dora(win: &Win, all: &Counts) -> u8 {
-    let told = (0..34).map(|kind| (win.dora[kind] + win.ura[kind]) * all[dora_of(kind)]).sum::<u8>();
+    let told = win.dora[..win.dora_count].iter().map(|&kind| all[kind as usize]).sum::<u8>();
     told + win.reds
 }
 
