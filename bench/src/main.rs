@@ -11,6 +11,7 @@ mod pen;
 mod rows;
 mod score;
 mod shape;
+mod suit;
 mod tiles;
 mod waits;
 

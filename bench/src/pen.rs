@@ -47,11 +47,6 @@ impl Pen<'_> {
             }
         }
     }
-
-    #[inline(always)]
-    pub fn kind(&mut self, kind: usize) {
-        self.word(NAMES[kind], 2);
-    }
 }
 
 impl Drop for Pen<'_> {
