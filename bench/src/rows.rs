@@ -215,14 +215,17 @@ type Open = [[Row; 3]; 3];
 
 /// With no run that begins here: nothing, a pair or a triplet beside so many tiles of open runs.
 #[inline(always)]
-fn without_run(later: Row, used: usize, costs: &Costs) -> Row {
-    let cost = |more: usize| costs.get(used + more).copied().unwrap_or(Words::splat(NONE));
-    let (none, two, three) = (later.lacking(cost(0)), later.plain.add(cost(2)), later.with_set().lacking(cost(3)));
-    match used {
-        0 | 1 => Row { plain: least_of([none.plain, three.plain]), paired: least_of([none.paired, two, three.paired]) },
-        2 => Row { plain: none.plain, paired: least_of([none.paired, two]) },
-        _ => none,
+fn without_run<const USED: usize>(later: Row, costs: &Costs) -> Row {
+    let none = later.lacking(costs[USED]);
+    if USED > 2 {
+        return none;
     }
+    let two = later.plain.add(costs[USED + 2]);
+    if USED == 2 {
+        return Row { plain: none.plain, paired: least_of([none.paired, two]) };
+    }
+    let three = later.with_set().lacking(costs[USED + 3]);
+    Row { plain: least_of([none.plain, three.plain]), paired: least_of([none.paired, two, three.paired]) }
 }
 
 /// The later choices by how many tiles the runs that begin here, a triplet and a pair take of this rank.
@@ -249,17 +252,28 @@ fn with_runs<const SIZE: usize>(added: &[Row; 5], costs: &Costs) -> Row {
 
 #[inline(always)]
 fn last_rank(costs: &Costs) -> [Row; 3] {
-    [0, 1, 2].map(|two| without_run(Row::nothing(), two, costs))
+    let later = Row::nothing();
+    [without_run::<0>(later, costs), without_run::<1>(later, costs), without_run::<2>(later, costs)]
 }
 
 #[inline(always)]
-fn eighth_rank(later: &[Row; 3], costs: &Costs) -> Open {
-    [0, 1, 2].map(|one| [0, 1, 2].map(|two| without_run(later[one], one + two, costs)))
+fn eighth_rank(&[zero, one, two]: &[Row; 3], costs: &Costs) -> Open {
+    [
+        [without_run::<0>(zero, costs), without_run::<1>(zero, costs), without_run::<2>(zero, costs)],
+        [without_run::<1>(one, costs), without_run::<2>(one, costs), without_run::<3>(one, costs)],
+        [without_run::<2>(two, costs), without_run::<3>(two, costs), without_run::<4>(two, costs)],
+    ]
+}
+
+/// For each number of runs begun one rank before, what this rank adds.
+#[inline(always)]
+fn added_by_begun([none, one, two]: &Open) -> [[Row; 5]; 3] {
+    [added(none[0], one[0], two[0]), added(none[1], one[1], two[1]), added(none[2], one[2], two[2])]
 }
 
 #[inline(always)]
 fn middle_rank(later: &Open, costs: &Costs) -> Open {
-    let [zero, one, two] = [0, 1, 2].map(|one| added(later[0][one], later[1][one], later[2][one]));
+    let [zero, one, two] = added_by_begun(later);
     [
         [with_runs::<5>(&zero, costs), with_runs::<4>(&zero, costs), with_runs::<3>(&zero, costs)],
         [with_runs::<4>(&one, costs), with_runs::<3>(&one, costs), with_runs::<2>(&one, costs)],
@@ -269,7 +283,7 @@ fn middle_rank(later: &Open, costs: &Costs) -> Open {
 
 #[inline(always)]
 fn second_rank(later: &Open, costs: &Costs) -> [Row; 3] {
-    let [zero, one, two] = [0, 1, 2].map(|one| added(later[0][one], later[1][one], later[2][one]));
+    let [zero, one, two] = added_by_begun(later);
     [with_runs::<5>(&zero, costs), with_runs::<4>(&one, costs), with_runs::<3>(&two, costs)]
 }
 
@@ -333,7 +347,7 @@ pub fn honour_row(counts: &[u8; 7], caps: &[u8; 7], melds: usize) -> Row {
         row = row.with_set();
     }
     for rank in 0..7 {
-        row = without_run(row, 0, &costs(counts[rank], caps[rank], rank));
+        row = without_run::<0>(row, &costs(counts[rank], caps[rank], rank));
     }
     row
 }
