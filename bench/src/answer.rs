@@ -1,6 +1,6 @@
 //! The answers of a text, line by line.
 use crate::line::{read_line, Job, LineFault};
-use crate::rows::Ranks;
+use crate::rows::Kept;
 use crate::score::{best, write_answer};
 use crate::shape::write_shape;
 use crate::tiles::write_number;
@@ -16,12 +16,12 @@ fn profile_of(line: &[u8]) -> Option<bool> {
     }
 }
 
-fn answer_line(out: &mut Vec<u8>, ranks: &mut [Ranks; 3], is_two: bool, line: &[u8], is_plain: bool) {
+fn answer_line(out: &mut Vec<u8>, kept: &mut Kept, is_two: bool, line: &[u8], is_plain: bool) {
     match read_line(is_two, line, is_plain) {
         Ok(None) => return,
         Ok(Some(Job::Win(win))) => write_answer(out, &win, &best(&win)),
         Ok(Some(Job::Waits(counts, melds))) => write_waits(out, &counts, &melds),
-        Ok(Some(Job::Shape(counts, melds, seen))) => write_shape(out, ranks, &counts, &melds, &seen),
+        Ok(Some(Job::Shape(counts, melds, seen))) => write_shape(out, kept, &counts, &melds, &seen),
         Err(LineFault::Coded(code)) => {
             out.extend_from_slice(b"refused H");
             write_number(out, code.into());
@@ -70,7 +70,7 @@ fn ends_of(bytes: &[u8; 16]) -> (u32, u32) {
 /// The answers of a whole text.
 pub fn answers(text: &[u8]) -> Vec<u8> {
     let mut out = Vec::with_capacity(text.len() + text.len() / 2);
-    let mut ranks = [Ranks::new(); 3];
+    let mut kept = Kept::new();
     let (mut is_two, mut rest) = (false, text);
     while !rest.is_empty() {
         let (end, is_plain) = first_line(rest);
@@ -84,7 +84,7 @@ pub fn answers(text: &[u8]) -> Vec<u8> {
                 continue;
             }
         }
-        answer_line(&mut out, &mut ranks, is_two, line, is_plain);
+        answer_line(&mut out, &mut kept, is_two, line, is_plain);
     }
     out
 }

@@ -131,19 +131,31 @@ fn least_of<const SIZE: usize>(words: [Words; SIZE]) -> Words {
     words[1..].iter().fold(words[0].min(bound), |all, word| all.and(word.min(bound)))
 }
 
-/// Words without a pair and with one.
+/// Entries by sets, without a pair and with one.
+pub trait Entries: Copy {
+    fn none() -> Self;
+    /// Nothing chosen, nothing lacking.
+    fn nothing() -> Self;
+    fn with_set(self) -> Self;
+    fn with_pair(self) -> Self;
+    fn lacking(self, cost: Words) -> Self;
+    fn least<const SIZE: usize>(all: [Self; SIZE]) -> Self;
+}
+
+/// Up to four sets: words without a pair and with one.
 #[derive(Clone, Copy)]
 pub struct Row {
     pub plain: Words,
     pub paired: Words,
 }
 
-impl Row {
+impl Entries for Row {
+    #[inline(always)]
     fn none() -> Row {
         Row { plain: Words::splat(NONE), paired: Words::splat(NONE) }
     }
 
-    /// Nothing chosen, nothing lacking.
+    #[inline(always)]
     fn nothing() -> Row {
         Row { plain: Words::first(RANKS), paired: Words::splat(NONE) }
     }
@@ -154,10 +166,70 @@ impl Row {
     }
 
     #[inline(always)]
+    fn with_pair(self) -> Row {
+        Row { plain: Words::splat(NONE), paired: self.plain }
+    }
+
+    #[inline(always)]
     fn lacking(self, cost: Words) -> Row {
         Row { plain: self.plain.add(cost), paired: self.paired.add(cost) }
     }
 
+    #[inline(always)]
+    fn least<const SIZE: usize>(all: [Row; SIZE]) -> Row {
+        Row { plain: least_of(all.map(|row| row.plain)), paired: least_of(all.map(|row| row.paired)) }
+    }
+}
+
+/// Up to three sets: four words without a pair, then four with one. Half the work of a row.
+#[derive(Clone, Copy)]
+pub struct HalfRow(Words);
+
+impl HalfRow {
+    pub fn whole(self) -> Row {
+        unsafe {
+            let above = _mm_setr_epi16(0, 0, 0, 0, NONE, NONE, NONE, NONE);
+            let paired = _mm_or_si128(_mm_srli_si128(self.0 .0, 8), above);
+            Row { plain: self.0.or(Words(above)), paired: Words(paired) }
+        }
+    }
+}
+
+impl Entries for HalfRow {
+    #[inline(always)]
+    fn none() -> HalfRow {
+        HalfRow(Words::splat(NONE))
+    }
+
+    #[inline(always)]
+    fn nothing() -> HalfRow {
+        HalfRow(Words::first(RANKS))
+    }
+
+    #[inline(always)]
+    fn with_set(self) -> HalfRow {
+        let first = unsafe { _mm_setr_epi16(NONE, 0, 0, 0, NONE, 0, 0, 0) };
+        HalfRow(Words(unsafe { _mm_or_si128(_mm_slli_si128(self.0 .0, 2), first) }))
+    }
+
+    #[inline(always)]
+    fn with_pair(self) -> HalfRow {
+        let first = unsafe { _mm_setr_epi16(NONE, NONE, NONE, NONE, 0, 0, 0, 0) };
+        HalfRow(Words(unsafe { _mm_or_si128(_mm_slli_si128(self.0 .0, 8), first) }))
+    }
+
+    #[inline(always)]
+    fn lacking(self, cost: Words) -> HalfRow {
+        HalfRow(self.0.add(cost))
+    }
+
+    #[inline(always)]
+    fn least<const SIZE: usize>(all: [HalfRow; SIZE]) -> HalfRow {
+        HalfRow(least_of(all.map(|row| row.0)))
+    }
+}
+
+impl Row {
     /// The lacks alone.
     #[inline(always)]
     pub fn lacks(&self) -> Row {
@@ -175,7 +247,7 @@ impl Row {
 /// The least sums of the lacks of two rows, by sets and pairs.
 #[inline(always)]
 pub fn joined(left: &Row, right: &Row) -> Row {
-    let mut sums = Row { plain: Words::splat(NONE), paired: Words::splat(NONE) };
+    let mut sums = Row::none();
     let mut moved = *right;
     macro_rules! take {
         ($sets:literal) => {
@@ -211,104 +283,101 @@ fn costs(have: u8, cap: u8, rank: usize) -> Costs {
 }
 
 /// Rows of one rank and all later ones. `open[one][two]`: runs begun one and two ranks before.
-type Open = [[Row; 3]; 3];
+type Open<E> = [[E; 3]; 3];
 
 /// With no run that begins here: nothing, a pair or a triplet beside so many tiles of open runs.
 #[inline(always)]
-fn without_run<const USED: usize>(later: Row, costs: &Costs) -> Row {
+fn without_run<const USED: usize, E: Entries>(later: E, costs: &Costs) -> E {
     let none = later.lacking(costs[USED]);
     if USED > 2 {
         return none;
     }
-    let two = later.plain.add(costs[USED + 2]);
+    let two = later.with_pair().lacking(costs[USED + 2]);
     if USED == 2 {
-        return Row { plain: none.plain, paired: least_of([none.paired, two]) };
+        return E::least([none, two]);
     }
-    let three = later.with_set().lacking(costs[USED + 3]);
-    Row { plain: least_of([none.plain, three.plain]), paired: least_of([none.paired, two, three.paired]) }
+    E::least([none, two, later.with_set().lacking(costs[USED + 3])])
 }
 
 /// The later choices by how many tiles the runs that begin here, a triplet and a pair take of this rank.
 #[inline(always)]
-fn added(zero: Row, one: Row, two: Row) -> [Row; 5] {
+fn added<E: Entries>(zero: E, one: E, two: E) -> [E; 5] {
     let one = one.with_set();
     let two = two.with_set().with_set();
-    let (three, four) = (zero.with_set(), one.with_set());
     [
         zero,
         one,
-        Row { plain: two.plain, paired: least_of([two.paired, zero.plain]) },
-        Row { plain: three.plain, paired: least_of([three.paired, one.plain]) },
-        Row { plain: four.plain, paired: least_of([four.paired, two.plain]) },
+        E::least([two, zero.with_pair()]),
+        E::least([zero.with_set(), one.with_pair()]),
+        E::least([one.with_set(), two.with_pair()]),
     ]
 }
 
 /// The row beside 5 - SIZE tiles of open runs.
 #[inline(always)]
-fn with_runs<const SIZE: usize>(added: &[Row; 5], costs: &Costs) -> Row {
-    let all: [Row; SIZE] = std::array::from_fn(|more| added[more].lacking(costs[5 - SIZE + more]));
-    Row { plain: least_of(all.map(|row| row.plain)), paired: least_of(all.map(|row| row.paired)) }
+fn with_runs<const SIZE: usize, E: Entries>(added: &[E; 5], costs: &Costs) -> E {
+    E::least(std::array::from_fn::<E, SIZE, _>(|more| added[more].lacking(costs[5 - SIZE + more])))
 }
 
 #[inline(always)]
-fn last_rank(costs: &Costs) -> [Row; 3] {
-    let later = Row::nothing();
-    [without_run::<0>(later, costs), without_run::<1>(later, costs), without_run::<2>(later, costs)]
+fn last_rank<E: Entries>(costs: &Costs) -> [E; 3] {
+    let later = E::nothing();
+    [without_run::<0, E>(later, costs), without_run::<1, E>(later, costs), without_run::<2, E>(later, costs)]
 }
 
 #[inline(always)]
-fn eighth_rank(&[zero, one, two]: &[Row; 3], costs: &Costs) -> Open {
+fn eighth_rank<E: Entries>(&[zero, one, two]: &[E; 3], costs: &Costs) -> Open<E> {
     [
-        [without_run::<0>(zero, costs), without_run::<1>(zero, costs), without_run::<2>(zero, costs)],
-        [without_run::<1>(one, costs), without_run::<2>(one, costs), without_run::<3>(one, costs)],
-        [without_run::<2>(two, costs), without_run::<3>(two, costs), without_run::<4>(two, costs)],
+        [without_run::<0, E>(zero, costs), without_run::<1, E>(zero, costs), without_run::<2, E>(zero, costs)],
+        [without_run::<1, E>(one, costs), without_run::<2, E>(one, costs), without_run::<3, E>(one, costs)],
+        [without_run::<2, E>(two, costs), without_run::<3, E>(two, costs), without_run::<4, E>(two, costs)],
     ]
 }
 
 /// For each number of runs begun one rank before, what this rank adds.
 #[inline(always)]
-fn added_by_begun([none, one, two]: &Open) -> [[Row; 5]; 3] {
+fn added_by_begun<E: Entries>([none, one, two]: &Open<E>) -> [[E; 5]; 3] {
     [added(none[0], one[0], two[0]), added(none[1], one[1], two[1]), added(none[2], one[2], two[2])]
 }
 
 #[inline(always)]
-fn middle_rank(later: &Open, costs: &Costs) -> Open {
+fn middle_rank<E: Entries>(later: &Open<E>, costs: &Costs) -> Open<E> {
     let [zero, one, two] = added_by_begun(later);
     [
-        [with_runs::<5>(&zero, costs), with_runs::<4>(&zero, costs), with_runs::<3>(&zero, costs)],
-        [with_runs::<4>(&one, costs), with_runs::<3>(&one, costs), with_runs::<2>(&one, costs)],
-        [with_runs::<3>(&two, costs), with_runs::<2>(&two, costs), with_runs::<1>(&two, costs)],
+        [with_runs::<5, E>(&zero, costs), with_runs::<4, E>(&zero, costs), with_runs::<3, E>(&zero, costs)],
+        [with_runs::<4, E>(&one, costs), with_runs::<3, E>(&one, costs), with_runs::<2, E>(&one, costs)],
+        [with_runs::<3, E>(&two, costs), with_runs::<2, E>(&two, costs), with_runs::<1, E>(&two, costs)],
     ]
 }
 
 #[inline(always)]
-fn second_rank(later: &Open, costs: &Costs) -> [Row; 3] {
+fn second_rank<E: Entries>(later: &Open<E>, costs: &Costs) -> [E; 3] {
     let [zero, one, two] = added_by_begun(later);
-    [with_runs::<5>(&zero, costs), with_runs::<4>(&one, costs), with_runs::<3>(&two, costs)]
+    [with_runs::<5, E>(&zero, costs), with_runs::<4, E>(&one, costs), with_runs::<3, E>(&two, costs)]
 }
 
 #[inline(always)]
-fn first_rank(later: &[Row; 3], costs: &Costs) -> Row {
-    with_runs::<5>(&added(later[0], later[1], later[2]), costs)
+fn first_rank<E: Entries>(later: &[E; 3], costs: &Costs) -> E {
+    with_runs::<5, E>(&added(later[0], later[1], later[2]), costs)
 }
 
 /// What was made of a suit with runs, rank by rank; a row with one tile less begins again at its rank.
 #[derive(Clone, Copy)]
-pub struct Ranks {
-    last: [Row; 3],
+pub struct Ranks<E> {
+    last: [E; 3],
     /// Rank 2 is first here, rank 7 last.
-    open: [Open; 6],
-    second: [Row; 3],
+    open: [Open<E>; 6],
+    second: [E; 3],
 }
 
-impl Ranks {
-    pub fn new() -> Ranks {
-        let none = [Row::none(); 3];
+impl<E: Entries> Ranks<E> {
+    pub fn new() -> Ranks<E> {
+        let none = [E::none(); 3];
         Ranks { last: none, open: [[none; 3]; 6], second: none }
     }
 
     /// Makes the row of a suit, and keeps its ranks.
-    pub fn row(&mut self, counts: &[u8; 9], caps: &[u8; 9]) -> Row {
+    pub fn row(&mut self, counts: &[u8; 9], caps: &[u8; 9]) -> E {
         let cost = |rank: usize| costs(counts[rank], caps[rank], rank);
         self.last = last_rank(&cost(8));
         self.open[5] = eighth_rank(&self.last, &cost(7));
@@ -320,7 +389,7 @@ impl Ranks {
     }
 
     /// The row of the suit with other counts at this rank and before it.
-    pub fn row_again(&self, counts: &[u8; 9], caps: &[u8; 9], from: usize) -> Row {
+    pub fn row_again(&self, counts: &[u8; 9], caps: &[u8; 9], from: usize) -> E {
         let cost = |rank: usize| costs(counts[rank], caps[rank], rank);
         if from == 0 {
             return first_rank(&self.second, &cost(0));
@@ -340,6 +409,38 @@ impl Ranks {
     }
 }
 
+/// What was made of the suits of a hand: half rows of all, whole ones of those that may have four sets.
+pub struct Kept {
+    half: [Ranks<HalfRow>; 3],
+    whole: [Ranks<Row>; 3],
+    is_whole: [bool; 3],
+}
+
+impl Kept {
+    pub fn new() -> Kept {
+        Kept { half: [Ranks::new(); 3], whole: [Ranks::new(); 3], is_whole: [false; 3] }
+    }
+
+    pub fn half_row(&mut self, suit: usize, counts: &[u8; 9], caps: &[u8; 9]) -> Row {
+        self.is_whole[suit] = false;
+        self.half[suit].row(counts, caps).whole()
+    }
+
+    pub fn whole_row(&mut self, suit: usize, counts: &[u8; 9], caps: &[u8; 9]) -> Row {
+        self.is_whole[suit] = true;
+        self.whole[suit].row(counts, caps)
+    }
+
+    /// The row of the suit with other counts at this rank.
+    pub fn row_again(&self, suit: usize, counts: &[u8; 9], caps: &[u8; 9], rank: usize) -> Row {
+        if self.is_whole[suit] {
+            self.whole[suit].row_again(counts, caps, rank)
+        } else {
+            self.half[suit].row_again(counts, caps, rank).whole()
+        }
+    }
+}
+
 /// The row of the honours, with so many melds as sets that lack nothing.
 pub fn honour_row(counts: &[u8; 7], caps: &[u8; 7], melds: usize) -> Row {
     let mut row = Row::nothing();
@@ -347,7 +448,7 @@ pub fn honour_row(counts: &[u8; 7], caps: &[u8; 7], melds: usize) -> Row {
         row = row.with_set();
     }
     for rank in 0..7 {
-        row = without_run::<0>(row, &costs(counts[rank], caps[rank], rank));
+        row = without_run::<0, Row>(row, &costs(counts[rank], caps[rank], rank));
     }
     row
 }

@@ -1,7 +1,7 @@
 //! Shanten, accepted tiles, discards. No tables.
 use crate::kinds::{at_least, Each, ALL, ORPHANS};
 use crate::pen::{Pen, NAMES};
-use crate::rows::{honour_row, joined, Ranks, Row, Words};
+use crate::rows::{honour_row, joined, Kept, Row, Words};
 use crate::tiles::{Counts, Melds};
 
 /// Lacks more than any hand.
@@ -18,8 +18,18 @@ impl Hand {
         counts[suit * 9..].first_chunk().expect("a suit has nine kinds")
     }
 
-    fn row(&self, ranks: &mut Ranks, suit: usize) -> Row {
-        ranks.row(Hand::nine(&self.counts, suit), Hand::nine(&self.caps, suit))
+    fn half_row(&self, kept: &mut Kept, suit: usize) -> Row {
+        kept.half_row(suit, Hand::nine(&self.counts, suit), Hand::nine(&self.caps, suit))
+    }
+
+    fn whole_row(&self, kept: &mut Kept, suit: usize) -> Row {
+        kept.whole_row(suit, Hand::nine(&self.counts, suit), Hand::nine(&self.caps, suit))
+    }
+
+    /// Four sets of this suit may lack no more than so many.
+    fn may_have_four(&self, suit: usize, lack: i16) -> bool {
+        let held = Hand::nine(&self.counts, suit).iter().sum::<u8>();
+        self.melds == 0 && 12 - i16::from(held) <= lack
     }
 
     fn honours(&self) -> Row {
@@ -28,10 +38,10 @@ impl Hand {
     }
 
     /// The row of the suit of a kind that has other counts than before.
-    fn row_again(&self, ranks: &[Ranks; 3], kind: usize) -> Row {
+    fn row_again(&self, kept: &Kept, kind: usize) -> Row {
         match kind / 9 {
             3 => self.honours(),
-            suit => ranks[suit].row_again(Hand::nine(&self.counts, suit), Hand::nine(&self.caps, suit), kind % 9),
+            suit => kept.row_again(suit, Hand::nine(&self.counts, suit), Hand::nine(&self.caps, suit), kind % 9),
         }
     }
 }
@@ -98,9 +108,21 @@ struct Joins {
 }
 
 impl Joins {
-    fn new(hand: &Hand, ranks: &mut [Ranks; 3]) -> Joins {
-        let [first, second, third] = ranks;
-        let rows = [hand.row(first, 0), hand.row(second, 1), hand.row(third, 2), hand.honours()];
+    fn new(hand: &Hand, kept: &mut Kept) -> Joins {
+        let rows = [hand.half_row(kept, 0), hand.half_row(kept, 1), hand.half_row(kept, 2), hand.honours()];
+        let mut joins = Joins::of(rows);
+        let most = joins.least.max(1);
+        for suit in 0..3 {
+            if hand.may_have_four(suit, most) {
+                let mut rows = joins.rows;
+                rows[suit] = hand.whole_row(kept, suit);
+                joins = Joins::of(rows);
+            }
+        }
+        joins
+    }
+
+    fn of(rows: [Row; 4]) -> Joins {
         let lacks = [rows[0].lacks(), rows[1].lacks(), rows[2].lacks(), rows[3].lacks()];
         let (low, high) = (joined(&lacks[0], &lacks[1]), joined(&lacks[2], &lacks[3]));
         let all = sums(&low, &rest_of(high));
@@ -186,9 +208,9 @@ struct Search<'a> {
 
 impl Search<'_> {
     /// The kinds that least choices lack after a discard of this kind, by sets and a pair; none where none is left.
-    fn standard(&mut self, hand: &Hand, ranks: &[Ranks; 3], kind: usize) -> Option<u64> {
+    fn standard(&mut self, hand: &Hand, kept: &Kept, kind: usize) -> Option<u64> {
         let suit = kind / 9;
-        let row = hand.row_again(ranks, kind);
+        let row = hand.row_again(kept, kind);
         let lacks = row.lacks();
         let chosen = chosen(&sums(&lacks, &self.rests[suit]), self.wanted);
         let key = u64::from(chosen.plain.bits()) << 16 | u64::from(chosen.paired.bits());
@@ -208,9 +230,9 @@ impl Search<'_> {
     }
 
     /// The kinds that are accepted after a discard of this kind; none where it does not keep the least lack.
-    fn marks_after(&mut self, hand: &mut Hand, ranks: &[Ranks; 3], kind: usize) -> Option<u64> {
+    fn marks_after(&mut self, hand: &mut Hand, kept: &Kept, kind: usize) -> Option<u64> {
         hand.counts[kind] -= 1;
-        let standard = if self.joins.least <= self.wanted { self.standard(hand, ranks, kind) } else { None };
+        let standard = if self.joins.least <= self.wanted { self.standard(hand, kept, kind) } else { None };
         let mut found = standard;
         if self.special.iter().any(|form| form.0 <= self.wanted) {
             let (one, two) = (at_least(&hand.counts, 1), at_least(&hand.counts, 2));
@@ -233,11 +255,11 @@ fn write_shanten(pen: &mut Pen, lack: i16) {
     }
 }
 
-fn write_discards(pen: &mut Pen, hand: &mut Hand, ranks: &[Ranks; 3], mut search: Search, live: &Live) {
+fn write_discards(pen: &mut Pen, hand: &mut Hand, kept: &Kept, mut search: Search, live: &Live) {
     let mut found = [Discard { sum: 0, kind: 0, marks: 0 }; 14];
     let mut count = 0;
     for kind in Each(at_least(&hand.counts, 1)) {
-        if let Some(marks) = search.marks_after(hand, ranks, kind) {
+        if let Some(marks) = search.marks_after(hand, kept, kind) {
             found[count] = Discard { sum: live.sum(marks), kind, marks };
             count += 1;
         }
@@ -251,13 +273,13 @@ fn write_discards(pen: &mut Pen, hand: &mut Hand, ranks: &[Ranks; 3], mut search
     }
 }
 
-pub fn write_shape(out: &mut Vec<u8>, ranks: &mut [Ranks; 3], tiles: &Counts, melds: &Melds, seen: &Counts) {
+pub fn write_shape(out: &mut Vec<u8>, kept: &mut Kept, tiles: &Counts, melds: &Melds, seen: &Counts) {
     let mut caps = [0u8; 34];
     melds.add_to(&mut caps);
     let live = Live::new(&std::array::from_fn(|kind| 4 - caps[kind] - tiles[kind] - seen[kind]));
     caps.iter_mut().for_each(|cap| *cap = 4 - *cap);
     let mut hand = Hand { counts: *tiles, caps, melds: melds.count };
-    let joins = Joins::new(&hand, ranks);
+    let joins = Joins::new(&hand, kept);
     let special = special(melds.count, at_least(tiles, 1), at_least(tiles, 2));
     let lack = joins.least.min(special[0].0).min(special[1].0);
     let mut pen = Pen::new(out, 14 * 256);
@@ -266,7 +288,7 @@ pub fn write_shape(out: &mut Vec<u8>, ranks: &mut [Ranks; 3], tiles: &Counts, me
         let rests = [0, 1, 2, 3].map(|suit| rest_of(joins.others(suit)));
         // a complete hand lacks one tile after any discard
         let search = Search { joins: &joins, rests, special, wanted: lack.max(1), known: [(0, 0); 14], known_count: 0 };
-        return write_discards(&mut pen, &mut hand, ranks, search, &live);
+        return write_discards(&mut pen, &mut hand, kept, search, &live);
     }
     let standard = if joins.least == lack { joins.marks() } else { 0 };
     let marks = special.iter().fold(standard, |all, form| if form.0 == lack { all | form.1 } else { all });
