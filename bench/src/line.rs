@@ -60,22 +60,24 @@ enum Key {
 }
 
 impl Key {
-    fn of(name: &[u8]) -> Option<Key> {
-        match name {
-            b"on" => Some(Key::On),
-            b"by" => Some(Key::By),
-            b"ura" => Some(Key::Ura),
-            b"seat" => Some(Key::Seat),
-            b"open" => Some(Key::Open),
-            b"dora" => Some(Key::Dora),
-            b"seen" => Some(Key::Seen),
-            b"round" => Some(Key::Round),
-            b"flags" => Some(Key::Flags),
-            b"riichi" => Some(Key::Riichi),
-            b"sticks" => Some(Key::Sticks),
-            b"counters" => Some(Key::Counters),
-            _ => None,
-        }
+    /// The key and the value of a word.
+    #[inline(always)]
+    fn of(word: &[u8]) -> Option<(Key, &[u8])> {
+        Some(match word {
+            [b'o', b'n', b'=', value @ ..] => (Key::On, value),
+            [b'b', b'y', b'=', value @ ..] => (Key::By, value),
+            [b's', b'e', b'a', b't', b'=', value @ ..] => (Key::Seat, value),
+            [b'r', b'o', b'u', b'n', b'd', b'=', value @ ..] => (Key::Round, value),
+            [b'r', b'i', b'i', b'c', b'h', b'i', b'=', value @ ..] => (Key::Riichi, value),
+            [b'o', b'p', b'e', b'n', b'=', value @ ..] => (Key::Open, value),
+            [b'd', b'o', b'r', b'a', b'=', value @ ..] => (Key::Dora, value),
+            [b'u', b'r', b'a', b'=', value @ ..] => (Key::Ura, value),
+            [b's', b'e', b'e', b'n', b'=', value @ ..] => (Key::Seen, value),
+            [b'f', b'l', b'a', b'g', b's', b'=', value @ ..] => (Key::Flags, value),
+            [b's', b't', b'i', b'c', b'k', b's', b'=', value @ ..] => (Key::Sticks, value),
+            [b'c', b'o', b'u', b'n', b't', b'e', b'r', b's', b'=', value @ ..] => (Key::Counters, value),
+            _ => return None,
+        })
     }
 
     const fn bit(self) -> u16 {
@@ -203,12 +205,11 @@ impl<'a> Fields<'a> {
 fn fields<'a>(words: Words<'a>, job: usize) -> Option<Fields<'a>> {
     let mut fields = Fields::default();
     for word in words {
-        let (name, value) = word.split_at(find(word, b'='));
-        let key = Key::of(name)?;
+        let (key, value) = Key::of(word)?;
         if ALLOWED[job] & key.bit() == 0 {
             return None;
         }
-        fields.keep(key, value.get(1..)?)?;
+        fields.keep(key, value)?;
     }
     Some(fields)
 }

@@ -301,39 +301,36 @@ impl Search<'_> {
         }
     }
 
-    /// Takes sets of a suit, lowest rank first, and then of the suits after it.
-    fn take(&mut self, suits: &[Suit; 4], suit: usize, tiles: u64, sets: &Sets, pair: u8) {
-        if tiles == 0 {
-            return match suit {
-                3 => self.tell(sets, pair),
-                _ => self.take(suits, suit + 1, suits[suit + 1].tiles, sets, pair),
-            };
-        }
-        let at = tiles.trailing_zeros() & !3;
-        let (held, kind) = (tiles >> at & 7, suit * 9 + at as usize / 4);
-        if held >= 3 {
-            let sets = Sets { triplets: sets.triplets | 1 << kind, concealed: sets.concealed | 1 << kind, ..*sets };
-            self.take(suits, suit, tiles - (3 << at), &sets, pair);
-        }
-        let (next, last) = (tiles >> (at + 4) & 7, tiles >> (at + 8) & 7);
-        let needed = if held >= 3 { 3 } else { 1 };
-        if suit < 3 && next.min(last) >= needed {
-            let mut sets = *sets;
-            sets.add_run(kind);
-            self.take_runs(suits, suit, [tiles - (0x111 << at), at.into()], sets, pair);
-        }
-    }
-
-    /// After a run: all tiles of that rank that are left are runs as well.
-    fn take_runs(&mut self, suits: &[Suit; 4], suit: usize, [mut tiles, at]: [u64; 2], mut sets: Sets, pair: u8) {
-        while tiles >> at & 7 > 0 {
-            if (tiles >> (at + 4) & 7).min(tiles >> (at + 8) & 7) == 0 {
+    /// Takes sets from the lowest rank of a suit on, and then of the suits after it. Only where three neighbours all
+    /// have three tiles there is more than one way.
+    fn take(&mut self, suits: &[Suit; 4], mut suit: usize, mut tiles: u64, mut sets: Sets, pair: u8) {
+        loop {
+            while tiles == 0 {
+                if suit == 3 {
+                    return self.tell(&sets, pair);
+                }
+                suit += 1;
+                tiles = suits[suit].tiles;
+            }
+            let at = tiles.trailing_zeros() & !3;
+            let (held, kind) = (tiles >> at & 7, suit * 9 + at as usize / 4);
+            let both = (tiles >> (at + 4) & 7).min(tiles >> (at + 8) & 7);
+            if held >= 3 {
+                if both >= 3 && suit < 3 {
+                    let mut runs = sets;
+                    (0..3).for_each(|_| runs.add_run(kind));
+                    self.take(suits, suit, tiles - (0x333 << at), runs, pair);
+                }
+                sets.triplets |= 1 << kind;
+                sets.concealed |= 1 << kind;
+                tiles -= 3 << at;
+            } else if both >= held {
+                (0..held).for_each(|_| sets.add_run(kind));
+                tiles -= (0x111 * held) << at;
+            } else {
                 return;
             }
-            tiles -= 0x111 << at;
-            sets.add_run(suit * 9 + at as usize / 4);
         }
-        self.take(suits, suit, tiles, &sets, pair);
     }
 
     fn standard(&mut self, counts: &Counts) {
@@ -350,7 +347,7 @@ impl Search<'_> {
         for rank in whole.ranks(2 * sums[suit].1).filter(|&rank| whole.held(rank) >= 2) {
             suits[suit] = whole.without(2, rank);
             if suits[suit].is_sets() {
-                self.take(&suits, 0, suits[0].tiles, &Sets::default(), suit as u8 * 9 + rank as u8);
+                self.take(&suits, 0, suits[0].tiles, Sets::default(), suit as u8 * 9 + rank as u8);
             }
         }
     }
