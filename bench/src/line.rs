@@ -235,7 +235,8 @@ fn tiles(name: &'static str, text: &[u8]) -> Result<Tiles, LineFault> {
     read_tiles(text).map_err(|fault| LineFault::Notation(name, fault))
 }
 
-/// Adds the tiles of a text, where there is one, and says how many they are.
+/// Adds the tiles of a text, where there is one, and tells them.
+#[inline(always)]
 fn add(all: &mut Counts, name: &'static str, text: Option<&[u8]>) -> Result<Tiles, LineFault> {
     let Some(text) = text else {
         return Ok(Tiles::none());
