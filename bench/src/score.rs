@@ -324,7 +324,7 @@ impl Search<'_> {
                 sets.triplets |= 1 << kind;
                 sets.concealed |= 1 << kind;
                 tiles -= 3 << at;
-            } else if both >= held {
+            } else if both >= held && suit < 3 {
                 (0..held).for_each(|_| sets.add_run(kind));
                 tiles -= (0x111 * held) << at;
             } else {
@@ -340,7 +340,7 @@ impl Search<'_> {
         let (Some(suit), None) = (with_pair.next(), with_pair.next()) else {
             return;
         };
-        if (0..4).any(|other| other != suit && (sums[other].0 != 0 || !suits[other].is_sets())) {
+        if (0..4).any(|other| other != suit && sums[other].0 != 0) {
             return;
         }
         let whole = suits[suit];
