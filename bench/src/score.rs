@@ -344,10 +344,10 @@ impl Search<'_> {
             return;
         }
         let whole = suits[suit];
-        for rank in whole.ranks(2 * sums[suit].1).filter(|&rank| whole.held(rank) >= 2) {
-            suits[suit] = whole.without(2, rank);
+        for place in Each(whole.places(2 * sums[suit].1) & whole.twos()) {
+            suits[suit] = whole.without(2, place);
             if suits[suit].is_sets() {
-                self.take(&suits, 0, suits[0].tiles, Sets::default(), suit as u8 * 9 + rank as u8);
+                self.take(&suits, 0, suits[0].tiles, Sets::default(), (suit * 9 + place / 4) as u8);
             }
         }
     }

@@ -1,7 +1,8 @@
 //! A suit in one word.
+use crate::kinds::Each;
 use crate::tiles::Counts;
 
-/// The tiles of a suit, four bits a rank.
+/// The tiles of a suit, four bits a rank: the place of a rank is the first of them.
 #[derive(Clone, Copy)]
 pub struct Suit {
     pub tiles: u64,
@@ -10,6 +11,8 @@ pub struct Suit {
 
 /// A bit that no count of a rank has: set where a rank had too few.
 const TOO_FEW: u64 = 0x8888_8888_8888_8888;
+/// The first bit of each rank.
+const FIRSTS: u64 = 0x1_1111_1111;
 /// Ranks 0, 3 and 6.
 const THIRDS: u64 = 0xf00f00f;
 
@@ -21,16 +24,14 @@ fn modulo_three(number: u64) -> u64 {
 
 impl Suit {
     pub fn of(counts: &Counts, suit: usize) -> Suit {
-        if suit == 3 {
-            let tiles = counts[27..].iter().rev().fold(0, |tiles, &held| tiles << 4 | u64::from(held));
-            return Suit { tiles, has_runs: false };
-        }
-        let bytes = counts[9 * suit..].first_chunk().expect("a suit has eight ranks and one");
-        let mut tiles = u64::from_le_bytes(*bytes);
+        let first = if suit < 3 { 9 * suit } else { 26 };
+        let bytes = counts[first..].first_chunk().expect("eight counts begin here");
+        let mut tiles = u64::from_le_bytes(*bytes) >> if suit < 3 { 0 } else { 8 };
         tiles = (tiles | tiles >> 4) & 0x00ff_00ff_00ff_00ff;
         tiles = (tiles | tiles >> 8) & 0x0000_ffff_0000_ffff;
         tiles = (tiles | tiles >> 16) & 0xffff_ffff;
-        Suit { tiles: tiles | u64::from(counts[9 * suit + 8]) << 32, has_runs: true }
+        let ninth = if suit < 3 { counts[9 * suit + 8] } else { 0 };
+        Suit { tiles: tiles | u64::from(ninth) << 32, has_runs: suit < 3 }
     }
 
     /// How many tiles, and the sum of their ranks, modulo three.
@@ -43,16 +44,23 @@ impl Suit {
         ((zero + one + two) % 3, (one + 2 * two) % 3)
     }
 
-    pub fn held(&self, rank: u64) -> u64 {
-        self.tiles >> (4 * rank) & 7
+    /// With one tile more at a place.
+    pub fn with(&self, place: usize) -> Suit {
+        Suit { tiles: self.tiles + (1 << place), ..*self }
     }
 
-    pub fn with(&self, rank: u64) -> Suit {
-        Suit { tiles: self.tiles + (1 << (4 * rank)), ..*self }
+    pub fn without(&self, number: u64, place: usize) -> Suit {
+        Suit { tiles: self.tiles - (number << place), ..*self }
     }
 
-    pub fn without(&self, number: u64, rank: u64) -> Suit {
-        Suit { tiles: self.tiles - (number << (4 * rank)), ..*self }
+    /// The places of all ranks of which there are two tiles or more.
+    pub fn twos(&self) -> u64 {
+        (self.tiles >> 1 | self.tiles >> 2) & FIRSTS
+    }
+
+    /// The places of all ranks of which there is a tile.
+    pub fn ones(&self) -> u64 {
+        self.twos() | self.tiles & FIRSTS
     }
 
     /// All tiles are sets: the lowest rank is triplets, and the rest of it are runs.
@@ -73,14 +81,13 @@ impl Suit {
         true
     }
 
-    /// The ranks that a suit with runs can have at this place modulo three, and all ranks of honours.
-    pub fn ranks(&self, modulo: u64) -> impl Iterator<Item = u64> {
-        let (first, step, end) = if self.has_runs { (modulo % 3, 3, 9) } else { (0, 1, 7) };
-        (first..end).step_by(step)
+    /// The places of the ranks that are so much modulo three in a suit with runs, and of all ranks of honours.
+    pub fn places(&self, modulo: u64) -> u64 {
+        if self.has_runs { 0x1_001_001 << (4 * (modulo % 3)) } else { 0x111_1111 }
     }
 
     /// All tiles are sets and a pair.
     pub fn is_sets_and_pair(&self, sum: u64) -> bool {
-        self.ranks(2 * sum).any(|rank| self.held(rank) >= 2 && self.without(2, rank).is_sets())
+        Each(self.places(2 * sum) & self.twos()).any(|place| self.without(2, place).is_sets())
     }
 }

@@ -6,20 +6,18 @@ use crate::tiles::{Counts, Melds};
 
 /// The ranks that make sets of the suit.
 fn waits_for_sets(suit: &Suit, sum: u64) -> u64 {
-    suit.ranks(6 - sum).filter(|&rank| suit.held(rank) < 4 && suit.with(rank).is_sets()).fold(0, |all, rank| all | 1 << rank)
+    let full = suit.tiles >> 2;
+    let places = Each(suit.places(6 - sum) & !full).filter(|&place| suit.with(place).is_sets());
+    places.fold(0, |all, place| all | 1 << (place / 4))
 }
 
 /// The ranks that make sets and a pair of the suit.
 fn waits_for_pair(suit: &Suit, sum: u64) -> u64 {
-    let singles = suit.ranks(sum).filter(|&rank| suit.held(rank) > 0 && suit.without(1, rank).is_sets());
-    let mut waits = singles.fold(0, |all, rank| all | 1 << rank);
-    let mut twos = (suit.tiles >> 1 | suit.tiles >> 2) & 0x1_1111_1111;
-    while twos != 0 {
-        let rank = u64::from(twos.trailing_zeros()) / 4;
-        waits |= waits_for_sets(&suit.without(2, rank), (sum + rank) % 3);
-        twos &= twos - 1;
-    }
-    waits
+    let singles = Each(suit.places(sum) & suit.ones()).filter(|&place| suit.without(1, place).is_sets());
+    let waits = singles.fold(0, |all, place| all | 1 << (place / 4));
+    Each(suit.twos()).fold(waits, |all, place| {
+        all | waits_for_sets(&suit.without(2, place), (sum + place as u64 / 4) % 3)
+    })
 }
 
 /// The kinds that complete sets and a pair.
