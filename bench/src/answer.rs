@@ -58,7 +58,7 @@ fn first_line(text: &[u8]) -> (usize, bool) {
 #[inline(always)]
 fn ends_of(bytes: &[u8; 16]) -> (u32, u32) {
     unsafe {
-        // SAFETY: there are sixteen bytes.
+        // SAFETY: there are sixteen bytes; every x86-64 has SSE2.
         let bytes = _mm_loadu_si128(bytes.as_ptr().cast());
         let low = _mm_cmpgt_epi8(bytes, _mm_set1_epi8(0x1f));
         let high = _mm_cmpgt_epi8(_mm_set1_epi8(0x7f), bytes);

@@ -10,7 +10,7 @@ pub const ORPHANS: u64 = 0x7f << 27 | 0x101 << 18 | 0x101 << 9 | 0x101;
 #[inline(always)]
 pub fn at_least(counts: &Counts, number: u8) -> u64 {
     let bits = |from: usize| unsafe {
-        // SAFETY: sixteen counts begin at `from`, which is at most 18.
+        // SAFETY: sixteen counts begin at `from`, which is at most 18; every x86-64 has SSE2.
         let held = _mm_loadu_si128(counts.as_ptr().add(from).cast());
         u64::from(_mm_movemask_epi8(_mm_cmpgt_epi8(held, _mm_set1_epi8(number as i8 - 1))) as u32)
     };

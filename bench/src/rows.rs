@@ -1,5 +1,7 @@
 //! Suit rows: for each number of sets up to four, without and with a pair, the least number of tiles that a choice of
 //! blocks lacks, and the ranks that some least choice lacks. No tables; vectors of eight words.
+//!
+//! All that is unsafe here is SSE2 on registers, which every x86-64 has.
 use std::arch::x86_64::*;
 
 /// Eight words, one for each number of sets. A word is the lack, nine bits higher than the ranks that no least choice
