@@ -1,8 +1,11 @@
 //! The answers of a text, line by line.
 use crate::line::{read_line, Job, LineFault};
+use crate::rows::Kept;
 use crate::score::{best, write_answer};
-use crate::shape::{write_shape, write_waits};
+use crate::shape::write_shape;
 use crate::tiles::write_number;
+use crate::waits::write_waits;
+use std::arch::x86_64::*;
 
 fn profile_of(line: &[u8]) -> Option<bool> {
     let mut words = line.split(|&byte| byte == b' ').filter(|word| !word.is_empty());
@@ -13,12 +16,12 @@ fn profile_of(line: &[u8]) -> Option<bool> {
     }
 }
 
-fn answer_line(out: &mut Vec<u8>, is_two: bool, line: &[u8]) {
-    match read_line(is_two, line) {
+fn answer_line(out: &mut Vec<u8>, kept: &mut Kept, is_two: bool, line: &[u8], is_plain: bool) {
+    match read_line(is_two, line, is_plain) {
         Ok(None) => return,
         Ok(Some(Job::Win(win))) => write_answer(out, &win, &best(&win)),
         Ok(Some(Job::Waits(counts, melds))) => write_waits(out, &counts, &melds),
-        Ok(Some(Job::Shape(counts, melds, seen))) => write_shape(out, &counts, &melds, &seen),
+        Ok(Some(Job::Shape(counts, melds, seen))) => write_shape(out, kept, &counts, &melds, &seen),
         Err(LineFault::Coded(code)) => {
             out.extend_from_slice(b"refused H");
             write_number(out, code.into());
@@ -35,23 +38,53 @@ fn answer_line(out: &mut Vec<u8>, is_two: bool, line: &[u8]) {
     out.push(b'\n');
 }
 
+/// Where the first line of a text ends, and whether all its bytes are printable.
+fn first_line(text: &[u8]) -> (usize, bool) {
+    let (mut at, mut is_plain) = (0, true);
+    while let Some(bytes) = text[at..].first_chunk::<16>() {
+        let (ends, others) = ends_of(bytes);
+        if ends != 0 {
+            let end = ends.trailing_zeros();
+            return (at + end as usize, is_plain && others & ((1 << end) - 1) == 0);
+        }
+        is_plain &= others == 0;
+        at += 16;
+    }
+    let end = text[at..].iter().position(|&byte| byte == b'\n').map_or(text.len(), |more| at + more);
+    (end, is_plain && text[at..end].iter().all(|byte| (0x20..=0x7e).contains(byte)))
+}
+
+/// A bit for each line feed, and for each byte that is not printable.
+#[inline(always)]
+fn ends_of(bytes: &[u8; 16]) -> (u32, u32) {
+    unsafe {
+        // SAFETY: there are sixteen bytes; every x86-64 has SSE2.
+        let bytes = _mm_loadu_si128(bytes.as_ptr().cast());
+        let low = _mm_cmpgt_epi8(bytes, _mm_set1_epi8(0x1f));
+        let high = _mm_cmpgt_epi8(_mm_set1_epi8(0x7f), bytes);
+        let ends = _mm_movemask_epi8(_mm_cmpeq_epi8(bytes, _mm_set1_epi8(0x0a)));
+        (ends as u32, _mm_movemask_epi8(_mm_and_si128(low, high)) as u32 ^ 0xffff)
+    }
+}
+
 /// The answers of a whole text.
 pub fn answers(text: &[u8]) -> Vec<u8> {
     let mut out = Vec::with_capacity(text.len() + text.len() / 2);
-    let mut is_two = false;
-    let whole = text.strip_suffix(b"\n").unwrap_or(text);
-    if text.is_empty() {
-        return out;
-    }
-    for (place, line) in whole.split(|&byte| byte == b'\n').enumerate() {
-        let line = line.strip_suffix(b"\r").unwrap_or(line);
-        if place == 0 && line.len() <= 4096 {
+    let mut kept = Kept::new();
+    let (mut is_two, mut rest) = (false, text);
+    while !rest.is_empty() {
+        let (end, is_plain) = first_line(rest);
+        let line = &rest[..end];
+        let is_first = rest.len() == text.len();
+        rest = rest.get(end + 1..).unwrap_or(&[]);
+        let line = if is_plain { line } else { line.strip_suffix(b"\r").unwrap_or(line) };
+        if is_first && line.len() <= 4096 {
             if let Some(told) = profile_of(line) {
                 is_two = told;
                 continue;
             }
         }
-        answer_line(&mut out, is_two, line);
+        answer_line(&mut out, &mut kept, is_two, line, is_plain);
     }
     out
 }

@@ -39,7 +39,7 @@ const SORTS: [(&str, &[&str]); 4] = [
 ];
 
 fn win_of(line: &str) -> Win {
-    match read_line(false, line.as_bytes()) {
+    match read_line(false, line.as_bytes(), false) {
         Ok(Some(Job::Win(win))) => win,
         _ => panic!("no win: {line}"),
     }

@@ -1,5 +1,6 @@
 //! Record lines.
-use crate::tiles::{read_counts, read_meld, Counts, Fault, Meld, Melds};
+use crate::kinds::{at_least, Each};
+use crate::tiles::{dora_of, read_meld, read_tiles, Counts, Fault, Meld, Melds, Tiles};
 
 #[derive(Clone, Copy, PartialEq, Eq, Debug)]
 pub enum LineFault {
@@ -26,8 +27,10 @@ pub struct Win {
     pub round: u8,
     pub riichi: u8,
     pub flags: Flags,
-    pub dora: Counts,
-    pub ura: Counts,
+    /// The kinds that indicators make dora.
+    pub dora: [u8; 10],
+    pub dora_count: usize,
+    pub has_ura: bool,
     pub counters: u8,
     pub sticks: u8,
     pub reds: u8,
@@ -39,19 +42,52 @@ pub enum Job {
     Shape(Counts, Melds, Counts),
 }
 
-const KEYS: [&[u8]; 12] = [b"on", b"by", b"seat", b"round", b"open", b"riichi", b"flags", b"dora", b"ura", b"counters", b"sticks", b"seen"];
-const ON: usize = 0;
-const BY: usize = 1;
-const SEAT: usize = 2;
-const ROUND: usize = 3;
-const OPEN: usize = 4;
-const RIICHI: usize = 5;
-const FLAGS: usize = 6;
-const DORA: usize = 7;
-const URA: usize = 8;
-const COUNTERS: usize = 9;
-const STICKS: usize = 10;
-const SEEN: usize = 11;
+/// The keys, and the texts of tiles among them first.
+#[derive(Clone, Copy)]
+enum Key {
+    On,
+    Open,
+    Dora,
+    Ura,
+    Seen,
+    By,
+    Seat,
+    Round,
+    Riichi,
+    Flags,
+    Counters,
+    Sticks,
+}
+
+impl Key {
+    /// The key and the value of a word.
+    #[inline(always)]
+    fn of(word: &[u8]) -> Option<(Key, &[u8])> {
+        Some(match word {
+            [b'o', b'n', b'=', value @ ..] => (Key::On, value),
+            [b'b', b'y', b'=', value @ ..] => (Key::By, value),
+            [b's', b'e', b'a', b't', b'=', value @ ..] => (Key::Seat, value),
+            [b'r', b'o', b'u', b'n', b'd', b'=', value @ ..] => (Key::Round, value),
+            [b'r', b'i', b'i', b'c', b'h', b'i', b'=', value @ ..] => (Key::Riichi, value),
+            [b'o', b'p', b'e', b'n', b'=', value @ ..] => (Key::Open, value),
+            [b'd', b'o', b'r', b'a', b'=', value @ ..] => (Key::Dora, value),
+            [b'u', b'r', b'a', b'=', value @ ..] => (Key::Ura, value),
+            [b's', b'e', b'e', b'n', b'=', value @ ..] => (Key::Seen, value),
+            [b'f', b'l', b'a', b'g', b's', b'=', value @ ..] => (Key::Flags, value),
+            [b's', b't', b'i', b'c', b'k', b's', b'=', value @ ..] => (Key::Sticks, value),
+            [b'c', b'o', b'u', b'n', b't', b'e', b'r', b's', b'=', value @ ..] => (Key::Counters, value),
+            _ => return None,
+        })
+    }
+
+    const fn bit(self) -> u16 {
+        1 << self as u16
+    }
+}
+
+const NEEDED: u16 = Key::On.bit() | Key::By.bit() | Key::Seat.bit() | Key::Round.bit();
+/// The keys of a win, of waits, of a shape.
+const ALLOWED: [u16; 3] = [4095 ^ Key::Seen.bit(), Key::Open.bit(), Key::Open.bit() | Key::Seen.bit()];
 
 fn wind(value: &[u8]) -> Option<u8> {
     match value {
@@ -90,39 +126,90 @@ fn flags(value: &[u8]) -> Option<Flags> {
     Some(flags)
 }
 
-/// A value of this key is in its table.
-fn is_proper(key: usize, value: &[u8]) -> bool {
-    match key {
-        BY => value == b"ron" || value == b"tsumo",
-        SEAT | ROUND => wind(value).is_some(),
-        RIICHI => matches!(value, b"0" | b"1" | b"2"),
-        FLAGS => flags(value).is_some(),
-        COUNTERS | STICKS => number(value).is_some(),
-        _ => true,
+/// Where the byte is first, or the length.
+#[inline(always)]
+fn find(text: &[u8], byte: u8) -> usize {
+    const ONES: u64 = 0x0101_0101_0101_0101;
+    let mut at = 0;
+    while let Some(bytes) = text[at..].first_chunk::<8>() {
+        let zeros = u64::from_le_bytes(*bytes) ^ (ONES * u64::from(byte));
+        let found = zeros.wrapping_sub(ONES) & !zeros & (ONES << 7);
+        if found != 0 {
+            return at + found.trailing_zeros() as usize / 8;
+        }
+        at += 8;
+    }
+    text[at..].iter().position(|&here| here == byte).map_or(text.len(), |more| at + more)
+}
+
+/// The words of a line.
+struct Words<'a>(&'a [u8]);
+
+impl<'a> Iterator for Words<'a> {
+    type Item = &'a [u8];
+
+    #[inline(always)]
+    fn next(&mut self) -> Option<&'a [u8]> {
+        while let Some((b' ', rest)) = self.0.split_first() {
+            self.0 = rest;
+        }
+        if self.0.is_empty() {
+            return None;
+        }
+        let (word, rest) = self.0.split_at(find(self.0, b' '));
+        self.0 = rest;
+        Some(word)
     }
 }
 
+/// The values of a line, texts of tiles still unread.
+#[derive(Default)]
 struct Fields<'a> {
-    values: [Option<&'a [u8]>; 12],
+    present: u16,
     is_doubled: bool,
+    texts: [&'a [u8]; 5],
+    is_tsumo: bool,
+    seat: u8,
+    round: u8,
+    riichi: u8,
+    flags: Flags,
+    counters: u8,
+    sticks: u8,
 }
 
-fn fields<'a>(words: impl Iterator<Item = &'a [u8]>, job: u8) -> Option<Fields<'a>> {
-    let mut fields = Fields { values: [None; 12], is_doubled: false };
+impl<'a> Fields<'a> {
+    fn text(&self, key: Key) -> Option<&'a [u8]> {
+        (self.present & key.bit() != 0).then_some(self.texts[key as usize])
+    }
+
+    /// Keeps a value; none where it is not in the table of its key.
+    fn keep(&mut self, key: Key, value: &'a [u8]) -> Option<()> {
+        match key {
+            Key::By if value == b"ron" => self.is_tsumo = false,
+            Key::By if value == b"tsumo" => self.is_tsumo = true,
+            Key::By => return None,
+            Key::Seat => self.seat = wind(value)?,
+            Key::Round => self.round = wind(value)?,
+            Key::Riichi => self.riichi = number(value).filter(|&number| value.len() == 1 && number < 3)?,
+            Key::Flags => self.flags = flags(value)?,
+            Key::Counters => self.counters = number(value)?,
+            Key::Sticks => self.sticks = number(value)?,
+            Key::On | Key::Open | Key::Dora | Key::Ura | Key::Seen => self.texts[key as usize] = value,
+        }
+        self.is_doubled |= self.present & key.bit() != 0;
+        self.present |= key.bit();
+        Some(())
+    }
+}
+
+fn fields<'a>(words: Words<'a>, job: usize) -> Option<Fields<'a>> {
+    let mut fields = Fields::default();
     for word in words {
-        let equals = word.iter().position(|&byte| byte == b'=')?;
-        let (name, value) = (&word[..equals], &word[equals + 1..]);
-        let key = KEYS.iter().position(|key| *key == name)?;
-        let fits = match job {
-            0 => key != SEEN,
-            1 => key == OPEN,
-            _ => key == OPEN || key == SEEN,
-        };
-        if !fits || !is_proper(key, value) {
+        let (key, value) = Key::of(word)?;
+        if ALLOWED[job] & key.bit() == 0 {
             return None;
         }
-        fields.is_doubled |= fields.values[key].is_some();
-        fields.values[key] = Some(value);
+        fields.keep(key, value)?;
     }
     Some(fields)
 }
@@ -139,25 +226,38 @@ fn melds(value: Option<&[u8]>, reds: &mut u8) -> Option<Melds> {
         }
         melds.items[melds.count] = meld;
         melds.count += 1;
-        *reds += zeros.iter().sum::<u8>();
+        *reds += zeros;
     }
     Some(melds)
 }
 
-fn text(name: &'static str, value: Option<&[u8]>) -> Result<(Counts, u8), LineFault> {
-    match value.map(read_counts) {
-        None => Ok(([0; 34], 0)),
-        Some(Ok((counts, reds))) => Ok((counts, reds.iter().sum())),
-        Some(Err(fault)) => Err(LineFault::Notation(name, fault)),
+fn tiles(name: &'static str, text: &[u8]) -> Result<Tiles, LineFault> {
+    read_tiles(text).map_err(|fault| LineFault::Notation(name, fault))
+}
+
+/// Adds the tiles of a text, where there is one, and tells them.
+#[inline(always)]
+fn add(all: &mut Counts, name: &'static str, text: Option<&[u8]>) -> Result<Tiles, LineFault> {
+    let Some(text) = text else {
+        return Ok(Tiles::none());
+    };
+    let told = tiles(name, text)?;
+    all.iter_mut().zip(&told.counts).for_each(|(held, more)| *held += more);
+    Ok(told)
+}
+
+/// The kinds that indicators make dora.
+fn keep_dora(win: &mut Win, indicators: &Tiles) {
+    for kind in Each(if indicators.total > 0 { at_least(&indicators.counts, 1) } else { 0 }) {
+        for _ in 0..indicators.counts[kind] {
+            win.dora[win.dora_count] = dora_of(kind) as u8;
+            win.dora_count += 1;
+        }
     }
 }
 
-fn total(counts: &Counts) -> usize {
-    counts.iter().map(|&held| held as usize).sum()
-}
-
-/// The job of a line, none where it is no record, or its first fault.
-pub fn read_line(is_two: bool, line: &[u8]) -> Result<Option<Job>, LineFault> {
+/// The job of a line, none where it is no record, or its first fault. Of a plain line all bytes are printable.
+pub fn read_line(is_two: bool, line: &[u8], is_plain: bool) -> Result<Option<Job>, LineFault> {
     use LineFault::Coded;
     if line.len() > 4096 {
         return Err(Coded(1));
@@ -165,63 +265,64 @@ pub fn read_line(is_two: bool, line: &[u8]) -> Result<Option<Job>, LineFault> {
     if line.first() == Some(&b'#') || line.iter().all(|&byte| byte == b' ') {
         return Ok(None);
     }
-    if line.iter().any(|byte| !(0x20..=0x7e).contains(byte)) {
+    if !is_plain && line.iter().any(|byte| !(0x20..=0x7e).contains(byte)) {
         return Err(Coded(1));
     }
-    let mut words = line.split(|&byte| byte == b' ').filter(|word| !word.is_empty());
+    let mut words = Words(line);
     let job = match words.next() {
         Some(b"win") => 0,
         Some(b"waits") => 1,
         Some(b"shape") => 2,
         _ => return Err(Coded(2)),
     };
-    let hand = words.next().filter(|word| !word.contains(&b'=')).ok_or(Coded(3))?;
+    let hand = words.next().filter(|word| find(word, b'=') == word.len()).ok_or(Coded(3))?;
     let fields = fields(words, job).ok_or(Coded(4))?;
     if fields.is_doubled {
         return Err(Coded(5));
     }
-    let value = &fields.values;
-    if job == 0 && (value[ON].is_none() || value[BY].is_none() || value[SEAT].is_none() || value[ROUND].is_none()) {
+    if job == 0 && fields.present & NEEDED != NEEDED {
         return Err(Coded(6));
     }
-    let (tiles, mut reds) = text("hand", Some(hand))?;
-    let (on, more) = text("on", value[ON])?;
-    reds += more;
-    let (dora, _) = text("dora", value[DORA])?;
-    let (ura, _) = text("ura", value[URA])?;
-    let (seen, _) = text("seen", value[SEEN])?;
-    let melds = melds(value[OPEN], &mut reds).ok_or(Coded(7))?;
-    let size = total(&tiles) + 3 * melds.count;
-    if !(size == 13 || job == 2 && size == 14) || job == 0 && (total(&on) != 1 || total(&dora) > 5 || total(&ura) > 5) {
+    let held = tiles("hand", hand)?;
+    let mut all = held.counts;
+    let on = add(&mut all, "on", fields.text(Key::On))?;
+    let dora = add(&mut all, "dora", fields.text(Key::Dora))?;
+    let ura = add(&mut all, "ura", fields.text(Key::Ura))?;
+    let seen = add(&mut all, "seen", fields.text(Key::Seen))?;
+    let mut reds = held.reds + on.reds;
+    let melds = melds(fields.text(Key::Open), &mut reds).ok_or(Coded(7))?;
+    let size = held.total + 3 * melds.count;
+    if !(size == 13 || job == 2 && size == 14) || job == 0 && (on.total != 1 || dora.total > 5 || ura.total > 5) {
         return Err(Coded(8));
     }
-    let mut all = [0u8; 34];
     melds.add_to(&mut all);
-    if (0..34).any(|kind| all[kind] + tiles[kind] + on[kind] + dora[kind] + ura[kind] + seen[kind] > 4) {
+    if at_least(&all, 5) != 0 {
         return Err(Coded(9));
     }
     match job {
-        1 => return Ok(Some(Job::Waits(tiles, melds))),
-        2 => return Ok(Some(Job::Shape(tiles, melds, seen))),
+        1 => return Ok(Some(Job::Waits(held.counts, melds))),
+        2 => return Ok(Some(Job::Shape(held.counts, melds, seen.counts))),
         _ => {}
     }
-    let winning = on.iter().position(|&held| held == 1).unwrap_or(0) as u8;
-    let win = Win {
+    let mut win = Win {
         is_two,
-        concealed: tiles,
+        concealed: held.counts,
         melds,
-        winning,
-        is_tsumo: value[BY] == Some(b"tsumo"),
-        seat: value[SEAT].and_then(wind).unwrap_or(27),
-        round: value[ROUND].and_then(wind).unwrap_or(27),
-        riichi: value[RIICHI].and_then(number).unwrap_or(0),
-        flags: value[FLAGS].and_then(flags).unwrap_or_default(),
-        dora,
-        ura,
-        counters: value[COUNTERS].and_then(number).unwrap_or(0),
-        sticks: value[STICKS].and_then(number).unwrap_or(0),
+        winning: at_least(&on.counts, 1).trailing_zeros() as u8,
+        is_tsumo: fields.is_tsumo,
+        seat: fields.seat,
+        round: fields.round,
+        riichi: fields.riichi,
+        flags: fields.flags,
+        dora: [0; 10],
+        dora_count: 0,
+        has_ura: ura.total > 0,
+        counters: fields.counters,
+        sticks: fields.sticks,
         reds: if is_two { reds } else { 0 },
     };
+    keep_dora(&mut win, &dora);
+    keep_dora(&mut win, &ura);
     match fault_of(&win) {
         Some(code) => Err(Coded(code)),
         None => Ok(Some(Job::Win(win))),
@@ -235,7 +336,7 @@ fn fault_of(win: &Win) -> Option<u8> {
     let others = flags.ippatsu || flags.rinshan || flags.chankan || flags.last;
     if win.riichi > 0 && !win.melds.concealed() {
         Some(10)
-    } else if win.riichi == 0 && (flags.ippatsu || total(&win.ura) > 0) {
+    } else if win.riichi == 0 && (flags.ippatsu || win.has_ura) {
         Some(11)
     } else if flags.rinshan && (!win.is_tsumo || !has_kong) {
         Some(12)

@@ -5,10 +5,15 @@
 mod answer;
 mod best;
 mod input;
+mod kinds;
 mod line;
+mod pen;
+mod rows;
 mod score;
 mod shape;
+mod suit;
 mod tiles;
+mod waits;
 
 use std::io::{Read, Write};
 use std::process::{Command, Stdio};

@@ -1,35 +1,9 @@
 //! Readings of a won hand, fu, yaku, payment.
+use crate::kinds::{at_least, Each, ORPHANS};
 use crate::line::Win;
-use crate::tiles::{dora_of, write_number, Counts, Meld};
-
-#[derive(Clone, Copy, PartialEq, Eq)]
-enum Shape {
-    Run,
-    Triplet,
-    Pair,
-}
-
-#[derive(Clone, Copy, PartialEq, Eq)]
-struct Block {
-    shape: Shape,
-    low: u8,
-    /// Not melded, and not completed by ron.
-    is_concealed: bool,
-    is_kong: bool,
-}
-
-impl Block {
-    fn new(shape: Shape, low: u8) -> Block {
-        Block { shape, low, is_concealed: true, is_kong: false }
-    }
-
-    fn has(&self, kind: u8) -> bool {
-        match self.shape {
-            Shape::Run => self.low <= kind && kind < self.low + 3,
-            _ => self.low == kind,
-        }
-    }
-}
+use crate::pen::Pen;
+use crate::suit::Suit;
+use crate::tiles::{Counts, Meld};
 
 #[derive(Clone, Copy, Default, PartialEq, Eq, PartialOrd, Ord, Debug)]
 pub struct Score {
@@ -59,128 +33,180 @@ pub const WORDS: [&str; 41] = [
 const CONCEALED: [u8; 29] = [1, 2, 1, 1, 1, 1, 1, 1, 1, 1, 1, 1, 1, 1, 1, 2, 2, 2, 2, 2, 2, 2, 2, 2, 2, 3, 3, 3, 6];
 const MELDED: [u8; 29] = [0, 0, 0, 0, 0, 0, 1, 1, 1, 1, 1, 1, 1, 1, 1, 1, 1, 1, 0, 2, 2, 2, 2, 2, 2, 2, 2, 0, 5];
 
-fn is_orphan(kind: u8) -> bool {
-    kind >= 27 || kind % 9 == 0 || kind % 9 == 8
-}
+/// Dragons, and each wind, as kinds.
+const DRAGONS: u64 = 7 << 31;
+const WINDS: u64 = 15 << 27;
+const GREEN: u64 = 1 << 19 | 1 << 20 | 1 << 21 | 1 << 23 | 1 << 25 | 1 << 32;
+/// Runs with a terminal, by their lowest kinds.
+const END_RUNS: u64 = 0x41 | 0x41 << 9 | 0x41 << 18;
 
 /// What is the same for every reading of a hand.
 struct Hand<'a> {
     win: &'a Win,
-    all: Counts,
     is_concealed: bool,
-    suits: [bool; 4],
-    simples_only: bool,
-    orphans_only: bool,
+    has_honours: bool,
+    /// Yaku of luck, and of tiles for seven pairs and standard readings.
+    luck: u64,
+    tiles: u64,
+    /// Yakuman of all readings but the orphans, and of standard readings.
+    great: u64,
+    standard_great: u64,
+    /// Melds: runs, triplets (kongs too), those that are concealed, and kongs.
+    melds: Sets,
+    kongs: u64,
+    dora: u8,
+}
+
+/// Sets as kinds: runs by their lowest, in the first place those that are there, in the second those that are there
+/// twice or oftener, and so on; triplets, and those that are concealed.
+#[derive(Clone, Copy, Default)]
+pub struct Sets {
+    pub runs: [u64; 4],
+    pub triplets: u64,
+    pub concealed: u64,
+}
+
+impl Sets {
+    pub fn add_run(&mut self, low: usize) {
+        let mut more = 1 << low;
+        for runs in &mut self.runs {
+            let both = *runs & more;
+            *runs |= more;
+            more = both;
+        }
+    }
+
+    fn with(&self, other: &Sets) -> Sets {
+        let mut all = Sets { triplets: self.triplets | other.triplets, concealed: self.concealed | other.concealed, ..*self };
+        for runs in other.runs {
+            Each(runs).for_each(|low| all.add_run(low));
+        }
+        all
+    }
+}
+
+fn melds_of(win: &Win) -> (Sets, u64) {
+    let (mut sets, mut kongs) = (Sets::default(), 0);
+    for meld in win.melds.iter() {
+        match *meld {
+            Meld::Chi(low) => sets.add_run(low as usize),
+            Meld::Pon(kind) => sets.triplets |= 1 << kind,
+            Meld::Kan(kind) => (sets.triplets, kongs) = (sets.triplets | 1 << kind, kongs | 1 << kind),
+            Meld::Ankan(kind) => {
+                sets.triplets |= 1 << kind;
+                sets.concealed |= 1 << kind;
+                kongs |= 1 << kind;
+            }
+        }
+    }
+    (sets, kongs)
+}
+
+fn luck_of(win: &Win, is_concealed: bool) -> u64 {
+    let flags = win.flags;
+    u64::from(win.riichi == 1)
+        | u64::from(win.riichi == 2) << 1
+        | u64::from(flags.ippatsu) << 2
+        | u64::from(win.is_tsumo && is_concealed) << 3
+        | u64::from(flags.rinshan) << 12
+        | u64::from(flags.chankan) << 13
+        | u64::from(flags.last) << 14
 }
 
 impl Hand<'_> {
-    fn bits_of_luck(&self) -> u64 {
-        let (win, flags) = (self.win, self.win.flags);
-        u64::from(win.riichi == 1)
-            | u64::from(win.riichi == 2) << 1
-            | u64::from(flags.ippatsu) << 2
-            | u64::from(win.is_tsumo && self.is_concealed) << 3
-            | u64::from(flags.rinshan) << 12
-            | u64::from(flags.chankan) << 13
-            | u64::from(flags.last) << 14
-    }
-
-    /// Bits that hold for seven pairs and standard readings.
-    fn bits_of_tiles(&self) -> u64 {
-        let suits = self.suits[..3].iter().filter(|held| **held).count();
-        u64::from(self.simples_only) << 6
-            | u64::from(self.orphans_only) << 24
-            | u64::from(suits == 1 && self.suits[3]) << 25
-            | u64::from(suits == 1 && !self.suits[3]) << 28
-    }
-
-    fn yakuman(&self) -> u64 {
-        let suits = self.suits[..3].iter().filter(|held| **held).count();
-        let first = self.win.flags.first;
-        u64::from(suits == 0) << 35 | u64::from(first && self.win.seat == 27) << 39 | u64::from(first && self.win.seat != 27) << 40
+    fn of<'a>(win: &'a Win, all: &Counts) -> Hand<'a> {
+        let held = at_least(all, 1);
+        let is_concealed = win.melds.concealed();
+        let (melds, kongs) = melds_of(win);
+        let suits = [0, 9, 18].map(|from| u32::from(held >> from & 511 != 0)).iter().sum::<u32>();
+        let has_honours = held >> 27 != 0;
+        let is_orphans = held & !ORPHANS == 0;
+        let is_one = suits == 1 && !has_honours;
+        let first = win.flags.first;
+        Hand {
+            win,
+            is_concealed,
+            has_honours,
+            luck: luck_of(win, is_concealed),
+            tiles: u64::from(held & ORPHANS == 0) << 6
+                | u64::from(is_orphans) << 24
+                | u64::from(suits == 1 && has_honours) << 25
+                | u64::from(is_one) << 28,
+            great: u64::from(suits == 0) << 35 | u64::from(first && win.seat == 27) << 39 | u64::from(first && win.seat != 27) << 40,
+            standard_great: u64::from(is_one && win.melds.count == 0 && is_gates(held, at_least(all, 3))) << 30
+                | u64::from(is_orphans && !has_honours) << 36
+                | u64::from(held & !GREEN == 0) << 37,
+            melds,
+            kongs,
+            dora: win.reds + win.dora[..win.dora_count].iter().map(|&kind| all[kind as usize]).sum::<u8>(),
+        }
     }
 }
 
-fn bits_of_runs(blocks: &[Block], concealed: bool) -> u64 {
-    let mut counts = [0u8; 27];
-    for block in blocks.iter().filter(|block| block.shape == Shape::Run) {
-        counts[block.low as usize] += 1;
-    }
-    let pairs: u8 = counts.iter().map(|count| count / 2).sum();
-    let mixed = (0..7).any(|low| counts[low] > 0 && counts[low + 9] > 0 && counts[low + 18] > 0);
-    let straight = [0, 9, 18].iter().any(|&suit| counts[suit] > 0 && counts[suit + 3] > 0 && counts[suit + 6] > 0);
+/// In the suit of the tiles there are three of each end and one of each other rank.
+fn is_gates(held: u64, three: u64) -> bool {
+    let suit = held.trailing_zeros() / 9 * 9;
+    held >> suit & 511 == 511 && three >> suit & 0x101 == 0x101
+}
+
+fn bits_of_runs(runs: &[u64; 4], concealed: bool) -> u64 {
+    let pairs = runs[1].count_ones() + runs[3].count_ones();
+    let any = runs[0];
+    let mixed = any & any >> 9 & any >> 18 & 511 != 0;
+    let straight = any & any >> 3 & any >> 6 & (1 | 1 << 9 | 1 << 18) != 0;
     u64::from(concealed && pairs == 1) << 5 | u64::from(concealed && pairs == 2) << 27 | u64::from(mixed) << 15 | u64::from(straight) << 16
 }
 
-fn bits_of_triplets(win: &Win, sets: &[Block], pair: u8) -> (u64, u64) {
-    let mut held = [false; 34];
-    let (mut triplets, mut concealed, mut kongs) = (0, 0, 0);
-    for set in sets.iter().filter(|set| set.shape == Shape::Triplet) {
-        held[set.low as usize] = true;
-        triplets += 1;
-        concealed += u8::from(set.is_concealed);
-        kongs += u8::from(set.is_kong);
+fn bits_of_triplets(hand: &Hand, sets: &Sets, pair: u8) -> (u64, u64) {
+    let held = sets.triplets;
+    if held == 0 {
+        return (0, 0);
     }
-    let dragons = held[31..].iter().filter(|held| **held).count();
-    let winds = held[27..31].iter().filter(|held| **held).count();
-    let thrice = (0..9).any(|rank| held[rank] && held[rank + 9] && held[rank + 18]);
-    let ordinary = u64::from(held[31]) << 7
-        | u64::from(held[32]) << 8
-        | u64::from(held[33]) << 9
-        | u64::from(held[win.seat as usize]) << 10
-        | u64::from(held[win.round as usize]) << 11
-        | u64::from(thrice) << 19
+    let (win, pair) = (hand.win, 1 << pair);
+    let concealed = sets.concealed.count_ones();
+    let kongs = hand.kongs.count_ones();
+    let dragons = (held & DRAGONS).count_ones();
+    let winds = (held & WINDS).count_ones();
+    let ordinary = (held >> 31 & 7) << 7
+        | (held >> win.seat & 1) << 10
+        | (held >> win.round & 1) << 11
+        | u64::from(held & held >> 9 & held >> 18 & 511 != 0) << 19
         | u64::from(kongs >= 3) << 20
-        | u64::from(triplets == 4) << 21
+        | u64::from(held.count_ones() == 4) << 21
         | u64::from(concealed >= 3) << 22
-        | u64::from(dragons == 2 && pair >= 31) << 23;
-    let yakuman = u64::from(concealed == 4) << 31
+        | u64::from(dragons == 2 && pair & DRAGONS != 0) << 23;
+    let great = u64::from(concealed == 4) << 31
         | u64::from(dragons == 3) << 32
-        | u64::from(winds == 3 && (27..31).contains(&pair)) << 33
+        | u64::from(winds == 3 && pair & WINDS != 0) << 33
         | u64::from(winds == 4) << 34
         | u64::from(kongs == 4) << 38;
-    (ordinary, yakuman)
+    (ordinary, great)
 }
 
-fn bits_of_ends(hand: &Hand, sets: &[Block], pair: u8) -> u64 {
-    let has_run = sets.iter().any(|set| set.shape == Shape::Run);
-    let has_end = |block: &Block| match block.shape {
-        Shape::Run => block.low % 9 == 0 || block.low % 9 == 6,
-        _ => is_orphan(block.low),
-    };
-    if !has_run || !is_orphan(pair) || !sets.iter().all(has_end) {
+fn bits_of_ends(hand: &Hand, sets: &Sets, pair: u8) -> u64 {
+    let runs = sets.runs[0];
+    if runs == 0 || runs & !END_RUNS != 0 || (sets.triplets | 1 << pair) & !ORPHANS != 0 {
         return 0;
     }
-    if hand.suits[3] { 1 << 17 } else { 1 << 26 }
+    if hand.has_honours { 1 << 17 } else { 1 << 26 }
 }
 
-fn standard_yakuman(hand: &Hand) -> u64 {
-    let green = [19, 20, 21, 23, 25, 32].iter().map(|&kind: &usize| hand.all[kind] as u32).sum::<u32>();
-    let total = hand.all.iter().map(|&held| held as u32).sum::<u32>();
-    let suit = hand.suits.iter().position(|held| *held).unwrap_or(3) * 9;
-    let is_one = hand.suits[..3].iter().filter(|held| **held).count() == 1 && !hand.suits[3];
-    let gates = hand.win.melds.count == 0
-        && is_one
-        && hand.all[suit] >= 3
-        && hand.all[suit + 8] >= 3
-        && hand.all[suit + 1..suit + 8].iter().all(|&held| held >= 1);
-    u64::from(gates) << 30 | u64::from(hand.orphans_only && !hand.suits[3]) << 36 | u64::from(green == total) << 37
-}
-
-fn fu_of_set(set: &Block) -> u32 {
-    if set.shape == Shape::Run {
-        return 0;
+/// Two for each triplet, twice that for terminals and honours, and for concealed ones; four times for kongs.
+fn fu_of_triplets(hand: &Hand, sets: &Sets) -> u32 {
+    let mut fu = 0;
+    for (kinds, times) in [(sets.triplets & !hand.kongs, 2), (sets.triplets & hand.kongs, 8)] {
+        if kinds != 0 {
+            let both = kinds & sets.concealed;
+            let ends = kinds & ORPHANS;
+            let each = kinds.count_ones() + both.count_ones() + ends.count_ones() + (both & ends).count_ones();
+            fu += times * each;
+        }
     }
-    let simple = if set.is_concealed { 4 } else { 2 };
-    simple * if is_orphan(set.low) { 2 } else { 1 } * if set.is_kong { 4 } else { 1 }
+    fu
 }
 
 fn fu_of_pair(win: &Win, pair: u8) -> u32 {
     2 * (u32::from(pair >= 31) + u32::from(pair == win.seat) + u32::from(pair == win.round))
-}
-
-fn is_two_sided(done: &Block, winning: u8) -> bool {
-    done.shape == Shape::Run && (winning == done.low && done.low % 9 != 6 || winning == done.low + 2 && done.low % 9 != 0)
 }
 
 pub fn base_points(is_two: bool, han: u8, fu: u8) -> u32 {
@@ -195,7 +221,7 @@ pub fn base_points(is_two: bool, han: u8, fu: u8) -> u32 {
     }
 }
 
-fn scored(hand: &Hand, ordinary: u64, yakuman: u64, fu: u32, dora: u8) -> Option<Score> {
+fn scored(hand: &Hand, ordinary: u64, yakuman: u64, fu: u32) -> Option<Score> {
     if yakuman != 0 {
         return Some(Score { base: 8000, is_yakuman: true, yaku: yakuman, ..Score::default() });
     }
@@ -203,129 +229,142 @@ fn scored(hand: &Hand, ordinary: u64, yakuman: u64, fu: u32, dora: u8) -> Option
         return None;
     }
     let table = if hand.is_concealed { &CONCEALED } else { &MELDED };
-    let mut han = dora;
+    let mut han = hand.dora;
     let mut rest = ordinary;
     while rest != 0 {
         han += table[rest.trailing_zeros() as usize];
         rest &= rest - 1;
     }
     let fu = fu as u8;
-    Some(Score { base: base_points(hand.win.is_two, han, fu), is_yakuman: false, han, fu, yaku: ordinary, dora })
+    Some(Score { base: base_points(hand.win.is_two, han, fu), is_yakuman: false, han, fu, yaku: ordinary, dora: hand.dora })
 }
 
-fn score_standard(hand: &Hand, concealed: &[Block], pair: u8, done: Block, dora: u8) -> Option<Score> {
+/// What the winning tile completes.
+#[derive(Clone, Copy, PartialEq, Eq)]
+enum Done {
+    TwoSided,
+    /// A run within or at an end, or the pair.
+    One,
+    Triplet,
+}
+
+fn score_standard(hand: &Hand, mut sets: Sets, pair: u8, done: Done) -> Option<Score> {
     let win = hand.win;
-    let mut sets = [Block::new(Shape::Pair, 0); 4];
-    let mut count = 0;
-    let mut is_told = false;
-    for set in concealed {
-        sets[count] = *set;
-        if !is_told && *set == done {
-            is_told = true;
-            sets[count].is_concealed = win.is_tsumo;
-        }
-        count += 1;
+    if done == Done::Triplet && !win.is_tsumo {
+        sets.concealed &= !(1 << win.winning);
     }
-    for meld in win.melds.iter() {
-        let (shape, low, is_concealed, is_kong) = match *meld {
-            Meld::Chi(low) => (Shape::Run, low, false, false),
-            Meld::Pon(kind) => (Shape::Triplet, kind, false, false),
-            Meld::Kan(kind) => (Shape::Triplet, kind, false, true),
-            Meld::Ankan(kind) => (Shape::Triplet, kind, true, true),
-        };
-        sets[count] = Block { shape, low, is_concealed, is_kong };
-        count += 1;
-    }
-    let two_sided = is_two_sided(&done, win.winning);
     let pair_fu = fu_of_pair(win, pair);
-    let pinfu = hand.is_concealed && pair_fu == 0 && two_sided && sets.iter().all(|set| set.shape == Shape::Run);
-    let wait_fu = if two_sided || done.shape == Shape::Triplet { 0 } else { 2 };
-    let mut fu = 20 + pair_fu + wait_fu + sets.iter().map(fu_of_set).sum::<u32>();
+    let pinfu = hand.is_concealed && pair_fu == 0 && done == Done::TwoSided && sets.triplets == 0;
+    let mut fu = 20 + pair_fu + 2 * u32::from(done == Done::One) + fu_of_triplets(hand, &sets);
     fu += if win.is_tsumo { if pinfu { 0 } else { 2 } } else if hand.is_concealed { 10 } else { 0 };
     if !win.is_tsumo && !hand.is_concealed && fu == 20 {
         fu = 30;
     }
-    let (triplets, great) = bits_of_triplets(win, &sets, pair);
-    let ordinary = hand.bits_of_luck()
-        | hand.bits_of_tiles()
+    let (triplets, great) = bits_of_triplets(hand, &sets, pair);
+    let ordinary = hand.luck
+        | hand.tiles
         | u64::from(pinfu) << 4
-        | bits_of_runs(&sets, hand.is_concealed)
+        | bits_of_runs(&sets.runs, hand.is_concealed)
         | bits_of_ends(hand, &sets, pair)
         | triplets;
-    scored(hand, ordinary, hand.yakuman() | great | standard_yakuman(hand), fu.div_ceil(10) * 10, dora)
+    scored(hand, ordinary, hand.great | great | hand.standard_great, fu.div_ceil(10) * 10)
 }
 
-/// The search of sets, lowest tile first, a triplet before the runs.
+/// The best of all readings so far.
 struct Search<'a> {
     hand: Hand<'a>,
-    wanted: usize,
-    sets: [Block; 4],
-    dora: u8,
     best: Option<Score>,
     is_win: bool,
 }
 
 impl Search<'_> {
-    fn tell(&mut self, pair: u8) {
+    /// Scores a reading for all that the winning tile may complete in it.
+    fn tell(&mut self, concealed: &Sets, pair: u8) {
         self.is_win = true;
-        let winning = self.hand.win.winning;
-        let sets = self.sets;
-        let sets = &sets[..self.wanted];
-        for (place, set) in sets.iter().enumerate() {
-            if set.has(winning) && !sets[..place].contains(set) {
-                self.best = self.best.max(score_standard(&self.hand, sets, pair, *set, self.dora));
+        let on = self.hand.win.winning;
+        let sets = concealed.with(&self.hand.melds);
+        let mut score = |done| self.best = self.best.max(score_standard(&self.hand, sets, pair, done));
+        if concealed.triplets >> on & 1 == 1 {
+            score(Done::Triplet);
+        }
+        let mut is_one = pair == on;
+        if on < 27 {
+            let (rank, runs) = (on % 9, concealed.runs[0]);
+            let has_run = |back: u8| rank >= back && runs >> (on - back) & 1 == 1;
+            if has_run(0) && rank != 6 || has_run(2) && rank != 2 {
+                score(Done::TwoSided);
+            }
+            is_one |= has_run(1) || has_run(0) && rank == 6 || has_run(2) && rank == 2;
+        }
+        if is_one {
+            score(Done::One);
+        }
+    }
+
+    /// Takes sets from the lowest rank of a suit on, and then of the suits after it. Only where three neighbours all
+    /// have three tiles there is more than one way.
+    fn take(&mut self, suits: &[Suit; 4], mut suit: usize, mut tiles: u64, mut sets: Sets, pair: u8) {
+        loop {
+            while tiles == 0 {
+                if suit == 3 {
+                    return self.tell(&sets, pair);
+                }
+                suit += 1;
+                tiles = suits[suit].tiles;
+            }
+            let at = tiles.trailing_zeros() & !3;
+            let (held, kind) = (tiles >> at & 7, suit * 9 + at as usize / 4);
+            let both = (tiles >> (at + 4) & 7).min(tiles >> (at + 8) & 7);
+            if held >= 3 {
+                if both >= 3 && suit < 3 {
+                    let mut runs = sets;
+                    (0..3).for_each(|_| runs.add_run(kind));
+                    self.take(suits, suit, tiles - (0x333 << at), runs, pair);
+                }
+                sets.triplets |= 1 << kind;
+                sets.concealed |= 1 << kind;
+                tiles -= 3 << at;
+            } else if both >= held && suit < 3 {
+                (0..held).for_each(|_| sets.add_run(kind));
+                tiles -= (0x111 * held) << at;
+            } else {
+                return;
             }
         }
-        if pair == winning {
-            let done = Block::new(Shape::Pair, pair);
-            self.best = self.best.max(score_standard(&self.hand, sets, pair, done, self.dora));
-        }
     }
 
-    fn take(&mut self, counts: &mut Counts, from: usize, count: usize, pair: u8) {
-        if count == self.wanted {
-            self.tell(pair);
-            return;
-        }
-        let Some(low) = (from..34).find(|&kind| counts[kind] > 0) else {
+    fn standard(&mut self, counts: &Counts) {
+        let mut suits = [0, 1, 2, 3].map(|suit| Suit::of(counts, suit));
+        let sums = suits.map(|suit| suit.sums());
+        let mut with_pair = (0..4).filter(|&suit| sums[suit].0 == 2);
+        let (Some(suit), None) = (with_pair.next(), with_pair.next()) else {
             return;
         };
-        if counts[low] >= 3 {
-            counts[low] -= 3;
-            self.sets[count] = Block::new(Shape::Triplet, low as u8);
-            self.take(counts, low, count + 1, pair);
-            counts[low] += 3;
+        if (0..4).any(|other| other != suit && sums[other].0 != 0) {
+            return;
         }
-        if low < 27 && low % 9 < 7 && counts[low + 1] > 0 && counts[low + 2] > 0 {
-            (low..low + 3).for_each(|kind| counts[kind] -= 1);
-            self.sets[count] = Block::new(Shape::Run, low as u8);
-            self.take(counts, low, count + 1, pair);
-            (low..low + 3).for_each(|kind| counts[kind] += 1);
+        let whole = suits[suit];
+        for place in Each(whole.places(2 * sums[suit].1) & whole.twos()) {
+            suits[suit] = whole.without(2, place);
+            if suits[suit].is_sets() {
+                self.take(&suits, 0, suits[0].tiles, Sets::default(), (suit * 9 + place / 4) as u8);
+            }
         }
     }
-}
 
-/// The suit of the pair is the one whose tiles are two more than a multiple of three; none where no suit is.
-fn pair_suit(counts: &Counts) -> Option<usize> {
-    let mut found = None;
-    for suit in 0..4 {
-        let end = (suit * 9 + 9).min(34);
-        match counts[suit * 9..end].iter().map(|&held| held as usize).sum::<usize>() % 3 {
-            0 => {}
-            2 if found.is_none() => found = Some(suit),
-            _ => return None,
+    fn special(&mut self, one: u64, two: u64, three: u64) {
+        let hand = &self.hand;
+        if (two & !three).count_ones() == 7 {
+            let score = scored(hand, hand.luck | hand.tiles | 1 << 18, hand.great, 25);
+            self.is_win = true;
+            self.best = self.best.max(score);
+        }
+        if one == ORPHANS {
+            let score = scored(hand, 0, hand.great & (3 << 39) | 1 << 29, 0);
+            self.is_win = true;
+            self.best = self.best.max(score);
         }
     }
-    found
-}
-
-fn count_dora(win: &Win, all: &Counts) -> u8 {
-    let told = (0..34).map(|kind| (win.dora[kind] + win.ura[kind]) * all[dora_of(kind)]).sum::<u8>();
-    told + win.reds
-}
-
-fn orphans(counts: &Counts) -> bool {
-    (0..34).all(|kind| (counts[kind] > 0) == is_orphan(kind as u8))
 }
 
 pub fn best(win: &Win) -> Answer {
@@ -333,29 +372,10 @@ pub fn best(win: &Win) -> Answer {
     counts[win.winning as usize] += 1;
     let mut all = counts;
     win.melds.add_to(&mut all);
-    let suits = [0, 9, 18, 27].map(|suit: usize| all[suit..(suit + 9).min(34)].iter().any(|&held| held > 0));
-    let hand = Hand {
-        win,
-        all,
-        is_concealed: win.melds.concealed(),
-        suits,
-        simples_only: (0..34).all(|kind| all[kind] == 0 || !is_orphan(kind as u8)),
-        orphans_only: (0..34).all(|kind| all[kind] == 0 || is_orphan(kind as u8)),
-    };
-    let dora = count_dora(win, &all);
-    let empty = Block::new(Shape::Pair, 0);
-    let mut search = Search { hand, wanted: 4 - win.melds.count, sets: [empty; 4], dora, best: None, is_win: false };
-    if let Some(suit) = pair_suit(&counts) {
-        for pair in suit * 9..(suit * 9 + 9).min(34) {
-            if counts[pair] >= 2 {
-                counts[pair] -= 2;
-                search.take(&mut counts, 0, 0, pair as u8);
-                counts[pair] += 2;
-            }
-        }
-    }
+    let mut search = Search { hand: Hand::of(win, &all), best: None, is_win: false };
+    search.standard(&counts);
     if win.melds.count == 0 {
-        special(&mut search, &counts);
+        search.special(at_least(&counts, 1), at_least(&counts, 2), at_least(&counts, 3));
     }
     match search.best {
         Some(score) => Answer::Won(score),
@@ -364,73 +384,56 @@ pub fn best(win: &Win) -> Answer {
     }
 }
 
-fn special(search: &mut Search, counts: &Counts) {
-    let hand = &search.hand;
-    if counts.iter().filter(|&&held| held == 2).count() == 7 {
-        let ordinary = hand.bits_of_luck() | hand.bits_of_tiles() | 1 << 18;
-        let score = scored(hand, ordinary, hand.yakuman(), 25, search.dora);
-        search.is_win = true;
-        search.best = search.best.max(score);
-    }
-    if orphans(counts) {
-        let great = hand.yakuman() & (3 << 39) | 1 << 29;
-        let score = scored(hand, 0, great, 0, search.dora);
-        search.is_win = true;
-        search.best = search.best.max(score);
-    }
-}
-
 fn up(points: u32) -> u32 {
     points.div_ceil(100) * 100
 }
 
 pub fn write_answer(out: &mut Vec<u8>, win: &Win, answer: &Answer) {
+    let mut pen = Pen::new(out, 1024);
     let score = match answer {
-        Answer::NoWin => return out.extend_from_slice(b"no win"),
-        Answer::NoYaku => return out.extend_from_slice(b"no yaku"),
+        Answer::NoWin => return pen.text(b"no win"),
+        Answer::NoYaku => return pen.text(b"no yaku"),
         Answer::Won(score) => score,
     };
-    out.extend_from_slice(b"won ");
     if score.is_yakuman {
-        out.extend_from_slice(b"yakuman ");
+        pen.text(b"won yakuman ");
     } else {
-        write_number(out, score.han.into());
-        out.extend_from_slice(b" han ");
-        write_number(out, score.fu.into());
-        out.extend_from_slice(b" fu ");
+        pen.text(b"won ");
+        pen.number(score.han.into());
+        pen.text(b" han ");
+        pen.number(score.fu.into());
+        pen.text(b" fu ");
     }
-    let gain = write_payment(out, win, score.base) + 1000 * u32::from(win.sticks);
-    out.extend_from_slice(b" gain ");
-    write_number(out, gain);
-    let mut rest = score.yaku;
-    while rest != 0 {
-        out.push(b' ');
-        out.extend_from_slice(WORDS[rest.trailing_zeros() as usize].as_bytes());
-        rest &= rest - 1;
+    let gain = write_payment(&mut pen, win, score.base) + 1000 * u32::from(win.sticks);
+    pen.text(b" gain ");
+    pen.number(gain);
+    for yaku in Each(score.yaku) {
+        pen.byte(b' ');
+        pen.text(WORDS[yaku].as_bytes());
     }
     if score.dora > 0 {
-        out.extend_from_slice(b" dora ");
-        write_number(out, score.dora.into());
+        pen.text(b" dora ");
+        pen.number(score.dora.into());
     }
 }
 
-fn write_payment(out: &mut Vec<u8>, win: &Win, base: u32) -> u32 {
+fn write_payment(pen: &mut Pen, win: &Win, base: u32) -> u32 {
     let counters = u32::from(win.counters);
     let is_dealer = win.seat == 27;
     if !win.is_tsumo {
         let points = up(base * if is_dealer { 6 } else { 4 }) + 300 * counters;
-        write_number(out, points);
+        pen.number(points);
         return points;
     }
     let dealer = up(base * 2) + 100 * counters;
     if is_dealer {
-        write_number(out, dealer);
-        out.extend_from_slice(b" all");
+        pen.number(dealer);
+        pen.text(b" all");
         return 3 * dealer;
     }
     let other = up(base) + 100 * counters;
-    write_number(out, other);
-    out.push(b'/');
-    write_number(out, dealer);
+    pen.number(other);
+    pen.byte(b'/');
+    pen.number(dealer);
     2 * other + dealer
 }

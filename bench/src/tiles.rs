@@ -1,4 +1,5 @@
 //! Tiles and their notation.
+use crate::kinds::{at_least, Each};
 
 pub type Counts = [u8; 34];
 
@@ -9,29 +10,101 @@ pub struct Fault {
     pub place: usize,
 }
 
-/// The first kind of a suit.
-fn first_of(letter: u8) -> Option<u8> {
+/// The tiles that a text spells.
+#[derive(Clone, Copy)]
+pub struct Tiles {
+    pub counts: Counts,
+    pub total: usize,
+    /// How many zeros there are.
+    pub reds: u8,
+}
+
+impl Tiles {
+    pub fn none() -> Tiles {
+        Tiles { counts: [0; 34], total: 0, reds: 0 }
+    }
+}
+
+/// No kind: where wrong digits are counted.
+const WRONG: u8 = 34;
+
+/// The kind of each digit, suit by suit.
+const KINDS: [u8; 40] = kinds();
+
+const fn kinds() -> [u8; 40] {
+    let mut kinds = [WRONG; 40];
+    let mut at = 0;
+    while at < 40 {
+        let (suit, digit) = (at as u8 / 10, at as u8 % 10);
+        kinds[at] = match (suit, digit) {
+            (3, 0 | 8 | 9) => WRONG,
+            (_, 0) => suit * 9 + 4,
+            _ => suit * 9 + digit - 1,
+        };
+        at += 1;
+    }
+    kinds
+}
+
+fn suit_of(letter: u8) -> Option<usize> {
     match letter {
         b'm' => Some(0),
-        b'p' => Some(9),
-        b's' => Some(18),
-        b'z' => Some(27),
+        b'p' => Some(1),
+        b's' => Some(2),
+        b'z' => Some(3),
         _ => None,
     }
 }
 
-/// The tiles that a text spells, and how many zeros m, p and s close.
-pub fn read_counts(text: &[u8]) -> Result<(Counts, [u8; 3]), Fault> {
+/// The tiles of a text without fault, from the last to the first.
+fn read_backward(text: &[u8]) -> Option<Tiles> {
+    let (&last, before) = text.split_last()?;
+    if text.len() > 127 || !text[0].is_ascii_digit() {
+        return None;
+    }
+    let (mut counts, mut letters, mut zeros) = ([0u8; 35], 1, 0);
+    let mut suit = suit_of(last)?;
+    let mut was_letter = true;
+    for &byte in before.iter().rev() {
+        let digit = byte.wrapping_sub(b'0');
+        if digit > 9 {
+            suit = suit_of(byte).filter(|_| !was_letter)?;
+            was_letter = true;
+            letters += 1;
+            continue;
+        }
+        was_letter = false;
+        counts[KINDS[suit * 10 + digit as usize] as usize] += 1;
+        zeros += u8::from(digit == 0);
+    }
+    let (kinds, wrong) = counts.split_first_chunk()?;
+    if wrong[0] > 0 || at_least(kinds, 5) != 0 {
+        return None;
+    }
+    Some(Tiles { counts: *kinds, total: text.len() - letters, reds: zeros })
+}
+
+/// The tiles that a text spells, or its first fault.
+pub fn read_tiles(text: &[u8]) -> Result<Tiles, Fault> {
+    match read_backward(text) {
+        Some(tiles) => Ok(tiles),
+        None => read_forward(text),
+    }
+}
+
+/// The same of any text, from the first byte on.
+#[cold]
+fn read_forward(text: &[u8]) -> Result<Tiles, Fault> {
     let fault = |code, place| Err(Fault { code, place });
     if text.is_empty() {
         return fault(1, 0);
     }
-    let (mut counts, mut reds, mut start) = ([0u8; 34], [0u8; 3], 0);
+    let (mut tiles, mut start) = (Tiles::none(), 0);
     for (place, &byte) in text.iter().enumerate() {
         if byte.is_ascii_digit() {
             continue;
         }
-        let Some(first) = first_of(byte) else {
+        let Some(suit) = suit_of(byte) else {
             return fault(2, place);
         };
         if start == place {
@@ -39,22 +112,23 @@ pub fn read_counts(text: &[u8]) -> Result<(Counts, [u8; 3]), Fault> {
         }
         for at in start..place {
             let digit = text[at] - b'0';
-            if first == 27 && (digit == 0 || digit > 7) {
+            let kind = KINDS[suit * 10 + digit as usize];
+            if kind == WRONG {
                 return fault(5, at);
             }
-            let kind = first + if digit == 0 { 4 } else { digit - 1 };
-            if counts[kind as usize] == 4 {
+            if tiles.counts[kind as usize] == 4 {
                 return fault(6, at);
             }
-            counts[kind as usize] += 1;
-            reds[(first as usize / 9).min(2)] += u8::from(digit == 0 && first < 27);
+            tiles.counts[kind as usize] += 1;
+            tiles.reds += u8::from(digit == 0);
+            tiles.total += 1;
         }
         start = place + 1;
     }
     if start < text.len() {
         return fault(3, text.len());
     }
-    Ok((counts, reds))
+    Ok(tiles)
 }
 
 /// Writes tiles: suits in the order m, p, s, z.
@@ -144,11 +218,10 @@ impl Melds {
 }
 
 /// The meld that a text spells, and its zeros.
-pub fn read_meld(text: &[u8]) -> Option<(Meld, [u8; 3])> {
+pub fn read_meld(text: &[u8]) -> Option<(Meld, u8)> {
     let colon = text.iter().position(|&byte| byte == b':')?;
-    let (counts, reds) = read_counts(&text[colon + 1..]).ok()?;
-    let low = counts.iter().position(|&held| held > 0)? as u8;
-    let total: u8 = counts.iter().sum();
+    let Tiles { counts, total, reds } = read_tiles(&text[colon + 1..]).ok()?;
+    let low = Each(at_least(&counts, 1)).next()? as u8;
     let held = counts[low as usize];
     let meld = match &text[..colon] {
         b"chi" if low < 27 && low % 9 < 7 && total == 3 && held == 1 && counts[low as usize + 1] == 1 && counts[low as usize + 2] == 1 => Meld::Chi(low),
