@@ -5,4 +5,5 @@ pub mod Lanes
 pub mod Marks
 pub mod Open
 pub mod Row
+pub mod Seen
 pub mod Suit

@@ -15,6 +15,7 @@ mod joined;
 mod lacked;
 mod lanes;
 pub mod laws;
+mod marked_lanes;
 mod open;
 mod rank_set;
 mod ranks;

@@ -1,0 +1,98 @@
+//! Sixteen least lacks, each with the ranks that some choice of that lack lacks.
+
+ghost use Rattle.std.specs.Prelude.{◌≡◌, ◌+◌, ◌-◌, ◌<◌, ◌≤◌, ℕ, List, bit_and, if◌then◌else◌, length, min, nat_lt};
+ghost use Rattle.riichi_rows.specs.Lanes.{Agree, IsFew, none, nothing, with_set, with_pair, capped, lacks_with, lane, mark};
+
+use crate::lanes::Lanes;
+use std::simd::prelude::*;
+
+/// A mark has a bit for each rank that it names. What stands beside no choice says nothing.
+#[derive(Clone, Copy)]
+pub struct MarkedLanes {
+    pub lacks: Lanes,
+    pub marks: u8x16,
+    ghost sixteen: { length marks ≡ 16 },
+    ghost sound: { (s p : ℕ) → s < 5 → p < 2 → lane lacks.lacks s p ≡ 0 → mark marks s p ≡ 0 },
+}
+
+impl MarkedLanes {
+    /// No choice at all.
+    pub fn none() -> MarkedLanes
+        ensures { (bit : ℕ) → Agree (lacks_with bit result.lacks.lacks result.marks) none }
+    {
+        MarkedLanes {
+            lacks: Lanes::none(),
+            marks: u8x16::splat(0),
+        }
+    }
+
+    /// Nothing chosen, nothing lacking.
+    pub fn nothing() -> MarkedLanes
+        ensures { (bit : ℕ) → Agree (lacks_with bit result.lacks.lacks result.marks) nothing }
+    {
+        MarkedLanes {
+            lacks: Lanes::nothing(),
+            marks: u8x16::splat(0),
+        }
+    }
+
+    /// The same choices with one set more.
+    pub fn with_set(self) -> MarkedLanes
+        ensures { (bit : ℕ) → Agree (lacks_with bit result.lacks.lacks result.marks) (with_set (lacks_with bit self.lacks.lacks self.marks)) }
+    {
+        let unmarked = u8x16::splat(0);
+        let marks = self.marks.shuffle(
+            unmarked,
+            [16, 0, 1, 2, 3, 4, 5, 6, 16, 8, 9, 10, 11, 12, 13, 14],
+        );
+        MarkedLanes {
+            lacks: self.lacks.with_set(),
+            marks,
+        }
+    }
+
+    /// The same choices with a pair, where they had none.
+    pub fn with_pair(self) -> MarkedLanes
+        ensures { (bit : ℕ) → Agree (lacks_with bit result.lacks.lacks result.marks) (with_pair (lacks_with bit self.lacks.lacks self.marks)) }
+    {
+        let unmarked = u8x16::splat(0);
+        let marks = self.marks.shuffle(
+            unmarked,
+            [16, 16, 16, 16, 16, 16, 16, 16, 0, 1, 2, 3, 4, 5, 6, 7],
+        );
+        MarkedLanes {
+            lacks: self.lacks.with_pair(),
+            marks,
+        }
+    }
+
+    /// The same choices, each with so many more tiles of one rank lacking. Where these are any, the
+    /// rank's bit marks them.
+    pub fn lacking(self, tiles: u8, bit: u8) -> MarkedLanes
+        // what was lacked of other ranks stays lacked
+        ensures others { (other s p : ℕ) → s < 5 → p < 2 → bit_and bit other ≡ 0 → (tiles < 255 → tiles ≤ 4) → IsFew (lacks_with 0 self.lacks.lacks self.marks s p) → lacks_with other result.lacks.lacks result.marks s p ≡ capped (lacks_with other self.lacks.lacks self.marks s p + tiles) }
+        // with one more tile of the rank one less is lacking, where any is
+        ensures own { (s p : ℕ) → s < 5 → p < 2 → 0 < bit → (tiles < 255 → tiles ≤ 4) → IsFew (lacks_with 0 self.lacks.lacks self.marks s p) → lacks_with bit self.lacks.lacks self.marks s p ≡ lacks_with 0 self.lacks.lacks self.marks s p → lacks_with bit result.lacks.lacks result.marks s p ≡ capped (lacks_with 0 self.lacks.lacks self.marks s p + (if nat_lt tiles 255 then tiles - 1 else 255)) }
+    {
+        let mark = if tiles > 0 { bit } else { 0 };
+        MarkedLanes {
+            lacks: self.lacks.lacking(tiles),
+            marks: self.marks | u8x16::splat(mark),
+        }
+    }
+
+    /// The better of two choices; of two that lack as much the marks of both.
+    pub fn or(self, other: MarkedLanes) -> MarkedLanes
+        ensures { (bit : ℕ) → Agree (lacks_with bit result.lacks.lacks result.marks) (λ s p. min (lacks_with bit self.lacks.lacks self.marks s p) (lacks_with bit other.lacks.lacks other.marks s p)) }
+    {
+        let unmarked = u8x16::splat(0);
+        let lacks = self.lacks.lacks;
+        let others = other.lacks.lacks;
+        let own = lacks.simd_le(others).select(self.marks, unmarked);
+        let theirs = others.simd_le(lacks).select(other.marks, unmarked);
+        MarkedLanes {
+            lacks: self.lacks.or(other.lacks),
+            marks: own | theirs,
+        }
+    }
+}
