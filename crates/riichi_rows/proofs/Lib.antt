@@ -1,4 +1,5 @@
 pub mod Blocks
+pub mod Costs
 pub mod JoinOrders
 pub mod Joins
 pub mod Lacking
@@ -9,3 +10,4 @@ pub mod OneMore
 pub mod RankLanes
 pub mod Spread
 pub mod Steps
+pub mod Tables

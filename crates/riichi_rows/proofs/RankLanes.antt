@@ -2,11 +2,9 @@
 use Rattle.std.proofs.Common.{◌≡◌, ℕ, zero, suc, ◌+◌, ◌<◌, ◌≤◌, min, true, false, List, ◌∷◌, refl, sym, ap, ◌∙◌, ⊎_elim, arith}
 use Rattle.std.proofs.lemmas.Bool.{false≢true}
 use Rattle.std.proofs.lemmas.Bool.Decides.{nat_tests}
-use Rattle.riichi_rows.specs.Columns.{LeastFrom, LeastLanes, MayRun}
-use Rattle.riichi_rows.specs.Lanes.{lane, HasLanes, capped, with_set, with_pair}
-use Rattle.riichi_rows.specs.Open.{cost, IsAdded, LeastBegun}
-use Rattle.riichi_rows.specs.declared.added.Added.{Added}
-use Rattle.riichi_rows.specs.declared.open.Begun.{Begun}
+use Rattle.riichi_rows.specs.Columns.{AreLeast, LeastFrom, MayRun}
+use Rattle.riichi_rows.specs.Lanes.{Agree, capped, with_set, with_pair}
+use Rattle.riichi_rows.specs.Open.{Added, Begun, cost, IsAdded, LeastBegun}
 use Rattle.riichi_rows.proofs.Steps.{row_value, LeastAfter, step}
 
 -- ---- the better of two, joined in another order
@@ -81,9 +79,9 @@ with_pair_same f h same s (suc p) hs hp = same s p hs (omega arith)
 -- ---- the values by the runs begun at the rank
 
 abbrev values : Begun → ℕ → ℕ → ℕ → ℕ
-values x zero = lane x.zero.lacks
-values x (suc zero) = lane x.one.lacks
-values x (suc (suc u)) = lane x.two.lacks
+values x zero = x.zero
+values x (suc zero) = x.one
+values x (suc (suc u)) = x.two
 
 after_begun : (counts caps : List ℕ) (a : ℕ) (x : Begun) → LeastBegun counts caps a x → LeastAfter true counts caps a (values x)
 after_begun counts caps a x least = record { at = λ u s p hu may hs hp. least_at u s p hu hs hp }
@@ -97,11 +95,11 @@ after_begun counts caps a x least = record { at = λ u s p hu may hs hp. least_a
 -- the sum of an added lane with its cost
 module _ (have limit : ℕ) (few : limit ≤ 4) (later : Begun) (x : Added) (is : IsAdded later x) (w c0 c1 c2 c3 c4 : ℕ)
     (e0 : c0 ≡ cost have limit w) (e1 : c1 ≡ cost have limit (w + 1)) (e2 : c2 ≡ cost have limit (w + 2)) (e3 : c3 ≡ cost have limit (w + 3)) (e4 : c4 ≡ cost have limit (w + 4)) (s p : ℕ) (hs : s < 5) (hp : p < 2) where
-  regrouped : min (min (min (min (capped (lane x.zero.lacks s p + c0)) (capped (lane x.one.lacks s p + c1))) (capped (lane x.two.lacks s p + c2))) (capped (lane x.three.lacks s p + c3))) (capped (lane x.four.lacks s p + c4)) ≡ row_value true (values later) w have limit s p
+  regrouped : min (min (min (min (capped (x.zero s p + c0)) (capped (x.one s p + c1))) (capped (x.two s p + c2))) (capped (x.three s p + c3))) (capped (x.four s p + c4)) ≡ row_value true (values later) w have limit s p
   regrouped =
-      let z : ℕ → ℕ → ℕ = lane later.zero.lacks in
-      let o : ℕ → ℕ → ℕ = with_set (lane later.one.lacks) in
-      let t : ℕ → ℕ → ℕ = with_set (with_set (lane later.two.lacks)) in
+      let z : ℕ → ℕ → ℕ = later.zero in
+      let o : ℕ → ℕ → ℕ = with_set (later.one) in
+      let t : ℕ → ℕ → ℕ = with_set (with_set (later.two)) in
       let two = ap (λ n. capped (n + c2)) (is.two_tiles s p hs hp) ∙ sum_lesser (with_pair z s p) (t s p) c2 in
       let three = ap (λ n. capped (n + c3)) (is.three_tiles s p hs hp) ∙ sum_lesser (with_set z s p) (with_pair o s p) c3 in
       let four = ap (λ n. capped (n + c4)) (is.four_tiles s p hs hp) ∙ sum_lesser (with_set o s p) (with_pair t s p) c4 in
@@ -115,14 +113,14 @@ module _ (have limit : ℕ) (few : limit ≤ 4) (later : Begun) (x : Added) (is 
       cc
 
 pub rank_with_runs : (counts caps : List ℕ) (a b w have limit : ℕ) → a + b ≡ w → limit ≤ 4 → (later : Begun) (x : Added) → IsAdded later x → LeastBegun counts caps a later → (c0 c1 c2 c3 c4 : ℕ) →
-    c0 ≡ cost have limit w → c1 ≡ cost have limit (w + 1) → c2 ≡ cost have limit (w + 2) → c3 ≡ cost have limit (w + 3) → c4 ≡ cost have limit (w + 4) → (zero one two three four to_one to_two to_three result : List ℕ) →
-    HasLanes zero (λ s p. capped (lane x.zero.lacks s p + c0)) → HasLanes one (λ s p. capped (lane x.one.lacks s p + c1)) → HasLanes two (λ s p. capped (lane x.two.lacks s p + c2)) →
-    HasLanes three (λ s p. capped (lane x.three.lacks s p + c3)) → HasLanes four (λ s p. capped (lane x.four.lacks s p + c4)) →
-    HasLanes to_one (λ s p. min (lane zero s p) (lane one s p)) → HasLanes to_two (λ s p. min (lane to_one s p) (lane two s p)) → HasLanes to_three (λ s p. min (lane to_two s p) (lane three s p)) →
-    HasLanes result (λ s p. min (lane to_three s p) (lane four s p)) → LeastLanes true (have ∷ counts) (limit ∷ caps) a b result
+    c0 ≡ cost have limit w → c1 ≡ cost have limit (w + 1) → c2 ≡ cost have limit (w + 2) → c3 ≡ cost have limit (w + 3) → c4 ≡ cost have limit (w + 4) → (zero one two three four to_one to_two to_three result : ℕ → ℕ → ℕ) →
+    Agree zero (λ s p. capped (x.zero s p + c0)) → Agree one (λ s p. capped (x.one s p + c1)) → Agree two (λ s p. capped (x.two s p + c2)) →
+    Agree three (λ s p. capped (x.three s p + c3)) → Agree four (λ s p. capped (x.four s p + c4)) →
+    Agree to_one (λ s p. min (zero s p) (one s p)) → Agree to_two (λ s p. min (to_one s p) (two s p)) → Agree to_three (λ s p. min (to_two s p) (three s p)) →
+    Agree result (λ s p. min (to_three s p) (four s p)) → AreLeast true (have ∷ counts) (limit ∷ caps) a b result
 rank_with_runs counts caps a b w have limit sum few later x is least c0 c1 c2 c3 c4 e0 e1 e2 e3 e4 no_tile one two three four to_one to_two to_three result zr or tw th fr q1 q2 q3 rs = record { at = at_lane }
   where
-    value : (s p : ℕ) → s < 5 → p < 2 → lane result s p ≡ row_value true (values later) w have limit s p
+    value : (s p : ℕ) → s < 5 → p < 2 → result s p ≡ row_value true (values later) w have limit s p
     value s p hs hp =
         let none = zr s p hs hp in
         let single = or s p hs hp in
@@ -136,18 +134,18 @@ rank_with_runs counts caps a b w have limit sum few later x is least c0 c1 c2 c3
         let all = regrouped have limit few later x is w c0 c1 c2 c3 c4 e0 e1 e2 e3 e4 s p hs hp in
         cc
 
-    at_lane : (s p : ℕ) → s < 5 → p < 2 → LeastFrom true (have ∷ counts) (limit ∷ caps) a b s p (lane result s p)
+    at_lane : (s p : ℕ) → s < 5 → p < 2 → LeastFrom true (have ∷ counts) (limit ∷ caps) a b s p (result s p)
     at_lane s p hs hp =
-        step true counts caps a b have limit (values later) few (after_begun counts caps a later least) s p (lane result s p) hs hp
+        step true counts caps a b have limit (values later) few (after_begun counts caps a later least) s p (result s p) hs hp
         (value s p hs hp ∙ ap (λ n. row_value true (values later) n have limit s p) (sym sum))
 
 -- ---- without runs
 
-module _ (have limit : ℕ) (later more pairs : List ℕ) (c0 c2 c3 : ℕ) (e0 : c0 ≡ cost have limit 0) (e2 : c2 ≡ cost have limit 2) (e3 : c3 ≡ cost have limit 3)
-    (plain triplet pair better result : List ℕ) (is_more : HasLanes more (with_set (lane later))) (is_pairs : HasLanes pairs (with_pair (lane later)))
-    (is_plain : HasLanes plain (λ s p. capped (lane later s p + c0))) (is_triplet : HasLanes triplet (λ s p. capped (lane more s p + c3))) (is_pair : HasLanes pair (λ s p. capped (lane pairs s p + c2)))
-    (is_better : HasLanes better (λ s p. min (lane plain s p) (lane triplet s p))) (is : HasLanes result (λ s p. min (lane better s p) (lane pair s p))) where
-  value_alone : (s p : ℕ) → s < 5 → p < 2 → lane result s p ≡ row_value false (λ u. lane later) 0 have limit s p
+module _ (have limit : ℕ) (later more pairs : ℕ → ℕ → ℕ) (c0 c2 c3 : ℕ) (e0 : c0 ≡ cost have limit 0) (e2 : c2 ≡ cost have limit 2) (e3 : c3 ≡ cost have limit 3)
+    (plain triplet pair better result : ℕ → ℕ → ℕ) (is_more : Agree more (with_set later)) (is_pairs : Agree pairs (with_pair later))
+    (is_plain : Agree plain (λ s p. capped (later s p + c0))) (is_triplet : Agree triplet (λ s p. capped (more s p + c3))) (is_pair : Agree pair (λ s p. capped (pairs s p + c2)))
+    (is_better : Agree better (λ s p. min (plain s p) (triplet s p))) (is : Agree result (λ s p. min (better s p) (pair s p))) where
+  value_alone : (s p : ℕ) → s < 5 → p < 2 → result s p ≡ row_value false (λ u. later) 0 have limit s p
   value_alone s p hs hp =
       let none = is_plain s p hs hp in
       let triple = is_triplet s p hs hp in
@@ -158,9 +156,9 @@ module _ (have limit : ℕ) (later more pairs : List ℕ) (c0 c2 c3 : ℕ) (e0 :
       let last = is s p hs hp in
       cc
 
-  pub rank_without_runs : (counts caps : List ℕ) → limit ≤ 4 → LeastLanes false counts caps 0 0 later → LeastLanes false (have ∷ counts) (limit ∷ caps) 0 0 result
-  rank_without_runs counts caps few least = record { at = λ s p hs hp. step false counts caps 0 0 have limit (λ u. lane later) few (record { at = at_none }) s p (lane result s p) hs hp (value_alone s p hs hp) }
+  pub rank_without_runs : (counts caps : List ℕ) → limit ≤ 4 → AreLeast false counts caps 0 0 later → AreLeast false (have ∷ counts) (limit ∷ caps) 0 0 result
+  rank_without_runs counts caps few least = record { at = λ s p hs hp. step false counts caps 0 0 have limit (λ u. later) few (record { at = at_none }) s p (result s p) hs hp (value_alone s p hs hp) }
     where
-      at_none : (u s p : ℕ) → u < 3 → MayRun false u → s < 5 → p < 2 → LeastFrom false counts caps u 0 s p (lane later s p)
+      at_none : (u s p : ℕ) → u < 3 → MayRun false u → s < 5 → p < 2 → LeastFrom false counts caps u 0 s p (later s p)
       at_none zero s p hu may hs hp = least.at s p hs hp
       at_none (suc u) s p hu may hs hp = absurd (⊎_elim (λ z. omega (arith, z)) (λ z. false≢true z) may)

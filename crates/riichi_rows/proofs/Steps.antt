@@ -2,9 +2,9 @@
 use Rattle.std.proofs.Common.{◌≡◌, ℕ, zero, suc, ◌+◌, ◌-◌, ◌*◌, ◌<◌, ◌≤◌, min, Bool, true, false, ◌⊎◌, inl, inr, List, [], ◌∷◌, refl, sym, ◌∙◌, ⊎_elim, arith}
 use Rattle.std.proofs.lemmas.Bool.{false≢true}
 use Rattle.std.proofs.lemmas.Bool.Decides.{nat_tests}
-use Rattle.riichi_rows.specs.Lanes.{lane, HasLanes, capped, nothing, with_set, with_pair}
+use Rattle.riichi_rows.specs.Lanes.{Agree, capped, nothing, with_set, with_pair}
 use Rattle.riichi_rows.specs.Open.{cost}
-use Rattle.riichi_rows.specs.Columns.{Column, held, MayRun, Fits, lack_from, sets_in, pairs_in, Reaches, LeastFrom, LeastLanes}
+use Rattle.riichi_rows.specs.Columns.{Column, held, MayRun, Fits, lack_from, sets_in, pairs_in, Reaches, LeastFrom, AreLeast}
 
 -- the best of adding nothing, a triplet or a pair to w tiles of the rank
 abbrev pub with_blocks : (ℕ → ℕ → ℕ) → ℕ → ℕ → ℕ → ℕ → ℕ → ℕ
@@ -279,15 +279,15 @@ end_least runs a b s p v zero_there only_there = record {
     end_bound [] fits es ep = let z = zero_there (fits.0, fits.1, sym es, sym ep) in omega arith
     end_bound (x ∷ xs) fits es ep = absurd fits
 
-pub nothing_least : (runs : Bool) (lanes : List ℕ) → HasLanes lanes nothing → LeastLanes runs [] [] 0 0 lanes
-nothing_least runs lanes has = record { at = λ s p hs hp. end_least runs 0 0 s p (lane lanes s p) (λ all. there s p hs hp all.2 all.3) (λ low. found s p hs hp low) }
+pub nothing_least : (runs : Bool) (f : ℕ → ℕ → ℕ) → Agree f nothing → AreLeast runs [] [] 0 0 f
+nothing_least runs f has = record { at = λ s p hs hp. end_least runs 0 0 s p (f s p) (λ all. there s p hs hp all.2 all.3) (λ low. found s p hs hp low) }
   where
-    there : (s p : ℕ) → s < 5 → p < 2 → s ≡ 0 → p ≡ 0 → lane lanes s p ≡ 0
+    there : (s p : ℕ) → s < 5 → p < 2 → s ≡ 0 → p ≡ 0 → f s p ≡ 0
     there zero zero hs hp es ep = has 0 0 hs hp
     there zero (suc p) hs hp es ep = absurd (omega arith)
     there (suc s) p hs hp es ep = absurd (omega arith)
 
-    found : (s p : ℕ) → s < 5 → p < 2 → lane lanes s p < 255 → (◌≡◌ {A = ℕ} 0 0) × (◌≡◌ {A = ℕ} 0 0) × (s ≡ 0) × (p ≡ 0) × (lane lanes s p ≡ 0)
+    found : (s p : ℕ) → s < 5 → p < 2 → f s p < 255 → (◌≡◌ {A = ℕ} 0 0) × (◌≡◌ {A = ℕ} 0 0) × (s ≡ 0) × (p ≡ 0) × (f s p ≡ 0)
     found zero zero hs hp low = (refl, refl, refl, refl, has 0 0 hs hp)
     found zero (suc p) hs hp low = absurd (omega (arith, has 0 (suc p) hs hp))
     found (suc s) p hs hp low = absurd (omega (arith, has (suc s) p hs hp))

@@ -1,5 +1,4 @@
 -- A choice of blocks rank by rank, which is how the rows are computed. No public contract names it.
-use Rattle.riichi_rows.specs.Lanes.{lane}
 use Rattle.std.specs.Prelude.{◌≡◌, ℕ, ◌+◌, ◌-◌, ◌*◌, ◌<◌, ◌≤◌, Bool, IsTrue, ◌⊎◌, List, [], ◌∷◌}
 
 -- how many runs, triplets and pairs begin at one rank
@@ -49,6 +48,6 @@ pub record LeastFrom (runs : Bool) (counts caps : List ℕ) (a b s p v : ℕ) : 
   pub least : (xs : List Column) → Fits runs caps a b xs → sets_in xs ≡ s → pairs_in xs ≡ p → v ≤ lack_from counts a b xs
   pub reached : v < 255 → Reaches runs counts caps a b s p v
 
--- each lane is the least lack
-pub record LeastLanes (runs : Bool) (counts caps : List ℕ) (a b : ℕ) (lanes : List ℕ) : Type 0 where
-  pub at : (s p : ℕ) → s < 5 → p < 2 → LeastFrom runs counts caps a b s p (lane lanes s p)
+-- each value of a table, for up to four sets and one pair, is the least lack
+pub record AreLeast (runs : Bool) (counts caps : List ℕ) (a b : ℕ) (values : ℕ → ℕ → ℕ) : Type 0 where
+  pub at : (s p : ℕ) → s < 5 → p < 2 → LeastFrom runs counts caps a b s p (values s p)

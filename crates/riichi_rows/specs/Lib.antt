@@ -4,6 +4,7 @@ pub mod Lacked
 pub mod Lanes
 pub mod Marks
 pub mod Open
+pub mod Ranks
 pub mod Row
 pub mod Seen
 pub mod Suit

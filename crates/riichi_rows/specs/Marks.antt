@@ -1,21 +1,21 @@
 -- Which ranks the least choices of each entry of a row lack.
-use Rattle.std.specs.Prelude.{◌≡◌, ℕ, ◌+◌, ◌<◌, ◌≤◌, ◌↔◌, Bool, IsTrue, nat_lt, false, List, get_or, Some}
+use Rattle.std.specs.Prelude.{◌≡◌, ℕ, zero, suc, ◌+◌, ◌^◌, ◌<◌, ◌≤◌, ◌↔◌, Bool, IsTrue, nat_lt, List, Some, bit_and}
 use Rattle.riichi_rows.specs.Lacked.{ChoiceLacks}
-use Rattle.riichi_rows.specs.Lanes.{lane}
+use Rattle.riichi_rows.specs.Lanes.{lacks_with, lane}
 use Rattle.riichi_rows.specs.Row.{entries_of}
 use Rattle.riichi_rows.specs.Suit.{IsSuitRow}
 use Rattle.riichi_rows.specs.declared.joined.JoinedRows.{JoinedRows}
-use Rattle.riichi_rows.specs.declared.lanes.Lanes.{Lanes}
 use Rattle.riichi_rows.specs.declared.rank_set.RankSet.{RankSet}
 use Rattle.riichi_rows.specs.declared.row.SuitRow.{SuitRow}
 
 -- the lacks of the suit with one more tile of the rank
-abbrev pub with_more : SuitRow → ℕ → Lanes
-with_more row rank = get_or row.more rank row.entries
+abbrev pub with_more : SuitRow → ℕ → ℕ → ℕ → ℕ
+with_more row zero = lane row.first.lacks
+with_more row (suc rank) = lacks_with (2 ^ rank) row.entries.lacks row.marks
 
 -- the row says that some least choice of so many sets and pairs lacks the rank
 abbrev pub is_marked : SuitRow → ℕ → ℕ → ℕ → Bool
-is_marked row sets pairs rank = nat_lt (lane (with_more row rank).lacks sets pairs) (lane row.entries.lacks sets pairs)
+is_marked row sets pairs rank = nat_lt (with_more row rank sets pairs) (lane row.entries.lacks sets pairs)
 
 -- it says so of just the ranks that some least choice lacks
 pub record AreMarks (runs : Bool) (counts caps : List ℕ) (row : SuitRow) : Type 0 where
@@ -41,4 +41,5 @@ pub record MarkedBeside (row : SuitRow) (others : JoinedRows) (sets n rank : ℕ
 
 -- a rank of the set
 abbrev pub has_rank : RankSet → ℕ → Bool
-has_rank set rank = get_or set.ranks rank false
+has_rank set zero = set.first
+has_rank set (suc rank) = nat_lt 0 (bit_and set.later (2 ^ rank))

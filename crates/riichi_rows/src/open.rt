@@ -1,18 +1,20 @@
 //! The least lacks of one rank and all later ones, by the runs that are open there.
 
-ghost use Rattle.std.specs.Prelude.{◌≡◌, ℕ, List, ◌≤◌, ◌∷◌, [], false};
-ghost use Rattle.riichi_rows.specs.Columns.{LeastLanes};
-ghost use Rattle.riichi_rows.specs.Open.{IsAdded, LeastOpen};
+ghost use Rattle.std.specs.Prelude.{◌≡◌, ℕ, List, ◌+◌, ◌<◌, ◌≤◌, ◌∷◌, [], bit_and, false};
+ghost use Rattle.riichi_rows.specs.Columns.{AreLeast};
+ghost use Rattle.riichi_rows.specs.Lanes.{Agree};
+ghost use Rattle.riichi_rows.specs.Open as table;
+ghost use Rattle.riichi_rows.specs.Seen.{added_seen, begun_seen, open_seen, seen};
 
 use crate::added::{Added, cost};
-use crate::lanes::Lanes;
+use crate::marked_lanes::MarkedLanes;
 
 /// By the number of runs begun one rank before.
 #[derive(Clone, Copy)]
 pub struct Begun {
-    pub zero: Lanes,
-    pub one: Lanes,
-    pub two: Lanes,
+    pub zero: MarkedLanes,
+    pub one: MarkedLanes,
+    pub two: MarkedLanes,
 }
 
 /// By the number of runs begun two ranks before.
@@ -24,22 +26,24 @@ pub struct Open {
 }
 
 /// The later choices with what this rank adds to them without a run: nothing, a triplet or a pair.
+/// The rank is marked by the bit.
 #[inline(always)]
-pub fn before_without_runs(later: Lanes, have: u8, limit: u8) -> Lanes
+pub fn before_without_runs(later: MarkedLanes, have: u8, limit: u8, bit: u8) -> MarkedLanes
     requires { limit ≤ 4 }
-    ensures { (counts caps : List ℕ) → LeastLanes false counts caps 0 0 later.lacks → LeastLanes false (have ∷ counts) (limit ∷ caps) 0 0 result.lacks }
+    ensures others { (other : ℕ) (counts caps : List ℕ) → bit_and bit other ≡ 0 → table.AreFew (seen 0 later) → AreLeast false counts caps 0 0 (seen other later) → AreLeast false (have ∷ counts) (limit ∷ caps) 0 0 (seen other result) }
+    ensures own { (counts caps : List ℕ) → 0 < bit → table.AreFew (seen 0 later) → Agree (seen bit later) (seen 0 later) → AreLeast false counts caps 0 0 (seen 0 later) → AreLeast false ((have + 1) ∷ counts) (limit ∷ caps) 0 0 (seen bit result) }
 {
-    let plain = later.lacking(cost(have, limit, 0));
-    let triplet = later.with_set().lacking(cost(have, limit, 3));
-    let pair = later.with_pair().lacking(cost(have, limit, 2));
+    let plain = later.lacking(cost(have, limit, 0), bit);
+    let triplet = later.with_set().lacking(cost(have, limit, 3), bit);
+    let pair = later.with_pair().lacking(cost(have, limit, 2), bit);
     plain.or(triplet).or(pair)
 }
 
 impl Begun {
     /// By how many tiles the runs that begin at the rank before, a triplet and a pair take there.
     #[inline(always)]
-    fn added(&self) -> Added
-        ensures { IsAdded self.now result }
+    pub fn added(&self) -> Added
+        ensures { (bit : ℕ) → table.IsAdded (begun_seen bit self.now) (added_seen bit result) }
     {
         let one = self.one.with_set();
         let two = self.two.with_set().with_set();
@@ -56,9 +60,9 @@ impl Begun {
 impl Open {
     /// After the last rank no run may be open.
     pub fn closed() -> Open
-        ensures { LeastOpen [] [] result }
+        ensures { (bit : ℕ) → table.LeastOpen [] [] (open_seen bit result) }
     {
-        let none = Lanes::none();
+        let none = MarkedLanes::none();
         let not_closed = Begun {
             zero: none,
             one: none,
@@ -66,7 +70,7 @@ impl Open {
         };
         Open {
             zero: Begun {
-                zero: Lanes::nothing(),
+                zero: MarkedLanes::nothing(),
                 one: none,
                 two: none,
             },
@@ -75,30 +79,31 @@ impl Open {
         }
     }
 
-    /// One rank more, of which the hand has so many tiles.
+    /// One rank more, of which the hand has so many tiles, and which is marked by the bit.
     #[inline(always)]
-    pub fn before(&self, have: u8, limit: u8) -> Open
+    pub fn before(&self, have: u8, limit: u8, bit: u8) -> Open
         requires { limit ≤ 4 }
-        ensures { (counts caps : List ℕ) → LeastOpen counts caps self.now → LeastOpen (have ∷ counts) (limit ∷ caps) result }
+        ensures others { (other : ℕ) (counts caps : List ℕ) → bit_and bit other ≡ 0 → table.FewOpen (open_seen 0 self.now) → table.LeastOpen counts caps (open_seen other self.now) → table.LeastOpen (have ∷ counts) (limit ∷ caps) (open_seen other result) }
+        ensures own { (counts caps : List ℕ) → 0 < bit → table.FewOpen (open_seen 0 self.now) → table.SameOpen (open_seen bit self.now) (open_seen 0 self.now) → table.LeastOpen counts caps (open_seen 0 self.now) → table.LeastOpen ((have + 1) ∷ counts) (limit ∷ caps) (open_seen bit result) }
     {
         let none_open = self.zero.added();
         let one_open = self.one.added();
         let two_open = self.two.added();
         Open {
             zero: Begun {
-                zero: none_open.lanes(0, have, limit),
-                one: one_open.lanes(1, have, limit),
-                two: two_open.lanes(2, have, limit),
+                zero: none_open.lanes(0, have, limit, bit),
+                one: one_open.lanes(1, have, limit, bit),
+                two: two_open.lanes(2, have, limit, bit),
             },
             one: Begun {
-                zero: none_open.lanes(1, have, limit),
-                one: one_open.lanes(2, have, limit),
-                two: two_open.lanes(3, have, limit),
+                zero: none_open.lanes(1, have, limit, bit),
+                one: one_open.lanes(2, have, limit, bit),
+                two: two_open.lanes(3, have, limit, bit),
             },
             two: Begun {
-                zero: none_open.lanes(2, have, limit),
-                one: one_open.lanes(3, have, limit),
-                two: two_open.lanes(4, have, limit),
+                zero: none_open.lanes(2, have, limit, bit),
+                one: one_open.lanes(3, have, limit, bit),
+                two: two_open.lanes(4, have, limit, bit),
             },
         }
     }

@@ -2,10 +2,11 @@
 ghost use Rattle.std.specs.Prelude.{◌↔◌, ◌<◌, IsTrue};
 ghost use Rattle.riichi_rows.specs.Marks.{has_rank};
 
-/// Ranks of a suit.
+/// Ranks of a suit: the first, and a bit for each later one.
 #[derive(Clone, Copy)]
 pub struct RankSet {
-    pub(crate) ranks: [bool; 9],
+    pub(crate) first: bool,
+    pub(crate) later: u8,
 }
 
 impl RankSet {
@@ -14,6 +15,10 @@ impl RankSet {
         requires { rank < 9 }
         ensures { IsTrue result ↔ IsTrue (has_rank self.now rank) }
     {
-        self.ranks[rank as usize]
+        if rank == 0 {
+            self.first
+        } else {
+            self.later & (1 << (rank - 1)) > 0
+        }
     }
 }

@@ -1,41 +1,90 @@
 //! A row in one pass over the nine ranks of a suit.
-ghost use Rattle.std.specs.Prelude.{ℕ, ◌+◌, ◌<◌, ◌≤◌, slice_index, slice_set, false, true};
-ghost use Rattle.riichi_rows.specs.Columns.{LeastLanes};
+ghost use Rattle.std.specs.Prelude.{ℕ, ◌≡◌, ◌+◌, ◌-◌, ◌^◌, ◌<◌, ◌≤◌, slice_index, false, true};
 ghost use Rattle.riichi_rows.specs.Marks.{IsMarkedRow};
+ghost use Rattle.riichi_rows.specs.Ranks.{AreRanks, AreRanksWithoutRuns, AreSuitLanes};
 
 use crate::lanes::Lanes;
+use crate::marked_lanes::MarkedLanes;
 use crate::open::{Open, before_without_runs};
 use crate::row::SuitRow;
 
-/// The least lacks of a suit that has runs.
-fn lanes_with_runs(counts: &[u8; 9], caps: &[u8; 9]) -> Lanes
-    requires { (r : ℕ) → r < 9 → slice_index caps.now r ≤ 4 }
-    ensures { LeastLanes true counts.now caps.now 0 0 result.lacks }
-{
-    // No run begins at the last two ranks: apart from the loop, their steps are a third as long.
-    let last = Open::closed().before(counts[8], caps[8]);
-    let mut later = last.before(counts[7], caps[7]);
-    for rank in (0..7).rev() {
-        later = later.before(counts[rank], caps[rank]);
-    }
-    later.zero.zero
+/// The lanes of a whole suit. The first rank has no mark: `first` are the least lacks with one more
+/// tile of it.
+#[derive(Clone, Copy)]
+pub(crate) struct SuitLanes {
+    pub(crate) all: MarkedLanes,
+    pub(crate) first: Lanes,
 }
 
-/// The least lacks of a suit that has none.
-fn lanes_without_runs(counts: &[u8; 9], caps: &[u8; 9]) -> Lanes
-    requires { (r : ℕ) → r < 9 → slice_index caps.now r ≤ 4 }
-    ensures { LeastLanes false counts.now caps.now 0 0 result.lacks }
+/// The bit of a rank in a mark.
+#[inline(always)]
+fn bit_of(rank: usize) -> u8
+    requires later { 0 < rank }
+    requires rank { rank < 9 }
+    ensures { result ≡ 2 ^ (rank - 1) }
 {
-    let mut later = Lanes::nothing();
-    for rank in (0..9).rev() {
-        later = before_without_runs(later, counts[rank], caps[rank]);
+    1 << (rank - 1)
+}
+
+/// One tile more, up to four.
+fn with_one(have: u8) -> u8
+    ensures few { have < 4 → result ≡ have + 1 }
+    ensures many { 4 ≤ have → result ≡ have }
+{
+    if have < 4 { have + 1 } else { have }
+}
+
+/// All ranks but the first, of a suit that has runs.
+fn later_ranks(counts: &[u8; 9], caps: &[u8; 9]) -> Open
+    requires { (r : ℕ) → r < 9 → slice_index caps.now r ≤ 4 }
+    ensures { AreRanks 1 counts.now caps.now result }
+{
+    // No run begins at the last two ranks: apart from the loop, their steps are a third as long.
+    let last = Open::closed().before(counts[8], caps[8], bit_of(8));
+    let mut later = last.before(counts[7], caps[7], bit_of(7));
+    for rank in (1..7).rev() {
+        later = later.before(counts[rank], caps[rank], bit_of(rank));
     }
     later
 }
 
-fn least_lanes(counts: &[u8; 9], caps: &[u8; 9], runs: bool) -> Lanes
+/// All ranks but the first, of a suit that has none.
+fn later_ranks_without_runs(counts: &[u8; 9], caps: &[u8; 9]) -> MarkedLanes
     requires { (r : ℕ) → r < 9 → slice_index caps.now r ≤ 4 }
-    ensures { LeastLanes runs counts.now caps.now 0 0 result.lacks }
+    ensures { AreRanksWithoutRuns 1 counts.now caps.now result }
+{
+    let mut later = MarkedLanes::nothing();
+    for rank in (1..9).rev() {
+        later = before_without_runs(later, counts[rank], caps[rank], bit_of(rank));
+    }
+    later
+}
+
+fn lanes_with_runs(counts: &[u8; 9], caps: &[u8; 9]) -> SuitLanes
+    requires { (r : ℕ) → r < 9 → slice_index caps.now r ≤ 4 }
+    ensures { AreSuitLanes true counts.now caps.now result }
+{
+    let added = later_ranks(counts, caps).zero.added();
+    SuitLanes {
+        all: added.lanes(0, counts[0], caps[0], 0),
+        first: added.lanes(0, with_one(counts[0]), caps[0], 0).lacks,
+    }
+}
+
+fn lanes_without_runs(counts: &[u8; 9], caps: &[u8; 9]) -> SuitLanes
+    requires { (r : ℕ) → r < 9 → slice_index caps.now r ≤ 4 }
+    ensures { AreSuitLanes false counts.now caps.now result }
+{
+    let later = later_ranks_without_runs(counts, caps);
+    SuitLanes {
+        all: before_without_runs(later, counts[0], caps[0], 0),
+        first: before_without_runs(later, with_one(counts[0]), caps[0], 0).lacks,
+    }
+}
+
+fn suit_lanes(counts: &[u8; 9], caps: &[u8; 9], runs: bool) -> SuitLanes
+    requires { (r : ℕ) → r < 9 → slice_index caps.now r ≤ 4 }
+    ensures { AreSuitLanes runs counts.now caps.now result }
 {
     if runs {
         lanes_with_runs(counts, caps)
@@ -44,40 +93,16 @@ fn least_lanes(counts: &[u8; 9], caps: &[u8; 9], runs: bool) -> Lanes
     }
 }
 
-/// The least lacks of a suit with one more tile of a rank, where it has fewer than four.
-fn lanes_with(counts: &[u8; 9], rank: usize, caps: &[u8; 9], runs: bool) -> Lanes
-    requires caps { (r : ℕ) → r < 9 → slice_index caps.now r ≤ 4 }
-    requires rank { rank < 9 }
-    ensures few { slice_index counts.now rank < 4 → LeastLanes runs (slice_set counts.now rank (slice_index counts.now rank + 1)) caps.now 0 0 result.lacks }
-    ensures many { 4 ≤ slice_index counts.now rank → LeastLanes runs counts.now caps.now 0 0 result.lacks }
-{
-    let have = counts[rank];
-    if have >= 4 {
-        return least_lanes(counts, caps, runs);
-    }
-    let mut more = *counts;
-    more[rank] = have + 1;
-    least_lanes(&more, caps, runs)
-}
-
 /// The row of a suit, of which a choice holds no kind oftener than its cap. Honours have no runs,
 /// and their last two counts and caps are 0.
 pub fn suit_row(counts: [u8; 9], caps: [u8; 9], runs: bool) -> SuitRow
     requires { (r : ℕ) → r < 9 → slice_index caps r ≤ 4 }
     ensures { IsMarkedRow runs counts caps result }
 {
+    let lanes = suit_lanes(&counts, &caps, runs);
     SuitRow {
-        entries: least_lanes(&counts, &caps, runs),
-        more: [
-            lanes_with(&counts, 0, &caps, runs),
-            lanes_with(&counts, 1, &caps, runs),
-            lanes_with(&counts, 2, &caps, runs),
-            lanes_with(&counts, 3, &caps, runs),
-            lanes_with(&counts, 4, &caps, runs),
-            lanes_with(&counts, 5, &caps, runs),
-            lanes_with(&counts, 6, &caps, runs),
-            lanes_with(&counts, 7, &caps, runs),
-            lanes_with(&counts, 8, &caps, runs),
-        ],
+        entries: lanes.all.lacks,
+        first: lanes.first,
+        marks: lanes.all.marks,
     }
 }

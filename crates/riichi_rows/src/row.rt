@@ -1,14 +1,20 @@
 //! The row of one suit.
-ghost use Rattle.std.specs.Prelude.{ℕ, ◌≡◌, ◌<◌, ◌≤◌, if◌then◌else◌};
-ghost use Rattle.riichi_rows.specs.Lanes.{lane};
+ghost use Rattle.std.specs.Prelude.{ℕ, ◌≡◌, ◌<◌, ◌≤◌, if◌then◌else◌, length};
+ghost use Rattle.riichi_rows.specs.Lanes.{lane, mark};
 
 use crate::lanes::{Lanes, NONE};
+use std::simd::prelude::*;
 
 /// For up to four sets, with and without a pair: the least number of tiles lacking.
 #[derive(Clone, Copy)]
 pub struct SuitRow {
     pub(crate) entries: Lanes,
-    pub(crate) more: [Lanes; 9],
+    /// The same with one more tile of the first rank.
+    pub(crate) first: Lanes,
+    /// A bit for each later rank that some choice with the least lack lacks.
+    pub(crate) marks: u8x16,
+    ghost sixteen: { length marks ≡ 16 },
+    ghost sound: { (s p : ℕ) → s < 5 → p < 2 → lane entries.lacks s p ≡ 0 → mark marks s p ≡ 0 },
     ghost small: { (s p : ℕ) → s < 5 → p < 2 → lane entries.lacks s p < 255 → lane entries.lacks s p ≤ 36 },
 }
 
