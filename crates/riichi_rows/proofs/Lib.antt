@@ -4,6 +4,7 @@ pub mod JoinOrders
 pub mod Joins
 pub mod Lacking
 pub mod LaneLemmas
+pub mod MarkLemmas
 pub mod Marked
 pub mod OneChanged
 pub mod OneMore

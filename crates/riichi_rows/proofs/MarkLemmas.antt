@@ -1,0 +1,204 @@
+-- What the operations on marked lanes give at one lane.
+use Rattle.std.proofs.Common.{◌≡◌, ℕ, zero, suc, ◌+◌, ◌-◌, ◌<◌, ◌≤◌, ◌/◌, min, Bool, true, false, cond, List, [], ◌∷◌, ◌++◌, map, length, get_or, replicate, leb, nat_lt, bit_and, bit_or, refl, sym, ap, ap₂, ◌∙◌, subst, ⊎_elim, arith}
+use Rattle.std.proofs.Common as width
+use Rattle.std.proofs.lemmas.Bool.{cases_order, le-leb, lt-leb}
+use Rattle.std.proofs.lemmas.Bool.Decides.{nat_tests}
+use Rattle.std.proofs.lemmas.Nat.{and_or_apart, and_or_self, or_comm, or_shr}
+use Rattle.std.proofs.lemmas.List.{get_or_append_left, get_or_at}
+use Rattle.std.proofs.lemmas.Simd.{get_or-zip2, get_or-replicate, length-replicate, tops_compared, length-sel_l, get_or-sel_l, length-zip2}
+use Rattle.std.specs.Prelude.{if◌then◌else◌, ◌&&◌}
+use lib.Arith.{bin_ind}
+use lib.Bits.{and_step, or_step, and_zero_r, or_zero_r}
+use lib.Lanes.{zip2, sel_l, top}
+use Rattle.riichi_rows.specs.Lanes.{lane, HasLanes, with_set, with_pair, capped, Agree, IsFew, mark, lack_with, lacks_with}
+
+abbrev pub Sound : List ℕ → List ℕ → Type 0
+Sound lacks marks = (s p : ℕ) → s < 5 → p < 2 → lane lacks s p ≡ 0 → mark marks s p ≡ 0
+
+-- ---- marks that move
+
+abbrev zeros : List ℕ
+zeros = 0 ∷ 0 ∷ 0 ∷ 0 ∷ 0 ∷ 0 ∷ 0 ∷ 0 ∷ 0 ∷ 0 ∷ 0 ∷ 0 ∷ 0 ∷ 0 ∷ 0 ∷ 0 ∷ []
+
+abbrev moved : List ℕ → List ℕ → List ℕ
+moved ms ks = map (λ k. get_or (ms ++ zeros) k 0) ks
+
+front : (ms ys : List ℕ) (k : ℕ) → length ms ≡ 16 → k < 16 → get_or (ms ++ ys) k 0 ≡ get_or ms k 0
+front ms ys k long h = get_or_append_left ms ys 0 k (omega arith)
+
+seam : (ms ys : List ℕ) → length ms ≡ 16 → get_or (ms ++ 0 ∷ ys) 16 0 ≡ 0
+seam ms ys long = get_or_at ms 0 ys 0 16 long
+
+abbrev set_order : List ℕ
+set_order = 16 ∷ 0 ∷ 1 ∷ 2 ∷ 3 ∷ 4 ∷ 5 ∷ 6 ∷ 16 ∷ 8 ∷ 9 ∷ 10 ∷ 11 ∷ 12 ∷ 13 ∷ 14 ∷ []
+
+abbrev pair_order : List ℕ
+pair_order = 16 ∷ 16 ∷ 16 ∷ 16 ∷ 16 ∷ 16 ∷ 16 ∷ 16 ∷ 0 ∷ 1 ∷ 2 ∷ 3 ∷ 4 ∷ 5 ∷ 6 ∷ 7 ∷ []
+
+no_set : (ms : List ℕ) → length ms ≡ 16 → (p : ℕ) → p < 2 → mark (moved ms set_order) zero p ≡ 0
+no_set ms long zero hp = seam ms _ long
+no_set ms long (suc zero) hp = seam ms _ long
+no_set ms long (suc (suc p)) hp = absurd (omega arith)
+
+set_more : (ms : List ℕ) → length ms ≡ 16 → (s p : ℕ) → suc s < 5 → p < 2 → mark (moved ms set_order) (suc s) p ≡ mark ms s p
+set_more ms long zero zero hs hp = front ms zeros 0 long (omega arith)
+set_more ms long zero (suc zero) hs hp = front ms zeros 8 long (omega arith)
+set_more ms long (suc zero) zero hs hp = front ms zeros 1 long (omega arith)
+set_more ms long (suc zero) (suc zero) hs hp = front ms zeros 9 long (omega arith)
+set_more ms long (suc (suc zero)) zero hs hp = front ms zeros 2 long (omega arith)
+set_more ms long (suc (suc zero)) (suc zero) hs hp = front ms zeros 10 long (omega arith)
+set_more ms long (suc (suc (suc zero))) zero hs hp = front ms zeros 3 long (omega arith)
+set_more ms long (suc (suc (suc zero))) (suc zero) hs hp = front ms zeros 11 long (omega arith)
+set_more ms long (suc (suc (suc (suc s)))) p hs hp = absurd (omega arith)
+set_more ms long s (suc (suc p)) hs hp = absurd (omega arith)
+
+no_pair : (ms : List ℕ) → length ms ≡ 16 → (s : ℕ) → s < 5 → mark (moved ms pair_order) s zero ≡ 0
+no_pair ms long zero hs = seam ms _ long
+no_pair ms long (suc zero) hs = seam ms _ long
+no_pair ms long (suc (suc zero)) hs = seam ms _ long
+no_pair ms long (suc (suc (suc zero))) hs = seam ms _ long
+no_pair ms long (suc (suc (suc (suc zero)))) hs = seam ms _ long
+no_pair ms long (suc (suc (suc (suc (suc s))))) hs = absurd (omega arith)
+
+pair_more : (ms : List ℕ) → length ms ≡ 16 → (s : ℕ) → s < 5 → mark (moved ms pair_order) s (suc zero) ≡ mark ms s zero
+pair_more ms long zero hs = front ms zeros 0 long (omega arith)
+pair_more ms long (suc zero) hs = front ms zeros 1 long (omega arith)
+pair_more ms long (suc (suc zero)) hs = front ms zeros 2 long (omega arith)
+pair_more ms long (suc (suc (suc zero))) hs = front ms zeros 3 long (omega arith)
+pair_more ms long (suc (suc (suc (suc zero)))) hs = front ms zeros 4 long (omega arith)
+pair_more ms long (suc (suc (suc (suc (suc s))))) hs = absurd (omega arith)
+
+module _ (lacks result ms : List ℕ) (long : length ms ≡ 16) where
+  module _ (has : HasLanes result (with_set (lane lacks))) where
+    pub set_marked : (bit : ℕ) → Agree (lacks_with bit result (moved ms set_order)) (with_set (lacks_with bit lacks ms))
+    set_marked bit zero p hs hp = ap₂ (lack_with bit) (has zero p hs hp) (no_set ms long p hp)
+    set_marked bit (suc s) p hs hp = ap₂ (lack_with bit) (has (suc s) p hs hp) (set_more ms long s p hs hp)
+
+    pub set_sound : Sound lacks ms → Sound result (moved ms set_order)
+    set_sound sound zero p hs hp none = no_set ms long p hp
+    set_sound sound (suc s) p hs hp none = set_more ms long s p hs hp ∙ sound s p (omega arith) hp (sym (has (suc s) p hs hp) ∙ none)
+
+  module _ (has : HasLanes result (with_pair (lane lacks))) where
+    pub pair_marked : (bit : ℕ) → Agree (lacks_with bit result (moved ms pair_order)) (with_pair (lacks_with bit lacks ms))
+    pair_marked bit s zero hs hp = ap₂ (lack_with bit) (has s zero hs hp) (no_pair ms long s hs)
+    pair_marked bit s (suc zero) hs hp = ap₂ (lack_with bit) (has s (suc zero) hs hp) (pair_more ms long s hs)
+    pair_marked bit s (suc (suc p)) hs hp = absurd (omega arith)
+
+    pub pair_sound : Sound lacks ms → Sound result (moved ms pair_order)
+    pair_sound sound s zero hs hp none = no_pair ms long s hs
+    pair_sound sound s (suc zero) hs hp none = pair_more ms long s hs ∙ sound s zero hs (omega arith) (sym (has s (suc zero) hs hp) ∙ none)
+    pair_sound sound s (suc (suc p)) hs hp none = absurd (omega arith)
+
+-- ---- bits of two marks together
+
+or_keeps : (n a m : ℕ) → bit_and a n ≤ bit_and (bit_or a m) n
+or_keeps =
+    bin_ind (λ (n : ℕ). (a m : ℕ) → bit_and a n ≤ bit_and (bit_or a m) n) (λ a m. omega (arith, and_zero_r (bit_or a m), and_zero_r a))
+    (λ n ih a m. let halves : bit_and (bit_or a m / 2) (n / 2) ≡ bit_and (bit_or (a / 2) (m / 2)) (n / 2) = ap (λ x. bit_and x (n / 2)) (or_shr a m 1) in
+    omega (arith, halves, ih (a / 2) (m / 2), and_step (bit_or a m) n, and_step a n, or_step a m))
+
+or_keeps_too : (n a m : ℕ) → bit_and m n ≤ bit_and (bit_or a m) n
+or_keeps_too n a m =
+    let turned : bit_and (bit_or a m) n ≡ bit_and (bit_or m a) n = ap (λ x. bit_and x n) (or_comm a m) in
+    omega (arith, turned, or_keeps n m a)
+
+-- a lack where k of the bits asked for are marked
+abbrev seen : ℕ → ℕ → ℕ
+seen lack k = if nat_lt lack 255 && nat_lt 0 k then lack - 1 else lack
+
+-- ---- the better of two lacks
+
+first_less : (a b j k : ℕ) → a < b → seen (min a b) j ≡ min (seen a j) (seen b k)
+first_less a b j k h = grind (arith, nat_tests)
+
+second_less : (a b j k : ℕ) → b < a → seen (min a b) k ≡ min (seen a j) (seen b k)
+second_less a b j k h = grind (arith, nat_tests)
+
+both_same : (a j k n : ℕ) → (j ≡ 0 → n ≡ k) → j ≤ n → k ≤ n → seen (min a a) n ≡ min (seen a j) (seen a k)
+both_same a j k n h = grind (arith, nat_tests)
+
+abbrev chosen : ℕ → ℕ → ℕ → ℕ → ℕ
+chosen a b x y = bit_or (cond (leb a b) x 0) (cond (leb b a) y 0)
+
+chosen_first : (a b x y : ℕ) → a < b → chosen a b x y ≡ x
+chosen_first a b x y h = ap₂ (λ (s t : Bool). bit_or (cond s x 0) (cond t y 0)) (le-leb a b (omega arith)) (lt-leb b a h) ∙ or_zero_r x
+
+chosen_second : (a b x y : ℕ) → b < a → chosen a b x y ≡ y
+chosen_second a b x y h = ap₂ (λ (s t : Bool). bit_or (cond s x 0) (cond t y 0)) (lt-leb a b h) (le-leb b a (omega arith))
+
+chosen_both : (a x y : ℕ) → chosen a a x y ≡ bit_or x y
+chosen_both a x y = ap₂ (λ (s t : Bool). bit_or (cond s x 0) (cond t y 0)) (le-leb a a (omega arith)) (le-leb a a (omega arith))
+
+module _ (bit x y : ℕ) where
+  either_alone : bit_and x bit ≡ 0 → bit_and (bit_or x y) bit ≡ bit_and y bit
+  either_alone none = ap (λ m. bit_and m bit) (or_comm x y) ∙ and_or_apart bit y x none
+
+  abbrev IsBetter : ℕ → ℕ → Type 0
+  IsBetter a b = lack_with bit (min a b) (chosen a b x y) ≡ min (lack_with bit a x) (lack_with bit b y)
+
+  better_first : (a b : ℕ) → a < b → IsBetter a b
+  better_first a b h = ap (lack_with bit (min a b)) (chosen_first a b x y h) ∙ first_less a b (bit_and x bit) (bit_and y bit) h
+
+  better_second : (a b : ℕ) → b < a → IsBetter a b
+  better_second a b h = ap (lack_with bit (min a b)) (chosen_second a b x y h) ∙ second_less a b (bit_and x bit) (bit_and y bit) h
+
+  better_both : (a : ℕ) → IsBetter a a
+  better_both a =
+      ap (lack_with bit (min a a)) (chosen_both a x y)
+      ∙ both_same a (bit_and x bit) (bit_and y bit) (bit_and (bit_or x y) bit) either_alone (or_keeps bit x y) (or_keeps_too bit x y)
+
+  better : (a b : ℕ) → IsBetter a b
+  better a b =
+      ⊎_elim (λ same. subst (λ (n : ℕ). IsBetter a n) same (better_both a))
+      (λ apart. ⊎_elim (better_first a b) (better_second a b) apart) (cases_order a b)
+
+chosen_none : (a b x y : ℕ) → (a ≡ 0 → x ≡ 0) → (b ≡ 0 → y ≡ 0) → min a b ≡ 0 → chosen a b x y ≡ 0
+chosen_none a b x y first second none =
+    ⊎_elim (λ same. subst (λ (n : ℕ). chosen a n x y ≡ 0) same (chosen_both a x y ∙ ap₂ bit_or (first (omega arith)) (second (omega arith))))
+    (λ apart. ⊎_elim (λ less. chosen_first a b x y less ∙ first (omega arith)) (λ less. chosen_second a b x y less ∙ second (omega arith)) apart) (cases_order a b)
+
+abbrev kept : List ℕ → List ℕ → List ℕ → List ℕ
+kept xs ys ms = sel_l (map (top 7) (zip2 (λ a b. cond (leb a b) 255 0) xs ys)) ms zeros
+
+kept_is : (xs ys ms : List ℕ) → kept xs ys ms ≡ sel_l (zip2 leb xs ys) ms zeros
+kept_is xs ys ms = ap (λ ts. sel_l ts ms zeros) (tops_compared width.w8 leb xs ys)
+
+abbrev both_kept : List ℕ → List ℕ → List ℕ → List ℕ → List ℕ
+both_kept xs ys ms ns = zip2 bit_or (kept xs ys ms) (kept ys xs ns)
+
+module _ (xs ys ms : List ℕ) (lx : length xs ≡ 16) (ly : length ys ≡ 16) (lm : length ms ≡ 16) where
+  tests : length (zip2 leb xs ys) ≡ 16
+  tests = length-zip2 leb xs ys (omega arith) ∙ lx
+
+  length_kept : length (kept xs ys ms) ≡ 16
+  length_kept = ap length (kept_is xs ys ms) ∙ length-sel_l (zip2 leb xs ys) ms zeros (tests ∙ sym lm) tests ∙ tests
+
+  kept_at : (k : ℕ) → k < 16 → get_or (kept xs ys ms) k 0 ≡ cond (leb (get_or xs k 255) (get_or ys k 255)) (get_or ms k 0) 0
+  kept_at k h =
+      let picked = get_or-sel_l (zip2 leb xs ys) ms zeros k 0 (omega (arith, tests, h)) (omega arith) h in
+      let test = get_or-zip2 leb xs ys k 255 255 false (omega arith) (omega arith) in
+      ap (λ ts. get_or ts k 0) (kept_is xs ys ms) ∙ picked ∙ ap₂ (λ (t : Bool) (m : ℕ). cond t (get_or ms k 0) m) test (get_or-replicate 16 k 0 0 h)
+
+module _ (xs ys ms ns : List ℕ) (lx : length xs ≡ 16) (ly : length ys ≡ 16) (lm : length ms ≡ 16) (ln : length ns ≡ 16) where
+  pub length_both_kept : length (both_kept xs ys ms ns) ≡ 16
+  length_both_kept = length-zip2 bit_or (kept xs ys ms) (kept ys xs ns) (length_kept xs ys ms lx ly lm ∙ sym (length_kept ys xs ns ly lx ln)) ∙ length_kept xs ys ms lx ly lm
+
+  both_at : (k : ℕ) → k < 16 → get_or (both_kept xs ys ms ns) k 0 ≡ chosen (get_or xs k 255) (get_or ys k 255) (get_or ms k 0) (get_or ns k 0)
+  both_at k h =
+      let first = length_kept xs ys ms lx ly lm in
+      let second = length_kept ys xs ns ly lx ln in
+      get_or-zip2 bit_or (kept xs ys ms) (kept ys xs ns) k 0 0 0 (omega (arith, first, h)) (omega (arith, second, h))
+      ∙ ap₂ bit_or (kept_at xs ys ms lx ly lm k h) (kept_at ys xs ns ly lx ln k h)
+
+  both_lane : (s p : ℕ) → s < 5 → p < 2 → mark (both_kept xs ys ms ns) s p ≡ chosen (lane xs s p) (lane ys s p) (mark ms s p) (mark ns s p)
+  both_lane s zero hs hp = both_at s (omega arith)
+  both_lane s (suc zero) hs hp = both_at (8 + s) (omega arith)
+  both_lane s (suc (suc p)) hs hp = absurd (omega arith)
+
+  module _ (result : List ℕ) (has : HasLanes result (λ s p. min (lane xs s p) (lane ys s p))) where
+    pub or_marked : (bit : ℕ) → Agree (lacks_with bit result (both_kept xs ys ms ns)) (λ s p. min (lacks_with bit xs ms s p) (lacks_with bit ys ns s p))
+    or_marked bit s p hs hp = ap₂ (lack_with bit) (has s p hs hp) (both_lane s p hs hp) ∙ better bit (mark ms s p) (mark ns s p) (lane xs s p) (lane ys s p)
+
+    pub or_sound : Sound xs ms → Sound ys ns → Sound result (both_kept xs ys ms ns)
+    or_sound first second s p hs hp none =
+        both_lane s p hs hp ∙ chosen_none (lane xs s p) (lane ys s p) (mark ms s p) (mark ns s p) (first s p hs hp) (second s p hs hp) (sym (has s p hs hp) ∙ none)
