@@ -6,6 +6,7 @@ pub mod Lacking
 pub mod LaneLemmas
 pub mod MarkLemmas
 pub mod Marked
+pub mod MarkedRanks
 pub mod OneChanged
 pub mod OneMore
 pub mod RankLanes

@@ -1,0 +1,222 @@
+-- One rank in front of the later ones, for the counts as they are and with one more tile of each rank.
+use Rattle.std.proofs.Common.{◌≡◌, ℕ, zero, suc, ◌+◌, ◌*◌, ◌-◌, ◌^◌, ◌<◌, ◌≤◌, Bool, true, false, List, [], ◌∷◌, drop, get_or, length, refl, sym, subst, ap, ◌∙◌, ⊎_elim, inl, inr, arith}
+use Rattle.std.specs.Prelude.{◌⊎◌, ◌≢◌, bit_and, slice_index, slice_set}
+use Rattle.std.specs.Int.Bits.{and_zero_r}
+use Rattle.std.proofs.Math.Seq.{drop-cons}
+use Rattle.std.proofs.lemmas.Bool.{cases_lt}
+use Rattle.std.proofs.lemmas.Bool.Decides.{nat_tests}
+use Rattle.std.proofs.lemmas.List.{drop_all, drop-set, drop-set-lt, get_or-drop, get_or-set_other, length-set}
+use Rattle.std.proofs.lemmas.Nat.{pow_apart}
+use Rattle.riichi_rows.specs.Columns.{AreLeast, Column, Fits, held, lack_from, LeastFrom}
+use Rattle.riichi_rows.specs.Lanes.{Agree, IsFew, lack_with, lane, mark, nothing}
+use Rattle.riichi_rows.specs.Open.{AreFew, Begun, FewBegun, FewOpen, LeastBegun, LeastOpen, SameBegun, SameOpen}
+use Rattle.riichi_rows.specs.Open as table
+use Rattle.riichi_rows.specs.Ranks.{AreRanks, AreRanksWithoutRuns, one_more}
+use Rattle.riichi_rows.specs.Seen.{begun_seen, open_seen, seen}
+use Rattle.riichi_rows.specs.declared.marked_lanes.MarkedLanes.{MarkedLanes}
+use Rattle.riichi_rows.specs.declared.open.Begun as code
+use Rattle.riichi_rows.specs.declared.open.Open as open_code
+use Rattle.riichi_rows.proofs.Steps.{nothing_least}
+
+-- ---- what is reached is little
+
+abbrev pub AreCaps : List ℕ → Type 0
+AreCaps caps = (r : ℕ) → r < length caps → get_or caps r 0 ≤ 4
+
+lack_little : (runs : Bool) (counts caps : List ℕ) (a b : ℕ) (xs : List Column) → AreCaps caps → Fits runs caps a b xs → lack_from counts a b xs ≤ 4 * length caps
+lack_little runs counts caps a b [] few fits = omega arith
+lack_little runs [] caps a b (x ∷ xs) few fits = omega arith
+lack_little runs (have ∷ counts) [] a b (x ∷ xs) few fits = absurd fits
+lack_little runs (have ∷ counts) (cap ∷ caps) a b (x ∷ xs) few fits =
+    let rest = lack_little runs counts caps x.runs a xs (λ r low. few (suc r) (omega (arith, low))) fits.2 in
+    let here = few 0 (omega arith) in
+    let in_cap = fits.0 in
+    omega (arith, rest, here, in_cap)
+
+module _ (runs : Bool) (counts caps : List ℕ) (few : AreCaps caps) (short : length caps ≤ 9) where
+  from_few : (a b s p v : ℕ) → LeastFrom runs counts caps a b s p v → IsFew v
+  from_few a b s p v least low =
+      let found = least.reached low in
+      let little = lack_little runs counts caps a b found.columns few found.fits in
+      let is = found.lacks in
+      omega (arith, little, is, short)
+
+  pub are_few : (a b : ℕ) (f : ℕ → ℕ → ℕ) → AreLeast runs counts caps a b f → AreFew f
+  are_few a b f least s p hs hp = from_few a b s p (f s p) (least.at s p hs hp)
+
+few_begun : (counts caps : List ℕ) → AreCaps caps → length caps ≤ 9 → (a : ℕ) (x : Begun) → LeastBegun counts caps a x → FewBegun x
+few_begun counts caps few short a x least = record {
+  zero = are_few true counts caps few short 0 a x.zero least.zero_begun;
+  one = are_few true counts caps few short 1 a x.one least.one_begun;
+  two = are_few true counts caps few short 2 a x.two least.two_begun;
+}
+
+pub few_open : (counts caps : List ℕ) → AreCaps caps → length caps ≤ 9 → (x : table.Open) → LeastOpen counts caps x → FewOpen x
+few_open counts caps few short x least = record {
+  zero = few_begun counts caps few short 0 x.zero least.zero_open;
+  one = few_begun counts caps few short 1 x.one least.one_open;
+  two = few_begun counts caps few short 2 x.two least.two_open;
+}
+
+-- ---- a bit that marks no rank yet changes nothing
+
+lack_without : (lack mark : ℕ) → lack_with 0 lack mark ≡ lack
+lack_without lack mark = grind (arith, nat_tests)
+
+lack_or_less : (bit lack mark : ℕ) → lack_with bit lack mark ≤ lack
+lack_or_less bit lack mark = grind (arith, nat_tests)
+
+none_as_it_is : (bit lack mark : ℕ) → 255 ≤ lack → lack_with bit lack mark ≡ lack
+none_as_it_is bit lack mark large = grind (arith, nat_tests)
+
+same_value : (runs : Bool) (counts caps : List ℕ) (a b s p bit lack mark : ℕ) → LeastFrom runs counts caps a b s p (lack_with bit lack mark) → LeastFrom runs counts caps a b s p (lack_with 0 lack mark) →
+    lack_with bit lack mark ≡ lack_with 0 lack mark
+same_value runs counts caps a b s p bit lack mark one plain = ⊎_elim (λ low. below low) (λ high. none_as_it_is bit lack mark high ∙ sym (lack_without lack mark)) (cases_lt lack 255)
+  where
+    below : lack < 255 → lack_with bit lack mark ≡ lack_with 0 lack mark
+    below low =
+        let is = lack_without lack mark in
+        let less = lack_or_less bit lack mark in
+        let found = one.reached (omega (arith, less, low)) in
+        let bound = plain.least found.columns found.fits found.has_sets found.has_pairs in
+        let reached = found.lacks in
+        omega (arith, is, less, bound, reached)
+
+pub same_seen : (runs : Bool) (counts caps : List ℕ) (a b bit : ℕ) (x : MarkedLanes) → AreLeast runs counts caps a b (seen bit x) → AreLeast runs counts caps a b (seen 0 x) → Agree (seen bit x) (seen 0 x)
+same_seen runs counts caps a b bit x one plain s p hs hp = same_value runs counts caps a b s p bit (lane x.lacks.lacks s p) (mark x.marks s p) (one.at s p hs hp) (plain.at s p hs hp)
+
+same_begun : (counts caps : List ℕ) (a bit : ℕ) (x : code.Begun) → LeastBegun counts caps a (begun_seen bit x) → LeastBegun counts caps a (begun_seen 0 x) → SameBegun (begun_seen bit x) (begun_seen 0 x)
+same_begun counts caps a bit x one plain = record {
+  zero = same_seen true counts caps 0 a bit x.zero one.zero_begun plain.zero_begun;
+  one = same_seen true counts caps 1 a bit x.one one.one_begun plain.one_begun;
+  two = same_seen true counts caps 2 a bit x.two one.two_begun plain.two_begun;
+}
+
+pub same_open : (counts caps : List ℕ) (bit : ℕ) (x : open_code.Open) → LeastOpen counts caps (open_seen bit x) → LeastOpen counts caps (open_seen 0 x) → SameOpen (open_seen bit x) (open_seen 0 x)
+same_open counts caps bit x one plain = record {
+  zero = same_begun counts caps 0 bit x.zero one.zero_open plain.zero_open;
+  one = same_begun counts caps 1 bit x.one one.one_open plain.one_open;
+  two = same_begun counts caps 2 bit x.two one.two_open plain.two_open;
+}
+
+-- ---- one rank more
+
+pub in_front : (xs : List ℕ) (k : ℕ) → k < length xs → drop k xs ≡ get_or xs k 0 ∷ drop (k + 1) xs
+in_front xs k inside = drop-cons xs k 0 inside ∙ ap (λ (n : ℕ). get_or xs k 0 ∷ drop n xs) (omega arith)
+
+pub caps_from : (caps : List ℕ) (k : ℕ) → ((r : ℕ) → r < 9 → slice_index caps r ≤ 4) → length caps ≡ 9 → AreCaps (drop k caps)
+caps_from caps k few long r low = (let e = get_or-drop k caps r 0 in omega (arith, e, few (k + r) (inside low)))
+  where
+    inside : r < length (drop k caps) → k + r < 9
+    inside low = omega (arith, low, long)
+
+same_or_not : (a b : ℕ) → (a ≡ b) ⊎ (a ≢ b)
+same_or_not a b = ⊎_elim (λ low. inr (λ e. omega (arith, e, low))) (λ high. ⊎_elim (λ low. inr (λ e. omega (arith, e, low))) (λ other. inl (omega arith)) (cases_lt b a)) (cases_lt a b)
+
+and_zero : (n : ℕ) → bit_and n 0 ≡ 0
+and_zero n = and_zero_r n
+
+-- L are the tables from the rank after k on, N those from k on, by the bit of one more tile
+module _ (counts caps : List ℕ) (long : length counts ≡ 9) (caps_long : length caps ≡ 9) (k : ℕ) (some : 0 < k) (inside : k < 9) (bit : ℕ) (is_bit : bit ≡ 2 ^ (k - 1)) (L N : List ℕ → List ℕ → ℕ → Type 0)
+    (others : (other : ℕ) (cs ks : List ℕ) → bit_and bit other ≡ 0 → L cs ks other → N (get_or counts k 0 ∷ cs) (get_or caps k 0 ∷ ks) other)
+    (own : (cs ks : List ℕ) → L cs ks bit → L cs ks 0 → N ((get_or counts k 0 + 1) ∷ cs) (get_or caps k 0 ∷ ks) bit)
+    (plain : L (drop (k + 1) counts) (drop (k + 1) caps) 0)
+    (marks : (r : ℕ) → r < 8 → L (drop (k + 1) (one_more counts (suc r))) (drop (k + 1) caps) (2 ^ r)) where
+  caps_here : drop k caps ≡ get_or caps k 0 ∷ drop (k + 1) caps
+  caps_here = in_front caps k (omega (arith, caps_long, inside))
+
+  at_rank : (cs : List ℕ) (other : ℕ) → drop k cs ≡ get_or counts k 0 ∷ drop (k + 1) cs → bit_and bit other ≡ 0 → L (drop (k + 1) cs) (drop (k + 1) caps) other → N (drop k cs) (drop k caps) other
+  at_rank cs other is apart least = subst (λ (ys : List ℕ). N ys (drop k caps) other) (sym is) (subst (λ (zs : List ℕ). N (get_or counts k 0 ∷ drop (k + 1) cs) zs other) (sym caps_here) (others other _ _ apart least))
+
+  pub plain_next : N (drop k counts) (drop k caps) 0
+  plain_next = at_rank counts 0 (in_front counts k (omega (arith, long, inside))) (and_zero bit) plain
+
+  own_next : (r : ℕ) → r < 8 → suc r ≡ k → N (drop k (one_more counts (suc r))) (drop k caps) (2 ^ r)
+  own_next r low same =
+      let more : ℕ = get_or counts k 0 + 1 in
+      let at_bit : bit ≡ 2 ^ r = is_bit ∙ ap (λ (n : ℕ). 2 ^ n) (omega (arith, same)) in
+      let later : drop (k + 1) (one_more counts (suc r)) ≡ drop (k + 1) counts = drop-set-lt (k + 1) counts (suc r) (slice_index counts (suc r) + 1) (omega (arith, same)) in
+      let here : drop k (one_more counts (suc r)) ≡ more ∷ drop (k + 1) counts =
+          subst (λ (n : ℕ). drop n (one_more counts (suc r)) ≡ (get_or counts n 0 + 1) ∷ drop (n + 1) counts) same (drop-set counts (suc r) (slice_index counts (suc r) + 1) (omega (arith, long, low))) in
+      let marked : L (drop (k + 1) counts) (drop (k + 1) caps) bit = subst (λ (n : ℕ). L (drop (k + 1) counts) (drop (k + 1) caps) n) (sym at_bit) (subst (λ (ys : List ℕ). L ys (drop (k + 1) caps) (2 ^ r)) later (marks r low)) in
+      let least : N (more ∷ drop (k + 1) counts) (get_or caps k 0 ∷ drop (k + 1) caps) bit = own _ _ marked plain in
+      subst (λ (n : ℕ). N (drop k (one_more counts (suc r))) (drop k caps) n) at_bit
+      (subst (λ (ys : List ℕ). N ys (drop k caps) bit) (sym here) (subst (λ (zs : List ℕ). N (more ∷ drop (k + 1) counts) zs bit) (sym caps_here) least))
+
+  other_next : (r : ℕ) → r < 8 → suc r ≢ k → N (drop k (one_more counts (suc r))) (drop k caps) (2 ^ r)
+  other_next r low differ =
+      let cs : List ℕ = one_more counts (suc r) in
+      let long_too : length cs ≡ 9 = length-set counts (suc r) (slice_index counts (suc r) + 1) ∙ long in
+      let held : get_or cs k 0 ≡ get_or counts k 0 = get_or-set_other counts (suc r) k (slice_index counts (suc r) + 1) 0 (λ e. differ (sym e)) in
+      let here : drop k cs ≡ get_or counts k 0 ∷ drop (k + 1) cs = in_front cs k (omega (arith, long_too, inside)) ∙ ap (λ (n : ℕ). n ∷ drop (k + 1) cs) held in
+      let apart : bit_and bit (2 ^ r) ≡ 0 = ap (λ (n : ℕ). bit_and n (2 ^ r)) is_bit ∙ pow_apart (k - 1) r (λ e. differ (omega (arith, e, some))) in
+      at_rank cs (2 ^ r) here apart (marks r low)
+
+  pub marks_next : (r : ℕ) → r < 8 → N (drop k (one_more counts (suc r))) (drop k caps) (2 ^ r)
+  marks_next r low = ⊎_elim (λ same. own_next r low same) (λ differ. other_next r low differ) (same_or_not (suc r) k)
+
+-- ---- for the tables of the code
+
+power_some : (n : ℕ) → 0 < 2 ^ n
+power_some zero = omega arith
+power_some (suc n) = omega (arith, power_some n)
+
+module _ (counts caps : List ℕ) (long : length counts ≡ 9) (caps_long : length caps ≡ 9) (few : (r : ℕ) → r < 9 → slice_index caps r ≤ 4) (k : ℕ) (some : 0 < k) (inside : k < 9) (bit : ℕ) (is_bit : bit ≡ 2 ^ (k - 1)) where
+  has_bit : 0 < bit
+  has_bit = (let p = power_some (k - 1) in omega (arith, p, is_bit))
+
+  short : length (drop (k + 1) caps) ≤ 9
+  short = omega (arith, caps_long)
+
+  pub next_open : (later next : open_code.Open) →
+      ((other : ℕ) (cs ks : List ℕ) → bit_and bit other ≡ 0 → FewOpen (open_seen 0 later) → LeastOpen cs ks (open_seen other later) → LeastOpen (get_or counts k 0 ∷ cs) (get_or caps k 0 ∷ ks) (open_seen other next)) →
+      ((cs ks : List ℕ) → 0 < bit → FewOpen (open_seen 0 later) → SameOpen (open_seen bit later) (open_seen 0 later) → LeastOpen cs ks (open_seen 0 later) → LeastOpen ((get_or counts k 0 + 1) ∷ cs) (get_or caps k 0 ∷ ks) (open_seen bit next)) →
+      AreRanks (k + 1) counts caps later → AreRanks k counts caps next
+  next_open later next others own are =
+      let little = few_open _ _ (caps_from caps (k + 1) few caps_long) short (open_seen 0 later) are.plain in
+      let L : List ℕ → List ℕ → ℕ → Type 0 = λ cs ks b. LeastOpen cs ks (open_seen b later) in
+      let N : List ℕ → List ℕ → ℕ → Type 0 = λ cs ks b. LeastOpen cs ks (open_seen b next) in
+      let at_others : (other : ℕ) (cs ks : List ℕ) → bit_and bit other ≡ 0 → L cs ks other → N (get_or counts k 0 ∷ cs) (get_or caps k 0 ∷ ks) other = λ other cs ks apart least. others other cs ks apart little least in
+      let at_own : (cs ks : List ℕ) → L cs ks bit → L cs ks 0 → N ((get_or counts k 0 + 1) ∷ cs) (get_or caps k 0 ∷ ks) bit = λ cs ks marked plain. own cs ks has_bit little (same_open cs ks bit later marked plain) plain in
+      record {
+        plain = plain_next counts caps long caps_long k some inside bit is_bit L N at_others at_own are.plain are.marks;
+        marks = marks_next counts caps long caps_long k some inside bit is_bit L N at_others at_own are.plain are.marks;
+      }
+
+  pub next_alone : (later next : MarkedLanes) →
+      ((other : ℕ) (cs ks : List ℕ) → bit_and bit other ≡ 0 → AreFew (seen 0 later) → AreLeast false cs ks 0 0 (seen other later) → AreLeast false (get_or counts k 0 ∷ cs) (get_or caps k 0 ∷ ks) 0 0 (seen other next)) →
+      ((cs ks : List ℕ) → 0 < bit → AreFew (seen 0 later) → Agree (seen bit later) (seen 0 later) → AreLeast false cs ks 0 0 (seen 0 later) → AreLeast false ((get_or counts k 0 + 1) ∷ cs) (get_or caps k 0 ∷ ks) 0 0 (seen bit next)) →
+      AreRanksWithoutRuns (k + 1) counts caps later → AreRanksWithoutRuns k counts caps next
+  next_alone later next others own are =
+      let little = are_few false _ _ (caps_from caps (k + 1) few caps_long) short 0 0 (seen 0 later) are.plain in
+      let L : List ℕ → List ℕ → ℕ → Type 0 = λ cs ks b. AreLeast false cs ks 0 0 (seen b later) in
+      let N : List ℕ → List ℕ → ℕ → Type 0 = λ cs ks b. AreLeast false cs ks 0 0 (seen b next) in
+      let at_others : (other : ℕ) (cs ks : List ℕ) → bit_and bit other ≡ 0 → L cs ks other → N (get_or counts k 0 ∷ cs) (get_or caps k 0 ∷ ks) other = λ other cs ks apart least. others other cs ks apart little least in
+      let at_own : (cs ks : List ℕ) → L cs ks bit → L cs ks 0 → N ((get_or counts k 0 + 1) ∷ cs) (get_or caps k 0 ∷ ks) bit = λ cs ks marked plain. own cs ks has_bit little (same_seen false cs ks 0 0 bit later marked plain) plain in
+      record {
+        plain = plain_next counts caps long caps_long k some inside bit is_bit L N at_others at_own are.plain are.marks;
+        marks = marks_next counts caps long caps_long k some inside bit is_bit L N at_others at_own are.plain are.marks;
+      }
+
+-- after the last rank
+module _ (counts caps : List ℕ) (long : length counts ≡ 9) (caps_long : length caps ≡ 9) where
+  no_counts : drop 9 counts ≡ []
+  no_counts = drop_all 9 counts (omega (arith, long))
+
+  no_caps : drop 9 caps ≡ []
+  no_caps = drop_all 9 caps (omega (arith, caps_long))
+
+  no_more : (r : ℕ) → drop 9 (one_more counts r) ≡ []
+  no_more r = (let e = length-set counts r (slice_index counts r + 1) in drop_all 9 (one_more counts r) (omega (arith, long, e)))
+
+  pub nothing_left : (x : open_code.Open) → ((bit : ℕ) → LeastOpen [] [] (open_seen bit x)) → AreRanks 9 counts caps x
+  nothing_left x least = record {
+    plain = subst (λ (ys : List ℕ). LeastOpen ys (drop 9 caps) (open_seen 0 x)) (sym no_counts) (subst (λ (zs : List ℕ). LeastOpen [] zs (open_seen 0 x)) (sym no_caps) (least 0));
+    marks = λ r low. subst (λ (ys : List ℕ). LeastOpen ys (drop 9 caps) (open_seen (2 ^ r) x)) (sym (no_more (suc r))) (subst (λ (zs : List ℕ). LeastOpen [] zs (open_seen (2 ^ r) x)) (sym no_caps) (least (2 ^ r)));
+  }
+
+  pub nothing_alone : (x : MarkedLanes) → ((bit : ℕ) → Agree (seen bit x) nothing) → AreRanksWithoutRuns 9 counts caps x
+  nothing_alone x least = record {
+    plain = subst (λ (ys : List ℕ). AreLeast false ys (drop 9 caps) 0 0 (seen 0 x)) (sym no_counts) (subst (λ (zs : List ℕ). AreLeast false [] zs 0 0 (seen 0 x)) (sym no_caps) (nothing_least false (seen 0 x) (least 0)));
+    marks = λ r low. subst (λ (ys : List ℕ). AreLeast false ys (drop 9 caps) 0 0 (seen (2 ^ r) x)) (sym (no_more (suc r))) (subst (λ (zs : List ℕ). AreLeast false [] zs 0 0 (seen (2 ^ r) x)) (sym no_caps) (nothing_least false (seen (2 ^ r) x) (least (2 ^ r))));
+  }
