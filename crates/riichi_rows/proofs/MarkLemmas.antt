@@ -1,5 +1,5 @@
 -- What the operations on marked lanes give at one lane.
-use Rattle.std.proofs.Common.{◌≡◌, ℕ, zero, suc, ◌+◌, ◌-◌, ◌<◌, ◌≤◌, ◌/◌, min, Bool, true, false, cond, List, [], ◌∷◌, ◌++◌, map, length, get_or, replicate, leb, nat_lt, bit_and, bit_or, refl, sym, ap, ap₂, ◌∙◌, subst, ⊎_elim, eq-zero-or-pos, arith}
+use Rattle.std.proofs.Common.{◌≡◌, ℕ, zero, suc, ◌+◌, ◌-◌, ◌<◌, ◌≤◌, ◌/◌, min, Bool, false, cond, List, [], ◌∷◌, ◌++◌, map, length, get_or, replicate, leb, nat_lt, bit_and, bit_or, sym, ap, ap₂, ◌∙◌, subst, ⊎_elim, eq-zero-or-pos, arith}
 use Rattle.std.proofs.Common as width
 use Rattle.std.proofs.lemmas.Bool.{cases_order, le-leb, lt-leb}
 use Rattle.std.proofs.lemmas.Bool.Decides.{nat_tests}
