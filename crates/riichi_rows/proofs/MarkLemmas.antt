@@ -1,5 +1,5 @@
 -- What the operations on marked lanes give at one lane.
-use Rattle.std.proofs.Common.{◌≡◌, ℕ, zero, suc, ◌+◌, ◌-◌, ◌<◌, ◌≤◌, ◌/◌, min, Bool, true, false, cond, List, [], ◌∷◌, ◌++◌, map, length, get_or, replicate, leb, nat_lt, bit_and, bit_or, refl, sym, ap, ap₂, ◌∙◌, subst, ⊎_elim, arith}
+use Rattle.std.proofs.Common.{◌≡◌, ℕ, zero, suc, ◌+◌, ◌-◌, ◌<◌, ◌≤◌, ◌/◌, min, Bool, false, cond, List, [], ◌∷◌, ◌++◌, map, length, get_or, replicate, leb, nat_lt, bit_and, bit_or, sym, ap, ap₂, ◌∙◌, subst, ⊎_elim, eq-zero-or-pos, arith}
 use Rattle.std.proofs.Common as width
 use Rattle.std.proofs.lemmas.Bool.{cases_order, le-leb, lt-leb}
 use Rattle.std.proofs.lemmas.Bool.Decides.{nat_tests}
@@ -202,3 +202,78 @@ module _ (xs ys ms ns : List ℕ) (lx : length xs ≡ 16) (ly : length ys ≡ 16
     pub or_sound : Sound xs ms → Sound ys ns → Sound result (both_kept xs ys ms ns)
     or_sound first second s p hs hp none =
         both_lane s p hs hp ∙ chosen_none (lane xs s p) (lane ys s p) (mark ms s p) (mark ns s p) (first s p hs hp) (second s p hs hp) (sym (has s p hs hp) ∙ none)
+
+-- ---- more tiles lacking
+
+none_seen : (a : ℕ) → seen a 0 ≡ a
+none_seen a = grind (arith, nat_tests)
+
+as_it_is : (a x : ℕ) → lack_with 0 a x ≡ a
+as_it_is a x = ap (seen a) (and_zero_r x) ∙ none_seen a
+
+others_seen : (a t k : ℕ) → (a ≡ 0 → k ≡ 0) → (t < 255 → t ≤ 4) → IsFew a → seen (capped (a + t)) k ≡ capped (seen a k + t)
+others_seen a t k sound few_tiles few = grind (arith, nat_tests)
+
+own_seen : (a t k n : ℕ) → (0 < t → 0 < n) → (t ≡ 0 → n ≡ k) → (t < 255 → t ≤ 4) → IsFew a → seen a k ≡ a → seen (capped (a + t)) n ≡ capped (a + (if nat_lt t 255 then t - 1 else 255))
+own_seen a t k n some none few_tiles few is_same = grind (arith, nat_tests)
+
+abbrev marked_all : List ℕ → ℕ → List ℕ
+marked_all ms m = zip2 bit_or ms (replicate 16 m)
+
+-- a rank's bit where any tiles are more, and none otherwise
+abbrev pub IsMarkOf : ℕ → ℕ → ℕ → Type 0
+IsMarkOf bit tiles m = (0 < tiles → m ≡ bit) × (tiles ≡ 0 → m ≡ 0)
+
+module _ (ms : List ℕ) (m : ℕ) (long : length ms ≡ 16) where
+  pub length_marked_all : length (marked_all ms m) ≡ 16
+  length_marked_all = length-zip2 bit_or ms (replicate 16 m) (long ∙ sym (length-replicate 16 m)) ∙ long
+
+  marked_at : (k : ℕ) → k < 16 → get_or (marked_all ms m) k 0 ≡ bit_or (get_or ms k 0) m
+  marked_at k h =
+      let all : length (replicate 16 m) ≡ 16 = length-replicate 16 m in
+      get_or-zip2 bit_or ms (replicate 16 m) k 0 0 0 (omega arith) (omega arith) ∙ ap (bit_or (get_or ms k 0)) (get_or-replicate 16 k m 0 h)
+
+  marked_lane : (s p : ℕ) → s < 5 → p < 2 → mark (marked_all ms m) s p ≡ bit_or (mark ms s p) m
+  marked_lane s zero hs hp = marked_at s (omega arith)
+  marked_lane s (suc zero) hs hp = marked_at (8 + s) (omega arith)
+  marked_lane s (suc (suc p)) hs hp = absurd (omega arith)
+
+  module _ (lacks result : List ℕ) (bit tiles : ℕ) (is : IsMarkOf bit tiles m) (sound : Sound lacks ms) (has : HasLanes result (λ s p. capped (lane lacks s p + tiles))) where
+    pub more_sound : Sound result (marked_all ms m)
+    more_sound s p hs hp none =
+        let sum = sym (has s p hs hp) ∙ none in
+        marked_lane s p hs hp ∙ ap₂ bit_or (sound s p hs hp (omega (arith, sum))) (is.1 (omega (arith, sum)))
+
+    shares_none : (other : ℕ) → bit_and bit other ≡ 0 → bit_and m other ≡ 0
+    shares_none other apart =
+        ⊎_elim (λ zero_tiles. ap (λ x. bit_and x other) (is.1 zero_tiles)) (λ some. ap (λ x. bit_and x other) (is.0 some) ∙ apart) (eq-zero-or-pos tiles)
+
+    module _ (s p : ℕ) (hs : s < 5) (hp : p < 2) where
+      here : (asked : ℕ) → lacks_with asked result (marked_all ms m) s p ≡ lack_with asked (capped (lane lacks s p + tiles)) (bit_or (mark ms s p) m)
+      here asked = ap₂ (lack_with asked) (has s p hs hp) (marked_lane s p hs hp)
+
+      few_as_it_is : IsFew (lacks_with 0 lacks ms s p) → IsFew (lane lacks s p)
+      few_as_it_is few = subst IsFew (as_it_is (lane lacks s p) (mark ms s p)) few
+
+      pub more_of_others : (other : ℕ) → bit_and bit other ≡ 0 → (tiles < 255 → tiles ≤ 4) → IsFew (lacks_with 0 lacks ms s p)
+          → lacks_with other result (marked_all ms m) s p ≡ capped (lacks_with other lacks ms s p + tiles)
+      more_of_others other apart few_tiles few =
+          here other
+          ∙ ap (seen (capped (lane lacks s p + tiles))) (and_or_apart other (mark ms s p) m (shares_none other apart))
+          ∙ others_seen (lane lacks s p) tiles (bit_and (mark ms s p) other) (λ none. ap (λ x. bit_and x other) (sound s p hs hp none)) few_tiles (few_as_it_is few)
+
+      own_some : 0 < bit → 0 < tiles → 0 < bit_and (bit_or (mark ms s p) m) bit
+      own_some positive some =
+          let whole : bit_and (bit_or (mark ms s p) m) bit ≡ bit = ap (λ x. bit_and (bit_or (mark ms s p) x) bit) (is.0 some) ∙ and_or_self bit (mark ms s p) in
+          omega (arith, whole, positive)
+
+      own_none : tiles ≡ 0 → bit_and (bit_or (mark ms s p) m) bit ≡ bit_and (mark ms s p) bit
+      own_none none = ap (λ x. bit_and (bit_or (mark ms s p) x) bit) (is.1 none) ∙ ap (λ x. bit_and x bit) (or_zero_r (mark ms s p))
+
+      pub more_of_its_own : 0 < bit → (tiles < 255 → tiles ≤ 4) → IsFew (lacks_with 0 lacks ms s p) → lacks_with bit lacks ms s p ≡ lacks_with 0 lacks ms s p
+          → lacks_with bit result (marked_all ms m) s p ≡ capped (lacks_with 0 lacks ms s p + (if nat_lt tiles 255 then tiles - 1 else 255))
+      more_of_its_own positive few_tiles few is_same =
+          let plain = as_it_is (lane lacks s p) (mark ms s p) in
+          here bit
+          ∙ own_seen (lane lacks s p) tiles (bit_and (mark ms s p) bit) (bit_and (bit_or (mark ms s p) m) bit) (own_some positive) own_none few_tiles (few_as_it_is few) (is_same ∙ plain)
+          ∙ ap (λ x. capped (x + (if nat_lt tiles 255 then tiles - 1 else 255))) (sym plain)

@@ -7,7 +7,7 @@ invariant_of-result c =
     let their = c.args.other in
     record {
       sixteen = length_both_kept own.lacks.lacks their.lacks.lacks own.marks their.marks own.lacks.sixteen their.lacks.sixteen own.sixteen their.sixteen;
-      sound = or_sound own.lacks.lacks their.lacks.lacks own.marks their.marks own.lacks.sixteen their.lacks.sixteen own.sixteen their.sixteen c.or.result.lacks c.or.ensures own.sound their.sound
+      sound = or_sound own.lacks.lacks their.lacks.lacks own.marks their.marks own.lacks.sixteen their.lacks.sixteen own.sixteen their.sixteen c.or.result.lacks c.or.ensures own.sound their.sound;
     }
 
 pub returns : goal.returns
