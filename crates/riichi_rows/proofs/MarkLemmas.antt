@@ -91,13 +91,13 @@ module _ (lacks result ms : List ℕ) (long : length ms ≡ 16) where
 
 -- ---- bits of two marks together
 
-or_keeps : (n a m : ℕ) → bit_and a n ≤ bit_and (bit_or a m) n
+pub or_keeps : (n a m : ℕ) → bit_and a n ≤ bit_and (bit_or a m) n
 or_keeps =
     bin_ind (λ (n : ℕ). (a m : ℕ) → bit_and a n ≤ bit_and (bit_or a m) n) (λ a m. omega (arith, and_zero_r (bit_or a m), and_zero_r a))
     (λ n ih a m. let halves : bit_and (bit_or a m / 2) (n / 2) ≡ bit_and (bit_or (a / 2) (m / 2)) (n / 2) = ap (λ x. bit_and x (n / 2)) (or_shr a m 1) in
     omega (arith, halves, ih (a / 2) (m / 2), and_step (bit_or a m) n, and_step a n, or_step a m))
 
-or_keeps_too : (n a m : ℕ) → bit_and m n ≤ bit_and (bit_or a m) n
+pub or_keeps_too : (n a m : ℕ) → bit_and m n ≤ bit_and (bit_or a m) n
 or_keeps_too n a m =
     let turned : bit_and (bit_or a m) n ≡ bit_and (bit_or m a) n = ap (λ x. bit_and x n) (or_comm a m) in
     omega (arith, turned, or_keeps n m a)
@@ -208,7 +208,7 @@ module _ (xs ys ms ns : List ℕ) (lx : length xs ≡ 16) (ly : length ys ≡ 16
 none_seen : (a : ℕ) → seen a 0 ≡ a
 none_seen a = grind (arith, nat_tests)
 
-as_it_is : (a x : ℕ) → lack_with 0 a x ≡ a
+pub as_it_is : (a x : ℕ) → lack_with 0 a x ≡ a
 as_it_is a x = ap (seen a) (and_zero_r x) ∙ none_seen a
 
 others_seen : (a t k : ℕ) → (a ≡ 0 → k ≡ 0) → (t < 255 → t ≤ 4) → IsFew a → seen (capped (a + t)) k ≡ capped (seen a k + t)

@@ -5,7 +5,7 @@ use Rattle.std.specs.Int.Bits.{and_zero_r}
 use Rattle.std.proofs.Math.Seq.{drop-cons}
 use Rattle.std.proofs.lemmas.Bool.{cases_lt}
 use Rattle.std.proofs.lemmas.Bool.Decides.{nat_tests}
-use Rattle.std.proofs.lemmas.List.{drop_all, drop-set, drop-set-lt, get_or-drop, get_or-set_other, length-set}
+use Rattle.std.proofs.lemmas.List.{drop_all, length-drop, drop-set, drop-set-lt, get_or-drop, get_or-set_other, length-set}
 use Rattle.std.proofs.lemmas.Nat.{pow_apart}
 use Rattle.riichi_rows.specs.Columns.{AreLeast, Column, Fits, held, lack_from, LeastFrom}
 use Rattle.riichi_rows.specs.Lanes.{Agree, IsFew, lack_with, lane, mark, nothing}
@@ -16,6 +16,7 @@ use Rattle.riichi_rows.specs.Seen.{begun_seen, open_seen, seen}
 use Rattle.riichi_rows.specs.declared.marked_lanes.MarkedLanes.{MarkedLanes}
 use Rattle.riichi_rows.specs.declared.open.Begun as code
 use Rattle.riichi_rows.specs.declared.open.Open as open_code
+use Rattle.riichi_rows.proofs.MarkLemmas.{as_it_is}
 use Rattle.riichi_rows.proofs.Steps.{nothing_least}
 
 -- ---- what is reached is little
@@ -60,23 +61,23 @@ few_open counts caps few short x least = record {
 
 -- ---- a bit that marks no rank yet changes nothing
 
-lack_without : (lack mark : ℕ) → lack_with 0 lack mark ≡ lack
-lack_without lack mark = grind (arith, nat_tests)
+lack_without : (lack here : ℕ) → lack_with 0 lack here ≡ lack
+lack_without lack here = as_it_is lack here
 
-lack_or_less : (bit lack mark : ℕ) → lack_with bit lack mark ≤ lack
-lack_or_less bit lack mark = grind (arith, nat_tests)
+lack_or_less : (bit lack here : ℕ) → lack_with bit lack here ≤ lack
+lack_or_less bit lack here = grind (arith, nat_tests)
 
-none_as_it_is : (bit lack mark : ℕ) → 255 ≤ lack → lack_with bit lack mark ≡ lack
-none_as_it_is bit lack mark large = grind (arith, nat_tests)
+none_as_it_is : (bit lack here : ℕ) → 255 ≤ lack → lack_with bit lack here ≡ lack
+none_as_it_is bit lack here large = grind (arith, nat_tests)
 
-same_value : (runs : Bool) (counts caps : List ℕ) (a b s p bit lack mark : ℕ) → LeastFrom runs counts caps a b s p (lack_with bit lack mark) → LeastFrom runs counts caps a b s p (lack_with 0 lack mark) →
-    lack_with bit lack mark ≡ lack_with 0 lack mark
-same_value runs counts caps a b s p bit lack mark one plain = ⊎_elim (λ low. below low) (λ high. none_as_it_is bit lack mark high ∙ sym (lack_without lack mark)) (cases_lt lack 255)
+same_value : (runs : Bool) (counts caps : List ℕ) (a b s p bit lack here : ℕ) → LeastFrom runs counts caps a b s p (lack_with bit lack here) → LeastFrom runs counts caps a b s p (lack_with 0 lack here) →
+    lack_with bit lack here ≡ lack_with 0 lack here
+same_value runs counts caps a b s p bit lack here one plain = ⊎_elim (λ low. below low) (λ high. none_as_it_is bit lack here high ∙ sym (lack_without lack here)) (cases_lt lack 255)
   where
-    below : lack < 255 → lack_with bit lack mark ≡ lack_with 0 lack mark
+    below : lack < 255 → lack_with bit lack here ≡ lack_with 0 lack here
     below low =
-        let is = lack_without lack mark in
-        let less = lack_or_less bit lack mark in
+        let is = lack_without lack here in
+        let less = lack_or_less bit lack here in
         let found = one.reached (omega (arith, less, low)) in
         let bound = plain.least found.columns found.fits found.has_sets found.has_pairs in
         let reached = found.lacks in
@@ -102,13 +103,13 @@ same_open counts caps bit x one plain = record {
 -- ---- one rank more
 
 pub in_front : (xs : List ℕ) (k : ℕ) → k < length xs → drop k xs ≡ get_or xs k 0 ∷ drop (k + 1) xs
-in_front xs k inside = drop-cons xs k 0 inside ∙ ap (λ (n : ℕ). get_or xs k 0 ∷ drop n xs) (omega arith)
+in_front xs k inside = (let next : suc k ≡ k + 1 = omega arith in drop-cons xs k 0 inside ∙ ap (λ (n : ℕ). get_or xs k 0 ∷ drop n xs) next)
 
 pub caps_from : (caps : List ℕ) (k : ℕ) → ((r : ℕ) → r < 9 → slice_index caps r ≤ 4) → length caps ≡ 9 → AreCaps (drop k caps)
 caps_from caps k few long r low = (let e = get_or-drop k caps r 0 in omega (arith, e, few (k + r) (inside low)))
   where
     inside : r < length (drop k caps) → k + r < 9
-    inside low = omega (arith, low, long)
+    inside low = (let e = length-drop k caps in omega (arith, low, long, e))
 
 same_or_not : (a b : ℕ) → (a ≡ b) ⊎ (a ≢ b)
 same_or_not a b = ⊎_elim (λ low. inr (λ e. omega (arith, e, low))) (λ high. ⊎_elim (λ low. inr (λ e. omega (arith, e, low))) (λ other. inl (omega arith)) (cases_lt b a)) (cases_lt a b)
@@ -166,7 +167,7 @@ module _ (counts caps : List ℕ) (long : length counts ≡ 9) (caps_long : leng
   has_bit = (let p = power_some (k - 1) in omega (arith, p, is_bit))
 
   short : length (drop (k + 1) caps) ≤ 9
-  short = omega (arith, caps_long)
+  short = (let e = length-drop (k + 1) caps in omega (arith, caps_long, e))
 
   pub next_open : (later next : open_code.Open) →
       ((other : ℕ) (cs ks : List ℕ) → bit_and bit other ≡ 0 → FewOpen (open_seen 0 later) → LeastOpen cs ks (open_seen other later) → LeastOpen (get_or counts k 0 ∷ cs) (get_or caps k 0 ∷ ks) (open_seen other next)) →
