@@ -13,3 +13,4 @@ pub mod RankLanes
 pub mod Spread
 pub mod Steps
 pub mod Tables
+pub mod WholeSuit

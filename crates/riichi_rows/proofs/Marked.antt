@@ -1,11 +1,16 @@
 -- A row marks just the ranks that its least choices lack.
 use Rattle.std.proofs.lemmas.List.{length-set}
-use Rattle.std.proofs.Common.{◌≡◌, ◌∙◌, ℕ, ◌+◌, ◌<◌, ◌≤◌, List, Some, None, length, subst, ⊎_elim, get_or-set_same, get_or-set_other, arith}
+use Rattle.std.proofs.Common.{◌≡◌, ◌∙◌, ℕ, ◌+◌, ◌<◌, ◌≤◌, List, Some, None, length, subst, ⊎_elim, get_or-set_same, get_or-set_other, arith, zero, suc, ◌^◌}
 use Rattle.std.specs.Prelude.{◌↔◌, ◌⊎◌, Bool, IsTrue, nat_lt, slice_index, slice_set, Option}
 use Rattle.std.proofs.lemmas.Bool.{cases_lt}
 use Rattle.std.proofs.lemmas.Bool.Decides.{nat_tests}
-use Rattle.riichi_rows.specs.Columns.{LeastFrom}
+use Rattle.riichi_rows.specs.Columns.{AreLeast, LeastFrom}
 use Rattle.riichi_rows.specs.Lacked.{ChoiceLacks, IsOneMore}
+use Rattle.riichi_rows.specs.Lanes.{lacks_with, lane}
+use Rattle.riichi_rows.specs.Marks.{AreMarks, is_marked}
+use Rattle.riichi_rows.specs.Ranks.{one_more}
+use Rattle.riichi_rows.specs.Row.{entries_of}
+use Rattle.riichi_rows.specs.declared.row.SuitRow.{SuitRow}
 use Rattle.riichi_rows.specs.Suit.{IsLeastLack, entry_of}
 use Rattle.riichi_rows.proofs.Blocks.{entry_least}
 use Rattle.riichi_rows.proofs.Joins.{entry_is}
@@ -25,8 +30,8 @@ module _ (runs : Bool) (counts caps : List ℕ) (long : length counts ≡ 9) (ca
   least : IsLeastLack runs counts caps sets pairs (Some n)
   least = subst (λ (o : Option ℕ). IsLeastLack runs counts caps sets pairs o) is (entry_least runs counts caps long caps_long few sets pairs v base)
 
-  -- with room for one more tile
-  module _ (room : slice_index counts rank < 4) (next : LeastFrom runs (slice_set counts rank (slice_index counts rank + 1)) caps 0 0 sets pairs w) where
+  -- with one more tile
+  module _ (next : LeastFrom runs (slice_set counts rank (slice_index counts rank + 1)) caps 0 0 sets pairs w) where
     more : List ℕ
     more = slice_set counts rank (slice_index counts rank + 1)
 
@@ -75,4 +80,19 @@ module _ (runs : Bool) (counts caps : List ℕ) (long : length counts ≡ 9) (ca
   pub marked_exactly :
       (slice_index counts rank < 4 → LeastFrom runs (slice_set counts rank (slice_index counts rank + 1)) caps 0 0 sets pairs w) →
       (4 ≤ slice_index counts rank → LeastFrom runs counts caps 0 0 sets pairs w) → IsTrue (nat_lt w v) ↔ ChoiceLacks runs counts caps sets pairs n rank
-  marked_exactly room full = ⊎_elim (λ low. marked_with low (room low)) (λ high. marked_never high (full high)) (cases_lt (slice_index counts rank) 4)
+  marked_exactly room full = ⊎_elim (λ low. marked_with (room low)) (λ high. marked_never high (full high)) (cases_lt (slice_index counts rank) 4)
+
+-- a row whose lanes are least, for the counts as they are and with one more tile of each rank
+module _ (runs : Bool) (counts caps : List ℕ) (long : length counts ≡ 9) (caps_long : length caps ≡ 9) (few : (r : ℕ) → r < 9 → slice_index caps r ≤ 4) (row : SuitRow)
+    (plain : AreLeast runs counts caps 0 0 (lane row.entries.lacks)) (marks : (r : ℕ) → r < 8 → AreLeast runs (one_more counts (suc r)) caps 0 0 (lacks_with (2 ^ r) row.entries.lacks row.marks))
+    (room : slice_index counts 0 < 4 → AreLeast runs (one_more counts 0) caps 0 0 (lane row.first.lacks)) (full : 4 ≤ slice_index counts 0 → AreLeast runs counts caps 0 0 (lane row.first.lacks)) where
+  mark_is : (sets pairs n rank : ℕ) → sets ≤ 4 → pairs ≤ 1 → rank < 9 → entries_of row sets pairs ≡ Some n → IsTrue (is_marked row sets pairs rank) ↔ ChoiceLacks runs counts caps sets pairs n rank
+  mark_is sets pairs n zero hs hp inside is =
+      marked_exactly runs counts caps long caps_long few sets pairs 0 inside _ _ (plain.at sets pairs (omega (arith, hs)) (omega (arith, hp))) n is
+      (λ low. (room low).at sets pairs (omega (arith, hs)) (omega (arith, hp))) (λ high. (full high).at sets pairs (omega (arith, hs)) (omega (arith, hp)))
+  mark_is sets pairs n (suc r) hs hp inside is =
+      marked_with runs counts caps long caps_long few sets pairs (suc r) inside _ _ (plain.at sets pairs (omega (arith, hs)) (omega (arith, hp))) n is
+      ((marks r (omega (arith, inside))).at sets pairs (omega (arith, hs)) (omega (arith, hp)))
+
+  pub are_marks : AreMarks runs counts caps row
+  are_marks = record { at = mark_is }

@@ -111,6 +111,9 @@ caps_from caps k few long r low = (let e = get_or-drop k caps r 0 in omega (arit
     inside : r < length (drop k caps) → k + r < 9
     inside low = (let e = length-drop k caps in omega (arith, low, long, e))
 
+pub drop_short : (caps : List ℕ) (k : ℕ) → length caps ≡ 9 → length (drop k caps) ≤ 9
+drop_short caps k long = (let e = length-drop k caps in omega (arith, long, e))
+
 same_or_not : (a b : ℕ) → (a ≡ b) ⊎ (a ≢ b)
 same_or_not a b = ⊎_elim (λ low. inr (λ e. omega (arith, e, low))) (λ high. ⊎_elim (λ low. inr (λ e. omega (arith, e, low))) (λ other. inl (omega arith)) (cases_lt b a)) (cases_lt a b)
 
@@ -167,7 +170,7 @@ module _ (counts caps : List ℕ) (long : length counts ≡ 9) (caps_long : leng
   has_bit = (let p = power_some (k - 1) in omega (arith, p, is_bit))
 
   short : length (drop (k + 1) caps) ≤ 9
-  short = (let e = length-drop (k + 1) caps in omega (arith, caps_long, e))
+  short = drop_short caps (k + 1) caps_long
 
   pub next_open : (later next : open_code.Open) →
       ((other : ℕ) (cs ks : List ℕ) → bit_and bit other ≡ 0 → FewOpen (open_seen 0 later) → LeastOpen cs ks (open_seen other later) → LeastOpen (get_or counts k 0 ∷ cs) (get_or caps k 0 ∷ ks) (open_seen other next)) →

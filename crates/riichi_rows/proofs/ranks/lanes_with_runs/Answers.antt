@@ -1,0 +1,22 @@
+use Rattle.std.proofs.Common.{ℕ, true, List, drop, length, refl, arith}
+use Rattle.std.specs.Int.Bits.{and_zero_l}
+use Rattle.riichi_rows.specs.Open.{LeastBegun}
+use Rattle.riichi_rows.specs.Seen.{begun_seen, open_seen}
+use Rattle.riichi_rows.proofs.MarkedRanks.{caps_from, drop_short, few_open}
+use Rattle.riichi_rows.proofs.Tables.{few_added}
+use Rattle.riichi_rows.proofs.WholeSuit.{whole_suit}
+use Rattle.riichi_rows.proofs.ranks.lanes_with_runs.Goals as goal
+
+pub returns : goal.returns
+returns c =
+    let counts = c.args.counts.now in
+    let caps = c.args.caps.now in
+    let later = c.later_ranks.result in
+    let are = c.later_ranks.ensures in
+    let L : List ℕ → List ℕ → ℕ → Type 0 = λ cs ks other. LeastBegun cs ks 0 (begun_seen other later.zero) in
+    let little = few_open _ _ (caps_from caps 1 c.requires (omega arith)) (drop_short caps 1 (omega arith)) (open_seen 0 later) are.plain in
+    let few = few_added _ _ (c.added-added.ensures 0) little.zero in
+    whole_suit true counts caps (omega arith) (omega arith) L c.lanes.result c.lanes-2.result _
+    (λ other cs ks least. c.lanes.ensures.others other cs ks 0 0 (begun_seen other later.zero) (and_zero_l other) few refl (c.added-added.ensures other) least)
+    (λ cs ks least. c.lanes-2.ensures.others 0 cs ks 0 0 (begun_seen 0 later.zero) (and_zero_l 0) few refl (c.added-added.ensures 0) least)
+    are.plain.zero_open (λ r low. (are.marks r low).zero_open) c.with_one.ensures.few c.with_one.ensures.many
