@@ -1,10 +1,11 @@
 -- Which entries of a row reach the least, and are marked.
 use Rattle.std.proofs.Common.{◌≡◌, ℕ, zero, suc, ◌+◌, ◌<◌, ◌⊎◌, inl, inr, Bool, true, false, refl, subst, ⊎_elim, arith}
-use Rattle.std.specs.Prelude.{◌↔◌, ◌||◌, ◌&&◌, IsTrue}
+use Rattle.std.specs.Prelude.{nat_lt, ◌↔◌, ◌||◌, ◌&&◌, IsTrue, ◌^◌, bit_and}
 use Rattle.std.proofs.lemmas.Bool.{false≢true, cases_lt}
-use Rattle.riichi_rows.specs.Lanes.{lane}
-use Rattle.riichi_rows.specs.Marks.{MarkedBeside, is_marked}
+use Rattle.riichi_rows.specs.Lanes.{lacks_with, lane}
+use Rattle.riichi_rows.specs.Marks.{has_rank, MarkedBeside, is_marked}
 use Rattle.riichi_rows.specs.declared.joined.JoinedRows.{JoinedRows}
+use Rattle.riichi_rows.specs.declared.rank_set.RankSet.{RankSet}
 use Rattle.riichi_rows.specs.declared.row.SuitRow.{SuitRow}
 use Rattle.riichi_rows.proofs.Joins.{entry_is, entry_some}
 
@@ -126,3 +127,12 @@ module _ (row : SuitRow) (others : JoinedRows) (sets least rank : ℕ) (below : 
         total = (let sum = m.total in omega (arith, sum, is));
         mark = m.marked;
       }
+
+-- the ranks that were gathered are those of the entries that take part
+module _ (row : SuitRow) (others : JoinedRows) (sets least : ℕ) (below : least < 255) (set : RankSet)
+    (first : IsTrue set.first ↔ TakenBefore (lane row.entries.lacks) (lane others.sums.lacks) (λ s p. nat_lt (lane row.first.lacks s p) (lane row.entries.lacks s p)) sets least (sets + 1))
+    (later : (r : ℕ) → r < 8 → IsTrue (nat_lt 0 (bit_and set.later (2 ^ r))) ↔ TakenBefore (lane row.entries.lacks) (lane others.sums.lacks) (λ s p. nat_lt (lacks_with (2 ^ r) row.entries.lacks row.marks s p) (lane row.entries.lacks s p)) sets least (sets + 1)) where
+  pub lacked_rank : (rank : ℕ) → rank < 9 → IsTrue (has_rank set rank) ↔ MarkedBeside row others sets least rank
+  lacked_rank zero inside = (λ h. all_taken row others sets least 0 below (first.0 h), λ m. first.1 (taken_all row others sets least 0 below m))
+  lacked_rank (suc r) inside =
+      (λ h. all_taken row others sets least (suc r) below ((later r (omega (arith, inside))).0 h), λ m. (later r (omega (arith, inside))).1 (taken_all row others sets least (suc r) below m))

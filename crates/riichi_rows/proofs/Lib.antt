@@ -3,6 +3,7 @@ pub mod Costs
 pub mod JoinOrders
 pub mod Joins
 pub mod Lacking
+pub mod LackedRanks
 pub mod LaneLemmas
 pub mod MarkLemmas
 pub mod Marked

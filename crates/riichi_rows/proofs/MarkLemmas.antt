@@ -130,7 +130,7 @@ chosen_both : (a x y : ℕ) → chosen a a x y ≡ bit_or x y
 chosen_both a x y = ap₂ (λ (s t : Bool). bit_or (cond s x 0) (cond t y 0)) (le-leb a a (omega arith)) (le-leb a a (omega arith))
 
 module _ (bit x y : ℕ) where
-  either_alone : bit_and x bit ≡ 0 → bit_and (bit_or x y) bit ≡ bit_and y bit
+  pub either_alone : bit_and x bit ≡ 0 → bit_and (bit_or x y) bit ≡ bit_and y bit
   either_alone none = ap (λ m. bit_and m bit) (or_comm x y) ∙ and_or_apart bit y x none
 
   abbrev IsBetter : ℕ → ℕ → Type 0

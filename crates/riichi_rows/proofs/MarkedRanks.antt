@@ -1,13 +1,13 @@
 -- One rank in front of the later ones, for the counts as they are and with one more tile of each rank.
-use Rattle.std.proofs.Common.{◌≡◌, ℕ, zero, suc, ◌+◌, ◌*◌, ◌-◌, ◌^◌, ◌<◌, ◌≤◌, Bool, true, false, List, [], ◌∷◌, drop, get_or, length, refl, sym, subst, ap, ◌∙◌, ⊎_elim, inl, inr, arith}
-use Rattle.std.specs.Prelude.{◌⊎◌, ◌≢◌, bit_and, slice_index, slice_set}
+use Rattle.std.proofs.Common.{◌≡◌, ℕ, zero, suc, ◌+◌, ◌*◌, ◌-◌, ◌^◌, ◌<◌, ◌≤◌, Bool, true, false, List, [], ◌∷◌, drop, get_or, length, sym, subst, ap, ◌∙◌, ⊎_elim, inl, inr, arith}
+use Rattle.std.specs.Prelude.{◌⊎◌, ◌≢◌, bit_and, slice_index}
 use Rattle.std.specs.Int.Bits.{and_zero_r}
 use Rattle.std.proofs.Math.Seq.{drop-cons}
 use Rattle.std.proofs.lemmas.Bool.{cases_lt}
 use Rattle.std.proofs.lemmas.Bool.Decides.{nat_tests}
 use Rattle.std.proofs.lemmas.List.{drop_all, length-drop, drop-set, drop-set-lt, get_or-drop, get_or-set_other, length-set}
 use Rattle.std.proofs.lemmas.Nat.{pow_apart}
-use Rattle.riichi_rows.specs.Columns.{AreLeast, Column, Fits, held, lack_from, LeastFrom}
+use Rattle.riichi_rows.specs.Columns.{AreLeast, Column, Fits, lack_from, LeastFrom}
 use Rattle.riichi_rows.specs.Lanes.{Agree, IsFew, lack_with, lane, mark, nothing}
 use Rattle.riichi_rows.specs.Open.{AreFew, Begun, FewBegun, FewOpen, LeastBegun, LeastOpen, SameBegun, SameOpen}
 use Rattle.riichi_rows.specs.Open as table
@@ -141,7 +141,7 @@ module _ (counts caps : List ℕ) (long : length counts ≡ 9) (caps_long : leng
       let at_bit : bit ≡ 2 ^ r = is_bit ∙ ap (λ (n : ℕ). 2 ^ n) (omega (arith, same)) in
       let later : drop (k + 1) (one_more counts (suc r)) ≡ drop (k + 1) counts = drop-set-lt (k + 1) counts (suc r) (slice_index counts (suc r) + 1) (omega (arith, same)) in
       let here : drop k (one_more counts (suc r)) ≡ more ∷ drop (k + 1) counts =
-          subst (λ (n : ℕ). drop n (one_more counts (suc r)) ≡ (get_or counts n 0 + 1) ∷ drop (n + 1) counts) same (drop-set counts (suc r) (slice_index counts (suc r) + 1) (omega (arith, long, low))) in
+      subst (λ (n : ℕ). drop n (one_more counts (suc r)) ≡ (get_or counts n 0 + 1) ∷ drop (n + 1) counts) same (drop-set counts (suc r) (slice_index counts (suc r) + 1) (omega (arith, long, low))) in
       let marked : L (drop (k + 1) counts) (drop (k + 1) caps) bit = subst (λ (n : ℕ). L (drop (k + 1) counts) (drop (k + 1) caps) n) (sym at_bit) (subst (λ (ys : List ℕ). L ys (drop (k + 1) caps) (2 ^ r)) later (marks r low)) in
       let least : N (more ∷ drop (k + 1) counts) (get_or caps k 0 ∷ drop (k + 1) caps) bit = own _ _ marked plain in
       subst (λ (n : ℕ). N (drop k (one_more counts (suc r))) (drop k caps) n) at_bit

@@ -1,9 +1,7 @@
 -- The tables of a rank: their values are few, the same tables add up the same, and the least are told by the counts.
-use Rattle.std.proofs.Common.{◌≡◌, ℕ, zero, suc, ◌+◌, ◌*◌, ◌-◌, ◌<◌, ◌≤◌, min, Bool, true, List, [], ◌∷◌, length, sym, ap, ◌∙◌, ⊎_elim, inl, inr, refl, arith}
-use Rattle.std.specs.Prelude.{◌⊎◌, slice_index}
-use Rattle.riichi_rows.specs.Columns.{AreLeast, Column, Fits, held, lack_from, LeastFrom}
+use Rattle.std.proofs.Common.{ℕ, zero, suc, min, sym, ◌∙◌, refl, arith}
 use Rattle.riichi_rows.specs.Lanes.{Agree, IsFew, with_set, with_pair}
-use Rattle.riichi_rows.specs.Open.{Added, AreFew, Begun, FewAdded, FewBegun, FewOpen, IsAdded, LeastBegun, LeastOpen, Open, SameAdded, SameBegun, SameOpen}
+use Rattle.riichi_rows.specs.Open.{Added, AreFew, Begun, FewAdded, FewBegun, IsAdded, SameAdded, SameBegun}
 
 -- ---- few
 

@@ -1,9 +1,9 @@
 -- The first rank in front of the later ones: the lanes of a whole suit.
-use Rattle.std.proofs.Common.{◌≡◌, ℕ, zero, suc, ◌+◌, ◌^◌, ◌<◌, ◌≤◌, Bool, List, [], ◌∷◌, drop, get_or, length, sym, subst, ap, ◌∙◌, arith}
-use Rattle.std.specs.Prelude.{slice_index, slice_set}
+use Rattle.std.proofs.Common.{◌≡◌, ℕ, suc, ◌+◌, ◌^◌, ◌<◌, ◌≤◌, Bool, List, ◌∷◌, drop, get_or, length, sym, subst, ap, ◌∙◌, arith}
+use Rattle.std.specs.Prelude.{slice_index}
 use Rattle.std.proofs.lemmas.List.{drop-set, get_or-set_other, length-set}
 use Rattle.riichi_rows.specs.Columns.{AreLeast, LeastFrom}
-use Rattle.riichi_rows.specs.Lanes.{Agree, lane, mark}
+use Rattle.riichi_rows.specs.Lanes.{lane, mark}
 use Rattle.riichi_rows.specs.Ranks.{AreSuitLanes, one_more}
 use Rattle.riichi_rows.specs.Seen.{seen}
 use Rattle.riichi_rows.specs.declared.marked_lanes.MarkedLanes.{MarkedLanes}

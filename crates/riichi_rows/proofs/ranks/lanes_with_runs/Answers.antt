@@ -1,4 +1,4 @@
-use Rattle.std.proofs.Common.{ℕ, true, List, drop, length, refl, arith}
+use Rattle.std.proofs.Common.{ℕ, true, List, refl, arith}
 use Rattle.std.specs.Int.Bits.{and_zero_l}
 use Rattle.riichi_rows.specs.Open.{LeastBegun}
 use Rattle.riichi_rows.specs.Seen.{begun_seen, open_seen}

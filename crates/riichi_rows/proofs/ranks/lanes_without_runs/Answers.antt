@@ -1,4 +1,4 @@
-use Rattle.std.proofs.Common.{ℕ, List, drop, length, refl, arith}
+use Rattle.std.proofs.Common.{ℕ, List, arith}
 use Rattle.std.specs.Int.Bits.{and_zero_l}
 use Rattle.std.specs.Prelude.{false}
 use Rattle.riichi_rows.specs.Columns.{AreLeast}

@@ -1,9 +1,5 @@
-use Rattle.std.proofs.Common.{◌≡◌, ℕ, ◌+◌, ◌-◌, List, [], drop, length, sym, subst, arith}
-use Rattle.std.proofs.lemmas.List.{drop_all}
-use Rattle.riichi_rows.specs.Open.{LeastOpen}
-use Rattle.riichi_rows.specs.Ranks.{AreRanks, one_more}
-use Rattle.riichi_rows.specs.Seen.{open_seen}
-use Rattle.riichi_rows.specs.declared.open.Open.{Open}
+use Rattle.std.proofs.Common.{◌≡◌, ℕ, ◌+◌, ◌-◌, subst, arith}
+use Rattle.riichi_rows.specs.Ranks.{AreRanks}
 use Rattle.riichi_rows.proofs.MarkedRanks.{next_open, nothing_left}
 use Rattle.riichi_rows.proofs.ranks.later_ranks.Goals as goal
 
@@ -13,7 +9,7 @@ loop-rank-init c =
     let caps = c.args.caps.now in
     let closed : AreRanks 9 counts caps c.closed.result = nothing_left counts caps (omega arith) (omega arith) c.closed.result c.closed.ensures in
     let last : AreRanks 8 counts caps c.before-last.result =
-        next_open counts caps (omega arith) (omega arith) c.requires 8 (omega arith) (omega arith) _ c.bit_of.ensures c.closed.result c.before-last.result c.before-last.ensures.others c.before-last.ensures.own closed in
+    next_open counts caps (omega arith) (omega arith) c.requires 8 (omega arith) (omega arith) _ c.bit_of.ensures c.closed.result c.before-last.result c.before-last.ensures.others c.before-last.ensures.own closed in
     record { some = omega arith; ranks = next_open counts caps (omega arith) (omega arith) c.requires 7 (omega arith) (omega arith) _ c.bit_of-2.ensures c.before-last.result c.before-later.result c.before-later.ensures.others c.before-later.ensures.own last }
 
 pub loop-rank-preserved : goal.loop-rank-preserved

@@ -1,4 +1,4 @@
-use Rattle.std.proofs.Common.{◌≡◌, ℕ, ◌+◌, ◌-◌, length, subst, arith}
+use Rattle.std.proofs.Common.{◌≡◌, ℕ, ◌+◌, ◌-◌, subst, arith}
 use Rattle.riichi_rows.specs.Ranks.{AreRanksWithoutRuns}
 use Rattle.riichi_rows.proofs.MarkedRanks.{next_alone, nothing_alone}
 use Rattle.riichi_rows.proofs.ranks.later_ranks_without_runs.Goals as goal
@@ -12,8 +12,11 @@ loop-rank-preserved c =
     let caps = c.args.caps.now in
     let rank = c.loop-rank.rank in
     let later : AreRanksWithoutRuns (rank - 1 + 1) counts caps c.loop-rank.later = subst (λ (n : ℕ). AreRanksWithoutRuns n counts caps c.loop-rank.later) (omega arith) c.loop-rank.invariant.ranks in
-    record { some = omega arith; ranks = next_alone counts caps (omega arith) (omega arith) c.requires (rank - 1) (omega arith) (omega arith) _ c.bit_of.ensures c.loop-rank.later c.before_without_runs-later.result
-    c.before_without_runs-later.ensures.others c.before_without_runs-later.ensures.own later }
+    record {
+      some = omega arith;
+      ranks = next_alone counts caps (omega arith) (omega arith) c.requires (rank - 1) (omega arith) (omega arith) _ c.bit_of.ensures c.loop-rank.later c.before_without_runs-later.result
+          c.before_without_runs-later.ensures.others c.before_without_runs-later.ensures.own later;
+    }
 
 pub returns : goal.returns
 returns c =

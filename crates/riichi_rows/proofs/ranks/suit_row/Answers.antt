@@ -1,4 +1,4 @@
-use Rattle.std.proofs.Common.{length, arith}
+use Rattle.std.proofs.Common.{arith}
 use Rattle.riichi_rows.proofs.Blocks.{entry_least, reached_small}
 use Rattle.riichi_rows.proofs.Marked.{are_marks}
 use Rattle.riichi_rows.proofs.WholeSuit.{least_as_it_is}
