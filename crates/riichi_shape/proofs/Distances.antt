@@ -12,7 +12,7 @@ use Rattle.riichi_shape.specs.Special.{IsSpecialDistance, SpecialLacks}
 use Rattle.riichi_shape.specs.Winning.{IsWinning, lacking}
 use Rattle.riichi_shape.proofs.Exists.{StandardExists, standard_exists, melds_few}
 
-each_below : (f : ℕ → ℕ) (a n k : ℕ) → a ≤ k → k < a + n → f k ≤ spread f a n
+pub each_below : (f : ℕ → ℕ) (a n k : ℕ) → a ≤ k → k < a + n → f k ≤ spread f a n
 unfolding spread
 each_below f a zero k low high = absurd (omega arith)
 each_below f a (suc n) k low high = ⊎_elim (λ later. omega (arith, each_below f (a + 1) n k (omega arith) (omega arith))) (λ here. omega (arith, ap f (same here))) (cases_lt a k)

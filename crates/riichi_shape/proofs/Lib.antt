@@ -15,6 +15,7 @@ pub mod OrderLemmas
 pub mod OrphanLemmas
 pub mod OrphansLacked
 pub mod PairLemmas
+pub mod PairsLacked
 pub mod ReadyLemmas
 pub mod RemovalLemmas
 pub mod ShapeFacts

@@ -256,6 +256,7 @@ fn states_the_laws(_rt: HostRuntime) {
     laws::acceptance();
     laws::forms();
     laws::joins();
+    laws::pairs();
     laws::orphans();
     laws::ready();
     laws::order();
