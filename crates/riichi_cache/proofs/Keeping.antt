@@ -4,15 +4,14 @@ use Rattle.std.specs.Map.{lookup}
 use Rattle.std.specs.Option.{UnwrapsOrElse}
 use Rattle.lru.specs.LruCache.{LruCache, lru_cache, put_entries}
 use Rattle.lru.proofs.CallerLemmas.{Contains-lookup, Contains-put_entries}
-use Rattle.riichi_rows.specs.Row.{entries_of}
-use Rattle.riichi_rows.specs.Suit.{IsSuitRow}
+use Rattle.riichi_rows.specs.Marks.{IsMarkedRow}
 use Rattle.riichi_rows.specs.declared.row.SuitRow.{SuitRow}
 use Rattle.riichi_cache.specs.Kept.{AreRows}
 use Rattle.riichi_cache.specs.declared.row_key.RowKey.{RowKey}
 use Rattle.riichi_cache.proofs.Keys.{same, same_key}
 
 abbrev pub IsRowOf : RowKey → SuitRow → Type 0
-IsRowOf key row = IsSuitRow key.runs key.counts key.caps (entries_of row)
+IsRowOf key row = IsMarkedRow key.runs key.counts key.caps row
 
 -- a row that is found, or else made
 pub row_there : (P : SuitRow → Type 0) (entries : List (RowKey × SuitRow)) (key : RowKey) (row : SuitRow) (found : Option SuitRow) → lookup (same key) entries ≡ found → AreRows entries → ((made : SuitRow) → P made → IsRowOf key made) → UnwrapsOrElse found P row → IsRowOf key row

@@ -1,7 +1,6 @@
 //! The rows that were asked for last.
 ghost use Rattle.std.specs.Prelude.{ℕ, ◌≡◌, ◌<◌, ◌≤◌, IfOk, slice_index};
-ghost use Rattle.riichi_rows.specs.Row.{entries_of};
-ghost use Rattle.riichi_rows.specs.Suit.{IsSuitRow};
+ghost use Rattle.riichi_rows.specs.Marks.{IsMarkedRow};
 ghost use Rattle.riichi_cache.specs.Kept.{AreRows};
 
 use crate::memory::Memory;
@@ -52,13 +51,13 @@ impl RowCache {
 fn kept_row(rows: &mut LruCache<RowKey, SuitRow>, key: RowKey) -> SuitRow
     requires caps { (r : ℕ) → r < 9 → slice_index key.caps r ≤ 4 }
     requires rows { AreRows rows.old.entries }
-    ensures row { IsSuitRow key.runs key.counts key.caps (entries_of result) }
+    ensures row { IsMarkedRow key.runs key.counts key.caps result }
     ensures rows { AreRows rows.new.entries }
     ensures capacity { rows.new.cap ≡ rows.old.cap }
 {
     let make = || -> SuitRow
         requires { (r : ℕ) → r < 9 → slice_index key.caps r ≤ 4 }
-        ensures { IsSuitRow key.runs key.counts key.caps (entries_of result) }
+        ensures { IsMarkedRow key.runs key.counts key.caps result }
     { suit_row(key.counts, key.caps, key.runs) };
     match rows.get_or_insert(key, make) {
         Ok(row) => *row,

@@ -1,7 +1,9 @@
 pub mod Blocks
 pub mod JoinOrders
 pub mod Joins
+pub mod Lacking
 pub mod LaneLemmas
+pub mod Marked
 pub mod OneChanged
 pub mod OneMore
 pub mod RankLanes

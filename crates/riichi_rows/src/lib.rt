@@ -12,15 +12,18 @@
 mod added;
 mod join;
 mod joined;
+mod lacked;
 mod lanes;
 pub mod laws;
 mod open;
+mod rank_set;
 mod ranks;
 mod row;
 mod row_source;
 
 pub use join::join_rows;
 pub use joined::{JoinedRows, join_two};
+pub use rank_set::RankSet;
 pub use ranks::suit_row;
 pub use row::SuitRow;
 pub use row_source::{FreshRows, RowSource};

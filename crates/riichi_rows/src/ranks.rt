@@ -1,8 +1,7 @@
 //! A row in one pass over the nine ranks of a suit.
-ghost use Rattle.std.specs.Prelude.{ℕ, ◌<◌, ◌≤◌, slice_index, false, true};
+ghost use Rattle.std.specs.Prelude.{ℕ, ◌+◌, ◌<◌, ◌≤◌, slice_index, slice_set, false, true};
 ghost use Rattle.riichi_rows.specs.Columns.{LeastLanes};
-ghost use Rattle.riichi_rows.specs.Row.{entries_of};
-ghost use Rattle.riichi_rows.specs.Suit.{IsSuitRow};
+ghost use Rattle.riichi_rows.specs.Marks.{IsMarkedRow};
 
 use crate::lanes::Lanes;
 use crate::open::{Open, before_without_runs};
@@ -45,13 +44,40 @@ fn least_lanes(counts: &[u8; 9], caps: &[u8; 9], runs: bool) -> Lanes
     }
 }
 
+/// The least lacks of a suit with one more tile of a rank, where it has fewer than four.
+fn lanes_with(counts: &[u8; 9], rank: usize, caps: &[u8; 9], runs: bool) -> Lanes
+    requires caps { (r : ℕ) → r < 9 → slice_index caps.now r ≤ 4 }
+    requires rank { rank < 9 }
+    ensures few { slice_index counts.now rank < 4 → LeastLanes runs (slice_set counts.now rank (slice_index counts.now rank + 1)) caps.now 0 0 result.lacks }
+    ensures many { 4 ≤ slice_index counts.now rank → LeastLanes runs counts.now caps.now 0 0 result.lacks }
+{
+    let have = counts[rank];
+    if have >= 4 {
+        return least_lanes(counts, caps, runs);
+    }
+    let mut more = *counts;
+    more[rank] = have + 1;
+    least_lanes(&more, caps, runs)
+}
+
 /// The row of a suit, of which a choice holds no kind oftener than its cap. Honours have no runs,
 /// and their last two counts and caps are 0.
 pub fn suit_row(counts: [u8; 9], caps: [u8; 9], runs: bool) -> SuitRow
     requires { (r : ℕ) → r < 9 → slice_index caps r ≤ 4 }
-    ensures { IsSuitRow runs counts caps (entries_of result) }
+    ensures { IsMarkedRow runs counts caps result }
 {
     SuitRow {
         entries: least_lanes(&counts, &caps, runs),
+        more: [
+            lanes_with(&counts, 0, &caps, runs),
+            lanes_with(&counts, 1, &caps, runs),
+            lanes_with(&counts, 2, &caps, runs),
+            lanes_with(&counts, 3, &caps, runs),
+            lanes_with(&counts, 4, &caps, runs),
+            lanes_with(&counts, 5, &caps, runs),
+            lanes_with(&counts, 6, &caps, runs),
+            lanes_with(&counts, 7, &caps, runs),
+            lanes_with(&counts, 8, &caps, runs),
+        ],
     }
 }

@@ -8,6 +8,7 @@ use crate::lanes::{Lanes, NONE};
 #[derive(Clone, Copy)]
 pub struct SuitRow {
     pub(crate) entries: Lanes,
+    pub(crate) more: [Lanes; 9],
     ghost small: { (s p : ℕ) → s < 5 → p < 2 → lane entries.lacks s p < 255 → lane entries.lacks s p ≤ 36 },
 }
 

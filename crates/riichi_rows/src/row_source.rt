@@ -1,7 +1,6 @@
 //! Where the rows of suits come from.
 ghost use Rattle.std.specs.Prelude.{ℕ, ◌<◌, ◌≤◌, slice_index};
-ghost use Rattle.riichi_rows.specs.Row.{entries_of};
-ghost use Rattle.riichi_rows.specs.Suit.{IsSuitRow};
+ghost use Rattle.riichi_rows.specs.Marks.{IsMarkedRow};
 
 use crate::ranks::suit_row;
 use crate::row::SuitRow;
@@ -12,7 +11,7 @@ pub trait RowSource {
     /// runs, and their last two counts and caps are 0.
     fn row(&mut self, counts: &[u8; 9], caps: &[u8; 9], runs: bool) -> SuitRow
         requires { (r : ℕ) → r < 9 → slice_index caps.now r ≤ 4 }
-        ensures { IsSuitRow runs counts.now caps.now (entries_of result) };
+        ensures { IsMarkedRow runs counts.now caps.now result };
 }
 
 /// Makes each row anew, and keeps none.
