@@ -32,7 +32,7 @@ pub least_beside : (hand : List ℕ) (melds : List Meld) (melded : ℕ) (o : Opt
 least_beside hand melds melded o e least = subst (λ (n : ℕ). IsLeastStandard hand melds (4 - n) o) e least
 
 module _ (hand : List ℕ) (melds : List Meld) (at_most_four : length melds ≤ 4) (of_a_kind : (kind : ℕ) → kind < 34 → tiles melds kind ≤ 4) where
-  exists : StandardExists hand melds (4 - length melds)
+  pub exists : StandardExists hand melds (4 - length melds)
   exists = standard_exists hand melds (4 - length melds) (omega arith) of_a_kind (omega (arith, sum_range (tiles melds) 0 34, melds_few melds 0 34))
 
   pub never_none : IsLeastStandard hand melds (4 - length melds) None → ⊥

@@ -7,8 +7,10 @@ pub mod Exists
 pub mod FourSuits
 pub mod KeptJoins
 pub mod KeptRows
+pub mod LackedRows
 pub mod LiveLemmas
 pub mod Members
+pub mod Nearer
 pub mod OneMore
 pub mod OneTile
 pub mod OrderLemmas
@@ -19,5 +21,6 @@ pub mod PairsLacked
 pub mod ReadyLemmas
 pub mod RemovalLemmas
 pub mod ShapeFacts
+pub mod SpecialLemmas
 pub mod TextLemmas
 pub mod Uniqueness

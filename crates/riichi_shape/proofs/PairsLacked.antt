@@ -1,17 +1,20 @@
 -- The kinds that the least seven pairs lack.
-use Rattle.std.proofs.Common.{◌≡◌, ℕ, zero, suc, ◌+◌, ◌-◌, ◌*◌, ◌<◌, ◌≤◌, min, ◌⊎◌, inl, inr, List, [], ◌∷◌, length, get_or, refl, sym, ap, ◌∙◌, ⊎_elim, arith}
-use Rattle.std.proofs.lemmas.Bool.{cases_lt}
+use Rattle.std.proofs.Common.{◌≡◌, ℕ, zero, suc, ◌+◌, ◌-◌, ◌*◌, ◌<◌, ◌≤◌, min, true, ◌⊎◌, inl, inr, List, [], ◌∷◌, length, get_or, ltb, refl, sym, ap, ◌∙◌, ⊎_elim, arith}
+use Rattle.std.proofs.lemmas.Bool.{cases_lt, lt-ltb, ltb-true}
 use Rattle.std.proofs.lemmas.Bool.Decides.{nat_tests}
-use Rattle.std.specs.Prelude.{slice_index}
-use Rattle.riichi_tiles.specs.Melds.{tiles}
+use Rattle.std.specs.Prelude.{count_by, nat_le, slice_index, ◌↔◌}
+use Rattle.riichi_tiles.specs.Melds.{every_kind, tiles}
 use Rattle.riichi_tiles.specs.declared.meld.Meld.{Meld}
 use Rattle.riichi_rows.proofs.Spread.{spread, sum_range, table_at}
 use Rattle.riichi_shape.specs.Distance.{PairsReached}
 use Rattle.riichi_shape.specs.Lacked.{FormLacks, PairsLaw, kinds_paired, kinds_single}
 use Rattle.riichi_shape.specs.Pairs.{IsSevenPairs}
+use Rattle.riichi_shape.specs.Special.{AreNearestPairs, AreNoMelds, lacks_held}
 use Rattle.riichi_shape.specs.Winning.{lacking}
+use Rattle.riichi_shape.specs.declared.nearest_form.NearestForm.{NearestForm}
 use Rattle.riichi_shape.proofs.Distances.{each_below}
-use Rattle.riichi_shape.proofs.PairLemmas.{AreSeven, Picked, chosen, count_twos, counts_held, length_table, nil, of_two, one, pairs_bound, pairs_reached, picked, seven_least, seven_picked, seven_wanted, skipped, taken, total_of, total_table, two}
+use Rattle.riichi_shape.proofs.SpecialLemmas.{lacks_back, lacks_there}
+use Rattle.riichi_shape.proofs.PairLemmas.{AreSeven, Picked, chosen, count_ones, count_twos, counts_held, held_is, length_table, nil, of_two, one, pairs_bound, pairs_reached, picked, seven_least, seven_picked, seven_wanted, skipped, taken, total_of, total_table, two}
 
 -- ---- seven pairs with a kind among them
 
@@ -173,3 +176,36 @@ module _ (hand : List ℕ) (melds : List Meld) (n x : ℕ) (inside : x < 34) (no
 
 pub pairs_lacked : PairsLaw
 pairs_lacked hand melds n x inside no_melds reached bound = (pairs_there hand melds n x inside no_melds reached bound, pairs_back hand melds n x inside no_melds reached bound)
+
+-- ---- the nearest seven pairs, by counts of kinds
+
+module _ (hand : List ℕ) (twos some : ℕ) (twos_are : twos ≡ count_by (λ kind. nat_le 2 (slice_index hand kind)) every_kind) (some_are : some ≡ count_by (λ kind. nat_le 1 (slice_index hand kind)) every_kind)
+    (form : NearestForm) (lack_is : form.lack ≡ 14 - 2 * min twos 7 - min (some - twos) (7 - min twos 7)) (missing_is : form.lacked.missing ≡ ltb some 7) (single_is : form.lacked.single ≡ ltb twos 7) where
+  nearest_bound : (wanted : List ℕ) → IsSevenPairs wanted → form.lack ≤ lacking hand wanted
+  nearest_bound = pairs_bound hand twos (some - twos) form.lack (count_twos hand twos twos_are) (count_ones hand twos some twos_are some_are) lack_is
+
+  nearest_reached : PairsReached hand form.lack
+  nearest_reached = pairs_reached hand twos (some - twos) form.lack (count_twos hand twos twos_are) (count_ones hand twos some twos_are some_are) lack_is
+
+  all_is : some ≡ kinds_paired hand + kinds_single hand
+  all_is = omega (arith, held_is hand twos some twos_are some_are, twos_are, sum_range (λ k. one (slice_index hand k)) 0 34)
+
+  module _ (melds : List Meld) (no_melds : AreNoMelds melds) (kind : ℕ) (inside : kind < 34) where
+    counted_there : lacks_held form.lacked (slice_index hand kind) ≡ true → (kinds_paired hand < 7) × ((slice_index hand kind ≡ 1) ⊎ ((slice_index hand kind ≡ 0) × (kinds_paired hand + kinds_single hand < 7)))
+    counted_there e =
+        ⊎_elim (λ none. (let few = ltb-true some 7 (sym missing_is ∙ none.1) in (omega (arith, few, all_is), inr (none.0, omega (arith, few, all_is)))))
+        (λ one_held. (let few = ltb-true twos 7 (sym single_is ∙ one_held.1) in (omega (arith, few, twos_are), inl one_held.0))) (lacks_there (slice_index hand kind) form.lacked e)
+
+    counted_back : (kinds_paired hand < 7) × ((slice_index hand kind ≡ 1) ⊎ ((slice_index hand kind ≡ 0) × (kinds_paired hand + kinds_single hand < 7))) → lacks_held form.lacked (slice_index hand kind) ≡ true
+    counted_back h =
+        lacks_back (slice_index hand kind) form.lacked
+        (⊎_elim (λ one_held. inr (one_held, single_is ∙ lt-ltb twos 7 (omega (arith, h.0, twos_are)))) (λ none. inl (none.0, missing_is ∙ lt-ltb some 7 (omega (arith, none.1, all_is)))) h.1)
+
+    nearest_lacked : lacks_held form.lacked (slice_index hand kind) ≡ true ↔ FormLacks IsSevenPairs hand melds form.lack kind
+    nearest_lacked = (
+      λ e. pairs_back hand melds form.lack kind inside no_melds nearest_reached nearest_bound (counted_there e),
+      λ w. counted_back (pairs_there hand melds form.lack kind inside no_melds nearest_reached nearest_bound w),
+    )
+
+  pub nearest_pairs_are : AreNearestPairs hand form
+  nearest_pairs_are = record { bound = nearest_bound; reached = nearest_reached; lacked = nearest_lacked }
