@@ -30,10 +30,11 @@ impl HandForms {
         ensures { AreFormsOf hand.now melds.now result }
     {
         let rows = HandRows::new(source, hand, melds);
+        let special = SpecialForms::new(hand, melds);
         HandForms {
             rows,
             joins: HandJoins::new(&rows),
-            special: SpecialForms::new(hand, melds),
+            special,
         }
     }
 
