@@ -1,10 +1,12 @@
 -- The accepted kinds as counts and as pairs.
-use Rattle.std.proofs.Common.{◌≡◌, ℕ, zero, suc, ◌+◌, ◌<◌, ◌≤◌, Bool, true, false, cond, List, [], ◌∷◌, map, get_or, ltb, replicate, slice_set, refl, sym, ap, ◌∙◌, arith}
+use Rattle.std.proofs.Common.{◌≡◌, ℕ, zero, suc, ◌+◌, ◌-◌, ◌<◌, ◌≤◌, Bool, true, false, cond, List, [], ◌∷◌, map, get_or, length, ltb, replicate, slice_set, below_more, length-set, get_or-set_same, get_or-set_other, refl, sym, ap, ◌∙◌, ⊎_elim, arith}
+use Rattle.std.proofs.lemmas.Bool.{cases_lt}
 use Rattle.std.proofs.lemmas.Bool.Decides.{nat_tests}
+use Rattle.std.proofs.lemmas.List.{get_or_past}
 use Rattle.std.specs.List.{filter, range_with_len}
 use Rattle.std.specs.Prelude.{slice_index, nat_lt, ◌&&◌}
 use Rattle.riichi_tiles.specs.declared.meld.Meld.{Meld}
-use Rattle.riichi_shape.specs.Accepted.{accepted_copies, accepted_of, is_accepted, live_of, with_one}
+use Rattle.riichi_shape.specs.Accepted.{AreLiveCopies, accepted_copies, accepted_of, is_accepted, live_of, with_one, without_one}
 use Rattle.riichi_shape.specs.EveryWinning.{distance_of}
 use Rattle.riichi_shape.specs.LiveCopies.{pairs_of}
 
@@ -59,3 +61,57 @@ set_few (x ∷ xs) zero v few were zero = few
 set_few (x ∷ xs) zero v few were (suc k) = were (suc k)
 set_few (x ∷ xs) (suc i) v few were zero = were zero
 set_few (x ∷ xs) (suc i) v few were (suc k) = set_few xs i v few (λ j. were (suc j)) k
+
+-- of so many kinds those that are not lacked have been cleared
+pub record ClearedTo (lacks : ℕ → Bool) (live copies : List ℕ) (n : ℕ) : Type 0 where
+  pub long : length copies ≡ 34
+  pub done : (k : ℕ) → k < n → get_or copies k 0 ≡ cond (lacks k) (get_or live k 0) 0
+  pub later : (k : ℕ) → n ≤ k → get_or copies k 0 ≡ get_or live k 0
+  pub few : (k : ℕ) → get_or copies k 0 ≤ 4
+
+module _ (lacks : ℕ → Bool) (live copies next : List ℕ) (n : ℕ) (inside : n < 34) (so_far : ClearedTo lacks live copies n) where
+  pub left_alone : lacks n ≡ true → next ≡ copies → ClearedTo lacks live next (n + 1)
+  left_alone is e = rw e (record {
+    long = so_far.long;
+    done = below_more _ _ so_far.done (so_far.later n (omega arith) ∙ ap (λ b. cond b (get_or live n 0) 0) (sym is));
+    later = λ k high. so_far.later k (omega arith);
+    few = so_far.few;
+  })
+
+  pub cleared : lacks n ≡ false → next ≡ slice_set copies n 0 → ClearedTo lacks live next (n + 1)
+  cleared is e = rw e (record {
+    long = length-set copies n 0 ∙ so_far.long;
+    done = below_more _ _ (λ k low. get_or-set_other copies n k 0 0 (λ same. omega (arith, same, low)) ∙ so_far.done k low)
+        (get_or-set_same copies n 0 0 (omega (arith, so_far.long)) ∙ ap (λ b. cond b (get_or live n 0) 0) (sym is));
+    later = λ k high. get_or-set_other copies n k 0 0 (λ same. omega (arith, same, high)) ∙ so_far.later k (omega arith);
+    few = set_few copies n 0 (omega arith) so_far.few;
+  })
+
+pub live_few : (hand : List ℕ) (melds : List Meld) (seen copies : List ℕ) → AreLiveCopies hand melds seen copies → (kind : ℕ) → slice_index copies kind ≤ 4
+live_few hand melds seen copies are kind = ⊎_elim (λ low. omega (arith, are.at kind low)) (λ past. (let none = get_or_past copies kind 0 (omega (arith, are.long)) in omega (arith, none))) (cases_lt kind 34)
+
+-- a tile that is discarded is seen, so no more copies are live and no fewer
+pub live_same : (hand rest : List ℕ) (melds : List Meld) (seen copies : List ℕ) (kind : ℕ) → 0 < slice_index hand kind → length hand ≡ 34 → rest ≡ without_one hand kind → AreLiveCopies hand melds seen copies → AreLiveCopies rest melds (with_one seen kind) copies
+live_same hand rest melds seen copies kind held long e are = rw e (record {
+  long = are.long;
+  seen_long = length-set seen kind (slice_index seen kind + 1) ∙ are.seen_long;
+  at = λ k low. are.at k low ∙ same_live k;
+})
+  where
+    inside : kind < 34
+    inside = ⊎_elim (λ low. low) (λ past. absurd (let none = get_or_past hand kind 0 (omega (arith, long, past)) in omega (arith, none, held))) (cases_lt kind 34)
+
+    same_live : (k : ℕ) → live_of hand melds seen k ≡ live_of (without_one hand kind) melds (with_one seen kind) k
+    same_live k = ⊎_elim (λ low. other (λ same. omega (arith, same, low))) (λ not_low. ⊎_elim (λ high. other (λ same. omega (arith, same, high))) (λ not_high. here (omega arith)) (cases_lt kind k)) (cases_lt k kind)
+      where
+        other : (k ≡ kind → ⊥) → live_of hand melds seen k ≡ live_of (without_one hand kind) melds (with_one seen kind) k
+        other ne =
+            let less = get_or-set_other hand kind k (slice_index hand kind - 1) 0 ne in
+            let more = get_or-set_other seen kind k (slice_index seen kind + 1) 0 ne in
+            omega (arith, less, more)
+
+        here : k ≡ kind → live_of hand melds seen k ≡ live_of (without_one hand kind) melds (with_one seen kind) k
+        here same =
+            let less = get_or-set_same hand kind (slice_index hand kind - 1) 0 (omega (arith, long, inside)) in
+            let more = get_or-set_same seen kind (slice_index seen kind + 1) 0 (omega (arith, are.seen_long, inside)) in
+            omega (arith, held, less, more, ap (slice_index hand) same, ap (slice_index seen) same, ap (slice_index (without_one hand kind)) same, ap (slice_index (with_one seen kind)) same)

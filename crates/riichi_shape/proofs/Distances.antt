@@ -12,7 +12,7 @@ use Rattle.riichi_shape.specs.Special.{IsSpecialDistance, SpecialLacks}
 use Rattle.riichi_shape.specs.Winning.{IsWinning, lacking}
 use Rattle.riichi_shape.proofs.Exists.{StandardExists, standard_exists, melds_few}
 
-each_below : (f : ℕ → ℕ) (a n k : ℕ) → a ≤ k → k < a + n → f k ≤ spread f a n
+pub each_below : (f : ℕ → ℕ) (a n k : ℕ) → a ≤ k → k < a + n → f k ≤ spread f a n
 unfolding spread
 each_below f a zero k low high = absurd (omega arith)
 each_below f a (suc n) k low high = ⊎_elim (λ later. omega (arith, each_below f (a + 1) n k (omega arith) (omega arith))) (λ here. omega (arith, ap f (same here))) (cases_lt a k)
@@ -32,7 +32,7 @@ pub least_beside : (hand : List ℕ) (melds : List Meld) (melded : ℕ) (o : Opt
 least_beside hand melds melded o e least = subst (λ (n : ℕ). IsLeastStandard hand melds (4 - n) o) e least
 
 module _ (hand : List ℕ) (melds : List Meld) (at_most_four : length melds ≤ 4) (of_a_kind : (kind : ℕ) → kind < 34 → tiles melds kind ≤ 4) where
-  exists : StandardExists hand melds (4 - length melds)
+  pub exists : StandardExists hand melds (4 - length melds)
   exists = standard_exists hand melds (4 - length melds) (omega arith) of_a_kind (omega (arith, sum_range (tiles melds) 0 34, melds_few melds 0 34))
 
   pub never_none : IsLeastStandard hand melds (4 - length melds) None → ⊥

@@ -473,3 +473,22 @@ module _ (hand : List ℕ) (melds : List Meld) (c0 c1 c2 c3 k0 k1 k2 k3 : List �
         where
           reach : {runs : Bool} {counts caps : List ℕ} {s p l r : ℕ} → ChoiceLacks runs counts caps s p l r → LackReached runs counts caps s p l
           reach c = record { blocks = c.blocks; is_choice = c.is_choice; lacks = c.lacks }
+
+  -- where no sets and a pair lack fewer than n, no four entries sum to less
+  module _ (n : ℕ) (none_less : (wanted : List ℕ) → IsSetsAndPair sets wanted → WithinFour melds wanted → n ≤ lacking hand wanted) where
+    pub sums_bound : (m : ℕ) → EntriesSum a b c d sets m → n ≤ m
+    sums_bound m e =
+        let w = chosen m e (reached0 m e) (reached1 m e) (reached2 m e) (reached3 m e) in
+        omega (arith, none_less w.wanted w.sets_and_pair w.within_four, w.lacks)
+
+    pub lacks_by_entries : (x : ℕ) → x < 34 → StandardLacks hand melds sets n x ↔ EntryLacks a b c d c0 c1 c2 c3 k0 k1 k2 k3 sets n x
+    lacks_by_entries x inside = (
+      λ w. (join_lacks n (join_of w.wanted (counted sets w.wanted w.sets_and_pair) w.within_four w.lacks) x inside).0 w,
+      λ k. (join_lacks n (k.entries, sums_bound) x inside).1 k,
+    )
+      where
+        join_of : (wanted : List ℕ) (is : AreCounted sets wanted) (four : WithinFour melds wanted) → lacking hand wanted ≡ n → IsLeastJoin a b c d sets (Some n)
+        join_of wanted is four lacks =
+            let below = sum_below wanted is four in
+            let least = sums_bound _ (entries_of wanted is four _ refl) in
+            (entries_of wanted is four n (omega (arith, below, least, lacks)), sums_bound)

@@ -22,7 +22,7 @@ least_by_rows hand melds rows are few sets in_hand least join =
     are.characters.counts are.circles.counts are.bamboos.counts are.honours.counts are.characters.caps are.circles.caps are.bamboos.caps are.honours.caps
     are.characters.suit are.circles.suit are.bamboos.suit are.honours.suit
     (entries_of rows.characters) (entries_of rows.circles) (entries_of rows.bamboos) (entries_of rows.honours)
-    are.characters.is_row are.circles.is_row are.bamboos.is_row are.honours.is_row
+    are.characters.is_row.least are.circles.is_row.least are.bamboos.is_row.least are.honours.is_row.least
     sets in_hand few least join
 
 -- the least joins of a row with a join of three rows
@@ -36,10 +36,10 @@ module _ (kind : ℕ) (hand : List ℕ) (melds : List Meld) (joins : HandJoins) 
   caps_are : AreHandCaps melds joins.caps
   caps_are = subst (λ (caps : HandCaps). AreHandCaps melds caps) (sym are.joins_before.are_joins.caps) are.joins_before.are_rows.caps
 
-  kept : (base width : ℕ) (old : SuitRow) → ((k : ℕ) → base ≤ k → k < base + width → k ≢ kind) → IsRowOf are.before melds base width (entries_of old) → IsRowOf hand melds base width (entries_of old)
-  kept base width old clear is = row_kept kind are.before hand melds base width (entries_of old) are.differ clear is
+  kept : (base width : ℕ) (old : SuitRow) → ((k : ℕ) → base ≤ k → k < base + width → k ≢ kind) → IsRowOf are.before melds base width old → IsRowOf hand melds base width old
+  kept base width old clear is = row_kept kind are.before hand melds base width old are.differ clear is
 
-  pub changed_characters : kind < 9 → (AreCapsOf 0 9 melds joins.caps.characters.left → IsRowOf hand melds 0 9 (entries_of row)) → JoinsWith row joins.beside_characters sets least → IsLeastStandard hand melds sets least
+  pub changed_characters : kind < 9 → (AreCapsOf 0 9 melds joins.caps.characters.left → IsRowOf hand melds 0 9 row) → JoinsWith row joins.beside_characters sets least → IsLeastStandard hand melds sets least
   unfolding rows
   changed_characters low is join =
       let were = are.joins_before.are_rows in
@@ -53,7 +53,7 @@ module _ (kind : ℕ) (hand : List ℕ) (melds : List Meld) (joins : HandJoins) 
       })
       few sets in_hand least (join rows.circles rows.bamboos rows.honours are.joins_before.are_joins.beside_characters)
 
-  pub changed_circles : 9 ≤ kind → kind < 18 → (AreCapsOf 9 9 melds joins.caps.circles.left → IsRowOf hand melds 9 9 (entries_of row)) → JoinsWith row joins.beside_circles sets least → IsLeastStandard hand melds sets least
+  pub changed_circles : 9 ≤ kind → kind < 18 → (AreCapsOf 9 9 melds joins.caps.circles.left → IsRowOf hand melds 9 9 row) → JoinsWith row joins.beside_circles sets least → IsLeastStandard hand melds sets least
   unfolding rows
   changed_circles high low is join =
       let were = are.joins_before.are_rows in
@@ -68,7 +68,7 @@ module _ (kind : ℕ) (hand : List ℕ) (melds : List Meld) (joins : HandJoins) 
       few sets in_hand least
       (join_swapped (entries_of row) (entries_of rows.characters) (entries_of rows.bamboos) (entries_of rows.honours) sets least (join rows.characters rows.bamboos rows.honours are.joins_before.are_joins.beside_circles))
 
-  pub changed_bamboos : 18 ≤ kind → kind < 27 → (AreCapsOf 18 9 melds joins.caps.bamboos.left → IsRowOf hand melds 18 9 (entries_of row)) → JoinsWith row joins.beside_bamboos sets least → IsLeastStandard hand melds sets least
+  pub changed_bamboos : 18 ≤ kind → kind < 27 → (AreCapsOf 18 9 melds joins.caps.bamboos.left → IsRowOf hand melds 18 9 row) → JoinsWith row joins.beside_bamboos sets least → IsLeastStandard hand melds sets least
   unfolding rows
   changed_bamboos high low is join =
       let were = are.joins_before.are_rows in
@@ -83,7 +83,7 @@ module _ (kind : ℕ) (hand : List ℕ) (melds : List Meld) (joins : HandJoins) 
       few sets in_hand least
       (join_turned (entries_of row) (entries_of rows.honours) (entries_of rows.characters) (entries_of rows.circles) sets least (join rows.honours rows.characters rows.circles are.joins_before.are_joins.beside_bamboos))
 
-  pub changed_honours : 27 ≤ kind → (AreCapsOf 27 7 melds joins.caps.honours.left → IsRowOf hand melds 27 7 (entries_of row)) → JoinsWith row joins.beside_honours sets least → IsLeastStandard hand melds sets least
+  pub changed_honours : 27 ≤ kind → (AreCapsOf 27 7 melds joins.caps.honours.left → IsRowOf hand melds 27 7 row) → JoinsWith row joins.beside_honours sets least → IsLeastStandard hand melds sets least
   unfolding rows
   changed_honours high is join =
       let were = are.joins_before.are_rows in

@@ -1,11 +1,12 @@
 -- A tile changes the row of its own suit alone.
-use Rattle.std.proofs.Common.{◌≡◌, ◌≢◌, ℕ, ◌+◌, ◌<◌, ◌≤◌, Option, List, slice_set, get_or-set_other, refl, sym, ◌∙◌, arith}
+use Rattle.std.proofs.Common.{◌≡◌, ◌≢◌, ℕ, ◌+◌, ◌<◌, ◌≤◌, List, slice_set, get_or-set_other, refl, sym, ◌∙◌, arith}
 use Rattle.std.specs.Prelude.{slice_index}
+use Rattle.riichi_rows.specs.declared.row.SuitRow.{SuitRow}
 use Rattle.riichi_tiles.specs.declared.meld.Meld.{Meld}
 use Rattle.riichi_shape.specs.Rows.{DifferAt}
 use Rattle.riichi_shape.specs.Suits.{IsRowOf}
 
-pub row_kept : (kind : ℕ) (before after : List ℕ) (melds : List Meld) (base width : ℕ) (row : ℕ → ℕ → Option ℕ) → DifferAt kind before after → ((k : ℕ) → base ≤ k → k < base + width → k ≢ kind) → IsRowOf before melds base width row → IsRowOf after melds base width row
+pub row_kept : (kind : ℕ) (before after : List ℕ) (melds : List Meld) (base width : ℕ) (row : SuitRow) → DifferAt kind before after → ((k : ℕ) → base ≤ k → k < base + width → k ≢ kind) → IsRowOf before melds base width row → IsRowOf after melds base width row
 row_kept kind before after melds base width row differ clear is = record {
   counts = is.counts;
   caps = is.caps;

@@ -140,3 +140,18 @@ module _ (hand : List ℕ) where
     reached_single none =
         let single = none_doubled (slice_index hand) orphan_kinds 0 (omega (arith, none, doubled_total)) refl in
         are_orphans 0 (missing + 1) refl (omega (arith, missing_total, single, extra_is (slice_index hand 0)))
+
+    -- some orphan that is held twice, or none
+    pub orphan_doubled : 0 < doubled → (k : ℕ) × (is_orphan k ≡ true) × (2 ≤ slice_index hand k)
+    orphan_doubled some =
+        let d = some_doubled (slice_index hand) orphan_kinds (omega (arith, some, doubled_total)) in
+        (d.kind, d.is_one, at_least_two (slice_index hand d.kind) d.twice)
+      where
+        at_least_two : (h : ℕ) → 0 < two h → 2 ≤ h
+        at_least_two h some = grind (arith, nat_tests)
+
+    pub orphan_single : doubled ≤ 0 → (k : ℕ) → is_orphan k ≡ true → slice_index hand k ≤ 1
+    orphan_single none k is = at_most_one (slice_index hand k) (none_doubled (slice_index hand) orphan_kinds k (omega (arith, none, doubled_total)) is)
+      where
+        at_most_one : (h : ℕ) → two h ≡ 0 → h ≤ 1
+        at_most_one h none = grind (arith, nat_tests)

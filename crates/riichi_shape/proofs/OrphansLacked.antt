@@ -1,17 +1,20 @@
 -- The kinds that the least thirteen orphans lack.
-use Rattle.std.proofs.Common.{◌≡◌, ℕ, ◌+◌, ◌<◌, ◌≤◌, Bool, true, false, cond, IsTrue, ◌⊎◌, inl, inr, List, map, eqb, refl, sym, ap, ◌∙◌, ⊎_elim, arith}
-use Rattle.std.proofs.lemmas.Bool.{cases_lt}
+use Rattle.std.proofs.Common.{◌≡◌, ℕ, ◌+◌, ◌<◌, ◌≤◌, Bool, true, false, cond, IsTrue, ◌⊎◌, inl, inr, List, map, eqb, refl, sym, ap, ◌∙◌, ⊎_elim, subst, arith}
+use Rattle.std.proofs.lemmas.Bool.{cases_lt, false≢true}
 use Rattle.std.proofs.lemmas.Bool.Decides.{nat_tests}
-use Rattle.std.specs.Prelude.{slice_index}
+use Rattle.std.specs.Prelude.{count_by, nat_le, slice_index, ◌==◌, ◌&&◌}
 use Rattle.riichi_tiles.specs.Melds.{tiles}
 use Rattle.riichi_tiles.specs.declared.meld.Meld.{Meld}
 use Rattle.riichi_shape.specs.Distance.{OrphansReached}
 use Rattle.riichi_shape.specs.Lacked.{FormLacks, OrphansLaw}
 use Rattle.riichi_shape.specs.Orphans.{IsThirteenOrphans, orphan_kinds, is_orphan, orphan_tiles}
+use Rattle.riichi_shape.specs.Special.{AreNearestOrphans, AreNoMelds, lacks_held}
 use Rattle.riichi_shape.specs.Winning.{lacking}
+use Rattle.riichi_shape.specs.declared.nearest_form.NearestForm.{NearestForm}
 use Rattle.riichi_shape.proofs.Distances.{orphan_few}
-use Rattle.riichi_shape.proofs.OrphanLemmas.{lack_is, orphans_at, orphans_wanted, missing_one, extra}
+use Rattle.riichi_shape.proofs.OrphanLemmas.{lack_is, orphans_at, orphans_wanted, missing_one, extra, bound_doubled, reached_doubled, bound_single, reached_single, orphan_doubled, orphan_single}
 use Rattle.riichi_shape.proofs.PairLemmas.{total_of}
+use Rattle.riichi_shape.proofs.SpecialLemmas.{both_of, lacks_back, lacks_there, of_both}
 
 -- what a hand with h tiles of x says, where the orphans with the kind t twice have more
 some_missing : (t x h : ℕ) (here : Bool) → h < cond here (cond (eqb x t) 2 1) 0 → (here ≡ true) × ((h ≡ 0) ⊎ ((h ≡ 1) × (x ≡ t)))
@@ -126,3 +129,37 @@ module _ (hand : List ℕ) (melds : List Meld) (n x : ℕ) (inside : x < 34) (no
 
 pub orphans_lacked : OrphansLaw
 orphans_lacked hand melds n x inside no_melds reached bound = (orphans_there hand melds n x inside no_melds reached bound, orphans_back hand melds n x inside no_melds reached bound)
+
+-- ---- the nearest orphans, by counts
+
+module _ (hand held : List ℕ) (held_are : held ≡ map (slice_index hand) orphan_kinds) (missing doubled : ℕ) (missing_are : missing ≡ count_by (λ x. x == 0) held) (doubled_are : doubled ≡ count_by (λ x. nat_le 2 x) held) where
+  module _ (form : NearestForm) (reached : OrphansReached hand form.lack) (bound : (wanted : List ℕ) → IsThirteenOrphans wanted → form.lack ≤ lacking hand wanted) (missing_is : form.lacked.missing ≡ true)
+      (single_none : form.lacked.single ≡ true → (k : ℕ) → IsTrue (is_orphan k) → slice_index hand k ≤ 1) (none_single : ((k : ℕ) → IsTrue (is_orphan k) → slice_index hand k ≤ 1) → form.lacked.single ≡ true) where
+    module _ (melds : List Meld) (no_melds : AreNoMelds melds) (kind : ℕ) (inside : kind < 34) where
+      counted_there : (lacks_held form.lacked (slice_index hand kind) && is_orphan kind) ≡ true → FormLacks IsThirteenOrphans hand melds form.lack kind
+      counted_there e =
+          let both = both_of (lacks_held form.lacked (slice_index hand kind)) (is_orphan kind) e in
+          orphans_back hand melds form.lack kind inside no_melds reached bound (both.1, ⊎_elim (λ none. inl none.0) (λ one. inr (one.0, single_none one.1)) (lacks_there (slice_index hand kind) form.lacked both.0))
+
+      counted_back : FormLacks IsThirteenOrphans hand melds form.lack kind → (lacks_held form.lacked (slice_index hand kind) && is_orphan kind) ≡ true
+      counted_back w =
+          let h = orphans_there hand melds form.lack kind inside no_melds reached bound w in
+          of_both (lacks_held form.lacked (slice_index hand kind)) (is_orphan kind) (lacks_back (slice_index hand kind) form.lacked (⊎_elim (λ none. inl (none, missing_is)) (λ one. inr (one.0, none_single one.1)) h.1)) h.0
+
+    nearest_are : AreNearestOrphans hand form
+    nearest_are = record { bound = bound; reached = reached; lacked = λ melds no_melds kind inside. (counted_there melds no_melds kind inside, counted_back melds no_melds kind inside) }
+
+  pub nearest_doubled : (form : NearestForm) → 0 < doubled → form.lack ≡ missing → form.lacked.missing ≡ true → form.lacked.single ≡ false → AreNearestOrphans hand form
+  nearest_doubled form some lack_is missing_is single_is =
+      let reached = subst (λ (n : ℕ). OrphansReached hand n) (sym lack_is) (reached_doubled hand held held_are missing doubled missing_are doubled_are some) in
+      nearest_are form reached (λ wanted is. (let b = bound_doubled hand held held_are missing doubled missing_are doubled_are wanted is in omega (arith, b, lack_is))) missing_is
+      (λ e. absurd (false≢true (sym single_is ∙ e))) (λ few. absurd (contradict few))
+    where
+      contradict : ((k : ℕ) → IsTrue (is_orphan k) → slice_index hand k ≤ 1) → ⊥
+      contradict few = let d = orphan_doubled hand held held_are missing doubled missing_are doubled_are some in omega (arith, few d.0 d.1, d.2)
+
+  pub nearest_single : (form : NearestForm) → doubled ≤ 0 → form.lack ≡ missing + 1 → form.lacked.missing ≡ true → form.lacked.single ≡ true → AreNearestOrphans hand form
+  nearest_single form none lack_is missing_is single_is =
+      let reached = subst (λ (n : ℕ). OrphansReached hand n) (sym lack_is) (reached_single hand held held_are missing doubled missing_are doubled_are none) in
+      nearest_are form reached (λ wanted is. (let b = bound_single hand held held_are missing doubled missing_are doubled_are none wanted is in omega (arith, b, lack_is))) missing_is
+      (λ e. orphan_single hand held held_are missing doubled missing_are doubled_are none) (λ few. single_is)

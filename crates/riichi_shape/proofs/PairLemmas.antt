@@ -1,5 +1,6 @@
 -- Seven pairs: the best choice takes kinds held twice, then kinds held once.
 use Rattle.std.proofs.Common.{◌≡◌, ℕ, zero, suc, ◌+◌, ◌-◌, ◌*◌, ◌<◌, ◌≤◌, min, Bool, cond, ◌⊎◌, inl, inr, List, [], ◌∷◌, length, get_or, leb, eqb, refl, sym, ap, ◌∙◌, ⊎_elim, arith}
+use Rattle.std.proofs.lemmas.Bool.{cases_lt}
 use Rattle.std.proofs.lemmas.Bool.Decides.{nat_tests}
 use Rattle.std.proofs.lemmas.List.Sums.{sum_by-cons}
 use Rattle.std.specs.Prelude.{sum_by, count_by, nat_le, slice_index}
@@ -15,10 +16,10 @@ two h = cond (leb 2 h) 1 0
 abbrev pub one : ℕ → ℕ
 one h = cond (eqb h 1) 1 0
 
-abbrev nil : ℕ → ℕ
+abbrev pub nil : ℕ → ℕ
 nil h = cond (eqb h 0) 1 0
 
-of_two : (h : ℕ) → (two (suc (suc h)) ≡ 1) × (one (suc (suc h)) ≡ 0) × (nil (suc (suc h)) ≡ 0)
+pub of_two : (h : ℕ) → (two (suc (suc h)) ≡ 1) × (one (suc (suc h)) ≡ 0) × (nil (suc (suc h)) ≡ 0)
 of_two h = grind (arith, nat_tests)
 
 -- ---- lists side by side
@@ -32,7 +33,7 @@ unfolding total_of
 sum_is_total f [] = refl
 sum_is_total f (x ∷ xs) = sum_by-cons f x xs ∙ ap (λ n. f x + n) (sum_is_total f xs)
 
-lack_beside : List ℕ → List ℕ → ℕ
+pub lack_beside : List ℕ → List ℕ → ℕ
 lack_beside [] ws = 0
 lack_beside (h ∷ hs) [] = 0
 lack_beside (h ∷ hs) (w ∷ ws) = (w - h) + lack_beside hs ws
@@ -56,7 +57,8 @@ lack_is (h ∷ hs) (w ∷ ws) long =
 
 -- ---- no seven pairs lack less
 
-record Chosen (h w : ℕ → ℕ) (a n : ℕ) : Type 0 where
+-- of n successive kinds w takes two tiles each of some that h holds twice or more, of some that it holds once, and of some that it has not
+pub record Chosen (h w : ℕ → ℕ) (a n : ℕ) : Type 0 where
   pub from_twos : ℕ
   pub from_ones : ℕ
   pub from_none : ℕ
@@ -64,10 +66,11 @@ record Chosen (h w : ℕ → ℕ) (a n : ℕ) : Type 0 where
   pub ones : from_ones ≤ spread (λ k. one (h k)) a n
   pub tiles : spread w a n ≡ 2 * (from_twos + from_ones + from_none)
   pub lacks : spread (λ k. w k - h k) a n ≡ from_ones + 2 * from_none
+  pub fresh : (k : ℕ) → a ≤ k → k < a + n → h k ≡ 0 → w k ≡ 2 → 0 < from_none
 
-chosen : (h w : ℕ → ℕ) (a n : ℕ) → ((k : ℕ) → k < a + n → (w k ≡ 0) ⊎ (w k ≡ 2)) → Chosen h w a n
+pub chosen : (h w : ℕ → ℕ) (a n : ℕ) → ((k : ℕ) → k < a + n → (w k ≡ 0) ⊎ (w k ≡ 2)) → Chosen h w a n
 unfolding spread
-chosen h w a zero each = record { from_twos = 0; from_ones = 0; from_none = 0; twos = omega arith; ones = omega arith; tiles = omega arith; lacks = omega arith }
+chosen h w a zero each = record { from_twos = 0; from_ones = 0; from_none = 0; twos = omega arith; ones = omega arith; tiles = omega arith; lacks = omega arith; fresh = λ k low high none two. absurd (omega arith) }
 chosen h w a (suc n) each =
     let rest = chosen h w (a + 1) n (λ k low. each k (omega arith)) in
     ⊎_elim (λ none. skip rest none) (λ taken. take_by rest taken (h a) refl) (each a (omega arith))
@@ -81,6 +84,7 @@ chosen h w a (suc n) each =
       ones = omega (arith, rest.ones);
       tiles = omega (arith, rest.tiles);
       lacks = omega (arith, rest.lacks);
+      fresh = λ k low high not_held two. ⊎_elim (λ later. rest.fresh k (omega arith) (omega arith) not_held two) (λ here. absurd (omega (arith, none, two, at_same_number w k a (omega arith)))) (cases_lt a k);
     }
 
     take_by : Chosen h w (a + 1) n → w a ≡ 2 → (held : ℕ) → h a ≡ held → Chosen h w a (suc n)
@@ -92,6 +96,7 @@ chosen h w a (suc n) each =
       ones = omega (arith, rest.ones);
       tiles = omega (arith, rest.tiles);
       lacks = omega (arith, rest.lacks);
+      fresh = λ k low high not_held two. omega arith;
     }
     take_by rest taken (suc zero) e = record {
       from_twos = rest.from_twos;
@@ -101,6 +106,7 @@ chosen h w a (suc n) each =
       ones = (let here : one (h a) ≡ 1 = grind (arith, nat_tests) in omega (arith, rest.ones, here));
       tiles = omega (arith, rest.tiles);
       lacks = omega (arith, rest.lacks);
+      fresh = λ k low high not_held two. ⊎_elim (λ later. rest.fresh k (omega arith) (omega arith) not_held two) (λ here. absurd (omega (arith, e, not_held, at_same_number h k a (omega arith)))) (cases_lt a k);
     }
     take_by rest taken (suc (suc held)) e = record {
       from_twos = suc rest.from_twos;
@@ -110,30 +116,31 @@ chosen h w a (suc n) each =
       ones = omega (arith, rest.ones);
       tiles = omega (arith, rest.tiles);
       lacks = omega (arith, rest.lacks);
+      fresh = λ k low high not_held two. ⊎_elim (λ later. rest.fresh k (omega arith) (omega arith) not_held two) (λ here. absurd (omega (arith, e, not_held, at_same_number h k a (omega arith)))) (cases_lt a k);
     }
 
 -- ---- some seven pairs lack as much
 
-record Picked (hs : List ℕ) (p s z : ℕ) : Type 0 where
+pub record Picked (hs : List ℕ) (p s z : ℕ) : Type 0 where
   pub wanted : List ℕ
   pub long : length wanted ≡ length hs
   pub each : (k : ℕ) → (get_or wanted k 0 ≡ 0) ⊎ (get_or wanted k 0 ≡ 2)
   pub tiles : total_of (λ w. w) wanted ≡ 2 * (p + s + z)
   pub lacks : lack_beside hs wanted ≡ s + 2 * z
 
-each_more : (w : ℕ) (ws : List ℕ) → (w ≡ 0) ⊎ (w ≡ 2) → ((k : ℕ) → (get_or ws k 0 ≡ 0) ⊎ (get_or ws k 0 ≡ 2)) → (k : ℕ) → (get_or (w ∷ ws) k 0 ≡ 0) ⊎ (get_or (w ∷ ws) k 0 ≡ 2)
+pub each_more : (w : ℕ) (ws : List ℕ) → (w ≡ 0) ⊎ (w ≡ 2) → ((k : ℕ) → (get_or ws k 0 ≡ 0) ⊎ (get_or ws k 0 ≡ 2)) → (k : ℕ) → (get_or (w ∷ ws) k 0 ≡ 0) ⊎ (get_or (w ∷ ws) k 0 ≡ 2)
 each_more w ws here rest zero = here
 each_more w ws here rest (suc k) = rest k
 
-skipped : (h : ℕ) (hs : List ℕ) (p s z : ℕ) → Picked hs p s z → Picked (h ∷ hs) p s z
+unfoldable pub skipped : (h : ℕ) (hs : List ℕ) (p s z : ℕ) → Picked hs p s z → Picked (h ∷ hs) p s z
 unfolding total_of lack_beside
 skipped h hs p s z r = record { wanted = 0 ∷ r.wanted; long = ap suc r.long; each = each_more 0 r.wanted (inl refl) r.each; tiles = omega (arith, r.tiles); lacks = omega (arith, r.lacks) }
 
-taken : (h : ℕ) (hs : List ℕ) (p s z p' s' z' : ℕ) → Picked hs p s z → 1 + p + s + z ≡ p' + s' + z' → (2 - h) + (s + 2 * z) ≡ s' + 2 * z' → Picked (h ∷ hs) p' s' z'
+unfoldable pub taken : (h : ℕ) (hs : List ℕ) (p s z p' s' z' : ℕ) → Picked hs p s z → 1 + p + s + z ≡ p' + s' + z' → (2 - h) + (s + 2 * z) ≡ s' + 2 * z' → Picked (h ∷ hs) p' s' z'
 unfolding total_of lack_beside
 taken h hs p s z p' s' z' r more lack = record { wanted = 2 ∷ r.wanted; long = ap suc r.long; each = each_more 2 r.wanted (inr refl) r.each; tiles = omega (arith, r.tiles); lacks = omega (arith, r.lacks) }
 
-picked : (hs : List ℕ) (p s z : ℕ) → p ≤ total_of two hs → s ≤ total_of one hs → z ≤ total_of nil hs → Picked hs p s z
+pub picked : (hs : List ℕ) (p s z : ℕ) → p ≤ total_of two hs → s ≤ total_of one hs → z ≤ total_of nil hs → Picked hs p s z
 unfolding total_of lack_beside
 picked [] p s z hp hs' hz = record { wanted = []; long = refl; each = λ k. inl refl; tiles = omega arith; lacks = omega arith }
 picked (zero ∷ hs) p s zero hp hs' hz = skipped 0 hs p s 0 (picked hs p s 0 (omega arith) (omega arith) (omega arith))
@@ -169,15 +176,19 @@ spread_total f (x ∷ xs) =
 same_count : (f : ℕ → ℕ) (m n : ℕ) → m ≡ n → spread f 0 m ≡ spread f 0 n
 same_count f m n e = ap (λ n. spread f 0 n) e
 
-length_table : (f : ℕ → ℕ) (a n : ℕ) → length (table f a n) ≡ n
+pub length_table : (f : ℕ → ℕ) (a n : ℕ) → length (table f a n) ≡ n
 unfolding table
 length_table f a zero = refl
 length_table f a (suc n) = ap suc (length_table f (a + 1) n)
 
-total_table : (f h : ℕ → ℕ) (a n : ℕ) → total_of f (table h a n) ≡ spread (λ k. f (h k)) a n
+pub total_table : (f h : ℕ → ℕ) (a n : ℕ) → total_of f (table h a n) ≡ spread (λ k. f (h k)) a n
 unfolding table total_of spread
 total_table f h a zero = refl
 total_table f h a (suc n) = ap (λ m. f (h a) + m) (total_table f h (a + 1) n)
+
+-- the counts of the kinds
+abbrev pub counts_held : List ℕ → List ℕ
+counts_held hand = table (slice_index hand) 0 34
 
 module _ (hand : List ℕ) (twos ones r : ℕ) (twos_are : twos ≡ spread (λ k. two (slice_index hand k)) 0 34) (ones_are : ones ≡ spread (λ k. one (slice_index hand k)) 0 34) (r_is : r ≡ 14 - 2 * min twos 7 - min ones (7 - min twos 7)) where
   pub pairs_bound : (wanted : List ℕ) → IsSevenPairs wanted → r ≤ lacking hand wanted
@@ -185,27 +196,48 @@ module _ (hand : List ℕ) (twos ones r : ℕ) (twos_are : twos ≡ spread (λ k
       let c = chosen (slice_index hand) (slice_index wanted) 0 34 (λ k low. is.two_or_none k (omega arith)) in
       omega (arith, c.twos, c.ones, c.tiles, c.lacks, sum_range (slice_index wanted) 0 34, sum_range (λ k. slice_index wanted k - slice_index hand k) 0 34, is.fourteen)
 
-  abbrev held : List ℕ
-  held = table (slice_index hand) 0 34
-
-  same_held : (w : ℕ → ℕ) → spread (λ k. w k - slice_index hand k) 0 34 ≡ spread (λ k. w k - slice_index held k) 0 34
-  same_held w = spread_shift (λ k. w k - slice_index hand k) (λ k. w k - slice_index held k) 0 0 34
+  same_held : (w : ℕ → ℕ) → spread (λ k. w k - slice_index hand k) 0 34 ≡ spread (λ k. w k - slice_index (counts_held hand) k) 0 34
+  same_held w = spread_shift (λ k. w k - slice_index hand k) (λ k. w k - slice_index (counts_held hand) k) 0 0 34
       (λ k low. ap (λ h. w (0 + k) - h) (sym (table_at (slice_index hand) 0 34 (0 + k) (omega arith) ∙ at_same_number (slice_index hand) (0 + (0 + k)) (0 + k) (omega arith))))
+
+  -- so many kinds of each class are seven, and lack as much as any seven
+  pub record AreSeven (p s z : ℕ) : Type 0 where
+    pub few_twos : p ≤ total_of two (counts_held hand)
+    pub few_ones : s ≤ total_of one (counts_held hand)
+    pub few_none : z ≤ total_of nil (counts_held hand)
+    pub seven : p + s + z ≡ 7
+    pub least : s + 2 * z ≡ r
+
+  pub seven_least : AreSeven (min twos 7) (min ones (7 - min twos 7)) (7 - min twos 7 - min ones (7 - min twos 7))
+  seven_least =
+      let long = length_table (slice_index hand) 0 34 in
+      let t = total_table two (slice_index hand) 0 34 in
+      let o = total_table one (slice_index hand) 0 34 in
+      let n = classes (counts_held hand) in
+      record { few_twos = omega arith; few_ones = omega arith; few_none = omega arith; seven = omega arith; least = omega arith }
+
+  pub seven_picked : (p s z : ℕ) → AreSeven p s z → Picked (counts_held hand) p s z → PairsReached hand r
+  seven_picked p s z are w =
+      let long = length_table (slice_index hand) 0 34 in
+      record {
+        wanted = w.wanted;
+        seven_pairs = record {
+          two_or_none = λ k low. w.each k;
+          fourteen = sum_range (slice_index w.wanted) 0 34 ∙ same_count (slice_index w.wanted) 34 (length w.wanted) (sym long ∙ sym w.long) ∙ spread_total (λ x. x) w.wanted ∙ omega (arith, w.tiles, are.seven);
+        };
+        lacks = sum_range (λ k. slice_index w.wanted k - slice_index hand k) 0 34 ∙ same_held (slice_index w.wanted) ∙ same_count (λ k. slice_index w.wanted k - slice_index (counts_held hand) k) 34 (length (counts_held hand)) (sym long) ∙ lack_is (counts_held hand) w.wanted w.long ∙ omega (arith, w.lacks, are.least);
+      }
+
+  pub seven_wanted : (p s z : ℕ) (are : AreSeven p s z) (w : Picked (counts_held hand) p s z) → (seven_picked p s z are w).wanted ≡ w.wanted
+  unfolding seven_picked
+  seven_wanted p s z are w = refl
 
   pub pairs_reached : PairsReached hand r
   pairs_reached =
       let p : ℕ = min twos 7 in
       let s : ℕ = min ones (7 - p) in
-      let long = length_table (slice_index hand) 0 34 in
-      let t = total_table two (slice_index hand) 0 34 in
-      let o = total_table one (slice_index hand) 0 34 in
-      let n = classes held in
-      let w = picked held p s (7 - p - s) (omega arith) (omega arith) (omega arith) in
-      record {
-        wanted = w.wanted;
-        seven_pairs = record { two_or_none = λ k low. w.each k; fourteen = sum_range (slice_index w.wanted) 0 34 ∙ same_count (slice_index w.wanted) 34 (length w.wanted) (sym long ∙ sym w.long) ∙ spread_total (λ x. x) w.wanted ∙ omega (arith, w.tiles) };
-        lacks = sum_range (λ k. slice_index w.wanted k - slice_index hand k) 0 34 ∙ same_held (slice_index w.wanted) ∙ same_count (λ k. slice_index w.wanted k - slice_index held k) 34 (length held) (sym long) ∙ lack_is held w.wanted w.long ∙ omega (arith, w.lacks);
-      }
+      let are = seven_least in
+      seven_picked p s (7 - p - s) are (picked (counts_held hand) p s (7 - p - s) are.few_twos are.few_ones are.few_none)
 
 -- ---- kinds counted
 

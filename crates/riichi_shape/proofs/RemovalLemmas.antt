@@ -13,7 +13,7 @@ use Rattle.riichi_shape.proofs.DiscardLemmas.{inserted_length}
 use Rattle.riichi_shape.proofs.PairLemmas.{spread_total, sum_is_total}
 use Rattle.riichi_shape.proofs.Members.{Among, all_among, all_of, among_filter, among_range, from_filter, from_range}
 
-bool_same : (a b : Bool) → (a ≡ true → b ≡ true) → (b ≡ true → a ≡ true) → a ≡ b
+pub bool_same : (a b : Bool) → (a ≡ true → b ≡ true) → (b ≡ true → a ≡ true) → a ≡ b
 bool_same true true there back = refl
 bool_same true false there back = sym (there refl)
 bool_same false true there back = back refl
@@ -31,10 +31,10 @@ leb_of m n h = grind (arith, nat_tests)
 of_leb : (m n : ℕ) → leb m n ≡ true → m ≤ n
 of_leb m n e = grind (arith, nat_tests)
 
-ltb_of : (m n : ℕ) → m < n → ltb m n ≡ true
+pub ltb_of : (m n : ℕ) → m < n → ltb m n ≡ true
 ltb_of m n h = grind (arith, nat_tests)
 
-of_ltb : (m n : ℕ) → ltb m n ≡ true → m < n
+pub of_ltb : (m n : ℕ) → ltb m n ≡ true → m < n
 of_ltb m n e = grind (arith, nat_tests)
 
 module _ (hand : List ℕ) (melds : List Meld) (distances : List ℕ) (least : ℕ) (are : AreDistancesWithout hand melds distances) (is : IsLeastOf distances least) (kind : ℕ) (inside : kind < 34) (held : 0 < slice_index hand kind) where

@@ -270,3 +270,21 @@ distance_is hand melds n is =
     let least_one = least_is (map (lacking hand) (every_winning melds)) (lacking hand l.listed) among in
     let back = from_map (lacking hand) (least (map (lacking hand) (every_winning melds))) (every_winning melds) least_one.1 in
     omega (arith, least_one.0, lacking_same hand l.listed is.wanted l.same, is.reached, is.none_less back.0 (winning_listed melds back.0 back.1), back.2)
+
+-- where there is a winning multiset at all, the least lack is reached
+pub distance_from : (hand : List ℕ) (melds : List Meld) (wanted : List ℕ) → IsWinning melds wanted → IsDistance hand melds (distance_of hand melds)
+unfolding distance_of
+distance_from hand melds wanted is =
+    let lacks = map (lacking hand) (every_winning melds) in
+    let l = listed_winning melds wanted is in
+    let least_one = least_is lacks (lacking hand l.listed) (among_map (lacking hand) l.listed (every_winning melds) l.among) in
+    let back = from_map (lacking hand) (least lacks) (every_winning melds) least_one.1 in
+    record {
+      wanted = back.0;
+      is_winning = winning_listed melds back.0 back.1;
+      reached = sym back.2;
+      none_less = λ other is_other.
+          (let o = listed_winning melds other is_other in
+          let below = least_is (map (lacking hand) (every_winning melds)) (lacking hand o.listed) (among_map (lacking hand) o.listed (every_winning melds) o.among) in
+          omega (arith, below.0, lacking_same hand o.listed other o.same));
+    }

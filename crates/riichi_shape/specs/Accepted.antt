@@ -1,5 +1,5 @@
 -- Which kinds bring a hand nearer, and how many copies of them are live.
-use Rattle.std.specs.Prelude.{ℕ, ◌+◌, ◌-◌, ◌&&◌, Bool, nat_lt, if◌then◌else◌, List, map, filter, slice_index, slice_set}
+use Rattle.std.specs.Prelude.{◌≡◌, ℕ, ◌<◌, ◌+◌, ◌-◌, ◌&&◌, Bool, nat_lt, if◌then◌else◌, List, map, filter, length, slice_index, slice_set}
 use Rattle.riichi_tiles.specs.Melds.{every_kind}
 use Rattle.riichi_tiles.specs.declared.meld.Meld.{Meld}
 use Rattle.riichi_hand.specs.Hand.{copies_held}
@@ -15,6 +15,12 @@ without_one hand kind = slice_set hand kind (slice_index hand kind - 1)
 -- the copies of a kind that are not in the hand, the melds or seen elsewhere
 abbrev pub live_of : List ℕ → List Meld → List ℕ → ℕ → ℕ
 live_of hand melds seen kind = 4 - (copies_held hand melds kind + slice_index seen kind)
+
+-- these of every kind
+pub record AreLiveCopies (hand : List ℕ) (melds : List Meld) (seen copies : List ℕ) : Type 0 where
+  pub long : length copies ≡ 34
+  pub seen_long : length seen ≡ 34
+  pub at : (kind : ℕ) → kind < 34 → slice_index copies kind ≡ live_of hand melds seen kind
 
 -- a kind is accepted where it has a live copy and one more tile of it lowers the distance
 abbrev pub is_accepted : List ℕ → List Meld → List ℕ → ℕ → Bool

@@ -1,11 +1,11 @@
 -- Which kinds bring a hand nearer to a winning multiset.
-use Rattle.std.specs.Prelude.{◌≡◌, ℕ, ◌+◌, ◌-◌, ◌<◌, ◌≤◌, ◌↔◌, ◌⊎◌, Bool, true, false, IsTrue, List, slice_index, length, Option, Some}
-use Rattle.riichi_tiles.specs.Melds.{tiles}
+use Rattle.std.specs.Prelude.{◌≡◌, ℕ, ◌+◌, ◌-◌, ◌<◌, ◌≤◌, ◌↔◌, ◌⊎◌, Bool, true, false, IsTrue, List, count_by, nat_eq, nat_le, slice_index, length, Option, Some}
+use Rattle.riichi_tiles.specs.Melds.{every_kind, tiles}
 use Rattle.riichi_tiles.specs.declared.meld.Meld.{Meld}
 use Rattle.riichi_rows.specs.Join.{EntriesSum, IsLeastJoin}
 use Rattle.riichi_rows.specs.Lacked.{ChoiceLacks, IsOneMore}
 use Rattle.riichi_rows.specs.Suit.{IsSuitRow}
-use Rattle.riichi_shape.specs.Distance.{IsDistance, OrphansReached}
+use Rattle.riichi_shape.specs.Distance.{IsDistance, OrphansReached, PairsReached}
 use Rattle.riichi_shape.specs.Orphans.{IsThirteenOrphans, is_orphan}
 use Rattle.riichi_shape.specs.Pairs.{IsSevenPairs}
 use Rattle.riichi_shape.specs.Suits.{IsSuitOf}
@@ -71,6 +71,21 @@ abbrev pub FormsLaw : Type 0
 FormsLaw =
     (hand : List ℕ) (melds : List Meld) (n x : ℕ) → WinningLacks hand melds n x ↔
     (StandardLacks hand melds (4 - length melds) n x ⊎ ((length melds ≡ 0) × FormLacks IsSevenPairs hand melds n x) ⊎ ((length melds ≡ 0) × FormLacks IsThirteenOrphans hand melds n x))
+
+-- how many kinds a hand holds twice or more, and how many just once
+abbrev pub kinds_paired : List ℕ → ℕ
+kinds_paired hand = count_by (λ kind. nat_le 2 (slice_index hand kind)) every_kind
+
+abbrev pub kinds_single : List ℕ → ℕ
+kinds_single hand = count_by (λ kind. nat_eq (slice_index hand kind) 1) every_kind
+
+-- the kinds that the least seven pairs lack, for the least n: none where the hand holds seven kinds twice or more; else those
+-- that it holds just once; and those that it has not, where those that it has at all are fewer than seven
+abbrev pub PairsLaw : Type 0
+PairsLaw =
+    (hand : List ℕ) (melds : List Meld) (n x : ℕ) → x < 34 → ((k : ℕ) → k < 34 → tiles melds k ≡ 0) →
+    PairsReached hand n → ((wanted : List ℕ) → IsSevenPairs wanted → n ≤ lacking hand wanted) →
+    FormLacks IsSevenPairs hand melds n x ↔ ((kinds_paired hand < 7) × ((slice_index hand x ≡ 1) ⊎ ((slice_index hand x ≡ 0) × (kinds_paired hand + kinds_single hand < 7))))
 
 -- the kinds that the least thirteen orphans lack, for the least n: orphans that the hand has not, and those that it has
 -- once where it has none twice

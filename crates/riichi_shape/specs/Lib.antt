@@ -4,6 +4,7 @@ pub mod Discards
 pub mod Distance
 pub mod EveryWinning
 pub mod Lacked
+pub mod LackedKinds
 pub mod LiveCopies
 pub mod Ordered
 pub mod Orphans

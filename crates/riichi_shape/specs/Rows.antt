@@ -2,20 +2,20 @@
 use Rattle.std.specs.Prelude.{◌≡◌, ◌≢◌, ℕ, ◌<◌, ◌≤◌, List, slice_index}
 use Rattle.riichi_tiles.specs.Melds.{tiles}
 use Rattle.riichi_tiles.specs.declared.meld.Meld.{Meld}
-use Rattle.riichi_rows.specs.Row.{AreJoinedThree, entries_of}
-use Rattle.riichi_shape.specs.Special.{SpecialLacks}
+use Rattle.riichi_rows.specs.Row.{AreJoinedThree}
+use Rattle.riichi_shape.specs.Special.{AreSpecialForms}
 use Rattle.riichi_shape.specs.Suits.{AreHandCaps, IsRowOf}
 use Rattle.riichi_shape.specs.declared.hand_forms.HandForms.{HandForms}
 use Rattle.riichi_shape.specs.declared.hand_joins.HandJoins.{HandJoins}
 use Rattle.riichi_shape.specs.declared.hand_rows.HandRows.{HandRows}
 
--- each is the row of its suit of the hand, and the caps are those that the melds leave
+-- each is the marked row of its suit of the hand, and the caps are those that the melds leave
 pub record AreRowsOf (hand : List ℕ) (melds : List Meld) (rows : HandRows) : Type 0 where
   pub caps : AreHandCaps melds rows.caps
-  pub characters : IsRowOf hand melds 0 9 (entries_of rows.characters)
-  pub circles : IsRowOf hand melds 9 9 (entries_of rows.circles)
-  pub bamboos : IsRowOf hand melds 18 9 (entries_of rows.bamboos)
-  pub honours : IsRowOf hand melds 27 7 (entries_of rows.honours)
+  pub characters : IsRowOf hand melds 0 9 rows.characters
+  pub circles : IsRowOf hand melds 9 9 rows.circles
+  pub bamboos : IsRowOf hand melds 18 9 rows.bamboos
+  pub honours : IsRowOf hand melds 27 7 rows.honours
 
 -- two hands that have the same tiles of every other kind
 pub record DifferAt (kind : ℕ) (before after : List ℕ) : Type 0 where
@@ -45,7 +45,8 @@ pub record AreJoinsBeside (kind : ℕ) (hand : List ℕ) (melds : List Meld) (jo
   pub joins_before : AreJoinsOfHand before melds joins
   pub differ : DifferAt kind before hand
 
--- the joins of a hand, and no seven pairs or thirteen orphans that lack fewer tiles than it says
+-- the rows of a hand with their joins, and what it lacks of the other forms
 pub record AreFormsOf (hand : List ℕ) (melds : List Meld) (forms : HandForms) : Type 0 where
-  pub are_joins : AreJoinsOfHand hand melds forms.joins
-  pub special : SpecialLacks hand melds forms.special
+  pub are_rows : AreRowsOf hand melds forms.rows
+  pub are_joins : AreJoinsOf forms.rows forms.joins
+  pub special : AreSpecialForms hand melds forms.special

@@ -1,6 +1,7 @@
 -- The four suits of a hand, each with the most tiles of a kind that a winning multiset may hold beside the melds.
-use Rattle.std.specs.Prelude.{◌≡◌, ◌==◌, ℕ, ◌+◌, ◌-◌, ◌<◌, ◌≤◌, List, Option, slice_index}
-use Rattle.riichi_rows.specs.Suit.{IsSuitRow}
+use Rattle.std.specs.Prelude.{◌≡◌, ◌==◌, ℕ, ◌+◌, ◌-◌, ◌<◌, ◌≤◌, List, slice_index}
+use Rattle.riichi_rows.specs.Marks.{IsMarkedRow}
+use Rattle.riichi_rows.specs.declared.row.SuitRow.{SuitRow}
 use Rattle.riichi_tiles.specs.Melds.{tiles}
 use Rattle.riichi_tiles.specs.declared.meld.Meld.{Meld}
 use Rattle.riichi_shape.specs.declared.hand_caps.HandCaps.{HandCaps}
@@ -23,9 +24,9 @@ pub record AreHandCaps (melds : List Meld) (caps : HandCaps) : Type 0 where
   pub bamboos : AreCapsOf 18 9 melds caps.bamboos.left
   pub honours : AreCapsOf 27 7 melds caps.honours.left
 
--- the row of that suit; a suit of nine ranks has runs
-pub record IsRowOf (hand : List ℕ) (melds : List Meld) (base width : ℕ) (row : ℕ → ℕ → Option ℕ) : Type 0 where
+-- the marked row of that suit; a suit of nine ranks has runs
+pub record IsRowOf (hand : List ℕ) (melds : List Meld) (base width : ℕ) (row : SuitRow) : Type 0 where
   pub counts : List ℕ
   pub caps : List ℕ
   pub suit : IsSuitOf base width hand melds counts caps
-  pub is_row : IsSuitRow (width == 9) counts caps row
+  pub is_row : IsMarkedRow (width == 9) counts caps row

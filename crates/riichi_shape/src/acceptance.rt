@@ -1,86 +1,58 @@
 //! The kinds that bring a hand nearer.
-ghost use Rattle.std.specs.Prelude.{ℕ, ◌≡◌, ◌<◌, ◌≤◌, slice_index, if◌then◌else◌};
+ghost use Rattle.std.specs.Prelude.{ℕ, List, ◌≡◌, ◌<◌, ◌≤◌, slice_index};
 ghost use Rattle.riichi_tiles.specs.Melds.{tiles};
-ghost use Rattle.riichi_shape.specs.Accepted.{accepted_copies, accepted_of, live_of, with_one};
+ghost use Rattle.riichi_tiles.specs.Tiles.{IsCounts};
+ghost use Rattle.riichi_shape.specs.Accepted.{AreLiveCopies, accepted_of, live_of};
 ghost use Rattle.riichi_shape.specs.EveryWinning.{distance_of};
-ghost use Rattle.riichi_shape.specs.Rows.{AreFormsOf, AreRowsOf};
+ghost use Rattle.riichi_shape.specs.Rows.{AreFormsOf};
 
-use crate::distance::{distance_by, distance_changed};
 use crate::hand_forms::HandForms;
-use crate::hand_rows::HandRows;
 use crate::live_list::LiveList;
-use riichi_rows::{FreshRows, RowSource};
+use riichi_rows::FreshRows;
 use riichi_tiles::{Counts, Kind, Melds};
 
 /// The copies of a kind that are in neither the hand nor the melds, and not seen elsewhere.
-fn live_copies(hand: &Counts, melds: &Melds, seen: &Counts, kind: Kind) -> u8
+fn live_of(hand: &Counts, melds: &Melds, seen: &Counts, kind: Kind) -> u8
     ensures value { result ≡ live_of hand.now melds.now seen.now kind }
-    ensures most { result ≤ 4 }
+    ensures counts { IsCounts seen.now }
 {
     4u8.saturating_sub(hand.get(kind) + melds.tiles(kind) + seen.get(kind))
 }
 
-/// The distance with one tile of the kind more.
-fn distance_with<R: RowSource>(
-    source: &mut R,
-    forms: &HandForms,
-    hand: &Counts,
-    melds: &Melds,
-    kind: Kind,
-) -> u8
-    requires melded { (k : ℕ) → k < 34 → tiles melds.now k ≤ 4 }
-    requires forms { AreFormsOf hand.now melds.now forms.now }
-    requires room { slice_index hand.now kind < 4 }
-    ensures { result ≡ distance_of (with_one hand.now kind) melds.now }
+/// The live copies of every kind.
+pub(crate) fn live_copies(hand: &Counts, melds: &Melds, seen: &Counts) -> [u8; 34]
+    ensures { AreLiveCopies hand.now melds.now seen.now result }
 {
-    let mut more = *hand;
-    more.add(kind);
-    let special = forms.special.saturating_sub(1);
-    distance_changed(source, &forms.joins, kind, special, &more, melds)
-}
-
-/// The live copies of a kind that is accepted, and 0 of another.
-fn copies_accepted<R: RowSource>(
-    source: &mut R,
-    forms: &HandForms,
-    hand: &Counts,
-    melds: &Melds,
-    seen: &Counts,
-    kind: Kind,
-    lacks: u8,
-) -> u8
-    requires melded { (k : ℕ) → k < 34 → tiles melds.now k ≤ 4 }
-    requires forms { AreFormsOf hand.now melds.now forms.now }
-    requires lacks { lacks ≡ distance_of hand.now melds.now }
-    ensures value { result ≡ accepted_copies hand.now melds.now seen.now kind }
-    ensures most { result ≤ 4 }
-{
-    let live = live_copies(hand, melds, seen, kind);
-    if live > 0 && distance_with(source, forms, hand, melds, kind) < lacks {
-        live
-    } else {
-        0
+    let mut live = [0; 34];
+    for number in 0..34u8 {
+        live[number as usize] = live_of(hand, melds, seen, Kind::at(number));
     }
+    live
 }
 
-/// The accepted kinds of a hand, by its rows.
-pub(crate) fn accepted_by<R: RowSource>(
-    source: &mut R,
-    rows: &HandRows,
+/// The accepted kinds of a hand: those with live copies that some least winning multiset lacks.
+pub(crate) fn accepted_by(
+    forms: &HandForms,
+    least: u8,
     hand: &Counts,
     melds: &Melds,
-    seen: &Counts,
+    live: &[u8; 34],
 ) -> LiveList
     requires melded { (kind : ℕ) → kind < 34 → tiles melds.now kind ≤ 4 }
-    requires rows { AreRowsOf hand.now melds.now rows.now }
-    ensures { result ≡ accepted_of hand.now melds.now seen.now }
+    requires forms { AreFormsOf hand.now melds.now forms.now }
+    requires least { least ≡ distance_of hand.now melds.now }
+    requires few { least ≤ 14 }
+    requires live { (kind : ℕ) → slice_index live.now kind ≤ 4 }
+    ensures { (seen : List ℕ) → AreLiveCopies hand.now melds.now seen live.now → result ≡ accepted_of hand.now melds.now seen }
 {
-    let lacks = distance_by(rows, hand, melds);
-    let forms = HandForms::new(rows, hand, melds);
-    let mut copies = [0; 34];
+    let sets = 4 - melds.count() as u8;
+    let lacked = forms.lacked(sets, least);
+    let held = hand.to_array();
+    let mut copies = *live;
     for number in 0..34u8 {
-        let kind = Kind::at(number);
-        copies[number as usize] = copies_accepted(source, &forms, hand, melds, seen, kind, lacks);
+        if !lacked.contains(Kind::at(number), held[number as usize]) {
+            copies[number as usize] = 0;
+        }
     }
     LiveList::new(copies)
 }
@@ -91,6 +63,7 @@ pub fn accepted(hand: &Counts, melds: &Melds, seen: &Counts) -> LiveList
     requires { (kind : ℕ) → kind < 34 → tiles melds.now kind ≤ 4 }
     ensures { result ≡ accepted_of hand.now melds.now seen.now }
 {
-    let rows = HandRows::new(&mut FreshRows, hand, melds);
-    accepted_by(&mut FreshRows, &rows, hand, melds, seen)
+    let forms = HandForms::new(&mut FreshRows, hand, melds);
+    let live = live_copies(hand, melds, seen);
+    accepted_by(&forms, forms.distance(melds), hand, melds, &live)
 }

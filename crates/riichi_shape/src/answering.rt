@@ -3,12 +3,13 @@ ghost use Rattle.std.specs.Prelude.{ℕ, ◌≡◌, ◌<◌, ◌≤◌, slice_in
 ghost use Rattle.std.specs.List.{sum};
 ghost use Rattle.riichi_tiles.specs.Melds.{tiles};
 ghost use Rattle.riichi_shape.specs.Answer.{accepts_of, shape_of};
-ghost use Rattle.riichi_shape.specs.Rows.{AreRowsOf};
+ghost use Rattle.riichi_shape.specs.EveryWinning.{distance_of};
+ghost use Rattle.riichi_shape.specs.Rows.{AreFormsOf};
 
-use crate::acceptance::accepted_by;
+use crate::acceptance::{accepted_by, live_copies};
 use crate::accepts::Accepts;
-use crate::distance::shanten_by;
-use crate::hand_rows::HandRows;
+use crate::distance::shanten_at;
+use crate::hand_forms::HandForms;
 use crate::removal::discards_by;
 use crate::shape_answer::ShapeAnswer;
 use riichi_cache::RowCache;
@@ -20,21 +21,25 @@ use riichi_tiles::{Counts, Melds};
 #[tactic(auto, unfolding(crate::specs::Answer::accepts_of))]
 fn accepts<R: RowSource>(
     source: &mut R,
-    rows: &HandRows,
+    forms: &HandForms,
+    least: u8,
     hand: &Counts,
     melds: &Melds,
     seen: &Counts,
 ) -> Accepts
     requires melded { (k : ℕ) → k < 34 → tiles melds.now k ≤ 4 }
-    requires rows { AreRowsOf hand.now melds.now rows.now }
+    requires forms { AreFormsOf hand.now melds.now forms.now }
+    requires least { least ≡ distance_of hand.now melds.now }
+    requires least_few { least ≤ 14 }
     requires few { sum hand.now ≤ 14 }
     requires room { (k : ℕ) → k < 34 → 0 < slice_index hand.now k → slice_index seen.now k < 4 }
     ensures { result ≡ accepts_of (record { tiles = hand.now; melds = melds.now; seen = seen.now }) }
 {
     if hand.total() as usize + 3 * melds.count() == 13 {
-        Accepts::Thirteen(accepted_by(source, rows, hand, melds, seen))
+        let live = live_copies(hand, melds, seen);
+        Accepts::Thirteen(accepted_by(forms, least, hand, melds, &live))
     } else {
-        Accepts::Fourteen(discards_by(source, rows, hand, melds, seen))
+        Accepts::Fourteen(discards_by(source, forms, hand, melds, seen))
     }
 }
 
@@ -46,10 +51,11 @@ pub(crate) fn shape_by<R: RowSource>(source: &mut R, asked: &ShapeRecord) -> Sha
     let hand = asked.tiles();
     let melds = asked.melds();
     let seen = asked.seen();
-    let rows = HandRows::new(source, &hand, &melds);
+    let forms = HandForms::new(source, &hand, &melds);
+    let least = forms.distance(&melds);
     ShapeAnswer {
-        shanten: shanten_by(&rows, &hand, &melds),
-        accepts: accepts(source, &rows, &hand, &melds, &seen),
+        shanten: shanten_at(least),
+        accepts: accepts(source, &forms, least, &hand, &melds, &seen),
     }
 }
 

@@ -1,31 +1,16 @@
 //! The distance of a hand from winning, and its shanten.
-ghost use Rattle.std.specs.Prelude.{ℕ, ◌≡◌, ◌≤◌, ◌<◌};
+ghost use Rattle.std.specs.Prelude.{ℕ, ◌≡◌, ◌≤◌, ◌<◌, pos, ◌-ℤ◌};
 ghost use Rattle.riichi_tiles.specs.Melds.{tiles};
-ghost use Rattle.riichi_shape.specs.Distance.{IsDistance, NoneLacksLess, ShantenReached};
+ghost use Rattle.riichi_shape.specs.Distance.{NoneLacksLess, ShantenReached};
 ghost use Rattle.riichi_shape.specs.EveryWinning.{distance_of, shanten_of};
-ghost use Rattle.riichi_shape.specs.Rows.{AreJoinsBeside, AreRowsOf};
+ghost use Rattle.riichi_shape.specs.Rows.{AreJoinsBeside};
 ghost use Rattle.riichi_shape.specs.Special.{SpecialLacks};
 
+use crate::hand_forms::HandForms;
 use crate::hand_joins::HandJoins;
-use crate::hand_rows::HandRows;
-use crate::special::special_distance;
+use crate::special::SpecialForms;
 use riichi_rows::{FreshRows, RowSource};
 use riichi_tiles::{Counts, Kind, Melds};
-
-/// The least number of tiles that the hand lacks of a winning multiset, by the hand's rows.
-pub(crate) fn distance_by(rows: &HandRows, hand: &Counts, melds: &Melds) -> u8
-    requires melded { (kind : ℕ) → kind < 34 → tiles melds.now kind ≤ 4 }
-    requires rows { AreRowsOf hand.now melds.now rows.now }
-    ensures value { result ≡ distance_of hand.now melds.now }
-    ensures least { IsDistance hand.now melds.now result }
-    ensures few { result ≤ 14 }
-{
-    let melded = melds.count() as u8;
-    let Some(standard) = rows.standard_distance(4 - melded) else {
-        unreachable!()
-    };
-    standard.min(special_distance(hand, melds))
-}
 
 /// The distance of a hand that has changed at one kind since its rows were joined. No seven pairs
 /// or thirteen orphans lack fewer tiles than `floor`, and they are looked at only where they can be
@@ -51,19 +36,16 @@ pub(crate) fn distance_changed<R: RowSource>(
     if standard <= floor {
         standard
     } else {
-        standard.min(special_distance(hand, melds))
+        standard.min(SpecialForms::new(hand, melds).distance())
     }
 }
 
-/// The shanten of a hand, by its rows.
-pub(crate) fn shanten_by(rows: &HandRows, hand: &Counts, melds: &Melds) -> i8
-    requires melded { (kind : ℕ) → kind < 34 → tiles melds.now kind ≤ 4 }
-    requires rows { AreRowsOf hand.now melds.now rows.now }
-    ensures value { result ≡ shanten_of hand.now melds.now }
-    ensures reached { ShantenReached hand.now melds.now result }
-    ensures none_less { NoneLacksLess hand.now melds.now result }
+/// The shanten of so many tiles lacking.
+pub(crate) fn shanten_at(distance: u8) -> i8
+    requires { distance ≤ 14 }
+    ensures { result ≡ pos distance -ℤ pos 1 }
 {
-    distance_by(rows, hand, melds) as i8 - 1
+    distance as i8 - 1
 }
 
 /// One less than the distance: 0 for a ready hand, -1 for a complete one.
@@ -75,5 +57,5 @@ pub fn shanten(hand: &Counts, melds: &Melds) -> i8
     ensures reached { ShantenReached hand.now melds.now result }
     ensures none_less { NoneLacksLess hand.now melds.now result }
 {
-    shanten_by(&HandRows::new(&mut FreshRows, hand, melds), hand, melds)
+    shanten_at(HandForms::new(&mut FreshRows, hand, melds).distance(melds))
 }

@@ -1,28 +1,87 @@
-//! What is kept of a hand while a tile is added or removed.
-ghost use Rattle.std.specs.Prelude.{ℕ, ◌<◌, ◌≤◌};
-ghost use Rattle.riichi_shape.specs.Rows.{AreFormsOf, AreRowsOf};
+//! How near a hand is to each form.
+ghost use Rattle.std.specs.Prelude.{ℕ, ◌≡◌, ◌-◌, ◌<◌, ◌≤◌, List, length};
+ghost use Rattle.riichi_tiles.specs.declared.meld.Meld.{Meld};
+ghost use Rattle.riichi_tiles.specs.Melds.{tiles};
+ghost use Rattle.riichi_shape.specs.Distance.{IsDistance};
+ghost use Rattle.riichi_shape.specs.EveryWinning.{distance_of};
+ghost use Rattle.riichi_shape.specs.LackedKinds.{AreLackedKinds};
+ghost use Rattle.riichi_shape.specs.Rows.{AreFormsOf, DifferAt, IsMeldedFew};
 
 use crate::hand_joins::HandJoins;
 use crate::hand_rows::HandRows;
-use crate::special::special_distance;
-use riichi_tiles::{Counts, Melds};
+use crate::lacked_kinds::LackedKinds;
+use crate::special::SpecialForms;
+use riichi_rows::RowSource;
+use riichi_tiles::{Counts, Kind, Melds};
 
-/// How near a hand is to each form: its rows joined beside each suit, and its distance to the forms
-/// that stand beside no meld.
+/// What is known of a hand: the rows of its suits, beside each the other three joined, and how near
+/// it is to the forms that stand beside no meld. From this are told its distance and the kinds that
+/// it lacks.
 #[derive(Clone, Copy)]
 pub(crate) struct HandForms {
+    pub(crate) rows: HandRows,
     pub(crate) joins: HandJoins,
-    pub(crate) special: u8,
+    pub(crate) special: SpecialForms,
 }
 
 impl HandForms {
-    pub(crate) fn new(rows: &HandRows, hand: &Counts, melds: &Melds) -> HandForms
-        requires { AreRowsOf hand.now melds.now rows.now }
+    pub(crate) fn new<R: RowSource>(source: &mut R, hand: &Counts, melds: &Melds) -> HandForms
+        requires { (k : ℕ) → k < 34 → tiles melds.now k ≤ 4 }
         ensures { AreFormsOf hand.now melds.now result }
     {
+        let rows = HandRows::new(source, hand, melds);
+        let special = SpecialForms::new(hand, melds);
         HandForms {
-            joins: HandJoins::new(rows),
-            special: special_distance(hand, melds),
+            rows,
+            joins: HandJoins::new(&rows),
+            special,
+        }
+    }
+
+    /// The least number of tiles that the hand lacks of a winning multiset.
+    pub(crate) fn distance(&self, melds: &Melds) -> u8
+        requires { (k : ℕ) → k < 34 → tiles melds.now k ≤ 4 }
+        ensures value { (hand : List ℕ) → AreFormsOf hand melds.now self.now → result ≡ distance_of hand melds.now }
+        ensures least { (hand : List ℕ) → AreFormsOf hand melds.now self.now → IsDistance hand melds.now result }
+        ensures few { (hand : List ℕ) → AreFormsOf hand melds.now self.now → result ≤ 14 }
+    {
+        let sets = 4 - melds.count() as u8;
+        let standard = self
+            .joins
+            .beside_characters
+            .with(&self.rows.characters, sets);
+        standard.unwrap_or(u8::MAX).min(self.special.distance())
+    }
+
+    /// The kinds that some winning multiset lacks which lacks just so many tiles, where none lacks
+    /// fewer. Beside the melds it has so many sets.
+    pub(crate) fn lacked(&self, sets: u8, least: u8) -> LackedKinds
+        requires sets { sets ≤ 4 }
+        requires few { least ≤ 14 }
+        ensures { (hand : List ℕ) (melds : List Meld) → AreFormsOf hand melds self.now → IsMeldedFew melds → sets ≡ 4 - length melds → IsDistance hand melds least → AreLackedKinds hand melds least result }
+    {
+        LackedKinds {
+            suits: self.joins.lacked(&self.rows, sets, least),
+            special: self.special.lacked_at(least),
+        }
+    }
+
+    /// What is known of a hand that has changed at one kind, of which alone the suit is looked at
+    /// again.
+    pub(crate) fn changed_at<R: RowSource>(
+        &self,
+        source: &mut R,
+        kind: Kind,
+        hand: &Counts,
+        melds: &Melds,
+    ) -> HandForms
+        ensures { (before : List ℕ) → AreFormsOf before melds.now self.now → DifferAt kind before hand.now → AreFormsOf hand.now melds.now result }
+    {
+        let rows = self.rows.changed_at(source, kind, hand);
+        HandForms {
+            rows,
+            joins: HandJoins::new(&rows),
+            special: SpecialForms::new(hand, melds),
         }
     }
 }

@@ -1,12 +1,14 @@
 //! The rows of a hand joined beside each suit.
-ghost use Rattle.std.specs.Prelude.{◌≤◌, List};
+ghost use Rattle.std.specs.Prelude.{ℕ, ◌<◌, ◌≤◌, List};
 ghost use Rattle.riichi_tiles.specs.declared.meld.Meld.{Meld};
 ghost use Rattle.riichi_shape.specs.Distance.{IsLeastStandard};
-ghost use Rattle.riichi_shape.specs.Rows.{AreJoinsBeside, AreJoinsOf, IsMeldedFew};
+ghost use Rattle.riichi_shape.specs.LackedKinds.{AreSuitsLacked, NoneStandardLess};
+ghost use Rattle.riichi_shape.specs.Rows.{AreJoinsBeside, AreJoinsOf, AreRowsOf, IsMeldedFew};
 
 use crate::hand_caps::HandCaps;
 use crate::hand_rows::HandRows;
 use crate::suit_of_hand::suit_row_of;
+use crate::suits_lacked::SuitsLacked;
 use riichi_rows::{JoinedRows, RowSource, join_two};
 use riichi_tiles::{Counts, Kind};
 
@@ -34,6 +36,23 @@ impl HandJoins {
             beside_circles: high.and(&rows.characters),
             beside_bamboos: low.and(&rows.honours),
             beside_honours: low.and(&rows.bamboos),
+        }
+    }
+
+    /// Of the suits of the rows that were joined: the ranks that some sets and a pair lack which lack
+    /// just so many tiles in all, where none lacks fewer.
+    pub(crate) fn lacked(&self, rows: &HandRows, sets: u8, least: u8) -> SuitsLacked
+        requires sets { sets ≤ 4 }
+        requires least { least < 255 }
+        ensures { (hand : List ℕ) (melds : List Meld) → AreRowsOf hand melds rows.now → AreJoinsOf rows.now self.now → IsMeldedFew melds → NoneStandardLess hand melds sets least → AreSuitsLacked hand melds sets least result }
+    {
+        SuitsLacked {
+            characters: self
+                .beside_characters
+                .lacked_by(&rows.characters, sets, least),
+            circles: self.beside_circles.lacked_by(&rows.circles, sets, least),
+            bamboos: self.beside_bamboos.lacked_by(&rows.bamboos, sets, least),
+            honours: self.beside_honours.lacked_by(&rows.honours, sets, least),
         }
     }
 

@@ -1,13 +1,12 @@
-//! The rows of a hand, from which its distance is told.
+//! The rows of a hand.
 ghost use Rattle.std.specs.Prelude.{ℕ, ◌<◌, ◌≤◌, List};
 ghost use Rattle.riichi_tiles.specs.Melds.{tiles};
-ghost use Rattle.riichi_shape.specs.Distance.{IsLeastStandard};
-ghost use Rattle.riichi_shape.specs.Rows.{AreRowsOf, DifferAt, IsMeldedFew};
+ghost use Rattle.riichi_shape.specs.Rows.{AreRowsOf, DifferAt};
 ghost use Rattle.riichi_tiles.specs.declared.meld.Meld.{Meld};
 
 use crate::hand_caps::HandCaps;
 use crate::suit_of_hand::suit_row_of;
-use riichi_rows::{RowSource, SuitRow, join_rows};
+use riichi_rows::{RowSource, SuitRow};
 use riichi_tiles::{Counts, Kind, Melds};
 
 /// The row of each suit. They are kept while tiles are added and removed: a tile changes one.
@@ -67,17 +66,5 @@ impl HandRows {
                 ..*self
             }
         }
-    }
-
-    /// The least number of tiles that the hand of these rows lacks of so many sets and a pair, or
-    /// None where the melds leave none.
-    pub(crate) fn standard_distance(&self, sets: u8) -> Option<u8>
-        requires { sets ≤ 4 }
-        ensures { (hand : List ℕ) (melds : List Meld) → AreRowsOf hand melds self.now → IsMeldedFew melds → IsLeastStandard hand melds sets result }
-    {
-        join_rows(
-            &[self.characters, self.circles, self.bamboos, self.honours],
-            sets,
-        )
     }
 }

@@ -1,6 +1,6 @@
 //! Laws over the definitions alone: which kinds bring a hand nearer, told by the winning multisets
 //! that lack least.
-ghost use Rattle.riichi_shape.specs.Lacked.{AcceptanceLaw, FormsLaw, JoinLaw, OrphansLaw};
+ghost use Rattle.riichi_shape.specs.Lacked.{AcceptanceLaw, FormsLaw, JoinLaw, OrphansLaw, PairsLaw};
 ghost use Rattle.riichi_shape.specs.Ordered.{OrderLaw};
 ghost use Rattle.riichi_shape.specs.Ready.{ReadyLaw};
 
@@ -20,6 +20,11 @@ pub fn forms()
 /// alone.
 pub fn joins()
     ensures { JoinLaw }
+{}
+
+/// The kinds that the least seven pairs lack, told by the counts.
+pub fn pairs()
+    ensures { PairsLaw }
 {}
 
 /// The kinds that the least thirteen orphans lack, told by the counts.

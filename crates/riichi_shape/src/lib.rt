@@ -5,9 +5,10 @@
 //! its live copies. Of fourteen tiles a `DiscardList` has each `Discard` that leaves the least
 //! shanten, with the list that the rest then accepts. `shanten` and `accepted` are the parts alone,
 //! and `shape_text` is the answer on a line. A hand is measured by its four suit rows, which
-//! `riichi_rows` makes and joins; a tile that is added or removed changes one of them, and the
-//! other three are kept joined. `shape_with` is `shape` by the rows of a `RowCache`, which many
-//! hands share.
+//! `riichi_rows` makes, and beside each the other three are joined. The marks of a row say which
+//! ranks its least choices lack, so the rows of the hand alone tell the kinds that bring it nearer:
+//! no row of the hand with one more tile is ever made. A tile that is discarded changes one row.
+//! `shape_with` is `shape` by the rows of a `RowCache`, which many hands share.
 //!
 //! So `123456789m1134p` is ready: `shanten` is 0, and `accepted` has four live 2p and four 5p.
 #![tactic(auto)]
@@ -22,8 +23,11 @@ mod hand_caps;
 mod hand_forms;
 mod hand_joins;
 mod hand_rows;
+mod lacked_held;
+mod lacked_kinds;
 pub mod laws;
 mod live_list;
+mod nearest_form;
 mod orphans;
 mod pairs;
 mod removal;
@@ -31,6 +35,7 @@ mod shape_answer;
 mod special;
 mod suit_caps;
 mod suit_of_hand;
+mod suits_lacked;
 #[cfg(test)]
 mod tests;
 mod text;

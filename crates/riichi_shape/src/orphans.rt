@@ -1,9 +1,10 @@
-//! The least distance to thirteen orphans.
-ghost use Rattle.std.specs.Prelude.{ℕ, ◌≡◌, ◌<◌, ◌≤◌, List, count_by, map, nat_le, slice_index};
-ghost use Rattle.riichi_shape.specs.Distance.{OrphansReached};
-ghost use Rattle.riichi_shape.specs.Orphans.{IsThirteenOrphans, orphan_kinds};
-ghost use Rattle.riichi_shape.specs.Winning.{lacking};
+//! Thirteen orphans.
+ghost use Rattle.std.specs.Prelude.{◌≡◌, ◌<◌, ◌≤◌, count_by, map, nat_le, slice_index};
+ghost use Rattle.riichi_shape.specs.Orphans.{is_orphan, orphan_kinds};
+ghost use Rattle.riichi_shape.specs.Special.{AreNearestOrphans};
 
+use crate::lacked_held::LackedHeld;
+use crate::nearest_form::NearestForm;
 use riichi_tiles::{Counts, Kind};
 
 /// The counts of the terminals and honours.
@@ -39,14 +40,35 @@ fn orphans_held(orphans: &[u8; 13], times: u8) -> usize
     orphans.iter().filter(|held| **held >= times).count()
 }
 
-/// The least number of tiles that the hand lacks of thirteen orphans.
-pub(crate) fn orphans_distance(hand: &Counts) -> usize
-    ensures bound { (wanted : List ℕ) → IsThirteenOrphans wanted → result ≤ lacking hand.now wanted }
-    ensures reached { OrphansReached hand.now result }
-    ensures few { result ≤ 14 }
+/// How near a hand is to thirteen orphans. The nearest lack each that is not held, and where none
+/// is held twice each that is held once.
+pub(crate) fn nearest_orphans(hand: &Counts) -> NearestForm
+    ensures { AreNearestOrphans hand.now result }
 {
     let orphans = orphan_counts(hand);
-    let missing = 13 - orphans_held(&orphans, 1);
-    let doubled = orphans_held(&orphans, 2);
-    if doubled > 0 { missing } else { missing + 1 }
+    let missing = (13 - orphans_held(&orphans, 1)) as u8;
+    if orphans_held(&orphans, 2) > 0 {
+        NearestForm {
+            lack: missing,
+            lacked: LackedHeld {
+                missing: true,
+                single: false,
+            },
+        }
+    } else {
+        NearestForm {
+            lack: missing + 1,
+            lacked: LackedHeld {
+                missing: true,
+                single: true,
+            },
+        }
+    }
+}
+
+/// A terminal or an honour.
+pub(crate) fn is_orphan(kind: Kind) -> bool
+    ensures { result ≡ is_orphan kind }
+{
+    matches!(kind.index(), 0 | 8 | 9 | 17 | 18 | 26..=33)
 }

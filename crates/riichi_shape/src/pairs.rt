@@ -1,10 +1,10 @@
-//! The least distance to seven different pairs.
-ghost use Rattle.std.specs.Prelude.{ℕ, ◌≡◌, ◌≤◌, List, count_by, nat_le, slice_index};
+//! Seven different pairs.
+ghost use Rattle.std.specs.Prelude.{◌≡◌, ◌≤◌, count_by, nat_le, slice_index};
 ghost use Rattle.riichi_tiles.specs.Melds.{every_kind};
-ghost use Rattle.riichi_shape.specs.Distance.{PairsReached};
-ghost use Rattle.riichi_shape.specs.Pairs.{IsSevenPairs};
-ghost use Rattle.riichi_shape.specs.Winning.{lacking};
+ghost use Rattle.riichi_shape.specs.Special.{AreNearestPairs};
 
+use crate::lacked_held::LackedHeld;
+use crate::nearest_form::NearestForm;
 use riichi_tiles::Counts;
 
 /// How many of the counts are so high or higher.
@@ -29,14 +29,20 @@ fn kinds_held(hand: &Counts, times: u8) -> usize
     counts_from(&hand.to_array(), times) as usize
 }
 
-/// The least number of tiles that the hand lacks of seven different pairs.
-pub(crate) fn pairs_distance(hand: &Counts) -> usize
-    ensures bound { (wanted : List ℕ) → IsSevenPairs wanted → result ≤ lacking hand.now wanted }
-    ensures reached { PairsReached hand.now result }
+/// How near a hand is to seven different pairs. The nearest make pairs of kinds that are held
+/// once, and only where these are too few of kinds that are not held.
+pub(crate) fn nearest_pairs(hand: &Counts) -> NearestForm
+    ensures { AreNearestPairs hand.now result }
 {
     let twos = kinds_held(hand, 2);
-    let ones = kinds_held(hand, 1) - twos;
+    let held = kinds_held(hand, 1);
     let pairs = twos.min(7);
-    let halves = ones.min(7 - pairs);
-    14 - 2 * pairs - halves
+    let halves = (held - twos).min(7 - pairs);
+    NearestForm {
+        lack: (14 - 2 * pairs - halves) as u8,
+        lacked: LackedHeld {
+            missing: held < 7,
+            single: twos < 7,
+        },
+    }
 }

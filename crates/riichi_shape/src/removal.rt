@@ -1,36 +1,40 @@
 //! Which tile to discard from a hand of fourteen.
-ghost use Rattle.std.specs.Prelude.{ℕ, ◌≡◌, ◌<◌, ◌≤◌, slice_index};
+ghost use Rattle.std.specs.Prelude.{ℕ, List, ◌≡◌, ◌<◌, ◌≤◌, slice_index};
 ghost use Rattle.std.specs.List.{sum};
 ghost use Rattle.riichi_tiles.specs.Melds.{tiles};
+ghost use Rattle.riichi_shape.specs.Accepted.{AreLiveCopies};
 ghost use Rattle.riichi_shape.specs.Discards as spec;
-ghost use Rattle.riichi_shape.specs.Rows.{AreFormsOf, AreRowsOf};
+ghost use Rattle.riichi_shape.specs.Rows.{AreFormsOf, AreJoinsOfHand};
+ghost use Rattle.riichi_shape.specs.Special.{SpecialLacks};
 
-use crate::acceptance::accepted_by;
+use crate::acceptance::{accepted_by, live_copies};
 use crate::discard::Discard;
 use crate::discard_list::DiscardList;
 use crate::distance::distance_changed;
 use crate::hand_forms::HandForms;
-use crate::hand_rows::HandRows;
+use crate::hand_joins::HandJoins;
 use riichi_rows::RowSource;
 use riichi_tiles::{Counts, Kind, Melds};
 
 /// The distance without one tile of the kind.
 fn distance_without<R: RowSource>(
     source: &mut R,
-    forms: &HandForms,
+    joins: &HandJoins,
+    floor: u8,
     hand: &Counts,
     melds: &Melds,
     kind: Kind,
 ) -> u8
     requires melded { (k : ℕ) → k < 34 → tiles melds.now k ≤ 4 }
-    requires forms { AreFormsOf hand.now melds.now forms.now }
+    requires joins { AreJoinsOfHand hand.now melds.now joins.now }
+    requires floor { SpecialLacks hand.now melds.now floor }
     requires held { 0 < slice_index hand.now kind }
     ensures value { result ≡ spec.distance_without hand.now melds.now kind }
     ensures few { result ≤ 14 }
 {
     let mut rest = *hand;
     rest.remove(kind);
-    distance_changed(source, &forms.joins, kind, forms.special, &rest, melds)
+    distance_changed(source, joins, kind, floor, &rest, melds)
 }
 
 /// The distance without each kind of the hand, and for another kind more than any distance.
@@ -44,11 +48,19 @@ fn distances_without<R: RowSource>(
     requires forms { AreFormsOf hand.now melds.now forms.now }
     ensures { spec.AreDistancesWithout hand.now melds.now result }
 {
+    let floor = forms.special.distance();
     let mut distances = [u8::MAX; 34];
     for number in 0..34u8 {
         let kind = Kind::at(number);
         if hand.get(kind) > 0 {
-            distances[number as usize] = distance_without(source, forms, hand, melds, kind);
+            distances[number as usize] = distance_without(
+                source,
+                &forms.joins,
+                floor,
+                hand,
+                melds,
+                kind,
+            );
         }
     }
     distances
@@ -65,54 +77,56 @@ fn least_of(distances: &[u8; 34]) -> u8
     least
 }
 
-/// The discard of a kind, and what is accepted after it. The tile that is discarded is not live.
+/// The discard of a kind that leaves so many tiles lacking, and what is accepted after it. The tile
+/// that is discarded is seen, so as many copies of each kind are live as were before.
 fn discard_of<R: RowSource>(
     source: &mut R,
-    rows: &HandRows,
+    forms: &HandForms,
+    least: u8,
     hand: &Counts,
     melds: &Melds,
-    seen: &Counts,
+    live: &[u8; 34],
     kind: Kind,
 ) -> Discard
     requires melded { (k : ℕ) → k < 34 → tiles melds.now k ≤ 4 }
-    requires rows { AreRowsOf hand.now melds.now rows.now }
+    requires forms { AreFormsOf hand.now melds.now forms.now }
     requires held { 0 < slice_index hand.now kind }
-    requires room { slice_index seen.now kind < 4 }
-    ensures { result ≡ spec.discard_of hand.now melds.now seen.now kind }
+    requires least { least ≡ spec.distance_without hand.now melds.now kind }
+    requires few { least ≤ 14 }
+    requires live { (k : ℕ) → slice_index live.now k ≤ 4 }
+    ensures { (seen : List ℕ) → AreLiveCopies hand.now melds.now seen live.now → result ≡ spec.discard_of hand.now melds.now seen kind }
 {
     let mut rest = *hand;
-    let mut shown = *seen;
     rest.remove(kind);
-    shown.add(kind);
-    let rows = rows.changed_at(source, kind, &rest);
+    let forms = forms.changed_at(source, kind, &rest, melds);
     Discard {
         kind,
-        accepted: accepted_by(source, &rows, &rest, melds, &shown),
+        accepted: accepted_by(&forms, least, &rest, melds, live),
     }
 }
 
 /// The kinds whose removal leaves the least distance, each with what it then accepts.
 pub(crate) fn discards_by<R: RowSource>(
     source: &mut R,
-    rows: &HandRows,
+    forms: &HandForms,
     hand: &Counts,
     melds: &Melds,
     seen: &Counts,
 ) -> DiscardList
     requires melded { (k : ℕ) → k < 34 → tiles melds.now k ≤ 4 }
-    requires rows { AreRowsOf hand.now melds.now rows.now }
+    requires forms { AreFormsOf hand.now melds.now forms.now }
     requires few { sum hand.now ≤ 14 }
     requires room { (k : ℕ) → k < 34 → 0 < slice_index hand.now k → slice_index seen.now k < 4 }
     ensures { result ≡ spec.discards_of hand.now melds.now seen.now }
 {
-    let forms = HandForms::new(rows, hand, melds);
-    let distances = distances_without(source, &forms, hand, melds);
+    let distances = distances_without(source, forms, hand, melds);
     let least = least_of(&distances);
+    let live = live_copies(hand, melds, seen);
     let mut list = DiscardList::new();
     for number in (0..34u8).rev() {
         let kind = Kind::at(number);
         if hand.get(kind) > 0 && distances[number as usize] == least {
-            list.insert(discard_of(source, rows, hand, melds, seen, kind));
+            list.insert(discard_of(source, forms, least, hand, melds, &live, kind));
         }
     }
     list

@@ -1,7 +1,6 @@
 //! The row of one suit of a hand.
 ghost use Rattle.std.specs.Prelude.{ℕ, ◌≡◌, ◌+◌, ◌<◌, ◌≤◌, List, slice_index};
 ghost use Rattle.riichi_tiles.specs.declared.meld.Meld.{Meld};
-ghost use Rattle.riichi_rows.specs.Row.{entries_of};
 ghost use Rattle.riichi_shape.specs.Suits.{AreCapsOf, IsRowOf};
 
 use crate::suit_caps::SuitCaps;
@@ -31,7 +30,7 @@ pub(crate) fn suit_row_of<R: RowSource>(
 ) -> SuitRow
     requires ranks { ranks ≤ 9 }
     requires within { first + ranks ≤ 34 }
-    ensures { (melds : List Meld) → AreCapsOf first ranks melds caps.now.left → IsRowOf hand.now melds first ranks (entries_of result) }
+    ensures { (melds : List Meld) → AreCapsOf first ranks melds caps.now.left → IsRowOf hand.now melds first ranks result }
 {
     let counts = suit_counts(hand, first, ranks);
     source.row(&counts, &caps.left, ranks == 9)

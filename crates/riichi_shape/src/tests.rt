@@ -57,8 +57,10 @@ fn check_with(rt: &impl Abort, cache: &mut RowCache, row: &Row) -> Result<(), Fa
 }
 
 /// A ready hand, live copies that are seen, a hand of fourteen; four copies of 1z of which no fifth
-/// is wanted; melds that leave one copy of a kind; a complete hand, and discards in their order.
-const ROWS: [Row; 12] = [
+/// is wanted; melds that leave one copy of a kind; a complete hand, and discards in their order. The
+/// last five: seven pairs that want kinds held once, and kinds not held; sets and a pair as near as
+/// seven pairs; orphans that have their pair, and that want it.
+const ROWS: [Row; 17] = [
     Row {
         hand: "123456789m1134p",
         melds: &[],
@@ -130,6 +132,36 @@ const ROWS: [Row; 12] = [
         melds: &[],
         seen: "",
         text: "shanten 0 discard 8p accepts 7z:4 live 4",
+    },
+    Row {
+        hand: "1133m5577p22s9s4z6z",
+        melds: &[],
+        seen: "",
+        text: "shanten 1 accepts 9s:3 4z:3 6z:3 live 9",
+    },
+    Row {
+        hand: "1155m99m1122333z",
+        melds: &[],
+        seen: "",
+        text: "shanten 1 accepts 2m:4 3m:4 4m:4 6m:4 7m:4 8m:4 1p:4 2p:4 3p:4 4p:4 5p:4 6p:4 7p:4 8p:4 9p:4 1s:4 2s:4 3s:4 4s:4 5s:4 6s:4 7s:4 8s:4 9s:4 4z:4 5z:4 6z:4 7z:4 live 112",
+    },
+    Row {
+        hand: "112233m4455p79s7z",
+        melds: &[],
+        seen: "",
+        text: "shanten 1 accepts 4p:2 5p:2 7s:3 8s:4 9s:3 7z:3 live 17",
+    },
+    Row {
+        hand: "19m19p19s1123456z",
+        melds: &[],
+        seen: "",
+        text: "shanten 0 accepts 7z:4 live 4",
+    },
+    Row {
+        hand: "19m19p19s123456z8p",
+        melds: &[],
+        seen: "",
+        text: "shanten 1 accepts 1m:3 9m:3 1p:3 9p:3 1s:3 9s:3 1z:3 2z:3 3z:3 4z:3 5z:3 6z:3 7z:4 live 40",
     },
 ];
 
@@ -256,6 +288,7 @@ fn states_the_laws(_rt: HostRuntime) {
     laws::acceptance();
     laws::forms();
     laws::joins();
+    laws::pairs();
     laws::orphans();
     laws::ready();
     laws::order();

@@ -1,10 +1,7 @@
-use Rattle.std.proofs.Common.{◌≡◌, ℕ, ◌<◌, ◌≤◌, get_or, length}
-use Rattle.riichi_shape.specs.Accepted.{accepted_copies}
+use Rattle.std.proofs.Common.{get_or}
+use Rattle.riichi_shape.specs.LackedKinds.{lacks_kind}
+use Rattle.riichi_shape.proofs.AcceptedLemmas.{ClearedTo}
 use Rattle.riichi_shape.proofs.acceptance.accepted_by.Given as goal
 
 abbrev pub invariant-loop-number : goal.invariant-loop-number
-invariant-loop-number g l = record {
-  long : length l.copies ≡ 34;
-  done : (k : ℕ) → k < l.number → get_or l.copies k 0 ≡ accepted_copies l.hand l.melds l.seen k;
-  few : (k : ℕ) → get_or l.copies k 0 ≤ 4;
-}
+invariant-loop-number l = ClearedTo (λ k. lacks_kind l.lacked k (get_or l.held k 0)) l.live l.copies l.number

@@ -26,7 +26,7 @@ returns-else-standard-floor-clause-value g c =
     let hand = c.args.hand.now in
     let melds = c.args.melds.now in
     let least = least_beside hand melds c.count-melded.result (Some c.in-Some.standard) c.count-melded.ensures.value (c.in-Some.ensures c.args.melds.now c.requires.joins c.requires.melded) in
-    distance_is hand melds c.min.result (whole_distance hand melds c.count-melded.ensures.melds.at_most_four c.requires.melded c.in-Some.standard least c.special_distance.result c.min.result c.special_distance.ensures c.min.ensures)
+    distance_is hand melds c.min.result (whole_distance hand melds c.count-melded.ensures.melds.at_most_four c.requires.melded c.in-Some.standard least c.distance.result c.min.result (c.distance.ensures hand melds c.new.ensures) c.min.ensures)
 
 pub returns-else-standard-floor-clause-few : goal.returns-else-standard-floor-clause-few
 returns-else-standard-floor-clause-few g c =

@@ -1,0 +1,33 @@
+-- Which kinds the least winning multisets lack, as the program keeps them.
+use Rattle.std.specs.Prelude.{ℕ, ◌-◌, ◌<◌, ◌≤◌, ◌↔◌, ◌||◌, Bool, IsTrue, if◌then◌else◌, nat_lt, List, slice_index}
+use Rattle.riichi_rows.specs.Marks.{has_rank}
+use Rattle.riichi_tiles.specs.declared.meld.Meld.{Meld}
+use Rattle.riichi_shape.specs.Lacked.{StandardLacks, WinningLacks}
+use Rattle.riichi_shape.specs.Special.{special_lacks}
+use Rattle.riichi_shape.specs.Winning.{IsSetsAndPair, WithinFour, lacking}
+use Rattle.riichi_shape.specs.declared.lacked_kinds.LackedKinds.{LackedKinds}
+use Rattle.riichi_shape.specs.declared.suits_lacked.SuitsLacked.{SuitsLacked}
+
+-- a kind is lacked where its rank is lacked in its suit
+abbrev pub suits_lack : SuitsLacked → ℕ → Bool
+suits_lack suits kind =
+    if nat_lt kind 9 then has_rank suits.characters kind
+    else (if nat_lt kind 18 then has_rank suits.circles (kind - 9)
+    else (if nat_lt kind 27 then has_rank suits.bamboos (kind - 18)
+    else has_rank suits.honours (kind - 27)))
+
+-- a kind of which so many are held is lacked by sets and a pair, or by another form
+abbrev pub lacks_kind : LackedKinds → ℕ → ℕ → Bool
+lacks_kind lacked kind held = suits_lack lacked.suits kind || special_lacks lacked.special kind held
+
+-- no sets and a pair lack fewer than n tiles
+abbrev pub NoneStandardLess : List ℕ → List Meld → ℕ → ℕ → Type 0
+NoneStandardLess hand melds sets n = (wanted : List ℕ) → IsSetsAndPair sets wanted → WithinFour melds wanted → n ≤ lacking hand wanted
+
+-- just the kinds that some sets and a pair lack which lack n tiles
+pub record AreSuitsLacked (hand : List ℕ) (melds : List Meld) (sets n : ℕ) (suits : SuitsLacked) : Type 0 where
+  pub at : (kind : ℕ) → kind < 34 → IsTrue (suits_lack suits kind) ↔ StandardLacks hand melds sets n kind
+
+-- just the kinds that some winning multiset lacks which lacks n tiles
+pub record AreLackedKinds (hand : List ℕ) (melds : List Meld) (n : ℕ) (lacked : LackedKinds) : Type 0 where
+  pub at : (kind : ℕ) → kind < 34 → IsTrue (lacks_kind lacked kind (slice_index hand kind)) ↔ WinningLacks hand melds n kind
