@@ -1,5 +1,5 @@
 -- A line whose first tests have passed.
-use Rattle.std.proofs.Common.{◌≡◌, ◌≤◌, ℕ, List, ◌∷◌, false, Option, Some, None, Ok, Err, refl, ap}
+use Rattle.std.proofs.Common.{◌≡◌, ◌≤◌, ℕ, List, ◌∷◌, false, Option, Some, None, Ok, Err, refl, sym, ap}
 use Rattle.std.specs.Prelude.{is_some, MatchOption, length}
 use Rattle.std.specs.List.{list_any}
 use Rattle.std.proofs.lemmas.Bool.{le-ltb}
@@ -7,7 +7,10 @@ use Rattle.riichi_tiles.specs.declared.meld.Meld.{Meld}
 use Rattle.riichi_hand.specs.declared.fault.LineFault.{LineFault}
 use Rattle.riichi_hand.specs.declared.fault.TextName.TheVariants.{Hand, On, Dora, Ura, Seen}
 use Rattle.riichi_hand.specs.declared.win.Rules.{Rules}
+use Rattle.riichi_hand.specs.declared.win.Rules.TheVariants.{One, Two}
 use Rattle.riichi_hand.specs.declared.win.WinParts.{WinParts}
+use Rattle.riichi_hand.specs.Win.{kept_under, win_of}
+use Rattle.riichi_hand.specs.Jobs.{win_parts}
 use Rattle.riichi_hand.specs.declared.job.Job.{Job}
 use Rattle.riichi_hand.specs.declared.job.Job.TheVariants as jobs
 use Rattle.riichi_hand.specs.declared.line.job_name.JobName.{JobName}
@@ -19,7 +22,7 @@ use Rattle.riichi_hand.specs.Words.{words_of}
 use Rattle.riichi_hand.specs.Keys.{job_named}
 use Rattle.riichi_hand.specs.Entries.{Entries, entries_of, cut_at_equals}
 use Rattle.riichi_hand.specs.Parts.{LineParts, line_parts, value}
-use Rattle.riichi_hand.specs.Texts.{text_fault, melds_in, texts_of}
+use Rattle.riichi_hand.specs.Texts.{text_fault, melds_in, texts_of, only_kind}
 use Rattle.riichi_hand.specs.Lines.{is_other_byte, is_no_record, outcome_of}
 use Rattle.riichi_hand.specs.Steps.{win_or_fault, job_or_fault, texts_or_fault, entries_or_fault, record_or_fault}
 
@@ -69,3 +72,14 @@ outcome-ok rules line job short some read = rw (le-ltb 4096 (length line) short,
 pub outcome-err : (rules : Rules) (line : List ℕ) (fault : LineFault) → length line ≤ 4096 → is_no_record line ≡ false → Err fault ≡ record_or_fault rules line → Err fault ≡ outcome_of rules line
 unfolding record_or_fault outcome_of
 outcome-err rules line fault short some refused = rw (le-ltb 4096 (length line) short, some) (told-err _ _ _ fault refused)
+
+-- the parts that the rules keep are told as the parts are
+pub win_of_kept : (rules : Rules) (parts : LineParts) (texts : Texts) (winning : ℕ) → win_of (kept_under rules (win_parts rules parts texts winning)) ≡ win_of (win_parts rules parts texts winning)
+unfolding win_of
+win_of_kept One parts texts winning = refl
+win_of_kept Two parts texts winning = refl
+
+-- the win of the only winning tile
+pub win_of_only : (rules : Rules) (parts : LineParts) (texts : Texts) (winning : ℕ) → Some winning ≡ only_kind texts.on → win_of (win_parts rules parts texts winning) ≡ win_or_fault rules parts texts
+unfolding win_of win_or_fault
+win_of_only rules parts texts winning only = rw (sym only) refl

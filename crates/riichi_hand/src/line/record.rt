@@ -80,7 +80,18 @@ fn read_record(rules: Rules, line: &[u8]) -> Result<Job, LineFault>
 fn has_other_byte(line: &[u8]) -> bool
     ensures { result ≡ list_any is_other_byte line.now }
 {
-    line.iter().any(|byte| *byte < 0x20 || *byte > 0x7e)
+    let mut found = false;
+    for byte in line {
+        found = found | is_other_byte(*byte);
+    }
+    found
+}
+
+/// A byte that no line has.
+fn is_other_byte(byte: u8) -> bool
+    ensures { result ≡ is_other_byte byte }
+{
+    byte < 0x20 || byte > 0x7e
 }
 
 /// The job of the parts, or the first fault. Their entries decide H4 to H6.
