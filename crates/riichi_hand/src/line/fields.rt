@@ -19,7 +19,7 @@ pub(crate) struct Fields<'a> {
 }
 
 impl<'a> Fields<'a> {
-    fn new() -> Fields<'a>
+    pub(crate) fn new() -> Fields<'a>
         ensures { (job : JobName) → entries_in result ≡ entries_of job [] }
     {
         Fields {
@@ -68,16 +68,13 @@ fn put<'a>(values: &mut [Option<&'a [u8]>; Key::COUNT], key: Key, value: &'a [u8
     values[key.index()] = Some(value);
 }
 
-/// The fields of the words of a text.
-pub(crate) fn read_fields(job: JobName, text: &[u8]) -> Fields<'_>
-    ensures { entries_in result ≡ entries_of job (words_of text.now) }
+/// Takes the words of a text into fields that have none yet.
+pub(crate) fn read_fields<'a>(fields: &mut Fields<'a>, job: JobName, text: &'a [u8])
+    requires { entries_in fields.old ≡ entries_of job [] }
+    ensures { entries_in fields.new ≡ entries_of job (words_of text.now) }
 {
-    let mut fields = Fields::new();
     let mut rest = text;
-    loop {
-        let Some((word, after)) = next_word(rest) else {
-            return fields;
-        };
+    while let Some((word, after)) = next_word(rest) {
         fields.add(job, word);
         rest = after;
     }

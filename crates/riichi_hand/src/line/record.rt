@@ -7,7 +7,7 @@ ghost use Rattle.riichi_hand.specs.Lines.{outcome_of, is_no_record, is_other_byt
 ghost use Rattle.riichi_hand.specs.Steps.{record_or_fault, entries_or_fault};
 
 use super::cuts::{next_word, split_at_mark};
-use super::fields::read_fields;
+use super::fields::{Fields, read_fields};
 use super::job_name::JobName;
 use super::key::Key;
 use super::parts::Parts;
@@ -73,8 +73,13 @@ fn read_record(rules: Rules, line: &[u8]) -> Result<Job, LineFault>
     if split_at_mark(hand, b'=').is_some() {
         return Err(LineFault::Line(LineCode::H3));
     }
-    let fields = read_fields(job, entries);
-    read_parts(rules, &Parts { job, hand, fields })
+    let mut parts = Parts {
+        job,
+        hand,
+        fields: Fields::new(),
+    };
+    read_fields(&mut parts.fields, job, entries);
+    read_parts(rules, &parts)
 }
 
 fn has_other_byte(line: &[u8]) -> bool

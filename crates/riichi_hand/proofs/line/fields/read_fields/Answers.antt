@@ -3,7 +3,7 @@ use Rattle.riichi_hand.specs.Words.{words_of}
 use Rattle.riichi_hand.proofs.line.fields.read_fields.Goals as goal
 
 pub loop-word-init : goal.loop-word-init
-loop-word-init c = ([], refl, c.new-fields.ensures c.args.job)
+loop-word-init c = ([], refl, c.requires)
 
 pub loop-word-preserved : goal.loop-word-preserved
 loop-word-preserved c =

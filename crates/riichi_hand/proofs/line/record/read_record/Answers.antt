@@ -20,5 +20,8 @@ returns c =
     let are : words_of line ≡ word ∷ hand ∷ words = c.in-Some.ensures.0 ∙ ap (λ rest. word ∷ rest) c.in-Some-next_word.ensures.0 in
     let named : job_named word ≡ Some job = sym c.in-Some-read.ensures in
     let no_entry : cut_at_equals hand ≡ None = told_none c.split_at_mark.result (cut_at_equals hand ≡ None) _ c.split_at_mark.ensures (sym c.is_some.ensures ∙ c.if-is_some.false) in
-    c.read_parts.ensures ∙ ap (λ (entries : Entries). entries_or_fault c.args.rules (line_parts job hand entries)) c.read_fields-fields.ensures
+    c.read_parts.ensures ∙ ap (λ (entries : Entries). entries_or_fault c.args.rules (line_parts job hand entries)) c.read_fields.ensures
     ∙ entries_or_fault-words c.args.rules line job word hand words printed are named no_entry
+
+pub read_fields-requires : goal.read_fields-requires
+read_fields-requires c = c.new.ensures c.in-Some-read.job
