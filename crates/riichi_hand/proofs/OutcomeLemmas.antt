@@ -10,7 +10,9 @@ use Rattle.riichi_hand.specs.declared.win.Rules.{Rules}
 use Rattle.riichi_hand.specs.declared.win.Rules.TheVariants.{One, Two}
 use Rattle.riichi_hand.specs.declared.win.WinParts.{WinParts}
 use Rattle.riichi_hand.specs.Win.{kept_under, win_of}
-use Rattle.riichi_hand.specs.Jobs.{win_parts}
+use Rattle.riichi_hand.specs.HandParts.{HandParts}
+use Rattle.riichi_hand.specs.Hand.{hand_of}
+use Rattle.riichi_hand.specs.Jobs.{win_parts, told_hand}
 use Rattle.riichi_hand.specs.declared.job.Job.{Job}
 use Rattle.riichi_hand.specs.declared.job.Job.TheVariants as jobs
 use Rattle.riichi_hand.specs.declared.line.job_name.JobName.{JobName}
@@ -43,6 +45,16 @@ pub job_or_fault-win_ok : (rules : Rules) (job : JobName) (hand : List ℕ) (ent
     → Ok win ≡ win_or_fault rules (line_parts job hand entries) texts → Ok (jobs.Win win) ≡ job_or_fault rules (line_parts job hand entries) texts
 unfolding win_or_fault job_or_fault
 job_or_fault-win_ok rules job hand entries texts win is told_win = rw is (told-ok _ jobs.Win _ win told_win)
+
+pub job_or_fault-waits_err : (rules : Rules) (job : JobName) (hand : List ℕ) (entries : Entries) (texts : Texts) (fault : LineFault) → job ≡ names.Waits
+    → Err fault ≡ hand_of (told_hand texts) → Err fault ≡ job_or_fault rules (line_parts job hand entries) texts
+unfolding hand_of job_or_fault
+job_or_fault-waits_err rules job hand entries texts fault is refused = rw is (told-err _ _ _ fault refused)
+
+pub job_or_fault-waits_ok : (rules : Rules) (job : JobName) (hand : List ℕ) (entries : Entries) (texts : Texts) (held : HandParts) → job ≡ names.Waits
+    → Ok held ≡ hand_of (told_hand texts) → Ok (jobs.Waits held) ≡ job_or_fault rules (line_parts job hand entries) texts
+unfolding hand_of job_or_fault
+job_or_fault-waits_ok rules job hand entries texts held is told_so = rw is (told-ok _ jobs.Waits _ held told_so)
 
 -- no text has a fault
 pub job_or_fault-texts : (rules : Rules) (parts : LineParts) (texts : Texts) (melds : List Meld) → texts ≡ texts_of parts

@@ -68,7 +68,7 @@ fn lowest_kind(counts: &Counts) -> Option<Kind>
 fn win_parts(rules: Rules, parts: &Parts<'_>, texts: &Texts, winning: Kind) -> WinParts
     ensures { result ≡ kept_under rules (win_parts rules (parts_in parts.now) texts.now winning) }
 {
-    let fields = &parts.fields;
+    let fields = parts.fields;
     WinParts {
         rules,
         concealed: texts.hand,
@@ -101,7 +101,7 @@ fn reds_under(rules: Rules, parts: &Parts<'_>) -> Reds
 fn reds_of_line(parts: &Parts<'_>) -> Reds
     ensures { result ≡ reds (parts_in parts.now) }
 {
-    let fields = &parts.fields;
+    let fields = parts.fields;
     reds_of(parts.hand)
         .joined(&reds_of(fields.text(Key::On)))
         .joined(&reds_of(fields.text(Key::Open)))

@@ -73,12 +73,13 @@ fn read_record(rules: Rules, line: &[u8]) -> Result<Job, LineFault>
     if split_at_mark(hand, b'=').is_some() {
         return Err(LineFault::Line(LineCode::H3));
     }
-    let mut parts = Parts {
+    let mut fields = Fields::new();
+    read_fields(&mut fields, job, entries);
+    let parts = Parts {
         job,
         hand,
-        fields: Fields::new(),
+        fields: &fields,
     };
-    read_fields(&mut parts.fields, job, entries);
     read_parts(rules, &parts)
 }
 
@@ -120,7 +121,7 @@ fn read_parts(rules: Rules, parts: &Parts<'_>) -> Result<Job, LineFault>
 fn is_missing(parts: &Parts<'_>) -> bool
     ensures { result ≡ list_any (is_missing (parts_in parts.now)) (needed parts.now.job) }
 {
-    let fields = &parts.fields;
+    let fields = parts.fields;
     match parts.job {
         JobName::Win => {
             fields.value(Key::On).is_none()

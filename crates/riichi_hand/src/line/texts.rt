@@ -30,7 +30,7 @@ pub(crate) struct Texts {
 pub(crate) fn read_texts(rules: Rules, parts: &Parts<'_>) -> Result<Job, LineFault>
     ensures { result ≡ texts_or_fault rules (parts_in parts.now) }
 {
-    let fields = &parts.fields;
+    let fields = parts.fields;
     let hand = read_text(TextName::Hand, parts.hand)?;
     let on = read_optional(TextName::On, fields.value(Key::On))?;
     let dora = read_optional(TextName::Dora, fields.value(Key::Dora))?;

@@ -24,4 +24,4 @@ returns c =
     ∙ entries_or_fault-words c.args.rules line job word hand words printed are named no_entry
 
 pub read_fields-requires : goal.read_fields-requires
-read_fields-requires c = c.new.ensures c.in-Some-read.job
+read_fields-requires c = c.new-fields.ensures c.in-Some-read.job
