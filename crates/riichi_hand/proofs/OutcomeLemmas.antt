@@ -1,6 +1,6 @@
 -- A line whose first tests have passed.
 use Rattle.std.proofs.Common.{◌≡◌, ◌≤◌, ℕ, List, ◌∷◌, false, Option, Some, None, Ok, Err, refl, sym, ap}
-use Rattle.std.specs.Prelude.{is_some, MatchOption, length}
+use Rattle.std.specs.Prelude.{length}
 use Rattle.std.specs.List.{list_any}
 use Rattle.std.proofs.lemmas.Bool.{le-ltb}
 use Rattle.riichi_tiles.specs.declared.meld.Meld.{Meld}
@@ -70,11 +70,6 @@ pub entries_or_fault-words : (rules : Rules) (line : List ℕ) (job : JobName) (
     → entries_or_fault rules (line_parts job hand (entries_of job words)) ≡ record_or_fault rules line
 unfolding entries_or_fault record_or_fault
 entries_or_fault-words rules line job word hand words printed are named no_entry = rw (printed, are, named, no_entry) refl
-
--- what a call told of a value that isn't there
-pub told_none : {X : Type 0} (option : Option X) (P : Type 0) (Q : X → Type 0) → MatchOption option P Q → is_some option ≡ false → P
-told_none None P Q told none = told
-told_none (Some x) P Q told none = absurd (cc)
 
 -- the outcome of a record line
 pub outcome-ok : (rules : Rules) (line : List ℕ) (job : Job) → length line ≤ 4096 → is_no_record line ≡ false → Ok job ≡ record_or_fault rules line → Ok (Some job) ≡ outcome_of rules line

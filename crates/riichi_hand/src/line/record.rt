@@ -6,7 +6,7 @@ ghost use Rattle.riichi_hand.specs.Parts.{is_missing, parts_in};
 ghost use Rattle.riichi_hand.specs.Lines.{outcome_of, is_no_record, is_other_byte};
 ghost use Rattle.riichi_hand.specs.Steps.{record_or_fault, entries_or_fault};
 
-use super::cuts::{next_word, split_at_mark};
+use super::cuts::{has_mark, next_word};
 use super::fields::{Fields, read_fields};
 use super::job_name::JobName;
 use super::key::Key;
@@ -70,7 +70,7 @@ fn read_record(rules: Rules, line: &[u8]) -> Result<Job, LineFault>
     let Some((hand, entries)) = next_word(after_job) else {
         return Err(LineFault::Line(LineCode::H3));
     };
-    if split_at_mark(hand, b'=').is_some() {
+    if has_mark(hand, b'=') {
         return Err(LineFault::Line(LineCode::H3));
     }
     let mut fields = Fields::new();
