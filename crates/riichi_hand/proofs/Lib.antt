@@ -1,3 +1,4 @@
+pub mod CopyLemmas
 pub mod WordLemmas
 pub mod CutLemmas
 pub mod FlagLemmas

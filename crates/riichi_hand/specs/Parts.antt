@@ -38,7 +38,7 @@ parts_of words =
     line_parts job (unwrap_or (hand_in words) []) (entries_of job (drop 2 words))
 
 abbrev pub parts_in : Parts → LineParts
-parts_in parts = line_parts parts.job parts.hand.now (entries_in parts.fields)
+parts_in parts = line_parts parts.job parts.hand.now (entries_in parts.fields.now)
 
 abbrev pub value : Key → LineParts → Option (List ℕ)
 value key parts = parts.entries.value key

@@ -39,6 +39,10 @@ texts_of parts = record {
   melds = unwrap_or (melds_in (value Open parts)) [];
 }
 
+-- no tiles at all
+abbrev pub no_texts : Texts
+no_texts = record { hand = replicate 34 0; on = replicate 34 0; dora = replicate 34 0; ura = replicate 34 0; seen = replicate 34 0; melds = [] }
+
 -- the kind of the only tile
 abbrev pub only_kind : List ℕ → Option ℕ
 only_kind counts = if sum counts == 1 then find (λ kind. nat_lt 0 (slice_index counts kind)) every_kind else None

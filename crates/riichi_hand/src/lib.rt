@@ -20,6 +20,7 @@
 //! ```
 #![tactic(auto)]
 
+mod copies;
 mod fault;
 mod hand;
 mod job;

@@ -1,7 +1,9 @@
 //! A win, and what must be true of its parts.
-ghost use Rattle.std.specs.Prelude.{◌≡◌, ◌≤◌};
+ghost use Rattle.std.specs.Prelude.{◌≡◌, ◌≤◌, ℕ, slice_index};
+ghost use Rattle.riichi_tiles.specs.Melds.{tiles};
 ghost use Rattle.riichi_hand.specs.Win as spec;
 
+use crate::copies::meld_tiles;
 use crate::fault::{LineCode, LineFault};
 use crate::hand::is_thirteen;
 use riichi_tiles::{Counts, Kind, Melds, Reds};
@@ -306,17 +308,27 @@ fn is_ron(by: By) -> bool
 }
 
 /// Over hand, melds, the winning tile and the indicators.
+#[tactic(auto, using(crate::proofs::CopyLemmas::any_kind_more))]
 fn has_five_copies(parts: &WinParts) -> bool
     ensures { result ≡ spec.has_five_copies parts.now }
 {
-    (0..34).any(|number| copies_of(parts, Kind::at(number)) > 4)
+    let melds = meld_tiles(&parts.melds);
+    let mut found = false;
+    for number in 0..34 {
+        found = found | (copies_of(parts, &melds, Kind::at(number)) > 4);
+    }
+    found
 }
 
-/// The copies of a kind, with those among the indicators.
-fn copies_of(parts: &WinParts, kind: Kind) -> u8
+/// The copies of a kind, with those among the indicators, where the tiles of the melds are told kind by kind.
+fn copies_of(parts: &WinParts, melds: &[u8; 34], kind: Kind) -> u8
+    requires value { (kind : ℕ) → slice_index melds.now kind ≡ tiles parts.now.melds kind }
+    requires most { (kind : ℕ) → slice_index melds.now kind ≤ 16 }
     ensures { result ≡ spec.copies_in parts.now kind }
 {
-    copies_held(parts, kind) + parts.dora.get(kind) + parts.ura.get(kind)
+    let one = if parts.winning == kind { 1 } else { 0 };
+    let held = parts.concealed.get(kind) + melds[kind.index()] + one;
+    held + parts.dora.get(kind) + parts.ura.get(kind)
 }
 
 /// The copies of a kind among hand, melds and the winning tile.

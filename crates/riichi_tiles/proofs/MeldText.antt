@@ -191,6 +191,58 @@ finds_meld counts meld are proper just =
     omega arith))
     ∙ ap Some (melded_same meld)
 
+-- Only the meld of the lowest kind can have just the tiles.
+
+has_own : (name : MeldName) (i : ℕ) → 0 < tiles_of (melded name i) i
+has_own names.Chi i = grind (arith, nat_tests)
+has_own names.Pon i = grind (arith, nat_tests)
+has_own names.Kan i = grind (arith, nat_tests)
+has_own names.Ankan i = grind (arith, nat_tests)
+
+none_before : (name : MeldName) (i kind : ℕ) → kind < i → tiles_of (melded name i) kind ≡ 0
+none_before names.Chi i kind less = grind (arith, nat_tests)
+none_before names.Pon i kind less = grind (arith, nat_tests)
+none_before names.Kan i kind less = grind (arith, nat_tests)
+none_before names.Ankan i kind less = grind (arith, nat_tests)
+
+reads_lowest : (counts : List ℕ) (name : MeldName) (i low : ℕ) → i < 34 → low < 34 → ((kind : ℕ) → kind < low → slice_index counts kind ≡ 0)
+    → 0 < slice_index counts low → reads_as counts (melded name i) ≡ true → i ≡ low
+reads_lowest counts name i low short below none some is =
+    let just = (and_parts (is_meld (melded name i)) (has_just counts (melded name i)) is).1 in
+    let at_low = just_at counts (melded name i) low just below in
+    let at_i = just_at counts (melded name i) i just short in
+    elim (cases_lt i low) [
+      | inl less ↦ absurd (omega (arith, has_own name i, at_i, none i less))
+      | inr more ↦ elim (cases_lt low i) [ inl over ↦ absurd (omega (arith, some, at_low, none_before name i low over)) | inr same ↦ omega arith ]
+    ]
+
+find_none : {X : Type 0} (p : X → Bool) (make : ℕ → X) (start n : ℕ) → ((i : ℕ) → start ≤ i → i < start + n → p (make i) ≡ false)
+    → find p (map make (range_with_len start n)) ≡ None
+find_none p make start zero fails = refl
+find_none p make start (suc n) fails = rw (fails start (omega arith) (omega arith)) (find_none p make (start + 1) n (λ i low high. fails i (omega arith) (omega arith)))
+
+pub finds_lowest : (counts : List ℕ) (name : MeldName) (low : ℕ) → low < 34 → 0 < slice_index counts low → ((kind : ℕ) → kind < low → slice_index counts kind ≡ 0)
+    → reads_as counts (melded name low) ≡ true → find (reads_as counts) (map (melded name) every_kind) ≡ Some (melded name low)
+finds_lowest counts name low below some none passes =
+    find_made (reads_as counts) (melded name) 0 34 low (omega arith) (omega arith) passes
+    (λ i from before. false_from_ne_true (reads_as counts (melded name i)) (λ is. omega (arith, reads_lowest counts name i low (omega arith) below none some is)))
+
+pub finds_no_other : (counts : List ℕ) (name : MeldName) (low : ℕ) → low < 34 → 0 < slice_index counts low → ((kind : ℕ) → kind < low → slice_index counts kind ≡ 0)
+    → reads_as counts (melded name low) ≡ false → find (reads_as counts) (map (melded name) every_kind) ≡ None
+finds_no_other counts name low below some none fails =
+    find_none (reads_as counts) (melded name) 0 34
+    (λ i from short. false_from_ne_true (reads_as counts (melded name i)) (λ is.
+    let P : ℕ → Type 0 = λ k. reads_as counts (melded name k) ≡ true in
+    let passes = subst P (reads_lowest counts name i low (omega arith) below none some is) is in
+    let bad : true ≡ false = sym passes ∙ fails in cc))
+
+pub finds_nothing : (counts : List ℕ) (name : MeldName) → ((kind : ℕ) → kind < 34 → slice_index counts kind ≡ 0) → find (reads_as counts) (map (melded name) every_kind) ≡ None
+finds_nothing counts name none =
+    find_none (reads_as counts) (melded name) 0 34
+    (λ i from short. false_from_ne_true (reads_as counts (melded name i)) (λ is.
+    let just = (and_parts (is_meld (melded name i)) (has_just counts (melded name i)) is).1 in
+    omega (arith, has_own name i, just_at counts (melded name i) i just (omega arith), none i (omega arith))))
+
 -- Both directions.
 
 pub meld_of_spelled : (text : List ℕ) (meld : Meld) → SpellsMeld text meld → meld_of text ≡ Some meld

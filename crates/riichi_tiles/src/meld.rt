@@ -1,4 +1,4 @@
-ghost use Rattle.std.specs.Prelude.{◌≡◌, ℕ, map, Some, None, true, IfSome, MatchOption};
+ghost use Rattle.std.specs.Prelude.{◌≡◌, ◌<◌, ℕ, map, slice_index, Some, None, true, IfSome, MatchOption};
 ghost use Rattle.std.specs.List.{list_all, range_with_len, find};
 ghost use Rattle.riichi_tiles.specs.Melds.{tiles_of, is_open, is_kong, is_meld, reads_as, named, melded, meld_of, has_just, cut_named, cut_at, SpellsMeld};
 ghost use Rattle.riichi_tiles.specs.declared.meld.Meld.{Meld};
@@ -98,14 +98,31 @@ fn begins_run(kind: Kind) -> bool
     kind.index() < 27 && kind.index() % 9 < 7
 }
 
-/// The meld of this name that has just these tiles.
+/// The meld of this name that has just these tiles. It can only be that of the lowest kind.
 fn find_meld(name: MeldName, counts: &Counts) -> Option<Meld>
     ensures value { result ≡ find (reads_as counts.now) (map (melded name) (range_with_len 0 34)) }
     ensures proper { IfSome result (λ meld. is_meld meld ≡ true) }
 {
-    (0..34)
-        .map(|number| make(name, Kind::at(number)))
-        .find(|meld| is_spelled(counts, meld))
+    let meld = make(name, lowest_kind(counts)?);
+    if is_spelled(counts, &meld) {
+        Some(meld)
+    } else {
+        None
+    }
+}
+
+/// The lowest kind that is held.
+fn lowest_kind(counts: &Counts) -> Option<Kind>
+    ensures { MatchOption result ((kind : ℕ) → kind < 34 → slice_index counts.now kind ≡ 0)
+        (λ low. (low < 34) × (0 < slice_index counts.now low) × ((kind : ℕ) → kind < low → slice_index counts.now kind ≡ 0)) }
+{
+    for number in 0..34 {
+        let kind = Kind::at(number);
+        if counts.get(kind) > 0 {
+            return Some(kind);
+        }
+    }
+    None
 }
 
 fn make(name: MeldName, kind: Kind) -> Meld

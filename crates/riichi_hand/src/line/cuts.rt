@@ -1,5 +1,5 @@
 //! The words of a line, and texts cut at a mark.
-ghost use Rattle.std.specs.Prelude.{◌≡◌, ◌<◌, ◌≤◌, ◌==◌, [], ◌∷◌, false, true, length, MatchOption, None, Some, not, take, drop};
+ghost use Rattle.std.specs.Prelude.{◌≡◌, ◌<◌, ◌≤◌, ◌==◌, [], ◌∷◌, false, true, length, MatchOption, None, Some, is_some, not, take, drop};
 ghost use Rattle.std.specs.List.{list_all};
 ghost use Rattle.riichi_tiles.specs.Melds.{cut_at};
 ghost use Rattle.riichi_hand.specs.Words.{words_of, begins_with_space};
@@ -40,6 +40,17 @@ fn word_len(text: &[u8]) -> usize
         len += 1;
     }
     len
+}
+
+/// Whether a mark stands in a text.
+pub(crate) fn has_mark(text: &[u8], mark: u8) -> bool
+    ensures { result ≡ is_some (cut_at mark text.now) }
+{
+    let mut found = false;
+    for byte in text {
+        found = found | (*byte == mark);
+    }
+    found
 }
 
 /// What stands before and after the first mark.

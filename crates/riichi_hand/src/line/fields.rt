@@ -19,7 +19,7 @@ pub(crate) struct Fields<'a> {
 }
 
 impl<'a> Fields<'a> {
-    fn new() -> Fields<'a>
+    pub(crate) fn new() -> Fields<'a>
         ensures { (job : JobName) → entries_in result ≡ entries_of job [] }
     {
         Fields {
@@ -42,55 +42,40 @@ impl<'a> Fields<'a> {
         self.value(key).unwrap_or(&[])
     }
 
-    /// The fields after one more word.
-    fn with(self, job: JobName, word: &'a [u8]) -> Fields<'a>
-        ensures { (words : List (List ℕ)) → entries_in self.entry ≡ entries_of job words
-            → entries_in result ≡ entries_of job (words ++ word.now ∷ []) }
+    /// Takes one more word.
+    fn add(&mut self, job: JobName, word: &'a [u8])
+        ensures { (words : List (List ℕ)) → entries_in self.old ≡ entries_of job words
+            → entries_in self.new ≡ entries_of job (words ++ word.now ∷ []) }
     {
-        let Some((key, value)) = read_entry(job, word) else {
-            return Fields {
-                has_bad_word: true,
-                ..self
-            };
-        };
-        if self.value(key).is_some() {
-            return Fields {
-                has_doubled_key: true,
-                ..self
-            };
-        }
-        Fields {
-            values: put(self.values, key, value),
-            ..self
+        match read_entry(job, word) {
+            None => self.has_bad_word = true,
+            Some((key, value)) => {
+                if self.value(key).is_some() {
+                    self.has_doubled_key = true;
+                } else {
+                    put(&mut self.values, key, value);
+                }
+            }
         }
     }
 }
 
-/// The values with one more, in the place of its key.
-fn put<'a>(
-    values: [Option<&'a [u8]>; Key::COUNT],
-    key: Key,
-    value: &'a [u8],
-) -> [Option<&'a [u8]>; Key::COUNT]
-    ensures here { slice_index_or result (number_of_key key) None ≡ Some value.entry }
-    ensures elsewhere { result ≡ slice_set values.entry (number_of_key key) (Some value.entry) }
+/// Puts a value in the place of its key.
+fn put<'a>(values: &mut [Option<&'a [u8]>; Key::COUNT], key: Key, value: &'a [u8])
+    ensures here { slice_index_or values.new (number_of_key key) None ≡ Some value.entry }
+    ensures elsewhere { values.new ≡ slice_set values.old (number_of_key key) (Some value.entry) }
 {
-    let mut values = values;
     values[key.index()] = Some(value);
-    values
 }
 
-/// The fields of the words of a text.
-pub(crate) fn read_fields(job: JobName, text: &[u8]) -> Fields<'_>
-    ensures { entries_in result ≡ entries_of job (words_of text.now) }
+/// Takes the words of a text into fields that have none yet.
+pub(crate) fn read_fields<'a>(fields: &mut Fields<'a>, job: JobName, text: &'a [u8])
+    requires { entries_in fields.old ≡ entries_of job [] }
+    ensures { entries_in fields.new ≡ entries_of job (words_of text.now) }
 {
-    let mut fields = Fields::new();
     let mut rest = text;
-    loop {
-        let Some((word, after)) = next_word(rest) else {
-            return fields;
-        };
-        fields = fields.with(job, word);
+    while let Some((word, after)) = next_word(rest) {
+        fields.add(job, word);
         rest = after;
     }
 }

@@ -1,5 +1,6 @@
 //! The job of a line whose texts are read.
-ghost use Rattle.std.specs.Prelude.{◌≡◌, nat_lt, slice_index};
+ghost use Rattle.std.specs.Prelude.{◌≡◌, nat_lt, slice_index, if◌then◌else◌};
+ghost use Rattle.riichi_hand.specs.Win.{is_two, no_reds, kept_under};
 ghost use Rattle.std.specs.List.{find};
 ghost use Rattle.riichi_tiles.specs.Melds.{every_kind};
 ghost use Rattle.riichi_hand.specs.Parts.{parts_in};
@@ -63,11 +64,11 @@ fn lowest_kind(counts: &Counts) -> Option<Kind>
         .find(|kind| counts.get(*kind) > 0)
 }
 
-/// What a win is told as, with the defaults of the keys that are missing.
+/// What a win is told as, with the defaults of the keys that are missing. Red fives are told where the rules keep them.
 fn win_parts(rules: Rules, parts: &Parts<'_>, texts: &Texts, winning: Kind) -> WinParts
-    ensures { result ≡ win_parts rules (parts_in parts.now) texts.now winning }
+    ensures { result ≡ kept_under rules (win_parts rules (parts_in parts.now) texts.now winning) }
 {
-    let fields = &parts.fields;
+    let fields = parts.fields;
     WinParts {
         rules,
         concealed: texts.hand,
@@ -82,7 +83,17 @@ fn win_parts(rules: Rules, parts: &Parts<'_>, texts: &Texts, winning: Kind) -> W
         ura: texts.ura,
         counters: read_number(fields.text(Key::Counters)).unwrap_or(0),
         sticks: read_number(fields.text(Key::Sticks)).unwrap_or(0),
-        reds: reds_of_line(parts),
+        reds: reds_under(rules, parts),
+    }
+}
+
+/// The red fives that the rules keep.
+fn reds_under(rules: Rules, parts: &Parts<'_>) -> Reds
+    ensures { result ≡ (if is_two rules then reds (parts_in parts.now) else no_reds) }
+{
+    match rules {
+        Rules::One => Reds::none(),
+        Rules::Two => reds_of_line(parts),
     }
 }
 
@@ -90,7 +101,7 @@ fn win_parts(rules: Rules, parts: &Parts<'_>, texts: &Texts, winning: Kind) -> W
 fn reds_of_line(parts: &Parts<'_>) -> Reds
     ensures { result ≡ reds (parts_in parts.now) }
 {
-    let fields = &parts.fields;
+    let fields = parts.fields;
     reds_of(parts.hand)
         .joined(&reds_of(fields.text(Key::On)))
         .joined(&reds_of(fields.text(Key::Open)))

@@ -6,5 +6,5 @@ use super::job_name::JobName;
 pub(crate) struct Parts<'a> {
     pub(crate) job: JobName,
     pub(crate) hand: &'a [u8],
-    pub(crate) fields: Fields<'a>,
+    pub(crate) fields: &'a Fields<'a>,
 }

@@ -6,8 +6,8 @@ ghost use Rattle.riichi_hand.specs.Parts.{is_missing, parts_in};
 ghost use Rattle.riichi_hand.specs.Lines.{outcome_of, is_no_record, is_other_byte};
 ghost use Rattle.riichi_hand.specs.Steps.{record_or_fault, entries_or_fault};
 
-use super::cuts::{next_word, split_at_mark};
-use super::fields::read_fields;
+use super::cuts::{has_mark, next_word};
+use super::fields::{Fields, read_fields};
 use super::job_name::JobName;
 use super::key::Key;
 use super::parts::Parts;
@@ -70,17 +70,34 @@ fn read_record(rules: Rules, line: &[u8]) -> Result<Job, LineFault>
     let Some((hand, entries)) = next_word(after_job) else {
         return Err(LineFault::Line(LineCode::H3));
     };
-    if split_at_mark(hand, b'=').is_some() {
+    if has_mark(hand, b'=') {
         return Err(LineFault::Line(LineCode::H3));
     }
-    let fields = read_fields(job, entries);
-    read_parts(rules, &Parts { job, hand, fields })
+    let mut fields = Fields::new();
+    read_fields(&mut fields, job, entries);
+    let parts = Parts {
+        job,
+        hand,
+        fields: &fields,
+    };
+    read_parts(rules, &parts)
 }
 
 fn has_other_byte(line: &[u8]) -> bool
     ensures { result ≡ list_any is_other_byte line.now }
 {
-    line.iter().any(|byte| *byte < 0x20 || *byte > 0x7e)
+    let mut found = false;
+    for byte in line {
+        found = found | is_other_byte(*byte);
+    }
+    found
+}
+
+/// A byte that no line has.
+fn is_other_byte(byte: u8) -> bool
+    ensures { result ≡ is_other_byte byte }
+{
+    byte < 0x20 || byte > 0x7e
 }
 
 /// The job of the parts, or the first fault. Their entries decide H4 to H6.
@@ -104,7 +121,7 @@ fn read_parts(rules: Rules, parts: &Parts<'_>) -> Result<Job, LineFault>
 fn is_missing(parts: &Parts<'_>) -> bool
     ensures { result ≡ list_any (is_missing (parts_in parts.now)) (needed parts.now.job) }
 {
-    let fields = &parts.fields;
+    let fields = parts.fields;
     match parts.job {
         JobName::Win => {
             fields.value(Key::On).is_none()

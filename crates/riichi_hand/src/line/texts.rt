@@ -1,7 +1,7 @@
 //! The notation texts and the melds of a line.
-ghost use Rattle.std.specs.Prelude.{◌≡◌, None, Some, MatchResult, option_map};
+ghost use Rattle.std.specs.Prelude.{◌≡◌, None, Some, MatchResult, option_map, replicate};
 ghost use Rattle.riichi_hand.specs.Parts.{parts_in};
-ghost use Rattle.riichi_hand.specs.Texts.{text_fault, counts_in, melds_in};
+ghost use Rattle.riichi_hand.specs.Texts.{text_fault, counts_in, melds_in, no_texts};
 ghost use Rattle.riichi_hand.specs.Steps.{texts_or_fault};
 ghost use Rattle.riichi_tiles.specs.Notation.{counts_of};
 
@@ -25,52 +25,66 @@ pub(crate) struct Texts {
     pub(crate) melds: Melds,
 }
 
+impl Texts {
+    /// No tiles.
+    fn new() -> Texts
+        ensures { result ≡ no_texts }
+    {
+        Texts {
+            hand: Counts::new(),
+            on: Counts::new(),
+            dora: Counts::new(),
+            ura: Counts::new(),
+            seen: Counts::new(),
+            melds: Melds::new(),
+        }
+    }
+}
+
 /// The job of the parts, or the first fault. The texts are looked at in the order of their faults, and the melds after them.
 #[tactic(auto, unfolding(crate::specs::Steps::texts_or_fault))]
 pub(crate) fn read_texts(rules: Rules, parts: &Parts<'_>) -> Result<Job, LineFault>
     ensures { result ≡ texts_or_fault rules (parts_in parts.now) }
 {
-    let fields = &parts.fields;
-    let hand = read_text(TextName::Hand, parts.hand)?;
-    let on = read_optional(TextName::On, fields.value(Key::On))?;
-    let dora = read_optional(TextName::Dora, fields.value(Key::Dora))?;
-    let ura = read_optional(TextName::Ura, fields.value(Key::Ura))?;
-    let seen = read_optional(TextName::Seen, fields.value(Key::Seen))?;
+    let fields = parts.fields;
+    let mut texts = Texts::new();
+    read_text(&mut texts.hand, TextName::Hand, parts.hand)?;
+    read_optional(&mut texts.on, TextName::On, fields.value(Key::On))?;
+    read_optional(&mut texts.dora, TextName::Dora, fields.value(Key::Dora))?;
+    read_optional(&mut texts.ura, TextName::Ura, fields.value(Key::Ura))?;
+    read_optional(&mut texts.seen, TextName::Seen, fields.value(Key::Seen))?;
     let Some(melds) = read_open(fields.value(Key::Open)) else {
         return Err(LineFault::Line(LineCode::H7));
     };
-    let texts = Texts {
-        hand,
-        on,
-        dora,
-        ura,
-        seen,
-        melds,
-    };
+    texts.melds = melds;
     make_job(rules, parts, &texts)
 }
 
-/// The tiles of a notation text, or its fault.
-fn read_text(name: TextName, text: &[u8]) -> Result<Counts, LineFault>
+/// Puts the tiles of a notation text, or tells its fault.
+fn read_text(counts: &mut Counts, name: TextName, text: &[u8]) -> Result<(), LineFault>
     ensures { MatchResult result
-        (λ counts. (text_fault name (Some text.now) ≡ None) × (counts ≡ counts_of text.now))
+        (λ _. (text_fault name (Some text.now) ≡ None) × (counts.new ≡ counts_of text.now))
         (λ fault. text_fault name (Some text.now) ≡ Some fault) }
 {
     match read_counts(text) {
-        Ok(counts) => Ok(counts),
+        Ok(told) => {
+            *counts = told;
+            Ok(())
+        }
         Err(fault) => Err(LineFault::Notation(name, fault)),
     }
 }
 
-/// No tiles where the text is missing.
-fn read_optional(name: TextName, text: Option<&[u8]>) -> Result<Counts, LineFault>
+/// Leaves no tiles where the text is missing.
+fn read_optional(counts: &mut Counts, name: TextName, text: Option<&[u8]>) -> Result<(), LineFault>
+    requires { counts.old ≡ replicate 34 0 }
     ensures { let text = option_map (λ text. text.now) text.entry in MatchResult result
-        (λ counts. (text_fault name text ≡ None) × (counts ≡ counts_in text))
+        (λ _. (text_fault name text ≡ None) × (counts.new ≡ counts_in text))
         (λ fault. text_fault name text ≡ Some fault) }
 {
     match text {
-        None => Ok(Counts::new()),
-        Some(text) => read_text(name, text),
+        None => Ok(()),
+        Some(text) => read_text(counts, name, text),
     }
 }
 

@@ -1,0 +1,36 @@
+//! How many tiles of each kind melds have, all kinds at once.
+ghost use Rattle.std.specs.Prelude.{◌≡◌, ◌≤◌, ◌+◌, ℕ, slice_index, true};
+ghost use Rattle.riichi_tiles.specs.Melds.{tiles, tiles_of, is_meld};
+
+use riichi_tiles::{Meld, Melds};
+
+/// The tiles of melds, kind by kind.
+pub(crate) fn meld_tiles(melds: &Melds) -> [u8; 34]
+    ensures value { (kind : ℕ) → slice_index result kind ≡ tiles melds.now kind }
+    ensures most { (kind : ℕ) → slice_index result kind ≤ 16 }
+{
+    let mut held = [0; 34];
+    for place in 0..melds.count() {
+        if let Some(meld) = melds.get(place) {
+            add_meld(&mut held, meld);
+        }
+    }
+    held
+}
+
+/// Adds the tiles of a meld.
+fn add_meld(held: &mut [u8; 34], meld: Meld)
+    requires few { (kind : ℕ) → slice_index held.old kind ≤ 12 }
+    requires proper { is_meld meld ≡ true }
+    ensures { (kind : ℕ) → slice_index held.new kind ≡ slice_index held.old kind + tiles_of meld kind }
+{
+    match meld {
+        Meld::Chi(low) => {
+            held[low.index()] += 1;
+            held[low.index() + 1] += 1;
+            held[low.index() + 2] += 1;
+        }
+        Meld::Pon(kind) => held[kind.index()] += 3,
+        Meld::Kan(kind) | Meld::Ankan(kind) => held[kind.index()] += 4,
+    }
+}
