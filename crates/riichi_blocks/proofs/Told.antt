@@ -67,20 +67,29 @@ circles-or-honours tiles = sym (every-none (λ kind. is_of_suit 1 kind || is_hon
 pub bamboos-or-honours : (tiles : List ℕ) → not (some_in tiles 0 9 || (some_in tiles 9 9 || false)) ≡ every (λ kind. is_of_suit 2 kind || is_honour kind) tiles
 bamboos-or-honours tiles = sym (every-none (λ kind. is_of_suit 2 kind || is_honour kind) tiles every_kind ∙ ap not (three tiles (range_with_len 0 9) (range_with_len 9 9) []))
 
--- kinds in four parts
-four : (tiles first second third fourth : List ℕ) → list_any (λ kind. nat_lt 0 (slice_index tiles kind)) (first ++ (second ++ (third ++ fourth))) ≡ (list_any (λ kind. nat_lt 0 (slice_index tiles kind)) first || (list_any (λ kind. nat_lt 0 (slice_index tiles kind)) second || (list_any (λ kind. nat_lt 0 (slice_index tiles kind)) third || list_any (λ kind. nat_lt 0 (slice_index tiles kind)) fourth)))
-four tiles first second third fourth =
-    list_any-append (λ kind. nat_lt 0 (slice_index tiles kind)) first (second ++ (third ++ fourth))
-    ∙ ap (λ b. list_any (λ kind. nat_lt 0 (slice_index tiles kind)) first || b) (three tiles second third fourth)
+-- kinds in five parts
+five : (tiles first second third fourth fifth : List ℕ) → list_any (λ kind. nat_lt 0 (slice_index tiles kind)) (first ++ (second ++ (third ++ (fourth ++ fifth)))) ≡ (list_any (λ kind. nat_lt 0 (slice_index tiles kind)) first || (list_any (λ kind. nat_lt 0 (slice_index tiles kind)) second || (list_any (λ kind. nat_lt 0 (slice_index tiles kind)) third || (list_any (λ kind. nat_lt 0 (slice_index tiles kind)) fourth || list_any (λ kind. nat_lt 0 (slice_index tiles kind)) fifth))))
+five tiles first second third fourth fifth =
+    three tiles first second (third ++ (fourth ++ fifth))
+    ∙ ap (λ b. list_any (λ kind. nat_lt 0 (slice_index tiles kind)) first || (list_any (λ kind. nat_lt 0 (slice_index tiles kind)) second || b)) (three tiles third fourth fifth)
 
-pub some-of : {a b c d x y z w : Bool} → a ≡ x → b ≡ y → c ≡ z → d ≡ w → (a || (b || (c || d))) ≡ (x || (y || (z || w)))
-some-of {a} {b} {c} {d} {x} {y} {z} {w} e f g h = ap (λ first. first || (b || (c || d))) e ∙ ap (λ second. x || (second || (c || d))) f ∙ ap (λ third. x || (y || (third || d))) g ∙ ap (λ fourth. x || (y || (z || fourth))) h
+pub some-of : {a b c x y z : Bool} → a ≡ x → b ≡ y → c ≡ z → (a || (b || c)) ≡ (x || (y || z))
+some-of {a} {b} {c} {x} {y} {z} e f g = ap (λ first. first || (b || c)) e ∙ ap (λ second. x || (second || c)) f ∙ ap (λ third. x || (y || third)) g
 
-pub some-simple : (tiles : List ℕ) → (some_in tiles 1 7 || (some_in tiles 10 7 || (some_in tiles 19 7 || false))) ≡ some is_simple tiles
-some-simple tiles = sym (four tiles (range_with_len 1 7) (range_with_len 10 7) (range_with_len 19 7) [])
+pub some-simple : (tiles : List ℕ) → (some_in tiles 1 7 || (some_in tiles 10 7 || some_in tiles 19 7)) ≡ some is_simple tiles
+some-simple tiles = sym (three tiles (range_with_len 1 7) (range_with_len 10 7) (range_with_len 19 7))
 
-pub some-terminal : (tiles : List ℕ) → (some_in tiles 0 1 || (some_in tiles 8 2 || (some_in tiles 17 2 || some_in tiles 26 1))) ≡ some is_terminal tiles
-some-terminal tiles = sym (four tiles (range_with_len 0 1) (range_with_len 8 2) (range_with_len 17 2) (range_with_len 26 1))
+pub some-terminal : (tiles : List ℕ) → (some_in tiles 0 1 || (some_in tiles 8 2 || (some_in tiles 17 2 || (some_in tiles 26 1 || false)))) ≡ some is_terminal tiles
+some-terminal tiles = sym (five tiles (range_with_len 0 1) (range_with_len 8 2) (range_with_len 17 2) (range_with_len 26 1) [])
+
+pub some-character : (tiles : List ℕ) → (some_in tiles 0 1 || (some_in tiles 1 7 || some_in tiles 8 1)) ≡ some_in tiles 0 9
+some-character tiles = sym (three tiles (range_with_len 0 1) (range_with_len 1 7) (range_with_len 8 1))
+
+pub some-circle : (tiles : List ℕ) → (some_in tiles 9 1 || (some_in tiles 10 7 || some_in tiles 17 1)) ≡ some_in tiles 9 9
+some-circle tiles = sym (three tiles (range_with_len 9 1) (range_with_len 10 7) (range_with_len 17 1))
+
+pub some-bamboo : (tiles : List ℕ) → (some_in tiles 18 1 || (some_in tiles 19 7 || some_in tiles 26 1)) ≡ some_in tiles 18 9
+some-bamboo tiles = sym (three tiles (range_with_len 18 1) (range_with_len 19 7) (range_with_len 26 1))
 
 abbrev simples : List ℕ
 simples = range_with_len 1 7 ++ (range_with_len 10 7 ++ range_with_len 19 7)
@@ -96,12 +105,3 @@ all-orphans tiles = sym (every-none is_orphan tiles every_kind ∙ ap not (three
 
 pub all-terminals : (tiles : List ℕ) → not (some is_simple tiles || (some_in tiles 27 7 || false)) ≡ every is_terminal tiles
 all-terminals tiles = sym (every-none is_terminal tiles every_kind ∙ ap not (three tiles simples (range_with_len 27 7) []))
-
-pub some-character : (tiles : List ℕ) → (some_in tiles 0 1 || (some_in tiles 1 7 || (some_in tiles 8 1 || false))) ≡ some_in tiles 0 9
-some-character tiles = sym (four tiles (range_with_len 0 1) (range_with_len 1 7) (range_with_len 8 1) [])
-
-pub some-circle : (tiles : List ℕ) → (some_in tiles 9 1 || (some_in tiles 10 7 || (some_in tiles 17 1 || false))) ≡ some_in tiles 9 9
-some-circle tiles = sym (four tiles (range_with_len 9 1) (range_with_len 10 7) (range_with_len 17 1) [])
-
-pub some-bamboo : (tiles : List ℕ) → (some_in tiles 18 1 || (some_in tiles 19 7 || (some_in tiles 26 1 || false))) ≡ some_in tiles 18 9
-some-bamboo tiles = sym (four tiles (range_with_len 18 1) (range_with_len 19 7) (range_with_len 26 1) [])

@@ -10,14 +10,14 @@ use crate::kinds::{KINDS, is_green_tile};
 pub(crate) fn has_terminals(tiles: &[u8; 34]) -> bool
     ensures { result ≡ spec.some kinds.is_terminal tiles.now }
 {
-    let (first, second) = (some_in(tiles, 0, 1), some_in(tiles, 8, 10));
-    some_of(first, second, some_in(tiles, 17, 19), some_in(tiles, 26, 27))
+    let last = some_of(some_in(tiles, 17, 19), some_in(tiles, 26, 27), false);
+    some_of(some_in(tiles, 0, 1), some_in(tiles, 8, 10), last)
 }
 
-pub(crate) fn some_of(first: bool, second: bool, third: bool, fourth: bool) -> bool
-    ensures { result ≡ (first || (second || (third || fourth))) }
+pub(crate) fn some_of(first: bool, second: bool, third: bool) -> bool
+    ensures { result ≡ (first || (second || third)) }
 {
-    first || second || third || fourth
+    first || second || third
 }
 
 /// Whether every tile is one of 2s 3s 4s 6s 8s 6z.

@@ -41,11 +41,11 @@ impl AllTiles {
         let low = some_in(&counts, 1, 8);
         let middle = some_in(&counts, 10, 17);
         let high = some_in(&counts, 19, 26);
-        let characters = some_of(some_in(&counts, 0, 1), low, some_in(&counts, 8, 9), false);
-        let circles = some_of(some_in(&counts, 9, 10), middle, some_in(&counts, 17, 18), false);
-        let bamboos = some_of(some_in(&counts, 18, 19), high, some_in(&counts, 26, 27), false);
+        let characters = some_of(some_in(&counts, 0, 1), low, some_in(&counts, 8, 9));
+        let circles = some_of(some_in(&counts, 9, 10), middle, some_in(&counts, 17, 18));
+        let bamboos = some_of(some_in(&counts, 18, 19), high, some_in(&counts, 26, 27));
         let honours = some_in(&counts, 27, 34);
-        let simples = some_of(low, middle, high, false);
+        let simples = some_of(low, middle, high);
         let terminals = has_terminals(&counts);
         AllTiles {
             simples: none_of(terminals, honours, false),

@@ -10,11 +10,11 @@ invariant_of-result c =
     let low = c.some_in-low.ensures in
     let middle = c.some_in-middle.ensures in
     let high = c.some_in-high.ensures in
-    let m = c.some_of-characters.ensures ∙ some-of {d = false} c.some_in.ensures low c.some_in-2.ensures refl ∙ some-character tiles in
-    let p = c.some_of-circles.ensures ∙ some-of {d = false} c.some_in-3.ensures middle c.some_in-4.ensures refl ∙ some-circle tiles in
-    let s = c.some_of-bamboos.ensures ∙ some-of {d = false} c.some_in-5.ensures high c.some_in-6.ensures refl ∙ some-bamboo tiles in
+    let m = c.some_of-characters.ensures ∙ some-of c.some_in.ensures low c.some_in-2.ensures ∙ some-character tiles in
+    let p = c.some_of-circles.ensures ∙ some-of c.some_in-3.ensures middle c.some_in-4.ensures ∙ some-circle tiles in
+    let s = c.some_of-bamboos.ensures ∙ some-of c.some_in-5.ensures high c.some_in-6.ensures ∙ some-bamboo tiles in
     let z = c.some_in-honours.ensures in
-    let middles = c.some_of-simples.ensures ∙ some-of {d = false} low middle high refl ∙ some-simple tiles in
+    let middles = c.some_of-simples.ensures ∙ some-of low middle high ∙ some-simple tiles in
     let ends = c.has_terminals-terminals.ensures in
     record {
       simples_are = c.none_of.ensures ∙ none-of ends z refl ∙ all-simples tiles;
