@@ -5,8 +5,8 @@ use Rattle.std.specs.List.{list_all, list_any, range_with_len}
 use Rattle.std.proofs.lemmas.List.Folds.{list_any-append}
 use Rattle.std.proofs.lemmas.Bool.Decides.{nat_tests}
 use Rattle.riichi_tiles.specs.Melds.{every_kind}
-use Rattle.riichi_blocks.specs.Held.{every}
-use Rattle.riichi_blocks.specs.Kinds.{is_honour, is_of_suit}
+use Rattle.riichi_blocks.specs.Held.{every, some}
+use Rattle.riichi_blocks.specs.Kinds.{is_honour, is_of_suit, is_orphan, is_simple, is_terminal}
 use Rattle.riichi_blocks.specs.Told.{some_in}
 
 pub of-three : (is_so : ℕ → Bool) (first second third : Bool) → first ≡ is_so 0 → second ≡ is_so 1 → third ≡ is_so 2 → (suit : ℕ) → suit < 3 → get_or (first ∷ second ∷ third ∷ []) suit false ≡ is_so suit
@@ -66,3 +66,42 @@ circles-or-honours tiles = sym (every-none (λ kind. is_of_suit 1 kind || is_hon
 
 pub bamboos-or-honours : (tiles : List ℕ) → not (some_in tiles 0 9 || (some_in tiles 9 9 || false)) ≡ every (λ kind. is_of_suit 2 kind || is_honour kind) tiles
 bamboos-or-honours tiles = sym (every-none (λ kind. is_of_suit 2 kind || is_honour kind) tiles every_kind ∙ ap not (three tiles (range_with_len 0 9) (range_with_len 9 9) []))
+
+-- kinds in five parts
+five : (tiles first second third fourth fifth : List ℕ) → list_any (λ kind. nat_lt 0 (slice_index tiles kind)) (first ++ (second ++ (third ++ (fourth ++ fifth)))) ≡ (list_any (λ kind. nat_lt 0 (slice_index tiles kind)) first || (list_any (λ kind. nat_lt 0 (slice_index tiles kind)) second || (list_any (λ kind. nat_lt 0 (slice_index tiles kind)) third || (list_any (λ kind. nat_lt 0 (slice_index tiles kind)) fourth || list_any (λ kind. nat_lt 0 (slice_index tiles kind)) fifth))))
+five tiles first second third fourth fifth =
+    three tiles first second (third ++ (fourth ++ fifth))
+    ∙ ap (λ b. list_any (λ kind. nat_lt 0 (slice_index tiles kind)) first || (list_any (λ kind. nat_lt 0 (slice_index tiles kind)) second || b)) (three tiles third fourth fifth)
+
+pub some-of : {a b c x y z : Bool} → a ≡ x → b ≡ y → c ≡ z → (a || (b || c)) ≡ (x || (y || z))
+some-of {a} {b} {c} {x} {y} {z} e f g = ap (λ first. first || (b || c)) e ∙ ap (λ second. x || (second || c)) f ∙ ap (λ third. x || (y || third)) g
+
+pub some-simple : (tiles : List ℕ) → (some_in tiles 1 7 || (some_in tiles 10 7 || some_in tiles 19 7)) ≡ some is_simple tiles
+some-simple tiles = sym (three tiles (range_with_len 1 7) (range_with_len 10 7) (range_with_len 19 7))
+
+pub some-terminal : (tiles : List ℕ) → (some_in tiles 0 1 || (some_in tiles 8 2 || (some_in tiles 17 2 || (some_in tiles 26 1 || false)))) ≡ some is_terminal tiles
+some-terminal tiles = sym (five tiles (range_with_len 0 1) (range_with_len 8 2) (range_with_len 17 2) (range_with_len 26 1) [])
+
+pub some-character : (tiles : List ℕ) → (some_in tiles 0 1 || (some_in tiles 1 7 || some_in tiles 8 1)) ≡ some_in tiles 0 9
+some-character tiles = sym (three tiles (range_with_len 0 1) (range_with_len 1 7) (range_with_len 8 1))
+
+pub some-circle : (tiles : List ℕ) → (some_in tiles 9 1 || (some_in tiles 10 7 || some_in tiles 17 1)) ≡ some_in tiles 9 9
+some-circle tiles = sym (three tiles (range_with_len 9 1) (range_with_len 10 7) (range_with_len 17 1))
+
+pub some-bamboo : (tiles : List ℕ) → (some_in tiles 18 1 || (some_in tiles 19 7 || some_in tiles 26 1)) ≡ some_in tiles 18 9
+some-bamboo tiles = sym (three tiles (range_with_len 18 1) (range_with_len 19 7) (range_with_len 26 1))
+
+abbrev simples : List ℕ
+simples = range_with_len 1 7 ++ (range_with_len 10 7 ++ range_with_len 19 7)
+
+abbrev terminals : List ℕ
+terminals = range_with_len 0 1 ++ (range_with_len 8 2 ++ (range_with_len 17 2 ++ range_with_len 26 1))
+
+pub all-simples : (tiles : List ℕ) → not (some is_terminal tiles || (some_in tiles 27 7 || false)) ≡ every is_simple tiles
+all-simples tiles = sym (every-none is_simple tiles every_kind ∙ ap not (three tiles terminals (range_with_len 27 7) []))
+
+pub all-orphans : (tiles : List ℕ) → not (some is_simple tiles || (false || false)) ≡ every is_orphan tiles
+all-orphans tiles = sym (every-none is_orphan tiles every_kind ∙ ap not (three tiles simples [] []))
+
+pub all-terminals : (tiles : List ℕ) → not (some is_simple tiles || (some_in tiles 27 7 || false)) ≡ every is_terminal tiles
+all-terminals tiles = sym (every-none is_terminal tiles every_kind ∙ ap not (three tiles simples (range_with_len 27 7) []))

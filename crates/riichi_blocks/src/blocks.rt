@@ -16,10 +16,10 @@ pub struct Blocks {
     // How many runs begin with each kind, and whether there is a triplet of it.
     runs_from: [u8; 34],
     triplets_of: [bool; 34],
-    runs: usize,
-    triplets: usize,
-    concealed: usize,
-    kongs: usize,
+    runs: u8,
+    triplets: u8,
+    concealed: u8,
+    kongs: u8,
 }
 
 impl Model for Blocks {
@@ -138,7 +138,7 @@ impl Blocks {
     pub fn runs(&self) -> usize
         ensures { result ≡ count_by spec.is_run self.now }
     {
-        self.runs
+        self.runs as usize
     }
 
     /// Whether some block is a run.
@@ -152,25 +152,25 @@ impl Blocks {
     pub fn triplets(&self) -> usize
         ensures { result ≡ count_by spec.is_triplet self.now }
     {
-        self.triplets
+        self.triplets as usize
     }
 
     /// How many blocks are concealed triplets or concealed kongs.
     pub fn concealed_triplets(&self) -> usize
         ensures { result ≡ count_by spec.is_concealed_triplet self.now }
     {
-        self.concealed
+        self.concealed as usize
     }
 
     /// How many blocks are kongs.
     pub fn kongs(&self) -> usize
         ensures { result ≡ count_by spec.is_kong self.now }
     {
-        self.kongs
+        self.kongs as usize
     }
 }
 
-fn one_if(is_so: bool) -> usize
+fn one_if(is_so: bool) -> u8
     ensures value { result ≡ (if is_so then 1 else 0) }
     ensures most { result ≤ 1 }
 {

@@ -1,30 +1,23 @@
 //! Words on the kinds of tiles, by the count of each kind.
-ghost use Rattle.std.specs.Prelude.{◌≡◌, ◌-◌, ◌≤◌};
+ghost use Rattle.std.specs.Prelude.{◌≡◌, ◌-◌, ◌≤◌, ◌||◌};
 ghost use Rattle.riichi_blocks.specs.Held as spec;
 ghost use Rattle.riichi_blocks.specs.Told.{some_in};
 ghost use Rattle.riichi_blocks.specs.Kinds as kinds;
 
-use crate::kinds::{KINDS, is_green_tile, is_orphan, is_simple, is_terminal};
+use crate::kinds::{KINDS, is_green_tile};
 
-/// Whether every tile is a 2 to 8 of a suit.
-pub(crate) fn are_simples(tiles: &[u8; 34]) -> bool
-    ensures { result ≡ spec.every kinds.is_simple tiles.now }
+/// Whether some tile is a 1 or a 9 of a suit.
+pub(crate) fn has_terminals(tiles: &[u8; 34]) -> bool
+    ensures { result ≡ spec.some kinds.is_terminal tiles.now }
 {
-    (0..KINDS).all(|kind| is_simple(kind) || tiles[kind] == 0)
+    let last = some_of(some_in(tiles, 17, 19), some_in(tiles, 26, 27), false);
+    some_of(some_in(tiles, 0, 1), some_in(tiles, 8, 10), last)
 }
 
-/// Whether every tile is a terminal or an honour.
-pub(crate) fn are_orphans(tiles: &[u8; 34]) -> bool
-    ensures { result ≡ spec.every kinds.is_orphan tiles.now }
+pub(crate) fn some_of(first: bool, second: bool, third: bool) -> bool
+    ensures { result ≡ (first || (second || third)) }
 {
-    (0..KINDS).all(|kind| is_orphan(kind) || tiles[kind] == 0)
-}
-
-/// Whether every tile is a terminal.
-pub(crate) fn are_terminals(tiles: &[u8; 34]) -> bool
-    ensures { result ≡ spec.every kinds.is_terminal tiles.now }
-{
-    (0..KINDS).all(|kind| is_terminal(kind) || tiles[kind] == 0)
+    first || second || third
 }
 
 /// Whether every tile is one of 2s 3s 4s 6s 8s 6z.

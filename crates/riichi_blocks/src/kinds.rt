@@ -52,13 +52,6 @@ pub fn is_orphan(kind: usize) -> bool
     is_terminal(kind) || is_honour(kind)
 }
 
-/// A 2 to 8 of a suit.
-pub(crate) fn is_simple(kind: usize) -> bool
-    ensures { result ≡ spec.is_simple kind }
-{
-    !is_orphan(kind)
-}
-
 /// Whether the kind is of this suit: 0 for m, 1 for p, 2 for s.
 pub fn is_of_suit(suit: usize, kind: usize) -> bool
     ensures { result ≡ spec.is_of_suit suit kind }

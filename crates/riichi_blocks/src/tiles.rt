@@ -3,7 +3,7 @@ ghost use Rattle.std.specs.Prelude.{◌≡◌, ◌<◌, ◌||◌, not};
 ghost use Rattle.riichi_blocks.specs.Held as spec;
 ghost use Rattle.riichi_blocks.specs.Kinds as kinds;
 
-use crate::held_kinds::{are_green, are_orphans, are_simples, are_terminals, some_in};
+use crate::held_kinds::{are_green, has_terminals, some_in, some_of};
 use std::marker::Model;
 
 /// Every tile of a win, seen as the count of each kind. What conditions ask of them again and again is told once.
@@ -38,14 +38,19 @@ impl AllTiles {
     pub fn new(counts: [u8; 34]) -> AllTiles
         ensures { result ≡ counts }
     {
-        let characters = some_in(&counts, 0, 9);
-        let circles = some_in(&counts, 9, 18);
-        let bamboos = some_in(&counts, 18, 27);
+        let low = some_in(&counts, 1, 8);
+        let middle = some_in(&counts, 10, 17);
+        let high = some_in(&counts, 19, 26);
+        let characters = some_of(some_in(&counts, 0, 1), low, some_in(&counts, 8, 9));
+        let circles = some_of(some_in(&counts, 9, 10), middle, some_in(&counts, 17, 18));
+        let bamboos = some_of(some_in(&counts, 18, 19), high, some_in(&counts, 26, 27));
         let honours = some_in(&counts, 27, 34);
+        let simples = some_of(low, middle, high);
+        let terminals = has_terminals(&counts);
         AllTiles {
-            simples: are_simples(&counts),
-            orphans: are_orphans(&counts),
-            terminals: are_terminals(&counts),
+            simples: none_of(terminals, honours, false),
+            orphans: none_of(simples, false, false),
+            terminals: none_of(simples, honours, false),
             honours: none_of(characters, circles, bamboos),
             green: are_green(&counts),
             some_honour: honours,

@@ -44,9 +44,9 @@ fn hand_of(win: &WinRecord) -> Counts
     ensures counts { IsCounts result }
     ensures win { IsWin win.now }
 {
-    let win = win.parts();
-    let mut hand = win.concealed;
-    hand.add(win.winning);
+    let _told = win.parts();
+    let mut hand = win.concealed();
+    hand.add(win.winning());
     hand
 }
 

@@ -3,10 +3,10 @@ ghost use Rattle.std.specs.Prelude.{◌≡◌, ◌≤◌};
 ghost use Rattle.std.specs.List.{sum_by};
 ghost use Rattle.riichi_tiles.specs.Melds.{every_kind};
 ghost use Rattle.riichi_tiles.specs.Tiles.{IsCounts};
-ghost use Rattle.riichi_hand.specs.Win.{IsWin, copies_held};
+ghost use Rattle.riichi_hand.specs.Win.{copies_held};
 ghost use Rattle.riichi_score.specs.Dora as spec;
 
-use riichi_hand::{Rules, WinParts, WinRecord};
+use riichi_hand::{Rules, WinRecord};
 use riichi_tiles::{Kind, Reds, dora_of};
 
 /// The han of a hand's dora: for each tile of `dora` and `ura` one for each copy of the kind that it
@@ -16,8 +16,7 @@ pub fn dora(win: &WinRecord) -> u8
     ensures value { result ≡ spec.dora_of win.now }
     ensures most { result ≤ 52 }
 {
-    let parts = win.parts();
-    indicator_dora(&parts) + red_dora(parts.rules, &parts.reds)
+    indicator_dora(win) + red_dora(win.rules(), &win.reds())
 }
 
 fn red_dora(rules: Rules, reds: &Reds) -> u8
@@ -30,26 +29,31 @@ fn red_dora(rules: Rules, reds: &Reds) -> u8
     }
 }
 
-fn indicator_dora(win: &WinParts) -> u8
-    requires { IsWin win.now }
+fn indicator_dora(win: &WinRecord) -> u8
     ensures value { result ≡ sum_by (spec.kind_dora win.now) every_kind }
     ensures most { result ≤ 40 }
 {
-    if win.dora.total() + win.ura.total() == 0 {
+    let _told = win.parts();
+    let dora = win.dora();
+    let ura = win.ura();
+    if dora.total() + ura.total() == 0 {
         return 0;
     }
     let mut sum = 0;
     for number in 0..34 {
-        sum += kind_dora(win, Kind::at(number));
+        let kind = Kind::at(number);
+        sum += kind_dora(win, kind, dora.get(kind) + ura.get(kind));
     }
     sum
 }
 
-fn kind_dora(win: &WinParts, kind: Kind) -> u8
+/// What the indicators of a kind earn, of which there are so many.
+fn kind_dora(win: &WinRecord, kind: Kind, indicators: u8) -> u8
+    requires told { indicators ≡ spec.indicators win.now kind }
+    requires few { indicators ≤ 8 }
     ensures value { result ≡ spec.kind_dora win.now kind }
     ensures most { result ≤ 168 }
 {
-    let indicators = win.dora.get(kind) + win.ura.get(kind);
     if indicators == 0 {
         return 0;
     }
@@ -57,10 +61,10 @@ fn kind_dora(win: &WinParts, kind: Kind) -> u8
 }
 
 /// The copies of a kind among hand, melds and the winning tile.
-fn copies_held(win: &WinParts, kind: Kind) -> u8
+fn copies_held(win: &WinRecord, kind: Kind) -> u8
     ensures value { result ≡ copies_held win.now kind }
     ensures most { result ≤ 21 }
 {
-    let winning = if win.winning == kind { 1 } else { 0 };
-    win.concealed.get(kind) + win.melds.tiles(kind) + winning
+    let winning = if win.winning() == kind { 1 } else { 0 };
+    win.concealed().get(kind) + win.melds().tiles(kind) + winning
 }

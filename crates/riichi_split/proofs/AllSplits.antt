@@ -18,17 +18,17 @@ use Rattle.riichi_split.proofs.Complete.{found-by, IsFound}
 
 -- ---- one split
 
-beside-inv : (c : List ℕ) (wanted p x : ℕ) (bs : List Block) (b : Bool) → b ≡ ltb (get_or c p 0) 2 → cond b None (cut_from 0 (set c p (get_or c p 0 - 2)) 0 0 wanted x) ≡ Some bs → (2 ≤ get_or c p 0) × (cut_from 0 (set c p (get_or c p 0 - 2)) 0 0 wanted x ≡ Some bs)
+pub beside-inv : (c : List ℕ) (wanted p x : ℕ) (bs : List Block) (b : Bool) → b ≡ ltb (get_or c p 0) 2 → cond b None (cut_from 0 (set c p (get_or c p 0 - 2)) 0 0 wanted x) ≡ Some bs → (2 ≤ get_or c p 0) × (cut_from 0 (set c p (get_or c p 0 - 2)) 0 0 wanted x ≡ Some bs)
 beside-inv c wanted p x bs true t e = absurd (cc)
 beside-inv c wanted p x bs false t e = (grind (arith, nat_tests), e)
 
-uncarried : (j : ℕ) → carried 0 0 j ≡ 0
+pub uncarried : (j : ℕ) → carried 0 0 j ≡ 0
 uncarried zero = refl
 uncarried (suc zero) = refl
 uncarried (suc (suc j)) = refl
 
 -- the counts without a pair
-without : (c : List ℕ) (p k : ℕ) → p < length c → 2 ≤ get_or c p 0 → get_or (set c p (get_or c p 0 - 2)) k 0 + cond (eqb k p) 2 0 ≡ get_or c k 0
+pub without : (c : List ℕ) (p k : ℕ) → p < length c → 2 ≤ get_or c p 0 → get_or (set c p (get_or c p 0 - 2)) k 0 + cond (eqb k p) 2 0 ≡ get_or c k 0
 without c p k l h =
     elim (cases_eq k p) [
       | inl e ↦ let g = get_or-set_at c p k (get_or c p 0 - 2) 0 e l in let f : get_or c k 0 ≡ get_or c p 0 = ap (λ x. get_or c x 0) e in grind (arith, nat_tests)

@@ -1,5 +1,5 @@
 -- One step along the choices, and along the pairs.
-use Rattle.std.proofs.Common.{◌≤◌, ◌&&◌, leb, length, drop, add-one, ◌+◌, is_some, MatchOption, ◌≡◌, ℕ, suc, ◌-◌, ◌<◌, Bool, true, false, cond, Option, Some, None, List, [], ◌∷◌, ◌++◌, get_or, slice_set, refl, sym, ap, ◌∙◌, arith, ltb, zero}
+use Rattle.std.proofs.Common.{length-drop, ◌≤◌, ◌&&◌, leb, length, drop, add-one, ◌+◌, is_some, MatchOption, ◌≡◌, ℕ, suc, ◌-◌, ◌<◌, Bool, true, false, cond, Option, Some, None, List, [], ◌∷◌, ◌++◌, get_or, slice_set, refl, sym, ap, ◌∙◌, arith, ltb, zero}
 use Rattle.std.proofs.lemmas.Bool.Decides.{nat_tests}
 use Rattle.std.proofs.Math.Seq.{drop-cons}
 use Rattle.std.proofs.Math.ListN.{drop_of_length-le}
@@ -57,6 +57,18 @@ pub doubts-step : (c : List ℕ) (k : ℕ) → k < length c → doubts (drop k c
 doubts-step c k l =
     let d : drop k c ≡ get_or c k 0 ∷ drop (k + 1) c = rw add-one (drop-cons c k 0 l) in
     ap doubts d ∙ doubts-cons (get_or c k 0) (drop (k + 1) c)
+
+-- two kinds alone are in no doubt
+short-doubts : (c : List ℕ) → length c ≤ 2 → doubts c ≡ 0
+unfolding doubts
+short-doubts [] l = refl
+short-doubts (a ∷ []) l = grind (arith, nat_tests)
+short-doubts (a ∷ (b ∷ [])) l = grind (arith, nat_tests)
+short-doubts (a ∷ (b ∷ (d ∷ c))) l = absurd (omega arith)
+
+-- from the last two kinds on none is in doubt
+pub doubts-last : (c : List ℕ) (k : ℕ) → length c ≤ k + 2 → doubts (drop k c) ≡ 0
+doubts-last c k l = short-doubts (drop k c) (omega (arith, length-drop k c))
 
 pub doubts-end : (c : List ℕ) (k : ℕ) → length c ≤ k → doubts (drop k c) ≡ 0
 doubts-end c k l = ap doubts (drop_of_length-le c l) ∙ doubts-nil

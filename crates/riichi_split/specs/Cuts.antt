@@ -68,6 +68,15 @@ unfoldable pub suit_total : (ℕ → ℕ) → ℕ → ℕ → ℕ
 suit_total copies first zero = 0
 suit_total copies first (suc kinds) = suit_total copies first kinds + copies (first + kinds)
 
+-- the sum of the numbers of the first kinds' tiles, three kinds at a time, each number by what it leaves over by three
+unfoldable pub thirds : (ℕ → ℕ) → ℕ → ℕ
+thirds copies zero = 0
+thirds copies (suc third) = thirds copies third + (copies (3 * third + 1) + 2 * copies (3 * third + 2))
+
+-- what the number of the pair's kind leaves over by three, since the three numbers of a set leave nothing
+abbrev pub third_of_pair : List ℕ → ℕ
+third_of_pair counts = 2 * thirds (slice_index counts) 11 % 3
+
 -- how many kinds have three tiles or more, as the two kinds above them have
 unfoldable pub doubts : List ℕ → ℕ
 doubts [] = 0
@@ -78,12 +87,13 @@ abbrev pub choices_beside : List ℕ → ℕ
 choices_beside counts = 2 ^ min 4 (doubts counts)
 
 -- what the fields of `Splits` keep
-pub record IsReady (counts : List ℕ) (wanted choices choices_left first pairs_left : ℕ) : Type 0 where
+pub record IsReady (counts : List ℕ) (wanted choices choices_left first pairs_left third : ℕ) : Type 0 where
   pub each_kind : length counts ≡ 34
   pub at_most_four : wanted ≤ 4
   pub choices_few : choices ≤ 16
   pub left_few : choices_left ≤ 16
   pub pairs_few : first + pairs_left ≤ 34
+  pub third_is : third ≡ third_of_pair counts
 
 -- the list has each split once, and nothing else
 pub record AreTheSplits (counts : List ℕ) (melds : ℕ) (splits : List Split) : Type 0 where

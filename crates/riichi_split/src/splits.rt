@@ -1,8 +1,8 @@
 ghost use Rattle.std.specs.Prelude.{◌≡◌, ℕ, ◌+◌, ◌<◌, ◌≤◌, MatchOption, ◌&&◌, nat_le, [], ◌∷◌, ◌++◌, drop, length, slice_index};
 ghost use Rattle.std.specs.Iterator.{YieldsFirst, item_count};
-ghost use Rattle.riichi_split.specs.Cuts.{may_have_runs, sets_beside, from_choices, from_pairs, choices_beside};
+ghost use Rattle.riichi_split.specs.Cuts.{may_have_runs, sets_beside, from_choices, from_pairs, choices_beside, third_of_pair};
 
-use crate::cutting::{cut, may_have_runs};
+use crate::cutting::cut;
 use crate::sets::Sets;
 use crate::split::Split;
 use crate::suit::Rests;
@@ -23,6 +23,8 @@ pub(crate) struct Splits {
     // The pairs of so many kinds, from the first kind of their suit on, are still to be tried.
     first: usize,
     pairs_left: usize,
+    // What the number of each pair's kind leaves over by three.
+    third: usize,
 }
 
 impl Model for Splits {
@@ -36,7 +38,7 @@ impl Model for Splits {
 
     ghost view = { splits_left };
 
-    ghost invariant = { λ s. IsReady s.counts s.wanted s.choices s.choices_left s.first s.pairs_left };
+    ghost invariant = { λ s. IsReady s.counts s.wanted s.choices s.choices_left s.first s.pairs_left s.third };
 }
 
 impl Splits {
@@ -59,6 +61,7 @@ impl Splits {
             choices_left: 0,
             first: suit.first,
             pairs_left: suit.kinds,
+            third: third_of_pair(&counts),
         }
     }
 }
@@ -79,7 +82,7 @@ impl Iterator for Splits {
                     pair: self.pair,
                 });
             }
-            self.pair = next_pair(&self.counts, self.first, &mut self.pairs_left)?;
+            self.pair = next_fitting(&self.counts, self.first, self.third, &mut self.pairs_left)?;
             self.choices_left = self.choices;
         }
     }
@@ -88,10 +91,13 @@ impl Iterator for Splits {
 impl FusedIterator for Splits {}
 
 fn is_in_doubt(counts: &[u8; 34], kind: usize) -> bool
-    requires { kind < 34 }
+    requires { kind < 32 }
     ensures { result ≡ nat_le 3 (slice_index counts.now kind) && may_have_runs (drop (kind + 1) counts.now) }
 {
-    counts[kind] >= 3 && may_have_runs(counts, kind)
+    let own = counts[kind] >= 3;
+    let next = counts[kind + 1] >= 3;
+    let third = counts[kind + 2] >= 3;
+    own && next && third
 }
 
 /// How many numbers can make the choices beside a pair: a bit for each kind that has three tiles, as
@@ -100,8 +106,8 @@ fn choices_of(counts: &[u8; 34]) -> usize
     ensures value { result ≡ choices_beside counts.now }
     ensures few { result ≤ 16 }
 {
-    let mut doubts = 0usize;
-    for kind in 0..34 {
+    let mut doubts = 0u8;
+    for kind in 0..32 {
         if is_in_doubt(counts, kind) {
             doubts += 1;
         }
@@ -142,7 +148,18 @@ fn next_sets(counts: &[u8; 34], wanted: usize, pair: Kind, choices: &mut usize) 
     None
 }
 
-/// The next kind with a pair, of so many kinds from the first on.
+/// What the number of the pair's kind leaves over by three, in each split: a set's three numbers leave nothing.
+fn third_of_pair(counts: &[u8; 34]) -> usize
+    ensures { result ≡ third_of_pair counts.now }
+{
+    let mut sum = 0usize;
+    for third in 0..11 {
+        sum += counts[3 * third + 1] as usize + 2 * counts[3 * third + 2] as usize;
+    }
+    2 * sum % 3
+}
+
+/// The next kind of two tiles or more, of so many kinds from the first on.
 fn next_pair(counts: &[u8; 34], first: usize, kinds: &mut usize) -> Option<Kind>
     requires { first + kinds.old ≤ 34 }
     ensures fewer { MatchOption result (kinds.new ≡ 0) (λ _. kinds.new < kinds.old) }
@@ -155,6 +172,24 @@ fn next_pair(counts: &[u8; 34], first: usize, kinds: &mut usize) -> Option<Kind>
         *kinds -= 1;
         if counts[first + *kinds] >= 2 {
             return Some(Kind::at((first + *kinds) as u8));
+        }
+    }
+    None
+}
+
+/// The next of them whose number leaves over so much by three.
+fn next_fitting(counts: &[u8; 34], first: usize, third: usize, kinds: &mut usize) -> Option<Kind>
+    requires within { first + kinds.old ≤ 34 }
+    requires third { third ≡ third_of_pair counts.now }
+    ensures fewer { MatchOption result (kinds.new ≡ 0) (λ _. kinds.new < kinds.old) }
+    ensures splits { (wanted choices : ℕ) → MatchOption result
+        (from_pairs counts.now wanted choices first kinds.old ≡ [])
+        (λ pair. from_pairs counts.now wanted choices first kinds.old
+        ≡ from_choices counts.now wanted pair choices ++ from_pairs counts.now wanted choices first kinds.new) }
+{
+    while let Some(pair) = next_pair(counts, first, kinds) {
+        if pair.index() % 3 == third {
+            return Some(pair);
         }
     }
     None

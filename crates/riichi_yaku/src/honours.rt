@@ -86,6 +86,9 @@ fn is_last_dragon(blocks: &Blocks, block: &HandBlock) -> bool
 fn is_little_three_dragons(blocks: &Blocks) -> bool
     ensures { result ≡ spec.is_little_three_dragons blocks.now }
 {
+    if blocks.triplets() == 0 {
+        return false;
+    }
     blocks
         .as_slice()
         .iter()

@@ -79,18 +79,14 @@ fn sum_of(han: &[u8; 41], set: YakuSet) -> u8
     ensures value { result ≡ spec.han_from 0 han.now set }
     ensures most { result ≤ 60 }
 {
+    let mut rest = set.bits();
     let mut sum = 0;
-    for number in 0..41 {
-        sum += earned(set, number, han[number as usize]);
+    while rest > 0 {
+        let number = rest.trailing_zeros();
+        sum += han[number as usize];
+        rest &= !(1 << number);
     }
     sum
-}
-
-fn earned(set: YakuSet, number: u8, han: u8) -> u8
-    ensures value { result ≡ (if has_number set number then han else 0) }
-    ensures most { result ≤ han }
-{
-    if set.contains(number) { han } else { 0 }
 }
 
 /// The printed word of the yaku of this number.

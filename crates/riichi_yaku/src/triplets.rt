@@ -34,6 +34,10 @@ fn begins_triple_pung(blocks: &Blocks, block: &HandBlock) -> bool
 fn is_triple_pung(blocks: &Blocks) -> bool
     ensures { result ≡ spec.is_triple_pung blocks.now }
 {
+    // Many readings have no triplet.
+    if blocks.triplets() == 0 {
+        return false;
+    }
     blocks
         .as_slice()
         .iter()

@@ -2,7 +2,7 @@ use Rattle.std.proofs.Common.{◌≡◌, ◌*◌, ◌%◌, min, ap, ◌∙◌, �
 use Rattle.std.proofs.Math.Pow.{pow_mono}
 use Rattle.std.proofs.lemmas.Bool.Decides.{nat_tests}
 use Rattle.riichi_split.specs.Cuts.{doubts}
-use Rattle.riichi_split.proofs.SplitSteps.{doubts-step, doubts-end}
+use Rattle.riichi_split.proofs.SplitSteps.{doubts-step, doubts-last}
 use Rattle.riichi_split.proofs.splits.choices_of.Goals as goal
 use Rattle.riichi_split.proofs.splits.choices_of.Goals.{then-is_in_doubt, else-is_in_doubt}
 
@@ -23,7 +23,7 @@ loop-kind-preserved c =
 
 pub returns-clause-value : goal.returns-clause-value
 returns-clause-value c =
-    let none = doubts-end c.args.counts.now c.loop-kind.kind (omega arith) in
+    let none = doubts-last c.args.counts.now c.loop-kind.kind (omega arith) in
     let few : 2 ^ c.min.result ≤ 2 ^ 4 = pow_mono {i = c.min.result} {j = 4} (omega arith) in
     let same : c.min.result ≡ min 4 (doubts c.args.counts.now) = omega arith in
     let whole : 1 * 2 ^ c.min.result % 18446744073709551616 ≡ 2 ^ c.min.result = omega arith in
