@@ -1,5 +1,5 @@
 -- Of a hand that has changed at one kind, the least lack by sets and a pair out of one new row and the join of the others.
-use Rattle.std.proofs.Common.{◌≢◌, ℕ, ◌+◌, ◌<◌, ◌≤◌, Option, List, subst, sym, arith}
+use Rattle.std.proofs.Common.{◌≢◌, ℕ, ◌+◌, ◌<◌, ◌≤◌, Option, List, arith}
 use Rattle.riichi_tiles.specs.declared.meld.Meld.{Meld}
 use Rattle.riichi_rows.specs.Join.{IsLeastJoin}
 use Rattle.riichi_rows.specs.Row.{AreJoinedThree, entries_of}
@@ -8,8 +8,7 @@ use Rattle.riichi_rows.specs.declared.row.SuitRow.{SuitRow}
 use Rattle.riichi_rows.proofs.JoinOrders.{join_swapped, join_turned}
 use Rattle.riichi_shape.specs.Distance.{IsLeastStandard}
 use Rattle.riichi_shape.specs.Rows.{AreJoinsBeside, AreRowsOf, IsMeldedFew}
-use Rattle.riichi_shape.specs.Suits.{AreCapsOf, AreHandCaps, IsRowOf}
-use Rattle.riichi_shape.specs.declared.hand_caps.HandCaps.{HandCaps}
+use Rattle.riichi_shape.specs.Suits.{IsRowOf}
 use Rattle.riichi_shape.specs.declared.hand_joins.HandJoins.{HandJoins}
 use Rattle.riichi_shape.specs.declared.hand_rows.HandRows.{HandRows}
 use Rattle.riichi_shape.proofs.FourSuits.{standard_least}
@@ -33,27 +32,24 @@ module _ (kind : ℕ) (hand : List ℕ) (melds : List Meld) (joins : HandJoins) 
   rows : HandRows
   rows = are.joins_before.rows
 
-  caps_are : AreHandCaps melds joins.caps
-  caps_are = subst (λ (caps : HandCaps). AreHandCaps melds caps) (sym are.joins_before.are_joins.caps) are.joins_before.are_rows.caps
-
   kept : (base width : ℕ) (old : SuitRow) → ((k : ℕ) → base ≤ k → k < base + width → k ≢ kind) → IsRowOf are.before melds base width old → IsRowOf hand melds base width old
   kept base width old clear is = row_kept kind are.before hand melds base width old are.differ clear is
 
-  pub changed_characters : kind < 9 → (AreCapsOf 0 9 melds joins.caps.characters.left → IsRowOf hand melds 0 9 row) → JoinsWith row joins.beside_characters sets least → IsLeastStandard hand melds sets least
+  pub changed_characters : kind < 9 → IsRowOf hand melds 0 9 row → JoinsWith row joins.beside_characters sets least → IsLeastStandard hand melds sets least
   unfolding rows
   changed_characters low is join =
       let were = are.joins_before.are_rows in
       least_by_rows hand melds (record { caps = rows.caps; characters = row; circles = rows.circles; bamboos = rows.bamboos; honours = rows.honours })
       (record {
         caps = were.caps;
-        characters = is caps_are.characters;
+        characters = is;
         circles = kept 9 9 rows.circles (λ k from below e. omega (arith, e, from, low)) were.circles;
         bamboos = kept 18 9 rows.bamboos (λ k from below e. omega (arith, e, from, low)) were.bamboos;
         honours = kept 27 7 rows.honours (λ k from below e. omega (arith, e, from, low)) were.honours;
       })
       few sets in_hand least (join rows.circles rows.bamboos rows.honours are.joins_before.are_joins.beside_characters)
 
-  pub changed_circles : 9 ≤ kind → kind < 18 → (AreCapsOf 9 9 melds joins.caps.circles.left → IsRowOf hand melds 9 9 row) → JoinsWith row joins.beside_circles sets least → IsLeastStandard hand melds sets least
+  pub changed_circles : 9 ≤ kind → kind < 18 → IsRowOf hand melds 9 9 row → JoinsWith row joins.beside_circles sets least → IsLeastStandard hand melds sets least
   unfolding rows
   changed_circles high low is join =
       let were = are.joins_before.are_rows in
@@ -61,14 +57,14 @@ module _ (kind : ℕ) (hand : List ℕ) (melds : List Meld) (joins : HandJoins) 
       (record {
         caps = were.caps;
         characters = kept 0 9 rows.characters (λ k from below e. omega (arith, e, below, high)) were.characters;
-        circles = is caps_are.circles;
+        circles = is;
         bamboos = kept 18 9 rows.bamboos (λ k from below e. omega (arith, e, from, low)) were.bamboos;
         honours = kept 27 7 rows.honours (λ k from below e. omega (arith, e, from, low)) were.honours;
       })
       few sets in_hand least
       (join_swapped (entries_of row) (entries_of rows.characters) (entries_of rows.bamboos) (entries_of rows.honours) sets least (join rows.characters rows.bamboos rows.honours are.joins_before.are_joins.beside_circles))
 
-  pub changed_bamboos : 18 ≤ kind → kind < 27 → (AreCapsOf 18 9 melds joins.caps.bamboos.left → IsRowOf hand melds 18 9 row) → JoinsWith row joins.beside_bamboos sets least → IsLeastStandard hand melds sets least
+  pub changed_bamboos : 18 ≤ kind → kind < 27 → IsRowOf hand melds 18 9 row → JoinsWith row joins.beside_bamboos sets least → IsLeastStandard hand melds sets least
   unfolding rows
   changed_bamboos high low is join =
       let were = are.joins_before.are_rows in
@@ -77,13 +73,13 @@ module _ (kind : ℕ) (hand : List ℕ) (melds : List Meld) (joins : HandJoins) 
         caps = were.caps;
         characters = kept 0 9 rows.characters (λ k from below e. omega (arith, e, below, high)) were.characters;
         circles = kept 9 9 rows.circles (λ k from below e. omega (arith, e, below, high)) were.circles;
-        bamboos = is caps_are.bamboos;
+        bamboos = is;
         honours = kept 27 7 rows.honours (λ k from below e. omega (arith, e, from, low)) were.honours;
       })
       few sets in_hand least
       (join_turned (entries_of row) (entries_of rows.honours) (entries_of rows.characters) (entries_of rows.circles) sets least (join rows.honours rows.characters rows.circles are.joins_before.are_joins.beside_bamboos))
 
-  pub changed_honours : 27 ≤ kind → (AreCapsOf 27 7 melds joins.caps.honours.left → IsRowOf hand melds 27 7 row) → JoinsWith row joins.beside_honours sets least → IsLeastStandard hand melds sets least
+  pub changed_honours : 27 ≤ kind → IsRowOf hand melds 27 7 row → JoinsWith row joins.beside_honours sets least → IsLeastStandard hand melds sets least
   unfolding rows
   changed_honours high is join =
       let were = are.joins_before.are_rows in
@@ -93,7 +89,7 @@ module _ (kind : ℕ) (hand : List ℕ) (melds : List Meld) (joins : HandJoins) 
         characters = kept 0 9 rows.characters (λ k from below e. omega (arith, e, below, high)) were.characters;
         circles = kept 9 9 rows.circles (λ k from below e. omega (arith, e, below, high)) were.circles;
         bamboos = kept 18 9 rows.bamboos (λ k from below e. omega (arith, e, below, high)) were.bamboos;
-        honours = is caps_are.honours;
+        honours = is;
       })
       few sets in_hand least
       (join_turned (entries_of rows.bamboos) (entries_of row) (entries_of rows.characters) (entries_of rows.circles) sets least

@@ -1,7 +1,7 @@
 -- Without a tile the special forms lack no fewer.
-use Rattle.std.proofs.Common.{◌≡◌, ℕ, ◌+◌, ◌-◌, ◌<◌, ◌≤◌, List, length, length-set, slice_set, get_or-set_same, get_or-set_other, sym, ap, ◌∙◌, ⊎_elim, arith}
+use Rattle.std.proofs.Common.{◌≡◌, ℕ, ◌+◌, ◌-◌, ◌<◌, List, length, length-set, slice_set, get_or-set_same, get_or-set_other, sym, ap, ◌∙◌, ⊎_elim, arith}
 use Rattle.std.proofs.lemmas.Bool.{cases_lt}
-use Rattle.std.proofs.lemmas.List.{get_or_past, set_past}
+use Rattle.std.proofs.lemmas.List.{get_or_past}
 use Rattle.std.specs.Prelude.{slice_index}
 use Rattle.riichi_tiles.specs.declared.meld.Meld.{Meld}
 use Rattle.riichi_rows.specs.Lacked.{IsOneMore}

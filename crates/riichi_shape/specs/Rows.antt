@@ -3,6 +3,7 @@ use Rattle.std.specs.Prelude.{◌≡◌, ◌≢◌, ℕ, ◌<◌, ◌≤◌, Lis
 use Rattle.riichi_tiles.specs.Melds.{tiles}
 use Rattle.riichi_tiles.specs.declared.meld.Meld.{Meld}
 use Rattle.riichi_rows.specs.Row.{AreJoinedThree}
+use Rattle.riichi_rows.specs.declared.row.SuitRow.{SuitRow}
 use Rattle.riichi_shape.specs.Special.{AreSpecialForms}
 use Rattle.riichi_shape.specs.Suits.{AreHandCaps, IsRowOf}
 use Rattle.riichi_shape.specs.declared.hand_forms.HandForms.{HandForms}
@@ -21,13 +22,19 @@ pub record AreRowsOf (hand : List ℕ) (melds : List Meld) (rows : HandRows) : T
 pub record DifferAt (kind : ℕ) (before after : List ℕ) : Type 0 where
   pub others : (other : ℕ) → other ≢ kind → slice_index after other ≡ slice_index before other
 
+-- the row of the suit of a kind
+pub record IsRowAt (hand : List ℕ) (melds : List Meld) (kind : ℕ) (row : SuitRow) : Type 0 where
+  pub characters : kind < 9 → IsRowOf hand melds 0 9 row
+  pub circles : 9 ≤ kind → kind < 18 → IsRowOf hand melds 9 9 row
+  pub bamboos : 18 ≤ kind → kind < 27 → IsRowOf hand melds 18 9 row
+  pub honours : 27 ≤ kind → IsRowOf hand melds 27 7 row
+
 -- no kind is melded more than four times
 abbrev pub IsMeldedFew : List Meld → Type 0
 IsMeldedFew melds = (kind : ℕ) → kind < 34 → tiles melds kind ≤ 4
 
--- beside each suit the join of the rows of the other three, with the same caps
+-- beside each suit the join of the rows of the other three
 pub record AreJoinsOf (rows : HandRows) (joins : HandJoins) : Type 0 where
-  pub caps : joins.caps ≡ rows.caps
   pub beside_characters : AreJoinedThree rows.circles rows.bamboos rows.honours joins.beside_characters
   pub beside_circles : AreJoinedThree rows.characters rows.bamboos rows.honours joins.beside_circles
   pub beside_bamboos : AreJoinedThree rows.honours rows.characters rows.circles joins.beside_bamboos

@@ -3,34 +3,35 @@ ghost use Rattle.std.specs.Prelude.{ℕ, ◌≡◌, ◌≤◌, ◌<◌, pos, ◌
 ghost use Rattle.riichi_tiles.specs.Melds.{tiles};
 ghost use Rattle.riichi_shape.specs.Distance.{NoneLacksLess, ShantenReached};
 ghost use Rattle.riichi_shape.specs.EveryWinning.{distance_of, shanten_of};
-ghost use Rattle.riichi_shape.specs.Rows.{AreJoinsBeside};
+ghost use Rattle.riichi_shape.specs.Rows.{AreJoinsBeside, IsRowAt};
 ghost use Rattle.riichi_shape.specs.Special.{SpecialLacks};
 
 use crate::hand_forms::HandForms;
 use crate::hand_joins::HandJoins;
 use crate::special::SpecialForms;
-use riichi_rows::{FreshRows, RowSource};
+use riichi_rows::{FreshRows, SuitRow};
 use riichi_tiles::{Counts, Kind, Melds};
 
-/// The distance of a hand that has changed at one kind since its rows were joined. No seven pairs
-/// or thirteen orphans lack fewer tiles than `floor`, and they are looked at only where they can be
-/// least.
-pub(crate) fn distance_changed<R: RowSource>(
-    source: &mut R,
+/// The distance of a hand that has changed at one kind since its rows were joined, by the row of
+/// the suit of that kind. No seven pairs or thirteen orphans lack fewer tiles than `floor`, and they
+/// are looked at only where they can be least.
+pub(crate) fn distance_with(
     joins: &HandJoins,
-    kind: Kind,
     floor: u8,
+    kind: Kind,
+    row: &SuitRow,
     hand: &Counts,
     melds: &Melds,
 ) -> u8
     requires melded { (k : ℕ) → k < 34 → tiles melds.now k ≤ 4 }
     requires joins { AreJoinsBeside kind hand.now melds.now joins.now }
     requires floor { SpecialLacks hand.now melds.now floor }
+    requires row { IsRowAt hand.now melds.now kind row.now }
     ensures value { result ≡ distance_of hand.now melds.now }
     ensures few { result ≤ 14 }
 {
     let melded = melds.count() as u8;
-    let Some(standard) = joins.standard_changed(source, kind, hand, 4 - melded) else {
+    let Some(standard) = joins.standard_with(kind, row, 4 - melded) else {
         unreachable!()
     };
     if standard <= floor {

@@ -5,13 +5,13 @@ ghost use Rattle.riichi_tiles.specs.Melds.{tiles};
 ghost use Rattle.riichi_shape.specs.Distance.{IsDistance};
 ghost use Rattle.riichi_shape.specs.EveryWinning.{distance_of};
 ghost use Rattle.riichi_shape.specs.LackedKinds.{AreLackedKinds};
-ghost use Rattle.riichi_shape.specs.Rows.{AreFormsOf, DifferAt, IsMeldedFew};
+ghost use Rattle.riichi_shape.specs.Rows.{AreFormsOf, DifferAt, IsMeldedFew, IsRowAt};
 
 use crate::hand_joins::HandJoins;
 use crate::hand_rows::HandRows;
 use crate::lacked_kinds::LackedKinds;
 use crate::special::SpecialForms;
-use riichi_rows::RowSource;
+use riichi_rows::{RowSource, SuitRow};
 use riichi_tiles::{Counts, Kind, Melds};
 
 /// What is known of a hand: the rows of its suits, beside each the other three joined, and how near
@@ -66,18 +66,17 @@ impl HandForms {
         }
     }
 
-    /// What is known of a hand that has changed at one kind, of which alone the suit is looked at
-    /// again.
-    pub(crate) fn changed_at<R: RowSource>(
+    /// What is known of a hand that has changed at one kind, with this row of the suit of that kind.
+    pub(crate) fn with_row(
         &self,
-        source: &mut R,
         kind: Kind,
+        row: &SuitRow,
         hand: &Counts,
         melds: &Melds,
     ) -> HandForms
-        ensures { (before : List ℕ) → AreFormsOf before melds.now self.now → DifferAt kind before hand.now → AreFormsOf hand.now melds.now result }
+        ensures { (before : List ℕ) → AreFormsOf before melds.now self.now → DifferAt kind before hand.now → IsRowAt hand.now melds.now kind row.now → AreFormsOf hand.now melds.now result }
     {
-        let rows = self.rows.changed_at(source, kind, hand);
+        let rows = self.rows.with_row(kind, row);
         HandForms {
             rows,
             joins: HandJoins::new(&rows),

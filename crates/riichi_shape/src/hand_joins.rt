@@ -3,20 +3,17 @@ ghost use Rattle.std.specs.Prelude.{ℕ, ◌<◌, ◌≤◌, List};
 ghost use Rattle.riichi_tiles.specs.declared.meld.Meld.{Meld};
 ghost use Rattle.riichi_shape.specs.Distance.{IsLeastStandard};
 ghost use Rattle.riichi_shape.specs.LackedKinds.{AreSuitsLacked, NoneStandardLess};
-ghost use Rattle.riichi_shape.specs.Rows.{AreJoinsBeside, AreJoinsOf, AreRowsOf, IsMeldedFew};
+ghost use Rattle.riichi_shape.specs.Rows.{AreJoinsBeside, AreJoinsOf, AreRowsOf, IsMeldedFew, IsRowAt};
 
-use crate::hand_caps::HandCaps;
 use crate::hand_rows::HandRows;
-use crate::suit_of_hand::suit_row_of;
 use crate::suits_lacked::SuitsLacked;
-use riichi_rows::{JoinedRows, RowSource, join_two};
-use riichi_tiles::{Counts, Kind};
+use riichi_rows::{JoinedRows, SuitRow, join_two};
+use riichi_tiles::Kind;
 
 /// Beside each suit the rows of the other three, joined. They are kept while a tile of the suit is
 /// added or removed.
 #[derive(Clone, Copy)]
 pub(crate) struct HandJoins {
-    pub(crate) caps: HandCaps,
     pub(crate) beside_characters: JoinedRows,
     pub(crate) beside_circles: JoinedRows,
     pub(crate) beside_bamboos: JoinedRows,
@@ -31,7 +28,6 @@ impl HandJoins {
         let low = join_two(&rows.characters, &rows.circles);
         let high = join_two(&rows.bamboos, &rows.honours);
         HandJoins {
-            caps: rows.caps,
             beside_characters: high.and(&rows.circles),
             beside_circles: high.and(&rows.characters),
             beside_bamboos: low.and(&rows.honours),
@@ -57,30 +53,21 @@ impl HandJoins {
     }
 
     /// The least number of tiles that a hand lacks of so many sets and a pair, or None where the
-    /// melds leave none. It has changed at one kind since its rows were joined.
-    pub(crate) fn standard_changed<R: RowSource>(
-        &self,
-        source: &mut R,
-        kind: Kind,
-        hand: &Counts,
-        sets: u8,
-    ) -> Option<u8>
+    /// melds leave none. It has changed at one kind since its rows were joined, and this is the row
+    /// of the suit of that kind.
+    pub(crate) fn standard_with(&self, kind: Kind, row: &SuitRow, sets: u8) -> Option<u8>
         requires { sets ≤ 4 }
-        ensures { (melds : List Meld) → AreJoinsBeside kind hand.now melds self.now → IsMeldedFew melds → IsLeastStandard hand.now melds sets result }
+        ensures { (hand : List ℕ) (melds : List Meld) → AreJoinsBeside kind hand melds self.now → IsMeldedFew melds → IsRowAt hand melds kind row.now → IsLeastStandard hand melds sets result }
     {
         let number = kind.index();
         if number < 9 {
-            let row = suit_row_of(source, hand, &self.caps.characters, 0, 9);
-            self.beside_characters.with(&row, sets)
+            self.beside_characters.with(row, sets)
         } else if number < 18 {
-            let row = suit_row_of(source, hand, &self.caps.circles, 9, 9);
-            self.beside_circles.with(&row, sets)
+            self.beside_circles.with(row, sets)
         } else if number < 27 {
-            let row = suit_row_of(source, hand, &self.caps.bamboos, 18, 9);
-            self.beside_bamboos.with(&row, sets)
+            self.beside_bamboos.with(row, sets)
         } else {
-            let row = suit_row_of(source, hand, &self.caps.honours, 27, 7);
-            self.beside_honours.with(&row, sets)
+            self.beside_honours.with(row, sets)
         }
     }
 }

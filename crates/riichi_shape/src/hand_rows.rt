@@ -1,7 +1,7 @@
 //! The rows of a hand.
 ghost use Rattle.std.specs.Prelude.{ℕ, ◌<◌, ◌≤◌, List};
 ghost use Rattle.riichi_tiles.specs.Melds.{tiles};
-ghost use Rattle.riichi_shape.specs.Rows.{AreRowsOf, DifferAt};
+ghost use Rattle.riichi_shape.specs.Rows.{AreRowsOf, DifferAt, IsRowAt};
 ghost use Rattle.riichi_tiles.specs.declared.meld.Meld.{Meld};
 
 use crate::hand_caps::HandCaps;
@@ -35,34 +35,45 @@ impl HandRows {
         }
     }
 
-    /// The rows of a hand that has changed at one kind, of which alone the suit is looked at again.
-    pub(crate) fn changed_at<R: RowSource>(
-        &self,
-        source: &mut R,
-        kind: Kind,
-        hand: &Counts,
-    ) -> HandRows
-        ensures { (before : List ℕ) (melds : List Meld) → AreRowsOf before melds self.now → DifferAt kind before hand.now → AreRowsOf hand.now melds result }
+    /// The row of the suit of a kind, of a hand beside the same melds.
+    pub(crate) fn row_at<R: RowSource>(&self, source: &mut R, kind: Kind, hand: &Counts) -> SuitRow
+        ensures { (before : List ℕ) (melds : List Meld) → AreRowsOf before melds self.now → IsRowAt hand.now melds kind result }
+    {
+        let number = kind.index();
+        if number < 9 {
+            suit_row_of(source, hand, &self.caps.characters, 0, 9)
+        } else if number < 18 {
+            suit_row_of(source, hand, &self.caps.circles, 9, 9)
+        } else if number < 27 {
+            suit_row_of(source, hand, &self.caps.bamboos, 18, 9)
+        } else {
+            suit_row_of(source, hand, &self.caps.honours, 27, 7)
+        }
+    }
+
+    /// The rows of a hand that has changed at one kind, with this row of the suit of that kind.
+    pub(crate) fn with_row(&self, kind: Kind, row: &SuitRow) -> HandRows
+        ensures { (before hand : List ℕ) (melds : List Meld) → AreRowsOf before melds self.now → DifferAt kind before hand → IsRowAt hand melds kind row.now → AreRowsOf hand melds result }
     {
         let number = kind.index();
         if number < 9 {
             HandRows {
-                characters: suit_row_of(source, hand, &self.caps.characters, 0, 9),
+                characters: *row,
                 ..*self
             }
         } else if number < 18 {
             HandRows {
-                circles: suit_row_of(source, hand, &self.caps.circles, 9, 9),
+                circles: *row,
                 ..*self
             }
         } else if number < 27 {
             HandRows {
-                bamboos: suit_row_of(source, hand, &self.caps.bamboos, 18, 9),
+                bamboos: *row,
                 ..*self
             }
         } else {
             HandRows {
-                honours: suit_row_of(source, hand, &self.caps.honours, 27, 7),
+                honours: *row,
                 ..*self
             }
         }

@@ -31,6 +31,8 @@ mod nearest_form;
 mod orphans;
 mod pairs;
 mod removal;
+mod removals;
+mod removed_tile;
 mod shape_answer;
 mod special;
 mod suit_caps;
