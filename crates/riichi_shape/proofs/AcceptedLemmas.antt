@@ -1,5 +1,5 @@
 -- The accepted kinds as counts and as pairs.
-use Rattle.std.proofs.Common.{◌≡◌, ℕ, zero, suc, ◌+◌, ◌-◌, ◌<◌, ◌≤◌, Bool, true, false, cond, List, [], ◌∷◌, map, get_or, length, ltb, replicate, slice_set, below_more, length-set, get_or-set_same, get_or-set_other, refl, sym, ap, ◌∙◌, ⊎_elim, arith}
+use Rattle.std.proofs.Common.{◌≡◌, ℕ, zero, suc, ◌+◌, ◌-◌, ◌<◌, ◌≤◌, Bool, true, false, cond, List, [], ◌∷◌, map, get_or, length, ltb, slice_set, below_more, length-set, get_or-set_same, get_or-set_other, refl, sym, ap, ◌∙◌, ⊎_elim, arith}
 use Rattle.std.proofs.lemmas.Bool.{cases_lt}
 use Rattle.std.proofs.lemmas.Bool.Decides.{nat_tests}
 use Rattle.std.proofs.lemmas.List.{get_or_past}
@@ -50,11 +50,6 @@ accepted_pairs copies hand melds seen each =
       value = λ t. ap (λ n. (k, n)) (live_there (slice_index copies k) (live_of hand melds seen k) (is_accepted hand melds seen k) e t);
     }))
 
-pub zeros_few : (n k : ℕ) → get_or (replicate n 0) k 0 ≤ 4
-zeros_few zero k = omega arith
-zeros_few (suc n) zero = omega arith
-zeros_few (suc n) (suc k) = zeros_few n k
-
 pub set_few : (xs : List ℕ) (i v : ℕ) → v ≤ 4 → ((k : ℕ) → get_or xs k 0 ≤ 4) → (k : ℕ) → get_or (slice_set xs i v) k 0 ≤ 4
 set_few [] i v few were k = were k
 set_few (x ∷ xs) zero v few were zero = few
@@ -86,9 +81,6 @@ module _ (lacks : ℕ → Bool) (live copies next : List ℕ) (n : ℕ) (inside 
     later = λ k high. get_or-set_other copies n k 0 0 (λ same. omega (arith, same, high)) ∙ so_far.later k (omega arith);
     few = set_few copies n 0 (omega arith) so_far.few;
   })
-
-pub live_few : (hand : List ℕ) (melds : List Meld) (seen copies : List ℕ) → AreLiveCopies hand melds seen copies → (kind : ℕ) → slice_index copies kind ≤ 4
-live_few hand melds seen copies are kind = ⊎_elim (λ low. omega (arith, are.at kind low)) (λ past. (let none = get_or_past copies kind 0 (omega (arith, are.long)) in omega (arith, none))) (cases_lt kind 34)
 
 -- a tile that is discarded is seen, so no more copies are live and no fewer
 pub live_same : (hand rest : List ℕ) (melds : List Meld) (seen copies : List ℕ) (kind : ℕ) → 0 < slice_index hand kind → length hand ≡ 34 → rest ≡ without_one hand kind → AreLiveCopies hand melds seen copies → AreLiveCopies rest melds (with_one seen kind) copies
