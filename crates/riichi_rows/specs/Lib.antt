@@ -1,5 +1,4 @@
 pub mod Columns
-pub mod Costs
 pub mod Join
 pub mod Lacked
 pub mod Lanes

@@ -12,8 +12,6 @@
 #![tactic(auto)]
 
 mod added;
-mod cost;
-mod costs;
 mod join;
 mod joined;
 mod lacked;
