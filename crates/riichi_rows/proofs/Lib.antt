@@ -1,5 +1,5 @@
 pub mod Blocks
-pub mod Costs
+pub mod CostLemmas
 pub mod JoinOrders
 pub mod Joins
 pub mod Lacking

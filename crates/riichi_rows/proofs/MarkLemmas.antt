@@ -10,6 +10,7 @@ use Rattle.std.specs.Prelude.{if◌then◌else◌, ◌&&◌}
 use lib.Arith.{bin_ind}
 use lib.Bits.{and_step, or_step, and_zero_r, or_zero_r}
 use lib.Lanes.{zip2, sel_l, top}
+use Rattle.riichi_rows.specs.Open.{IsMarkOf}
 use Rattle.riichi_rows.specs.Lanes.{lane, HasLanes, with_set, with_pair, capped, Agree, IsFew, mark, lack_with, lacks_with}
 
 abbrev pub Sound : List ℕ → List ℕ → Type 0
@@ -219,10 +220,6 @@ own_seen a t k n some none few_tiles few is_same = grind (arith, nat_tests)
 
 abbrev marked_all : List ℕ → ℕ → List ℕ
 marked_all ms m = zip2 bit_or ms (replicate 16 m)
-
--- a rank's bit where any tiles are more, and none otherwise
-abbrev pub IsMarkOf : ℕ → ℕ → ℕ → Type 0
-IsMarkOf bit tiles m = (0 < tiles → m ≡ bit) × (tiles ≡ 0 → m ≡ 0)
 
 module _ (ms : List ℕ) (m : ℕ) (long : length ms ≡ 16) where
   pub length_marked_all : length (marked_all ms m) ≡ 16

@@ -1,4 +1,5 @@
 pub mod Columns
+pub mod Costs
 pub mod Join
 pub mod Lacked
 pub mod Lanes

@@ -1,11 +1,15 @@
 -- What the tables of a rank are where there are runs, by the runs that are open there.
-use Rattle.std.specs.Prelude.{ℕ, ◌-◌, ◌<◌, min, true, nat_le, if◌then◌else◌, List}
+use Rattle.std.specs.Prelude.{◌≡◌, ℕ, ◌-◌, ◌<◌, min, true, nat_le, if◌then◌else◌, List}
 use Rattle.riichi_rows.specs.Columns.{AreLeast}
 use Rattle.riichi_rows.specs.Lanes.{Agree, IsFew, with_set, with_pair}
 
 -- what it costs to hold n tiles of a rank
 abbrev pub cost : ℕ → ℕ → ℕ → ℕ
 cost have limit n = if nat_le n limit then n - have else 255
+
+-- the bit of a rank of which tiles are lacking, and no bit where none is
+abbrev pub IsMarkOf : ℕ → ℕ → ℕ → Type 0
+IsMarkOf bit tiles mark = (0 < tiles → mark ≡ bit) × (tiles ≡ 0 → mark ≡ 0)
 
 -- a table for each number of runs begun at this rank
 pub record Begun : Type 0 where

@@ -12,6 +12,8 @@
 #![tactic(auto)]
 
 mod added;
+mod cost;
+mod costs;
 mod join;
 mod joined;
 mod lacked;

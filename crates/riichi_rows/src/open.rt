@@ -6,7 +6,8 @@ ghost use Rattle.riichi_rows.specs.Lanes.{Agree};
 ghost use Rattle.riichi_rows.specs.Open as table;
 ghost use Rattle.riichi_rows.specs.Seen.{added_seen, begun_seen, open_seen, seen};
 
-use crate::added::{Added, cost};
+use crate::added::Added;
+use crate::costs::Costs;
 use crate::marked_lanes::MarkedLanes;
 
 /// By the number of runs begun one rank before.
@@ -33,9 +34,10 @@ pub fn before_without_runs(later: MarkedLanes, have: u8, limit: u8, bit: u8) -> 
     ensures others { (other : ℕ) (counts caps : List ℕ) → bit_and bit other ≡ 0 → table.AreFew (seen 0 later) → AreLeast false counts caps 0 0 (seen other later) → AreLeast false (have ∷ counts) (limit ∷ caps) 0 0 (seen other result) }
     ensures own { (counts caps : List ℕ) → 0 < bit → table.AreFew (seen 0 later) → Agree (seen bit later) (seen 0 later) → AreLeast false counts caps 0 0 (seen 0 later) → AreLeast false ((have + 1) ∷ counts) (limit ∷ caps) 0 0 (seen bit result) }
 {
-    let plain = later.lacking(cost(have, limit, 0), bit);
-    let triplet = later.with_set().lacking(cost(have, limit, 3), bit);
-    let pair = later.with_pair().lacking(cost(have, limit, 2), bit);
+    let costs = Costs::new(have, limit, bit);
+    let plain = later.lacking(costs.zero);
+    let triplet = later.with_set().lacking(costs.three);
+    let pair = later.with_pair().lacking(costs.two);
     plain.or(triplet).or(pair)
 }
 
@@ -86,24 +88,25 @@ impl Open {
         ensures others { (other : ℕ) (counts caps : List ℕ) → bit_and bit other ≡ 0 → table.FewOpen (open_seen 0 self.now) → table.LeastOpen counts caps (open_seen other self.now) → table.LeastOpen (have ∷ counts) (limit ∷ caps) (open_seen other result) }
         ensures own { (counts caps : List ℕ) → 0 < bit → table.FewOpen (open_seen 0 self.now) → table.SameOpen (open_seen bit self.now) (open_seen 0 self.now) → table.LeastOpen counts caps (open_seen 0 self.now) → table.LeastOpen ((have + 1) ∷ counts) (limit ∷ caps) (open_seen bit result) }
     {
+        let costs = Costs::new(have, limit, bit);
         let none_open = self.zero.added();
         let one_open = self.one.added();
         let two_open = self.two.added();
         Open {
             zero: Begun {
-                zero: none_open.lanes(0, have, limit, bit),
-                one: one_open.lanes(1, have, limit, bit),
-                two: two_open.lanes(2, have, limit, bit),
+                zero: none_open.lanes(0, &costs),
+                one: one_open.lanes(1, &costs),
+                two: two_open.lanes(2, &costs),
             },
             one: Begun {
-                zero: none_open.lanes(1, have, limit, bit),
-                one: one_open.lanes(2, have, limit, bit),
-                two: two_open.lanes(3, have, limit, bit),
+                zero: none_open.lanes(1, &costs),
+                one: one_open.lanes(2, &costs),
+                two: two_open.lanes(3, &costs),
             },
             two: Begun {
-                zero: none_open.lanes(2, have, limit, bit),
-                one: one_open.lanes(3, have, limit, bit),
-                two: two_open.lanes(4, have, limit, bit),
+                zero: none_open.lanes(2, &costs),
+                one: one_open.lanes(3, &costs),
+                two: two_open.lanes(4, &costs),
             },
         }
     }

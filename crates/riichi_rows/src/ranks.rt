@@ -3,6 +3,7 @@ ghost use Rattle.std.specs.Prelude.{ℕ, ◌≡◌, ◌+◌, ◌-◌, ◌^◌, �
 ghost use Rattle.riichi_rows.specs.Marks.{IsMarkedRow};
 ghost use Rattle.riichi_rows.specs.Ranks.{AreRanks, AreRanksWithoutRuns, AreSuitLanes};
 
+use crate::costs::Costs;
 use crate::lanes::Lanes;
 use crate::marked_lanes::MarkedLanes;
 use crate::open::{Open, before_without_runs};
@@ -66,8 +67,10 @@ fn lanes_with_runs(counts: &[u8; 9], caps: &[u8; 9]) -> SuitLanes
 {
     let added = later_ranks(counts, caps).zero.added();
     SuitLanes {
-        all: added.lanes(0, counts[0], caps[0], 0),
-        first: added.lanes(0, with_one(counts[0]), caps[0], 0).lacks,
+        all: added.lanes(0, &Costs::new(counts[0], caps[0], 0)),
+        first: added
+            .lanes(0, &Costs::new(with_one(counts[0]), caps[0], 0))
+            .lacks,
     }
 }
 

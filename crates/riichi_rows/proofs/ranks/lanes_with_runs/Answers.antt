@@ -17,6 +17,6 @@ returns c =
     let little = few_open _ _ (caps_from caps 1 c.requires (omega arith)) (drop_short caps 1 (omega arith)) (open_seen 0 later) are.plain in
     let few = few_added _ _ (c.added-added.ensures 0) little.zero in
     whole_suit true counts caps (omega arith) (omega arith) L c.lanes.result c.lanes-2.result _
-    (λ other cs ks least. c.lanes.ensures.others other cs ks 0 0 (begun_seen other later.zero) (and_zero_l other) few refl (c.added-added.ensures other) least)
-    (λ cs ks least. c.lanes-2.ensures.others 0 cs ks 0 0 (begun_seen 0 later.zero) (and_zero_l 0) few refl (c.added-added.ensures 0) least)
+    (λ other cs ks least. c.lanes.ensures.others _ _ _ other cs ks 0 0 (begun_seen other later.zero) (omega (arith, c.requires 0 (omega arith))) c.new.ensures (and_zero_l other) few refl (c.added-added.ensures other) least)
+    (λ cs ks least. c.lanes-2.ensures.others _ _ _ 0 cs ks 0 0 (begun_seen 0 later.zero) (omega (arith, c.requires 0 (omega arith))) c.new-2.ensures (and_zero_l 0) few refl (c.added-added.ensures 0) least)
     are.plain.zero_open (λ r low. (are.marks r low).zero_open) c.with_one.ensures.few c.with_one.ensures.many
