@@ -23,6 +23,7 @@ mod marked_lanes;
 mod open;
 mod rank_set;
 mod ranks;
+mod removed;
 mod row;
 mod row_source;
 
@@ -30,5 +31,6 @@ pub use join::join_rows;
 pub use joined::{JoinedRows, join_two};
 pub use rank_set::RankSet;
 pub use ranks::suit_row;
+pub use removed::{SuitRows, suit_rows};
 pub use row::SuitRow;
 pub use row_source::{FreshRows, RowSource};

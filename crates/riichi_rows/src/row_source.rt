@@ -1,9 +1,11 @@
 //! Where the rows of suits come from.
 ghost use Rattle.std.specs.Prelude.{ℕ, ◌<◌, ◌≤◌, slice_index};
 ghost use Rattle.riichi_rows.specs.Marks.{IsMarkedRow};
+ghost use Rattle.riichi_rows.specs.Without.{AreSuitRows};
 
 use crate::ranks::suit_row;
 use crate::row::SuitRow;
+use crate::removed::{SuitRows, suit_rows};
 
 /// What answers for suit rows: it may make each one anew, or keep those that it has made.
 pub trait RowSource {
@@ -12,6 +14,11 @@ pub trait RowSource {
     fn row(&mut self, counts: &[u8; 9], caps: &[u8; 9], runs: bool) -> SuitRow
         requires { (r : ℕ) → r < 9 → slice_index caps.now r ≤ 4 }
         ensures { IsMarkedRow runs counts.now caps.now result };
+
+    /// The same, and the rows without one of its tiles.
+    fn rows(&mut self, counts: &[u8; 9], caps: &[u8; 9], runs: bool) -> SuitRows
+        requires { (r : ℕ) → r < 9 → slice_index caps.now r ≤ 4 }
+        ensures { AreSuitRows runs counts.now caps.now result };
 }
 
 /// Makes each row anew, and keeps none.
@@ -21,5 +28,9 @@ pub struct FreshRows;
 impl RowSource for FreshRows {
     fn row(&mut self, counts: &[u8; 9], caps: &[u8; 9], runs: bool) -> SuitRow {
         suit_row(*counts, *caps, runs)
+    }
+
+    fn rows(&mut self, counts: &[u8; 9], caps: &[u8; 9], runs: bool) -> SuitRows {
+        suit_rows(counts, caps, runs)
     }
 }
