@@ -44,7 +44,7 @@ fn later_ranks(counts: &[u8; 9], caps: &[u8; 9]) -> Open
     let last = Open::closed().before(counts[8], caps[8], bit_of(8));
     let mut later = last.before(counts[7], caps[7], bit_of(7));
     for rank in (1..7).rev() {
-        later = later.before(counts[rank], caps[rank], bit_of(rank));
+        later = later.before_often(counts[rank], caps[rank], bit_of(rank));
     }
     later
 }

@@ -20,8 +20,8 @@ loop-rank-preserved c =
     let later : AreRanks (rank - 1 + 1) counts caps c.loop-rank.later = subst (λ (n : ℕ). AreRanks n counts caps c.loop-rank.later) (omega arith) c.loop-rank.invariant.ranks in
     record {
       some = omega arith;
-      ranks = next_open counts caps (omega arith) (omega arith) c.requires (rank - 1) (omega arith) (omega arith) _ c.bit_of-in-loop-rank.ensures c.loop-rank.later c.before-later-in-loop-rank.result
-          c.before-later-in-loop-rank.ensures.others c.before-later-in-loop-rank.ensures.own later;
+      ranks = next_open counts caps (omega arith) (omega arith) c.requires (rank - 1) (omega arith) (omega arith) _ c.bit_of-in-loop-rank.ensures c.loop-rank.later c.before_often-later.result
+          c.before_often-later.ensures.others c.before_often-later.ensures.own later;
     }
 
 pub returns : goal.returns
