@@ -3,6 +3,7 @@ pub mod CostLemmas
 pub mod JoinOrders
 pub mod Joins
 pub mod Lacking
+pub mod KeptTables
 pub mod LackedRanks
 pub mod LaneLemmas
 pub mod MarkLemmas

@@ -1,11 +1,11 @@
 -- One rank in front of the later ones, for the counts as they are and with one more tile of each rank.
-use Rattle.std.proofs.Common.{◌≡◌, ℕ, zero, suc, ◌+◌, ◌*◌, ◌-◌, ◌^◌, ◌<◌, ◌≤◌, Bool, true, false, List, [], ◌∷◌, drop, get_or, length, sym, subst, ap, ◌∙◌, ⊎_elim, inl, inr, arith}
+use Rattle.std.proofs.Common.{◌≡◌, ℕ, zero, suc, ◌+◌, ◌*◌, ◌-◌, ◌^◌, ◌<◌, ◌≤◌, Bool, true, false, List, [], ◌∷◌, drop, get_or, length, set, sym, subst, ap, ◌∙◌, ⊎_elim, inl, inr, arith}
 use Rattle.std.specs.Prelude.{◌⊎◌, ◌≢◌, bit_and, slice_index}
 use Rattle.std.specs.Int.Bits.{and_zero_r}
 use Rattle.std.proofs.Math.Seq.{drop-cons}
 use Rattle.std.proofs.lemmas.Bool.{cases_lt}
 use Rattle.std.proofs.lemmas.Bool.Decides.{nat_tests}
-use Rattle.std.proofs.lemmas.List.{drop_all, length-drop, drop-set, drop-set-lt, get_or-drop, get_or-set_other, length-set}
+use Rattle.std.proofs.lemmas.List.{drop_all, length-drop, drop-set, drop-set-add, drop-set-lt, get_or-drop, get_or-set_other, length-set}
 use Rattle.std.proofs.lemmas.Nat.{pow_apart}
 use Rattle.riichi_rows.specs.Columns.{AreLeast, Column, Fits, lack_from, LeastFrom}
 use Rattle.riichi_rows.specs.Lanes.{Agree, IsFew, lack_with, lane, mark, nothing}
@@ -13,6 +13,7 @@ use Rattle.riichi_rows.specs.Open.{AreFew, Begun, FewBegun, FewOpen, LeastBegun,
 use Rattle.riichi_rows.specs.Open as table
 use Rattle.riichi_rows.specs.Ranks.{AreRanks, AreRanksWithoutRuns, one_more}
 use Rattle.riichi_rows.specs.Seen.{begun_seen, open_seen, seen}
+use Rattle.riichi_rows.specs.Without.{one_less}
 use Rattle.riichi_rows.specs.declared.marked_lanes.MarkedLanes.{MarkedLanes}
 use Rattle.riichi_rows.specs.declared.open.Begun as code
 use Rattle.riichi_rows.specs.declared.open.Open as open_code
@@ -223,4 +224,38 @@ module _ (counts caps : List ℕ) (long : length counts ≡ 9) (caps_long : leng
   nothing_alone x least = record {
     plain = subst (λ (ys : List ℕ). AreLeast false ys (drop 9 caps) 0 0 (seen 0 x)) (sym no_counts) (subst (λ (zs : List ℕ). AreLeast false [] zs 0 0 (seen 0 x)) (sym no_caps) (nothing_least false (seen 0 x) (least 0)));
     marks = λ r low. subst (λ (ys : List ℕ). AreLeast false ys (drop 9 caps) 0 0 (seen (2 ^ r) x)) (sym (no_more (suc r))) (subst (λ (zs : List ℕ). AreLeast false [] zs 0 0 (seen (2 ^ r) x)) (sym no_caps) (nothing_least false (seen (2 ^ r) x) (least (2 ^ r))));
+  }
+
+-- ---- with one tile fewer of a rank
+
+module _ (counts : List ℕ) (rank from : ℕ) (below : rank < from) where
+  drop_one_less : drop from (one_less counts rank) ≡ drop from counts
+  drop_one_less = drop-set-lt from counts rank (slice_index counts rank - 1) below
+
+  -- also where some rank has one more
+  drop_before : (r : ℕ) → r < from → drop from (one_more (one_less counts rank) r) ≡ drop from (one_more counts r)
+  drop_before r low =
+      drop-set-lt from (one_less counts rank) r (slice_index (one_less counts rank) r + 1) low ∙ drop_one_less
+      ∙ sym (drop-set-lt from counts r (slice_index counts r + 1) low)
+
+  held : (r : ℕ) → rank < r → slice_index (one_less counts rank) r ≡ slice_index counts r
+  held r above = get_or-set_other counts rank r (slice_index counts rank - 1) 0 (λ e. omega (arith, e, above))
+
+  at_place : (i : ℕ) → drop from (one_more (one_less counts rank) (from + i)) ≡ drop from (one_more counts (from + i))
+  at_place i =
+      drop-set-add from (one_less counts rank) i _ ∙ ap (λ (ys : List ℕ). set ys i (slice_index (one_less counts rank) (from + i) + 1)) drop_one_less
+      ∙ ap (λ (n : ℕ). set (drop from counts) i (n + 1)) (held (from + i) (omega (arith, below)))
+      ∙ sym (drop-set-add from counts i _)
+
+  drop_after : (r i : ℕ) → from + i ≡ r → drop from (one_more (one_less counts rank) r) ≡ drop from (one_more counts r)
+  drop_after r i is = subst (λ (n : ℕ). drop from (one_more (one_less counts rank) n) ≡ drop from (one_more counts n)) is (at_place i)
+
+  drop_changed : (r : ℕ) → drop from (one_more (one_less counts rank) r) ≡ drop from (one_more counts r)
+  drop_changed r = ⊎_elim (λ low. drop_before r low) (λ high. drop_after r (r - from) (omega (arith, high))) (cases_lt r from)
+
+  -- the tables after a rank stay
+  pub same_after : (caps : List ℕ) (later : open_code.Open) → AreRanks from counts caps later → AreRanks from (one_less counts rank) caps later
+  same_after caps later are = record {
+    plain = subst (λ (ys : List ℕ). LeastOpen ys (drop from caps) (open_seen 0 later)) (sym drop_one_less) are.plain;
+    marks = λ r low. subst (λ (ys : List ℕ). LeastOpen ys (drop from caps) (open_seen (2 ^ r) later)) (sym (drop_changed (suc r))) (are.marks r low);
   }

@@ -7,11 +7,22 @@ use Rattle.riichi_rows.specs.Lanes.{lane, mark}
 use Rattle.riichi_rows.specs.Ranks.{AreSuitLanes, one_more}
 use Rattle.riichi_rows.specs.Seen.{seen}
 use Rattle.riichi_rows.specs.declared.marked_lanes.MarkedLanes.{MarkedLanes}
+use Rattle.riichi_rows.proofs.Blocks.{reached_small}
 use Rattle.riichi_rows.proofs.MarkLemmas.{as_it_is}
 use Rattle.riichi_rows.proofs.MarkedRanks.{in_front}
 
 pub least_as_it_is : (runs : Bool) (counts caps : List ℕ) (x : MarkedLanes) → AreLeast runs counts caps 0 0 (seen 0 x) → AreLeast runs counts caps 0 0 (lane x.lacks.lacks)
 least_as_it_is runs counts caps x least = record { at = λ s p hs hp. subst (λ (v : ℕ). LeastFrom runs counts caps 0 0 s p v) (as_it_is (lane x.lacks.lacks s p) (mark x.marks s p)) (least.at s p hs hp) }
+
+-- what the first rank in front of the later ones lacks is small
+module _ (runs : Bool) (counts caps : List ℕ) (long : length counts ≡ 9) (caps_long : length caps ≡ 9) (few : (r : ℕ) → r < 9 → slice_index caps r ≤ 4) (x : MarkedLanes)
+    (least : AreLeast runs (get_or counts 0 0 ∷ drop 1 counts) (get_or caps 0 0 ∷ drop 1 caps) 0 0 (seen 0 x)) where
+  of_suit : AreLeast runs counts caps 0 0 (seen 0 x)
+  of_suit = subst (λ (cs : List ℕ). AreLeast runs cs caps 0 0 (seen 0 x)) (sym (in_front counts 0 (omega (arith, long))))
+      (subst (λ (ks : List ℕ). AreLeast runs (get_or counts 0 0 ∷ drop 1 counts) ks 0 0 (seen 0 x)) (sym (in_front caps 0 (omega (arith, caps_long)))) least)
+
+  pub small_lanes : (s p : ℕ) → s < 5 → p < 2 → lane x.lacks.lacks s p < 255 → lane x.lacks.lacks s p ≤ 36
+  small_lanes s p hs hp low = reached_small runs counts caps long caps_long few s p _ ((least_as_it_is runs counts caps x of_suit).at s p hs hp) low
 
 -- L are the tables from the second rank on
 module _ (runs : Bool) (counts caps : List ℕ) (long : length counts ≡ 9) (caps_long : length caps ≡ 9) (L : List ℕ → List ℕ → ℕ → Type 0) (all first : MarkedLanes) (have : ℕ)
@@ -46,5 +57,5 @@ module _ (runs : Bool) (counts caps : List ℕ) (long : length counts ≡ 9) (ca
   of_full : 4 ≤ get_or counts 0 0 → AreLeast runs counts caps 0 0 (lane first.lacks.lacks)
   of_full high = subst (λ (ys : List ℕ). AreLeast runs ys caps 0 0 (lane first.lacks.lacks)) (ap (λ (n : ℕ). n ∷ drop 1 counts) (full high) ∙ sym (in_front counts 0 (omega (arith, long)))) of_first
 
-  pub whole_suit : AreSuitLanes runs counts caps (record { all = all; first = first.lacks })
-  whole_suit = record { plain = of_all counts 0 (in_front counts 0 (omega (arith, long))) plain; marks = of_marks; few = of_room; many = of_full }
+  pub whole_suit : (small : (s p : ℕ) → s < 5 → p < 2 → lane all.lacks.lacks s p < 255 → lane all.lacks.lacks s p ≤ 36) → AreSuitLanes runs counts caps (record { all = all; first = first.lacks; small = small })
+  whole_suit small = record { plain = of_all counts 0 (in_front counts 0 (omega (arith, long))) plain; marks = of_marks; few = of_room; many = of_full }

@@ -1,6 +1,7 @@
 pub mod Columns
 pub mod Costs
 pub mod Join
+pub mod Kept
 pub mod Lacked
 pub mod Lanes
 pub mod Marks

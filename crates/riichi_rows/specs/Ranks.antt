@@ -6,7 +6,7 @@ use Rattle.riichi_rows.specs.Open.{LeastOpen}
 use Rattle.riichi_rows.specs.Seen.{open_seen, seen}
 use Rattle.riichi_rows.specs.declared.marked_lanes.MarkedLanes.{MarkedLanes}
 use Rattle.riichi_rows.specs.declared.open.Open.{Open}
-use Rattle.riichi_rows.specs.declared.ranks.SuitLanes.{SuitLanes}
+use Rattle.riichi_rows.specs.declared.suit_lanes.SuitLanes.{SuitLanes}
 
 -- the counts with one more tile of a rank
 abbrev pub one_more : List ℕ → ℕ → List ℕ

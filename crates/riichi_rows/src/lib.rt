@@ -16,6 +16,7 @@ mod cost;
 mod costs;
 mod join;
 mod joined;
+mod kept_ranks;
 mod lacked;
 mod lanes;
 pub mod laws;
@@ -26,6 +27,9 @@ mod ranks;
 mod removed;
 mod row;
 mod row_source;
+mod suit_lanes;
+#[cfg(test)]
+mod tests;
 
 pub use join::join_rows;
 pub use joined::{JoinedRows, join_two};

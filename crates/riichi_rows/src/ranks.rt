@@ -4,22 +4,14 @@ ghost use Rattle.riichi_rows.specs.Marks.{IsMarkedRow};
 ghost use Rattle.riichi_rows.specs.Ranks.{AreRanks, AreRanksWithoutRuns, AreSuitLanes};
 
 use crate::costs::Costs;
-use crate::lanes::Lanes;
 use crate::marked_lanes::MarkedLanes;
 use crate::open::{Open, before_without_runs};
 use crate::row::SuitRow;
-
-/// The lanes of a whole suit. The first rank has no mark: `first` are the least lacks with one more
-/// tile of it.
-#[derive(Clone, Copy)]
-pub(crate) struct SuitLanes {
-    pub(crate) all: MarkedLanes,
-    pub(crate) first: Lanes,
-}
+use crate::suit_lanes::SuitLanes;
 
 /// The bit of a rank in a mark.
 #[inline(always)]
-fn bit_of(rank: usize) -> u8
+pub(crate) fn bit_of(rank: usize) -> u8
     requires later { 0 < rank }
     requires rank { rank < 9 }
     ensures { result ≡ 2 ^ (rank - 1) }
@@ -35,18 +27,38 @@ fn with_one(have: u8) -> u8
     if have < 4 { have + 1 } else { have }
 }
 
-/// All ranks but the first, of a suit that has runs.
-fn later_ranks(counts: &[u8; 9], caps: &[u8; 9]) -> Open
+/// The last two ranks of a suit that has runs. No run begins there: apart from a loop, their steps
+/// are a third as long.
+#[inline(always)]
+pub(crate) fn last_two_ranks(counts: &[u8; 9], caps: &[u8; 9]) -> Open
     requires { (r : ℕ) → r < 9 → slice_index caps.now r ≤ 4 }
-    ensures { AreRanks 1 counts.now caps.now result }
+    ensures { AreRanks 7 counts.now caps.now result }
 {
-    // No run begins at the last two ranks: apart from the loop, their steps are a third as long.
     let last = Open::closed().before(counts[8], caps[8], bit_of(8));
-    let mut later = last.before(counts[7], caps[7], bit_of(7));
-    for rank in (1..7).rev() {
-        later = later.before_often(counts[rank], caps[rank], bit_of(rank));
+    last.before(counts[7], caps[7], bit_of(7))
+}
+
+/// All ranks but the first two, out of the tables after a rank.
+pub(crate) fn later_ranks_from(after: Open, rank: usize, counts: &[u8; 9], caps: &[u8; 9]) -> Open
+    requires some { 0 < rank }
+    requires rank { rank < 9 }
+    requires caps { (r : ℕ) → r < 9 → slice_index caps.now r ≤ 4 }
+    requires after { AreRanks (rank + 1) counts.now caps.now after }
+    ensures { AreRanks 2 counts.now caps.now result }
+{
+    let mut later = after;
+    for here in (2..rank + 1).rev() {
+        later = later.before_often(counts[here], caps[here], bit_of(here));
     }
     later
+}
+
+/// All ranks but the first two, of a suit that has runs.
+pub(crate) fn later_ranks(counts: &[u8; 9], caps: &[u8; 9]) -> Open
+    requires { (r : ℕ) → r < 9 → slice_index caps.now r ≤ 4 }
+    ensures { AreRanks 2 counts.now caps.now result }
+{
+    later_ranks_from(last_two_ranks(counts, caps), 6, counts, caps)
 }
 
 /// All ranks but the first, of a suit that has none.
@@ -61,11 +73,15 @@ fn later_ranks_without_runs(counts: &[u8; 9], caps: &[u8; 9]) -> MarkedLanes
     later
 }
 
-fn lanes_with_runs(counts: &[u8; 9], caps: &[u8; 9]) -> SuitLanes
-    requires { (r : ℕ) → r < 9 → slice_index caps.now r ≤ 4 }
+/// The lanes of a suit that has runs, out of the tables after its first two ranks. No run is open
+/// before them: apart from the loop, the step of the second is a third as long.
+pub(crate) fn lanes_from(later: Open, counts: &[u8; 9], caps: &[u8; 9]) -> SuitLanes
+    requires caps { (r : ℕ) → r < 9 → slice_index caps.now r ≤ 4 }
+    requires later { AreRanks 2 counts.now caps.now later }
     ensures { AreSuitLanes true counts.now caps.now result }
 {
-    let added = later_ranks(counts, caps).zero.added();
+    let second = later.before(counts[1], caps[1], bit_of(1));
+    let added = second.zero.added();
     SuitLanes {
         all: added.lanes(0, &Costs::new(counts[0], caps[0], 0)),
         first: added
@@ -90,7 +106,7 @@ fn suit_lanes(counts: &[u8; 9], caps: &[u8; 9], runs: bool) -> SuitLanes
     ensures { AreSuitLanes runs counts.now caps.now result }
 {
     if runs {
-        lanes_with_runs(counts, caps)
+        lanes_from(later_ranks(counts, caps), counts, caps)
     } else {
         lanes_without_runs(counts, caps)
     }
@@ -102,10 +118,5 @@ pub fn suit_row(counts: [u8; 9], caps: [u8; 9], runs: bool) -> SuitRow
     requires { (r : ℕ) → r < 9 → slice_index caps r ≤ 4 }
     ensures { IsMarkedRow runs counts caps result }
 {
-    let lanes = suit_lanes(&counts, &caps, runs);
-    SuitRow {
-        entries: lanes.all.lacks,
-        first: lanes.first,
-        marks: lanes.all.marks,
-    }
+    suit_lanes(&counts, &caps, runs).row()
 }

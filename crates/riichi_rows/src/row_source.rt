@@ -4,8 +4,8 @@ ghost use Rattle.riichi_rows.specs.Marks.{IsMarkedRow};
 ghost use Rattle.riichi_rows.specs.Without.{AreSuitRows};
 
 use crate::ranks::suit_row;
-use crate::row::SuitRow;
 use crate::removed::{SuitRows, suit_rows};
+use crate::row::SuitRow;
 
 /// What answers for suit rows: it may make each one anew, or keep those that it has made.
 pub trait RowSource {

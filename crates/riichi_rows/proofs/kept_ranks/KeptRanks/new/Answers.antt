@@ -1,0 +1,29 @@
+use Rattle.std.proofs.Common.{◌≡◌, ℕ, ◌+◌, ◌-◌, length-set, subst, ◌∙◌, arith}
+use Rattle.riichi_rows.specs.Ranks.{AreRanks}
+use Rattle.riichi_rows.proofs.KeptTables.{keep, KeptFrom}
+use Rattle.riichi_rows.proofs.MarkedRanks.{next_open}
+use Rattle.riichi_rows.proofs.kept_ranks.KeptRanks.new.Goals as goal
+
+pub loop-rank-preserved : goal.loop-rank-preserved
+loop-rank-preserved c =
+    let counts = c.args.counts.now in
+    let caps = c.args.caps.now in
+    let rank = c.loop-rank.rank in
+    let after = c.loop-rank.after in
+    let so_far = c.loop-rank.invariant in
+    let one_back : rank ≡ rank - 1 + 1 = omega arith in
+    let later : AreRanks (rank - 1 + 1) counts caps c.loop-rank.later = subst (λ (n : ℕ). AreRanks n counts caps c.loop-rank.later) one_back so_far.ranks in
+    let kept : KeptFrom counts caps after (rank - 1 + 1) = subst (λ (n : ℕ). KeptFrom counts caps after n) one_back so_far.kept in
+    let ranks =
+    next_open counts caps (omega arith) (omega arith) c.requires (rank - 1) (omega arith) (omega (arith, so_far.inside)) _ c.bit_of.ensures c.loop-rank.later c.before_often-later.result
+    c.before_often-later.ensures.others c.before_often-later.ensures.own later in
+    record {
+      some = omega arith;
+      inside = omega (arith, so_far.inside);
+      long = length-set after (rank - 1 - 2) c.before_often-later.result ∙ so_far.long;
+      ranks = ranks;
+      kept = keep counts caps after (rank - 1) c.before_often-later.result (omega (arith, c.loop-rank-test.true)) (omega (arith, so_far.inside)) so_far.long ranks kept;
+    }
+
+pub returns-clause-kept : goal.returns-clause-kept
+returns-clause-kept c = record { after = λ r low other. c.loop-rank.invariant.kept r (omega arith) low other }

@@ -1,0 +1,94 @@
+//! Rows worked by hand, and rows without one tile beside rows made anew.
+ghost use Rattle.std.specs.Prelude.{◌≤◌};
+
+use crate::{JoinedRows, RankSet, SuitRow, join_two, suit_row, suit_rows};
+use std::process::Abort;
+use std::test::Fail;
+
+const NO_TILES: [u8; 9] = [0; 9];
+
+/// A row with four of each tile to be had.
+fn row(counts: [u8; 9], runs: bool) -> SuitRow {
+    suit_row(counts, [4; 9], runs)
+}
+
+/// Nothing is held: each entry is all of its tiles.
+#[test]
+fn rows_of_no_tiles(rt: HostRuntime) -> Result<(), Fail> {
+    let suit = row(NO_TILES, true);
+    assert_eq!(rt; suit.get(0, false), Some(0));
+    assert_eq!(rt; suit.get(2, true), Some(8));
+    assert_eq!(rt; suit.get(4, true), Some(14));
+    // Without runs, and with two of each tile to be had, there is no set.
+    let pairs = suit_row(NO_TILES, [2; 9], false);
+    assert_eq!(rt; pairs.get(0, true), Some(2));
+    assert_eq!(rt; pairs.get(1, false), None);
+    Ok(())
+}
+
+fn is_same(one: &SuitRow, other: &SuitRow) -> bool {
+    (0..5u8).all(|sets| {
+        one.get(sets, false) == other.get(sets, false)
+            && one.get(sets, true) == other.get(sets, true)
+    })
+}
+
+/// The rows of a suit are those that are made of its counts one by one.
+fn check_rows(rt: &impl Abort, counts: [u8; 9], cap: u8, runs: bool) -> Result<(), Fail>
+    requires { cap ≤ 4 }
+{
+    let caps = [cap; 9];
+    let rows = suit_rows(&counts, &caps, runs);
+    assert!(rt; is_same(&rows.whole, &suit_row(counts, caps, runs)));
+    for rank in 0..9usize {
+        if counts[rank] > 0 {
+            let mut rest = counts;
+            rest[rank] -= 1;
+            assert!(rt; is_same(&rows.without[rank], &suit_row(rest, caps, runs)));
+        }
+    }
+    Ok(())
+}
+
+/// Tiles at both ends of a suit, ranks held once and four times, a lower cap, and honours.
+#[test]
+fn rows_without_one_tile(rt: HostRuntime) -> Result<(), Fail> {
+    check_rows(&rt, [1, 1, 1, 1, 0, 1, 0, 0, 0], 4, true)?;
+    check_rows(&rt, [2, 0, 0, 3, 1, 0, 0, 1, 2], 4, true)?;
+    check_rows(&rt, [0, 0, 0, 0, 0, 4, 4, 3, 3], 4, true)?;
+    check_rows(&rt, [1, 0, 2, 0, 1, 1, 0, 2, 1], 2, true)?;
+    check_rows(&rt, [1, 2, 0, 3, 0, 0, 1, 0, 0], 4, false)
+}
+
+/// Of the ranks of a suit just these are in the set.
+fn are_just(set: RankSet, ranks: &[u8]) -> bool {
+    (0..9u8).all(|rank| set.contains(rank) == ranks.contains(&rank))
+}
+
+/// The circles beside bamboos and honours that hold nothing.
+fn beside(circles: [u8; 9]) -> JoinedRows {
+    join_two(&row(circles, true), &row(NO_TILES, true)).and(&row(NO_TILES, false))
+}
+
+/// What 12m lacks: characters of rank 0 and 1.
+#[test]
+fn ranks_lacked_by_a_run_of_two(rt: HostRuntime) -> Result<(), Fail> {
+    let held = [1, 1, 0, 0, 0, 0, 0, 0, 0];
+    let characters = row(held, true);
+    // With nothing else held, a pair lacks one tile, a second 1m or a second 2m.
+    let nothing = beside(NO_TILES);
+    assert_eq!(rt; nothing.with(&characters, 0), Some(1));
+    assert!(rt; are_just(nothing.lacked_by(&characters, 0, 1), &[0, 1]));
+    // Beside 11p a set and a pair lack one tile: 3m, which makes 123m.
+    let pair = beside([2, 0, 0, 0, 0, 0, 0, 0, 0]);
+    assert_eq!(rt; pair.with(&characters, 1), Some(1));
+    assert!(rt; are_just(pair.lacked_by(&characters, 1, 1), &[2]));
+    // There the pair alone is whole: no character takes part in it, and none is lacked.
+    assert_eq!(rt; pair.with(&characters, 0), Some(0));
+    assert!(rt; are_just(pair.lacked_by(&characters, 0, 0), &[]));
+    // With no 3m to be had they lack two: 111m or 222m beside 11p, or 11m or 22m beside 111p.
+    let no_run = suit_row(held, [4, 4, 0, 4, 4, 4, 4, 4, 4], true);
+    assert_eq!(rt; pair.with(&no_run, 1), Some(2));
+    assert!(rt; are_just(pair.lacked_by(&no_run, 1, 2), &[0, 1]));
+    Ok(())
+}
