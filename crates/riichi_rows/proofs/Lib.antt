@@ -1,3 +1,4 @@
+pub mod Beside
 pub mod Blocks
 pub mod CostLemmas
 pub mod JoinOrders

@@ -63,7 +63,7 @@ module _ (z0 z2 z3 o0 o2 o3 v0 v2 v3 : ℕ) (few : z0 ≤ 255) (none : v3 ≡ 25
 sum_lesser : (x y c : ℕ) → capped (min x y + c) ≡ min (capped (x + c)) (capped (y + c))
 sum_lesser x y c = omega arith
 
-cost_above : (have limit n : ℕ) → limit < n → cost have limit n ≡ 255
+pub cost_above : (have limit n : ℕ) → limit < n → cost have limit n ≡ 255
 cost_above have limit n h = grind (arith, nat_tests)
 
 -- ---- with a set or a pair more, by place

@@ -1,7 +1,7 @@
 -- What the tables of a rank are where there are runs, by the runs that are open there.
-use Rattle.std.specs.Prelude.{◌≡◌, ℕ, ◌-◌, ◌<◌, min, true, nat_le, if◌then◌else◌, List}
+use Rattle.std.specs.Prelude.{◌≡◌, ℕ, zero, suc, ◌+◌, ◌-◌, ◌<◌, min, true, nat_le, if◌then◌else◌, List}
 use Rattle.riichi_rows.specs.Columns.{AreLeast}
-use Rattle.riichi_rows.specs.Lanes.{Agree, IsFew, with_set, with_pair}
+use Rattle.riichi_rows.specs.Lanes.{Agree, IsFew, capped, with_set, with_pair}
 
 -- what it costs to hold n tiles of a rank
 abbrev pub cost : ℕ → ℕ → ℕ → ℕ
@@ -50,6 +50,19 @@ pub record IsAdded (later : Begun) (x : Added) : Type 0 where
   pub two_tiles : Agree x.two (λ s p. min (with_pair later.zero s p) (with_set (with_set later.two) s p))
   pub three_tiles : Agree x.three (λ s p. min (with_set later.zero s p) (with_pair (with_set later.one) s p))
   pub four_tiles : Agree x.four (λ s p. min (with_set (with_set later.one) s p) (with_pair (with_set (with_set later.two)) s p))
+
+-- the table of what takes so many tiles
+abbrev pub taking : Added → ℕ → ℕ → ℕ → ℕ
+taking x zero = x.zero
+taking x (suc zero) = x.one
+taking x (suc (suc zero)) = x.two
+taking x (suc (suc (suc zero))) = x.three
+taking x (suc (suc (suc (suc n)))) = x.four
+
+-- the better of what takes at most so many tiles, each of which is lacking but for those that are held
+abbrev pub up_to : Added → ℕ → ℕ → ℕ → ℕ → ℕ
+up_to x held zero s p = taking x zero s p
+up_to x held (suc most) s p = min (up_to x held most s p) (capped (taking x (suc most) s p + (suc most - held)))
 
 -- no sum with a value of the table comes near to none
 abbrev pub AreFew : (ℕ → ℕ → ℕ) → Type 0

@@ -1,6 +1,6 @@
 //! The later choices of a rank by the tiles that they add to it.
 
-ghost use Rattle.std.specs.Prelude.{◌≡◌, ℕ, List, ◌+◌, ◌<◌, ◌≤◌, ◌∷◌, bit_and, true};
+ghost use Rattle.std.specs.Prelude.{◌≡◌, ℕ, List, ◌+◌, ◌-◌, ◌<◌, ◌≤◌, ◌∷◌, bit_and, true};
 ghost use Rattle.riichi_rows.specs.Columns.{AreLeast};
 ghost use Rattle.riichi_rows.specs.Costs.{AreCosts};
 ghost use Rattle.riichi_rows.specs.Open as table;
@@ -36,5 +36,64 @@ impl Added {
         let three = self.three.lacking(costs.of(runs_open + 3));
         let four = self.four.lacking(costs.of(runs_open + 4));
         zero.or(one).or(two).or(three).or(four)
+    }
+
+    /// What takes one tile of the rank at most. Here and below each tile is lacking: the costs are
+    /// those of a rank that has none of four.
+    #[inline(always)]
+    fn up_to_one(&self, each: &Costs) -> MarkedLanes
+        ensures others { (bit other s p : ℕ) → AreCosts 0 4 bit each.now → bit_and bit other ≡ 0 → table.FewAdded (added_seen 0 self.now) → s < 5 → p < 2 → seen other result s p ≡ table.up_to (added_seen other self.now) 0 1 s p }
+        ensures own { (bit s p : ℕ) → AreCosts 0 4 bit each.now → 0 < bit → table.FewAdded (added_seen 0 self.now) → table.SameAdded (added_seen bit self.now) (added_seen 0 self.now) → s < 5 → p < 2 → seen bit result s p ≡ table.up_to (added_seen 0 self.now) 1 1 s p }
+    {
+        self.zero.or(self.one.lacking(each.one))
+    }
+
+    /// Two tiles at most.
+    #[inline(always)]
+    fn up_to_two(&self, each: &Costs) -> MarkedLanes
+        ensures others { (bit other s p : ℕ) → AreCosts 0 4 bit each.now → bit_and bit other ≡ 0 → table.FewAdded (added_seen 0 self.now) → s < 5 → p < 2 → seen other result s p ≡ table.up_to (added_seen other self.now) 0 2 s p }
+        ensures own { (bit s p : ℕ) → AreCosts 0 4 bit each.now → 0 < bit → table.FewAdded (added_seen 0 self.now) → table.SameAdded (added_seen bit self.now) (added_seen 0 self.now) → s < 5 → p < 2 → seen bit result s p ≡ table.up_to (added_seen 0 self.now) 1 2 s p }
+    {
+        self.up_to_one(each).or(self.two.lacking(each.two))
+    }
+
+    /// Three tiles at most.
+    #[inline(always)]
+    fn up_to_three(&self, each: &Costs) -> MarkedLanes
+        ensures others { (bit other s p : ℕ) → AreCosts 0 4 bit each.now → bit_and bit other ≡ 0 → table.FewAdded (added_seen 0 self.now) → s < 5 → p < 2 → seen other result s p ≡ table.up_to (added_seen other self.now) 0 3 s p }
+        ensures own { (bit s p : ℕ) → AreCosts 0 4 bit each.now → 0 < bit → table.FewAdded (added_seen 0 self.now) → table.SameAdded (added_seen bit self.now) (added_seen 0 self.now) → s < 5 → p < 2 → seen bit result s p ≡ table.up_to (added_seen 0 self.now) 1 3 s p }
+    {
+        self.up_to_two(each).or(self.three.lacking(each.three))
+    }
+
+    /// What takes as many tiles at most as the open runs leave of four.
+    #[inline(always)]
+    fn beside(&self, runs_open: u8, each: &Costs) -> MarkedLanes
+        requires some { 0 < runs_open }
+        requires most { runs_open ≤ 4 }
+        ensures others { (bit other s p : ℕ) → AreCosts 0 4 bit each.now → bit_and bit other ≡ 0 → table.FewAdded (added_seen 0 self.now) → s < 5 → p < 2 → seen other result s p ≡ table.up_to (added_seen other self.now) 0 (4 - runs_open) s p }
+        ensures own { (bit s p : ℕ) → AreCosts 0 4 bit each.now → 0 < bit → table.FewAdded (added_seen 0 self.now) → table.SameAdded (added_seen bit self.now) (added_seen 0 self.now) → s < 5 → p < 2 → seen bit result s p ≡ table.up_to (added_seen 0 self.now) 1 (4 - runs_open) s p }
+    {
+        match runs_open {
+            1 => self.up_to_three(each),
+            2 => self.up_to_two(each),
+            3 => self.up_to_one(each),
+            _ => self.zero,
+        }
+    }
+
+    /// The same as `lanes` for a rank of which the hand has one tile at most, and a choice may hold
+    /// four. The open runs take that tile, so each tile beside them is lacking, and what is the best
+    /// with so many is the best with one more or another.
+    #[inline(always)]
+    pub fn lanes_beside(&self, runs_open: u8, have: u8, each: &Costs) -> MarkedLanes
+        requires some { 0 < runs_open }
+        requires most { runs_open ≤ 4 }
+        requires held { have ≤ 1 }
+        ensures others { (bit other : ℕ) (counts caps : List ℕ) (a b : ℕ) (later : table.Begun) → AreCosts 0 4 bit each.now → bit_and bit other ≡ 0 → table.FewAdded (added_seen 0 self.now) → a + b ≡ runs_open → table.IsAdded later (added_seen other self.now) → table.LeastBegun counts caps a later → AreLeast true (have ∷ counts) (4 ∷ caps) a b (seen other result) }
+        ensures own { (bit : ℕ) (counts caps : List ℕ) (a b : ℕ) (later : table.Begun) → AreCosts 0 4 bit each.now → 0 < bit → table.FewAdded (added_seen 0 self.now) → table.SameAdded (added_seen bit self.now) (added_seen 0 self.now) → a + b ≡ runs_open → table.IsAdded later (added_seen 0 self.now) → table.LeastBegun counts caps a later → AreLeast true ((have + 1) ∷ counts) (4 ∷ caps) a b (seen bit result) }
+    {
+        self.beside(runs_open, each)
+            .lacking(each.of(runs_open - have))
     }
 }
