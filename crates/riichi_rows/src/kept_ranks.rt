@@ -5,13 +5,13 @@ use crate::open::Open;
 use crate::ranks::{bit_of, lanes_from, last_two_ranks, later_ranks, later_ranks_from};
 use crate::row::SuitRow;
 
-/// A suit that has runs, and for each rank where a run may begin the tables after it. They stay as
-/// they are when the rank has one tile fewer.
+/// A suit that has runs, and for each rank from the second on where a run may begin the tables after
+/// it. They stay as they are when that rank, or one before it, has one tile fewer.
 #[derive(Drop)]
 pub(crate) struct KeptRanks {
     counts: [u8; 9],
     caps: [u8; 9],
-    after: [Open; 7],
+    after: [Open; 6],
     ghost few: { (r : ℕ) → r < 9 → slice_index caps r ≤ 4 },
 }
 
@@ -27,10 +27,10 @@ impl KeptRanks {
         ensures kept { AreKept result }
     {
         let mut later = last_two_ranks(counts, caps);
-        let mut after = [later; 7];
-        for rank in (1..7usize).rev() {
+        let mut after = [later; 6];
+        for rank in (2..7usize).rev() {
             later = later.before(counts[rank], caps[rank], bit_of(rank));
-            after[rank - 1] = later;
+            after[rank - 2] = later;
         }
         KeptRanks {
             counts: *counts,
@@ -57,7 +57,8 @@ impl KeptRanks {
         let mut rest = self.counts;
         rest[rank] -= 1;
         let later = if rank < 7 {
-            later_ranks_from(self.after[rank], rank, &rest, &self.caps)
+            let place = rank.saturating_sub(1);
+            later_ranks_from(self.after[place], place + 1, &rest, &self.caps)
         } else {
             later_ranks(&rest, &self.caps)
         };

@@ -38,24 +38,26 @@ pub(crate) fn last_two_ranks(counts: &[u8; 9], caps: &[u8; 9]) -> Open
     last.before(counts[7], caps[7], bit_of(7))
 }
 
-/// All ranks but the first, out of the tables after a rank.
+/// All ranks but the first two, out of the tables after a rank.
+#[inline(always)]
 pub(crate) fn later_ranks_from(after: Open, rank: usize, counts: &[u8; 9], caps: &[u8; 9]) -> Open
+    requires some { 0 < rank }
     requires rank { rank < 9 }
     requires caps { (r : ℕ) → r < 9 → slice_index caps.now r ≤ 4 }
     requires after { AreRanks (rank + 1) counts.now caps.now after }
-    ensures { AreRanks 1 counts.now caps.now result }
+    ensures { AreRanks 2 counts.now caps.now result }
 {
     let mut later = after;
-    for here in (1..rank + 1).rev() {
+    for here in (2..rank + 1).rev() {
         later = later.before(counts[here], caps[here], bit_of(here));
     }
     later
 }
 
-/// All ranks but the first, of a suit that has runs.
+/// All ranks but the first two, of a suit that has runs.
 pub(crate) fn later_ranks(counts: &[u8; 9], caps: &[u8; 9]) -> Open
     requires { (r : ℕ) → r < 9 → slice_index caps.now r ≤ 4 }
-    ensures { AreRanks 1 counts.now caps.now result }
+    ensures { AreRanks 2 counts.now caps.now result }
 {
     later_ranks_from(last_two_ranks(counts, caps), 6, counts, caps)
 }
@@ -72,13 +74,15 @@ fn later_ranks_without_runs(counts: &[u8; 9], caps: &[u8; 9]) -> MarkedLanes
     later
 }
 
-/// The lanes of a suit that has runs, out of the tables after its first rank.
+/// The lanes of a suit that has runs, out of the tables after its first two ranks. No run is open
+/// at the first: apart from a loop, the step of the second is a third as long.
 pub(crate) fn lanes_from(later: Open, counts: &[u8; 9], caps: &[u8; 9]) -> SuitLanes
     requires caps { (r : ℕ) → r < 9 → slice_index caps.now r ≤ 4 }
-    requires later { AreRanks 1 counts.now caps.now later }
+    requires later { AreRanks 2 counts.now caps.now later }
     ensures { AreSuitLanes true counts.now caps.now result }
 {
-    let added = later.zero.added();
+    let second = later.before(counts[1], caps[1], bit_of(1));
+    let added = second.zero.added();
     SuitLanes {
         all: added.lanes(0, &Costs::new(counts[0], caps[0], 0)),
         first: added
@@ -116,4 +120,12 @@ pub fn suit_row(counts: [u8; 9], caps: [u8; 9], runs: bool) -> SuitRow
     ensures { IsMarkedRow runs counts caps result }
 {
     suit_lanes(&counts, &caps, runs).row()
+}
+
+/// The row of a suit that has no runs.
+pub(crate) fn honours_row(counts: &[u8; 9], caps: &[u8; 9]) -> SuitRow
+    requires { (r : ℕ) → r < 9 → slice_index caps.now r ≤ 4 }
+    ensures { IsMarkedRow false counts.now caps.now result }
+{
+    lanes_without_runs(counts, caps).row()
 }

@@ -4,7 +4,7 @@ use Rattle.riichi_rows.proofs.MarkedRanks.{next_open}
 use Rattle.riichi_rows.proofs.ranks.later_ranks_from.Goals as goal
 
 pub loop-here-init : goal.loop-here-init
-loop-here-init c = record { some = omega arith; inside = omega (arith, c.requires.rank); ranks = c.requires.after }
+loop-here-init c = record { some = omega (arith, c.requires.some); inside = omega (arith, c.requires.rank); ranks = c.requires.after }
 
 pub loop-here-preserved : goal.loop-here-preserved
 loop-here-preserved c =
@@ -21,5 +21,5 @@ loop-here-preserved c =
 
 pub returns : goal.returns
 returns c =
-    let at_first : c.loop-here.here ≡ 1 = omega arith in
+    let at_first : c.loop-here.here ≡ 2 = omega arith in
     subst (λ (n : ℕ). AreRanks n c.args.counts.now c.args.caps.now c.loop-here.later) at_first c.loop-here.invariant.ranks

@@ -20,7 +20,7 @@ loop-rank-preserved c =
     record {
       some = omega arith;
       inside = omega (arith, so_far.inside);
-      long = length-set after (rank - 1 - 1) c.before-later.result ∙ so_far.long;
+      long = length-set after (rank - 1 - 2) c.before-later.result ∙ so_far.long;
       ranks = ranks;
       kept = keep counts caps after (rank - 1) c.before-later.result (omega arith) (omega (arith, so_far.inside)) so_far.long ranks kept;
     }

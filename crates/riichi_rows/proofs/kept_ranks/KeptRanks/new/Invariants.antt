@@ -5,9 +5,9 @@ use Rattle.riichi_rows.proofs.kept_ranks.KeptRanks.new.Given as goal
 
 abbrev pub invariant-loop-rank : goal.invariant-loop-rank
 invariant-loop-rank l = record {
-  some : 1 ≤ l.rank;
+  some : 2 ≤ l.rank;
   inside : l.rank ≤ 7;
-  long : length l.after ≡ 7;
+  long : length l.after ≡ 6;
   ranks : AreRanks l.rank l.counts l.caps l.later;
   kept : KeptFrom l.counts l.caps l.after l.rank;
 }
