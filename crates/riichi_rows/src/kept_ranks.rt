@@ -57,6 +57,7 @@ impl KeptRanks {
         let mut rest = self.counts;
         rest[rank] -= 1;
         let later = if rank < 7 {
+            // The step of the second rank is always made anew: the first two ranks share a place.
             let place = rank.saturating_sub(1);
             later_ranks_from(self.after[place], place + 1, &rest, &self.caps)
         } else {

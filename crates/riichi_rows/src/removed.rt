@@ -25,6 +25,7 @@ fn honours_without(counts: &[u8; 9], caps: &[u8; 9], rank: usize) -> SuitRow
     honours_row(&rest, caps)
 }
 
+/// The tables of the suit are made once, and each row begins with those after its tile.
 fn rows_with_runs(counts: &[u8; 9], caps: &[u8; 9]) -> SuitRows
     requires { (r : ℕ) → r < 9 → slice_index caps.now r ≤ 4 }
     ensures { AreSuitRows true counts.now caps.now result }
