@@ -226,34 +226,34 @@ module _ (counts caps : List ℕ) (long : length counts ≡ 9) (caps_long : leng
     marks = λ r low. subst (λ (ys : List ℕ). AreLeast false ys (drop 9 caps) 0 0 (seen (2 ^ r) x)) (sym (no_more (suc r))) (subst (λ (zs : List ℕ). AreLeast false [] zs 0 0 (seen (2 ^ r) x)) (sym no_caps) (nothing_least false (seen (2 ^ r) x) (least (2 ^ r))));
   }
 
--- ---- with one tile fewer of an earlier rank
+-- ---- with one tile fewer of a rank
 
-module _ (counts : List ℕ) (rank from : ℕ) (earlier : rank < from) where
+module _ (counts : List ℕ) (rank from : ℕ) (below : rank < from) where
   drop_one_less : drop from (one_less counts rank) ≡ drop from counts
-  drop_one_less = drop-set-lt from counts rank (slice_index counts rank - 1) earlier
+  drop_one_less = drop-set-lt from counts rank (slice_index counts rank - 1) below
 
-  -- also where some later rank has one more
+  -- also where some rank has one more
+  drop_before : (r : ℕ) → r < from → drop from (one_more (one_less counts rank) r) ≡ drop from (one_more counts r)
+  drop_before r low =
+      drop-set-lt from (one_less counts rank) r (slice_index (one_less counts rank) r + 1) low ∙ drop_one_less
+      ∙ sym (drop-set-lt from counts r (slice_index counts r + 1) low)
+
+  held : (r : ℕ) → rank < r → slice_index (one_less counts rank) r ≡ slice_index counts r
+  held r above = get_or-set_other counts rank r (slice_index counts rank - 1) 0 (λ e. omega (arith, e, above))
+
+  at_place : (i : ℕ) → drop from (one_more (one_less counts rank) (from + i)) ≡ drop from (one_more counts (from + i))
+  at_place i =
+      drop-set-add from (one_less counts rank) i _ ∙ ap (λ (ys : List ℕ). set ys i (slice_index (one_less counts rank) (from + i) + 1)) drop_one_less
+      ∙ ap (λ (n : ℕ). set (drop from counts) i (n + 1)) (held (from + i) (omega (arith, below)))
+      ∙ sym (drop-set-add from counts i _)
+
+  drop_after : (r i : ℕ) → from + i ≡ r → drop from (one_more (one_less counts rank) r) ≡ drop from (one_more counts r)
+  drop_after r i is = subst (λ (n : ℕ). drop from (one_more (one_less counts rank) n) ≡ drop from (one_more counts n)) is (at_place i)
+
   drop_changed : (r : ℕ) → drop from (one_more (one_less counts rank) r) ≡ drop from (one_more counts r)
-  drop_changed r = ⊎_elim (λ low. before low) (λ high. after (r - from) (omega (arith, high))) (cases_lt r from)
-    where
-      before : r < from → drop from (one_more (one_less counts rank) r) ≡ drop from (one_more counts r)
-      before low =
-          drop-set-lt from (one_less counts rank) r (slice_index (one_less counts rank) r + 1) low ∙ drop_one_less
-          ∙ sym (drop-set-lt from counts r (slice_index counts r + 1) low)
+  drop_changed r = ⊎_elim (λ low. drop_before r low) (λ high. drop_after r (r - from) (omega (arith, high))) (cases_lt r from)
 
-      held : (r : ℕ) → rank < r → slice_index (one_less counts rank) r ≡ slice_index counts r
-      held r above = get_or-set_other counts rank r (slice_index counts rank - 1) 0 (λ e. omega (arith, e, above))
-
-      at_place : (i : ℕ) → drop from (one_more (one_less counts rank) (from + i)) ≡ drop from (one_more counts (from + i))
-      at_place i =
-          drop-set-add from (one_less counts rank) i _ ∙ ap (λ (ys : List ℕ). set ys i (slice_index (one_less counts rank) (from + i) + 1)) drop_one_less
-          ∙ ap (λ (n : ℕ). set (drop from counts) i (n + 1)) (held (from + i) (omega (arith, earlier)))
-          ∙ sym (drop-set-add from counts i _)
-
-      after : (i : ℕ) → from + i ≡ r → drop from (one_more (one_less counts rank) r) ≡ drop from (one_more counts r)
-      after i is = subst (λ (n : ℕ). drop from (one_more (one_less counts rank) n) ≡ drop from (one_more counts n)) is (at_place i)
-
-  -- the tables stay
+  -- the tables after a rank stay
   pub same_after : (caps : List ℕ) (later : open_code.Open) → AreRanks from counts caps later → AreRanks from (one_less counts rank) caps later
   same_after caps later are = record {
     plain = subst (λ (ys : List ℕ). LeastOpen ys (drop from caps) (open_seen 0 later)) (sym drop_one_less) are.plain;

@@ -4,6 +4,6 @@ use Rattle.riichi_rows.specs.Ranks.{AreRanks}
 use Rattle.riichi_rows.specs.declared.kept_ranks.KeptRanks.{KeptRanks}
 use Rattle.riichi_rows.specs.declared.open.Open.{Open}
 
--- beside each of six ranks, of which the first is the second of the suit, the tables from the next rank on
+-- the tables from each of the ranks 2 to 7 on
 pub record AreKept (kept : KeptRanks) : Type 0 where
   pub after : (place : ℕ) → place < 6 → (other : Open) → AreRanks (place + 2) kept.counts kept.caps (get_or kept.after place other)

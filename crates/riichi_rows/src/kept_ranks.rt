@@ -5,8 +5,8 @@ use crate::open::Open;
 use crate::ranks::{bit_of, lanes_from, last_two_ranks, later_ranks, later_ranks_from};
 use crate::row::SuitRow;
 
-/// A suit that has runs, and for each rank from the second on where a run may begin the tables after
-/// it. They stay as they are when that rank, or one before it, has one tile fewer.
+/// A suit that has runs, and for each rank but the first where a run may begin the tables after it.
+/// They stay as they are when the rank, or one before it, has one tile fewer.
 #[derive(Drop)]
 pub(crate) struct KeptRanks {
     counts: [u8; 9],
@@ -29,7 +29,7 @@ impl KeptRanks {
         let mut later = last_two_ranks(counts, caps);
         let mut after = [later; 6];
         for rank in (2..7usize).rev() {
-            later = later.before(counts[rank], caps[rank], bit_of(rank));
+            later = later.before_often(counts[rank], caps[rank], bit_of(rank));
             after[rank - 2] = later;
         }
         KeptRanks {
@@ -57,9 +57,9 @@ impl KeptRanks {
         let mut rest = self.counts;
         rest[rank] -= 1;
         let later = if rank < 7 {
-            // The step of the second rank is always made anew: the first two ranks share a place.
-            let place = rank.saturating_sub(1);
-            later_ranks_from(self.after[place], place + 1, &rest, &self.caps)
+            // The step of the second rank is always made anew: the first two begin alike.
+            let from = rank.max(1);
+            later_ranks_from(self.after[from - 1], from, &rest, &self.caps)
         } else {
             later_ranks(&rest, &self.caps)
         };

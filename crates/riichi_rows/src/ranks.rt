@@ -39,7 +39,6 @@ pub(crate) fn last_two_ranks(counts: &[u8; 9], caps: &[u8; 9]) -> Open
 }
 
 /// All ranks but the first two, out of the tables after a rank.
-#[inline(always)]
 pub(crate) fn later_ranks_from(after: Open, rank: usize, counts: &[u8; 9], caps: &[u8; 9]) -> Open
     requires some { 0 < rank }
     requires rank { rank < 9 }
@@ -49,7 +48,7 @@ pub(crate) fn later_ranks_from(after: Open, rank: usize, counts: &[u8; 9], caps:
 {
     let mut later = after;
     for here in (2..rank + 1).rev() {
-        later = later.before(counts[here], caps[here], bit_of(here));
+        later = later.before_often(counts[here], caps[here], bit_of(here));
     }
     later
 }
@@ -75,7 +74,7 @@ fn later_ranks_without_runs(counts: &[u8; 9], caps: &[u8; 9]) -> MarkedLanes
 }
 
 /// The lanes of a suit that has runs, out of the tables after its first two ranks. No run is open
-/// at the first: apart from a loop, the step of the second is a third as long.
+/// before them: apart from the loop, the step of the second is a third as long.
 pub(crate) fn lanes_from(later: Open, counts: &[u8; 9], caps: &[u8; 9]) -> SuitLanes
     requires caps { (r : ℕ) → r < 9 → slice_index caps.now r ≤ 4 }
     requires later { AreRanks 2 counts.now caps.now later }

@@ -1,6 +1,7 @@
 use Rattle.std.proofs.Common.{ℕ, true, List, refl, arith}
 use Rattle.std.specs.Int.Bits.{and_zero_l}
 use Rattle.riichi_rows.specs.Open.{LeastBegun}
+use Rattle.riichi_rows.specs.Ranks.{AreRanks}
 use Rattle.riichi_rows.specs.Seen.{begun_seen, open_seen}
 use Rattle.riichi_rows.proofs.MarkedRanks.{caps_from, drop_short, few_open, next_open}
 use Rattle.riichi_rows.proofs.Tables.{few_added}
@@ -12,9 +13,7 @@ returns c =
     let counts = c.args.counts.now in
     let caps = c.args.caps.now in
     let later = c.before-second.result in
-    let are =
-    next_open counts caps (omega arith) (omega arith) c.requires.caps 1 (omega arith) (omega arith) _ c.bit_of.ensures c.args.later later c.before-second.ensures.others c.before-second.ensures.own
-    c.requires.later in
+    let are : AreRanks 1 counts caps later = next_open counts caps (omega arith) (omega arith) c.requires.caps 1 (omega arith) (omega arith) _ c.bit_of.ensures c.args.later later c.before-second.ensures.others c.before-second.ensures.own c.requires.later in
     let L : List ℕ → List ℕ → ℕ → Type 0 = λ cs ks other. LeastBegun cs ks 0 (begun_seen other later.zero) in
     let little = few_open _ _ (caps_from caps 1 c.requires.caps (omega arith)) (drop_short caps 1 (omega arith)) (open_seen 0 later) are.plain in
     let few = few_added _ _ (c.added-added.ensures 0) little.zero in
@@ -28,9 +27,7 @@ invariant_of-result c =
     let counts = c.args.counts.now in
     let caps = c.args.caps.now in
     let later = c.before-second.result in
-    let are =
-    next_open counts caps (omega arith) (omega arith) c.requires.caps 1 (omega arith) (omega arith) _ c.bit_of.ensures c.args.later later c.before-second.ensures.others c.before-second.ensures.own
-    c.requires.later in
+    let are : AreRanks 1 counts caps later = next_open counts caps (omega arith) (omega arith) c.requires.caps 1 (omega arith) (omega arith) _ c.bit_of.ensures c.args.later later c.before-second.ensures.others c.before-second.ensures.own c.requires.later in
     let little = few_open _ _ (caps_from caps 1 c.requires.caps (omega arith)) (drop_short caps 1 (omega arith)) (open_seen 0 later) are.plain in
     let few = few_added _ _ (c.added-added.ensures 0) little.zero in
     let least = c.lanes.ensures.others _ _ _ 0 _ _ 0 0 (begun_seen 0 later.zero) (omega (arith, c.requires.caps 0 (omega arith))) c.new.ensures (and_zero_l 0) few refl (c.added-added.ensures 0) are.plain.zero_open in
