@@ -57,6 +57,7 @@ impl KeptRanks {
         let mut rest = self.counts;
         rest[rank] -= 1;
         let later = if rank < 7 {
+            // The step of the second rank is always made anew: the first two begin alike.
             let from = rank.max(1);
             later_ranks_from(self.after[from - 1], from, &rest, &self.caps)
         } else {

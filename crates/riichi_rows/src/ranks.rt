@@ -120,3 +120,11 @@ pub fn suit_row(counts: [u8; 9], caps: [u8; 9], runs: bool) -> SuitRow
 {
     suit_lanes(&counts, &caps, runs).row()
 }
+
+/// The row of a suit that has no runs.
+pub(crate) fn honours_row(counts: &[u8; 9], caps: &[u8; 9]) -> SuitRow
+    requires { (r : ℕ) → r < 9 → slice_index caps.now r ≤ 4 }
+    ensures { IsMarkedRow false counts.now caps.now result }
+{
+    lanes_without_runs(counts, caps).row()
+}

@@ -3,7 +3,7 @@ ghost use Rattle.std.specs.Prelude.{ℕ, ◌<◌, ◌≤◌, false, slice_index,
 ghost use Rattle.riichi_rows.specs.Without.{AreSuitRows, IsRowWithout};
 
 use crate::kept_ranks::KeptRanks;
-use crate::ranks::suit_row;
+use crate::ranks::honours_row;
 use crate::row::SuitRow;
 
 /// The row of a suit, and for each rank that the suit has the row without one tile of it.
@@ -22,9 +22,10 @@ fn honours_without(counts: &[u8; 9], caps: &[u8; 9], rank: usize) -> SuitRow
 {
     let mut rest = *counts;
     rest[rank] -= 1;
-    suit_row(rest, *caps, false)
+    honours_row(&rest, caps)
 }
 
+/// The tables of the suit are made once, and each row begins with those after its tile.
 fn rows_with_runs(counts: &[u8; 9], caps: &[u8; 9]) -> SuitRows
     requires { (r : ℕ) → r < 9 → slice_index caps.now r ≤ 4 }
     ensures { AreSuitRows true counts.now caps.now result }
@@ -45,7 +46,7 @@ fn rows_without_runs(counts: &[u8; 9], caps: &[u8; 9]) -> SuitRows
     requires { (r : ℕ) → r < 9 → slice_index caps.now r ≤ 4 }
     ensures { AreSuitRows false counts.now caps.now result }
 {
-    let whole = suit_row(*counts, *caps, false);
+    let whole = honours_row(counts, caps);
     let mut without = [whole; 9];
     for rank in 0..9usize {
         if counts[rank] > 0 {
