@@ -11,7 +11,7 @@ use Rattle.riichi_rows.specs.Columns.{AreLeast, Column, Fits, lack_from, LeastFr
 use Rattle.riichi_rows.specs.Lanes.{Agree, IsFew, lack_with, lane, mark, nothing}
 use Rattle.riichi_rows.specs.Open.{AreFew, Begun, FewBegun, FewOpen, LeastBegun, LeastOpen, SameBegun, SameOpen}
 use Rattle.riichi_rows.specs.Open as table
-use Rattle.riichi_rows.specs.Ranks.{AreRanks, AreRanksWithoutRuns, one_more}
+use Rattle.riichi_rows.specs.Ranks.{AreBegunRanks, AreRanks, AreRanksWithoutRuns, one_more}
 use Rattle.riichi_rows.specs.Seen.{begun_seen, open_seen, seen}
 use Rattle.riichi_rows.specs.Without.{one_less}
 use Rattle.riichi_rows.specs.declared.marked_lanes.MarkedLanes.{MarkedLanes}
@@ -46,7 +46,7 @@ module _ (runs : Bool) (counts caps : List ℕ) (few : AreCaps caps) (short : le
   pub are_few : (a b : ℕ) (f : ℕ → ℕ → ℕ) → AreLeast runs counts caps a b f → AreFew f
   are_few a b f least s p hs hp = from_few a b s p (f s p) (least.at s p hs hp)
 
-few_begun : (counts caps : List ℕ) → AreCaps caps → length caps ≤ 9 → (a : ℕ) (x : Begun) → LeastBegun counts caps a x → FewBegun x
+pub few_begun : (counts caps : List ℕ) → AreCaps caps → length caps ≤ 9 → (a : ℕ) (x : Begun) → LeastBegun counts caps a x → FewBegun x
 few_begun counts caps few short a x least = record {
   zero = are_few true counts caps few short 0 a x.zero least.zero_begun;
   one = are_few true counts caps few short 1 a x.one least.one_begun;
@@ -181,6 +181,21 @@ module _ (counts caps : List ℕ) (long : length counts ≡ 9) (caps_long : leng
       let little = few_open _ _ (caps_from caps (k + 1) few caps_long) short (open_seen 0 later) are.plain in
       let L : List ℕ → List ℕ → ℕ → Type 0 = λ cs ks b. LeastOpen cs ks (open_seen b later) in
       let N : List ℕ → List ℕ → ℕ → Type 0 = λ cs ks b. LeastOpen cs ks (open_seen b next) in
+      let at_others : (other : ℕ) (cs ks : List ℕ) → bit_and bit other ≡ 0 → L cs ks other → N (get_or counts k 0 ∷ cs) (get_or caps k 0 ∷ ks) other = λ other cs ks apart least. others other cs ks apart little least in
+      let at_own : (cs ks : List ℕ) → L cs ks bit → L cs ks 0 → N ((get_or counts k 0 + 1) ∷ cs) (get_or caps k 0 ∷ ks) bit = λ cs ks marked plain. own cs ks has_bit little (same_open cs ks bit later marked plain) plain in
+      record {
+        plain = plain_next counts caps long caps_long k some inside bit is_bit L N at_others at_own are.plain are.marks;
+        marks = marks_next counts caps long caps_long k some inside bit is_bit L N at_others at_own are.plain are.marks;
+      }
+
+  pub next_begun : (later : open_code.Open) (next : code.Begun) →
+      ((other : ℕ) (cs ks : List ℕ) → bit_and bit other ≡ 0 → FewOpen (open_seen 0 later) → LeastOpen cs ks (open_seen other later) → LeastBegun (get_or counts k 0 ∷ cs) (get_or caps k 0 ∷ ks) 0 (begun_seen other next)) →
+      ((cs ks : List ℕ) → 0 < bit → FewOpen (open_seen 0 later) → SameOpen (open_seen bit later) (open_seen 0 later) → LeastOpen cs ks (open_seen 0 later) → LeastBegun ((get_or counts k 0 + 1) ∷ cs) (get_or caps k 0 ∷ ks) 0 (begun_seen bit next)) →
+      AreRanks (k + 1) counts caps later → AreBegunRanks k counts caps next
+  next_begun later next others own are =
+      let little = few_open _ _ (caps_from caps (k + 1) few caps_long) short (open_seen 0 later) are.plain in
+      let L : List ℕ → List ℕ → ℕ → Type 0 = λ cs ks b. LeastOpen cs ks (open_seen b later) in
+      let N : List ℕ → List ℕ → ℕ → Type 0 = λ cs ks b. LeastBegun cs ks 0 (begun_seen b next) in
       let at_others : (other : ℕ) (cs ks : List ℕ) → bit_and bit other ≡ 0 → L cs ks other → N (get_or counts k 0 ∷ cs) (get_or caps k 0 ∷ ks) other = λ other cs ks apart least. others other cs ks apart little least in
       let at_own : (cs ks : List ℕ) → L cs ks bit → L cs ks 0 → N ((get_or counts k 0 + 1) ∷ cs) (get_or caps k 0 ∷ ks) bit = λ cs ks marked plain. own cs ks has_bit little (same_open cs ks bit later marked plain) plain in
       record {

@@ -2,9 +2,10 @@
 use Rattle.std.specs.Prelude.{ℕ, suc, ◌+◌, ◌^◌, ◌<◌, ◌≤◌, Bool, false, List, drop, slice_index, slice_set}
 use Rattle.riichi_rows.specs.Columns.{AreLeast}
 use Rattle.riichi_rows.specs.Lanes.{lane}
-use Rattle.riichi_rows.specs.Open.{LeastOpen}
-use Rattle.riichi_rows.specs.Seen.{open_seen, seen}
+use Rattle.riichi_rows.specs.Open.{LeastBegun, LeastOpen}
+use Rattle.riichi_rows.specs.Seen.{begun_seen, open_seen, seen}
 use Rattle.riichi_rows.specs.declared.marked_lanes.MarkedLanes.{MarkedLanes}
+use Rattle.riichi_rows.specs.declared.open.Begun.{Begun}
 use Rattle.riichi_rows.specs.declared.open.Open.{Open}
 use Rattle.riichi_rows.specs.declared.suit_lanes.SuitLanes.{SuitLanes}
 
@@ -16,6 +17,11 @@ one_more counts rank = slice_set counts rank (slice_index counts rank + 1)
 pub record AreRanks (from : ℕ) (counts caps : List ℕ) (later : Open) : Type 0 where
   pub plain : LeastOpen (drop from counts) (drop from caps) (open_seen 0 later)
   pub marks : (r : ℕ) → r < 8 → LeastOpen (drop from (one_more counts (suc r))) (drop from caps) (open_seen (2 ^ r) later)
+
+-- the same where no run begins one rank before
+pub record AreBegunRanks (from : ℕ) (counts caps : List ℕ) (later : Begun) : Type 0 where
+  pub plain : LeastBegun (drop from counts) (drop from caps) 0 (begun_seen 0 later)
+  pub marks : (r : ℕ) → r < 8 → LeastBegun (drop from (one_more counts (suc r))) (drop from caps) 0 (begun_seen (2 ^ r) later)
 
 -- the same without runs
 pub record AreRanksWithoutRuns (from : ℕ) (counts caps : List ℕ) (later : MarkedLanes) : Type 0 where

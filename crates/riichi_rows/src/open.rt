@@ -155,4 +155,18 @@ impl Open {
             _ => self.before(have, limit, bit),
         }
     }
+
+    /// The tables with no run begun one rank before: all that is told of a suit's second rank.
+    #[inline(always)]
+    pub fn begun_before(&self, have: u8, limit: u8, bit: u8) -> Begun
+        requires { limit ≤ 4 }
+        ensures others { (other : ℕ) (counts caps : List ℕ) → bit_and bit other ≡ 0 → table.FewOpen (open_seen 0 self.now) → table.LeastOpen counts caps (open_seen other self.now) → table.LeastBegun (have ∷ counts) (limit ∷ caps) 0 (begun_seen other result) }
+        ensures own { (counts caps : List ℕ) → 0 < bit → table.FewOpen (open_seen 0 self.now) → table.SameOpen (open_seen bit self.now) (open_seen 0 self.now) → table.LeastOpen counts caps (open_seen 0 self.now) → table.LeastBegun ((have + 1) ∷ counts) (limit ∷ caps) 0 (begun_seen bit result) }
+    {
+        match (have, limit) {
+            (0, 4) => self.before_few(0, bit).zero,
+            (1, 4) => self.before_few(1, bit).zero,
+            _ => self.before(have, limit, bit).zero,
+        }
+    }
 }

@@ -80,8 +80,7 @@ pub(crate) fn lanes_from(later: Open, counts: &[u8; 9], caps: &[u8; 9]) -> SuitL
     requires later { AreRanks 2 counts.now caps.now later }
     ensures { AreSuitLanes true counts.now caps.now result }
 {
-    let second = later.before(counts[1], caps[1], bit_of(1));
-    let added = second.zero.added();
+    let added = later.begun_before(counts[1], caps[1], bit_of(1)).added();
     SuitLanes {
         all: added.lanes(0, &Costs::new(counts[0], caps[0], 0)),
         first: added

@@ -1,9 +1,9 @@
 use Rattle.std.proofs.Common.{ℕ, true, List, refl, arith}
 use Rattle.std.specs.Int.Bits.{and_zero_l}
 use Rattle.riichi_rows.specs.Open.{LeastBegun}
-use Rattle.riichi_rows.specs.Ranks.{AreRanks}
-use Rattle.riichi_rows.specs.Seen.{begun_seen, open_seen}
-use Rattle.riichi_rows.proofs.MarkedRanks.{caps_from, drop_short, few_open, next_open}
+use Rattle.riichi_rows.specs.Ranks.{AreBegunRanks}
+use Rattle.riichi_rows.specs.Seen.{begun_seen}
+use Rattle.riichi_rows.proofs.MarkedRanks.{caps_from, drop_short, few_begun, next_begun}
 use Rattle.riichi_rows.proofs.Tables.{few_added}
 use Rattle.riichi_rows.proofs.WholeSuit.{small_lanes, whole_suit}
 use Rattle.riichi_rows.proofs.ranks.lanes_from.Goals as goal
@@ -12,23 +12,23 @@ pub returns : goal.returns
 returns c =
     let counts = c.args.counts.now in
     let caps = c.args.caps.now in
-    let later = c.before-second.result in
-    let are : AreRanks 1 counts caps later = next_open counts caps (omega arith) (omega arith) c.requires.caps 1 (omega arith) (omega arith) _ c.bit_of.ensures c.args.later later c.before-second.ensures.others c.before-second.ensures.own c.requires.later in
-    let L : List ℕ → List ℕ → ℕ → Type 0 = λ cs ks other. LeastBegun cs ks 0 (begun_seen other later.zero) in
-    let little = few_open _ _ (caps_from caps 1 c.requires.caps (omega arith)) (drop_short caps 1 (omega arith)) (open_seen 0 later) are.plain in
-    let few = few_added _ _ (c.added-added.ensures 0) little.zero in
+    let later = c.begun_before.result in
+    let are : AreBegunRanks 1 counts caps later = next_begun counts caps (omega arith) (omega arith) c.requires.caps 1 (omega arith) (omega arith) _ c.bit_of.ensures c.args.later later c.begun_before.ensures.others c.begun_before.ensures.own c.requires.later in
+    let L : List ℕ → List ℕ → ℕ → Type 0 = λ cs ks other. LeastBegun cs ks 0 (begun_seen other later) in
+    let little = few_begun _ _ (caps_from caps 1 c.requires.caps (omega arith)) (drop_short caps 1 (omega arith)) 0 (begun_seen 0 later) are.plain in
+    let few = few_added _ _ (c.added-added.ensures 0) little in
     whole_suit true counts caps (omega arith) (omega arith) L c.lanes.result c.lanes-2.result _
-    (λ other cs ks least. c.lanes.ensures.others _ _ _ other cs ks 0 0 (begun_seen other later.zero) (omega (arith, c.requires.caps 0 (omega arith))) c.new.ensures (and_zero_l other) few refl (c.added-added.ensures other) least)
-    (λ cs ks least. c.lanes-2.ensures.others _ _ _ 0 cs ks 0 0 (begun_seen 0 later.zero) (omega (arith, c.requires.caps 0 (omega arith))) c.new-2.ensures (and_zero_l 0) few refl (c.added-added.ensures 0) least)
-    are.plain.zero_open (λ r low. (are.marks r low).zero_open) c.with_one.ensures.few c.with_one.ensures.many _
+    (λ other cs ks least. c.lanes.ensures.others _ _ _ other cs ks 0 0 (begun_seen other later) (omega (arith, c.requires.caps 0 (omega arith))) c.new.ensures (and_zero_l other) few refl (c.added-added.ensures other) least)
+    (λ cs ks least. c.lanes-2.ensures.others _ _ _ 0 cs ks 0 0 (begun_seen 0 later) (omega (arith, c.requires.caps 0 (omega arith))) c.new-2.ensures (and_zero_l 0) few refl (c.added-added.ensures 0) least)
+    are.plain are.marks c.with_one.ensures.few c.with_one.ensures.many _
 
 pub invariant_of-result : goal.invariant_of-result
 invariant_of-result c =
     let counts = c.args.counts.now in
     let caps = c.args.caps.now in
-    let later = c.before-second.result in
-    let are : AreRanks 1 counts caps later = next_open counts caps (omega arith) (omega arith) c.requires.caps 1 (omega arith) (omega arith) _ c.bit_of.ensures c.args.later later c.before-second.ensures.others c.before-second.ensures.own c.requires.later in
-    let little = few_open _ _ (caps_from caps 1 c.requires.caps (omega arith)) (drop_short caps 1 (omega arith)) (open_seen 0 later) are.plain in
-    let few = few_added _ _ (c.added-added.ensures 0) little.zero in
-    let least = c.lanes.ensures.others _ _ _ 0 _ _ 0 0 (begun_seen 0 later.zero) (omega (arith, c.requires.caps 0 (omega arith))) c.new.ensures (and_zero_l 0) few refl (c.added-added.ensures 0) are.plain.zero_open in
+    let later = c.begun_before.result in
+    let are : AreBegunRanks 1 counts caps later = next_begun counts caps (omega arith) (omega arith) c.requires.caps 1 (omega arith) (omega arith) _ c.bit_of.ensures c.args.later later c.begun_before.ensures.others c.begun_before.ensures.own c.requires.later in
+    let little = few_begun _ _ (caps_from caps 1 c.requires.caps (omega arith)) (drop_short caps 1 (omega arith)) 0 (begun_seen 0 later) are.plain in
+    let few = few_added _ _ (c.added-added.ensures 0) little in
+    let least = c.lanes.ensures.others _ _ _ 0 _ _ 0 0 (begun_seen 0 later) (omega (arith, c.requires.caps 0 (omega arith))) c.new.ensures (and_zero_l 0) few refl (c.added-added.ensures 0) are.plain in
     record { small = small_lanes true counts caps (omega arith) (omega arith) c.requires.caps c.lanes.result least }
