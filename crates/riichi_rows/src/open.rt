@@ -41,6 +41,21 @@ pub fn before_without_runs(later: MarkedLanes, have: u8, limit: u8, bit: u8) -> 
     plain.or(triplet).or(pair)
 }
 
+/// The same. Most ranks have no tile or one, and a choice may hold four; honours end in two ranks of
+/// which none may be held. Where that is known the costs are.
+pub fn often_without_runs(later: MarkedLanes, have: u8, limit: u8, bit: u8) -> MarkedLanes
+    requires { limit ≤ 4 }
+    ensures others { (other : ℕ) (counts caps : List ℕ) → bit_and bit other ≡ 0 → table.AreFew (seen 0 later) → AreLeast false counts caps 0 0 (seen other later) → AreLeast false (have ∷ counts) (limit ∷ caps) 0 0 (seen other result) }
+    ensures own { (counts caps : List ℕ) → 0 < bit → table.AreFew (seen 0 later) → Agree (seen bit later) (seen 0 later) → AreLeast false counts caps 0 0 (seen 0 later) → AreLeast false ((have + 1) ∷ counts) (limit ∷ caps) 0 0 (seen bit result) }
+{
+    match (have, limit) {
+        (0, 0) => before_without_runs(later, 0, 0, bit),
+        (0, 4) => before_without_runs(later, 0, 4, bit),
+        (1, 4) => before_without_runs(later, 1, 4, bit),
+        _ => before_without_runs(later, have, limit, bit),
+    }
+}
+
 impl Begun {
     /// By how many tiles the runs that begin at the rank before, a triplet and a pair take there.
     #[inline(always)]

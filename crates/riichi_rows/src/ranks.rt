@@ -5,7 +5,7 @@ ghost use Rattle.riichi_rows.specs.Ranks.{AreRanks, AreRanksWithoutRuns, AreSuit
 
 use crate::costs::Costs;
 use crate::marked_lanes::MarkedLanes;
-use crate::open::{Open, before_without_runs};
+use crate::open::{Open, before_without_runs, often_without_runs};
 use crate::row::SuitRow;
 use crate::suit_lanes::SuitLanes;
 
@@ -68,7 +68,7 @@ fn later_ranks_without_runs(counts: &[u8; 9], caps: &[u8; 9]) -> MarkedLanes
 {
     let mut later = MarkedLanes::nothing();
     for rank in (1..9).rev() {
-        later = before_without_runs(later, counts[rank], caps[rank], bit_of(rank));
+        later = often_without_runs(later, counts[rank], caps[rank], bit_of(rank));
     }
     later
 }

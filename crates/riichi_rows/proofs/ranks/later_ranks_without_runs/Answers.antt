@@ -14,8 +14,8 @@ loop-rank-preserved c =
     let later : AreRanksWithoutRuns (rank - 1 + 1) counts caps c.loop-rank.later = subst (λ (n : ℕ). AreRanksWithoutRuns n counts caps c.loop-rank.later) (omega arith) c.loop-rank.invariant.ranks in
     record {
       some = omega arith;
-      ranks = next_alone counts caps (omega arith) (omega arith) c.requires (rank - 1) (omega arith) (omega arith) _ c.bit_of.ensures c.loop-rank.later c.before_without_runs-later.result
-          c.before_without_runs-later.ensures.others c.before_without_runs-later.ensures.own later;
+      ranks = next_alone counts caps (omega arith) (omega arith) c.requires (rank - 1) (omega arith) (omega arith) _ c.bit_of.ensures c.loop-rank.later c.often_without_runs-later.result
+          c.often_without_runs-later.ensures.others c.often_without_runs-later.ensures.own later;
     }
 
 pub returns : goal.returns
