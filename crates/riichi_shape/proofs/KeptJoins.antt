@@ -39,9 +39,8 @@ module _ (kind : ℕ) (hand : List ℕ) (melds : List Meld) (joins : HandJoins) 
   unfolding rows
   changed_characters low is join =
       let were = are.joins_before.are_rows in
-      least_by_rows hand melds (record { caps = rows.caps; characters = row; circles = rows.circles; bamboos = rows.bamboos; honours = rows.honours })
+      least_by_rows hand melds (record { characters = row; circles = rows.circles; bamboos = rows.bamboos; honours = rows.honours })
       (record {
-        caps = were.caps;
         characters = is;
         circles = kept 9 9 rows.circles (λ k from below e. omega (arith, e, from, low)) were.circles;
         bamboos = kept 18 9 rows.bamboos (λ k from below e. omega (arith, e, from, low)) were.bamboos;
@@ -53,9 +52,8 @@ module _ (kind : ℕ) (hand : List ℕ) (melds : List Meld) (joins : HandJoins) 
   unfolding rows
   changed_circles high low is join =
       let were = are.joins_before.are_rows in
-      least_by_rows hand melds (record { caps = rows.caps; characters = rows.characters; circles = row; bamboos = rows.bamboos; honours = rows.honours })
+      least_by_rows hand melds (record { characters = rows.characters; circles = row; bamboos = rows.bamboos; honours = rows.honours })
       (record {
-        caps = were.caps;
         characters = kept 0 9 rows.characters (λ k from below e. omega (arith, e, below, high)) were.characters;
         circles = is;
         bamboos = kept 18 9 rows.bamboos (λ k from below e. omega (arith, e, from, low)) were.bamboos;
@@ -68,9 +66,8 @@ module _ (kind : ℕ) (hand : List ℕ) (melds : List Meld) (joins : HandJoins) 
   unfolding rows
   changed_bamboos high low is join =
       let were = are.joins_before.are_rows in
-      least_by_rows hand melds (record { caps = rows.caps; characters = rows.characters; circles = rows.circles; bamboos = row; honours = rows.honours })
+      least_by_rows hand melds (record { characters = rows.characters; circles = rows.circles; bamboos = row; honours = rows.honours })
       (record {
-        caps = were.caps;
         characters = kept 0 9 rows.characters (λ k from below e. omega (arith, e, below, high)) were.characters;
         circles = kept 9 9 rows.circles (λ k from below e. omega (arith, e, below, high)) were.circles;
         bamboos = is;
@@ -83,9 +80,8 @@ module _ (kind : ℕ) (hand : List ℕ) (melds : List Meld) (joins : HandJoins) 
   unfolding rows
   changed_honours high is join =
       let were = are.joins_before.are_rows in
-      least_by_rows hand melds (record { caps = rows.caps; characters = rows.characters; circles = rows.circles; bamboos = rows.bamboos; honours = row })
+      least_by_rows hand melds (record { characters = rows.characters; circles = rows.circles; bamboos = rows.bamboos; honours = row })
       (record {
-        caps = were.caps;
         characters = kept 0 9 rows.characters (λ k from below e. omega (arith, e, below, high)) were.characters;
         circles = kept 9 9 rows.circles (λ k from below e. omega (arith, e, below, high)) were.circles;
         bamboos = kept 18 9 rows.bamboos (λ k from below e. omega (arith, e, below, high)) were.bamboos;

@@ -5,18 +5,25 @@ use Rattle.riichi_tiles.specs.declared.meld.Meld.{Meld}
 use Rattle.riichi_rows.specs.Row.{AreJoinedThree}
 use Rattle.riichi_rows.specs.declared.row.SuitRow.{SuitRow}
 use Rattle.riichi_shape.specs.Special.{AreSpecialForms}
-use Rattle.riichi_shape.specs.Suits.{AreHandCaps, IsRowOf}
+use Rattle.riichi_shape.specs.Suits.{AreSuitRowsOf, IsRowOf}
 use Rattle.riichi_shape.specs.declared.hand_forms.HandForms.{HandForms}
 use Rattle.riichi_shape.specs.declared.hand_joins.HandJoins.{HandJoins}
 use Rattle.riichi_shape.specs.declared.hand_rows.HandRows.{HandRows}
+use Rattle.riichi_shape.specs.declared.hand_suits.HandSuits.{HandSuits}
 
--- each is the marked row of its suit of the hand, and the caps are those that the melds leave
+-- each is the marked row of its suit of the hand
 pub record AreRowsOf (hand : List ℕ) (melds : List Meld) (rows : HandRows) : Type 0 where
-  pub caps : AreHandCaps melds rows.caps
   pub characters : IsRowOf hand melds 0 9 rows.characters
   pub circles : IsRowOf hand melds 9 9 rows.circles
   pub bamboos : IsRowOf hand melds 18 9 rows.bamboos
   pub honours : IsRowOf hand melds 27 7 rows.honours
+
+-- each is the rows of its suit of the hand, with all tiles and without one
+pub record AreSuitsOf (hand : List ℕ) (melds : List Meld) (suits : HandSuits) : Type 0 where
+  pub characters : AreSuitRowsOf hand melds 0 9 suits.characters
+  pub circles : AreSuitRowsOf hand melds 9 9 suits.circles
+  pub bamboos : AreSuitRowsOf hand melds 18 9 suits.bamboos
+  pub honours : AreSuitRowsOf hand melds 27 7 suits.honours
 
 -- two hands that have the same tiles of every other kind
 pub record DifferAt (kind : ℕ) (before after : List ℕ) : Type 0 where

@@ -5,7 +5,7 @@ ghost use Rattle.riichi_tiles.specs.Melds.{tiles};
 ghost use Rattle.riichi_shape.specs.Distance.{IsDistance};
 ghost use Rattle.riichi_shape.specs.EveryWinning.{distance_of};
 ghost use Rattle.riichi_shape.specs.LackedKinds.{AreLackedKinds};
-ghost use Rattle.riichi_shape.specs.Rows.{AreFormsOf, DifferAt, IsMeldedFew, IsRowAt};
+ghost use Rattle.riichi_shape.specs.Rows.{AreFormsOf, AreRowsOf, DifferAt, IsMeldedFew, IsRowAt};
 
 use crate::hand_joins::HandJoins;
 use crate::hand_rows::HandRows;
@@ -30,6 +30,14 @@ impl HandForms {
         ensures { AreFormsOf hand.now melds.now result }
     {
         let rows = HandRows::new(source, hand, melds);
+        HandForms::of_rows(rows, hand, melds)
+    }
+
+    /// What is known of a hand that has these rows.
+    pub(crate) fn of_rows(rows: HandRows, hand: &Counts, melds: &Melds) -> HandForms
+        requires { AreRowsOf hand.now melds.now rows }
+        ensures { AreFormsOf hand.now melds.now result }
+    {
         let special = SpecialForms::new(hand, melds);
         HandForms {
             rows,

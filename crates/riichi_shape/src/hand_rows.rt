@@ -12,7 +12,6 @@ use riichi_tiles::{Counts, Kind, Melds};
 /// The row of each suit. They are kept while tiles are added and removed: a tile changes one.
 #[derive(Clone, Copy)]
 pub(crate) struct HandRows {
-    pub(crate) caps: HandCaps,
     pub(crate) characters: SuitRow,
     pub(crate) circles: SuitRow,
     pub(crate) bamboos: SuitRow,
@@ -27,27 +26,10 @@ impl HandRows {
     {
         let caps = HandCaps::new(melds);
         HandRows {
-            caps,
             characters: suit_row_of(source, hand, &caps.characters, 0, 9),
             circles: suit_row_of(source, hand, &caps.circles, 9, 9),
             bamboos: suit_row_of(source, hand, &caps.bamboos, 18, 9),
             honours: suit_row_of(source, hand, &caps.honours, 27, 7),
-        }
-    }
-
-    /// The row of the suit of a kind, of a hand beside the same melds.
-    pub(crate) fn row_at<R: RowSource>(&self, source: &mut R, kind: Kind, hand: &Counts) -> SuitRow
-        ensures { (before : List ℕ) (melds : List Meld) → AreRowsOf before melds self.now → IsRowAt hand.now melds kind result }
-    {
-        let number = kind.index();
-        if number < 9 {
-            suit_row_of(source, hand, &self.caps.characters, 0, 9)
-        } else if number < 18 {
-            suit_row_of(source, hand, &self.caps.circles, 9, 9)
-        } else if number < 27 {
-            suit_row_of(source, hand, &self.caps.bamboos, 18, 9)
-        } else {
-            suit_row_of(source, hand, &self.caps.honours, 27, 7)
         }
     }
 
