@@ -33,7 +33,7 @@ fn shape_of_thirteen<R: RowSource>(
     let live = live_copies(hand, melds, seen);
     ShapeAnswer {
         shanten: shanten_at(least),
-        accepts: Accepts::Thirteen(accepted_by(&forms, least, hand, melds, &live)),
+        accepts: Accepts::Thirteen(accepted_by(&forms.lacked(melds, least), hand, &live)),
     }
 }
 

@@ -94,12 +94,12 @@ fn discard_of(
     requires row { IsRowAt (without_one hand.now kind) melds.now kind row.now }
     ensures { (seen : List ℕ) → AreLiveCopies hand.now melds.now seen live.now → result ≡ spec.discard_of hand.now melds.now seen kind }
 {
+    let lacked = forms.lacked_without(hand, melds, kind, row, least);
     let mut rest = *hand;
     rest.remove(kind);
-    let forms = forms.with_row(kind, row, &rest, melds);
     Discard {
         kind,
-        accepted: accepted_by(&forms, least, &rest, melds, live),
+        accepted: accepted_by(&lacked, &rest, live),
     }
 }
 
