@@ -2,31 +2,27 @@
 ghost use Rattle.std.specs.Prelude.{ℕ, List, ◌≡◌, ◌<◌, ◌≤◌, slice_index};
 ghost use Rattle.riichi_tiles.specs.declared.meld.Meld.{Meld};
 ghost use Rattle.riichi_tiles.specs.Melds.{tiles};
-ghost use Rattle.riichi_tiles.specs.Tiles.{IsCounts};
-ghost use Rattle.riichi_shape.specs.Accepted.{AreLiveCopies, accepted_of, live_of};
+ghost use Rattle.riichi_shape.specs.Accepted.{AreLiveCopies, accepted_of};
 ghost use Rattle.riichi_shape.specs.LackedKinds.{AreLackedOf};
 
 use crate::hand_forms::HandForms;
 use crate::lacked_kinds::LackedKinds;
 use crate::live_list::LiveList;
+use crate::melded_tiles::melded_tiles;
 use riichi_rows::FreshRows;
-use riichi_tiles::{Counts, Kind, Melds};
+use riichi_tiles::{Counts, Melds};
 
-/// The copies of a kind that are in neither the hand nor the melds, and not seen elsewhere.
-fn live_of(hand: &Counts, melds: &Melds, seen: &Counts, kind: Kind) -> u8
-    ensures value { result ≡ live_of hand.now melds.now seen.now kind }
-    ensures counts { IsCounts seen.now }
-{
-    4u8.saturating_sub(hand.get(kind) + melds.tiles(kind) + seen.get(kind))
-}
-
-/// The live copies of every kind.
+/// The live copies of every kind: those that are in neither the hand nor the melds, and not seen
+/// elsewhere.
 pub(crate) fn live_copies(hand: &Counts, melds: &Melds, seen: &Counts) -> [u8; 34]
     ensures { AreLiveCopies hand.now melds.now seen.now result }
 {
+    let held = hand.to_array();
+    let melded = melded_tiles(melds);
+    let elsewhere = seen.to_array();
     let mut live = [0; 34];
-    for number in 0..34u8 {
-        live[number as usize] = live_of(hand, melds, seen, Kind::at(number));
+    for kind in 0..34usize {
+        live[kind] = 4u8.saturating_sub(held[kind] + melded[kind] + elsewhere[kind]);
     }
     live
 }

@@ -28,6 +28,7 @@ mod lacked_held;
 mod lacked_kinds;
 pub mod laws;
 mod live_list;
+mod melded_tiles;
 mod nearest_form;
 mod orphans;
 mod pairs;
