@@ -94,7 +94,7 @@ impl HandForms {
         let sets = 4 - melds.count() as u8;
         let rows = self.rows.with_row(kind, row);
         LackedKinds {
-            suits: HandJoins::new(&rows).lacked(&rows, sets, least),
+            suits: self.joins.with_row(kind, &rows).lacked(&rows, sets, least),
             special: self.special.lacked_without(hand, melds, kind, least),
         }
     }

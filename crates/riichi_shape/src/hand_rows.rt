@@ -1,7 +1,7 @@
 //! The rows of a hand.
 ghost use Rattle.std.specs.Prelude.{ℕ, ◌<◌, ◌≤◌, List};
 ghost use Rattle.riichi_tiles.specs.Melds.{tiles};
-ghost use Rattle.riichi_shape.specs.Rows.{AreRowsOf, DifferAt, IsRowAt};
+ghost use Rattle.riichi_shape.specs.Rows.{AreRowsOf, AreSameBeside, DifferAt, IsRowAt};
 ghost use Rattle.riichi_tiles.specs.declared.meld.Meld.{Meld};
 
 use crate::hand_caps::HandCaps;
@@ -35,7 +35,8 @@ impl HandRows {
 
     /// The rows of a hand that has changed at one kind, with this row of the suit of that kind.
     pub(crate) fn with_row(&self, kind: Kind, row: &SuitRow) -> HandRows
-        ensures { (before hand : List ℕ) (melds : List Meld) → AreRowsOf before melds self.now → DifferAt kind before hand → IsRowAt hand melds kind row.now → AreRowsOf hand melds result }
+        ensures others { AreSameBeside kind self.now result }
+        ensures rows { (before hand : List ℕ) (melds : List Meld) → AreRowsOf before melds self.now → DifferAt kind before hand → IsRowAt hand melds kind row.now → AreRowsOf hand melds result }
     {
         let number = kind.index();
         if number < 9 {

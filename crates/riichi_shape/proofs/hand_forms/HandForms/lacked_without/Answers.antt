@@ -15,6 +15,7 @@ returns c =
     let rest = without_one hand c.args.kind in
     let melds = c.args.melds.now in
     let differ = set_differs hand c.args.kind (slice_index hand c.args.kind - 1) in
-    let rows = c.with_row-rows.ensures hand rest melds c.requires.forms.are_rows differ c.requires.row in
+    let rows = c.with_row-rows.ensures.rows hand rest melds c.requires.forms.are_rows differ c.requires.row in
+    let joins = c.with_row.ensures c.args.self.now.rows c.requires.forms.are_joins c.with_row-rows.ensures.others in
     lacked_of rest melds c.args.least c.count.ensures.melds.at_most_four c.requires.melded c.requires.least (4 - c.count.result) (ap (λ n. 4 - n) c.count.ensures.value) _
-    (c.lacked.ensures rest melds rows c.new.ensures c.requires.melded) (λ none_less. c.lacked_without.ensures)
+    (c.lacked.ensures rest melds rows joins c.requires.melded) (λ none_less. c.lacked_without.ensures)
