@@ -23,11 +23,8 @@ fn take_suit(taken: &mut [u8; 34], copies: &[u8; 34], lacked: &RankSet, first: u
 {
     for rank in 0..ranks {
         let place = (first + rank) as usize;
-        taken[place] = if lacked.contains(rank) {
-            copies[place]
-        } else {
-            0
-        };
+        let live = copies[place];
+        taken[place] = if lacked.contains(rank) { live } else { 0 };
     }
 }
 
