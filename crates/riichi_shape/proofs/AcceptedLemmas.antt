@@ -1,5 +1,5 @@
 -- The accepted kinds as counts and as pairs.
-use Rattle.std.proofs.Common.{◌≡◌, ℕ, zero, suc, ◌+◌, ◌-◌, ◌<◌, ◌≤◌, Bool, true, false, cond, List, [], ◌∷◌, map, get_or, length, ltb, slice_set, below_more, length-set, get_or-set_same, get_or-set_other, refl, sym, ap, ◌∙◌, ⊎_elim, arith}
+use Rattle.std.proofs.Common.{◌≡◌, ℕ, zero, suc, ◌+◌, ◌-◌, ◌<◌, ◌≤◌, Bool, true, false, cond, List, ◌∷◌, map, get_or, length, ltb, length-set, get_or-set_same, get_or-set_other, refl, sym, ap, ◌∙◌, ⊎_elim, arith}
 use Rattle.std.proofs.lemmas.Bool.{cases_lt}
 use Rattle.std.proofs.lemmas.Bool.Decides.{nat_tests}
 use Rattle.std.proofs.lemmas.List.{get_or_past}
@@ -50,37 +50,14 @@ accepted_pairs copies hand melds seen each =
       value = λ t. ap (λ n. (k, n)) (live_there (slice_index copies k) (live_of hand melds seen k) (is_accepted hand melds seen k) e t);
     }))
 
-pub set_few : (xs : List ℕ) (i v : ℕ) → v ≤ 4 → ((k : ℕ) → get_or xs k 0 ≤ 4) → (k : ℕ) → get_or (slice_set xs i v) k 0 ≤ 4
-set_few [] i v few were k = were k
-set_few (x ∷ xs) zero v few were zero = few
-set_few (x ∷ xs) zero v few were (suc k) = were (suc k)
-set_few (x ∷ xs) (suc i) v few were zero = were zero
-set_few (x ∷ xs) (suc i) v few were (suc k) = set_few xs i v few (λ j. were (suc j)) k
+-- some of the live copies of each kind are no more than four
+chosen_few : (t : Bool) (n : ℕ) → n ≤ 4 → cond t n 0 ≤ 4
+chosen_few true n few = few
+chosen_few false n few = omega arith
 
--- of so many kinds those that are not lacked have been cleared
-pub record ClearedTo (lacks : ℕ → Bool) (live copies : List ℕ) (n : ℕ) : Type 0 where
-  pub long : length copies ≡ 34
-  pub done : (k : ℕ) → k < n → get_or copies k 0 ≡ cond (lacks k) (get_or live k 0) 0
-  pub later : (k : ℕ) → n ≤ k → get_or copies k 0 ≡ get_or live k 0
-  pub few : (k : ℕ) → get_or copies k 0 ≤ 4
-
-module _ (lacks : ℕ → Bool) (live copies next : List ℕ) (n : ℕ) (inside : n < 34) (so_far : ClearedTo lacks live copies n) where
-  pub left_alone : lacks n ≡ true → next ≡ copies → ClearedTo lacks live next (n + 1)
-  left_alone is e = rw e (record {
-    long = so_far.long;
-    done = below_more _ _ so_far.done (so_far.later n (omega arith) ∙ ap (λ b. cond b (get_or live n 0) 0) (sym is));
-    later = λ k high. so_far.later k (omega arith);
-    few = so_far.few;
-  })
-
-  pub cleared : lacks n ≡ false → next ≡ slice_set copies n 0 → ClearedTo lacks live next (n + 1)
-  cleared is e = rw e (record {
-    long = length-set copies n 0 ∙ so_far.long;
-    done = below_more _ _ (λ k low. get_or-set_other copies n k 0 0 (λ same. omega (arith, same, low)) ∙ so_far.done k low)
-        (get_or-set_same copies n 0 0 (omega (arith, so_far.long)) ∙ ap (λ b. cond b (get_or live n 0) 0) (sym is));
-    later = λ k high. get_or-set_other copies n k 0 0 (λ same. omega (arith, same, high)) ∙ so_far.later k (omega arith);
-    few = set_few copies n 0 (omega arith) so_far.few;
-  })
+pub some_few : (copies live : List ℕ) (lacks : ℕ → Bool) → length copies ≡ 34 → ((k : ℕ) → get_or live k 0 ≤ 4) → ((k : ℕ) → k < 34 → get_or copies k 0 ≡ cond (lacks k) (get_or live k 0) 0) → (k : ℕ) → get_or copies k 0 ≤ 4
+some_few copies live lacks long few each k =
+    ⊎_elim (λ low. (let some = chosen_few (lacks k) (get_or live k 0) (few k) in omega (arith, each k low, some))) (λ past. (let none = get_or_past copies k 0 (omega (arith, long, past)) in omega (arith, none))) (cases_lt k 34)
 
 -- a tile that is discarded is seen, so no more copies are live and no fewer
 pub live_same : (hand rest : List ℕ) (melds : List Meld) (seen copies : List ℕ) (kind : ℕ) → 0 < slice_index hand kind → length hand ≡ 34 → rest ≡ without_one hand kind → AreLiveCopies hand melds seen copies → AreLiveCopies rest melds (with_one seen kind) copies

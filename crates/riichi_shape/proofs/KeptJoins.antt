@@ -1,5 +1,5 @@
 -- Of a hand that has changed at one kind, the least lack by sets and a pair out of one new row and the join of the others.
-use Rattle.std.proofs.Common.{◌≢◌, ℕ, ◌+◌, ◌<◌, ◌≤◌, Option, List, arith}
+use Rattle.std.proofs.Common.{◌≡◌, ◌≢◌, ℕ, ◌+◌, ◌<◌, ◌≤◌, Option, List, arith}
 use Rattle.riichi_tiles.specs.declared.meld.Meld.{Meld}
 use Rattle.riichi_rows.specs.Join.{IsLeastJoin}
 use Rattle.riichi_rows.specs.Row.{AreJoinedThree, entries_of}
@@ -7,7 +7,7 @@ use Rattle.riichi_rows.specs.declared.joined.JoinedRows.{JoinedRows}
 use Rattle.riichi_rows.specs.declared.row.SuitRow.{SuitRow}
 use Rattle.riichi_rows.proofs.JoinOrders.{join_swapped, join_turned}
 use Rattle.riichi_shape.specs.Distance.{IsLeastStandard}
-use Rattle.riichi_shape.specs.Rows.{AreJoinsBeside, AreRowsOf, IsMeldedFew}
+use Rattle.riichi_shape.specs.Rows.{AreJoinsBeside, AreJoinsOf, AreRowsOf, IsMeldedFew, with_bamboos, with_characters, with_circles, with_honours}
 use Rattle.riichi_shape.specs.Suits.{IsRowOf}
 use Rattle.riichi_shape.specs.declared.hand_joins.HandJoins.{HandJoins}
 use Rattle.riichi_shape.specs.declared.hand_rows.HandRows.{HandRows}
@@ -39,9 +39,8 @@ module _ (kind : ℕ) (hand : List ℕ) (melds : List Meld) (joins : HandJoins) 
   unfolding rows
   changed_characters low is join =
       let were = are.joins_before.are_rows in
-      least_by_rows hand melds (record { caps = rows.caps; characters = row; circles = rows.circles; bamboos = rows.bamboos; honours = rows.honours })
+      least_by_rows hand melds (record { characters = row; circles = rows.circles; bamboos = rows.bamboos; honours = rows.honours })
       (record {
-        caps = were.caps;
         characters = is;
         circles = kept 9 9 rows.circles (λ k from below e. omega (arith, e, from, low)) were.circles;
         bamboos = kept 18 9 rows.bamboos (λ k from below e. omega (arith, e, from, low)) were.bamboos;
@@ -53,9 +52,8 @@ module _ (kind : ℕ) (hand : List ℕ) (melds : List Meld) (joins : HandJoins) 
   unfolding rows
   changed_circles high low is join =
       let were = are.joins_before.are_rows in
-      least_by_rows hand melds (record { caps = rows.caps; characters = rows.characters; circles = row; bamboos = rows.bamboos; honours = rows.honours })
+      least_by_rows hand melds (record { characters = rows.characters; circles = row; bamboos = rows.bamboos; honours = rows.honours })
       (record {
-        caps = were.caps;
         characters = kept 0 9 rows.characters (λ k from below e. omega (arith, e, below, high)) were.characters;
         circles = is;
         bamboos = kept 18 9 rows.bamboos (λ k from below e. omega (arith, e, from, low)) were.bamboos;
@@ -68,9 +66,8 @@ module _ (kind : ℕ) (hand : List ℕ) (melds : List Meld) (joins : HandJoins) 
   unfolding rows
   changed_bamboos high low is join =
       let were = are.joins_before.are_rows in
-      least_by_rows hand melds (record { caps = rows.caps; characters = rows.characters; circles = rows.circles; bamboos = row; honours = rows.honours })
+      least_by_rows hand melds (record { characters = rows.characters; circles = rows.circles; bamboos = row; honours = rows.honours })
       (record {
-        caps = were.caps;
         characters = kept 0 9 rows.characters (λ k from below e. omega (arith, e, below, high)) were.characters;
         circles = kept 9 9 rows.circles (λ k from below e. omega (arith, e, below, high)) were.circles;
         bamboos = is;
@@ -83,9 +80,8 @@ module _ (kind : ℕ) (hand : List ℕ) (melds : List Meld) (joins : HandJoins) 
   unfolding rows
   changed_honours high is join =
       let were = are.joins_before.are_rows in
-      least_by_rows hand melds (record { caps = rows.caps; characters = rows.characters; circles = rows.circles; bamboos = rows.bamboos; honours = row })
+      least_by_rows hand melds (record { characters = rows.characters; circles = rows.circles; bamboos = rows.bamboos; honours = row })
       (record {
-        caps = were.caps;
         characters = kept 0 9 rows.characters (λ k from below e. omega (arith, e, below, high)) were.characters;
         circles = kept 9 9 rows.circles (λ k from below e. omega (arith, e, below, high)) were.circles;
         bamboos = kept 18 9 rows.bamboos (λ k from below e. omega (arith, e, below, high)) were.bamboos;
@@ -94,3 +90,18 @@ module _ (kind : ℕ) (hand : List ℕ) (melds : List Meld) (joins : HandJoins) 
       few sets in_hand least
       (join_turned (entries_of rows.bamboos) (entries_of row) (entries_of rows.characters) (entries_of rows.circles) sets least
       (join_swapped (entries_of row) (entries_of rows.bamboos) (entries_of rows.characters) (entries_of rows.circles) sets least (join rows.bamboos rows.characters rows.circles are.joins_before.are_joins.beside_honours)))
+
+-- ---- the joins of rows of which one has changed
+
+module _ (before after : HandRows) (joins : HandJoins) (are : AreJoinsOf before joins) where
+  pub same_but_characters : after.circles ≡ before.circles → after.bamboos ≡ before.bamboos → after.honours ≡ before.honours → AreJoinsOf (with_characters after before.characters) joins
+  same_but_characters e e' e'' = rw (e, e', e'') are
+
+  pub same_but_circles : after.characters ≡ before.characters → after.bamboos ≡ before.bamboos → after.honours ≡ before.honours → AreJoinsOf (with_circles after before.circles) joins
+  same_but_circles e e' e'' = rw (e, e', e'') are
+
+  pub same_but_bamboos : after.characters ≡ before.characters → after.circles ≡ before.circles → after.honours ≡ before.honours → AreJoinsOf (with_bamboos after before.bamboos) joins
+  same_but_bamboos e e' e'' = rw (e, e', e'') are
+
+  pub same_but_honours : after.characters ≡ before.characters → after.circles ≡ before.circles → after.bamboos ≡ before.bamboos → AreJoinsOf (with_honours after before.honours) joins
+  same_but_honours e e' e'' = rw (e, e', e'') are

@@ -20,6 +20,7 @@ pub mod PairLemmas
 pub mod PairsLacked
 pub mod ReadyLemmas
 pub mod RemovalLemmas
+pub mod RowsWithout
 pub mod ShapeFacts
 pub mod SpecialLemmas
 pub mod TextLemmas

@@ -1,5 +1,5 @@
 -- One more tile of a kind brings a hand nearer exactly where some least winning multiset lacks it.
-use Rattle.std.proofs.Common.{◌≡◌, ℕ, ◌+◌, ◌-◌, ◌<◌, ◌≤◌, min, Bool, true, false, cond, inl, inr, List, length, ltb, ap, ◌∙◌, ⊎_elim, subst, Option, Some, None, arith, get_or-set_same, get_or-set_other}
+use Rattle.std.proofs.Common.{◌≡◌, ℕ, ◌+◌, ◌-◌, ◌<◌, ◌≤◌, min, Bool, true, false, cond, inl, inr, List, length, ltb, sym, ap, ◌∙◌, ⊎_elim, subst, Option, Some, None, arith, get_or-set_same, get_or-set_other}
 use Rattle.std.proofs.lemmas.Bool.Decides.{nat_tests}
 use Rattle.std.specs.Prelude.{slice_index, unwrap_or, nat_lt, ◌&&◌}
 use Rattle.riichi_tiles.specs.Melds.{tiles}
@@ -8,15 +8,15 @@ use Rattle.riichi_rows.specs.Lacked.{IsOneMore}
 use Rattle.riichi_shape.specs.Accepted.{accepted_copies, live_of, with_one}
 use Rattle.riichi_shape.specs.Distance.{IsDistance, IsLeastStandard}
 use Rattle.riichi_shape.specs.EveryWinning.{distance_of}
-use Rattle.riichi_shape.specs.LackedKinds.{AreLackedKinds, AreSuitsLacked, NoneStandardLess, lacks_kind, suits_lack}
-use Rattle.riichi_shape.specs.Special.{AreSpecialLacked, IsSpecialDistance, special_lacks}
+use Rattle.riichi_shape.specs.LackedKinds.{AreLackedKinds, AreLackedOf, AreSuitsLacked, NoneStandardLess, lacks_kind, suits_lack}
+use Rattle.riichi_shape.specs.Special.{AreSpecialLacked, IsSpecialDistance, SpecialLacks, special_lacks}
 use Rattle.riichi_shape.specs.Winning.{IsSetsAndPair}
 use Rattle.riichi_shape.specs.declared.lacked_kinds.LackedKinds.{LackedKinds}
 use Rattle.riichi_shape.proofs.Distances.{exists, never_none, whole_distance}
 use Rattle.riichi_shape.proofs.OneMore.{accepted, by_forms}
 use Rattle.riichi_shape.proofs.OrphanLemmas.{or_true}
 use Rattle.riichi_shape.proofs.RemovalLemmas.{bool_same, ltb_of, of_ltb}
-use Rattle.riichi_shape.proofs.SpecialLemmas.{or_left, or_right}
+use Rattle.riichi_shape.proofs.SpecialLemmas.{or_left, or_right, special_none_less}
 use Rattle.riichi_shape.proofs.Uniqueness.{distance_from}
 
 module _ (hand : List ℕ) (melds : List Meld) (at_most_four : length melds ≤ 4) (of_a_kind : (kind : ℕ) → kind < 34 → tiles melds kind ≤ 4) where
@@ -79,3 +79,19 @@ lacked_are hand melds n lacked suits special = record {
 
 pub standard_none_less : (hand : List ℕ) (melds : List Meld) (n sets : ℕ) → sets ≡ 4 - length melds → IsDistance hand melds n → NoneStandardLess hand melds sets n
 standard_none_less hand melds n sets e is = λ wanted are four. is.none_less wanted (record { form = inl (subst (λ (m : ℕ). IsSetsAndPair m wanted) e are); within_four = four })
+
+pub lacked_of : (hand : List ℕ) (melds : List Meld) (n : ℕ) → length melds ≤ 4 → ((kind : ℕ) → kind < 34 → tiles melds kind ≤ 4) → n ≡ distance_of hand melds → (sets : ℕ) → sets ≡ 4 - length melds →
+    (lacked : LackedKinds) → (NoneStandardLess hand melds sets n → AreSuitsLacked hand melds sets n lacked.suits) → (SpecialLacks hand melds n → AreSpecialLacked hand melds n lacked.special) → AreLackedOf hand melds lacked
+lacked_of hand melds n four few n_is sets sets_are lacked suits special = record {
+  at_most_four = four;
+  of_a_kind = few;
+  least = subst (λ (m : ℕ). AreLackedKinds hand melds m lacked) n_is
+      (lacked_are hand melds n lacked (subst (λ (m : ℕ). AreSuitsLacked hand melds m n lacked.suits) sets_are (suits (standard_none_less hand melds n sets sets_are is))) (special (special_none_less hand melds n is)));
+}
+  where
+    is : IsDistance hand melds n
+    is = subst (λ (m : ℕ). IsDistance hand melds m) (sym n_is) (distance_reached hand melds four few)
+
+-- no special form of a hand lacks less than its distance
+pub special_floor : (hand : List ℕ) (melds : List Meld) (n : ℕ) → length melds ≤ 4 → ((kind : ℕ) → kind < 34 → tiles melds kind ≤ 4) → n ≡ distance_of hand melds → SpecialLacks hand melds n
+special_floor hand melds n four few n_is = special_none_less hand melds n (subst (λ (m : ℕ). IsDistance hand melds m) (sym n_is) (distance_reached hand melds four few))

@@ -1,16 +1,13 @@
 -- The kinds whose removal leaves the least distance.
-use Rattle.std.proofs.Common.{◌≡◌, ℕ, suc, ◌+◌, ◌-◌, ◌<◌, ◌≤◌, Bool, true, false, cond, ◌⊎◌, inl, inr, List, [], ◌∷◌, map, length, get_or, set, slice_set, below_more, length-set, get_or-set_same, get_or-set_other, leb, ltb, refl, sym, ap, ◌∙◌, ⊎_elim, subst, arith}
+use Rattle.std.proofs.Common.{◌≡◌, ℕ, suc, ◌+◌, ◌-◌, ◌<◌, ◌≤◌, Bool, true, false, cond, ◌⊎◌, inl, inr, List, [], ◌∷◌, map, length, slice_set, below_more, length-set, get_or-set_same, get_or-set_other, leb, ltb, refl, sym, ap, ◌∙◌, ⊎_elim, arith}
 use Rattle.std.proofs.lemmas.Bool.{cases_lt}
 use Rattle.std.proofs.lemmas.Bool.Decides.{nat_tests}
 use Rattle.std.specs.List.{filter, range_with_len, sum}
 use Rattle.std.specs.Prelude.{slice_index, nat_le, ◌==◌, ◌&&◌}
 use Rattle.riichi_tiles.specs.Melds.{every_kind}
 use Rattle.riichi_tiles.specs.declared.meld.Meld.{Meld}
-use Rattle.riichi_rows.specs.declared.row.SuitRow.{SuitRow}
 use Rattle.riichi_rows.proofs.Spread.{spread, spread_add}
 use Rattle.riichi_shape.specs.declared.discard.Discard.{Discard}
-use Rattle.riichi_shape.specs.Accepted.{without_one}
-use Rattle.riichi_shape.specs.Rows.{IsRowAt}
 use Rattle.riichi_shape.specs.Discards.{AreDistancesWithout, IsLeastOf, discard_of, discards_of, distance_without, in_order, inserted, is_best, is_discard, is_held}
 use Rattle.riichi_shape.proofs.DiscardLemmas.{inserted_length}
 use Rattle.riichi_shape.proofs.PairLemmas.{spread_total, sum_is_total}
@@ -180,43 +177,35 @@ module _ (hand : List ℕ) (melds : List Meld) (seen : List ℕ) (number : ℕ) 
 
 -- ---- the hand without each of so many kinds
 
-pub record RemovalsTo (hand : List ℕ) (melds : List Meld) (distances : List ℕ) (rows : List SuitRow) (n : ℕ) : Type 0 where
+pub record DistancesTo (hand : List ℕ) (melds : List Meld) (distances : List ℕ) (n : ℕ) : Type 0 where
   pub long : length distances ≡ 34
   pub held : (k : ℕ) → k < n → 0 < slice_index hand k → slice_index distances k ≡ distance_without hand melds k
   pub few : (k : ℕ) → k < n → 0 < slice_index hand k → slice_index distances k ≤ 14
   pub others : (k : ℕ) → k < n → slice_index hand k ≡ 0 → slice_index distances k ≡ 255
   pub later : (k : ℕ) → n ≤ k → k < 34 → slice_index distances k ≡ 255
-  pub rows_long : length rows ≡ 34
-  pub rows_at : (k : ℕ) → k < n → 0 < slice_index hand k → (other : SuitRow) → IsRowAt (without_one hand k) melds k (get_or rows k other)
 
-module _ (hand : List ℕ) (melds : List Meld) (distances next : List ℕ) (rows next_rows : List SuitRow) (n : ℕ) (inside : n < 34) (so_far : RemovalsTo hand melds distances rows n) where
-  pub removed_not_held : slice_index hand n ≤ 0 → next ≡ distances → next_rows ≡ rows → RemovalsTo hand melds next next_rows (n + 1)
-  removed_not_held none e e' = rw (e, e') (record {
+module _ (hand : List ℕ) (melds : List Meld) (distances next : List ℕ) (n : ℕ) (inside : n < 34) (so_far : DistancesTo hand melds distances n) where
+  pub removed_not_held : slice_index hand n ≤ 0 → next ≡ distances → DistancesTo hand melds next (n + 1)
+  removed_not_held none e = rw e (record {
     long = so_far.long;
     held = below_more _ _ so_far.held (λ some. absurd (omega (arith, some, none)));
     few = below_more _ _ so_far.few (λ some. absurd (omega (arith, some, none)));
     others = below_more _ _ so_far.others (λ is. so_far.later n (omega arith) inside);
     later = λ k high. so_far.later k (omega arith);
-    rows_long = so_far.rows_long;
-    rows_at = below_more _ _ so_far.rows_at (λ some. absurd (omega (arith, some, none)));
   })
 
-  module _ (d : ℕ) (row : SuitRow) (some : 0 < slice_index hand n) where
+  module _ (d : ℕ) (some : 0 < slice_index hand n) where
     other_distance : (k : ℕ) → (k ≡ n → ⊥) → slice_index (slice_set distances n d) k ≡ slice_index distances k
     other_distance k ne = get_or-set_other distances n k d 0 ne
 
     here_distance : slice_index (slice_set distances n d) n ≡ d
     here_distance = get_or-set_same distances n d 0 (omega (arith, so_far.long, inside))
 
-    pub removed_held : d ≡ distance_without hand melds n → d ≤ 14 → IsRowAt (without_one hand n) melds n row → next ≡ slice_set distances n d → next_rows ≡ set rows n row → RemovalsTo hand melds next next_rows (n + 1)
-    removed_held d_is d_few is e e' = rw (e, e') (record {
+    pub removed_held : d ≡ distance_without hand melds n → d ≤ 14 → next ≡ slice_set distances n d → DistancesTo hand melds next (n + 1)
+    removed_held d_is d_few e = rw e (record {
       long = length-set distances n d ∙ so_far.long;
       held = below_more _ _ (λ k low h. other_distance k (λ same. omega (arith, same, low)) ∙ so_far.held k low h) (λ h. here_distance ∙ d_is);
       few = below_more _ _ (λ k low h. (let o = other_distance k (λ same. omega (arith, same, low)) in omega (arith, o, so_far.few k low h))) (λ h. omega (arith, here_distance, d_few));
       others = below_more _ _ (λ k low h. other_distance k (λ same. omega (arith, same, low)) ∙ so_far.others k low h) (λ h. absurd (omega (arith, h, some)));
       later = λ k high low. other_distance k (λ same. omega (arith, same, high)) ∙ so_far.later k (omega arith) low;
-      rows_long = length-set rows n row ∙ so_far.rows_long;
-      rows_at = below_more _ _
-          (λ k low h other. subst (λ (r : SuitRow). IsRowAt (without_one hand k) melds k r) (sym (get_or-set_other rows n k row other (λ same. omega (arith, same, low)))) (so_far.rows_at k low h other))
-          (λ h other. subst (λ (r : SuitRow). IsRowAt (without_one hand n) melds n r) (sym (get_or-set_same rows n row other (omega (arith, so_far.rows_long, inside)))) is);
     })

@@ -5,13 +5,17 @@ use Rattle.std.specs.List.{list_any, sum}
 use Rattle.std.specs.Prelude.{not, slice_index, nat_lt, ◌==◌, ◌||◌}
 use Rattle.riichi_tiles.specs.Melds.{every_kind, tiles}
 use Rattle.riichi_hand.specs.Faults.{coded, first_fault}
-use Rattle.riichi_hand.specs.Hand.{IsShape, copies_with, has_five_seen, is_thirteen_or_more, size}
+use Rattle.riichi_hand.specs.Hand.{IsShape, copies_with, has_five_seen, is_thirteen, is_thirteen_or_more, size}
 use Rattle.riichi_hand.specs.HandParts.{ShapeParts}
 use Rattle.riichi_hand.specs.declared.fault.LineCode.TheVariants.{H8, H9}
 use Rattle.riichi_tiles.specs.declared.meld.Meld.{Meld}
+use Rattle.riichi_shape.specs.Accepted.{accepted_of}
 use Rattle.riichi_shape.specs.Answer.{accepts_of, shape_of}
+use Rattle.riichi_shape.specs.Discards.{discards_of}
 use Rattle.riichi_shape.specs.EveryWinning.{shanten_of}
 use Rattle.riichi_shape.specs.declared.accepts.Accepts.{Accepts}
+use Rattle.riichi_shape.specs.declared.accepts.Accepts.TheVariants.{Thirteen, Fourteen}
+use Rattle.riichi_shape.specs.declared.discard.Discard.{Discard}
 use Rattle.riichi_shape.specs.declared.shape_answer.ShapeAnswer.{ShapeAnswer}
 use Rattle.riichi_shape.proofs.Members.{Among, among_range}
 
@@ -49,12 +53,26 @@ module _ (parts : ShapeParts) (is : IsShape parts) where
   seen_few kind low held = omega (arith, copies_few kind low, held)
 
 -- the parts of the answer make the answer
-pub answer_is : (parts : ShapeParts) (hand : List ℕ) (melds : List Meld) (seen : List ℕ) (shanten : ℤ) (accepts : Accepts) → hand ≡ parts.tiles → melds ≡ parts.melds → seen ≡ parts.seen →
-    shanten ≡ shanten_of hand melds → accepts ≡ accepts_of (record { tiles = hand; melds = melds; seen = seen }) → ◌≡◌ {A = ShapeAnswer} (record { shanten = shanten; accepts = accepts }) (shape_of parts)
+answer_is : (parts : ShapeParts) (shanten : ℤ) (accepts : Accepts) → shanten ≡ shanten_of parts.tiles parts.melds → accepts ≡ accepts_of parts → ◌≡◌ {A = ShapeAnswer} (record { shanten = shanten; accepts = accepts }) (shape_of parts)
 unfolding shape_of
-answer_is parts hand melds seen shanten accepts eh em es e e' =
-    both (e ∙ ap (λ h. shanten_of h melds) eh ∙ ap (shanten_of parts.tiles) em)
-    (e' ∙ ap (λ h. accepts_of (record { tiles = h; melds = melds; seen = seen })) eh ∙ ap (λ m. accepts_of (record { tiles = parts.tiles; melds = m; seen = seen })) em ∙ ap (λ s. accepts_of (record { tiles = parts.tiles; melds = parts.melds; seen = s })) es)
-  where
-    both : {s s' : ℤ} {a a' : Accepts} → s ≡ s' → a ≡ a' → ◌≡◌ {A = ShapeAnswer} (record { shanten = s; accepts = a }) (record { shanten = s'; accepts = a' })
-    both e e' = cc
+answer_is parts shanten accepts e e' = cc
+
+accepts_thirteen : (parts : ShapeParts) (list : List (ℕ × ℕ)) → is_thirteen parts.tiles parts.melds ≡ true → list ≡ accepted_of parts.tiles parts.melds parts.seen → Thirteen list ≡ accepts_of parts
+unfolding accepts_of
+accepts_thirteen parts list thirteen e = rw thirteen (ap Thirteen e)
+
+accepts_fourteen : (parts : ShapeParts) (list : List Discard) → is_thirteen parts.tiles parts.melds ≡ false → list ≡ discards_of parts.tiles parts.melds parts.seen → Fourteen list ≡ accepts_of parts
+unfolding accepts_of
+accepts_fourteen parts list fourteen e = rw fourteen (ap Fourteen e)
+
+module _ (parts : ShapeParts) (shanten : ℤ) (shanten_is : shanten ≡ shanten_of parts.tiles parts.melds) where
+  pub thirteen_is : (list : List (ℕ × ℕ)) → is_thirteen parts.tiles parts.melds ≡ true → list ≡ accepted_of parts.tiles parts.melds parts.seen → ◌≡◌ {A = ShapeAnswer} (record { shanten = shanten; accepts = Thirteen list }) (shape_of parts)
+  thirteen_is list thirteen e = answer_is parts shanten (Thirteen list) shanten_is (accepts_thirteen parts list thirteen e)
+
+  pub fourteen_is : (list : List Discard) → is_thirteen parts.tiles parts.melds ≡ false → list ≡ discards_of parts.tiles parts.melds parts.seen → ◌≡◌ {A = ShapeAnswer} (record { shanten = shanten; accepts = Fourteen list }) (shape_of parts)
+  fourteen_is list fourteen e = answer_is parts shanten (Fourteen list) shanten_is (accepts_fourteen parts list fourteen e)
+
+-- the answer of the same parts
+pub same_shape : (parts : ShapeParts) (hand : List ℕ) (melds : List Meld) (seen : List ℕ) → hand ≡ parts.tiles → melds ≡ parts.melds → seen ≡ parts.seen → shape_of (record { tiles = hand; melds = melds; seen = seen }) ≡ shape_of parts
+same_shape parts hand melds seen e e' e'' =
+    ap (λ h. shape_of (record { tiles = h; melds = melds; seen = seen })) e ∙ ap (λ m. shape_of (record { tiles = parts.tiles; melds = m; seen = seen })) e' ∙ ap (λ s. shape_of (record { tiles = parts.tiles; melds = parts.melds; seen = s })) e''

@@ -1,5 +1,5 @@
 -- What a hand lacks of the forms that stand beside no meld.
-use Rattle.std.proofs.Common.{◌≡◌, ℕ, ◌+◌, ◌<◌, ◌≤◌, Bool, true, false, cond, ◌⊎◌, inl, inr, List, length, refl, sym, ap, ⊎_elim, subst, arith}
+use Rattle.std.proofs.Common.{◌≡◌, ℕ, ◌+◌, ◌<◌, ◌≤◌, Bool, true, false, cond, ◌⊎◌, inl, inr, List, length, refl, sym, ap, ◌∙◌, ⊎_elim, subst, arith}
 use Rattle.std.proofs.lemmas.Bool.{cases_lt, false≢true}
 use Rattle.std.proofs.lemmas.Bool.Decides.{nat_tests}
 use Rattle.std.specs.Prelude.{slice_index, ◌==◌, ◌&&◌, ◌||◌}
@@ -9,7 +9,7 @@ use Rattle.riichi_shape.specs.Distance.{IsDistance}
 use Rattle.riichi_shape.specs.Lacked.{FormLacks}
 use Rattle.riichi_shape.specs.Orphans.{IsThirteenOrphans, is_orphan}
 use Rattle.riichi_shape.specs.Pairs.{IsSevenPairs}
-use Rattle.riichi_shape.specs.Special.{AreNoMelds, AreSpecialForms, AreSpecialLacked, SpecialLacks, lacked_at, lacks_held}
+use Rattle.riichi_shape.specs.Special.{AreNoMelds, AreSpecialForms, AreSpecialLacked, SpecialLacks, lacked_at, lacks_held, no_kind, special_lacks}
 use Rattle.riichi_shape.specs.Winning.{lacking}
 use Rattle.riichi_shape.specs.declared.lacked_held.LackedHeld.{LackedHeld}
 use Rattle.riichi_shape.specs.declared.nearest_form.NearestForm.{NearestForm}
@@ -148,3 +148,22 @@ module _ (hand : List ℕ) (melds : List Meld) (forms : SpecialForms) (are : Are
               (λ o. or_right pair_bit orphan_bit (subst (λ (l : LackedHeld). (lacks_held l held && is_orphan kind) ≡ true) (sym orphans_are) (orphans_back kind inside o))) w,
         ));
   }
+
+never : (b : Bool) → (b && false) ≡ false
+never true = refl
+never false = refl
+
+no_kind_held : (held : ℕ) → lacks_held no_kind held ≡ false
+no_kind_held held = rw (never (held == 0), never (held == 1)) refl
+
+pub nothing_lacked : (kind held : ℕ) → special_lacks (record { pairs = no_kind; orphans = no_kind }) kind held ≡ false
+nothing_lacked kind held = rw (no_kind_held held) refl
+
+-- where the forms lack more than n, they lack no kind at n
+pub none_lacked : (hand : List ℕ) (melds : List Meld) (floor n : ℕ) → SpecialLacks hand melds floor → n < floor → (lacked : SpecialLacked) → ((kind : ℕ) → special_lacks lacked kind (slice_index hand kind) ≡ false) → AreSpecialLacked hand melds n lacked
+none_lacked hand melds floor n bound more lacked none = record {
+  at = λ kind inside. (
+    λ e. absurd (false≢true (sym (none kind) ∙ e)),
+    λ w. absurd (⊎_elim (λ p. (let b = bound.bound p.1.wanted (inl (p.0, p.1.is_form)) in omega (arith, b, more, p.1.lacks))) (λ o. (let b = bound.bound o.1.wanted (inr (o.0, o.1.is_form)) in omega (arith, b, more, o.1.lacks))) w),
+  );
+}

@@ -1,15 +1,12 @@
 -- Which tile to discard from a hand of fourteen, and what it then accepts.
-use Rattle.std.specs.Prelude.{◌≡◌, ℕ, ◌<◌, ◌≤◌, ◌-◌, ◌&&◌, Bool, true, nat_le, nat_lt, if◌then◌else◌, List, [], ◌∷◌, ◌++◌, map, filter, replicate, length, get_or, slice_index, Option, None, Some}
+use Rattle.std.specs.Prelude.{◌≡◌, ℕ, ◌<◌, ◌≤◌, ◌-◌, ◌&&◌, Bool, true, nat_le, nat_lt, if◌then◌else◌, List, [], ◌∷◌, ◌++◌, map, filter, replicate, length, slice_index, Option, None, Some}
 use Rattle.std.specs.List.{list_all}
 use Rattle.riichi_tiles.specs.Melds.{every_kind}
-use Rattle.riichi_rows.specs.declared.row.SuitRow.{SuitRow}
 use Rattle.riichi_tiles.specs.declared.meld.Meld.{Meld}
 use Rattle.riichi_shape.specs.Accepted.{accepted_of, with_one, without_one}
 use Rattle.riichi_shape.specs.EveryWinning.{distance_of}
 use Rattle.riichi_shape.specs.LiveCopies.{live_in}
-use Rattle.riichi_shape.specs.Rows.{IsRowAt}
 use Rattle.riichi_shape.specs.declared.discard.Discard.{Discard}
-use Rattle.riichi_shape.specs.declared.removals.Removals.{Removals}
 
 -- the distance that is left without a tile of the kind
 abbrev pub distance_without : List ℕ → List Meld → ℕ → ℕ
@@ -28,11 +25,6 @@ pub record AreDistancesWithout (hand : List ℕ) (melds : List Meld) (distances 
   pub held : (kind : ℕ) → kind < 34 → 0 < slice_index hand kind → slice_index distances kind ≡ distance_without hand melds kind
   pub few : (kind : ℕ) → kind < 34 → 0 < slice_index hand kind → slice_index distances kind ≤ 14
   pub others : (kind : ℕ) → kind < 34 → slice_index hand kind ≡ 0 → slice_index distances kind ≡ 255
-
--- these distances, and for each kind of the hand the row that its suit has without a tile of it
-pub record AreRemovals (hand : List ℕ) (melds : List Meld) (removals : Removals) : Type 0 where
-  pub distances : AreDistancesWithout hand melds removals.distances
-  pub rows_at : (kind : ℕ) → kind < 34 → 0 < slice_index hand kind → (other : SuitRow) → IsRowAt (without_one hand kind) melds kind (get_or removals.rows kind other)
 
 -- the least of 34 numbers
 pub record IsLeastOf (distances : List ℕ) (least : ℕ) : Type 0 where

@@ -1,7 +1,9 @@
 -- Which kinds the least winning multisets lack, as the program keeps them.
-use Rattle.std.specs.Prelude.{ℕ, ◌-◌, ◌<◌, ◌≤◌, ◌↔◌, ◌||◌, Bool, IsTrue, if◌then◌else◌, nat_lt, List, slice_index}
+use Rattle.std.specs.Prelude.{ℕ, ◌-◌, ◌<◌, ◌≤◌, ◌↔◌, ◌||◌, Bool, IsTrue, if◌then◌else◌, nat_lt, List, length, slice_index}
 use Rattle.riichi_rows.specs.Marks.{has_rank}
+use Rattle.riichi_tiles.specs.Melds.{tiles}
 use Rattle.riichi_tiles.specs.declared.meld.Meld.{Meld}
+use Rattle.riichi_shape.specs.EveryWinning.{distance_of}
 use Rattle.riichi_shape.specs.Lacked.{StandardLacks, WinningLacks}
 use Rattle.riichi_shape.specs.Special.{special_lacks}
 use Rattle.riichi_shape.specs.Winning.{IsSetsAndPair, WithinFour, lacking}
@@ -31,3 +33,9 @@ pub record AreSuitsLacked (hand : List ℕ) (melds : List Meld) (sets n : ℕ) (
 -- just the kinds that some winning multiset lacks which lacks n tiles
 pub record AreLackedKinds (hand : List ℕ) (melds : List Meld) (n : ℕ) (lacked : LackedKinds) : Type 0 where
   pub at : (kind : ℕ) → kind < 34 → IsTrue (lacks_kind lacked kind (slice_index hand kind)) ↔ WinningLacks hand melds n kind
+
+-- just the kinds that the least winning multisets lack, beside melds that a hand can have
+pub record AreLackedOf (hand : List ℕ) (melds : List Meld) (lacked : LackedKinds) : Type 0 where
+  pub at_most_four : length melds ≤ 4
+  pub of_a_kind : (kind : ℕ) → kind < 34 → tiles melds kind ≤ 4
+  pub least : AreLackedKinds hand melds (distance_of hand melds) lacked

@@ -1,60 +1,38 @@
 //! The kinds that bring a hand nearer.
 ghost use Rattle.std.specs.Prelude.{ℕ, List, ◌≡◌, ◌<◌, ◌≤◌, slice_index};
+ghost use Rattle.riichi_tiles.specs.declared.meld.Meld.{Meld};
 ghost use Rattle.riichi_tiles.specs.Melds.{tiles};
-ghost use Rattle.riichi_tiles.specs.Tiles.{IsCounts};
-ghost use Rattle.riichi_shape.specs.Accepted.{AreLiveCopies, accepted_of, live_of};
-ghost use Rattle.riichi_shape.specs.EveryWinning.{distance_of};
-ghost use Rattle.riichi_shape.specs.Rows.{AreFormsOf};
+ghost use Rattle.riichi_shape.specs.Accepted.{AreLiveCopies, accepted_of};
+ghost use Rattle.riichi_shape.specs.LackedKinds.{AreLackedOf};
 
 use crate::hand_forms::HandForms;
+use crate::lacked_kinds::LackedKinds;
 use crate::live_list::LiveList;
+use crate::melded_tiles::melded_tiles;
 use riichi_rows::FreshRows;
-use riichi_tiles::{Counts, Kind, Melds};
+use riichi_tiles::{Counts, Melds};
 
-/// The copies of a kind that are in neither the hand nor the melds, and not seen elsewhere.
-fn live_of(hand: &Counts, melds: &Melds, seen: &Counts, kind: Kind) -> u8
-    ensures value { result ≡ live_of hand.now melds.now seen.now kind }
-    ensures counts { IsCounts seen.now }
-{
-    4u8.saturating_sub(hand.get(kind) + melds.tiles(kind) + seen.get(kind))
-}
-
-/// The live copies of every kind.
+/// The live copies of every kind: those that are in neither the hand nor the melds, and not seen
+/// elsewhere.
 pub(crate) fn live_copies(hand: &Counts, melds: &Melds, seen: &Counts) -> [u8; 34]
     ensures { AreLiveCopies hand.now melds.now seen.now result }
 {
+    let held = hand.to_array();
+    let melded = melded_tiles(melds);
+    let elsewhere = seen.to_array();
     let mut live = [0; 34];
-    for number in 0..34u8 {
-        live[number as usize] = live_of(hand, melds, seen, Kind::at(number));
+    for kind in 0..34usize {
+        live[kind] = 4u8.saturating_sub(held[kind] + melded[kind] + elsewhere[kind]);
     }
     live
 }
 
 /// The accepted kinds of a hand: those with live copies that some least winning multiset lacks.
-pub(crate) fn accepted_by(
-    forms: &HandForms,
-    least: u8,
-    hand: &Counts,
-    melds: &Melds,
-    live: &[u8; 34],
-) -> LiveList
-    requires melded { (kind : ℕ) → kind < 34 → tiles melds.now kind ≤ 4 }
-    requires forms { AreFormsOf hand.now melds.now forms.now }
-    requires least { least ≡ distance_of hand.now melds.now }
-    requires few { least ≤ 14 }
+pub(crate) fn accepted_by(lacked: &LackedKinds, hand: &Counts, live: &[u8; 34]) -> LiveList
     requires live { (kind : ℕ) → slice_index live.now kind ≤ 4 }
-    ensures { (seen : List ℕ) → AreLiveCopies hand.now melds.now seen live.now → result ≡ accepted_of hand.now melds.now seen }
+    ensures { (melds : List Meld) (seen : List ℕ) → AreLackedOf hand.now melds lacked.now → AreLiveCopies hand.now melds seen live.now → result ≡ accepted_of hand.now melds seen }
 {
-    let sets = 4 - melds.count() as u8;
-    let lacked = forms.lacked(sets, least);
-    let held = hand.to_array();
-    let mut copies = *live;
-    for number in 0..34u8 {
-        if !lacked.contains(Kind::at(number), held[number as usize]) {
-            copies[number as usize] = 0;
-        }
-    }
-    LiveList::new(copies)
+    LiveList::new(lacked.among(live, &hand.to_array()))
 }
 
 /// The kinds with live copies of which one more tile lowers the shanten, each with its live
@@ -64,6 +42,6 @@ pub fn accepted(hand: &Counts, melds: &Melds, seen: &Counts) -> LiveList
     ensures { result ≡ accepted_of hand.now melds.now seen.now }
 {
     let forms = HandForms::new(&mut FreshRows, hand, melds);
-    let live = live_copies(hand, melds, seen);
-    accepted_by(&forms, forms.distance(melds), hand, melds, &live)
+    let lacked = forms.lacked(melds, forms.distance(melds));
+    accepted_by(&lacked, hand, &live_copies(hand, melds, seen))
 }

@@ -1,10 +1,11 @@
 //! What the melds leave of each kind.
-ghost use Rattle.std.specs.Prelude.{ℕ, ◌+◌, ◌<◌, ◌≤◌};
+ghost use Rattle.std.specs.Prelude.{ℕ, ◌≡◌, ◌+◌, ◌-◌, ◌<◌, ◌≤◌, slice_index};
 ghost use Rattle.riichi_tiles.specs.Melds.{tiles};
-ghost use Rattle.riichi_shape.specs.Suits.{AreCapsOf, AreHandCaps};
+ghost use Rattle.riichi_shape.specs.Suits.{AreHandCaps};
 
+use crate::melded_tiles::melded_tiles;
 use crate::suit_caps::SuitCaps;
-use riichi_tiles::{Kind, Melds};
+use riichi_tiles::Melds;
 
 /// How many of each kind a winning multiset may hold beside the melds, suit by suit. It is told
 /// once a hand: the melds stay as they are while tiles are added and removed.
@@ -16,15 +17,17 @@ pub(crate) struct HandCaps {
     pub(crate) honours: SuitCaps,
 }
 
-fn suit_caps(melds: &Melds, first: u8, ranks: u8) -> SuitCaps
+/// The caps of a suit beside so many melded tiles of each kind.
+fn suit_caps(melded: &[u8; 34], first: u8, ranks: u8) -> SuitCaps
     requires ranks { ranks ≤ 9 }
     requires within { first + ranks ≤ 34 }
-    requires melded { (k : ℕ) → k < 34 → tiles melds.now k ≤ 4 }
-    ensures { AreCapsOf first ranks melds.now result.left }
+    requires melded { (k : ℕ) → slice_index melded.now k ≤ 4 }
+    ensures caps { (rank : ℕ) → rank < ranks → slice_index result.left rank ≡ 4 - slice_index melded.now (first + rank) }
+    ensures none_past { (rank : ℕ) → ranks ≤ rank → slice_index result.left rank ≡ 0 }
 {
     let mut left = [0; 9];
     for rank in 0..ranks {
-        left[rank as usize] = 4 - melds.tiles(Kind::at(first + rank));
+        left[rank as usize] = 4 - melded[(first + rank) as usize];
     }
     SuitCaps { left }
 }
@@ -34,11 +37,12 @@ impl HandCaps {
         requires { (k : ℕ) → k < 34 → tiles melds.now k ≤ 4 }
         ensures { AreHandCaps melds.now result }
     {
+        let melded = melded_tiles(melds);
         HandCaps {
-            characters: suit_caps(melds, 0, 9),
-            circles: suit_caps(melds, 9, 9),
-            bamboos: suit_caps(melds, 18, 9),
-            honours: suit_caps(melds, 27, 7),
+            characters: suit_caps(&melded, 0, 9),
+            circles: suit_caps(&melded, 9, 9),
+            bamboos: suit_caps(&melded, 18, 9),
+            honours: suit_caps(&melded, 27, 7),
         }
     }
 }

@@ -1,11 +1,11 @@
 //! How near a hand is to each form.
-ghost use Rattle.std.specs.Prelude.{ℕ, ◌≡◌, ◌-◌, ◌<◌, ◌≤◌, List, length};
-ghost use Rattle.riichi_tiles.specs.declared.meld.Meld.{Meld};
+ghost use Rattle.std.specs.Prelude.{ℕ, ◌≡◌, ◌<◌, ◌≤◌, List, slice_index};
 ghost use Rattle.riichi_tiles.specs.Melds.{tiles};
+ghost use Rattle.riichi_shape.specs.Accepted.{without_one};
 ghost use Rattle.riichi_shape.specs.Distance.{IsDistance};
 ghost use Rattle.riichi_shape.specs.EveryWinning.{distance_of};
-ghost use Rattle.riichi_shape.specs.LackedKinds.{AreLackedKinds};
-ghost use Rattle.riichi_shape.specs.Rows.{AreFormsOf, DifferAt, IsMeldedFew, IsRowAt};
+ghost use Rattle.riichi_shape.specs.LackedKinds.{AreLackedOf};
+ghost use Rattle.riichi_shape.specs.Rows.{AreFormsOf, AreRowsOf, IsRowAt};
 
 use crate::hand_joins::HandJoins;
 use crate::hand_rows::HandRows;
@@ -30,6 +30,14 @@ impl HandForms {
         ensures { AreFormsOf hand.now melds.now result }
     {
         let rows = HandRows::new(source, hand, melds);
+        HandForms::of_rows(rows, hand, melds)
+    }
+
+    /// What is known of a hand that has these rows.
+    pub(crate) fn of_rows(rows: HandRows, hand: &Counts, melds: &Melds) -> HandForms
+        requires { AreRowsOf hand.now melds.now rows }
+        ensures { AreFormsOf hand.now melds.now result }
+    {
         let special = SpecialForms::new(hand, melds);
         HandForms {
             rows,
@@ -53,34 +61,41 @@ impl HandForms {
         standard.unwrap_or(u8::MAX).min(self.special.distance())
     }
 
-    /// The kinds that some winning multiset lacks which lacks just so many tiles, where none lacks
-    /// fewer. Beside the melds it has so many sets.
-    pub(crate) fn lacked(&self, sets: u8, least: u8) -> LackedKinds
-        requires sets { sets ≤ 4 }
+    /// The kinds that the least winning multisets lack, of a hand that lacks just so many tiles.
+    pub(crate) fn lacked(&self, melds: &Melds, least: u8) -> LackedKinds
+        requires melded { (k : ℕ) → k < 34 → tiles melds.now k ≤ 4 }
         requires few { least ≤ 14 }
-        ensures { (hand : List ℕ) (melds : List Meld) → AreFormsOf hand melds self.now → IsMeldedFew melds → sets ≡ 4 - length melds → IsDistance hand melds least → AreLackedKinds hand melds least result }
+        ensures { (hand : List ℕ) → AreFormsOf hand melds.now self.now → least ≡ distance_of hand melds.now → AreLackedOf hand melds.now result }
     {
+        let sets = 4 - melds.count() as u8;
         LackedKinds {
             suits: self.joins.lacked(&self.rows, sets, least),
             special: self.special.lacked_at(least),
         }
     }
 
-    /// What is known of a hand that has changed at one kind, with this row of the suit of that kind.
-    pub(crate) fn with_row(
+    /// The same of the hand without one tile of a kind, by the row that its suit then has.
+    pub(crate) fn lacked_without(
         &self,
-        kind: Kind,
-        row: &SuitRow,
         hand: &Counts,
         melds: &Melds,
-    ) -> HandForms
-        ensures { (before : List ℕ) → AreFormsOf before melds.now self.now → DifferAt kind before hand.now → IsRowAt hand.now melds.now kind row.now → AreFormsOf hand.now melds.now result }
+        kind: Kind,
+        row: &SuitRow,
+        least: u8,
+    ) -> LackedKinds
+        requires melded { (k : ℕ) → k < 34 → tiles melds.now k ≤ 4 }
+        requires forms { AreFormsOf hand.now melds.now self.now }
+        requires held { 0 < slice_index hand.now kind }
+        requires row { IsRowAt (without_one hand.now kind) melds.now kind row.now }
+        requires few { least ≤ 14 }
+        requires least { least ≡ distance_of (without_one hand.now kind) melds.now }
+        ensures { AreLackedOf (without_one hand.now kind) melds.now result }
     {
+        let sets = 4 - melds.count() as u8;
         let rows = self.rows.with_row(kind, row);
-        HandForms {
-            rows,
-            joins: HandJoins::new(&rows),
-            special: SpecialForms::new(hand, melds),
+        LackedKinds {
+            suits: self.joins.with_row(kind, &rows).lacked(&rows, sets, least),
+            special: self.special.lacked_without(hand, melds, kind, least),
         }
     }
 }

@@ -3,7 +3,9 @@ ghost use Rattle.std.specs.Prelude.{ℕ, ◌<◌, ◌≤◌, List};
 ghost use Rattle.riichi_tiles.specs.declared.meld.Meld.{Meld};
 ghost use Rattle.riichi_shape.specs.Distance.{IsLeastStandard};
 ghost use Rattle.riichi_shape.specs.LackedKinds.{AreSuitsLacked, NoneStandardLess};
-ghost use Rattle.riichi_shape.specs.Rows.{AreJoinsBeside, AreJoinsOf, AreRowsOf, IsMeldedFew, IsRowAt};
+ghost use Rattle.riichi_rows.specs.declared.row.SuitRow.{SuitRow};
+ghost use Rattle.riichi_shape.specs.Rows.{AreJoinsBeside, AreJoinsOf, AreRowsOf, AreSameBeside, IsMeldedFew, IsRowAt, with_bamboos, with_characters, with_circles, with_honours};
+ghost use Rattle.riichi_shape.specs.declared.hand_rows.HandRows.{HandRows};
 
 use crate::hand_rows::HandRows;
 use crate::suits_lacked::SuitsLacked;
@@ -11,9 +13,13 @@ use riichi_rows::{JoinedRows, SuitRow, join_two};
 use riichi_tiles::Kind;
 
 /// Beside each suit the rows of the other three, joined. They are kept while a tile of the suit is
-/// added or removed.
+/// added or removed. Of the others just those are joined anew that the suit is in.
 #[derive(Clone, Copy)]
 pub(crate) struct HandJoins {
+    /// The characters and the circles.
+    pub(crate) low: JoinedRows,
+    /// The bamboos and the honours.
+    pub(crate) high: JoinedRows,
     pub(crate) beside_characters: JoinedRows,
     pub(crate) beside_circles: JoinedRows,
     pub(crate) beside_bamboos: JoinedRows,
@@ -28,10 +34,80 @@ impl HandJoins {
         let low = join_two(&rows.characters, &rows.circles);
         let high = join_two(&rows.bamboos, &rows.honours);
         HandJoins {
+            low,
+            high,
             beside_characters: high.and(&rows.circles),
             beside_circles: high.and(&rows.characters),
             beside_bamboos: low.and(&rows.honours),
             beside_honours: low.and(&rows.bamboos),
+        }
+    }
+
+    /// The joins of these rows, where the rows that were joined differ in the suit of a kind alone.
+    pub(crate) fn with_row(&self, kind: Kind, rows: &HandRows) -> HandJoins
+        ensures { (before : HandRows) → AreJoinsOf before self.now → AreSameBeside kind before rows.now → AreJoinsOf rows.now result }
+    {
+        let number = kind.index();
+        if number < 9 {
+            self.with_characters(rows)
+        } else if number < 18 {
+            self.with_circles(rows)
+        } else if number < 27 {
+            self.with_bamboos(rows)
+        } else {
+            self.with_honours(rows)
+        }
+    }
+
+    fn with_characters(&self, rows: &HandRows) -> HandJoins
+        ensures { (before : SuitRow) → AreJoinsOf (with_characters rows.now before) self.now → AreJoinsOf rows.now result }
+    {
+        let low = join_two(&rows.characters, &rows.circles);
+        HandJoins {
+            low,
+            beside_circles: self.high.and(&rows.characters),
+            beside_bamboos: low.and(&rows.honours),
+            beside_honours: low.and(&rows.bamboos),
+            ..*self
+        }
+    }
+
+    fn with_circles(&self, rows: &HandRows) -> HandJoins
+        ensures { (before : SuitRow) → AreJoinsOf (with_circles rows.now before) self.now → AreJoinsOf rows.now result }
+    {
+        let low = join_two(&rows.characters, &rows.circles);
+        HandJoins {
+            low,
+            beside_characters: self.high.and(&rows.circles),
+            beside_bamboos: low.and(&rows.honours),
+            beside_honours: low.and(&rows.bamboos),
+            ..*self
+        }
+    }
+
+    fn with_bamboos(&self, rows: &HandRows) -> HandJoins
+        ensures { (before : SuitRow) → AreJoinsOf (with_bamboos rows.now before) self.now → AreJoinsOf rows.now result }
+    {
+        let high = join_two(&rows.bamboos, &rows.honours);
+        HandJoins {
+            high,
+            beside_characters: high.and(&rows.circles),
+            beside_circles: high.and(&rows.characters),
+            beside_honours: self.low.and(&rows.bamboos),
+            ..*self
+        }
+    }
+
+    fn with_honours(&self, rows: &HandRows) -> HandJoins
+        ensures { (before : SuitRow) → AreJoinsOf (with_honours rows.now before) self.now → AreJoinsOf rows.now result }
+    {
+        let high = join_two(&rows.bamboos, &rows.honours);
+        HandJoins {
+            high,
+            beside_characters: high.and(&rows.circles),
+            beside_circles: high.and(&rows.characters),
+            beside_bamboos: self.low.and(&rows.honours),
+            ..*self
         }
     }
 

@@ -1,7 +1,7 @@
 //! The rows of a hand.
 ghost use Rattle.std.specs.Prelude.{ℕ, ◌<◌, ◌≤◌, List};
 ghost use Rattle.riichi_tiles.specs.Melds.{tiles};
-ghost use Rattle.riichi_shape.specs.Rows.{AreRowsOf, DifferAt, IsRowAt};
+ghost use Rattle.riichi_shape.specs.Rows.{AreRowsOf, AreSameBeside, DifferAt, IsRowAt};
 ghost use Rattle.riichi_tiles.specs.declared.meld.Meld.{Meld};
 
 use crate::hand_caps::HandCaps;
@@ -12,7 +12,6 @@ use riichi_tiles::{Counts, Kind, Melds};
 /// The row of each suit. They are kept while tiles are added and removed: a tile changes one.
 #[derive(Clone, Copy)]
 pub(crate) struct HandRows {
-    pub(crate) caps: HandCaps,
     pub(crate) characters: SuitRow,
     pub(crate) circles: SuitRow,
     pub(crate) bamboos: SuitRow,
@@ -27,7 +26,6 @@ impl HandRows {
     {
         let caps = HandCaps::new(melds);
         HandRows {
-            caps,
             characters: suit_row_of(source, hand, &caps.characters, 0, 9),
             circles: suit_row_of(source, hand, &caps.circles, 9, 9),
             bamboos: suit_row_of(source, hand, &caps.bamboos, 18, 9),
@@ -35,25 +33,10 @@ impl HandRows {
         }
     }
 
-    /// The row of the suit of a kind, of a hand beside the same melds.
-    pub(crate) fn row_at<R: RowSource>(&self, source: &mut R, kind: Kind, hand: &Counts) -> SuitRow
-        ensures { (before : List ℕ) (melds : List Meld) → AreRowsOf before melds self.now → IsRowAt hand.now melds kind result }
-    {
-        let number = kind.index();
-        if number < 9 {
-            suit_row_of(source, hand, &self.caps.characters, 0, 9)
-        } else if number < 18 {
-            suit_row_of(source, hand, &self.caps.circles, 9, 9)
-        } else if number < 27 {
-            suit_row_of(source, hand, &self.caps.bamboos, 18, 9)
-        } else {
-            suit_row_of(source, hand, &self.caps.honours, 27, 7)
-        }
-    }
-
     /// The rows of a hand that has changed at one kind, with this row of the suit of that kind.
     pub(crate) fn with_row(&self, kind: Kind, row: &SuitRow) -> HandRows
-        ensures { (before hand : List ℕ) (melds : List Meld) → AreRowsOf before melds self.now → DifferAt kind before hand → IsRowAt hand melds kind row.now → AreRowsOf hand melds result }
+        ensures others { AreSameBeside kind self.now result }
+        ensures rows { (before hand : List ℕ) (melds : List Meld) → AreRowsOf before melds self.now → DifferAt kind before hand → IsRowAt hand melds kind row.now → AreRowsOf hand melds result }
     {
         let number = kind.index();
         if number < 9 {

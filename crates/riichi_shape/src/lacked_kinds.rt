@@ -1,6 +1,7 @@
 //! The kinds that the winning multisets lack which a hand is nearest to.
-ghost use Rattle.std.specs.Prelude.{◌≡◌};
+ghost use Rattle.std.specs.Prelude.{ℕ, ◌≡◌, ◌<◌, if◌then◌else◌, slice_index};
 ghost use Rattle.riichi_shape.specs.LackedKinds.{lacks_kind};
+ghost use Rattle.riichi_shape.specs.Special.{special_lacks};
 
 use crate::special::SpecialLacked;
 use crate::suits_lacked::SuitsLacked;
@@ -14,11 +15,27 @@ pub(crate) struct LackedKinds {
     pub(crate) special: SpecialLacked,
 }
 
+/// Takes also the copies of the kinds that the special forms lack.
+fn take_special(taken: &mut [u8; 34], copies: &[u8; 34], lacked: &SpecialLacked, held: &[u8; 34])
+    ensures { (kind : ℕ) → kind < 34 → slice_index taken.new kind ≡ (if special_lacks lacked.now kind (slice_index held.now kind) then slice_index copies.now kind else slice_index taken.old kind) }
+{
+    for number in 0..34u8 {
+        let place = number as usize;
+        if lacked.contains(Kind::at(number), held[place]) {
+            taken[place] = copies[place];
+        }
+    }
+}
+
 impl LackedKinds {
-    /// Whether a kind is lacked of which the hand has so many.
-    pub(crate) fn contains(&self, kind: Kind, held: u8) -> bool
-        ensures { result ≡ lacks_kind self.now kind held }
+    /// Of the copies of each kind those of the kinds that are lacked of which so many are held.
+    pub(crate) fn among(&self, copies: &[u8; 34], held: &[u8; 34]) -> [u8; 34]
+        ensures { (kind : ℕ) → kind < 34 → slice_index result kind ≡ (if lacks_kind self.now kind (slice_index held.now kind) then slice_index copies.now kind else 0) }
     {
-        self.suits.contains(kind) || self.special.contains(kind, held)
+        let mut taken = self.suits.among(copies);
+        if !self.special.is_empty() {
+            take_special(&mut taken, copies, &self.special, held);
+        }
+        taken
     }
 }

@@ -4,7 +4,7 @@ ghost use Rattle.std.specs.List.{sum};
 ghost use Rattle.riichi_tiles.specs.Melds.{tiles};
 ghost use Rattle.riichi_shape.specs.Accepted.{AreLiveCopies, without_one};
 ghost use Rattle.riichi_shape.specs.Discards as spec;
-ghost use Rattle.riichi_shape.specs.Rows.{AreFormsOf, IsRowAt};
+ghost use Rattle.riichi_shape.specs.Rows.{AreFormsOf, AreSuitsOf, IsRowAt};
 ghost use Rattle.riichi_shape.specs.Special.{SpecialLacks};
 
 use crate::acceptance::{accepted_by, live_copies};
@@ -12,58 +12,55 @@ use crate::discard::Discard;
 use crate::discard_list::DiscardList;
 use crate::distance::distance_with;
 use crate::hand_forms::HandForms;
-use crate::removals::Removals;
-use crate::removed_tile::RemovedTile;
-use riichi_rows::{RowSource, SuitRow};
+use crate::hand_suits::HandSuits;
+use riichi_rows::SuitRow;
 use riichi_tiles::{Counts, Kind, Melds};
 
-/// The hand without one tile of the kind.
-fn without_tile<R: RowSource>(
-    source: &mut R,
+/// The distance of the hand without one tile of the kind.
+fn distance_without(
+    suits: &HandSuits,
     forms: &HandForms,
     floor: u8,
     hand: &Counts,
     melds: &Melds,
     kind: Kind,
-) -> RemovedTile
+) -> u8
     requires melded { (k : ℕ) → k < 34 → tiles melds.now k ≤ 4 }
+    requires suits { AreSuitsOf hand.now melds.now suits.now }
     requires forms { AreFormsOf hand.now melds.now forms.now }
     requires floor { SpecialLacks hand.now melds.now floor }
     requires held { 0 < slice_index hand.now kind }
-    ensures distance { result.distance ≡ spec.distance_without hand.now melds.now kind }
-    ensures few { result.distance ≤ 14 }
-    ensures row { IsRowAt (without_one hand.now kind) melds.now kind result.row }
+    ensures value { result ≡ spec.distance_without hand.now melds.now kind }
+    ensures few { result ≤ 14 }
 {
     let mut rest = *hand;
     rest.remove(kind);
-    let row = forms.rows.row_at(source, kind, &rest);
-    let distance = distance_with(&forms.joins, floor, kind, &row, &rest, melds);
-    RemovedTile { distance, row }
+    distance_with(
+        &forms.joins,
+        floor,
+        kind,
+        &suits.without(kind),
+        &rest,
+        melds,
+    )
 }
 
-/// The hand without each of its kinds. For another kind the distance is more than any.
-fn removals<R: RowSource>(
-    source: &mut R,
-    forms: &HandForms,
-    hand: &Counts,
-    melds: &Melds,
-) -> Removals
+/// The distance of the hand without each of its kinds. For another kind it is more than any.
+fn distances_without(suits: &HandSuits, forms: &HandForms, hand: &Counts, melds: &Melds) -> [u8; 34]
     requires melded { (k : ℕ) → k < 34 → tiles melds.now k ≤ 4 }
+    requires suits { AreSuitsOf hand.now melds.now suits.now }
     requires forms { AreFormsOf hand.now melds.now forms.now }
-    ensures { spec.AreRemovals hand.now melds.now result }
+    ensures { spec.AreDistancesWithout hand.now melds.now result }
 {
     let floor = forms.special.distance();
     let mut distances = [u8::MAX; 34];
-    let mut rows = [forms.rows.honours; 34];
     for number in 0..34u8 {
         let kind = Kind::at(number);
         if hand.get(kind) > 0 {
-            let removed = without_tile(source, forms, floor, hand, melds, kind);
-            distances[number as usize] = removed.distance;
-            rows[number as usize] = removed.row;
+            distances[number as usize] = distance_without(suits, forms, floor, hand, melds, kind);
         }
     }
-    Removals { distances, rows }
+    distances
 }
 
 /// The least of the distances.
@@ -97,38 +94,39 @@ fn discard_of(
     requires row { IsRowAt (without_one hand.now kind) melds.now kind row.now }
     ensures { (seen : List ℕ) → AreLiveCopies hand.now melds.now seen live.now → result ≡ spec.discard_of hand.now melds.now seen kind }
 {
+    let lacked = forms.lacked_without(hand, melds, kind, row, least);
     let mut rest = *hand;
     rest.remove(kind);
-    let forms = forms.with_row(kind, row, &rest, melds);
     Discard {
         kind,
-        accepted: accepted_by(&forms, least, &rest, melds, live),
+        accepted: accepted_by(&lacked, &rest, live),
     }
 }
 
 /// The kinds whose removal leaves the least distance, each with what it then accepts.
-pub(crate) fn discards_by<R: RowSource>(
-    source: &mut R,
+pub(crate) fn discards_by(
+    suits: &HandSuits,
     forms: &HandForms,
     hand: &Counts,
     melds: &Melds,
     seen: &Counts,
 ) -> DiscardList
     requires melded { (k : ℕ) → k < 34 → tiles melds.now k ≤ 4 }
+    requires suits { AreSuitsOf hand.now melds.now suits.now }
     requires forms { AreFormsOf hand.now melds.now forms.now }
     requires few { sum hand.now ≤ 14 }
     requires room { (k : ℕ) → k < 34 → 0 < slice_index hand.now k → slice_index seen.now k < 4 }
     ensures { result ≡ spec.discards_of hand.now melds.now seen.now }
 {
-    let removals = removals(source, forms, hand, melds);
-    let least = least_of(&removals.distances);
+    let distances = distances_without(suits, forms, hand, melds);
+    let least = least_of(&distances);
     let live = live_copies(hand, melds, seen);
     let mut list = DiscardList::new();
     for number in (0..34u8).rev() {
         let kind = Kind::at(number);
-        if hand.get(kind) > 0 && removals.distances[number as usize] == least {
-            let row = &removals.rows[number as usize];
-            list.insert(discard_of(forms, least, hand, melds, &live, kind, row));
+        if hand.get(kind) > 0 && distances[number as usize] == least {
+            let row = suits.without(kind);
+            list.insert(discard_of(forms, least, hand, melds, &live, kind, &row));
         }
     }
     list

@@ -1,9 +1,10 @@
 //! The forms that stand beside no meld.
-ghost use Rattle.std.specs.Prelude.{ℕ, ◌≡◌, ◌<◌, List};
+ghost use Rattle.std.specs.Prelude.{ℕ, ◌≡◌, ◌<◌, IsTrue, List, false, slice_index};
 ghost use Rattle.riichi_tiles.specs.declared.meld.Meld.{Meld};
+ghost use Rattle.riichi_shape.specs.Accepted.{without_one};
 ghost use Rattle.riichi_shape.specs.Special.{AreSpecialForms, AreSpecialLacked, IsSpecialDistance, SpecialLacks, special_lacks};
 
-use crate::lacked_held::LackedHeld;
+use crate::lacked_held::{LackedHeld, NO_KIND};
 use crate::nearest_form::{FAR, NearestForm};
 use crate::orphans::{is_orphan, nearest_orphans};
 use crate::pairs::nearest_pairs;
@@ -22,6 +23,12 @@ pub(crate) struct SpecialLacked {
     pub(crate) pairs: LackedHeld,
     pub(crate) orphans: LackedHeld,
 }
+
+/// No kind is lacked.
+const NOTHING_LACKED: SpecialLacked = SpecialLacked {
+    pairs: NO_KIND,
+    orphans: NO_KIND,
+};
 
 impl SpecialForms {
     pub(crate) fn new(hand: &Counts, melds: &Melds) -> SpecialForms
@@ -57,9 +64,40 @@ impl SpecialForms {
             orphans: self.orphans.lacked_at(least),
         }
     }
+
+    /// The same of the hand without one tile of a kind. It lacks no fewer of them than the whole hand,
+    /// so they are looked at again only where that lacks few enough.
+    pub(crate) fn lacked_without(
+        &self,
+        hand: &Counts,
+        melds: &Melds,
+        kind: Kind,
+        least: u8,
+    ) -> SpecialLacked
+        requires forms { AreSpecialForms hand.now melds.now self.now }
+        requires held { 0 < slice_index hand.now kind }
+        requires few { least < 255 }
+        requires least { SpecialLacks (without_one hand.now kind) melds.now least }
+        ensures { AreSpecialLacked (without_one hand.now kind) melds.now least result }
+    {
+        let mut rest = *hand;
+        rest.remove(kind);
+        if self.distance() > least {
+            NOTHING_LACKED
+        } else {
+            SpecialForms::new(&rest, melds).lacked_at(least)
+        }
+    }
 }
 
 impl SpecialLacked {
+    /// Whether no kind is lacked.
+    pub(crate) fn is_empty(&self) -> bool
+        ensures { IsTrue result → (kind held : ℕ) → special_lacks self.now kind held ≡ false }
+    {
+        self.pairs.is_empty() && self.orphans.is_empty()
+    }
+
     /// Whether a kind is lacked of which so many are held.
     pub(crate) fn contains(&self, kind: Kind, held: u8) -> bool
         ensures { result ≡ special_lacks self.now kind held }

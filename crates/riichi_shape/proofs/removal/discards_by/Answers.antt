@@ -2,50 +2,50 @@ use Rattle.std.proofs.Common.{◌≡◌, ◌<◌, ◌-◌, length, sym, ap, ◌�
 use Rattle.std.specs.Prelude.{slice_index}
 use Rattle.riichi_shape.proofs.RemovalLemmas.{discards_all, discards_from, discards_none, left_few, left_unheld, left_worse, put_few, put_list, still_room}
 use Rattle.riichi_shape.proofs.removal.discards_by.Goals as goal
-use Rattle.riichi_shape.proofs.removal.discards_by.Goals.{else-get-gt0-via-then-get-gt0+else-removals-number, else-get-gt0-via-else-get-gt0}
+use Rattle.riichi_shape.proofs.removal.discards_by.Goals.{else-get-gt0-via-then-get-gt0+else-distances-number, else-get-gt0-via-else-get-gt0}
 
 pub loop-number-init : goal.loop-number-init
-loop-number-init g c = record {
+loop-number-init c = record {
   so_far = c.new-list.ensures ∙ sym (discards_none c.args.hand.now c.args.melds.now c.args.seen.now 34);
   few = omega (arith, ap length c.new-list.ensures);
 }
 
 pub insert-requires : goal.insert-requires
-insert-requires g c =
+insert-requires c =
     let hand = c.args.hand.now in
     let held : 0 < slice_index hand (c.loop-number.number - 1) = omega (arith, c.if-get-gt0.true, c.get.ensures.value, ap (slice_index hand) c.at-kind.ensures) in
     still_room hand c.args.melds.now c.args.seen.now c.loop-number.number c.loop-number-test.true c.loop-number.auto.number c.loop-number.list c.get.ensures.counts.each_kind c.requires.few held c.loop-number.invariant.few
 
-pub loop-number-preserved-then-removals-number : goal.loop-number-preserved-then-removals-number
-loop-number-preserved-then-removals-number g c =
+pub loop-number-preserved-then-distances-number : goal.loop-number-preserved-then-distances-number
+loop-number-preserved-then-distances-number c =
     let hand = c.args.hand.now in
     let held : 0 < slice_index hand c.at-kind.result = omega (arith, c.if-get-gt0.true, c.get.ensures.value) in
     let there : 0 < slice_index hand (c.loop-number.number - 1) = omega (arith, held, ap (slice_index hand) c.at-kind.ensures) in
     record {
       so_far = put_list hand c.args.melds.now c.args.seen.now c.loop-number.number c.loop-number-test.true c.loop-number.auto.number
-          c.removals-removals.result.distances c.least_of-least.result c.removals-removals.ensures.distances c.least_of-least.ensures c.loop-number.list c.loop-number.invariant.so_far
-          c.insert.new.self c.discard_of.result c.at-kind.result c.at-kind.ensures (c.discard_of.ensures c.args.seen.now c.live_copies-live.ensures) held c.if-removals-number.true c.insert.ensures;
+          c.distances_without-distances.result c.least_of-least.result c.distances_without-distances.ensures c.least_of-least.ensures c.loop-number.list c.loop-number.invariant.so_far
+          c.insert.new.self c.discard_of.result c.at-kind.result c.at-kind.ensures (c.discard_of.ensures c.args.seen.now c.live_copies-live.ensures) held c.if-distances-number.true c.insert.ensures;
       few = omega (arith, ap length c.insert.ensures, put_few hand c.args.melds.now c.args.seen.now c.loop-number.number c.loop-number-test.true c.loop-number.auto.number c.loop-number.list c.discard_of.result c.loop-number.invariant.few there);
     }
 
 pub loop-number-preserved : goal.loop-number-preserved
-loop-number-preserved g c =
+loop-number-preserved c =
     let hand = c.args.hand.now in
     record {
       so_far = elim c.else-get-gt0.branch [
-        | else-get-gt0-via-then-get-gt0+else-removals-number w ↦
+        | else-get-gt0-via-then-get-gt0+else-distances-number w ↦
             left_worse hand c.args.melds.now c.args.seen.now c.loop-number.number c.loop-number-test.true c.loop-number.auto.number
-            c.removals-removals.result.distances c.least_of-least.result c.removals-removals.ensures.distances c.least_of-least.ensures c.loop-number.list c.loop-number.invariant.so_far
-            (omega (arith, w.if-get-gt0.true, c.get.ensures.value, ap (slice_index hand) c.at-kind.ensures)) w.if-removals-number.false
+            c.distances_without-distances.result c.least_of-least.result c.distances_without-distances.ensures c.least_of-least.ensures c.loop-number.list c.loop-number.invariant.so_far
+            (omega (arith, w.if-get-gt0.true, c.get.ensures.value, ap (slice_index hand) c.at-kind.ensures)) w.if-distances-number.false
         | else-get-gt0-via-else-get-gt0 w ↦
             left_unheld hand c.args.melds.now c.args.seen.now c.loop-number.number c.loop-number-test.true c.loop-number.auto.number
-            c.removals-removals.result.distances c.least_of-least.result c.removals-removals.ensures.distances c.least_of-least.ensures c.loop-number.list c.loop-number.invariant.so_far
+            c.distances_without-distances.result c.least_of-least.result c.distances_without-distances.ensures c.least_of-least.ensures c.loop-number.list c.loop-number.invariant.so_far
             (omega (arith, w.if-get-gt0.false, c.get.ensures.value, ap (slice_index hand) c.at-kind.ensures))
       ];
       few = left_few hand c.args.melds.now c.args.seen.now c.loop-number.number c.loop-number-test.true c.loop-number.auto.number c.loop-number.list c.loop-number.invariant.few;
     }
 
 pub returns : goal.returns
-returns g c =
+returns c =
     let at_first : c.loop-number.number ≡ 0 = omega arith in
     c.loop-number.invariant.so_far ∙ ap (λ k. discards_from c.args.hand.now c.args.melds.now c.args.seen.now k (34 - k)) at_first ∙ discards_all c.args.hand.now c.args.melds.now c.args.seen.now

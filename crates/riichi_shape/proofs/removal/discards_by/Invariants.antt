@@ -5,7 +5,7 @@ use Rattle.riichi_shape.proofs.RemovalLemmas.{discards_from}
 use Rattle.riichi_shape.proofs.removal.discards_by.Given as goal
 
 abbrev pub invariant-loop-number : goal.invariant-loop-number
-invariant-loop-number g l = record {
+invariant-loop-number l = record {
   so_far : l.list ≡ discards_from l.hand l.melds l.seen l.number (34 - l.number);
   few : length l.list ≤ spread (slice_index l.hand) l.number (34 - l.number);
 }
