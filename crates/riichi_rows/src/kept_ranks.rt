@@ -29,7 +29,7 @@ impl KeptRanks {
         let mut later = last_two_ranks(counts, caps);
         let mut after = [later; 6];
         for rank in (2..7usize).rev() {
-            later = later.before_often(counts[rank], caps[rank], bit_of(rank));
+            later.go_before(counts[rank], caps[rank], bit_of(rank));
             after[rank - 2] = later;
         }
         KeptRanks {

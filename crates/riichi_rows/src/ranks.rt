@@ -48,7 +48,7 @@ pub(crate) fn later_ranks_from(after: Open, rank: usize, counts: &[u8; 9], caps:
 {
     let mut later = after;
     for here in (2..rank + 1).rev() {
-        later = later.before_often(counts[here], caps[here], bit_of(here));
+        later.go_before(counts[here], caps[here], bit_of(here));
     }
     later
 }

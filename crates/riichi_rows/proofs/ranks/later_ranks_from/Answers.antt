@@ -15,8 +15,8 @@ loop-here-preserved c =
     record {
       some = omega arith;
       inside = omega (arith, c.loop-here.invariant.inside);
-      ranks = next_open counts caps (omega arith) (omega arith) c.requires.caps (here - 1) (omega arith) (omega arith) _ c.bit_of.ensures c.loop-here.later c.before_often-later.result
-          c.before_often-later.ensures.others c.before_often-later.ensures.own later;
+      ranks = next_open counts caps (omega arith) (omega arith) c.requires.caps (here - 1) (omega arith) (omega arith) _ c.bit_of.ensures c.loop-here.later c.go_before.new.self
+          c.go_before.ensures.others c.go_before.ensures.own later;
     }
 
 pub returns : goal.returns

@@ -15,14 +15,14 @@ loop-rank-preserved c =
     let later : AreRanks (rank - 1 + 1) counts caps c.loop-rank.later = subst (λ (n : ℕ). AreRanks n counts caps c.loop-rank.later) one_back so_far.ranks in
     let kept : KeptFrom counts caps after (rank - 1 + 1) = subst (λ (n : ℕ). KeptFrom counts caps after n) one_back so_far.kept in
     let ranks =
-    next_open counts caps (omega arith) (omega arith) c.requires (rank - 1) (omega arith) (omega (arith, so_far.inside)) _ c.bit_of.ensures c.loop-rank.later c.before_often-later.result
-    c.before_often-later.ensures.others c.before_often-later.ensures.own later in
+    next_open counts caps (omega arith) (omega arith) c.requires (rank - 1) (omega arith) (omega (arith, so_far.inside)) _ c.bit_of.ensures c.loop-rank.later c.go_before.new.self
+    c.go_before.ensures.others c.go_before.ensures.own later in
     record {
       some = omega arith;
       inside = omega (arith, so_far.inside);
-      long = length-set after (rank - 1 - 2) c.before_often-later.result ∙ so_far.long;
+      long = length-set after (rank - 1 - 2) c.go_before.new.self ∙ so_far.long;
       ranks = ranks;
-      kept = keep counts caps after (rank - 1) c.before_often-later.result (omega (arith, c.loop-rank-test.true)) (omega (arith, so_far.inside)) so_far.long ranks kept;
+      kept = keep counts caps after (rank - 1) c.go_before.new.self (omega (arith, c.loop-rank-test.true)) (omega (arith, so_far.inside)) so_far.long ranks kept;
     }
 
 pub returns-clause-kept : goal.returns-clause-kept
