@@ -1,6 +1,6 @@
 ghost use Rattle.std.specs.Prelude.{◌≡◌, ℕ, ◌+◌, ◌<◌, ◌≤◌, MatchOption, ◌&&◌, nat_le, [], ◌∷◌, ◌++◌, drop, length, slice_index};
 ghost use Rattle.std.specs.Iterator.{YieldsFirst, item_count};
-ghost use Rattle.riichi_split.specs.Cuts.{may_have_runs, sets_beside, from_choices, from_pairs, choices_beside, third_of_pair};
+ghost use Rattle.riichi_split.specs.Cuts.{may_have_runs, sets_beside, from_choices, from_pairs, choices_beside, third_of_pair, IsEnd};
 
 use crate::cutting::cut;
 use crate::sets::Sets;
@@ -14,6 +14,8 @@ use std::marker::Model;
 #[derive(Drop)]
 pub(crate) struct Splits {
     counts: [u8; 34],
+    // No kind from `end` on is held.
+    end: usize,
     wanted: usize,
     // So many numbers make the choices beside any pair.
     choices: usize,
@@ -38,7 +40,7 @@ impl Model for Splits {
 
     ghost view = { splits_left };
 
-    ghost invariant = { λ s. IsReady s.counts s.wanted s.choices s.choices_left s.first s.pairs_left s.third };
+    ghost invariant = { λ s. IsReady s.counts s.end s.wanted s.choices s.choices_left s.first s.pairs_left s.third };
 }
 
 impl Splits {
@@ -55,6 +57,7 @@ impl Splits {
         let suit = rests.suit_of_pair();
         Splits {
             counts,
+            end: end_of(&counts),
             wanted: 4 - melds,
             choices: choices_of(&counts),
             pair: Kind::at(0),
@@ -75,7 +78,13 @@ impl Iterator for Splits {
 
     fn next(&mut self) -> Option<Split> {
         loop {
-            let sets = next_sets(&self.counts, self.wanted, self.pair, &mut self.choices_left);
+            let sets = next_sets(
+                &self.counts,
+                self.end,
+                self.wanted,
+                self.pair,
+                &mut self.choices_left,
+            );
             if let Some(sets) = sets {
                 return Some(Split {
                     sets,
@@ -89,6 +98,17 @@ impl Iterator for Splits {
 }
 
 impl FusedIterator for Splits {}
+
+/// One past the highest kind that is held.
+fn end_of(counts: &[u8; 34]) -> usize
+    ensures { IsEnd counts.now result }
+{
+    let mut end = 34;
+    while end > 0 && counts[end - 1] == 0 {
+        end -= 1;
+    }
+    end
+}
 
 fn is_in_doubt(counts: &[u8; 34], kind: usize) -> bool
     requires { kind < 32 }
@@ -116,8 +136,15 @@ fn choices_of(counts: &[u8; 34]) -> usize
 }
 
 /// The sets that some choices leave beside a pair.
-fn sets_beside(counts: &[u8; 34], wanted: usize, pair: Kind, choices: usize) -> Option<Sets>
+fn sets_beside(
+    counts: &[u8; 34],
+    end: usize,
+    wanted: usize,
+    pair: Kind,
+    choices: usize,
+) -> Option<Sets>
     requires wanted { wanted ≤ 4 }
+    requires end { IsEnd counts.now end }
     ensures { result ≡ sets_beside counts.now wanted pair choices }
 {
     let pair = pair.index();
@@ -126,12 +153,19 @@ fn sets_beside(counts: &[u8; 34], wanted: usize, pair: Kind, choices: usize) -> 
     }
     let mut rest = *counts;
     rest[pair] -= 2;
-    cut(&rest, wanted, choices)
+    cut(&rest, end, wanted, choices)
 }
 
 /// The next sets beside a pair, of the choices below a number.
-fn next_sets(counts: &[u8; 34], wanted: usize, pair: Kind, choices: &mut usize) -> Option<Sets>
-    requires { wanted ≤ 4 }
+fn next_sets(
+    counts: &[u8; 34],
+    end: usize,
+    wanted: usize,
+    pair: Kind,
+    choices: &mut usize,
+) -> Option<Sets>
+    requires wanted { wanted ≤ 4 }
+    requires end { IsEnd counts.now end }
     ensures fewer { choices.new ≤ choices.old }
     ensures sets { MatchOption result
         ((from_choices counts.now wanted pair choices.old ≡ []) × (choices.new ≡ 0))
@@ -140,7 +174,7 @@ fn next_sets(counts: &[u8; 34], wanted: usize, pair: Kind, choices: &mut usize) 
 {
     while *choices > 0 {
         *choices -= 1;
-        let sets = sets_beside(counts, wanted, pair, *choices);
+        let sets = sets_beside(counts, end, wanted, pair, *choices);
         if sets.is_some() {
             return sets;
         }
