@@ -1,4 +1,4 @@
-ghost use Rattle.std.specs.Prelude.{◌≡◌, ℕ, ◌+◌, ◌<◌, ◌≤◌, MatchOption, ◌&&◌, nat_le, [], ◌∷◌, ◌++◌, drop, length, slice_index};
+ghost use Rattle.std.specs.Prelude.{◌≡◌, ◌≢◌, ℕ, ◌+◌, ◌%◌, ◌<◌, ◌≤◌, MatchOption, ◌&&◌, nat_le, [], ◌∷◌, ◌++◌, drop, length, slice_index};
 ghost use Rattle.std.specs.Iterator.{YieldsFirst, item_count};
 ghost use Rattle.riichi_split.specs.Cuts.{may_have_runs, sets_beside, from_choices, from_pairs, choices_beside, third_of_pair, IsEnd};
 
@@ -193,25 +193,18 @@ fn third_of_pair(counts: &[u8; 34]) -> usize
     2 * sum % 3
 }
 
-/// The next kind of two tiles or more, of so many kinds from the first on.
-fn next_pair(counts: &[u8; 34], first: usize, kinds: &mut usize) -> Option<Kind>
-    requires { first + kinds.old ≤ 34 }
-    ensures fewer { MatchOption result (kinds.new ≡ 0) (λ _. kinds.new < kinds.old) }
-    ensures splits { (wanted choices : ℕ) → MatchOption result
-        (from_pairs counts.now wanted choices first kinds.old ≡ [])
-        (λ pair. from_pairs counts.now wanted choices first kinds.old
-        ≡ from_choices counts.now wanted pair choices ++ from_pairs counts.now wanted choices first kinds.new) }
+/// How many of so many kinds from the first on are left without the last ones that leave over another number by three.
+fn fitting(first: usize, third: usize, kinds: usize) -> usize
+    requires within { first + kinds ≤ 34 }
+    requires third { third < 3 }
+    ensures fewer { result ≤ kinds }
+    ensures fits { 0 < result → (first + result + 2) % 3 ≡ third }
+    ensures others { (kind : ℕ) → result ≤ kind → kind < kinds → (first + kind) % 3 ≢ third }
 {
-    while *kinds > 0 {
-        *kinds -= 1;
-        if counts[first + *kinds] >= 2 {
-            return Some(Kind::at((first + *kinds) as u8));
-        }
-    }
-    None
+    kinds.saturating_sub((first + kinds + 2 - third) % 3)
 }
 
-/// The next of them whose number leaves over so much by three.
+/// The next kind of two tiles or more, of so many kinds from the first on, whose number leaves over so much by three.
 fn next_fitting(counts: &[u8; 34], first: usize, third: usize, kinds: &mut usize) -> Option<Kind>
     requires within { first + kinds.old ≤ 34 }
     requires third { third ≡ third_of_pair counts.now }
@@ -221,10 +214,14 @@ fn next_fitting(counts: &[u8; 34], first: usize, third: usize, kinds: &mut usize
         (λ pair. from_pairs counts.now wanted choices first kinds.old
         ≡ from_choices counts.now wanted pair choices ++ from_pairs counts.now wanted choices first kinds.new) }
 {
-    while let Some(pair) = next_pair(counts, first, kinds) {
-        if pair.index() % 3 == third {
-            return Some(pair);
+    *kinds = fitting(first, third, *kinds);
+    while *kinds > 0 {
+        let number = first + *kinds - 1;
+        if counts[number] >= 2 {
+            *kinds -= 1;
+            return Some(Kind::at(number as u8));
         }
+        *kinds = kinds.saturating_sub(3);
     }
     None
 }
