@@ -81,6 +81,9 @@ fn begins_triple_chow(blocks: &Blocks, block: &HandBlock) -> bool
 fn is_mixed_triple_chow(blocks: &Blocks) -> bool
     ensures { result ≡ spec.is_mixed_triple_chow blocks.now }
 {
+    if blocks.runs() < 3 {
+        return false;
+    }
     blocks
         .as_slice()
         .iter()
@@ -106,6 +109,9 @@ fn begins_straight(blocks: &Blocks, block: &HandBlock) -> bool
 fn is_pure_straight(blocks: &Blocks) -> bool
     ensures { result ≡ spec.is_pure_straight blocks.now }
 {
+    if blocks.runs() < 3 {
+        return false;
+    }
     blocks
         .as_slice()
         .iter()
