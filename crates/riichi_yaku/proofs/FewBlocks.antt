@@ -1,7 +1,10 @@
 -- Where few blocks are runs or triplets, no yaku of three of them holds.
-use Rattle.std.proofs.Common.{◌≡◌, ℕ, ◌+◌, ◌*◌, ◌%◌, ◌<◌, ◌≤◌, Bool, true, false, cond, ◌&&◌, ◌||◌, nat_eq, nat_lt, List, [], ◌∷◌, refl, sym, ap, ◌∙◌, arith}
+use Rattle.std.proofs.Common.{Bool, List, [], ap, arith, cond, false, get_or, inl, inr, nat_eq, nat_lt, refl, sym, true, ℕ, ◌%◌, ◌&&◌, ◌*◌, ◌+◌, ◌<◌, ◌||◌, ◌∙◌, ◌∷◌, ◌≡◌, ◌≤◌}
 use Rattle.std.specs.Prelude.{count_by}
-use Rattle.std.specs.List.{list_any}
+use Rattle.std.specs.List.{list_any, range_with_len}
+use Rattle.std.proofs.lemmas.List.Folds.{list_any_at}
+use Rattle.std.proofs.lemmas.List.FromFn.{get_or-range_with_len, length-range_with_len}
+use Rattle.std.proofs.lemmas.Bool.Decides.{eqb_tells}
 use Rattle.std.proofs.lemmas.List.Sums.{sum_by-append}
 use Rattle.std.proofs.lemmas.Bool.Decides.{nat_tests}
 use Rattle.riichi_blocks.specs.declared.hand_block.HandBlock.{HandBlock}
@@ -199,3 +202,62 @@ no-last-dragon blocks few = none-is (is_last_dragon blocks) blocks (last-dragon 
 
 pub no-last-wind : (blocks : List HandBlock) → count_by is_triplet blocks < 3 → list_any (is_last_wind blocks) blocks ≡ false
 no-last-wind blocks few = none-is (is_last_wind blocks) blocks (last-wind blocks few)
+
+-- ---- the runs of all suits, by their number
+
+same-test : (a b : Bool) → (a ≡ true → b ≡ true) → (b ≡ true → a ≡ true) → a ≡ b
+same-test true b f g = sym (f refl)
+same-test false true f g = g refl
+same-test false false f g = refl
+
+and-true : (a b : Bool) → (a && b) ≡ true → (a ≡ true) × (b ≡ true)
+and-true true b e = (refl, e)
+and-true false b e = absurd (cc)
+
+record LowSo (p : ℕ → Bool) : Type 0 where
+  low : ℕ
+  so : p low ≡ true
+
+low-here : (p : ℕ → Bool) (low : ℕ) (b rest : Bool) → b ≡ p low → (b || rest) ≡ true → (rest ≡ true → LowSo p) → LowSo p
+low-here p low true rest e any behind = record { low = low; so = sym e }
+low-here p low false rest e any behind = behind any
+
+find-low : (p : ℕ → Bool) (lows : List ℕ) → list_any p lows ≡ true → LowSo p
+find-low p [] any = absurd (cc)
+find-low p (low ∷ lows) any = low-here p low (p low) (list_any p lows) refl any (find-low p lows)
+
+chow-by : (all blocks : List HandBlock) (low : ℕ) → has_run blocks low ≡ true → has_run_in_each_suit all low ≡ true → list_any (begins_triple_chow all) blocks ≡ true
+chow-by all [] low there so = absurd (cc)
+chow-by all (Triplet kind shut ∷ blocks) low there so = chow-by all blocks low there so
+chow-by all (Kong kind shut ∷ blocks) low there so = chow-by all blocks low there so
+chow-by all (Pair kind ∷ blocks) low there so = chow-by all blocks low there so
+chow-by all (Run held ∷ blocks) low there so =
+    elim (eqb_tells held low) [
+      | inl t ↦ or-left (has_run_in_each_suit all held) (list_any (begins_triple_chow all) blocks) (ap (has_run_in_each_suit all) t.1 ∙ so)
+      | inr f ↦ or-right (has_run_in_each_suit all held) (list_any (begins_triple_chow all) blocks) (chow-by all blocks low (or-cases (nat_eq held low) (has_run blocks low) there f.0) so)
+    ]
+
+abbrev triple_chow_from : List HandBlock → ℕ → Bool
+triple_chow_from blocks low = has_run blocks low && has_run_in_each_suit blocks low
+
+below-nine : (low : ℕ) (b c : Bool) → (nat_lt low 9 && b && c) ≡ true → low < 9
+below-nine low b c e = grind (arith, nat_tests)
+
+both : (a b : Bool) → a ≡ true → b ≡ true → (a && b) ≡ true
+both a b e f = ap (λ x. x && b) e ∙ f
+
+chow-at : (blocks : List HandBlock) (low : ℕ) → low < 9 → triple_chow_from blocks low ≡ true → list_any (triple_chow_from blocks) (range_with_len 0 9) ≡ true
+chow-at blocks low lt so =
+    let place : get_or (range_with_len 0 9) low 0 ≡ low = get_or-range_with_len 0 9 low 0 lt ∙ omega arith in
+    list_any_at (triple_chow_from blocks) (range_with_len 0 9) low 0 (omega (arith, lt, length-range_with_len 0 9)) (ap (triple_chow_from blocks) place ∙ so)
+
+pub triple-chow-by-number : (blocks : List HandBlock) → list_any (triple_chow_from blocks) (range_with_len 0 9) ≡ list_any (begins_triple_chow blocks) blocks
+triple-chow-by-number blocks =
+    same-test (list_any (triple_chow_from blocks) (range_with_len 0 9)) (list_any (begins_triple_chow blocks) blocks)
+    (λ any.
+    let l = find-low (triple_chow_from blocks) (range_with_len 0 9) any in
+    let both = and-true (has_run blocks l.low) (has_run_in_each_suit blocks l.low) l.so in
+    chow-by blocks blocks l.low both.0 both.1)
+    (λ any.
+    let r = find-run (begins_triple_chow blocks) (has_run_in_each_suit blocks) (record { run = λ low. refl; triplet = λ kind shut. refl; kong = λ kind shut. refl; pair = λ kind. refl }) blocks any in
+    chow-at blocks r.low (below-nine r.low (has_run blocks (r.low + 9)) (has_run blocks (r.low + 18)) r.so) (both (has_run blocks r.low) (has_run_in_each_suit blocks r.low) r.there r.so))

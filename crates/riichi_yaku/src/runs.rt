@@ -1,5 +1,7 @@
 //! The yaku of runs.
-ghost use Rattle.std.specs.Prelude.{◌≡◌, ◌<◌};
+ghost use Rattle.std.specs.Prelude.{◌≡◌, ◌<◌, ◌&&◌};
+ghost use Rattle.std.specs.List.{list_any, range_with_len};
+ghost use Rattle.riichi_blocks.specs.HandBlocks.{has_run};
 ghost use Rattle.riichi_yaku.specs.Runs as spec;
 
 use riichi_blocks::{Blocks, HandBlock, has_plain_pair, has_two_sided_wait};
@@ -69,13 +71,18 @@ fn has_run_in_each_suit(blocks: &Blocks, low: usize) -> bool
     low < 9 && blocks.has_run(low + 9) && blocks.has_run(low + 18)
 }
 
-fn begins_triple_chow(blocks: &Blocks, block: &HandBlock) -> bool
-    ensures { result ≡ spec.begins_triple_chow blocks.now block.now }
+/// The run from this kind on, and those of the same numbers in the other suits.
+fn has_triple_chow_from(blocks: &Blocks, low: usize) -> bool
+    requires { low < 34 }
+    ensures { result ≡ (has_run blocks.now low && spec.has_run_in_each_suit blocks.now low) }
 {
-    match block {
-        HandBlock::Run(low) => has_run_in_each_suit(blocks, low.index()),
-        _ => false,
-    }
+    blocks.has_run(low) && has_run_in_each_suit(blocks, low)
+}
+
+fn has_triple_chow(blocks: &Blocks) -> bool
+    ensures { result ≡ list_any (λ low. has_run blocks.now low && spec.has_run_in_each_suit blocks.now low) (range_with_len 0 9) }
+{
+    (0..9).any(|low| has_triple_chow_from(blocks, low))
 }
 
 fn is_mixed_triple_chow(blocks: &Blocks) -> bool
@@ -84,10 +91,7 @@ fn is_mixed_triple_chow(blocks: &Blocks) -> bool
     if blocks.runs() < 3 {
         return false;
     }
-    blocks
-        .as_slice()
-        .iter()
-        .any(|block| begins_triple_chow(blocks, block))
+    has_triple_chow(blocks)
 }
 
 fn has_straight_from(blocks: &Blocks, low: usize) -> bool
