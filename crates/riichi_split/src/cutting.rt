@@ -16,7 +16,7 @@ pub(crate) struct Choice {
 fn may_begin_run(kind: usize) -> bool
     ensures { result ≡ may_run kind }
 {
-    kind < 27 && kind % 9 < 7
+    kind < 7 || kind >= 9 && kind < 16 || kind >= 18 && kind < 25
 }
 
 /// So many sets, where that many are wanted and runs may begin at the kind.
