@@ -92,7 +92,7 @@ impl Iterator for Splits {
                 });
             }
             self.pair = next_fitting(&self.counts, self.first, self.third, &mut self.pairs_left)?;
-            self.choices_left = self.choices;
+            self.choices_left = choices_with(&self.counts, self.pair, self.choices);
         }
     }
 }
@@ -133,6 +133,21 @@ fn choices_of(counts: &[u8; 34]) -> usize
         }
     }
     1 << doubts.min(4)
+}
+
+/// How many of so many numbers are left for the choices, where the pair's tiles are taken away.
+fn choices_with(counts: &[u8; 34], pair: Kind, choices: usize) -> usize
+    requires { choices ≤ 16 }
+    ensures fewer { result ≤ choices }
+    ensures splits { (wanted : ℕ) → from_choices counts.now wanted pair result ≡ from_choices counts.now wanted pair choices }
+{
+    // In most hands no kind is in doubt.
+    if choices <= 1 {
+        return choices;
+    }
+    let mut rest = *counts;
+    rest[pair.index()] = counts[pair.index()].saturating_sub(2);
+    choices_of(&rest).min(choices)
 }
 
 /// The sets that some choices leave beside a pair.
