@@ -81,9 +81,9 @@ none_from_part counts wanted all k sets one two left choices in_range h e =
     let d : drop k counts ≡ get_or counts k 0 ∷ drop (k + 1) counts = rw add-one (drop-cons counts k 0 in_range) in
     h.rest ∙ ap (λ ns. joined sets (cut_from k ns one two left choices)) d ∙ ap (joined sets) (cut_from-cons k (get_or counts k 0) (drop (k + 1) counts) one two left choices None e)
 
--- a kind all of whose tiles belong to runs begun below
-pub IsPartWay-idle : (counts : List ℕ) (wanted all k : ℕ) (sets : List Block) (one two left choices : ℕ) → k < length counts → wanted ≤ 4 → get_or counts k 0 ≡ one + two → IsPartWay counts wanted all k sets one two left choices → IsPartWay counts wanted all (k + 1) sets 0 one left choices
-IsPartWay-idle counts wanted all k sets one two left choices in_range small own h =
+-- a kind without tiles, where nothing is carried
+pub IsPartWay-skip : (counts : List ℕ) (wanted all k : ℕ) (sets : List Block) (one two left choices : ℕ) → k < length counts → wanted ≤ 4 → get_or counts k 0 ≡ 0 → one ≡ 0 → two ≡ 0 → IsPartWay counts wanted all k sets one two left choices → IsPartWay counts wanted all (k + 1) sets one two left choices
+IsPartWay-skip counts wanted all k sets one two left choices in_range small none e f h =
     let c : Choice = record { triplets = 0; runs = 0; choices = choices } in
     let is : choice_of k (get_or counts k 0) (may_have_runs (drop (k + 1) counts)) (one + two) left choices ≡ Some c = grind (arith, nat_tests) in
     let more = IsPartWay-more counts wanted all k sets one two left choices c in_range small h is in
@@ -91,9 +91,11 @@ IsPartWay-idle counts wanted all k sets one two left choices in_range small own 
     let same : left - (0 + 0) ≡ left = omega arith in
     record {
       room = h.room;
-      few = (omega arith, h.few.0);
+      few = h.few;
       rest = more.rest ∙ ap (λ s. joined s (cut_from (k + 1) (drop (k + 1) counts) 0 one (left - (0 + 0)) choices)) front
-          ∙ ap (λ d. joined sets (cut_from (k + 1) (drop (k + 1) counts) 0 one d choices)) same;
+          ∙ ap (λ a. joined sets (cut_from (k + 1) (drop (k + 1) counts) a one (left - (0 + 0)) choices)) (sym e)
+          ∙ ap (λ b. joined sets (cut_from (k + 1) (drop (k + 1) counts) one b (left - (0 + 0)) choices)) (e ∙ sym f)
+          ∙ ap (λ d. joined sets (cut_from (k + 1) (drop (k + 1) counts) one two d choices)) same;
     }
 
 pub IsPartWay-none : (counts : List ℕ) (wanted all : ℕ) → IsPartWay counts wanted all 0 [] 0 0 wanted all
@@ -108,7 +110,7 @@ pass counts wanted all from zero sets left choices in_range small none h =
     subst (λ (k : ℕ). IsPartWay counts wanted all k sets 0 0 left choices) same h
 pass counts wanted all from (suc more) sets left choices in_range small none h =
     let before = pass counts wanted all from more sets left choices (omega arith) small (λ kind a b. none kind a (omega arith)) h in
-    let one = IsPartWay-idle counts wanted all (from + more) sets 0 0 left choices (omega arith) small (none (from + more) (omega arith) (omega arith)) before in
+    let one = IsPartWay-skip counts wanted all (from + more) sets 0 0 left choices (omega arith) small (none (from + more) (omega arith) (omega arith)) refl refl before in
     let next : from + more + 1 ≡ from + suc more = omega arith in
     subst (λ (k : ℕ). IsPartWay counts wanted all k sets 0 0 left choices) next one
 

@@ -114,18 +114,12 @@ pub(crate) fn cut(counts: &[u8; 34], end: usize, wanted: usize, choices: usize) 
     let (mut one, mut two, mut left, mut choices) = (0, 0, wanted, choices);
     let mut index = next_held(counts, 0, end);
     while index < end {
-        if counts[index] as usize == one + two {
-            // All of its tiles belong to runs begun below.
-            two = one;
-            one = 0;
-        } else {
-            let choice = choose(counts, index, one + two, left, choices)?;
-            begin(&mut sets, Kind::at(index as u8), choice);
-            two = one;
-            one = choice.runs;
-            left -= choice.triplets + choice.runs;
-            choices = choice.choices;
-        }
+        let choice = choose(counts, index, one + two, left, choices)?;
+        begin(&mut sets, Kind::at(index as u8), choice);
+        two = one;
+        one = choice.runs;
+        left -= choice.triplets + choice.runs;
+        choices = choice.choices;
         index += 1;
         if one == 0 && two == 0 {
             index = next_held(counts, index, end);
