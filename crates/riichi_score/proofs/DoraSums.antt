@@ -1,5 +1,5 @@
 -- At most ten indicators, each of at most four copies.
-use Rattle.std.proofs.Common.{◌≡◌, ℕ, zero, suc, ◌+◌, ◌*◌, ◌<◌, ◌≤◌, List, [], ◌∷◌, ◌++◌, length, sym, ap, ◌∙◌, subst, get_or, take, arith, add-one, inl, inr}
+use Rattle.std.proofs.Common.{◌≡◌, ℕ, zero, suc, ◌+◌, ◌*◌, ◌<◌, ◌≤◌, List, [], ◌∷◌, ◌++◌, ◌-◌, length, refl, sym, ap, ◌∙◌, subst, get_or, take, arith, add-one, inl, inr}
 use Rattle.std.specs.List.{sum, sum_by, range_with_len}
 use Rattle.std.proofs.lemmas.List.{map-id, get_or_past, take_all}
 use Rattle.std.proofs.lemmas.Bool.{cases_lt}
@@ -25,18 +25,36 @@ kinds_more f n = ap (λ x. sum_by f x) (range_more n) ∙ sum_by_push f (range_w
 abbrev held : List ℕ → ℕ → ℕ
 held counts n = sum_by (λ kind. get_or counts kind 0) (range_with_len 0 n)
 
-one_more : (counts : List ℕ) (n : ℕ) → held counts n ≤ sum (take n counts) → held counts (n + 1) ≤ sum (take (n + 1) counts)
+one_more : (counts : List ℕ) (n : ℕ) → held counts n ≡ sum (take n counts) → held counts (n + 1) ≡ sum (take (n + 1) counts)
 one_more counts n h =
     let more = kinds_more (λ kind. get_or counts kind 0) n in
     elim (cases_lt n (length counts)) [
-      | inl lt ↦ omega (arith, more, sum_by_more (λ (x : ℕ). x) counts n 0 lt)
-      | inr past ↦ omega (arith, more, get_or_past counts n 0 past, ap (λ x. sum x) (take_all n counts past), ap (λ x. sum x) (take_all (n + 1) counts (omega arith)))
+      | inl lt ↦ omega (arith, h, more, sum_by_more (λ (x : ℕ). x) counts n 0 lt)
+      | inr past ↦ omega (arith, h, more, get_or_past counts n 0 past, ap (λ x. sum x) (take_all n counts past), ap (λ x. sum x) (take_all (n + 1) counts (omega arith)))
     ]
 
 -- what is held of the first kinds
-held_of_first : (counts : List ℕ) (n : ℕ) → held counts n ≤ sum (take n counts)
+held_of_first : (counts : List ℕ) (n : ℕ) → held counts n ≡ sum (take n counts)
 held_of_first counts zero = omega arith
-held_of_first counts (suc n) = subst (λ (m : ℕ). held counts m ≤ sum (take m counts)) (add-one n) (one_more counts n (held_of_first counts n))
+held_of_first counts (suc n) = subst (λ (m : ℕ). held counts m ≡ sum (take m counts)) (add-one n) (one_more counts n (held_of_first counts n))
+
+-- what is held of one kind more
+pub held_more : (counts : List ℕ) (n : ℕ) → held counts (n + 1) ≡ held counts n + get_or counts n 0
+held_more counts n = kinds_more (λ kind. get_or counts kind 0) n
+
+held_most : (counts : List ℕ) (n : ℕ) → held counts n ≤ sum counts
+held_most counts n = omega (arith, held_of_first counts n, sum_by-take-le (λ (x : ℕ). x) counts n)
+
+held_all : (counts : List ℕ) → length counts ≡ 34 → held counts 34 ≡ sum counts
+held_all counts long = held_of_first counts 34 ∙ ap (λ x. sum x) (take_all 34 counts (omega arith))
+
+held_grows : (counts : List ℕ) (n more : ℕ) → held counts n ≤ held counts (n + more)
+held_grows counts n zero =
+    let same : n + 0 ≡ n = omega arith in
+    omega (arith, ap (held counts) same)
+held_grows counts n (suc more) =
+    let next : n + more + 1 ≡ n + suc more = omega arith in
+    omega (arith, held_grows counts n more, held_more counts (n + more), ap (held counts) next)
 
 times_four : (indicators copies total held : ℕ) → copies ≤ 4 → total ≤ 4 * held → total + indicators * copies ≤ 4 * (held + indicators)
 times_four indicators copies total held c t = grind arith
@@ -75,6 +93,52 @@ four_shown win n h lt =
 pub most : (win : WinParts) (n : ℕ) → IsWin win → n ≤ 34 → total win n ≤ 40
 most win n h lt = omega (arith, four_shown win n h lt, ten_indicators win h)
 
--- none without an indicator
-pub none_shown : (win : WinParts) (n : ℕ) → IsWin win → n ≤ 34 → sum win.dora + sum win.ura ≡ 0 → 0 ≡ total win n
-none_shown win n h lt e = omega (arith, four_shown win n h lt, e)
+-- ---- the loop of `indicator_dora`
+
+-- of so many kinds the dora are told, and so many indicators are left
+pub record IsShown (win : WinParts) (n told left : ℕ) : Type 0 where
+  pub within : n ≤ 34
+  pub told_is : told ≡ total win n
+  pub left_is : left + (held win.dora n + held win.ura n) ≡ sum win.dora + sum win.ura
+
+-- indicators are left of further kinds alone
+pub IsShown-within : (win : WinParts) (n told left : ℕ) → length win.dora ≡ 34 → length win.ura ≡ 34 → 0 < left → IsShown win n told left → n < 34
+IsShown-within win n told left long long' some h =
+    elim (cases_lt n 34) [
+      | inl lt ↦ lt
+      | inr past ↦
+          let last : n ≡ 34 = omega (arith, past, h.within) in
+          absurd (omega (arith, some, h.left_is, ap (held win.dora) last, ap (held win.ura) last, held_all win.dora long, held_all win.ura long'))
+    ]
+
+pub IsShown-enough : (win : WinParts) (n told left : ℕ) → IsShown win n told left → indicators win n ≤ left
+IsShown-enough win n told left h = omega (arith, h.left_is, held_more win.dora n, held_more win.ura n, held_most win.dora (n + 1), held_most win.ura (n + 1))
+
+pub IsShown-more : (win : WinParts) (n told left : ℕ) → n < 34 → IsShown win n told left → IsShown win (n + 1) (told + kind_dora win n) (left - indicators win n)
+IsShown-more win n told left lt h = record {
+  within = omega (arith, lt);
+  told_is = ap (λ d. d + kind_dora win n) h.told_is ∙ sym (kinds_more (kind_dora win) n);
+  left_is = omega (arith, h.left_is, IsShown-enough win n told left h, held_more win.dora n, held_more win.ura n);
+}
+
+-- a kind without indicators has no dora
+none_of_kind : (shown copies : ℕ) → shown ≡ 0 → shown * copies ≡ 0
+none_of_kind shown copies e = ap (λ n. n * copies) e ∙ (let zero-times : 0 * copies ≡ 0 = omega arith in zero-times)
+
+-- nothing is left to tell
+stays : (win : WinParts) (n more : ℕ) → held win.dora n + held win.ura n ≡ sum win.dora + sum win.ura → total win (n + more) ≡ total win n
+stays win n zero all = ap (total win) (let same : n + 0 ≡ n = omega arith in same)
+stays win n (suc more) all =
+    let kind = n + more in
+    let next : kind + 1 ≡ n + suc more = omega arith in
+    let none : indicators win kind ≡ 0 = omega (arith, all, held_grows win.dora n more, held_grows win.ura n more, held_more win.dora kind, held_more win.ura kind, held_most win.dora (kind + 1), held_most win.ura (kind + 1)) in
+    let nothing : kind_dora win kind ≡ 0 = none_of_kind (indicators win kind) (copies_held win (indicated kind)) none in
+    omega (arith, ap (total win) next, kinds_more (kind_dora win) kind, nothing, stays win n more all)
+
+pub IsShown-end : (win : WinParts) (n told left : ℕ) → left ≡ 0 → IsShown win n told left → told ≡ total win 34
+IsShown-end win n told left none h =
+    let whole : n + (34 - n) ≡ 34 = omega (arith, h.within) in
+    h.told_is ∙ sym (stays win n (34 - n) (omega (arith, h.left_is, none))) ∙ ap (total win) whole
+
+pub IsShown-begin : (win : WinParts) (left : ℕ) → left ≡ sum win.dora + sum win.ura → IsShown win 0 0 left
+IsShown-begin win left e = record { within = omega arith; told_is = refl; left_is = omega (arith, e) }

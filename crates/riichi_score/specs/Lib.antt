@@ -5,3 +5,4 @@ pub mod Fu
 pub mod Scores
 pub mod Best
 pub mod Text
+pub mod Worths

@@ -6,7 +6,9 @@ ghost use Rattle.riichi_score.specs.Best as spec;
 ghost use Rattle.riichi_score.specs.Scores.{hand_of};
 
 use crate::dora;
-use crate::score::{Score, score_of};
+use crate::leading::Leading;
+use crate::score::Score;
+use crate::worth::worth_of;
 use riichi_blocks::all_tiles;
 use riichi_hand::WinRecord;
 use riichi_split::Readings;
@@ -31,11 +33,11 @@ pub fn best(win: &WinRecord) -> WinAnswer
     let dora = dora(win);
     let tiles = all_tiles(win);
     let hand = hand_of(win);
-    let mut best = WinAnswer::NoWin;
+    let mut best = Leading::NoWin;
     for reading in Readings::new(&hand, &win.melds(), win.winning()) {
-        best = better(best, score_of(&reading, &tiles, win, dora));
+        best = best.better(worth_of(&reading, &tiles, win, dora));
     }
-    best
+    best.answer(win)
 }
 
 /// The concealed tiles with the winning tile.
@@ -48,41 +50,4 @@ fn hand_of(win: &WinRecord) -> Counts
     let mut hand = win.concealed();
     hand.add(win.winning());
     hand
-}
-
-/// The greater of what was best and one more reading's score.
-fn better(best: WinAnswer, score: Option<Score>) -> WinAnswer
-    ensures { result ≡ spec.better best score }
-{
-    match (best, score) {
-        (WinAnswer::Won(best), Some(score)) => {
-            if is_above(&score, &best) {
-                WinAnswer::Won(score)
-            } else {
-                WinAnswer::Won(best)
-            }
-        }
-        (WinAnswer::Won(best), None) => WinAnswer::Won(best),
-        (_, Some(score)) => WinAnswer::Won(score),
-        (_, None) => WinAnswer::NoYaku,
-    }
-}
-
-fn is_above(score: &Score, other: &Score) -> bool
-    ensures { result ≡ spec.is_above (spec.rank score.now) (spec.rank other.now) }
-{
-    if score.base != other.base {
-        return score.base > other.base;
-    }
-    let (above, below) = (score.yaku.is_yakuman(), other.yaku.is_yakuman());
-    if above != below {
-        return above;
-    }
-    if score.han != other.han {
-        return score.han > other.han;
-    }
-    if score.fu != other.fu {
-        return score.fu > other.fu;
-    }
-    score.yaku.bits() > other.yaku.bits()
 }

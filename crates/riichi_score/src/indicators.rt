@@ -36,13 +36,15 @@ fn indicator_dora(win: &WinRecord) -> u8
     let _told = win.parts();
     let dora = win.dora();
     let ura = win.ura();
-    if dora.total() + ura.total() == 0 {
-        return 0;
-    }
+    let mut left = dora.total() + ura.total();
     let mut sum = 0;
-    for number in 0..34 {
+    let mut number = 0;
+    while left > 0 {
         let kind = Kind::at(number);
-        sum += kind_dora(win, kind, dora.get(kind) + ura.get(kind));
+        let indicators = dora.get(kind) + ura.get(kind);
+        sum += kind_dora(win, kind, indicators);
+        left -= indicators;
+        number += 1;
     }
     sum
 }

@@ -12,6 +12,7 @@
 mod answer;
 mod base;
 mod indicators;
+mod leading;
 mod payers;
 mod points;
 mod score;
@@ -19,6 +20,7 @@ mod settlement;
 #[cfg(test)]
 mod tests;
 mod text;
+mod worth;
 
 pub use answer::{WinAnswer, best};
 pub use base::{base_points, han};

@@ -1,6 +1,7 @@
 //! The fu of a reading.
 ghost use Rattle.std.specs.Prelude.{◌≡◌, ◌≤◌, length};
 ghost use Rattle.std.specs.List.{sum_by};
+ghost use Rattle.riichi_tiles.specs.Melds.{are_concealed};
 ghost use Rattle.riichi_blocks.specs.HandBlocks.{blocks_of};
 ghost use Rattle.riichi_yaku.specs.Runs.{is_pinfu};
 ghost use Rattle.riichi_score.specs.Fu as spec;
@@ -50,20 +51,19 @@ fn standard_fu(blocks: &Blocks, reading: &Reading, done: &Block, win: &WinRecord
     ensures value { result ≡ spec.standard_fu blocks.now reading.now done.now win.now }
     ensures most { result ≤ 200 }
 {
+    let concealed = win.melds().concealed();
     let drawn = draw_fu(blocks, reading, win);
-    let sum = 20 + ron_fu(win) + drawn + blocks_fu(blocks, win) + wait_fu(win.winning(), done);
-    up_to_ten(sum + open_fu(win, sum))
+    let ron = ron_fu(concealed, win);
+    let sum = 20 + ron + drawn + blocks_fu(blocks, win) + wait_fu(win.winning(), done);
+    up_to_ten(sum + open_fu(concealed, win, sum))
 }
 
-fn ron_fu(win: &WinRecord) -> u8
+fn ron_fu(concealed: bool, win: &WinRecord) -> u8
+    requires { concealed ≡ are_concealed win.now.melds }
     ensures value { result ≡ spec.ron_fu win.now }
     ensures most { result ≤ 10 }
 {
-    if win.melds().concealed() && is_ron(win.by()) {
-        10
-    } else {
-        0
-    }
+    if concealed && is_ron(win.by()) { 10 } else { 0 }
 }
 
 fn draw_fu(blocks: &Blocks, reading: &Reading, win: &WinRecord) -> u8
@@ -109,11 +109,12 @@ fn triplet_fu(kind: Kind, concealed: bool) -> u8
     if concealed { 2 * open } else { open }
 }
 
-fn open_fu(win: &WinRecord, sum: u8) -> u8
+fn open_fu(concealed: bool, win: &WinRecord, sum: u8) -> u8
+    requires { concealed ≡ are_concealed win.now.melds }
     ensures value { result ≡ spec.open_fu win.now sum }
     ensures most { result ≤ 10 }
 {
-    if !win.melds().concealed() && is_ron(win.by()) && sum == 20 {
+    if !concealed && is_ron(win.by()) && sum == 20 {
         10
     } else {
         0

@@ -1,9 +1,9 @@
 -- What `cut_from` gives: ordered sets that use up the counts, each such list for one number of choices.
-use Rattle.std.proofs.Common.{◌≡◌, ℕ, ◌+◌, ◌-◌, ◌*◌, ◌<◌, ◌≤◌, Bool, true, false, cond, Option, Some, None, List, [], ◌∷◌, ◌++◌, length, get_or, drop, refl, sym, ap, ◌∙◌, arith, eqb, add-one, append_assoc, append-nil, length-append, option_and_then}
+use Rattle.std.proofs.Common.{◌≡◌, ℕ, suc, zero, inl, inr, subst, ◌+◌, ◌-◌, ◌*◌, ◌<◌, ◌≤◌, Bool, true, false, cond, Option, Some, None, List, [], ◌∷◌, ◌++◌, length, get_or, drop, refl, sym, ap, ◌∙◌, arith, eqb, add-one, append_assoc, append-nil, length-append, option_and_then}
 use Rattle.std.proofs.Math.Seq.{drop-cons}
-use Rattle.std.proofs.Math.ListN.{drop_of_length-le}
 use Rattle.std.proofs.lemmas.Bool.Decides.{nat_tests}
-use Rattle.std.proofs.lemmas.List.{length-replicate}
+use Rattle.std.proofs.lemmas.List.{length-replicate, get_or-drop}
+use Rattle.std.proofs.lemmas.Bool.{cases_eq}
 use Rattle.riichi_tiles.specs.declared.block.Block.{Block}
 use Rattle.riichi_split.specs.declared.cutting.Choice.{Choice}
 use Rattle.riichi_tiles.specs.Blocks.{IsRunLow}
@@ -53,6 +53,10 @@ pub cut_from-nil : (k one two left choices : ℕ) → cut_from k [] one two left
 unfolding cut_from
 cut_from-nil k one two left choices = refl
 
+joined-none : (o : Option (List Block)) → joined [] o ≡ o
+joined-none None = refl
+joined-none (Some bs) = refl
+
 joined-test : (b : Bool) (sets : List Block) → joined sets (cond b (Some []) None) ≡ cond b (Some sets) None
 joined-test true sets = ap Some (append-nil sets)
 joined-test false sets = refl
@@ -77,10 +81,6 @@ none_from_part counts wanted all k sets one two left choices in_range h e =
     let d : drop k counts ≡ get_or counts k 0 ∷ drop (k + 1) counts = rw add-one (drop-cons counts k 0 in_range) in
     h.rest ∙ ap (λ ns. joined sets (cut_from k ns one two left choices)) d ∙ ap (joined sets) (cut_from-cons k (get_or counts k 0) (drop (k + 1) counts) one two left choices None e)
 
-pub cut_from-end : (counts : List ℕ) (wanted all k : ℕ) (sets : List Block) (one two left choices : ℕ) → length counts ≤ k → IsPartWay counts wanted all k sets one two left choices → cut_from 0 counts 0 0 wanted all ≡ cond (eqb (one + two + left + choices) 0) (Some sets) None
-cut_from-end counts wanted all k sets one two left choices past h =
-    h.rest ∙ ap (λ ns. joined sets (cut_from k ns one two left choices)) (drop_of_length-le counts past) ∙ ap (joined sets) (cut_from-nil k one two left choices) ∙ joined-test (eqb (one + two + left + choices) 0) sets
-
 -- a kind without tiles, where nothing is carried
 pub IsPartWay-skip : (counts : List ℕ) (wanted all k : ℕ) (sets : List Block) (one two left choices : ℕ) → k < length counts → wanted ≤ 4 → get_or counts k 0 ≡ 0 → one ≡ 0 → two ≡ 0 → IsPartWay counts wanted all k sets one two left choices → IsPartWay counts wanted all (k + 1) sets one two left choices
 IsPartWay-skip counts wanted all k sets one two left choices in_range small none e f h =
@@ -97,3 +97,60 @@ IsPartWay-skip counts wanted all k sets one two left choices in_range small none
           ∙ ap (λ b. joined sets (cut_from (k + 1) (drop (k + 1) counts) one b (left - (0 + 0)) choices)) (e ∙ sym f)
           ∙ ap (λ d. joined sets (cut_from (k + 1) (drop (k + 1) counts) one two d choices)) same;
     }
+
+pub IsPartWay-none : (counts : List ℕ) (wanted all : ℕ) → IsPartWay counts wanted all 0 [] 0 0 wanted all
+IsPartWay-none counts wanted all =
+    let o = cut_from 0 counts 0 0 wanted all in
+    record { room = omega arith; few = (omega arith, omega arith); rest = sym (joined-none o) }
+
+-- some kinds without tiles, where nothing is carried
+pass : (counts : List ℕ) (wanted all from : ℕ) (more : ℕ) (sets : List Block) (left choices : ℕ) → from + more ≤ length counts → wanted ≤ 4 → ((kind : ℕ) → from ≤ kind → kind < from + more → get_or counts kind 0 ≡ 0) → IsPartWay counts wanted all from sets 0 0 left choices → IsPartWay counts wanted all (from + more) sets 0 0 left choices
+pass counts wanted all from zero sets left choices in_range small none h =
+    let same : from ≡ from + 0 = omega arith in
+    subst (λ (k : ℕ). IsPartWay counts wanted all k sets 0 0 left choices) same h
+pass counts wanted all from (suc more) sets left choices in_range small none h =
+    let before = pass counts wanted all from more sets left choices (omega arith) small (λ kind a b. none kind a (omega arith)) h in
+    let one = IsPartWay-skip counts wanted all (from + more) sets 0 0 left choices (omega arith) small (none (from + more) (omega arith) (omega arith)) refl refl before in
+    let next : from + more + 1 ≡ from + suc more = omega arith in
+    subst (λ (k : ℕ). IsPartWay counts wanted all k sets 0 0 left choices) next one
+
+pub IsPartWay-pass : (counts : List ℕ) (wanted all from to : ℕ) (sets : List Block) (one two left choices : ℕ) → from ≤ to → to ≤ length counts → wanted ≤ 4 → one ≡ 0 → two ≡ 0 → ((kind : ℕ) → from ≤ kind → kind < to → get_or counts kind 0 ≡ 0) → IsPartWay counts wanted all from sets one two left choices → IsPartWay counts wanted all to sets one two left choices
+IsPartWay-pass counts wanted all from to sets one two left choices before in_range small e f none h =
+    let there : from + (to - from) ≡ to = omega arith in
+    let begun' : IsPartWay counts wanted all from sets 0 0 left choices = subst (λ (b : ℕ). IsPartWay counts wanted all from sets 0 b left choices) f (subst (λ (a : ℕ). IsPartWay counts wanted all from sets a two left choices) e h) in
+    let passed = pass counts wanted all from (to - from) sets left choices (omega arith) small (λ kind a b. none kind a (omega arith)) begun' in
+    subst (λ (k : ℕ). IsPartWay counts wanted all k sets one two left choices) there
+    (subst (λ (a : ℕ). IsPartWay counts wanted all (from + (to - from)) sets a two left choices) (sym e)
+    (subst (λ (b : ℕ). IsPartWay counts wanted all (from + (to - from)) sets 0 b left choices) (sym f) passed))
+
+no-choice : (k : ℕ) (in_doubt : Bool) (below left choices : ℕ) → 0 < below → choice_of k 0 in_doubt below left choices ≡ None
+no-choice k in_doubt below left choices h = grind (arith, nat_tests)
+
+idle-choice : (k : ℕ) (in_doubt : Bool) (below left choices : ℕ) → below ≡ 0 → choice_of k 0 in_doubt below left choices ≡ Some (record { triplets = 0; runs = 0; choices = choices })
+idle-choice k in_doubt below left choices h = grind (arith, nat_tests)
+
+not-none : (n : ℕ) → 0 < n → eqb n 0 ≡ false
+not-none n h = grind (arith, nat_tests)
+
+-- kinds without tiles begin no sets
+cut_from-empty : (ns : List ℕ) (k one two left choices : ℕ) → ((i : ℕ) → get_or ns i 0 ≡ 0) → cut_from k ns one two left choices ≡ cond (eqb (one + two + left + choices) 0) (Some []) None
+cut_from-empty [] k one two left choices none = cut_from-nil k one two left choices
+cut_from-empty (n ∷ ns) k one two left choices none =
+    let first : n ≡ 0 = none 0 in
+    elim (cases_eq (one + two) 0) [
+      | inl e ↦
+          let c : Choice = record { triplets = 0; runs = 0; choices = choices } in
+          let is : choice_of k n (may_have_runs ns) (one + two) left choices ≡ Some c = ap (λ m. choice_of k m (may_have_runs ns) (one + two) left choices) first ∙ idle-choice k (may_have_runs ns) (one + two) left choices e in
+          let rest = cut_from-empty ns (k + 1) 0 one (left - (0 + 0)) choices (λ i. none (suc i)) in
+          let same : 0 + one + (left - (0 + 0)) + choices ≡ one + two + left + choices = omega arith in
+          cut_from-cons k n ns one two left choices (Some c) is ∙ ap (joined []) rest ∙ joined-test (eqb (0 + one + (left - (0 + 0)) + choices) 0) [] ∙ ap (λ m. cond (eqb m 0) (Some []) None) same
+      | inr some ↦
+          let is : choice_of k n (may_have_runs ns) (one + two) left choices ≡ None = ap (λ m. choice_of k m (may_have_runs ns) (one + two) left choices) first ∙ no-choice k (may_have_runs ns) (one + two) left choices (omega arith) in
+          cut_from-cons k n ns one two left choices None is ∙ sym (ap (λ b. cond b (Some []) None) (not-none (one + two + left + choices) (omega arith)))
+    ]
+
+-- no kind from one on is held
+pub cut_from-rest : (counts : List ℕ) (wanted all k : ℕ) (sets : List Block) (one two left choices : ℕ) → ((kind : ℕ) → k ≤ kind → get_or counts kind 0 ≡ 0) → IsPartWay counts wanted all k sets one two left choices → cut_from 0 counts 0 0 wanted all ≡ cond (eqb (one + two + left + choices) 0) (Some sets) None
+cut_from-rest counts wanted all k sets one two left choices none h =
+    let empty = cut_from-empty (drop k counts) k one two left choices (λ i. get_or-drop k counts i 0 ∙ none (k + i) (omega arith)) in
+    h.rest ∙ ap (joined sets) empty ∙ joined-test (eqb (one + two + left + choices) 0) sets

@@ -1,10 +1,11 @@
 -- One step along the choices, and along the pairs.
-use Rattle.std.proofs.Common.{length-drop, ◌≤◌, ◌&&◌, leb, length, drop, add-one, ◌+◌, is_some, MatchOption, ◌≡◌, ℕ, suc, ◌-◌, ◌<◌, Bool, true, false, cond, Option, Some, None, List, [], ◌∷◌, ◌++◌, get_or, slice_set, refl, sym, ap, ◌∙◌, arith, ltb, zero}
+use Rattle.std.proofs.Common.{inl, inr, min, ◌^◌, length-drop, ◌≤◌, ◌&&◌, leb, length, drop, add-one, ◌+◌, is_some, MatchOption, ◌≡◌, ℕ, suc, ◌-◌, ◌<◌, Bool, true, false, cond, Option, Some, None, List, [], ◌∷◌, ◌++◌, get_or, slice_set, refl, sym, ap, ◌∙◌, arith, ltb, zero}
 use Rattle.std.proofs.lemmas.Bool.Decides.{nat_tests}
 use Rattle.std.proofs.Math.Seq.{drop-cons}
 use Rattle.std.proofs.Math.ListN.{drop_of_length-le}
 use Rattle.riichi_tiles.specs.declared.block.Block.{Block}
-use Rattle.riichi_split.proofs.Sound.{doubts-cons, doubts-nil}
+use Rattle.riichi_split.proofs.Sound.{doubts-cons, doubts-nil, few_choices}
+use Rattle.std.proofs.lemmas.Bool.{cases_lt}
 use Rattle.riichi_split.specs.Cuts.{doubts, may_have_runs, sets_beside, split_of, from_choices, from_pairs, cut_from}
 
 choices-suc : (c : List ℕ) (wanted p x n : ℕ) (o : Option (List Block)) → n ≡ suc x → o ≡ sets_beside c wanted p x → from_choices c wanted p n ≡ split_of p o ++ from_choices c wanted p x
@@ -72,3 +73,47 @@ doubts-last c k l = short-doubts (drop k c) (omega (arith, length-drop k c))
 
 pub doubts-end : (c : List ℕ) (k : ℕ) → length c ≤ k → doubts (drop k c) ≡ 0
 doubts-end c k l = ap doubts (drop_of_length-le c l) ∙ doubts-nil
+
+-- ---- the choices beside a pair
+
+beside-some : (b : Bool) (o : Option (List Block)) (bs : List Block) → cond b None o ≡ Some bs → o ≡ Some bs
+beside-some true o bs e = absurd (cc)
+beside-some false o bs e = e
+
+-- a number too great for the kinds in doubt makes no sets
+no-sets : (c : List ℕ) (wanted p x : ℕ) (o : Option (List Block)) → sets_beside c wanted p x ≡ o → 2 ^ doubts (slice_set c p (get_or c p 0 - 2)) ≤ x → o ≡ None
+no-sets c wanted p x None e many = refl
+no-sets c wanted p x (Some bs) e many =
+    let rest = slice_set c p (get_or c p 0 - 2) in
+    let few = few_choices rest 0 0 0 wanted x bs (beside-some (ltb (get_or c p 0) 2) (cut_from 0 rest 0 0 wanted x) bs e) in
+    absurd (omega (arith, few, many))
+
+passed : (c : List ℕ) (wanted p fewer more : ℕ) → ((x : ℕ) → fewer ≤ x → x < fewer + more → sets_beside c wanted p x ≡ None) → from_choices c wanted p (fewer + more) ≡ from_choices c wanted p fewer
+passed c wanted p fewer zero none = ap (from_choices c wanted p) (let same : fewer + 0 ≡ fewer = omega arith in same)
+passed c wanted p fewer (suc more) none =
+    let before : fewer + suc more - 1 ≡ fewer + more = omega arith in
+    let no = none (fewer + more) (omega arith) (omega arith) in
+    from_choices-step c wanted p (fewer + suc more) None (omega arith) (sym (ap (sets_beside c wanted p) before ∙ no))
+    ∙ ap (from_choices c wanted p) before
+    ∙ passed c wanted p fewer more (λ x a b. none x a (omega arith))
+
+enough : (d n choices x : ℕ) → choices ≤ 16 → n ≡ min (2 ^ min 4 d) choices → n ≤ x → x < choices → 2 ^ d ≤ x
+enough d n choices x small e least below =
+    elim (cases_lt 4 d) [
+      | inl many ↦
+          let four : min 4 d ≡ 4 = omega arith in
+          let all : 2 ^ min 4 d ≡ 16 = ap (λ k. 2 ^ k) four in
+          absurd (omega (arith, e, all))
+      | inr few ↦
+          let own : min 4 d ≡ d = omega arith in
+          let same : 2 ^ min 4 d ≡ 2 ^ d = ap (λ k. 2 ^ k) own in
+          omega (arith, e, same)
+    ]
+
+pub choices-with : (c : List ℕ) (wanted p n choices : ℕ) → choices ≤ 16 → n ≡ min (2 ^ min 4 (doubts (slice_set c p (get_or c p 0 - 2)))) choices → from_choices c wanted p n ≡ from_choices c wanted p choices
+choices-with c wanted p n choices small e =
+    let d = doubts (slice_set c p (get_or c p 0 - 2)) in
+    let fewer : n ≤ choices = omega (arith, e) in
+    let whole : n + (choices - n) ≡ choices = omega (arith, fewer) in
+    sym (passed c wanted p n (choices - n) (λ x a b. no-sets c wanted p x (sets_beside c wanted p x) refl (enough d n choices x small e a (omega (arith, b, whole)))))
+    ∙ ap (from_choices c wanted p) whole

@@ -1,13 +1,14 @@
 -- The numbers of a set's tiles add up to a multiple of three, so the sum of all numbers tells the pair's kind by three.
-use Rattle.std.proofs.Common.{◌≡◌, ℕ, zero, suc, ◌+◌, ◌-◌, ◌*◌, ◌%◌, ◌<◌, cond, add-one, Option, Some, None, List, [], ◌∷◌, ◌++◌, length, length-set, get_or, set, refl, ap, ◌∙◌, arith, eqb, ltb}
+use Rattle.std.proofs.Common.{◌≡◌, ◌≤◌, ℕ, sym, zero, suc, ◌+◌, ◌-◌, ◌*◌, ◌%◌, ◌<◌, cond, add-one, Option, Some, None, List, [], ◌∷◌, ◌++◌, length, length-set, get_or, set, refl, ap, ◌∙◌, arith, eqb, ltb}
 use Rattle.std.specs.List.{AllByRecursion}
 use Rattle.std.proofs.lemmas.Bool.Decides.{nat_tests}
 use Rattle.riichi_tiles.specs.declared.block.Block.{Block}
 use Rattle.riichi_tiles.specs.declared.block.Block.TheVariants.{Run, Triplet, Pair}
 use Rattle.riichi_tiles.specs.Blocks.{copies, total, IsSet}
-use Rattle.riichi_split.specs.Cuts.{thirds, third_of_pair, sets_beside, split_of, from_choices}
+use Rattle.riichi_split.specs.Cuts.{thirds, third_of_pair, sets_beside, split_of, from_choices, from_pairs}
 use Rattle.riichi_split.proofs.Sound.{IsCut-from, same-total}
 use Rattle.riichi_split.proofs.AllSplits.{beside-inv, uncarried, without}
+use Rattle.riichi_split.proofs.SplitSteps.{from_pairs-step}
 
 pub thirds-zero : (f : ℕ → ℕ) → thirds f 0 ≡ 0
 unfolding thirds
@@ -113,3 +114,21 @@ pub thirds-more : (c : List ℕ) (n sum a b : ℕ) → sum ≡ thirds (λ k. get
 thirds-more c n sum a b e f g =
     let s : thirds (λ k. get_or c k 0) (n + 1) ≡ thirds (λ k. get_or c k 0) (suc n) = ap (thirds (λ k. get_or c k 0)) (add-one n) in
     omega (arith, s, thirds-suc (λ k. get_or c k 0) n, e, f, g)
+
+-- kinds that leave over another number make no pairs
+pub from_pairs-skip : (c : List ℕ) (wanted m first left more : ℕ) → length c ≡ 34 → first + (left + more) ≤ 34 → ((kind : ℕ) → left ≤ kind → kind < left + more → (first + kind) % 3 ≡ third_of_pair c → ⊥) → from_pairs c wanted m first (left + more) ≡ from_pairs c wanted m first left
+from_pairs-skip c wanted m first left zero long h wrong = ap (from_pairs c wanted m first) (let same : left + 0 ≡ left = omega arith in same)
+from_pairs-skip c wanted m first left (suc more) long h wrong =
+    let last = left + more in
+    let one : left + suc more ≡ suc last = omega arith in
+    let before : left + suc more - 1 ≡ last = omega arith in
+    let none : from_choices c wanted (first + last) m ≡ [] = wrong_pair c wanted (first + last) m long (omega arith) (wrong last (omega arith) (omega arith)) in
+    from_pairs-step c wanted m first (left + suc more) (omega arith)
+    ∙ ap (λ n. from_choices c wanted (first + n) m ++ from_pairs c wanted m first n) before
+    ∙ ap (λ z. z ++ from_pairs c wanted m first last) none
+    ∙ from_pairs-skip c wanted m first left more long (omega arith) (λ kind a b. wrong kind a (omega arith))
+
+pub from_pairs-passed : (c : List ℕ) (wanted m first left kinds : ℕ) → length c ≡ 34 → left ≤ kinds → first + kinds ≤ 34 → ((kind : ℕ) → left ≤ kind → kind < kinds → (first + kind) % 3 ≡ third_of_pair c → ⊥) → from_pairs c wanted m first kinds ≡ from_pairs c wanted m first left
+from_pairs-passed c wanted m first left kinds long fewer h wrong =
+    let whole : left + (kinds - left) ≡ kinds = omega arith in
+    ap (from_pairs c wanted m first) (sym whole) ∙ from_pairs-skip c wanted m first left (kinds - left) long (omega arith) (λ kind a b. wrong kind a (omega arith))

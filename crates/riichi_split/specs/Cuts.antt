@@ -86,9 +86,15 @@ doubts (held ∷ counts) = doubts counts + (if nat_le 3 held && may_have_runs co
 abbrev pub choices_beside : List ℕ → ℕ
 choices_beside counts = 2 ^ min 4 (doubts counts)
 
+-- no kind from `end` on is held
+pub record IsEnd (counts : List ℕ) (end : ℕ) : Type 0 where
+  pub within : end ≤ 34
+  pub none : (kind : ℕ) → end ≤ kind → slice_index counts kind ≡ 0
+
 -- what the fields of `Splits` keep
-pub record IsReady (counts : List ℕ) (wanted choices choices_left first pairs_left third : ℕ) : Type 0 where
+pub record IsReady (counts : List ℕ) (end wanted choices choices_left first pairs_left third : ℕ) : Type 0 where
   pub each_kind : length counts ≡ 34
+  pub end_is : IsEnd counts end
   pub at_most_four : wanted ≤ 4
   pub choices_few : choices ≤ 16
   pub left_few : choices_left ≤ 16

@@ -1,6 +1,6 @@
 //! One way to cut tiles into sets, by a number that makes the choices.
-ghost use Rattle.std.specs.Prelude.{◌≡◌, ◌+◌, ◌<◌, ◌≤◌, ◌++◌, drop, length, replicate, slice_index};
-ghost use Rattle.riichi_split.specs.Cuts.{may_run, may_have_runs, begins, choice_of, begun, cut_from};
+ghost use Rattle.std.specs.Prelude.{◌≡◌, ℕ, ◌+◌, ◌<◌, ◌≤◌, ◌++◌, drop, length, replicate, slice_index};
+ghost use Rattle.riichi_split.specs.Cuts.{may_run, may_have_runs, begins, choice_of, begun, cut_from, IsEnd};
 
 use crate::sets::Sets;
 use riichi_tiles::{Block, Kind};
@@ -16,7 +16,7 @@ pub(crate) struct Choice {
 fn may_begin_run(kind: usize) -> bool
     ensures { result ≡ may_run kind }
 {
-    kind < 27 && kind % 9 < 7
+    kind < 7 || kind >= 9 && kind < 16 || kind >= 18 && kind < 25
 }
 
 /// So many sets, where that many are wanted and runs may begin at the kind.
@@ -89,23 +89,41 @@ fn begin(sets: &mut Sets, kind: Kind, choice: Choice)
     }
 }
 
-/// The sets that use up the counts, as the choices say.
-pub(crate) fn cut(counts: &[u8; 34], wanted: usize, choices: usize) -> Option<Sets>
-    requires { wanted ≤ 4 }
+/// The first kind from one on that is held, or `end`.
+fn next_held(counts: &[u8; 34], from: usize, end: usize) -> usize
+    requires within { from ≤ end }
+    requires kinds { end ≤ 34 }
+    ensures from { from ≤ result }
+    ensures end { result ≤ end }
+    ensures none { (kind : ℕ) → from ≤ kind → kind < result → slice_index counts.now kind ≡ 0 }
+{
+    let mut kind = from;
+    while kind < end && counts[kind] == 0 {
+        kind += 1;
+    }
+    kind
+}
+
+/// The sets that use up the counts, as the choices say. No kind from `end` on is held.
+pub(crate) fn cut(counts: &[u8; 34], end: usize, wanted: usize, choices: usize) -> Option<Sets>
+    requires wanted { wanted ≤ 4 }
+    requires end { IsEnd counts.now end }
     ensures { result ≡ cut_from 0 counts.now 0 0 wanted choices }
 {
     let mut sets = Sets::new();
     let (mut one, mut two, mut left, mut choices) = (0, 0, wanted, choices);
-    for (index, count) in counts.iter().enumerate() {
-        if *count == 0 && one == 0 && two == 0 {
-            continue;
-        }
+    let mut index = next_held(counts, 0, end);
+    while index < end {
         let choice = choose(counts, index, one + two, left, choices)?;
         begin(&mut sets, Kind::at(index as u8), choice);
         two = one;
         one = choice.runs;
         left -= choice.triplets + choice.runs;
         choices = choice.choices;
+        index += 1;
+        if one == 0 && two == 0 {
+            index = next_held(counts, index, end);
+        }
     }
     if one == 0 && two == 0 && left == 0 && choices == 0 {
         Some(sets)

@@ -1,6 +1,6 @@
-ghost use Rattle.std.specs.Prelude.{◌≡◌, ℕ, ◌+◌, ◌<◌, ◌≤◌, MatchOption, ◌&&◌, nat_le, [], ◌∷◌, ◌++◌, drop, length, slice_index};
+ghost use Rattle.std.specs.Prelude.{◌≡◌, ◌≢◌, ℕ, ◌+◌, ◌%◌, ◌<◌, ◌≤◌, MatchOption, ◌&&◌, nat_le, [], ◌∷◌, ◌++◌, drop, length, slice_index};
 ghost use Rattle.std.specs.Iterator.{YieldsFirst, item_count};
-ghost use Rattle.riichi_split.specs.Cuts.{may_have_runs, sets_beside, from_choices, from_pairs, choices_beside, third_of_pair};
+ghost use Rattle.riichi_split.specs.Cuts.{may_have_runs, sets_beside, from_choices, from_pairs, choices_beside, third_of_pair, IsEnd};
 
 use crate::cutting::cut;
 use crate::sets::Sets;
@@ -14,6 +14,8 @@ use std::marker::Model;
 #[derive(Drop)]
 pub(crate) struct Splits {
     counts: [u8; 34],
+    // No kind from `end` on is held.
+    end: usize,
     wanted: usize,
     // So many numbers make the choices beside any pair.
     choices: usize,
@@ -38,7 +40,7 @@ impl Model for Splits {
 
     ghost view = { splits_left };
 
-    ghost invariant = { λ s. IsReady s.counts s.wanted s.choices s.choices_left s.first s.pairs_left s.third };
+    ghost invariant = { λ s. IsReady s.counts s.end s.wanted s.choices s.choices_left s.first s.pairs_left s.third };
 }
 
 impl Splits {
@@ -55,6 +57,7 @@ impl Splits {
         let suit = rests.suit_of_pair();
         Splits {
             counts,
+            end: end_of(&counts),
             wanted: 4 - melds,
             choices: choices_of(&counts),
             pair: Kind::at(0),
@@ -75,7 +78,13 @@ impl Iterator for Splits {
 
     fn next(&mut self) -> Option<Split> {
         loop {
-            let sets = next_sets(&self.counts, self.wanted, self.pair, &mut self.choices_left);
+            let sets = next_sets(
+                &self.counts,
+                self.end,
+                self.wanted,
+                self.pair,
+                &mut self.choices_left,
+            );
             if let Some(sets) = sets {
                 return Some(Split {
                     sets,
@@ -83,12 +92,23 @@ impl Iterator for Splits {
                 });
             }
             self.pair = next_fitting(&self.counts, self.first, self.third, &mut self.pairs_left)?;
-            self.choices_left = self.choices;
+            self.choices_left = choices_with(&self.counts, self.pair, self.choices);
         }
     }
 }
 
 impl FusedIterator for Splits {}
+
+/// One past the highest kind that is held.
+fn end_of(counts: &[u8; 34]) -> usize
+    ensures { IsEnd counts.now result }
+{
+    let mut end = 34;
+    while end > 0 && counts[end - 1] == 0 {
+        end -= 1;
+    }
+    end
+}
 
 fn is_in_doubt(counts: &[u8; 34], kind: usize) -> bool
     requires { kind < 32 }
@@ -115,9 +135,31 @@ fn choices_of(counts: &[u8; 34]) -> usize
     1 << doubts.min(4)
 }
 
+/// How many of so many numbers are left for the choices, where the pair's tiles are taken away.
+fn choices_with(counts: &[u8; 34], pair: Kind, choices: usize) -> usize
+    requires { choices ≤ 16 }
+    ensures fewer { result ≤ choices }
+    ensures splits { (wanted : ℕ) → from_choices counts.now wanted pair result ≡ from_choices counts.now wanted pair choices }
+{
+    // In most hands no kind is in doubt.
+    if choices <= 1 {
+        return choices;
+    }
+    let mut rest = *counts;
+    rest[pair.index()] = counts[pair.index()].saturating_sub(2);
+    choices_of(&rest).min(choices)
+}
+
 /// The sets that some choices leave beside a pair.
-fn sets_beside(counts: &[u8; 34], wanted: usize, pair: Kind, choices: usize) -> Option<Sets>
+fn sets_beside(
+    counts: &[u8; 34],
+    end: usize,
+    wanted: usize,
+    pair: Kind,
+    choices: usize,
+) -> Option<Sets>
     requires wanted { wanted ≤ 4 }
+    requires end { IsEnd counts.now end }
     ensures { result ≡ sets_beside counts.now wanted pair choices }
 {
     let pair = pair.index();
@@ -126,12 +168,19 @@ fn sets_beside(counts: &[u8; 34], wanted: usize, pair: Kind, choices: usize) -> 
     }
     let mut rest = *counts;
     rest[pair] -= 2;
-    cut(&rest, wanted, choices)
+    cut(&rest, end, wanted, choices)
 }
 
 /// The next sets beside a pair, of the choices below a number.
-fn next_sets(counts: &[u8; 34], wanted: usize, pair: Kind, choices: &mut usize) -> Option<Sets>
-    requires { wanted ≤ 4 }
+fn next_sets(
+    counts: &[u8; 34],
+    end: usize,
+    wanted: usize,
+    pair: Kind,
+    choices: &mut usize,
+) -> Option<Sets>
+    requires wanted { wanted ≤ 4 }
+    requires end { IsEnd counts.now end }
     ensures fewer { choices.new ≤ choices.old }
     ensures sets { MatchOption result
         ((from_choices counts.now wanted pair choices.old ≡ []) × (choices.new ≡ 0))
@@ -140,7 +189,7 @@ fn next_sets(counts: &[u8; 34], wanted: usize, pair: Kind, choices: &mut usize) 
 {
     while *choices > 0 {
         *choices -= 1;
-        let sets = sets_beside(counts, wanted, pair, *choices);
+        let sets = sets_beside(counts, end, wanted, pair, *choices);
         if sets.is_some() {
             return sets;
         }
@@ -159,25 +208,18 @@ fn third_of_pair(counts: &[u8; 34]) -> usize
     2 * sum % 3
 }
 
-/// The next kind of two tiles or more, of so many kinds from the first on.
-fn next_pair(counts: &[u8; 34], first: usize, kinds: &mut usize) -> Option<Kind>
-    requires { first + kinds.old ≤ 34 }
-    ensures fewer { MatchOption result (kinds.new ≡ 0) (λ _. kinds.new < kinds.old) }
-    ensures splits { (wanted choices : ℕ) → MatchOption result
-        (from_pairs counts.now wanted choices first kinds.old ≡ [])
-        (λ pair. from_pairs counts.now wanted choices first kinds.old
-        ≡ from_choices counts.now wanted pair choices ++ from_pairs counts.now wanted choices first kinds.new) }
+/// How many of so many kinds from the first on are left without the last ones that leave over another number by three.
+fn fitting(first: usize, third: usize, kinds: usize) -> usize
+    requires within { first + kinds ≤ 34 }
+    requires third { third < 3 }
+    ensures fewer { result ≤ kinds }
+    ensures fits { 0 < result → (first + result + 2) % 3 ≡ third }
+    ensures others { (kind : ℕ) → result ≤ kind → kind < kinds → (first + kind) % 3 ≢ third }
 {
-    while *kinds > 0 {
-        *kinds -= 1;
-        if counts[first + *kinds] >= 2 {
-            return Some(Kind::at((first + *kinds) as u8));
-        }
-    }
-    None
+    kinds.saturating_sub((first + kinds + 2 - third) % 3)
 }
 
-/// The next of them whose number leaves over so much by three.
+/// The next kind of two tiles or more, of so many kinds from the first on, whose number leaves over so much by three.
 fn next_fitting(counts: &[u8; 34], first: usize, third: usize, kinds: &mut usize) -> Option<Kind>
     requires within { first + kinds.old ≤ 34 }
     requires third { third ≡ third_of_pair counts.now }
@@ -187,10 +229,14 @@ fn next_fitting(counts: &[u8; 34], first: usize, third: usize, kinds: &mut usize
         (λ pair. from_pairs counts.now wanted choices first kinds.old
         ≡ from_choices counts.now wanted pair choices ++ from_pairs counts.now wanted choices first kinds.new) }
 {
-    while let Some(pair) = next_pair(counts, first, kinds) {
-        if pair.index() % 3 == third {
-            return Some(pair);
+    *kinds = fitting(first, third, *kinds);
+    while *kinds > 0 {
+        let number = first + *kinds - 1;
+        if counts[number] >= 2 {
+            *kinds -= 1;
+            return Some(Kind::at(number as u8));
         }
+        *kinds = kinds.saturating_sub(3);
     }
     None
 }

@@ -3,4 +3,4 @@ pub mod Sums
 pub mod Flags
 pub mod Sets
 pub mod Words
-pub mod NoTriplets
+pub mod FewBlocks

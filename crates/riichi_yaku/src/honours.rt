@@ -86,7 +86,7 @@ fn is_last_dragon(blocks: &Blocks, block: &HandBlock) -> bool
 fn is_little_three_dragons(blocks: &Blocks) -> bool
     ensures { result ≡ spec.is_little_three_dragons blocks.now }
 {
-    if blocks.triplets() == 0 {
+    if blocks.triplets() < 2 {
         return false;
     }
     blocks

@@ -34,8 +34,8 @@ fn begins_triple_pung(blocks: &Blocks, block: &HandBlock) -> bool
 fn is_triple_pung(blocks: &Blocks) -> bool
     ensures { result ≡ spec.is_triple_pung blocks.now }
 {
-    // Many readings have no triplet.
-    if blocks.triplets() == 0 {
+    // Most readings have fewer triplets.
+    if blocks.triplets() < 3 {
         return false;
     }
     blocks

@@ -92,7 +92,7 @@ fn is_big_three_dragons(blocks: &Blocks) -> bool
 fn is_little_four_winds(blocks: &Blocks) -> bool
     ensures { result ≡ spec.is_little_four_winds blocks.now }
 {
-    if blocks.triplets() == 0 {
+    if blocks.triplets() < 3 {
         return false;
     }
     blocks

@@ -1,7 +1,9 @@
-use Rattle.std.proofs.Common.{◌≡◌, sum_by}
-use Rattle.std.specs.List.{range_with_len}
-use Rattle.riichi_score.specs.Dora.{kind_dora}
+use Rattle.std.proofs.Common.{◌-◌}
+use Rattle.riichi_score.proofs.DoraSums.{IsShown}
 use Rattle.riichi_score.proofs.indicators.indicator_dora.Given as goal
 
-abbrev pub invariant-loop-number : goal.invariant-loop-number
-invariant-loop-number l = l.sum ≡ sum_by (kind_dora l.win) (range_with_len 0 l.number)
+abbrev pub invariant-loop-left : goal.invariant-loop-left
+invariant-loop-left l = IsShown l.win l.number l.sum l.left
+
+abbrev pub decreases-loop-left : goal.decreases-loop-left
+decreases-loop-left l = 34 - l.number

@@ -1,0 +1,128 @@
+//! What a reading is worth, without what is paid for it.
+ghost use Rattle.std.specs.Prelude.{◌≡◌, ◌≤◌};
+ghost use Rattle.riichi_blocks.specs.Held.{all_tiles};
+ghost use Rattle.riichi_score.specs.Best as best_spec;
+ghost use Rattle.riichi_score.specs.Dora.{dora_of};
+ghost use Rattle.riichi_score.specs.Fu.{HasFourSets};
+ghost use Rattle.riichi_score.specs.Scores.{score_of};
+ghost use Rattle.riichi_score.specs.Worths as spec;
+
+use crate::points::fu_among;
+use crate::score::Score;
+use crate::{base_points, gain, han, payment};
+use riichi_blocks::{AllTiles, blocks_of};
+use riichi_hand::WinRecord;
+use riichi_split::Reading;
+use riichi_yaku::{YakuSet, yaku_among};
+
+/// A score without what is paid for it, which the win and the base points tell.
+#[derive(Clone, Copy)]
+pub(crate) struct Worth {
+    pub han: u8,
+    pub fu: u8,
+    pub base: u32,
+    pub yaku: YakuSet,
+    pub dora: u8,
+}
+
+impl Worth {
+    pub(crate) fn is_above(&self, other: &Worth) -> bool
+        ensures { result ≡ best_spec.is_above (spec.rank_of self.now) (spec.rank_of other.now) }
+    {
+        if self.base != other.base {
+            return self.base > other.base;
+        }
+        let (above, below) = (self.yaku.is_yakuman(), other.yaku.is_yakuman());
+        if above != below {
+            return above;
+        }
+        if self.han != other.han {
+            return self.han > other.han;
+        }
+        if self.fu != other.fu {
+            return self.fu > other.fu;
+        }
+        self.yaku.bits() > other.yaku.bits()
+    }
+
+    /// The whole score.
+    pub(crate) fn score(self, win: &WinRecord) -> Score
+        requires { self.base ≤ 8000 }
+        ensures { result ≡ spec.score_with self win.now }
+    {
+        let payment = payment(self.base, win);
+        let gain = gain(&payment, win.sticks());
+        Score {
+            han: self.han,
+            fu: self.fu,
+            base: self.base,
+            yaku: self.yaku,
+            dora: self.dora,
+            payment,
+            gain,
+        }
+    }
+}
+
+/// What a reading is worth, if it has a yaku. All tiles and the dora are those of the win.
+#[tactic(auto, unfolding(crate::specs::Scores::score_of))]
+pub(crate) fn worth_of(
+    reading: &Reading,
+    tiles: &AllTiles,
+    win: &WinRecord,
+    dora: u8,
+) -> Option<Worth>
+    requires sets { HasFourSets reading.now win.now }
+    requires tiles { tiles.now ≡ all_tiles win.now }
+    requires dora { dora ≡ dora_of win.now }
+    requires most { dora ≤ 52 }
+    ensures value { spec.score_if result win.now ≡ score_of reading.now win.now }
+    ensures most { spec.base_if result ≤ 8000 }
+{
+    let blocks = blocks_of(reading, win);
+    let yaku = yaku_among(&blocks, reading, tiles, win);
+    valued(yaku, fu_among(&blocks, reading, win), dora, win)
+}
+
+fn valued(yaku: YakuSet, fu: u8, dora: u8, win: &WinRecord) -> Option<Worth>
+    requires { dora ≤ 52 }
+    ensures value { result ≡ spec.worth_if yaku fu dora win.now }
+    ensures most { spec.base_if result ≤ 8000 }
+{
+    if yaku.is_empty() {
+        None
+    } else if yaku.is_yakuman() {
+        Some(limit(yaku))
+    } else {
+        Some(counted(yaku, fu, dora, win))
+    }
+}
+
+/// A yakuman, one or several.
+fn limit(yaku: YakuSet) -> Worth
+    ensures { result ≡ spec.limit_worth yaku }
+{
+    Worth {
+        han: 0,
+        fu: 0,
+        base: 8000,
+        yaku,
+        dora: 0,
+    }
+}
+
+/// A counted hand.
+fn counted(yaku: YakuSet, fu: u8, dora: u8, win: &WinRecord) -> Worth
+    requires { dora ≤ 52 }
+    ensures value { result ≡ spec.counted_worth yaku fu dora win.now }
+    ensures most { result.base ≤ 8000 }
+{
+    let han = han(yaku, win.melds().concealed(), dora);
+    Worth {
+        han,
+        fu,
+        base: base_points(win.rules(), han, fu),
+        yaku,
+        dora,
+    }
+}
