@@ -103,6 +103,10 @@ same_open counts caps bit x one plain = record {
 
 -- ---- one rank more
 
+-- the same first count and cap
+pub here : (n m limit cap : ℕ) (cs ks : List ℕ) (x : table.Open) → n ≡ m → limit ≡ cap → LeastOpen (n ∷ cs) (limit ∷ ks) x → LeastOpen (m ∷ cs) (cap ∷ ks) x
+here n m limit cap cs ks x same low least = subst (λ (k : ℕ). LeastOpen (m ∷ cs) (k ∷ ks) x) low (subst (λ (k : ℕ). LeastOpen (k ∷ cs) (limit ∷ ks) x) same least)
+
 pub in_front : (xs : List ℕ) (k : ℕ) → k < length xs → drop k xs ≡ get_or xs k 0 ∷ drop (k + 1) xs
 in_front xs k inside = (let next : suc k ≡ k + 1 = omega arith in drop-cons xs k 0 inside ∙ ap (λ (n : ℕ). get_or xs k 0 ∷ drop n xs) next)
 

@@ -128,7 +128,7 @@ impl Open {
 
     /// The same for a rank of which the hand has one tile at most, and a choice may hold four.
     #[inline(always)]
-    fn before_few(&self, have: u8, bit: u8) -> Open
+    pub fn before_few(&self, have: u8, bit: u8) -> Open
         requires { have ≤ 1 }
         ensures others { (other : ℕ) (counts caps : List ℕ) → bit_and bit other ≡ 0 → table.FewOpen (open_seen 0 self.now) → table.LeastOpen counts caps (open_seen other self.now) → table.LeastOpen (have ∷ counts) (4 ∷ caps) (open_seen other result) }
         ensures own { (counts caps : List ℕ) → 0 < bit → table.FewOpen (open_seen 0 self.now) → table.SameOpen (open_seen bit self.now) (open_seen 0 self.now) → table.LeastOpen counts caps (open_seen 0 self.now) → table.LeastOpen ((have + 1) ∷ counts) (4 ∷ caps) (open_seen bit result) }

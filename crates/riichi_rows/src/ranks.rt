@@ -1,5 +1,5 @@
 //! A row in one pass over the nine ranks of a suit.
-ghost use Rattle.std.specs.Prelude.{ℕ, ◌≡◌, ◌+◌, ◌-◌, ◌^◌, ◌<◌, ◌≤◌, slice_index, false, true};
+ghost use Rattle.std.specs.Prelude.{ℕ, List, ◌≡◌, ◌+◌, ◌-◌, ◌^◌, ◌<◌, ◌≤◌, length, slice_index, false, true};
 ghost use Rattle.riichi_rows.specs.Marks.{IsMarkedRow};
 ghost use Rattle.riichi_rows.specs.Ranks.{AreRanks, AreRanksWithoutRuns, AreSuitLanes};
 
@@ -30,12 +30,41 @@ fn with_one(have: u8) -> u8
 /// The last two ranks of a suit that has runs. No run begins there: apart from a loop, their steps
 /// are a third as long.
 #[inline(always)]
-pub(crate) fn last_two_ranks(counts: &[u8; 9], caps: &[u8; 9]) -> Open
+fn last_two(counts: &[u8; 9], caps: &[u8; 9]) -> Open
     requires { (r : ℕ) → r < 9 → slice_index caps.now r ≤ 4 }
     ensures { AreRanks 7 counts.now caps.now result }
 {
     let last = Open::closed().before(counts[8], caps[8], bit_of(8));
     last.before(counts[7], caps[7], bit_of(7))
+}
+
+/// The same where the hand has so many of the two ranks, one of each at most, and a choice may hold
+/// four.
+#[inline(always)]
+fn last_two_few(next_to_last: u8, last: u8) -> Open
+    requires next { next_to_last ≤ 1 }
+    requires last { last ≤ 1 }
+    ensures { (counts caps : List ℕ) → length counts ≡ 9 → length caps ≡ 9 → ((r : ℕ) → r < 9 → slice_index caps r ≤ 4) → slice_index counts 7 ≡ next_to_last → slice_index counts 8 ≡ last → slice_index caps 7 ≡ 4 → slice_index caps 8 ≡ 4 → AreRanks 7 counts caps result }
+{
+    let after = Open::closed().before_few(last, bit_of(8));
+    after.before_few(next_to_last, bit_of(7))
+}
+
+/// The last two ranks, of which most hands have one tile each at most.
+pub(crate) fn last_two_ranks(counts: &[u8; 9], caps: &[u8; 9]) -> Open
+    requires { (r : ℕ) → r < 9 → slice_index caps.now r ≤ 4 }
+    ensures { AreRanks 7 counts.now caps.now result }
+{
+    if caps[7] < 4 || caps[8] < 4 {
+        return last_two(counts, caps);
+    }
+    match (counts[7], counts[8]) {
+        (0, 0) => last_two_few(0, 0),
+        (0, 1) => last_two_few(0, 1),
+        (1, 0) => last_two_few(1, 0),
+        (1, 1) => last_two_few(1, 1),
+        _ => last_two(counts, caps),
+    }
 }
 
 /// All ranks but the first two, out of the tables after a rank.

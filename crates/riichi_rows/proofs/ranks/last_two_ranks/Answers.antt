@@ -1,13 +1,22 @@
 use Rattle.std.proofs.Common.{arith}
-use Rattle.riichi_rows.specs.Ranks.{AreRanks}
-use Rattle.riichi_rows.proofs.MarkedRanks.{next_open, nothing_left}
 use Rattle.riichi_rows.proofs.ranks.last_two_ranks.Goals as goal
 
-pub returns : goal.returns
-returns c =
-    let counts = c.args.counts.now in
-    let caps = c.args.caps.now in
-    let closed : AreRanks 9 counts caps c.closed.result = nothing_left counts caps (omega arith) (omega arith) c.closed.result c.closed.ensures in
-    let last : AreRanks 8 counts caps c.before-last.result =
-    next_open counts caps (omega arith) (omega arith) c.requires 8 (omega arith) (omega arith) _ c.bit_of.ensures c.closed.result c.before-last.result c.before-last.ensures.others c.before-last.ensures.own closed in
-    next_open counts caps (omega arith) (omega arith) c.requires 7 (omega arith) (omega arith) _ c.bit_of-2.ensures c.before-last.result c.before-2.result c.before-2.ensures.others c.before-2.ensures.own last
+pub returns-in-0-eq0 : goal.returns-in-0-eq0
+returns-in-0-eq0 c =
+    c.last_two_few.ensures c.args.counts.now c.args.caps.now (omega arith) (omega arith) c.requires c.in-0-eq0.is-0 c.in-0-eq0.is-1
+    (omega (arith, c.if-caps-lt4.false, c.requires 7 (omega arith))) (omega (arith, c.if-caps-lt4-2.false, c.requires 8 (omega arith)))
+
+pub returns-in-0-eq1 : goal.returns-in-0-eq1
+returns-in-0-eq1 c =
+    c.last_two_few-in-0-eq1.ensures c.args.counts.now c.args.caps.now (omega arith) (omega arith) c.requires c.in-0-eq1.is-0 c.in-0-eq1.is-1
+    (omega (arith, c.if-caps-lt4.false, c.requires 7 (omega arith))) (omega (arith, c.if-caps-lt4-2.false, c.requires 8 (omega arith)))
+
+pub returns-in-1-eq0 : goal.returns-in-1-eq0
+returns-in-1-eq0 c =
+    c.last_two_few-in-1-eq0.ensures c.args.counts.now c.args.caps.now (omega arith) (omega arith) c.requires c.in-1-eq0.is-0 c.in-1-eq0.is-1
+    (omega (arith, c.if-caps-lt4.false, c.requires 7 (omega arith))) (omega (arith, c.if-caps-lt4-2.false, c.requires 8 (omega arith)))
+
+pub returns-in-1-eq1 : goal.returns-in-1-eq1
+returns-in-1-eq1 c =
+    c.last_two_few-in-1-eq1.ensures c.args.counts.now c.args.caps.now (omega arith) (omega arith) c.requires c.in-1-eq1.is-0 c.in-1-eq1.is-1
+    (omega (arith, c.if-caps-lt4.false, c.requires 7 (omega arith))) (omega (arith, c.if-caps-lt4-2.false, c.requires 8 (omega arith)))
