@@ -40,7 +40,7 @@ pub use piece::Piece;
 pub use refusal::{CoreFault, RunBack, SubmitBack, SubmitFault};
 pub use reply::Reply;
 pub use taken::Taken;
-pub use text::answer_text;
+pub use text::{answer_text, push_answer};
 pub use ticket::Ticket;
 
 #[cfg(test)]

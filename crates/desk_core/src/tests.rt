@@ -1,7 +1,8 @@
 use crate::{
     Answer, Arrived, CoreFault, DeskCore, Event, LIMIT, Lane, Piece, Reply, RunBack, SubmitFault,
-    Taken, Ticket, answer_text, judge, judge_with, laws,
+    Taken, Ticket, answer_text, judge, judge_with, laws, push_answer,
 };
+use arrayvec::ArrayString;
 use riichi_hand::{
     By, Flags, HandRecord, Job, Rules, ShapeRecord, WinParts, WinRecord, Wind, read_line,
 };
@@ -127,6 +128,23 @@ fn answers_and_their_texts(rt: HostRuntime) {
     let shape = shape_job(b"123456789m1134p").map(|job| judge(&job));
     let text = "shanten 0 accepts 2p:4 5p:4 live 8";
     assert!(rt; matches!(shape, Some(answer) if answer_text(&answer).as_str() == text));
+}
+
+#[test]
+fn answers_behind_one_another(rt: HostRuntime) {
+    let mut text = ArrayString::new();
+    for job in [
+        shape_job(b"123456789m1134p"),
+        waits_job(b"1112345678999m"),
+        quick_job(),
+    ] {
+        if let Some(job) = job {
+            push_answer(&mut text, &judge(&job));
+            text.push(';');
+        }
+    }
+    let all = "shanten 0 accepts 2p:4 5p:4 live 8;waits 123456789m;no win;";
+    assert_eq!(rt; text.as_str(), all);
 }
 
 #[test]

@@ -15,7 +15,7 @@ use super::line_kind::LineKind;
 use super::outbox::Outbox;
 use riichi_hand::{HandRecord, Job, Rules, ShapeRecord, WinRecord, fault_text, read_line};
 use riichi_score::{best, win_text};
-use riichi_shape::{shape, shape_text};
+use riichi_shape::{push_shape, shape};
 use riichi_split::{waits, waits_text};
 
 /// Puts the answer to a line into the outbox, where it has one.
@@ -69,5 +69,7 @@ fn put_shape(tiles: &ShapeRecord, outbox: &mut Outbox)
     requires { HasRoom outbox.old }
     ensures { outbox.new.bytes.items ≡ outbox.old.bytes.items ++ (spec_shape.text_of (shape_of tiles.now) ++ 10 ∷ []) }
 {
-    outbox.put_line(shape_text(&shape(tiles)).as_str().as_bytes());
+    outbox.text.clear();
+    push_shape(&mut outbox.text, &shape(tiles));
+    outbox.put_text();
 }

@@ -3,7 +3,7 @@ ghost use Rattle.std.specs.Prelude.{◌≡◌, ◌+◌, ◌<◌, [], ◌∷◌, 
 ghost use Rattle.desk_lines.specs.Streams.{Writes};
 
 use super::fault::DeskFault;
-use arrayvec::ArrayVec;
+use arrayvec::{ArrayString, ArrayVec};
 use desk_streams::Sink;
 
 /// Room for many answer lines, so that they are written in large pieces.
@@ -12,10 +12,12 @@ const ROOM: usize = 65_536;
 /// The longest answer line: a text of 3,096 bytes and a line feed.
 const LONGEST_ANSWER: usize = 3_097;
 
-/// Answer lines that were not written yet.
+/// Answer lines that were not written yet, and room for the text of the next one: to make it anew for
+/// each line takes as long as to fill it.
 #[derive(Drop)]
 pub(crate) struct Outbox {
     bytes: ArrayVec<u8, ROOM>,
+    pub(crate) text: ArrayString<3072>,
 }
 
 impl Outbox {
@@ -26,6 +28,7 @@ impl Outbox {
     {
         Outbox {
             bytes: ArrayVec::new(),
+            text: ArrayString::new(),
         }
     }
 
@@ -41,8 +44,15 @@ impl Outbox {
         requires { length self.old.bytes.items + length text.now < ROOM }
         ensures { self.new.bytes.items ≡ self.old.bytes.items ++ (text.now ++ 10 ∷ []) }
     {
-        self.bytes.try_extend_from_slice(text).unwrap();
-        self.bytes.push(b'\n');
+        push_line(&mut self.bytes, text);
+    }
+
+    /// Adds a line with the text that stands in its room.
+    pub(crate) fn put_text(&mut self)
+        requires { HasRoom self.old }
+        ensures { self.new.bytes.items ≡ self.old.bytes.items ++ (self.old.text.bytes ++ 10 ∷ []) }
+    {
+        push_line(&mut self.bytes, self.text.as_str().as_bytes());
     }
 
     /// Writes all that is here. Any failed write ends it.
@@ -54,6 +64,14 @@ impl Outbox {
         self.bytes.clear();
         Ok(())
     }
+}
+
+fn push_line(bytes: &mut ArrayVec<u8, ROOM>, text: &[u8])
+    requires { length bytes.old.items + length text.now < ROOM }
+    ensures { bytes.new.items ≡ bytes.old.items ++ (text.now ++ 10 ∷ []) }
+{
+    bytes.try_extend_from_slice(text).unwrap();
+    bytes.push(b'\n');
 }
 
 /// Writes all of a text. Any failed write ends it, and one that takes nothing has failed.

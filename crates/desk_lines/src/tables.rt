@@ -1,5 +1,7 @@
 //! The answers of several tables, one after the other.
 ghost use Rattle.std.specs.Prelude.{◌≡◌, ◌+◌, ◌≤◌, ℕ, List, [], ◌∷◌, ◌++◌, length, map, OnOk, OnErr, IfOk, IfErr};
+ghost use Rattle.desk_core.specs.AnswerText.{answer_text};
+ghost use Rattle.desk_lines.specs.Outbox.{HasRoom};
 ghost use Rattle.desk_lines.specs.Asked.{line_told, answers_after, told};
 ghost use Rattle.desk_lines.specs.Tables.{table_line, tables_text, first_answers, other_answers, told_tables, Sends};
 ghost use Rattle.desk_lines.specs.Streams.{Writes, StopsWriting};
@@ -8,7 +10,7 @@ use super::asked::Asked;
 use super::fault::DeskFault;
 use super::outbox::Outbox;
 use arrayvec::ArrayString;
-use desk_core::{Answer, answer_text};
+use desk_core::{Answer, push_answer};
 use desk_streams::Sink;
 use itoa::Buffer;
 use riichi_hand::fault_text;
@@ -103,13 +105,32 @@ fn send_asked<'a, W: Sink>(
             let Some((answer, rest)) = answers.split_first() else {
                 return Ok(answers);
             };
-            send_line(answer_text(answer).as_str().as_bytes(), outbox, writer)?;
+            send_answer(answer, outbox, writer)?;
             Ok(rest)
         }
     }
 }
 
-/// Sends a line. What stands in its way in the outbox is written first.
+/// Sends the line of an answer.
+fn send_answer<W: Sink>(
+    answer: &Answer,
+    outbox: &mut Outbox,
+    writer: &mut W,
+) -> Result<(), DeskFault>
+    ensures sends { OnOk result ((start : W) (text : List ℕ) → Sends ⟦<W as Sink>⟧ start text outbox.old writer.old
+        → Sends ⟦<W as Sink>⟧ start (text ++ (answer_text answer.now ++ 10 ∷ [])) outbox.new writer.new) }
+    ensures stops { OnErr result ((start : W) (text : List ℕ) → Sends ⟦<W as Sink>⟧ start text outbox.old writer.old
+        → StopsWriting ⟦<W as Sink>⟧ start writer.new text) }
+    ensures fault { IfErr result (λ fault. fault ≡ DeskFault.Write) }
+{
+    make_room(outbox, writer)?;
+    outbox.text.clear();
+    push_answer(&mut outbox.text, answer);
+    outbox.put_text();
+    Ok(())
+}
+
+/// Sends a line.
 fn send_line<W: Sink>(line: &[u8], outbox: &mut Outbox, writer: &mut W) -> Result<(), DeskFault>
     requires { length line.now ≤ 3072 }
     ensures sends { OnOk result ((start : W) (text : List ℕ) → Sends ⟦<W as Sink>⟧ start text outbox.old writer.old
@@ -118,9 +139,23 @@ fn send_line<W: Sink>(line: &[u8], outbox: &mut Outbox, writer: &mut W) -> Resul
         → StopsWriting ⟦<W as Sink>⟧ start writer.new text) }
     ensures fault { IfErr result (λ fault. fault ≡ DeskFault.Write) }
 {
-    if !outbox.has_room() {
-        outbox.flush(writer)?;
-    }
+    make_room(outbox, writer)?;
     outbox.put_line(line);
     Ok(())
+}
+
+/// Writes what stands in the way of another line.
+fn make_room<W: Sink>(outbox: &mut Outbox, writer: &mut W) -> Result<(), DeskFault>
+    ensures sends { OnOk result ((start : W) (text : List ℕ) → Sends ⟦<W as Sink>⟧ start text outbox.old writer.old
+        → Sends ⟦<W as Sink>⟧ start text outbox.new writer.new) }
+    ensures room { OnOk result (HasRoom outbox.new) }
+    ensures stops { OnErr result ((start : W) (text : List ℕ) → Sends ⟦<W as Sink>⟧ start text outbox.old writer.old
+        → StopsWriting ⟦<W as Sink>⟧ start writer.new text) }
+    ensures fault { IfErr result (λ fault. fault ≡ DeskFault.Write) }
+{
+    if outbox.has_room() {
+        Ok(())
+    } else {
+        outbox.flush(writer)
+    }
 }

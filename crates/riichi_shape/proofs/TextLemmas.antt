@@ -1,13 +1,20 @@
 -- The text of the accepted kinds and of the discards.
-use Rattle.std.proofs.Common.{◌≡◌, ℕ, zero, suc, ◌+◌, ◌<◌, ◌≤◌, Bool, true, false, cond, List, [], ◌∷◌, ◌++◌, map, length, take, Some, None, ltb, refl, sym, ap, ◌∙◌, inl, subst, arith}
+use Rattle.std.proofs.Common.{◌≡◌, ℕ, zero, suc, ◌+◌, ◌<◌, ◌≤◌, Bool, true, false, cond, List, [], ◌∷◌, ◌++◌, map, length, take, length-set, ◌%◌, Some, None, ltb, refl, sym, ap, ◌∙◌, inl, subst, arith}
 use Rattle.std.proofs.lemmas.Bool.Decides.{nat_tests}
 use Rattle.std.proofs.lemmas.List.{append-nil, flat_map_more}
+use Rattle.std.specs.Str.{IsAscii}
+use Rattle.std.proofs.lemmas.Str.Ascii.{IsAscii-cons, IsAscii-nil}
+use Rattle.std.proofs.lemmas.Str.{IsAscii-append}
+use Rattle.std.proofs.lemmas.Grind.{take-set_at}
+use Rattle.std.proofs.lemmas.List.{take-set-le}
+use Rattle.std.specs.Result.{IsOk, MatchResult}
+use Rattle.std.proofs.Common.{Result, Ok, Err}
 use Rattle.std.proofs.lemmas.List.Sums.{sum_by-cons}
 use Rattle.std.specs.List.{filter, flat_map, range_with_len}
-use Rattle.std.specs.Prelude.{nat_lt, slice_get, slice_index}
+use Rattle.std.specs.Prelude.{nat_lt, slice_get, slice_index, slice_set}
 use Rattle.riichi_tiles.specs.Melds.{every_kind}
 use Rattle.riichi_shape.specs.LiveCopies.{live_in, pairs_of}
-use Rattle.riichi_shape.specs.Text.{discard_text, kinds_text, pair_text}
+use Rattle.riichi_shape.specs.Text.{discard_text, kinds_text, letter_of, pair_text}
 use Rattle.riichi_shape.specs.declared.discard.Discard.{Discard}
 use Rattle.riichi_shape.proofs.Members.{Among, from_filter, from_map}
 
@@ -55,20 +62,19 @@ pairs_more copies n =
     same : (n : ℕ) → 0 + n ≡ n
     same n = omega arith
 
-is_live : (h : ℕ) → 0 < h → ltb 0 h ≡ true
+pub is_live : (h : ℕ) → 0 < h → ltb 0 h ≡ true
 is_live h some = grind (arith, nat_tests)
 
-not_live : (h : ℕ) → h ≤ 0 → ltb 0 h ≡ false
+pub not_live : (h : ℕ) → h ≤ 0 → ltb 0 h ≡ false
 not_live h none = grind (arith, nat_tests)
 
-pub text_more : (copies : List ℕ) (n : ℕ) (before : List ℕ) → 0 < slice_index copies n → (before ++ flat_map pair_text (pairs_below copies n)) ++ pair_text (n, slice_index copies n) ≡ before ++ flat_map pair_text (pairs_below copies (n + 1))
-text_more copies n before some =
-    flat_map_more pair_text before (pairs_below copies n) (n, slice_index copies n)
-    ∙ sym (ap (λ ps. before ++ flat_map pair_text ps) (pairs_more copies n ∙ ap (λ t. pairs_below copies n ++ cond t ((n, slice_index copies n) ∷ []) []) (is_live (slice_index copies n) some)))
-
-pub text_same : (copies : List ℕ) (n : ℕ) (before : List ℕ) → slice_index copies n ≤ 0 → before ++ flat_map pair_text (pairs_below copies n) ≡ before ++ flat_map pair_text (pairs_below copies (n + 1))
-text_same copies n before none =
-    sym (ap (λ ps. before ++ flat_map pair_text ps) (pairs_more copies n ∙ ap (λ t. pairs_below copies n ++ cond t ((n, slice_index copies n) ∷ []) []) (not_live (slice_index copies n) none) ∙ append-nil (pairs_below copies n)))
+pub text_with : (copies : List ℕ) (n : ℕ) → flat_map pair_text (pairs_below copies n) ++ cond (ltb 0 (slice_index copies n)) (pair_text (n, slice_index copies n)) [] ≡ flat_map pair_text (pairs_below copies (n + 1))
+text_with copies n = by_test (ltb 0 (slice_index copies n)) (pairs_more copies n)
+  where
+    by_test : (t : Bool) → pairs_below copies (n + 1) ≡ pairs_below copies n ++ cond t ((n, slice_index copies n) ∷ []) [] →
+        flat_map pair_text (pairs_below copies n) ++ cond t (pair_text (n, slice_index copies n)) [] ≡ flat_map pair_text (pairs_below copies (n + 1))
+    by_test true e = flat_map_more pair_text [] (pairs_below copies n) (n, slice_index copies n) ∙ sym (ap (λ ps. flat_map pair_text ps) e)
+    by_test false e = append-nil (flat_map pair_text (pairs_below copies n)) ∙ sym (ap (λ ps. flat_map pair_text ps) (e ∙ append-nil (pairs_below copies n)))
 
 -- ---- no kind
 
@@ -110,3 +116,55 @@ pub some_there : {X : Type 0} (xs : List X) (i : ℕ) → i < length xs → slic
 some_there [] i low e = absurd (omega arith)
 some_there (x ∷ xs) zero low e = cc
 some_there (x ∷ xs) (suc i) low e = some_there xs i (omega arith) e
+
+-- ---- the text is ASCII
+
+pub letter_below : (kind : ℕ) → letter_of kind < 128
+letter_below kind = grind (arith, nat_tests)
+
+pair_ascii : (kind live : ℕ) → live ≤ 4 → IsAscii (pair_text (kind, live))
+pair_ascii kind live few =
+    IsAscii-cons 32 ((49 + kind % 9) ∷ letter_of kind ∷ 58 ∷ (48 + live) ∷ []) (omega arith)
+    (IsAscii-cons (49 + kind % 9) (letter_of kind ∷ 58 ∷ (48 + live) ∷ []) (omega arith)
+    (IsAscii-cons (letter_of kind) (58 ∷ (48 + live) ∷ []) (letter_below kind)
+    (IsAscii-cons 58 ((48 + live) ∷ []) (omega arith) (IsAscii-cons (48 + live) [] (omega (arith, few)) IsAscii-nil))))
+
+kinds_ascii : (copies : List ℕ) → ((kind : ℕ) → slice_index copies kind ≤ 4) → (kinds : List ℕ) → IsAscii (flat_map pair_text (map (λ kind. (kind, slice_index copies kind)) kinds))
+kinds_ascii copies few [] = IsAscii-nil
+kinds_ascii copies few (kind ∷ kinds) = IsAscii-append (pair_text (kind, slice_index copies kind)) _ (pair_ascii kind (slice_index copies kind) (few kind)) (kinds_ascii copies few kinds)
+
+pub pairs_ascii : (copies : List ℕ) → ((kind : ℕ) → slice_index copies kind ≤ 4) → IsAscii (flat_map pair_text (pairs_of copies))
+unfolding pairs_of
+pairs_ascii copies few = kinds_ascii copies few (filter (λ kind. nat_lt 0 (slice_index copies kind)) every_kind)
+
+-- ---- a kind behind a text
+
+five_bytes : (old : List ℕ) (a b c d e : ℕ) → ((((old ++ a ∷ []) ++ b ∷ []) ++ c ∷ []) ++ d ∷ []) ++ e ∷ [] ≡ old ++ a ∷ b ∷ c ∷ d ∷ e ∷ []
+five_bytes [] a b c d e = refl
+five_bytes (x ∷ xs) a b c d e = ap (λ ys. x ∷ ys) (five_bytes xs a b c d e)
+
+-- five bytes from a place on
+pub written : (bytes : List ℕ) (at a b c d e : ℕ) → at + 5 ≤ length bytes →
+    take (at + 5) (slice_set (slice_set (slice_set (slice_set (slice_set bytes at a) (at + 1) b) (at + 2) c) (at + 3) d) (at + 4) e) ≡ take at bytes ++ a ∷ b ∷ c ∷ d ∷ e ∷ []
+written bytes at a b c d e room =
+    let with_a = slice_set bytes at a in
+    let with_b = slice_set with_a (at + 1) b in
+    let with_c = slice_set with_b (at + 2) c in
+    let with_d = slice_set with_c (at + 3) d in
+    take-set_at with_d (at + 4) (at + 5) e (omega arith) (omega (arith, length-set with_c (at + 3) d, length-set with_b (at + 2) c, length-set with_a (at + 1) b, length-set bytes at a, room))
+    ∙ ap (λ t. t ++ e ∷ []) (take-set_at with_c (at + 3) (at + 4) d (omega arith) (omega (arith, length-set with_b (at + 2) c, length-set with_a (at + 1) b, length-set bytes at a, room))
+    ∙ ap (λ t. t ++ d ∷ []) (take-set_at with_b (at + 2) (at + 3) c (omega arith) (omega (arith, length-set with_a (at + 1) b, length-set bytes at a, room))
+    ∙ ap (λ t. t ++ c ∷ []) (take-set_at with_a (at + 1) (at + 2) b (omega arith) (omega (arith, length-set bytes at a, room))
+    ∙ ap (λ t. t ++ b ∷ []) (take-set_at bytes at (at + 1) a (omega arith) (omega (arith, room))))))
+    ∙ five_bytes (take at bytes) a b c d e
+
+-- what is written there leaves the bytes before it
+pub kept_before : (bytes : List ℕ) (at a b c d e : ℕ) →
+    take at (slice_set (slice_set (slice_set (slice_set (slice_set bytes at a) (at + 1) b) (at + 2) c) (at + 3) d) (at + 4) e) ≡ take at bytes
+kept_before bytes at a b c d e =
+    take-set-le at _ (at + 4) e (omega arith) ∙ take-set-le at _ (at + 3) d (omega arith) ∙ take-set-le at _ (at + 2) c (omega arith) ∙ take-set-le at _ (at + 1) b (omega arith) ∙ take-set-le at bytes at a (omega arith)
+
+-- of no error a value is left
+pub ok_unless : {T E : Type 0} (P : T → Type 0) (Q : E → Type 0) (r : Result T E) → MatchResult r P Q → ((e : E) → Q e → ⊥) → IsOk r
+ok_unless P Q (Ok x) cases no_error = refl
+ok_unless P Q (Err e) cases no_error = absurd (no_error e cases)

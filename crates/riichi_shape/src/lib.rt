@@ -4,12 +4,13 @@
 //! `Accepts`. Thirteen tiles accept the kinds of a `LiveList`, which lower the shanten, each with
 //! its live copies. Of fourteen tiles a `DiscardList` has each `Discard` that leaves the least
 //! shanten, with the list that the rest then accepts. `shanten` and `accepted` are the parts alone,
-//! and `shape_text` is the answer on a line. A hand is measured by its four suit rows, which
-//! `riichi_rows` makes, and beside each the other three are joined. The marks of a row say which
-//! ranks its least choices lack, so the rows of the hand alone tell the kinds that bring it nearer:
-//! no row of the hand with one more tile is ever made. A tile that is discarded changes one row: of
-//! fourteen tiles the rows of a suit, whole and without each of its tiles, are asked for together.
-//! `shape_with` is `shape` by the rows of a `RowCache`, which many hands share.
+//! and `shape_text` is the answer on a line, which `push_shape` writes behind a text that is kept. A
+//! hand is measured by its four suit rows, which `riichi_rows` makes, and beside each the other three
+//! are joined. The marks of a row say which ranks its least choices lack, so the rows of the hand
+//! alone tell the kinds that bring it nearer: no row of the hand with one more tile is ever made. A
+//! tile that is discarded changes one row: of fourteen tiles the rows of a suit, whole and without
+//! each of its tiles, are asked for together. `shape_with` is `shape` by the rows of a `RowCache`,
+//! which many hands share.
 //!
 //! So `123456789m1134p` is ready: `shanten` is 0, and `accepted` has four live 2p and four 5p.
 #![tactic(auto)]
@@ -33,6 +34,7 @@ mod melded_tiles;
 mod nearest_form;
 mod orphans;
 mod pairs;
+mod pairs_text;
 mod removal;
 mod shape_answer;
 mod special;
@@ -53,4 +55,4 @@ pub use live_list::LiveList;
 pub use riichi_cache::{Memory, RowCache};
 pub use riichi_rows::{SuitRow, join_rows, suit_row};
 pub use shape_answer::ShapeAnswer;
-pub use text::shape_text;
+pub use text::{push_shape, shape_text};

@@ -2,9 +2,10 @@
 ghost use Rattle.std.specs.Prelude.{◌<◌, ◌≤◌};
 
 use crate::{
-    Accepts, DiscardList, Memory, RowCache, ShapeAnswer, accepted, join_rows, laws, shanten, shape,
-    shape_text, shape_with, suit_row,
+    Accepts, DiscardList, Memory, RowCache, ShapeAnswer, accepted, join_rows, laws, push_shape,
+    shanten, shape, shape_text, shape_with, suit_row,
 };
+use arrayvec::ArrayString;
 use riichi_hand::ShapeRecord;
 use riichi_rows::join_two;
 use riichi_tiles::{Counts, Kind, Meld, Melds, read_counts};
@@ -53,6 +54,17 @@ fn check_with(rt: &impl Abort, cache: &mut RowCache, row: &Row) -> Result<(), Fa
     let answer = shape_with(cache, &asked);
     assert_eq!(rt; shape_text(&answer).as_str(), row.text);
     assert!(rt; answer == shape(&asked));
+    Ok(())
+}
+
+/// What stands before an answer is kept.
+#[test]
+fn writes_behind_a_text(rt: HostRuntime) -> Result<(), Fail> {
+    let asked = ShapeRecord::new(tiles("123456789m1134p")?, Melds::new(), Counts::new())?;
+    let mut text = ArrayString::new();
+    text.push_str("> ");
+    push_shape(&mut text, &shape(&asked));
+    assert_eq!(rt; text.as_str(), "> shanten 0 accepts 2p:4 5p:4 live 8");
     Ok(())
 }
 

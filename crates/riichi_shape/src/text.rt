@@ -9,46 +9,20 @@ use crate::accepts::Accepts;
 use crate::discard::Discard;
 use crate::discard_list::DiscardList;
 use crate::live_list::LiveList;
+use crate::pairs_text::{digit_of, letter_of, write_pairs};
 use crate::shape_answer::ShapeAnswer;
 use arrayvec::ArrayString;
 use itoa::Buffer;
 use riichi_tiles::Kind;
-
-fn letter_of(kind: Kind) -> char
-    ensures value { result ≡ spec.letter_of kind }
-    ensures ascii { result < 128 }
-{
-    let number = kind.index();
-    if number < 9 {
-        'm'
-    } else if number < 18 {
-        'p'
-    } else if number < 27 {
-        's'
-    } else {
-        'z'
-    }
-}
+use std::str;
 
 fn push_kind(text: &mut ArrayString<3072>, kind: Kind)
     requires { array_string_len text.old + 2 ≤ 3072 }
     ensures bytes { text.new.bytes ≡ text.old.bytes ++ spec.kind_text kind }
     ensures len { array_string_len text.new ≡ array_string_len text.old + 2 }
 {
-    text.push((b'1' + kind.index() as u8 % 9) as char);
-    text.push(letter_of(kind));
-}
-
-fn push_pair(text: &mut ArrayString<3072>, kind: Kind, live: u8)
-    requires room { array_string_len text.old + 5 ≤ 3072 }
-    requires live { live ≤ 4 }
-    ensures bytes { text.new.bytes ≡ text.old.bytes ++ spec.pair_text (kind, live) }
-    ensures len { array_string_len text.new ≡ array_string_len text.old + 5 }
-{
-    text.push(' ');
-    push_kind(text, kind);
-    text.push(':');
-    text.push((b'0' + live) as char);
+    text.push(digit_of(kind.index()) as char);
+    text.push(letter_of(kind.index()) as char);
 }
 
 /// Writes each kind that has live copies.
@@ -58,12 +32,9 @@ fn push_pairs(text: &mut ArrayString<3072>, copies: &[u8; 34])
     ensures bytes { text.new.bytes ≡ text.old.bytes ++ flat_map spec.pair_text (pairs_of copies.now) }
     ensures len { array_string_len text.new ≤ array_string_len text.old + 170 }
 {
-    for number in 0..34u8 {
-        let live = copies[number as usize];
-        if live > 0 {
-            push_pair(text, Kind::at(number), live);
-        }
-    }
+    let mut bytes = [0; 175];
+    let end = write_pairs(&mut bytes, copies);
+    text.push_str(str::from_utf8(&bytes[..end]).unwrap());
 }
 
 /// Writes the kinds of a list, or a dash.
@@ -134,14 +105,23 @@ fn push_accepts(text: &mut ArrayString<3072>, accepts: &Accepts)
 }
 
 /// The answer on one line, without the line's end.
-#[tactic(auto, unfolding(crate::specs::Text::text_of))]
 pub fn shape_text(answer: &ShapeAnswer) -> ArrayString<3072>
     ensures { result.bytes ≡ spec.text_of answer.now }
 {
     let mut text = ArrayString::new();
+    push_shape(&mut text, answer);
+    text
+}
+
+/// Writes the answer behind a text, without the line's end. A text that is kept need not be made anew
+/// for each answer.
+#[tactic(auto, unfolding(crate::specs::Text::text_of))]
+pub fn push_shape(text: &mut ArrayString<3072>, answer: &ShapeAnswer)
+    requires { array_string_len text.old + 2890 ≤ 3072 }
+    ensures { text.new.bytes ≡ text.old.bytes ++ spec.text_of answer.now }
+{
     let mut buffer = Buffer::new();
     text.push_str("shanten ");
     text.push_str(buffer.format(answer.shanten));
-    push_accepts(&mut text, &answer.accepts);
-    text
+    push_accepts(text, &answer.accepts);
 }
