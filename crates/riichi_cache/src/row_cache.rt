@@ -75,7 +75,7 @@ impl RowSource for RowCache {
         kept_row(&mut self.rows, key)
     }
 
-    // Rows of discards seldom come again: they are made at once, which takes less than to look for each.
+    // Rows of discards seldom come again: they are made at once.
     fn rows(&mut self, counts: &[u8; 9], caps: &[u8; 9], runs: bool) -> SuitRows {
         suit_rows(counts, caps, runs)
     }

@@ -49,3 +49,17 @@ fn rows_of_keys_that_are_alike(rt: HostRuntime) -> Result<(), Fail> {
     assert_eq!(rt; cache.row(&[0; 9], &[4; 9], true).get(2, true), Some(8));
     Ok(())
 }
+
+/// Rows without a tile lack as those of a hand that never had it.
+#[test]
+fn rows_without_a_tile(rt: HostRuntime) -> Result<(), Fail> {
+    let mut cache = one_place(rt.alloc()).map_err(|_| "no memory twice")?;
+    let rows = cache.rows(&[0, 1, 1, 1, 0, 0, 2, 0, 0], &[4; 9], true);
+    let rest = [0, 1, 0, 1, 0, 0, 2, 0, 0];
+    assert!(rt; is_same(&rows.without[2], &FreshRows.row(&rest, &[4; 9], true)));
+    // a run, and a pair
+    assert_eq!(rt; rows.whole.get(1, true), Some(0));
+    assert_eq!(rt; rows.without[2].get(1, true), Some(1));
+    assert_eq!(rt; rows.without[6].get(1, true), Some(1));
+    Ok(())
+}
