@@ -41,6 +41,10 @@ fn is_terminals_in_all_sets(blocks: &Blocks) -> bool
 pub(crate) fn outside_of(blocks: &Blocks) -> Outside
     ensures { result ≡ spec.outside_of blocks.now }
 {
+    // Most readings have a block without terminals and honours.
+    if !all_have_orphans(blocks.as_slice()) {
+        return Outside::none();
+    }
     Outside {
         outside_hand: is_outside_hand(blocks),
         terminals_in_all_sets: is_terminals_in_all_sets(blocks),
