@@ -6,8 +6,8 @@ use Rattle.std.proofs.lemmas.List.Folds.{list_any-append}
 use Rattle.std.proofs.lemmas.Bool.Decides.{nat_tests}
 use Rattle.riichi_tiles.specs.Melds.{every_kind}
 use Rattle.riichi_blocks.specs.Held.{every, some}
-use Rattle.riichi_blocks.specs.Kinds.{is_honour, is_of_suit, is_orphan, is_simple, is_terminal}
-use Rattle.riichi_blocks.specs.Told.{some_in}
+use Rattle.riichi_blocks.specs.Kinds.{is_green_tile, is_honour, is_of_suit, is_orphan, is_simple, is_terminal}
+use Rattle.riichi_blocks.specs.Told.{green_from_bamboos, some_in}
 
 pub of-three : (is_so : ℕ → Bool) (first second third : Bool) → first ≡ is_so 0 → second ≡ is_so 1 → third ≡ is_so 2 → (suit : ℕ) → suit < 3 → get_or (first ∷ second ∷ third ∷ []) suit false ≡ is_so suit
 of-three is_so first second third a b c zero h = a
@@ -105,3 +105,16 @@ all-orphans tiles = sym (every-none is_orphan tiles every_kind ∙ ap not (three
 
 pub all-terminals : (tiles : List ℕ) → not (some is_simple tiles || (some_in tiles 27 7 || false)) ≡ every is_terminal tiles
 all-terminals tiles = sym (every-none is_terminal tiles every_kind ∙ ap not (three tiles simples (range_with_len 27 7) []))
+
+-- every tile is green where none is of the other suits, and those from the third suit on are
+pub all-green : (tiles : List ℕ) (others : Bool) → others ≡ (some_in tiles 0 9 || (some_in tiles 9 9 || false)) → (not others && green_from_bamboos tiles) ≡ every is_green_tile tiles
+all-green tiles others others-are =
+    let bad : ℕ → Bool = λ kind. not (is_green_tile kind) && nat_lt 0 (slice_index tiles kind) in
+    let last : Bool = list_any bad (range_with_len 18 16) in
+    let first : Bool = some_in tiles 0 9 || (some_in tiles 9 9 || false) in
+    ap (λ b. not b && green_from_bamboos tiles) others-are
+    ∙ ap (λ b. not first && b) (every-none is_green_tile tiles (range_with_len 18 16))
+    ∙ neither first last
+    ∙ ap (λ b. not (b || last)) (sym (three tiles (range_with_len 0 9) (range_with_len 9 9) []))
+    ∙ ap not (sym (list_any-append bad (range_with_len 0 9 ++ range_with_len 9 9) (range_with_len 18 16)))
+    ∙ sym (every-none is_green_tile tiles every_kind)

@@ -13,12 +13,21 @@ pub fn blocks_of(reading: &Reading, win: &WinRecord) -> Blocks
     ensures { result ≡ spec.blocks_of reading.now win.now }
 {
     let mut blocks = Blocks::new();
-    if let Reading::Standard { sets, pair, done } = reading {
-        push_sets(&mut blocks, sets, win.by(), done);
-        blocks.push(HandBlock::Pair(*pair));
-        push_melds(&mut blocks, &win.melds());
-    }
+    push_blocks(&mut blocks, reading, win);
     blocks
+}
+
+/// The same, pushed in place where there are none.
+#[inline(always)]
+pub fn push_blocks(blocks: &mut Blocks, reading: &Reading, win: &WinRecord)
+    requires { blocks.old ≡ [] }
+    ensures { blocks.new ≡ spec.blocks_of reading.now win.now }
+{
+    if let Reading::Standard { sets, pair, done } = reading {
+        push_sets(blocks, sets, win.by(), done);
+        blocks.push(HandBlock::Pair(*pair));
+        push_melds(blocks, &win.melds());
+    }
 }
 
 fn push_sets(blocks: &mut Blocks, sets: &Sets, by: By, done: &Block)

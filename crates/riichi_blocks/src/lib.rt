@@ -34,7 +34,7 @@ pub use block_kinds::{all_have_orphans, all_have_terminals, some_has_honour};
 pub use blocks::Blocks;
 pub use hand_block::HandBlock;
 pub use held::all_tiles;
-pub use joining::blocks_of;
+pub use joining::{blocks_of, push_blocks};
 pub use kinds::{
     EAST, GREEN, KINDS, RED, WHITE, is_dragon, is_of_suit, is_orphan, is_terminal, is_wind,
 };

@@ -47,12 +47,13 @@ impl AllTiles {
         let honours = some_in(&counts, 27, 34);
         let simples = some_of(low, middle, high);
         let terminals = has_terminals(&counts);
+        let others = some_of(characters, circles, false);
         AllTiles {
             simples: none_of(terminals, honours, false),
             orphans: none_of(simples, false, false),
             terminals: none_of(simples, honours, false),
             honours: none_of(characters, circles, bamboos),
-            green: are_green(&counts),
+            green: are_green(&counts, others),
             some_honour: honours,
             of_suit: [
                 none_of(circles, bamboos, honours),

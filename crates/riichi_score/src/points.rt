@@ -20,38 +20,51 @@ pub fn fu(reading: &Reading, win: &WinRecord) -> u8
     ensures value { result ≡ spec.fu_of reading.now win.now }
     ensures most { result ≤ 200 }
 {
-    fu_among(&blocks_of(reading, win), reading, win)
+    fu_among(
+        &blocks_of(reading, win),
+        reading,
+        win.melds().concealed(),
+        win,
+    )
 }
 
-/// The fu of a reading, by its blocks.
+/// The fu of a reading, by its blocks and whether the hand is concealed.
 #[tactic(auto, unfolding(crate::specs::Fu::fu_of))]
-pub(crate) fn fu_among(blocks: &Blocks, reading: &Reading, win: &WinRecord) -> u8
+pub(crate) fn fu_among(blocks: &Blocks, reading: &Reading, concealed: bool, win: &WinRecord) -> u8
     requires sets { spec.HasFourSets reading.now win.now }
     requires blocks { blocks.now ≡ blocks_of reading.now win.now }
+    requires concealed { concealed ≡ are_concealed win.now.melds }
     ensures value { result ≡ spec.fu_of reading.now win.now }
     ensures most { result ≤ 200 }
 {
-    fu_from(blocks, reading, win)
+    fu_from(blocks, reading, concealed, win)
 }
 
-fn fu_from(blocks: &Blocks, reading: &Reading, win: &WinRecord) -> u8
-    requires { length blocks.now ≤ 5 }
+fn fu_from(blocks: &Blocks, reading: &Reading, concealed: bool, win: &WinRecord) -> u8
+    requires few { length blocks.now ≤ 5 }
+    requires concealed { concealed ≡ are_concealed win.now.melds }
     ensures value { result ≡ spec.fu_from blocks.now reading.now win.now }
     ensures most { result ≤ 200 }
 {
     match reading {
-        Reading::Standard { done, .. } => standard_fu(blocks, reading, done, win),
+        Reading::Standard { done, .. } => standard_fu(blocks, reading, done, concealed, win),
         Reading::SevenPairs => 25,
         Reading::Orphans => 0,
     }
 }
 
-fn standard_fu(blocks: &Blocks, reading: &Reading, done: &Block, win: &WinRecord) -> u8
-    requires { length blocks.now ≤ 5 }
+fn standard_fu(
+    blocks: &Blocks,
+    reading: &Reading,
+    done: &Block,
+    concealed: bool,
+    win: &WinRecord,
+) -> u8
+    requires few { length blocks.now ≤ 5 }
+    requires concealed { concealed ≡ are_concealed win.now.melds }
     ensures value { result ≡ spec.standard_fu blocks.now reading.now done.now win.now }
     ensures most { result ≤ 200 }
 {
-    let concealed = win.melds().concealed();
     let drawn = draw_fu(blocks, reading, win);
     let ron = ron_fu(concealed, win);
     let sum = 20 + ron + drawn + blocks_fu(blocks, win) + wait_fu(win.winning(), done);

@@ -1,6 +1,8 @@
 //! What a reading is worth, without what is paid for it.
 ghost use Rattle.std.specs.Prelude.{◌≡◌, ◌≤◌};
+ghost use Rattle.riichi_tiles.specs.Melds.{are_concealed};
 ghost use Rattle.riichi_blocks.specs.Held.{all_tiles};
+ghost use Rattle.riichi_yaku.specs.WinYaku.{win_yaku};
 ghost use Rattle.riichi_score.specs.Best as best_spec;
 ghost use Rattle.riichi_score.specs.Dora.{dora_of};
 ghost use Rattle.riichi_score.specs.Fu.{HasFourSets};
@@ -10,10 +12,10 @@ ghost use Rattle.riichi_score.specs.Worths as spec;
 use crate::points::fu_among;
 use crate::score::Score;
 use crate::{base_points, gain, han, payment};
-use riichi_blocks::{AllTiles, blocks_of};
+use riichi_blocks::{AllTiles, Blocks, push_blocks};
 use riichi_hand::WinRecord;
 use riichi_split::Reading;
-use riichi_yaku::{YakuSet, yaku_among};
+use riichi_yaku::{WinYaku, YakuSet, yaku_among};
 
 /// A score without what is paid for it, which the win and the base points tell.
 #[derive(Clone, Copy)]
@@ -64,28 +66,33 @@ impl Worth {
     }
 }
 
-/// What a reading is worth, if it has a yaku. All tiles and the dora are those of the win.
+/// What a reading is worth, if it has a yaku. All tiles, what is told of them and the dora are those of the win.
 #[tactic(auto, unfolding(crate::specs::Scores::score_of))]
 pub(crate) fn worth_of(
     reading: &Reading,
     tiles: &AllTiles,
+    told: &WinYaku,
     win: &WinRecord,
     dora: u8,
 ) -> Option<Worth>
     requires sets { HasFourSets reading.now win.now }
     requires tiles { tiles.now ≡ all_tiles win.now }
+    requires told { told.now ≡ win_yaku win.now }
     requires dora { dora ≡ dora_of win.now }
     requires most { dora ≤ 52 }
     ensures value { spec.score_if result win.now ≡ score_of reading.now win.now }
     ensures most { spec.base_if result ≤ 8000 }
 {
-    let blocks = blocks_of(reading, win);
-    let yaku = yaku_among(&blocks, reading, tiles, win);
-    valued(yaku, fu_among(&blocks, reading, win), dora, win)
+    let mut blocks = Blocks::new();
+    push_blocks(&mut blocks, reading, win);
+    let yaku = yaku_among(&blocks, reading, tiles, told, win);
+    let fu = fu_among(&blocks, reading, told.concealed, win);
+    valued(yaku, fu, dora, told.concealed, win)
 }
 
-fn valued(yaku: YakuSet, fu: u8, dora: u8, win: &WinRecord) -> Option<Worth>
-    requires { dora ≤ 52 }
+fn valued(yaku: YakuSet, fu: u8, dora: u8, concealed: bool, win: &WinRecord) -> Option<Worth>
+    requires most { dora ≤ 52 }
+    requires concealed { concealed ≡ are_concealed win.now.melds }
     ensures value { result ≡ spec.worth_if yaku fu dora win.now }
     ensures most { spec.base_if result ≤ 8000 }
 {
@@ -94,7 +101,7 @@ fn valued(yaku: YakuSet, fu: u8, dora: u8, win: &WinRecord) -> Option<Worth>
     } else if yaku.is_yakuman() {
         Some(limit(yaku))
     } else {
-        Some(counted(yaku, fu, dora, win))
+        Some(counted(yaku, fu, dora, concealed, win))
     }
 }
 
@@ -112,12 +119,13 @@ fn limit(yaku: YakuSet) -> Worth
 }
 
 /// A counted hand.
-fn counted(yaku: YakuSet, fu: u8, dora: u8, win: &WinRecord) -> Worth
-    requires { dora ≤ 52 }
+fn counted(yaku: YakuSet, fu: u8, dora: u8, concealed: bool, win: &WinRecord) -> Worth
+    requires most { dora ≤ 52 }
+    requires concealed { concealed ≡ are_concealed win.now.melds }
     ensures value { result ≡ spec.counted_worth yaku fu dora win.now }
     ensures most { result.base ≤ 8000 }
 {
-    let han = han(yaku, win.melds().concealed(), dora);
+    let han = han(yaku, concealed, dora);
     Worth {
         han,
         fu,

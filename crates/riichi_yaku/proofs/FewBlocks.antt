@@ -1,7 +1,7 @@
 -- Where few blocks are runs or triplets, no yaku of three of them holds.
 use Rattle.std.proofs.Common.{Bool, List, [], ap, arith, cond, false, get_or, inl, inr, nat_eq, nat_lt, refl, sym, true, ℕ, ◌%◌, ◌&&◌, ◌*◌, ◌+◌, ◌<◌, ◌||◌, ◌∙◌, ◌∷◌, ◌≡◌, ◌≤◌}
 use Rattle.std.specs.Prelude.{count_by}
-use Rattle.std.specs.List.{list_any, range_with_len}
+use Rattle.std.specs.List.{list_all, list_any, range_with_len}
 use Rattle.std.proofs.lemmas.List.Folds.{list_any_at}
 use Rattle.std.proofs.lemmas.List.FromFn.{get_or-range_with_len, length-range_with_len}
 use Rattle.std.proofs.lemmas.Bool.Decides.{eqb_tells}
@@ -10,7 +10,10 @@ use Rattle.std.proofs.lemmas.Bool.Decides.{nat_tests}
 use Rattle.riichi_blocks.specs.declared.hand_block.HandBlock.{HandBlock}
 use Rattle.riichi_blocks.specs.declared.hand_block.HandBlock.TheVariants.{Run, Triplet, Kong, Pair}
 use Rattle.riichi_blocks.specs.HandBlocks.{is_run, is_run_from, has_run, is_triplet, is_triplet_of, has_triplet}
-use Rattle.riichi_blocks.specs.Kinds.{is_dragon, is_wind}
+use Rattle.riichi_blocks.specs.BlockKinds.{has_orphan, has_terminal}
+use Rattle.riichi_blocks.specs.Kinds.{is_dragon, is_honour, is_terminal, is_wind}
+use Rattle.riichi_yaku.specs.Outside.{outside_of}
+use Rattle.riichi_yaku.specs.WinYaku.{no_outside}
 use Rattle.riichi_blocks.proofs.Tally.{counted-any}
 use Rattle.riichi_yaku.specs.Honours.{is_last_dragon, is_last_wind}
 use Rattle.riichi_yaku.specs.Runs.{begins_triple_chow, begins_straight, has_run_in_each_suit, has_straight_from}
@@ -261,3 +264,27 @@ triple-chow-by-number blocks =
     (λ any.
     let r = find-run (begins_triple_chow blocks) (has_run_in_each_suit blocks) (record { run = λ low. refl; triplet = λ kind shut. refl; kong = λ kind shut. refl; pair = λ kind. refl }) blocks any in
     chow-at blocks r.low (below-nine r.low (has_run blocks (r.low + 9)) (has_run blocks (r.low + 18)) r.so) (both (has_run blocks r.low) (has_run_in_each_suit blocks r.low) r.there r.so))
+
+-- ---- no yaku of terminals
+
+or-first : (a b : Bool) → (a || b) ≡ false → a ≡ false
+or-first true b e = absurd (cc)
+or-first false b e = refl
+
+no-terminal : (block : HandBlock) → has_orphan block ≡ false → has_terminal block ≡ false
+no-terminal (Run low) e = e
+no-terminal (Triplet kind shut) e = or-first (is_terminal kind) (is_honour kind) e
+no-terminal (Kong kind shut) e = or-first (is_terminal kind) (is_honour kind) e
+no-terminal (Pair kind) e = or-first (is_terminal kind) (is_honour kind) e
+
+all-false : (a b c d : Bool) → (a ≡ false → c ≡ false) → (b ≡ false → d ≡ false) → (a && b) ≡ false → (c && d) ≡ false
+all-false true b c d f g e = and-false c d (g e)
+all-false false b c d f g e = ap (λ x. x && d) (f refl)
+
+no-terminals : (blocks : List HandBlock) → list_all has_orphan blocks ≡ false → list_all has_terminal blocks ≡ false
+no-terminals [] e = absurd (cc)
+no-terminals (block ∷ blocks) e = all-false (has_orphan block) (list_all has_orphan blocks) (has_terminal block) (list_all has_terminal blocks) (no-terminal block) (no-terminals blocks) e
+
+-- a block without terminals and honours keeps both yaku off
+pub no-outside : (blocks : List HandBlock) → list_all has_orphan blocks ≡ false → outside_of blocks ≡ no_outside
+no-outside blocks e = rw (e, no-terminals blocks e) refl

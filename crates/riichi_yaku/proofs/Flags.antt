@@ -68,7 +68,7 @@ lt-step : (b : Bool) (n p : ℕ) → n < p → cond b 1 0 + 2 * n < p + p
 lt-step true n p h = omega (arith, h)
 lt-step false n p h = omega (arith, h)
 
-number_of-lt : (flags : List Bool) → number_of flags < 2 ^ length flags
+pub number_of-lt : (flags : List Bool) → number_of flags < 2 ^ length flags
 number_of-lt [] = omega arith
 number_of-lt (b ∷ flags) = omega (arith, lt-step b (number_of flags) (2 ^ length flags) (number_of-lt flags), two-pow-succ (length flags))
 

@@ -4,3 +4,4 @@ pub mod Flags
 pub mod Sets
 pub mod Words
 pub mod FewBlocks
+pub mod Joined

@@ -7,4 +7,5 @@ pub mod Tiles
 pub mod Yakuman
 pub mod YakuSets
 pub mod Conditions
+pub mod WinYaku
 pub mod Table

@@ -1,8 +1,9 @@
 //! The yaku that hold of a reading.
-ghost use Rattle.std.specs.Prelude.{◌≡◌, ◌<◌, ◌≤◌, ◌*◌, ◌^◌, ◌==◌, ℕ, IsTrue, false, length, if◌then◌else◌};
-ghost use Rattle.riichi_blocks.specs.HandBlocks.{blocks_of};
+ghost use Rattle.std.specs.Prelude.{◌≡◌, ◌<◌, ◌≤◌, ◌*◌, ◌^◌, ◌==◌, ℕ, IsTrue, false, true, [], length, if◌then◌else◌};
+ghost use Rattle.riichi_blocks.specs.HandBlocks.{blocks_of, is_standard};
 ghost use Rattle.riichi_blocks.specs.Held.{all_tiles};
 ghost use Rattle.riichi_yaku.specs.Conditions as spec;
+ghost use Rattle.riichi_yaku.specs.WinYaku as told_spec;
 ghost use Rattle.riichi_yaku.specs.YakuSets.{number_of, has_number, is_yakuman};
 
 use crate::YakuSet;
@@ -12,8 +13,9 @@ use crate::outside::{Outside, outside_of};
 use crate::runs::{Runs, runs_of};
 use crate::tiles::{Tiles, tiles_of};
 use crate::triplets::{Triplets, triplets_of};
+use crate::win_yaku::{WinYaku, yaku_of_win};
 use crate::yaku_set::FIRST_YAKUMAN;
-use crate::yakuman::{Yakuman, yakuman_of};
+use crate::yakuman::{Yakuman, yakuman_of_blocks, yakuman_without_blocks};
 use riichi_blocks::{AllTiles, Blocks, all_tiles, blocks_of};
 use riichi_hand::WinRecord;
 use riichi_split::Reading;
@@ -24,25 +26,74 @@ pub fn yaku(reading: &Reading, win: &WinRecord) -> YakuSet
     ensures each { (number : ℕ) → has_number result number ≡ spec.holds reading.now win.now number }
     ensures alone { IsTrue (is_yakuman result) → (number : ℕ) → number < 29 → has_number result number ≡ false }
 {
-    yaku_among(&blocks_of(reading, win), reading, &all_tiles(win), win)
+    let tiles = all_tiles(win);
+    let told = yaku_of_win(&tiles, win);
+    yaku_among(&blocks_of(reading, win), reading, &tiles, &told, win)
 }
 
-/// The yaku that hold of a reading, by its blocks and every tile of the win, for a caller that has these.
-pub fn yaku_among(blocks: &Blocks, reading: &Reading, tiles: &AllTiles, win: &WinRecord) -> YakuSet
+/// The yaku that hold of a reading, for a caller that has its blocks, and every tile and the yaku of the win.
+pub fn yaku_among(
+    blocks: &Blocks,
+    reading: &Reading,
+    tiles: &AllTiles,
+    told: &WinYaku,
+    win: &WinRecord,
+) -> YakuSet
     requires blocks { blocks.now ≡ blocks_of reading.now win.now }
     requires tiles { tiles.now ≡ all_tiles win.now }
+    requires told { told.now ≡ told_spec.win_yaku win.now }
+    ensures { result ≡ spec.yaku_of reading.now win.now }
+{
+    match reading {
+        Reading::Standard { .. } => yaku_of_blocks(blocks, reading, told, win),
+        Reading::SevenPairs => yaku_without_blocks(&Reading::SevenPairs, tiles, win),
+        Reading::Orphans => yaku_without_blocks(&Reading::Orphans, tiles, win),
+    }
+}
+
+/// The yaku of a standard reading: those of its blocks, and those of the win.
+fn yaku_of_blocks(blocks: &Blocks, reading: &Reading, told: &WinYaku, win: &WinRecord) -> YakuSet
+    requires standard { is_standard reading.now ≡ true }
+    requires blocks { blocks.now ≡ blocks_of reading.now win.now }
+    requires told { told.now ≡ told_spec.win_yaku win.now }
     ensures { result ≡ spec.yaku_of reading.now win.now }
 {
     let ordinary = ordinary(
-        &luck_of(win),
+        &Luck::none(),
         &honours_of(blocks, win),
-        &runs_of(blocks, reading, win),
+        &runs_of(told.concealed, blocks, reading, win),
         &outside_of(blocks),
         &triplets_of(blocks),
-        &tiles_of(reading, tiles),
+        &Tiles::none(),
     );
-    let yakuman = yakuman(&yakuman_of(blocks, reading, tiles, win));
+    let yakuman = yakuman(&yakuman_of_blocks(blocks));
+    YakuSet::new(yakuman_alone(told.ordinary + ordinary, told.yakuman + yakuman))
+}
+
+/// The yaku of seven pairs or of thirteen orphans.
+fn yaku_without_blocks(reading: &Reading, tiles: &AllTiles, win: &WinRecord) -> YakuSet
+    requires none { blocks_of reading.now win.now ≡ [] }
+    requires tiles { tiles.now ≡ all_tiles win.now }
+    ensures { result ≡ spec.yaku_of reading.now win.now }
+{
+    let ordinary = without_blocks(&luck_of(win), &tiles_of(reading, tiles));
+    let yakuman = yakuman(&yakuman_without_blocks(reading, tiles, win));
     YakuSet::new(yakuman_alone(ordinary, yakuman))
+}
+
+/// The numbers 0 to 28 of those yaku that blocks have no part in.
+pub(crate) fn without_blocks(luck: &Luck, tiles: &Tiles) -> u64
+    ensures value { result ≡ number_of (spec.ordinary_flags luck.now told_spec.no_honours told_spec.no_runs told_spec.no_outside told_spec.no_triplets tiles.now) }
+    ensures below { result < 2 ^ 29 }
+{
+    ordinary(
+        luck,
+        &Honours::none(),
+        &Runs::none(),
+        &Outside::none(),
+        &Triplets::none(),
+        tiles,
+    )
 }
 
 /// Where a yakuman holds, the set has these alone. Their numbers begin at 29.
@@ -60,6 +111,7 @@ fn yakuman_alone(ordinary: u64, yakuman: u64) -> u64
 }
 
 /// The numbers 0 to 28, in the order of the table.
+#[inline(always)]
 fn ordinary(
     luck: &Luck,
     honours: &Honours,
@@ -105,7 +157,8 @@ fn ordinary(
 }
 
 /// The numbers 29 to 40, in the order of the table, the first of them as bit 0.
-fn yakuman(yakuman: &Yakuman) -> u64
+#[inline(always)]
+pub(crate) fn yakuman(yakuman: &Yakuman) -> u64
     ensures value { result ≡ number_of (spec.yakuman_flags yakuman.now) }
     ensures below { result < 2 ^ 12 }
 {
@@ -126,6 +179,7 @@ fn yakuman(yakuman: &Yakuman) -> u64
 }
 
 /// The number whose bits these are, the lowest first.
+#[inline(always)]
 fn number(flags: &[bool]) -> u64
     requires { length flags.now ≤ 29 }
     ensures value { result ≡ number_of flags.now }

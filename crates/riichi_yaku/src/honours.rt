@@ -2,6 +2,7 @@
 ghost use Rattle.std.specs.Prelude.{◌≡◌};
 ghost use Rattle.riichi_yaku.specs.Honours as spec;
 ghost use Rattle.riichi_blocks.specs.Kinds.{dragons, winds};
+ghost use Rattle.riichi_yaku.specs.WinYaku as told;
 
 use riichi_blocks::{Blocks, EAST, GREEN, HandBlock, KINDS, RED, WHITE, is_dragon, is_wind};
 use riichi_hand::WinRecord;
@@ -15,6 +16,22 @@ pub(crate) struct Honours {
     pub seat_wind: bool,
     pub prevalent_wind: bool,
     pub little_three_dragons: bool,
+}
+
+impl Honours {
+    /// None of these.
+    pub(crate) fn none() -> Honours
+        ensures { result ≡ told.no_honours }
+    {
+        Honours {
+            white_dragon: false,
+            green_dragon: false,
+            red_dragon: false,
+            seat_wind: false,
+            prevalent_wind: false,
+            little_three_dragons: false,
+        }
+    }
 }
 
 fn is_white_dragon(blocks: &Blocks) -> bool

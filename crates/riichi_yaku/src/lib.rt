@@ -17,10 +17,12 @@ mod table;
 mod tests;
 mod tiles;
 mod triplets;
+mod win_yaku;
 mod yaku_set;
 mod yakuman;
 
 pub use conditions::{yaku, yaku_among};
 pub use runs::is_pinfu;
 pub use table::{han_of, push_words, word};
+pub use win_yaku::{WinYaku, yaku_of_win};
 pub use yaku_set::YakuSet;

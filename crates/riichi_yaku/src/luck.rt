@@ -1,6 +1,7 @@
 //! The yaku of how the hand was won.
 ghost use Rattle.std.specs.Prelude.{◌≡◌};
 ghost use Rattle.riichi_yaku.specs.Luck as spec;
+ghost use Rattle.riichi_yaku.specs.WinYaku as told;
 
 use riichi_blocks::is_ron;
 use riichi_hand::WinRecord;
@@ -15,6 +16,23 @@ pub(crate) struct Luck {
     pub after_a_kong: bool,
     pub robbing_the_kong: bool,
     pub last_tile: bool,
+}
+
+impl Luck {
+    /// None of these.
+    pub(crate) fn none() -> Luck
+        ensures { result ≡ told.no_luck }
+    {
+        Luck {
+            riichi: false,
+            double_riichi: false,
+            ippatsu: false,
+            fully_concealed: false,
+            after_a_kong: false,
+            robbing_the_kong: false,
+            last_tile: false,
+        }
+    }
 }
 
 fn is_riichi(win: &WinRecord) -> bool

@@ -4,6 +4,7 @@ ghost use Rattle.std.specs.List.{list_any, range_with_len};
 ghost use Rattle.riichi_tiles.specs.Melds.{are_concealed};
 ghost use Rattle.riichi_blocks.specs.HandBlocks.{has_run};
 ghost use Rattle.riichi_yaku.specs.Runs as spec;
+ghost use Rattle.riichi_yaku.specs.WinYaku as told;
 
 use riichi_blocks::{Blocks, HandBlock, has_plain_pair, has_two_sided_wait};
 use riichi_hand::WinRecord;
@@ -17,6 +18,21 @@ pub(crate) struct Runs {
     pub mixed_triple_chow: bool,
     pub pure_straight: bool,
     pub twice_pure_double_chow: bool,
+}
+
+impl Runs {
+    /// None of these.
+    pub(crate) fn none() -> Runs
+        ensures { result ≡ told.no_runs }
+    {
+        Runs {
+            pinfu: false,
+            pure_double_chow: false,
+            mixed_triple_chow: false,
+            pure_straight: false,
+            twice_pure_double_chow: false,
+        }
+    }
 }
 
 fn are_four_runs(blocks: &Blocks) -> bool
@@ -135,10 +151,11 @@ fn is_pure_straight(blocks: &Blocks) -> bool
         .any(|block| begins_straight(blocks, block))
 }
 
-pub(crate) fn runs_of(blocks: &Blocks, reading: &Reading, win: &WinRecord) -> Runs
+/// Where it is told whether the hand is concealed.
+pub(crate) fn runs_of(concealed: bool, blocks: &Blocks, reading: &Reading, win: &WinRecord) -> Runs
+    requires { concealed ≡ are_concealed win.now.melds }
     ensures { result ≡ spec.runs_of blocks.now reading.now win.now }
 {
-    let concealed = win.melds().concealed();
     let twice = is_twice_pure_double_chow(concealed, blocks, win);
     Runs {
         pinfu: is_pinfu_if(concealed, blocks, reading, win),

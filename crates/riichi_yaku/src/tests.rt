@@ -110,7 +110,9 @@ fn tells_an_open_hand(rt: HostRuntime) -> Result<(), Fail> {
         assert_eq!(rt; han_of(set, false), 2);
         let blocks = blocks_of(&reading, &win);
         assert!(rt; !is_pinfu(&blocks, &reading, &win));
-        assert!(rt; yaku_among(&blocks, &reading, &all_tiles(&win), &win) == set);
+        let all = all_tiles(&win);
+        let told = yaku_of_win(&all, &win);
+        assert!(rt; yaku_among(&blocks, &reading, &all, &told, &win) == set);
     }
     Ok(())
 }

@@ -1,6 +1,7 @@
 //! The yaku of triplets and kongs.
 ghost use Rattle.std.specs.Prelude.{◌≡◌, ◌<◌};
 ghost use Rattle.riichi_yaku.specs.Triplets as spec;
+ghost use Rattle.riichi_yaku.specs.WinYaku as told;
 
 use riichi_blocks::{Blocks, HandBlock};
 
@@ -11,6 +12,20 @@ pub(crate) struct Triplets {
     pub three_kongs: bool,
     pub all_pungs: bool,
     pub three_concealed_pungs: bool,
+}
+
+impl Triplets {
+    /// None of these.
+    pub(crate) fn none() -> Triplets
+        ensures { result ≡ told.no_triplets }
+    {
+        Triplets {
+            triple_pung: false,
+            three_kongs: false,
+            all_pungs: false,
+            three_concealed_pungs: false,
+        }
+    }
 }
 
 fn has_triplet_in_each_suit(blocks: &Blocks, kind: usize) -> bool

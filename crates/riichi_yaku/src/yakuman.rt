@@ -1,6 +1,7 @@
 //! The yakuman.
-ghost use Rattle.std.specs.Prelude.{◌≡◌, ◌<◌, ◌==◌, length};
+ghost use Rattle.std.specs.Prelude.{◌≡◌, ◌<◌, ◌==◌, [], length};
 ghost use Rattle.std.specs.List.{list_any, range_with_len};
+ghost use Rattle.riichi_yaku.specs.WinYaku as told;
 ghost use Rattle.riichi_yaku.specs.Yakuman as spec;
 
 use crate::honours::{has_dragon_triplets, has_wind_triplets, is_last_wind};
@@ -71,10 +72,17 @@ fn has_no_meld(win: &WinRecord) -> bool
     win.melds().count() == 0
 }
 
+/// Whether a standard reading of these tiles is nine gates.
+fn are_nine_gates(tiles: &AllTiles, win: &WinRecord) -> bool
+    ensures { result ≡ spec.is_nine_gates told.some_standard tiles.now win.now }
+{
+    has_no_meld(win) && has_all_gates(tiles)
+}
+
 fn is_nine_gates(reading: &Reading, tiles: &AllTiles, win: &WinRecord) -> bool
     ensures { result ≡ spec.is_nine_gates reading.now tiles.now win.now }
 {
-    is_standard(reading) && has_no_meld(win) && has_all_gates(tiles)
+    is_standard(reading) && are_nine_gates(tiles, win)
 }
 
 fn is_four_concealed_pungs(blocks: &Blocks) -> bool
@@ -143,25 +151,65 @@ fn is_blessing_of_earth(win: &WinRecord) -> bool
     win.flags().first && !is_dealer(win.seat())
 }
 
-pub(crate) fn yakuman_of(
-    blocks: &Blocks,
-    reading: &Reading,
-    tiles: &AllTiles,
-    win: &WinRecord,
-) -> Yakuman
-    ensures { result ≡ spec.yakuman_of blocks.now reading.now tiles.now win.now }
+/// Those that the blocks make.
+pub(crate) fn yakuman_of_blocks(blocks: &Blocks) -> Yakuman
+    ensures { result ≡ told.yakuman_of_blocks blocks.now }
 {
     Yakuman {
-        thirteen_orphans: is_thirteen_orphans(reading),
-        nine_gates: is_nine_gates(reading, tiles, win),
+        thirteen_orphans: false,
+        nine_gates: false,
         four_concealed_pungs: is_four_concealed_pungs(blocks),
         big_three_dragons: is_big_three_dragons(blocks),
         little_four_winds: is_little_four_winds(blocks),
         big_four_winds: is_big_four_winds(blocks),
+        all_honours: false,
+        all_terminals: false,
+        all_green: false,
+        four_kongs: is_four_kongs(blocks),
+        blessing_of_heaven: false,
+        blessing_of_earth: false,
+    }
+}
+
+/// Those of any standard reading that the blocks have no part in.
+pub(crate) fn yakuman_of_standard(tiles: &AllTiles, win: &WinRecord) -> Yakuman
+    ensures { result ≡ spec.yakuman_of [] told.some_standard tiles.now win.now }
+{
+    Yakuman {
+        thirteen_orphans: false,
+        nine_gates: are_nine_gates(tiles, win),
+        four_concealed_pungs: false,
+        big_three_dragons: false,
+        little_four_winds: false,
+        big_four_winds: false,
+        all_honours: tiles.are_honours(),
+        all_terminals: tiles.are_terminals(),
+        all_green: tiles.are_green(),
+        four_kongs: false,
+        blessing_of_heaven: is_blessing_of_heaven(win),
+        blessing_of_earth: is_blessing_of_earth(win),
+    }
+}
+
+/// Those of a reading without blocks.
+pub(crate) fn yakuman_without_blocks(
+    reading: &Reading,
+    tiles: &AllTiles,
+    win: &WinRecord,
+) -> Yakuman
+    ensures { result ≡ spec.yakuman_of [] reading.now tiles.now win.now }
+{
+    Yakuman {
+        thirteen_orphans: is_thirteen_orphans(reading),
+        nine_gates: is_nine_gates(reading, tiles, win),
+        four_concealed_pungs: false,
+        big_three_dragons: false,
+        little_four_winds: false,
+        big_four_winds: false,
         all_honours: is_all_honours(reading, tiles),
         all_terminals: is_all_terminals(reading, tiles),
         all_green: is_all_green(reading, tiles),
-        four_kongs: is_four_kongs(blocks),
+        four_kongs: false,
         blessing_of_heaven: is_blessing_of_heaven(win),
         blessing_of_earth: is_blessing_of_earth(win),
     }

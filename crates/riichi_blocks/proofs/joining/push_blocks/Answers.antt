@@ -2,7 +2,7 @@ use Rattle.std.proofs.Common.{◌++◌, ◌∷◌, [], List, map, sym, ap, ◌�
 use Rattle.riichi_blocks.specs.declared.hand_block.HandBlock.{HandBlock}
 use Rattle.riichi_blocks.specs.declared.hand_block.HandBlock.TheVariants.{Pair}
 use Rattle.riichi_blocks.specs.HandBlocks.{of_set, of_meld, blocks_of}
-use Rattle.riichi_blocks.proofs.joining.blocks_of.Goals as goal
+use Rattle.riichi_blocks.proofs.joining.push_blocks.Goals as goal
 
 pub returns-in-Standard : goal.returns-in-Standard
 returns-in-Standard c =
