@@ -3,7 +3,6 @@ ghost use Rattle.std.specs.Prelude.{ℕ, List, ◌≡◌, ◌+◌, ◌-◌, ◌^
 ghost use Rattle.riichi_rows.specs.Marks.{IsMarkedRow};
 ghost use Rattle.riichi_rows.specs.Ranks.{AreRanks, AreRanksWithoutRuns, AreSuitLanes};
 
-use crate::costs::Costs;
 use crate::marked_lanes::MarkedLanes;
 use crate::open::{Open, before_without_runs, often_without_runs};
 use crate::row::SuitRow;
@@ -111,10 +110,8 @@ pub(crate) fn lanes_from(later: Open, counts: &[u8; 9], caps: &[u8; 9]) -> SuitL
 {
     let added = later.begun_before(counts[1], caps[1], bit_of(1)).added();
     SuitLanes {
-        all: added.lanes(0, &Costs::new(counts[0], caps[0], 0)),
-        first: added
-            .lanes(0, &Costs::new(with_one(counts[0]), caps[0], 0))
-            .lacks,
+        all: added.first_lanes(counts[0], caps[0]),
+        first: added.first_lanes(with_one(counts[0]), caps[0]).lacks,
     }
 }
 
