@@ -10,9 +10,12 @@ use Rattle.std.proofs.lemmas.List.{get_or_append_left, get_or_default, get_or_at
 use Rattle.std.proofs.lemmas.List.FromFn.{get_or-map-range_with_len, length-map-range_with_len}
 use Rattle.std.proofs.lemmas.Simd.{get_or-zip2, get_or-replicate, length-replicate, tops_compared, length-sel_l, get_or-sel_l, length-zip2, mask_l-mod}
 use lib.Lanes.{zip2, sel_l, top, mask_l, fold_l}
-use Rattle.riichi_rows.specs.Lanes.{SomeLane, capped, lane, mark, opposite}
+use Rattle.riichi_rows.specs.Lanes.{LaneOf, SomeLane, capped, lane, mark, opposite}
 use Rattle.riichi_rows.proofs.LackedRanks.{bit_of_both, has_bit}
+use Rattle.riichi_rows.specs.Join.{SumReached}
+use Rattle.riichi_rows.proofs.Joins.{min_is}
 use Rattle.riichi_rows.proofs.Lacking.{TakenBefore}
+use Rattle.riichi_rows.proofs.OneChanged.{LeastTaken}
 use Rattle.riichi_rows.proofs.LaneLemmas.{lesser, nones, picked, sixteen, length_lesser, lesser_at}
 
 -- ---- the lanes that stand opposite
@@ -42,6 +45,9 @@ turned_at xs long sets i few inside =
     get_or-map (λ k. get_or (xs ++ nones) k 0) (places sets) i 16 255 (omega arith)
     ∙ ap (λ k. get_or (xs ++ nones) k 0) (get_or-map-range_with_len (place sets) 0 16 i i 16 inside (omega arith))
     ∙ taken_at xs long (place sets i) (place_within sets i few)
+
+past_or_within : (sets s : ℕ) → (sets < s) ⊎ (s ≤ sets)
+past_or_within sets s = ⊎_elim (λ past. inl past) (λ within. inr (omega (arith, within))) (cases_lt sets s)
 
 opposite_is : (sets : ℕ) (f : ℕ → ℕ → ℕ) (s p : ℕ) → s ≤ sets → opposite sets f s p ≡ f (sets - s) (1 - p)
 opposite_is sets f s p within = grind (arith, nat_tests)
@@ -358,9 +364,6 @@ module _ (f g : ℕ → ℕ → ℕ) (sums : List ℕ) (sets least : ℕ) (few :
       }))
       side
 
-  side_of : (s : ℕ) → (sets < s) ⊎ (s ≤ sets)
-  side_of s = ⊎_elim (λ past. inl past) (λ within. inr (omega (arith, within))) (cases_lt sets s)
-
   found : (t : TakenBefore f g marked sets least (sets + 1)) → SomeLane sums least passes
   found t =
       let before = t.before in
@@ -382,7 +385,70 @@ module _ (f g : ℕ → ℕ → ℕ) (sums : List ℕ) (sets least : ℕ) (few :
       }
 
   pub taken_is : SomeLane sums least passes ↔ TakenBefore f g marked sets least (sets + 1)
-  taken_is = (λ t. own t.sets t.pairs t.few_sets t.few_pairs t.has_value t.test (side_of t.sets), found)
+  taken_is = (λ t. own t.sets t.pairs t.few_sets t.few_pairs t.has_value t.test (past_or_within sets t.sets), found)
 
 pub through : {A B C : Type 0} → A ↔ B → B ↔ C → A ↔ C
 through x y = (λ a. y.0 (x.0 a), λ z. x.1 (y.1 z))
+
+-- ---- the least lane
+
+module _ (xs both : List ℕ) (n : ℕ) (at : (s : ℕ) → s < 5 → lane both s 0 ≡ min (lane xs s 0) (lane xs s 1))
+    (is : n ≡ min (min (min (min (lane both 0 0) (lane both 1 0)) (lane both 2 0)) (lane both 3 0)) (lane both 4 0)) where
+  below_both : (s : ℕ) → s < 5 → n ≤ lane both s 0
+  below_both zero hs = omega (arith, is)
+  below_both (suc zero) hs = omega (arith, is)
+  below_both (suc (suc zero)) hs = omega (arith, is)
+  below_both (suc (suc (suc zero))) hs = omega (arith, is)
+  below_both (suc (suc (suc (suc zero)))) hs = omega (arith, is)
+  below_both (suc (suc (suc (suc (suc s))))) hs = absurd (omega arith)
+
+  pub least_bound : (s p : ℕ) → s < 5 → p < 2 → n ≤ lane xs s p
+  least_bound s zero hs hp = omega (arith, below_both s hs, at s hs)
+  least_bound s (suc zero) hs hp = omega (arith, below_both s hs, at s hs)
+  least_bound s (suc (suc p)) hs hp = absurd (omega arith)
+
+  reached_at : (s : ℕ) → s < 5 → n ≡ lane both s 0 → LaneOf xs n
+  reached_at s hs e =
+      ⊎_elim
+      (λ plain. record { sets = s; pairs = 0; few_sets = hs; few_pairs = omega arith; has_value = sym plain ∙ sym (at s hs) ∙ sym e })
+      (λ paired. record { sets = s; pairs = 1; few_sets = hs; few_pairs = omega arith; has_value = sym paired ∙ sym (at s hs) ∙ sym e })
+      (min_is (lane xs s 0) (lane xs s 1))
+
+  pub least_reached : LaneOf xs n
+  least_reached =
+      let two = min (lane both 0 0) (lane both 1 0) in
+      let three = min two (lane both 2 0) in
+      let four = min three (lane both 3 0) in
+      ⊎_elim
+      (λ e4. ⊎_elim
+      (λ e3. ⊎_elim
+      (λ e2. ⊎_elim (λ e1. reached_at 0 (omega arith) (is ∙ e4 ∙ e3 ∙ e2 ∙ e1)) (λ e1. reached_at 1 (omega arith) (is ∙ e4 ∙ e3 ∙ e2 ∙ e1)) (min_is (lane both 0 0) (lane both 1 0)))
+      (λ e2. reached_at 2 (omega arith) (is ∙ e4 ∙ e3 ∙ e2)) (min_is two (lane both 2 0)))
+      (λ e3. reached_at 3 (omega arith) (is ∙ e4 ∙ e3)) (min_is three (lane both 3 0)))
+      (λ e4. reached_at 4 (omega arith) (is ∙ e4)) (min_is four (lane both 4 0))
+
+module _ (f g : ℕ → ℕ → ℕ) (sums : List ℕ) (sets n : ℕ) (few : sets ≤ 4) (sum : (s p : ℕ) → s < 8 → p < 2 → lane sums s p ≡ capped (f s p + opposite sets g s p))
+    (bound : (s p : ℕ) → s < 5 → p < 2 → n ≤ lane sums s p) (at : LaneOf sums n) where
+  sum_at : (s p : ℕ) → s ≤ sets → p < 2 → lane sums s p ≡ capped (f s p + g (sets - s) (1 - p))
+  sum_at s p within hp = sum s p (omega (arith, within, few)) hp ∙ ap (λ m. capped (f s p + m)) (opposite_is sets g s p within)
+
+  least_in : (s p s' p' : ℕ) → s < sets + 1 → s + s' ≡ sets → p + p' ≡ 1 → n ≤ f s p + g s' p'
+  least_in s p s' p' low all one =
+      let there : g (sets - s) (1 - p) ≡ g s' p' = ap₂ g (omega (arith, all)) (omega (arith, one)) in
+      omega (arith, bound s p (omega (arith, low, few)) (omega (arith, one)), sum_at s p (omega (arith, low)) (omega (arith, one)), there)
+
+  sum_reached : (s p : ℕ) → s < 5 → p < 2 → lane sums s p ≡ n → n < 255 → (sets < s) ⊎ (s ≤ sets) → SumReached f g sets 1 n
+  sum_reached s p hs hp e low side =
+      ⊎_elim
+      (λ past. absurd (let whole = sum s p (omega (arith, hs)) hp in let none = opposite_none sets g s p past in omega (arith, whole, none, e, low)))
+      (λ within.
+      (let whole = sum_at s p within hp in
+      record { left_sets = s; left_pairs = p; right_sets = sets - s; right_pairs = 1 - p; sets = omega (arith, within); pairs = omega (arith, hp); value = omega (arith, whole, e, low) }))
+      side
+
+  pub taken_least : LeastTaken f g sets n (sets + 1)
+  taken_least = record {
+    bound = least_in;
+    reached = λ low. sum_reached at.sets at.pairs at.few_sets at.few_pairs at.has_value low (past_or_within sets at.sets);
+    few = (let e = at.has_value in let whole = sum at.sets at.pairs (let low = at.few_sets in omega (arith, low)) at.few_pairs in omega (arith, e, whole));
+  }

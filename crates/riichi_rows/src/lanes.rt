@@ -1,7 +1,7 @@
 //! Sixteen least lacks side by side: lane s is for s sets, lane 8 + s for s sets and a pair.
 
 ghost use Rattle.std.specs.Prelude.{◌≡◌, ◌+◌, ◌<◌, ◌≤◌, ℕ, length};
-ghost use Rattle.riichi_rows.specs.Lanes.{HasLanes, lane, none, nothing, with_set, with_pair, capped, opposite};
+ghost use Rattle.riichi_rows.specs.Lanes.{HasLanes, lane, none, nothing, with_set, with_pair, capped, opposite, LaneOf};
 ghost use Rattle.std.specs.Prelude.{min};
 
 use std::simd::prelude::*;
@@ -104,6 +104,29 @@ impl Lanes {
             ),
         };
         Lanes { lacks }
+    }
+
+    /// The same choices, those with a pair beside those without one.
+    fn pairs_first(self) -> Lanes
+        ensures { (s : ℕ) → s < 5 → lane result.lacks s 0 ≡ lane self.lacks s 1 }
+    {
+        let lacks = self
+            .lacks
+            .swizzle([8, 9, 10, 11, 12, 13, 14, 15, 0, 1, 2, 3, 4, 5, 6, 7]);
+        Lanes { lacks }
+    }
+
+    /// The least of all.
+    pub fn least(self) -> u8
+        ensures bound { (s p : ℕ) → s < 5 → p < 2 → result ≤ lane self.lacks s p }
+        ensures reached { LaneOf self.lacks result }
+    {
+        let lacks = self.or(self.pairs_first()).lacks.to_array();
+        lacks[0]
+            .min(lacks[1])
+            .min(lacks[2])
+            .min(lacks[3])
+            .min(lacks[4])
     }
 
     /// The better of two choices.
