@@ -37,19 +37,17 @@ fn last_two(counts: &[u8; 9], caps: &[u8; 9]) -> Open
     last.before(counts[7], caps[7], bit_of(7))
 }
 
-/// The same where the hand has so many of the two ranks, one of each at most, and a choice may hold
-/// four.
+/// The same where the hand has so many of the two ranks, and a choice may hold four.
 #[inline(always)]
-fn last_two_few(next_to_last: u8, last: u8) -> Open
-    requires next { next_to_last ≤ 1 }
-    requires last { last ≤ 1 }
+fn last_two_of(next_to_last: u8, last: u8) -> Open
     ensures { (counts caps : List ℕ) → length counts ≡ 9 → length caps ≡ 9 → ((r : ℕ) → r < 9 → slice_index caps r ≤ 4) → slice_index counts 7 ≡ next_to_last → slice_index counts 8 ≡ last → slice_index caps 7 ≡ 4 → slice_index caps 8 ≡ 4 → AreRanks 7 counts caps result }
 {
-    let after = Open::closed().before_few(last, bit_of(8));
-    after.before_few(next_to_last, bit_of(7))
+    let after = Open::closed().before(last, 4, bit_of(8));
+    after.before(next_to_last, 4, bit_of(7))
 }
 
-/// The last two ranks, of which most hands have one tile each at most.
+/// The last two ranks, of which most hands have two tiles each at most. Then the tables are known,
+/// and none is made.
 pub(crate) fn last_two_ranks(counts: &[u8; 9], caps: &[u8; 9]) -> Open
     requires { (r : ℕ) → r < 9 → slice_index caps.now r ≤ 4 }
     ensures { AreRanks 7 counts.now caps.now result }
@@ -58,10 +56,15 @@ pub(crate) fn last_two_ranks(counts: &[u8; 9], caps: &[u8; 9]) -> Open
         return last_two(counts, caps);
     }
     match (counts[7], counts[8]) {
-        (0, 0) => last_two_few(0, 0),
-        (0, 1) => last_two_few(0, 1),
-        (1, 0) => last_two_few(1, 0),
-        (1, 1) => last_two_few(1, 1),
+        (0, 0) => last_two_of(0, 0),
+        (0, 1) => last_two_of(0, 1),
+        (0, 2) => last_two_of(0, 2),
+        (1, 0) => last_two_of(1, 0),
+        (1, 1) => last_two_of(1, 1),
+        (1, 2) => last_two_of(1, 2),
+        (2, 0) => last_two_of(2, 0),
+        (2, 1) => last_two_of(2, 1),
+        (2, 2) => last_two_of(2, 2),
         _ => last_two(counts, caps),
     }
 }
