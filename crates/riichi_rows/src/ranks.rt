@@ -46,7 +46,7 @@ fn last_two_of(next_to_last: u8, last: u8) -> Open
     after.before(next_to_last, 4, bit_of(7))
 }
 
-/// The last two ranks, of which most hands have two tiles each at most. Then the tables are known,
+/// The last two ranks, of which most hands have three tiles each at most. Then the tables are known,
 /// and none is made.
 pub(crate) fn last_two_ranks(counts: &[u8; 9], caps: &[u8; 9]) -> Open
     requires { (r : ℕ) → r < 9 → slice_index caps.now r ≤ 4 }
@@ -59,12 +59,19 @@ pub(crate) fn last_two_ranks(counts: &[u8; 9], caps: &[u8; 9]) -> Open
         (0, 0) => last_two_of(0, 0),
         (0, 1) => last_two_of(0, 1),
         (0, 2) => last_two_of(0, 2),
+        (0, 3) => last_two_of(0, 3),
         (1, 0) => last_two_of(1, 0),
         (1, 1) => last_two_of(1, 1),
         (1, 2) => last_two_of(1, 2),
+        (1, 3) => last_two_of(1, 3),
         (2, 0) => last_two_of(2, 0),
         (2, 1) => last_two_of(2, 1),
         (2, 2) => last_two_of(2, 2),
+        (2, 3) => last_two_of(2, 3),
+        (3, 0) => last_two_of(3, 0),
+        (3, 1) => last_two_of(3, 1),
+        (3, 2) => last_two_of(3, 2),
+        (3, 3) => last_two_of(3, 3),
         _ => last_two(counts, caps),
     }
 }
