@@ -1,4 +1,4 @@
-use Rattle.std.proofs.Common.{◌≡◌, ℕ, zero, suc, ◌≤◌, get_or, refl, arith, replicate}
+use Rattle.std.proofs.Common.{◌≡◌, ℕ, zero, suc, get_or, refl, arith, replicate}
 use Rattle.riichi_shape.proofs.melded_tiles.counted_tiles.Goals as goal
 
 zeros : (n k : ℕ) → get_or (replicate {A = ℕ} n 0) k 0 ≡ 0
