@@ -1,6 +1,6 @@
 -- Marks that are gathered bit by bit, and those of the entries that take part.
-use Rattle.std.proofs.Common.{◌≡◌, ℕ, ◌+◌, ◌<◌, Bool, true, false, refl, sym, ap, ◌∙◌, ⊎_elim, inl, inr, arith}
-use Rattle.std.specs.Prelude.{◌↔◌, ◌⊎◌, ◌||◌, IsTrue, if◌then◌else◌, nat_lt, bit_and, bit_or}
+use Rattle.std.proofs.Common.{◌≡◌, ℕ, ◌<◌, Bool, true, false, sym, ap, ◌∙◌, ⊎_elim, inl, inr, arith}
+use Rattle.std.specs.Prelude.{◌⊎◌, ◌||◌, IsTrue, nat_lt, bit_and, bit_or}
 use Rattle.std.specs.Int.Bits.{and_zero_l}
 use Rattle.std.proofs.lemmas.Bool.{cases_lt, false≢true}
 use Rattle.std.proofs.lemmas.Bool.Decides.{nat_tests}
@@ -27,23 +27,12 @@ bit_of_both x y bit =
     (λ some. (let kept = or_keeps bit x y in some_is _ (omega (arith, some, kept)) ∙ sym (ap (λ (b : Bool). b || has_bit y bit) (some_is _ some))))
     (zero_or_some (bit_and x bit))
 
-pub bit_of_three : (l x y bit : ℕ) → has_bit (bit_or (bit_or l x) y) bit ≡ ((has_bit l bit || has_bit x bit) || has_bit y bit)
-bit_of_three l x y bit = bit_of_both (bit_or l x) y bit ∙ ap (λ (b : Bool). b || has_bit y bit) (bit_of_both l x bit)
-
 -- a mark that is below none and above nothing lowers the lack
-lowered : (bit lack here : ℕ) → lack < 255 → (lack ≡ 0 → here ≡ 0) → IsTrue (has_bit here bit) → IsTrue (nat_lt (lack_with bit lack here) lack)
+pub lowered : (bit lack here : ℕ) → lack < 255 → (lack ≡ 0 → here ≡ 0) → IsTrue (has_bit here bit) → IsTrue (nat_lt (lack_with bit lack here) lack)
 lowered bit lack here low sound marked = ⊎_elim (λ none. absurd (unmarked none)) (λ some. grind (arith, nat_tests)) (zero_or_some lack)
   where
     unmarked : lack ≡ 0 → ⊥
     unmarked none = false≢true (sym (none_is (bit_and here bit) (ap (λ (n : ℕ). bit_and n bit) (sound none) ∙ and_zero_l bit)) ∙ marked)
 
-is_lowered : (bit lack here : ℕ) → IsTrue (nat_lt (lack_with bit lack here) lack) → IsTrue (has_bit here bit)
+pub is_lowered : (bit lack here : ℕ) → IsTrue (nat_lt (lack_with bit lack here) lack) → IsTrue (has_bit here bit)
 is_lowered bit lack here less = grind (arith, nat_tests)
-
--- the marks of an entry that takes part, or none
-pub marked_entry : (takes : Bool) (bit lack here sum e : ℕ) → IsTrue takes ↔ (lack + sum ≡ e) → e < 255 → (lack ≡ 0 → here ≡ 0) →
-    IsTrue (has_bit (if takes then here else 0) bit) ↔ ((lack + sum ≡ e) × IsTrue (nat_lt (lack_with bit lack here) lack))
-marked_entry true bit lack here sum e is below sound =
-    (λ marked. (let total = is.0 refl in (total, lowered bit lack here (omega (arith, total, below)) sound marked)), λ h. is_lowered bit lack here h.1)
-marked_entry false bit lack here sum e is below sound =
-    (λ marked. absurd (false≢true (sym (none_is _ (and_zero_l bit)) ∙ marked)), λ h. absurd (false≢true (is.1 h.0)))

@@ -25,7 +25,7 @@ length_lesser xs ys lx ly =
 cond_min : (x y : ℕ) → cond (ltb x y) x y ≡ min x y
 cond_min x y = grind (arith, nat_tests)
 
-lesser_at : (xs ys : List ℕ) → length xs ≡ 16 → length ys ≡ 16 → (k : ℕ) → k < 16 → get_or (lesser xs ys) k 255 ≡ min (get_or xs k 255) (get_or ys k 255)
+pub lesser_at : (xs ys : List ℕ) → length xs ≡ 16 → length ys ≡ 16 → (k : ℕ) → k < 16 → get_or (lesser xs ys) k 255 ≡ min (get_or xs k 255) (get_or ys k 255)
 lesser_at xs ys lx ly k h =
     let tests : length (zip2 ltb xs ys) ≡ length xs = length-zip2 ltb xs ys (omega arith) in
     let picked = get_or-sel_l (zip2 ltb xs ys) xs ys k 255 (omega arith) (omega arith) (omega arith) in

@@ -12,6 +12,7 @@ pub mod Marked
 pub mod MarkedRanks
 pub mod OneChanged
 pub mod OneMore
+pub mod Opposite
 pub mod RankLanes
 pub mod Spread
 pub mod Steps

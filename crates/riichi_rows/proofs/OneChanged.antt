@@ -1,43 +1,13 @@
 -- One row joined with the kept join of three.
-use Rattle.std.proofs.Common.{◌≡◌, ℕ, ◌+◌, ◌<◌, ◌≤◌, min, sym, ◌∙◌, ⊎_elim, subst, Some, None, arith}
-use Rattle.std.proofs.lemmas.Bool.{cases_lt}
+use Rattle.std.proofs.Common.{◌≡◌, ℕ, ◌+◌, ◌<◌, ◌≤◌, Some, None, arith}
 use Rattle.riichi_rows.specs.Join.{IsLeastSum, SumReached, EntriesSum, IsLeastJoin}
-use Rattle.riichi_rows.proofs.Joins.{entries, entry_is, entry_some, at_same, min_is}
+use Rattle.riichi_rows.proofs.Joins.{entries, entry_is, entry_some}
 
 -- the least sum where f takes fewer than n sets
 pub record LeastTaken (f g : ℕ → ℕ → ℕ) (sets least n : ℕ) : Type 0 where
   pub bound : (s p s' p' : ℕ) → s < n → s + s' ≡ sets → p + p' ≡ 1 → least ≤ f s p + g s' p'
   pub reached : least < 255 → SumReached f g sets 1 least
   pub few : least ≤ 255
-
-pub none_taken : (f g : ℕ → ℕ → ℕ) (sets least : ℕ) → least ≡ 255 → LeastTaken f g sets least 0
-none_taken f g sets least e = record { bound = λ s p s' p' low es ep. absurd (omega arith); reached = λ low. absurd (omega arith); few = omega arith }
-
-module _ (f g : ℕ → ℕ → ℕ) (sets least n left first paired second next : ℕ) (few : n + left ≡ sets) (is : LeastTaken f g sets least n)
-    (first_is : first ≡ min (f n 0 + g left 1) 255) (paired_is : paired ≡ min (f n 1 + g left 0) 255) (second_is : second ≡ min least first) (next_is : next ≡ min second paired) where
-  more_bound : (s p s' p' : ℕ) → s < n + 1 → s + s' ≡ sets → p + p' ≡ 1 → next ≤ f s p + g s' p'
-  more_bound s p s' p' low es ep = ⊎_elim (λ lower. (let b = is.bound s p s' p' lower es ep in omega arith)) (λ here. at_n p p' ep (omega arith)) (cases_lt s n)
-    where
-      at_n : (p p' : ℕ) → p + p' ≡ 1 → s ≡ n → next ≤ f s p + g s' p'
-      at_n p p' ep s_is = ⊎_elim (λ zero_p. (let there = at_same f s n p 0 s_is (omega arith) in let rest = at_same g s' left p' 1 (omega arith) (omega arith) in omega arith))
-          (λ one_p. (let there = at_same f s n p 1 s_is (omega arith) in let rest = at_same g s' left p' 0 (omega arith) (omega arith) in omega arith)) (cases_lt p 1)
-
-  more_reached : next < 255 → SumReached f g sets 1 next
-  more_reached low =
-      ⊎_elim (λ outer. ⊎_elim (λ inner. kept (next_is ∙ outer ∙ second_is ∙ inner)) (λ inner. plain (next_is ∙ outer ∙ second_is ∙ inner)) (min_is least first))
-      (λ outer. pair (next_is ∙ outer)) (min_is second paired)
-    where
-      kept : next ≡ least → SumReached f g sets 1 next
-      kept e = subst (λ (v : ℕ). SumReached f g sets 1 v) (sym e) (is.reached (omega arith))
-
-      plain : next ≡ first → SumReached f g sets 1 next
-      plain e = record { left_sets = n; left_pairs = 0; right_sets = left; right_pairs = 1; sets = few; pairs = omega arith; value = omega arith }
-
-      pair : next ≡ paired → SumReached f g sets 1 next
-      pair e = record { left_sets = n; left_pairs = 1; right_sets = left; right_pairs = 0; sets = few; pairs = omega arith; value = omega arith }
-
-  pub more_taken : LeastTaken f g sets next (n + 1)
-  more_taken = record { bound = more_bound; reached = more_reached; few = omega (arith, is.few) }
 
 module _ (a b c d two rest : ℕ → ℕ → ℕ) (two_least : IsLeastSum c d two) (rest_least : IsLeastSum b two rest) (sets n : ℕ) (few : sets ≤ 4) (is : LeastTaken a rest sets n (sets + 1))
     (small_a : (s p : ℕ) → s < 5 → p < 2 → a s p < 255 → a s p ≤ 36) (small_b : (s p : ℕ) → s < 5 → p < 2 → b s p < 255 → b s p ≤ 36)

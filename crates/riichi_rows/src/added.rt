@@ -38,6 +38,29 @@ impl Added {
         zero.or(one).or(two).or(three).or(four)
     }
 
+    /// The lanes of the first rank of a suit, where no run is open. It has no mark.
+    #[inline(always)]
+    fn first_by_costs(&self, have: u8, limit: u8) -> MarkedLanes
+        requires { limit ≤ 4 }
+        ensures { (other : ℕ) (counts caps : List ℕ) (later : table.Begun) → table.FewAdded (added_seen 0 self.now) → table.IsAdded later (added_seen other self.now) → table.LeastBegun counts caps 0 later → AreLeast true (have ∷ counts) (limit ∷ caps) 0 0 (seen other result) }
+    {
+        self.lanes(0, &Costs::new(have, limit, 0))
+    }
+
+    /// The same. Mostly there are few tiles and a choice may hold four: then the costs are known.
+    #[inline(always)]
+    pub fn first_lanes(&self, have: u8, limit: u8) -> MarkedLanes
+        requires { limit ≤ 4 }
+        ensures { (other : ℕ) (counts caps : List ℕ) (later : table.Begun) → table.FewAdded (added_seen 0 self.now) → table.IsAdded later (added_seen other self.now) → table.LeastBegun counts caps 0 later → AreLeast true (have ∷ counts) (limit ∷ caps) 0 0 (seen other result) }
+    {
+        match (have, limit) {
+            (0, 4) => self.first_by_costs(0, 4),
+            (1, 4) => self.first_by_costs(1, 4),
+            (2, 4) => self.first_by_costs(2, 4),
+            _ => self.first_by_costs(have, limit),
+        }
+    }
+
     /// What takes one tile of the rank at most. Here and below each tile is lacking: the costs are
     /// those of a rank that has none of four.
     #[inline(always)]

@@ -6,7 +6,7 @@ ghost use Rattle.riichi_rows.specs.Row.{entries_of, AreJoinedThree};
 ghost use Rattle.riichi_rows.specs.declared.row.SuitRow.{SuitRow};
 
 use crate::join::join_lanes;
-use crate::lanes::{Lanes, NONE};
+use crate::lanes::{Lanes, NONE, add_lanes};
 use crate::row::SuitRow;
 
 /// The least sums of the rows of some suits, by sets and pairs.
@@ -40,16 +40,8 @@ impl JoinedRows {
         requires { sets ≤ 4 }
         ensures { (b c d : SuitRow) → AreJoinedThree b c d self.now → IsLeastJoin (entries_of row.now) (entries_of b) (entries_of c) (entries_of d) sets result }
     {
-        let lacks = row.entries.lacks.to_array();
-        let sums = self.sums.lacks.to_array();
-        let mut least = NONE;
-        for taken in 0..sets + 1 {
-            let here = taken as usize;
-            let there = (sets - taken) as usize;
-            let plain = lacks[here].saturating_add(sums[8 + there]);
-            let paired = lacks[8 + here].saturating_add(sums[there]);
-            least = least.min(plain).min(paired);
-        }
+        let sums = add_lanes(row.entries.lacks, self.sums.opposite(sets).lacks);
+        let least = sums.least();
         if least < NONE { Some(least) } else { None }
     }
 }

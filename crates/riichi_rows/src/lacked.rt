@@ -1,17 +1,29 @@
 //! The ranks that the least choices of a suit lack, beside the other suits.
-ghost use Rattle.std.specs.Prelude.{ℕ, ◌≡◌, ◌↔◌, ◌+◌, ◌<◌, ◌≤◌, IsTrue, if◌then◌else◌};
+ghost use Rattle.std.specs.Prelude.{ℕ, ◌≡◌, ◌↔◌, ◌<◌, ◌≤◌, IsTrue, bit_and, nat_lt};
+ghost use Rattle.riichi_rows.specs.Lanes.{SomeLane, lane, mark};
 ghost use Rattle.riichi_rows.specs.Marks.{has_rank, MarkedBeside};
 
 use crate::joined::JoinedRows;
+use crate::lanes::{Lanes, add_lanes};
 use crate::rank_set::RankSet;
 use crate::row::SuitRow;
+use std::simd::prelude::*;
 
-/// Two lacks add up to the least.
-fn is_sum(own: u8, others: u8, least: u8) -> bool
-    requires { least < 255 }
-    ensures { IsTrue result ↔ (own + others ≡ least) }
+/// Whether one tile more makes some lane lack fewer, of those whose sum is just `least`.
+fn any_fewer(sums: Lanes, least: u8, lacks: Lanes, fewer: Lanes) -> bool
+    ensures { IsTrue result ↔ SomeLane sums.lacks least (λ s p. nat_lt (lane fewer.lacks s p) (lane lacks.lacks s p)) }
 {
-    own.saturating_add(others) == least
+    let takes_part = sums.lacks.simd_eq(u8x16::splat(least));
+    let with_more = takes_part.select(fewer.lacks, lacks.lacks);
+    with_more.simd_lt(lacks.lacks).to_bitmask() > 0
+}
+
+/// The marks of the lanes whose sum is just `least`, together.
+fn marks_at(sums: Lanes, least: u8, marks: u8x16) -> u8
+    ensures { (bit : ℕ) → IsTrue (nat_lt 0 (bit_and result bit)) ↔ SomeLane sums.lacks least (λ s p. nat_lt 0 (bit_and (mark marks s p) bit)) }
+{
+    let takes_part = sums.lacks.simd_eq(u8x16::splat(least));
+    takes_part.select(marks, u8x16::splat(0)).reduce_or()
 }
 
 impl JoinedRows {
@@ -22,29 +34,10 @@ impl JoinedRows {
         requires least { least < 255 }
         ensures { (rank : ℕ) → rank < 9 → IsTrue (has_rank result rank) ↔ MarkedBeside row.now self.now sets least rank }
     {
-        let lacks = row.entries.lacks.to_array();
-        let fewer = row.first.lacks.to_array();
-        let marks = row.marks.to_array();
-        let sums = self.sums.lacks.to_array();
-        let mut first = false;
-        let mut later = 0;
-        for taken in 0..sets + 1 {
-            let here = taken as usize;
-            let there = (sets - taken) as usize;
-            let plain = is_sum(lacks[here], sums[8 + there], least);
-            let paired = is_sum(lacks[8 + here], sums[there], least);
-            first = first
-                | (plain & (fewer[here] < lacks[here]))
-                | (paired & (fewer[8 + here] < lacks[8 + here]));
-            later = later | marks_if(plain, marks[here]) | marks_if(paired, marks[8 + here]);
+        let sums = add_lanes(row.entries.lacks, self.sums.opposite(sets).lacks);
+        RankSet {
+            first: any_fewer(sums, least, row.entries, row.first),
+            later: marks_at(sums, least, row.marks),
         }
-        RankSet { first, later }
     }
-}
-
-/// The marks of an entry that takes part.
-fn marks_if(takes_part: bool, marks: u8) -> u8
-    ensures { result ≡ (if takes_part then marks else 0) }
-{
-    if takes_part { marks } else { 0 }
 }

@@ -167,6 +167,7 @@ impl Open {
         match (have, limit) {
             (0, 4) => *self = self.before_few(0, bit),
             (1, 4) => *self = self.before_few(1, bit),
+            (2, 4) => *self = self.before(2, 4, bit),
             _ => *self = self.before(have, limit, bit),
         }
     }
@@ -181,6 +182,7 @@ impl Open {
         match (have, limit) {
             (0, 4) => self.before_few(0, bit).zero,
             (1, 4) => self.before_few(1, bit).zero,
+            (2, 4) => self.before(2, 4, bit).zero,
             _ => self.before(have, limit, bit).zero,
         }
     }

@@ -3,7 +3,6 @@ ghost use Rattle.std.specs.Prelude.{ℕ, List, ◌≡◌, ◌+◌, ◌-◌, ◌^
 ghost use Rattle.riichi_rows.specs.Marks.{IsMarkedRow};
 ghost use Rattle.riichi_rows.specs.Ranks.{AreRanks, AreRanksWithoutRuns, AreSuitLanes};
 
-use crate::costs::Costs;
 use crate::marked_lanes::MarkedLanes;
 use crate::open::{Open, before_without_runs, often_without_runs};
 use crate::row::SuitRow;
@@ -38,19 +37,17 @@ fn last_two(counts: &[u8; 9], caps: &[u8; 9]) -> Open
     last.before(counts[7], caps[7], bit_of(7))
 }
 
-/// The same where the hand has so many of the two ranks, one of each at most, and a choice may hold
-/// four.
+/// The same where the hand has so many of the two ranks, and a choice may hold four.
 #[inline(always)]
-fn last_two_few(next_to_last: u8, last: u8) -> Open
-    requires next { next_to_last ≤ 1 }
-    requires last { last ≤ 1 }
+fn last_two_of(next_to_last: u8, last: u8) -> Open
     ensures { (counts caps : List ℕ) → length counts ≡ 9 → length caps ≡ 9 → ((r : ℕ) → r < 9 → slice_index caps r ≤ 4) → slice_index counts 7 ≡ next_to_last → slice_index counts 8 ≡ last → slice_index caps 7 ≡ 4 → slice_index caps 8 ≡ 4 → AreRanks 7 counts caps result }
 {
-    let after = Open::closed().before_few(last, bit_of(8));
-    after.before_few(next_to_last, bit_of(7))
+    let after = Open::closed().before(last, 4, bit_of(8));
+    after.before(next_to_last, 4, bit_of(7))
 }
 
-/// The last two ranks, of which most hands have one tile each at most.
+/// The last two ranks, of which most hands have three tiles each at most. Then the tables are known,
+/// and none is made.
 pub(crate) fn last_two_ranks(counts: &[u8; 9], caps: &[u8; 9]) -> Open
     requires { (r : ℕ) → r < 9 → slice_index caps.now r ≤ 4 }
     ensures { AreRanks 7 counts.now caps.now result }
@@ -59,10 +56,22 @@ pub(crate) fn last_two_ranks(counts: &[u8; 9], caps: &[u8; 9]) -> Open
         return last_two(counts, caps);
     }
     match (counts[7], counts[8]) {
-        (0, 0) => last_two_few(0, 0),
-        (0, 1) => last_two_few(0, 1),
-        (1, 0) => last_two_few(1, 0),
-        (1, 1) => last_two_few(1, 1),
+        (0, 0) => last_two_of(0, 0),
+        (0, 1) => last_two_of(0, 1),
+        (0, 2) => last_two_of(0, 2),
+        (0, 3) => last_two_of(0, 3),
+        (1, 0) => last_two_of(1, 0),
+        (1, 1) => last_two_of(1, 1),
+        (1, 2) => last_two_of(1, 2),
+        (1, 3) => last_two_of(1, 3),
+        (2, 0) => last_two_of(2, 0),
+        (2, 1) => last_two_of(2, 1),
+        (2, 2) => last_two_of(2, 2),
+        (2, 3) => last_two_of(2, 3),
+        (3, 0) => last_two_of(3, 0),
+        (3, 1) => last_two_of(3, 1),
+        (3, 2) => last_two_of(3, 2),
+        (3, 3) => last_two_of(3, 3),
         _ => last_two(counts, caps),
     }
 }
@@ -111,10 +120,8 @@ pub(crate) fn lanes_from(later: Open, counts: &[u8; 9], caps: &[u8; 9]) -> SuitL
 {
     let added = later.begun_before(counts[1], caps[1], bit_of(1)).added();
     SuitLanes {
-        all: added.lanes(0, &Costs::new(counts[0], caps[0], 0)),
-        first: added
-            .lanes(0, &Costs::new(with_one(counts[0]), caps[0], 0))
-            .lacks,
+        all: added.first_lanes(counts[0], caps[0]),
+        first: added.first_lanes(with_one(counts[0]), caps[0]).lacks,
     }
 }
 

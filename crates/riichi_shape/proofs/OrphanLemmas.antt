@@ -1,6 +1,11 @@
 -- Thirteen orphans: one tile for each kind that is missing, and one where none is held twice.
-use Rattle.std.proofs.Common.{◌≡◌, ℕ, ◌+◌, ◌-◌, ◌<◌, ◌≤◌, Bool, true, false, cond, ◌⊎◌, inl, inr, List, [], ◌∷◌, length, map, leb, eqb, refl, sym, ap, ◌∙◌, ⊎_elim, arith}
+use Rattle.std.proofs.Common.{◌≡◌, ℕ, ◌+◌, ◌-◌, ◌<◌, ◌≤◌, Bool, true, false, cond, ◌⊎◌, inl, inr, List, [], ◌∷◌, ◌++◌, ◌%◌, ◌^◌, replicate, length, map, leb, eqb, refl, sym, ap, ◌∙◌, ⊎_elim, arith}
+use Rattle.std.proofs.Common as width
 use Rattle.std.proofs.lemmas.Bool.{cases_lt}
+use Rattle.std.proofs.lemmas.List.{length-map}
+use Rattle.std.proofs.lemmas.Simd.{mask_l-mod, ones-mask_l, tops_compared, zip2_splat_left}
+use Rattle.std.specs.Int.RustNames.{count_ones}
+use lib.Lanes.{mask_l, top, zip2}
 use Rattle.std.proofs.lemmas.Bool.Decides.{nat_tests}
 use Rattle.std.specs.List.{list_any}
 use Rattle.std.specs.Prelude.{count_by, slice_index, nat_le, ◌==◌, ◌||◌}
@@ -155,3 +160,29 @@ module _ (hand : List ℕ) where
       where
         at_most_one : (h : ℕ) → two h ≡ 0 → h ≤ 1
         at_most_one h none = grind (arith, nat_tests)
+
+-- ---- counted side by side
+
+-- three of nothing aren't counted
+padded_total : (f : ℕ → ℕ) → f 0 ≡ 0 → (xs : List ℕ) → total_of f (xs ++ 0 ∷ 0 ∷ 0 ∷ []) ≡ total_of f xs
+unfolding total_of
+padded_total f free [] = omega (arith, free)
+padded_total f free (x ∷ xs) = omega (arith, padded_total f free xs)
+
+padded : (p : ℕ → Bool) → p 0 ≡ false → (xs : List ℕ) → count_by p (xs ++ 0 ∷ 0 ∷ 0 ∷ []) ≡ count_by p xs
+padded p free xs =
+    let one : ℕ → ℕ = λ x. cond (p x) 1 0 in
+    sum_is_total one (xs ++ 0 ∷ 0 ∷ 0 ∷ []) ∙ padded_total one (ap (λ (b : Bool). cond b 1 0) free) xs ∙ sym (sum_is_total one xs)
+
+none_is_few : (times : ℕ) → 0 < times → nat_le times 0 ≡ false
+none_is_few times some = grind (arith, nat_tests)
+
+abbrev pub often : ℕ → List ℕ → List Bool
+often times xs = map (top 7) (zip2 (λ a b. cond (leb a b) 255 0) (replicate 16 times) xs)
+
+pub held_often : (xs counts : List ℕ) (times : ℕ) → 0 < times → length xs ≡ 16 → xs ≡ counts ++ 0 ∷ 0 ∷ 0 ∷ [] → count_ones (mask_l (often times xs) % 2 ^ 64) ≡ count_by (λ held. nat_le times held) counts
+held_often xs counts times some long are =
+    let is : often times xs ≡ map (λ held. leb times held) xs = tops_compared width.w8 leb (replicate 16 times) xs ∙ zip2_splat_left leb times 16 xs long in
+    let all : length (often times xs) ≡ 16 = ap length is ∙ length-map xs (λ (held : ℕ). leb times held) ∙ long in
+    ap count_ones (mask_l-mod (often times xs) 64 (omega (arith, all))) ∙ ap (λ (ms : List Bool). count_ones (mask_l ms)) is ∙ ones-mask_l (λ held. leb times held) xs
+    ∙ ap (count_by (λ held. nat_le times held)) are ∙ padded (λ held. nat_le times held) (none_is_few times some) counts

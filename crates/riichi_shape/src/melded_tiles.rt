@@ -4,16 +4,28 @@ ghost use Rattle.riichi_tiles.specs.Melds.{tiles};
 
 use riichi_tiles::{Kind, Melds};
 
+/// How many tiles of each kind the melds have, kind by kind. Most hands have none, and are not to
+/// pay for this: so it stays a function of its own.
+#[inline(never)]
+fn counted_tiles(melds: &Melds) -> [u8; 34]
+    ensures tiles { (kind : ℕ) → kind < 34 → slice_index result kind ≡ tiles melds.now kind }
+    ensures most { (kind : ℕ) → slice_index result kind ≤ 16 }
+{
+    let mut melded = [0; 34];
+    for number in 0..34u8 {
+        melded[number as usize] = melds.tiles(Kind::at(number));
+    }
+    melded
+}
+
 /// How many tiles of each kind the melds have together.
 pub(crate) fn melded_tiles(melds: &Melds) -> [u8; 34]
     ensures tiles { (kind : ℕ) → kind < 34 → slice_index result kind ≡ tiles melds.now kind }
     ensures most { (kind : ℕ) → slice_index result kind ≤ 16 }
 {
-    let mut melded = [0; 34];
     if melds.count() > 0 {
-        for number in 0..34u8 {
-            melded[number as usize] = melds.tiles(Kind::at(number));
-        }
+        counted_tiles(melds)
+    } else {
+        [0; 34]
     }
-    melded
 }

@@ -1,5 +1,4 @@
-use Rattle.std.proofs.Common.{ℕ, true, List, refl, arith}
-use Rattle.std.specs.Int.Bits.{and_zero_l}
+use Rattle.std.proofs.Common.{ℕ, true, List, arith}
 use Rattle.riichi_rows.specs.Open.{LeastBegun}
 use Rattle.riichi_rows.specs.Ranks.{AreBegunRanks}
 use Rattle.riichi_rows.specs.Seen.{begun_seen}
@@ -17,9 +16,9 @@ returns c =
     let L : List ℕ → List ℕ → ℕ → Type 0 = λ cs ks other. LeastBegun cs ks 0 (begun_seen other later) in
     let little = few_begun _ _ (caps_from caps 1 c.requires.caps (omega arith)) (drop_short caps 1 (omega arith)) 0 (begun_seen 0 later) are.plain in
     let few = few_added _ _ (c.added-added.ensures 0) little in
-    whole_suit true counts caps (omega arith) (omega arith) L c.lanes.result c.lanes-2.result _
-    (λ other cs ks least. c.lanes.ensures.others _ _ _ other cs ks 0 0 (begun_seen other later) (omega (arith, c.requires.caps 0 (omega arith))) c.new.ensures (and_zero_l other) few refl (c.added-added.ensures other) least)
-    (λ cs ks least. c.lanes-2.ensures.others _ _ _ 0 cs ks 0 0 (begun_seen 0 later) (omega (arith, c.requires.caps 0 (omega arith))) c.new-2.ensures (and_zero_l 0) few refl (c.added-added.ensures 0) least)
+    whole_suit true counts caps (omega arith) (omega arith) L c.first_lanes.result c.first_lanes-2.result _
+    (λ other cs ks least. c.first_lanes.ensures other cs ks (begun_seen other later) few (c.added-added.ensures other) least)
+    (λ cs ks least. c.first_lanes-2.ensures 0 cs ks (begun_seen 0 later) few (c.added-added.ensures 0) least)
     are.plain are.marks c.with_one.ensures.few c.with_one.ensures.many _
 
 pub invariant_of-result : goal.invariant_of-result
@@ -30,5 +29,5 @@ invariant_of-result c =
     let are : AreBegunRanks 1 counts caps later = next_begun counts caps (omega arith) (omega arith) c.requires.caps 1 (omega arith) (omega arith) _ c.bit_of.ensures c.args.later later c.begun_before.ensures.others c.begun_before.ensures.own c.requires.later in
     let little = few_begun _ _ (caps_from caps 1 c.requires.caps (omega arith)) (drop_short caps 1 (omega arith)) 0 (begun_seen 0 later) are.plain in
     let few = few_added _ _ (c.added-added.ensures 0) little in
-    let least = c.lanes.ensures.others _ _ _ 0 _ _ 0 0 (begun_seen 0 later) (omega (arith, c.requires.caps 0 (omega arith))) c.new.ensures (and_zero_l 0) few refl (c.added-added.ensures 0) are.plain in
-    record { small = small_lanes true counts caps (omega arith) (omega arith) c.requires.caps c.lanes.result least }
+    let least = c.first_lanes.ensures 0 _ _ (begun_seen 0 later) few (c.added-added.ensures 0) are.plain in
+    record { small = small_lanes true counts caps (omega arith) (omega arith) c.requires.caps c.first_lanes.result least }

@@ -1,6 +1,6 @@
 use Rattle.std.proofs.Common.{◌≡◌, ℕ, ◌≤◌, ◌<◌, get_or, length}
 use Rattle.riichi_tiles.specs.Melds.{tiles}
-use Rattle.riichi_shape.proofs.melded_tiles.melded_tiles.Given as goal
+use Rattle.riichi_shape.proofs.melded_tiles.counted_tiles.Given as goal
 
 abbrev pub invariant-loop-number : goal.invariant-loop-number
 invariant-loop-number l = record {
