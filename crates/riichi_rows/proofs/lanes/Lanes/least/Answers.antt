@@ -10,12 +10,12 @@ returns-clause-bound c =
     let both = c.or.result.lacks in
     let long : length both ≡ 16 = c.or.result.sixteen in
     let at : (s : ℕ) → s < 5 → lane both s 0 ≡ min (lane xs s 0) (lane xs s 1) = λ s hs. c.or.ensures s 0 hs (omega arith) ∙ ap (min (lane xs s 0)) (c.pairs_first.ensures s hs) in
-    let d0 = get_or_default both 0 0 255 (omega arith) in
-    let d1 = get_or_default both 1 0 255 (omega arith) in
-    let d2 = get_or_default both 2 0 255 (omega arith) in
-    let d3 = get_or_default both 3 0 255 (omega arith) in
-    let d4 = get_or_default both 4 0 255 (omega arith) in
-    least_bound xs both c.min-4.result at (omega (arith, c.min.ensures, c.min-2.ensures, c.min-3.ensures, c.min-4.ensures, d0, d1, d2, d3, d4))
+    let no_set = get_or_default both 0 0 255 (omega arith) in
+    let one_set = get_or_default both 1 0 255 (omega arith) in
+    let two_sets = get_or_default both 2 0 255 (omega arith) in
+    let three_sets = get_or_default both 3 0 255 (omega arith) in
+    let four_sets = get_or_default both 4 0 255 (omega arith) in
+    least_bound xs both c.min-4.result at (omega (arith, c.min.ensures, c.min-2.ensures, c.min-3.ensures, c.min-4.ensures, no_set, one_set, two_sets, three_sets, four_sets))
 
 pub returns-clause-reached : goal.returns-clause-reached
 returns-clause-reached c =
@@ -23,9 +23,9 @@ returns-clause-reached c =
     let both = c.or.result.lacks in
     let long : length both ≡ 16 = c.or.result.sixteen in
     let at : (s : ℕ) → s < 5 → lane both s 0 ≡ min (lane xs s 0) (lane xs s 1) = λ s hs. c.or.ensures s 0 hs (omega arith) ∙ ap (min (lane xs s 0)) (c.pairs_first.ensures s hs) in
-    let d0 = get_or_default both 0 0 255 (omega arith) in
-    let d1 = get_or_default both 1 0 255 (omega arith) in
-    let d2 = get_or_default both 2 0 255 (omega arith) in
-    let d3 = get_or_default both 3 0 255 (omega arith) in
-    let d4 = get_or_default both 4 0 255 (omega arith) in
-    least_reached xs both c.min-4.result at (omega (arith, c.min.ensures, c.min-2.ensures, c.min-3.ensures, c.min-4.ensures, d0, d1, d2, d3, d4))
+    let no_set = get_or_default both 0 0 255 (omega arith) in
+    let one_set = get_or_default both 1 0 255 (omega arith) in
+    let two_sets = get_or_default both 2 0 255 (omega arith) in
+    let three_sets = get_or_default both 3 0 255 (omega arith) in
+    let four_sets = get_or_default both 4 0 255 (omega arith) in
+    least_reached xs both c.min-4.result at (omega (arith, c.min.ensures, c.min-2.ensures, c.min-3.ensures, c.min-4.ensures, no_set, one_set, two_sets, three_sets, four_sets))
