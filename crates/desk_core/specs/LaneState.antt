@@ -1,7 +1,10 @@
 -- What a lane is to its callers.
-use Rattle.std.specs.Prelude.{◌≡◌, ℕ, ◌+◌, ◌<◌, ◌≤◌, ◌==◌, ◌||◌, ◌⊎◌, Bool, true, false, List, [], ◌∷◌, ◌++◌, length, drop, Some, slice_get, slice_set}
+use Rattle.std.specs.Prelude.{◌≡◌, ◌≢◌, ℕ, ◌+◌, ◌<◌, ◌≤◌, ◌==◌, ◌||◌, ◌⊎◌, Bool, true, false, List, [], ◌∷◌, ◌++◌, length, drop, Some, slice_get, slice_set}
 use Rattle.std.specs.List.{list_any}
 use Rattle.desk_core.specs.Ticketed.{Ticketed}
+use Rattle.desk_core.specs.declared.lane.TheConstants.{LIMIT}
+use Rattle.desk_core.specs.declared.refusal.SubmitFault.{SubmitFault}
+use Rattle.desk_core.specs.declared.refusal.SubmitFault.TheVariants as fault
 use Rattle.riichi_hand.specs.declared.job.Job.{Job}
 
 -- the table; the least ticket that was neither given nor withdrawn; from that one on, each job, and
@@ -23,6 +26,16 @@ is_among numbers i = list_any (λ number. i == number) numbers
 -- the lane with one more job
 abbrev pub with_job : LaneState → Job → LaneState
 with_job lane job = record lane { window = lane.window ++ (job, false) ∷ [] }
+
+-- the table takes one more job: it is open, and below its limit
+abbrev pub AcceptsJob : LaneState → Type 0
+AcceptsJob lane = (lane.closed ≡ false) × (lane.next + length lane.window ≢ LIMIT)
+
+-- why a job is refused: the table has closed; else it is at its limit; else there is no memory
+abbrev pub RefusesJob : LaneState → SubmitFault → Type 0
+RefusesJob lane fault.Closed = lane.closed ≡ true
+RefusesJob lane fault.Limit = (lane.closed ≡ false) × (lane.next + length lane.window ≡ LIMIT)
+RefusesJob lane fault.Memory = AcceptsJob lane
 
 -- the job of the piece was in the window, and its piece has arrived now
 abbrev pub TakesInPiece : LaneState → Ticketed → LaneState → Type 0

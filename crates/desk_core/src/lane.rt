@@ -44,9 +44,10 @@ impl Model for Lane {
 impl Lane {
     ghost use Rattle.desk_core.specs.History.{Turn, table_of, turns_of, submitted, is_closed};
     ghost use Rattle.desk_core.specs.Step.{IsStep, StandsFor};
-    ghost use Rattle.desk_core.specs.LaneState.{new_lane, with_job, is_among, TakesInPiece, PassesWithdrawn, CanTakeBack, TakesBack, Awaits};
+    ghost use Rattle.desk_core.specs.LaneState.{new_lane, with_job, AcceptsJob, RefusesJob, is_among, TakesInPiece, PassesWithdrawn, CanTakeBack, TakesBack, Awaits};
     ghost use Rattle.desk_core.specs.GivesFirst.{GivesFirst};
     ghost use Rattle.desk_core.specs.Replies.{submit_reply, withdraw_reply};
+    ghost use Rattle.desk_core.specs.declared.refusal.SubmitFault.{SubmitFault};
 
     /// A table with no jobs. It takes no memory.
     pub fn new(alloc: Global, table: u32) -> Lane
@@ -91,6 +92,8 @@ impl Lane {
     pub fn submit(&mut self, job: Job) -> Result<Ticket, SubmitBack>
         ensures step { IsStep self.old (Event.Submit self.old.table job) (submit_reply result) self.new }
         ensures back { IfErr result (λ back. back.job ≡ job) }
+        ensures fault { IfErr result (λ back. RefusesJob self.old back.fault) }
+        ensures accepts { OnOk result (AcceptsJob self.old) }
         ensures err { OnErr result (self.new ≡ self.old) }
         ensures ok { OnOk result (self.new ≡ with_job self.old job) }
         ensures ticket { IfOk result (λ ticket. ticket ≡ record { table = self.old.table; seq = self.old.next + length self.old.window }) }
@@ -215,7 +218,7 @@ impl Lane {
         ensures { PassesWithdrawn self.old self.new }
     {
         while !self.window.is_empty() && self.is_withdrawn(self.next) {
-            let _ = self.window.pop_front();
+            let _passed = self.window.pop_front();
             self.next += 1;
         }
     }
@@ -224,6 +227,8 @@ impl Lane {
     pub(crate) fn serve(&mut self, event: Event) -> Reply
         ensures step { table_of event ≡ self.old.table → IsStep self.old event result self.new }
         ensures table { self.new.table ≡ self.old.table }
+        ensures known { result ≢ Reply.NoTable }
+        ensures refused { (fault : SubmitFault) → result ≡ Reply.Refused fault → self.new ≡ self.old }
     {
         match event {
             Event::Submit { job, .. } => match self.submit(job) {
