@@ -8,4 +8,5 @@ pub mod Offers
 pub mod Sitting
 pub mod Parts
 pub mod Played
+pub mod Started
 pub mod Runs

@@ -1,3 +1,4 @@
+mod refused;
 mod threads;
 
 ghost use Rattle.std.specs.Prelude.{◌≡◌, IfOk};

@@ -45,6 +45,8 @@ impl WorkerSeat {
         ensures did { IfSome result (λ x. ((worker_of self.new.seat.me.0).finished ≡ (worker_of self.old.seat.me.0).finished ++ x ∷ []) × (times x (worker_of self.old.seat.me.0).finished ≡ 0)) }
         ensures nothing { IfNone result (((worker_of self.new.seat.me.0).finished ≡ (worker_of self.old.seat.me.0).finished) × ((worker_of self.new.seat.me.0).lost ≡ (worker_of self.old.seat.me.0).lost ++ place ∷ [])) }
         ensures stop { ((worker_of self.new.seat.me.0).knows_stop ≡ (worker_of self.old.seat.me.0).knows_stop) × ((worker_of self.new.seat.me.0).looks ≡ (worker_of self.old.seat.me.0).looks) }
+        ensures called { IfSome result (λ x. G.called gate.old x gate.new) }
+        ensures uncalled { IfNone result (gate.new ≡ gate.old) }
     {
         let (ticket, job) = board.claim(&mut self.seat, place)?;
         let piece = Piece::score_with(cache, ticket, job);
@@ -53,8 +55,8 @@ impl WorkerSeat {
         Some(ticket)
     }
 
-    /// Goes once over the places until it claims one that is ready, scores its job, calls the gate,
-    /// puts the piece back and marks it done.
+    /// Goes once over the places until it claims one that is ready, scores its job, calls the gate
+    /// once, puts the piece back and marks it done.
     pub fn work_once<G: Gate>(
         &mut self,
         board: &Board,
@@ -66,6 +68,8 @@ impl WorkerSeat {
         ensures did { (x : _) → result ≡ Did x → ((worker_of self.new.seat.me.0).finished ≡ (worker_of self.old.seat.me.0).finished ++ x ∷ []) × (times x (worker_of self.old.seat.me.0).finished ≡ 0) }
         ensures nothing { result ≡ Nothing → ((worker_of self.new.seat.me.0).finished ≡ (worker_of self.old.seat.me.0).finished) × ((worker_of self.new.seat.me.0).lost ≡ (worker_of self.old.seat.me.0).lost ++ places_from 0 (board_name board.now).slots) }
         ensures stop { ((worker_of self.new.seat.me.0).knows_stop ≡ (worker_of self.old.seat.me.0).knows_stop) × ((worker_of self.new.seat.me.0).looks ≡ (worker_of self.old.seat.me.0).looks) }
+        ensures called { (x : _) → result ≡ Did x → G.called gate.old x gate.new }
+        ensures uncalled { result ≡ Nothing → gate.new ≡ gate.old }
     {
         for place in 0..board.place_count() {
             if let Some(ticket) = self.work_at(board, gate, cache, place) {

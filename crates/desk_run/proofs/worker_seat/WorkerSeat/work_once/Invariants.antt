@@ -10,4 +10,5 @@ invariant-loop-place g l = record {
   finished : (worker_of l.self.seat.me.0).finished ≡ (worker_of l.initial.self.seat.me.0).finished;
   stop : ((worker_of l.self.seat.me.0).knows_stop ≡ (worker_of l.initial.self.seat.me.0).knows_stop) × ((worker_of l.self.seat.me.0).looks ≡ (worker_of l.initial.self.seat.me.0).looks);
   lost : (worker_of l.self.seat.me.0).lost ≡ (worker_of l.initial.self.seat.me.0).lost ++ places_from 0 l.place;
+  gate : l.gate ≡ l.initial.gate;
 }
