@@ -18,7 +18,7 @@ use Rattle.desk_run.specs.declared.lot.Lot.TheVariants.{Kept}
 use Rattle.atomic_table.specs.Seated.{TableId}
 use Rattle.atomic_table.proofs.Lists.{set_else}
 use Rattle.desk_run.specs.Parts.{IsNewTable, AreNewTables}
-use Rattle.desk_run.specs.declared.table_seat.TableSeat.{TableSeat}
+use Rattle.desk_run.specs.SeatStates.{TableState}
 use Rattle.desk_run.proofs.Bookkeeping.{some_at}
 use Rattle.std.specs.Global.{Vec}
 use Rattle.desk_run.specs.Runs.{AreValues}
@@ -111,14 +111,14 @@ played_out lane jobs n answers none closed b =
     ∙ ap (λ (m : ℕ). values (take m jobs)) (b.all closed) ∙ ap values (take-whole jobs)
 
 -- the tables from this number on are new
-abbrev pub AreNewFrom : ℕ → TableId → ℕ → List TableSeat → Type 0
-AreNewFrom n id places tables = (i : ℕ) (t : TableSeat) → n ≤ i → get_elem? tables i ≡ some t → IsNewTable id places i t
+abbrev pub AreNewFrom : ℕ → TableId → ℕ → List TableState → Type 0
+AreNewFrom n id places tables = (i : ℕ) (t : TableState) → n ≤ i → get_elem? tables i ≡ some t → IsNewTable id places i t
 
-pub all_new : (id : TableId) (places : ℕ) (tables : List TableSeat) → AreNewTables id places tables → AreNewFrom 0 id places tables
+pub all_new : (id : TableId) (places : ℕ) (tables : List TableState) → AreNewTables id places tables → AreNewFrom 0 id places tables
 all_new id places tables new i t h at = new i t at
 
-pub fewer_new : (n : ℕ) (id : TableId) (places : ℕ) (tables more : List TableSeat) (t : TableSeat) → AreNewFrom n id places tables → more ≡ set tables n t → AreNewFrom (n + 1) id places more
-fewer_new n id places tables more t new e i u h at = new i u (omega arith) (sym (set_else tables n i t (λ same. omega arith)) ∙ (ap (λ (l : List TableSeat). get_elem? l i) (sym e) ∙ at))
+pub fewer_new : (n : ℕ) (id : TableId) (places : ℕ) (tables more : List TableState) (t : TableState) → AreNewFrom n id places tables → more ≡ set tables n t → AreNewFrom (n + 1) id places more
+fewer_new n id places tables more t new e i u h at = new i u (omega arith) (sym (set_else tables n i t (λ same. omega arith)) ∙ (ap (λ (l : List TableState). get_elem? l i) (sym e) ∙ at))
 
 -- one table more was played
 pub values_more : (jobs : List (Vec Job)) (answers more : List (Vec Answer)) (n : ℕ) (list : Vec Job) (given : Vec Answer) → n < length jobs → list ≡ get_or jobs n list → given.items ≡ values list.items → more ≡ answers ++ given ∷ []

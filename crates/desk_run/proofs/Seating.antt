@@ -1,5 +1,5 @@
 -- What a table's seat has after each of its steps.
-use Rattle.std.proofs.Common.{◌≡◌, ℕ, zero, suc, ◌+◌, ◌<◌, ◌≤◌, Bool, true, false, List, [], ◌∷◌, ◌++◌, length, set, get_or, sym, refl, ap, ◌∙◌, subst, arith, length-set, length-append, get_or-set_other, get_or-set_same, ◌*◌, replicate}
+use Rattle.std.proofs.Common.{◌≡◌, ℕ, zero, suc, ◌+◌, ◌<◌, ◌≤◌, Bool, true, false, List, [], ◌∷◌, ◌++◌, length, set, get_or, sym, refl, ap, ◌∙◌, subst, arith, length-set, length-append, get_or-set_other, get_or-set_same, ◌*◌, replicate, suc-mul, mul-le-mul_right}
 use Rattle.std.proofs.lemmas.List.{append-nil}
 use mathlib.Core.Option.{some}
 use lib.ListN.{get_elem?}
@@ -14,7 +14,8 @@ use Rattle.desk_core.specs.declared.reply.Reply.TheVariants as reply
 use Rattle.desk_core.specs.declared.arrived.Arrived.TheVariants as arrived
 use Rattle.desk_run.specs.Books.{offered}
 use Rattle.desk_run.specs.Plays.{SeatState, table_of}
-use Rattle.desk_run.specs.Sitting.{Sits, carried_by, AreFetched, Collects, out_places, place_if_out}
+use Rattle.atomic_table.specs.Seated.{TableId}
+use Rattle.desk_run.specs.Sitting.{Sits, IsTableSeat, carried_by, AreFetched, Collects, out_places, place_if_out}
 use Rattle.desk_run.specs.Views.{new_table, with_lot, offering}
 use Rattle.desk_core.specs.declared.ticket.Ticket.{Ticket}
 use Rattle.riichi_hand.specs.declared.job.Job.{Job}
@@ -131,3 +132,12 @@ sits_new m n t lane size lots ks none is l e new = let w : TableView = new_table
   offers = ap (λ (z : TableView). z.offers) same ∙ sym (ap offered new);
   carried = ap (λ (z : SeatState). z.1) is ∙ none ∙ sym (ap (carried_by (t * size.places)) e);
 }
+
+-- the seat after a step of it at its board
+pub seat_on : (board same : TableId) (m n : SeatState) (base : ℕ) (lane new : LaneState) (lots more : List Lot) (ks ls : List ℕ) → IsTableSeat board m base lane lots ks → same ≡ board → length more ≡ length lots → Sits n base new more ls
+    → IsTableSeat same n base new more ls
+seat_on board same m n base lane new lots more ks ls i e l s = subst (λ (id : TableId). IsTableSeat id n base new more ls) (sym e) (record { near = let a = i.near in omega arith; few = i.few; sits = s })
+
+-- a table's places are on its board
+pub all_near : (number tables places slots base count : ℕ) → number < tables → slots ≡ tables * places → base ≡ number * places → count ≡ places → base + count ≤ slots
+all_near number tables places slots base count h s b c = let e : suc number * places ≤ tables * places = mul-le-mul_right places (omega arith) in let f : suc number * places ≡ number * places + places = suc-mul number places in omega arith

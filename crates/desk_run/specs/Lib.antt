@@ -6,6 +6,7 @@ pub mod Seats
 pub mod Books
 pub mod Offers
 pub mod Sitting
+pub mod SeatStates
 pub mod Parts
 pub mod Played
 pub mod Started

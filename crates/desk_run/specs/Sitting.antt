@@ -1,5 +1,5 @@
 -- What a seat that is not in a call has.
-use Rattle.std.specs.Prelude.{◌≡◌, ℕ, zero, suc, ◌+◌, List, [], ◌∷◌, ◌++◌, None, length, slice_set, slice_index_or}
+use Rattle.std.specs.Prelude.{◌≡◌, ℕ, zero, suc, ◌+◌, ◌≤◌, ◌<◌, List, [], ◌∷◌, ◌++◌, None, length, slice_set, slice_index_or}
 use mathlib.Core.Option as ghost_option
 use lib.ListN.{get_elem?}
 use Rattle.desk_core.specs.LaneState.{LaneState, TakesInPiece}
@@ -15,8 +15,8 @@ use Rattle.desk_run.specs.declared.lot.Lot.{Lot}
 use Rattle.desk_run.specs.declared.lot.Lot.TheVariants.{Fresh, Kept, Out}
 use base.Stored.{Coded-set}
 use Rattle.atomic_table.specs.Seated.{TableId, table_id_coded}
-use Rattle.desk_run.specs.Plays.{SeatState, table_of, worker_of}
-use Rattle.desk_run.specs.declared.view.View.TheVariants.{Table, Worker}
+use Rattle.desk_run.specs.Plays.{SeatState, table_of, worker_of, stop_of}
+use Rattle.desk_run.specs.declared.view.View.TheVariants.{Table, Worker, Stop}
 use Rattle.desk_run.specs.declared.board.Board.{Board}
 
 abbrev pub board_name : Board → TableId
@@ -29,6 +29,10 @@ same_board = Coded-set table_id_coded
 -- a worker that holds nothing
 abbrev pub Idles : SeatState → Type 0
 Idles m = (m.0 ≡ Worker (worker_of m.0)) × ((worker_of m.0).held ≡ None) × (m.1 ≡ [])
+
+-- the seat that stops the workers
+abbrev pub IsStopSeat : SeatState → Type 0
+IsStopSeat m = m.0 ≡ Stop (stop_of m.0)
 
 -- n places from p on
 abbrev pub places_from : ℕ → ℕ → List ℕ
@@ -48,6 +52,12 @@ pub record Sits (m : SeatState) (base : ℕ) (lane : LaneState) (lots : List Lot
   pub lots_are : (table_of m.0).lots ≡ lots
   pub offers : (table_of m.0).offers ≡ offered lane
   pub carried : m.1 ≡ carried_by base kept
+
+-- a table's seat on a board: the board has its places, and it sits there with its book
+pub record IsTableSeat (board : TableId) (m : SeatState) (base : ℕ) (lane : LaneState) (lots : List Lot) (kept : List ℕ) : Type 0 where
+  pub near : base + length lots ≤ board.slots
+  pub few : board.slots < 4096
+  pub sits : Sits m base lane lots kept
 
 -- the places out among the first n
 abbrev pub place_if_out : ℕ → Lot → List ℕ

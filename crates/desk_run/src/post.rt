@@ -3,7 +3,6 @@ ghost use Rattle.std.specs.Prelude.{◌≡◌, ◌++◌, IfOk, map, reverse, Lis
 ghost use Rattle.std.specs.List.{FoldsTo};
 ghost use Rattle.desk_core.specs.declared.ticket.Ticket.{Ticket};
 ghost use Rattle.desk_run.specs.Parts.{AreNewWorkers};
-ghost use Rattle.desk_run.specs.Plays.{worker_of};
 ghost use Rattle.desk_run.specs.Sitting.{board_name, same_board};
 
 use crate::board::Board;
@@ -26,7 +25,7 @@ pub(crate) struct Post<'b, G> {
     seat: WorkerSeat,
     gate: G,
     cache: RowCache,
-    ghost here: { seat.seat.table_id ≡ board_name board.now } by { same_board _ _ },
+    ghost here: { seat.board ≡ board_name board.now } by { same_board _ _ },
     ghost rows: { cache ≡ 512 },
 }
 
@@ -38,8 +37,8 @@ fn work<R: Wait, G: Gate>(
     gate: &mut G,
     cache: &mut RowCache,
 )
-    requires { seat.old.seat.table_id ≡ board_name board.now }
-    ensures gate { (xs : List Ticket) × ((worker_of seat.new.seat.me.0).finished ≡ (worker_of seat.old.seat.me.0).finished ++ xs) × FoldsTo G.called gate.old xs gate.new }
+    requires { seat.old.board ≡ board_name board.now }
+    ensures gate { (xs : List Ticket) × (seat.new.finished ≡ seat.old.finished ++ xs) × FoldsTo G.called gate.old xs gate.new }
 {
     for _ in rt.forever() {
         match seat.work_once(board, gate, cache) {
@@ -56,7 +55,7 @@ fn work<R: Wait, G: Gate>(
 
 impl<'b, G: Gate + Drop> Post<'b, G> {
     fn new(board: &'b Board, seat: WorkerSeat, gate: G, cache: RowCache) -> Post<'b, G>
-        requires here { seat.seat.table_id ≡ board_name board.now }
+        requires here { seat.board ≡ board_name board.now }
         requires rows { cache ≡ 512 }
         ensures { (result.seat ≡ seat) × (result.gate ≡ gate) }
     {

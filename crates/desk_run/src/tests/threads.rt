@@ -203,12 +203,12 @@ struct Player<'b> {
     board: &'b Board,
     seat: TableSeat,
     jobs: &'b [Job],
-    ghost here: { seat.seat.table_id ≡ board_name board.now } by { same_board _ _ },
+    ghost here: { seat.board ≡ board_name board.now } by { same_board _ _ },
 }
 
 impl<'b> Player<'b> {
     fn new(board: &'b Board, seat: TableSeat, jobs: &'b [Job]) -> Player<'b>
-        requires { seat.seat.table_id ≡ board_name board.now }
+        requires { seat.board ≡ board_name board.now }
     {
         Player { board, seat, jobs }
     }
@@ -283,7 +283,7 @@ fn two_tables_and_two_workers_in_threads(rt: HostRuntime) -> Result<(), Fail> {
         thread::scope_env(),
         rt,
         move |scope| -> Option<(Vec<Answer>, Vec<Answer>)>
-            requires { stop.seat.table_id ≡ board_name board.now }
+            requires { stop.board ≡ board_name board.now }
         {
             let started = start_workers(scope, rt, posts);
             let answers = if started {
