@@ -1,6 +1,6 @@
 -- Each event has a reply, and so each legal history goes on.
-use Rattle.std.proofs.Common.{◌≡◌, ℕ, zero, suc, ◌+◌, ◌-◌, ◌<◌, ◌≤◌, ◌⊎◌, Bool, true, false, ltb, List, [], ◌∷◌, ◌++◌, length, Some, inl, inr, ⊎_elim, refl, sym, ap, ◌∙◌, subst, not, arith, append_assoc, append-nil, add-one}
-use Rattle.std.specs.Prelude.{slice_get, slice_set, ◌≢◌}
+use Rattle.std.proofs.Common.{◌≡◌, ℕ, zero, suc, ◌+◌, ◌-◌, ◌<◌, ◌≤◌, ◌⊎◌, Bool, true, false, ltb, eqb, drop, List, [], ◌∷◌, ◌++◌, length, Some, inl, inr, ⊎_elim, refl, sym, ap, ◌∙◌, subst, not, arith, append_assoc, append-nil, add-one}
+use Rattle.std.specs.Prelude.{slice_get, slice_set, ◌||◌, ◌≢◌}
 use Rattle.std.specs.List.{zip, AllByRecursion}
 use Rattle.std.proofs.lemmas.Bool.{cases_lt, cases_eq, lt-ltb, le-ltb, false≢true}
 use Rattle.std.proofs.lemmas.List.{length-set}
@@ -8,21 +8,22 @@ use Rattle.std.proofs.lemmas.List.Elements.{All-from_recursion}
 use Rattle.std.proofs.lemmas.Option.{slice_get_cases}
 use Rattle.riichi_hand.specs.contracts.job.JobPartialEq.TheImpl.{ghosts as job_eq}
 use Rattle.riichi_hand.specs.declared.job.Job.{Job}
+use Rattle.desk_core.proofs.Lists.{drop_past}
 use Rattle.desk_core.proofs.Same.{job_eq-Decides}
 use Rattle.desk_core.proofs.Facts.{IsSound, IsSound-IsLegal, IsLegalAfter-split}
-use Rattle.desk_core.proofs.Steps.{IsOwnStep, IsStep-from_own, count, submit_after_close, submit_over_limit, submit_without_memory, submit_accepted, arrive_unknown, arrive_given, arrive_again, arrive_other_job, arrive_accepted, with_piece, close_step, take_waiting, take_open, take_finished, take_answer}
+use Rattle.desk_core.proofs.Steps.{IsOwnStep, IsStep-from_own, count, submit_after_close, submit_over_limit, submit_without_memory, submit_accepted, arrive_unknown, arrive_withdrawn, arrive_given, arrive_again, arrive_other_job, arrive_accepted, with_piece, close_step, take_waiting, take_open, take_finished, take_answer, withdraw_refused, withdraw_without_memory, withdraw_done, CanTakeBack-from_turns}
 use Rattle.desk_core.proofs.Desks.{IsDeskRun-no_table, IsDeskRun-step, IsNewDesk-push, DeskStandsFor-new}
 use Rattle.desk_core.proofs.Unique.{desk_reply_unique}
 use Rattle.desk_core.specs.Value.{value_of}
 use Rattle.desk_core.specs.Ticketed.{Ticketed}
-use Rattle.desk_core.specs.LaneState.{LaneState, new_lane, with_job, IsNewDesk}
+use Rattle.desk_core.specs.LaneState.{LaneState, new_lane, with_job, is_among, PassesWithdrawn, CanTakeBack, TakesBack, IsNewDesk}
 use Rattle.desk_core.specs.History.{Turn, table_of, turns_of, ReplyOf, DeskReplyOf, IsLegal, IsLegalAfter}
 use Rattle.desk_core.specs.Step.{IsLeftBy}
 use Rattle.desk_core.specs.Desk.{DeskStandsFor}
 use Rattle.desk_core.specs.Continued.{CanGoOn}
 use Rattle.desk_core.specs.declared.ticket.Ticket.{Ticket}
 use Rattle.desk_core.specs.declared.event.Event.{Event}
-use Rattle.desk_core.specs.declared.event.Event.TheVariants.{Submit, Arrive, Close, Take}
+use Rattle.desk_core.specs.declared.event.Event.TheVariants.{Submit, Arrive, Close, Take, Withdraw}
 use Rattle.desk_core.specs.declared.reply.Reply.{Reply}
 use Rattle.desk_core.specs.declared.reply.Reply.TheVariants as reply
 use Rattle.desk_core.specs.declared.refusal.SubmitFault.TheVariants as fault
@@ -59,30 +60,64 @@ submits lane job = by_closed lane.closed refl
     by_closed false is_open = by_full is_open (cases_eq (lane.next + length lane.window) 1000000)
 
 arrives : (lane : LaneState) (piece : Ticketed) → LaneReply lane (Arrive piece)
-arrives lane piece = by_number (cases_lt piece.ticket.seq lane.next)
+arrives lane piece = by_withdrawn (is_among lane.withdrawn piece.ticket.seq) refl
   where
-    with_job_of : (k : ℕ) (job : Job) → lane.next + k ≡ piece.ticket.seq → slice_get lane.window k ≡ Some (job, false) → (b : Bool) → job_eq.eq job piece.job ≡ b → LaneReply lane (Arrive piece)
-    with_job_of k job seq there true is =
+    with_job_of : (k : ℕ) (job : Job) → is_among lane.withdrawn piece.ticket.seq ≡ false → lane.next + k ≡ piece.ticket.seq → slice_get lane.window k ≡ Some (job, false) → (b : Bool) → job_eq.eq job piece.job ≡ b → LaneReply lane (Arrive piece)
+    with_job_of k job stays seq there true is =
         let same : job ≡ piece.job = (job_eq-Decides job piece.job).0 is in
         let there' : slice_get lane.window k ≡ Some (piece.job, false) = there ∙ ap (λ j. Some (j, false)) same in
-        record { replied = reply.Arrived arrived.Accepted; new = with_piece lane k piece.job; same_table = refl; step = arrive_accepted lane piece k seq there'; ample = λ e. cc }
-    with_job_of k job seq there false is =
+        record { replied = reply.Arrived arrived.Accepted; new = with_piece lane k piece.job; same_table = refl; step = arrive_accepted lane piece k stays seq there'; ample = λ e. cc }
+    with_job_of k job stays seq there false is =
         let other : job ≢ piece.job = λ same. false≢true (sym is ∙ (job_eq-Decides job piece.job).1 same) in
-        record { replied = reply.Arrived arrived.Stranger; new = lane; same_table = refl; step = arrive_other_job lane piece k job seq there other; ample = λ e. cc }
+        record { replied = reply.Arrived arrived.Stranger; new = lane; same_table = refl; step = arrive_other_job lane piece k job stays seq there other; ample = λ e. cc }
 
-    with_entry : (k : ℕ) (entry : Job × Bool) → lane.next + k ≡ piece.ticket.seq → slice_get lane.window k ≡ Some entry → LaneReply lane (Arrive piece)
-    with_entry k (job, true) seq there = record { replied = reply.Arrived arrived.Doubled; new = lane; same_table = refl; step = arrive_again lane piece k job seq there; ample = λ e. cc }
-    with_entry k (job, false) seq there = with_job_of k job seq there (job_eq.eq job piece.job) refl
+    with_entry : (k : ℕ) (entry : Job × Bool) → is_among lane.withdrawn piece.ticket.seq ≡ false → lane.next + k ≡ piece.ticket.seq → slice_get lane.window k ≡ Some entry → LaneReply lane (Arrive piece)
+    with_entry k (job, true) stays seq there = record { replied = reply.Arrived arrived.Doubled; new = lane; same_table = refl; step = arrive_again lane piece k job stays seq there; ample = λ e. cc }
+    with_entry k (job, false) stays seq there = with_job_of k job stays seq there (job_eq.eq job piece.job) refl
 
-    at_place : (k : ℕ) → lane.next + k ≡ piece.ticket.seq → ((entry : Job × Bool) × (slice_get lane.window k ≡ Some entry)) ⊎ (length lane.window ≤ k) → LaneReply lane (Arrive piece)
-    at_place k seq (inl found) = with_entry k found.0 seq found.1
-    at_place k seq (inr past) = record { replied = reply.Arrived arrived.Stranger; new = lane; same_table = refl; step = arrive_unknown lane piece (omega arith); ample = λ e. cc }
+    at_place : (k : ℕ) → is_among lane.withdrawn piece.ticket.seq ≡ false → lane.next + k ≡ piece.ticket.seq → ((entry : Job × Bool) × (slice_get lane.window k ≡ Some entry)) ⊎ (length lane.window ≤ k) → LaneReply lane (Arrive piece)
+    at_place k stays seq (inl found) = with_entry k found.0 stays seq found.1
+    at_place k stays seq (inr past) = record { replied = reply.Arrived arrived.Stranger; new = lane; same_table = refl; step = arrive_unknown lane piece (omega arith); ample = λ e. cc }
 
-    by_number : (piece.ticket.seq < lane.next) ⊎ (lane.next ≤ piece.ticket.seq) → LaneReply lane (Arrive piece)
-    by_number (inl before) = record { replied = reply.Arrived arrived.Doubled; new = lane; same_table = refl; step = arrive_given lane piece before; ample = λ e. cc }
-    by_number (inr known) =
+    by_number : is_among lane.withdrawn piece.ticket.seq ≡ false → (piece.ticket.seq < lane.next) ⊎ (lane.next ≤ piece.ticket.seq) → LaneReply lane (Arrive piece)
+    by_number stays (inl before) = record { replied = reply.Arrived arrived.Doubled; new = lane; same_table = refl; step = arrive_given lane piece stays before; ample = λ e. cc }
+    by_number stays (inr known) =
         let k : ℕ = piece.ticket.seq - lane.next in
-        at_place k (omega arith) (found_or_past lane.window k)
+        at_place k stays (omega arith) (found_or_past lane.window k)
+
+    by_withdrawn : (b : Bool) → is_among lane.withdrawn piece.ticket.seq ≡ b → LaneReply lane (Arrive piece)
+    by_withdrawn true gone = record { replied = reply.Arrived arrived.Withdrawn; new = lane; same_table = refl; step = arrive_withdrawn lane piece gone; ample = λ e. cc }
+    by_withdrawn false stays = by_number stays (cases_lt piece.ticket.seq lane.next)
+
+-- the lane without the withdrawn jobs at its front
+record Passed (lane : LaneState) : Type 0 where
+  pub new : LaneState
+  pub same_table : new.table ≡ lane.table
+  pub passes : PassesWithdrawn lane new
+
+abbrev passed_by : LaneState → ℕ → LaneState
+passed_by lane n = record lane { next = lane.next + n; window = drop n lane.window }
+
+-- the first n are withdrawn ones
+abbrev AreGone : LaneState → ℕ → Type 0
+AreGone lane n = (i : ℕ) → i < n → is_among lane.withdrawn (lane.next + i) ≡ true
+
+one_more_gone : (lane : LaneState) (n : ℕ) → AreGone lane n → is_among lane.withdrawn (lane.next + n) ≡ true → AreGone lane (suc n)
+one_more_gone lane n each gone = λ i below.
+    ⊎_elim (λ before. each i before) (λ last. let same : n ≡ i = omega arith in subst (λ m. is_among lane.withdrawn (lane.next + m) ≡ true) same gone) (cases_lt i n)
+
+pass_one : (lane : LaneState) (n : ℕ) → n ≤ length lane.window → AreGone lane n → (AreGone lane (suc n) → Passed lane) → (b : Bool) → is_among lane.withdrawn (lane.next + n) ≡ b → Passed lane
+pass_one lane n within each more true gone = more (one_more_gone lane n each gone)
+pass_one lane n within each more false stays = record { new = passed_by lane n; same_table = refl; passes = record { count = n; within = within; each = each; ends = inr stays; new_is = refl } }
+
+pass_from : (lane : LaneState) (more n : ℕ) → n + more ≡ length lane.window → AreGone lane n → Passed lane
+pass_from lane zero n whole each =
+    record { new = passed_by lane n; same_table = refl; passes = record { count = n; within = omega arith; each = each; ends = inl (drop_past n lane.window (omega arith)); new_is = refl } }
+pass_from lane (suc more) n whole each =
+    pass_one lane n (omega arith) each (λ gone. pass_from lane more (suc n) (omega arith) gone) (is_among lane.withdrawn (lane.next + n)) refl
+
+passed : (lane : LaneState) → Passed lane
+passed lane = pass_from lane (length lane.window) 0 (omega arith) (λ i below. absurd (omega arith))
 
 closes : (lane : LaneState) → LaneReply lane (Close lane.table)
 closes lane = record { replied = reply.Closed (not lane.closed); new = record lane { closed = true }; same_table = refl; step = close_step lane; ample = λ e. cc }
@@ -96,14 +131,48 @@ takes lane = by_window lane.window refl
 
     by_window : (window : List (Job × Bool)) → lane.window ≡ window → LaneReply lane (Take lane.table)
     by_window [] none = by_closed none lane.closed refl
-    by_window ((job, true) ∷ rest) is = record { replied = reply.Taken (taken.Answer lane.next (value_of job)); new = record lane { next = lane.next + 1; window = rest }; same_table = refl; step = take_answer lane job rest is; ample = λ e. cc }
+    by_window ((job, true) ∷ rest) is =
+        let on = passed (record lane { next = lane.next + 1; window = rest }) in
+        record { replied = reply.Taken (taken.Answer lane.next (value_of job)); new = on.new; same_table = on.same_table; step = take_answer lane on.new job rest is on.passes; ample = λ e. cc }
     by_window ((job, false) ∷ rest) is = record { replied = reply.Taken taken.Waiting; new = lane; same_table = refl; step = take_waiting lane job rest is; ample = λ e. cc }
+
+-- whether a ticket can be taken back
+can_or_not : (lane : LaneState) (seq : ℕ) → CanTakeBack lane seq ⊎ (¬ CanTakeBack lane seq)
+can_or_not lane seq = by_low (cases_lt seq lane.next)
+  where
+    by_withdrawn : lane.next ≤ seq → seq < lane.next + length lane.window → (b : Bool) → is_among lane.withdrawn seq ≡ b → CanTakeBack lane seq ⊎ (¬ CanTakeBack lane seq)
+    by_withdrawn low high true gone = inr (λ can. false≢true (sym can.first_time ∙ gone))
+    by_withdrawn low high false stays = inl (record { given_out = high; not_given = low; first_time = stays })
+
+    by_high : lane.next ≤ seq → (seq < lane.next + length lane.window) ⊎ (lane.next + length lane.window ≤ seq) → CanTakeBack lane seq ⊎ (¬ CanTakeBack lane seq)
+    by_high low (inl high) = by_withdrawn low high (is_among lane.withdrawn seq) refl
+    by_high low (inr past) = inr (λ can. absurd (omega (arith, can.given_out)))
+
+    by_low : (seq < lane.next) ⊎ (lane.next ≤ seq) → CanTakeBack lane seq ⊎ (¬ CanTakeBack lane seq)
+    by_low (inl before) = inr (λ can. absurd (omega (arith, can.not_given)))
+    by_low (inr low) = by_high low (cases_lt seq (lane.next + length lane.window))
+
+either_way : (a b : Bool) → (a || b) ≡ (b || a)
+either_way true true = refl
+either_way true false = refl
+either_way false true = refl
+either_way false false = refl
+
+withdraws : (lane : LaneState) (seq : ℕ) → LaneReply lane (Withdraw (record { table = lane.table; seq = seq }))
+withdraws lane seq = by_can (can_or_not lane seq)
+  where
+    by_can : CanTakeBack lane seq ⊎ (¬ CanTakeBack lane seq) → LaneReply lane (Withdraw (record { table = lane.table; seq = seq }))
+    by_can (inl can) =
+        let on = passed (record lane { withdrawn = seq ∷ lane.withdrawn }) in
+        record { replied = reply.Withdrawn true; new = on.new; same_table = on.same_table; step = withdraw_done lane seq on.new can (record { numbers = seq ∷ lane.withdrawn; added = λ i. either_way (eqb i seq) (is_among lane.withdrawn i); passes = on.passes }); ample = λ e. cc }
+    by_can (inr cannot) = record { replied = reply.Withdrawn false; new = lane; same_table = refl; step = withdraw_refused lane seq cannot; ample = λ e. cc }
 
 lane_replies : (lane : LaneState) (event : Event) → table_of event ≡ lane.table → LaneReply lane event
 lane_replies lane (Submit table job) about = subst (λ (t : ℕ). LaneReply lane (Submit t job)) (sym about) (submits lane job)
 lane_replies lane (Arrive piece) about = arrives lane piece
 lane_replies lane (Close table) about = subst (λ (t : ℕ). LaneReply lane (Close t)) (sym about) (closes lane)
 lane_replies lane (Take table) about = subst (λ (t : ℕ). LaneReply lane (Take t)) (sym about) (takes lane)
+lane_replies lane (Withdraw ticket) about = subst (λ (t : ℕ). LaneReply lane (Withdraw (record { table = t; seq = ticket.seq }))) (sym about) (withdraws lane ticket.seq)
 
 -- a reply of a desk that is no want of memory, and its lanes after it
 record DeskReply (lanes : List LaneState) (history : List Turn) (event : Event) : Type 0 where
@@ -166,15 +235,17 @@ record After (lanes : List LaneState) (history : List Turn) (turn : Turn) : Type
   pub count : length new ≡ length lanes
   pub stands : DeskStandsFor new (history ++ turn ∷ [])
 
--- memory is wanted for a submission alone
+-- memory is wanted for a submission or a withdrawal alone
 lane_wants : (lane : LaneState) (event : Event) (turns : List Turn) → table_of event ≡ lane.table → IsSound turns → IsLeftBy turns lane → ReplyOf turns event want → IsOwnStep lane event want lane
 lane_wants lane (Submit table job) turns about sound left legal =
     let is_open : lane.closed ≡ false = left.closed ∙ legal.0 in
-    let room : lane.next + length lane.window ≢ 1000000 = λ full. legal.1 (sym (count turns lane sound left) ∙ full) in
+    let room : lane.next + length lane.window ≢ 1000000 = λ full. legal.1 (sym (count turns lane left) ∙ full) in
     subst (λ (t : ℕ). IsOwnStep lane (Submit t job) want lane) (sym about) (submit_without_memory lane job is_open room)
 lane_wants lane (Arrive piece) turns about sound left legal = absurd legal
 lane_wants lane (Close table) turns about sound left legal = cc
 lane_wants lane (Take table) turns about sound left legal = absurd legal
+lane_wants lane (Withdraw ticket) turns about sound left legal =
+    subst (λ (t : ℕ). IsOwnStep lane (Withdraw (record { table = t; seq = ticket.seq })) want lane) (sym about) (withdraw_without_memory lane ticket.seq (CanTakeBack-from_turns lane turns ticket.seq left legal))
 
 desk_wants : (lanes : List LaneState) (history : List Turn) (event : Event) → DeskStandsFor lanes history → DeskReplyOf (length lanes) history (event, want) → After lanes history (event, want)
 desk_wants lanes history event stands legal = by_table (found_or_past lanes (table_of event))
@@ -202,6 +273,7 @@ wants_or_not (reply.Ticket ticket) = inr (λ e. cc)
 wants_or_not (reply.Arrived what) = inr (λ e. cc)
 wants_or_not (reply.Closed first) = inr (λ e. cc)
 wants_or_not (reply.Taken what) = inr (λ e. cc)
+wants_or_not (reply.Withdrawn what) = inr (λ e. cc)
 
 -- the lanes after a legal turn
 desk_follows : (lanes : List LaneState) (history : List Turn) (event : Event) (replied : Reply) → DeskStandsFor lanes history → DeskReplyOf (length lanes) history (event, replied) → After lanes history (event, replied)

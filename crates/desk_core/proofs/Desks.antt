@@ -87,7 +87,7 @@ StandsFor-new tables table within =
     record {
       in_range = within;
       legal = tt;
-      state = record { next = refl; jobs = refl; arrived = λ k job flag there. cc; closed = refl };
+      state = record { next = refl; jobs = refl; arrived = λ k job flag there stays. cc; withdrawn = λ i. refl; closed = refl };
     }
 
 pub DeskStandsFor-new : (tables : ℕ) (lanes : List LaneState) → IsNewDesk tables lanes → DeskStandsFor lanes []

@@ -1,117 +1,350 @@
 -- What holds of the turns of each table of a legal history.
-use Rattle.std.proofs.Common.{◌≡◌, ℕ, suc, ◌<◌, ◌≤◌, Bool, true, false, cond, ltb, eqb, List, [], ◌∷◌, ◌++◌, length, take, map, Some, None, Option, refl, sym, ap, zero-add, ◌∙◌, subst, ⊎_elim, arith, length-append, length-take, append_assoc, append-nil}
-use Rattle.std.specs.Prelude.{slice_get, if◌then◌else◌, option_map}
-use Rattle.std.specs.List.{enumerate_from}
-use Rattle.std.proofs.lemmas.List.{take-append-le, map-append, length-map}
+use Rattle.std.proofs.Common.{◌≡◌, ℕ, suc, ◌+◌, ◌<◌, ◌≤◌, ◌⊎◌, Bool, true, false, cond, ltb, eqb, List, [], ◌∷◌, ◌++◌, length, take, map, Some, None, Option, refl, sym, ap, ◌∙◌, subst, inl, inr, ⊎_elim, arith, length-append, append_assoc, append-nil}
+use Rattle.std.specs.Prelude.{slice_get, if◌then◌else◌, option_map, ◌||◌, ◌≢◌}
+use Rattle.std.specs.List.{list_any}
+use Rattle.std.proofs.lemmas.List.{map-append, length-map}
 use Rattle.std.proofs.lemmas.List.Elements.{filter-append}
-use Rattle.std.proofs.lemmas.Bool.{cases_lt, eqb-true, lt-ltb}
-use Rattle.desk_core.proofs.Lists.{enumerate_from-push, take-push_get, option_map-Some, append-cond}
-use Rattle.desk_core.proofs.Histories.{submitted-push, given-push, HasArrived-push, HasArrived-within, slice_get-submitted-push}
+use Rattle.std.proofs.lemmas.List.Folds.{list_any-append}
+use Rattle.std.proofs.lemmas.Bool.{cases_lt, cases_eq, eqb-true, eq-eqb, ne_eqb, lt-ltb, false≢true}
+use Rattle.desk_core.proofs.Lists.{option_map-Some, append-cond, slice_get-map}
+use Rattle.desk_core.proofs.Due.{due, due-same, due-more, due-below, due-after_answer, due-after_withdrawal, due-front}
+use Rattle.desk_core.proofs.Next.{IsNext, IsNext-next_ticket, IsNext-is}
+use Rattle.desk_core.proofs.Histories.{submitted-push, given-push, given_same, withdrawn-push, withdrawn_same, length-submitted-push, HasArrived-push, HasArrived-within, slice_get-submitted-push}
 use Rattle.desk_core.specs.Value.{value_of}
-use Rattle.desk_core.specs.History.{Turn, table_of, turns_of, submitted, HasArrived, given, answer_in, next_ticket, ReplyOf, DeskReplyOf, IsLegalAfter, IsLegal, GivenInOrder}
+use Rattle.desk_core.specs.LaneState.{is_among}
+use Rattle.desk_core.specs.History.{Turn, table_of, turns_of, submitted, HasArrived, given, answer_in, withdrawn, withdrawn_in, is_given, is_withdrawn, is_done, next_ticket, CanWithdraw, ReplyOf, DeskReplyOf, IsLegalAfter, IsLegal, GivenInOrder}
 use Rattle.riichi_hand.specs.declared.job.Job.{Job}
 use Rattle.desk_core.specs.declared.answer.Answer.{Answer}
 use Rattle.desk_core.specs.declared.event.Event.{Event}
-use Rattle.desk_core.specs.declared.event.Event.TheVariants.{Submit, Arrive, Close, Take}
+use Rattle.desk_core.specs.declared.event.Event.TheVariants.{Submit, Arrive, Close, Take, Withdraw}
 use Rattle.desk_core.specs.declared.reply.Reply.{Reply}
 use Rattle.desk_core.specs.declared.reply.Reply.TheVariants as reply
+use Rattle.desk_core.specs.declared.refusal.SubmitFault.TheVariants as fault
 use Rattle.desk_core.specs.declared.taken.Taken.TheVariants as taken
 
--- the answers given are those of the first jobs, each of which has arrived
+-- the values of the jobs before ticket n that were not withdrawn, each with its number
+abbrev pub due_before : List Turn → ℕ → List (ℕ × Answer)
+due_before turns n = due (is_withdrawn turns) n (map value_of (submitted turns))
+
+-- the answers given are those due before the next ticket; a ticket whose answer was given has
+-- arrived; and a withdrawn one was given out
 pub record IsSound (turns : List Turn) : Type 0 where
-  pub values : GivenInOrder turns
-  pub arrived : (i : ℕ) → i < next_ticket turns → HasArrived turns i
+  pub values : given turns ≡ due_before turns (next_ticket turns)
+  pub arrived : (i : ℕ) → is_given turns i ≡ true → HasArrived turns i
+  pub known : (i : ℕ) → is_withdrawn turns i ≡ true → i < length (submitted turns)
+
+by_bool : {P : Type 0} (b : Bool) → (b ≡ true → P) → (b ≡ false → P) → P
+by_bool true if_true if_false = if_true refl
+by_bool false if_true if_false = if_false refl
+
+or-cases : (a b : Bool) → (a || b) ≡ true → (a ≡ true) ⊎ (b ≡ true)
+or-cases true b holds = inl refl
+or-cases false b holds = inr holds
+
+or-false : (a b : Bool) → a ≡ false → b ≡ false → (a || b) ≡ false
+or-false a b first second = rw (first, second) refl
+
+or-neither : (a b : Bool) → (a || b) ≡ false → (a ≡ false) × (b ≡ false)
+or-neither true b neither = cc
+or-neither false b neither = (refl, neither)
+
+or-left : (a b : Bool) → a ≡ true → (a || b) ≡ true
+or-left a b holds = rw holds refl
+
+pub or-right : (a b : Bool) → b ≡ true → (a || b) ≡ true
+or-right true b holds = refl
+or-right false b holds = holds
+
+pub next-within : (turns : List Turn) → next_ticket turns ≤ length (submitted turns)
+next-within turns = (IsNext-next_ticket turns).within
+
+pub length-values : (turns : List Turn) → length (map value_of (submitted turns)) ≡ length (submitted turns)
+length-values turns = length-map (submitted turns) value_of
+
+-- no ticket from the next one on was given
+pub not_given : (turns : List Turn) (i : ℕ) → IsSound turns → next_ticket turns ≤ i → is_given turns i ≡ false
+not_given turns i sound past =
+    ap (list_any (λ (answer : ℕ × Answer). eqb answer.0 i)) sound.values
+    ∙ due-below (is_withdrawn turns) (next_ticket turns) (map value_of (submitted turns)) i (omega (arith, next-within turns, length-values turns)) past
+
+-- a ticket from the next one on that is done was withdrawn
+withdrawn-done : (turns : List Turn) (i : ℕ) → is_given turns i ≡ false → is_done turns i ≡ true → is_withdrawn turns i ≡ true
+withdrawn-done turns i not_one done = ⊎_elim (λ given_one. absurd (false≢true (sym not_one ∙ given_one))) (λ gone. gone) (or-cases (is_given turns i) (is_withdrawn turns i) done)
+
+-- each ticket before the next one that was not withdrawn has arrived
+pub arrived_before : (turns : List Turn) (i : ℕ) → IsSound turns → i < next_ticket turns → is_withdrawn turns i ≡ false → HasArrived turns i
+arrived_before turns i sound before stays =
+    ⊎_elim (λ given_one. sound.arrived i given_one) (λ gone. absurd (false≢true (sym stays ∙ gone)))
+    (or-cases (is_given turns i) (is_withdrawn turns i) ((IsNext-next_ticket turns).before i before))
+
+-- the next ticket was not withdrawn, where it was given out
+pub next_stays : (turns : List Turn) → next_ticket turns < length (submitted turns) → is_withdrawn turns (next_ticket turns) ≡ false
+next_stays turns within =
+    (or-neither (is_given turns (next_ticket turns)) (is_withdrawn turns (next_ticket turns)) ((IsNext-next_ticket turns).stops within)).1
+
+-- what was given is a front of what is due
+pub in_order : (turns : List Turn) → IsSound turns → GivenInOrder turns
+in_order turns sound =
+    let front = due-front (is_withdrawn turns) (next_ticket turns) (map value_of (submitted turns)) in
+    rw sound.values (sym front)
+
+-- turns that give and withdraw nothing more
+
+next-is : (turns : List Turn) (turn : Turn) → IsSound turns → answer_in turn.1 ≡ None → withdrawn_in turn.0 turn.1 ≡ None → IsNext (turns ++ turn ∷ []) (next_ticket turns)
+next-is turns turn sound none stays =
+    let old = IsNext-next_ticket turns in
+    let n = next_ticket turns in
+    let after : List Turn = turns ++ turn ∷ [] in
+    let same_given : given after ≡ given turns = given_same turns turn none in
+    let same_withdrawn : withdrawn after ≡ withdrawn turns = withdrawn_same turns turn stays in
+    let done : (i : ℕ) → is_done after i ≡ is_done turns i = λ i.
+    ap (λ g. list_any (λ (answer : ℕ × Answer). eqb answer.0 i) g || is_among (withdrawn after) i) same_given
+    ∙ ap (λ w. is_given turns i || is_among w i) same_withdrawn in
+    let unknown : length (submitted turns) ≤ n → is_withdrawn turns n ≡ false = λ past.
+    by_bool (is_withdrawn turns n) (λ gone. absurd (omega (arith, sound.known n gone))) (λ not_gone. not_gone) in
+    record {
+      within = omega (arith, old.within, length-submitted-push turns turn);
+      before = λ i below. done i ∙ old.before i below;
+      stops = λ below. done n ∙ ⊎_elim (λ here. old.stops here)
+          (λ past. or-false (is_given turns n) (is_withdrawn turns n) (not_given turns n sound (omega arith)) (unknown past))
+          (cases_lt n (length (submitted turns)));
+    }
+
+pub next-same : (turns : List Turn) (turn : Turn) → IsSound turns → answer_in turn.1 ≡ None → withdrawn_in turn.0 turn.1 ≡ None → next_ticket (turns ++ turn ∷ []) ≡ next_ticket turns
+next-same turns turn sound none stays = sym (IsNext-is (turns ++ turn ∷ []) (next_ticket turns) (next-is turns turn sound none stays))
+
+-- the jobs before a known ticket stay, so what is due of them stays
+due-push : (gone : ℕ → Bool) (turns : List Turn) (turn : Turn) (n : ℕ) → n ≤ length (submitted turns) → due gone n (map value_of (submitted (turns ++ turn ∷ []))) ≡ due gone n (map value_of (submitted turns))
+due-push gone turns turn n within =
+    rw (submitted-push turns turn, map-append)
+    (due-more gone n (map value_of (submitted turns)) _ (omega (arith, within, length-values turns)))
+
+IsSound-push_same : (turns : List Turn) (turn : Turn) → IsSound turns → answer_in turn.1 ≡ None → withdrawn_in turn.0 turn.1 ≡ None → IsSound (turns ++ turn ∷ [])
+IsSound-push_same turns turn sound none stays =
+    let after : List Turn = turns ++ turn ∷ [] in
+    let same_given : given after ≡ given turns = given_same turns turn none in
+    let same_withdrawn : withdrawn after ≡ withdrawn turns = withdrawn_same turns turn stays in
+    let gone : is_withdrawn after ≡ is_withdrawn turns = ap is_among same_withdrawn in
+    record {
+      values =
+          same_given ∙ sound.values
+          ∙ sym (due-push (is_withdrawn turns) turns turn (next_ticket turns) (next-within turns))
+          ∙ ap (λ n. due (is_withdrawn turns) n (map value_of (submitted after))) (sym (next-same turns turn sound none stays))
+          ∙ ap (λ g. due g (next_ticket after) (map value_of (submitted after))) (sym gone);
+      arrived = λ i given_one. HasArrived-push turns turn i (sound.arrived i (sym (ap (list_any (λ (answer : ℕ × Answer). eqb answer.0 i)) same_given) ∙ given_one));
+      known = λ i gone_one.
+          let before : i < length (submitted turns) = sound.known i (sym (ap (λ w. is_among w i) same_withdrawn) ∙ gone_one) in
+          omega (arith, before, length-submitted-push turns turn);
+    }
+
+-- a turn that gives the next answer
 
 -- an answer that is given is that of the next ticket, which has arrived
-pub record IsNextAnswer (turns : List Turn) (seq : ℕ) (answer : Answer) : Type 0 where
+pub record IsNextAnswer (turns : List Turn) (turn : Turn) (seq : ℕ) (answer : Answer) : Type 0 where
+  pub gives : answer_in turn.1 ≡ Some (seq, answer)
+  pub stays : withdrawn_in turn.0 turn.1 ≡ None
   pub next : seq ≡ next_ticket turns
   pub arrived : HasArrived turns seq
   pub answer_is : option_map value_of (slice_get (submitted turns) seq) ≡ Some answer
 
-answer-from_reply : (turns : List Turn) (event : Event) (replied : Reply) (seq : ℕ) (answer : Answer) → ReplyOf turns event replied → answer_in replied ≡ Some (seq, answer) → IsNextAnswer turns seq answer
-answer-from_reply turns (Take table) (reply.Taken (taken.Answer s a)) seq answer legal e =
-    let pair : (s, a) ≡ (seq, answer) = cc in
-    let same : s ≡ seq = ap (λ (p : ℕ × Answer). p.0) pair in
-    let same_answer : a ≡ answer = ap (λ (p : ℕ × Answer). p.1) pair in
-    record {
-      next = sym same ∙ legal.0;
-      arrived = subst (HasArrived turns) same legal.1;
-      answer_is = rw (← same, ← same_answer) legal.2;
-    }
-answer-from_reply turns (Submit table job) (reply.Taken (taken.Answer s a)) seq answer legal e = absurd legal
-answer-from_reply turns (Arrive piece) (reply.Taken (taken.Answer s a)) seq answer legal e = absurd legal
-answer-from_reply turns (Close table) (reply.Taken (taken.Answer s a)) seq answer legal e = cc
-answer-from_reply turns event (reply.Taken taken.Waiting) seq answer legal e = cc
-answer-from_reply turns event (reply.Taken taken.Finished) seq answer legal e = cc
-answer-from_reply turns event reply.NoTable seq answer legal e = cc
-answer-from_reply turns event (reply.Ticket ticket) seq answer legal e = cc
-answer-from_reply turns event (reply.Refused fault) seq answer legal e = cc
-answer-from_reply turns event (reply.Arrived what) seq answer legal e = cc
-answer-from_reply turns event (reply.Closed first) seq answer legal e = cc
+pub given_more : (turns : List Turn) (turn : Turn) (seq : ℕ) (answer : Answer) → answer_in turn.1 ≡ Some (seq, answer) → given (turns ++ turn ∷ []) ≡ given turns ++ (seq, answer) ∷ []
+given_more turns turn seq answer some = given-push turns turn ∙ (rw some refl)
 
-pub given-within : (turns : List Turn) → IsSound turns → next_ticket turns ≤ length (submitted turns)
-given-within turns sound =
-    ⊎_elim (λ past. absurd (omega (arith, HasArrived-within turns (length (submitted turns)) (sound.arrived (length (submitted turns)) past))))
-    (λ within. within)
-    (cases_lt (length (submitted turns)) (next_ticket turns))
+last_given : (seq i : ℕ) (answer : Answer) → list_any (λ (numbered : ℕ × Answer). eqb numbered.0 i) ((seq, answer) ∷ []) ≡ eqb seq i
+last_given seq i answer = by_test (eqb seq i)
+  where
+    by_test : (b : Bool) → (b || false) ≡ b
+    by_test true = refl
+    by_test false = refl
 
--- the jobs before the next ticket stay
-front-push : (turns : List Turn) (turn : Turn) → IsSound turns → take (next_ticket turns) (submitted (turns ++ turn ∷ [])) ≡ take (next_ticket turns) (submitted turns)
-front-push turns turn sound =
-    rw (submitted-push turns turn) (take-append-le (next_ticket turns) (submitted turns) _ (given-within turns sound))
+pub is_given-more : (turns : List Turn) (turn : Turn) (seq : ℕ) (answer : Answer) (i : ℕ) → answer_in turn.1 ≡ Some (seq, answer) → is_given (turns ++ turn ∷ []) i ≡ (is_given turns i || eqb seq i)
+is_given-more turns turn seq answer i some =
+    ap (list_any (λ (numbered : ℕ × Answer). eqb numbered.0 i)) (given_more turns turn seq answer some)
+    ∙ list_any-append (λ (numbered : ℕ × Answer). eqb numbered.0 i) (given turns) ((seq, answer) ∷ [])
+    ∙ ap (λ b. is_given turns i || b) (last_given seq i answer)
 
-IsSound-push_same : (turns : List Turn) (turn : Turn) → IsSound turns → answer_in turn.1 ≡ None → IsSound (turns ++ turn ∷ [])
-IsSound-push_same turns turn sound none =
-    let same : given (turns ++ turn ∷ []) ≡ given turns =
-    given-push turns turn ∙ (rw none (append-nil (given turns))) in
-    let next : next_ticket (turns ++ turn ∷ []) ≡ next_ticket turns = ap length same in
-    record {
-      values = rw (same, front-push turns turn sound) sound.values;
-      arrived = λ i before. HasArrived-push turns turn i (sound.arrived i (omega arith));
-    }
+-- the numbers between the answered ticket and the next one were withdrawn
+gone_between : (turns : List Turn) (turn : Turn) (seq : ℕ) (answer : Answer) → IsSound turns → IsNextAnswer turns turn seq answer → (i : ℕ) → seq < i → i < next_ticket (turns ++ turn ∷ []) → is_withdrawn turns i ≡ true
+gone_between turns turn seq answer sound is_next i low high =
+    let after : List Turn = turns ++ turn ∷ [] in
+    let other : is_given after i ≡ false =
+    is_given-more turns turn seq answer i is_next.gives
+    ∙ or-false (is_given turns i) (eqb seq i) (not_given turns i sound (omega (arith, is_next.next))) (ne_eqb seq i (λ e. absurd (omega arith))) in
+    let gone : is_withdrawn after i ≡ true = withdrawn-done after i other ((IsNext-next_ticket after).before i high) in
+    sym (ap (λ w. is_among w i) (withdrawn_same turns turn is_next.stays)) ∙ gone
 
-IsSound-push_next : (turns : List Turn) (turn : Turn) (seq : ℕ) (answer : Answer) → IsSound turns → answer_in turn.1 ≡ Some (seq, answer) → IsNextAnswer turns seq answer → IsSound (turns ++ turn ∷ [])
-IsSound-push_next turns turn seq answer sound some is_next =
-    let jobs = submitted turns in
-    let jobs' = submitted (turns ++ turn ∷ []) in
-    let next = next_ticket turns in
-    let more : given (turns ++ turn ∷ []) ≡ given turns ++ (seq, answer) ∷ [] =
-    given-push turns turn ∙ (rw some refl) in
-    let next' : next_ticket (turns ++ turn ∷ []) ≡ suc next = ap length more ∙ (rw length-append (omega arith)) in
-    let within : seq < length jobs = HasArrived-within turns seq is_next.arrived in
-    let found = option_map-Some value_of (slice_get jobs seq) answer is_next.answer_is in
-    let job : Job = found.0 in
-    let there : slice_get jobs' seq ≡ Some job = slice_get-submitted-push turns turn seq within ∙ found.1 in
-    let there' : slice_get jobs' next ≡ Some job = rw (← is_next.next) there in
-    let front : take (suc next) jobs' ≡ take next jobs ++ job ∷ [] =
-    take-push_get next jobs' job there' ∙ ap (λ xs. xs ++ job ∷ []) (front-push turns turn sound) in
-    let count : length (map value_of (take next jobs)) ≡ next =
-    (rw (length-map, length-take) (omega (arith, given-within turns sound))) in
-    let values : enumerate_from 0 (map value_of (take (suc next) jobs')) ≡ enumerate_from 0 (map value_of (take next jobs)) ++ (next, answer) ∷ [] =
-    rw (front, map-append)
-    (enumerate_from-push 0 (map value_of (take next jobs)) (value_of job)
-    ∙ (rw (count, found.2, zero-add) refl)) in
+later_next : (turns : List Turn) (turn : Turn) (seq : ℕ) (answer : Answer) → IsSound turns → IsNextAnswer turns turn seq answer → seq < next_ticket (turns ++ turn ∷ [])
+later_next turns turn seq answer sound is_next =
+    let after : List Turn = turns ++ turn ∷ [] in
+    let now = IsNext-next_ticket after in
+    let m = next_ticket after in
+    let size : length (submitted turns) ≤ length (submitted after) = length-submitted-push turns turn in
+    let inside : seq < length (submitted turns) = HasArrived-within turns seq is_next.arrived in
+    ⊎_elim (λ above. above) (λ past.
+    let open_one : is_done after m ≡ false = now.stops (omega (arith, past, size, inside)) in
+    let parts = or-neither (is_given after m) (is_withdrawn after m) open_one in
+    let was_given = or-neither (is_given turns m) (eqb seq m) (sym (is_given-more turns turn seq answer m is_next.gives) ∙ parts.0) in
+    let other : seq ≢ m = λ same. false≢true (sym was_given.1 ∙ eq-eqb seq m same) in
+    let below : m < next_ticket turns = omega (arith, past, is_next.next, other) in
+    let was_gone : is_withdrawn turns m ≡ false = sym (ap (λ w. is_among w m) (withdrawn_same turns turn is_next.stays)) ∙ parts.1 in
+    absurd (false≢true (sym (or-false (is_given turns m) (is_withdrawn turns m) was_given.0 was_gone) ∙ (IsNext-next_ticket turns).before m below)))
+    (cases_lt seq m)
+
+IsSound-push_next : (turns : List Turn) (turn : Turn) (seq : ℕ) (answer : Answer) → IsSound turns → IsNextAnswer turns turn seq answer → IsSound (turns ++ turn ∷ [])
+IsSound-push_next turns turn seq answer sound is_next =
+    let after : List Turn = turns ++ turn ∷ [] in
+    let jobs = map value_of (submitted after) in
+    let gone : is_withdrawn after ≡ is_withdrawn turns = ap is_among (withdrawn_same turns turn is_next.stays) in
+    let inside : seq < length (submitted turns) = HasArrived-within turns seq is_next.arrived in
+    let there : slice_get jobs seq ≡ Some answer =
+    slice_get-map value_of (submitted after) seq ∙ ap (option_map value_of) (slice_get-submitted-push turns turn seq inside) ∙ is_next.answer_is in
+    let open_one : is_withdrawn turns seq ≡ false =
+    subst (λ n. is_withdrawn turns n ≡ false) (sym is_next.next) (next_stays turns (omega (arith, is_next.next, inside))) in
+    let later : due (is_withdrawn turns) (next_ticket after) jobs ≡ due (is_withdrawn turns) seq jobs ++ (seq, answer) ∷ [] =
+    due-after_answer (is_withdrawn turns) seq (next_ticket after) jobs answer there open_one (later_next turns turn seq answer sound is_next)
+    (omega (arith, next-within after, length-values after)) (gone_between turns turn seq answer sound is_next) in
     record {
       values =
-          more
-          ∙ ap (λ n. given turns ++ (n, answer) ∷ []) is_next.next
-          ∙ ap (λ xs. xs ++ (next, answer) ∷ []) sound.values
-          ∙ sym values
-          ∙ ap (λ n. enumerate_from 0 (map value_of (take n jobs'))) (sym next');
-      arrived = λ i before.
+          given_more turns turn seq answer is_next.gives
+          ∙ ap (λ xs. xs ++ (seq, answer) ∷ []) (
+          sound.values
+          ∙ sym (due-push (is_withdrawn turns) turns turn (next_ticket turns) (next-within turns))
+          ∙ ap (λ n. due (is_withdrawn turns) n jobs) (sym is_next.next))
+          ∙ sym later
+          ∙ ap (λ g. due g (next_ticket after) jobs) (sym gone);
+      arrived = λ i given_one.
           ⊎_elim (λ earlier. HasArrived-push turns turn i (sound.arrived i earlier))
-          (λ past. let same : seq ≡ i = omega (arith, is_next.next) in HasArrived-push turns turn i (subst (HasArrived turns) same is_next.arrived))
-          (cases_lt i next);
+          (λ now. HasArrived-push turns turn i (subst (HasArrived turns) (eqb-true seq i now) is_next.arrived))
+          (or-cases (is_given turns i) (eqb seq i) (sym (is_given-more turns turn seq answer i is_next.gives) ∙ given_one));
+      known = λ i gone_one.
+          let before : i < length (submitted turns) = sound.known i (sym (ap (λ g. g i) gone) ∙ gone_one) in
+          omega (arith, before, length-submitted-push turns turn);
     }
 
-pub IsSound-push : (turns : List Turn) (event : Event) (replied : Reply) → IsSound turns → ReplyOf turns event replied → IsSound (turns ++ (event, replied) ∷ [])
-IsSound-push turns event replied sound legal =
-    by_answer (answer_in replied) refl
+-- a turn that withdraws a ticket
+
+-- the ticket that is withdrawn could be
+pub record IsWithdrawal (turns : List Turn) (turn : Turn) (seq : ℕ) : Type 0 where
+  pub gone : withdrawn_in turn.0 turn.1 ≡ Some seq
+  pub none : answer_in turn.1 ≡ None
+  pub can : CanWithdraw turns seq
+
+last_among : (seq i : ℕ) → is_among (seq ∷ []) i ≡ eqb i seq
+last_among seq i = by_test (eqb i seq)
   where
-    by_answer : (o : Option (ℕ × Answer)) → answer_in replied ≡ o → IsSound (turns ++ (event, replied) ∷ [])
-    by_answer None none = IsSound-push_same turns (event, replied) sound none
-    by_answer (Some (seq, answer)) some =
-        IsSound-push_next turns (event, replied) seq answer sound some (answer-from_reply turns event replied seq answer legal some)
+    by_test : (b : Bool) → (b || false) ≡ b
+    by_test true = refl
+    by_test false = refl
+
+pub is_withdrawn-more : (turns : List Turn) (turn : Turn) (seq i : ℕ) → withdrawn_in turn.0 turn.1 ≡ Some seq → is_withdrawn (turns ++ turn ∷ []) i ≡ (is_withdrawn turns i || eqb i seq)
+is_withdrawn-more turns turn seq i gone =
+    let more : withdrawn (turns ++ turn ∷ []) ≡ withdrawn turns ++ seq ∷ [] = withdrawn-push turns turn ∙ (rw gone refl) in
+    ap (λ w. is_among w i) more
+    ∙ list_any-append (λ n. eqb i n) (withdrawn turns) (seq ∷ [])
+    ∙ ap (λ b. is_withdrawn turns i || b) (last_among seq i)
+
+-- the next ticket doesn't go back
+no_earlier : (turns : List Turn) (turn : Turn) (seq : ℕ) → IsWithdrawal turns turn seq → next_ticket turns ≤ next_ticket (turns ++ turn ∷ [])
+no_earlier turns turn seq is =
+    let after : List Turn = turns ++ turn ∷ [] in
+    let m = next_ticket after in
+    ⊎_elim (λ below.
+    let open_one : is_done after m ≡ false = (IsNext-next_ticket after).stops (omega (arith, below, next-within turns, length-submitted-push turns turn)) in
+    let parts = or-neither (is_given after m) (is_withdrawn after m) open_one in
+    let was_given : is_given turns m ≡ false = sym (ap (list_any (λ (answer : ℕ × Answer). eqb answer.0 m)) (given_same turns turn is.none)) ∙ parts.0 in
+    let was_gone = or-neither (is_withdrawn turns m) (eqb m seq) (sym (is_withdrawn-more turns turn seq m is.gone) ∙ parts.1) in
+    absurd (false≢true (sym (or-false (is_given turns m) (is_withdrawn turns m) was_given was_gone.0) ∙ (IsNext-next_ticket turns).before m below)))
+    (λ past. past) (cases_lt m (next_ticket turns))
+
+IsSound-push_withdrawal : (turns : List Turn) (turn : Turn) (seq : ℕ) → IsSound turns → IsWithdrawal turns turn seq → IsSound (turns ++ turn ∷ [])
+IsSound-push_withdrawal turns turn seq sound is =
+    let after : List Turn = turns ++ turn ∷ [] in
+    let jobs = map value_of (submitted after) in
+    let same_given : given after ≡ given turns = given_same turns turn is.none in
+    let more : (i : ℕ) → is_withdrawn after i ≡ (is_withdrawn turns i || eqb i seq) = λ i. is_withdrawn-more turns turn seq i is.gone in
+    let not_done : next_ticket turns ≤ seq =
+    ⊎_elim (λ below. absurd (false≢true (sym is.can.1 ∙ (IsNext-next_ticket turns).before seq below))) (λ past. past) (cases_lt seq (next_ticket turns)) in
+    let same : (i : ℕ) → i < next_ticket turns → is_withdrawn turns i ≡ is_withdrawn after i = λ i below.
+    let other : eqb i seq ≡ false = ne_eqb i seq (λ e. absurd (omega arith)) in
+    sym (more i ∙ ap (λ b. is_withdrawn turns i || b) other ∙ or_nothing (is_withdrawn turns i)) in
+    let gone : (i : ℕ) → next_ticket turns ≤ i → i < next_ticket after → is_withdrawn after i ≡ true = λ i low high.
+    let other : is_given after i ≡ false = ap (list_any (λ (answer : ℕ × Answer). eqb answer.0 i)) same_given ∙ not_given turns i sound low in
+    withdrawn-done after i other ((IsNext-next_ticket after).before i high) in
+    record {
+      values =
+          same_given ∙ sound.values
+          ∙ sym (due-push (is_withdrawn turns) turns turn (next_ticket turns) (next-within turns))
+          ∙ sym (due-after_withdrawal (is_withdrawn turns) (is_withdrawn after) (next_ticket turns) (next_ticket after) jobs same (no_earlier turns turn seq is)
+          (omega (arith, next-within after, length-values after)) gone);
+      arrived = λ i given_one. HasArrived-push turns turn i (sound.arrived i (sym (ap (list_any (λ (answer : ℕ × Answer). eqb answer.0 i)) same_given) ∙ given_one));
+      known = λ i gone_one.
+          ⊎_elim (λ before. omega (arith, sound.known i before, length-submitted-push turns turn))
+          (λ now. let here : i ≡ seq = eqb-true i seq now in omega (arith, here, is.can.0, length-submitted-push turns turn))
+          (or-cases (is_withdrawn turns i) (eqb i seq) (sym (more i) ∙ gone_one));
+    }
+  where
+    or_nothing : (b : Bool) → (b || false) ≡ b
+    or_nothing true = refl
+    or_nothing false = refl
+
+-- what a legal turn is
+
+-- one that gives and withdraws nothing, one that gives the next answer, or a withdrawal
+abbrev TurnKind : List Turn → Turn → Type 0
+TurnKind turns turn =
+    ((answer_in turn.1 ≡ None) × (withdrawn_in turn.0 turn.1 ≡ None))
+    ⊎ (((seq : ℕ) × (answer : Answer) × IsNextAnswer turns turn seq answer) ⊎ ((seq : ℕ) × IsWithdrawal turns turn seq))
+
+turn_kind : (turns : List Turn) (event : Event) (replied : Reply) → ReplyOf turns event replied → TurnKind turns (event, replied)
+turn_kind turns (Take table) (reply.Taken (taken.Answer seq answer)) legal =
+    inr (inl (seq, answer, record { gives = refl; stays = refl; next = legal.0; arrived = legal.1; answer_is = legal.2 }))
+turn_kind turns (Take table) (reply.Taken taken.Waiting) legal = inl (refl, refl)
+turn_kind turns (Take table) (reply.Taken taken.Finished) legal = inl (refl, refl)
+turn_kind turns (Take table) (reply.Withdrawn done) legal = absurd legal
+turn_kind turns (Take table) reply.NoTable legal = absurd legal
+turn_kind turns (Take table) (reply.Ticket ticket) legal = absurd legal
+turn_kind turns (Take table) (reply.Refused what) legal = absurd legal
+turn_kind turns (Take table) (reply.Arrived what) legal = absurd legal
+turn_kind turns (Take table) (reply.Closed first) legal = absurd legal
+turn_kind turns (Withdraw ticket) (reply.Withdrawn true) legal = inr (inr (ticket.seq, record { gone = refl; none = refl; can = legal }))
+turn_kind turns (Withdraw ticket) (reply.Withdrawn false) legal = inl (refl, refl)
+turn_kind turns (Withdraw ticket) (reply.Refused fault.Memory) legal = inl (refl, refl)
+turn_kind turns (Withdraw ticket) (reply.Refused fault.Closed) legal = absurd legal
+turn_kind turns (Withdraw ticket) (reply.Refused fault.Limit) legal = absurd legal
+turn_kind turns (Withdraw ticket) reply.NoTable legal = absurd legal
+turn_kind turns (Withdraw ticket) (reply.Ticket other) legal = absurd legal
+turn_kind turns (Withdraw ticket) (reply.Arrived what) legal = absurd legal
+turn_kind turns (Withdraw ticket) (reply.Closed first) legal = absurd legal
+turn_kind turns (Withdraw ticket) (reply.Taken what) legal = absurd legal
+turn_kind turns (Submit table job) (reply.Taken what) legal = absurd legal
+turn_kind turns (Submit table job) (reply.Withdrawn done) legal = absurd legal
+turn_kind turns (Submit table job) (reply.Arrived what) legal = absurd legal
+turn_kind turns (Submit table job) (reply.Closed first) legal = absurd legal
+turn_kind turns (Submit table job) reply.NoTable legal = absurd legal
+turn_kind turns (Submit table job) (reply.Ticket ticket) legal = inl (refl, refl)
+turn_kind turns (Submit table job) (reply.Refused what) legal = inl (refl, refl)
+turn_kind turns (Arrive piece) (reply.Taken what) legal = absurd legal
+turn_kind turns (Arrive piece) (reply.Withdrawn done) legal = absurd legal
+turn_kind turns (Arrive piece) (reply.Arrived what) legal = inl (refl, refl)
+turn_kind turns (Arrive piece) (reply.Closed first) legal = absurd legal
+turn_kind turns (Arrive piece) reply.NoTable legal = absurd legal
+turn_kind turns (Arrive piece) (reply.Ticket ticket) legal = absurd legal
+turn_kind turns (Arrive piece) (reply.Refused what) legal = absurd legal
+turn_kind turns (Close table) (reply.Closed first) legal = inl (refl, refl)
+turn_kind turns (Close table) (reply.Taken what) legal = cc
+turn_kind turns (Close table) (reply.Withdrawn done) legal = cc
+turn_kind turns (Close table) (reply.Arrived what) legal = cc
+turn_kind turns (Close table) reply.NoTable legal = cc
+turn_kind turns (Close table) (reply.Ticket ticket) legal = cc
+turn_kind turns (Close table) (reply.Refused what) legal = cc
+
+pub IsSound-push : (turns : List Turn) (event : Event) (replied : Reply) → IsSound turns → ReplyOf turns event replied → IsSound (turns ++ (event, replied) ∷ [])
+IsSound-push turns event replied sound legal = by_kind (turn_kind turns event replied legal)
+  where
+    by_kind : TurnKind turns (event, replied) → IsSound (turns ++ (event, replied) ∷ [])
+    by_kind (inl (none, stays)) = IsSound-push_same turns (event, replied) sound none stays
+    by_kind (inr (inl (seq, answer, is_next))) = IsSound-push_next turns (event, replied) seq answer sound is_next
+    by_kind (inr (inr (seq, is))) = IsSound-push_withdrawal turns (event, replied) seq sound is
 
 pub turns_of-push : (table : ℕ) (history : List Turn) (turn : Turn) → turns_of table (history ++ turn ∷ []) ≡ (if eqb (table_of turn.0) table then turns_of table history ++ turn ∷ [] else turns_of table history)
 turns_of-push table history turn =
@@ -141,7 +374,7 @@ IsSound-from_legal tables table history (turn ∷ rest) within sound legal =
     rw (← append_assoc history (turn ∷ []) rest) all
 
 pub IsSound-nil : IsSound []
-IsSound-nil = record { values = refl; arrived = λ i before. absurd (omega arith) }
+IsSound-nil = record { values = refl; arrived = λ i none. cc; known = λ i none. cc }
 
 -- each table of a legal history was given the values of its jobs in order
 pub IsSound-IsLegal : (tables table : ℕ) (history : List Turn) → table < tables → IsLegal tables history → IsSound (turns_of table history)

@@ -10,9 +10,9 @@ use Rattle.std.proofs.lemmas.Bool.{cases_lt}
 use Rattle.std.proofs.Math.Seq.{take-append_seam}
 use Rattle.desk_core.proofs.Lists.{filter_map-take_while-push, slice_get-append_left, slice_get-push}
 use Rattle.desk_core.specs.Ticketed.{Ticketed}
-use Rattle.desk_core.specs.History.{Turn, is_close, is_closed, submitted, submitted_job, HasArrived, given, answer_in}
+use Rattle.desk_core.specs.History.{Turn, is_close, is_closed, submitted, submitted_job, HasArrived, given, answer_in, withdrawn, withdrawn_in}
 use Rattle.desk_core.specs.declared.event.Event.{Event}
-use Rattle.desk_core.specs.declared.event.Event.TheVariants.{Submit, Arrive, Close, Take}
+use Rattle.desk_core.specs.declared.event.Event.TheVariants.{Submit, Arrive, Close, Take, Withdraw}
 use Rattle.desk_core.specs.declared.reply.Reply.{Reply}
 
 close_submits_nothing : (event : Event) (replied : Reply) → is_close event ≡ true → submitted_job event replied ≡ None
@@ -20,6 +20,7 @@ close_submits_nothing (Close table) replied closes = refl
 close_submits_nothing (Submit table job) replied closes = cc
 close_submits_nothing (Arrive piece) replied closes = cc
 close_submits_nothing (Take table) replied closes = cc
+close_submits_nothing (Withdraw ticket) replied closes = cc
 
 pub submitted-push : (turns : List Turn) (turn : Turn) → submitted (turns ++ turn ∷ []) ≡ submitted turns ++ (if is_closed turns then [] else cons_option (submitted_job turn.0 turn.1) [])
 submitted-push turns turn =
@@ -36,9 +37,20 @@ is_closed-push turns turn =
 pub given-push : (turns : List Turn) (turn : Turn) → given (turns ++ turn ∷ []) ≡ given turns ++ cons_option (answer_in turn.1) []
 given-push turns turn = filter_map-append (λ t. answer_in t.1) turns (turn ∷ [])
 
+pub withdrawn-push : (turns : List Turn) (turn : Turn) → withdrawn (turns ++ turn ∷ []) ≡ withdrawn turns ++ cons_option (withdrawn_in turn.0 turn.1) []
+withdrawn-push turns turn = filter_map-append (λ t. withdrawn_in t.0 t.1) turns (turn ∷ [])
+
+-- a turn that gives nothing, and one that withdraws nothing
+
+pub given_same : (turns : List Turn) (turn : Turn) → answer_in turn.1 ≡ None → given (turns ++ turn ∷ []) ≡ given turns
+given_same turns turn none = given-push turns turn ∙ (rw none (append-nil (given turns)))
+
+pub withdrawn_same : (turns : List Turn) (turn : Turn) → withdrawn_in turn.0 turn.1 ≡ None → withdrawn (turns ++ turn ∷ []) ≡ withdrawn turns
+withdrawn_same turns turn none = withdrawn-push turns turn ∙ (rw none (append-nil (withdrawn turns)))
+
 -- no later turn takes a job back
 
-length-submitted-push : (turns : List Turn) (turn : Turn) → length (submitted turns) ≤ length (submitted (turns ++ turn ∷ []))
+pub length-submitted-push : (turns : List Turn) (turn : Turn) → length (submitted turns) ≤ length (submitted (turns ++ turn ∷ []))
 length-submitted-push turns turn = rw (submitted-push turns turn, length-append) (omega arith)
 
 length-submitted-append : (turns more : List Turn) → length (submitted turns) ≤ length (submitted (turns ++ more))

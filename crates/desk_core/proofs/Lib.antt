@@ -1,8 +1,11 @@
 pub mod Continued
 pub mod Desks
+pub mod Due
 pub mod Facts
 pub mod Histories
 pub mod Lists
+pub mod Next
+pub mod Passing
 pub mod Promise
 pub mod Same
 pub mod Steps

@@ -7,9 +7,9 @@ use Rattle.std.proofs.lemmas.Option.{slice_get_within}
 use Rattle.desk_core.proofs.Histories.{HasArrived-within}
 use Rattle.desk_core.specs.Value.{value_of}
 use Rattle.desk_core.specs.Ticketed.{Ticketed}
-use Rattle.desk_core.specs.History.{Turn, table_of, turns_of, submitted, HasArrived, SubmitReply, ArriveReply, TakeReply, ReplyOf, DeskReplyOf, IsLegalAfter}
+use Rattle.desk_core.specs.History.{Turn, table_of, turns_of, submitted, HasArrived, SubmitReply, ArriveReply, TakeReply, WithdrawReply, ReplyOf, DeskReplyOf, IsLegalAfter}
 use Rattle.desk_core.specs.declared.event.Event.{Event}
-use Rattle.desk_core.specs.declared.event.Event.TheVariants.{Submit, Arrive, Close, Take}
+use Rattle.desk_core.specs.declared.event.Event.TheVariants.{Submit, Arrive, Close, Take, Withdraw}
 use Rattle.desk_core.specs.declared.reply.Reply.{Reply}
 use Rattle.desk_core.specs.declared.reply.Reply.TheVariants as reply
 use Rattle.desk_core.specs.declared.refusal.SubmitFault.TheVariants as fault
@@ -37,27 +37,39 @@ submit_unique turns table a reply.NoTable first second differ other = absurd sec
 submit_unique turns table a (reply.Arrived what) first second differ other = absurd second
 submit_unique turns table a (reply.Closed what) first second differ other = absurd second
 submit_unique turns table a (reply.Taken what) first second differ other = absurd second
+submit_unique turns table a (reply.Withdrawn what) first second differ other = absurd second
 submit_unique turns table reply.NoTable b first second differ other = absurd first
 submit_unique turns table (reply.Arrived what) b first second differ other = absurd first
 submit_unique turns table (reply.Closed what) b first second differ other = absurd first
 submit_unique turns table (reply.Taken what) b first second differ other = absurd first
+submit_unique turns table (reply.Withdrawn what) b first second differ other = absurd first
 
 stranger_doubled : (turns : List Turn) (piece : Ticketed) → ArriveReply turns piece (reply.Arrived arrived.Stranger) → ArriveReply turns piece (reply.Arrived arrived.Doubled) → ⊥
-stranger_doubled turns piece stranger doubled = ⊎_elim (λ past. absurd (omega (arith, HasArrived-within turns piece.ticket.seq doubled))) (λ other. other.0 doubled) stranger
+stranger_doubled turns piece stranger doubled = ⊎_elim (λ past. absurd (omega (arith, HasArrived-within turns piece.ticket.seq doubled.1))) (λ other. other.1 doubled.1) stranger
 
 stranger_accepted : (turns : List Turn) (piece : Ticketed) → ArriveReply turns piece (reply.Arrived arrived.Stranger) → ArriveReply turns piece (reply.Arrived arrived.Accepted) → ⊥
-stranger_accepted turns piece stranger accepted = ⊎_elim (λ past. absurd (omega (arith, slice_get_within (submitted turns) piece.ticket.seq _ accepted.1))) (λ other. other.1 accepted.1) stranger
+stranger_accepted turns piece stranger accepted = ⊎_elim (λ past. absurd (omega (arith, slice_get_within (submitted turns) piece.ticket.seq _ accepted.2))) (λ other. other.2 accepted.2) stranger
+
+stranger_withdrawn : (turns : List Turn) (piece : Ticketed) → ArriveReply turns piece (reply.Arrived arrived.Stranger) → ArriveReply turns piece (reply.Arrived arrived.Withdrawn) → ⊥
+stranger_withdrawn turns piece stranger gone = ⊎_elim (λ past. absurd (omega (arith, past, gone.0))) (λ other. false≢true (sym other.0 ∙ gone.1)) stranger
 
 arrive_unique : (turns : List Turn) (piece : Ticketed) (a b : Arrived) → ArriveReply turns piece (reply.Arrived a) → ArriveReply turns piece (reply.Arrived b) → a ≡ b
 arrive_unique turns piece arrived.Stranger arrived.Stranger first second = refl
 arrive_unique turns piece arrived.Doubled arrived.Doubled first second = refl
 arrive_unique turns piece arrived.Accepted arrived.Accepted first second = refl
+arrive_unique turns piece arrived.Withdrawn arrived.Withdrawn first second = refl
 arrive_unique turns piece arrived.Stranger arrived.Doubled first second = absurd (stranger_doubled turns piece first second)
 arrive_unique turns piece arrived.Doubled arrived.Stranger first second = absurd (stranger_doubled turns piece second first)
 arrive_unique turns piece arrived.Stranger arrived.Accepted first second = absurd (stranger_accepted turns piece first second)
 arrive_unique turns piece arrived.Accepted arrived.Stranger first second = absurd (stranger_accepted turns piece second first)
-arrive_unique turns piece arrived.Doubled arrived.Accepted first second = absurd (second.0 first)
-arrive_unique turns piece arrived.Accepted arrived.Doubled first second = absurd (first.0 second)
+arrive_unique turns piece arrived.Stranger arrived.Withdrawn first second = absurd (stranger_withdrawn turns piece first second)
+arrive_unique turns piece arrived.Withdrawn arrived.Stranger first second = absurd (stranger_withdrawn turns piece second first)
+arrive_unique turns piece arrived.Doubled arrived.Accepted first second = absurd (second.1 first.1)
+arrive_unique turns piece arrived.Accepted arrived.Doubled first second = absurd (first.1 second.1)
+arrive_unique turns piece arrived.Withdrawn arrived.Doubled first second = absurd (false≢true (sym second.0 ∙ first.1))
+arrive_unique turns piece arrived.Doubled arrived.Withdrawn first second = absurd (false≢true (sym first.0 ∙ second.1))
+arrive_unique turns piece arrived.Withdrawn arrived.Accepted first second = absurd (false≢true (sym second.0 ∙ first.1))
+arrive_unique turns piece arrived.Accepted arrived.Withdrawn first second = absurd (false≢true (sym first.0 ∙ second.1))
 
 take_unique : (turns : List Turn) (a b : Taken) → TakeReply turns (reply.Taken a) → TakeReply turns (reply.Taken b) → a ≡ b
 take_unique turns (taken.Answer m x) (taken.Answer n y) first second =
@@ -82,6 +94,7 @@ arrived_in turns piece (reply.Ticket what) legal = absurd legal
 arrived_in turns piece (reply.Refused what) legal = absurd legal
 arrived_in turns piece (reply.Closed what) legal = absurd legal
 arrived_in turns piece (reply.Taken what) legal = absurd legal
+arrived_in turns piece (reply.Withdrawn what) legal = absurd legal
 
 taken_in : (turns : List Turn) (a : Reply) → TakeReply turns a → (what : Taken) × (a ≡ reply.Taken what)
 taken_in turns (reply.Taken what) legal = (what, refl)
@@ -90,6 +103,25 @@ taken_in turns (reply.Ticket what) legal = absurd legal
 taken_in turns (reply.Refused what) legal = absurd legal
 taken_in turns (reply.Arrived what) legal = absurd legal
 taken_in turns (reply.Closed what) legal = absurd legal
+taken_in turns (reply.Withdrawn what) legal = absurd legal
+
+-- a withdrawal without want of memory
+withdrawal_in : (turns : List Turn) (seq : ℕ) (a : Reply) → WithdrawReply turns seq a → ¬ NoMemory a → (done : Bool) × (a ≡ reply.Withdrawn done)
+withdrawal_in turns seq (reply.Withdrawn done) legal differ = (done, refl)
+withdrawal_in turns seq (reply.Refused fault.Memory) legal differ = absurd (differ refl)
+withdrawal_in turns seq (reply.Refused fault.Closed) legal differ = absurd legal
+withdrawal_in turns seq (reply.Refused fault.Limit) legal differ = absurd legal
+withdrawal_in turns seq reply.NoTable legal differ = absurd legal
+withdrawal_in turns seq (reply.Ticket what) legal differ = absurd legal
+withdrawal_in turns seq (reply.Arrived what) legal differ = absurd legal
+withdrawal_in turns seq (reply.Closed what) legal differ = absurd legal
+withdrawal_in turns seq (reply.Taken what) legal differ = absurd legal
+
+withdraw_unique : (turns : List Turn) (seq : ℕ) (a b : Bool) → WithdrawReply turns seq (reply.Withdrawn a) → WithdrawReply turns seq (reply.Withdrawn b) → a ≡ b
+withdraw_unique turns seq true true first second = refl
+withdraw_unique turns seq false false first second = refl
+withdraw_unique turns seq true false first second = absurd (second first)
+withdraw_unique turns seq false true first second = absurd (first second)
 
 reply_unique : (turns : List Turn) (event : Event) (a b : Reply) → ReplyOf turns event a → ReplyOf turns event b → ¬ NoMemory a → ¬ NoMemory b → a ≡ b
 reply_unique turns (Submit table job) a b first second differ other = submit_unique turns table a b first second differ other
@@ -102,6 +134,10 @@ reply_unique turns (Take table) a b first second differ other =
     let what = taken_in turns a first in
     let same = taken_in turns b second in
     what.1 ∙ ap reply.Taken (take_unique turns what.0 same.0 (rw what.1 at first) (rw same.1 at second)) ∙ sym same.1
+reply_unique turns (Withdraw ticket) a b first second differ other =
+    let what = withdrawal_in turns ticket.seq a first differ in
+    let same = withdrawal_in turns ticket.seq b second other in
+    what.1 ∙ ap reply.Withdrawn (withdraw_unique turns ticket.seq what.0 same.0 (rw what.1 at first) (rw same.1 at second)) ∙ sym same.1
 
 pub desk_reply_unique : (tables : ℕ) (history : List Turn) (event : Event) (a b : Reply) → DeskReplyOf tables history (event, a) → DeskReplyOf tables history (event, b) → ¬ NoMemory a → ¬ NoMemory b → a ≡ b
 desk_reply_unique tables history event a b first second differ other = by_range (ltb (table_of event) tables) refl first second

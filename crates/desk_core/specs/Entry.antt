@@ -16,3 +16,4 @@ abbrev pub TakesIn : Job × Bool → Job → Arrived → Job × Bool → Type 0
 TakesIn old job arrived.Doubled new = (old.1 ≡ true) × (new ≡ old)
 TakesIn old job arrived.Stranger new = (old.1 ≡ false) × (old.0 ≢ job) × (new ≡ old)
 TakesIn old job arrived.Accepted new = (old ≡ (job, false)) × (new ≡ (job, true))
+TakesIn old job arrived.Withdrawn new = ⊥

@@ -1,12 +1,13 @@
 -- What the events of a desk and their replies so far say of each table.
-use Rattle.std.specs.Prelude.{◌≡◌, ◌≢◌, ℕ, ◌<◌, ◌≤◌, ◌==◌, ◌⊎◌, Bool, true, false, not, nat_lt, List, [], ◌∷◌, ◌++◌, length, take, map, filter, Option, Some, None, option_map, slice_get, MatchBool}
+use Rattle.std.specs.Prelude.{◌≡◌, ◌≢◌, ℕ, ◌<◌, ◌≤◌, ◌==◌, ◌⊎◌, ◌||◌, Bool, true, false, not, nat_lt, List, [], ◌∷◌, ◌++◌, length, take, map, filter, Option, Some, None, option_map, slice_get, MatchBool}
 use Rattle.std.specs.List.{list_any, filter_map, take_while, enumerate_from}
+use Rattle.desk_core.specs.LaneState.{is_among}
 use Rattle.desk_core.specs.Value.{value_of}
 use Rattle.desk_core.specs.Ticketed.{Ticketed}
 use Rattle.riichi_hand.specs.declared.job.Job.{Job}
 use Rattle.desk_core.specs.declared.answer.Answer.{Answer}
 use Rattle.desk_core.specs.declared.event.Event.{Event}
-use Rattle.desk_core.specs.declared.event.Event.TheVariants.{Submit, Arrive, Close, Take}
+use Rattle.desk_core.specs.declared.event.Event.TheVariants.{Submit, Arrive, Close, Take, Withdraw}
 use Rattle.desk_core.specs.declared.reply.Reply.{Reply}
 use Rattle.desk_core.specs.declared.reply.Reply.TheVariants as reply
 use Rattle.desk_core.specs.declared.refusal.SubmitFault.TheVariants as fault
@@ -24,6 +25,7 @@ table_of (Submit table job) = table
 table_of (Arrive piece) = piece.ticket.table
 table_of (Close table) = table
 table_of (Take table) = table
+table_of (Withdraw ticket) = ticket.table
 
 -- the turns of one table
 abbrev pub turns_of : ℕ → List Turn → List Turn
@@ -36,6 +38,7 @@ is_close (Close table) = true
 is_close (Submit table job) = false
 is_close (Arrive piece) = false
 is_close (Take table) = false
+is_close (Withdraw ticket) = false
 
 -- the job of a submission that was not refused for want of memory or by the limit
 abbrev pub submitted_job : Event → Reply → Option Job
@@ -73,13 +76,36 @@ answer_in reply = None
 abbrev pub given : List Turn → List (ℕ × Answer)
 given turns = filter_map (λ turn. answer_in turn.1) turns
 
--- the ticket whose answer is given next
-abbrev pub next_ticket : List Turn → ℕ
-next_ticket turns = length (given turns)
+-- the number that a withdrawal took back
+abbrev pub withdrawn_in : Event → Reply → Option ℕ
+withdrawn_in (Withdraw ticket) (reply.Withdrawn true) = Some ticket.seq
+withdrawn_in event reply = None
 
--- each ticket was given
-abbrev pub AllGiven : List Turn → Type 0
-AllGiven turns = next_ticket turns ≡ length (submitted turns)
+-- the numbers that the table withdrew, in order
+abbrev pub withdrawn : List Turn → List ℕ
+withdrawn turns = filter_map (λ turn. withdrawn_in turn.0 turn.1) turns
+
+-- whether ticket i was withdrawn
+abbrev pub is_withdrawn : List Turn → ℕ → Bool
+is_withdrawn turns i = is_among (withdrawn turns) i
+
+-- whether the answer of ticket i was given
+abbrev pub is_given : List Turn → ℕ → Bool
+is_given turns i = list_any (λ answer. answer.0 == i) (given turns)
+
+-- whether ticket i awaits nothing more: its answer was given, or it was withdrawn
+abbrev pub is_done : List Turn → ℕ → Bool
+is_done turns i = is_given turns i || is_withdrawn turns i
+
+-- the ticket whose answer is given next: the least that was neither given nor withdrawn, and the
+-- number of tickets where there is none
+abbrev pub next_ticket : List Turn → ℕ
+next_ticket turns =
+    length (take_while (λ numbered. is_done turns numbered.0) (enumerate_from 0 (submitted turns)))
+
+-- each ticket was given or withdrawn
+abbrev pub AllDone : List Turn → Type 0
+AllDone turns = next_ticket turns ≡ length (submitted turns)
 
 -- the reply to a submission: closed, over the limit, want of memory, or the next number
 abbrev pub SubmitReply : List Turn → ℕ → Reply → Type 0
@@ -91,28 +117,44 @@ SubmitReply turns table (reply.Ticket ticket) =
     × (ticket ≡ record { table = table; seq = length (submitted turns) })
 SubmitReply turns table reply = ⊥
 
--- the reply to a piece: a stranger where the ticket was not given out, doubled where its piece has
--- arrived, a stranger where the job is another, and accepted
+-- the reply to a piece: a stranger where the ticket was not given out, withdrawn where the ticket
+-- was, doubled where its piece has arrived, a stranger where the job is another, and accepted
 abbrev pub ArriveReply : List Turn → Ticketed → Reply → Type 0
 ArriveReply turns piece (reply.Arrived arrived.Stranger) =
     (length (submitted turns) ≤ piece.ticket.seq)
-    ⊎ ((¬ HasArrived turns piece.ticket.seq) × (slice_get (submitted turns) piece.ticket.seq ≢ Some piece.job))
-ArriveReply turns piece (reply.Arrived arrived.Doubled) = HasArrived turns piece.ticket.seq
+    ⊎ ((is_withdrawn turns piece.ticket.seq ≡ false) × (¬ HasArrived turns piece.ticket.seq)
+    × (slice_get (submitted turns) piece.ticket.seq ≢ Some piece.job))
+ArriveReply turns piece (reply.Arrived arrived.Withdrawn) =
+    (piece.ticket.seq < length (submitted turns)) × (is_withdrawn turns piece.ticket.seq ≡ true)
+ArriveReply turns piece (reply.Arrived arrived.Doubled) =
+    (is_withdrawn turns piece.ticket.seq ≡ false) × HasArrived turns piece.ticket.seq
 ArriveReply turns piece (reply.Arrived arrived.Accepted) =
-    (¬ HasArrived turns piece.ticket.seq) × (slice_get (submitted turns) piece.ticket.seq ≡ Some piece.job)
+    (is_withdrawn turns piece.ticket.seq ≡ false) × (¬ HasArrived turns piece.ticket.seq)
+    × (slice_get (submitted turns) piece.ticket.seq ≡ Some piece.job)
 ArriveReply turns piece reply = ⊥
 
 -- the reply to a taking: the answer of the next ticket where its piece has arrived, the end where
--- the table has closed and each was given, and else to wait
+-- the table has closed and each ticket was given or withdrawn, and else to wait
 abbrev pub TakeReply : List Turn → Reply → Type 0
 TakeReply turns (reply.Taken (taken.Answer seq answer)) =
     (seq ≡ next_ticket turns) × HasArrived turns seq
     × (option_map value_of (slice_get (submitted turns) seq) ≡ Some answer)
 TakeReply turns (reply.Taken taken.Finished) =
-    (¬ HasArrived turns (next_ticket turns)) × (is_closed turns ≡ true) × AllGiven turns
+    (¬ HasArrived turns (next_ticket turns)) × (is_closed turns ≡ true) × AllDone turns
 TakeReply turns (reply.Taken taken.Waiting) =
-    (¬ HasArrived turns (next_ticket turns)) × (¬ ((is_closed turns ≡ true) × AllGiven turns))
+    (¬ HasArrived turns (next_ticket turns)) × (¬ ((is_closed turns ≡ true) × AllDone turns))
 TakeReply turns reply = ⊥
+
+-- the ticket was given out, and neither given nor withdrawn
+abbrev pub CanWithdraw : List Turn → ℕ → Type 0
+CanWithdraw turns seq = (seq < length (submitted turns)) × (is_done turns seq ≡ false)
+
+-- the reply to a withdrawal: whether the ticket could be withdrawn, or want of memory where it could
+abbrev pub WithdrawReply : List Turn → ℕ → Reply → Type 0
+WithdrawReply turns seq (reply.Withdrawn true) = CanWithdraw turns seq
+WithdrawReply turns seq (reply.Withdrawn false) = ¬ CanWithdraw turns seq
+WithdrawReply turns seq (reply.Refused fault.Memory) = CanWithdraw turns seq
+WithdrawReply turns seq reply = ⊥
 
 -- the reply to an event, after these turns of its table
 abbrev pub ReplyOf : List Turn → Event → Reply → Type 0
@@ -120,6 +162,7 @@ ReplyOf turns (Submit table job) replied = SubmitReply turns table replied
 ReplyOf turns (Arrive piece) replied = ArriveReply turns piece replied
 ReplyOf turns (Close table) replied = replied ≡ reply.Closed (not (is_closed turns))
 ReplyOf turns (Take table) replied = TakeReply turns replied
+ReplyOf turns (Withdraw ticket) replied = WithdrawReply turns ticket.seq replied
 
 -- the same at a desk of so many tables
 abbrev pub DeskReplyOf : ℕ → List Turn → Turn → Type 0
@@ -134,6 +177,12 @@ IsLegalAfter tables history (turn ∷ turns) = DeskReplyOf tables history turn �
 abbrev pub IsLegal : ℕ → List Turn → Type 0
 IsLegal tables history = IsLegalAfter tables [] history
 
--- the answers given are the values of the jobs, from the first one on, each with its number
+-- the answers that are due to the table, with their numbers: the values of the jobs that it submitted
+-- before closing and did not withdraw, in order
+abbrev pub answers_due : List Turn → List (ℕ × Answer)
+answers_due turns =
+    filter (λ answer. not (is_withdrawn turns answer.0)) (enumerate_from 0 (map value_of (submitted turns)))
+
+-- the answers given are the first of those that are due, each with its number
 abbrev pub GivenInOrder : List Turn → Type 0
-GivenInOrder turns = given turns ≡ enumerate_from 0 (map value_of (take (next_ticket turns) (submitted turns)))
+GivenInOrder turns = given turns ≡ take (length (given turns)) (answers_due turns)

@@ -26,7 +26,8 @@ impl Model for DeskCore {
 }
 
 impl DeskCore {
-    ghost use Rattle.desk_core.specs.History.{Turn};
+    ghost use Rattle.desk_core.specs.History.{Turn, table_of};
+    ghost use Rattle.desk_core.specs.declared.refusal.SubmitFault.{SubmitFault};
     ghost use Rattle.desk_core.specs.Desk.{DeskStandsFor, IsDeskRun, KeepsItsPromise};
 
     /// A desk of 1 to 64 tables with no jobs.
@@ -44,10 +45,13 @@ impl DeskCore {
         }
     }
 
-    /// Does an event and tells its reply. Only a submission takes memory.
+    /// Does an event and tells its reply. Only a submission and a withdrawal take memory.
     pub fn step(&mut self, event: Event) -> Reply
         ensures step { IsDeskRun self.old ((event, result) ∷ []) self.new }
         ensures tables { length self.new ≡ length self.old }
+        ensures unknown { (result ≡ Reply.NoTable) ↔ (length self.old ≤ table_of event) }
+        ensures no_table { result ≡ Reply.NoTable → self.new ≡ self.old }
+        ensures refused { (fault : SubmitFault) → result ≡ Reply.Refused fault → self.new ≡ self.old }
     {
         match self.lanes.get_mut(event.table() as usize) {
             None => Reply::NoTable,
@@ -62,6 +66,7 @@ impl DeskCore {
         ensures stands { IfOk result (λ replies. IsDeskRun self.old (zip events.items replies.items) self.new) }
         ensures promise { IfOk result (λ replies. (history : List Turn) → DeskStandsFor self.old history
             → KeepsItsPromise (length self.old) (history ++ zip events.items replies.items)) }
+        ensures tables { length self.new ≡ length self.old }
         ensures back { IfErr result (λ back. back.events.items ≡ events.items) }
         ensures err { OnErr result (self.new ≡ self.old) }
     {

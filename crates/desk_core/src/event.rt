@@ -1,6 +1,7 @@
 ghost use Rattle.std.specs.Prelude.{◌≡◌};
 
 use crate::piece::Piece;
+use crate::ticket::Ticket;
 use riichi_hand::Job;
 
 /// What may happen at a desk.
@@ -10,6 +11,8 @@ pub enum Event {
     Arrive(Piece),
     Close { table: u32 },
     Take { table: u32 },
+    /// The table takes the job of the ticket back.
+    Withdraw(Ticket),
 }
 
 impl Event {
@@ -24,6 +27,7 @@ impl Event {
             Event::Arrive(piece) => piece.ticket().table,
             Event::Close { table } => *table,
             Event::Take { table } => *table,
+            Event::Withdraw(ticket) => ticket.table,
         }
     }
 }

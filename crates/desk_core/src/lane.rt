@@ -1,4 +1,4 @@
-ghost use Rattle.std.specs.Prelude.{◌≡◌, ◌≢◌, ◌↔◌, ℕ, ◌<◌, ◌+◌, List, length, [], true, false, IsTrue, IfOk, IfErr, OnOk, OnErr};
+ghost use Rattle.std.specs.Prelude.{◌≡◌, ◌≢◌, ◌↔◌, ℕ, ◌<◌, ◌+◌, List, length, Ok, [], true, false, IsTrue, IfOk, IfErr, OnOk, OnErr};
 
 use crate::arrived::Arrived;
 use crate::entry::Entry;
@@ -9,20 +9,22 @@ use crate::reply::Reply;
 use crate::taken::Taken;
 use crate::ticket::Ticket;
 use riichi_hand::Job;
+use riichi_shape::Memory;
 use std::alloc::Global;
-use std::collections::VecDeque;
+use std::collections::{BTreeSet, VecDeque};
 use std::marker::Model;
 use std::mem::replace;
 
-/// How many jobs a table may submit, given answers included.
+/// How many jobs a table may submit, those given and withdrawn included.
 pub const LIMIT: u32 = 1_000_000;
 
-/// One table: its jobs from the first one whose answer was not given yet.
+/// One table: its jobs from the first one that was neither given nor withdrawn.
 #[derive(Drop)]
 pub struct Lane {
     table: u32,
     next: u32,
     window: VecDeque<Entry>,
+    withdrawn: BTreeSet<u32, Global>,
     closed: bool,
 }
 
@@ -34,7 +36,7 @@ impl Model for Lane {
 
     ghost use Rattle.desk_core.specs.Entry.{seen};
 
-    ghost view = { λ l. record { table = l.table; next = l.next; window = map seen l.window.items; closed = l.closed } };
+    ghost view = { λ l. record { table = l.table; next = l.next; window = map seen l.window.items; withdrawn = l.withdrawn.keys; closed = l.closed } };
 
     ghost invariant = { λ l. l.next + length l.window.items ≤ 1000000 };
 }
@@ -42,9 +44,10 @@ impl Model for Lane {
 impl Lane {
     ghost use Rattle.desk_core.specs.History.{Turn, table_of, turns_of, submitted, is_closed};
     ghost use Rattle.desk_core.specs.Step.{IsStep, StandsFor};
-    ghost use Rattle.desk_core.specs.LaneState.{new_lane, with_job, TakesInPiece, Awaits};
+    ghost use Rattle.desk_core.specs.LaneState.{new_lane, with_job, AcceptsJob, RefusesJob, is_among, TakesInPiece, PassesWithdrawn, CanTakeBack, TakesBack, Awaits};
     ghost use Rattle.desk_core.specs.GivesFirst.{GivesFirst};
-    ghost use Rattle.desk_core.specs.Replies.{submit_reply};
+    ghost use Rattle.desk_core.specs.Replies.{submit_reply, withdraw_reply};
+    ghost use Rattle.desk_core.specs.declared.refusal.SubmitFault.{SubmitFault};
 
     /// A table with no jobs. It takes no memory.
     pub fn new(alloc: Global, table: u32) -> Lane
@@ -55,6 +58,7 @@ impl Lane {
             table,
             next: 0,
             window: VecDeque::new(alloc),
+            withdrawn: BTreeSet::new(alloc),
             closed: false,
         }
     }
@@ -88,6 +92,8 @@ impl Lane {
     pub fn submit(&mut self, job: Job) -> Result<Ticket, SubmitBack>
         ensures step { IsStep self.old (Event.Submit self.old.table job) (submit_reply result) self.new }
         ensures back { IfErr result (λ back. back.job ≡ job) }
+        ensures fault { IfErr result (λ back. RefusesJob self.old back.fault) }
+        ensures accepts { OnOk result (AcceptsJob self.old) }
         ensures err { OnErr result (self.new ≡ self.old) }
         ensures ok { OnOk result (self.new ≡ with_job self.old job) }
         ensures ticket { IfOk result (λ ticket. ticket ≡ record { table = self.old.table; seq = self.old.next + length self.old.window }) }
@@ -118,18 +124,24 @@ impl Lane {
     }
 
     /// Takes in a piece: a stranger where its ticket is another table's or was not given out,
-    /// doubled where a piece was accepted for it, whatever job this one carries, a stranger where
-    /// another job was submitted under it, and else accepted. It takes no memory.
+    /// withdrawn where the ticket was, doubled where a piece was accepted for it, whatever job this
+    /// one carries, a stranger where another job was submitted under it, and else accepted. It takes
+    /// no memory.
     pub fn arrive(&mut self, piece: Piece) -> Arrived
         ensures step { piece.ticket.table ≡ self.old.table → IsStep self.old (Event.Arrive piece) (Reply.Arrived result) self.new }
         ensures other_table { piece.ticket.table ≢ self.old.table → result ≡ Arrived.Stranger }
         ensures accepted { result ≡ Arrived.Accepted → TakesInPiece self.old piece self.new }
         ensures awaited { Awaits self.old piece → result ≡ Arrived.Accepted }
+        ensures withdrawn { piece.ticket.table ≡ self.old.table
+            → (result ≡ Arrived.Withdrawn) ↔ (is_among self.old.withdrawn piece.ticket.seq ≡ true) }
         ensures kept { result ≢ Arrived.Accepted → self.new ≡ self.old }
     {
         let ticket = piece.ticket();
         if ticket.table != self.table {
             return Arrived::Stranger;
+        }
+        if self.is_withdrawn(ticket.seq) {
+            return Arrived::Withdrawn;
         }
         if ticket.seq < self.next {
             return Arrived::Doubled;
@@ -160,6 +172,7 @@ impl Lane {
                 let seq = self.next;
                 let _ = self.window.pop_front();
                 self.next += 1;
+                self.pass_withdrawn();
                 Taken::Answer { seq, answer }
             }
             Some(Entry::Waiting(_)) => Taken::Waiting,
@@ -168,10 +181,54 @@ impl Lane {
         }
     }
 
+    /// Takes the job of a ticket back: true where the ticket was given out, its answer was not
+    /// given and it was not withdrawn before. It may come after closing. A piece that arrives for
+    /// the ticket from then on is answered `Withdrawn`. Memory is taken where the answer is true.
+    pub fn withdraw(&mut self, seq: u32) -> Result<bool, Memory>
+        ensures step { IsStep self.old (Event.Withdraw (record { table = self.old.table; seq = seq })) (withdraw_reply result) self.new }
+        ensures can { IfOk result (λ done. IsTrue done ↔ CanTakeBack self.old seq) }
+        ensures done { result ≡ Ok true → TakesBack self.old seq self.new }
+        ensures not { result ≡ Ok false → self.new ≡ self.old }
+        ensures err { OnErr result (self.new ≡ self.old) }
+        ensures wanted { OnErr result (CanTakeBack self.old seq) }
+    {
+        let submitted = self.next as usize + self.window.len();
+        if seq < self.next || submitted <= seq as usize {
+            return Ok(false);
+        }
+        match self.withdrawn.insert(seq) {
+            Ok(true) => {
+                self.pass_withdrawn();
+                Ok(true)
+            }
+            Ok(false) => Ok(false),
+            Err(_) => Err(Memory),
+        }
+    }
+
+    /// Whether the ticket of this number was withdrawn.
+    fn is_withdrawn(&self, seq: u32) -> bool
+        ensures { result ≡ is_among self.now.withdrawn seq }
+    {
+        self.withdrawn.contains(&seq)
+    }
+
+    /// Drops the withdrawn jobs at the front of the window.
+    fn pass_withdrawn(&mut self)
+        ensures { PassesWithdrawn self.old self.new }
+    {
+        while !self.window.is_empty() && self.is_withdrawn(self.next) {
+            let _passed = self.window.pop_front();
+            self.next += 1;
+        }
+    }
+
     /// What an event of this table does and replies.
     pub(crate) fn serve(&mut self, event: Event) -> Reply
         ensures step { table_of event ≡ self.old.table → IsStep self.old event result self.new }
         ensures table { self.new.table ≡ self.old.table }
+        ensures known { result ≢ Reply.NoTable }
+        ensures refused { (fault : SubmitFault) → result ≡ Reply.Refused fault → self.new ≡ self.old }
     {
         match event {
             Event::Submit { job, .. } => match self.submit(job) {
@@ -181,6 +238,10 @@ impl Lane {
             Event::Arrive(piece) => Reply::Arrived(self.arrive(piece)),
             Event::Close { .. } => Reply::Closed(self.close()),
             Event::Take { .. } => Reply::Taken(self.take()),
+            Event::Withdraw(ticket) => match self.withdraw(ticket.seq) {
+                Ok(withdrawn) => Reply::Withdrawn(withdrawn),
+                Err(Memory) => Reply::Refused(SubmitFault::Memory),
+            },
         }
     }
 }

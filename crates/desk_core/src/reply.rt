@@ -15,4 +15,6 @@ pub enum Reply {
     /// Whether this closing was the first.
     Closed(bool),
     Taken(Taken),
+    /// Whether the ticket was withdrawn now.
+    Withdrawn(bool),
 }

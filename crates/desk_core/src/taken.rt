@@ -7,6 +7,6 @@ pub enum Taken {
     Answer { seq: u32, answer: Answer },
     /// The next answer is not there yet, or the next job was not submitted yet.
     Waiting,
-    /// The table has closed, and each answer was given.
+    /// The table has closed, and each ticket was given or withdrawn.
     Finished,
 }

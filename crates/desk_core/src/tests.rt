@@ -11,6 +11,8 @@ use riichi_shape::RowCache;
 use riichi_tiles::{Counts, Kind, Meld, Melds, Reds, read_counts};
 use std::alloc::{AllocError, Global};
 
+mod withdrawal;
+
 /// The waits of a hand of concealed tiles.
 fn waits_job(hand: &[u8]) -> Option<Job> {
     let tiles = read_counts(hand).ok()?;

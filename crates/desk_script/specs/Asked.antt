@@ -10,7 +10,7 @@ use Rattle.desk_core.specs.Ticketed.{Ticketed}
 use Rattle.desk_core.specs.declared.event.Event.{Event}
 use Rattle.desk_core.specs.declared.event.Event.TheVariants as event
 use Rattle.desk_script.specs.declared.action.Action.{Action}
-use Rattle.desk_script.specs.declared.action.Action.TheVariants.{Open, Submit, Arrive, Close, Take}
+use Rattle.desk_script.specs.declared.action.Action.TheVariants.{Open, Submit, Arrive, Close, Take, Withdraw}
 use Rattle.desk_script.specs.declared.refusal.Refusal.{Refusal}
 use Rattle.desk_script.specs.declared.refusal.Refusal.TheVariants.{NoCommand, NotOpen, OpenAlready, AllOpen, Record}
 use Rattle.desk_script.specs.declared.told.Told.TheVariants as tell
@@ -39,6 +39,7 @@ asked_at table Submit job_line = with_record (outcome_of One job_line) (λ job. 
 asked_at table (Arrive seq) job_line = with_record (outcome_of One job_line) (λ job. event.Arrive (piece_of table seq job))
 asked_at table Close job_line = ask.Event (event.Close table)
 asked_at table Take job_line = ask.Event (event.Take table)
+asked_at table (Withdraw seq) job_line = ask.Event (event.Withdraw (record { table = table; seq = seq }))
 
 -- a new table has the number of tables before it; 64 may be open
 abbrev pub asked_anew : List (List ℕ) → Action → Asked
@@ -47,6 +48,7 @@ asked_anew names Submit = refused NotOpen
 asked_anew names (Arrive seq) = refused NotOpen
 asked_anew names Close = refused NotOpen
 asked_anew names Take = refused NotOpen
+asked_anew names (Withdraw seq) = refused NotOpen
 
 -- what a command asks, by the number of its table
 abbrev pub asked_for : List (List ℕ) → Said → Option ℕ → Asked
@@ -64,6 +66,7 @@ names_anew names said Submit = names
 names_anew names said (Arrive seq) = names
 names_anew names said Close = names
 names_anew names said Take = names
+names_anew names said (Withdraw seq) = names
 
 abbrev pub names_for : List (List ℕ) → Said → Option ℕ → List (List ℕ)
 names_for names said (Some table) = names

@@ -2,7 +2,7 @@
 use Rattle.std.specs.Prelude.{ℕ, List, [], ◌∷◌, Option, None, Some, if◌then◌else◌, codes}
 use Rattle.std.specs.Str.{bytes_eq}
 use Rattle.desk_script.specs.declared.action.Action.{Action}
-use Rattle.desk_script.specs.declared.action.Action.TheVariants.{Open, Submit, Arrive, Close, Take}
+use Rattle.desk_script.specs.declared.action.Action.TheVariants.{Open, Submit, Arrive, Close, Take, Withdraw}
 use Rattle.desk_script.specs.Words.{without_spaces, first_word, after_word, is_name, is_comment}
 use Rattle.desk_script.specs.Seq.{seq_of}
 
@@ -32,6 +32,10 @@ abbrev pub arrival : Option ℕ → List ℕ → Option (Action × List ℕ)
 arrival None rest = None
 arrival (Some seq) rest = with_job (Arrive seq) rest
 
+abbrev pub withdrawal : Option ℕ → List ℕ → Option (Action × List ℕ)
+withdrawal None rest = None
+withdrawal (Some seq) rest = alone (Withdraw seq) rest
+
 -- the action of a first word, with what stands behind the name
 abbrev pub by_word : List ℕ → List ℕ → Option (Action × List ℕ)
 by_word word rest =
@@ -40,6 +44,7 @@ by_word word rest =
     else if bytes_eq word (codes "arrive") then arrival (seq_of (first_word rest)) (after_word rest)
     else if bytes_eq word (codes "close") then alone Close rest
     else if bytes_eq word (codes "take") then alone Take rest
+    else if bytes_eq word (codes "withdraw") then withdrawal (seq_of (first_word rest)) (after_word rest)
     else None
 
 abbrev pub said : List ℕ → Option (Action × List ℕ) → Option Said
@@ -50,6 +55,7 @@ said name (Some found) = Some (record { action = found.0; name = name; job_line 
 abbrev pub command_for : List ℕ → List ℕ → List ℕ → Option Said
 command_for word name rest = if is_name name then said name (by_word word rest) else None
 
--- `open NAME`, `submit NAME RECORD`, `arrive NAME SEQ RECORD`, `close NAME` or `take NAME`; none where the line is none of these
+-- `open NAME`, `submit NAME RECORD`, `arrive NAME SEQ RECORD`, `close NAME`, `take NAME` or
+-- `withdraw NAME SEQ`; none where the line is none of these
 unfoldable pub command_of : List ℕ → Option Said
 command_of line = command_for (first_word line) (first_word (after_word line)) (after_word (after_word line))

@@ -30,12 +30,17 @@ submit_fault_text fault.Memory = codes "refused C3"
 
 abbrev pub arrived_text : Arrived → List ℕ
 arrived_text arrived.Accepted = codes "accepted"
+arrived_text arrived.Withdrawn = codes "withdrawn"
 arrived_text arrived.Doubled = codes "doubled"
 arrived_text arrived.Stranger = codes "stranger"
 
 abbrev pub closed_text : Bool → List ℕ
 closed_text true = codes "closed"
 closed_text false = codes "closed before"
+
+abbrev pub withdrawn_text : Bool → List ℕ
+withdrawn_text true = codes "withdrawn"
+withdrawn_text false = codes "not withdrawn"
 
 abbrev pub taken_text : Taken → List ℕ
 taken_text (taken.Answer seq answer) = codes "answer " ++ decimal seq ++ codes " " ++ answer_text answer
@@ -50,6 +55,7 @@ reply_text (reply.Refused fault) = submit_fault_text fault
 reply_text (reply.Arrived arrived) = arrived_text arrived
 reply_text (reply.Closed first) = closed_text first
 reply_text (reply.Taken taken) = taken_text taken
+reply_text (reply.Withdrawn done) = withdrawn_text done
 
 unfoldable pub told_text : Told → Option (List ℕ)
 told_text tell.Nothing = None

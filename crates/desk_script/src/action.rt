@@ -7,4 +7,6 @@ pub(crate) enum Action {
     Arrive { seq: u32 },
     Close,
     Take,
+    /// The ticket of this number is withdrawn.
+    Withdraw { seq: u32 },
 }

@@ -73,6 +73,7 @@ fn ask_table(table: u32, action: Action, job_line: &[u8]) -> Asked
         },
         Action::Close => Asked::Event(Event::Close { table }),
         Action::Take => Asked::Event(Event::Take { table }),
+        Action::Withdraw { seq } => Asked::Event(Event::Withdraw(Ticket { table, seq })),
     }
 }
 

@@ -52,6 +52,10 @@ fn read_action<'a>(word: &[u8], rest: &'a [u8]) -> Option<(Action, &'a [u8])>
         alone(Action::Close, rest)
     } else if word == b"take".as_slice() {
         alone(Action::Take, rest)
+    } else if word == b"withdraw".as_slice() {
+        let (seq, rest) = cut_word(rest);
+        let seq = read_seq(seq)?;
+        alone(Action::Withdraw { seq }, rest)
     } else {
         None
     }

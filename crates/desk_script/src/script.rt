@@ -10,7 +10,7 @@ use crate::names::Names;
 use crate::text::{LONGEST, told_text};
 use crate::told::Told;
 use arrayvec::ArrayString;
-use desk_core::DeskCore;
+use desk_core::{CoreFault, DeskCore};
 use std::alloc::{AllocError, Global};
 use std::marker::Model;
 
@@ -42,13 +42,15 @@ impl Script {
                 names: Names::new(alloc),
                 core,
             }),
-            Err(_) => Err(AllocError),
+            Err(CoreFault::Memory) => Err(AllocError),
+            // The limit of a desk is the number of tables that a script has.
+            Err(CoreFault::Tables) => unreachable!(),
         }
     }
 
     /// The line that the next line is answered with, without the line's end; none where it is told nothing. A
-    /// submission that finds no memory is told so; only where a new table's name finds none there is no answer, and
-    /// the script is as before.
+    /// submission or a withdrawal that finds no memory is told so; only where a new table's name finds none there is
+    /// no answer, and the script is as before.
     pub fn answer(&mut self, line: &[u8]) -> Result<Option<ArrayString<LONGEST>>, AllocError>
         ensures told { IfOk result (λ text. AnswersLine self.old self.new line.now (bytes_of text)) }
         ensures err { OnErr result ((self.new ≡ self.old) × (asked_by self.old.names line.now ≡ opens self.old.names)) }

@@ -58,6 +58,11 @@ fn push_reply(text: &mut ArrayString<LONGEST>, reply: &Reply)
         Reply::Arrived(arrived) => text.push_str(arrived_text(*arrived)),
         Reply::Closed(first) => text.push_str(if *first { "closed" } else { "closed before" }),
         Reply::Taken(taken) => push_taken(text, taken),
+        Reply::Withdrawn(done) => text.push_str(if *done {
+            "withdrawn"
+        } else {
+            "not withdrawn"
+        }),
     }
 }
 
@@ -92,6 +97,7 @@ fn arrived_text(arrived: Arrived) -> &'static str
 {
     match arrived {
         Arrived::Accepted => "accepted",
+        Arrived::Withdrawn => "withdrawn",
         Arrived::Doubled => "doubled",
         Arrived::Stranger => "stranger",
     }

@@ -1,9 +1,10 @@
-use Rattle.std.proofs.Common.{◌≡◌, ℕ, ◌+◌, ◌-◌, ◌<◌, ◌≤◌, List, map, length, Bool, Some, false, refl, sym, ap, ◌∙◌, arith}
+use Rattle.std.proofs.Common.{◌≡◌, ℕ, ◌+◌, ◌-◌, ◌<◌, ◌≤◌, List, map, length, Bool, Some, true, false, refl, sym, ap, ◌∙◌, arith}
 use Rattle.std.proofs.lemmas.Option.{same_Some, slice_get_within}
 use Rattle.riichi_hand.specs.declared.job.Job.{Job}
 use Rattle.std.specs.Prelude.{slice_get, option_map}
 use Rattle.std.proofs.lemmas.Bool.{false≢true}
 use Rattle.std.proofs.lemmas.List.{length-map, map-set}
+use Rattle.desk_core.specs.LaneState.{LaneState, is_among}
 use Rattle.desk_core.specs.Entry.{seen, TakesIn}
 use Rattle.desk_core.specs.declared.arrived.Arrived.{Arrived}
 use Rattle.desk_core.specs.declared.arrived.Arrived.TheVariants as arrived
@@ -11,7 +12,7 @@ use Rattle.desk_core.specs.declared.ticket.Ticket.{Ticket}
 use Rattle.desk_core.specs.declared.entry.Entry.{Entry}
 use Rattle.desk_core.proofs.Lists.{slice_get-map, slice_get-read, not_lt}
 use Rattle.desk_core.specs.contracts.lane.Lane.{the_view}
-use Rattle.desk_core.proofs.Steps.{IsStep-from_own, arrive_given, arrive_unknown, arrive_in_window}
+use Rattle.desk_core.proofs.Steps.{IsStep-from_own, arrive_withdrawn, arrive_given, arrive_unknown, arrive_in_window}
 use Rattle.desk_core.proofs.lane.Lane.arrive.Goals as goal
 use Rattle.desk_core.proofs.lane.Lane.arrive.Goals.{in-None, in-Some}
 
@@ -20,7 +21,21 @@ returns-then-ticket-self-2-clause-step c = λ own.
     let lane = the_view c.self.inside in
     let about : c.args.piece.ticket.table ≡ c.self.inside.table = own ∙ ap (λ l. l.table) (sym c.self.view_is) in
     let before : c.args.piece.ticket.seq < c.self.inside.next = rw (← c.ticket-ticket.ensures) c.if-ticket-self-2.true in
-    rw (← c.self.view_is) (IsStep-from_own lane _ _ _ about refl (arrive_given lane c.args.piece before))
+    let stays : is_among lane.withdrawn c.args.piece.ticket.seq ≡ false =
+    ap (λ (l : LaneState). is_among l.withdrawn c.args.piece.ticket.seq) c.self.view_is
+    ∙ ap (λ (t : Ticket). is_among c.args.self.now.withdrawn t.seq) (sym c.ticket-ticket.ensures)
+    ∙ sym c.is_withdrawn.ensures ∙ c.if-is_withdrawn.false in
+    rw (← c.self.view_is) (IsStep-from_own lane _ _ _ about refl (arrive_given lane c.args.piece stays before))
+
+pub returns-then-is_withdrawn-clause-step : goal.returns-then-is_withdrawn-clause-step
+returns-then-is_withdrawn-clause-step c = λ own.
+    let lane = the_view c.self.inside in
+    let about : c.args.piece.ticket.table ≡ c.self.inside.table = own ∙ ap (λ l. l.table) (sym c.self.view_is) in
+    let gone : is_among lane.withdrawn c.args.piece.ticket.seq ≡ true =
+    ap (λ (l : LaneState). is_among l.withdrawn c.args.piece.ticket.seq) c.self.view_is
+    ∙ ap (λ (t : Ticket). is_among c.args.self.now.withdrawn t.seq) (sym c.ticket-ticket.ensures)
+    ∙ sym c.is_withdrawn.ensures ∙ c.if-is_withdrawn.true in
+    rw (← c.self.view_is) (IsStep-from_own lane _ _ _ about refl (arrive_withdrawn lane c.args.piece gone))
 
 pub returns-clause-step : goal.returns-clause-step
 returns-clause-step c = λ own.
@@ -30,6 +45,10 @@ returns-clause-step c = λ own.
     let about : c.args.piece.ticket.table ≡ c.self.inside.table = own ∙ ap (λ l. l.table) (sym c.self.view_is) in
     let same_seq : c.ticket-ticket.result.seq ≡ c.args.piece.ticket.seq = ap (λ (t : Ticket). t.seq) c.ticket-ticket.ensures in
     let seq : c.self.inside.next + k ≡ c.args.piece.ticket.seq = omega (arith, c.if-ticket-self-2.false) in
+    let stays : is_among lane.withdrawn c.args.piece.ticket.seq ≡ false =
+    ap (λ (l : LaneState). is_among l.withdrawn c.args.piece.ticket.seq) c.self.view_is
+    ∙ ap (λ (t : Ticket). is_among c.args.self.now.withdrawn t.seq) (sym c.ticket-ticket.ensures)
+    ∙ sym c.is_withdrawn.ensures ∙ c.if-is_withdrawn.false in
     elim c.match-get_mut.branch [
       | in-None w ↦
           let past : length items ≤ k = not_lt k (length items) (λ more. false≢true (w.in-None.ensures.variant.1 (omega arith))) in
@@ -39,7 +58,7 @@ returns-clause-step c = λ own.
           let within : k < length items = omega (arith, w.in-Some.ensures.variant.0 refl) in
           let there : slice_get (map seen items) k ≡ Some (seen w.in-Some.entry.now) =
           slice_get-map seen items k ∙ ap (option_map seen) (slice_get-read items k w.in-Some.entry.now within w.in-Some.ensures.value) in
-          let step = IsStep-from_own lane _ _ _ about refl (arrive_in_window lane c.args.piece k (seen w.in-Some.entry.now) w.arrive.result (seen w.arrive.new.self) seq there w.arrive.ensures.outcome) in
+          let step = IsStep-from_own lane _ _ _ about refl (arrive_in_window lane c.args.piece k (seen w.in-Some.entry.now) w.arrive.result (seen w.arrive.new.self) stays seq there w.arrive.ensures.outcome) in
           rw (w.self-inside-is, w.result-is, ← c.self.view_is, map-set) step
     ]
 
@@ -66,23 +85,24 @@ returns-then-ticket-self-clause-awaited c = λ awaited. absurd (c.if-ticket-self
 pub returns-then-ticket-self-2-clause-awaited : goal.returns-then-ticket-self-2-clause-awaited
 returns-then-ticket-self-2-clause-awaited c = λ awaited.
     let before : c.args.piece.ticket.seq < c.self.inside.next = rw (← c.ticket-ticket.ensures) c.if-ticket-self-2.true in
-    let seq : c.self.inside.next + awaited.1.0 ≡ c.args.piece.ticket.seq = ap (λ l. l.next + awaited.1.0) c.self.view_is ∙ awaited.1.1 in
+    let seq : c.self.inside.next + awaited.2.0 ≡ c.args.piece.ticket.seq = ap (λ l. l.next + awaited.2.0) c.self.view_is ∙ awaited.2.1 in
     absurd (omega arith)
 
 accepts : (old : Job × Bool) (job : Job) (result : Arrived) (new : Job × Bool) → TakesIn old job result new → old ≡ (job, false) → result ≡ arrived.Accepted
 accepts old job arrived.Doubled new taken same = absurd (false≢true (sym (ap (λ e. e.1) same) ∙ taken.0))
 accepts old job arrived.Stranger new taken same = absurd (taken.1 (ap (λ e. e.0) same))
 accepts old job arrived.Accepted new taken same = refl
+accepts old job arrived.Withdrawn new taken same = absurd taken
 
 pub returns-clause-awaited : goal.returns-clause-awaited
 returns-clause-awaited c = λ awaited.
     let items : List Entry = c.self.inside.window.items in
     let k : ℕ = c.ticket-ticket.result.seq - c.self.inside.next in
     let same_seq : c.ticket-ticket.result.seq ≡ c.args.piece.ticket.seq = ap (λ (t : Ticket). t.seq) c.ticket-ticket.ensures in
-    let seq : c.self.inside.next + awaited.1.0 ≡ c.args.piece.ticket.seq = ap (λ l. l.next + awaited.1.0) c.self.view_is ∙ awaited.1.1 in
-    let same_place : awaited.1.0 ≡ k = omega (arith, c.if-ticket-self-2.false) in
+    let seq : c.self.inside.next + awaited.2.0 ≡ c.args.piece.ticket.seq = ap (λ l. l.next + awaited.2.0) c.self.view_is ∙ awaited.2.1 in
+    let same_place : awaited.2.0 ≡ k = omega (arith, c.if-ticket-self-2.false) in
     let waits : slice_get (map seen items) k ≡ Some (c.args.piece.job, false) =
-    ap (λ n. slice_get (map seen items) n) (sym same_place) ∙ ap (λ l. slice_get l.window awaited.1.0) c.self.view_is ∙ awaited.1.2 in
+    ap (λ n. slice_get (map seen items) n) (sym same_place) ∙ ap (λ l. slice_get l.window awaited.2.0) c.self.view_is ∙ awaited.2.2 in
     elim c.match-get_mut.branch [
       | in-None w ↦
           let past : length items ≤ k = not_lt k (length items) (λ more. false≢true (w.in-None.ensures.variant.1 (omega arith))) in

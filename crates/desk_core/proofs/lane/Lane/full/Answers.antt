@@ -4,7 +4,6 @@ use Rattle.std.proofs.lemmas.List.{length-map}
 use Rattle.desk_core.specs.Entry.{seen}
 use Rattle.desk_core.specs.History.{turns_of, submitted}
 use Rattle.desk_core.specs.LaneState.{LaneState}
-use Rattle.desk_core.proofs.Facts.{IsSound-IsLegal}
 use Rattle.desk_core.proofs.Steps.{count}
 use Rattle.desk_core.proofs.lane.Lane.full.Goals as goal
 
@@ -13,7 +12,7 @@ returns-clause-submitted c = λ tables history stands.
     let lane : LaneState = c.args.self.now in
     let turns = turns_of lane.table history in
     let total : lane.next + length lane.window ≡ length (submitted turns) =
-    count turns lane (IsSound-IsLegal tables lane.table history stands.in_range stands.legal) stands.state in
+    count turns lane stands.state in
     let held : c.len.result ≡ length (map seen c.self.inside.window.items) = omega (arith, c.len.ensures, length-map c.self.inside.window.items seen) in
     let same : c.self.inside.next + c.len.result ≡ length (submitted turns) =
     ap (λ n. c.self.inside.next + n) held ∙ ap (λ (l : LaneState). l.next + length l.window) c.self.view_is ∙ total in

@@ -1,7 +1,8 @@
-use Rattle.std.proofs.Common.{◌≡◌, List, [], ◌∷◌, drop, map, refl, ap, inl, inr, arith}
+use Rattle.std.proofs.Common.{◌≡◌, ◌+◌, List, [], ◌∷◌, drop, map, refl, ap, inl, inr, arith}
 use Rattle.std.proofs.lemmas.Bool.{false≢true}
 use Rattle.desk_core.specs.contracts.lane.Lane.{the_view}
 use Rattle.desk_core.specs.Entry.{seen}
+use Rattle.desk_core.specs.LaneState.{LaneState, PassesWithdrawn}
 use Rattle.desk_core.specs.declared.entry.Entry.{Entry}
 use Rattle.desk_core.specs.declared.entry.Entry.TheVariants as entry
 use Rattle.desk_core.proofs.Lists.{first_is, nil_is}
@@ -15,10 +16,13 @@ returns-in-Some-Scored c =
     let piece = c.in-Some-Scored.piece in
     let front : items ≡ entry.Scored piece ∷ drop 1 items =
     first_is items (entry.Scored piece) (omega (arith, c.in-Some-Scored.ensures.variant.0 refl)) (rw c.in-Some-Scored.field-0-is at c.in-Some-Scored.ensures.lookup) in
-    let step = IsStep-from_own lane _ _ _ refl refl (take_answer lane piece.job (map seen (drop 1 items)) (ap (map seen) front)) in
+    let new = c.pass_withdrawn.new.self in
+    let passes : PassesWithdrawn (record lane { next = lane.next + 1; window = map seen (drop 1 items) }) new = rw c.pop_front.ensures.rest at c.pass_withdrawn.ensures in
+    let same_table : new.table ≡ lane.table = ap (λ (l : LaneState). l.table) passes.new_is in
+    let step = IsStep-from_own lane new _ _ refl same_table (take_answer lane new piece.job (map seen (drop 1 items)) (ap (map seen) front) passes) in
     record {
-      step = rw (← c.self.view_is, c.answer-answer.ensures, c.pop_front.ensures.rest) step;
-      first = rw (← c.self.view_is, c.answer-answer.ensures, c.pop_front.ensures.rest) (piece.job, map seen (drop 1 items), ap (map seen) front, refl, refl, refl);
+      step = rw (← c.self.view_is, c.answer-answer.ensures) step;
+      first = rw (← c.self.view_is, c.answer-answer.ensures) (piece.job, map seen (drop 1 items), ap (map seen) front, refl, refl, passes);
     }
 
 pub returns-in-Some-Waiting : goal.returns-in-Some-Waiting
