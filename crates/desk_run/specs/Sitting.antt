@@ -1,5 +1,5 @@
 -- What a seat that is not in a call has.
-use Rattle.std.specs.Prelude.{◌≡◌, ℕ, zero, suc, ◌+◌, ◌≤◌, ◌<◌, List, [], ◌∷◌, ◌++◌, None, length, slice_set, slice_index_or}
+use Rattle.std.specs.Prelude.{◌≡◌, ℕ, zero, suc, ◌+◌, ◌≤◌, ◌<◌, List, [], ◌∷◌, ◌++◌, None, length, slice_set, slice_index_or, MatchBool}
 use mathlib.Core.Option as ghost_option
 use lib.ListN.{get_elem?}
 use Rattle.desk_core.specs.LaneState.{LaneState, TakesInPiece}
@@ -7,7 +7,7 @@ use Rattle.desk_core.specs.Step.{IsStep}
 use Rattle.desk_core.specs.declared.event.Event.TheVariants.{Arrive}
 use Rattle.desk_core.specs.declared.reply.Reply.TheVariants as reply
 use Rattle.desk_core.specs.declared.arrived.Arrived.TheVariants as arrived
-use Rattle.desk_run.specs.Books.{offered}
+use Rattle.desk_run.specs.Books.{offered, is_withdrawn}
 use Rattle.desk_core.specs.Ticketed.{Ticketed}
 use Rattle.desk_run.specs.declared.content.Content.{Content}
 use Rattle.desk_run.specs.declared.content.Content.TheVariants.{Empty}
@@ -69,12 +69,19 @@ abbrev pub out_places : ℕ → List Lot → ℕ → List ℕ
 out_places base lots zero = []
 out_places base lots (suc n) = out_places base lots n ++ place_if_out (base + n) (slice_index_or lots n Fresh)
 
--- Each of the pieces was that of a place that was out. The lane accepted it, and its place is kept.
+-- The lane takes a piece that was fetched: where the ticket was withdrawn it answers so and stays as it
+-- was, and else it accepts the piece.
+abbrev pub Receives : LaneState → Ticketed → LaneState → Type 0
+Receives lane piece next = MatchBool (is_withdrawn lane piece.ticket.seq)
+    ((next ≡ lane) × IsStep lane (Arrive piece) (reply.Arrived arrived.Withdrawn) next)
+    (TakesInPiece lane piece next × IsStep lane (Arrive piece) (reply.Arrived arrived.Accepted) next)
+
+-- Each of the pieces was that of a place that was out. The lane took it, and its place is kept.
 abbrev pub AreFetched : List Ticketed → LaneState → List Lot → LaneState → List Lot → Type 0
 AreFetched [] lane lots new_lane new_lots = (new_lane ≡ lane) × (new_lots ≡ lots)
 AreFetched (piece ∷ pieces) lane lots new_lane new_lots =
     (k : ℕ) × (next : LaneState) × (get_elem? lots k ≡ ghost_option.some (Out piece.ticket piece.job))
-    × TakesInPiece lane piece next × IsStep lane (Arrive piece) (reply.Arrived arrived.Accepted) next
+    × Receives lane piece next
     × AreFetched pieces next (slice_set lots k Kept) new_lane new_lots
 
 -- so many pieces were fetched

@@ -1,13 +1,14 @@
-ghost use Rattle.std.specs.Prelude.{◌≡◌, ◌+◌, ◌<◌, ◌∷◌, ◌++◌, [], true, false, IfOk, IfErr, OnErr, length, slice_set, slice_index_or};
+ghost use Rattle.std.specs.Prelude.{◌≡◌, ◌↔◌, ◌+◌, ◌<◌, ◌∷◌, ◌++◌, [], true, false, Ok, IsTrue, IfOk, IfErr, OnErr, length, slice_set, slice_index_or};
 ghost use mathlib.Core.Option.{some};
 ghost use lib.ListN.{get_elem?};
-ghost use Rattle.desk_core.specs.LaneState.{with_job};
+ghost use Rattle.desk_core.specs.LaneState.{with_job, CanTakeBack, TakesBack};
 ghost use Rattle.desk_core.specs.GivesFirst.{GivesFirst};
 ghost use Rattle.desk_core.specs.Step.{IsStep};
+ghost use Rattle.desk_core.specs.Replies.{withdraw_reply};
 ghost use Rattle.desk_run.specs.Books.{ticket, offered};
 ghost use Rattle.desk_run.specs.Offers.{IsOfferFault, MayOffer};
 ghost use Rattle.desk_run.specs.Sitting.{Collects, out_places, place_if_out, board_name};
-ghost use Rattle.desk_core.specs.declared.event.Event.TheVariants.{Submit, Close, Take};
+ghost use Rattle.desk_core.specs.declared.event.Event.TheVariants.{Submit, Close, Take, Withdraw};
 ghost use Rattle.desk_core.specs.declared.reply.Reply.TheVariants as reply;
 ghost use Rattle.desk_run.specs.declared.lot.Lot.TheVariants.{Fresh, Kept, Out};
 
@@ -18,10 +19,12 @@ use crate::offer::OfferBack;
 use crate::steps::Seat;
 use desk_core::{Taken, Ticket};
 use riichi_hand::Job;
+use riichi_shape::Memory;
 use std::marker::Model;
 
-/// The seat of a table: its lane, and its places of the board. The tickets that are out are just
-/// those of the lane that have not arrived, each with its job at one place.
+/// The seat of a table: its lane, and its places of the board. Each ticket of the lane that has
+/// neither arrived nor was withdrawn is out with its job, at one place, and each other ticket that is
+/// out was withdrawn.
 #[derive(Drop)]
 pub struct TableSeat {
     pub(crate) seat: Seat,
@@ -86,7 +89,8 @@ impl TableSeat {
         }
     }
 
-    /// Fetches the pieces that it finds done, and answers how many. Each is accepted.
+    /// Fetches the pieces that it finds done, and answers how many. Each is accepted, or its ticket
+    /// was withdrawn; its place is free again either way.
     pub fn collect(&mut self, board: &Board) -> u32
         requires { self.old.board ≡ board_name board.now }
         ensures same { (self.new.board ≡ self.old.board) × (self.new.base ≡ self.old.base) }
@@ -116,6 +120,20 @@ impl TableSeat {
         ensures same { self.new ≡ record self.old { lane = self.new.lane } }
     {
         self.book.take()
+    }
+
+    /// Takes the job of a ticket back: true where its answer was not given and it was not withdrawn
+    /// before. It may come after closing. A withdrawn job keeps its place until its piece is fetched.
+    pub fn withdraw(&mut self, seq: u32) -> Result<bool, Memory>
+        ensures step { IsStep self.old.lane (Withdraw (ticket self.old.lane.table seq)) (withdraw_reply result) self.new.lane }
+        ensures can { IfOk result (λ done. IsTrue done ↔ CanTakeBack self.old.lane seq) }
+        ensures done { result ≡ Ok true → TakesBack self.old.lane seq self.new.lane }
+        ensures not { result ≡ Ok false → self.new ≡ self.old }
+        ensures err { OnErr result (self.new ≡ self.old) }
+        ensures wanted { OnErr result (CanTakeBack self.old.lane seq) }
+        ensures same { self.new ≡ record self.old { lane = self.new.lane } }
+    {
+        self.book.withdraw(seq)
     }
 
     /// Closes the table to further jobs: true the first time.

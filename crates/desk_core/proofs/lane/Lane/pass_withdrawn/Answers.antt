@@ -22,4 +22,4 @@ loop-self-preserved c =
     ⊎_elim (λ none. let is_none : (deque_len c.self.inside.window == 0) ≡ true = rw none refl in absurd (false≢true (sym some_left ∙ is_none)))
     (λ some. omega (arith, some)) (cases_eq (deque_len c.self.inside.window) 0) in
     let more : 0 < length mid.window = omega (arith, held, length-map items seen) in
-    rw (c.pop_front.ensures.rest, map-drop) (HasPassed-one _ mid passed more gone)
+    rw (c.pop_front-passed.ensures.rest, map-drop) (HasPassed-one _ mid passed more gone)

@@ -24,7 +24,7 @@ pub returns-in-Some-clause-fetched : goal.returns-in-Some-clause-fetched
 returns-in-Some-clause-fetched c _ = let b = c.self.inside in let piece = c.in-Some.piece in let new = c.receive.new.self in
     let out : get_elem? b.book.lots.items c.args.lot ≡ some (Out piece.ticket piece.job) = ap (λ (l : List Lot). get_elem? l c.args.lot) (sym c.self.invariant.sits.lots_are) ∙ c.in-Some.ensures.some.0 in
     subst (λ (s : TableState). Collects 1 s.lane s.lots new.lane new.lots.items × (new.lots.items ≡ set s.lots c.args.lot Kept) × ((table_of c.fetch.new.seat.me.0).lost ≡ s.lost)) c.self.view_is (
-      one_collected b.book.lane _ c.args.lot _ _ piece out c.receive.ensures.lane c.receive.ensures.step c.receive.ensures.lots.0,
+      one_collected b.book.lane _ c.args.lot _ _ piece out c.receive.ensures.lane c.receive.ensures.lots.0,
       c.receive.ensures.lots.0,
       ap (λ (m : SeatState). (table_of m.0).lost) c.in-Some.ensures.some.1,
     )
