@@ -1,5 +1,6 @@
 mod refused;
 mod threads;
+mod withdrawal;
 
 ghost use Rattle.std.specs.Prelude.{◌≡◌, IfOk};
 ghost use Rattle.desk_run.specs.Parts.{AreNewTables, AreNewWorkers};
