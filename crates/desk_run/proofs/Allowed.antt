@@ -301,6 +301,7 @@ splits size id s o me = let w : View = Entering size in subst (λ (vs : List Vie
   numbers = λ n. subst (λ (c : ℕ). (n < get_or s.words 0 0 → c ≡ 1) × (get_or s.words 0 0 ≤ n → c ≡ 0)) (sym (longer (λ u. one_if (has_number n u)) s.views w refl)) (o.numbers n);
   seats = λ j u at. ⊎_elim (λ b. o.seats j u b) (λ (b : w ≡ u). subst (Seated size o.lots o.offers (get_or s.words 1 0)) b refl) (at_snoc s.views w u j at);
   unentered = o.unentered;
+  strange = o.strange;
   unstopped = o.unstopped;
   places = λ p h. more_views (get_or s.words (2 + p) 0) p (get_elem? s.homes p) (o.lots p) s.views size (o.places p h);
   own = o.own;
@@ -320,6 +321,7 @@ opens size ws xs e d =
       numbers = λ n. (λ h. absurd (omega arith), λ h. refl);
       seats = λ j u at. ⊎_elim (λ (b : get_elem? [] j ≡ some u). absurd (some-ne-none u (sym b))) (λ (b : entering size ≡ u). subst (Seated size (λ _. Fresh) (λ _. 0) (get_or ws 1 0)) b refl) (at_snoc [] (entering size) u j at);
       unentered = λ t h. (refl, λ k hk. refl);
+      strange = λ t h. refl;
       unstopped = λ h. zero_at 1;
       places = λ p h. fresh (zero_at (2 + p)) (ap (λ (l : List Content). get_elem? (map some l) p) d ∙ empties (count_of size) p h) refl refl;
       own = λ p x job h l. cc;

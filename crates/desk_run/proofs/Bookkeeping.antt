@@ -1,17 +1,25 @@
 -- A submission, an arrival and a taking keep a table's book.
-use Rattle.std.proofs.Common.{◌≡◌, ℕ, zero, suc, ◌+◌, ◌-◌, ◌<◌, ◌≤◌, ◌≢◌, Bool, true, false, List, [], ◌∷◌, ◌++◌, length, set, sym, refl, ap, ◌∙◌, subst, arith, eqb, eq-eqb, ◌&&◌, ◌⊎◌, inl, inr, ⊎_elim, length-set, length-append, Some}
+use Rattle.std.proofs.Common.{◌≡◌, ℕ, zero, suc, ◌+◌, ◌-◌, ◌<◌, ◌≤◌, ◌≢◌, Bool, true, false, List, [], ◌∷◌, ◌++◌, length, set, drop, length-drop, sym, refl, ap, ◌∙◌, subst, arith, eqb, eq-eqb, ◌&&◌, ◌⊎◌, inl, inr, ⊎_elim, length-set, length-append, Some}
 use mathlib.Core.Option.{some, some-injective, some-ne-none}
 use lib.ListN.{get_elem?}
 use Rattle.atomic_table.proofs.Lists.{at_set, set_here, set_else, at_longer, at_last}
 use Rattle.std.proofs.lemmas.Bool.{false≢true}
-use Rattle.desk_core.specs.LaneState.{LaneState, with_job, TakesInPiece, Awaits}
+use Rattle.desk_core.specs.LaneState.{LaneState, with_job, is_among, TakesInPiece, PassesWithdrawn, TakesBack, Awaits}
 use Rattle.desk_core.specs.GivesFirst.{GivesFirst}
 use Rattle.desk_core.specs.declared.taken.Taken.{Taken}
 use Rattle.desk_core.specs.declared.taken.Taken.TheVariants as taken
-use Rattle.std.specs.Prelude.{slice_get}
+use Rattle.desk_core.specs.Step.{IsStep}
+use Rattle.desk_core.specs.declared.arrived.Arrived.{Arrived}
+use Rattle.desk_core.specs.declared.arrived.Arrived.TheVariants as arrived
+use Rattle.desk_core.specs.declared.event.Event.TheVariants.{Arrive}
+use Rattle.desk_core.specs.declared.reply.Reply.TheVariants as reply
+use Rattle.desk_run.specs.Sitting.{Receives}
+use mathlib.Core.Logic.{dite}
+use native.Mathlib.Decide.{dec_le}
+use Rattle.std.specs.Prelude.{slice_get, MatchBool, ◌||◌, Result, Ok, Err, OnErr}
 use Rattle.std.proofs.lemmas.Option.{same_Some}
 use Rattle.desk_run.specs.Counts.{one_if, same_ticket}
-use Rattle.desk_run.specs.Books.{Agrees, IsPending, ticket, offered, outs, one_out, is_out, times_out}
+use Rattle.desk_run.specs.Books.{Agrees, IsPending, ticket, offered, is_withdrawn, outs, one_out, is_out, times_out}
 use Rattle.desk_core.specs.declared.ticket.Ticket.{Ticket}
 use Rattle.riichi_hand.specs.declared.job.Job.{Job}
 use Rattle.desk_core.specs.Ticketed.{Ticketed}
@@ -69,20 +77,25 @@ submitted lane k lots kept job b =
     let x : Ticket = ticket lane.table (offered lane) in let window : List (Job × Bool) = lane.window in let next : ℕ = lane.next in
     let mine : get_elem? lots k ≡ some Kept = b.kept_are (length kept) k (at_last kept k (length kept) refl) in
     let near = there_is lots k Kept mine in
-    let new : (y : Ticket) (j : ℕ) (a : Job) → get_elem? lots j ≡ some (Out y a) → x ≢ y = λ y j a e same. let p = place_of lane y a (b.pending j y a e) in
-    let h = there_is window p.0 (a, false) p.2 in let q : next + p.0 ≡ y.seq = p.1 in let s : next + length window ≡ y.seq = ap (λ (z : Ticket). z.seq) same in omega arith in
+    let new : (y : Ticket) (j : ℕ) (a : Job) → get_elem? lots j ≡ some (Out y a) → x ≢ y = λ y j a e same. let below = (b.own j y a e).1 in
+    let s : next + length window ≡ y.seq = ap (λ (z : Ticket). z.seq) same in omega arith in
     record {
       kept_are = λ i j e. let h = there_is kept i j e in
           set_else lots k j (Out x job) (λ same. let c = b.once i (length kept) k (at_longer kept (k ∷ []) i k (subst (λ (z : ℕ). get_elem? kept i ≡ some z) same e)) (at_last kept k (length kept) refl) in omega arith) ∙ b.kept_are i j (at_longer kept (k ∷ []) i j e);
       once = λ i j l e d. b.once i j l (at_longer kept (k ∷ []) i l e) (at_longer kept (k ∷ []) j l d);
       counted = let c = b.counted in let t = total-set one_out lots k Kept (Out x job) mine in omega (arith, length-append kept (k ∷ []), length-set lots k (Out x job));
-      pending = λ j y a e. ⊎_elim
+      own = λ j y a e. ⊎_elim
+          (λ (t : (j ≡ k) × (Out x job ≡ Out y a)). let s = out_ticket x y job a t.1 in
+          (sym (ap (λ (z : Ticket). z.table) s), (let d : next + length window ≡ y.seq = ap (λ (z : Ticket). z.seq) s in omega (arith, length-append window ((job, false) ∷ [])))))
+          (λ (t : (j ≢ k) × (get_elem? lots j ≡ some (Out y a))). let d = b.own j y a t.1 in (d.0, (let l = d.1 in omega (arith, length-append window ((job, false) ∷ [])))))
+          (at_set lots k j (Out x job) (Out y a) e);
+      pending = λ j y a e out. ⊎_elim
           (λ (t : (j ≡ k) × (Out x job ≡ Out y a)). let s = out_ticket x y job a t.1 in let d = out_job x y job a t.1 in
           subst (λ (z : Ticket). IsPending (with_job lane job) z a) s (subst (λ (z : Job). IsPending (with_job lane job) x z) d (is_pending (with_job lane job) x job (length window) refl refl (at_last window (job, false) (length window) refl))))
-          (λ (t : (j ≢ k) × (get_elem? lots j ≡ some (Out y a))). let d = b.pending j y a t.1 in let p = place_of lane y a d in is_pending (with_job lane job) y a p.0 d.0 p.1 (at_longer window ((job, false) ∷ []) p.0 (a, false) p.2))
+          (λ (t : (j ≢ k) × (get_elem? lots j ≡ some (Out y a))). let d = b.pending j y a t.1 out in let p = place_of lane y a d in is_pending (with_job lane job) y a p.0 d.0 p.1 (at_longer window ((job, false) ∷ []) p.0 (a, false) p.2))
           (at_set lots k j (Out x job) (Out y a) e);
-      listed = λ i a e. let y : Ticket = ticket lane.table (next + i) in let t = total-set (λ lot. one_if (is_out y lot)) lots k Kept (Out x job) mine in ⊎_elim
-          (λ (h : (i < length window) × (get_elem? window i ≡ some (a, false))). let c = b.listed i a h.1 in
+      listed = λ i a e out. let y : Ticket = ticket lane.table (next + i) in let t = total-set (λ lot. one_if (is_out y lot)) lots k Kept (Out x job) mine in ⊎_elim
+          (λ (h : (i < length window) × (get_elem? window i ≡ some (a, false))). let c = b.listed i a h.1 out in
           ⊎_elim (λ (s : (y ≡ x) × (one_if (same_ticket y x) ≤ 1)). let d : next + i ≡ next + length window = ap (λ (z : Ticket). z.seq) s.0 in let g = h.0 in absurd (omega arith)) (λ s. omega arith) (tested y x))
           (λ (h : (i ≡ length window) × (◌≡◌ {A = Job × Bool} (job, false) (a, false))). let same : y ≡ x = ap (λ (n : ℕ). ticket lane.table (next + n)) h.0 in
           let z : times_out y lots ≡ 0 = ap (λ (u : Ticket). times_out u lots) same ∙ none_out x lots (λ j u c d. new u j c d) in
@@ -90,15 +103,18 @@ submitted lane k lots kept job b =
           (at_push window (job, false) (a, false) i e);
     }
 
-pub received : (lane : LaneState) (k place : ℕ) (lots : List Lot) (kept : List ℕ) (piece : Ticketed) → lane.next + place ≡ piece.ticket.seq → get_elem? lane.window place ≡ some (piece.job, false)
-    → get_elem? lots k ≡ some (Out piece.ticket piece.job) → Agrees lane lots kept
-    → Agrees (record lane { window = set lane.window place (piece.job, true) }) (set lots k Kept) (kept ++ k ∷ [])
-received lane k place lots kept piece seq waits out b =
-    let x : Ticket = piece.ticket in let window : List (Job × Bool) = lane.window in let next : ℕ = lane.next in let mine = b.pending k x piece.job out in
-    let near = there_is lots k (Out x piece.job) out in
-    let is_x : x ≡ ticket lane.table (next + place) = ticket_is x (ticket lane.table (next + place)) mine.0 (sym seq) in
-    let single : times_out x lots ≡ 1 = ap (λ (z : Ticket). times_out z lots) is_x ∙ b.listed place piece.job waits in
-    let not_kept : get_elem? lots k ≡ some Kept → ⊥ = λ e. let d : Out x piece.job ≡ Kept = some-injective (Out x piece.job) Kept (sym out ∙ e) in cc in
+-- what the kept places are, whatever the lane
+record Keeps (lots : List Lot) (kept : List ℕ) : Type 0 where
+  kept_are : (i k : ℕ) → get_elem? kept i ≡ some k → get_elem? lots k ≡ some Kept
+  once : (i j k : ℕ) → get_elem? kept i ≡ some k → get_elem? kept j ≡ some k → i ≡ j
+  counted : length kept + outs lots ≡ length lots
+
+-- a place that was out is kept again
+keeps_again : (lane : LaneState) (k : ℕ) (lots : List Lot) (kept : List ℕ) (x : Ticket) (job : Job) → get_elem? lots k ≡ some (Out x job) → Agrees lane lots kept
+    → Keeps (set lots k Kept) (kept ++ k ∷ [])
+keeps_again lane k lots kept x job out b =
+    let near = there_is lots k (Out x job) out in
+    let not_kept : get_elem? lots k ≡ some Kept → ⊥ = λ e. let d : Out x job ≡ Kept = some-injective (Out x job) Kept (sym out ∙ e) in cc in
     record {
       kept_are = λ i j e. ⊎_elim
           (λ (h : (i < length kept) × (get_elem? kept i ≡ some j)). let c = b.kept_are i j h.1 in set_else lots k j Kept (λ same. not_kept (ap (λ (n : ℕ). get_elem? lots n) (sym same) ∙ c)) ∙ c)
@@ -110,50 +126,174 @@ received lane k place lots kept piece seq waits out b =
           (λ (h : (i ≡ length kept) × (k ≡ l)). ⊎_elim (λ (g : (j < length kept) × (get_elem? kept j ≡ some l)). absurd (not_kept (ap (λ (n : ℕ). get_elem? lots n) h.1 ∙ b.kept_are j l g.1)))
           (λ (g : (j ≡ length kept) × (k ≡ l)). h.0 ∙ sym g.0) (at_push kept k l j d))
           (at_push kept k l i e);
-      counted = let c = b.counted in let t = total-set one_out lots k (Out x piece.job) Kept out in omega (arith, length-append kept (k ∷ []), length-set lots k Kept);
-      pending = λ j y a e. ⊎_elim
+      counted = let c = b.counted in let t = total-set one_out lots k (Out x job) Kept out in omega (arith, length-append kept (k ∷ []), length-set lots k Kept);
+    }
+
+-- the lane accepts the piece of a ticket that was not withdrawn
+accepted : (lane : LaneState) (k place : ℕ) (lots : List Lot) (kept : List ℕ) (piece : Ticketed) → lane.next + place ≡ piece.ticket.seq → get_elem? lane.window place ≡ some (piece.job, false)
+    → is_withdrawn lane piece.ticket.seq ≡ false → get_elem? lots k ≡ some (Out piece.ticket piece.job) → Agrees lane lots kept
+    → Agrees (record lane { window = set lane.window place (piece.job, true) }) (set lots k Kept) (kept ++ k ∷ [])
+accepted lane k place lots kept piece seq waits live out b =
+    let x : Ticket = piece.ticket in let window : List (Job × Bool) = lane.window in let next : ℕ = lane.next in let mine = b.own k x piece.job out in
+    let m = keeps_again lane k lots kept x piece.job out b in
+    let is_x : x ≡ ticket lane.table (next + place) = ticket_is x (ticket lane.table (next + place)) mine.0 (sym seq) in
+    let single : times_out x lots ≡ 1 = ap (λ (z : Ticket). times_out z lots) is_x ∙ b.listed place piece.job waits (ap (is_withdrawn lane) seq ∙ live) in
+    record {
+      kept_are = m.kept_are;
+      once = m.once;
+      counted = m.counted;
+      own = λ j y a e. ⊎_elim
           (λ (t : (j ≡ k) × (Kept ≡ Out y a)). let d = t.1 in cc)
-          (λ (t : (j ≢ k) × (get_elem? lots j ≡ some (Out y a))). let d = b.pending j y a t.1 in let p = place_of lane y a d in
+          (λ (t : (j ≢ k) × (get_elem? lots j ≡ some (Out y a))). let d = b.own j y a t.1 in (d.0, (let l = d.1 in omega (arith, length-set window place (piece.job, true)))))
+          (at_set lots k j Kept (Out y a) e);
+      pending = λ j y a e out_still. ⊎_elim
+          (λ (t : (j ≡ k) × (Kept ≡ Out y a)). let d = t.1 in cc)
+          (λ (t : (j ≢ k) × (get_elem? lots j ≡ some (Out y a))). let d = b.pending j y a t.1 out_still in let p = place_of lane y a d in
           is_pending (record lane { window = set window place (piece.job, true) }) y a p.0 d.0 p.1 (set_else window place p.0 (piece.job, true) (λ same. let s : y ≡ x = ticket_is y x (d.0 ∙ sym mine.0) (sym p.1 ∙ (ap (λ (n : ℕ). next + n) same ∙ seq)) in
           out_once x lots j k a piece.job single (subst (λ (z : Ticket). get_elem? lots j ≡ some (Out z a)) s t.1) out t.0) ∙ p.2))
           (at_set lots k j Kept (Out y a) e);
-      listed = λ i a e. let y : Ticket = ticket lane.table (next + i) in let t = total-set (λ lot. one_if (is_out y lot)) lots k (Out x piece.job) Kept out in ⊎_elim
+      listed = λ i a e out_still. let y : Ticket = ticket lane.table (next + i) in let t = total-set (λ lot. one_if (is_out y lot)) lots k (Out x piece.job) Kept out in ⊎_elim
           (λ (h : (i ≡ place) × (◌≡◌ {A = Job × Bool} (piece.job, true) (a, false))). absurd (waits_or_not piece.job a h.1))
-          (λ (h : (i ≢ place) × (get_elem? window i ≡ some (a, false))). let c = b.listed i a h.1 in
+          (λ (h : (i ≢ place) × (get_elem? window i ≡ some (a, false))). let c = b.listed i a h.1 out_still in
           ⊎_elim (λ (s : (y ≡ x) × (one_if (same_ticket y x) ≤ 1)). absurd (h.0 (let d : next + i ≡ x.seq = ap (λ (z : Ticket). z.seq) s.0 in omega arith))) (λ s. omega arith) (tested y x))
           (at_set window place i (piece.job, true) (a, false) e);
     }
+
+-- the piece of a withdrawn ticket was fetched
+left : (lane : LaneState) (k : ℕ) (lots : List Lot) (kept : List ℕ) (x : Ticket) (job : Job) → is_withdrawn lane x.seq ≡ true → get_elem? lots k ≡ some (Out x job) → Agrees lane lots kept
+    → Agrees lane (set lots k Kept) (kept ++ k ∷ [])
+left lane k lots kept x job gone out b = let m = keeps_again lane k lots kept x job out b in record {
+  kept_are = m.kept_are;
+  once = m.once;
+  counted = m.counted;
+  own = λ j y a e. ⊎_elim (λ (t : (j ≡ k) × (Kept ≡ Out y a)). let d = t.1 in cc) (λ (t : (j ≢ k) × (get_elem? lots j ≡ some (Out y a))). b.own j y a t.1) (at_set lots k j Kept (Out y a) e);
+  pending = λ j y a e still. ⊎_elim (λ (t : (j ≡ k) × (Kept ≡ Out y a)). let d = t.1 in cc) (λ (t : (j ≢ k) × (get_elem? lots j ≡ some (Out y a))). b.pending j y a t.1 still) (at_set lots k j Kept (Out y a) e);
+  listed = λ i a e still. let y : Ticket = ticket lane.table (lane.next + i) in let t = total-set (λ lot. one_if (is_out y lot)) lots k (Out x job) Kept out in let c = b.listed i a e still in
+      ⊎_elim (λ (s : (y ≡ x) × (one_if (same_ticket y x) ≤ 1)). absurd (false≢true (sym still ∙ (ap (λ (z : Ticket). is_withdrawn lane z.seq) s.0 ∙ gone)))) (λ s. omega arith) (tested y x);
+}
 
 later : (next s i : ℕ) (job a : Job) (rest : List (Job × Bool)) → next + i ≡ s → get_elem? ((job, true) ∷ rest) i ≡ some (a, false)
     → (j : ℕ) × ((next + 1) + j ≡ s) × (get_elem? rest j ≡ some (a, false))
 later next s zero job a rest e at = absurd (waits_or_not job a (some-injective (job, true) (a, false) at))
 later next s (suc i) job a rest e at = (i, omega arith, at)
 
-pub given : (lane : LaneState) (lots : List Lot) (kept : List ℕ) (job : Job) (rest : List (Job × Bool)) → lane.window ≡ (job, true) ∷ rest → Agrees lane lots kept
+given : (lane : LaneState) (lots : List Lot) (kept : List ℕ) (job : Job) (rest : List (Job × Bool)) → lane.window ≡ (job, true) ∷ rest → Agrees lane lots kept
     → Agrees (record lane { next = lane.next + 1; window = rest }) lots kept
 given lane lots kept job rest first b = record {
   kept_are = b.kept_are;
   once = b.once;
   counted = b.counted;
-  pending = λ k x a e. let d = b.pending k x a e in let p = place_of lane x a d in
+  own = λ k x a e. let d = b.own k x a e in (d.0, (let l = d.1 in let n = ap (λ (z : List (Job × Bool)). length z) first in omega arith));
+  pending = λ k x a e still. let d = b.pending k x a e still in let p = place_of lane x a d in
       let q = later lane.next x.seq p.0 job a rest p.1 (ap (λ (l : List (Job × Bool)). get_elem? l p.0) (sym first) ∙ p.2) in is_pending (record lane { next = lane.next + 1; window = rest }) x a q.0 d.0 q.1 q.2;
-  listed = λ i a e. let n : ℕ = lane.next in let same : (n + 1) + i ≡ n + suc i = omega arith in
-      ap (λ (m : ℕ). times_out (ticket lane.table m) lots) same ∙ b.listed (suc i) a (ap (λ (l : List (Job × Bool)). get_elem? l (suc i)) first ∙ e);
+  listed = λ i a e still. let n : ℕ = lane.next in let same : (n + 1) + i ≡ n + suc i = omega arith in
+      ap (λ (m : ℕ). times_out (ticket lane.table m) lots) same ∙ b.listed (suc i) a (ap (λ (l : List (Job × Bool)). get_elem? l (suc i)) first ∙ e) (ap (is_withdrawn lane) (sym same) ∙ still);
 }
+
+at_drop : {A : Type 0} (n : ℕ) (l : List A) (i : ℕ) → get_elem? (drop n l) i ≡ get_elem? l (n + i)
+at_drop {A} zero l i = let e : i ≡ 0 + i = omega arith in ap (λ (j : ℕ). get_elem? l j) e
+at_drop {A} (suc n) [] i = refl
+at_drop {A} (suc n) (x ∷ xs) i = let e : suc (n + i) ≡ suc n + i = omega arith in at_drop n xs i ∙ ap (λ (j : ℕ). get_elem? (x ∷ xs) j) e
+
+-- the number of tickets given out stays when withdrawn jobs at the front are passed
+pub passed_offers : (lane new : LaneState) → PassesWithdrawn lane new → (new.table ≡ lane.table) × (offered new ≡ offered lane)
+passed_offers lane new p = let n : ℕ = lane.next in let w : List (Job × Bool) = lane.window in let within = p.within in
+    (ap (λ (z : LaneState). z.table) p.new_is, ap offered p.new_is ∙ (let e : (n + p.count) + length (drop p.count w) ≡ n + length w = omega (arith, length-drop p.count w) in e))
+
+passed : (lane new : LaneState) (lots : List Lot) (kept : List ℕ) → PassesWithdrawn lane new → Agrees lane lots kept → Agrees new lots kept
+passed lane new lots kept p b = let c : ℕ = p.count in let n : ℕ = lane.next in let w : List (Job × Bool) = lane.window in let within = p.within in
+    subst (λ (l : LaneState). Agrees l lots kept) (sym p.new_is) (record {
+      kept_are = b.kept_are;
+      once = b.once;
+      counted = b.counted;
+      own = λ k x a e. let d = b.own k x a e in (d.0, (let l = d.1 in omega (arith, length-drop c w)));
+      pending = λ k x a e still. let d = b.pending k x a e still in let q = place_of lane x a d in dite (dec_le c q.0)
+          (λ h. let j : ℕ = q.0 - c in let at : c + j ≡ q.0 = omega arith in
+          is_pending (record lane { next = n + c; window = drop c w }) x a j d.0 (let s = q.1 in omega arith) (at_drop c w j ∙ ap (λ (i : ℕ). get_elem? w i) at ∙ q.2))
+          (λ h. absurd (false≢true (sym still ∙ ap (is_withdrawn lane) (sym q.1) ∙ p.each q.0 (omega arith))));
+      listed = λ i a e still. let same : (n + c) + i ≡ n + (c + i) = omega arith in
+          ap (λ (m : ℕ). times_out (ticket lane.table m) lots) same ∙ b.listed (c + i) a (sym (at_drop c w i) ∙ e) (ap (is_withdrawn lane) (sym same) ∙ still);
+    })
+
+or_false : (a b : Bool) → (a || b) ≡ false → a ≡ false
+or_false false b e = refl
+or_false true b e = e
+
+pub taken_back_as : (lane new : LaneState) (lots : List Lot) (kept : List ℕ) (seq : ℕ) → TakesBack lane seq new → Agrees lane lots kept → Agrees new lots kept
+taken_back_as lane new lots kept seq t b = let before : (i : ℕ) → is_among t.numbers i ≡ false → is_withdrawn lane i ≡ false = λ i e. or_false (is_withdrawn lane i) (eqb i seq) (sym (t.added i) ∙ e) in
+    passed (record lane { withdrawn = t.numbers }) new lots kept t.passes (record {
+      kept_are = b.kept_are;
+      once = b.once;
+      counted = b.counted;
+      own = b.own;
+      pending = λ k x a e still. b.pending k x a e (before x.seq still);
+      listed = λ i a e still. b.listed i a e (before (lane.next + i) still);
+    })
+
+pub taken_back_offers : (lane new : LaneState) (seq : ℕ) → TakesBack lane seq new → (new.table ≡ lane.table) × (offered new ≡ offered lane)
+taken_back_offers lane new seq t = passed_offers (record lane { withdrawn = t.numbers }) new t.passes
 
 pub submitted_as : (lane new : LaneState) (k : ℕ) (lots : List Lot) (ks ls : List ℕ) (x : Ticket) (job : Job) → Agrees lane lots ks → ks ≡ ls ++ k ∷ [] → x ≡ ticket lane.table (offered lane) → new ≡ with_job lane job
     → Agrees new (set lots k (Out x job)) ls
 submitted_as lane new k lots ks ls x job b e d f = subst (λ (l : LaneState). Agrees l (set lots k (Out x job)) ls) (sym f)
     (subst (λ (y : Ticket). Agrees (with_job lane job) (set lots k (Out y job)) ls) (sym d) (submitted lane k lots ls job (subst (λ (l : List ℕ). Agrees lane lots l) e b)))
 
-pub received_as : (lane new : LaneState) (k : ℕ) (lots : List Lot) (ks ls : List ℕ) (piece : Ticketed) → get_elem? lots k ≡ some (Out piece.ticket piece.job) → Agrees lane lots ks → TakesInPiece lane piece new → ls ≡ ks ++ k ∷ []
+received_either : (gone : Bool) (lane new : LaneState) (k : ℕ) (lots : List Lot) (ks : List ℕ) (piece : Ticketed) → is_withdrawn lane piece.ticket.seq ≡ gone → get_elem? lots k ≡ some (Out piece.ticket piece.job) → Agrees lane lots ks
+    → MatchBool gone ((new ≡ lane) × IsStep lane (Arrive piece) (reply.Arrived arrived.Withdrawn) new) (TakesInPiece lane piece new × IsStep lane (Arrive piece) (reply.Arrived arrived.Accepted) new)
+    → Agrees new (set lots k Kept) (ks ++ k ∷ [])
+received_either true lane new k lots ks piece gone out b r = subst (λ (l : LaneState). Agrees l (set lots k Kept) (ks ++ k ∷ [])) (sym r.0) (left lane k lots ks piece.ticket piece.job gone out b)
+received_either false lane new k lots ks piece live out b r = let t = r.0 in subst (λ (l : LaneState). Agrees l (set lots k Kept) (ks ++ k ∷ [])) (sym t.3)
+    (accepted lane k t.0 lots ks piece t.1 (some_at lane.window t.0 (piece.job, false) t.2) live out b)
+
+pub received_as : (lane new : LaneState) (k : ℕ) (lots : List Lot) (ks ls : List ℕ) (piece : Ticketed) → get_elem? lots k ≡ some (Out piece.ticket piece.job) → Agrees lane lots ks → Receives lane piece new → ls ≡ ks ++ k ∷ []
     → Agrees new (set lots k Kept) ls
-received_as lane new k lots ks ls piece out b taken e = subst (λ (l : LaneState). Agrees l (set lots k Kept) ls) (sym taken.3)
-    (subst (λ (l : List ℕ). Agrees (record lane { window = set lane.window taken.0 (piece.job, true) }) (set lots k Kept) l) (sym e)
-    (received lane k taken.0 lots ks piece taken.1 (some_at lane.window taken.0 (piece.job, false) taken.2) out b))
+received_as lane new k lots ks ls piece out b r e = subst (λ (l : List ℕ). Agrees new (set lots k Kept) l) (sym e) (received_either (is_withdrawn lane piece.ticket.seq) lane new k lots ks piece refl out b r)
+
+received_offers_either : (gone : Bool) (lane new : LaneState) (piece : Ticketed)
+    → MatchBool gone ((new ≡ lane) × IsStep lane (Arrive piece) (reply.Arrived arrived.Withdrawn) new) (TakesInPiece lane piece new × IsStep lane (Arrive piece) (reply.Arrived arrived.Accepted) new)
+    → (new.table ≡ lane.table) × (offered new ≡ offered lane)
+received_offers_either true lane new piece r = (ap (λ (z : LaneState). z.table) r.0, ap offered r.0)
+received_offers_either false lane new piece r = let t = r.0 in (ap (λ (z : LaneState). z.table) t.3, ap offered t.3 ∙ ap (λ (n : ℕ). lane.next + n) (length-set lane.window t.0 (piece.job, true)))
+
+pub received_offers : (lane new : LaneState) (piece : Ticketed) → Receives lane piece new → (new.table ≡ lane.table) × (offered new ≡ offered lane)
+received_offers lane new piece r = received_offers_either (is_withdrawn lane piece.ticket.seq) lane new piece r
+
+pub withdrawn_as : {E : Type 0} (lane new : LaneState) (lots : List Lot) (kept : List ℕ) (seq : ℕ) (result : Result Bool E) → Agrees lane lots kept
+    → (result ≡ Ok true → TakesBack lane seq new) → (result ≡ Ok false → new ≡ lane) → OnErr result (new ≡ lane) → Agrees new lots kept
+withdrawn_as lane new lots kept seq (Ok true) b done not err = taken_back_as lane new lots kept seq (done refl) b
+withdrawn_as lane new lots kept seq (Ok false) b done not err = subst (λ (l : LaneState). Agrees l lots kept) (sym (not refl)) b
+withdrawn_as lane new lots kept seq (Err refused) b done not err = subst (λ (l : LaneState). Agrees l lots kept) (sym err) b
+
+pub withdrawn_offers : {E : Type 0} (lane new : LaneState) (seq : ℕ) (result : Result Bool E)
+    → (result ≡ Ok true → TakesBack lane seq new) → (result ≡ Ok false → new ≡ lane) → OnErr result (new ≡ lane) → (new.table ≡ lane.table) × (offered new ≡ offered lane)
+withdrawn_offers lane new seq (Ok true) done not err = taken_back_offers lane new seq (done refl)
+withdrawn_offers lane new seq (Ok false) done not err = let e = not refl in (ap (λ (z : LaneState). z.table) e, ap offered e)
+withdrawn_offers lane new seq (Err refused) done not err = (ap (λ (z : LaneState). z.table) err, ap offered err)
+
+-- the piece that the lane waits for
+pending_awaited : (lane : LaneState) (piece : Ticketed) → is_withdrawn lane piece.ticket.seq ≡ false → IsPending lane piece.ticket piece.job → Awaits lane piece
+pending_awaited lane piece live p = let q = place_of lane piece.ticket piece.job p in (p.0, live, (q.0, q.1, at_some lane.window q.0 (piece.job, false) q.2))
+
+-- what a lane answers to a piece of a ticket that was out
+answered : (gone : Bool) (lane new : LaneState) (piece : Ticketed) (result : Arrived) → is_withdrawn lane piece.ticket.seq ≡ gone
+    → (is_withdrawn lane piece.ticket.seq ≡ false → IsPending lane piece.ticket piece.job)
+    → IsStep lane (Arrive piece) (reply.Arrived result) new → (is_withdrawn lane piece.ticket.seq ≡ true → result ≡ arrived.Withdrawn)
+    → (Awaits lane piece → result ≡ arrived.Accepted) → (result ≡ arrived.Accepted → TakesInPiece lane piece new) → (result ≢ arrived.Accepted → new ≡ lane)
+    → MatchBool gone ((new ≡ lane) × IsStep lane (Arrive piece) (reply.Arrived arrived.Withdrawn) new) (TakesInPiece lane piece new × IsStep lane (Arrive piece) (reply.Arrived arrived.Accepted) new)
+answered true lane new piece result gone pending step withdrawn awaited takes stays = let r : result ≡ arrived.Withdrawn = withdrawn gone in
+    (stays (λ (e : result ≡ arrived.Accepted). let d : arrived.Withdrawn ≡ arrived.Accepted = sym r ∙ e in cc), subst (λ (z : Arrived). IsStep lane (Arrive piece) (reply.Arrived z) new) r step)
+answered false lane new piece result live pending step withdrawn awaited takes stays = let r : result ≡ arrived.Accepted = awaited (pending_awaited lane piece live (pending live)) in
+    (takes r, subst (λ (z : Arrived). IsStep lane (Arrive piece) (reply.Arrived z) new) r step)
+
+pub receives : (lane new : LaneState) (piece : Ticketed) (result : Arrived)
+    → (is_withdrawn lane piece.ticket.seq ≡ false → IsPending lane piece.ticket piece.job)
+    → IsStep lane (Arrive piece) (reply.Arrived result) new → (is_withdrawn lane piece.ticket.seq ≡ true → result ≡ arrived.Withdrawn)
+    → (Awaits lane piece → result ≡ arrived.Accepted) → (result ≡ arrived.Accepted → TakesInPiece lane piece new) → (result ≢ arrived.Accepted → new ≡ lane)
+    → Receives lane piece new
+receives lane new piece result = answered (is_withdrawn lane piece.ticket.seq) lane new piece result refl
 
 pub given_as : (lane new : LaneState) (lots : List Lot) (ks : List ℕ) (answer : Taken) → Agrees lane lots ks → GivesFirst lane answer new → Agrees new lots ks
-given_as lane new lots ks (taken.Answer seq answer) b g = subst (λ (l : LaneState). Agrees l lots ks) (sym g.5) (given lane lots ks g.0 g.1 g.2 b)
+given_as lane new lots ks (taken.Answer seq answer) b g = passed (record lane { next = lane.next + 1; window = g.1 }) new lots ks g.5 (given lane lots ks g.0 g.1 g.2 b)
 given_as lane new lots ks taken.Waiting b g = subst (λ (l : LaneState). Agrees l lots ks) (sym g.1) b
 given_as lane new lots ks taken.Finished b g = subst (λ (l : LaneState). Agrees l lots ks) (sym g.2) b
 
@@ -162,13 +302,10 @@ closed_as lane new lots ks b e = subst (λ (l : LaneState). Agrees l lots ks) (s
   kept_are = b.kept_are;
   once = b.once;
   counted = b.counted;
+  own = b.own;
   pending = b.pending;
   listed = b.listed;
 })
-
--- the piece that the lane waits for
-pub pending_awaited : (lane : LaneState) (piece : Ticketed) → IsPending lane piece.ticket piece.job → Awaits lane piece
-pending_awaited lane piece p = let q = place_of lane piece.ticket piece.job p in (p.0, (q.0, q.1, at_some lane.window q.0 (piece.job, false) q.2))
 
 -- the place that was kept last
 pub last_kept : (lane : LaneState) (k : ℕ) (lots : List Lot) (ks ls : List ℕ) → Agrees lane lots ks → ks ≡ ls ++ k ∷ [] → get_elem? lots k ≡ some Kept

@@ -71,6 +71,7 @@ pub at_place : (size : BoardSize) (s : St) (o : Orderly size s) (id p n : ℕ) (
     → ((q : ℕ) → q ≢ p → (holds_at q v ≡ false) × (holds_at q w ≡ false))
     → Standing n (some home) lot p (set s.views id w)
     → ((t : ℕ) → get_or s.words 0 0 ≤ t → (offers t ≡ 0) × ((k : ℕ) → k < size.places → put o.lots p lot (t * size.places + k) ≡ Fresh))
+    → ((t : ℕ) → size.tables ≤ t → offers t ≡ 0)
     → ((q : ℕ) (x : Ticket) (job : Job) → q ≢ p → q < count_of size → o.lots q ≡ Out x job → times x (finished_of w) ≡ times x (finished_of v))
     → ((x : Ticket) (job : Job) → lot ≡ Out x job → (x.table * size.places ≤ p) × (p < x.table * size.places + size.places) × (x.seq < offers x.table))
     → ((t : ℕ) → o.offers t ≤ offers t)
@@ -78,7 +79,7 @@ pub at_place : (size : BoardSize) (s : St) (o : Orderly size s) (id p n : ℕ) (
     → ((x : Ticket) → finishes x (set s.views id w) ≤ 1)
     → ((x : Ticket) → offers x.table ≤ x.seq → finishes x (set s.views id w) ≡ 0)
     → Orderly size (board (set s.words (2 + p) n) (set s.homes p home) (set s.views id w))
-at_place size s o id p n v w home lot offers me near wide same mine others quiet stands unentered kept_finished owns more differs once offered =
+at_place size s o id p n v w home lot offers me near wide same mine others quiet stands unentered strange kept_finished owns more differs once offered =
     let ws : List ℕ = set s.words (2 + p) n in
     let roll : get_or ws 0 0 ≡ get_or s.words 0 0 = get_or-set_other s.words (2 + p) 0 n 0 (λ e. omega arith) in
     let halt : get_or ws 1 0 ≡ get_or s.words 1 0 = get_or-set_other s.words (2 + p) 1 n 0 (λ e. omega arith) in
@@ -93,6 +94,7 @@ at_place size s o id p n v w home lot offers me near wide same mine others quiet
           (⊎_elim (λ (t : (j ≡ id) × (w ≡ u)). subst (Seated size (put o.lots p lot) offers (get_or s.words 1 0)) t.1 mine)
           (λ (t : (j ≢ id) × (get_elem? s.views j ≡ some u)). others j u t.1 t.0) (at_set s.views id j w u at));
       unentered = λ t h. unentered t (subst (λ (r : ℕ). r ≤ t) roll h);
+      strange = strange;
       unstopped = λ h. halt ∙ o.unstopped (subst (λ (r : ℕ). r ≤ size.tables + size.workers) roll h);
       places = λ q h. dite (ℕ_discrete q p)
           (λ e. let here : get_or ws (2 + q) 0 ≡ n = ap (λ (r : ℕ). get_or ws (2 + r) 0) e ∙ get_or-set_same s.words (2 + p) n 0 (omega arith) in
@@ -184,6 +186,7 @@ table_step size s o id k n m v home lot old me wide at_k more stands free fits =
     others (λ q ne. (refl, refl)) (stands free)
     (λ r h. let ne : r ≢ v.number = λ e. omega arith in let u = o.unentered r h in
     (put_else o.offers v.number r m ne ∙ u.0, λ i hi. put_else o.lots p (r * size.places + i) lot (λ d. apart r v.number size.places i k ne hi hk (d ∙ ap (λ (b : ℕ). b + k) t.1)) ∙ u.1 i hi))
+    (λ r h. put_else o.offers v.number r m (λ e. omega arith) ∙ o.strange r h)
     (λ q x job ne h l. refl)
     (λ x job l. let f = fits x job l in let b : x.table * size.places ≡ v.base = ap (λ (r : ℕ). r * size.places) f.0 ∙ sym t.1 in
     let c = put_here o.offers v.number x.table m f.0 in (omega (arith, b), omega (arith, b), omega (arith, c, f.2)))
@@ -209,6 +212,7 @@ worker_step size s o id p n v w home me wide near same quiet stands kept_finishe
     (λ j u at ne. seated_along size o.lots (put o.lots p (o.lots p)) o.offers (get_or s.words 1 0) u (λ q. sym (lots_same q)) (o.seats j u at))
     quiet stands
     (λ r h. let u = o.unentered r h in (u.0, λ i hi. lots_same (r * size.places + i) ∙ u.1 i hi))
+    o.strange
     kept_finished
     (λ x job l. o.own p x job near l)
     (λ r. omega arith)
@@ -235,6 +239,7 @@ at_seat size s o id v w ws me long same numbers mine others quiet fin grows unst
   seats = λ j u at. ⊎_elim (λ (t : (j ≡ id) × (w ≡ u)). subst (Seated size o.lots o.offers (get_or ws 1 0)) t.1 mine)
       (λ (t : (j ≢ id) × (get_elem? s.views j ≡ some u)). others j u t.1 t.0) (at_set s.views id j w u at);
   unentered = λ t h. o.unentered t (omega arith);
+  strange = o.strange;
   unstopped = unstopped;
   places = λ q h. along (get_or s.words (2 + q) 0) (get_or ws (2 + q) 0) (get_elem? s.homes q) (get_elem? s.homes q) (o.lots q) (o.lots q) q (set s.views id w) (sym (same q)) refl refl
       (still s.views id q (get_or s.words (2 + q) 0) v w (get_elem? s.homes q) (o.lots q) me (quiet q).0 (quiet q).1 (λ x job l. fin x) (o.places q h));

@@ -1,24 +1,30 @@
 -- What each step of a table leaves of its play.
-use Rattle.std.proofs.Common.{◌≡◌, ℕ, zero, suc, ◌+◌, ◌<◌, ◌≤◌, Bool, true, false, List, [], ◌∷◌, ◌++◌, length, map, take, set, get_or, sym, refl, ap, ◌∙◌, subst, arith, length-append, append_assoc, append-nil}
+use Rattle.std.proofs.Common.{◌≡◌, ℕ, zero, suc, ◌+◌, ◌<◌, ◌≤◌, Bool, true, false, List, [], ◌∷◌, ◌++◌, length, map, take, drop, set, get_or, sym, refl, ap, ◌∙◌, subst, arith, length-append, append_assoc, append-nil}
 use Rattle.std.proofs.lemmas.Bool.{false≢true}
 use Rattle.std.proofs.lemmas.List.{length-map, map-append}
 use mathlib.Core.Option.{some, some-injective}
 use lib.ListN.{get_elem?}
 use Rattle.desk_core.specs.Value.{value_of}
-use Rattle.desk_core.specs.LaneState.{LaneState, new_lane, with_job, TakesInPiece}
+use Rattle.desk_core.specs.LaneState.{LaneState, new_lane, with_job, is_among, TakesInPiece, PassesWithdrawn}
 use Rattle.desk_core.specs.GivesFirst.{GivesFirst}
 use Rattle.desk_core.specs.Ticketed.{Ticketed}
 use Rattle.desk_core.specs.declared.answer.Answer.{Answer}
 use Rattle.desk_core.specs.declared.taken.Taken.TheVariants as taken
 use Rattle.riichi_hand.specs.declared.job.Job.{Job}
 use Rattle.desk_run.specs.Played.{IsPlayed, values, jobs_of}
-use Rattle.desk_run.specs.Sitting.{AreFetched, Collects}
+use Rattle.desk_core.specs.Step.{IsStep}
+use Rattle.desk_core.specs.declared.arrived.Arrived.TheVariants as arrived
+use Rattle.desk_core.specs.declared.event.Event.TheVariants.{Arrive}
+use Rattle.desk_core.specs.declared.reply.Reply.TheVariants as reply
+use Rattle.std.specs.Prelude.{MatchBool}
+use Rattle.desk_run.specs.Books.{is_withdrawn}
+use Rattle.desk_run.specs.Sitting.{Receives, AreFetched, Collects}
 use Rattle.desk_run.specs.declared.lot.Lot.{Lot}
 use Rattle.desk_run.specs.declared.lot.Lot.TheVariants.{Kept}
 use Rattle.atomic_table.specs.Seated.{TableId}
 use Rattle.atomic_table.proofs.Lists.{set_else}
 use Rattle.desk_run.specs.Parts.{IsNewTable, AreNewTables}
-use Rattle.desk_run.specs.declared.table_seat.TableSeat.{TableSeat}
+use Rattle.desk_run.specs.SeatStates.{TableState}
 use Rattle.desk_run.proofs.Bookkeeping.{some_at}
 use Rattle.std.specs.Global.{Vec}
 use Rattle.desk_run.specs.Runs.{AreValues}
@@ -38,6 +44,7 @@ pub played_new : (lane : LaneState) (t : ℕ) (jobs : List Job) (answers : List 
 played_new lane t jobs answers new none = record {
   given = ap (λ (l : List Answer). l ++ values (jobs_of lane.window)) none ∙ ap (λ (l : LaneState). values (jobs_of l.window)) new;
   within = omega arith;
+  none_withdrawn = ap (λ (l : LaneState). l.withdrawn) new;
   all = λ closed. absurd (false≢true (sym (ap (λ (l : LaneState). l.closed) new) ∙ closed));
 }
 
@@ -51,6 +58,7 @@ played_offered lane new jobs n answers job near at not_closed same b = subst (λ
       ∙ sym (map-append value_of (take n jobs) (job ∷ []))
       ∙ ap values (sym (take-next n jobs job near at));
   within = omega arith;
+  none_withdrawn = b.none_withdrawn;
   all = λ closed. absurd (false≢true (sym not_closed ∙ closed));
 })
 
@@ -58,6 +66,7 @@ pub played_closed : (lane new : LaneState) (jobs : List Job) (n : ℕ) (answers 
 played_closed lane new jobs n answers done same b = subst (λ (l : LaneState). IsPlayed l jobs n answers) (sym same) (record {
   given = b.given;
   within = b.within;
+  none_withdrawn = b.none_withdrawn;
   all = λ _. done;
 })
 
@@ -73,24 +82,43 @@ played_taken_in : (lane new : LaneState) (jobs : List Job) (n : ℕ) (answers : 
 played_taken_in lane new jobs n answers piece t b = subst (λ (l : LaneState). IsPlayed l jobs n answers) (sym t.3) (record {
   given = ap (λ (l : List Job). answers ++ values l) (jobs-set lane.window t.0 piece.job false true (some_at lane.window t.0 (piece.job, false) t.2)) ∙ b.given;
   within = b.within;
+  none_withdrawn = b.none_withdrawn;
   all = b.all;
 })
 
+-- where none was withdrawn, each piece is accepted
+played_received : (lane new : LaneState) (jobs : List Job) (n : ℕ) (answers : List Answer) (piece : Ticketed) → Receives lane piece new → IsPlayed lane jobs n answers → IsPlayed new jobs n answers
+played_received lane new jobs n answers piece r b =
+    let live : is_withdrawn lane piece.ticket.seq ≡ false = ap (λ (l : List ℕ). is_among l piece.ticket.seq) b.none_withdrawn in
+    let accepted = subst (λ (gone : Bool). MatchBool gone ((new ≡ lane) × IsStep lane (Arrive piece) (reply.Arrived arrived.Withdrawn) new) (TakesInPiece lane piece new × IsStep lane (Arrive piece) (reply.Arrived arrived.Accepted) new)) live r in
+    played_taken_in lane new jobs n answers piece accepted.0 b
+
 played_fetched : (ps : List Ticketed) (lane new : LaneState) (lots more : List Lot) (jobs : List Job) (n : ℕ) (answers : List Answer) → AreFetched ps lane lots new more → IsPlayed lane jobs n answers → IsPlayed new jobs n answers
 played_fetched [] lane new lots more jobs n answers f b = played_same lane new jobs n answers f.0 b
-played_fetched (p ∷ ps) lane new lots more jobs n answers f b = played_fetched ps f.1 new (set lots f.0 Kept) more jobs n answers f.5 (played_taken_in lane f.1 jobs n answers p f.3 b)
+played_fetched (p ∷ ps) lane new lots more jobs n answers f b = played_fetched ps f.1 new (set lots f.0 Kept) more jobs n answers f.4 (played_received lane f.1 jobs n answers p f.3 b)
 
 pub played_collected : (count : ℕ) (lane new : LaneState) (lots more : List Lot) (jobs : List Job) (n : ℕ) (answers : List Answer) → Collects count lane lots new more → IsPlayed lane jobs n answers → IsPlayed new jobs n answers
 played_collected count lane new lots more jobs n answers c b = played_fetched c.0 lane new lots more jobs n answers c.2 b
 
+no_count : (count : ℕ) (lane : LaneState) → lane.withdrawn ≡ [] → ((i : ℕ) → i < count → is_among lane.withdrawn (lane.next + i) ≡ true) → count ≡ 0
+no_count zero lane none each = refl
+no_count (suc count) lane none each = absurd (false≢true (sym (ap (λ (l : List ℕ). is_among l (lane.next + 0)) none) ∙ each 0 (omega arith)))
+
+-- where none was withdrawn, none is passed
+none_passed : (lane new : LaneState) → lane.withdrawn ≡ [] → PassesWithdrawn lane new → new ≡ lane
+none_passed lane new none p = let n : ℕ = lane.next in let zero_more : n + 0 ≡ n = omega arith in
+    p.new_is ∙ ap (λ (c : ℕ). record lane { next = n + c; window = drop c lane.window }) (no_count p.count lane none p.each) ∙ ap (λ (m : ℕ). record lane { next = m }) zero_more
+
 pub played_given : (lane new : LaneState) (jobs : List Job) (n seq : ℕ) (answers more : List Answer) (answer : Answer) → GivesFirst lane (taken.Answer seq answer) new → more ≡ answers ++ answer ∷ []
     → IsPlayed lane jobs n answers → IsPlayed new jobs n more
-played_given lane new jobs n seq answers more answer g e b = subst (λ (l : List Answer). IsPlayed new jobs n l) (sym e) (subst (λ (l : LaneState). IsPlayed l jobs n (answers ++ answer ∷ [])) (sym g.5) (record {
-  given = append_assoc answers (answer ∷ []) (values (jobs_of g.1)) ∙ ap (λ (a : Answer). answers ++ a ∷ values (jobs_of g.1)) g.4
-      ∙ ap (λ (l : List (Job × Bool)). answers ++ values (jobs_of l)) (sym g.2) ∙ b.given;
-  within = b.within;
-  all = b.all;
-}))
+played_given lane new jobs n seq answers more answer g e b = subst (λ (l : List Answer). IsPlayed new jobs n l) (sym e) (subst (λ (l : LaneState). IsPlayed l jobs n (answers ++ answer ∷ []))
+    (sym (none_passed (record lane { next = lane.next + 1; window = g.1 }) new b.none_withdrawn g.5)) (record {
+      given = append_assoc answers (answer ∷ []) (values (jobs_of g.1)) ∙ ap (λ (a : Answer). answers ++ a ∷ values (jobs_of g.1)) g.4
+          ∙ ap (λ (l : List (Job × Bool)). answers ++ values (jobs_of l)) (sym g.2) ∙ b.given;
+      within = b.within;
+      none_withdrawn = b.none_withdrawn;
+      all = b.all;
+    }))
 
 length-taken : (n : ℕ) (jobs : List Job) → n ≤ length jobs → length (take n jobs) ≡ n
 length-taken zero jobs h = refl
@@ -111,14 +139,14 @@ played_out lane jobs n answers none closed b =
     ∙ ap (λ (m : ℕ). values (take m jobs)) (b.all closed) ∙ ap values (take-whole jobs)
 
 -- the tables from this number on are new
-abbrev pub AreNewFrom : ℕ → TableId → ℕ → List TableSeat → Type 0
-AreNewFrom n id places tables = (i : ℕ) (t : TableSeat) → n ≤ i → get_elem? tables i ≡ some t → IsNewTable id places i t
+abbrev pub AreNewFrom : ℕ → TableId → ℕ → List TableState → Type 0
+AreNewFrom n id places tables = (i : ℕ) (t : TableState) → n ≤ i → get_elem? tables i ≡ some t → IsNewTable id places i t
 
-pub all_new : (id : TableId) (places : ℕ) (tables : List TableSeat) → AreNewTables id places tables → AreNewFrom 0 id places tables
+pub all_new : (id : TableId) (places : ℕ) (tables : List TableState) → AreNewTables id places tables → AreNewFrom 0 id places tables
 all_new id places tables new i t h at = new i t at
 
-pub fewer_new : (n : ℕ) (id : TableId) (places : ℕ) (tables more : List TableSeat) (t : TableSeat) → AreNewFrom n id places tables → more ≡ set tables n t → AreNewFrom (n + 1) id places more
-fewer_new n id places tables more t new e i u h at = new i u (omega arith) (sym (set_else tables n i t (λ same. omega arith)) ∙ (ap (λ (l : List TableSeat). get_elem? l i) (sym e) ∙ at))
+pub fewer_new : (n : ℕ) (id : TableId) (places : ℕ) (tables more : List TableState) (t : TableState) → AreNewFrom n id places tables → more ≡ set tables n t → AreNewFrom (n + 1) id places more
+fewer_new n id places tables more t new e i u h at = new i u (omega arith) (sym (set_else tables n i t (λ same. omega arith)) ∙ (ap (λ (l : List TableState). get_elem? l i) (sym e) ∙ at))
 
 -- one table more was played
 pub values_more : (jobs : List (Vec Job)) (answers more : List (Vec Answer)) (n : ℕ) (list : Vec Job) (given : Vec Answer) → n < length jobs → list ≡ get_or jobs n list → given.items ≡ values list.items → more ≡ answers ++ given ∷ []

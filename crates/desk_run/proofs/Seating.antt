@@ -1,20 +1,18 @@
 -- What a table's seat has after each of its steps.
-use Rattle.std.proofs.Common.{◌≡◌, ℕ, zero, suc, ◌+◌, ◌<◌, ◌≤◌, Bool, true, false, List, [], ◌∷◌, ◌++◌, length, set, get_or, sym, refl, ap, ◌∙◌, subst, arith, length-set, length-append, get_or-set_other, get_or-set_same, ◌*◌, replicate}
+use Rattle.std.proofs.Common.{◌≡◌, ℕ, zero, suc, ◌+◌, ◌<◌, ◌≤◌, Bool, true, false, List, [], ◌∷◌, ◌++◌, length, set, get_or, sym, refl, ap, ◌∙◌, subst, arith, length-set, length-append, get_or-set_other, get_or-set_same, ◌*◌, replicate, suc-mul, mul-le-mul_right}
 use Rattle.std.proofs.lemmas.List.{append-nil}
 use mathlib.Core.Option.{some}
 use lib.ListN.{get_elem?}
 use Rattle.atomic_table.specs.Table.{rest}
-use Rattle.desk_core.specs.LaneState.{LaneState, with_job, TakesInPiece, new_lane}
+use Rattle.desk_core.specs.LaneState.{LaneState, with_job, new_lane}
 use Rattle.desk_core.specs.GivesFirst.{GivesFirst}
-use Rattle.desk_core.specs.Step.{IsStep}
 use Rattle.desk_core.specs.declared.taken.Taken.{Taken}
 use Rattle.desk_core.specs.declared.taken.Taken.TheVariants as taken
-use Rattle.desk_core.specs.declared.event.Event.TheVariants.{Arrive}
-use Rattle.desk_core.specs.declared.reply.Reply.TheVariants as reply
-use Rattle.desk_core.specs.declared.arrived.Arrived.TheVariants as arrived
 use Rattle.desk_run.specs.Books.{offered}
 use Rattle.desk_run.specs.Plays.{SeatState, table_of}
-use Rattle.desk_run.specs.Sitting.{Sits, carried_by, AreFetched, Collects, out_places, place_if_out}
+use Rattle.atomic_table.specs.Seated.{TableId}
+use Rattle.desk_run.specs.Sitting.{Sits, IsTableSeat, carried_by, Receives, AreFetched, Collects, out_places, place_if_out}
+use Rattle.desk_run.proofs.Bookkeeping.{received_offers, passed_offers}
 use Rattle.desk_run.specs.Views.{new_table, with_lot, offering}
 use Rattle.desk_core.specs.declared.ticket.Ticket.{Ticket}
 use Rattle.riichi_hand.specs.declared.job.Job.{Job}
@@ -68,13 +66,10 @@ sits_kept m n base lane new lots more ks ls k s e is l q o = let v : TableView =
       carried = ap (λ (z : SeatState). z.1) is ∙ ap (λ (z : List (ℕ × Content)). (base + k, Empty) ∷ z) s.carried ∙ sym (ap (carried_by base) e ∙ carried_push base k ks);
     }
 
-taken_offers : (lane new : LaneState) (piece : Ticketed) → TakesInPiece lane piece new → offered new ≡ offered lane
-taken_offers lane new piece t = ap offered t.3 ∙ ap (λ (n : ℕ). lane.next + n) (length-set lane.window t.0 (piece.job, true))
-
 pub sits_fetched : (m n : SeatState) (base : ℕ) (lane new : LaneState) (lots more : List Lot) (ks ls : List ℕ) (k : ℕ) (piece : Ticketed) → Sits m base lane lots ks → ls ≡ ks ++ k ∷ []
-    → n ≡ (Table (with_lot (table_of m.0) k Kept), (base + k, Empty) ∷ m.1) → more ≡ set lots k Kept → TakesInPiece lane piece new → Sits n base new more ls
-sits_fetched m n base lane new lots more ks ls k piece s e is l t =
-    sits_kept m n base lane new lots more ks ls k s e is l (ap (λ (z : LaneState). z.table) t.3) (taken_offers lane new piece t)
+    → n ≡ (Table (with_lot (table_of m.0) k Kept), (base + k, Empty) ∷ m.1) → more ≡ set lots k Kept → Receives lane piece new → Sits n base new more ls
+sits_fetched m n base lane new lots more ks ls k piece s e is l r = let o = received_offers lane new piece r in
+    sits_kept m n base lane new lots more ks ls k s e is l o.0 o.1
 
 -- the seat where only the lane has changed
 pub sits_with : (m : SeatState) (base : ℕ) (lane new : LaneState) (lots more : List Lot) (ks ls : List ℕ) → Sits m base lane lots ks → new.table ≡ lane.table → offered new ≡ offered lane → more ≡ lots → ls ≡ ks
@@ -91,17 +86,18 @@ sits_with m base lane new lots more ks ls s q o l e = record {
 pub given_offers : (lane new : LaneState) (answer : Taken) → GivesFirst lane answer new → (new.table ≡ lane.table) × (offered new ≡ offered lane)
 given_offers lane new (taken.Answer seq answer) g = let n : ℕ = lane.next in let rest : List (Job × Bool) = g.1 in
     let l : length lane.window ≡ suc (length rest) = ap (λ (z : List (Job × Bool)). length z) g.2 in
-    (ap (λ (z : LaneState). z.table) g.5, ap offered g.5 ∙ (let e : (n + 1) + length rest ≡ n + length lane.window = omega arith in e))
+    let p = passed_offers (record lane { next = n + 1; window = rest }) new g.5 in
+    (p.0, p.1 ∙ (let e : (n + 1) + length rest ≡ n + length lane.window = omega arith in e))
 given_offers lane new taken.Waiting g = (ap (λ (z : LaneState). z.table) g.1, ap offered g.1)
 given_offers lane new taken.Finished g = (ap (λ (z : LaneState). z.table) g.2, ap offered g.2)
 
-pub one_collected : (lane new : LaneState) (k : ℕ) (old more : List Lot) (piece : Ticketed) → get_elem? old k ≡ some (Out piece.ticket piece.job) → TakesInPiece lane piece new
-    → IsStep lane (Arrive piece) (reply.Arrived arrived.Accepted) new → more ≡ set old k Kept → Collects 1 lane old new more
-one_collected lane new k old more piece out taken_in step l = (piece ∷ [], refl, (k, new, out, taken_in, step, (refl, l)))
+pub one_collected : (lane new : LaneState) (k : ℕ) (old more : List Lot) (piece : Ticketed) → get_elem? old k ≡ some (Out piece.ticket piece.job) → Receives lane piece new
+    → more ≡ set old k Kept → Collects 1 lane old new more
+one_collected lane new k old more piece out received l = (piece ∷ [], refl, (k, new, out, received, (refl, l)))
 
 fetched-append : (ps qs : List Ticketed) (a b c : LaneState) (x y z : List Lot) → AreFetched ps a x b y → AreFetched qs b y c z → AreFetched (ps ++ qs) a x c z
 fetched-append [] qs a b c x y z f g = subst (λ (l : LaneState). AreFetched qs l x c z) f.0 (subst (λ (l : List Lot). AreFetched qs b l c z) f.1 g)
-fetched-append (p ∷ ps) qs a b c x y z f g = (f.0, f.1, f.2, f.3, f.4, fetched-append ps qs f.1 b c (set x f.0 Kept) y z f.5 g)
+fetched-append (p ∷ ps) qs a b c x y z f g = (f.0, f.1, f.2, f.3, fetched-append ps qs f.1 b c (set x f.0 Kept) y z f.4 g)
 
 pub collects_more : (n : ℕ) (a b c : LaneState) (x y z : List Lot) → Collects n a x b y → Collects 1 b y c z → Collects (n + 1) a x c z
 collects_more n a b c x y z f g = let l = f.1 in let m = g.1 in (f.0 ++ g.0, omega (arith, length-append f.0 g.0), fetched-append f.0 g.0 a b c x y z f.2 g.2)
@@ -131,3 +127,12 @@ sits_new m n t lane size lots ks none is l e new = let w : TableView = new_table
   offers = ap (λ (z : TableView). z.offers) same ∙ sym (ap offered new);
   carried = ap (λ (z : SeatState). z.1) is ∙ none ∙ sym (ap (carried_by (t * size.places)) e);
 }
+
+-- the seat after a step of it at its board
+pub seat_on : (board same : TableId) (m n : SeatState) (base : ℕ) (lane new : LaneState) (lots more : List Lot) (ks ls : List ℕ) → IsTableSeat board m base lane lots ks → same ≡ board → length more ≡ length lots → Sits n base new more ls
+    → IsTableSeat same n base new more ls
+seat_on board same m n base lane new lots more ks ls i e l s = subst (λ (id : TableId). IsTableSeat id n base new more ls) (sym e) (record { near = let a = i.near in omega arith; few = i.few; sits = s })
+
+-- a table's places are on its board
+pub all_near : (number tables places slots base count : ℕ) → number < tables → slots ≡ tables * places → base ≡ number * places → count ≡ places → base + count ≤ slots
+all_near number tables places slots base count h s b c = let e : suc number * places ≤ tables * places = mul-le-mul_right places (omega arith) in let f : suc number * places ≡ number * places + places = suc-mul number places in omega arith

@@ -74,6 +74,7 @@ all_up lane t n lots kept new e b = subst (λ (l : LaneState). Agrees l lots kep
   kept_are = b.kept_are;
   once = b.once;
   counted = let m = b.many in let z = b.none_out in omega arith;
-  pending = λ k x job at. let c = term_le one_out lots k (Out x job) at in let z = b.none_out in absurd (omega arith);
-  listed = λ i job at. absurd (some-ne-none _ (sym at));
+  own = λ k x job at. let c = term_le one_out lots k (Out x job) at in let z = b.none_out in absurd (omega arith);
+  pending = λ k x job at still. let c = term_le one_out lots k (Out x job) at in let z = b.none_out in absurd (omega arith);
+  listed = λ i job at still. absurd (some-ne-none _ (sym at));
 })

@@ -6,6 +6,8 @@ pub mod Seats
 pub mod Books
 pub mod Offers
 pub mod Sitting
+pub mod SeatStates
 pub mod Parts
 pub mod Played
+pub mod Started
 pub mod Runs

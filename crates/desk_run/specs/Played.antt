@@ -1,5 +1,5 @@
 -- How far a table is that plays a list of jobs.
-use Rattle.std.specs.Prelude.{◌≡◌, ℕ, ◌≤◌, Bool, true, List, ◌++◌, map, take, length}
+use Rattle.std.specs.Prelude.{◌≡◌, ℕ, ◌≤◌, Bool, true, List, [], ◌++◌, map, take, length}
 use Rattle.desk_core.specs.Value.{value_of}
 use Rattle.desk_core.specs.LaneState.{LaneState}
 use Rattle.desk_core.specs.declared.answer.Answer.{Answer}
@@ -14,8 +14,9 @@ abbrev pub jobs_of : List (Job × Bool) → List Job
 jobs_of window = map (λ entry. entry.0) window
 
 -- The first jobs were submitted; the answers so far, with the values of those that the lane still
--- has, are their values; and a closed table has submitted them all.
+-- has, are their values; none was withdrawn; and a closed table has submitted them all.
 pub record IsPlayed (lane : LaneState) (jobs : List Job) (next : ℕ) (answers : List Answer) : Type 0 where
   pub given : answers ++ values (jobs_of lane.window) ≡ values (take next jobs)
   pub within : next ≤ length jobs
+  pub none_withdrawn : lane.withdrawn ≡ []
   pub all : lane.closed ≡ true → next ≡ length jobs

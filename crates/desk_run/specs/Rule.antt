@@ -53,6 +53,8 @@ pub record Orderly (size : BoardSize) (s : State Content View) : Type 0 where
   pub seats : (i : ℕ) (v : View) → get_elem? s.views i ≡ ghost_option.some v → Seated size lots offers (slice_index s.words 1) v
   -- of a table that has not entered nothing was taken up or offered
   pub unentered : (t : ℕ) → slice_index s.words 0 ≤ t → (offers t ≡ 0) × ((k : ℕ) → k < size.places → lots (t * size.places + k) ≡ Fresh)
+  -- numbers that are no table's have offered nothing
+  pub strange : (t : ℕ) → size.tables ≤ t → offers t ≡ 0
   pub unstopped : slice_index s.words 0 ≤ size.tables + size.workers → slice_index s.words 1 ≡ 0
   pub places : (p : ℕ) → p < count_of size → Standing (slice_index s.words (2 + p)) (get_elem? s.homes p) (lots p) p s.views
   -- the tickets that are out are their tables' own, differ, and are below the number of offers

@@ -21,4 +21,4 @@ AreValues jobs answers = map (λ given. given.items) answers ≡ map (λ list. v
 abbrev pub IsReady : Hall → ℕ → Type 0
 IsReady hall lists =
     ((places : ℕ) × AreNewTables (board_name hall.board.now) places hall.tables.items)
-    × (vec_len hall.tables ≡ lists) × (hall.stop.seat.table_id ≡ board_name hall.board.now)
+    × (vec_len hall.tables ≡ lists) × (hall.stop.board ≡ board_name hall.board.now)

@@ -1,5 +1,5 @@
 -- What a seat that is not in a call has.
-use Rattle.std.specs.Prelude.{◌≡◌, ℕ, zero, suc, ◌+◌, List, [], ◌∷◌, ◌++◌, None, length, slice_set, slice_index_or}
+use Rattle.std.specs.Prelude.{◌≡◌, ℕ, zero, suc, ◌+◌, ◌≤◌, ◌<◌, List, [], ◌∷◌, ◌++◌, None, length, slice_set, slice_index_or, MatchBool}
 use mathlib.Core.Option as ghost_option
 use lib.ListN.{get_elem?}
 use Rattle.desk_core.specs.LaneState.{LaneState, TakesInPiece}
@@ -7,7 +7,7 @@ use Rattle.desk_core.specs.Step.{IsStep}
 use Rattle.desk_core.specs.declared.event.Event.TheVariants.{Arrive}
 use Rattle.desk_core.specs.declared.reply.Reply.TheVariants as reply
 use Rattle.desk_core.specs.declared.arrived.Arrived.TheVariants as arrived
-use Rattle.desk_run.specs.Books.{offered}
+use Rattle.desk_run.specs.Books.{offered, is_withdrawn}
 use Rattle.desk_core.specs.Ticketed.{Ticketed}
 use Rattle.desk_run.specs.declared.content.Content.{Content}
 use Rattle.desk_run.specs.declared.content.Content.TheVariants.{Empty}
@@ -15,8 +15,8 @@ use Rattle.desk_run.specs.declared.lot.Lot.{Lot}
 use Rattle.desk_run.specs.declared.lot.Lot.TheVariants.{Fresh, Kept, Out}
 use base.Stored.{Coded-set}
 use Rattle.atomic_table.specs.Seated.{TableId, table_id_coded}
-use Rattle.desk_run.specs.Plays.{SeatState, table_of, worker_of}
-use Rattle.desk_run.specs.declared.view.View.TheVariants.{Table, Worker}
+use Rattle.desk_run.specs.Plays.{SeatState, table_of, worker_of, stop_of}
+use Rattle.desk_run.specs.declared.view.View.TheVariants.{Table, Worker, Stop}
 use Rattle.desk_run.specs.declared.board.Board.{Board}
 
 abbrev pub board_name : Board → TableId
@@ -29,6 +29,10 @@ same_board = Coded-set table_id_coded
 -- a worker that holds nothing
 abbrev pub Idles : SeatState → Type 0
 Idles m = (m.0 ≡ Worker (worker_of m.0)) × ((worker_of m.0).held ≡ None) × (m.1 ≡ [])
+
+-- the seat that stops the workers
+abbrev pub IsStopSeat : SeatState → Type 0
+IsStopSeat m = m.0 ≡ Stop (stop_of m.0)
 
 -- n places from p on
 abbrev pub places_from : ℕ → ℕ → List ℕ
@@ -49,6 +53,12 @@ pub record Sits (m : SeatState) (base : ℕ) (lane : LaneState) (lots : List Lot
   pub offers : (table_of m.0).offers ≡ offered lane
   pub carried : m.1 ≡ carried_by base kept
 
+-- a table's seat on a board: the board has its places, and it sits there with its book
+pub record IsTableSeat (board : TableId) (m : SeatState) (base : ℕ) (lane : LaneState) (lots : List Lot) (kept : List ℕ) : Type 0 where
+  pub near : base + length lots ≤ board.slots
+  pub few : board.slots < 4096
+  pub sits : Sits m base lane lots kept
+
 -- the places out among the first n
 abbrev pub place_if_out : ℕ → Lot → List ℕ
 place_if_out p Fresh = []
@@ -59,12 +69,19 @@ abbrev pub out_places : ℕ → List Lot → ℕ → List ℕ
 out_places base lots zero = []
 out_places base lots (suc n) = out_places base lots n ++ place_if_out (base + n) (slice_index_or lots n Fresh)
 
--- Each of the pieces was that of a place that was out. The lane accepted it, and its place is kept.
+-- The lane takes a piece that was fetched: where the ticket was withdrawn it answers so and stays as it
+-- was, and else it accepts the piece.
+abbrev pub Receives : LaneState → Ticketed → LaneState → Type 0
+Receives lane piece next = MatchBool (is_withdrawn lane piece.ticket.seq)
+    ((next ≡ lane) × IsStep lane (Arrive piece) (reply.Arrived arrived.Withdrawn) next)
+    (TakesInPiece lane piece next × IsStep lane (Arrive piece) (reply.Arrived arrived.Accepted) next)
+
+-- Each of the pieces was that of a place that was out. The lane took it, and its place is kept.
 abbrev pub AreFetched : List Ticketed → LaneState → List Lot → LaneState → List Lot → Type 0
 AreFetched [] lane lots new_lane new_lots = (new_lane ≡ lane) × (new_lots ≡ lots)
 AreFetched (piece ∷ pieces) lane lots new_lane new_lots =
     (k : ℕ) × (next : LaneState) × (get_elem? lots k ≡ ghost_option.some (Out piece.ticket piece.job))
-    × TakesInPiece lane piece next × IsStep lane (Arrive piece) (reply.Arrived arrived.Accepted) next
+    × Receives lane piece next
     × AreFetched pieces next (slice_set lots k Kept) new_lane new_lots
 
 -- so many pieces were fetched

@@ -1,20 +1,22 @@
-ghost use Rattle.std.specs.Prelude.{◌≡◌, ◌≢◌, ◌≤◌, ◌<◌, ◌+◌, ◌∷◌, ◌++◌, [], true, IfOk, IfErr, OnErr, length, slice_set, replicate, vec_len, vec_capacity};
+ghost use Rattle.std.specs.Prelude.{◌≡◌, ◌≢◌, ◌↔◌, ◌≤◌, ◌<◌, ◌+◌, ◌∷◌, ◌++◌, [], true, false, Ok, IsTrue, IfOk, IfErr, OnErr, length, slice_set, replicate, vec_len, vec_capacity};
 ghost use mathlib.Core.Option.{some};
 ghost use lib.ListN.{get_elem?};
-ghost use Rattle.desk_core.specs.LaneState.{new_lane, with_job, TakesInPiece};
+ghost use Rattle.desk_core.specs.LaneState.{new_lane, with_job, CanTakeBack, TakesBack};
 ghost use Rattle.desk_core.specs.GivesFirst.{GivesFirst};
 ghost use Rattle.desk_core.specs.Step.{IsStep};
+ghost use Rattle.desk_core.specs.Replies.{withdraw_reply};
 ghost use Rattle.desk_run.specs.Books.{Agrees, ticket, offered};
+ghost use Rattle.desk_run.specs.Sitting.{Receives};
 ghost use Rattle.desk_run.specs.Offers.{IsOfferFault, MayOffer};
-ghost use Rattle.desk_core.specs.declared.event.Event.TheVariants.{Submit, Arrive, Close, Take};
+ghost use Rattle.desk_core.specs.declared.event.Event.TheVariants.{Submit, Close, Take, Withdraw};
 ghost use Rattle.desk_core.specs.declared.reply.Reply.TheVariants as reply;
-ghost use Rattle.desk_core.specs.declared.arrived.Arrived.TheVariants as arrived;
 ghost use Rattle.desk_run.specs.declared.lot.Lot.TheVariants.{Kept, Out};
 
 use crate::lot::Lot;
 use crate::offer::OfferFault;
 use desk_core::{Lane, Piece, Taken, Ticket};
 use riichi_hand::Job;
+use riichi_shape::Memory;
 use std::alloc::{AllocError, Global};
 
 /// What a table's code keeps of its own: its lane, what is at each of its places, and the places
@@ -78,11 +80,11 @@ impl Book {
         Ok((lot, ticket))
     }
 
-    /// Takes in the piece for the ticket that is out at the place.
+    /// Takes in the piece for the ticket that is out at the place. That of a withdrawn ticket is let
+    /// go.
     pub(crate) fn receive(&mut self, lot: usize, piece: Piece)
         requires { get_elem? self.old.lots.items lot ≡ some (Out piece.ticket piece.job) }
-        ensures lane { TakesInPiece self.old.lane piece self.new.lane }
-        ensures step { IsStep self.old.lane (Arrive piece) (reply.Arrived arrived.Accepted) self.new.lane }
+        ensures lane { Receives self.old.lane piece self.new.lane }
         ensures lots { (self.new.lots.items ≡ slice_set self.old.lots.items lot Kept) × (self.new.kept.items ≡ self.old.kept.items ++ lot ∷ []) }
     {
         self.lane.arrive(piece);
@@ -97,6 +99,19 @@ impl Book {
         ensures lots { (self.new.lots.items ≡ self.old.lots.items) × (self.new.kept.items ≡ self.old.kept.items) }
     {
         self.lane.take()
+    }
+
+    /// Takes the job of a ticket back.
+    pub(crate) fn withdraw(&mut self, seq: u32) -> Result<bool, Memory>
+        ensures step { IsStep self.old.lane (Withdraw (ticket self.old.lane.table seq)) (withdraw_reply result) self.new.lane }
+        ensures can { IfOk result (λ done. IsTrue done ↔ CanTakeBack self.old.lane seq) }
+        ensures done { result ≡ Ok true → TakesBack self.old.lane seq self.new.lane }
+        ensures not { result ≡ Ok false → self.new.lane ≡ self.old.lane }
+        ensures err { OnErr result (self.new.lane ≡ self.old.lane) }
+        ensures wanted { OnErr result (CanTakeBack self.old.lane seq) }
+        ensures lots { (self.new.lots.items ≡ self.old.lots.items) × (self.new.kept.items ≡ self.old.kept.items) }
+    {
+        self.lane.withdraw(seq)
     }
 
     /// Closes the table to further jobs: true the first time.

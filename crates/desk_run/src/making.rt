@@ -1,7 +1,6 @@
 //! A board with no places taken up, and the seats that enter it.
 ghost use Rattle.std.specs.Prelude.{◌≡◌, ◌+◌, ◌*◌, ◌≤◌, ◌<◌, ◌^◌, [], true, false, IfOk, IfErr, length, vec_len, replicate};
 ghost use Rattle.desk_core.specs.LaneState.{new_lane};
-ghost use Rattle.desk_run.specs.Plays.{table_of, worker_of, stop_of};
 ghost use Rattle.desk_run.specs.Books.{outs};
 ghost use Rattle.desk_run.specs.Sitting.{board_name};
 ghost use Rattle.desk_run.specs.declared.content.Content.TheVariants.{Empty};
@@ -52,10 +51,10 @@ impl Board {
     ) -> Result<TableSeat, AllocError>
         requires seat { (seat.table_id ≡ board_name self.now) × (seat.me ≡ (Entering self.now.size, [])) }
         requires number { (number < self.now.size.tables) × (self.now.size.tables ≤ 64) × (self.now.size.places ≤ 32) }
-        ensures board { IfOk result (λ t. t.seat.table_id ≡ board_name self.now) }
-        ensures lane { IfOk result (λ t. t.book.lane ≡ new_lane number) }
+        ensures board { IfOk result (λ t. t.board ≡ board_name self.now) }
+        ensures lane { IfOk result (λ t. t.lane ≡ new_lane number) }
         ensures base { IfOk result (λ t. t.base ≡ number * self.now.size.places) }
-        ensures lots { IfOk result (λ t. (outs t.book.lots.items ≡ 0) × (length t.book.lots.items ≡ self.now.size.places)) }
+        ensures lots { IfOk result (λ t. (outs t.lots ≡ 0) × (length t.lots ≡ self.now.size.places)) }
     {
         let places = self.size.places as usize;
         let base = number as usize * places;
@@ -75,8 +74,8 @@ impl Board {
     pub(crate) fn worker_seat(&self, mut seat: Seat, number: u64) -> Result<WorkerSeat, AllocError>
         requires seat { (seat.table_id ≡ board_name self.now) × (seat.me ≡ (Entering self.now.size, [])) }
         requires number { (self.now.size.tables ≤ number) × (number < self.now.size.tables + self.now.size.workers) × (number < 2 ^ 32) }
-        ensures board { IfOk result (λ w. w.seat.table_id ≡ board_name self.now) }
-        ensures view { IfOk result (λ w. ((worker_of w.seat.me.0).finished ≡ []) × ((worker_of w.seat.me.0).lost ≡ []) × ((worker_of w.seat.me.0).looks ≡ 0) × ((worker_of w.seat.me.0).knows_stop ≡ false)) }
+        ensures board { IfOk result (λ w. w.board ≡ board_name self.now) }
+        ensures view { IfOk result (λ w. (w.finished ≡ []) × (w.lost ≡ []) × (w.looks ≡ 0) × (w.knows_stop ≡ false)) }
     {
         if !self.enter_worker(&mut seat, number) {
             return Err(AllocError);
@@ -88,7 +87,7 @@ impl Board {
     pub(crate) fn stop_seat(&self, mut seat: Seat, number: u64) -> Result<StopSeat, AllocError>
         requires seat { (seat.table_id ≡ board_name self.now) × (seat.me ≡ (Entering self.now.size, [])) }
         requires number { (number ≡ self.now.size.tables + self.now.size.workers) × (number < 2 ^ 32) }
-        ensures { IfOk result (λ w. (w.seat.table_id ≡ board_name self.now) × ((stop_of w.seat.me.0).knows_stop ≡ false)) }
+        ensures { IfOk result (λ w. (w.board ≡ board_name self.now) × (w.knows_stop ≡ false)) }
     {
         if !self.enter_stop(&mut seat, number) {
             return Err(AllocError);

@@ -1,7 +1,6 @@
 //! A new board with a seat for each table and each worker.
-ghost use Rattle.std.specs.Prelude.{◌≡◌, ◌↔◌, ◌≤◌, false, IfOk, Err, IsTrue, vec_len};
+ghost use Rattle.std.specs.Prelude.{◌≡◌, ◌↔◌, ◌*◌, ◌≤◌, false, IfOk, Err, IsTrue, vec_len};
 ghost use Rattle.desk_run.specs.Parts.{IsInRange, AreNewTables, AreNewWorkers};
-ghost use Rattle.desk_run.specs.Plays.{stop_of};
 ghost use Rattle.desk_run.specs.Sitting.{board_name};
 
 use crate::board::Board;
@@ -23,9 +22,10 @@ impl Board {
     fn make(alloc: Global, size: BoardSize) -> Result<BoardParts, AllocError>
         requires { IsInRange size.tables size.workers size.places }
         ensures counts { IfOk result (λ parts. (vec_len parts.tables ≡ size.tables) × (vec_len parts.workers ≡ size.workers)) }
+        ensures slots { IfOk result (λ parts. (board_name parts.board).slots ≡ size.tables * size.places) }
         ensures tables { IfOk result (λ parts. AreNewTables (board_name parts.board) size.places parts.tables.items) }
         ensures workers { IfOk result (λ parts. AreNewWorkers (board_name parts.board) parts.workers.items) }
-        ensures stop { IfOk result (λ parts. (parts.stop.seat.table_id ≡ board_name parts.board) × ((stop_of parts.stop.seat.me.0).knows_stop ≡ false)) }
+        ensures stop { IfOk result (λ parts. (parts.stop.board ≡ board_name parts.board) × (parts.stop.knows_stop ≡ false)) }
     {
         let (board, mut seat) = Board::lay(alloc, size)?;
         let mut tables = Vec::with_capacity(alloc, size.tables as usize)?;
@@ -56,9 +56,10 @@ impl Board {
     ) -> Result<BoardParts, BoardFault>
         ensures range { (result ≡ Err BoardFault.Range) ↔ (¬ IsInRange tables workers places) }
         ensures counts { IfOk result (λ parts. (vec_len parts.tables ≡ tables) × (vec_len parts.workers ≡ workers)) }
+        ensures slots { IfOk result (λ parts. (board_name parts.board).slots ≡ tables * places) }
         ensures tables { IfOk result (λ parts. AreNewTables (board_name parts.board) places parts.tables.items) }
         ensures workers { IfOk result (λ parts. AreNewWorkers (board_name parts.board) parts.workers.items) }
-        ensures stop { IfOk result (λ parts. (parts.stop.seat.table_id ≡ board_name parts.board) × ((stop_of parts.stop.seat.me.0).knows_stop ≡ false)) }
+        ensures stop { IfOk result (λ parts. (parts.stop.board ≡ board_name parts.board) × (parts.stop.knows_stop ≡ false)) }
     {
         let size = BoardSize {
             tables,

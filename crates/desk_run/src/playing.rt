@@ -22,9 +22,9 @@ fn offer_next(
     jobs: &[Job],
     next: usize,
 ) -> Result<usize, AllocError>
-    requires { seat.old.seat.table_id ≡ board_name board.now }
-    ensures board { seat.new.seat.table_id ≡ seat.old.seat.table_id }
-    ensures played { IfOk result (λ n. (answers : List Answer) → IsPlayed seat.old.book.lane jobs.now next answers → IsPlayed seat.new.book.lane jobs.now n answers) }
+    requires { seat.old.board ≡ board_name board.now }
+    ensures board { seat.new.board ≡ seat.old.board }
+    ensures played { IfOk result (λ n. (answers : List Answer) → IsPlayed seat.old.lane jobs.now next answers → IsPlayed seat.new.lane jobs.now n answers) }
 {
     if next >= jobs.len() {
         seat.close();
@@ -45,8 +45,8 @@ pub(crate) fn play<R: Wait>(
     seat: &mut TableSeat,
     jobs: &[Job],
 ) -> Result<Vec<Answer>, AllocError>
-    requires board { seat.old.seat.table_id ≡ board_name board.now }
-    requires new { (table : ℕ) × (seat.old.book.lane ≡ new_lane table) }
+    requires board { seat.old.board ≡ board_name board.now }
+    requires new { (table : ℕ) × (seat.old.lane ≡ new_lane table) }
     ensures { IfOk result (λ answers. answers.items ≡ values jobs.now) }
 {
     let mut answers = Vec::with_capacity(alloc, jobs.len())?;

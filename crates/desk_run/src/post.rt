@@ -1,11 +1,12 @@
 //! Workers in threads.
-ghost use Rattle.std.specs.Prelude.{◌≡◌};
+ghost use Rattle.std.specs.Prelude.{◌≡◌, ◌++◌, IfOk, map, reverse, List, vec_len};
+ghost use Rattle.std.specs.List.{FoldsTo};
+ghost use Rattle.desk_core.specs.declared.ticket.Ticket.{Ticket};
 ghost use Rattle.desk_run.specs.Parts.{AreNewWorkers};
 ghost use Rattle.desk_run.specs.Sitting.{board_name, same_board};
 
 use crate::board::Board;
 use crate::gate::Gate;
-use crate::start::Start;
 use crate::worked::Worked;
 use crate::worker_seat::WorkerSeat;
 use riichi_shape::RowCache;
@@ -13,8 +14,6 @@ use std::alloc::{AllocError, Global};
 use std::sync::Wait;
 use std::thread;
 use std::thread::{Scope, Threads};
-
-const MOST_WORKERS: u32 = 16;
 
 /// How many suit rows each worker keeps.
 const KEPT_ROWS: usize = 512;
@@ -26,7 +25,8 @@ pub(crate) struct Post<'b, G> {
     seat: WorkerSeat,
     gate: G,
     cache: RowCache,
-    ghost here: { seat.seat.table_id ≡ board_name board.now } by { same_board _ _ },
+    ghost here: { seat.board ≡ board_name board.now } by { same_board _ _ },
+    ghost rows: { cache ≡ 512 },
 }
 
 /// Works until it knows of the stop and finds nothing ready.
@@ -37,21 +37,27 @@ fn work<R: Wait, G: Gate>(
     gate: &mut G,
     cache: &mut RowCache,
 )
-    requires { seat.old.seat.table_id ≡ board_name board.now }
+    requires { seat.old.board ≡ board_name board.now }
+    ensures gate { (xs : List Ticket) × (seat.new.finished ≡ seat.old.finished ++ xs) × FoldsTo G.called gate.old xs gate.new }
 {
     for _ in rt.forever() {
-        if seat.work_once(board, gate, cache) == Worked::Nothing {
-            if seat.stopped(board) {
-                return;
+        match seat.work_once(board, gate, cache) {
+            Worked::Did(_) => {}
+            Worked::Nothing => {
+                if seat.stopped(board) {
+                    return;
+                }
+                thread::yield_now();
             }
-            thread::yield_now();
         }
     }
 }
 
 impl<'b, G: Gate + Drop> Post<'b, G> {
     fn new(board: &'b Board, seat: WorkerSeat, gate: G, cache: RowCache) -> Post<'b, G>
-        requires { seat.seat.table_id ≡ board_name board.now }
+        requires here { seat.board ≡ board_name board.now }
+        requires rows { cache ≡ 512 }
+        ensures { (result.seat ≡ seat) × (result.gate ≡ gate) }
     {
         Post {
             board,
@@ -61,19 +67,22 @@ impl<'b, G: Gate + Drop> Post<'b, G> {
         }
     }
 
-    /// The posts of the workers and their gates, the last one first.
+    /// A post for each worker and its gate, the last one first.
     pub(crate) fn all(
         alloc: Global,
         board: &'b Board,
         mut workers: Vec<WorkerSeat>,
         mut gates: Vec<G>,
     ) -> Result<Vec<Post<'b, G>>, AllocError>
-        requires { AreNewWorkers (board_name board.now) workers.items }
+        requires new { AreNewWorkers (board_name board.now) workers.items }
+        requires alike { vec_len workers ≡ vec_len gates }
+        ensures workers { IfOk result (λ posts. reverse (map (λ post. post.seat) posts.items) ≡ workers.items) }
+        ensures gates { IfOk result (λ posts. reverse (map (λ post. post.gate) posts.items) ≡ gates.items) }
     {
         let mut posts = Vec::new(alloc);
-        for _worker in 0..MOST_WORKERS {
+        for _worker in 0..gates.len() {
             let (Some(seat), Some(gate)) = (workers.pop(), gates.pop()) else {
-                return Ok(posts);
+                unreachable!()
             };
             let Ok(cache) = RowCache::new(alloc, KEPT_ROWS) else {
                 return Err(AllocError);
@@ -94,24 +103,19 @@ impl<'b, G: Gate + Drop> Post<'b, G> {
     }
 }
 
-/// Starts a thread of the scope for each worker, the last post first, and answers whether each was
-/// started. Asks before each, and after a refusal no further.
-pub(crate) fn start_workers<'s, E, R, G, S>(
+/// Starts a thread of the scope for each post, and answers whether each was started. After one that
+/// could not be started it starts no further.
+pub(crate) fn start_workers<'s, E, R, G>(
     scope: &Scope<'s, E>,
     rt: &'s R,
-    mut posts: Vec<Post<'s, G>>,
-    start: &mut S,
+    posts: Vec<Post<'s, G>>,
 ) -> bool
 where
     R: Threads + Wait + Sync + 's,
     G: Gate + Send + Drop + 's,
-    S: Start,
 {
-    for worker in 0..MOST_WORKERS {
-        let Some(post) = posts.pop() else {
-            return true;
-        };
-        if !start.start(worker) || scope.spawn(move || post.work(rt)).is_err() {
+    for post in posts {
+        if scope.spawn(move || post.work(rt)).is_err() {
             return false;
         }
     }

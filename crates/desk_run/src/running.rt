@@ -9,7 +9,6 @@ use crate::gate::Gate;
 use crate::playing::play;
 use crate::post::{Post, start_workers};
 use crate::run_fault::RunFault;
-use crate::start::Start;
 use crate::stop_seat::StopSeat;
 use crate::table_seat::TableSeat;
 use desk_core::Answer;
@@ -49,19 +48,17 @@ pub(crate) struct Hall<'b> {
 
 impl<'b> Hall<'b> {
     /// Starts the workers, plays all tables, and stops the workers in every case.
-    pub(crate) fn run<'s, E, R, G, S>(
+    pub(crate) fn run<'s, E, R, G>(
         self,
         scope: &Scope<'s, E>,
         rt: &'s R,
         alloc: Global,
         jobs: &[Vec<Job>],
         posts: Vec<Post<'s, G>>,
-        start: &mut S,
     ) -> Result<Vec<Vec<Answer>>, RunFault>
     where
         R: Threads + Wait + Sync + 's,
         G: Gate + Send + Drop + 's,
-        S: Start,
         requires { IsReady self (length jobs.now) }
         ensures range { result ≢ Err RunFault.Range }
         ensures values { IfOk result (λ answers. AreValues jobs.now answers.items) }
@@ -71,7 +68,7 @@ impl<'b> Hall<'b> {
             mut tables,
             mut stop,
         } = self;
-        let answers = if start_workers(scope, rt, posts, start) {
+        let answers = if start_workers(scope, rt, posts) {
             play_all(rt, alloc, board, &mut tables, jobs).map_err(|_| RunFault::Memory)
         } else {
             Err(RunFault::Thread)

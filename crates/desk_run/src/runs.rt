@@ -1,6 +1,7 @@
 //! Whole runs: the answers of many tables' jobs, with a thread for each worker.
-ghost use Rattle.std.specs.Prelude.{◌≡◌, ◌≢◌, ◌↔◌, Err, IfOk, IsTrue, length, vec_len};
+ghost use Rattle.std.specs.Prelude.{◌≡◌, ◌≢◌, ◌↔◌, ◌⊎◌, Err, IfOk, IsTrue, length, vec_len};
 ghost use Rattle.desk_run.specs.Runs.{IsRunnable, IsReady, AreValues};
+ghost use Rattle.desk_run.specs.Started.{MayStart, IsRefused};
 
 use crate::board::Board;
 use crate::gate::{Gate, NoGate};
@@ -10,7 +11,7 @@ use crate::post::Post;
 use crate::run_fault::RunFault;
 use crate::running::Hall;
 use crate::size::BoardSize;
-use crate::start::{Always, Start};
+use crate::start::{Always, Start, ask_all};
 use desk_core::{Answer, LIMIT};
 use riichi_hand::Job;
 use std::alloc::{AllocError, Global};
@@ -75,8 +76,8 @@ pub fn run_tables_with<R: Threads + Wait + Sync, G: Gate + Send + Drop>(
     run_tables_started(rt, alloc, jobs, gates, places, &mut Always)
 }
 
-/// `run_tables_with` that asks before it starts each worker, in the order of the gates, and asks no
-/// further once it is refused.
+/// `run_tables_with` that asks for each worker, in the order of the gates, when there is memory for
+/// all of them. Once it is refused it asks no further, and starts none.
 pub fn run_tables_started<R: Threads + Wait + Sync, G: Gate + Send + Drop, S: Start>(
     rt: &R,
     alloc: Global,
@@ -87,6 +88,12 @@ pub fn run_tables_started<R: Threads + Wait + Sync, G: Gate + Send + Drop, S: St
 ) -> Result<Vec<Vec<Answer>>, RunFault>
     ensures range { (result ≡ Err RunFault.Range) ↔ (¬ IsRunnable jobs.now (vec_len gates) places) }
     ensures unasked { result ≡ Err RunFault.Range → start.new ≡ start.old }
+    ensures memory { result ≡ Err RunFault.Memory
+        → (start.new ≡ start.old) ⊎ MayStart S.asked (vec_len gates) start.old start.new }
+    ensures thread { result ≡ Err RunFault.Thread
+        → IsRefused S.asked (vec_len gates) start.old start.new
+        ⊎ MayStart S.asked (vec_len gates) start.old start.new }
+    ensures started { IfOk result (λ _. MayStart S.asked (vec_len gates) start.old start.new) }
     ensures values { IfOk result (λ answers. AreValues jobs.now answers.items) }
 {
     if !is_runnable(jobs, gates.len(), places) {
@@ -102,9 +109,13 @@ pub fn run_tables_started<R: Threads + Wait + Sync, G: Gate + Send + Drop, S: St
         stop,
     } = parts;
     let board = &board;
+    let count = gates.len() as u32;
     let Ok(posts) = Post::all(alloc, board, workers, gates) else {
         return Err(RunFault::Memory);
     };
+    if !ask_all(start, count) {
+        return Err(RunFault::Thread);
+    }
     let hall = Hall {
         board,
         tables,
@@ -117,6 +128,6 @@ pub fn run_tables_started<R: Threads + Wait + Sync, G: Gate + Send + Drop, S: St
             requires { IsReady hall (length jobs.now) }
             ensures range { result ≢ Err RunFault.Range }
             ensures values { IfOk result (λ answers. AreValues jobs.entry.now answers.items) }
-        { hall.run(scope, rt, alloc, jobs, posts, start) },
+        { hall.run(scope, rt, alloc, jobs, posts) },
     )
 }

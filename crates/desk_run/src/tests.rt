@@ -1,4 +1,6 @@
+mod refused;
 mod threads;
+mod withdrawal;
 
 ghost use Rattle.std.specs.Prelude.{◌≡◌, IfOk};
 ghost use Rattle.desk_run.specs.Parts.{AreNewTables, AreNewWorkers};
@@ -42,7 +44,7 @@ fn given(seq: u32, job: &Job) -> Taken {
 fn a_board(alloc: Global, tables: u32, workers: u32, places: u32) -> Result<BoardParts, BoardFault>
     ensures tables { IfOk result (λ parts. AreNewTables (board_name parts.board) places parts.tables.items) }
     ensures workers { IfOk result (λ parts. AreNewWorkers (board_name parts.board) parts.workers.items) }
-    ensures stop { IfOk result (λ parts. parts.stop.seat.table_id ≡ board_name parts.board) }
+    ensures stop { IfOk result (λ parts. parts.stop.board ≡ board_name parts.board) }
 {
     match Board::new(alloc, tables, workers, places) {
         Err(BoardFault::Memory) => Board::new(alloc, tables, workers, places),
@@ -52,8 +54,8 @@ fn a_board(alloc: Global, tables: u32, workers: u32, places: u32) -> Result<Boar
 
 /// Submits, where one request for memory may be refused.
 fn submit(table: &mut TableSeat, board: &Board, job: Job) -> Result<Ticket, OfferBack>
-    requires { table.old.seat.table_id ≡ board_name board.now }
-    ensures board { table.new.seat.table_id ≡ table.old.seat.table_id }
+    requires { table.old.board ≡ board_name board.now }
+    ensures board { table.new.board ≡ table.old.board }
 {
     match table.submit(board, job) {
         Err(back) if back.fault == OfferFault::Memory && back.job == job => {

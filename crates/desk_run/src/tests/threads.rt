@@ -4,7 +4,6 @@ ghost use Rattle.desk_run.specs.Sitting.{board_name, same_board};
 
 use super::{job, shape_b, waits_a};
 use crate::post::{Post, start_workers};
-use crate::start::Always;
 use crate::{
     Board, BoardParts, Gate, NoGate, RunFault, Start, TableSeat, run_tables, run_tables_started,
     run_tables_with,
@@ -14,14 +13,14 @@ use riichi_hand::Job;
 use std::alloc::{AllocError, Global};
 use std::process::Abort;
 use std::sync::Wait;
-use std::sync::atomic::AtomicBool;
 use std::sync::atomic::Ordering::SeqCst;
+use std::sync::atomic::{AtomicBool, AtomicU64};
 use std::test::Fail;
 use std::thread;
 use std::thread::{Scope, Threads};
 
 /// Whether the tables were answered so, list by list.
-fn are(answers: &[Vec<Answer>], wanted: &[&[Answer]]) -> bool {
+pub(super) fn are(answers: &[Vec<Answer>], wanted: &[&[Answer]]) -> bool {
     answers.len() == wanted.len()
         && answers
             .iter()
@@ -71,16 +70,18 @@ fn runs_out_of_range(rt: HostRuntime) -> Result<(), Fail> {
     Ok(())
 }
 
-/// A gate that waits until the other job has come as far.
+/// A gate that counts its calls, and waits until the other job has come as far.
 #[derive(Clone, Copy, Drop)]
 struct Meeting<'f> {
     first: &'f AtomicBool,
     second: &'f AtomicBool,
     missed: &'f AtomicBool,
+    calls: &'f AtomicU64,
 }
 
 impl<'f> Gate for Meeting<'f> {
     fn before_finish(&mut self, ticket: Ticket) {
+        let _ = self.calls.fetch_add(1, SeqCst);
         let (own, other) = if ticket.seq == 0 {
             (self.first, self.second)
         } else {
@@ -105,17 +106,58 @@ fn two_workers_meet(rt: HostRuntime) -> Result<(), Fail> {
         AtomicBool::new(false),
         AtomicBool::new(false),
     );
+    let calls = AtomicU64::new(0);
     let gate = Meeting {
         first: &first,
         second: &second,
         missed: &missed,
+        calls: &calls,
     };
     let jobs = [vec![in alloc; a, b]?];
     match run_tables_with(&rt, alloc, &jobs, vec![in alloc; gate, gate]?, 2) {
         Ok(answers) => assert!(rt; are(&answers, &[&[judge(&a), judge(&b)]])),
         Err(_) => panic!(rt; "no answers"),
     }
-    assert!(rt; !missed.load(SeqCst));
+    assert!(rt; first.load(SeqCst) && second.load(SeqCst) && !missed.load(SeqCst));
+    assert!(rt; calls.load(SeqCst) == 2);
+    Ok(())
+}
+
+/// A gate that waits until all workers are at theirs.
+#[derive(Clone, Copy, Drop)]
+struct Gathering<'f> {
+    here: &'f AtomicU64,
+    missed: &'f AtomicBool,
+}
+
+impl<'f> Gate for Gathering<'f> {
+    fn before_finish(&mut self, _ticket: Ticket) {
+        let _ = self.here.fetch_add(1, SeqCst);
+        for _look in 0..1_000_000_000u32 {
+            if self.here.load(SeqCst) >= 16 {
+                return;
+            }
+            thread::yield_now();
+        }
+        self.missed.store(true, SeqCst);
+    }
+}
+
+#[test]
+fn sixteen_workers_gather(rt: HostRuntime) -> Result<(), Fail> {
+    let alloc = rt.alloc();
+    let a = waits_a(&rt);
+    let (here, missed) = (AtomicU64::new(0), AtomicBool::new(false));
+    let gate = Gathering {
+        here: &here,
+        missed: &missed,
+    };
+    let jobs = [vec![in alloc; a; 16]?];
+    match run_tables_with(&rt, alloc, &jobs, vec![in alloc; gate; 16]?, 16) {
+        Ok(answers) => assert!(rt; are(&answers, &[&[judge(&a); 16]])),
+        Err(_) => panic!(rt; "no answers"),
+    }
+    assert!(rt; here.load(SeqCst) == 16 && !missed.load(SeqCst));
     Ok(())
 }
 
@@ -161,12 +203,12 @@ struct Player<'b> {
     board: &'b Board,
     seat: TableSeat,
     jobs: &'b [Job],
-    ghost here: { seat.seat.table_id ≡ board_name board.now } by { same_board _ _ },
+    ghost here: { seat.board ≡ board_name board.now } by { same_board _ _ },
 }
 
 impl<'b> Player<'b> {
     fn new(board: &'b Board, seat: TableSeat, jobs: &'b [Job]) -> Player<'b>
-        requires { seat.seat.table_id ≡ board_name board.now }
+        requires { seat.board ≡ board_name board.now }
     {
         Player { board, seat, jobs }
     }
@@ -241,9 +283,9 @@ fn two_tables_and_two_workers_in_threads(rt: HostRuntime) -> Result<(), Fail> {
         thread::scope_env(),
         rt,
         move |scope| -> Option<(Vec<Answer>, Vec<Answer>)>
-            requires { stop.seat.table_id ≡ board_name board.now }
+            requires { stop.board ≡ board_name board.now }
         {
-            let started = start_workers(scope, rt, posts, &mut Always);
+            let started = start_workers(scope, rt, posts);
             let answers = if started {
                 play_both(scope, rt, alloc, (first, second))
             } else {

@@ -1,4 +1,5 @@
 use Rattle.std.proofs.Common.{arith, ap, ◌∙◌}
+use Rattle.desk_run.specs.SeatStates.{TableState}
 use Rattle.desk_run.proofs.Plays.{played_collected, played_given, played_same, played_out, room_for}
 use Rattle.desk_run.proofs.playing.play.Goals as goal
 
@@ -12,7 +13,7 @@ loop-preserved-in-Answer g c = let i = c.loop.invariant in
     let p = played_collected _ _ _ _ _ _ _ _ c.collect.ensures.arrived (c.in_ok-next.ensures.played _ i.4) in (
       tt,
       tt,
-      ap (λ s. s.table_id) c.take.ensures.same.0 ∙ c.collect.ensures.board ∙ c.offer_next.ensures.board ∙ i.2,
+      ap (λ (s : TableState). s.board) c.take.ensures.same ∙ c.collect.ensures.same.0 ∙ c.offer_next.ensures.board ∙ i.2,
       (let a = i.3 in let b = c.push_reserved.ensures.capacity in omega arith),
       played_given _ _ _ _ c.in-Answer.seq _ _ c.in-Answer.answer c.in-Answer.ensures.first c.push_reserved.ensures.items p,
     )
@@ -22,7 +23,7 @@ loop-preserved g c = let i = c.loop.invariant in
     let p = played_collected _ _ _ _ _ _ _ _ c.collect.ensures.arrived (c.in_ok-next.ensures.played _ i.4) in (
       tt,
       tt,
-      ap (λ s. s.table_id) c.take.ensures.same.0 ∙ c.collect.ensures.board ∙ c.offer_next.ensures.board ∙ i.2,
+      ap (λ (s : TableState). s.board) c.take.ensures.same ∙ c.collect.ensures.same.0 ∙ c.offer_next.ensures.board ∙ i.2,
       i.3,
       played_same _ _ _ _ _ c.in-Waiting.ensures.first.1 p,
     )

@@ -1,4 +1,5 @@
 use Rattle.std.proofs.Common.{◌≡◌, ap, ◌∙◌}
+use Rattle.desk_run.specs.SeatStates.{TableState, WorkerState}
 use Rattle.desk_run.proofs.Parting.{last_table, last_worker}
 use Rattle.desk_run.proofs.tests.the_board_on_one_thread.Goals as goal
 
@@ -24,10 +25,10 @@ pub collect-requires : goal.collect-requires
 collect-requires g c = c.submit-refused.ensures.board ∙ c.submit-2.ensures.board ∙ c.submit.ensures.board ∙ (last_table _ _ _ _ _ c.in-Ok.ensures.tables c.in-Some-Some.ensures.items).0
 
 pub submit-requires-3 : goal.submit-requires-3
-submit-requires-3 g c = ap (λ s. s.table_id) c.take-2.ensures.same.0 ∙ ap (λ s. s.table_id) c.take.ensures.same.0 ∙ c.collect.ensures.board ∙ c.submit-refused.ensures.board ∙ c.submit-2.ensures.board ∙ c.submit.ensures.board ∙ (last_table _ _ _ _ _ c.in-Ok.ensures.tables c.in-Some-Some.ensures.items).0
+submit-requires-3 g c = ap (λ (s : TableState). s.board) c.take-2.ensures.same ∙ ap (λ (s : TableState). s.board) c.take.ensures.same ∙ c.collect.ensures.same.0 ∙ c.submit-refused.ensures.board ∙ c.submit-2.ensures.board ∙ c.submit.ensures.board ∙ (last_table _ _ _ _ _ c.in-Ok.ensures.tables c.in-Some-Some.ensures.items).0
 
 pub stopped-requires : goal.stopped-requires
 stopped-requires g c = c.work_once.ensures.board ∙ c.work_once-second.ensures.board ∙ c.work_once-first.ensures.board ∙ (last_worker _ _ _ _ c.in-Ok.ensures.workers c.in-Some-Some.ensures'.items).0
 
 pub stopped-requires-2 : goal.stopped-requires-2
-stopped-requires-2 g c = c.stopped.ensures.board ∙ c.work_once.ensures.board ∙ c.work_once-second.ensures.board ∙ c.work_once-first.ensures.board ∙ (last_worker _ _ _ _ c.in-Ok.ensures.workers c.in-Some-Some.ensures'.items).0
+stopped-requires-2 g c = ap (λ (w : WorkerState). w.board) c.stopped.ensures.looks ∙ c.work_once.ensures.board ∙ c.work_once-second.ensures.board ∙ c.work_once-first.ensures.board ∙ (last_worker _ _ _ _ c.in-Ok.ensures.workers c.in-Some-Some.ensures'.items).0

@@ -5,7 +5,8 @@ use Rattle.desk_run.specs.Plays.{SeatState, table_of}
 use Rattle.desk_run.specs.Books.{Agrees, offered}
 use Rattle.desk_run.specs.declared.lot.Lot.{Lot}
 use Rattle.desk_run.specs.declared.lot.Lot.TheVariants.{Fresh, Kept}
-use Rattle.desk_run.proofs.Seating.{sits_new, sits_kept, sits_with}
+use Rattle.atomic_table.specs.Seated.{TableId}
+use Rattle.desk_run.proofs.Seating.{sits_new, sits_kept, sits_with, all_near}
 use Rattle.desk_run.proofs.TakingUp.{TakenUp, none_up, one_up, all_up, all_kept}
 use Rattle.desk_run.proofs.board.Board.table_seat.Goals as goal
 
@@ -36,8 +37,12 @@ opening-requires-clause-agrees c = let i = c.loop-lot.invariant in let n : ℕ =
     let same : lots ≡ replicate c.args.self.now.size.places Kept = all_kept n lots _ (sym done) i.up ∙ ap (λ (m : ℕ). replicate m Kept) (done ∙ i.places.1) in
     subst (λ (l : List Lot). Agrees (new_lane c.args.number) l c.loop-lot.kept.items) same (all_up (new_lane c.args.number) c.args.number n lots c.loop-lot.kept.items refl done i.up)
 
-pub invariant_of-result-clause-sits : goal.invariant_of-result-clause-sits
-invariant_of-result-clause-sits c = let i = c.loop-lot.invariant in let n : ℕ = c.loop-lot.lot in let lots : List Lot = (table_of c.loop-lot.seat.me.0).lots in
+pub invariant_of-result : goal.invariant_of-result
+invariant_of-result c = let i = c.loop-lot.invariant in let n : ℕ = c.loop-lot.lot in let lots : List Lot = (table_of c.loop-lot.seat.me.0).lots in
     let done : n ≡ length lots = let a = c.loop-lot-test.false in let b = i.places.1 in let d = c.loop-lot.auto.lot-end in omega arith in
     let same : lots ≡ replicate c.args.self.now.size.places Kept = all_kept n lots _ (sym done) i.up ∙ ap (λ (m : ℕ). replicate m Kept) (done ∙ i.places.1) in
-    sits_with c.loop-lot.seat.me _ _ _ _ _ _ _ i.sits (ap (λ (l : LaneState). l.table) c.in_ok-book.ensures.lane) (ap offered c.in_ok-book.ensures.lane) (c.in_ok-book.ensures.lots.0 ∙ sym same) c.in_ok-book.ensures.lots.1
+    record {
+      near = let size = c.args.self.now.sized.1 in all_near c.args.number c.args.self.now.size.tables c.args.self.now.size.places _ _ _ c.requires.number.0 (ap (λ (id : TableId). id.slots) i.id ∙ size) i.base (ap (λ (l : List Lot). length l) c.in_ok-book.ensures.lots.0 ∙ length-replicate _ _ ∙ i.places.0);
+      few = let size = c.args.self.now.sized in let id = ap (λ (id : TableId). id.slots) i.id in omega arith;
+      sits = sits_with c.loop-lot.seat.me _ (new_lane c.args.number) c.in_ok-book.book.lane _ _ _ _ i.sits (ap (λ (l : LaneState). l.table) c.in_ok-book.ensures.lane) (ap offered c.in_ok-book.ensures.lane) (c.in_ok-book.ensures.lots.0 ∙ sym same) c.in_ok-book.ensures.lots.1;
+    }

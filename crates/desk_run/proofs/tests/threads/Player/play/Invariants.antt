@@ -4,4 +4,4 @@ use Rattle.desk_run.proofs.tests.threads.Player.play.Given as goal
 
 abbrev pub invariant-loop : goal.invariant-loop
 invariant-loop g l =
-    (goal.iterator-loop g).can_next l.iterator' × (goal.iterator-loop g).is_finite l.iterator' × (l.seat.seat.table_id ≡ board_name l.board)
+    (goal.iterator-loop g).can_next l.iterator' × (goal.iterator-loop g).is_finite l.iterator' × (l.seat.board ≡ board_name l.board)
