@@ -2,7 +2,8 @@
 use super::*;
 use desk_lines::DeskReport;
 use desk_streams::{BytesIn, BytesOut};
-use std::alloc::Global;
+use std::alloc::{AllocError, Global};
+use std::io::Print;
 use std::process::Abort;
 use std::sync::Wait;
 use std::test::Fail;
@@ -19,7 +20,7 @@ fn two_failing<'a>(
     alloc: Global,
     (first, failing): (&'a [u8], Option<u64>),
     (second, later_failing): (&'a [u8], Option<u64>),
-) -> Result<Vec<BytesIn<'a>>, Fail> {
+) -> Result<Vec<BytesIn<'a>>, AllocError> {
     let mut readers = Vec::new(alloc);
     readers.push(BytesIn::new(first, 1, failing))?;
     readers.push(BytesIn::new(second, 1, later_failing))?;
@@ -31,7 +32,7 @@ fn two_readers<'a>(
     alloc: Global,
     first: &'a [u8],
     second: &'a [u8],
-) -> Result<Vec<BytesIn<'a>>, Fail> {
+) -> Result<Vec<BytesIn<'a>>, AllocError> {
     two_failing(alloc, (first, None), (second, None))
 }
 
@@ -159,6 +160,42 @@ fn a_failed_write(rt: HostRuntime) -> Result<(), Fail> {
         assert_eq!(rt; writer.bytes(), &ANSWERS[..place]);
     }
     Ok(())
+}
+
+/// Whether the two tables are answered. Where memory is refused it is told so, or a thread is not started, and
+/// nothing is written.
+fn is_scored(rt: &(impl Threads + Wait + Sync + Abort + Print), alloc: Global) -> bool {
+    let Ok(readers) = two_readers(alloc, FIRST, b"") else {
+        return false;
+    };
+    let mut writer: BytesOut<2048> = BytesOut::new(1000, None);
+    let told = score_text(rt, alloc, readers, 2, &mut writer);
+    match told {
+        Ok(report) => {
+            assert!(rt; report.answered == 1 && report.refused == 1);
+            assert_eq!(rt; writer.bytes(), ANSWERS);
+            return true;
+        }
+        Err(ScoreFault::Thread) => {
+            let _ = println!(rt; "a thread was refused");
+        }
+        Err(fault) => {
+            assert!(rt; fault == ScoreFault::Memory, "{fault}");
+            let _ = println!(rt; "memory was refused");
+        }
+    }
+    assert_eq!(rt; writer.bytes(), b"".as_slice());
+    false
+}
+
+/// Where one request for memory is refused, the second call has it.
+#[test]
+fn a_request_refused_at_the_call(rt: HostRuntime) {
+    let alloc = rt.alloc();
+    assert!(rt;
+        is_scored(&rt, alloc) || is_scored(&rt, alloc),
+        "no memory twice"
+    );
 }
 
 /// A table's first line sets the profile of that table alone.
