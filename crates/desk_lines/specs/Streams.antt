@@ -42,9 +42,22 @@ pub record GivesAll {R : Type 0} (source : OfSource R) (old new : R) (text : Lis
   pub none_left : IsAtEnd (source.left new)
   pub not_failed : source.failures new ≡ source.failures old
 
--- a call failed, or there were so many calls with no end
-abbrev pub FailsOrGoesOn : {R : Type 0} → OfSource R → ℕ → R → R → Type 0
-FailsOrGoesOn source most old new = (source.failures old < source.failures new) ⊎ (source.calls old + most ≤ source.calls new)
+-- a reader that was read so often and gave no end counts as failed
+abbrev pub most_reads : ℕ
+most_reads = 4294967295
+
+-- the reader was not read oftener than that
+abbrev pub IsReadWithin : {R : Type 0} → OfSource R → R → R → Type 0
+IsReadWithin source old new = source.calls new ≤ source.calls old + most_reads
+
+-- The reader was read as often as it may be, and none of these reads found the end.
+pub record GoesOn {R : Type 0} (source : OfSource R) (old new : R) : Type 0 where
+  pub calls : source.calls new ≡ source.calls old + most_reads
+  pub no_end : source.ends new ≡ source.ends old
+
+-- a call failed, or no call found the end
+abbrev pub FailsOrGoesOn : {R : Type 0} → OfSource R → R → R → Type 0
+FailsOrGoesOn source old new = (source.failures old < source.failures new) ⊎ GoesOn source old new
 
 -- The whole lines of a text: those that a line feed ends, and where the text has ended the last line too.
 abbrev pub AreWhole : Type 0 → List ℕ → List (List ℕ) → Type 0

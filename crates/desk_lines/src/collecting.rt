@@ -6,7 +6,7 @@ ghost use Rattle.desk_lines.specs.Lines.{lines};
 ghost use Rattle.desk_lines.specs.LineAnswers.{report_on};
 ghost use Rattle.desk_lines.specs.Asked.{jobs_in, asked_in, jobs_of, asked_of, outcome_by};
 ghost use Rattle.desk_lines.specs.Profile.{rules_by};
-ghost use Rattle.desk_lines.specs.Streams.{GivesAll, FailsOrGoesOn};
+ghost use Rattle.desk_lines.specs.Streams.{GivesAll, FailsOrGoesOn, IsReadWithin};
 
 use super::asked::Asked;
 use super::desk::Desk;
@@ -14,7 +14,7 @@ use super::fault::DeskFault;
 use super::line_kind::LineKind;
 use super::outbox::Outbox;
 use super::profile::record_rules;
-use super::reading::{MOST_READS, tell_lines};
+use super::reading::tell_lines;
 use super::report::DeskReport;
 use super::teller::Teller;
 use super::text::RECORD_ROOM;
@@ -44,8 +44,9 @@ pub fn collect_text<R: Source>(alloc: Global, reader: &mut R) -> Result<Collecte
         × (collected.report ≡ report_on (lines text))) }
 
     // A read failed, or there were too many. Else memory was wanted.
-    ensures read_failed { IsErrOf result DeskFault.Read → FailsOrGoesOn ⟦<R as Source>⟧ MOST_READS reader.old reader.new }
+    ensures read_failed { IsErrOf result DeskFault.Read → FailsOrGoesOn ⟦<R as Source>⟧ reader.old reader.new }
     ensures no_write { IsErrOf result DeskFault.Write → ⊥ }
+    ensures reads { IsReadWithin ⟦<R as Source>⟧ reader.old reader.new }
 {
     let mut nowhere: BytesOut<0> = BytesOut::new(1, None);
     let desk: Desk<Collector, RECORD_ROOM> = Desk::new(Collector::new(alloc));

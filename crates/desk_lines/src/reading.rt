@@ -1,7 +1,7 @@
 //! The lines of a reader, told one after another.
 ghost use Rattle.std.specs.Prelude.{◌≡◌, ◌+◌, ◌≤◌, ℕ, List, [], IfOk, IsErrOf};
 ghost use Rattle.desk_lines.specs.Lines.{ended_lines, lines};
-ghost use Rattle.desk_lines.specs.Streams.{Gives, GivesAll, AreWhole, FailsOrGoesOn};
+ghost use Rattle.desk_lines.specs.Streams.{Gives, GivesAll, AreWhole, FailsOrGoesOn, IsReadWithin};
 ghost use Rattle.desk_lines.specs.Told.{Stands, StopsTelling};
 ghost use Rattle.desk_lines.specs.Desk.{IsNew};
 
@@ -15,7 +15,7 @@ use desk_streams::{Sink, Source};
 const CHUNK: usize = 65_536;
 
 /// After so many reads with no end the reader counts as failed.
-pub(crate) const MOST_READS: u64 = 4_294_967_295;
+const MOST_READS: u64 = 4_294_967_295;
 
 /// Has a desk's teller answer the lines that a reader gives, to its end. It reads and writes in large pieces; the
 /// answers to all lines that have ended are written before it reads again.
@@ -34,7 +34,7 @@ pub(crate) fn tell_lines<T: Teller + Drop, R: Source, W: Sink, const ROOM: usize
     ensures empty { IfOk result (λ told. told.outbox.bytes.items ≡ []) }
 
     // A read failed, or there were too many: the answers to the lines that had ended were written.
-    ensures read_failed { IsErrOf result DeskFault.Read → FailsOrGoesOn ⟦<R as Source>⟧ MOST_READS reader.old reader.new
+    ensures read_failed { IsErrOf result DeskFault.Read → FailsOrGoesOn ⟦<R as Source>⟧ reader.old reader.new
         × ((text : List ℕ) × (told : Told T)
         × Gives ⟦<R as Source>⟧ reader.old reader.new text
         × Stands ⟦<W as Sink>⟧ ⟦<T as Teller>⟧ writer.old (ended_lines text) told writer.new
@@ -49,6 +49,8 @@ pub(crate) fn tell_lines<T: Teller + Drop, R: Source, W: Sink, const ROOM: usize
         × Gives ⟦<R as Source>⟧ reader.old reader.new text
         × AreWhole (R.is_ended reader.new) text whole
         × StopsTelling ⟦<W as Sink>⟧ ⟦<T as Teller>⟧ writer.old writer.new DeskFault.Memory whole }
+
+    ensures reads { IsReadWithin ⟦<R as Source>⟧ reader.old reader.new }
 {
     let mut chunk = [0; CHUNK];
     for turn in 0..MOST_READS {

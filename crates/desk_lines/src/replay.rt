@@ -4,11 +4,11 @@ ghost use Rattle.desk_script.specs.Replay.{Replays};
 ghost use Rattle.desk_script.specs.OnlyReplay.{IsOnlyReplay};
 ghost use Rattle.desk_lines.specs.Lines.{ended_lines, lines};
 ghost use Rattle.desk_lines.specs.Telling.{text_of, report_of};
-ghost use Rattle.desk_lines.specs.Streams.{Gives, GivesAll, WritesAll, StopsWriting, AreWhole, FailsOrGoesOn};
+ghost use Rattle.desk_lines.specs.Streams.{Gives, GivesAll, WritesAll, StopsWriting, AreWhole, FailsOrGoesOn, IsReadWithin};
 
 use super::desk::Desk;
 use super::fault::DeskFault;
-use super::reading::{MOST_READS, tell_lines};
+use super::reading::tell_lines;
 use super::report::DeskReport;
 use desk_script::Script;
 use desk_streams::{Sink, Source};
@@ -35,7 +35,7 @@ pub fn replay_text<R: Source, W: Sink>(
         × (report ≡ report_of answers)) }
 
     // A read failed, or there were too many: answers to the lines that had ended were written.
-    ensures read_failed { IsErrOf result DeskFault.Read → FailsOrGoesOn ⟦<R as Source>⟧ MOST_READS reader.old reader.new
+    ensures read_failed { IsErrOf result DeskFault.Read → FailsOrGoesOn ⟦<R as Source>⟧ reader.old reader.new
         × ((text : List ℕ) × (answers : List (List ℕ))
         × Gives ⟦<R as Source>⟧ reader.old reader.new text
         × Replays (ended_lines text) answers
@@ -54,6 +54,8 @@ pub fn replay_text<R: Source, W: Sink>(
         × AreWhole (R.is_ended reader.new) text whole
         × Replays whole (first ++ others)
         × WritesAll ⟦<W as Sink>⟧ writer.old writer.new (text_of first) }
+
+    ensures reads { IsReadWithin ⟦<R as Source>⟧ reader.old reader.new }
 {
     let script = match Script::new(alloc) {
         Ok(script) => script,

@@ -25,7 +25,7 @@ fn answer(rt: &impl Abort, text: &[u8], answers: &[u8], answered: u64, refused: 
 }
 
 /// Records of each job, and their answers.
-static RECORDS: [(&str, &str); 26] = [
+static RECORDS: [(&str, &str); 28] = [
     (
         "win 234m567m345p67s99s on=5s by=tsumo seat=S round=E",
         "won 2 han 20 fu 400/700 gain 1500 fully-concealed pinfu",
@@ -110,6 +110,14 @@ static RECORDS: [(&str, &str); 26] = [
     (
         "shape 123456789m11348p",
         "shanten 0 discard 8p accepts 2p:4 5p:4 live 8",
+    ),
+    (
+        "shape 123456789m1111z",
+        "shanten 1 accepts 1m:3 2m:3 3m:3 4m:3 5m:3 6m:3 7m:3 8m:3 9m:3 1p:4 2p:4 3p:4 4p:4 5p:4 6p:4 7p:4 8p:4 9p:4 1s:4 2s:4 3s:4 4s:4 5s:4 6s:4 7s:4 8s:4 9s:4 2z:4 3z:4 4z:4 5z:4 6z:4 7z:4 live 123",
+    ),
+    (
+        "shape 1z open=pon:111z,chi:123m,chi:123m,chi:123m",
+        "shanten 1 accepts 4m:4 5m:4 6m:4 7m:4 8m:4 9m:4 1p:4 2p:4 3p:4 4p:4 5p:4 6p:4 7p:4 8p:4 9p:4 1s:4 2s:4 3s:4 4s:4 5s:4 6s:4 7s:4 8s:4 9s:4 2z:4 3z:4 4z:4 5z:4 6z:4 7z:4 live 120",
     ),
     (
         "shape 11z open=pon:222z,chi:123m,chi:123m,chi:123m",
@@ -264,6 +272,17 @@ fn lines_up_to_the_limit(rt: HostRuntime) -> Result<(), Fail> {
         }
     }
     Ok(())
+}
+
+/// Each front of a comment that is a byte too long: only the whole of it is refused.
+#[test]
+fn fronts_of_a_long_comment(rt: HostRuntime) {
+    let mut comment = [b'x'; 4097];
+    comment[0] = b'#';
+    for length in 0..4097usize {
+        answer(&rt, &comment[..length], b"", 0, 0);
+    }
+    answer(&rt, &comment, b"refused H1\n", 0, 1);
 }
 
 #[test]

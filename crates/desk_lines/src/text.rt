@@ -2,11 +2,11 @@
 ghost use Rattle.std.specs.Prelude.{◌≡◌, ℕ, List, IfOk, IsErrOf};
 ghost use Rattle.desk_lines.specs.Lines.{ended_lines, lines};
 ghost use Rattle.desk_lines.specs.LineAnswers.{answers, answers_to, report_on};
-ghost use Rattle.desk_lines.specs.Streams.{Gives, GivesAll, WritesAll, StopsWriting, AreWhole, FailsOrGoesOn};
+ghost use Rattle.desk_lines.specs.Streams.{Gives, GivesAll, WritesAll, StopsWriting, AreWhole, FailsOrGoesOn, IsReadWithin};
 
 use super::desk::Desk;
 use super::fault::DeskFault;
-use super::reading::{MOST_READS, tell_lines};
+use super::reading::tell_lines;
 use super::records::Records;
 use super::report::DeskReport;
 use desk_streams::{Sink, Source};
@@ -28,7 +28,7 @@ pub fn desk_text<R: Source, W: Sink>(
         × (report ≡ report_on (lines text))) }
 
     // A read failed, or there were too many: the answers to the lines that had ended were written.
-    ensures read_failed { IsErrOf result DeskFault.Read → FailsOrGoesOn ⟦<R as Source>⟧ MOST_READS reader.old reader.new
+    ensures read_failed { IsErrOf result DeskFault.Read → FailsOrGoesOn ⟦<R as Source>⟧ reader.old reader.new
         × ((text : List ℕ)
         × Gives ⟦<R as Source>⟧ reader.old reader.new text
         × WritesAll ⟦<W as Sink>⟧ writer.old writer.new (answers_to (ended_lines text))) }
@@ -40,6 +40,7 @@ pub fn desk_text<R: Source, W: Sink>(
         × StopsWriting ⟦<W as Sink>⟧ writer.old writer.new (answers_to whole) }
 
     ensures no_memory { IsErrOf result DeskFault.Memory → ⊥ }
+    ensures reads { IsReadWithin ⟦<R as Source>⟧ reader.old reader.new }
 {
     let desk: Desk<Records, RECORD_ROOM> = Desk::new(Records::new());
     let told = tell_lines(desk, reader, writer)?;

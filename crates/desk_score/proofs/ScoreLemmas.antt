@@ -1,12 +1,11 @@
 -- One more reader, and what all of them are answered.
-use Rattle.std.proofs.Common.{◌≡◌, ℕ, ◌+◌, ◌<◌, ◌≤◌, inl, inr, suc, List, [], ◌∷◌, ◌++◌, map, length, get_or, Vec, Global, refl, sym, ◌∙◌, ap, arith}
+use Rattle.std.proofs.Common.{◌≡◌, ℕ, ◌<◌, ◌≤◌, inl, inr, suc, List, [], ◌∷◌, ◌++◌, map, length, get_or, Vec, Global, refl, sym, ◌∙◌, ap, arith}
 use Rattle.std.proofs.lemmas.List.{length-map, get_or-map}
 use Rattle.std.proofs.lemmas.Simd.{map-map}
 use Rattle.std.proofs.lemmas.Bool.{cases_lt}
 use Rattle.std.specs.Prelude.{All, vec_len}
 use Rattle.desk_streams.specs.declared.source.Source.{Ghosts as OfSource}
 use Rattle.riichi_hand.specs.declared.job.Job.{Job}
-use Rattle.desk_core.specs.Value.{value_of}
 use Rattle.desk_core.specs.declared.answer.Answer.{Answer}
 use Rattle.desk_run.specs.Played.{values}
 use Rattle.desk_lines.specs.declared.asked.Asked.{Asked}
@@ -14,17 +13,17 @@ use Rattle.desk_lines.specs.Lines.{lines}
 use Rattle.desk_lines.specs.LineAnswers.{answers}
 use Rattle.desk_lines.specs.Asked.{jobs_of, asked_of}
 use Rattle.desk_lines.specs.Tables.{tables_text, told_tables}
-use Rattle.desk_lines.specs.Streams.{GivesAll}
+use Rattle.desk_lines.specs.Streams.{GivesAll, IsReadWithin}
 use Rattle.desk_lines.proofs.AskedLemmas.{told-answers}
 use Rattle.desk_score.specs.Score.{score_of, AllGive}
 
 module _ {R : Type 0} (source : OfSource R) where
-  pub AllGive-last : (readers : List R) (texts : List (List ℕ)) (reader ended : R) (text : List ℕ) → AllGive source readers texts → GivesAll source reader ended text
+  pub AllGive-last : (readers : List R) (texts : List (List ℕ)) (reader ended : R) (text : List ℕ) → AllGive source readers texts → GivesAll source reader ended text → IsReadWithin source reader ended
       → AllGive source (readers ++ reader ∷ []) (texts ++ text ∷ [])
-  AllGive-last [] [] reader ended text all given = ((ended, given), tt)
-  AllGive-last [] (first ∷ texts) reader ended text all given = absurd all
-  AllGive-last (first ∷ readers) [] reader ended text all given = absurd all
-  AllGive-last (first ∷ readers) (its ∷ texts) reader ended text all given = (all.0, AllGive-last readers texts reader ended text all.1 given)
+  AllGive-last [] [] reader ended text all given within = ((ended, given, within), tt)
+  AllGive-last [] (first ∷ texts) reader ended text all given within = absurd all
+  AllGive-last (first ∷ readers) [] reader ended text all given within = absurd all
+  AllGive-last (first ∷ readers) (its ∷ texts) reader ended text all given within = (all.0, AllGive-last readers texts reader ended text all.1 given within)
 
   pub AllGive-length : (readers : List R) (texts : List (List ℕ)) → AllGive source readers texts → length readers ≡ length texts
   AllGive-length [] [] all = refl

@@ -1,5 +1,5 @@
 -- What a score over several readers writes and tells.
-use Rattle.std.specs.Prelude.{◌≡◌, ℕ, ◌+◌, ◌≤◌, List, [], ◌∷◌, ◌++◌, All, length, map}
+use Rattle.std.specs.Prelude.{◌≡◌, ℕ, ◌≤◌, List, [], ◌∷◌, ◌++◌, All, length, map}
 use Rattle.std.specs.List.{sum_by}
 use Rattle.desk_streams.specs.declared.source.Source.{Ghosts as OfSource}
 use Rattle.desk_core.specs.declared.lane.TheConstants.{LIMIT}
@@ -7,7 +7,7 @@ use Rattle.desk_lines.specs.declared.report.DeskReport.{DeskReport}
 use Rattle.desk_lines.specs.Lines.{lines}
 use Rattle.desk_lines.specs.LineAnswers.{answers, report_on}
 use Rattle.desk_lines.specs.Asked.{jobs_of}
-use Rattle.desk_lines.specs.Streams.{GivesAll, FailsOrGoesOn}
+use Rattle.desk_lines.specs.Streams.{GivesAll, FailsOrGoesOn, IsReadWithin}
 use Rattle.desk_lines.specs.Tables.{tables_text}
 
 -- the answers to each text, behind the number of its table
@@ -25,15 +25,15 @@ score_report texts = record {
 abbrev pub AreWithinLimit : List (List ℕ) → Type 0
 AreWithinLimit texts = All (λ text. length (jobs_of (lines text)) ≤ LIMIT) texts
 
--- each reader gave its text, to the end
+-- each reader gave its text, to the end, in no more reads than it may be read
 abbrev pub AllGive : {R : Type 0} → OfSource R → List R → List (List ℕ) → Type 0
 AllGive source [] [] = Unit {0}
 AllGive source [] (text ∷ texts) = ⊥
 AllGive source (reader ∷ readers) [] = ⊥
-AllGive {R = R} source (reader ∷ readers) (text ∷ texts) = ((ended : R) × GivesAll source reader ended text) × AllGive source readers texts
+AllGive {R = R} source (reader ∷ readers) (text ∷ texts) = ((ended : R) × GivesAll source reader ended text × IsReadWithin source reader ended) × AllGive source readers texts
 
--- The first readers gave their texts, to the end, and the next one failed or gave no end within so many reads.
-pub record StopsReading {R : Type 0} (source : OfSource R) (most : ℕ) (readers : List R) : Type 0 where
+-- The first readers gave their texts, to the end, and the next one failed or gave no end.
+pub record StopsReading {R : Type 0} (source : OfSource R) (readers : List R) : Type 0 where
   pub first : List R
   pub texts : List (List ℕ)
   pub reader : R
@@ -41,4 +41,5 @@ pub record StopsReading {R : Type 0} (source : OfSource R) (most : ℕ) (readers
   pub parts : readers ≡ first ++ reader ∷ others
   pub given : AllGive source first texts
   pub last : R
-  pub fails : FailsOrGoesOn source most reader last
+  pub fails : FailsOrGoesOn source reader last
+  pub within : IsReadWithin source reader last

@@ -41,7 +41,7 @@ impl Tables {
         readers: Vec<R>,
     ) -> Result<Tables, ScoreFault>
         ensures ok { IfOk result (λ tables. (texts : List (List ℕ)) × AllGive ⟦<R as Source>⟧ readers.items texts × AreRead texts tables) }
-        ensures read_failed { IsErrOf result ScoreFault.Read → StopsReading ⟦<R as Source>⟧ 4294967295 readers.items }
+        ensures read_failed { IsErrOf result ScoreFault.Read → StopsReading ⟦<R as Source>⟧ readers.items }
         ensures not_write { IsErrOf result ScoreFault.Write → ⊥ }
         ensures not_range { IsErrOf result ScoreFault.Range → ⊥ }
         ensures not_thread { IsErrOf result ScoreFault.Thread → ⊥ }

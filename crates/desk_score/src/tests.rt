@@ -2,7 +2,8 @@
 use super::*;
 use desk_lines::DeskReport;
 use desk_streams::{BytesIn, BytesOut};
-use std::alloc::Global;
+use std::alloc::{AllocError, Global};
+use std::io::Print;
 use std::process::Abort;
 use std::sync::Wait;
 use std::test::Fail;
@@ -14,17 +15,25 @@ const FIRST: &[u8] = b"waits 1112345678999m\nwaits 8z\n";
 /// The answers to these as the first of two tables, of which the second asks nothing.
 const ANSWERS: &[u8] = b"table 0\nwaits 123456789m\nrefused N5 hand at 0\ntable 1\n";
 
-/// Two readers with these texts, a byte a read; of the first the read of the number `failing` fails.
+/// Two readers with these texts, a byte a read; of each the read of the number given fails.
+fn two_failing<'a>(
+    alloc: Global,
+    (first, failing): (&'a [u8], Option<u64>),
+    (second, later_failing): (&'a [u8], Option<u64>),
+) -> Result<Vec<BytesIn<'a>>, AllocError> {
+    let mut readers = Vec::new(alloc);
+    readers.push(BytesIn::new(first, 1, failing))?;
+    readers.push(BytesIn::new(second, 1, later_failing))?;
+    Ok(readers)
+}
+
+/// Two readers with these texts, of which no read fails.
 fn two_readers<'a>(
     alloc: Global,
     first: &'a [u8],
     second: &'a [u8],
-    failing: Option<u64>,
-) -> Result<Vec<BytesIn<'a>>, Fail> {
-    let mut readers = Vec::new(alloc);
-    readers.push(BytesIn::new(first, 1, failing))?;
-    readers.push(BytesIn::new(second, 1, None))?;
-    Ok(readers)
+) -> Result<Vec<BytesIn<'a>>, AllocError> {
+    two_failing(alloc, (first, None), (second, None))
 }
 
 /// So many readers that give nothing.
@@ -59,11 +68,11 @@ fn two_tables(rt: HostRuntime) -> Result<(), Fail> {
         refused: 1,
     });
     for workers in [1, 16] {
-        let readers = two_readers(alloc, FIRST, b"", None)?;
+        let readers = two_readers(alloc, FIRST, b"")?;
         score(&rt, alloc, readers, workers, ANSWERS, report);
     }
     for workers in [0, 17] {
-        let readers = two_readers(alloc, FIRST, b"", None)?;
+        let readers = two_readers(alloc, FIRST, b"")?;
         score(&rt, alloc, readers, workers, b"", Err(ScoreFault::Range));
     }
     Ok(())
@@ -102,14 +111,40 @@ fn numbers_of_readers(rt: HostRuntime) -> Result<(), Fail> {
     Ok(())
 }
 
-/// Nothing is written, whichever read fails: one for each byte, and one that would find the end.
+/// Nothing is written, whichever read of whichever reader fails: one for each byte, and one that would find the
+/// end.
 #[test]
 fn a_failed_read(rt: HostRuntime) -> Result<(), Fail> {
     let alloc = rt.alloc();
     for failing in 1..FIRST.len() as u64 + 2 {
-        let readers = two_readers(alloc, FIRST, b"", Some(failing))?;
-        score(&rt, alloc, readers, 1, b"", Err(ScoreFault::Read));
+        let failing = Some(failing);
+        let first = two_failing(alloc, (FIRST, failing), (FIRST, None))?;
+        score(&rt, alloc, first, 1, b"", Err(ScoreFault::Read));
+        let second = two_failing(alloc, (FIRST, None), (FIRST, failing))?;
+        score(&rt, alloc, second, 1, b"", Err(ScoreFault::Read));
     }
+    Ok(())
+}
+
+/// A table of so many jobs, a line each.
+fn text_of_jobs(alloc: Global, count: u32) -> Result<Vec<u8>, Fail> {
+    let line = b"waits 1112345678999m\n";
+    let mut text = Vec::with_capacity(alloc, count as usize * line.len())?;
+    for _ in 0..count {
+        text.extend_from_slice(line)?;
+    }
+    Ok(text)
+}
+
+/// One job more than a table may submit, whichever table has it: nothing is written.
+#[test]
+fn a_job_too_many(rt: HostRuntime) -> Result<(), Fail> {
+    let alloc = rt.alloc();
+    let long = text_of_jobs(alloc, 1_000_001)?;
+    let mut readers = Vec::new(alloc);
+    readers.push(BytesIn::new(FIRST, 1, None))?;
+    readers.push(BytesIn::new(long.as_slice(), 65_536, None))?;
+    score(&rt, alloc, readers, 4, b"", Err(ScoreFault::Range));
     Ok(())
 }
 
@@ -119,12 +154,48 @@ fn a_failed_write(rt: HostRuntime) -> Result<(), Fail> {
     let alloc = rt.alloc();
     for (place, _) in ANSWERS.iter().enumerate() {
         let mut writer: BytesOut<2048> = BytesOut::new(1, Some(place as u64 + 1));
-        let readers = two_readers(alloc, FIRST, b"", None)?;
+        let readers = two_readers(alloc, FIRST, b"")?;
         let told = score_text(&rt, alloc, readers, 1, &mut writer);
         assert!(rt; told == Err(ScoreFault::Write), "{place}");
         assert_eq!(rt; writer.bytes(), &ANSWERS[..place]);
     }
     Ok(())
+}
+
+/// Whether the two tables are answered. Where memory is refused it is told so, or a thread is not started, and
+/// nothing is written.
+fn is_scored(rt: &(impl Threads + Wait + Sync + Abort + Print), alloc: Global) -> bool {
+    let Ok(readers) = two_readers(alloc, FIRST, b"") else {
+        return false;
+    };
+    let mut writer: BytesOut<2048> = BytesOut::new(1000, None);
+    let told = score_text(rt, alloc, readers, 2, &mut writer);
+    match told {
+        Ok(report) => {
+            assert!(rt; report.answered == 1 && report.refused == 1);
+            assert_eq!(rt; writer.bytes(), ANSWERS);
+            return true;
+        }
+        Err(ScoreFault::Thread) => {
+            let _ = println!(rt; "a thread was refused");
+        }
+        Err(fault) => {
+            assert!(rt; fault == ScoreFault::Memory, "{fault}");
+            let _ = println!(rt; "memory was refused");
+        }
+    }
+    assert_eq!(rt; writer.bytes(), b"".as_slice());
+    false
+}
+
+/// Where one request for memory is refused, the second call has it.
+#[test]
+fn a_request_refused_at_the_call(rt: HostRuntime) {
+    let alloc = rt.alloc();
+    assert!(rt;
+        is_scored(&rt, alloc) || is_scored(&rt, alloc),
+        "no memory twice"
+    );
 }
 
 /// A table's first line sets the profile of that table alone.
@@ -139,7 +210,7 @@ fn a_profile_of_one_table(rt: HostRuntime) -> Result<(), Fail> {
         answered: 2,
         refused: 0,
     });
-    let readers = two_readers(alloc, first, second, None)?;
+    let readers = two_readers(alloc, first, second)?;
     score(&rt, alloc, readers, 2, answers, report);
     Ok(())
 }

@@ -15,6 +15,9 @@ read_calls s = s.journal.calls
 abbrev pub read_failures : BytesIn → ℕ
 read_failures s = s.journal.failures
 
+abbrev pub read_ends : BytesIn → ℕ
+read_ends s = s.journal.ends
+
 -- the number of the read that fails, where it is still to come
 abbrev pub failing_read : BytesIn → Option ℕ
 failing_read s = call_after s.journal.calls s.countdown.until

@@ -11,6 +11,13 @@ abbrev pub failed_reads : {E : Type 0} → Result ℕ E → ℕ
 failed_reads (Ok count) = 0
 failed_reads (Err error) = 1
 
+-- 1 for a read that found the end: it gave none, though the buffer had room
+abbrev pub found_ends : {E : Type 0} → Result ℕ E → List ℕ → ℕ
+found_ends (Err error) buffer = 0
+found_ends (Ok zero) (byte ∷ buffer) = 1
+found_ends (Ok zero) [] = 0
+found_ends (Ok (suc count)) buffer = 0
+
 -- `write(bytes)` took these of them
 abbrev pub bytes_taken : {E : Type 0} → Result ℕ E → List ℕ → List ℕ
 bytes_taken (Ok count) bytes = take count bytes

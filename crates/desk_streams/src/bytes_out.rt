@@ -46,7 +46,7 @@ impl<const N: usize> BytesOut<N> {
 }
 
 impl<const N: usize> Sink for BytesOut<N> {
-    ghost use Rattle.std.specs.Prelude.{◌+◌, ◌-◌, ◌≢◌, ◌↔◌, ◌⊎◌, ◌++◌, length, min, IfOk, IsErr, OnOk};
+    ghost use Rattle.std.specs.Prelude.{◌+◌, ◌-◌, ◌≢◌, ◌↔◌, ◌⊎◌, ◌++◌, length, min, IfOk, IsErr, None};
     ghost use Rattle.std.specs.Io.{WritesAtMost};
     ghost use Rattle.std.specs.Io.KnownBytes.{WriteAppends};
     ghost use Rattle.desk_streams.specs.Calls.{bytes_taken, failed_writes};
@@ -70,7 +70,8 @@ impl<const N: usize> Sink for BytesOut<N> {
         // It fails at the chosen call, and where it can take none of some bytes; else it takes as much as it may.
         ensures fails { IsErr result ↔ ((failing_write self.old ≡ Some (write_calls self.old + 1)) ⊎ (bytes.now ≢ []) × (room_for self.old (length bytes.now) ≡ 0)) }
         ensures count { IfOk result (λ count. count ≡ room_for self.old (length bytes.now)) }
-        ensures failing { OnOk result (failing_write self.new ≡ failing_write self.old) }
+        ensures failed { failing_write self.old ≡ Some (write_calls self.old + 1) → failing_write self.new ≡ None }
+        ensures failing { failing_write self.old ≢ Some (write_calls self.old + 1) → failing_write self.new ≡ failing_write self.old }
         ensures most { most_written self.new ≡ most_written self.old }
     {
         let room = self.taken.remaining_capacity();

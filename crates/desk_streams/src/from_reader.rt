@@ -20,6 +20,7 @@ impl<R: Read> FromReader<R> {
         ensures given { ⟦<FromReader<R> as Source>⟧.given result ≡ [] }
         ensures calls { ⟦<FromReader<R> as Source>⟧.calls result ≡ 0 }
         ensures failures { ⟦<FromReader<R> as Source>⟧.failures result ≡ 0 }
+        ensures ends { ⟦<FromReader<R> as Source>⟧.ends result ≡ 0 }
     {
         FromReader {
             reader,
@@ -33,14 +34,20 @@ impl<R: Read> Source for FromReader<R> {
 
     ghost left = { λ s. R.remaining s.reader };
 
-    ghost is_ended = { λ s. IsTrue s.journal.is_idle };
+    ghost is_ended = { λ s. IsTrue s.journal.is_ended };
 
     ghost calls = { λ s. s.journal.calls };
 
     ghost failures = { λ s. s.journal.failures };
 
+    ghost ends = { λ s. s.journal.ends };
+
     fn read(&mut self, buffer: &mut [u8]) -> io::Result<usize> {
         match self.reader.read(buffer) {
+            Ok(0) if !buffer.is_empty() => {
+                self.journal.note_end();
+                Ok(0)
+            }
             Ok(count) => {
                 self.journal.note_move(&buffer[..count]);
                 Ok(count)

@@ -19,8 +19,11 @@ pub struct Journal {
     /// The calls that failed.
     pub ghost failures: { ℕ },
 
-    /// The last call moved nothing and did not fail.
-    pub ghost is_idle: { Bool },
+    /// The calls that found the end.
+    pub ghost ends: { ℕ },
+
+    /// The last call found the end.
+    pub ghost is_ended: { Bool },
 }
 
 impl Model for Journal {
@@ -28,7 +31,7 @@ impl Model for Journal {
 }
 
 impl Journal {
-    ghost use Rattle.desk_streams.specs.Journal.{blank, after_move, after_failure};
+    ghost use Rattle.desk_streams.specs.Journal.{blank, after_move, after_end, after_failure};
 
     /// The journal of a stream that was not called yet.
     pub fn new() -> Journal
@@ -42,6 +45,11 @@ impl Journal {
     /// Notes a call that moved these bytes.
     pub fn note_move(&mut self, _bytes: &[u8])
         ensures { self.new ≡ after_move self.old _bytes.now }
+    {}
+
+    /// Notes a call that found the end.
+    pub fn note_end(&mut self)
+        ensures { self.new ≡ after_end self.old }
     {}
 
     /// Notes a call that failed.

@@ -2,11 +2,11 @@
 ghost use Rattle.std.specs.Prelude.{◌≡◌, ℕ, ◌+◌, ◌<◌, ◌++◌, List, Option, length, IfOk};
 ghost use Rattle.std.specs.Io.{ReadsAtMost};
 ghost use Rattle.std.specs.Io.KnownBytes.{ReadConsumes};
-ghost use Rattle.desk_streams.specs.Calls.{bytes_read, failed_reads};
+ghost use Rattle.desk_streams.specs.Calls.{bytes_read, failed_reads, found_ends};
 
 use std::io;
 
-/// A reader. A contract sees what it has given, and how often it was called and failed.
+/// A reader. A contract sees what it has given, and how often it was called, failed and found its end.
 pub trait Source {
     /// The bytes that its calls have given so far.
     ghost given: { Self → List ℕ };
@@ -23,6 +23,9 @@ pub trait Source {
     /// How many of them failed.
     ghost failures: { Self → ℕ };
 
+    /// How many of them found the end.
+    ghost ends: { Self → ℕ };
+
     /// Puts the next bytes at the front of the buffer and tells how many these are: 0 at the end,
     /// or where the buffer has no room.
     fn read(&mut self, buffer: &mut [u8]) -> io::Result<usize>
@@ -31,5 +34,6 @@ pub trait Source {
         ensures left { ReadConsumes (left self.old) (left self.new) result buffer.new }
         ensures ended { IfOk result (λ count. count ≡ 0 → 0 < length buffer.old → is_ended self.new) }
         ensures calls { calls self.new ≡ calls self.old + 1 }
-        ensures failures { failures self.new ≡ failures self.old + failed_reads result };
+        ensures failures { failures self.new ≡ failures self.old + failed_reads result }
+        ensures ends { ends self.new ≡ ends self.old + found_ends result buffer.old };
 }

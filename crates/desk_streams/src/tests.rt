@@ -1,4 +1,8 @@
+ghost use Rattle.std.specs.Prelude.{◌≤◌, IfOk};
+
 use super::*;
+use std::io;
+use std::io::{Read, Write};
 use std::test::Fail;
 
 /// Reads to the end or to the first failure, and tells whether the end came.
@@ -69,5 +73,55 @@ fn wraps_readers_and_writers_of_std(rt: HostRuntime) -> Result<(), Fail> {
     assert_eq!(rt; writer.write(b"")?, 0);
     assert_eq!(rt; writer.write(b" 8z!")?, 3);
     assert_eq!(rt; writer.write(b"!")?, 0);
+    Ok(())
+}
+
+/// Its second call fails, and each other moves as many bytes as there were calls.
+#[derive(Drop)]
+struct FailsOnce {
+    calls: u8,
+}
+
+impl FailsOnce {
+    fn call(&mut self, room: usize) -> io::Result<usize>
+        ensures { IfOk result (λ count. count ≤ room) }
+    {
+        self.calls = self.calls.saturating_add(1);
+        if self.calls == 2 {
+            return Err(io::Error::other("this call fails"));
+        }
+        Ok(room.min(self.calls as usize))
+    }
+}
+
+impl Read for FailsOnce {
+    fn read(&mut self, buffer: &mut [u8]) -> io::Result<usize> {
+        self.call(buffer.len())
+    }
+}
+
+impl Write for FailsOnce {
+    fn write(&mut self, bytes: &[u8]) -> io::Result<usize> {
+        self.call(bytes.len())
+    }
+
+    fn flush(&mut self) -> io::Result<()> {
+        Ok(())
+    }
+}
+
+/// No call is made again behind the caller's back: the failure shows at once, and the next call is the third.
+#[test]
+fn calls_once_and_passes_on_a_failure(rt: HostRuntime) -> Result<(), Fail> {
+    let mut buffer = [0; 8];
+    let mut reader = FromReader::new(FailsOnce { calls: 0 });
+    assert_eq!(rt; reader.read(&mut buffer)?, 1);
+    assert!(rt; reader.read(&mut buffer).is_err());
+    assert_eq!(rt; reader.read(&mut buffer)?, 3);
+
+    let mut writer = ToWriter::new(FailsOnce { calls: 0 });
+    assert_eq!(rt; writer.write(&buffer)?, 1);
+    assert!(rt; writer.write(&buffer).is_err());
+    assert_eq!(rt; writer.write(&buffer)?, 3);
     Ok(())
 }

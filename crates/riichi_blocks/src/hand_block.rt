@@ -16,7 +16,12 @@ pub enum HandBlock {
     Pair(Kind),
 }
 
+/// What fills the places of a list that no block has taken.
 impl Default for HandBlock {
+    ghost use Rattle.riichi_blocks.specs.declared.hand_block.HandBlock.TheVariants.{Pair};
+
+    ghost is_default = { λ block. block ≡ Pair 0 };
+
     fn default() -> Self {
         HandBlock::Pair(Kind::at(0))
     }

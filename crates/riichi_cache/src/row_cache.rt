@@ -75,7 +75,7 @@ impl RowSource for RowCache {
         kept_row(&mut self.rows, key)
     }
 
-    // Rows of discards seldom come again: they are made at once.
+    // They share their tables, and seldom come again: they are made at once, and none is kept.
     fn rows(&mut self, counts: &[u8; 9], caps: &[u8; 9], runs: bool) -> SuitRows {
         suit_rows(counts, caps, runs)
     }

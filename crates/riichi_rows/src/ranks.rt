@@ -1,7 +1,9 @@
 //! A row in one pass over the nine ranks of a suit.
 ghost use Rattle.std.specs.Prelude.{ℕ, List, ◌≡◌, ◌+◌, ◌-◌, ◌^◌, ◌<◌, ◌≤◌, length, slice_index, false, true};
-ghost use Rattle.riichi_rows.specs.Marks.{IsMarkedRow};
+ghost use Rattle.riichi_rows.specs.Marks.{AreMarks, IsMarkedRow};
 ghost use Rattle.riichi_rows.specs.Ranks.{AreRanks, AreRanksWithoutRuns, AreSuitLanes};
+ghost use Rattle.riichi_rows.specs.Row.{entries_of};
+ghost use Rattle.riichi_rows.specs.Suit.{IsSuitRow};
 
 use crate::marked_lanes::MarkedLanes;
 use crate::open::{Open, before_without_runs, often_without_runs};
@@ -151,7 +153,8 @@ fn suit_lanes(counts: &[u8; 9], caps: &[u8; 9], runs: bool) -> SuitLanes
 /// and their last two counts and caps are 0.
 pub fn suit_row(counts: [u8; 9], caps: [u8; 9], runs: bool) -> SuitRow
     requires { (r : ℕ) → r < 9 → slice_index caps r ≤ 4 }
-    ensures { IsMarkedRow runs counts caps result }
+    ensures least { IsSuitRow runs counts caps (entries_of result) }
+    ensures marks { AreMarks runs counts caps result }
 {
     suit_lanes(&counts, &caps, runs).row()
 }

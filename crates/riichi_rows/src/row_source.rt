@@ -1,5 +1,5 @@
 //! Where the rows of suits come from.
-ghost use Rattle.std.specs.Prelude.{ℕ, ◌<◌, ◌≤◌, slice_index};
+ghost use Rattle.std.specs.Prelude.{ℕ, ◌≡◌, ◌<◌, ◌≤◌, slice_index};
 ghost use Rattle.riichi_rows.specs.Marks.{IsMarkedRow};
 ghost use Rattle.riichi_rows.specs.Without.{AreSuitRows};
 
@@ -7,18 +7,21 @@ use crate::ranks::suit_row;
 use crate::removed::{SuitRows, suit_rows};
 use crate::row::SuitRow;
 
-/// What answers for suit rows: it may make each one anew, or keep those that it has made.
+/// What answers for suit rows: it may make each one anew, or keep those that it has made. It stays what its
+/// callers see of it, so that a cache keeps its capacity.
 pub trait RowSource {
     /// The row of a suit, of which a choice holds no kind oftener than its cap. Honours have no
     /// runs, and their last two counts and caps are 0.
     fn row(&mut self, counts: &[u8; 9], caps: &[u8; 9], runs: bool) -> SuitRow
         requires { (r : ℕ) → r < 9 → slice_index caps.now r ≤ 4 }
-        ensures { IsMarkedRow runs counts.now caps.now result };
+        ensures row { IsMarkedRow runs counts.now caps.now result }
+        ensures stays { self.new ≡ self.old };
 
     /// The same, and the rows without one of its tiles.
     fn rows(&mut self, counts: &[u8; 9], caps: &[u8; 9], runs: bool) -> SuitRows
         requires { (r : ℕ) → r < 9 → slice_index caps.now r ≤ 4 }
-        ensures { AreSuitRows runs counts.now caps.now result };
+        ensures rows { AreSuitRows runs counts.now caps.now result }
+        ensures stays { self.new ≡ self.old };
 }
 
 /// Makes each row anew, and keeps none.

@@ -1,5 +1,6 @@
 pub mod AcceptedLemmas
 pub mod BySuit
+pub mod Choices
 pub mod Counted
 pub mod DiscardLemmas
 pub mod Distances

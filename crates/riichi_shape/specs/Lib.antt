@@ -1,5 +1,6 @@
 pub mod Accepted
 pub mod Answer
+pub mod Choosing
 pub mod Discards
 pub mod Distance
 pub mod EveryWinning

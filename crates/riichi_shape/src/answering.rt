@@ -4,6 +4,7 @@ ghost use Rattle.std.specs.List.{sum};
 ghost use Rattle.riichi_tiles.specs.Melds.{tiles};
 ghost use Rattle.riichi_hand.specs.Hand.{is_thirteen};
 ghost use Rattle.riichi_shape.specs.Answer.{shape_of};
+ghost use Rattle.riichi_shape.specs.Choosing.{HasDiscards};
 
 use crate::acceptance::{accepted_by, live_copies};
 use crate::accepts::Accepts;
@@ -26,7 +27,8 @@ fn shape_of_thirteen<R: RowSource>(
 ) -> ShapeAnswer
     requires melded { (k : ℕ) → k < 34 → tiles melds.now k ≤ 4 }
     requires thirteen { is_thirteen hand.now melds.now ≡ true }
-    ensures { result ≡ shape_of (record { tiles = hand.now; melds = melds.now; seen = seen.now }) }
+    ensures shape { result ≡ shape_of (record { tiles = hand.now; melds = melds.now; seen = seen.now }) }
+    ensures stays { source.new ≡ source.old }
 {
     let forms = HandForms::new(source, hand, melds);
     let least = forms.distance(melds);
@@ -48,7 +50,8 @@ fn shape_of_fourteen<R: RowSource>(
     requires few { sum hand.now ≤ 14 }
     requires room { (k : ℕ) → k < 34 → 0 < slice_index hand.now k → slice_index seen.now k < 4 }
     requires fourteen { is_thirteen hand.now melds.now ≡ false }
-    ensures { result ≡ shape_of (record { tiles = hand.now; melds = melds.now; seen = seen.now }) }
+    ensures shape { result ≡ shape_of (record { tiles = hand.now; melds = melds.now; seen = seen.now }) }
+    ensures stays { source.new ≡ source.old }
 {
     let suits = HandSuits::new(source, hand, melds);
     let forms = HandForms::of_rows(suits.rows(), hand, melds);
@@ -60,7 +63,8 @@ fn shape_of_fourteen<R: RowSource>(
 
 /// The shanten of a hand and what it accepts, by the rows of a source.
 pub(crate) fn shape_by<R: RowSource>(source: &mut R, asked: &ShapeRecord) -> ShapeAnswer
-    ensures { result ≡ shape_of asked.now }
+    ensures shape { result ≡ shape_of asked.now }
+    ensures stays { source.new ≡ source.old }
 {
     let hand = asked.tiles();
     let melds = asked.melds();
@@ -73,15 +77,21 @@ pub(crate) fn shape_by<R: RowSource>(source: &mut R, asked: &ShapeRecord) -> Sha
 }
 
 /// The shanten of a hand and what it accepts.
+#[tactic(auto, using(crate::proofs::Choices::has_discards))]
 pub fn shape(asked: &ShapeRecord) -> ShapeAnswer
-    ensures { result ≡ shape_of asked.now }
+    ensures shape { result ≡ shape_of asked.now }
+    ensures discards { HasDiscards asked.now result.accepts }
 {
     shape_by(&mut FreshRows, asked)
 }
 
-/// The same by the rows of a cache, which keeps those that it makes.
+/// The same. The rows of thirteen tiles are those of the cache, which keeps what it makes; those of fourteen, with and
+/// without each tile, are made anew.
+#[tactic(auto, using(crate::proofs::Choices::has_discards))]
 pub fn shape_with(cache: &mut RowCache, asked: &ShapeRecord) -> ShapeAnswer
-    ensures { result ≡ shape_of asked.now }
+    ensures shape { result ≡ shape_of asked.now }
+    ensures discards { HasDiscards asked.now result.accepts }
+    ensures stays { cache.new ≡ cache.old }
 {
     shape_by(cache, asked)
 }

@@ -27,7 +27,8 @@ pub(crate) struct HandForms {
 impl HandForms {
     pub(crate) fn new<R: RowSource>(source: &mut R, hand: &Counts, melds: &Melds) -> HandForms
         requires { (k : ℕ) → k < 34 → tiles melds.now k ≤ 4 }
-        ensures { AreFormsOf hand.now melds.now result }
+        ensures forms { AreFormsOf hand.now melds.now result }
+        ensures stays { source.new ≡ source.old }
     {
         let rows = HandRows::new(source, hand, melds);
         HandForms::of_rows(rows, hand, melds)

@@ -1,5 +1,5 @@
 //! The rows of a hand.
-ghost use Rattle.std.specs.Prelude.{ℕ, ◌<◌, ◌≤◌, List};
+ghost use Rattle.std.specs.Prelude.{ℕ, ◌≡◌, ◌<◌, ◌≤◌, List};
 ghost use Rattle.riichi_tiles.specs.Melds.{tiles};
 ghost use Rattle.riichi_shape.specs.Rows.{AreRowsOf, AreSameBeside, DifferAt, IsRowAt};
 ghost use Rattle.riichi_tiles.specs.declared.meld.Meld.{Meld};
@@ -22,7 +22,8 @@ impl HandRows {
     /// The rows of a hand.
     pub(crate) fn new<R: RowSource>(source: &mut R, hand: &Counts, melds: &Melds) -> HandRows
         requires { (k : ℕ) → k < 34 → tiles melds.now k ≤ 4 }
-        ensures { AreRowsOf hand.now melds.now result }
+        ensures rows { AreRowsOf hand.now melds.now result }
+        ensures stays { source.new ≡ source.old }
     {
         let caps = HandCaps::new(melds);
         HandRows {

@@ -1,5 +1,5 @@
 //! The rows of a hand, with a tile and without it.
-ghost use Rattle.std.specs.Prelude.{ℕ, ◌<◌, ◌≤◌, List, slice_index};
+ghost use Rattle.std.specs.Prelude.{ℕ, ◌≡◌, ◌<◌, ◌≤◌, List, slice_index};
 ghost use Rattle.riichi_tiles.specs.Melds.{tiles};
 ghost use Rattle.riichi_tiles.specs.declared.meld.Meld.{Meld};
 ghost use Rattle.riichi_shape.specs.Accepted.{without_one};
@@ -25,7 +25,8 @@ impl HandSuits {
     /// The rows of a hand, and of the hand without each of its tiles.
     pub(crate) fn new<R: RowSource>(source: &mut R, hand: &Counts, melds: &Melds) -> HandSuits
         requires { (k : ℕ) → k < 34 → tiles melds.now k ≤ 4 }
-        ensures { AreSuitsOf hand.now melds.now result }
+        ensures suits { AreSuitsOf hand.now melds.now result }
+        ensures stays { source.new ≡ source.old }
     {
         let caps = HandCaps::new(melds);
         HandSuits {

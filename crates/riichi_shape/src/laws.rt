@@ -1,5 +1,6 @@
 //! Laws over the definitions alone: which kinds bring a hand nearer, told by the winning multisets
-//! that lack least.
+//! that lack least, and which discards a hand has.
+ghost use Rattle.riichi_shape.specs.Choosing.{DiscardsLaw};
 ghost use Rattle.riichi_shape.specs.Lacked.{AcceptanceLaw, FormsLaw, JoinLaw, OrphansLaw, PairsLaw};
 ghost use Rattle.riichi_shape.specs.Ordered.{OrderLaw};
 ghost use Rattle.riichi_shape.specs.Ready.{ReadyLaw};
@@ -42,4 +43,10 @@ pub fn ready()
 /// as many before those of greater kinds.
 pub fn order()
     ensures { OrderLaw }
+{}
+
+/// A discard is in the list of a hand exactly where the hand holds its kind and without a tile of no
+/// other kind lacks fewer, and it is the discard of that kind.
+pub fn discards()
+    ensures { DiscardsLaw }
 {}

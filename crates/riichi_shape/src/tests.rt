@@ -304,6 +304,7 @@ fn states_the_laws(_rt: HostRuntime) {
     laws::orphans();
     laws::ready();
     laws::order();
+    laws::discards();
     riichi_rows::laws::entries();
 }
 

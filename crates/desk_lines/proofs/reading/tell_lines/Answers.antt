@@ -1,7 +1,8 @@
-use Rattle.std.proofs.Common.{◌≡◌, ◌∙◌, ◌++◌, [], List, ℕ, ap, sym, subst, refl, take, inl, inr, arith}
+use Rattle.std.proofs.Common.{◌≡◌, ◌∙◌, ◌+◌, ◌<◌, ◌++◌, [], List, ℕ, zero, suc, Result, Ok, Err, ap, sym, subst, refl, take, inl, inr, arith}
 use Rattle.std.proofs.KnownBytes.{Consumes-nil, Consumes-kept}
 use Rattle.std.proofs.lemmas.List.{append-nil, length-take}
 use Rattle.std.proofs.lemmas.Result.{MatchResult-weaker, err_from_is_err_and}
+use Rattle.desk_streams.specs.Calls.{found_ends}
 use Rattle.desk_lines.specs.declared.fault.DeskFault.{DeskFault}
 use Rattle.desk_lines.specs.declared.fault.DeskFault.TheVariants.{Read, Write, Memory}
 use Rattle.desk_lines.specs.Lines.{ended_lines, lines}
@@ -11,6 +12,12 @@ use Rattle.desk_lines.specs.Told.{StopsTelling}
 use Rattle.desk_lines.proofs.StreamLemmas.{Gives-more, err_at}
 use Rattle.desk_lines.proofs.DeskLemmas.{Holds-new}
 use Rattle.desk_lines.proofs.reading.tell_lines.Goals as goal
+
+-- a read that gives some bytes found no end
+ends_stay : {E : Type 0} (result : Result ℕ E) (new old count : ℕ) (buffer : List ℕ) → result ≡ Ok count → 0 < count → new ≡ old + found_ends result buffer → new ≡ old
+ends_stay (Err error) new old count buffer is some ends = absurd (let no : ⊥ = cc in no)
+ends_stay (Ok zero) new old count buffer is some ends = let none : 0 ≡ count = cc in absurd (omega (arith, none, some))
+ends_stay (Ok (suc given)) new old count buffer is some ends = omega (arith, ends)
 
 pub loop-turn-init : goal.loop-turn-init
 loop-turn-init g c =
@@ -22,6 +29,7 @@ loop-turn-init g c =
         empty = new.outbox;
         reads = refl;
         calls = omega arith;
+        ends = refl;
         count = let none = ap count_of new.report in omega arith;
       },
     )
@@ -38,6 +46,7 @@ loop-turn-preserved g c =
         empty = c.in_ok-feed-in-Ok.ensures.empty;
         reads = let same = c.in-Ok.ensures.failures in let before = kept.1.reads in omega arith;
         calls = let more = c.in-Ok.ensures.calls in let before = kept.1.calls in omega arith;
+        ends = ends_stay c.read.result _ _ c.in-Ok.count _ c.in-Ok.is (omega arith) c.read.ensures.ends ∙ kept.1.ends;
         count = let more = c.in_ok-feed-in-Ok.ensures.count in let before = kept.1.count in let lengths = length-take c.in-Ok.count c.read.new.buffer in omega arith;
       },
     )
@@ -142,4 +151,4 @@ returns-in-Err-clause-read_failed g c is =
 pub returns-clause-read_failed : goal.returns-clause-read_failed
 returns-clause-read_failed g c is =
     let kept = c.loop-turn.invariant in
-    (inr (let calls = kept.1.calls in let all = c.loop-turn-test.false in omega arith), (kept.0, c.loop-turn.desk.told, kept.1.gives, kept.1.holds.stands, kept.1.empty))
+    (inr (record { calls = let calls = kept.1.calls in let all = c.loop-turn-test.false in let within = c.loop-turn.auto.turn-end in omega arith; no_end = kept.1.ends }), (kept.0, c.loop-turn.desk.told, kept.1.gives, kept.1.holds.stands, kept.1.empty))

@@ -14,5 +14,6 @@ invariant-loop-turn g l =
       empty : l.desk.told.outbox.bytes.items ≡ [];
       reads : source.failures l.reader ≡ source.failures l.fn.reader;
       calls : source.calls l.reader ≡ source.calls l.fn.reader + l.turn;
+      ends : source.ends l.reader ≡ source.ends l.fn.reader;
       count : count_of l.desk.told.report ≤ 65536 * l.turn;
     }

@@ -1,12 +1,11 @@
-use Rattle.std.proofs.Common.{◌≡◌, ◌∙◌, ℕ, List, length, inr, Err, sym, subst, ap, arith}
+use Rattle.std.proofs.Common.{◌≡◌, ◌∙◌, ℕ, List, length, inr, Err, sym, subst, ap}
 use Rattle.std.proofs.lemmas.Result.{err_from_is_err_and}
-use Rattle.std.specs.Prelude.{vec_len}
 use Rattle.desk_core.specs.declared.lane.TheConstants.{LIMIT}
 use Rattle.desk_run.specs.declared.run_fault.RunFault.{RunFault}
 use Rattle.desk_run.specs.declared.run_fault.RunFault.TheVariants as run
 use Rattle.desk_run.specs.Parts.{IsInRange}
 use Rattle.desk_lines.specs.Streams.{WritesAll, StopsWriting}
-use Rattle.desk_score.specs.declared.score_fault.ScoreFault.TheVariants.{Range}
+use Rattle.desk_score.specs.declared.score_fault.ScoreFault.TheVariants.{Range, Thread}
 use Rattle.desk_score.specs.Faults.{run_fault}
 use Rattle.desk_score.proofs.ScoreLemmas.{AllGive-length, score_of-told, as_many, within-jobs, within-texts}
 use Rattle.desk_score.proofs.score.score_text.Goals as goal
@@ -16,6 +15,25 @@ was_range : (fault : RunFault) → run_fault fault ≡ Range → fault ≡ run.R
 was_range run.Range is = cc
 was_range run.Memory is = absurd (let no : ⊥ = cc in no)
 was_range run.Thread is = absurd (let no : ⊥ = cc in no)
+
+-- only a thread that could not be started is told as one
+was_thread : (fault : RunFault) → run_fault fault ≡ Thread → fault ≡ run.Thread
+was_thread run.Thread is = cc
+was_thread run.Range is = absurd (let no : ⊥ = cc in no)
+was_thread run.Memory is = absurd (let no : ⊥ = cc in no)
+
+-- a run that was begun has no table with too many jobs
+pub returns-in_err-answers-clause-no_thread : goal.returns-in_err-answers-clause-no_thread
+returns-in_err-answers-clause-no_thread g c is =
+    let read = c.in_ok-tables.ensures.ok in
+    let p = err_from_is_err_and c.from_residual-in_err-answers.result c.from_residual-in_err-answers.ensures.1 in
+    let thread = was_thread c.in_err-answers.field-0.0 (let given = p.1 in let told = p.2 in cc) in
+    let slice = c.as_slice.ensures.value in (
+      read.0,
+      read.1,
+      within-texts LIMIT c.in_ok-tables.tables.jobs.items read.0 read.2.jobs
+          (λ never. let fault = c.in_err-answers.ensures.range.1 (λ runnable. never (rw slice at runnable.1)) in let no : ⊥ = cc in no),
+    )
 
 pub returns-in_err-answers-clause-range : goal.returns-in_err-answers-clause-range
 returns-in_err-answers-clause-range g c is =
@@ -37,7 +55,9 @@ returns-in_err-write_tables-clause-write_failed g c is =
     let told = score_of-told c.in_ok-tables.tables.asked.items c.in_ok-tables.tables.jobs.items c.in_ok-answers.answers.items read.0 read.2.asked read.2.jobs values in
     let asked = c.as_slice-2.ensures.value in
     let given = c.as_slice-3.ensures.value in
-    (read.0, read.1, subst (λ (text : List ℕ). StopsWriting g.W.Sink c.args.writer.now c.write_tables.new.writer text) told (rw (asked, given) at c.in_err-write_tables.ensures.1))
+    let within = within-texts LIMIT c.in_ok-tables.tables.jobs.items read.0 read.2.jobs
+    (λ never. let fault = c.in_ok-answers.ensures.range.1 (λ runnable. never (rw slice at runnable.1)) in let no : ⊥ = cc in no) in
+    (read.0, read.1, within, subst (λ (text : List ℕ). StopsWriting g.W.Sink c.args.writer.now c.write_tables.new.writer text) told (rw (asked, given) at c.in_err-write_tables.ensures.1))
 
 pub returns-clause-ok : goal.returns-clause-ok
 returns-clause-ok g c =

@@ -15,8 +15,8 @@ shape_of_fourteen-requires-clause-few g c = rw c.tiles-hand.ensures.value (tiles
 pub shape_of_fourteen-requires-clause-room : goal.shape_of_fourteen-requires-clause-room
 shape_of_fourteen-requires-clause-room g c = rw (c.tiles-hand.ensures.value, c.seen-seen.ensures) (seen_few c.args.asked.now c.tiles-hand.ensures.shape)
 
-pub returns-then-total-count-eq13 : goal.returns-then-total-count-eq13
-returns-then-total-count-eq13 g c = c.shape_of_thirteen.ensures ∙ same_shape c.args.asked.now c.tiles-hand.result c.melds-melds.result c.seen-seen.result c.tiles-hand.ensures.value c.melds-melds.ensures c.seen-seen.ensures
+pub returns-then-total-count-eq13-clause-shape : goal.returns-then-total-count-eq13-clause-shape
+returns-then-total-count-eq13-clause-shape g c = c.shape_of_thirteen.ensures.shape ∙ same_shape c.args.asked.now c.tiles-hand.result c.melds-melds.result c.seen-seen.result c.tiles-hand.ensures.value c.melds-melds.ensures c.seen-seen.ensures
 
-pub returns-else-total-count-eq13 : goal.returns-else-total-count-eq13
-returns-else-total-count-eq13 g c = c.shape_of_fourteen.ensures ∙ same_shape c.args.asked.now c.tiles-hand.result c.melds-melds.result c.seen-seen.result c.tiles-hand.ensures.value c.melds-melds.ensures c.seen-seen.ensures
+pub returns-else-total-count-eq13-clause-shape : goal.returns-else-total-count-eq13-clause-shape
+returns-else-total-count-eq13-clause-shape g c = c.shape_of_fourteen.ensures.shape ∙ same_shape c.args.asked.now c.tiles-hand.result c.melds-melds.result c.seen-seen.result c.tiles-hand.ensures.value c.melds-melds.ensures c.seen-seen.ensures

@@ -5,8 +5,8 @@ use Rattle.riichi_shape.proofs.distance.shanten.Goals as goal
 
 pub returns-clause-none_less : goal.returns-clause-none_less
 returns-clause-none_less c =
-    let few = c.distance.ensures.few c.args.hand.now c.new.ensures in
-    let least = c.distance.ensures.least c.args.hand.now c.new.ensures in
+    let few = c.distance.ensures.few c.args.hand.now c.new.ensures.forms in
+    let least = c.distance.ensures.least c.args.hand.now c.new.ensures.forms in
     let same : to_z width.w8 (of_z width.w8 c.shanten_at.result) ≡ c.shanten_at.result = search rules in
     let one_more : to_z width.w8 (of_z width.w8 c.shanten_at.result) +ℤ pos 1 ≡ pos c.distance.result = omega (arith, ints, few, same, c.shanten_at.ensures) in
     record { bound = λ wanted is. rw one_more (let less = least.none_less wanted is in omega (arith, ints, less)) }

@@ -1,4 +1,4 @@
-use Rattle.std.proofs.Common.{◌≡◌, ◌<◌, ◌-◌, length, sym, ap, ◌∙◌, arith}
+use Rattle.std.proofs.Common.{◌≡◌, ◌<◌, ◌-◌, length, sym, ap, ◌∙◌, arith, rules}
 use Rattle.std.specs.Prelude.{slice_index}
 use Rattle.riichi_shape.proofs.RemovalLemmas.{discards_all, discards_from, discards_none, left_few, left_unheld, left_worse, put_few, put_list, still_room}
 use Rattle.riichi_shape.proofs.removal.discards_by.Goals as goal
@@ -24,7 +24,7 @@ loop-number-preserved-then-distances-number c =
     record {
       so_far = put_list hand c.args.melds.now c.args.seen.now c.loop-number.number c.loop-number-test.true c.loop-number.auto.number
           c.distances_without-distances.result c.least_of-least.result c.distances_without-distances.ensures c.least_of-least.ensures c.loop-number.list c.loop-number.invariant.so_far
-          c.insert.new.self c.discard_of.result c.at-kind.result c.at-kind.ensures (c.discard_of.ensures c.args.seen.now c.live_copies-live.ensures) held c.if-distances-number.true c.insert.ensures;
+          c.insert.new.self c.discard_of.result c.at-kind.result c.at-kind.ensures (c.discard_of.ensures c.args.seen.now (search rules)) held c.if-distances-number.true c.insert.ensures;
       few = omega (arith, ap length c.insert.ensures, put_few hand c.args.melds.now c.args.seen.now c.loop-number.number c.loop-number-test.true c.loop-number.auto.number c.loop-number.list c.discard_of.result c.loop-number.invariant.few there);
     }
 

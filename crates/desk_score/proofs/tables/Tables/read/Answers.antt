@@ -1,4 +1,4 @@
-use Rattle.std.proofs.Common.{◌≡◌, ◌∙◌, List, ℕ, [], ◌∷◌, ◌++◌, Err, length, refl, ap, sym, subst, append_assoc, arith}
+use Rattle.std.proofs.Common.{◌≡◌, ◌∙◌, List, [], ◌∷◌, ◌++◌, Err, length, refl, ap, sym, subst, append_assoc, arith}
 use Rattle.std.proofs.lemmas.List.{append-nil}
 use Rattle.std.proofs.lemmas.Result.{err_from_is_err_and}
 use Rattle.std.specs.Vec.Iter.{into_iter_items}
@@ -29,7 +29,7 @@ loop-reader-preserved g c =
     let gave = c.in_ok-collected.ensures.ok in (
       kept.0 ++ gave.0 ∷ [],
       record {
-        given = AllGive-last g.R.Source c.loop-reader.yielded kept.0 c.in-Some.reader c.collect_text.new.reader gave.0 kept.1.given gave.1;
+        given = AllGive-last g.R.Source c.loop-reader.yielded kept.0 c.in-Some.reader c.collect_text.new.reader gave.0 kept.1.given gave.1 c.collect_text.ensures.reads;
         read = c.in_ok-add.ensures.ok kept.0 gave.0 kept.1.read gave.2 gave.3 gave.4;
         parts = kept.1.parts ∙ ap (λ rest. c.loop-reader.yielded ++ rest) c.in-Some.ensures.steps.0 ∙ sym (append_assoc c.loop-reader.yielded (c.in-Some.reader ∷ []) (into_iter_items c.next.new.self));
       },
@@ -48,6 +48,7 @@ returns-in_err-collected-clause-read_failed g c is =
       given = kept.1.given;
       last = c.collect_text.new.reader;
       fails = c.in_err-collected.ensures.read_failed (ap Err fault);
+      within = c.collect_text.ensures.reads;
     }
 
 pub returns-clause-ok : goal.returns-clause-ok
