@@ -29,6 +29,7 @@ kit=$(dirname "$0")
 echo "$(basename "$PWD"): rt $*" >> "$kit/calls"
 case $1 in
   version) echo 'kit-0 logic 0123' ;;
+  doc) echo /nowhere/START-HERE.md ;;
   try)
     cat > "$kit/given"
     for word in "$@"; do case $word in table-*=*) cat "${word#*=}" >> "$kit/given" ;; esac; done
