@@ -10,24 +10,22 @@ use std::{env, fs};
 const PROVED: &str = "riichi_desk.proved";
 
 /// Prints the version, which clap tells, and below it what the program was proved with, where the file that says it is
-/// there. No line is refused.
+/// there. No line is refused. Where there is no memory, nothing is printed.
 pub fn print_version<R: Print + Eprint + Files + AllocGlobal>(
     rt: &R,
     version: &Error,
 ) -> Result<bool, Failure<'static>> {
-    if version.print(rt).is_err() {
+    let text = match proved_with(rt) {
+        Ok(text) => text,
+        Err(error) => match error.kind() {
+            io::ErrorKind::OutOfMemory => return Err(Failure::Fault(ScoreFault::Memory)),
+            _ => String::new(rt.alloc()),
+        },
+    };
+    if version.print(rt).is_err() || print!(rt; "{text}").is_err() {
         return Err(Failure::Fault(ScoreFault::Write));
     }
-    match proved_with(rt) {
-        Ok(text) => match print!(rt; "{text}") {
-            Ok(()) => Ok(false),
-            Err(_) => Err(Failure::Fault(ScoreFault::Write)),
-        },
-        Err(error) => match error.kind() {
-            io::ErrorKind::OutOfMemory => Err(Failure::Fault(ScoreFault::Memory)),
-            _ => Ok(false),
-        },
-    }
+    Ok(false)
 }
 
 fn proved_with<R: Files + AllocGlobal>(rt: &R) -> io::Result<String> {
