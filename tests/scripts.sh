@@ -9,6 +9,11 @@ for crate in crates/*; do
   for part in src specs proofs; do [ -d "$crate/$part" ] && cp -r "$crate/$part" "$tree/$crate"; done
 done
 
+# the kit itself runs the sources of a second copy, beside the rows below
+mkdir "$scripts/real" && cp -r "$tree"/{sources,desk,crates.txt,crates} "$scripts/real"
+{ XDG_CACHE_HOME=$scripts/none "$scripts/real/desk" score <(printf 'waits 1112345678999m\n') "$PWD/examples/rules-two.lines"; echo "status $?"; } > "$scripts/real/answers" 2> /dev/null < /dev/null &
+tried=$!
+
 # stand_in FOLDER SUM: a program in FOLDER that says its words, and the file that says it is built from sources of SUM
 stand_in() {
   mkdir -p "$1"
@@ -199,3 +204,10 @@ program $(sha256sum < "$tree/bin/riichi_desk" | cut -d' ' -f1)" "$(cat "$tree/bi
 told 'the program that was proved' $'program: d\nstatus 0' "$(by_hand "$tree" ./desk d)"
 mkdir "$scripts/other" && cp -r "$tree"/{sources,desk,crates.txt,crates} "$scripts/other"
 told 'another tree takes it' $'program: e\nstatus 0' "$(by_hand "$scripts/other" ./desk e)"
+
+wait "$tried"
+told 'the sources before the proof, by the kit itself' "table 0
+waits 123456789m
+table 1
+$(cat examples/rules-two.answers)
+status 0" "$(cat "$scripts/real/answers")"
