@@ -52,7 +52,10 @@ case $1 in
     echo '== summary'
     [ -z "${wrong-}" ] || { echo "$wrong: failed (1)"; exit 1; }
     ;;
-  lib) echo 'crate riichi_tiles: modules loaded=1 checked=1' ;;
+  lib)
+    printf 'crate riichi_tiles: modules loaded=1 checked=1\ncrate %s: modules loaded=1 checked=1\n' "$(basename "$PWD")"
+    mkdir -p out && echo archive > "out/lib$(basename "$PWD").a"
+    ;;
   run) mkdir -p out && printf '#!/bin/sh\necho "program:${*:+ $*}"\n' > out/riichi_desk && chmod +x out/riichi_desk ;;
 esac
 END
@@ -192,7 +195,7 @@ rm "$kit/wrong"
 sleep 3
 kill -TERM $!
 wait $!
-told 'a proof that is interrupted' "status 130: prove: interrupted at 1 of $count crates; what is proved stays, and the next ./prove goes on from there" \
+told 'a proof that is interrupted' "status 130: prove: interrupted at 2 of $count crates; what is proved stays, and the next ./prove goes on from there" \
   "status $?: $(tail -n 1 "$scripts/said")"
 rm "$kit/slow"
 told 'a whole proof' "prove: $count of $count crates, less than a minute left
@@ -201,6 +204,7 @@ status 0" "$(by_hand "$scripts" ./linked-prove | tail -n 3)"
 told 'what it was proved with' "proved with kit-0, logic 0123
 sources $sum
 program $(sha256sum < "$tree/bin/riichi_desk" | cut -d' ' -f1)" "$(cat "$tree/bin/riichi_desk.proved")"
+told 'the static library that was proved' archive "$(cat "$tree/bin/libriichi_desk_c.a")"
 told 'the program that was proved' $'program: d\nstatus 0' "$(by_hand "$tree" ./desk d)"
 mkdir "$scripts/other" && cp -r "$tree"/{sources,desk,crates.txt,crates} "$scripts/other"
 told 'another tree takes it' $'program: e\nstatus 0' "$(by_hand "$scripts/other" ./desk e)"
