@@ -66,6 +66,10 @@ row 2 '' "invalid value '0' for '--workers <N>'" score --workers 0 file
 row 2 '' "invalid value '17' for '--workers <N>'" score --workers 17 file
 row 2 '' "invalid value 'many' for '--workers <N>'" score --workers many file
 row 0 'riichi_desk 0.1.0' '' --version
+for command in '' waits line replay score; do
+  told "the help of riichi_desk $command says the program's own name" 'Usage: riichi_desk' "$("$program" $command --help | grep -oE '^Usage: [a-z_]+')"
+  told "the help of riichi_desk $command has the exit statuses" 5 "$("$program" $command --help | sed -n '/^Exit status:$/,$p' | grep -cE '^  [0-4]  ')"
+done
 told 'the help names the commands' 4 "$("$program" --help | grep -cE '^  (waits|line|replay|score) ')"
 
 # the command line: no input, a page of lines with its answers, and each example of the rules
@@ -139,6 +143,12 @@ many=()
 for ((i = 0; i < 64; i++)); do many+=("$room/second"); done
 row 0 "$(for ((i = 0; i < 64; i++)); do echo "table $i"; done)" '' score "${many[@]}"
 row 2 '' 'riichi_desk: fault B1' score "${many[@]}" "$room/none"
+row 0 "$(for ((i = 0; i < 63; i++)); do echo "table $i"; done)" '' score "${many[@]:1}"
+# a hand too many in one file; no memory for the hands; no memory for a thread's stack
+yes 'waits 1112345678999m' | head -n 1000001 > "$room/many"
+row 2 '' 'riichi_desk: fault B1' score "$room/many"
+told 'a score without memory' $'riichi_desk: fault F3\nstatus 4' "$(ulimit -v 60000; "$program" score "$room/many" 2>&1; echo "status $?")"
+told 'a score without a thread' $'riichi_desk: fault B4\nstatus 4' "$(ulimit -v 30000; "$program" score --workers 4 "$room/first" 2>&1; echo "status $?")"
 told 'a full disk at the end of a score' $'riichi_desk: fault F2\nstatus 3' "$("$program" score "$room/first" 2>&1 > /dev/full; echo "status $?")"
 # each table of a score is answered as `line` answers its file, whatever the workers
 for workers in 1 4 16; do

@@ -2,7 +2,9 @@
 use crate::failure::{Failure, report};
 use crate::files::open_file;
 use crate::scoring::score_files;
+use crate::version::print_version;
 use crate::words::{Request, commands, request_of};
+use clap::error::ErrorKind;
 use desk_lines::{desk_text, replay_text, waits_answer};
 use desk_score::ScoreFault;
 use desk_streams::{FromReader, ToWriter};
@@ -37,11 +39,17 @@ fn words_of<R: Env + AllocGlobal>(rt: &R) -> Result<Vec<String>, Failure<'static
 }
 
 /// Carries out what the words ask for; the first is the name of the program.
-fn answer_words<'a, R: Input + Print + Files + Threads + Wait + Sync + AllocGlobal>(
+fn answer_words<'a, R: Input + Print + Eprint + Files + Threads + Wait + Sync + AllocGlobal>(
     rt: &R,
     words: &'a [String],
 ) -> Result<bool, Failure<'a>> {
-    let matches = commands(rt.alloc())?.try_get_matches_from(words)?;
+    let matches = match commands(rt.alloc())?.try_get_matches_from(words) {
+        Ok(matches) => matches,
+        Err(error) => match error.kind() {
+            ErrorKind::DisplayVersion => return print_version(rt, &error),
+            _ => return Err(Failure::from(error)),
+        },
+    };
     match request_of(&matches) {
         Some(Request::Waits(hand)) => print_waits(rt, hand),
         Some(Request::Line) => answer_lines(rt),

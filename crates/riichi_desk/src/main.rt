@@ -1,13 +1,15 @@
 //! The program `riichi_desk`: a scoring desk for riichi mahjong.
 //!
 //! `words` reads the command line into a `Request`, `answers` carries it out over the standard streams and `scoring` over
-//! files, and `failure` says what is told on standard error and with which exit status the program ends.
+//! files, `version` tells the version, and `failure` says what is told on standard error and with which exit status the
+//! program ends.
 #![tactic(auto)]
 
 mod answers;
 mod failure;
 mod files;
 mod scoring;
+mod version;
 mod words;
 
 use answers::answer;

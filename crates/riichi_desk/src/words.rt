@@ -14,11 +14,66 @@ pub enum Request<'m, 'a> {
     Score { files: &'m [&'a str], workers: u32 },
 }
 
-/// The commands and their words.
+/// What stands below the help of the program, and of each command: an example, and the exit statuses that it can have.
+const PROGRAM_HELP: &str = "\
+Exit status:
+  0  answered
+  1  answered, and at least one hand was refused
+  2  the words are wrong, or there is too much
+  3  input or output failed
+  4  there was no memory, or no thread";
+
+const WAITS_HELP: &str = "\
+Example:
+  riichi_desk waits 1112345678999m
+
+Exit status:
+  0  answered
+  1  the hand was refused
+  2  the words are wrong
+  3  output failed
+  4  there was no memory";
+
+const LINE_HELP: &str = "\
+Example:
+  riichi_desk line < club-night.lines
+
+Exit status:
+  0  answered
+  1  answered, and at least one line was refused
+  2  the words are wrong
+  3  input or output failed
+  4  there was no memory";
+
+const REPLAY_HELP: &str = "\
+Example:
+  riichi_desk replay evening.lines
+
+Exit status:
+  0  answered
+  1  answered, and at least one line was refused
+  2  the words are wrong
+  3  the file can't be opened, or input or output failed
+  4  there was no memory";
+
+const SCORE_HELP: &str = "\
+Example:
+  riichi_desk score --workers 2 table-one.lines table-two.lines
+
+Exit status:
+  0  answered
+  1  answered, and at least one hand was refused
+  2  the words are wrong, or there are more than 64 files, or more than 1,000,000 hands in one
+  3  a file can't be opened, or input or output failed
+  4  there was no memory, or no thread";
+
+/// The commands and their words. The help says `riichi_desk`, whatever the program's file is named.
 pub fn commands<'a>(alloc: Global) -> Result<Command<'a>, AllocError> {
     Command::new(alloc, "riichi_desk")
+        .bin_name("riichi_desk")?
         .version("0.1.0")
         .about("A scoring desk for riichi mahjong: hands in Tenhou notation in, answers out")
+        .after_help(PROGRAM_HELP)
         .subcommand_required(true)
         .subcommand(waits_command(alloc)?)?
         .subcommand(line_command(alloc))?
@@ -32,13 +87,14 @@ fn waits_command<'a>(alloc: Global) -> Result<Command<'a>, AllocError> {
     );
     Command::new(alloc, "waits")
         .about("Prints the kinds of tile that complete a hand of thirteen concealed tiles")
+        .after_help(WAITS_HELP)
         .arg(hand)
 }
 
 fn line_command<'a>(alloc: Global) -> Command<'a> {
-    Command::new(alloc, "line").about(
-        "Answers hands from standard input, one a line: wins, waits, shapes",
-    )
+    Command::new(alloc, "line")
+        .about("Answers hands from standard input, one a line: wins, waits, shapes")
+        .after_help(LINE_HELP)
 }
 
 fn replay_command<'a>(alloc: Global) -> Result<Command<'a>, AllocError> {
@@ -47,6 +103,7 @@ fn replay_command<'a>(alloc: Global) -> Result<Command<'a>, AllocError> {
         .help("A script: open, submit, arrive, close, take, one a line");
     Command::new(alloc, "replay")
         .about("Answers a script of tables that submit hands and are given their answers in order")
+        .after_help(REPLAY_HELP)
         .arg(file)
 }
 
@@ -62,6 +119,7 @@ fn score_command<'a>(alloc: Global) -> Result<Command<'a>, AllocError> {
     );
     Command::new(alloc, "score")
         .about("Answers hands from files, table by table, with many threads")
+        .after_help(SCORE_HELP)
         .arg(workers)?
         .arg(files)
 }

@@ -1,0 +1,61 @@
+//! The desk for programs in other languages: a static library, whose calls `include/riichi_desk.h` declares for C.
+//!
+//! No call keeps anything or takes memory, so any thread may make any of them at any time. What a call is lent has to be
+//! what C says of it: `line_len` bytes to be read at `line`, `room_len` bytes to be written at `room`, neither pointer null,
+//! and no byte in both.
+#![tactic(auto)]
+
+ghost use Rattle.std.specs.Prelude.{◌≡◌, ◌≤◌, ◌<◌, ◌++◌, length, drop, codes};
+ghost use Rattle.riichi_desk_c.specs.Replies.{reply_to, profile_numbered};
+
+mod placing;
+
+use desk_core::{answer_text, judge};
+use placing::place;
+use riichi_hand::{Rules, fault_text, read_line};
+
+/// Answers one line, without its line feed and a carriage return before that, under the profile of this number, 1 or 2: the bytes that the answer takes, 0
+/// where the line is no record. They are put at the start of the room if all of them fit there. Under any other number the
+/// answer is `refused rules`.
+#[tactic(auto, unfolding(crate::specs::Replies::reply_to, desk_lines::specs::LineAnswer::answer_of))]
+#[unsafe(no_mangle)]
+pub extern "C" fn riichi_answer(rules: u32, line: &[u8], room: &mut [u8]) -> usize
+    ensures needed { result ≡ length (reply_to rules line.now) }
+    ensures fits { length (reply_to rules line.now) ≤ length room.old
+        → room.new ≡ reply_to rules line.now ++ drop (length (reply_to rules line.now)) room.old }
+    ensures untouched { length room.old < length (reply_to rules line.now) → room.new ≡ room.old }
+{
+    let Some(rules) = rules_numbered(rules) else {
+        return place(b"refused rules", room);
+    };
+    match read_line(rules, line) {
+        Ok(None) => place(b"", room),
+        Ok(Some(job)) => place(answer_text(&judge(&job)).as_str().as_bytes(), room),
+        Err(fault) => place(fault_text(&fault).as_str().as_bytes(), room),
+    }
+}
+
+/// The name and version, such as `riichi_desk 0.1.0`: the bytes that it takes. They are put at the start of the room if all
+/// of them fit there.
+#[unsafe(no_mangle)]
+pub extern "C" fn riichi_version(room: &mut [u8]) -> usize
+    ensures needed { result ≡ length (codes "riichi_desk 0.1.0") }
+    ensures fits { length (codes "riichi_desk 0.1.0") ≤ length room.old
+        → room.new ≡ codes "riichi_desk 0.1.0" ++ drop (length (codes "riichi_desk 0.1.0")) room.old }
+    ensures untouched { length room.old < length (codes "riichi_desk 0.1.0") → room.new ≡ room.old }
+{
+    place(b"riichi_desk 0.1.0", room)
+}
+
+fn rules_numbered(number: u32) -> Option<Rules>
+    ensures { result ≡ profile_numbered number }
+{
+    match number {
+        1 => Some(Rules::One),
+        2 => Some(Rules::Two),
+        _ => None,
+    }
+}
+
+#[cfg(test)]
+mod tests;

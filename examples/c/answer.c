@@ -1,0 +1,25 @@
+/* Answers the lines of standard input, each under the first profile:
+ *   cc answer.c -I../../include libriichi_desk_c.a -o answer && ./answer < FILE
+ */
+#define _POSIX_C_SOURCE 200809L
+#include <riichi_desk.h>
+#include <stdio.h>
+#include <stdlib.h>
+#include <sys/types.h>
+
+int main(void) {
+    char *line = NULL;
+    size_t size = 0;
+    ssize_t length;
+    uint8_t room[RIICHI_MOST_ANSWER];
+    while ((length = getline(&line, &size, stdin)) >= 0) {
+        while (length > 0 && (line[length - 1] == '\n' || line[length - 1] == '\r')) length--;
+        size_t needed = riichi_answer(RIICHI_RULES_ONE, (const uint8_t *)line, (size_t)length, room, sizeof room);
+        if (needed > 0) {
+            fwrite(room, 1, needed, stdout);
+            putchar('\n');
+        }
+    }
+    free(line);
+    return ferror(stdin) || fflush(stdout) ? 3 : 0;
+}

@@ -1,0 +1,35 @@
+# Rows of the static library for other languages, read by ./test after tests/program.sh, whose words it uses. Programs in
+# C, Python and Rust answer the same lines as the command `line`, byte by byte.
+
+archive=$PWD/crates/riichi_desk_c/out/libriichi_desk_c.a made=$room/programs
+mkdir -p "$made"
+tests/static-library riichi_desk_c > "$room/said" 2>&1
+told 'the static library' 0 "$?"
+[ -f "$archive" ] || tail -n 20 "$room/said"
+# some 2,000 lines: each example under each seat, round and way to win, and each of these cut off somewhere
+cat examples/*.lines | grep -vE '^(rules|open|submit|arrive|take|close) ' | sort -u > "$made/kinds"
+for seat in E S W N; do
+  for round in E S; do
+    for by in ron tsumo; do sed -E "s/seat=[ESWN]/seat=$seat/; s/round=[ESWN]/round=$round/; s/by=[a-z]+/by=$by/" "$made/kinds"; done
+  done
+done | sort -u | awk '{ print; if (NR % 5 == 0) print substr($0, 1, NR * 7 % 60) }' | head -n 2000 > "$made/lines"
+"$program" line < "$made/lines" > "$made/wanted"
+told 'lines for programs' 2000 "$(wc -l < "$made/lines")"
+cc -O1 -Wall -Wextra -std=c99 -pedantic -Iinclude examples/c/answer.c "$archive" -o "$made/in_c"
+told 'a program in C' "$(sha256sum < "$made/wanted")" "$("$made/in_c" < "$made/lines" | sha256sum)"
+cc -O1 -g -fsanitize=address,undefined -Iinclude examples/c/answer.c "$archive" -o "$made/checked"
+told 'a program in C, with each access tested' "$(sha256sum < "$made/wanted")" "$("$made/checked" < "$made/lines" 2>&1 | sha256sum)"
+cc -pthread -Iinclude tests/threads.c "$archive" -o "$made/threads"
+told 'four threads of a program at once' "$(sha256sum < "$made/wanted")" "$("$made/threads" "$made/lines" | sha256sum)"
+cc -shared -o "$made/libriichi_desk.so" -Wl,--whole-archive "$archive" -Wl,--no-whole-archive
+told 'a program in Python' "$(sha256sum < "$made/wanted")" "$(RIICHI_DESK=$made/libriichi_desk.so python3 examples/python/riichi_desk.py < "$made/lines" | sha256sum)"
+told 'the version by Python' "$("$program" --version)" \
+  "$(RIICHI_DESK=$made/libriichi_desk.so PYTHONPATH=examples/python python3 -B -c 'import riichi_desk; print(riichi_desk.version())')"
+# (a machine that builds the rest may have no Rust)
+if command -v rustc > /dev/null; then
+  rustc -O --edition 2021 -L "$(dirname "$archive")" -l static=riichi_desk_c examples/rust/answer.rs -o "$made/in_rust"
+  told 'a program in Rust' "$(sha256sum < "$made/wanted")" "$("$made/in_rust" < "$made/lines" | sha256sum)"
+else
+  echo 'rustc is not here: the program in Rust is not tried'
+fi
+told 'what the library asks of the C library' 'memcpy memmove memset' "$(nm -u "$archive" | sed -n 's/^ *U //p' | sort -u | xargs)"
