@@ -1,0 +1,2 @@
+pub mod Fu
+pub mod Han
