@@ -52,8 +52,14 @@ total-block win (Pair kind) =
 total-blocks : (win : WinParts) (blocks : List HandBlock) → fu_total (flat_map (block_rows win) blocks) ≡ sum_by (block_fu win) blocks
 total-blocks win [] = refl
 total-blocks win (block ∷ blocks) =
-    omega (arith, ap fu_total (flat_map-cons (block_rows win) block blocks), sum_by-cons (block_fu win) block blocks,
-    total-append (block_rows win block) (flat_map (block_rows win) blocks), total-block win block, total-blocks win blocks)
+    omega (
+      arith,
+      ap fu_total (flat_map-cons (block_rows win) block blocks),
+      sum_by-cons (block_fu win) block blocks,
+      total-append (block_rows win block) (flat_map (block_rows win) blocks),
+      total-block win block,
+      total-blocks win blocks,
+    )
 
 -- no wait is closed and an edge wait
 one-wait : (low winning : ℕ) (closed edge : Bool) → closed ≡ is_closed_wait low winning → edge ≡ is_edge_wait low winning → cond closed 2 0 + cond edge 2 0 ≡ cond (closed || edge) 2 0
@@ -76,9 +82,18 @@ total-plain blocks reading done win =
     let c = earned part.SelfDraw (draw_fu (is_pinfu blocks reading win) win) in
     let d = flat_map (block_rows win) blocks in
     let e = wait_rows win.winning done in
-    omega (arith, total-append (a ++ b ++ c ++ d) e, total-append (a ++ b ++ c) d, total-append (a ++ b) c, total-append a b,
-    total-earned part.Base 20, total-earned part.ConcealedRon (ron_fu win), total-earned part.SelfDraw (draw_fu (is_pinfu blocks reading win) win),
-    total-blocks win blocks, total-wait win.winning done)
+    omega (
+      arith,
+      total-append (a ++ b ++ c ++ d) e,
+      total-append (a ++ b ++ c) d,
+      total-append (a ++ b) c,
+      total-append a b,
+      total-earned part.Base 20,
+      total-earned part.ConcealedRon (ron_fu win),
+      total-earned part.SelfDraw (draw_fu (is_pinfu blocks reading win) win),
+      total-blocks win blocks,
+      total-wait win.winning done,
+    )
 
 total-standard : (blocks : List HandBlock) (reading : Reading) (done : Block) (win : WinParts) → fu_total (standard_rows blocks reading done win) ≡ fu_sum blocks reading done win + open_fu win (fu_sum blocks reading done win)
 total-standard blocks reading done win =

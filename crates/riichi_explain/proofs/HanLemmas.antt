@@ -7,12 +7,12 @@ use Rattle.std.proofs.lemmas.Bool.Decides.{nat_tests}
 use Rattle.riichi_tiles.specs.Melds.{are_concealed}
 use Rattle.riichi_hand.specs.declared.win.WinParts.{WinParts}
 use Rattle.riichi_yaku.specs.Table.{row_han, table, han_at, han_from, han_of}
-use Rattle.riichi_yaku.specs.YakuSets.{has_number}
+use Rattle.riichi_yaku.specs.YakuSets.{has_number, is_yakuman}
 use Rattle.riichi_score.specs.Dora.{red_dora, dora_of}
 use Rattle.riichi_explain.specs.declared.han.HanPart.{HanPart}
 use Rattle.riichi_explain.specs.declared.han.HanPart.TheVariants.{Yaku, Yakuman, Dora, RedFives}
 use Rattle.riichi_explain.specs.declared.han.HanRow.{HanRow}
-use Rattle.riichi_explain.specs.Han.{every_yaku, yaku_row, yakuman_row, counted_row, indicated_dora, dora_rows, han_total}
+use Rattle.riichi_explain.specs.Han.{every_yaku, yaku_row, yakuman_row, counted_row, indicated_dora, dora_rows, han_rows, han_total}
 
 total-append : (xs ys : List HanRow) → han_total (xs ++ ys) ≡ han_total xs + han_total ys
 total-append xs ys = sum_by-append (λ (row : HanRow). row.han) xs ys
@@ -73,5 +73,22 @@ total-yakuman_row false number = refl
 pub total-yakuman : (set : ℕ) (numbers : List ℕ) → han_total (flat_map (yakuman_row set) numbers) ≡ 0
 total-yakuman set [] = refl
 total-yakuman set (number ∷ numbers) =
-    omega (arith, ap han_total (flat_map-cons (yakuman_row set) number numbers), total-append (yakuman_row set number) (flat_map (yakuman_row set) numbers),
-    total-yakuman_row (has_number set number) number, total-yakuman set numbers)
+    omega (
+      arith,
+      ap han_total (flat_map-cons (yakuman_row set) number numbers),
+      total-append (yakuman_row set number) (flat_map (yakuman_row set) numbers),
+      total-yakuman_row (has_number set number) number,
+      total-yakuman set numbers,
+    )
+
+-- ---- both
+
+total-cases : (set : ℕ) (win : WinParts) (yakuman : Bool) →
+    han_total (cond yakuman (flat_map (yakuman_row set) every_yaku) (flat_map (yaku_row set (are_concealed win.melds)) every_yaku ++ dora_rows win))
+    ≡ cond yakuman 0 (han_of set (are_concealed win.melds) + dora_of win)
+total-cases set win true = total-yakuman set every_yaku
+total-cases set win false = rows_give_han set win
+
+pub han_rows-total : (set : ℕ) (win : WinParts) → han_total (han_rows set win) ≡ cond (is_yakuman set) 0 (han_of set (are_concealed win.melds) + dora_of win)
+unfolding han_rows
+han_rows-total set win = total-cases set win (is_yakuman set)

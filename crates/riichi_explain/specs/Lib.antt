@@ -1,2 +1,5 @@
 pub mod Fu
 pub mod Han
+pub mod Base
+pub mod Payers
+pub mod Win

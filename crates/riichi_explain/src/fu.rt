@@ -91,13 +91,7 @@ fn push_standard(
     push_earned(rows, FuPart::OpenRon, open_fu(win, sum));
 }
 
-fn push_plain(
-    rows: &mut FuRows,
-    blocks: &Blocks,
-    reading: &Reading,
-    done: &Block,
-    win: &WinRecord,
-)
+fn push_plain(rows: &mut FuRows, blocks: &Blocks, reading: &Reading, done: &Block, win: &WinRecord)
     requires empty { rows.old.items ≡ [] }
     requires few { length blocks.now ≤ 5 }
     ensures items { rows.new.items ≡ spec.plain_rows blocks.now reading.now done.now win.now }
@@ -159,7 +153,11 @@ fn push_pair(rows: &mut FuRows, kind: Kind, win: &WinRecord)
     ensures items { rows.new.items ≡ rows.old.items ++ spec.pair_rows win.now kind }
     ensures most { length rows.new.items ≤ length rows.old.items + 3 }
 {
-    push_earned(rows, FuPart::DragonPair(kind), two_if(kind.index() >= WHITE));
+    push_earned(
+        rows,
+        FuPart::DragonPair(kind),
+        two_if(kind.index() >= WHITE),
+    );
     push_earned(
         rows,
         FuPart::SeatWindPair(kind),

@@ -23,7 +23,7 @@ mod tests;
 mod text;
 mod worth;
 
-pub use answer::{WinAnswer, best};
+pub use answer::{WinAnswer, best, hand_of};
 pub use base::{base_points, han};
 pub use indicators::dora;
 pub use payers::{Payment, gain};
@@ -31,5 +31,5 @@ pub use points::{block_fu, draw_fu, fu, ron_fu};
 pub use read::{BestReading, best_reading};
 pub use riichi_yaku::{YakuSet, yaku};
 pub use score::Score;
-pub use settlement::payment;
+pub use settlement::{payment, up};
 pub use text::win_text;

@@ -106,6 +106,7 @@ impl LeadingReading {
 /// several have.
 pub fn best_reading(win: &WinRecord) -> BestReading
     ensures value { spec.answer_in result ≡ best_spec.best_of win.now }
+    ensures greatest { best_spec.IsBest win.now (spec.answer_in result) }
     ensures reading { spec.HasItsScore win.now result }
 {
     let dora = dora(win);

@@ -6,6 +6,7 @@ use Rattle.riichi_score.proofs.Uniqueness.{same_best}
 use Rattle.riichi_score.proofs.Wins.{four_melds}
 use Rattle.riichi_score.specs.Best as spec
 use Rattle.riichi_score.specs.Worths.{answer_of, score_if}
+use Rattle.riichi_score.specs.declared.answer.WinAnswer.{WinAnswer}
 use Rattle.riichi_score.proofs.read.best_reading.Goals as goal
 
 pub worth_of-worth-requires-clause-sets : goal.worth_of-worth-requires-clause-sets
@@ -35,4 +36,8 @@ returns c =
     let greatest = best-end w c.into_iter-reading-iterator.result l.yielded l.reading-iterator (answer_of l.leading.best w) all l.invariant.0 c.in-None.ensures.steps.0 in
     let counts = subst IsCounts c.hand_of-hand.ensures.value c.hand_of-hand.ensures.counts in
     let best = same_best w (answer_of l.leading.best w) (spec.best_of w) greatest (best_of-IsBest w counts (four_melds w c.hand_of-hand.ensures.win)) in
-    record { value = c.answer.ensures.value ∙ best; reading = c.answer.ensures.reading l.invariant.2 }
+    record {
+      value = c.answer.ensures.value ∙ best;
+      greatest = subst (λ (x : WinAnswer). spec.IsBest w x) (sym c.answer.ensures.value) greatest;
+      reading = c.answer.ensures.reading l.invariant.2;
+    }
