@@ -2,3 +2,4 @@ pub mod Lists
 pub mod FuLemmas
 pub mod HanLemmas
 pub mod WinLemmas
+pub mod TextLemmas

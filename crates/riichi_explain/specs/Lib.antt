@@ -3,3 +3,5 @@ pub mod Han
 pub mod Base
 pub mod Payers
 pub mod Win
+pub mod Tiles
+pub mod Text

@@ -5,10 +5,17 @@ mod base;
 mod fu;
 mod han;
 mod payers;
+mod points_text;
+mod reading_text;
+mod rows_text;
+mod tiles_text;
 mod win;
+mod win_text;
 
 pub use base::{BaseRule, Limit, base_rule};
 pub use fu::{FuPart, FuRow, FuRows, fu_rows, fu_total};
 pub use han::{HanPart, HanRow, HanRows, han_rows};
 pub use payers::{PayRow, PayRows, Payer, pay_rows};
+pub use reading_text::push_no_yaku;
 pub use win::{WinExplanation, WonHand, explain_win};
+pub use win_text::{push_won_hand, won_hand_text};
