@@ -2,6 +2,7 @@ pub mod Accepted
 pub mod Answer
 pub mod Discards
 pub mod Distance
+pub mod Forms
 pub mod EveryWinning
 pub mod Lacked
 pub mod LackedKinds
