@@ -3,3 +3,4 @@ pub mod FuLemmas
 pub mod HanLemmas
 pub mod WinLemmas
 pub mod TextLemmas
+pub mod FormLemmas

@@ -4,7 +4,7 @@ use Rattle.std.specs.List.{flat_map}
 use Rattle.std.proofs.lemmas.List.{flat_map_more}
 use Rattle.riichi_yaku.specs.Table.{Row, table, word_of}
 
--- two to four pieces written behind a text
+-- two to five pieces written behind a text
 pub pushed-two : (old a b : List ℕ) {s t : List ℕ} → s ≡ old ++ a → t ≡ s ++ b → t ≡ old ++ (a ++ b)
 pushed-two old a b e f = f ∙ ap (λ (x : List ℕ). x ++ b) e ∙ append_assoc old a b
 
@@ -13,6 +13,9 @@ pushed-three old a b c e f g = pushed-two old (a ++ b) c (pushed-two old a b e f
 
 pub pushed-four : (old a b c d : List ℕ) {s t u v : List ℕ} → s ≡ old ++ a → t ≡ s ++ b → u ≡ t ++ c → v ≡ u ++ d → v ≡ old ++ (a ++ b ++ c ++ d)
 pushed-four old a b c d e f g h = pushed-two old (a ++ b ++ c) d (pushed-three old a b c e f g) h
+
+pub pushed-five : (old a b c d e : List ℕ) {s t u v w : List ℕ} → s ≡ old ++ a → t ≡ s ++ b → u ≡ t ++ c → v ≡ u ++ d → w ≡ v ++ e → w ≡ old ++ (a ++ b ++ c ++ d ++ e)
+pushed-five old a b c d e p q r s t = pushed-two old (a ++ b ++ c ++ d) e (pushed-four old a b c d p q r s) t
 
 -- ---- the text of one element more
 

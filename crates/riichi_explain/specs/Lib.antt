@@ -1,3 +1,4 @@
+pub mod Forms
 pub mod Fu
 pub mod Han
 pub mod Base

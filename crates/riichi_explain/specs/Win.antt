@@ -12,6 +12,8 @@ use Rattle.riichi_explain.specs.declared.win.WonHand.{WonHand}
 use Rattle.riichi_explain.specs.declared.win.WinExplanation.{WinExplanation}
 use Rattle.riichi_explain.specs.declared.win.WinExplanation.TheVariants.{Won, NoYaku, NoWin}
 use Rattle.riichi_explain.specs.Base.{base_rule, points_by}
+use Rattle.riichi_shape.specs.declared.forms.FormDistances.{FormDistances}
+use Rattle.riichi_explain.specs.Forms.{AreFormDistances}
 use Rattle.riichi_explain.specs.Fu.{fu_rows, fu_from_rows}
 use Rattle.riichi_explain.specs.Han.{han_rows, han_total}
 use Rattle.riichi_explain.specs.Payers.{pay_rows, pay_total}
@@ -39,13 +41,18 @@ pub record HaveNoYaku (win : WinParts) (readings : List Reading) : Type 0 where
   pub are_all : AreTheReadings (hand_of win) (length win.melds) win.winning readings
   pub none_scores : (reading : Reading) → IsReadingOf win reading → score_of reading win ≡ None
 
+-- a hand without a reading, and how far it is from each form
+pub record IsNoWin (win : WinParts) (forms : FormDistances) : Type 0 where
+  pub none : (reading : Reading) → IsReadingOf win reading → ⊥
+  pub distances : AreFormDistances (hand_of win) win.melds forms
+
 abbrev pub Explains : WinParts → WinExplanation → Type 0
 Explains win (Won hand) = IsWonHand win hand
 Explains win (NoYaku readings) = HaveNoYaku win readings
-Explains win NoWin = (reading : Reading) → IsReadingOf win reading → ⊥
+Explains win (NoWin forms) = IsNoWin win forms
 
 -- the answer that is explained
 abbrev pub answer_of : WinExplanation → WinAnswer
 answer_of (Won hand) = answer.Won hand.score
 answer_of (NoYaku readings) = answer.NoYaku
-answer_of NoWin = answer.NoWin
+answer_of (NoWin forms) = answer.NoWin

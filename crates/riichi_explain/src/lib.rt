@@ -2,6 +2,7 @@
 #![tactic(auto)]
 
 mod base;
+mod forms;
 mod fu;
 mod han;
 mod payers;
@@ -15,6 +16,7 @@ mod win;
 mod win_text;
 
 pub use base::{BaseRule, Limit, base_rule};
+pub use forms::{explain_shape, push_shanten_line};
 pub use fu::{FuPart, FuRow, FuRows, fu_rows, fu_total};
 pub use han::{HanPart, HanRow, HanRows, han_rows};
 pub use payers::{PayRow, PayRows, Payer, pay_rows};

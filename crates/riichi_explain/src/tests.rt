@@ -1,6 +1,7 @@
 use crate::*;
 use arrayvec::ArrayString;
 use riichi_hand::{Job, Rules, WinRecord, read_line};
+use riichi_shape::FormDistances;
 use riichi_split::Readings;
 use std::process::Abort;
 use std::test::Fail;
@@ -8,7 +9,8 @@ use std::test::Fail;
 fn text_of(job: &Job) -> ArrayString<3072> {
     match job {
         Job::Win(win) => win_text(win),
-        _ => ArrayString::new(),
+        Job::Shape(shape) => forms_text(&explain_shape(shape)),
+        Job::Waits(_) => ArrayString::new(),
     }
 }
 
@@ -16,8 +18,14 @@ fn win_text(win: &WinRecord) -> ArrayString<3072> {
     match explain_win(win) {
         WinExplanation::Won(hand) => won_hand_text(&hand),
         WinExplanation::NoYaku(readings) => no_yaku_text(readings, win),
-        WinExplanation::NoWin => ArrayString::new(),
+        WinExplanation::NoWin(forms) => forms_text(&forms),
     }
+}
+
+fn forms_text(forms: &FormDistances) -> ArrayString<3072> {
+    let mut text = ArrayString::new();
+    push_shanten_line(&mut text, forms);
+    text
 }
 
 fn no_yaku_text(readings: Readings, win: &WinRecord) -> ArrayString<3072> {
@@ -338,7 +346,32 @@ fn without_yaku(rt: HostRuntime) -> Result<(), Fail> {
                 "win 456m22s34p open=chi:123m,chi:678p on=2p by=ron seat=S round=E",
                 "  reading 456m 234p 22s chi:123m chi:678p, 2p completes 234p: no yaku\n",
             ),
-            ("win 123456789m22s34p on=9s by=ron seat=S round=E", ""),
+            (
+                "win 123456789m22s34p on=9s by=ron seat=S round=E",
+                "  shanten sets and a pair 0, seven pairs 5, thirteen orphans 10\n",
+            ),
+        ],
+    )
+}
+
+#[test]
+fn shapes(rt: HostRuntime) -> Result<(), Fail> {
+    explains(
+        &rt,
+        Rules::One,
+        &[
+            (
+                "shape 123456789m1134p",
+                "  shanten sets and a pair 0, seven pairs 5, thirteen orphans 9\n",
+            ),
+            (
+                "shape 2223456777m open=pon:111z",
+                "  shanten sets and a pair 0\n",
+            ),
+            (
+                "shape 1133m5577p2288s44z",
+                "  shanten sets and a pair 3, seven pairs -1, thirteen orphans 10\n",
+            ),
         ],
     )
 }

@@ -6,12 +6,14 @@ ghost use Rattle.riichi_score.specs.Scores.{score_of, IsReadingOf};
 ghost use Rattle.riichi_explain.specs.Win as spec;
 
 use crate::base::{BaseRule, base_rule};
+use crate::forms::win_forms;
 use crate::fu::{FuRows, fu_rows};
 use crate::han::{HanRows, han_rows};
 use crate::payers::{PayRows, pay_rows};
 use arrayvec::ArrayVec;
 use riichi_hand::WinRecord;
 use riichi_score::{BestReading, Score, best_reading, hand_of};
+use riichi_shape::FormDistances;
 use riichi_split::{Reading, Readings};
 
 /// A win that scores: a reading that has its score, and the rows that give it.
@@ -34,8 +36,8 @@ pub enum WinExplanation {
     Won(WonHand),
     /// Every reading of the hand: none has a yaku.
     NoYaku(Readings),
-    /// The hand has no reading.
-    NoWin,
+    /// The hand has no reading: so far is it from each form of a winning hand.
+    NoWin(FormDistances),
 }
 
 /// Why `best` answers what it answers.
@@ -49,7 +51,7 @@ pub fn explain_win(win: &WinRecord) -> WinExplanation
             let hand = hand_of(win);
             WinExplanation::NoYaku(Readings::new(&hand, &win.melds(), win.winning()))
         }
-        BestReading::NoWin => WinExplanation::NoWin,
+        BestReading::NoWin => WinExplanation::NoWin(win_forms(win)),
     }
 }
 
