@@ -41,5 +41,5 @@ pub use kinds::{
 pub use pairs::{has_plain_pair, pair_fu};
 pub use reading_shapes::{is_orphans, is_seven_pairs, is_standard};
 pub use tiles::AllTiles;
-pub use waits::{has_two_sided_wait, wait_fu};
+pub use waits::{has_two_sided_wait, is_closed_wait, is_edge_wait, wait_fu};
 pub use winner::{is_dealer, is_ron};

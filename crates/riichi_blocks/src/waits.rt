@@ -5,14 +5,16 @@ ghost use Rattle.riichi_blocks.specs.Waits as spec;
 use riichi_split::Reading;
 use riichi_tiles::{Block, Kind};
 
-fn is_closed_wait(low: usize, winning: usize) -> bool
+/// Whether the winning tile is the middle of the run from this kind on.
+pub fn is_closed_wait(low: usize, winning: usize) -> bool
     requires { low ≤ 33 }
     ensures { result ≡ spec.is_closed_wait low winning }
 {
     winning == low + 1
 }
 
-fn is_edge_wait(low: usize, winning: usize) -> bool
+/// Whether the winning tile is the 3 of this run, a 123, or the 7 of it, a 789.
+pub fn is_edge_wait(low: usize, winning: usize) -> bool
     requires { low ≤ 33 }
     ensures { result ≡ spec.is_edge_wait low winning }
 {

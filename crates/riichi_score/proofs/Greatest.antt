@@ -143,17 +143,20 @@ AreReadingsOf-from w hand melds winning all a b c h =
     (subst (λ (x : List Meld). AreTheReadings hand (length x) w.winning all) b
     (subst (λ (x : ℕ). AreTheReadings hand (length melds) x all) c h)))
 
-four_sets : (w : WinParts) (r : Reading) → IsReadingOf w r → HasFourSets r w
+pub four_sets : (w : WinParts) (r : Reading) → IsReadingOf w r → HasFourSets r w
 four_sets w (Standard sets pair done) h = h.0.four
 four_sets w SevenPairs h = tt
 four_sets w Orphans h = tt
 
 -- the next reading is one of the hand
-pub next_has_four_sets : (w : WinParts) (all before left rest : List Reading) (r : Reading) (a : WinAnswer) → AreReadingsOf w all → IsSoFar w all before left a → left ≡ r ∷ rest → HasFourSets r w
-next_has_four_sets w all before left rest r a readings h e =
+pub next_is_reading : (w : WinParts) (all before left rest : List Reading) (r : Reading) (a : WinAnswer) → AreReadingsOf w all → IsSoFar w all before left a → left ≡ r ∷ rest → IsReadingOf w r
+next_is_reading w all before left rest r a readings h e =
     let there : IsIn r (before ++ r ∷ rest) = in-right r before (r ∷ rest) (inl refl) in
     let all_there = h.parts ∙ ap (λ x. before ++ x) e in
-    four_sets w r (readings.sound r (subst (λ (x : List Reading). IsIn r x) (sym all_there) there))
+    readings.sound r (subst (λ (x : List Reading). IsIn r x) (sym all_there) there)
+
+pub next_has_four_sets : (w : WinParts) (all before left rest : List Reading) (r : Reading) (a : WinAnswer) → AreReadingsOf w all → IsSoFar w all before left a → left ≡ r ∷ rest → HasFourSets r w
+next_has_four_sets w all before left rest r a readings h e = four_sets w r (next_is_reading w all before left rest r a readings h e)
 
 pub best-end : (w : WinParts) (all before left : List Reading) (a : WinAnswer) → AreReadingsOf w all → IsSoFar w all before left a → left ≡ [] → IsBest w a
 best-end w all before left a readings h e =

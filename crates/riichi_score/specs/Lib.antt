@@ -6,3 +6,4 @@ pub mod Scores
 pub mod Best
 pub mod Text
 pub mod Worths
+pub mod Read

@@ -43,7 +43,7 @@ pub fn best(win: &WinRecord) -> WinAnswer
 }
 
 /// The concealed tiles with the winning tile.
-fn hand_of(win: &WinRecord) -> Counts
+pub fn hand_of(win: &WinRecord) -> Counts
     ensures value { result ≡ hand_of win.now }
     ensures counts { IsCounts result }
     ensures win { IsWin win.now }

@@ -3,7 +3,7 @@
 //! A `Score` is that of one reading of the hand: its han (`han`, with the `dora`) and its `fu` give the
 //! `base_points`, these what each player pays (`payment`, a `Payment`), and that the winner's `gain`.
 //! The yaku are those of riichi_yaku, whose `yaku` and `YakuSet` stand here again. `best` is the greatest
-//! score among the readings that have a yaku.
+//! score among the readings that have a yaku, and `best_reading` gives the reading too.
 //!
 //! Of 234m567m345p67s99s won by ron with 5s, `win_text(&best(&win))` says
 //! `won 1 han 30 fu 1000 gain 1000 pinfu`.
@@ -15,6 +15,7 @@ mod indicators;
 mod leading;
 mod payers;
 mod points;
+mod read;
 mod score;
 mod settlement;
 #[cfg(test)]
@@ -22,12 +23,13 @@ mod tests;
 mod text;
 mod worth;
 
-pub use answer::{WinAnswer, best};
+pub use answer::{WinAnswer, best, hand_of};
 pub use base::{base_points, han};
 pub use indicators::dora;
 pub use payers::{Payment, gain};
-pub use points::fu;
+pub use points::{block_fu, draw_fu, fu, ron_fu};
+pub use read::{BestReading, best_reading};
 pub use riichi_yaku::{YakuSet, yaku};
 pub use score::Score;
-pub use settlement::payment;
+pub use settlement::{payment, up};
 pub use text::win_text;

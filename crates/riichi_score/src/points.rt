@@ -71,7 +71,8 @@ fn standard_fu(
     up_to_ten(sum + open_fu(concealed, win, sum))
 }
 
-fn ron_fu(concealed: bool, win: &WinRecord) -> u8
+/// What a concealed hand won by ron earns.
+pub fn ron_fu(concealed: bool, win: &WinRecord) -> u8
     requires { concealed ≡ are_concealed win.now.melds }
     ensures value { result ≡ spec.ron_fu win.now }
     ensures most { result ≤ 10 }
@@ -79,7 +80,8 @@ fn ron_fu(concealed: bool, win: &WinRecord) -> u8
     if concealed && is_ron(win.by()) { 10 } else { 0 }
 }
 
-fn draw_fu(blocks: &Blocks, reading: &Reading, win: &WinRecord) -> u8
+/// What a self-draw earns.
+pub fn draw_fu(blocks: &Blocks, reading: &Reading, win: &WinRecord) -> u8
     ensures value { result ≡ spec.draw_fu (is_pinfu blocks.now reading.now win.now) win.now }
     ensures most { result ≤ 2 }
 {
@@ -102,7 +104,8 @@ fn blocks_fu(blocks: &Blocks, win: &WinRecord) -> u8
     sum
 }
 
-fn block_fu(win: &WinRecord, block: &HandBlock) -> u8
+/// What a block earns.
+pub fn block_fu(win: &WinRecord, block: &HandBlock) -> u8
     ensures value { result ≡ spec.block_fu win.now block.now }
     ensures most { result ≤ 32 }
 {

@@ -48,7 +48,7 @@ fn by_tsumo(base: u32, dealer: bool, counters: u8) -> Payment
 }
 
 /// Rounded up to the next hundred.
-fn up(points: u32) -> u32
+pub fn up(points: u32) -> u32
     requires { points ≤ 48000 }
     ensures value { result ≡ spec.up points }
     ensures most { result ≤ points + 99 }

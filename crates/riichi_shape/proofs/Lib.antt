@@ -5,6 +5,7 @@ pub mod Counted
 pub mod DiscardLemmas
 pub mod Distances
 pub mod Exists
+pub mod FormLemmas
 pub mod FourSuits
 pub mod KeptJoins
 pub mod KeptRows

@@ -3,6 +3,7 @@ pub mod Answer
 pub mod Choosing
 pub mod Discards
 pub mod Distance
+pub mod Forms
 pub mod EveryWinning
 pub mod Lacked
 pub mod LackedKinds

@@ -1,5 +1,5 @@
 -- The table of the yaku.
-use Rattle.std.specs.Prelude.{ℕ, ◌+◌, Bool, List, [], ◌∷◌, ◌++◌, codes, map, slice_index_or, if◌then◌else◌}
+use Rattle.std.specs.Prelude.{ℕ, ◌+◌, Bool, List, [], ◌∷◌, ◌++◌, codes, map, slice_index, slice_index_or, if◌then◌else◌}
 use Rattle.riichi_yaku.specs.YakuSets.{has_number}
 
 -- a row: the printed word, the han of a concealed hand and of an open one (0 where the hand must be concealed, and for a yakuman)
@@ -64,6 +64,10 @@ word_of number = slice_index_or (map (λ row. row.word) table) number []
 -- the han of a row
 abbrev pub row_han : Bool → Row → ℕ
 row_han concealed row = if concealed then row.concealed else row.melded
+
+-- the han of the yaku of this number
+abbrev pub han_at : Bool → ℕ → ℕ
+han_at concealed number = slice_index (map (row_han concealed) table) number
 
 -- the sum of those han whose number is in the set; the first has this number
 abbrev pub han_from : ℕ → List ℕ → ℕ → ℕ

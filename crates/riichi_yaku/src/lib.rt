@@ -23,6 +23,6 @@ mod yakuman;
 
 pub use conditions::{yaku, yaku_among};
 pub use runs::is_pinfu;
-pub use table::{han_of, push_words, word};
+pub use table::{han_at, han_of, push_words, word};
 pub use win_yaku::{WinYaku, yaku_of_win};
 pub use yaku_set::YakuSet;

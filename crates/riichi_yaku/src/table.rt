@@ -1,5 +1,5 @@
 //! The table of the yaku.
-ghost use Rattle.std.specs.Prelude.{◌≡◌, ◌<◌, ◌≤◌, [], map, length, ◌+◌, ◌++◌, slice_index_or, if◌then◌else◌};
+ghost use Rattle.std.specs.Prelude.{◌≡◌, ◌<◌, ◌≤◌, [], map, length, ◌+◌, ◌++◌, slice_index, slice_index_or, if◌then◌else◌};
 ghost use Rattle.riichi_yaku.specs.Table as spec;
 ghost use Rattle.riichi_yaku.specs.YakuSets.{has_number};
 
@@ -71,6 +71,25 @@ pub fn han_of(set: YakuSet, concealed: bool) -> u8
     } else {
         sum_of(&OPEN, set)
     }
+}
+
+/// The han of the yaku of this number. A yakuman has none.
+pub fn han_at(number: u8, concealed: bool) -> u8
+    requires { number < 41 }
+    ensures { result ≡ spec.han_at concealed number }
+{
+    if concealed {
+        han_in(&CONCEALED, number)
+    } else {
+        han_in(&OPEN, number)
+    }
+}
+
+fn han_in(han: &[u8; 41], number: u8) -> u8
+    requires { number < 41 }
+    ensures { result ≡ slice_index han.now number }
+{
+    han[number as usize]
 }
 
 /// The sum of those han whose number is in the set.

@@ -1,0 +1,6 @@
+pub mod Lists
+pub mod FuLemmas
+pub mod HanLemmas
+pub mod WinLemmas
+pub mod TextLemmas
+pub mod FormLemmas

@@ -1,0 +1,64 @@
+-- Texts that grow piece by piece.
+use Rattle.std.proofs.Common.{◌≡◌, ℕ, zero, suc, ◌+◌, ◌<◌, ◌≤◌, Option, Some, None, slice_get, List, [], ◌∷◌, ◌++◌, length, map, max, get_or, take, append_assoc, refl, sym, ap, ◌∙◌, arith}
+use Rattle.std.specs.List.{flat_map}
+use Rattle.std.proofs.lemmas.List.{flat_map_more}
+use Rattle.riichi_yaku.specs.Table.{Row, table, word_of}
+
+-- two to five pieces written behind a text
+pub pushed-two : (old a b : List ℕ) {s t : List ℕ} → s ≡ old ++ a → t ≡ s ++ b → t ≡ old ++ (a ++ b)
+pushed-two old a b e f = f ∙ ap (λ (x : List ℕ). x ++ b) e ∙ append_assoc old a b
+
+pub pushed-three : (old a b c : List ℕ) {s t u : List ℕ} → s ≡ old ++ a → t ≡ s ++ b → u ≡ t ++ c → u ≡ old ++ (a ++ b ++ c)
+pushed-three old a b c e f g = pushed-two old (a ++ b) c (pushed-two old a b e f) g
+
+pub pushed-four : (old a b c d : List ℕ) {s t u v : List ℕ} → s ≡ old ++ a → t ≡ s ++ b → u ≡ t ++ c → v ≡ u ++ d → v ≡ old ++ (a ++ b ++ c ++ d)
+pushed-four old a b c d e f g h = pushed-two old (a ++ b ++ c) d (pushed-three old a b c e f g) h
+
+pub pushed-five : (old a b c d e : List ℕ) {s t u v w : List ℕ} → s ≡ old ++ a → t ≡ s ++ b → u ≡ t ++ c → v ≡ u ++ d → w ≡ v ++ e → w ≡ old ++ (a ++ b ++ c ++ d ++ e)
+pushed-five old a b c d e p q r s t = pushed-two old (a ++ b ++ c ++ d) e (pushed-four old a b c d p q r s) t
+
+-- ---- the text of one element more
+
+taken : {X : Type 0} (xs : List X) (i : ℕ) (x : X) → slice_get xs i ≡ Some x → take (suc i) xs ≡ take i xs ++ x ∷ []
+taken [] i x e = absurd (cc)
+taken (y ∷ xs) zero x e = let same : y ≡ x = cc in ap (λ z. z ∷ []) same
+taken (y ∷ xs) (suc i) x e = ap (λ ys. y ∷ ys) (taken xs i x e)
+
+pub flat_map-get : {X : Type 0} (f : X → List ℕ) (xs : List X) (before : List ℕ) (i : ℕ) (x : X) → slice_get xs i ≡ Some x →
+    (before ++ flat_map f (take i xs)) ++ f x ≡ before ++ flat_map f (take (i + 1) xs)
+flat_map-get f xs before i x e =
+    flat_map_more f before (take i xs) x ∙ sym (ap (λ ys. before ++ flat_map f ys) (ap (λ n. take n xs) (next i) ∙ taken xs i x e))
+  where
+    next : (n : ℕ) → n + 1 ≡ suc n
+    next n = omega arith
+
+pub some_there : {X : Type 0} (xs : List X) (i : ℕ) → i < length xs → slice_get xs i ≡ None → ⊥
+some_there [] i low e = absurd (omega arith)
+some_there (x ∷ xs) zero low e = cc
+some_there (x ∷ xs) (suc i) low e = some_there xs i (omega arith) e
+
+-- ---- the words of the yaku
+
+longest : List Row → ℕ
+longest [] = 0
+longest (row ∷ rows) = max (length row.word) (longest rows)
+
+word-bound : (rows : List Row) (n : ℕ) → length (get_or (map (λ (row : Row). row.word) rows) n []) ≤ longest rows
+unfolding longest
+word-bound [] n = omega arith
+word-bound (row ∷ rows) zero = omega arith
+word-bound (row ∷ rows) (suc n) = omega (arith, word-bound rows n)
+
+-- no word is longer than `all-terminals-and-honours`
+pub word_most : (number : ℕ) → length (word_of number) ≤ 25
+unfolding longest
+word_most number = word-bound table number
+
+no-word : (rows : List Row) (n : ℕ) → length rows ≤ n → get_or (map (λ (row : Row). row.word) rows) n [] ≡ []
+no-word [] n h = refl
+no-word (row ∷ rows) zero h = absurd (omega arith)
+no-word (row ∷ rows) (suc n) h = no-word rows n (omega arith)
+
+-- no other number has a word
+pub word_none : (number : ℕ) → 41 ≤ number → word_of number ≡ []
+word_none number h = no-word table number h

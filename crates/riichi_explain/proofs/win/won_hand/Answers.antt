@@ -1,0 +1,20 @@
+use Rattle.std.proofs.Common.{Bool, refl, ap, ◌∙◌}
+use Rattle.riichi_hand.specs.declared.win.Rules.{Rules}
+use Rattle.riichi_yaku.specs.YakuSets.{is_yakuman}
+use Rattle.riichi_explain.specs.Base.{base_rule}
+use Rattle.riichi_explain.specs.Win.{counted_fu}
+use Rattle.riichi_explain.proofs.WinLemmas.{score-base, won_hand_explains}
+use Rattle.riichi_explain.proofs.win.won_hand.Goals as goal
+
+pub pay_rows-payers-requires : goal.pay_rows-payers-requires
+pay_rows-payers-requires c = score-base c.args.reading c.args.win.now c.args.score c.requires.score
+
+pub returns-clause-explains : goal.returns-clause-explains
+returns-clause-explains c =
+    let w = c.args.win.now in
+    let s = c.args.score in
+    let yakuman = c.is_yakuman-yakuman.ensures in
+    let fu = c.counted_fu-fu.ensures ∙ ap (λ (b : Bool). counted_fu b c.args.reading w) yakuman in
+    let base = c.base_rule-base.ensures ∙ ap (λ (b : Bool). base_rule b c.rules.result s.han s.fu) yakuman
+    ∙ ap (λ (x : Rules). base_rule (is_yakuman s.yaku) x s.han s.fu) c.rules.ensures in
+    won_hand_explains w _ refl c.requires.reading c.requires.score c.han_rows-han.ensures.value fu base c.pay_rows-payers.ensures.value

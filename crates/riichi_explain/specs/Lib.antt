@@ -1,0 +1,8 @@
+pub mod Forms
+pub mod Fu
+pub mod Han
+pub mod Base
+pub mod Payers
+pub mod Win
+pub mod Tiles
+pub mod Text

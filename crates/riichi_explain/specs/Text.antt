@@ -1,0 +1,231 @@
+-- The text of a win's explanation: lines that begin with two spaces.
+use Rattle.std.specs.Prelude.{ℕ, ◌+◌, ◌-◌, ◌*◌, ◌==◌, nat_lt, Bool, List, [], ◌∷◌, ◌++◌, length, slice_index, codes, decimal, if◌then◌else◌}
+use Rattle.std.specs.List.{flat_map}
+use Rattle.riichi_tiles.specs.Printing.{tiles_text}
+use Rattle.riichi_tiles.specs.declared.block.Block.{Block}
+use Rattle.riichi_tiles.specs.declared.block.Block.TheVariants as block
+use Rattle.riichi_tiles.specs.declared.meld.Meld.{Meld}
+use Rattle.riichi_hand.specs.declared.win.WinParts.{WinParts}
+use Rattle.riichi_split.specs.declared.reading.Reading.{Reading}
+use Rattle.riichi_split.specs.declared.reading.Reading.TheVariants as reading
+use Rattle.riichi_shape.specs.Text.{kind_text}
+use Rattle.riichi_yaku.specs.Table.{word_of}
+use Rattle.riichi_yaku.specs.YakuSets.{is_yakuman}
+use Rattle.riichi_score.specs.Scores.{hand_of}
+use Rattle.riichi_score.specs.declared.score.Score.{Score}
+use Rattle.riichi_explain.specs.declared.base.BaseRule.{BaseRule}
+use Rattle.riichi_explain.specs.declared.base.BaseRule.TheVariants.{Product, Capped, Raised, Limited}
+use Rattle.riichi_explain.specs.declared.base.Limit.{Limit}
+use Rattle.riichi_explain.specs.declared.base.Limit.TheVariants as limit
+use Rattle.riichi_explain.specs.declared.fu.FuPart.{FuPart}
+use Rattle.riichi_explain.specs.declared.fu.FuPart.TheVariants as fu
+use Rattle.riichi_explain.specs.declared.fu.FuRow.{FuRow}
+use Rattle.riichi_explain.specs.declared.han.HanPart.{HanPart}
+use Rattle.riichi_explain.specs.declared.han.HanPart.TheVariants as han
+use Rattle.riichi_explain.specs.declared.han.HanRow.{HanRow}
+use Rattle.riichi_explain.specs.declared.payers.Payer.{Payer}
+use Rattle.riichi_explain.specs.declared.payers.Payer.TheVariants as payer
+use Rattle.riichi_explain.specs.declared.payers.PayRow.{PayRow}
+use Rattle.riichi_explain.specs.declared.win.WonHand.{WonHand}
+use Rattle.riichi_explain.specs.Base.{limit_points}
+use Rattle.riichi_explain.specs.Fu.{fu_total}
+use Rattle.riichi_explain.specs.Tiles.{block_text, meld_text, two_text, three_text, four_text}
+
+-- a line ends with a line feed
+abbrev pub line_feed : List ℕ
+line_feed = 10 ∷ []
+
+-- ---- the reading
+
+unfoldable pub set_text : Block → List ℕ
+set_text set = block_text set ++ codes " "
+
+unfoldable pub spaced_meld : Meld → List ℕ
+spaced_meld meld = codes " " ++ meld_text meld
+
+-- the winning tile, and the block that it completes
+unfoldable pub completes_text : ℕ → Block → List ℕ
+completes_text winning done = codes ", " ++ kind_text winning ++ codes " completes " ++ block_text done
+
+-- the concealed tiles with the winning tile
+unfoldable pub hand_text : WinParts → List ℕ
+hand_text win = tiles_text (slice_index (hand_of win))
+
+-- the sets in hand, the pair and the melds; or seven pairs, or thirteen orphans
+unfoldable pub reading_text : Reading → WinParts → List ℕ
+reading_text (reading.Standard sets pair done) win =
+    flat_map set_text sets ++ two_text pair ++ flat_map spaced_meld win.melds ++ completes_text win.winning done
+reading_text reading.SevenPairs win = codes "seven pairs " ++ hand_text win ++ completes_text win.winning (block.Pair win.winning)
+reading_text reading.Orphans win = codes "thirteen orphans " ++ hand_text win ++ codes ", won by " ++ kind_text win.winning
+
+unfoldable pub reading_line : Reading → WinParts → List ℕ
+reading_line read win = codes "  reading " ++ reading_text read win ++ line_feed
+
+-- the line of a reading that has no yaku
+unfoldable pub no_yaku_line : Reading → WinParts → List ℕ
+no_yaku_line read win = codes "  reading " ++ reading_text read win ++ codes ": no yaku" ++ line_feed
+
+-- ---- rows
+
+-- two or more rows are followed by their sum
+unfoldable pub sum_text : ℕ → ℕ → List ℕ
+sum_text rows sum = if nat_lt 1 rows then codes ": " ++ decimal sum else []
+
+unfoldable pub han_part_text : HanPart → List ℕ
+han_part_text (han.Yaku number) = word_of number
+han_part_text (han.Yakuman number) = word_of number
+han_part_text han.Dora = codes "dora"
+han_part_text han.RedFives = codes "red fives"
+
+-- a yakuman has no number of han
+unfoldable pub han_number : HanPart → ℕ → List ℕ
+han_number (han.Yaku number) han = codes " " ++ decimal han
+han_number (han.Yakuman number) han = []
+han_number han.Dora han = codes " " ++ decimal han
+han_number han.RedFives han = codes " " ++ decimal han
+
+unfoldable pub han_text : HanRow → List ℕ
+han_text row = han_part_text row.part ++ han_number row.part row.han
+
+unfoldable pub next_han : HanRow → List ℕ
+next_han row = codes ", " ++ han_text row
+
+unfoldable pub han_list : List HanRow → List ℕ
+han_list [] = []
+han_list (row ∷ rows) = han_text row ++ flat_map next_han rows
+
+unfoldable pub han_label : Bool → List ℕ
+han_label yakuman = if yakuman then codes "  yakuman " else codes "  han     "
+
+unfoldable pub han_sum : Bool → ℕ → ℕ → List ℕ
+han_sum yakuman rows han = if yakuman then [] else sum_text rows han
+
+unfoldable pub han_line : Bool → ℕ → List HanRow → List ℕ
+han_line yakuman han rows =
+    han_label yakuman ++ han_list rows ++ han_sum yakuman (length rows) han ++ line_feed
+
+unfoldable pub shown_text : Bool → List ℕ
+shown_text concealed = if concealed then codes "concealed " else codes "open "
+
+unfoldable pub triplet_words : ℕ → Bool → List ℕ
+triplet_words kind concealed = shown_text concealed ++ codes "triplet " ++ three_text kind
+
+unfoldable pub kong_words : ℕ → Bool → List ℕ
+kong_words kind concealed = shown_text concealed ++ codes "kong " ++ four_text kind
+
+unfoldable pub fu_part_text : FuPart → List ℕ
+fu_part_text fu.Base = codes "base"
+fu_part_text fu.ConcealedRon = codes "concealed ron"
+fu_part_text fu.SelfDraw = codes "self-draw"
+fu_part_text (fu.Triplet kind concealed) = triplet_words kind concealed
+fu_part_text (fu.Kong kind concealed) = kong_words kind concealed
+fu_part_text (fu.DragonPair kind) = codes "pair of dragons " ++ two_text kind
+fu_part_text (fu.SeatWindPair kind) = codes "pair of the seat wind " ++ two_text kind
+fu_part_text (fu.PrevalentWindPair kind) = codes "pair of the prevalent wind " ++ two_text kind
+fu_part_text fu.ClosedWait = codes "closed wait"
+fu_part_text fu.EdgeWait = codes "edge wait"
+fu_part_text fu.PairWait = codes "pair wait"
+fu_part_text fu.OpenRon = codes "open ron of 20"
+fu_part_text fu.SevenPairs = codes "seven pairs"
+
+unfoldable pub fu_text : FuRow → List ℕ
+fu_text row = decimal row.fu ++ codes " " ++ fu_part_text row.part
+
+unfoldable pub next_fu : FuRow → List ℕ
+next_fu row = codes ", " ++ fu_text row
+
+unfoldable pub fu_list : List FuRow → List ℕ
+fu_list [] = []
+fu_list (row ∷ rows) = fu_text row ++ flat_map next_fu rows
+
+unfoldable pub rounded_to : ℕ → List ℕ
+rounded_to fu = codes ", rounded to " ++ decimal fu
+
+unfoldable pub rounded_text : ℕ → ℕ → List ℕ
+rounded_text sum fu = if sum == fu then [] else rounded_to fu
+
+unfoldable pub fu_line : List FuRow → ℕ → List ℕ
+fu_line rows fu =
+    codes "  fu      " ++ fu_list rows ++ sum_text (length rows) (fu_total rows) ++ rounded_text (fu_total rows) fu ++ line_feed
+
+-- ---- base points
+
+unfoldable pub product_text : ℕ → ℕ → ℕ → List ℕ
+product_text han fu product = decimal fu ++ codes " x 2^" ++ decimal (han + 2) ++ codes " = " ++ decimal product
+
+unfoldable pub limit_name : Limit → List ℕ
+limit_name limit.Mangan = codes "mangan"
+limit_name limit.Haneman = codes "haneman"
+limit_name limit.Baiman = codes "baiman"
+limit_name limit.Sanbaiman = codes "sanbaiman"
+limit_name limit.Yakuman = codes "yakuman"
+
+unfoldable pub limit_text : Limit → List ℕ
+limit_text which = limit_name which ++ codes " " ++ decimal (limit_points which)
+
+-- a yakuman has no number of han
+unfoldable pub han_words : ℕ → List ℕ
+han_words han = if han == 0 then [] else decimal han ++ codes " han, "
+
+unfoldable pub base_text : BaseRule → ℕ → ℕ → List ℕ
+base_text (Product product) han fu = product_text han fu product
+base_text (Capped product) han fu = product_text han fu product ++ codes ", mangan 2000"
+base_text (Raised product) han fu = product_text han fu product ++ codes ", raised to mangan 2000"
+base_text (Limited which) han fu = han_words han ++ limit_text which
+
+unfoldable pub base_line : BaseRule → ℕ → ℕ → List ℕ
+base_line rule han fu = codes "  base    " ++ base_text rule han fu ++ line_feed
+
+-- ---- payments
+
+unfoldable pub payer_name : Payer → List ℕ
+payer_name payer.Discarder = codes "discarder "
+payer_name payer.Dealer = codes "dealer "
+payer_name payer.TwoOthers = codes "two others "
+payer_name payer.ThreeOthers = codes "three others "
+
+unfoldable pub each_text : Payer → List ℕ
+each_text payer.Discarder = []
+each_text payer.Dealer = []
+each_text payer.TwoOthers = codes " each"
+each_text payer.ThreeOthers = codes " each"
+
+-- an amount, and what is added to it for counters or sticks
+unfoldable pub sum_of_two : List ℕ → ℕ → ℕ → List ℕ
+sum_of_two what points more = decimal points ++ codes " + " ++ decimal more ++ what ++ decimal (points + more)
+
+unfoldable pub added_text : List ℕ → ℕ → ℕ → List ℕ
+added_text what points more = if more == 0 then decimal points else sum_of_two what points more
+
+unfoldable pub pay_text : PayRow → List ℕ
+pay_text row = payer_name row.payer ++ added_text (codes " for counters = ") row.points row.counters ++ each_text row.payer
+
+unfoldable pub next_pay : PayRow → List ℕ
+next_pay row = codes ", " ++ pay_text row
+
+unfoldable pub pay_list : List PayRow → List ℕ
+pay_list [] = []
+pay_list (row ∷ rows) = pay_text row ++ flat_map next_pay rows
+
+unfoldable pub pay_line : List PayRow → List ℕ
+pay_line rows = codes "  pays    " ++ pay_list rows ++ line_feed
+
+-- what is paid, and the riichi sticks
+unfoldable pub gain_line : ℕ → ℕ → List ℕ
+gain_line gain sticks = codes "  gain    " ++ added_text (codes " for sticks = ") (gain - 1000 * sticks) (1000 * sticks) ++ line_feed
+
+-- ---- the whole
+
+-- a yakuman counts no fu
+unfoldable pub fu_line_if : Bool → List FuRow → ℕ → List ℕ
+fu_line_if yakuman rows fu = if yakuman then [] else fu_line rows fu
+
+unfoldable pub won_hand_text : WonHand → List ℕ
+won_hand_text hand =
+    let yakuman = is_yakuman hand.score.yaku in
+    reading_line hand.reading hand.win
+    ++ han_line yakuman hand.score.han hand.han.items
+    ++ fu_line_if yakuman hand.fu.items hand.score.fu
+    ++ base_line hand.base hand.score.han hand.score.fu
+    ++ pay_line hand.payers.items
+    ++ gain_line hand.score.gain hand.win.sticks

@@ -1,0 +1,90 @@
+//! How base points come from han and fu.
+ghost use Rattle.std.specs.Prelude.{◌≡◌, ◌≤◌};
+ghost use Rattle.riichi_score.specs.Base as base_spec;
+ghost use Rattle.riichi_explain.specs.Base as spec;
+
+use riichi_hand::Rules;
+
+/// A limit hand.
+#[derive(Clone, Copy, Debug, PartialEq, Eq)]
+pub enum Limit {
+    Mangan,
+    Haneman,
+    Baiman,
+    Sanbaiman,
+    Yakuman,
+}
+
+/// What gives the base points.
+#[derive(Clone, Copy, Debug, PartialEq, Eq)]
+pub enum BaseRule {
+    /// At most four han: the fu, doubled for each han and twice more.
+    Product { product: u32 },
+    /// Such a product above a mangan, which counts as one.
+    Capped { product: u32 },
+    /// Such a product that the second profile raises to a mangan.
+    Raised { product: u32 },
+    /// Five han or more, or a yakuman.
+    Limited(Limit),
+}
+
+/// What gives the base points of so many han and fu, or of a yakuman.
+pub fn base_rule(yakuman: bool, rules: Rules, han: u8, fu: u8) -> BaseRule
+    ensures { result ≡ spec.base_rule yakuman rules han fu }
+{
+    if yakuman {
+        BaseRule::Limited(Limit::Yakuman)
+    } else {
+        counted_rule(rules, han, fu)
+    }
+}
+
+fn counted_rule(rules: Rules, han: u8, fu: u8) -> BaseRule
+    ensures value { result ≡ spec.counted_rule rules han fu }
+{
+    match han {
+        0..=4 => low_rule(rules, han, fu),
+        5 => BaseRule::Limited(Limit::Mangan),
+        6..=7 => BaseRule::Limited(Limit::Haneman),
+        8..=10 => BaseRule::Limited(Limit::Baiman),
+        11..=12 => BaseRule::Limited(Limit::Sanbaiman),
+        _ => BaseRule::Limited(Limit::Yakuman),
+    }
+}
+
+fn low_rule(rules: Rules, han: u8, fu: u8) -> BaseRule
+    requires { han ≤ 4 }
+    ensures value { result ≡ spec.low_rule rules han fu }
+{
+    let product = product(han, fu);
+    if is_raised(rules, han, fu) {
+        BaseRule::Raised { product }
+    } else if product > 2000 {
+        BaseRule::Capped { product }
+    } else {
+        BaseRule::Product { product }
+    }
+}
+
+fn product(han: u8, fu: u8) -> u32
+    requires { han ≤ 4 }
+    ensures { result ≡ spec.product_of han fu }
+{
+    let factor = match han {
+        0 => 4,
+        1 => 8,
+        2 => 16,
+        3 => 32,
+        _ => 64,
+    };
+    u32::from(fu) * factor
+}
+
+fn is_raised(rules: Rules, han: u8, fu: u8) -> bool
+    ensures { result ≡ base_spec.is_raised rules han fu }
+{
+    match rules {
+        Rules::One => false,
+        Rules::Two => (han == 4 && fu == 30) || (han == 3 && fu == 60),
+    }
+}

@@ -1,0 +1,80 @@
+//! How far tiles are from each form of a winning hand, and the line of it.
+ghost use Rattle.std.specs.Prelude.{◌≡◌, ◌+◌, ◌≤◌, ◌++◌, length, pos, ◌-ℤ◌};
+ghost use Rattle.arrayvec.specs.ArrayString.{array_string_len};
+ghost use Rattle.riichi_score.specs.Scores.{hand_of};
+ghost use Rattle.riichi_shape.specs.EveryWinning.{shanten_of};
+ghost use Rattle.riichi_shape.specs.Forms.{least_of};
+ghost use Rattle.riichi_explain.specs.Forms as spec;
+
+use crate::tiles_text::push_small;
+use arrayvec::ArrayString;
+use riichi_hand::{ShapeRecord, WinRecord};
+use riichi_score::hand_of;
+use riichi_shape::{FormDistances, form_distances};
+
+/// How far the tiles of a shape are from each form. The least of these, less one, is its shanten.
+pub fn explain_shape(shape: &ShapeRecord) -> FormDistances
+    ensures forms { spec.AreFormDistances shape.now.tiles shape.now.melds result }
+    ensures least { pos (least_of result) -ℤ pos 1 ≡ shanten_of shape.now.tiles shape.now.melds }
+{
+    form_distances(&shape.tiles(), &shape.melds())
+}
+
+/// How far the tiles of a win are from each form, the winning tile among them.
+pub(crate) fn win_forms(win: &WinRecord) -> FormDistances
+    ensures { spec.AreFormDistances (hand_of win.now) win.now.melds result }
+{
+    form_distances(&hand_of(win), &win.melds())
+}
+
+/// Writes the line of the shanten by each form.
+#[tactic(auto, unfolding(crate::specs::Forms::shanten_line))]
+pub fn push_shanten_line(text: &mut ArrayString<3072>, forms: &FormDistances)
+    requires { array_string_len text.old + 80 ≤ 3072 }
+    ensures bytes { text.new.bytes ≡ text.old.bytes ++ spec.shanten_line forms.now }
+    ensures len { array_string_len text.new ≤ array_string_len text.old + 80 }
+{
+    text.push_str("  shanten ");
+    push_form(text, "sets and a pair ", forms.sets_and_pair);
+    push_other(text, ", seven pairs ", forms.seven_pairs);
+    push_other(text, ", thirteen orphans ", forms.thirteen_orphans);
+    text.push_str("\n");
+}
+
+#[tactic(auto, unfolding(crate::specs::Forms::form_text))]
+fn push_form(text: &mut ArrayString<3072>, name: &str, lack: u8)
+    requires few { length name.now ≤ 19 }
+    requires room { array_string_len text.old + 22 ≤ 3072 }
+    ensures bytes { text.new.bytes ≡ text.old.bytes ++ spec.form_text name.now lack }
+    ensures len { array_string_len text.new ≤ array_string_len text.old + length name.now + 3 }
+{
+    text.push_str(name);
+    push_shanten(text, lack);
+}
+
+/// A form that stands beside no meld.
+#[tactic(auto, unfolding(crate::specs::Forms::other_text))]
+fn push_other(text: &mut ArrayString<3072>, name: &str, lack: Option<u8>)
+    requires few { length name.now ≤ 19 }
+    requires room { array_string_len text.old + 22 ≤ 3072 }
+    ensures bytes { text.new.bytes ≡ text.old.bytes ++ spec.other_text name.now lack }
+    ensures len { array_string_len text.new ≤ array_string_len text.old + length name.now + 3 }
+{
+    if let Some(lack) = lack {
+        push_form(text, name, lack);
+    }
+}
+
+/// One less than the tiles that are lacking.
+#[tactic(auto, unfolding(crate::specs::Forms::shanten_text))]
+fn push_shanten(text: &mut ArrayString<3072>, lack: u8)
+    requires { array_string_len text.old + 3 ≤ 3072 }
+    ensures bytes { text.new.bytes ≡ text.old.bytes ++ spec.shanten_text lack }
+    ensures len { array_string_len text.new ≤ array_string_len text.old + 3 }
+{
+    if lack == 0 {
+        text.push_str("-1");
+    } else {
+        push_small(text, lack - 1);
+    }
+}

@@ -1,0 +1,143 @@
+//! The rows of a hand's han.
+ghost use Rattle.std.specs.Prelude.{◌≡◌, ◌+◌, ◌<◌, ◌≤◌, ◌++◌, [], length, true, false};
+ghost use Rattle.std.specs.List.{flat_map};
+ghost use Rattle.riichi_yaku.specs.Table.{han_of};
+ghost use Rattle.riichi_yaku.specs.YakuSets.{is_yakuman};
+ghost use Rattle.riichi_tiles.specs.Melds.{are_concealed};
+ghost use Rattle.riichi_score.specs.Dora as dora_spec;
+ghost use Rattle.riichi_explain.specs.Han as spec;
+
+use arrayvec::ArrayVec;
+use riichi_hand::{Rules, WinRecord};
+use riichi_score::{YakuSet, dora};
+use riichi_yaku::han_at;
+
+/// What earns han. A yaku is told by its number in the table of the yaku.
+#[derive(Clone, Copy, Debug, PartialEq, Eq)]
+pub enum HanPart {
+    Yaku(u8),
+    /// A yaku that is worth the limit, without han.
+    Yakuman(u8),
+    /// What the indicators make dora.
+    Dora,
+    RedFives,
+}
+
+/// A row of the han: what earns it, and how many.
+#[derive(Clone, Copy, Debug, PartialEq, Eq)]
+pub struct HanRow {
+    pub part: HanPart,
+    pub han: u8,
+}
+
+impl Default for HanRow {
+    fn default() -> Self {
+        HanRow {
+            part: HanPart::Dora,
+            han: 0,
+        }
+    }
+}
+
+/// Rows of han: the yaku in the order of their table, then the dora.
+pub type HanRows = ArrayVec<HanRow, 43>;
+
+/// The rows of a win that has this set of yaku. Those of a counted hand add up to its han.
+#[tactic(auto, unfolding(crate::specs::Han::han_rows))]
+pub fn han_rows(set: YakuSet, win: &WinRecord) -> HanRows
+    ensures value { result.items ≡ spec.han_rows set win.now }
+    ensures counted { is_yakuman set ≡ false → spec.han_total result.items
+        ≡ han_of set (are_concealed win.now.melds) + dora_spec.dora_of win.now }
+    ensures yakuman { is_yakuman set ≡ true → spec.han_total result.items ≡ 0 }
+{
+    let mut rows = ArrayVec::new();
+    if set.is_yakuman() {
+        push_yakuman(&mut rows, set);
+    } else {
+        push_yaku(&mut rows, set, win.melds().concealed());
+        push_dora(&mut rows, win);
+    }
+    rows
+}
+
+fn push_yakuman(rows: &mut HanRows, set: YakuSet)
+    requires { rows.old.items ≡ [] }
+    ensures { rows.new.items ≡ flat_map (spec.yakuman_row set) spec.every_yaku }
+{
+    for number in 0..41 {
+        push_yakuman_row(rows, set, number);
+    }
+}
+
+fn push_yakuman_row(rows: &mut HanRows, set: YakuSet, number: u8)
+    requires { length rows.old.items ≤ 42 }
+    ensures items { rows.new.items ≡ rows.old.items ++ spec.yakuman_row set number }
+    ensures most { length rows.new.items ≤ length rows.old.items + 1 }
+{
+    if set.contains(number) {
+        let part = HanPart::Yakuman(number);
+        rows.push(HanRow { part, han: 0 });
+    }
+}
+
+fn push_yaku(rows: &mut HanRows, set: YakuSet, concealed: bool)
+    requires { rows.old.items ≡ [] }
+    ensures items { rows.new.items ≡ flat_map (spec.yaku_row set concealed) spec.every_yaku }
+    ensures most { length rows.new.items ≤ 41 }
+{
+    for number in 0..41 {
+        push_yaku_row(rows, set, concealed, number);
+    }
+}
+
+fn push_yaku_row(rows: &mut HanRows, set: YakuSet, concealed: bool, number: u8)
+    requires number { number < 41 }
+    requires room { length rows.old.items ≤ 42 }
+    ensures items { rows.new.items ≡ rows.old.items ++ spec.yaku_row set concealed number }
+    ensures most { length rows.new.items ≤ length rows.old.items + 1 }
+{
+    if set.contains(number) {
+        let part = HanPart::Yaku(number);
+        let han = han_at(number, concealed);
+        rows.push(HanRow { part, han });
+    }
+}
+
+/// The dora of the indicators, and apart from them the red fives.
+fn push_dora(rows: &mut HanRows, win: &WinRecord)
+    requires { length rows.old.items ≤ 41 }
+    ensures { rows.new.items ≡ rows.old.items ++ spec.dora_rows win.now }
+{
+    let reds = red_dora(win);
+    push_counted(rows, HanPart::Dora, indicated_dora(win, reds));
+    push_counted(rows, HanPart::RedFives, reds);
+}
+
+fn red_dora(win: &WinRecord) -> u8
+    ensures { result ≡ dora_spec.red_dora win.now.rules win.now.reds }
+{
+    match win.rules() {
+        Rules::One => 0,
+        Rules::Two => win.reds().total(),
+    }
+}
+
+/// The dora without so many red fives.
+#[tactic(auto, unfolding(riichi_score::specs::Dora::dora_of))]
+fn indicated_dora(win: &WinRecord, reds: u8) -> u8
+    requires { reds ≡ dora_spec.red_dora win.now.rules win.now.reds }
+    ensures { result ≡ spec.indicated_dora win.now }
+{
+    dora(win) - reds
+}
+
+/// A row, where there is any.
+fn push_counted(rows: &mut HanRows, part: HanPart, han: u8)
+    requires { length rows.old.items < 43 }
+    ensures items { rows.new.items ≡ rows.old.items ++ spec.counted_row part han }
+    ensures most { length rows.new.items ≤ length rows.old.items + 1 }
+{
+    if han > 0 {
+        rows.push(HanRow { part, han });
+    }
+}

@@ -1,0 +1,25 @@
+//! Why an answer is what it is.
+#![tactic(auto)]
+
+mod base;
+mod forms;
+mod fu;
+mod han;
+mod payers;
+mod points_text;
+mod reading_text;
+mod rows_text;
+#[cfg(test)]
+mod tests;
+mod tiles_text;
+mod win;
+mod win_text;
+
+pub use base::{BaseRule, Limit, base_rule};
+pub use forms::{explain_shape, push_shanten_line};
+pub use fu::{FuPart, FuRow, FuRows, fu_rows, fu_total};
+pub use han::{HanPart, HanRow, HanRows, han_rows};
+pub use payers::{PayRow, PayRows, Payer, pay_rows};
+pub use reading_text::push_no_yaku;
+pub use win::{WinExplanation, WonHand, explain_win};
+pub use win_text::{push_won_hand, won_hand_text};

@@ -1,0 +1,236 @@
+//! The lines of the base points, of who pays, and of the gain.
+ghost use Rattle.std.specs.Prelude.{◌≡◌, ◌+◌, ◌≤◌, ◌++◌, length};
+ghost use Rattle.std.specs.List.{flat_map};
+ghost use Rattle.arrayvec.specs.ArrayString.{array_string_len};
+ghost use Rattle.riichi_explain.specs.Base.{limit_points};
+ghost use Rattle.riichi_explain.specs.Text as spec;
+
+use crate::base::{BaseRule, Limit};
+use crate::payers::{PayRow, Payer};
+use crate::tiles_text::{push_number, push_small, push_sum};
+use arrayvec::ArrayString;
+
+/// Writes the line of the base points.
+#[tactic(auto, unfolding(crate::specs::Text::base_line))]
+pub(crate) fn push_base_line(text: &mut ArrayString<3072>, rule: &BaseRule, han: u8, fu: u8)
+    requires { array_string_len text.old + 70 ≤ 3072 }
+    ensures bytes { text.new.bytes ≡ text.old.bytes ++ spec.base_line rule.now han fu }
+    ensures len { array_string_len text.new ≤ array_string_len text.old + 70 }
+{
+    text.push_str("  base    ");
+    push_base(text, rule, han, fu);
+    text.push_str("\n");
+}
+
+#[tactic(auto, unfolding(crate::specs::Text::base_text))]
+fn push_base(text: &mut ArrayString<3072>, rule: &BaseRule, han: u8, fu: u8)
+    requires { array_string_len text.old + 58 ≤ 3072 }
+    ensures bytes { text.new.bytes ≡ text.old.bytes ++ spec.base_text rule.now han fu }
+    ensures len { array_string_len text.new ≤ array_string_len text.old + 58 }
+{
+    match rule {
+        BaseRule::Product { product } => push_product(text, han, fu, *product),
+        BaseRule::Capped { product } => {
+            push_product(text, han, fu, *product);
+            text.push_str(", mangan 2000");
+        }
+        BaseRule::Raised { product } => {
+            push_product(text, han, fu, *product);
+            text.push_str(", raised to mangan 2000");
+        }
+        BaseRule::Limited(limit) => {
+            push_han_words(text, han);
+            push_limit(text, *limit);
+        }
+    }
+}
+
+#[tactic(auto, unfolding(crate::specs::Text::product_text))]
+fn push_product(text: &mut ArrayString<3072>, han: u8, fu: u8, product: u32)
+    requires { array_string_len text.old + 35 ≤ 3072 }
+    ensures bytes { text.new.bytes ≡ text.old.bytes ++ spec.product_text han fu product }
+    ensures len { array_string_len text.new ≤ array_string_len text.old + 35 }
+{
+    push_small(text, fu);
+    text.push_str(" x 2^");
+    push_number(text, u32::from(han) + 2);
+    text.push_str(" = ");
+    push_number(text, product);
+}
+
+/// A yakuman has no number of han.
+#[tactic(auto, unfolding(crate::specs::Text::han_words))]
+fn push_han_words(text: &mut ArrayString<3072>, han: u8)
+    requires { array_string_len text.old + 9 ≤ 3072 }
+    ensures bytes { text.new.bytes ≡ text.old.bytes ++ spec.han_words han }
+    ensures len { array_string_len text.new ≤ array_string_len text.old + 9 }
+{
+    if han > 0 {
+        push_small(text, han);
+        text.push_str(" han, ");
+    }
+}
+
+#[tactic(auto, unfolding(crate::specs::Text::limit_text))]
+fn push_limit(text: &mut ArrayString<3072>, limit: Limit)
+    requires { array_string_len text.old + 20 ≤ 3072 }
+    ensures bytes { text.new.bytes ≡ text.old.bytes ++ spec.limit_text limit }
+    ensures len { array_string_len text.new ≤ array_string_len text.old + 20 }
+{
+    push_limit_name(text, limit);
+    text.push_str(" ");
+    push_number(text, limit_points(limit));
+}
+
+#[tactic(auto, unfolding(crate::specs::Text::limit_name))]
+fn push_limit_name(text: &mut ArrayString<3072>, limit: Limit)
+    requires { array_string_len text.old + 9 ≤ 3072 }
+    ensures bytes { text.new.bytes ≡ text.old.bytes ++ spec.limit_name limit }
+    ensures len { array_string_len text.new ≤ array_string_len text.old + 9 }
+{
+    match limit {
+        Limit::Mangan => text.push_str("mangan"),
+        Limit::Haneman => text.push_str("haneman"),
+        Limit::Baiman => text.push_str("baiman"),
+        Limit::Sanbaiman => text.push_str("sanbaiman"),
+        Limit::Yakuman => text.push_str("yakuman"),
+    }
+}
+
+fn limit_points(limit: Limit) -> u32
+    ensures { result ≡ limit_points limit }
+{
+    match limit {
+        Limit::Mangan => 2000,
+        Limit::Haneman => 3000,
+        Limit::Baiman => 4000,
+        Limit::Sanbaiman => 6000,
+        Limit::Yakuman => 8000,
+    }
+}
+
+/// Writes the line of who pays what.
+#[tactic(auto, unfolding(crate::specs::Text::pay_line))]
+pub(crate) fn push_pay_line(text: &mut ArrayString<3072>, rows: &[PayRow])
+    requires few { length rows.now ≤ 2 }
+    requires room { array_string_len text.old + 210 ≤ 3072 }
+    ensures bytes { text.new.bytes ≡ text.old.bytes ++ spec.pay_line rows.now }
+    ensures len { array_string_len text.new ≤ array_string_len text.old + 210 }
+{
+    text.push_str("  pays    ");
+    push_pay_list(text, rows);
+    text.push_str("\n");
+}
+
+#[tactic(auto, unfolding(crate::specs::Text::pay_list))]
+fn push_pay_list(text: &mut ArrayString<3072>, rows: &[PayRow])
+    requires few { length rows.now ≤ 2 }
+    requires room { array_string_len text.old + 190 ≤ 3072 }
+    ensures bytes { text.new.bytes ≡ text.old.bytes ++ spec.pay_list rows.now }
+    ensures len { array_string_len text.new ≤ array_string_len text.old + 190 }
+{
+    if let [first, rest @ ..] = rows {
+        push_pay(text, first);
+        push_more_pay(text, rest);
+    }
+}
+
+fn push_more_pay(text: &mut ArrayString<3072>, rows: &[PayRow])
+    requires few { length rows.now ≤ 1 }
+    requires room { array_string_len text.old + 95 ≤ 3072 }
+    ensures bytes { text.new.bytes ≡ text.old.bytes ++ flat_map spec.next_pay rows.now }
+    ensures len { array_string_len text.new ≤ array_string_len text.old + 95 }
+{
+    for row in rows {
+        push_next_pay(text, row);
+    }
+}
+
+#[tactic(auto, unfolding(crate::specs::Text::next_pay))]
+fn push_next_pay(text: &mut ArrayString<3072>, row: &PayRow)
+    requires { array_string_len text.old + 95 ≤ 3072 }
+    ensures bytes { text.new.bytes ≡ text.old.bytes ++ spec.next_pay row.now }
+    ensures len { array_string_len text.new ≤ array_string_len text.old + 95 }
+{
+    text.push_str(", ");
+    push_pay(text, row);
+}
+
+#[tactic(auto, unfolding(crate::specs::Text::pay_text))]
+fn push_pay(text: &mut ArrayString<3072>, row: &PayRow)
+    requires { array_string_len text.old + 91 ≤ 3072 }
+    ensures bytes { text.new.bytes ≡ text.old.bytes ++ spec.pay_text row.now }
+    ensures len { array_string_len text.new ≤ array_string_len text.old + 91 }
+{
+    push_payer(text, row.payer);
+    push_added(text, " for counters = ", row.points, row.counters);
+    push_each(text, row.payer);
+}
+
+#[tactic(auto, unfolding(crate::specs::Text::payer_name))]
+fn push_payer(text: &mut ArrayString<3072>, payer: Payer)
+    requires { array_string_len text.old + 13 ≤ 3072 }
+    ensures bytes { text.new.bytes ≡ text.old.bytes ++ spec.payer_name payer }
+    ensures len { array_string_len text.new ≤ array_string_len text.old + 13 }
+{
+    match payer {
+        Payer::Discarder => text.push_str("discarder "),
+        Payer::Dealer => text.push_str("dealer "),
+        Payer::TwoOthers => text.push_str("two others "),
+        Payer::ThreeOthers => text.push_str("three others "),
+    }
+}
+
+#[tactic(auto, unfolding(crate::specs::Text::each_text))]
+fn push_each(text: &mut ArrayString<3072>, payer: Payer)
+    requires { array_string_len text.old + 5 ≤ 3072 }
+    ensures bytes { text.new.bytes ≡ text.old.bytes ++ spec.each_text payer }
+    ensures len { array_string_len text.new ≤ array_string_len text.old + 5 }
+{
+    match payer {
+        Payer::Discarder | Payer::Dealer => {}
+        Payer::TwoOthers | Payer::ThreeOthers => text.push_str(" each"),
+    }
+}
+
+/// An amount, and what is added to it.
+#[tactic(auto, unfolding(crate::specs::Text::added_text))]
+fn push_added(text: &mut ArrayString<3072>, what: &str, points: u32, more: u32)
+    requires few { length what.now ≤ 16 }
+    requires room { array_string_len text.old + 60 ≤ 3072 }
+    ensures bytes { text.new.bytes ≡ text.old.bytes ++ spec.added_text what.now points more }
+    ensures len { array_string_len text.new ≤ array_string_len text.old + 60 }
+{
+    if more == 0 {
+        push_number(text, points);
+    } else {
+        push_sum_of_two(text, what, points, more);
+    }
+}
+
+#[tactic(auto, unfolding(crate::specs::Text::sum_of_two))]
+fn push_sum_of_two(text: &mut ArrayString<3072>, what: &str, points: u32, more: u32)
+    requires few { length what.now ≤ 16 }
+    requires room { array_string_len text.old + 60 ≤ 3072 }
+    ensures bytes { text.new.bytes ≡ text.old.bytes ++ spec.sum_of_two what.now points more }
+    ensures len { array_string_len text.new ≤ array_string_len text.old + 60 }
+{
+    push_number(text, points);
+    text.push_str(" + ");
+    push_number(text, more);
+    text.push_str(what);
+    push_sum(text, points, more);
+}
+
+/// Writes the line of the gain: what is paid, and the riichi sticks.
+#[tactic(auto, unfolding(crate::specs::Text::gain_line))]
+pub(crate) fn push_gain_line(text: &mut ArrayString<3072>, gain: u32, sticks: u8)
+    requires { array_string_len text.old + 75 ≤ 3072 }
+    ensures bytes { text.new.bytes ≡ text.old.bytes ++ spec.gain_line gain sticks }
+    ensures len { array_string_len text.new ≤ array_string_len text.old + 75 }
+{
+    let more = 1000 * u32::from(sticks);
+    text.push_str("  gain    ");
+    push_added(text, " for sticks = ", gain.saturating_sub(more), more);
+    text.push_str("\n");
+}

@@ -1,0 +1,129 @@
+//! The line of a reading.
+ghost use Rattle.std.specs.Prelude.{◌≡◌, ◌+◌, ◌≤◌, ◌++◌};
+ghost use Rattle.std.specs.List.{flat_map};
+ghost use Rattle.arrayvec.specs.ArrayString.{array_string_len};
+ghost use Rattle.riichi_explain.specs.Text as spec;
+
+use crate::tiles_text::{push_block, push_kind, push_meld, push_two};
+use arrayvec::ArrayString;
+use riichi_hand::WinRecord;
+use riichi_score::hand_of;
+use riichi_split::{Reading, Sets};
+use riichi_tiles::{Block, Kind, Meld, Melds, write_counts};
+
+/// Writes the line of a reading that has no yaku.
+#[tactic(auto, unfolding(crate::specs::Text::no_yaku_line))]
+pub fn push_no_yaku(text: &mut ArrayString<3072>, reading: &Reading, win: &WinRecord)
+    requires { array_string_len text.old + 220 ≤ 3072 }
+    ensures bytes { text.new.bytes ≡ text.old.bytes ++ spec.no_yaku_line reading.now win.now }
+    ensures len { array_string_len text.new ≤ array_string_len text.old + 220 }
+{
+    text.push_str("  reading ");
+    push_reading(text, reading, win);
+    text.push_str(": no yaku");
+    text.push_str("\n");
+}
+
+/// Writes the line of the reading that scores.
+#[tactic(auto, unfolding(crate::specs::Text::reading_line))]
+pub(crate) fn push_reading_line(text: &mut ArrayString<3072>, reading: &Reading, win: &WinRecord)
+    requires { array_string_len text.old + 220 ≤ 3072 }
+    ensures bytes { text.new.bytes ≡ text.old.bytes ++ spec.reading_line reading.now win.now }
+    ensures len { array_string_len text.new ≤ array_string_len text.old + 220 }
+{
+    text.push_str("  reading ");
+    push_reading(text, reading, win);
+    text.push_str("\n");
+}
+
+#[tactic(auto, unfolding(crate::specs::Text::reading_text))]
+fn push_reading(text: &mut ArrayString<3072>, reading: &Reading, win: &WinRecord)
+    requires { array_string_len text.old + 190 ≤ 3072 }
+    ensures bytes { text.new.bytes ≡ text.old.bytes ++ spec.reading_text reading.now win.now }
+    ensures len { array_string_len text.new ≤ array_string_len text.old + 190 }
+{
+    match reading {
+        Reading::Standard { sets, pair, done } => {
+            push_sets(text, sets);
+            push_two(text, *pair);
+            push_melds(text, &win.melds());
+            push_completes(text, win.winning(), done);
+        }
+        Reading::SevenPairs => {
+            text.push_str("seven pairs ");
+            push_hand(text, win);
+            push_completes(text, win.winning(), &Block::Pair(win.winning()));
+        }
+        Reading::Orphans => {
+            text.push_str("thirteen orphans ");
+            push_hand(text, win);
+            text.push_str(", won by ");
+            push_kind(text, win.winning());
+        }
+    }
+}
+
+fn push_sets(text: &mut ArrayString<3072>, sets: &Sets)
+    requires { array_string_len text.old + 20 ≤ 3072 }
+    ensures bytes { text.new.bytes ≡ text.old.bytes ++ flat_map spec.set_text sets.now }
+    ensures len { array_string_len text.new ≤ array_string_len text.old + 20 }
+{
+    for set in sets.as_slice() {
+        push_set(text, set);
+    }
+}
+
+#[tactic(auto, unfolding(crate::specs::Text::set_text))]
+fn push_set(text: &mut ArrayString<3072>, set: &Block)
+    requires { array_string_len text.old + 5 ≤ 3072 }
+    ensures bytes { text.new.bytes ≡ text.old.bytes ++ spec.set_text set.now }
+    ensures len { array_string_len text.new ≤ array_string_len text.old + 5 }
+{
+    push_block(text, set);
+    text.push_str(" ");
+}
+
+fn push_melds(text: &mut ArrayString<3072>, melds: &Melds)
+    requires { array_string_len text.old + 48 ≤ 3072 }
+    ensures bytes { text.new.bytes ≡ text.old.bytes ++ flat_map spec.spaced_meld melds.now }
+    ensures len { array_string_len text.new ≤ array_string_len text.old + 48 }
+{
+    for place in 0..melds.count() {
+        if let Some(meld) = melds.get(place) {
+            push_spaced(text, &meld);
+        }
+    }
+}
+
+#[tactic(auto, unfolding(crate::specs::Text::spaced_meld))]
+fn push_spaced(text: &mut ArrayString<3072>, meld: &Meld)
+    requires { array_string_len text.old + 12 ≤ 3072 }
+    ensures bytes { text.new.bytes ≡ text.old.bytes ++ spec.spaced_meld meld.now }
+    ensures len { array_string_len text.new ≤ array_string_len text.old + 12 }
+{
+    text.push_str(" ");
+    push_meld(text, meld);
+}
+
+/// The winning tile, and the block that it completes.
+#[tactic(auto, unfolding(crate::specs::Text::completes_text))]
+fn push_completes(text: &mut ArrayString<3072>, winning: Kind, done: &Block)
+    requires { array_string_len text.old + 19 ≤ 3072 }
+    ensures bytes { text.new.bytes ≡ text.old.bytes ++ spec.completes_text winning done.now }
+    ensures len { array_string_len text.new ≤ array_string_len text.old + 19 }
+{
+    text.push_str(", ");
+    push_kind(text, winning);
+    text.push_str(" completes ");
+    push_block(text, done);
+}
+
+/// The concealed tiles with the winning tile.
+#[tactic(auto, unfolding(crate::specs::Text::hand_text))]
+fn push_hand(text: &mut ArrayString<3072>, win: &WinRecord)
+    requires { array_string_len text.old + 140 ≤ 3072 }
+    ensures bytes { text.new.bytes ≡ text.old.bytes ++ spec.hand_text win.now }
+    ensures len { array_string_len text.new ≤ array_string_len text.old + 140 }
+{
+    text.push_str(write_counts(&hand_of(win)).as_str());
+}

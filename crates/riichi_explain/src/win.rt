@@ -1,0 +1,90 @@
+//! Why a win is worth what it is.
+ghost use Rattle.std.specs.Prelude.{◌≡◌};
+ghost use Rattle.riichi_score.specs.Best.{best_of};
+ghost use Rattle.riichi_score.specs.Fu.{HasFourSets};
+ghost use Rattle.riichi_score.specs.Scores.{score_of, IsReadingOf};
+ghost use Rattle.riichi_explain.specs.Win as spec;
+
+use crate::base::{BaseRule, base_rule};
+use crate::forms::win_forms;
+use crate::fu::{FuRows, fu_rows};
+use crate::han::{HanRows, han_rows};
+use crate::payers::{PayRows, pay_rows};
+use arrayvec::ArrayVec;
+use riichi_hand::WinRecord;
+use riichi_score::{BestReading, Score, best_reading, hand_of};
+use riichi_shape::FormDistances;
+use riichi_split::{Reading, Readings};
+
+/// A win that scores: a reading that has its score, and the rows that give it.
+#[derive(Drop)]
+pub struct WonHand {
+    pub win: WinRecord,
+    pub reading: Reading,
+    pub score: Score,
+    /// Each yaku, and the dora. Of a yakuman the names alone.
+    pub han: HanRows,
+    /// None of a yakuman.
+    pub fu: FuRows,
+    pub base: BaseRule,
+    pub payers: PayRows,
+}
+
+/// Why a win is worth what it is.
+#[derive(Drop)]
+pub enum WinExplanation {
+    Won(WonHand),
+    /// Every reading of the hand: none has a yaku.
+    NoYaku(Readings),
+    /// The hand has no reading: so far is it from each form of a winning hand.
+    NoWin(FormDistances),
+}
+
+/// Why `best` answers what it answers.
+pub fn explain_win(win: &WinRecord) -> WinExplanation
+    ensures answer { spec.answer_of result ≡ best_of win.now }
+    ensures explains { spec.Explains win.now result }
+{
+    match best_reading(win) {
+        BestReading::Won { reading, score } => WinExplanation::Won(won_hand(win, reading, score)),
+        BestReading::NoYaku => {
+            let hand = hand_of(win);
+            WinExplanation::NoYaku(Readings::new(&hand, &win.melds(), win.winning()))
+        }
+        BestReading::NoWin => WinExplanation::NoWin(win_forms(win)),
+    }
+}
+
+fn won_hand(win: &WinRecord, reading: Reading, score: Score) -> WonHand
+    requires reading { IsReadingOf win.now reading }
+    requires score { score_of reading win.now ≡ Some score }
+    ensures shown { result.score ≡ score }
+    ensures explains { spec.IsWonHand win.now result }
+{
+    let yakuman = score.yaku.is_yakuman();
+    let han = han_rows(score.yaku, win);
+    let fu = counted_fu(yakuman, &reading, win);
+    let base = base_rule(yakuman, win.rules(), score.han, score.fu);
+    let payers = pay_rows(score.base, win);
+    WonHand {
+        win: *win,
+        reading,
+        score,
+        han,
+        fu,
+        base,
+        payers,
+    }
+}
+
+/// The rows of fu, of which a yakuman counts none.
+fn counted_fu(yakuman: bool, reading: &Reading, win: &WinRecord) -> FuRows
+    requires { HasFourSets reading.now win.now }
+    ensures { result.items ≡ spec.counted_fu yakuman reading.now win.now }
+{
+    if yakuman {
+        ArrayVec::new()
+    } else {
+        fu_rows(reading, win)
+    }
+}

@@ -1,0 +1,53 @@
+use Rattle.std.proofs.Common.{ℕ, ◌-◌, length, Option, Some, None, sym, subst, ap, ◌∙◌, arith}
+use Rattle.riichi_shape.specs.Distance.{IsLeastStandard}
+use Rattle.riichi_shape.specs.Forms.{IsPairsDistance, IsOrphansDistance, without_meld, min_with}
+use Rattle.riichi_shape.proofs.Distances.{never_none, least_beside}
+use Rattle.riichi_shape.proofs.FormLemmas.{pairs_distance, orphans_distance, least_form}
+use Rattle.riichi_shape.proofs.KeptJoins.{least_by_rows}
+use Rattle.riichi_shape.proofs.forms.form_distances.Goals as goal
+
+pub unreachable-requires : goal.unreachable-requires
+unreachable-requires c =
+    let hand = c.args.hand.now in
+    let melds = c.args.melds.now in
+    let are = c.new-forms.ensures in
+    let rows = c.new-forms.result.rows in
+    let sets = 4 - c.count-melded.result in
+    let least = least_by_rows hand melds rows are.are_rows c.requires sets (omega arith) c.with.result (c.with.ensures rows.circles rows.bamboos rows.honours are.are_joins.beside_characters) in
+    let none = subst (λ (o : Option ℕ). IsLeastStandard hand melds sets o) c.in_default.is least in
+    never_none hand melds c.count-melded.ensures.melds.at_most_four c.requires (least_beside hand melds c.count-melded.result None c.count-melded.ensures.value none)
+
+pub returns-clause-sets_and_pair : goal.returns-clause-sets_and_pair
+returns-clause-sets_and_pair c =
+    let hand = c.args.hand.now in
+    let melds = c.args.melds.now in
+    let are = c.new-forms.ensures in
+    let rows = c.new-forms.result.rows in
+    let sets = 4 - c.count-melded.result in
+    let least = least_by_rows hand melds rows are.are_rows c.requires sets (omega arith) c.with.result (c.with.ensures rows.circles rows.bamboos rows.honours are.are_joins.beside_characters) in
+    let some = subst (λ (o : Option ℕ). IsLeastStandard hand melds sets o) c.in-Some.is least in
+    least_beside hand melds c.count-melded.result (Some c.in-Some.sets_and_pair) c.count-melded.ensures.value some
+
+pub returns-clause-seven_pairs : goal.returns-clause-seven_pairs
+returns-clause-seven_pairs c =
+    let forms = c.new-forms.result.special in
+    let same = c.without_meld.ensures ∙ ap (λ (n : ℕ). without_meld n forms.pairs.lack) c.count-melded.ensures.value in
+    subst (λ (o : Option ℕ). IsPairsDistance c.args.hand.now c.args.melds.now o) (sym same) (pairs_distance c.args.hand.now c.args.melds.now forms c.new-forms.ensures.special)
+
+pub returns-clause-thirteen_orphans : goal.returns-clause-thirteen_orphans
+returns-clause-thirteen_orphans c =
+    let forms = c.new-forms.result.special in
+    let same = c.without_meld-2.ensures ∙ ap (λ (n : ℕ). without_meld n forms.orphans.lack) c.count-melded.ensures.value in
+    subst (λ (o : Option ℕ). IsOrphansDistance c.args.hand.now c.args.melds.now o) (sym same) (orphans_distance c.args.hand.now c.args.melds.now forms c.new-forms.ensures.special)
+
+pub returns-clause-least : goal.returns-clause-least
+returns-clause-least c =
+    let hand = c.args.hand.now in
+    let melds = c.args.melds.now in
+    let forms = c.new-forms.result.special in
+    let n = c.in-Some.sets_and_pair in
+    let pairs = c.without_meld.ensures ∙ ap (λ (k : ℕ). without_meld k forms.pairs.lack) c.count-melded.ensures.value in
+    let orphans = c.without_meld-2.ensures ∙ ap (λ (k : ℕ). without_meld k forms.orphans.lack) c.count-melded.ensures.value in
+    ap (λ (o : Option ℕ). min_with (min_with n o) c.without_meld-2.result) pairs
+    ∙ ap (λ (o : Option ℕ). min_with (min_with n (without_meld (length melds) forms.pairs.lack)) o) orphans
+    ∙ least_form hand melds c.count-melded.ensures.melds.at_most_four c.requires forms n (returns-clause-sets_and_pair c) c.new-forms.ensures.special
