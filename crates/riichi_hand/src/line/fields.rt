@@ -38,7 +38,8 @@ impl<'a> Fields<'a> {
     ghost use Rattle.riichi_hand.specs.declared.line.job_name.JobName.{JobName};
     ghost use Rattle.riichi_hand.specs.Entries.{Entries, Holds, entries_of, with_keyed};
 
-    fn new() -> Fields<'a>
+    /// No values.
+    pub(crate) fn new() -> Fields<'a>
         ensures { (job : JobName) → Holds result (entries_of job []) }
     {
         Fields {
@@ -58,26 +59,27 @@ impl<'a> Fields<'a> {
         }
     }
 
-    /// The fields of a line's words, or H4 where one is no entry of the job, H5 where a key stands twice.
-    pub(crate) fn read(words: &Words<'a>) -> Result<Fields<'a>, LineFault>
+    /// Takes the words of a line, or answers H4 where one is no entry of the job, H5 where a key stands twice.
+    #[inline(never)]
+    pub(crate) fn fill(&mut self, words: &Words<'a>) -> Result<(), LineFault>
+        requires { (job : JobName) → Holds self.old (entries_of job []) }
         ensures { let parts = parts_in words.now in
-            IsStep result (entry_faults parts) (λ fields. Holds fields parts.entries) }
+            IsStep result (entry_faults parts) (λ _. Holds self.new parts.entries) }
     {
-        let mut fields = Fields::new();
         let mut rest = words.entries;
         while let Some((word, after)) = next_word(rest) {
             let Some((key, text)) = keyed(words.job, word) else {
                 return Err(LineFault::Line(LineCode::H4));
             };
-            if !fields.put(key, text) {
+            if !self.put(key, text) {
                 return Err(LineFault::Line(LineCode::H4));
             }
             rest = after;
         }
-        if fields.has_doubled_key {
+        if self.has_doubled_key {
             return Err(LineFault::Line(LineCode::H5));
         }
-        Ok(fields)
+        Ok(())
     }
 
     /// Puts the value of one more key in its place. Answers whether the text is a value of the key.

@@ -28,9 +28,11 @@ pub fn read_line(rules: Rules, line: &[u8]) -> Result<Option<Job>, LineFault>
         return Ok(None);
     }
     let words = Words::read(line)?; // H1 to H3
-    let fields = Fields::read(&words)?; // H4 and H5
+    let mut fields = Fields::new();
+    fields.fill(&words)?; // H4 and H5
     let needed = Needed::read(&words, &fields)?; // H6
-    let texts = Texts::read(&words, &fields)?; // N1 to N6, then H7
+    let mut texts = Texts::new();
+    texts.spell(&words, &fields)?; // N1 to N6, then H7
     let job = make_job(rules, needed, &words, &fields, &texts)?; // H8 to H15
     Ok(Some(job))
 }

@@ -28,7 +28,7 @@ impl Texts {
     ghost use Rattle.riichi_hand.specs.Texts.{texts_of, no_texts};
 
     /// No tiles.
-    fn new() -> Texts
+    pub(crate) fn new() -> Texts
         ensures { result ≡ no_texts }
     {
         Texts {
@@ -41,22 +41,24 @@ impl Texts {
         }
     }
 
-    /// The texts of a line, or the first fault of the first text that has one, and last H7 for the melds.
-    pub(crate) fn read(words: &Words<'_>, fields: &Fields<'_>) -> Result<Texts, LineFault>
-        requires { Holds fields.now (parts_in words.now).entries }
-        ensures { let parts = parts_in words.now in IsStep result (text_faults parts) (λ texts. texts ≡ texts_of parts) }
+    /// Reads the texts of a line, or answers the fault of the first text that has one, and last H7 for the melds.
+    #[inline(never)]
+    pub(crate) fn spell(&mut self, words: &Words<'_>, fields: &Fields<'_>) -> Result<(), LineFault>
+        requires none { self.old ≡ no_texts }
+        requires holds { Holds fields.now (parts_in words.now).entries }
+        ensures { let parts = parts_in words.now in
+            IsStep result (text_faults parts) (λ _. self.new ≡ texts_of parts) }
     {
-        let mut texts = Texts::new();
-        read_text(&mut texts.hand, TextName::Hand, words.hand)?;
-        read_optional(&mut texts.on, TextName::On, fields.on)?;
-        read_optional(&mut texts.dora, TextName::Dora, fields.dora)?;
-        read_optional(&mut texts.ura, TextName::Ura, fields.ura)?;
-        read_optional(&mut texts.seen, TextName::Seen, fields.seen)?;
+        read_text(&mut self.hand, TextName::Hand, words.hand)?;
+        read_optional(&mut self.on, TextName::On, fields.on)?;
+        read_optional(&mut self.dora, TextName::Dora, fields.dora)?;
+        read_optional(&mut self.ura, TextName::Ura, fields.ura)?;
+        read_optional(&mut self.seen, TextName::Seen, fields.seen)?;
         let Some(melds) = read_open(fields.melds) else {
             return Err(LineFault::Line(LineCode::H7));
         };
-        texts.melds = melds;
-        Ok(texts)
+        self.melds = melds;
+        Ok(())
     }
 }
 /// Puts the tiles of a notation text, or tells its fault.

@@ -18,14 +18,14 @@ returns-in_err-words c =
     let first = first_fault-here (word_faults line) _ fault c.in_err-words.ensures in
     refused ∙ sym (outcome-err c.args.rules line parts fault c.if-line-gt-MOST_LINE.false some refl first)
 
-pub returns-in_err-fields : goal.returns-in_err-fields
-returns-in_err-fields c =
+pub returns-in_err-fill : goal.returns-in_err-fill
+returns-in_err-fill c =
     let line = c.args.line.now in
     let some : is_no_record line ≡ false = sym c.is_no_record.ensures ∙ c.if-is_no_record.false in
     let parts = parts_in c.in_ok-words.words in
-    let fault = c.in_err-fields.field-0.0 in
-    let refused : c.from_residual-in_err-fields.result ≡ Err fault = search rules in
-    let first = first_fault-later (word_faults line) _ c.in_ok-words.ensures.0 ∙ first_fault-here (entry_faults parts) _ fault c.in_err-fields.ensures in
+    let fault = c.in_err-fill.field-0.0 in
+    let refused : c.from_residual-in_err-fill.result ≡ Err fault = search rules in
+    let first = first_fault-later (word_faults line) _ c.in_ok-words.ensures.0 ∙ first_fault-here (entry_faults parts) _ fault c.in_err-fill.ensures in
     refused ∙ sym (outcome-err c.args.rules line parts fault c.if-line-gt-MOST_LINE.false some c.in_ok-words.ensures.1 first)
 
 pub returns-in_err-needed : goal.returns-in_err-needed
@@ -35,17 +35,17 @@ returns-in_err-needed c =
     let parts = parts_in c.in_ok-words.words in
     let fault = c.in_err-needed.field-0.0 in
     let refused : c.from_residual-in_err-needed.result ≡ Err fault = search rules in
-    let first = first_fault-later (word_faults line) _ c.in_ok-words.ensures.0 ∙ first_fault-later (entry_faults parts) _ c.in_ok-fields.ensures.0 ∙ first_fault-here (need_faults parts) _ fault c.in_err-needed.ensures in
+    let first = first_fault-later (word_faults line) _ c.in_ok-words.ensures.0 ∙ first_fault-later (entry_faults parts) _ c.in_ok-fill.ensures.0 ∙ first_fault-here (need_faults parts) _ fault c.in_err-needed.ensures in
     refused ∙ sym (outcome-err c.args.rules line parts fault c.if-line-gt-MOST_LINE.false some c.in_ok-words.ensures.1 first)
 
-pub returns-in_err-texts : goal.returns-in_err-texts
-returns-in_err-texts c =
+pub returns-in_err-spell : goal.returns-in_err-spell
+returns-in_err-spell c =
     let line = c.args.line.now in
     let some : is_no_record line ≡ false = sym c.is_no_record.ensures ∙ c.if-is_no_record.false in
     let parts = parts_in c.in_ok-words.words in
-    let fault = c.in_err-texts.field-0.0 in
-    let refused : c.from_residual-in_err-texts.result ≡ Err fault = search rules in
-    let first = first_fault-later (word_faults line) _ c.in_ok-words.ensures.0 ∙ first_fault-later (entry_faults parts) _ c.in_ok-fields.ensures.0 ∙ first_fault-later (need_faults parts) _ c.in_ok-needed.ensures.0 ∙ first_fault-here (text_faults parts) _ fault c.in_err-texts.ensures in
+    let fault = c.in_err-spell.field-0.0 in
+    let refused : c.from_residual-in_err-spell.result ≡ Err fault = search rules in
+    let first = first_fault-later (word_faults line) _ c.in_ok-words.ensures.0 ∙ first_fault-later (entry_faults parts) _ c.in_ok-fill.ensures.0 ∙ first_fault-later (need_faults parts) _ c.in_ok-needed.ensures.0 ∙ first_fault-here (text_faults parts) _ fault c.in_err-spell.ensures in
     refused ∙ sym (outcome-err c.args.rules line parts fault c.if-line-gt-MOST_LINE.false some c.in_ok-words.ensures.1 first)
 
 pub returns-in_err-job : goal.returns-in_err-job
@@ -55,7 +55,7 @@ returns-in_err-job c =
     let parts = parts_in c.in_ok-words.words in
     let fault = c.in_err-job.field-0.0 in
     let refused : c.from_residual-in_err-job.result ≡ Err fault = search rules in
-    let first = first_fault-later (word_faults line) _ c.in_ok-words.ensures.0 ∙ first_fault-later (entry_faults parts) _ c.in_ok-fields.ensures.0 ∙ first_fault-later (need_faults parts) _ c.in_ok-needed.ensures.0 ∙ first_fault-later (text_faults parts) _ c.in_ok-texts.ensures.0 ∙ ap (λ (texts : Texts). first_fault (job_faults c.args.rules parts texts parts.job)) (sym c.in_ok-texts.ensures.1) ∙ c.in_err-job.ensures in
+    let first = first_fault-later (word_faults line) _ c.in_ok-words.ensures.0 ∙ first_fault-later (entry_faults parts) _ c.in_ok-fill.ensures.0 ∙ first_fault-later (need_faults parts) _ c.in_ok-needed.ensures.0 ∙ first_fault-later (text_faults parts) _ c.in_ok-spell.ensures.0 ∙ ap (λ (texts : Texts). first_fault (job_faults c.args.rules parts texts parts.job)) (sym c.in_ok-spell.ensures.1) ∙ c.in_err-job.ensures in
     refused ∙ sym (outcome-err c.args.rules line parts fault c.if-line-gt-MOST_LINE.false some c.in_ok-words.ensures.1 first)
 
 pub returns : goal.returns
@@ -63,6 +63,6 @@ returns c =
     let line = c.args.line.now in
     let some : is_no_record line ≡ false = sym c.is_no_record.ensures ∙ c.if-is_no_record.false in
     let parts = parts_in c.in_ok-words.words in
-    let none = first_fault-later (word_faults line) _ c.in_ok-words.ensures.0 ∙ first_fault-later (entry_faults parts) _ c.in_ok-fields.ensures.0 ∙ first_fault-later (need_faults parts) _ c.in_ok-needed.ensures.0 ∙ first_fault-later (text_faults parts) _ c.in_ok-texts.ensures.0 ∙ ap (λ (texts : Texts). first_fault (job_faults c.args.rules parts texts parts.job)) (sym c.in_ok-texts.ensures.1) ∙ c.in_ok-job.ensures.0 in
-    let job = c.in_ok-job.ensures.1 ∙ ap (λ (texts : Texts). job_of c.args.rules parts texts parts.job) c.in_ok-texts.ensures.1 in
+    let none = first_fault-later (word_faults line) _ c.in_ok-words.ensures.0 ∙ first_fault-later (entry_faults parts) _ c.in_ok-fill.ensures.0 ∙ first_fault-later (need_faults parts) _ c.in_ok-needed.ensures.0 ∙ first_fault-later (text_faults parts) _ c.in_ok-spell.ensures.0 ∙ ap (λ (texts : Texts). first_fault (job_faults c.args.rules parts texts parts.job)) (sym c.in_ok-spell.ensures.1) ∙ c.in_ok-job.ensures.0 in
+    let job = c.in_ok-job.ensures.1 ∙ ap (λ (texts : Texts). job_of c.args.rules parts texts parts.job) c.in_ok-spell.ensures.1 in
     outcome-ok c.args.rules line parts c.in_ok-job.job c.if-line-gt-MOST_LINE.false some c.in_ok-words.ensures.1 none job

@@ -6,10 +6,10 @@ use Rattle.riichi_hand.specs.Words.{words_of}
 use Rattle.riichi_hand.specs.Keys.{value_of}
 use Rattle.riichi_hand.specs.Entries.{is_bad, Entries, Holds}
 use Rattle.riichi_hand.proofs.FieldLemmas.{entries_of-last}
-use Rattle.riichi_hand.proofs.line.fields.Fields.read.Goals as goal
+use Rattle.riichi_hand.proofs.line.fields.Fields.fill.Goals as goal
 
 pub loop-word-init : goal.loop-word-init
-loop-word-init c = ([], refl, refl, c.new-fields.ensures c.args.words.now.job)
+loop-word-init c = ([], refl, refl, c.requires c.args.words.now.job)
 
 pub loop-word-preserved : goal.loop-word-preserved
 loop-word-preserved c =
