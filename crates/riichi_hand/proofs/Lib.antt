@@ -5,3 +5,4 @@ pub mod FlagLemmas
 pub mod MeldLemmas
 pub mod FieldLemmas
 pub mod OutcomeLemmas
+pub mod RangeLemmas

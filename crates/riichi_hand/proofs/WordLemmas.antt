@@ -1,6 +1,6 @@
 -- The first word of a text.
 use Rattle.std.proofs.Common.{◌≡◌, ℕ, zero, suc, ◌<◌, ◌≤◌, ◌⊎◌, inl, inr, List, [], ◌∷◌, ◌++◌, Bool, true, false, nat_eq, length, take, drop, refl, sym, ◌∙◌, ap, arith, length-drop}
-use Rattle.std.proofs.lemmas.Bool.{cases_lt}
+use Rattle.std.proofs.lemmas.Bool.{cases_lt, and_parts}
 use Rattle.std.proofs.lemmas.List.{take-append-drop, drop_all}
 use Rattle.std.specs.Prelude.{not, filter, ◌&&◌}
 use Rattle.std.specs.List.{list_all, slice_split, onto_first}
@@ -37,3 +37,8 @@ first_word (byte ∷ bytes) (suc len) some begins all after within =
     let rest : (drop (suc len) text ≡ []) ⊎ (begins_with_space (drop (suc len) text) ≡ true) =
     elim (cases_lt (suc len) (length text)) as (λ _. (drop (suc len) text ≡ []) ⊎ (begins_with_space (drop (suc len) text) ≡ true)) [ inl more ↦ inr (after more) | inr all ↦ inl (drop_all (suc len) text all) ] in
     (ap words_of (sym (take-append-drop (suc len) text)) ∙ words_of-word (take (suc len) text) (drop (suc len) text) all refl rest, omega (arith, length-drop (suc len) text))
+
+-- spaces before the words
+pub words_of-spaces : (spaces rest : List ℕ) → list_all (λ byte. nat_eq byte 32) spaces ≡ true → words_of (spaces ++ rest) ≡ words_of rest
+words_of-spaces [] rest all = refl
+words_of-spaces (byte ∷ spaces) rest all = let h = and_parts (nat_eq byte 32) (list_all (λ byte. nat_eq byte 32) spaces) all in rw h.0 (words_of-spaces spaces rest h.1)

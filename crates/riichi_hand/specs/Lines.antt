@@ -82,3 +82,7 @@ outcome_of rules line =
     if nat_lt 4096 (length line) then Err (Line H1)
     else (if is_no_record line then Ok None
     else fault_or (first_fault (faults_of rules line parts)) (job_of rules parts (texts_of parts) parts.job))
+
+-- a word after the hand is no entry of the line's job
+abbrev pub has_bad_word : List ℕ → Bool
+has_bad_word line = (parts_of (words_of line)).entries.has_bad_word

@@ -1,7 +1,9 @@
 //! A line that is a record.
-ghost use Rattle.std.specs.Prelude.{◌≡◌, ◌==◌};
+ghost use Rattle.std.specs.Prelude.{◌≡◌, ◌==◌, None, true, Ok, Err};
 ghost use Rattle.std.specs.List.{list_all};
-ghost use Rattle.riichi_hand.specs.Lines.{outcome_of, is_no_record};
+ghost use Rattle.riichi_hand.specs.Lines.{outcome_of, is_no_record, has_bad_word};
+ghost use Rattle.riichi_hand.specs.declared.fault.LineFault.TheVariants.{Line};
+ghost use Rattle.riichi_hand.specs.declared.fault.LineCode.TheVariants.{H4};
 
 use super::fields::Fields;
 use super::jobs::make_job;
@@ -19,7 +21,11 @@ const MOST_LINE: usize = 4096;
 /// without the line feed and the carriage return that ended it.
 #[tactic(auto, unfolding(crate::specs::Lines::outcome_of))]
 pub fn read_line(rules: Rules, line: &[u8]) -> Result<Option<Job>, LineFault>
-    ensures { result ≡ outcome_of rules line.now }
+    ensures value { result ≡ outcome_of rules line.now }
+
+    // A record without faults has a job, and the numbers of a line are in range: H4 comes of a word alone.
+    ensures silent { result ≡ Ok None → is_no_record line.now ≡ true }
+    ensures bad_word { result ≡ Err (Line H4) → has_bad_word line.now ≡ true }
 {
     if line.len() > MOST_LINE {
         return Err(LineFault::Line(LineCode::H1));

@@ -5,11 +5,12 @@ use Rattle.riichi_hand.specs.Words.{words_of}
 use Rattle.riichi_hand.specs.Parts.{parts_of, parts_in}
 use Rattle.riichi_hand.specs.Jobs.{job_of}
 use Rattle.riichi_hand.specs.Lines.{is_no_record, word_faults, entry_faults, need_faults, text_faults, job_faults}
+use Rattle.riichi_hand.proofs.RangeLemmas.{bad_word}
 use Rattle.riichi_hand.proofs.OutcomeLemmas.{first_fault-later, first_fault-here, outcome-err, outcome-ok}
 use Rattle.riichi_hand.proofs.line.record.read_line.Goals as goal
 
-pub returns-in_err-words : goal.returns-in_err-words
-returns-in_err-words c =
+pub returns-in_err-words-clause-value : goal.returns-in_err-words-clause-value
+returns-in_err-words-clause-value c =
     let line = c.args.line.now in
     let some : is_no_record line ≡ false = sym c.is_no_record.ensures ∙ c.if-is_no_record.false in
     let parts = parts_of (words_of line) in
@@ -18,8 +19,8 @@ returns-in_err-words c =
     let first = first_fault-here (word_faults line) _ fault c.in_err-words.ensures in
     refused ∙ sym (outcome-err c.args.rules line parts fault c.if-line-gt-MOST_LINE.false some refl first)
 
-pub returns-in_err-fill : goal.returns-in_err-fill
-returns-in_err-fill c =
+pub returns-in_err-fill-clause-value : goal.returns-in_err-fill-clause-value
+returns-in_err-fill-clause-value c =
     let line = c.args.line.now in
     let some : is_no_record line ≡ false = sym c.is_no_record.ensures ∙ c.if-is_no_record.false in
     let parts = parts_in c.in_ok-words.words in
@@ -28,8 +29,8 @@ returns-in_err-fill c =
     let first = first_fault-later (word_faults line) _ c.in_ok-words.ensures.0 ∙ first_fault-here (entry_faults parts) _ fault c.in_err-fill.ensures in
     refused ∙ sym (outcome-err c.args.rules line parts fault c.if-line-gt-MOST_LINE.false some c.in_ok-words.ensures.1 first)
 
-pub returns-in_err-needed : goal.returns-in_err-needed
-returns-in_err-needed c =
+pub returns-in_err-needed-clause-value : goal.returns-in_err-needed-clause-value
+returns-in_err-needed-clause-value c =
     let line = c.args.line.now in
     let some : is_no_record line ≡ false = sym c.is_no_record.ensures ∙ c.if-is_no_record.false in
     let parts = parts_in c.in_ok-words.words in
@@ -38,8 +39,8 @@ returns-in_err-needed c =
     let first = first_fault-later (word_faults line) _ c.in_ok-words.ensures.0 ∙ first_fault-later (entry_faults parts) _ c.in_ok-fill.ensures.0 ∙ first_fault-here (need_faults parts) _ fault c.in_err-needed.ensures in
     refused ∙ sym (outcome-err c.args.rules line parts fault c.if-line-gt-MOST_LINE.false some c.in_ok-words.ensures.1 first)
 
-pub returns-in_err-spell : goal.returns-in_err-spell
-returns-in_err-spell c =
+pub returns-in_err-spell-clause-value : goal.returns-in_err-spell-clause-value
+returns-in_err-spell-clause-value c =
     let line = c.args.line.now in
     let some : is_no_record line ≡ false = sym c.is_no_record.ensures ∙ c.if-is_no_record.false in
     let parts = parts_in c.in_ok-words.words in
@@ -48,8 +49,8 @@ returns-in_err-spell c =
     let first = first_fault-later (word_faults line) _ c.in_ok-words.ensures.0 ∙ first_fault-later (entry_faults parts) _ c.in_ok-fill.ensures.0 ∙ first_fault-later (need_faults parts) _ c.in_ok-needed.ensures.0 ∙ first_fault-here (text_faults parts) _ fault c.in_err-spell.ensures in
     refused ∙ sym (outcome-err c.args.rules line parts fault c.if-line-gt-MOST_LINE.false some c.in_ok-words.ensures.1 first)
 
-pub returns-in_err-job : goal.returns-in_err-job
-returns-in_err-job c =
+pub returns-in_err-job-clause-value : goal.returns-in_err-job-clause-value
+returns-in_err-job-clause-value c =
     let line = c.args.line.now in
     let some : is_no_record line ≡ false = sym c.is_no_record.ensures ∙ c.if-is_no_record.false in
     let parts = parts_in c.in_ok-words.words in
@@ -58,11 +59,26 @@ returns-in_err-job c =
     let first = first_fault-later (word_faults line) _ c.in_ok-words.ensures.0 ∙ first_fault-later (entry_faults parts) _ c.in_ok-fill.ensures.0 ∙ first_fault-later (need_faults parts) _ c.in_ok-needed.ensures.0 ∙ first_fault-later (text_faults parts) _ c.in_ok-spell.ensures.0 ∙ ap (λ (texts : Texts). first_fault (job_faults c.args.rules parts texts parts.job)) (sym c.in_ok-spell.ensures.1) ∙ c.in_err-job.ensures in
     refused ∙ sym (outcome-err c.args.rules line parts fault c.if-line-gt-MOST_LINE.false some c.in_ok-words.ensures.1 first)
 
-pub returns : goal.returns
-returns c =
+pub returns-clause-value : goal.returns-clause-value
+returns-clause-value c =
     let line = c.args.line.now in
     let some : is_no_record line ≡ false = sym c.is_no_record.ensures ∙ c.if-is_no_record.false in
     let parts = parts_in c.in_ok-words.words in
     let none = first_fault-later (word_faults line) _ c.in_ok-words.ensures.0 ∙ first_fault-later (entry_faults parts) _ c.in_ok-fill.ensures.0 ∙ first_fault-later (need_faults parts) _ c.in_ok-needed.ensures.0 ∙ first_fault-later (text_faults parts) _ c.in_ok-spell.ensures.0 ∙ ap (λ (texts : Texts). first_fault (job_faults c.args.rules parts texts parts.job)) (sym c.in_ok-spell.ensures.1) ∙ c.in_ok-job.ensures.0 in
     let job = c.in_ok-job.ensures.1 ∙ ap (λ (texts : Texts). job_of c.args.rules parts texts parts.job) c.in_ok-spell.ensures.1 in
     outcome-ok c.args.rules line parts c.in_ok-job.job c.if-line-gt-MOST_LINE.false some c.in_ok-words.ensures.1 none job
+
+pub returns-in_err-words-clause-bad_word : goal.returns-in_err-words-clause-bad_word
+returns-in_err-words-clause-bad_word c is = bad_word c.args.rules c.args.line.now (sym (returns-in_err-words-clause-value c) ∙ is)
+
+pub returns-in_err-fill-clause-bad_word : goal.returns-in_err-fill-clause-bad_word
+returns-in_err-fill-clause-bad_word c is = bad_word c.args.rules c.args.line.now (sym (returns-in_err-fill-clause-value c) ∙ is)
+
+pub returns-in_err-needed-clause-bad_word : goal.returns-in_err-needed-clause-bad_word
+returns-in_err-needed-clause-bad_word c is = bad_word c.args.rules c.args.line.now (sym (returns-in_err-needed-clause-value c) ∙ is)
+
+pub returns-in_err-spell-clause-bad_word : goal.returns-in_err-spell-clause-bad_word
+returns-in_err-spell-clause-bad_word c is = bad_word c.args.rules c.args.line.now (sym (returns-in_err-spell-clause-value c) ∙ is)
+
+pub returns-in_err-job-clause-bad_word : goal.returns-in_err-job-clause-bad_word
+returns-in_err-job-clause-bad_word c is = bad_word c.args.rules c.args.line.now (sym (returns-in_err-job-clause-value c) ∙ is)
