@@ -1,6 +1,6 @@
 -- The numbers of a line are in range, so H4 comes of its words alone.
 use Rattle.std.proofs.Common.{◌≡◌, ℕ, ◌+◌, ◌-◌, ◌*◌, ◌≤◌, List, [], ◌∷◌, ◌++◌, Bool, true, false, Option, Some, None, Ok, Err, nat_lt, refl, sym, ap, ◌∙◌, arith, inl, inr, ◌⊎◌}
-use Rattle.std.specs.Prelude.{◌&&◌, length, not, is_some, option_map, unwrap_or, drop, codes}
+use Rattle.std.specs.Prelude.{◌&&◌, nat_le, length, not, is_some, option_map, unwrap_or, drop, codes}
 use Rattle.std.specs.Str.{bytes_eq}
 use Rattle.std.specs.List.{cons_option, filter_map}
 use Rattle.std.proofs.lemmas.Bool.{cases_Bool, and_parts, leb-true, le-ltb}
@@ -45,7 +45,7 @@ riichi_small text n is =
     ]
 
 digit_small : (byte : ℕ) → is_digit byte ≡ true → byte - 48 ≤ 9
-digit_small byte is = let p = and_parts _ _ is in let most = leb-true byte 57 p.1 in omega arith
+digit_small byte is = let p = and_parts (nat_le 48 byte) (nat_le byte 57) is in let most : byte ≤ 57 = leb-true byte 57 p.1 in omega arith
 
 number_small : (text : List ℕ) (n : ℕ) → number_of text ≡ Some n → n ≤ 99
 number_small [] n is = absurd (cc)

@@ -1,5 +1,5 @@
 //! The words of a line, and texts cut at a mark.
-ghost use Rattle.std.specs.Prelude.{◌≡◌, ◌<◌, ◌≤◌, ◌==◌, [], ◌∷◌, ◌++◌, false, true, length, IfSome, MatchOption, None, Some, is_some, not, take, drop};
+ghost use Rattle.std.specs.Prelude.{◌≡◌, ◌<◌, ◌≤◌, ◌==◌, [], ◌∷◌, ◌++◌, false, true, length, IfSome, MatchOption, None, Some, not, take, drop};
 ghost use Rattle.std.specs.List.{list_all};
 ghost use Rattle.riichi_tiles.specs.Melds.{cut_at};
 ghost use Rattle.riichi_hand.specs.Words.{words_of, begins_with_space, BeginsWithSpaces};
@@ -8,7 +8,8 @@ ghost use Rattle.riichi_hand.specs.Words.{words_of, begins_with_space, BeginsWit
 pub fn next_word(text: &[u8]) -> Option<(&[u8], &[u8])>
     ensures words { MatchOption result (words_of text.now ≡ []) (λ found.
         (words_of text.now ≡ found.0.now ∷ words_of found.1.now) × (length found.1.now < length text.now)) }
-    ensures text { IfSome result (λ found. BeginsWithSpaces text.now (found.0.now ++ found.1.now)) }
+    ensures text { IfSome result (λ found.
+        BeginsWithSpaces text.now (found.0.now ++ found.1.now)) }
 {
     let text = without_spaces(text);
     if text.is_empty() {
@@ -51,17 +52,6 @@ fn word_len(text: &[u8]) -> usize
         len += 1;
     }
     len
-}
-
-/// Whether a mark stands in a text.
-pub(crate) fn has_mark(text: &[u8], mark: u8) -> bool
-    ensures { result ≡ is_some (cut_at mark text.now) }
-{
-    let mut found = false;
-    for byte in text {
-        found = found | (*byte == mark);
-    }
-    found
 }
 
 /// What stands before and after the first mark.

@@ -15,7 +15,8 @@ use super::words::Words;
 use crate::fault::{LineCode, LineFault};
 use crate::win::{By, Flags, Wind};
 
-/// The first value of each key, where it has one, and whether a key came again. Texts of tiles and of melds are not yet read.
+/// The first value of each key, where it has one, and whether a key came again. The texts of tiles and of melds are
+/// read later, since they have faults of their own.
 #[derive(Clone, Copy)]
 pub(crate) struct Fields<'a> {
     pub(crate) has_doubled_key: bool,
@@ -85,7 +86,8 @@ impl<'a> Fields<'a> {
     /// Puts the value of one more key in its place. Answers whether the text is a value of the key.
     fn put(&mut self, key: Key, text: &'a [u8]) -> bool
         ensures answer { result ≡ is_some (value_of key text.now) }
-        ensures holds { (entries : Entries) → Holds self.old entries → Holds self.new (with_keyed entries (key, text.now)) }
+        ensures holds { (entries : Entries) → Holds self.old entries
+            → Holds self.new (with_keyed entries (key, text.now)) }
     {
         let doubled = &mut self.has_doubled_key;
         match key {

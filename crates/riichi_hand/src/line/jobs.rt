@@ -34,7 +34,8 @@ pub(crate) fn make_job(
 ) -> Result<Job, LineFault>
     requires holds { Holds fields.now (parts_in words.now).entries }
     requires needed { AreNeeded needed (parts_in words.now) }
-    ensures { let parts = parts_in words.now in IsStep result (job_faults rules parts texts.now parts.job)
+    ensures { let parts = parts_in words.now in
+        IsStep result (job_faults rules parts texts.now parts.job)
         (λ job. Some job ≡ job_of rules parts texts.now parts.job) }
 {
     match needed {

@@ -4,7 +4,7 @@ ghost use Rattle.riichi_hand.specs.Words.{words_of};
 ghost use Rattle.riichi_hand.specs.Faults.{IsStep};
 ghost use Rattle.riichi_hand.specs.Lines.{is_other_byte, word_faults};
 
-use super::cuts::{has_mark, next_word};
+use super::cuts::{next_word, split_at_mark};
 use super::job_name::JobName;
 use crate::fault::{LineCode, LineFault};
 
@@ -21,7 +21,8 @@ impl<'a> Words<'a> {
 
     /// The words of a line, or H1 for a foreign byte, H2 where the first word is no job, H3 where the second is no hand.
     pub(crate) fn read(line: &'a [u8]) -> Result<Words<'a>, LineFault>
-        ensures { IsStep result (word_faults line.now) (λ words. parts_of (words_of line.now) ≡ parts_in words) }
+        ensures { IsStep result (word_faults line.now)
+            (λ words. parts_of (words_of line.now) ≡ parts_in words) }
     {
         if has_other_byte(line) {
             return Err(LineFault::Line(LineCode::H1));
@@ -35,7 +36,7 @@ impl<'a> Words<'a> {
         let Some((hand, entries)) = next_word(after_job) else {
             return Err(LineFault::Line(LineCode::H3));
         };
-        if has_mark(hand, b'=') {
+        if split_at_mark(hand, b'=').is_some() {
             return Err(LineFault::Line(LineCode::H3));
         }
         Ok(Words { job, hand, entries })
