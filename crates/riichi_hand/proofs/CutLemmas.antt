@@ -1,10 +1,9 @@
 -- The first mark of a text.
-use Rattle.std.proofs.Common.{◌≡◌, ℕ, Option, List, [], ◌∷◌, ◌++◌, Bool, true, false, nat_eq, Some, None, refl, sym, ap, ◌∙◌, inl, inr}
-use Rattle.std.specs.Prelude.{not, ◌&&◌, if◌then◌else◌, is_some}
+use Rattle.std.proofs.Common.{◌≡◌, ℕ, Option, List, [], ◌∷◌, ◌++◌, Bool, true, false, nat_eq, Some, None, refl, ap, ◌∙◌}
+use Rattle.std.specs.Prelude.{not, ◌&&◌, if◌then◌else◌}
 use Rattle.riichi_tiles.specs.Melds.{in_front, cut_at}
 use Rattle.riichi_hand.specs.Words.{items_of}
-use Rattle.std.specs.List.{list_all, list_any, onto_first}
-use Rattle.std.proofs.lemmas.Bool.{cases_Bool}
+use Rattle.std.specs.List.{list_all, onto_first}
 
 -- no mark
 abbrev pub plain : ℕ → ℕ → Bool
@@ -41,20 +40,3 @@ items_of-none text none = items_of-cut text ∙ ap (items_of_cut text) none
 
 pub items_of-some : (text front rest : List ℕ) → cut_at 44 text ≡ Some (front, rest) → items_of text ≡ front ∷ items_of rest
 items_of-some text front rest some = items_of-cut text ∙ ap (items_of_cut text) some
-
-is_some-in_front : (byte : ℕ) (cut : Option (List ℕ × List ℕ)) → is_some (in_front byte cut) ≡ is_some cut
-is_some-in_front byte None = refl
-is_some-in_front byte (Some cut) = refl
-
--- a text is cut where it has the mark
-pub any_cut : (mark : ℕ) (text : List ℕ) → list_any (λ byte. nat_eq byte mark) text ≡ is_some (cut_at mark text)
-any_cut mark [] = refl
-any_cut mark (byte ∷ text) =
-    elim (cases_Bool (nat_eq byte mark)) [
-      | inl here ↦ rw here refl
-      | inr other ↦ rw other (any_cut mark text ∙ sym (is_some-in_front byte (cut_at mark text)))
-    ]
-
-pub none_from_is_some : {X : Type 0} (option : Option X) → is_some option ≡ false → option ≡ None
-none_from_is_some None none = refl
-none_from_is_some (Some x) none = absurd (cc)

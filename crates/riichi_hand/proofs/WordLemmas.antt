@@ -1,34 +1,29 @@
 -- The first word of a text.
-use Rattle.std.proofs.Common.{◌≡◌, ℕ, zero, suc, ◌<◌, ◌≤◌, ◌⊎◌, inl, inr, List, [], ◌∷◌, ◌++◌, Bool, true, false, nat_eq, length, take, drop, refl, sym, ◌∙◌, ap, arith, length-drop}
-use Rattle.std.proofs.lemmas.Bool.{cases_lt}
+use Rattle.std.proofs.Common.{◌≡◌, ℕ, zero, suc, ◌<◌, ◌≤◌, ◌⊎◌, inl, inr, List, [], ◌∷◌, ◌++◌, true, false, nat_eq, length, take, drop, refl, sym, ◌∙◌, ap, arith, length-drop}
+use Rattle.std.proofs.lemmas.Bool.{cases_lt, and_parts}
 use Rattle.std.proofs.lemmas.List.{take-append-drop, drop_all}
-use Rattle.std.specs.Prelude.{not, filter, ◌&&◌}
+use Rattle.std.specs.Prelude.{filter}
 use Rattle.std.specs.List.{list_all, slice_split, onto_first}
+use Rattle.riichi_hand.proofs.CutLemmas.{plain, plain_is}
 use Rattle.riichi_hand.specs.Words.{is_word, words_of, begins_with_space}
-
-abbrev plain : ℕ → Bool
-plain byte = not (nat_eq byte 32)
 
 -- what stands between the spaces
 abbrev pieces : List ℕ → List (List ℕ)
 pieces line = slice_split (λ byte. nat_eq byte 32) line
 
-plain_is : (byte : ℕ) (others : Bool) → (plain byte && others) ≡ true → (nat_eq byte 32 ≡ false) × (others ≡ true)
-plain_is byte others = elim (nat_eq byte 32) as (λ test. (not test && others) ≡ true → (test ≡ false) × (others ≡ true)) [ true ↦ λ h. cc | false ↦ λ h. (refl, h) ]
-
-plain_pieces : (word rest : List ℕ) (others : List (List ℕ)) → list_all plain word ≡ true → pieces rest ≡ [] ∷ others → pieces (word ++ rest) ≡ word ∷ others
+plain_pieces : (word rest : List ℕ) (others : List (List ℕ)) → list_all (plain 32) word ≡ true → pieces rest ≡ [] ∷ others → pieces (word ++ rest) ≡ word ∷ others
 plain_pieces [] rest others all is = is
-plain_pieces (byte ∷ bytes) rest others all is = let h = plain_is byte (list_all plain bytes) all in rw h.0 (ap (onto_first byte) (plain_pieces bytes rest others h.1 is))
+plain_pieces (byte ∷ bytes) rest others all is = let h = plain_is 32 byte (list_all (plain 32) bytes) all in rw h.0 (ap (onto_first byte) (plain_pieces bytes rest others h.1 is))
 
 -- a word, and then nothing or a space
-pub words_of-word : (word rest : List ℕ) → list_all plain word ≡ true → is_word word ≡ true → (rest ≡ []) ⊎ (begins_with_space rest ≡ true) → words_of (word ++ rest) ≡ word ∷ words_of rest
+pub words_of-word : (word rest : List ℕ) → list_all (plain 32) word ≡ true → is_word word ≡ true → (rest ≡ []) ⊎ (begins_with_space rest ≡ true) → words_of (word ++ rest) ≡ word ∷ words_of rest
 words_of-word word [] all some after = ap (filter is_word) (plain_pieces word [] [] all refl) ∙ rw some refl
 words_of-word word (byte ∷ bytes) all some (inl none) = absurd (cc)
 words_of-word word (byte ∷ bytes) all some (inr space) =
     let after_space : pieces (byte ∷ bytes) ≡ [] ∷ pieces bytes = rw space refl in
     ap (filter is_word) (plain_pieces word (byte ∷ bytes) (pieces bytes) all after_space) ∙ rw (some, after_space) refl
 
-pub first_word : (text : List ℕ) (len : ℕ) → 0 < length text → begins_with_space text ≡ false → list_all plain (take len text) ≡ true → (len < length text → begins_with_space (drop len text) ≡ true) → len ≤ length text
+pub first_word : (text : List ℕ) (len : ℕ) → 0 < length text → begins_with_space text ≡ false → list_all (plain 32) (take len text) ≡ true → (len < length text → begins_with_space (drop len text) ≡ true) → len ≤ length text
     → (words_of text ≡ take len text ∷ words_of (drop len text)) × (length (drop len text) < length text)
 first_word [] len some begins all after within = absurd (omega arith)
 first_word (byte ∷ bytes) zero some begins all after within = let space = after (omega arith) in absurd (cc)
@@ -37,3 +32,8 @@ first_word (byte ∷ bytes) (suc len) some begins all after within =
     let rest : (drop (suc len) text ≡ []) ⊎ (begins_with_space (drop (suc len) text) ≡ true) =
     elim (cases_lt (suc len) (length text)) as (λ _. (drop (suc len) text ≡ []) ⊎ (begins_with_space (drop (suc len) text) ≡ true)) [ inl more ↦ inr (after more) | inr all ↦ inl (drop_all (suc len) text all) ] in
     (ap words_of (sym (take-append-drop (suc len) text)) ∙ words_of-word (take (suc len) text) (drop (suc len) text) all refl rest, omega (arith, length-drop (suc len) text))
+
+-- spaces before the words
+pub words_of-spaces : (spaces rest : List ℕ) → list_all (λ byte. nat_eq byte 32) spaces ≡ true → words_of (spaces ++ rest) ≡ words_of rest
+words_of-spaces [] rest all = refl
+words_of-spaces (byte ∷ spaces) rest all = let h = and_parts (nat_eq byte 32) (list_all (λ byte. nat_eq byte 32) spaces) all in rw h.0 (words_of-spaces spaces rest h.1)

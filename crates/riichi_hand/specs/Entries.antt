@@ -1,12 +1,12 @@
 -- What the words after the hand say, key by key.
-use Rattle.std.specs.Prelude.{ℕ, List, [], ◌∷◌, Bool, ◌&&◌, not, Option, None, Some, is_some, if◌then◌else◌, length, nat_lt, option_map, slice_index_or}
+use Rattle.std.specs.Prelude.{◌≡◌, ℕ, List, [], ◌∷◌, Bool, false, ◌||◌, not, Option, None, Some, is_some, if◌then◌else◌, length, nat_lt, option_map, unwrap_or}
 use Rattle.std.specs.List.{filter_map, list_any}
 use Rattle.riichi_tiles.specs.Melds.{cut_at}
 use Rattle.riichi_hand.specs.declared.line.job_name.JobName.{JobName}
 use Rattle.riichi_hand.specs.declared.line.key.Key.{Key}
 use Rattle.riichi_hand.specs.declared.line.key.Key.TheVariants.{On, By, Seat, Round, Open, Riichi, Flags, Dora, Ura, Counters, Sticks, Seen}
 use Rattle.riichi_hand.specs.declared.line.fields.Fields.{Fields}
-use Rattle.riichi_hand.specs.Keys.{key_named, has_key, is_same, is_value, number_of_key}
+use Rattle.riichi_hand.specs.Keys.{key_named, has_key, ValueOf, value_of, value_at}
 
 abbrev pub every_key : List Key
 every_key = On ∷ By ∷ Seat ∷ Round ∷ Open ∷ Riichi ∷ Flags ∷ Dora ∷ Ura ∷ Counters ∷ Sticks ∷ Seen ∷ []
@@ -15,28 +15,33 @@ every_key = On ∷ By ∷ Seat ∷ Round ∷ Open ∷ Riichi ∷ Flags ∷ Dora 
 abbrev pub cut_at_equals : List ℕ → Option (List ℕ × List ℕ)
 cut_at_equals word = cut_at 61 word
 
-abbrev pub entry_for : JobName → Option Key → List ℕ → Option (Key × List ℕ)
-entry_for job None value = None
-entry_for job (Some key) value = if has_key job key && is_value key value then Some (key, value) else None
+abbrev pub keyed_by : JobName → Option Key → List ℕ → Option (Key × List ℕ)
+keyed_by job None text = None
+keyed_by job (Some key) text = if has_key job key then Some (key, text) else None
 
-abbrev pub entry_of_cut : JobName → Option (List ℕ × List ℕ) → Option (Key × List ℕ)
-entry_of_cut job None = None
-entry_of_cut job (Some cut) = entry_for job (key_named cut.0) cut.1
+abbrev pub keyed_cut : JobName → Option (List ℕ × List ℕ) → Option (Key × List ℕ)
+keyed_cut job None = None
+keyed_cut job (Some cut) = keyed_by job (key_named cut.0) cut.1
 
--- a word with `=`, a key of the job and a value that the key may have
-abbrev pub entry_of : JobName → List ℕ → Option (Key × List ℕ)
-entry_of job word = entry_of_cut job (cut_at_equals word)
+-- the key and the text of its value, of a word with `=` and a key that the job can have
+abbrev pub keyed_of : JobName → List ℕ → Option (Key × List ℕ)
+keyed_of job word = keyed_cut job (cut_at_equals word)
+
+-- the text is a value of the key
+abbrev pub is_entry : Option (Key × List ℕ) → Bool
+is_entry None = false
+is_entry (Some keyed) = is_some (value_of keyed.0 keyed.1)
 
 abbrev pub is_bad : JobName → List ℕ → Bool
-is_bad job word = not (is_some (entry_of job word))
+is_bad job word = not (is_entry (keyed_of job word))
 
-abbrev pub value_in : Key → Option (Key × List ℕ) → Option (List ℕ)
+abbrev pub value_in : (key : Key) → Option (Key × List ℕ) → Option (ValueOf key)
 value_in key None = None
-value_in key (Some entry) = if is_same key entry.0 then Some entry.1 else None
+value_in key (Some keyed) = value_at key keyed.0 (value_of keyed.0 keyed.1)
 
 -- the values that words give a key, in their order
-abbrev pub values_of : JobName → List (List ℕ) → Key → List (List ℕ)
-values_of job words key = filter_map (λ word. value_in key (entry_of job word)) words
+abbrev pub values_of : JobName → List (List ℕ) → (key : Key) → List (ValueOf key)
+values_of job words key = filter_map (λ word. value_in key (keyed_of job word)) words
 
 abbrev pub is_doubled : JobName → List (List ℕ) → Key → Bool
 is_doubled job words key = nat_lt 1 (length (values_of job words key))
@@ -49,7 +54,7 @@ first_of (x ∷ xs) = Some x
 pub record Entries : Type 0 where
   pub has_bad_word : Bool
   pub has_doubled_key : Bool
-  pub value : Key → Option (List ℕ)
+  pub value : (key : Key) → Option (ValueOf key)
 
 abbrev pub entries_of : JobName → List (List ℕ) → Entries
 entries_of job words = record {
@@ -58,10 +63,38 @@ entries_of job words = record {
   value = λ key. first_of (values_of job words key);
 }
 
--- The entries that fields hold, each value in the place of its key.
-abbrev pub entries_in : Fields → Entries
-entries_in fields = record {
-  has_bad_word = fields.has_bad_word;
-  has_doubled_key = fields.has_doubled_key;
-  value = λ key. option_map (λ value. value.now) (slice_index_or fields.values (number_of_key key) None);
-}
+-- the first of two values that may be missing
+abbrev pub first_or : {X : Type 0} → Option X → Option X → Option X
+first_or first None = first
+first_or first (Some second) = Some (unwrap_or first second)
+
+-- a value for a key that has one
+abbrev pub is_again : {X : Type 0} → Option X → Option X → Bool
+is_again first None = false
+is_again first (Some second) = is_some first
+
+-- Fields hold what entries say: whether a key stands twice, and the value of each key in its place.
+pub record Holds (fields : Fields) (entries : Entries) : Type 0 where
+  pub doubled : fields.has_doubled_key ≡ entries.has_doubled_key
+  pub on : option_map (λ text. text.now) fields.on ≡ entries.value On
+  pub by : fields.by ≡ entries.value By
+  pub seat : fields.seat ≡ entries.value Seat
+  pub round : fields.round ≡ entries.value Round
+  pub melds : option_map (λ text. text.now) fields.melds ≡ entries.value Open
+  pub riichi : fields.riichi ≡ entries.value Riichi
+  pub flags : fields.flags ≡ entries.value Flags
+  pub dora : option_map (λ text. text.now) fields.dora ≡ entries.value Dora
+  pub ura : option_map (λ text. text.now) fields.ura ≡ entries.value Ura
+  pub counters : fields.counters ≡ entries.value Counters
+  pub sticks : fields.sticks ≡ entries.value Sticks
+  pub seen : option_map (λ text. text.now) fields.seen ≡ entries.value Seen
+
+-- what one more key with the text of its value adds to entries
+abbrev pub with_keyed : Entries → Key × List ℕ → Entries
+with_keyed entries keyed =
+    let value = value_of keyed.0 keyed.1 in
+    record {
+      has_bad_word = entries.has_bad_word || not (is_some value);
+      has_doubled_key = is_again (entries.value keyed.0) value || entries.has_doubled_key;
+      value = λ key. first_or (entries.value key) (value_at key keyed.0 value);
+    }

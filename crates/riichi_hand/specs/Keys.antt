@@ -1,10 +1,13 @@
 -- The jobs and their keys.
-use Rattle.std.specs.Prelude.{ℕ, ◌==◌, List, [], ◌∷◌, ◌++◌, Bool, true, Option, is_some, codes}
+use Rattle.std.specs.Prelude.{ℕ, ◌==◌, List, [], ◌∷◌, ◌++◌, Bool, Option, None, Some, codes}
 use Rattle.std.specs.List.{list_any}
 use Rattle.riichi_hand.specs.declared.line.job_name.JobName.{JobName}
 use Rattle.riichi_hand.specs.declared.line.job_name.JobName.TheVariants.{Win, Waits, Shape}
 use Rattle.riichi_hand.specs.declared.line.key.Key.{Key}
 use Rattle.riichi_hand.specs.declared.line.key.Key.TheVariants.{On, By, Seat, Round, Open, Riichi, Flags, Dora, Ura, Counters, Sticks, Seen}
+use Rattle.riichi_hand.specs.declared.win.By as win
+use Rattle.riichi_hand.specs.declared.win.Flags as flags
+use Rattle.riichi_hand.specs.declared.win.Wind.{Wind}
 use Rattle.riichi_hand.specs.Values.{named, by_of, wind_of, riichi_of, number_of, flags_of}
 
 abbrev pub job_named : List ℕ → Option JobName
@@ -50,17 +53,48 @@ is_same key other = number_of_key key == number_of_key other
 abbrev pub has_key : JobName → Key → Bool
 has_key job key = list_any (is_same key) (needed job ++ optional job)
 
--- the values that a key may have; the notation texts and the melds have faults of their own
-abbrev pub is_value : Key → List ℕ → Bool
-is_value On value = true
-is_value By value = is_some (by_of value)
-is_value Seat value = is_some (wind_of value)
-is_value Round value = is_some (wind_of value)
-is_value Open value = true
-is_value Riichi value = is_some (riichi_of value)
-is_value Flags value = is_some (flags_of value)
-is_value Dora value = true
-is_value Ura value = true
-is_value Counters value = is_some (number_of value)
-is_value Sticks value = is_some (number_of value)
-is_value Seen value = true
+-- What the value of a key reads as. Notation texts and melds are read later, since they have faults of their own.
+abbrev pub ValueOf : Key → Type 0
+ValueOf On = List ℕ
+ValueOf By = win.By
+ValueOf Seat = Wind
+ValueOf Round = Wind
+ValueOf Open = List ℕ
+ValueOf Riichi = ℕ
+ValueOf Flags = flags.Flags
+ValueOf Dora = List ℕ
+ValueOf Ura = List ℕ
+ValueOf Counters = ℕ
+ValueOf Sticks = ℕ
+ValueOf Seen = List ℕ
+
+-- the value that a text is, where the key may have it
+abbrev pub value_of : (key : Key) → List ℕ → Option (ValueOf key)
+value_of On text = Some text
+value_of By text = by_of text
+value_of Seat text = wind_of text
+value_of Round text = wind_of text
+value_of Open text = Some text
+value_of Riichi text = riichi_of text
+value_of Flags text = flags_of text
+value_of Dora text = Some text
+value_of Ura text = Some text
+value_of Counters text = number_of text
+value_of Sticks text = number_of text
+value_of Seen text = Some text
+
+-- a value of the other key, as one of this key: only where they are the same
+abbrev pub value_at : (key other : Key) → Option (ValueOf other) → Option (ValueOf key)
+value_at On On value = value
+value_at By By value = value
+value_at Seat Seat value = value
+value_at Round Round value = value
+value_at Open Open value = value
+value_at Riichi Riichi value = value
+value_at Flags Flags value = value
+value_at Dora Dora value = value
+value_at Ura Ura value = value
+value_at Counters Counters value = value
+value_at Sticks Sticks value = value
+value_at Seen Seen value = value
+value_at key other value = None

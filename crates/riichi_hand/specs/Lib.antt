@@ -11,4 +11,3 @@ pub mod Parts
 pub mod Texts
 pub mod Jobs
 pub mod Lines
-pub mod Steps

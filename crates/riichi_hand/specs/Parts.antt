@@ -3,9 +3,10 @@ use Rattle.std.specs.Prelude.{ℕ, List, [], Bool, false, not, Option, None, Som
 use Rattle.riichi_hand.specs.declared.line.job_name.JobName.{JobName}
 use Rattle.riichi_hand.specs.declared.line.job_name.JobName.TheVariants.{Waits}
 use Rattle.riichi_hand.specs.declared.line.key.Key.{Key}
-use Rattle.riichi_hand.specs.declared.line.parts.Parts.{Parts}
-use Rattle.riichi_hand.specs.Keys.{job_named}
-use Rattle.riichi_hand.specs.Entries.{cut_at_equals, first_of, Entries, entries_of, entries_in}
+use Rattle.riichi_hand.specs.declared.line.words.Words.{Words}
+use Rattle.riichi_hand.specs.Words.{words_of}
+use Rattle.riichi_hand.specs.Keys.{job_named, ValueOf}
+use Rattle.riichi_hand.specs.Entries.{cut_at_equals, first_of, Entries, entries_of}
 
 -- The first word is a job, the second a hand: a word without `=`.
 
@@ -29,22 +30,18 @@ pub record LineParts : Type 0 where
   pub hand : List ℕ
   pub entries : Entries
 
-abbrev pub line_parts : JobName → List ℕ → Entries → LineParts
-line_parts job hand entries = record { job = job; hand = hand; entries = entries }
+abbrev pub line_parts : JobName → List ℕ → List (List ℕ) → LineParts
+line_parts job hand words = record { job = job; hand = hand; entries = entries_of job words }
 
 abbrev pub parts_of : List (List ℕ) → LineParts
-parts_of words =
-    let job = unwrap_or (job_in words) Waits in
-    line_parts job (unwrap_or (hand_in words) []) (entries_of job (drop 2 words))
+parts_of words = line_parts (unwrap_or (job_in words) Waits) (unwrap_or (hand_in words) []) (drop 2 words)
 
-abbrev pub parts_in : Parts → LineParts
-parts_in parts = line_parts parts.job parts.hand.now (entries_in parts.fields.now)
+-- the same of words that were cut
+abbrev pub parts_in : Words → LineParts
+parts_in words = line_parts words.job words.hand.now (words_of words.entries.now)
 
-abbrev pub value : Key → LineParts → Option (List ℕ)
+abbrev pub value : (key : Key) → LineParts → Option (ValueOf key)
 value key parts = parts.entries.value key
-
-abbrev pub text : Key → LineParts → List ℕ
-text key parts = unwrap_or (value key parts) []
 
 abbrev pub is_missing : LineParts → Key → Bool
 is_missing parts key = not (is_some (value key parts))

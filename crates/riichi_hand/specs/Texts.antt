@@ -11,7 +11,7 @@ use Rattle.riichi_hand.specs.declared.fault.TextName.{TextName}
 use Rattle.riichi_hand.specs.declared.line.key.Key.TheVariants.{On, Dora, Ura, Seen, Open}
 use Rattle.riichi_hand.specs.declared.line.texts.Texts.{Texts}
 use Rattle.riichi_hand.specs.Values.{melds_of}
-use Rattle.riichi_hand.specs.Parts.{LineParts, value, text}
+use Rattle.riichi_hand.specs.Parts.{LineParts, value}
 
 -- A notation text that may be missing: its fault, and its counts.
 
@@ -49,4 +49,5 @@ only_kind counts = if sum counts == 1 then find (λ kind. nat_lt 0 (slice_index 
 
 -- the digits 0 of the hand, of the winning tile and of the melds
 abbrev pub reds : LineParts → List ℕ
-reds parts = joined (joined (reds_in parts.hand) (reds_in (text On parts))) (reds_in (text Open parts))
+reds parts =
+    joined (joined (reds_in parts.hand) (reds_in (unwrap_or (value On parts) []))) (reds_in (unwrap_or (value Open parts) []))

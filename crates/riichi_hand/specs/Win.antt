@@ -12,7 +12,7 @@ use Rattle.riichi_hand.specs.declared.win.Flags.{Flags}
 use Rattle.riichi_hand.specs.declared.win.Wind.{Wind}
 use Rattle.riichi_hand.specs.declared.win.Wind.TheVariants.{East, South, West, North}
 use Rattle.riichi_hand.specs.declared.win.WinParts.{WinParts}
-use Rattle.riichi_hand.specs.Faults.{coded, first_fault, told}
+use Rattle.riichi_hand.specs.Faults.{coded, first_fault, fault_or}
 use Rattle.riichi_hand.specs.Hand.{is_thirteen}
 
 abbrev pub no_flags : Flags
@@ -69,7 +69,7 @@ has_too_many_reds parts =
     || nat_lt (copies_held parts 13) (slice_index parts.reds 1)
     || nat_lt (copies_held parts 22) (slice_index parts.reds 2)
 
--- Every fault of a win in the order in which they are told.
+-- Every fault of a win in order.
 abbrev pub win_faults : WinParts → List (Option LineFault)
 win_faults parts =
     coded H4 (is_out_of_range parts)
@@ -117,4 +117,4 @@ pub record IsWin (parts : WinParts) : Type 0 where
   pub kept : kept_under parts.rules parts ≡ parts
 
 unfoldable pub win_of : WinParts → Result WinParts LineFault
-win_of parts = told (first_fault (win_faults parts)) (kept_under parts.rules parts)
+win_of parts = fault_or (first_fault (win_faults parts)) (kept_under parts.rules parts)

@@ -1,6 +1,6 @@
 -- The words of a line, and the items of a value.
-use Rattle.std.specs.Prelude.{ℕ, ◌==◌, List, [], ◌∷◌, Bool, true, false, filter}
-use Rattle.std.specs.List.{slice_split}
+use Rattle.std.specs.Prelude.{◌≡◌, ℕ, ◌==◌, List, [], ◌∷◌, ◌++◌, Bool, true, false, filter}
+use Rattle.std.specs.List.{slice_split, list_all}
 
 abbrev pub is_word : List ℕ → Bool
 is_word [] = false
@@ -17,3 +17,9 @@ items_of value = slice_split (λ byte. byte == 44) value
 abbrev pub begins_with_space : List ℕ → Bool
 begins_with_space [] = false
 begins_with_space (byte ∷ bytes) = byte == 32
+
+-- a text is spaces and then the rest
+pub record BeginsWithSpaces (text rest : List ℕ) : Type 0 where
+  pub spaces : List ℕ
+  pub are_spaces : list_all (λ byte. byte == 32) spaces ≡ true
+  pub text_is : text ≡ spaces ++ rest

@@ -22,7 +22,8 @@ pub(crate) fn meld_tiles(melds: &Melds) -> [u8; 34]
 fn add_meld(held: &mut [u8; 34], meld: Meld)
     requires few { (kind : ℕ) → slice_index held.old kind ≤ 12 }
     requires proper { is_meld meld ≡ true }
-    ensures { (kind : ℕ) → slice_index held.new kind ≡ slice_index held.old kind + tiles_of meld kind }
+    ensures { (kind : ℕ)
+        → slice_index held.new kind ≡ slice_index held.old kind + tiles_of meld kind }
 {
     match meld {
         Meld::Chi(low) => {

@@ -1,14 +1,14 @@
-//! Hands as they are asked of the desk, and the lines that tell them.
+//! Records of hands, and the lines that spell them.
 //!
-//! A [`Job`] is what is asked: a [`WinRecord`] is scored, a [`HandRecord`] waits for tiles, a [`ShapeRecord`] is some steps from
-//! a win. Each record keeps the conditions of its tiles and flags by its type, since its constructor answers the first
-//! [`LineFault`] of what it is given, so whoever holds a record needs no test. [`WinParts`] is what a win is told as, with
-//! [`Rules`], [`By`], [`Wind`] and [`Flags`].
+//! A [`Job`] is one question: what a [`WinRecord`] is worth, which tiles a [`HandRecord`] waits for, how far a
+//! [`ShapeRecord`] is from a win. Each record keeps the conditions of its tiles and flags by its type, since its
+//! constructor answers the first [`LineFault`] of what it is given. So whoever holds a record needs no test.
+//! [`WinParts`] are the parts of a win, with [`Rules`], [`By`], [`Wind`] and [`Flags`].
 //!
-//! [`read_line`] reads a record line, as `win 234m567m345p67s99s on=5s by=ron seat=S round=E`: it answers the job, nothing for a
-//! comment or a blank line, or the first fault of the line, which [`fault_text`] tells. A [`LineCode`] is a fault of the line or
-//! of the record; a fault of a notation text comes with the text's [`TextName`]. Lines, keys and codes are told in
-//! docs/NOTATION.md.
+//! [`read_line`] reads a record line, as `win 234m567m345p67s99s on=5s by=ron seat=S round=E`: it answers the job,
+//! nothing for a comment or a blank line, or the first fault of the line, whose text is [`fault_text`]. A [`LineCode`]
+//! is a fault of the line or of the record; a fault of a notation text comes with the text's [`TextName`].
+//! docs/NOTATION.md has the lines, their keys and the codes.
 //!
 //! All of these are plain values: each can be copied and compared, and no call takes memory.
 //!

@@ -1,13 +1,15 @@
 //! The words of a line, and texts cut at a mark.
-ghost use Rattle.std.specs.Prelude.{◌≡◌, ◌<◌, ◌≤◌, ◌==◌, [], ◌∷◌, false, true, length, MatchOption, None, Some, is_some, not, take, drop};
+ghost use Rattle.std.specs.Prelude.{◌≡◌, ◌<◌, ◌≤◌, ◌==◌, [], ◌∷◌, ◌++◌, false, true, length, IfSome, MatchOption, None, Some, not, take, drop};
 ghost use Rattle.std.specs.List.{list_all};
 ghost use Rattle.riichi_tiles.specs.Melds.{cut_at};
-ghost use Rattle.riichi_hand.specs.Words.{words_of, begins_with_space};
+ghost use Rattle.riichi_hand.specs.Words.{words_of, begins_with_space, BeginsWithSpaces};
 
-/// The first word of a text, and what comes after it.
+/// The first word of a text, and all that comes after it.
 pub fn next_word(text: &[u8]) -> Option<(&[u8], &[u8])>
-    ensures { MatchOption result (words_of text.now ≡ [])
-        (λ found. (words_of text.now ≡ found.0.now ∷ words_of found.1.now) × (length found.1.now < length text.now)) }
+    ensures words { MatchOption result (words_of text.now ≡ []) (λ found.
+        (words_of text.now ≡ found.0.now ∷ words_of found.1.now) × (length found.1.now < length text.now)) }
+    ensures text { IfSome result (λ found.
+        BeginsWithSpaces text.now (found.0.now ++ found.1.now)) }
 {
     let text = without_spaces(text);
     if text.is_empty() {
@@ -19,14 +21,24 @@ pub fn next_word(text: &[u8]) -> Option<(&[u8], &[u8])>
 /// The text without the spaces that it begins with.
 fn without_spaces(text: &[u8]) -> &[u8]
     ensures words { words_of result.now ≡ words_of text.now }
+    ensures text { BeginsWithSpaces text.now result.now }
     ensures begins { begins_with_space result.now ≡ false }
     ensures shorter { length result.now ≤ length text.now }
 {
-    let mut rest = text;
-    while let [b' ', ..] = rest {
-        rest = &rest[1..];
+    text.split_at(spaces_len(text)).1
+}
+
+/// How many spaces a text begins with.
+fn spaces_len(text: &[u8]) -> usize
+    ensures bound { result ≤ length text.now }
+    ensures spaces { list_all (λ byte. byte == 32) (take result text.now) ≡ true }
+    ensures rest { result < length text.now → begins_with_space (drop result text.now) ≡ false }
+{
+    let mut len = 0;
+    while len < text.len() && text[len] == b' ' {
+        len += 1;
     }
-    rest
+    len
 }
 
 /// How many bytes come before the first space.
@@ -40,17 +52,6 @@ fn word_len(text: &[u8]) -> usize
         len += 1;
     }
     len
-}
-
-/// Whether a mark stands in a text.
-pub(crate) fn has_mark(text: &[u8], mark: u8) -> bool
-    ensures { result ≡ is_some (cut_at mark text.now) }
-{
-    let mut found = false;
-    for byte in text {
-        found = found | (*byte == mark);
-    }
-    found
 }
 
 /// What stands before and after the first mark.

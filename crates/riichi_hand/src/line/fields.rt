@@ -1,81 +1,139 @@
 //! What the words after the hand say.
-ghost use Rattle.std.specs.Prelude.{◌≡◌, ◌∷◌, ◌++◌, [], Some, None, List, ℕ, option_map, unwrap_or, slice_index_or, slice_set};
-ghost use Rattle.riichi_hand.specs.declared.line.job_name.JobName.{JobName};
-ghost use Rattle.riichi_hand.specs.Keys.{number_of_key};
-ghost use Rattle.riichi_hand.specs.Words.{words_of};
-ghost use Rattle.riichi_hand.specs.Entries.{entries_of, entries_in};
+ghost use Rattle.std.specs.Prelude.{◌≡◌, ◌||◌, is_some, None, Some, MatchOption};
+ghost use Rattle.riichi_hand.specs.Keys.{value_of};
+ghost use Rattle.riichi_hand.specs.Faults.{IsStep};
+ghost use Rattle.riichi_hand.specs.Lines.{entry_faults};
+ghost use Rattle.riichi_hand.specs.Parts.{parts_in};
+ghost use Rattle.riichi_hand.specs.Entries.{keyed_of, first_or, is_again};
 
-use super::cuts::next_word;
-use super::entry::read_entry;
+use super::cuts::{next_word, split_at_mark};
+use super::flags::read_flags;
 use super::job_name::JobName;
 use super::key::Key;
+use super::values::{read_by, read_number, read_riichi, read_wind};
+use super::words::Words;
+use crate::fault::{LineCode, LineFault};
+use crate::win::{By, Flags, Wind};
 
-/// Whether a word was no entry of the job, whether a key came again, and the first value of each key in the key's place.
+/// The first value of each key, where it has one, and whether a key came again. The texts of tiles and of melds are
+/// read later, since they have faults of their own.
 #[derive(Clone, Copy)]
 pub(crate) struct Fields<'a> {
-    pub(crate) has_bad_word: bool,
     pub(crate) has_doubled_key: bool,
-    pub(crate) values: [Option<&'a [u8]>; Key::COUNT],
+    pub(crate) on: Option<&'a [u8]>,
+    pub(crate) by: Option<By>,
+    pub(crate) seat: Option<Wind>,
+    pub(crate) round: Option<Wind>,
+    pub(crate) melds: Option<&'a [u8]>,
+    pub(crate) riichi: Option<u8>,
+    pub(crate) flags: Option<Flags>,
+    pub(crate) dora: Option<&'a [u8]>,
+    pub(crate) ura: Option<&'a [u8]>,
+    pub(crate) counters: Option<u8>,
+    pub(crate) sticks: Option<u8>,
+    pub(crate) seen: Option<&'a [u8]>,
 }
 
 impl<'a> Fields<'a> {
+    ghost use Rattle.std.specs.Prelude.{[]};
+    ghost use Rattle.riichi_hand.specs.declared.line.job_name.JobName.{JobName};
+    ghost use Rattle.riichi_hand.specs.Entries.{Entries, Holds, entries_of, with_keyed};
+
+    /// No values.
     pub(crate) fn new() -> Fields<'a>
-        ensures { (job : JobName) → entries_in result ≡ entries_of job [] }
+        ensures { (job : JobName) → Holds result (entries_of job []) }
     {
         Fields {
-            has_bad_word: false,
             has_doubled_key: false,
-            values: [None; Key::COUNT],
+            on: None,
+            by: None,
+            seat: None,
+            round: None,
+            melds: None,
+            riichi: None,
+            flags: None,
+            dora: None,
+            ura: None,
+            counters: None,
+            sticks: None,
+            seen: None,
         }
     }
 
-    pub(crate) fn value(&self, key: Key) -> Option<&'a [u8]>
-        ensures { option_map (λ value. value.now) result ≡ (entries_in self.now).value key }
+    /// Takes the words of a line, or answers H4 where one is no entry of the job, H5 where a key stands twice.
+    #[inline(never)]
+    pub(crate) fn fill(&mut self, words: &Words<'a>) -> Result<(), LineFault>
+        requires { (job : JobName) → Holds self.old (entries_of job []) }
+        ensures { let parts = parts_in words.now in
+            IsStep result (entry_faults parts) (λ _. Holds self.new parts.entries) }
     {
-        self.values[key.index()]
-    }
-
-    /// The value of a key, or nothing where it is missing.
-    pub(crate) fn text(&self, key: Key) -> &'a [u8]
-        ensures { result.now ≡ unwrap_or ((entries_in self.now).value key) [] }
-    {
-        self.value(key).unwrap_or(&[])
-    }
-
-    /// Takes one more word.
-    fn add(&mut self, job: JobName, word: &'a [u8])
-        ensures { (words : List (List ℕ)) → entries_in self.old ≡ entries_of job words
-            → entries_in self.new ≡ entries_of job (words ++ word.now ∷ []) }
-    {
-        match read_entry(job, word) {
-            None => self.has_bad_word = true,
-            Some((key, value)) => {
-                if self.value(key).is_some() {
-                    self.has_doubled_key = true;
-                } else {
-                    put(&mut self.values, key, value);
-                }
+        let mut rest = words.entries;
+        while let Some((word, after)) = next_word(rest) {
+            let Some((key, text)) = keyed(words.job, word) else {
+                return Err(LineFault::Line(LineCode::H4));
+            };
+            if !self.put(key, text) {
+                return Err(LineFault::Line(LineCode::H4));
             }
+            rest = after;
+        }
+        if self.has_doubled_key {
+            return Err(LineFault::Line(LineCode::H5));
+        }
+        Ok(())
+    }
+
+    /// Puts the value of one more key in its place. Answers whether the text is a value of the key.
+    fn put(&mut self, key: Key, text: &'a [u8]) -> bool
+        ensures answer { result ≡ is_some (value_of key text.now) }
+        ensures holds { (entries : Entries) → Holds self.old entries
+            → Holds self.new (with_keyed entries (key, text.now)) }
+    {
+        let doubled = &mut self.has_doubled_key;
+        match key {
+            Key::On => keep(&mut self.on, Some(text), doubled),
+            Key::By => keep(&mut self.by, read_by(text), doubled),
+            Key::Seat => keep(&mut self.seat, read_wind(text), doubled),
+            Key::Round => keep(&mut self.round, read_wind(text), doubled),
+            Key::Open => keep(&mut self.melds, Some(text), doubled),
+            Key::Riichi => keep(&mut self.riichi, read_riichi(text), doubled),
+            Key::Flags => keep(&mut self.flags, read_flags(text), doubled),
+            Key::Dora => keep(&mut self.dora, Some(text), doubled),
+            Key::Ura => keep(&mut self.ura, Some(text), doubled),
+            Key::Counters => keep(&mut self.counters, read_number(text), doubled),
+            Key::Sticks => keep(&mut self.sticks, read_number(text), doubled),
+            Key::Seen => keep(&mut self.seen, Some(text), doubled),
         }
     }
 }
 
-/// Puts a value in the place of its key.
-fn put<'a>(values: &mut [Option<&'a [u8]>; Key::COUNT], key: Key, value: &'a [u8])
-    ensures here { slice_index_or values.new (number_of_key key) None ≡ Some value.entry }
-    ensures elsewhere { values.new ≡ slice_set values.old (number_of_key key) (Some value.entry) }
+/// The key and the text of its value, of a word with `=` and a key that the job can have.
+fn keyed(job: JobName, word: &[u8]) -> Option<(Key, &[u8])>
+    ensures { MatchOption result (keyed_of job word.now ≡ None)
+        (λ keyed. keyed_of job word.now ≡ Some (keyed.0, keyed.1.now)) }
 {
-    values[key.index()] = Some(value);
+    let (name, text) = split_at_mark(word, b'=')?;
+    let key = Key::read(name)?;
+    if job.has_key(key) {
+        Some((key, text))
+    } else {
+        None
+    }
 }
 
-/// Takes the words of a text into fields that have none yet.
-pub(crate) fn read_fields<'a>(fields: &mut Fields<'a>, job: JobName, text: &'a [u8])
-    requires { entries_in fields.old ≡ entries_of job [] }
-    ensures { entries_in fields.new ≡ entries_of job (words_of text.now) }
+/// Keeps a value that is the first of its key, and marks that a second one came. Answers whether there is a value.
+fn keep<T: Copy>(place: &mut Option<T>, value: Option<T>, is_doubled: &mut bool) -> bool
+    ensures answer { result ≡ is_some value }
+    ensures first { place.new ≡ first_or place.old value }
+    ensures doubled { is_doubled.new ≡ (is_again place.old value || is_doubled.old) }
 {
-    let mut rest = text;
-    while let Some((word, after)) = next_word(rest) {
-        fields.add(job, word);
-        rest = after;
+    if value.is_none() {
+        return false;
     }
+    if place.is_some() {
+        *is_doubled = true;
+    } else {
+        *place = value;
+    }
+    true
 }

@@ -1,5 +1,5 @@
-ghost use Rattle.std.specs.Prelude.{◌≡◌, ◌<◌};
-ghost use Rattle.riichi_hand.specs.Keys.{key_named, number_of_key};
+ghost use Rattle.std.specs.Prelude.{◌≡◌};
+ghost use Rattle.riichi_hand.specs.Keys.{key_named};
 
 /// The keys of a record line.
 #[derive(Clone, Copy)]
@@ -19,29 +19,6 @@ pub(crate) enum Key {
 }
 
 impl Key {
-    /// How many keys there are.
-    pub(crate) const COUNT: usize = 12;
-
-    pub(crate) fn index(self) -> usize
-        ensures value { result ≡ number_of_key self }
-        ensures within { result < Self.COUNT }
-    {
-        match self {
-            Key::On => 0,
-            Key::By => 1,
-            Key::Seat => 2,
-            Key::Round => 3,
-            Key::Open => 4,
-            Key::Riichi => 5,
-            Key::Flags => 6,
-            Key::Dora => 7,
-            Key::Ura => 8,
-            Key::Counters => 9,
-            Key::Sticks => 10,
-            Key::Seen => 11,
-        }
-    }
-
     pub(crate) fn read(name: &[u8]) -> Option<Key>
         ensures { result ≡ key_named name.now }
     {

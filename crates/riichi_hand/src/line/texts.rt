@@ -1,17 +1,16 @@
 //! The notation texts and the melds of a line.
 ghost use Rattle.std.specs.Prelude.{◌≡◌, None, Some, MatchResult, option_map, replicate};
-ghost use Rattle.riichi_hand.specs.Parts.{parts_in};
-ghost use Rattle.riichi_hand.specs.Texts.{text_fault, counts_in, melds_in, no_texts};
-ghost use Rattle.riichi_hand.specs.Steps.{texts_or_fault};
 ghost use Rattle.riichi_tiles.specs.Notation.{counts_of};
+ghost use Rattle.riichi_hand.specs.Faults.{IsStep};
+ghost use Rattle.riichi_hand.specs.Lines.{text_faults};
+ghost use Rattle.riichi_hand.specs.Parts.{parts_in};
+ghost use Rattle.riichi_hand.specs.Entries.{Holds};
+ghost use Rattle.riichi_hand.specs.Texts.{text_fault, counts_in, melds_in};
 
-use super::jobs::make_job;
-use super::key::Key;
+use super::fields::Fields;
 use super::open::read_melds;
-use super::parts::Parts;
+use super::words::Words;
 use crate::fault::{LineCode, LineFault, TextName};
-use crate::job::Job;
-use crate::win::Rules;
 use riichi_tiles::{Counts, Melds, read_counts};
 
 /// What the notation texts and the melds of a line spell.
@@ -26,8 +25,10 @@ pub(crate) struct Texts {
 }
 
 impl Texts {
+    ghost use Rattle.riichi_hand.specs.Texts.{texts_of, no_texts};
+
     /// No tiles.
-    fn new() -> Texts
+    pub(crate) fn new() -> Texts
         ensures { result ≡ no_texts }
     {
         Texts {
@@ -39,27 +40,27 @@ impl Texts {
             melds: Melds::new(),
         }
     }
-}
 
-/// The job of the parts, or the first fault. The texts are looked at in the order of their faults, and the melds after them.
-#[tactic(auto, unfolding(crate::specs::Steps::texts_or_fault))]
-pub(crate) fn read_texts(rules: Rules, parts: &Parts<'_>) -> Result<Job, LineFault>
-    ensures { result ≡ texts_or_fault rules (parts_in parts.now) }
-{
-    let fields = parts.fields;
-    let mut texts = Texts::new();
-    read_text(&mut texts.hand, TextName::Hand, parts.hand)?;
-    read_optional(&mut texts.on, TextName::On, fields.value(Key::On))?;
-    read_optional(&mut texts.dora, TextName::Dora, fields.value(Key::Dora))?;
-    read_optional(&mut texts.ura, TextName::Ura, fields.value(Key::Ura))?;
-    read_optional(&mut texts.seen, TextName::Seen, fields.value(Key::Seen))?;
-    let Some(melds) = read_open(fields.value(Key::Open)) else {
-        return Err(LineFault::Line(LineCode::H7));
-    };
-    texts.melds = melds;
-    make_job(rules, parts, &texts)
+    /// Reads the texts of a line, or answers the fault of the first text that has one, and last H7 for the melds.
+    #[inline(never)]
+    pub(crate) fn spell(&mut self, words: &Words<'_>, fields: &Fields<'_>) -> Result<(), LineFault>
+        requires none { self.old ≡ no_texts }
+        requires holds { Holds fields.now (parts_in words.now).entries }
+        ensures { let parts = parts_in words.now in
+            IsStep result (text_faults parts) (λ _. self.new ≡ texts_of parts) }
+    {
+        read_text(&mut self.hand, TextName::Hand, words.hand)?;
+        read_optional(&mut self.on, TextName::On, fields.on)?;
+        read_optional(&mut self.dora, TextName::Dora, fields.dora)?;
+        read_optional(&mut self.ura, TextName::Ura, fields.ura)?;
+        read_optional(&mut self.seen, TextName::Seen, fields.seen)?;
+        let Some(melds) = read_open(fields.melds) else {
+            return Err(LineFault::Line(LineCode::H7));
+        };
+        self.melds = melds;
+        Ok(())
+    }
 }
-
 /// Puts the tiles of a notation text, or tells its fault.
 fn read_text(counts: &mut Counts, name: TextName, text: &[u8]) -> Result<(), LineFault>
     ensures { MatchResult result

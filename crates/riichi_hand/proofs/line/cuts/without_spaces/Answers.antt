@@ -1,0 +1,29 @@
+use Rattle.std.proofs.Common.{◌≡◌, ◌∙◌, false, ap, sym, length, take, drop, inl, inr, arith, length-drop}
+use Rattle.std.proofs.lemmas.Bool.{cases_lt}
+use Rattle.std.proofs.lemmas.List.{take-append-drop, drop_all}
+use Rattle.riichi_hand.specs.Words.{words_of, begins_with_space}
+use Rattle.riichi_hand.proofs.WordLemmas.{words_of-spaces}
+use Rattle.riichi_hand.proofs.line.cuts.without_spaces.Goals as goal
+
+pub returns-clause-words : goal.returns-clause-words
+returns-clause-words c =
+    let text = c.args.text.now in
+    let len = c.spaces_len.result in
+    rw c.split_at.ensures.back (sym (ap words_of (sym (take-append-drop len text)) ∙ words_of-spaces (take len text) (drop len text) c.spaces_len.ensures.spaces))
+
+pub returns-clause-text : goal.returns-clause-text
+returns-clause-text c =
+    let text = c.args.text.now in
+    let len = c.spaces_len.result in
+    record { spaces = take len text; are_spaces = c.spaces_len.ensures.spaces; text_is = rw c.split_at.ensures.back (sym (take-append-drop len text)) }
+
+pub returns-clause-begins : goal.returns-clause-begins
+returns-clause-begins c =
+    let text = c.args.text.now in
+    let len = c.spaces_len.result in
+    let begins : begins_with_space (drop len text) ≡ false =
+    elim (cases_lt len (length text)) [ inl more ↦ c.spaces_len.ensures.rest more | inr all ↦ ap begins_with_space (drop_all len text all) ] in
+    rw c.split_at.ensures.back begins
+
+pub returns-clause-shorter : goal.returns-clause-shorter
+returns-clause-shorter c = rw c.split_at.ensures.back (omega (arith, length-drop c.spaces_len.result c.args.text.now))
