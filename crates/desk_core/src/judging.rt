@@ -20,10 +20,12 @@ pub fn judge(job: &Job) -> Answer
     }
 }
 
-/// The same, where a shape is answered by the rows of a cache, which keeps those that it makes.
+/// The same, where a shape of thirteen tiles is answered by the rows of a cache, which keeps those
+/// that it makes; those of fourteen tiles are made anew.
 #[tactic(auto, unfolding(crate::specs::Value::value_of))]
 pub fn judge_with(cache: &mut RowCache, job: &Job) -> Answer
-    ensures { result ≡ value_of job.now }
+    ensures value { result ≡ value_of job.now }
+    ensures stays { cache.new ≡ cache.old }
 {
     match job {
         Job::Shape(tiles) => Answer::Shape(shape_with(cache, tiles)),

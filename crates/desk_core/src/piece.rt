@@ -52,10 +52,12 @@ impl Piece {
         Piece::answered(ticket, job, answer)
     }
 
-    /// Judges the job, a shape by the rows of a cache, which keeps those that it makes.
+    /// Judges the job, a shape of thirteen tiles by the rows of a cache, which keeps those that it
+    /// makes.
     pub fn score_with(cache: &mut RowCache, ticket: Ticket, job: Job) -> Piece
         ensures ticket { result.ticket ≡ ticket }
         ensures job { result.job ≡ job }
+        ensures stays { cache.new ≡ cache.old }
     {
         let answer = judge_with(cache, &job);
         Piece::answered(ticket, job, answer)

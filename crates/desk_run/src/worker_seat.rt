@@ -52,6 +52,7 @@ impl WorkerSeat {
         ensures nothing { IfNone result (self.new ≡ record self.old { lost = self.old.lost ++ place ∷ [] }) }
         ensures called { IfSome result (λ x. G.called gate.old x gate.new) }
         ensures uncalled { IfNone result (gate.new ≡ gate.old) }
+        ensures stays { cache.new ≡ cache.old }
     {
         let (ticket, job) = board.claim(&mut self.seat, place)?;
         let piece = Piece::score_with(cache, ticket, job);
@@ -77,6 +78,7 @@ impl WorkerSeat {
         ensures stop { (self.new.knows_stop ≡ self.old.knows_stop) × (self.new.looks ≡ self.old.looks) }
         ensures called { (x : _) → result ≡ Did x → G.called gate.old x gate.new }
         ensures uncalled { result ≡ Nothing → gate.new ≡ gate.old }
+        ensures stays { cache.new ≡ cache.old }
     {
         for place in 0..board.place_count() {
             if let Some(ticket) = self.work_at(board, gate, cache, place) {

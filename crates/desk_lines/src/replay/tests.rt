@@ -54,6 +54,49 @@ refused P2
 refused P1
 ";
 
+/// A table that takes hands back.
+const TAKEN_BACK: &[u8] = b"open east
+submit east waits 1112345678999m
+submit east shape 123456789m1134p
+submit east waits 1112345678999m
+withdraw east 0
+withdraw east 0
+withdraw east 3
+arrive east 0 shape 123456789m1134p
+take east
+arrive east 1 shape 123456789m1134p
+take east
+withdraw east 1
+arrive east 2 waits 1112345678999m
+close east
+withdraw east 2
+arrive east 2 waits 1112345678999m
+take east
+withdraw east
+withdraw north 0
+";
+
+const ANSWERS_TO_THAT: &[u8] = b"table 0
+ticket 0
+ticket 1
+ticket 2
+withdrawn
+not withdrawn
+not withdrawn
+withdrawn
+waiting
+accepted
+answer 1 shanten 0 accepts 2p:4 5p:4 live 8
+not withdrawn
+accepted
+closed
+withdrawn
+withdrawn
+finished
+refused P1
+refused P2
+";
+
 /// How many lines a text has.
 fn count_lines(text: &[u8]) -> usize {
     text.iter().filter(|byte| **byte == b'\n').count()
@@ -125,6 +168,11 @@ fn two_tables(rt: HostRuntime) {
     replay(&rt, b"# nothing\n\n   \n", b"", 0, 0);
     let text = b"rules 2\nopen a\r\nopen b";
     replay(&rt, text, b"refused P1\ntable 0\ntable 1\n", 2, 1);
+}
+
+#[test]
+fn hands_taken_back(rt: HostRuntime) {
+    replay(&rt, TAKEN_BACK, ANSWERS_TO_THAT, 17, 2);
 }
 
 /// A text of some bytes behind a front, made longer by spaces, and an ending.
