@@ -3,7 +3,8 @@ use Rattle.std.proofs.Common.{subst, ◌≡◌, ℕ, zero, suc, ◌<◌, Bool, t
 use Rattle.std.specs.List.{AllByRecursion}
 use Rattle.std.proofs.lemmas.Bool.Decides.{nat_tests}
 use Rattle.riichi_tiles.specs.Melds.{every_kind}
-use Rattle.riichi_tiles.specs.Blocks.{IsRunLow, IsSet, IsOrderedFrom, place_of}
+use Rattle.riichi_tiles.specs.Kinds.{IsRunLow}
+use Rattle.riichi_tiles.specs.Blocks.{IsSet, IsOrderedFrom, place_of}
 use Rattle.riichi_tiles.specs.declared.block.Block.{Block}
 use Rattle.riichi_tiles.specs.declared.block.Block.TheVariants.{Run, Triplet, Pair}
 use Rattle.riichi_split.specs.ReadingsOf.{begins_run, sets_at, every_set, when, collections}

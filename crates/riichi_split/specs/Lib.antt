@@ -9,3 +9,4 @@ pub mod Dones
 pub mod SplitsLeft
 pub mod Left
 pub mod Laws
+pub mod SuitTiles

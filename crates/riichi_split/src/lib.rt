@@ -32,6 +32,7 @@ mod special;
 mod split;
 mod splits;
 mod suit;
+mod suit_tiles;
 #[cfg(test)]
 mod tests;
 mod waiting;
