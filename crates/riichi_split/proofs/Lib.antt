@@ -17,3 +17,7 @@ pub mod EveryReading
 pub mod AnyTile
 pub mod Marks
 pub mod Orders
+pub mod SuitBlocks
+pub mod Filling
+pub mod SplitSuits
+pub mod PairTotals

@@ -6,7 +6,11 @@ use Rattle.riichi_tiles.specs.declared.suit.Suit.TheVariants.{Characters, Circle
 use Rattle.riichi_tiles.specs.declared.by_suit.BySuit.{BySuit}
 use Rattle.riichi_tiles.specs.Kinds.{first_of, suit_of, rank_of}
 use Rattle.riichi_tiles.specs.Suits.{of_suit, with_suit}
-use Rattle.riichi_split.specs.declared.suit_tiles.SuitTiles.{SuitTiles}
+
+-- how many tiles there are of each rank, and whether they make runs
+pub record OneSuit : Type 0 where
+  pub held : List ℕ
+  pub has_runs : Bool
 
 -- runs are made of every suit but the honours
 abbrev pub has_runs : Suit → Bool
@@ -20,7 +24,7 @@ abbrev pub nine_from : (ℕ → ℕ) → ℕ → List ℕ
 nine_from copies first = map copies (range_with_len first 9)
 
 -- the tiles of a suit in a hand; past the last honour there are none
-abbrev pub tiles_of_suit : List ℕ → Suit → SuitTiles
+abbrev pub tiles_of_suit : List ℕ → Suit → OneSuit
 tiles_of_suit counts suit = record { held = nine_from (slice_index counts) (first_of suit); has_runs = has_runs suit }
 
 -- Ranks in order are triplets and runs, where so many runs began one rank below the first of them, and two ranks below.
@@ -30,14 +34,14 @@ AreCut runs one two (held ∷ above) =
     (triplets : ℕ) × (begun : ℕ) × (held ≡ one + two + 3 * triplets + begun) × (0 < begun → IsTrue runs) × AreCut runs begun one above
 
 -- the tiles are triplets and runs
-abbrev pub AreSets : SuitTiles → Type 0
+abbrev pub AreSets : OneSuit → Type 0
 AreSets tiles = AreCut tiles.has_runs 0 0 tiles.held
 
-abbrev pub without_pair : SuitTiles → ℕ → SuitTiles
+abbrev pub without_pair : OneSuit → ℕ → OneSuit
 without_pair tiles rank = record tiles { held = slice_set tiles.held rank (slice_index tiles.held rank - 2) }
 
 -- the tiles are sets and a pair
-pub record AreSetsAndPair (tiles : SuitTiles) : Type 0 where
+pub record AreSetsAndPair (tiles : OneSuit) : Type 0 where
   pub rank : ℕ
   pub of_nine : rank < 9
   pub two : 2 ≤ slice_index tiles.held rank
@@ -49,13 +53,13 @@ third_of held =
     (slice_index held 1 + slice_index held 4 + slice_index held 7 + 2 * (slice_index held 2 + slice_index held 5 + slice_index held 8)) % 3
 
 -- how many pairs the tiles are beside sets: none or one, and another number where they are neither
-pub record HasPairs (tiles : SuitTiles) (pairs : ℕ) : Type 0 where
+pub record HasPairs (tiles : OneSuit) (pairs : ℕ) : Type 0 where
   pub none : (pairs ≡ 0) ↔ AreSets tiles
   pub one : (pairs ≡ 1) ↔ AreSetsAndPair tiles
 
 -- ---- the four suits
 
-abbrev pub suits_of : List ℕ → BySuit SuitTiles
+abbrev pub suits_of : List ℕ → BySuit OneSuit
 suits_of counts = record {
   characters = tiles_of_suit counts Characters;
   circles = tiles_of_suit counts Circles;
@@ -64,7 +68,7 @@ suits_of counts = record {
 }
 
 -- one suit is sets and a pair, and each other is sets
-pub record AreWon (suits : BySuit SuitTiles) : Type 0 where
+pub record AreWon (suits : BySuit OneSuit) : Type 0 where
   pub pair : Suit
   pub has_pair : AreSetsAndPair (of_suit suits pair)
   pub others : (suit : Suit) → suit ≢ pair → AreSets (of_suit suits suit)
@@ -72,21 +76,21 @@ pub record AreWon (suits : BySuit SuitTiles) : Type 0 where
 abbrev pub total_of : BySuit ℕ → ℕ
 total_of by = by.characters + by.circles + by.bamboos + by.honours
 
-abbrev pub with_tile : SuitTiles → ℕ → SuitTiles
+abbrev pub with_tile : OneSuit → ℕ → OneSuit
 with_tile tiles rank = record tiles { held = slice_set tiles.held rank (slice_index tiles.held rank + 1) }
 
 -- one more tile of a kind
-abbrev pub with_kind : BySuit SuitTiles → ℕ → BySuit SuitTiles
+abbrev pub with_kind : BySuit OneSuit → ℕ → BySuit OneSuit
 with_kind suits kind = with_suit suits (suit_of kind) (with_tile (of_suit suits (suit_of kind)) (rank_of kind))
 
 -- fewer than four of the kind are there, and one more of it makes sets and a pair
-pub record Completes (suits : BySuit SuitTiles) (kind : ℕ) : Type 0 where
+pub record Completes (suits : BySuit OneSuit) (kind : ℕ) : Type 0 where
   pub of_a_kind : kind < 34
   pub some_left : slice_index (of_suit suits (suit_of kind)).held (rank_of kind) < 4
   pub wins : AreWon (with_kind suits kind)
 
 -- of the kinds below a number those are marked that complete the suits, and no others
-pub record MarksTo (suits : BySuit SuitTiles) (number : ℕ) (marks : List Bool) : Type 0 where
+pub record MarksTo (suits : BySuit OneSuit) (number : ℕ) (marks : List Bool) : Type 0 where
   pub each_kind : length marks ≡ 34
   pub below : (kind : ℕ) → kind < number → (slice_index_or marks kind false ≡ true) ↔ Completes suits kind
   pub above : (kind : ℕ) → number ≤ kind → slice_index_or marks kind false ≡ false

@@ -1,8 +1,9 @@
 //! The tiles of one suit, and what they can be cut into.
-ghost use Rattle.std.specs.Prelude.{◌≡◌, ◌↔◌, ◌<◌, ◌≤◌, ℕ, IsTrue, slice_index, sum};
-ghost use Rattle.riichi_tiles.specs.Kinds.{first_of};
+ghost use Rattle.std.specs.Prelude.{◌≡◌, ◌↔◌, ◌<◌, ◌≤◌, ℕ, IsTrue, length, slice_index, sum};
+ghost use Rattle.riichi_split.specs.SuitTiles as spec;
 
 use riichi_tiles::Suit;
+use std::marker::Model;
 
 /// How many tiles there are of each rank of a suit. Of the honours the last two ranks are empty, and
 /// they make no runs.
@@ -12,9 +13,20 @@ pub(crate) struct SuitTiles {
     has_runs: bool,
 }
 
-impl SuitTiles {
-    ghost use Rattle.riichi_split.specs.SuitTiles as spec;
+impl Model for SuitTiles {
+    ghost use Rattle.std.specs.Prelude.{◌≡◌, length};
+    ghost use Rattle.riichi_split.specs.SuitTiles.{OneSuit};
 
+    ghost Value = { OneSuit };
+
+    ghost view = { λ t. record { held = t.held; has_runs = t.has_runs } };
+
+    ghost invariant = { λ t. length t.held ≡ 9 };
+
+    ghost inverse = { λ s. record { held = s.held; has_runs = s.has_runs } };
+}
+
+impl SuitTiles {
     /// The tiles of a suit in a hand.
     pub(crate) fn of(counts: &[u8; 34], suit: Suit) -> SuitTiles
         ensures { result ≡ spec.tiles_of_suit counts.now suit }
@@ -25,7 +37,7 @@ impl SuitTiles {
         }
         SuitTiles {
             held,
-            has_runs: suit != Suit::Honours,
+            has_runs: has_runs(suit),
         }
     }
 
@@ -59,17 +71,24 @@ impl SuitTiles {
     }
 
     fn total(&self) -> u16
-        ensures { result ≡ sum self.now.held }
+        ensures value { result ≡ sum self.now.held }
+        ensures nine { length self.now.held ≡ 9 }
     {
-        self.held.iter().map(|held| u16::from(*held)).sum()
+        let mut total = 0u16;
+        for held in &self.held {
+            total += u16::from(*held);
+        }
+        total
     }
 
     /// What the sum of all numbers leaves over by three.
     fn third(&self) -> u16
-        ensures { result ≡ spec.third_of self.now.held }
+        ensures value { result ≡ spec.third_of self.now.held }
+        ensures nine { length self.now.held ≡ 9 }
     {
-        let [_, b, c, _, e, f, _, h, i] = self.held.map(u16::from);
-        (b + e + h + 2 * (c + f + i)) % 3
+        let once = u16::from(self.held[1]) + u16::from(self.held[4]) + u16::from(self.held[7]);
+        let twice = u16::from(self.held[2]) + u16::from(self.held[5]) + u16::from(self.held[8]);
+        (once + 2 * twice) % 3
     }
 
     /// Whether the tiles are triplets and runs. The three numbers of a set leave nothing over by three.
@@ -117,13 +136,20 @@ impl SuitTiles {
         ensures pairs { spec.HasPairs self.now result }
         ensures few { result ≤ 2 }
     {
-        let rest = self.total() % 3;
-        if rest == 0 && self.are_sets() {
-            0
-        } else if rest == 2 && self.are_sets_and_pair() {
-            1
-        } else {
-            2
+        match self.total() % 3 {
+            0 => if self.are_sets() { 0 } else { 2 },
+            2 => if self.are_sets_and_pair() { 1 } else { 2 },
+            _ => 2,
         }
+    }
+}
+
+/// Whether runs are made of a suit.
+fn has_runs(suit: Suit) -> bool
+    ensures { result ≡ spec.has_runs suit }
+{
+    match suit {
+        Suit::Honours => false,
+        _ => true,
     }
 }
