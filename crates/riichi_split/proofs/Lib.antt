@@ -21,3 +21,5 @@ pub mod SuitBlocks
 pub mod Filling
 pub mod SplitSuits
 pub mod PairTotals
+pub mod KindMarks
+pub mod SpecialKinds

@@ -1,19 +1,15 @@
 -- Four suits are won just where they are one pair beside sets.
-use Rattle.std.proofs.Common.{◌≡◌, ◌≢◌, ℕ, ◌+◌, ◌-◌, ◌≤◌, ◌<◌, ◌↔◌, ◌⊎◌, inl, inr, List, Bool, true, false, length, get_or, replicate, set, refl, sym, ap, ◌∙◌, subst, arith, zero, suc}
+use Rattle.std.proofs.Common.{◌≡◌, ◌≢◌, ℕ, ◌+◌, ◌-◌, ◌≤◌, ◌<◌, ◌↔◌, ◌⊎◌, inl, inr, Bool, IsTrue, length, get_or, refl, sym, ap, ◌∙◌, subst, arith}
 use Rattle.std.proofs.lemmas.Bool.{cases_eq}
-use Rattle.std.proofs.lemmas.List.{length-set, get_or-set_other}
-use Rattle.std.proofs.lemmas.Grind.{get_or-set_at}
 use Rattle.riichi_tiles.specs.declared.suit.Suit.{Suit}
 use Rattle.riichi_tiles.specs.declared.suit.Suit.TheVariants.{Characters, Circles, Bamboos, Honours}
 use Rattle.riichi_tiles.specs.declared.by_suit.BySuit.{BySuit}
 use Rattle.riichi_tiles.specs.Kinds.{IsOfSuit, first_of, kinds_of, suit_of, rank_of}
 use Rattle.riichi_tiles.specs.Suits.{of_suit, with_suit}
 use Rattle.riichi_tiles.proofs.Suits.{only_suit, within, cases_suit, of_suit-with_same, of_suit-with_other}
-use Rattle.riichi_split.specs.SuitTiles.{OneSuit, AreSets, AreSetsAndPair, AreWon, HasPairs, Completes, MarksTo, total_of, with_tile, with_kind}
-
--- each suit is so many pairs beside sets
-pub AreCounted : BySuit OneSuit → BySuit ℕ → Type 0
-AreCounted tiles pairs = (suit : Suit) → HasPairs (of_suit tiles suit) (of_suit pairs suit)
+use Rattle.std.proofs.lemmas.List.{length-set}
+use Rattle.riichi_split.proofs.SuitCuts.{pairs-none, pairs-one}
+use Rattle.riichi_split.specs.SuitTiles.{OneSuit, AreSets, AreSetsAndPair, AreWon, AreCounted, HasPairs, Completes, total_of, with_tile, with_kind}
 
 -- ---- a total of one
 
@@ -64,9 +60,11 @@ at-most by Honours = omega arith
 
 -- ---- suits
 
-pub won-iff : (tiles : BySuit OneSuit) (pairs : BySuit ℕ) → AreCounted tiles pairs → (total_of pairs ≡ 1) ↔ AreWon tiles
-unfolding AreCounted
-won-iff tiles pairs counted = (
+abbrev EachCounted : BySuit OneSuit → BySuit ℕ → Type 0
+EachCounted tiles pairs = (suit : Suit) → HasPairs (of_suit tiles suit) (of_suit pairs suit)
+
+won-each : (tiles : BySuit OneSuit) (pairs : BySuit ℕ) → EachCounted tiles pairs → (total_of pairs ≡ 1) ↔ AreWon tiles
+won-each tiles pairs counted = (
   λ t. let p = the-one pairs t in record {
     pair = p.0;
     has_pair = (counted p.0).one.0 p.1;
@@ -75,19 +73,21 @@ won-iff tiles pairs counted = (
   λ w. one-of pairs w.pair ((counted w.pair).one.1 w.has_pair) (λ suit ne. (counted suit).none.1 (w.others suit ne)),
 )
 
-counted-with : (tiles : BySuit OneSuit) (pairs : BySuit ℕ) (suit : Suit) (more : OneSuit) (n : ℕ) → AreCounted tiles pairs → HasPairs more n → AreCounted (with_suit tiles suit more) (with_suit pairs suit n)
-unfolding AreCounted
+pub won-iff : (tiles : BySuit OneSuit) (pairs : BySuit ℕ) → AreCounted tiles pairs → (total_of pairs ≡ 1) ↔ AreWon tiles
+won-iff tiles pairs counted = won-each tiles pairs counted.each
+
+counted-with : (tiles : BySuit OneSuit) (pairs : BySuit ℕ) (suit : Suit) (more : OneSuit) (n : ℕ) → AreCounted tiles pairs → HasPairs more n → EachCounted (with_suit tiles suit more) (with_suit pairs suit n)
 counted-with tiles pairs suit more n counted has other = elim (cases_suit other suit) [
   | inl same ↦
       let P : Suit → Type 0 = λ s. HasPairs (of_suit (with_suit tiles suit more) s) (of_suit (with_suit pairs suit n) s) in
       subst P (sym same) (rw (of_suit-with_same tiles suit more, of_suit-with_same pairs suit n) has)
-  | inr ne ↦ rw (of_suit-with_other tiles suit other more ne, of_suit-with_other pairs suit other n ne) (counted other)
+  | inr ne ↦ rw (of_suit-with_other tiles suit other more ne, of_suit-with_other pairs suit other n ne) (counted.each other)
 ]
 
 -- with one suit changed, beside so many pairs of the others
 won-with : (tiles : BySuit OneSuit) (pairs : BySuit ℕ) (suit : Suit) (more : OneSuit) (n others : ℕ) → AreCounted tiles pairs → HasPairs more n → others + of_suit pairs suit ≡ total_of pairs → (others + n ≡ 1) ↔ AreWon (with_suit tiles suit more)
 won-with tiles pairs suit more n others counted has e =
-    let i = won-iff (with_suit tiles suit more) (with_suit pairs suit n) (counted-with tiles pairs suit more n counted has) in
+    let i = won-each (with_suit tiles suit more) (with_suit pairs suit n) (counted-with tiles pairs suit more n counted has) in
     let t = total-with pairs suit n in
     (λ s. i.0 (omega (arith, s, t, e)), λ w. omega (arith, i.1 w, t, e))
 
@@ -109,6 +109,67 @@ completed-iff tiles pairs suit rank others n counted small left e has =
       λ c. w.1 (subst AreWon same c.wins),
     )
 
+-- what is asked of a rank of a suit, beside so many pairs of the other suits
+pub record IsAsked (tiles : BySuit OneSuit) (pairs : BySuit ℕ) (suit : Suit) (rank others : ℕ) (own : OneSuit) : Type 0 where
+  pub counted : AreCounted tiles pairs
+  pub small : rank < kinds_of suit
+  pub is : own ≡ of_suit tiles suit
+  pub nine : length own.held ≡ 9
+  pub left : get_or own.held rank 0 < 4
+  pub beside : others + of_suit pairs suit ≡ total_of pairs
+
+asked-iff : (tiles : BySuit OneSuit) (pairs : BySuit ℕ) (suit : Suit) (rank others n : ℕ) (own : OneSuit) → IsAsked tiles pairs suit rank others own → HasPairs (with_tile own rank) n → (others + n ≡ 1) ↔ Completes tiles (first_of suit + rank)
+asked-iff tiles pairs suit rank others n own a has =
+    let L : OneSuit → Type 0 = λ t. get_or t.held rank 0 < 4 in
+    let H : OneSuit → Type 0 = λ t. HasPairs (with_tile t rank) n in
+    completed-iff tiles pairs suit rank others n a.counted a.small (subst L a.is a.left) a.beside (subst H a.is has)
+
+nine-with : (own : OneSuit) (rank : ℕ) → length own.held ≡ 9 → length (with_tile own rank).held ≡ 9
+nine-with own rank nine = length-set own.held rank (get_or own.held rank 0 + 1) ∙ nine
+
+-- the suit with the tile, in the hand with it
+changed : (tiles : BySuit OneSuit) (suit : Suit) (rank : ℕ) → rank < kinds_of suit → of_suit (with_kind tiles (first_of suit + rank)) suit ≡ with_tile (of_suit tiles suit) rank
+changed tiles suit rank small =
+    let kind = first_of suit + rank in
+    let own = only_suit suit kind (record { low = omega arith; high = omega arith }) in
+    let at : rank_of kind ≡ rank = ap (λ s. kind - first_of s) own ∙ omega arith in
+    ap (λ s. of_suit (with_suit tiles s (with_tile (of_suit tiles s) (rank_of kind))) suit) own ∙ of_suit-with_same tiles suit (with_tile (of_suit tiles suit) (rank_of kind)) ∙ ap (λ r. with_tile (of_suit tiles suit) r) at
+
+-- it has the pair, or another suit has it
+asked-cases : (tiles : BySuit OneSuit) (pairs : BySuit ℕ) (suit : Suit) (rank others : ℕ) (own : OneSuit) → IsAsked tiles pairs suit rank others own → Completes tiles (first_of suit + rank) → (AreSetsAndPair (with_tile own rank) × (others ≡ 0)) ⊎ (AreSets (with_tile own rank) × (others ≡ 1))
+asked-cases tiles pairs suit rank others own a c =
+    let e : of_suit (with_kind tiles (first_of suit + rank)) suit ≡ with_tile own rank = changed tiles suit rank a.small ∙ ap (λ t. with_tile t rank) (sym a.is) in
+    elim (cases_suit suit c.wins.pair) [
+      | inl same ↦
+          let P : Suit → Type 0 = λ s. AreSetsAndPair (of_suit (with_kind tiles (first_of suit + rank)) s) in
+          let pair = subst AreSetsAndPair e (subst P (sym same) c.wins.has_pair) in
+          let i = asked-iff tiles pairs suit rank others 1 own a (pairs-one (with_tile own rank) (nine-with own rank a.nine) pair) in
+          inl (pair, omega (arith, i.1 c))
+      | inr ne ↦
+          let sets = subst AreSets e (c.wins.others suit ne) in
+          let i = asked-iff tiles pairs suit rank others 0 own a (pairs-none (with_tile own rank) (nine-with own rank a.nine) sets) in
+          inr (sets, omega (arith, i.1 c))
+    ]
+
+pub by-pair : (tiles : BySuit OneSuit) (pairs : BySuit ℕ) (suit : Suit) (rank : ℕ) (own : OneSuit) (holds : Bool) → IsAsked tiles pairs suit rank 0 own → IsTrue holds ↔ AreSetsAndPair (with_tile own rank) → IsTrue holds ↔ Completes tiles (first_of suit + rank)
+by-pair tiles pairs suit rank own holds a h = (
+  λ t. (asked-iff tiles pairs suit rank 0 1 own a (pairs-one (with_tile own rank) (nine-with own rank a.nine) (h.0 t))).0 (omega arith),
+  λ c. elim (asked-cases tiles pairs suit rank 0 own a c) [ inl p ↦ h.1 p.0 | inr s ↦ absurd (omega (arith, s.1)) ],
+)
+
+pub by-sets : (tiles : BySuit OneSuit) (pairs : BySuit ℕ) (suit : Suit) (rank : ℕ) (own : OneSuit) (holds : Bool) → IsAsked tiles pairs suit rank 1 own → IsTrue holds ↔ AreSets (with_tile own rank) → IsTrue holds ↔ Completes tiles (first_of suit + rank)
+by-sets tiles pairs suit rank own holds a h = (
+  λ t. (asked-iff tiles pairs suit rank 1 0 own a (pairs-none (with_tile own rank) (nine-with own rank a.nine) (h.0 t))).0 (omega arith),
+  λ c. elim (asked-cases tiles pairs suit rank 1 own a c) [ inl p ↦ absurd (omega (arith, p.1)) | inr s ↦ h.1 s.0 ],
+)
+
+pub by-none : (tiles : BySuit OneSuit) (pairs : BySuit ℕ) (suit : Suit) (rank others : ℕ) (own : OneSuit) → IsAsked tiles pairs suit rank others own → (others ≡ 0 → ⊥) → (others ≡ 1 → ⊥) → Completes tiles (first_of suit + rank) → ⊥
+by-none tiles pairs suit rank others own a zero one c = elim (asked-cases tiles pairs suit rank others own a c) [ inl p ↦ zero p.1 | inr s ↦ one s.1 ]
+
+pub a-kind : (suit : Suit) (rank : ℕ) → rank < kinds_of suit → first_of suit + rank < 34
+a-kind suit rank small = within suit (first_of suit + rank) (record { low = omega arith; high = omega arith })
+
+-- a fifth copy completes nothing
 pub full-iff : (tiles : BySuit OneSuit) (suit : Suit) (rank : ℕ) → rank < kinds_of suit → 4 ≤ get_or (of_suit tiles suit).held rank 0 → Completes tiles (first_of suit + rank) → ⊥
 full-iff tiles suit rank small full c =
     let kind = first_of suit + rank in
@@ -117,37 +178,3 @@ full-iff tiles suit rank small full c =
     let room : get_or (of_suit tiles (suit_of kind)).held (rank_of kind) 0 ≡ get_or (of_suit tiles suit).held rank 0 =
         ap (λ s. get_or (of_suit tiles s).held (rank_of kind) 0) own ∙ ap (λ r. get_or (of_suit tiles suit).held r 0) at in
     omega (arith, room, full, c.some_left)
-
--- ---- marks
-
-none-marked : (n k : ℕ) → get_or (replicate n false) k false ≡ false
-none-marked zero k = refl
-none-marked (suc n) zero = refl
-none-marked (suc n) (suc k) = none-marked n k
-
-pub marks-none : (tiles : BySuit OneSuit) (marks : List Bool) → marks ≡ replicate 34 false → MarksTo tiles 0 marks
-marks-none tiles marks e = let P : List Bool → Type 0 = λ m. MarksTo tiles 0 m in subst P (sym e) (record {
-  each_kind = refl;
-  below = λ kind l. absurd (omega arith);
-  above = λ kind l. none-marked 34 kind;
-})
-
-pub marks-yes : (tiles : BySuit OneSuit) (number : ℕ) (marks : List Bool) → number < 34 → Completes tiles number → MarksTo tiles number marks → MarksTo tiles (number + 1) (set marks number true)
-marks-yes tiles number marks l w m = record {
-  each_kind = length-set marks number true ∙ m.each_kind;
-  below = λ kind k. elim (cases_eq kind number) [
-    | inl e ↦ let P : ℕ → Type 0 = λ n. Completes tiles n in (λ t. subst P (sym e) w, λ s. get_or-set_at marks number kind true false e (omega (arith, m.each_kind)))
-    | inr n ↦ let o = get_or-set_other marks number kind true false n in let b = m.below kind (omega (arith, k, n)) in (λ t. b.0 (sym o ∙ t), λ s. o ∙ b.1 s)
-  ];
-  above = λ kind k. get_or-set_other marks number kind true false (omega arith) ∙ m.above kind (omega arith);
-}
-
-pub marks-no : (tiles : BySuit OneSuit) (number : ℕ) (marks : List Bool) → (Completes tiles number → ⊥) → MarksTo tiles number marks → MarksTo tiles (number + 1) marks
-marks-no tiles number marks no m = record {
-  each_kind = m.each_kind;
-  below = λ kind k. elim (cases_eq kind number) [
-    | inl e ↦ let P : ℕ → Type 0 = λ n. Completes tiles n in (λ t. absurd (let f = m.above kind (omega arith) in cc), λ s. absurd (no (subst P e s)))
-    | inr n ↦ m.below kind (omega (arith, k, n))
-  ];
-  above = λ kind k. m.above kind (omega arith);
-}

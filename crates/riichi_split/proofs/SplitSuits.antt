@@ -1,5 +1,5 @@
 -- Tiles have a split just where one suit is sets and a pair and the others are sets.
-use Rattle.std.proofs.Common.{eqb, cond, ◌≡◌, ◌≢◌, ℕ, zero, suc, ◌+◌, ◌-◌, ◌*◌, ◌<◌, ◌≤◌, ◌↔◌, inl, inr, List, [], ◌∷◌, length, get_or, take, set, refl, sym, ap, ◌∙◌, subst, add-one, arith}
+use Rattle.std.proofs.Common.{Bool, eqb, cond, ◌≡◌, ◌≢◌, ℕ, zero, suc, ◌+◌, ◌-◌, ◌*◌, ◌<◌, ◌≤◌, ◌↔◌, inl, inr, List, [], ◌∷◌, length, get_or, take, set, refl, sym, ap, ◌∙◌, subst, add-one, arith}
 use Rattle.std.specs.List.{AllByRecursion, sum, sum_by}
 use Rattle.std.proofs.lemmas.Bool.{cases_lt, cases_eq}
 use Rattle.std.proofs.lemmas.Bool.Decides.{nat_tests}
@@ -120,7 +120,7 @@ won-from-split c melds h =
     let cut : C (first_of suit + rank) = subst C (sym at) (cut-of h.0 s.each_a_set (beside c p) (λ k. let a = s.add_up k in omega (arith, a))) in
     let b = is-beside c suit rank small (omega (arith, at, s.pair_is_kind)) in
     let T : ℕ → Type 0 = λ k. 2 ≤ get_or c k 0 in
-    let two : 2 ≤ get_or c p 0 = let a = s.add_up p in let e : cond (eqb p p) 2 0 ≡ 2 = grind (arith, nat_tests) in omega (arith, a, e) in
+    let two : 2 ≤ get_or c p 0 = let a = s.add_up p in let e : cond {A = ℕ} (eqb p p) 2 0 ≡ 2 = grind (arith, nat_tests) in omega (arith, a, e) in
     won-suits c suit rank small (subst T (sym at) two) b cut
 
 -- ---- how many sets there are
@@ -139,7 +139,8 @@ sum-to : (c : List ℕ) (n : ℕ) → n ≤ length c → suit_total (λ k. get_o
 sum-to c zero l = suit_total-zero (λ k. get_or c k 0) 0
 sum-to c (suc n) l =
     let e : sum (take (suc n) c) ≡ sum (take (n + 1) c) = ap (λ m. sum (take m c)) (sym (add-one n)) in
-    omega (arith, suit_total-suc (λ k. get_or c k 0) 0 n, sum-to c n (omega arith), sum_by_more (λ x. x) c n 0 (omega arith), e)
+    let z : get_or c (0 + n) 0 ≡ get_or c n 0 = ap (λ j. get_or c j 0) (omega arith) in
+    omega (arith, z, suit_total-suc (λ k. get_or c k 0) 0 n, sum-to c n (omega arith), sum_by_more (λ x. x) c n 0 (omega arith), e)
 
 sum-is : (c : List ℕ) → length c ≡ 34 → suit_total (λ k. get_or c k 0) 0 34 ≡ sum c
 sum-is c long = sum-to c 34 (omega (arith, long)) ∙ ap sum (take_all 34 c (omega (arith, long)))
@@ -149,7 +150,7 @@ many c melds p sets long sum-c kind s adds =
     let a = suit_total-same (λ k. copies (Pair p) k + total sets k) (λ k. get_or c k 0) 0 34 adds in
     let b = suit_total-add (copies (Pair p)) (total sets) 0 34 in
     let t = total-only 2 p 0 34 in
-    let i : cond (inside 0 34 p) 2 0 ≡ 2 = grind (arith, nat_tests) in
+    let i : cond {A = ℕ} (inside 0 34 p) 2 0 ≡ 2 = grind (arith, nat_tests) in
     omega (arith, a, b, t, i, tiles-of-sets sets s, sum-is c long)
 
 -- ---- from the suits to a split
@@ -170,7 +171,7 @@ split-from : (c : List ℕ) (melds p : ℕ) → length c ≡ 34 → sum c + 3 * 
 split-from c melds p long sum-c kind two cut =
     let m = sets-of (beside c p) (λ k h. kind-held c k 0 long (omega (arith, h))) cut in
     let each = sets-sorted m.0 m.1.sets in
-    let adds = λ (k : ℕ). let a = m.1.adds k in let t = total-sorted k m.0 in omega (arith, a, t, pair-back c p k two) in
+    let adds : (k : ℕ) → copies (Pair p) k + total (sorted m.0) k ≡ get_or c k 0 = λ k. let a = m.1.adds k in let t = total-sorted k m.0 in omega (arith, a, t, pair-back c p k two) in
     (sorted m.0, p, record {
       four = many c melds p (sorted m.0) long sum-c kind each adds;
       each_a_set = each;
@@ -214,8 +215,8 @@ one-more-here c kind k l e = let o = one-at c kind k l in grind (arith, nat_test
 one-more-there : (c : List ℕ) (kind k : ℕ) → kind < length c → k ≢ kind → get_or (with_one c kind) k 0 ≡ get_or c k 0
 one-more-there c kind k l ne = let o = one-at c kind k l in grind (arith, nat_tests, o)
 
-same-tiles : (a b : OneSuit) → a.held ≡ b.held → a.has_runs ≡ b.has_runs → a ≡ b
-same-tiles a b e f = cc
+same-tiles : (h k : List ℕ) (runs : Bool) → h ≡ k → ◌≡◌ {A = OneSuit} (record { held = h; has_runs = runs }) (record { held = k; has_runs = runs })
+same-tiles h k runs e = cc
 
 more-here : (c : List ℕ) (kind : ℕ) → kind < 34 → length c ≡ 34 → tiles_of_suit (with_one c kind) (suit_of kind) ≡ with_tile (tiles_of_suit c (suit_of kind)) (rank_of kind)
 more-here c kind small long =
@@ -227,14 +228,14 @@ more-here c kind small long =
     let short : rank_of kind < 9 = omega (arith, is.low, nine_at_most suit kind is) in
     let here : g (first_of suit + rank_of kind) ≡ get_or (nine_from f (first_of suit)) (rank_of kind) 0 + 1 =
         one-more-here c kind (first_of suit + rank_of kind) (omega (arith, long)) at ∙ ap (λ n. n + 1) (sym (nine-at f (first_of suit) (rank_of kind) short)) in
-    same-tiles (tiles_of_suit (with_one c kind) suit) (with_tile (tiles_of_suit c suit) (rank_of kind))
+    same-tiles (nine_from g (first_of suit)) (set (nine_from f (first_of suit)) (rank_of kind) (get_or (nine_from f (first_of suit)) (rank_of kind) 0 + 1)) (has_runs suit)
     (nine-changed f g (first_of suit) (rank_of kind) (get_or (nine_from f (first_of suit)) (rank_of kind) 0 + 1) short here
-    (λ i n. one-more-there c kind (first_of suit + i) (omega (arith, long)) (λ e. n (omega (arith, e, at))))) refl
+    (λ i n. one-more-there c kind (first_of suit + i) (omega (arith, long)) (λ e. n (omega (arith, e, at)))))
 
 more-there : (c : List ℕ) (kind : ℕ) (suit : Suit) → kind < 34 → length c ≡ 34 → suit ≢ suit_of kind → tiles_of_suit (with_one c kind) suit ≡ tiles_of_suit c suit
 more-there c kind suit small long ne =
-    same-tiles (tiles_of_suit (with_one c kind) suit) (tiles_of_suit c suit)
-    (other-suits (λ k. get_or c k 0) (λ k. get_or (with_one c kind) k 0) kind suit small ne (λ k n. one-more-there c kind k (omega (arith, long)) n)) refl
+    same-tiles (nine_from (λ k. get_or (with_one c kind) k 0) (first_of suit)) (nine_from (λ k. get_or c k 0) (first_of suit)) (has_runs suit)
+    (other-suits (λ k. get_or c k 0) (λ k. get_or (with_one c kind) k 0) kind suit small ne (λ k n. one-more-there c kind k (omega (arith, long)) n))
 
 more-suits : (c : List ℕ) (kind : ℕ) → kind < 34 → length c ≡ 34 → (suit : Suit) → of_suit (suits_of (with_one c kind)) suit ≡ of_suit (with_kind (suits_of c) kind) suit
 more-suits c kind small long suit =

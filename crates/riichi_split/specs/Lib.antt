@@ -10,3 +10,4 @@ pub mod SplitsLeft
 pub mod Left
 pub mod Laws
 pub mod SuitTiles
+pub mod SpecialWaits

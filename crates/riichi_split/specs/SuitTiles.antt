@@ -73,6 +73,11 @@ pub record AreWon (suits : BySuit OneSuit) : Type 0 where
   pub has_pair : AreSetsAndPair (of_suit suits pair)
   pub others : (suit : Suit) → suit ≢ pair → AreSets (of_suit suits suit)
 
+-- how many pairs each suit is beside sets
+pub record AreCounted (suits : BySuit OneSuit) (pairs : BySuit ℕ) : Type 0 where
+  pub each : (suit : Suit) → HasPairs (of_suit suits suit) (of_suit pairs suit)
+  pub few : (suit : Suit) → of_suit pairs suit ≤ 2
+
 abbrev pub total_of : BySuit ℕ → ℕ
 total_of by = by.characters + by.circles + by.bamboos + by.honours
 
@@ -89,8 +94,8 @@ pub record Completes (suits : BySuit OneSuit) (kind : ℕ) : Type 0 where
   pub some_left : slice_index (of_suit suits (suit_of kind)).held (rank_of kind) < 4
   pub wins : AreWon (with_kind suits kind)
 
--- of the kinds below a number those are marked that complete the suits, and no others
-pub record MarksTo (suits : BySuit OneSuit) (number : ℕ) (marks : List Bool) : Type 0 where
+-- of the kinds below a number just those are marked that have it, and no others
+pub record MarksBelow (P : ℕ → Type 0) (number : ℕ) (marks : List Bool) : Type 0 where
   pub each_kind : length marks ≡ 34
-  pub below : (kind : ℕ) → kind < number → (slice_index_or marks kind false ≡ true) ↔ Completes suits kind
+  pub below : (kind : ℕ) → kind < number → (slice_index_or marks kind false ≡ true) ↔ P kind
   pub above : (kind : ℕ) → number ≤ kind → slice_index_or marks kind false ≡ false

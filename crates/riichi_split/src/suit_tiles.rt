@@ -44,7 +44,8 @@ impl SuitTiles {
     /// How many tiles of a rank there are.
     pub(crate) fn get(&self, rank: usize) -> u8
         requires { rank < 9 }
-        ensures { result ≡ slice_index self.now.held rank }
+        ensures value { result ≡ slice_index self.now.held rank }
+        ensures nine { length self.now.held ≡ 9 }
     {
         self.held[rank]
     }
