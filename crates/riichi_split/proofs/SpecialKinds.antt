@@ -104,3 +104,10 @@ pairs-alone c kind alone e h w = elim w.1 [
   | inl s ↦ s
   | inr o ↦ absurd (let t : alone ≡ true = h kind w.0 o in cc)
 ]
+
+-- and then one kind alone
+pub one-special : (tiles counts : List ℕ) (single : ℕ) (alone : Bool) → counts ≡ tiles → alone ≡ false → ((k : ℕ) → k < 34 → IsOrphans (with_one counts k) 0 → IsTrue alone) → ((k : ℕ) → k < 34 → IsSevenPairs (with_one counts k) 0 → k ≡ single) → (kind : ℕ) → IsSpecialWait tiles kind → kind ≡ single
+one-special tiles counts single alone e f h only kind w =
+    let P : List ℕ → Type 0 = λ c. IsSpecialWait c kind in
+    let v = subst P (sym e) w in
+    only kind v.0 (pairs-alone counts kind alone f h v)

@@ -1,5 +1,5 @@
 use Rattle.riichi_split.proofs.AnyTile.{win-iff, reading-iff}
-use Rattle.riichi_split.proofs.winning.is_win_with.Goals as goal
+use Rattle.riichi_split.proofs.winning.is_win.Goals as goal
 
 pub returns-clause-wins : goal.returns-clause-wins
 returns-clause-wins c =
