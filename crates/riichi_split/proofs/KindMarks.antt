@@ -1,11 +1,10 @@
 -- Marks of kinds, set one by one from the lowest on.
-use Rattle.std.proofs.Common.{◌≡◌, ℕ, zero, suc, ◌+◌, ◌<◌, ◌≤◌, ◌↔◌, inl, inr, List, Bool, true, false, length, get_or, replicate, set, refl, sym, ◌∙◌, subst, arith}
+use Rattle.std.proofs.Common.{◌≡◌, ℕ, zero, suc, ◌+◌, ◌<◌, ◌≤◌, ◌↔◌, inl, inr, List, Bool, true, false, get_or, replicate, set, refl, sym, ◌∙◌, subst, arith}
 use Rattle.std.proofs.lemmas.Bool.{cases_lt, cases_eq}
 use Rattle.std.proofs.lemmas.List.{length-set, get_or-set_other}
 use Rattle.std.proofs.lemmas.Grind.{get_or-set_at}
 use Rattle.riichi_tiles.specs.Tiles.{IsMarked}
 use Rattle.riichi_split.specs.SuitTiles.{MarksBelow}
-
 
 none-marked : (n k : ℕ) → get_or (replicate n false) k false ≡ false
 none-marked zero k = refl

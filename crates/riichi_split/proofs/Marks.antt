@@ -1,10 +1,10 @@
 -- The marks of the kinds that a hand waits for.
-use Rattle.std.proofs.Common.{not, None, ◌≡◌, ℕ, zero, suc, ◌+◌, ◌*◌, ◌<◌, ◌≤◌, ◌↔◌, ◌⊎◌, subst, Bool, true, false, List, [], ◌∷◌, length, get_or, replicate, set, refl, sym, ap, ◌∙◌, arith, ltb, IsTrue, inl, inr}
+use Rattle.std.proofs.Common.{not, None, ◌≡◌, ℕ, zero, suc, ◌+◌, ◌*◌, ◌<◌, ◌≤◌, ◌↔◌, ◌⊎◌, subst, Bool, true, false, List, [], ◌∷◌, length, get_or, refl, sym, ◌∙◌, arith, ltb, IsTrue, inl, inr}
 use Rattle.std.specs.List.{list_any}
 use Rattle.std.specs.Prelude.{◌&&◌}
-use Rattle.std.proofs.lemmas.Bool.{cases_eq, cases_lt}
+use Rattle.std.proofs.lemmas.Bool.{cases_lt}
 use Rattle.std.proofs.lemmas.Bool.Decides.{nat_tests}
-use Rattle.std.proofs.lemmas.List.{length-set, get_or-set_other, get_or_past, ext_get_or}
+use Rattle.std.proofs.lemmas.List.{length-set, get_or_past, ext_get_or}
 use Rattle.std.proofs.lemmas.Grind.{get_or-set_at}
 use Rattle.std.proofs.lemmas.List.FromFn.{length-map-range_with_len, get_or-map-range_with_len}
 use Rattle.riichi_tiles.specs.Tiles.{IsMarked, IsCounts}
@@ -127,10 +127,17 @@ open-waits hand old marks counts some standard left others kind =
     elim (cases_lt kind 34) [
       | inl l ↦ let i = left kind l in (
         λ m. let h = i.0 m in let b = o.0 h.0 in s.1 (b.0, h.1, inl b.2),
-        λ w. let h = s.0 w in i.1 (o.1 (h.0, omega (arith, h.1), elim h.2 [
-          | inl split ↦ split
-          | inr special ↦ absurd (elim special [ inl p ↦ omega (arith, p.no_meld, some) | inr z ↦ omega (arith, z.no_meld, some) ])
-        ]), h.1),
+        λ w. let h = s.0 w in i.1 (
+          o.1 (
+            h.0,
+            omega (arith, h.1),
+            elim h.2 [
+              | inl split ↦ split
+              | inr special ↦ absurd (elim special [ inl p ↦ omega (arith, p.no_meld, some) | inr z ↦ omega (arith, z.no_meld, some) ])
+            ],
+          ),
+          h.1,
+        ),
       )
       | inr past ↦ (λ m. absurd (others kind past m), λ w. absurd (omega (arith, past, w.of_a_kind)))
     ]

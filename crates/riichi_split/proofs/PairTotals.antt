@@ -102,9 +102,9 @@ completed-iff tiles pairs suit rank others n counted small left e has =
     let at : rank_of kind ≡ rank = ap (λ s. kind - first_of s) own ∙ omega arith in
     let w = won-with tiles pairs suit (with_tile (of_suit tiles suit) rank) n others counted has e in
     let same : with_kind tiles kind ≡ with_suit tiles suit (with_tile (of_suit tiles suit) rank) =
-        ap (λ s. with_suit tiles s (with_tile (of_suit tiles s) (rank_of kind))) own ∙ ap (λ r. with_suit tiles suit (with_tile (of_suit tiles suit) r)) at in
+    ap (λ s. with_suit tiles s (with_tile (of_suit tiles s) (rank_of kind))) own ∙ ap (λ r. with_suit tiles suit (with_tile (of_suit tiles suit) r)) at in
     let room : get_or (of_suit tiles (suit_of kind)).held (rank_of kind) 0 ≡ get_or (of_suit tiles suit).held rank 0 =
-        ap (λ s. get_or (of_suit tiles s).held (rank_of kind) 0) own ∙ ap (λ r. get_or (of_suit tiles suit).held r 0) at in (
+    ap (λ s. get_or (of_suit tiles s).held (rank_of kind) 0) own ∙ ap (λ r. get_or (of_suit tiles suit).held r 0) at in (
       λ s. record { of_a_kind = within suit kind is; some_left = omega (arith, room, left); wins = subst AreWon (sym same) (w.0 s) },
       λ c. w.1 (subst AreWon same c.wins),
     )
@@ -176,5 +176,5 @@ full-iff tiles suit rank small full c =
     let own = only_suit suit kind (record { low = omega arith; high = omega arith }) in
     let at : rank_of kind ≡ rank = ap (λ s. kind - first_of s) own ∙ omega arith in
     let room : get_or (of_suit tiles (suit_of kind)).held (rank_of kind) 0 ≡ get_or (of_suit tiles suit).held rank 0 =
-        ap (λ s. get_or (of_suit tiles s).held (rank_of kind) 0) own ∙ ap (λ r. get_or (of_suit tiles suit).held r 0) at in
+    ap (λ s. get_or (of_suit tiles s).held (rank_of kind) 0) own ∙ ap (λ r. get_or (of_suit tiles suit).held r 0) at in
     omega (arith, room, full, c.some_left)

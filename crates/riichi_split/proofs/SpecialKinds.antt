@@ -1,11 +1,11 @@
 -- Which kinds may complete seven pairs or the orphans.
-use Rattle.std.proofs.Common.{◌≡◌, ◌≢◌, ℕ, ◌+◌, ◌<◌, ◌≤◌, ◌⊎◌, ◌↔◌, Bool, true, false, IsTrue, inl, inr, List, length, get_or, set, refl, sym, ap, ◌∙◌, subst, arith}
+use Rattle.std.proofs.Common.{◌≡◌, ◌≢◌, ℕ, ◌+◌, ◌<◌, ◌≤◌, ◌⊎◌, Bool, true, false, IsTrue, inl, inr, List, length, get_or, set, refl, sym, ◌∙◌, subst, arith}
 use Rattle.std.proofs.lemmas.Bool.{cases_lt, cases_eq}
 use Rattle.std.proofs.lemmas.Bool.Decides.{nat_tests}
 use Rattle.std.proofs.lemmas.List.{length-set, get_or-set_other}
 use Rattle.std.proofs.lemmas.Grind.{get_or-set_at}
-use Rattle.riichi_tiles.specs.Tiles.{IsMarked}
-use Rattle.riichi_split.specs.Readings.{IsSevenPairs, IsOrphans, is_orphan, orphan_copies}
+use Rattle.riichi_tiles.specs.Kinds.{is_orphan}
+use Rattle.riichi_split.specs.Readings.{IsSevenPairs, IsOrphans, orphan_copies}
 use Rattle.riichi_split.specs.Waits.{with_one}
 use Rattle.riichi_split.specs.SpecialWaits.{IsSpecialWait, AddsSpecial}
 use Rattle.riichi_split.proofs.Suits.{one-at, only}

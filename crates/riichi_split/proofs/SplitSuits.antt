@@ -1,6 +1,6 @@
 -- Tiles have a split just where one suit is sets and a pair and the others are sets.
 use Rattle.std.proofs.Common.{Bool, eqb, cond, ◌≡◌, ◌≢◌, ℕ, zero, suc, ◌+◌, ◌-◌, ◌*◌, ◌<◌, ◌≤◌, ◌↔◌, inl, inr, List, [], ◌∷◌, length, get_or, take, set, refl, sym, ap, ◌∙◌, subst, add-one, arith}
-use Rattle.std.specs.List.{AllByRecursion, sum, sum_by}
+use Rattle.std.specs.List.{AllByRecursion, sum}
 use Rattle.std.proofs.lemmas.Bool.{cases_lt, cases_eq}
 use Rattle.std.proofs.lemmas.Bool.Decides.{nat_tests}
 use Rattle.std.proofs.lemmas.List.{length-set, get_or-set_other, get_or_past, ext_get_or, take_all}
@@ -12,13 +12,12 @@ use Rattle.riichi_tiles.specs.declared.block.Block.TheVariants.{Run, Triplet, Pa
 use Rattle.riichi_tiles.specs.declared.suit.Suit.{Suit}
 use Rattle.riichi_tiles.specs.declared.suit.Suit.TheVariants.{Characters, Circles, Bamboos, Honours}
 use Rattle.riichi_tiles.specs.declared.by_suit.BySuit.{BySuit}
-use Rattle.riichi_tiles.specs.Kinds.{IsRunLow, IsOfSuit, first_of, kinds_of, suit_of, rank_of}
+use Rattle.riichi_tiles.specs.Kinds.{first_of, suit_of, rank_of}
 use Rattle.riichi_tiles.specs.Suits.{of_suit, with_suit}
 use Rattle.riichi_tiles.specs.Blocks.{copies, total, IsSet}
 use Rattle.riichi_tiles.proofs.Suits.{only_suit, some_suit, own_suit, nine_at_most, cases_suit, of_nine, of_suit-with_same, of_suit-with_other}
-use Rattle.riichi_split.specs.SuitTiles.{OneSuit, AreCut, AreSets, AreSetsAndPair, AreWon, Completes, has_runs, nine_from, tiles_of_suit, suits_of, with_tile, with_kind, without_pair}
+use Rattle.riichi_split.specs.SuitTiles.{OneSuit, AreCut, AreSets, AreSetsAndPair, AreWon, Completes, has_runs, nine_from, tiles_of_suit, suits_of, with_tile, with_kind}
 use Rattle.riichi_split.specs.Cuts.{suit_total}
-use Rattle.riichi_split.specs.Readings.{IsSplit}
 use Rattle.riichi_split.specs.Waits.{with_one}
 use Rattle.riichi_split.specs.Winning.{HasSplit}
 use Rattle.riichi_split.proofs.Orders.{sorted, sets-sorted, order-sorted, total-sorted}
@@ -153,6 +152,18 @@ many c melds p sets long sum-c kind s adds =
     let i : cond {A = ℕ} (inside 0 34 p) 2 0 ≡ 2 = grind (arith, nat_tests) in
     omega (arith, a, b, t, i, tiles-of-sets sets s, sum-is c long)
 
+-- a split has four sets and a pair
+pub split-size : (c : List ℕ) (melds : ℕ) → length c ≡ 34 → HasSplit c melds → sum c + 3 * melds ≡ 14
+split-size c melds long h =
+    let p = h.1 in
+    let s = h.2 in
+    let kind = s.pair_is_kind in
+    let a = suit_total-same (λ k. copies (Pair p) k + total h.0 k) (λ k. get_or c k 0) 0 34 s.add_up in
+    let b = suit_total-add (copies (Pair p)) (total h.0) 0 34 in
+    let t = total-only 2 p 0 34 in
+    let i : cond {A = ℕ} (inside 0 34 p) 2 0 ≡ 2 = grind (arith, nat_tests) in
+    omega (arith, a, b, t, i, tiles-of-sets h.0 s.each_a_set, sum-is c long, s.four)
+
 -- ---- from the suits to a split
 
 pair-back : (c : List ℕ) (p k : ℕ) → 2 ≤ get_or c p 0 → cond (eqb k p) 2 0 + beside c p k ≡ get_or c k 0
@@ -171,14 +182,17 @@ split-from : (c : List ℕ) (melds p : ℕ) → length c ≡ 34 → sum c + 3 * 
 split-from c melds p long sum-c kind two cut =
     let m = sets-of (beside c p) (λ k h. kind-held c k 0 long (omega (arith, h))) cut in
     let each = sets-sorted m.0 m.1.sets in
-    let adds : (k : ℕ) → copies (Pair p) k + total (sorted m.0) k ≡ get_or c k 0 = λ k. let a = m.1.adds k in let t = total-sorted k m.0 in omega (arith, a, t, pair-back c p k two) in
-    (sorted m.0, p, record {
-      four = many c melds p (sorted m.0) long sum-c kind each adds;
-      each_a_set = each;
-      in_order = order-sorted m.0;
-      pair_is_kind = kind;
-      add_up = adds;
-    })
+    let adds : (k : ℕ) → copies (Pair p) k + total (sorted m.0) k ≡ get_or c k 0 = λ k. let a = m.1.adds k in let t = total-sorted k m.0 in omega (arith, a, t, pair-back c p k two) in (
+      sorted m.0,
+      p,
+      record {
+        four = many c melds p (sorted m.0) long sum-c kind each adds;
+        each_a_set = each;
+        in_order = order-sorted m.0;
+        pair_is_kind = kind;
+        add_up = adds;
+      },
+    )
 
 pub split-from-won : (c : List ℕ) (melds : ℕ) → length c ≡ 34 → sum c + 3 * melds ≡ 14 → AreWon (suits_of c) → HasSplit c melds
 split-from-won c melds long sum-c w =
@@ -227,7 +241,7 @@ more-here c kind small long =
     let at : first_of suit + rank_of kind ≡ kind = omega (arith, is.low) in
     let short : rank_of kind < 9 = omega (arith, is.low, nine_at_most suit kind is) in
     let here : g (first_of suit + rank_of kind) ≡ get_or (nine_from f (first_of suit)) (rank_of kind) 0 + 1 =
-        one-more-here c kind (first_of suit + rank_of kind) (omega (arith, long)) at ∙ ap (λ n. n + 1) (sym (nine-at f (first_of suit) (rank_of kind) short)) in
+    one-more-here c kind (first_of suit + rank_of kind) (omega (arith, long)) at ∙ ap (λ n. n + 1) (sym (nine-at f (first_of suit) (rank_of kind) short)) in
     same-tiles (nine_from g (first_of suit)) (set (nine_from f (first_of suit)) (rank_of kind) (get_or (nine_from f (first_of suit)) (rank_of kind) 0 + 1)) (has_runs suit)
     (nine-changed f g (first_of suit) (rank_of kind) (get_or (nine_from f (first_of suit)) (rank_of kind) 0 + 1) short here
     (λ i n. one-more-there c kind (first_of suit + i) (omega (arith, long)) (λ e. n (omega (arith, e, at)))))
@@ -252,13 +266,16 @@ more-suits c kind small long suit =
 pub completes-iff : (c : List ℕ) (melds kind : ℕ) → length c ≡ 34 → sum c + 3 * melds ≡ 13 → Completes (suits_of c) kind ↔ ((kind < 34) × (get_or c kind 0 < 4) × HasSplit (with_one c kind) melds)
 completes-iff c melds kind long sum-c =
     let left : kind < 34 → get_or (of_suit (suits_of c) (suit_of kind)).held (rank_of kind) 0 ≡ get_or c kind 0 = λ small.
-        let is = own_suit kind small in
-        ap (λ t. get_or t.held (rank_of kind) 0) (suit-is c (suit_of kind))
-        ∙ nine-at (λ k. get_or c k 0) (first_of (suit_of kind)) (rank_of kind) (omega (arith, is.low, nine_at_most (suit_of kind) kind is))
-        ∙ ap (λ k. get_or c k 0) (omega (arith, is.low)) in (
-      λ w. (w.of_a_kind, omega (arith, w.some_left, left w.of_a_kind),
+    let is = own_suit kind small in
+    ap (λ t. get_or t.held (rank_of kind) 0) (suit-is c (suit_of kind))
+    ∙ nine-at (λ k. get_or c k 0) (first_of (suit_of kind)) (rank_of kind) (omega (arith, is.low, nine_at_most (suit_of kind) kind is))
+    ∙ ap (λ k. get_or c k 0) (omega (arith, is.low)) in (
+      λ w. (
+        w.of_a_kind,
+        omega (arith, w.some_left, left w.of_a_kind),
         split-from-won (with_one c kind) melds (length-set c kind (get_or c kind 0 + 1) ∙ long) (omega (arith, sum-c, sum_by-set (λ x. x) c kind (get_or c kind 0 + 1) 0 (omega (arith, w.of_a_kind, long))))
-        (same-won (with_kind (suits_of c) kind) (suits_of (with_one c kind)) (λ s. sym (more-suits c kind w.of_a_kind long s)) w.wins)),
+            (same-won (with_kind (suits_of c) kind) (suits_of (with_one c kind)) (λ s. sym (more-suits c kind w.of_a_kind long s)) w.wins),
+      ),
       λ h. record {
         of_a_kind = h.0;
         some_left = omega (arith, h.1, left h.0);

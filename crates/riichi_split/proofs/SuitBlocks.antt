@@ -1,5 +1,5 @@
 -- A hand is cut into sets just where each of its suits is.
-use Rattle.std.proofs.Common.{leb, ltb, eqb, ◌&&◌, ◌≡◌, ℕ, zero, suc, ◌+◌, ◌-◌, ◌*◌, ◌%◌, ◌<◌, ◌≤◌, Bool, true, false, IsTrue, cond, inl, inr, List, [], ◌∷◌, ◌++◌, replicate, map, refl, sym, ap, ◌∙◌, subst, arith}
+use Rattle.std.proofs.Common.{leb, ltb, eqb, ◌&&◌, ◌≡◌, ℕ, zero, suc, ◌+◌, ◌*◌, ◌<◌, ◌≤◌, Bool, true, false, IsTrue, cond, inl, inr, List, [], ◌∷◌, ◌++◌, replicate, map, refl, sym, ap, ◌∙◌, arith}
 use Rattle.std.specs.List.{AllByRecursion, range_with_len}
 use Rattle.std.proofs.lemmas.Bool.{cases_lt, cases_eq}
 use Rattle.std.proofs.lemmas.Bool.Decides.{nat_tests}
@@ -144,11 +144,13 @@ made f runs first end kinds low zero k one two l e s = ([], record { sets = tt; 
 made f runs first end kinds low (suc n) k one two l e s =
     let i = made f runs first end kinds low n (k + 1) s.1 one (omega arith) (omega arith) s.4 in
     let front = replicate s.1 (Run k) ++ i.0 in
-    let is : f k ≡ one + two + 3 * s.0 + s.1 = s.2 in
-    (replicate s.0 (Triplet k) ++ front, record {
-      sets = triplets-sets s.0 k front (λ h. kinds k (omega (arith, is))) (runs-sets s.1 k i.0 (λ h. low k n l e (long runs f n (k + 1) s.1 one s.4 h) (s.3 h)) i.1.sets);
-      adds = λ kind. made-step k n one two s.0 s.1 kind (f kind) _ _ (total i.0 kind) (more-triplets s.0 k front kind) (more-runs s.1 k i.0 kind) (i.1.adds kind) (λ same. ap f same ∙ is);
-    })
+    let is : f k ≡ one + two + 3 * s.0 + s.1 = s.2 in (
+      replicate s.0 (Triplet k) ++ front,
+      record {
+        sets = triplets-sets s.0 k front (λ h. kinds k (omega (arith, is))) (runs-sets s.1 k i.0 (λ h. low k n l e (long runs f n (k + 1) s.1 one s.4 h) (s.3 h)) i.1.sets);
+        adds = λ kind. made-step k n one two s.0 s.1 kind (f kind) _ _ (total i.0 kind) (more-triplets s.0 k front kind) (more-runs s.1 k i.0 kind) (i.1.adds kind) (λ same. ap f same ∙ is);
+      },
+    )
 
 numbered : (q : ℕ) → q < 3 → MayBegin true (9 * q) (9 * q + 9)
 unfolding MayBegin
@@ -181,12 +183,14 @@ sets-of f kinds cut =
     let m = made-of f kinds Characters (cut Characters) in
     let p = made-of f kinds Circles (cut Circles) in
     let s = made-of f kinds Bamboos (cut Bamboos) in
-    let z = made-of f kinds Honours (cut Honours) in
-    (m.0 ++ (p.0 ++ (s.0 ++ z.0)), record {
-      sets = sets-append m.0 (p.0 ++ (s.0 ++ z.0)) m.1.sets (sets-append p.0 (s.0 ++ z.0) p.1.sets (sets-append s.0 z.0 s.1.sets z.1.sets));
-      adds = λ kind.
-          let a = total-append m.0 (p.0 ++ (s.0 ++ z.0)) kind in
-          let b = total-append p.0 (s.0 ++ z.0) kind in
-          let d = total-append s.0 z.0 kind in
-          omega (arith, a, b, d, adds-up (total m.0 kind) (total p.0 kind) (total s.0 kind) (total z.0 kind) kind (f kind) (m.1.adds kind) (p.1.adds kind) (s.1.adds kind) (z.1.adds kind) (kinds kind));
-    })
+    let z = made-of f kinds Honours (cut Honours) in (
+      m.0 ++ (p.0 ++ (s.0 ++ z.0)),
+      record {
+        sets = sets-append m.0 (p.0 ++ (s.0 ++ z.0)) m.1.sets (sets-append p.0 (s.0 ++ z.0) p.1.sets (sets-append s.0 z.0 s.1.sets z.1.sets));
+        adds = λ kind.
+            let a = total-append m.0 (p.0 ++ (s.0 ++ z.0)) kind in
+            let b = total-append p.0 (s.0 ++ z.0) kind in
+            let d = total-append s.0 z.0 kind in
+            omega (arith, a, b, d, adds-up (total m.0 kind) (total p.0 kind) (total s.0 kind) (total z.0 kind) kind (f kind) (m.1.adds kind) (p.1.adds kind) (s.1.adds kind) (z.1.adds kind) (kinds kind));
+      },
+    )

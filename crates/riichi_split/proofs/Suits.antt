@@ -62,23 +62,6 @@ one-at c kind k within = elim (cases_eq k kind) [
   | inr other ↦ get_or-set_other c kind k (get_or c kind 0 + 1) 0 other ∙ (rw (ne_eqb k kind other) (omega arith))
 ]
 
--- one more tile of a kind
-total-with_one : (c : List ℕ) (kind first n : ℕ) → kind < length c → suit_total (λ k. get_or (with_one c kind) k 0) first n ≡ suit_total (λ k. get_or c k 0) first n + cond (inside first n kind) 1 0
-total-with_one c kind first n within =
-    let a = suit_total-same (λ k. get_or (with_one c kind) k 0) (λ k. get_or c k 0 + only 1 kind k) first n (λ k. one-at c kind k within) in
-    let b = suit_total-add (λ k. get_or c k 0) (only 1 kind) first n in
-    omega (arith, a, b, total-only 1 kind first n)
-
-pub rest-of_its_suit : (c : List ℕ) (kind first n rest : ℕ) → kind < length c → first ≤ kind → kind < first + n → rest ≡ suit_total (λ k. get_or c k 0) first n % 3 → (rest + 1) % 3 ≡ suit_total (λ k. get_or (with_one c kind) k 0) first n % 3
-rest-of_its_suit c kind first n rest within low high is =
-    let t = total-with_one c kind first n within in grind (arith, nat_tests, t, is)
-
-pub rest-of_another_suit : (c : List ℕ) (kind first n rest : ℕ) → kind < length c → (kind < first) ⊎ (first + n ≤ kind) → rest ≡ suit_total (λ k. get_or c k 0) first n % 3 → rest ≡ suit_total (λ k. get_or (with_one c kind) k 0) first n % 3
-rest-of_another_suit c kind first n rest within (inl below) is =
-    let t = total-with_one c kind first n within in grind (arith, nat_tests, t, is)
-rest-of_another_suit c kind first n rest within (inr above) is =
-    let t = total-with_one c kind first n within in grind (arith, nat_tests, t, is)
-
 -- each run has a multiple of three tiles among these kinds
 RunsFit : ℕ → ℕ → Type 0
 RunsFit first n = (low : ℕ) → IsRunLow low → (q : ℕ) × (suit_total (copies (Run low)) first n ≡ 3 * q)

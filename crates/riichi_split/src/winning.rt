@@ -1,6 +1,6 @@
 //! Winning hands.
 ghost use Rattle.std.specs.Prelude.{◌↔◌, ◌<◌, ℕ, IsTrue, slice_index};
-ghost use Rattle.riichi_split.specs.Winning.{HasReading, IsWin, HasShape};
+ghost use Rattle.riichi_split.specs.Winning.{HasReading, IsWin, HasSplit, HasShape};
 
 use crate::special::{is_orphans, is_seven_pairs};
 use crate::standard::has_split;
@@ -19,6 +19,14 @@ fn has_shape(counts: &Counts, melds: usize) -> bool
     ensures { IsTrue result ↔ HasShape counts.now melds }
 {
     let tiles = counts.to_array();
-    let is_standard = melds <= 4 && counts.total() as usize + 3 * melds == 14 && has_split(&tiles, melds);
-    is_standard || is_seven_pairs(&tiles, melds) || is_orphans(&tiles, melds)
+    is_standard(counts, melds) || is_seven_pairs(&tiles, melds) || is_orphans(&tiles, melds)
+}
+
+fn is_standard(counts: &Counts, melds: usize) -> bool
+    ensures { IsTrue result ↔ HasSplit counts.now melds }
+{
+    if melds > 4 || counts.total() as usize + 3 * melds != 14 {
+        return false;
+    }
+    has_split(&counts.to_array(), melds)
 }

@@ -1,4 +1,4 @@
-use Rattle.std.proofs.Common.{rules, sym, subst, arith}
+use Rattle.std.proofs.Common.{rules, sym, subst}
 use Rattle.riichi_tiles.specs.declared.by_suit.BySuit.{BySuit}
 use Rattle.riichi_split.specs.SuitTiles.{OneSuit, Completes}
 use Rattle.riichi_split.proofs.KindMarks.{marks-none, marked-all}

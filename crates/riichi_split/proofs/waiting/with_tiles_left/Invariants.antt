@@ -1,4 +1,4 @@
-use Rattle.std.proofs.Common.{ℕ, ◌<◌}
+use Rattle.std.proofs.Common.{◌<◌}
 use Rattle.riichi_tiles.specs.Tiles.{IsMarked}
 use Rattle.riichi_hand.specs.Hand.{copies_held}
 use Rattle.riichi_split.specs.SuitTiles.{MarksBelow}

@@ -1,5 +1,4 @@
 use Rattle.std.proofs.Common.{◌≡◌, false, true, arith}
-use Rattle.riichi_split.specs.SuitTiles.{AreSets, AreSetsAndPair}
 use Rattle.riichi_split.proofs.SuitCuts.{pairs-none, pairs-one, pairs-neither, sum-of-sets, sum-with-pair}
 use Rattle.riichi_split.proofs.suit_tiles.SuitTiles.pairs.Goals as goal
 
