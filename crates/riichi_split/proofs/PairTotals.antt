@@ -1,6 +1,6 @@
 -- Four suits are won just where they are one pair beside sets.
 use Rattle.std.proofs.Common.{◌≡◌, ◌≢◌, ℕ, ◌+◌, ◌-◌, ◌≤◌, ◌<◌, ◌↔◌, ◌⊎◌, inl, inr, Bool, IsTrue, length, get_or, refl, sym, ap, ◌∙◌, subst, arith}
-use Rattle.std.proofs.lemmas.Bool.{cases_eq}
+use Rattle.std.proofs.lemmas.Bool.{cases_lt, cases_eq}
 use Rattle.riichi_tiles.specs.declared.suit.Suit.{Suit}
 use Rattle.riichi_tiles.specs.declared.suit.Suit.TheVariants.{Characters, Circles, Bamboos, Honours}
 use Rattle.riichi_tiles.specs.declared.by_suit.BySuit.{BySuit}
@@ -178,3 +178,16 @@ full-iff tiles suit rank small full c =
     let room : get_or (of_suit tiles (suit_of kind)).held (rank_of kind) 0 ≡ get_or (of_suit tiles suit).held rank 0 =
     ap (λ s. get_or (of_suit tiles s).held (rank_of kind) 0) own ∙ ap (λ r. get_or (of_suit tiles suit).held r 0) at in
     omega (arith, room, full, c.some_left)
+
+-- where the other suits are more than one pair no tile of the suit completes the hand
+pub passed : (tiles : BySuit OneSuit) (pairs : BySuit ℕ) (suit : Suit) (others kind : ℕ) → AreCounted tiles pairs → others + of_suit pairs suit ≡ total_of pairs → 1 < others → first_of suit ≤ kind → kind < first_of suit + kinds_of suit → Completes tiles kind → ⊥
+passed tiles pairs suit others kind counted beside many low high c =
+    let rank = kind - first_of suit in
+    let small : rank < kinds_of suit = omega arith in
+    let P : ℕ → Type 0 = λ k. Completes tiles k in
+    let at : kind ≡ first_of suit + rank = omega arith in
+    let d = subst P at c in
+    elim (cases_lt (get_or (of_suit tiles suit).held rank 0) 4) [
+      | inl left ↦ by-none tiles pairs suit rank others (of_suit tiles suit) (record { counted = counted; small = small; is = refl; nine = (counted.each suit).nine_ranks; left = left; beside = beside }) (λ e. omega (arith, e, many)) (λ e. omega (arith, e, many)) d
+      | inr full ↦ full-iff tiles suit rank small full d
+    ]

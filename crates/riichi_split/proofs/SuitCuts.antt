@@ -59,18 +59,21 @@ sum-with-pair tiles n s =
 -- how many pairs there are beside sets
 pub pairs-none : (tiles : OneSuit) → length tiles.held ≡ 9 → AreSets tiles → HasPairs tiles 0
 pairs-none tiles nine sets = record {
+  nine_ranks = nine;
   none = (λ e. sets, λ s. refl);
   one = (λ e. absurd (omega (arith, e)), λ p. absurd (omega (arith, sum-of-sets tiles sets, sum-with-pair tiles nine p)));
 }
 
 pub pairs-one : (tiles : OneSuit) → length tiles.held ≡ 9 → AreSetsAndPair tiles → HasPairs tiles 1
 pairs-one tiles nine pair = record {
+  nine_ranks = nine;
   none = (λ e. absurd (omega (arith, e)), λ s. absurd (omega (arith, sum-of-sets tiles s, sum-with-pair tiles nine pair)));
   one = (λ e. pair, λ p. refl);
 }
 
-pub pairs-neither : (tiles : OneSuit) → (AreSets tiles → ⊥) → (AreSetsAndPair tiles → ⊥) → HasPairs tiles 2
-pairs-neither tiles sets pair = record {
+pub pairs-neither : (tiles : OneSuit) → length tiles.held ≡ 9 → (AreSets tiles → ⊥) → (AreSetsAndPair tiles → ⊥) → HasPairs tiles 2
+pairs-neither tiles nine sets pair = record {
+  nine_ranks = nine;
   none = (λ e. absurd (omega (arith, e)), λ s. absurd (sets s));
   one = (λ e. absurd (omega (arith, e)), λ p. absurd (pair p));
 }

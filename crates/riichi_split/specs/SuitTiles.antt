@@ -54,6 +54,7 @@ third_of held =
 
 -- how many pairs the tiles are beside sets: none or one, and another number where they are neither
 pub record HasPairs (tiles : OneSuit) (pairs : ℕ) : Type 0 where
+  pub nine_ranks : length tiles.held ≡ 9
   pub none : (pairs ≡ 0) ↔ AreSets tiles
   pub one : (pairs ≡ 1) ↔ AreSetsAndPair tiles
 

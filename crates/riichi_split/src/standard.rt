@@ -76,6 +76,10 @@ impl Suits {
         requires below { spec.MarksBelow (spec.Completes self.now.tiles) (first_of suit) marks.old }
         ensures { spec.MarksBelow (spec.Completes self.now.tiles) (first_of suit + kinds_of suit) marks.new }
     {
+        // No tile of this suit completes the others.
+        if self.total_pairs() - self.pairs.get(suit) > 1 {
+            return;
+        }
         for rank in 0..suit.kinds() {
             if self.is_completed_by(suit, rank) {
                 marks.insert(Kind::at((suit.first() + rank) as u8));

@@ -1,10 +1,16 @@
-use Rattle.std.proofs.Common.{◌≡◌, ℕ, ◌+◌, List, Bool, true, set, sym, ap, subst, ◌∙◌, false, arith}
-use Rattle.riichi_tiles.specs.Kinds.{first_of}
+use Rattle.std.proofs.Common.{◌≡◌, ℕ, ◌+◌, ◌-◌, List, Bool, true, set, sym, ap, subst, ◌∙◌, false, arith}
+use Rattle.riichi_tiles.specs.Kinds.{first_of, kinds_of}
 use Rattle.riichi_split.specs.SuitTiles.{Completes, MarksBelow}
-use Rattle.riichi_split.proofs.KindMarks.{marks-yes, marks-no}
-use Rattle.riichi_split.proofs.PairTotals.{a-kind}
+use Rattle.riichi_split.proofs.KindMarks.{marks-yes, marks-no, marks-pass}
+use Rattle.riichi_split.proofs.PairTotals.{a-kind, at-most, passed}
 use Rattle.riichi_split.proofs.standard.Suits.mark.Goals as goal
 use Rattle.riichi_split.proofs.standard.Suits.mark.Goals.{then-is_completed_by, else-is_completed_by}
+
+pub returns-then-total_pairs-get-gt1 : goal.returns-then-total_pairs-get-gt1
+returns-then-total_pairs-get-gt1 c =
+    marks-pass (Completes c.args.self.now.tiles) (first_of c.args.suit) (first_of c.args.suit + kinds_of c.args.suit) c.args.marks.now (omega arith)
+    (λ kind low high w. passed c.args.self.now.tiles c.args.self.now.pairs c.args.suit (c.total_pairs.result - c.get.result) kind c.requires.counted
+    (omega (arith, c.total_pairs.ensures.total, c.get.ensures, at-most c.args.self.now.pairs c.args.suit)) (omega arith) low high w) c.requires.below
 
 pub loop-rank-preserved : goal.loop-rank-preserved
 loop-rank-preserved c =
