@@ -25,7 +25,7 @@ score_report texts = record {
 abbrev pub AreWithinLimit : List (List ℕ) → Type 0
 AreWithinLimit texts = All (λ text. length (jobs_of (lines text)) ≤ LIMIT) texts
 
--- each reader gave its text, to the end, in no more reads than it may be read
+-- each reader gave its text, to the end, and was read no oftener than it may be
 abbrev pub AllGive : {R : Type 0} → OfSource R → List R → List (List ℕ) → Type 0
 AllGive source [] [] = Unit {0}
 AllGive source [] (text ∷ texts) = ⊥

@@ -4,7 +4,8 @@ use Rattle.std.proofs.lemmas.Bool.{cases_lt, false≢true}
 use Rattle.std.proofs.lemmas.Bool.Decides.{nat_tests}
 use Rattle.std.proofs.lemmas.List.Elements.{All-nil, All-cons, All-head, All-tail}
 use Rattle.std.specs.Prelude.{All, ◌&&◌, count_by}
-use Rattle.riichi_tiles.specs.Blocks.{total, IsRunLow}
+use Rattle.riichi_tiles.specs.Kinds.{IsRunLow}
+use Rattle.riichi_tiles.specs.Blocks.{total}
 use Rattle.riichi_tiles.specs.declared.block.Block.{Block}
 use Rattle.riichi_rows.specs.Suit.{is_set, is_pair, IsInSuit}
 use Rattle.riichi_tiles.specs.declared.block.Block.TheVariants.{Run, Triplet, Pair}

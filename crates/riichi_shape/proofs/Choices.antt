@@ -125,10 +125,10 @@ discards_are hand melds seen discard = (
 
 -- ---- on an answer
 
-told_so : (parts : ShapeParts) (thirteen : Bool) → HasDiscards parts (cond thirteen (Thirteen (accepted_of parts.tiles parts.melds parts.seen)) (Fourteen (discards_of parts.tiles parts.melds parts.seen)))
-told_so parts true = tt
-told_so parts false = discards_are parts.tiles parts.melds parts.seen
+on_parts : (parts : ShapeParts) (thirteen : Bool) → HasDiscards parts (cond thirteen (Thirteen (accepted_of parts.tiles parts.melds parts.seen)) (Fourteen (discards_of parts.tiles parts.melds parts.seen)))
+on_parts parts true = tt
+on_parts parts false = discards_are parts.tiles parts.melds parts.seen
 
 pub has_discards : (parts : ShapeParts) (answer : ShapeAnswer) → answer ≡ shape_of parts → HasDiscards parts answer.accepts
 unfolding shape_of accepts_of
-has_discards parts answer is = subst (λ (a : ShapeAnswer). HasDiscards parts a.accepts) (sym is) (told_so parts (is_thirteen parts.tiles parts.melds))
+has_discards parts answer is = subst (λ (a : ShapeAnswer). HasDiscards parts a.accepts) (sym is) (on_parts parts (is_thirteen parts.tiles parts.melds))

@@ -18,7 +18,7 @@ abbrev pub AreDiscards : List ℕ → List Meld → List ℕ → List Discard �
 AreDiscards hand melds seen discards =
     (discard : Discard) → Contains discards discard ↔ (LeavesLeast hand melds discard.kind × (discard ≡ discard_of hand melds seen discard.kind))
 
--- of fourteen tiles these discards are told
+-- the answer to fourteen tiles has just these discards
 abbrev pub HasDiscards : ShapeParts → Accepts → Type 0
 HasDiscards parts (Thirteen live) = Unit {0}
 HasDiscards parts (Fourteen discards) = AreDiscards parts.tiles parts.melds parts.seen discards

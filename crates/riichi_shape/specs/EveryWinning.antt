@@ -3,7 +3,7 @@ use Rattle.std.specs.Prelude.{ℕ, zero, suc, ◌+◌, ◌-◌, ◌==◌, Bool, 
 use Rattle.std.specs.List.{flat_map, list_all}
 use Rattle.riichi_tiles.specs.Blocks.{total}
 use Rattle.riichi_tiles.specs.Melds.{every_kind, tiles}
-use Rattle.riichi_tiles.specs.Tiles.{begins_run}
+use Rattle.riichi_tiles.specs.Kinds.{begins_run}
 use Rattle.riichi_tiles.specs.declared.block.Block.{Block}
 use Rattle.riichi_tiles.specs.declared.block.Block.TheVariants.{Run, Triplet, Pair}
 use Rattle.riichi_tiles.specs.declared.meld.Meld.{Meld}

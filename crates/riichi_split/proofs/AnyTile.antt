@@ -1,19 +1,17 @@
 -- A hand with one of the three shapes has a reading, whichever of its tiles wins.
-use Rattle.std.proofs.Common.{◌≡◌, ℕ, suc, ◌+◌, ◌<◌, ◌↔◌, true, Option, Some, None, is_some, List, [], ◌∷◌, ◌++◌, length, get_or, inl, inr, refl, sym, subst, arith, eqb, ltb, cond, IsTrue}
+use Rattle.std.proofs.Common.{◌≡◌, ℕ, suc, ◌+◌, ◌<◌, ◌↔◌, true, List, [], ◌∷◌, ◌++◌, length, get_or, inl, inr, refl, arith, eqb, ltb, cond, IsTrue}
 use Rattle.std.specs.List.{count_by}
-use Rattle.std.specs.Iterator.{YieldsFirst}
 use Rattle.std.proofs.lemmas.Bool.{cases_lt}
 use Rattle.std.proofs.lemmas.Bool.Decides.{nat_tests}
 use Rattle.std.proofs.lemmas.List.Sums.{sum_by-cons}
 use Rattle.riichi_tiles.specs.Blocks.{copies, total}
 use Rattle.riichi_tiles.specs.declared.block.Block.{Block}
 use Rattle.riichi_tiles.specs.declared.block.Block.TheVariants.{Pair}
-use Rattle.riichi_split.specs.declared.split.Split.{Split}
 use Rattle.riichi_split.specs.declared.reading.Reading.{Reading}
 use Rattle.riichi_split.specs.declared.reading.Reading.TheVariants.{Standard, SevenPairs, Orphans}
-use Rattle.riichi_split.specs.Readings.{IsSplit, IsDone, IsReading, AreTheReadings, is_orphan, orphan_copies}
-use Rattle.riichi_split.specs.Winning.{HasReading, IsWin, HasSplit, HasShape}
-use Rattle.riichi_split.specs.Cuts.{AreTheSplits}
+use Rattle.riichi_tiles.specs.Kinds.{is_orphan}
+use Rattle.riichi_split.specs.Readings.{IsSplit, IsDone, IsReading, AreTheReadings, orphan_copies}
+use Rattle.riichi_split.specs.Winning.{HasReading, IsWin, HasShape}
 use Rattle.riichi_split.proofs.Lists.{IsIn, in-left, in-right, Contains-in, in-Contains, in-All}
 
 -- ---- a block with the tile
@@ -79,22 +77,6 @@ pub win-iff : (c : List ℕ) (melds : ℕ) → HasShape c melds ↔ IsWin c meld
 win-iff c melds = (
   λ s. let t = some_tile c melds s in (t.0, t.1, reading-from c melds t.0 t.1 s),
   λ w. shape-of c melds w.0 w.2.0 w.2.1,
-)
-
--- ---- the first of some splits
-
-pub split-iff : (c : List ℕ) (melds : ℕ) (splits rest : List Split) (first : Option Split) → AreTheSplits c melds splits → YieldsFirst (λ left. left) splits first rest → IsTrue (is_some first) ↔ HasSplit c melds
-split-iff c melds splits rest None are y = (
-  λ t. absurd (cc),
-  λ h. let split : Split = record { sets = h.0; pair = h.1 } in
-      let i = in-Contains split splits (are.complete split h.2) in
-      let P : List Split → Type 0 = λ z. IsIn split z in
-      absurd (subst P y.0 i),
-)
-split-iff c melds splits rest (Some split) are y = (
-  λ t. let P : List Split → Type 0 = λ z. IsIn split z in
-      (split.sets, split.pair, in-All (λ s. IsSplit c melds s.sets s.pair) splits are.sound split (subst P (sym y) (inl refl))),
-  λ h. refl,
 )
 
 -- ---- a list of readings that is not empty

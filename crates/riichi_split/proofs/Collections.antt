@@ -3,10 +3,12 @@ use Rattle.std.proofs.Common.{subst, ◌≡◌, ℕ, zero, suc, ◌<◌, Bool, t
 use Rattle.std.specs.List.{AllByRecursion}
 use Rattle.std.proofs.lemmas.Bool.Decides.{nat_tests}
 use Rattle.riichi_tiles.specs.Melds.{every_kind}
-use Rattle.riichi_tiles.specs.Blocks.{IsRunLow, IsSet, IsOrderedFrom, place_of}
+use Rattle.riichi_tiles.specs.Kinds.{IsRunLow}
+use Rattle.riichi_tiles.specs.Blocks.{IsSet, IsOrderedFrom, place_of}
 use Rattle.riichi_tiles.specs.declared.block.Block.{Block}
 use Rattle.riichi_tiles.specs.declared.block.Block.TheVariants.{Run, Triplet, Pair}
-use Rattle.riichi_split.specs.ReadingsOf.{begins_run, sets_at, every_set, when, collections}
+use Rattle.riichi_tiles.specs.Kinds.{begins_run}
+use Rattle.riichi_split.specs.ReadingsOf.{sets_at, every_set, when, collections}
 use Rattle.riichi_split.proofs.Lists.{IsIn, Differ, in-map, in-map-inv, Differ-map, in-flat_map, in-flat_map-inv, Differ-flat_map, in-range, in-range-inv, Differ-range}
 
 module _ {X : Type 0} where

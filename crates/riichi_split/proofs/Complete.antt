@@ -10,7 +10,8 @@ use Rattle.std.proofs.Math.Nat.{two-pow-succ}
 use Rattle.riichi_tiles.specs.declared.block.Block.{Block}
 use Rattle.riichi_tiles.specs.declared.block.Block.TheVariants.{Run, Triplet, Pair}
 use Rattle.riichi_split.specs.declared.cutting.Choice.{Choice}
-use Rattle.riichi_tiles.specs.Blocks.{copies, total, IsRunLow, IsSet, IsOrderedFrom}
+use Rattle.riichi_tiles.specs.Kinds.{IsRunLow}
+use Rattle.riichi_tiles.specs.Blocks.{copies, total, IsSet, IsOrderedFrom}
 use Rattle.riichi_split.specs.Cuts.{choice_of, may_have_runs, begun, joined, cut_from}
 use Rattle.riichi_split.proofs.Cuts.{IsChoice, choice_of-is, cut_from-cons, cut_from-nil}
 use Rattle.riichi_split.proofs.Sound.{carried, IsCut, begun-total, none_below, same-total, order-weaker}

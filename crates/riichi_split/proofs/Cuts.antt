@@ -6,7 +6,7 @@ use Rattle.std.proofs.lemmas.List.{length-replicate, get_or-drop}
 use Rattle.std.proofs.lemmas.Bool.{cases_eq}
 use Rattle.riichi_tiles.specs.declared.block.Block.{Block}
 use Rattle.riichi_split.specs.declared.cutting.Choice.{Choice}
-use Rattle.riichi_tiles.specs.Blocks.{IsRunLow}
+use Rattle.riichi_tiles.specs.Kinds.{IsRunLow}
 use Rattle.riichi_split.specs.Cuts.{choice_of, may_have_runs, begun, joined, cut_from}
 
 -- ---- one kind

@@ -10,7 +10,8 @@ use Rattle.riichi_tiles.specs.declared.block.Block.{Block}
 use Rattle.riichi_tiles.specs.declared.block.Block.TheVariants.{Run, Triplet, Pair}
 use Rattle.riichi_split.specs.declared.reading.Reading.{Reading}
 use Rattle.riichi_split.specs.declared.reading.Reading.TheVariants.{Standard}
-use Rattle.riichi_split.specs.Readings.{IsSplit, IsDone, IsReading, AreTheReadings, IsSevenPairs, IsOrphans, is_orphan, orphan_copies}
+use Rattle.riichi_tiles.specs.Kinds.{is_orphan}
+use Rattle.riichi_split.specs.Readings.{IsSplit, IsDone, IsReading, AreTheReadings, IsSevenPairs, IsOrphans, orphan_copies}
 use Rattle.riichi_split.specs.Dones.{dones}
 use Rattle.riichi_split.specs.ReadingsOf.{adds_up, standard_with, standard_of, are_seven_pairs, are_orphans_with, are_orphans, collections, readings_of}
 use Rattle.riichi_split.proofs.Lists.{IsIn, Differ, and-left, and-right, all-in, all-from, any-in, any-from, in-map, in-map-inv, Differ-map, in-flat_map, in-flat_map-inv, Differ-flat_map, in-range, in-range-inv, Differ-range, Contains-in, in-Contains}

@@ -1,5 +1,6 @@
 pub mod Placed
 pub mod Suits
+pub mod SuitCuts
 pub mod Thirds
 pub mod Lists
 pub mod Cuts
@@ -16,3 +17,9 @@ pub mod EveryReading
 pub mod AnyTile
 pub mod Marks
 pub mod Orders
+pub mod SuitBlocks
+pub mod Filling
+pub mod SplitSuits
+pub mod PairTotals
+pub mod KindMarks
+pub mod SpecialKinds

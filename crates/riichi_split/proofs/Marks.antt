@@ -1,10 +1,10 @@
 -- The marks of the kinds that a hand waits for.
-use Rattle.std.proofs.Common.{not, None, ◌≡◌, ℕ, zero, suc, ◌+◌, ◌<◌, ◌≤◌, ◌↔◌, Bool, true, false, List, [], ◌∷◌, length, get_or, replicate, set, refl, sym, ap, ◌∙◌, arith, ltb, IsTrue, inl, inr}
+use Rattle.std.proofs.Common.{not, None, ◌≡◌, ℕ, zero, suc, ◌+◌, ◌*◌, ◌<◌, ◌≤◌, ◌↔◌, ◌⊎◌, subst, Bool, true, false, List, [], ◌∷◌, length, get_or, refl, sym, ◌∙◌, arith, ltb, IsTrue, inl, inr}
 use Rattle.std.specs.List.{list_any}
 use Rattle.std.specs.Prelude.{◌&&◌}
-use Rattle.std.proofs.lemmas.Bool.{cases_eq, cases_lt}
+use Rattle.std.proofs.lemmas.Bool.{cases_lt}
 use Rattle.std.proofs.lemmas.Bool.Decides.{nat_tests}
-use Rattle.std.proofs.lemmas.List.{length-set, get_or-set_other, get_or_past, ext_get_or}
+use Rattle.std.proofs.lemmas.List.{length-set, get_or_past, ext_get_or}
 use Rattle.std.proofs.lemmas.Grind.{get_or-set_at}
 use Rattle.std.proofs.lemmas.List.FromFn.{length-map-range_with_len, get_or-map-range_with_len}
 use Rattle.riichi_tiles.specs.Tiles.{IsMarked, IsCounts}
@@ -12,11 +12,17 @@ use Rattle.riichi_hand.specs.HandParts.{HandParts}
 use Rattle.riichi_hand.specs.declared.fault.LineCode.TheVariants.{H8, H9}
 use Rattle.riichi_hand.specs.Faults.{coded, first_fault}
 use Rattle.riichi_hand.specs.Hand.{copies_held, size, is_thirteen, has_five_copies, IsHand}
-use Rattle.riichi_split.specs.Winning.{HasReading}
+use Rattle.std.specs.List.{sum}
+use Rattle.riichi_tiles.specs.Melds.{tiles}
+use Rattle.riichi_tiles.specs.declared.meld.Meld.{Meld}
+use Rattle.riichi_split.specs.Readings.{IsSevenPairs, IsOrphans}
+use Rattle.riichi_split.specs.SpecialWaits.{AddsSpecial}
+use Rattle.riichi_split.specs.Winning.{HasReading, HasShape, HasSplit}
+use Rattle.riichi_split.proofs.SpecialKinds.{fifth-completes-none}
 use Rattle.riichi_split.specs.Waits.{with_one, IsWait, is_wait, waits_of}
 use Rattle.riichi_split.specs.ReadingsOf.{readings_of}
 use Rattle.riichi_split.proofs.Lists.{and-left, and-right}
-use Rattle.riichi_split.proofs.AnyTile.{some-reading}
+use Rattle.riichi_split.proofs.AnyTile.{some-reading, reading-iff}
 use Rattle.riichi_split.proofs.EveryReading.{every_reading}
 
 -- ---- one kind
@@ -42,19 +48,6 @@ first-true : (a b : Bool) → a ≡ true → b ≡ (a && b)
 first-true true b e = refl
 first-true false b e = absurd (cc)
 
--- a test of the completed hand decides whether it is a wait
-pub wait-is : (hand : HandParts) (kind : ℕ) (won : Bool) → kind < 34 → IsCounts hand.concealed → length hand.melds ≤ 4 → copies_held hand.concealed hand.melds kind < 4 → ((w : ℕ) → 0 < get_or (with_one hand.concealed kind) w 0 → IsTrue won ↔ HasReading (with_one hand.concealed kind) (length hand.melds) w) → won ≡ is_wait hand kind
-wait-is hand kind won l counts few left h =
-    let some = ltb 0 (length (readings_of (with_one hand.concealed kind) (length hand.melds) kind)) in
-    let t : ltb (copies_held hand.concealed hand.melds kind) 4 ≡ true = grind (arith, nat_tests) in
-    same-test won some (HasReading (with_one hand.concealed kind) (length hand.melds) kind) (h kind (held-with_one hand.concealed kind (omega (arith, counts.each_kind)))) (reading-test hand kind counts few)
-    ∙ first-true (ltb (copies_held hand.concealed hand.melds kind) 4) some t
-
-pub none-left : (hand : HandParts) (kind : ℕ) → 4 ≤ copies_held hand.concealed hand.melds kind → false ≡ is_wait hand kind
-none-left hand kind h =
-    let t : ltb (copies_held hand.concealed hand.melds kind) 4 ≡ false = grind (arith, nat_tests) in
-    ap (λ b. b && ltb 0 (length (readings_of (with_one hand.concealed kind) (length hand.melds) kind))) (sym t)
-
 is_wait-iff : (hand : HandParts) (kind : ℕ) → kind < 34 → IsCounts hand.concealed → length hand.melds ≤ 4 → (is_wait hand kind ≡ true) ↔ IsWait hand kind
 is_wait-iff hand kind l counts few =
     let some = ltb 0 (length (readings_of (with_one hand.concealed kind) (length hand.melds) kind)) in
@@ -66,44 +59,6 @@ is_wait-iff hand kind l counts few =
 
 -- ---- all kinds
 
--- the kinds below a number are marked as waits, and no others are
-pub record MarksTo (hand : HandParts) (number : ℕ) (marks : List Bool) : Type 0 where
-  pub each_kind : length marks ≡ 34
-  pub below : (kind : ℕ) → kind < number → get_or marks kind false ≡ is_wait hand kind
-  pub above : (kind : ℕ) → number ≤ kind → get_or marks kind false ≡ false
-
-none_marked : (n kind : ℕ) → get_or (replicate n false) kind false ≡ false
-none_marked zero kind = refl
-none_marked (suc n) zero = refl
-none_marked (suc n) (suc kind) = none_marked n kind
-
-pub MarksTo-none : (hand : HandParts) (marks : List Bool) → marks ≡ replicate 34 false → MarksTo hand 0 marks
-MarksTo-none hand marks e = rw e (record {
-  each_kind = refl;
-  below = λ kind l. absurd (omega arith);
-  above = λ kind l. none_marked 34 kind;
-})
-
-pub MarksTo-yes : (hand : HandParts) (number : ℕ) (marks : List Bool) → number < 34 → true ≡ is_wait hand number → MarksTo hand number marks → MarksTo hand (number + 1) (set marks number true)
-MarksTo-yes hand number marks l w m = record {
-  each_kind = simp length-set m.each_kind;
-  below = λ kind k. elim (cases_eq kind number) [
-    | inl e ↦ get_or-set_at marks number kind true false e (omega (arith, m.each_kind)) ∙ w ∙ ap (is_wait hand) (sym e)
-    | inr n ↦ get_or-set_other marks number kind true false n ∙ m.below kind (omega arith)
-  ];
-  above = λ kind k. get_or-set_other marks number kind true false (omega arith) ∙ m.above kind (omega arith);
-}
-
-pub MarksTo-no : (hand : HandParts) (number : ℕ) (marks : List Bool) → false ≡ is_wait hand number → MarksTo hand number marks → MarksTo hand (number + 1) marks
-MarksTo-no hand number marks w m = record {
-  each_kind = m.each_kind;
-  below = λ kind k. elim (cases_eq kind number) [
-    | inl e ↦ m.above kind (omega arith) ∙ w ∙ ap (is_wait hand) (sym e)
-    | inr n ↦ m.below kind (omega arith)
-  ];
-  above = λ kind k. m.above kind (omega arith);
-}
-
 mark_of : (hand : HandParts) (kind : ℕ) → kind < 34 → get_or (waits_of hand) kind false ≡ is_wait hand kind
 unfolding waits_of
 mark_of hand kind l = get_or-map-range_with_len (is_wait hand) 0 34 kind kind false l (omega arith)
@@ -112,10 +67,6 @@ length-waits_of : (hand : HandParts) → length (waits_of hand) ≡ 34
 unfolding waits_of
 length-waits_of hand = length-map-range_with_len (is_wait hand) 0 34
 
-pub all_marked : (hand : HandParts) (number : ℕ) (marks : List Bool) → 34 ≤ number → MarksTo hand number marks → marks ≡ waits_of hand
-all_marked hand number marks l m =
-    ext_get_or false marks (waits_of hand) (m.each_kind ∙ sym (length-waits_of hand)) (λ kind k. m.below kind (omega (arith, m.each_kind)) ∙ sym (mark_of hand kind (omega (arith, m.each_kind))))
-
 pub marked-iff : (hand : HandParts) (kind : ℕ) → IsCounts hand.concealed → length hand.melds ≤ 4 → IsMarked (waits_of hand) kind ↔ IsWait hand kind
 marked-iff hand kind counts few =
     elim (cases_lt kind 34) [
@@ -123,6 +74,72 @@ marked-iff hand kind counts few =
       | inr g ↦
           let past : get_or (waits_of hand) kind false ≡ false = get_or_past (waits_of hand) kind false (omega (arith, length-waits_of hand)) in
           (λ t. absurd (let e : get_or (waits_of hand) kind false ≡ true = t in cc), λ w. absurd (omega (arith, w.of_a_kind)))
+    ]
+
+-- marks of just the waits
+pub all_marked : (hand : HandParts) (marks : List Bool) → IsCounts hand.concealed → length hand.melds ≤ 4 → length marks ≡ 34 → ((kind : ℕ) → IsMarked marks kind ↔ IsWait hand kind) → marks ≡ waits_of hand
+all_marked hand marks counts few long each = ext_get_or false marks (waits_of hand) (long ∙ sym (length-waits_of hand)) (λ kind l. same-test (get_or marks kind false) (get_or (waits_of hand) kind false) (IsWait hand kind) (each kind) (marked-iff hand kind counts few))
+
+-- ---- the three shapes
+
+-- a wait makes one of them
+wait-shape : (hand : HandParts) (kind : ℕ) → IsCounts hand.concealed → IsWait hand kind ↔ ((kind < 34) × (copies_held hand.concealed hand.melds kind < 4) × HasShape (with_one hand.concealed kind) (length hand.melds))
+wait-shape hand kind counts =
+    let i = λ (l : kind < 34). reading-iff (with_one hand.concealed kind) (length hand.melds) kind (held-with_one hand.concealed kind (omega (arith, counts.each_kind))) in (
+      λ w. (w.of_a_kind, w.some_left, (i w.of_a_kind).1 w.completes),
+      λ h. record { of_a_kind = h.0; some_left = h.1; completes = (i h.0).0 h.2 },
+    )
+
+no-tiles : (melds : List Meld) (kind : ℕ) → length melds ≡ 0 → tiles melds kind ≡ 0
+no-tiles [] kind e = refl
+no-tiles (meld ∷ melds) kind e = absurd (omega (arith, e))
+
+-- the kinds that complete sets and a pair
+abbrev pub AreStandard : HandParts → List Bool → Type 0
+AreStandard hand marks = (kind : ℕ) → IsMarked marks kind ↔ ((kind < 34) × (get_or hand.concealed kind 0 < 4) × HasSplit (with_one hand.concealed kind) (length hand.melds))
+
+-- without melds
+pub closed-waits : (hand : HandParts) (old marks : List Bool) → IsCounts hand.concealed → length hand.melds ≡ 0 → AreStandard hand old → AddsSpecial hand.concealed 34 old marks → (kind : ℕ) → IsMarked marks kind ↔ IsWait hand kind
+closed-waits hand old marks counts none standard adds kind =
+    let s = wait-shape hand kind counts in
+    let a = adds.each kind in
+    let o = standard kind in
+    let t = no-tiles hand.melds kind none in
+    let S : ℕ → Type 0 = λ n. IsSevenPairs (with_one hand.concealed kind) n ⊎ IsOrphans (with_one hand.concealed kind) n in (
+      λ m. elim (a.0 m) [
+        | inl b ↦ let h = o.0 b in s.1 (h.0, omega (arith, h.1, t), inl h.2)
+        | inr w ↦ elim (cases_lt (get_or hand.concealed kind 0) 4) [
+          | inl l ↦ s.1 (w.1.0, omega (arith, l, t), inr (subst S (sym none) w.1.1))
+          | inr four ↦ absurd (fifth-completes-none hand.concealed kind counts.each_kind four w.1)
+        ]
+      ],
+      λ w. let h = s.0 w in a.1 (elim h.2 [
+        | inl split ↦ inl (o.1 (h.0, omega (arith, h.1, t), split))
+        | inr special ↦ inr (h.0, (h.0, subst S none special))
+      ]),
+    )
+
+-- beside melds
+pub open-waits : (hand : HandParts) (old marks : List Bool) → IsCounts hand.concealed → 0 < length hand.melds → AreStandard hand old → ((kind : ℕ) → kind < 34 → IsMarked marks kind ↔ (IsMarked old kind × (copies_held hand.concealed hand.melds kind < 4))) → ((kind : ℕ) → 34 ≤ kind → IsMarked marks kind → ⊥) → (kind : ℕ) → IsMarked marks kind ↔ IsWait hand kind
+open-waits hand old marks counts some standard left others kind =
+    let s = wait-shape hand kind counts in
+    let o = standard kind in
+    elim (cases_lt kind 34) [
+      | inl l ↦ let i = left kind l in (
+        λ m. let h = i.0 m in let b = o.0 h.0 in s.1 (b.0, h.1, inl b.2),
+        λ w. let h = s.0 w in i.1 (
+          o.1 (
+            h.0,
+            omega (arith, h.1),
+            elim h.2 [
+              | inl split ↦ split
+              | inr special ↦ absurd (elim special [ inl p ↦ omega (arith, p.no_meld, some) | inr z ↦ omega (arith, z.no_meld, some) ])
+            ],
+          ),
+          h.1,
+        ),
+      )
+      | inr past ↦ (λ m. absurd (others kind past m), λ w. absurd (omega (arith, past, w.of_a_kind)))
     ]
 
 -- ---- the text
@@ -154,8 +171,11 @@ thirteen : (b d : Bool) → first_fault (coded H8 (not b) ∷ coded H9 d ∷ [])
 thirteen true d e = refl
 thirteen false d e = absurd (cc)
 
-pub few_melds : (hand : HandParts) → IsHand hand → length hand.melds ≤ 4
-few_melds hand h =
+pub thirteen_tiles : (hand : HandParts) → IsHand hand → sum hand.concealed + 3 * length hand.melds ≡ 13
+thirteen_tiles hand h =
     let t : is_thirteen hand.concealed hand.melds ≡ true = thirteen (is_thirteen hand.concealed hand.melds) (has_five_copies hand.concealed hand.melds) h in
     let e : size hand.concealed hand.melds ≡ 13 = grind (arith, nat_tests) in
-    omega (arith, e)
+    e
+
+pub few_melds : (hand : HandParts) → IsHand hand → length hand.melds ≤ 4
+few_melds hand h = let e = thirteen_tiles hand h in omega (arith, e)

@@ -4,7 +4,7 @@ use Rattle.std.specs.List.{AllByRecursion}
 use Rattle.std.proofs.lemmas.Bool.Decides.{nat_tests}
 use Rattle.riichi_tiles.specs.declared.block.Block.{Block}
 use Rattle.riichi_tiles.specs.declared.block.Block.TheVariants.{Run, Triplet, Pair}
-use Rattle.riichi_tiles.specs.Blocks.{IsSet, IsOrderedFrom, place_of}
+use Rattle.riichi_tiles.specs.Blocks.{IsSet, IsOrderedFrom, place_of, total}
 use Rattle.riichi_split.specs.Dones.{same_block}
 use Rattle.riichi_split.specs.Laws.{times, AreOneCollection, EachCollectionHasOneOrder}
 use Rattle.riichi_split.proofs.Dones.{same-block, same_block-self}
@@ -15,7 +15,7 @@ put : Block → List Block → List Block
 put b [] = b ∷ []
 put b (x ∷ xs) = cond (leb (place_of b) (place_of x)) (b ∷ x ∷ xs) (x ∷ put b xs)
 
-sorted : List Block → List Block
+pub sorted : List Block → List Block
 sorted [] = []
 sorted (b ∷ bs) = put b (sorted bs)
 
@@ -42,7 +42,7 @@ unfolding put
 sets-put b [] s a = (s, tt)
 sets-put b (x ∷ xs) s a = sets-swap (leb (place_of b) (place_of x)) b x xs (put b xs) s a.0 a.1 (sets-put b xs s a.1)
 
-sets-sorted : (bs : List Block) → AllByRecursion IsSet bs → AllByRecursion IsSet (sorted bs)
+pub sets-sorted : (bs : List Block) → AllByRecursion IsSet bs → AllByRecursion IsSet (sorted bs)
 unfolding sorted
 sets-sorted [] a = tt
 sets-sorted (b ∷ bs) a = sets-put b (sorted bs) a.0 (sets-sorted bs a.1)
@@ -56,10 +56,25 @@ unfolding put
 order-put p b [] l o = (l, tt)
 order-put p b (x ∷ xs) l o = order-swap (leb (place_of b) (place_of x)) p b x xs (put b xs) refl l o.0 o.1 (λ m. order-put (place_of x) b xs m o.1)
 
-order-sorted : (bs : List Block) → IsOrderedFrom 0 (sorted bs)
+pub order-sorted : (bs : List Block) → IsOrderedFrom 0 (sorted bs)
 unfolding sorted
 order-sorted [] = tt
 order-sorted (b ∷ bs) = order-put 0 b (sorted bs) (omega arith) (order-sorted bs)
+
+total-swap : (t : Bool) (k : ℕ) (b x : Block) (xs rest : List Block) → total rest k ≡ total (b ∷ xs) k → total (cond t (b ∷ x ∷ xs) (x ∷ rest)) k ≡ total (b ∷ x ∷ xs) k
+total-swap true k b x xs rest e = refl
+total-swap false k b x xs rest e = omega (arith, e)
+
+total-put : (k : ℕ) (b : Block) (xs : List Block) → total (put b xs) k ≡ total (b ∷ xs) k
+unfolding put
+total-put k b [] = refl
+total-put k b (x ∷ xs) = total-swap (leb (place_of b) (place_of x)) k b x xs (put b xs) (total-put k b xs)
+
+-- sorted sets have the same tiles
+pub total-sorted : (k : ℕ) (bs : List Block) → total (sorted bs) k ≡ total bs k
+unfolding sorted
+total-sorted k [] = refl
+total-sorted k (b ∷ bs) = let i = total-sorted k bs in let j = total-put k b (sorted bs) in omega (arith, i, j)
 
 -- ---- two ordered lists of one collection
 

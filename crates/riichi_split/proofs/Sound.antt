@@ -9,7 +9,8 @@ use Rattle.std.proofs.Math.Nat.{two-pow-succ}
 use Rattle.riichi_tiles.specs.declared.block.Block.{Block}
 use Rattle.riichi_tiles.specs.declared.block.Block.TheVariants.{Run, Triplet, Pair}
 use Rattle.riichi_split.specs.declared.cutting.Choice.{Choice}
-use Rattle.riichi_tiles.specs.Blocks.{copies, total, IsRunLow, IsSet, IsOrderedFrom}
+use Rattle.riichi_tiles.specs.Kinds.{IsRunLow}
+use Rattle.riichi_tiles.specs.Blocks.{copies, total, IsSet, IsOrderedFrom}
 use Rattle.riichi_split.specs.Cuts.{choice_of, may_have_runs, begun, joined, cut_from, doubts}
 use Rattle.riichi_split.proofs.Cuts.{IsChoice, IsChoice-from, cut_from-cons, cut_from-nil, after}
 
@@ -26,7 +27,7 @@ pub record IsCut (k : ℕ) (ns : List ℕ) (one two left : ℕ) (bs : List Block
   pub order : IsOrderedFrom (2 * k) bs
   pub adds : (j : ℕ) → get_or ns j 0 ≡ carried one two j + total bs (k + j)
 
-total-append : (xs ys : List Block) (k : ℕ) → total (xs ++ ys) k ≡ total xs k + total ys k
+pub total-append : (xs ys : List Block) (k : ℕ) → total (xs ++ ys) k ≡ total xs k + total ys k
 total-append [] ys k = omega arith
 total-append (x ∷ xs) ys k = omega (arith, total-append xs ys k)
 
@@ -85,7 +86,7 @@ begun-order : (t r k : ℕ) (bs : List Block) → IsOrderedFrom (2 * k + 2) bs �
 begun-order zero r k bs o = order-weaker (replicate r (Run k) ++ bs) (2 * k + 1) (2 * k) (omega arith) (runs-order r k bs o)
 begun-order (suc t) r k bs o = (omega arith, begun-order t r k bs o)
 
-runs-sets : (r k : ℕ) (bs : List Block) → (0 < r → IsRunLow k) → AllByRecursion IsSet bs → AllByRecursion IsSet (replicate r (Run k) ++ bs)
+pub runs-sets : (r k : ℕ) (bs : List Block) → (0 < r → IsRunLow k) → AllByRecursion IsSet bs → AllByRecursion IsSet (replicate r (Run k) ++ bs)
 runs-sets zero k bs m s = s
 runs-sets (suc r) k bs m s = (m (omega arith), runs-sets r k bs (λ h. m (omega arith)) s)
 

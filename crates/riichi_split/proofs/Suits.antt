@@ -7,7 +7,8 @@ use Rattle.std.proofs.lemmas.Grind.{get_or-set_at}
 use Rattle.std.proofs.lemmas.Bool.Decides.{nat_tests}
 use Rattle.riichi_tiles.specs.declared.block.Block.{Block}
 use Rattle.riichi_tiles.specs.declared.block.Block.TheVariants.{Run, Triplet, Pair}
-use Rattle.riichi_tiles.specs.Blocks.{copies, total, IsRunLow, IsSet}
+use Rattle.riichi_tiles.specs.Kinds.{IsRunLow}
+use Rattle.riichi_tiles.specs.Blocks.{copies, total, IsSet}
 use Rattle.riichi_split.specs.Readings.{IsSplit}
 use Rattle.riichi_split.specs.Cuts.{suit_total}
 use Rattle.riichi_split.specs.Waits.{with_one}
@@ -20,27 +21,27 @@ pub suit_total-zero : (f : ℕ → ℕ) (first : ℕ) → suit_total f first 0 �
 unfolding suit_total
 suit_total-zero f first = refl
 
-suit_total-same : (f g : ℕ → ℕ) (first n : ℕ) → ((k : ℕ) → f k ≡ g k) → suit_total f first n ≡ suit_total g first n
+pub suit_total-same : (f g : ℕ → ℕ) (first n : ℕ) → ((k : ℕ) → f k ≡ g k) → suit_total f first n ≡ suit_total g first n
 unfolding suit_total
 suit_total-same f g first zero h = refl
 suit_total-same f g first (suc n) h = omega (arith, suit_total-same f g first n h, h (first + n))
 
-suit_total-add : (f g : ℕ → ℕ) (first n : ℕ) → suit_total (λ k. f k + g k) first n ≡ suit_total f first n + suit_total g first n
+pub suit_total-add : (f g : ℕ → ℕ) (first n : ℕ) → suit_total (λ k. f k + g k) first n ≡ suit_total f first n + suit_total g first n
 unfolding suit_total
 suit_total-add f g first zero = refl
 suit_total-add f g first (suc n) = omega (arith, suit_total-add f g first n)
 
 -- so many tiles of one kind
-abbrev only : ℕ → ℕ → ℕ → ℕ
+abbrev pub only : ℕ → ℕ → ℕ → ℕ
 only m kind k = cond (eqb k kind) m 0
 
-abbrev inside : ℕ → ℕ → ℕ → Bool
+abbrev pub inside : ℕ → ℕ → ℕ → Bool
 inside first n kind = leb first kind && ltb kind (first + n)
 
 only-step : (m kind first n : ℕ) → cond (inside first n kind) m 0 + only m kind (first + n) ≡ cond (inside first (suc n) kind) m 0
 only-step m kind first n = grind (arith, nat_tests)
 
-total-only : (m kind first n : ℕ) → suit_total (only m kind) first n ≡ cond (inside first n kind) m 0
+pub total-only : (m kind first n : ℕ) → suit_total (only m kind) first n ≡ cond (inside first n kind) m 0
 unfolding suit_total
 total-only m kind first zero = grind (arith, nat_tests)
 total-only m kind first (suc n) = ap (λ x. x + only m kind (first + n)) (total-only m kind first n) ∙ only-step m kind first n
@@ -48,35 +49,18 @@ total-only m kind first (suc n) = ap (λ x. x + only m kind (first + n)) (total-
 run-is : (low k : ℕ) → copies (Run low) k ≡ only 1 low k + (only 1 (low + 1) k + only 1 (low + 2) k)
 run-is low k = grind (arith, nat_tests)
 
-total-run : (low first n : ℕ) → suit_total (copies (Run low)) first n ≡ cond (inside first n low) 1 0 + (cond (inside first n (low + 1)) 1 0 + cond (inside first n (low + 2)) 1 0)
+pub total-run : (low first n : ℕ) → suit_total (copies (Run low)) first n ≡ cond (inside first n low) 1 0 + (cond (inside first n (low + 1)) 1 0 + cond (inside first n (low + 2)) 1 0)
 total-run low first n =
     let a = suit_total-same (copies (Run low)) (λ k. only 1 low k + (only 1 (low + 1) k + only 1 (low + 2) k)) first n (run-is low) in
     let b = suit_total-add (only 1 low) (λ k. only 1 (low + 1) k + only 1 (low + 2) k) first n in
     let d = suit_total-add (only 1 (low + 1)) (only 1 (low + 2)) first n in
     omega (arith, a, b, d, total-only 1 low first n, total-only 1 (low + 1) first n, total-only 1 (low + 2) first n)
 
-one-at : (c : List ℕ) (kind k : ℕ) → kind < length c → get_or (with_one c kind) k 0 ≡ get_or c k 0 + only 1 kind k
+pub one-at : (c : List ℕ) (kind k : ℕ) → kind < length c → get_or (with_one c kind) k 0 ≡ get_or c k 0 + only 1 kind k
 one-at c kind k within = elim (cases_eq k kind) [
   | inl same ↦ get_or-set_at c kind k (get_or c kind 0 + 1) 0 same within ∙ (rw (same, eq-eqb kind kind refl) refl)
   | inr other ↦ get_or-set_other c kind k (get_or c kind 0 + 1) 0 other ∙ (rw (ne_eqb k kind other) (omega arith))
 ]
-
--- one more tile of a kind
-total-with_one : (c : List ℕ) (kind first n : ℕ) → kind < length c → suit_total (λ k. get_or (with_one c kind) k 0) first n ≡ suit_total (λ k. get_or c k 0) first n + cond (inside first n kind) 1 0
-total-with_one c kind first n within =
-    let a = suit_total-same (λ k. get_or (with_one c kind) k 0) (λ k. get_or c k 0 + only 1 kind k) first n (λ k. one-at c kind k within) in
-    let b = suit_total-add (λ k. get_or c k 0) (only 1 kind) first n in
-    omega (arith, a, b, total-only 1 kind first n)
-
-pub rest-of_its_suit : (c : List ℕ) (kind first n rest : ℕ) → kind < length c → first ≤ kind → kind < first + n → rest ≡ suit_total (λ k. get_or c k 0) first n % 3 → (rest + 1) % 3 ≡ suit_total (λ k. get_or (with_one c kind) k 0) first n % 3
-rest-of_its_suit c kind first n rest within low high is =
-    let t = total-with_one c kind first n within in grind (arith, nat_tests, t, is)
-
-pub rest-of_another_suit : (c : List ℕ) (kind first n rest : ℕ) → kind < length c → (kind < first) ⊎ (first + n ≤ kind) → rest ≡ suit_total (λ k. get_or c k 0) first n % 3 → rest ≡ suit_total (λ k. get_or (with_one c kind) k 0) first n % 3
-rest-of_another_suit c kind first n rest within (inl below) is =
-    let t = total-with_one c kind first n within in grind (arith, nat_tests, t, is)
-rest-of_another_suit c kind first n rest within (inr above) is =
-    let t = total-with_one c kind first n within in grind (arith, nat_tests, t, is)
 
 -- each run has a multiple of three tiles among these kinds
 RunsFit : ℕ → ℕ → Type 0
@@ -131,7 +115,7 @@ whole-set first n (Triplet kind) fit s =
     (cond (inside first n kind) 1 0, grind (arith, nat_tests))
 whole-set first n (Pair kind) fit s = absurd s
 
-none-total : (first n : ℕ) → suit_total (λ k. 0) first n ≡ 0
+pub none-total : (first n : ℕ) → suit_total (λ k. 0) first n ≡ 0
 unfolding suit_total
 none-total first zero = refl
 none-total first (suc n) = omega (arith, none-total first n)

@@ -1,20 +1,17 @@
 -- How the search cuts tiles into sets, kind by kind from the lowest. No public clause cites this.
-use Rattle.std.specs.Prelude.{◌^◌, min, ℕ, zero, suc, ◌+◌, ◌-◌, ◌*◌, ◌/◌, ◌%◌, Bool, false, ◌&&◌, not, Option, Some, None, List, [], ◌∷◌, ◌++◌, if◌then◌else◌, nat_lt, ◌==◌, replicate, slice_index, slice_set, option_and_then, ◌≡◌, ◌≤◌, length, nat_le, All, AllPairs, Contains, ◌≢◌}
+use Rattle.std.specs.Prelude.{◌^◌, min, ℕ, zero, suc, ◌+◌, ◌-◌, ◌*◌, ◌/◌, ◌%◌, Bool, ◌&&◌, not, Option, Some, None, List, [], ◌∷◌, ◌++◌, if◌then◌else◌, nat_lt, ◌==◌, replicate, slice_index, slice_set, option_and_then, ◌≡◌, ◌≤◌, length, nat_le, All, AllPairs, Contains, ◌≢◌}
 use Rattle.riichi_tiles.specs.declared.block.Block.{Block}
 use Rattle.riichi_tiles.specs.declared.block.Block.TheVariants.{Run, Triplet}
+use Rattle.riichi_tiles.specs.Kinds.{begins_run}
 use Rattle.riichi_split.specs.Readings.{IsSplit}
 use Rattle.riichi_split.specs.declared.cutting.Choice.{Choice}
 use Rattle.riichi_split.specs.declared.split.Split.{Split}
-
--- a run begins at a 1 to 7 of m, p or s
-abbrev pub may_run : ℕ → Bool
-may_run kind = if nat_lt kind 27 then nat_lt (kind % 9) 7 else false
 
 -- so many triplets and runs begin at a kind, where that many sets are wanted and runs may begin there
 abbrev pub begins : ℕ → ℕ → ℕ → ℕ → ℕ → Option Choice
 begins kind left triplets runs choices =
     if nat_lt left (triplets + runs) then None else
-    (if nat_lt 0 runs && not (may_run kind) then None else
+    (if nat_lt 0 runs && not (begins_run kind) then None else
     Some (record { triplets = triplets; runs = runs; choices = choices }))
 
 -- the first two kinds have three tiles or more: three runs might begin just below them

@@ -9,3 +9,5 @@ pub mod Dones
 pub mod SplitsLeft
 pub mod Left
 pub mod Laws
+pub mod SuitTiles
+pub mod SpecialWaits

@@ -1,10 +1,11 @@
 -- What a reading of a hand is.
-use Rattle.std.specs.Prelude.{ℕ, ◌≡◌, ◌≢◌, ◌+◌, ◌<◌, ◌⊎◌, List, [], ◌∷◌, ◌++◌, length, slice_index, Contains, All, AllPairs, count_by, if◌then◌else◌, ◌==◌, ◌||◌, nat_le, Bool, IsTrue}
+use Rattle.std.specs.Prelude.{ℕ, ◌≡◌, ◌≢◌, ◌+◌, ◌<◌, ◌⊎◌, List, [], ◌∷◌, ◌++◌, length, slice_index, Contains, All, AllPairs, count_by, if◌then◌else◌, ◌==◌, IsTrue}
 use Rattle.std.specs.List.{AllByRecursion}
 use Rattle.riichi_tiles.specs.declared.block.Block.{Block}
 use Rattle.riichi_tiles.specs.declared.block.Block.TheVariants.{Pair}
 use Rattle.riichi_split.specs.declared.reading.Reading.{Reading}
 use Rattle.riichi_split.specs.declared.reading.Reading.TheVariants.{Standard, SevenPairs, Orphans}
+pub use Rattle.riichi_tiles.specs.Kinds.{is_orphan}
 use Rattle.riichi_tiles.specs.Blocks.{copies, total, IsSet, IsOrderedFrom}
 
 -- Sets and a pair which, with so many melds, are four sets and a pair, and add up to the tiles. The sets are listed in order, so that each collection of them is one list.
@@ -25,10 +26,6 @@ pub record IsSevenPairs (counts : List ℕ) (melds : ℕ) : Type 0 where
   pub no_meld : melds ≡ 0
   pub twos : (kind : ℕ) → (slice_index counts kind ≡ 0) ⊎ (slice_index counts kind ≡ 2)
   pub seven : count_by (λ held. held == 2) counts ≡ 7
-
--- a terminal or an honour: 1m 9m 1p 9p 1s 9s and the kinds from 1z on
-abbrev pub is_orphan : ℕ → Bool
-is_orphan kind = kind == 0 || kind == 8 || kind == 9 || kind == 17 || kind == 18 || nat_le 26 kind
 
 -- the copies of a kind, where each terminal and honour is there once, and one of them twice
 abbrev pub orphan_copies : ℕ → ℕ → ℕ

@@ -1,5 +1,5 @@
 -- The readings of a hand as one list: of all that there are, those that add up to its tiles.
-use Rattle.std.specs.Prelude.{ℕ, zero, suc, ◌-◌, ◌%◌, ◌==◌, Bool, ◌&&◌, ◌||◌, List, [], ◌∷◌, ◌++◌, map, if◌then◌else◌, nat_le, nat_lt, slice_index}
+use Rattle.std.specs.Prelude.{ℕ, zero, suc, ◌-◌, ◌==◌, Bool, ◌&&◌, ◌||◌, List, [], ◌∷◌, ◌++◌, map, if◌then◌else◌, nat_le, slice_index}
 use Rattle.std.specs.List.{list_all, list_any, flat_map, count_by}
 use Rattle.riichi_tiles.specs.Melds.{every_kind}
 use Rattle.riichi_tiles.specs.Blocks.{total, place_of}
@@ -7,12 +7,9 @@ use Rattle.riichi_tiles.specs.declared.block.Block.{Block}
 use Rattle.riichi_tiles.specs.declared.block.Block.TheVariants.{Run, Triplet, Pair}
 use Rattle.riichi_split.specs.declared.reading.Reading.{Reading}
 use Rattle.riichi_split.specs.declared.reading.Reading.TheVariants.{Standard, SevenPairs, Orphans}
-use Rattle.riichi_split.specs.Readings.{is_orphan, orphan_copies}
+use Rattle.riichi_tiles.specs.Kinds.{begins_run, is_orphan}
+use Rattle.riichi_split.specs.Readings.{orphan_copies}
 use Rattle.riichi_split.specs.Dones.{dones, flagged}
-
--- a run begins at a 1 to 7 of m, p or s
-abbrev pub begins_run : ℕ → Bool
-begins_run low = nat_lt low 27 && nat_lt (low % 9) 7
 
 -- the sets whose lowest tile is of this kind
 abbrev pub sets_at : ℕ → List Block

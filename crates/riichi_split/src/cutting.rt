@@ -1,6 +1,7 @@
 //! One way to cut tiles into sets, by a number that makes the choices.
 ghost use Rattle.std.specs.Prelude.{◌≡◌, ℕ, ◌+◌, ◌<◌, ◌≤◌, ◌++◌, drop, length, replicate, slice_index};
-ghost use Rattle.riichi_split.specs.Cuts.{may_run, may_have_runs, begins, choice_of, begun, cut_from, IsEnd};
+ghost use Rattle.riichi_tiles.specs.Kinds.{begins_run};
+ghost use Rattle.riichi_split.specs.Cuts.{may_have_runs, begins, choice_of, begun, cut_from, IsEnd};
 
 use crate::sets::Sets;
 use riichi_tiles::{Block, Kind};
@@ -14,7 +15,7 @@ pub(crate) struct Choice {
 }
 
 fn may_begin_run(kind: usize) -> bool
-    ensures { result ≡ may_run kind }
+    ensures { result ≡ begins_run kind }
 {
     kind < 7 || kind >= 9 && kind < 16 || kind >= 18 && kind < 25
 }

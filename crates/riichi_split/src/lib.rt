@@ -29,9 +29,12 @@ mod reading;
 mod readings;
 mod sets;
 mod special;
+mod special_waits;
 mod split;
 mod splits;
+mod standard;
 mod suit;
+mod suit_tiles;
 #[cfg(test)]
 mod tests;
 mod waiting;

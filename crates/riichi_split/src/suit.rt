@@ -1,11 +1,8 @@
 //! The suit that has the pair: its tiles are two more than some sets have.
-ghost use Rattle.std.specs.Prelude.{◌≡◌, ◌+◌, ◌%◌, ◌<◌, ◌≤◌, ℕ, List, length, slice_index};
+ghost use Rattle.std.specs.Prelude.{◌≡◌, ◌+◌, ◌%◌, ◌<◌, ◌≤◌, ℕ, List, slice_index};
 ghost use Rattle.riichi_tiles.specs.declared.block.Block.{Block};
 ghost use Rattle.riichi_split.specs.Cuts.{suit_total};
-ghost use Rattle.riichi_split.specs.Waits.{with_one};
 ghost use Rattle.riichi_split.specs.Readings.{IsSplit};
-
-use riichi_tiles::Kind;
 
 /// So many kinds from the first on.
 #[derive(Clone, Copy)]
@@ -37,24 +34,6 @@ impl Rests {
             bamboos: rest_of(counts, 18, 9),
             honours: rest_of(counts, 27, 7),
         }
-    }
-
-    /// What is left over with one more tile of a kind.
-    pub(crate) fn with(mut self, kind: Kind) -> Rests
-        requires { kind < 34 }
-        ensures { (counts : List ℕ) → length counts ≡ 34 → AreRestsOf counts self → AreRestsOf (with_one counts kind) result }
-    {
-        let number = kind.index();
-        if number < 9 {
-            self.characters = (self.characters + 1) % 3;
-        } else if number < 18 {
-            self.circles = (self.circles + 1) % 3;
-        } else if number < 27 {
-            self.bamboos = (self.bamboos + 1) % 3;
-        } else {
-            self.honours = (self.honours + 1) % 3;
-        }
-        self
     }
 
     /// The suit that has the pair of each split, or none of its kinds where there is no split.

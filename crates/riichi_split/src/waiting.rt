@@ -1,11 +1,11 @@
 //! The kinds that a hand waits for.
-ghost use Rattle.std.specs.Prelude.{◌≡◌, ◌↔◌, ◌<◌, ℕ};
-ghost use Rattle.riichi_tiles.specs.Tiles.{IsCounts, IsMarked};
+ghost use Rattle.std.specs.Prelude.{◌≡◌, ◌↔◌, ◌<◌, ◌≤◌, ℕ, length};
+ghost use Rattle.riichi_tiles.specs.Tiles.{IsMarked};
+ghost use Rattle.riichi_hand.specs.Hand.{copies_held};
 ghost use Rattle.riichi_split.specs.Waits as spec;
-ghost use Rattle.riichi_split.specs.Rests.{AreRestsOf};
 
-use crate::suit::Rests;
-use crate::winning::is_win_with;
+use crate::special_waits::mark_special_waits;
+use crate::standard::standard_waits;
 use arrayvec::ArrayString;
 use riichi_hand::HandRecord;
 use riichi_tiles::{Counts, Kind, KindSet, Melds, write_kinds};
@@ -17,30 +17,29 @@ pub fn waits(hand: &HandRecord) -> KindSet
 {
     let tiles = hand.concealed();
     let melds = hand.melds();
-    let rests = Rests::of(&tiles.to_array());
-    let mut waits = KindSet::new();
-    for number in 0..34 {
-        let kind = Kind::at(number);
-        if is_wait(&tiles, &melds, rests, kind) {
-            waits.insert(kind);
-        }
+    let mut waits = standard_waits(&tiles.to_array(), melds.count());
+    if melds.count() > 0 {
+        return with_tiles_left(&waits, &tiles, &melds);
     }
+    mark_special_waits(&tiles, &mut waits);
     waits
 }
 
-/// Whether the hand waits for the kind, with what it leaves over in each suit.
-fn is_wait(tiles: &Counts, melds: &Melds, rests: Rests, kind: Kind) -> bool
-    requires kind { kind < 34 }
-    requires rests { AreRestsOf tiles.now rests }
-    ensures value { result ≡ spec.is_wait (record { concealed = tiles.now; melds = melds.now }) kind }
-    ensures counts { IsCounts tiles.now }
+/// Those of some kinds of which hand and melds hold fewer than four.
+fn with_tiles_left(kinds: &KindSet, tiles: &Counts, melds: &Melds) -> KindSet
+    ensures long { length result ≡ 34 }
+    ensures each { (kind : ℕ) → kind < 34 → IsMarked result kind ↔
+        (IsMarked kinds.now kind × (copies_held tiles.now melds.now kind < 4)) }
+    ensures others { (kind : ℕ) → 34 ≤ kind → ¬ IsMarked result kind }
 {
-    if tiles.get(kind) + melds.tiles(kind) >= 4 {
-        return false;
+    let mut left = KindSet::new();
+    for number in 0..34 {
+        let kind = Kind::at(number);
+        if kinds.contains(kind) && tiles.get(kind) + melds.tiles(kind) < 4 {
+            left.insert(kind);
+        }
     }
-    let mut completed = *tiles;
-    completed.add(kind);
-    is_win_with(&completed, melds.count() as u8, rests.with(kind))
+    left
 }
 
 /// The text of some waits: `waits` and their kinds, `waits -` where there are none.

@@ -1,5 +1,6 @@
 -- Blocks of tiles: the sets and pairs that a hand is made of.
-use Rattle.std.specs.Prelude.{ℕ, ◌+◌, ◌*◌, ◌%◌, ◌<◌, ◌≤◌, List, [], ◌∷◌, if◌then◌else◌, nat_lt, ◌==◌}
+use Rattle.std.specs.Prelude.{ℕ, ◌+◌, ◌*◌, ◌<◌, ◌≤◌, List, [], ◌∷◌, if◌then◌else◌, nat_lt, ◌==◌}
+use Rattle.riichi_tiles.specs.Kinds.{IsRunLow}
 use Rattle.riichi_tiles.specs.declared.block.Block.{Block}
 use Rattle.riichi_tiles.specs.declared.block.Block.TheVariants.{Run, Triplet, Pair}
 
@@ -13,10 +14,6 @@ copies (Pair held) kind = if kind == held then 2 else 0
 abbrev pub total : List Block → ℕ → ℕ
 total [] kind = 0
 total (block ∷ blocks) kind = copies block kind + total blocks kind
-
--- a run begins at a 1 to 7 of m, p or s
-abbrev pub IsRunLow : ℕ → Type 0
-IsRunLow low = (low < 27) × (low % 9 < 7)
 
 -- a run or a triplet
 abbrev pub IsSet : Block → Type 0

@@ -1,3 +1,5 @@
+pub mod Kinds
+pub mod Suits
 pub mod Tiles
 pub mod Notation
 pub mod Printing

@@ -1,6 +1,6 @@
 //! Tiles of riichi mahjong, and the text in which they are written.
 //!
-//! A [`Kind`] is one of the 34 kinds of tile. [`Counts`] says how many of each are held, at most four; a [`KindSet`] is a set
+//! A [`Kind`] is one of the 34 kinds of tile, and belongs to a [`Suit`]; [`BySuit`] has something for each suit. [`Counts`] says how many of each are held, at most four; a [`KindSet`] is a set
 //! of kinds, as the waits of a hand. A [`Meld`] is a set that was called or declared, [`Melds`] the melds of one hand, at most
 //! four; a [`Block`] is a run, a triplet or a pair within the concealed tiles. Each tells how many tiles of a kind it has, so
 //! that hands are added up kind by kind. [`Reds`] counts the red fives of a suit, and [`dora_of`] tells what an indicator
@@ -23,6 +23,7 @@
 #![tactic(auto)]
 
 mod block;
+mod by_suit;
 mod counts;
 mod dora;
 mod kind;
@@ -31,10 +32,12 @@ mod meld;
 mod melds;
 mod notation;
 mod reds;
+mod suit;
 #[cfg(test)]
 mod tests;
 
 pub use block::Block;
+pub use by_suit::BySuit;
 pub use counts::Counts;
 pub use dora::dora_of;
 pub use kind::Kind;
@@ -43,3 +46,4 @@ pub use meld::Meld;
 pub use melds::Melds;
 pub use notation::{NotationCode, NotationFault, read_counts, write_counts, write_kinds};
 pub use reds::{Reds, reds_of};
+pub use suit::Suit;

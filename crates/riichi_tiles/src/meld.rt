@@ -2,7 +2,6 @@ ghost use Rattle.std.specs.Prelude.{◌≡◌, ◌<◌, ℕ, map, slice_index, S
 ghost use Rattle.std.specs.List.{list_all, range_with_len, find};
 ghost use Rattle.riichi_tiles.specs.Melds.{tiles_of, is_open, is_kong, is_meld, reads_as, named, melded, meld_of, has_just, cut_named, cut_at, SpellsMeld};
 ghost use Rattle.riichi_tiles.specs.declared.meld.Meld.{Meld};
-ghost use Rattle.riichi_tiles.specs.Tiles.{begins_run};
 
 use crate::counts::Counts;
 use crate::kind::Kind;
@@ -85,17 +84,10 @@ impl Meld {
         ensures { result ≡ is_meld self.now }
     {
         match self {
-            Meld::Chi(low) => begins_run(*low),
+            Meld::Chi(low) => low.begins_run(),
             Meld::Pon(_) | Meld::Kan(_) | Meld::Ankan(_) => true,
         }
     }
-}
-
-/// A run can begin at a 1 to 7 of m, p or s.
-fn begins_run(kind: Kind) -> bool
-    ensures { result ≡ begins_run kind }
-{
-    kind.index() < 27 && kind.index() % 9 < 7
 }
 
 /// The meld of this name that has just these tiles. It can only be that of the lowest kind.

@@ -191,3 +191,51 @@ fn adds_up_melds_and_blocks(rt: HostRuntime) {
     assert_eq!(rt; Block::Pair(three).tiles(three), 2);
     assert!(rt; !Block::Pair(three).contains(Kind::at(3)));
 }
+
+#[test]
+fn names_each_kind(rt: HostRuntime) {
+    let rows: [(u8, Suit, usize, &str); 10] = [
+        (0, Suit::Characters, 0, "terminal begins"),
+        (6, Suit::Characters, 6, "begins"),
+        (7, Suit::Characters, 7, ""),
+        (8, Suit::Characters, 8, "terminal"),
+        (9, Suit::Circles, 0, "terminal begins"),
+        (17, Suit::Circles, 8, "terminal"),
+        (18, Suit::Bamboos, 0, "terminal begins"),
+        (26, Suit::Bamboos, 8, "terminal"),
+        (27, Suit::Honours, 0, "honour"),
+        (33, Suit::Honours, 6, "honour"),
+    ];
+    for (number, suit, rank, words) in rows {
+        if let Some(kind) = Kind::new(number) {
+            assert_eq!(rt; kind.suit(), suit);
+            assert_eq!(rt; kind.rank(), rank);
+            assert_eq!(rt;
+                kind.is_terminal(),
+                words == "terminal" || words == "terminal begins"
+            );
+            assert_eq!(rt; kind.is_honour(), words == "honour");
+            assert_eq!(rt; kind.is_orphan(), kind.is_terminal() || kind.is_honour());
+            assert_eq!(rt;
+                kind.begins_run(),
+                words == "begins" || words == "terminal begins"
+            );
+            assert_eq!(rt; suit.first() + rank, number as usize);
+        }
+    }
+}
+
+#[test]
+fn has_something_for_each_suit(rt: HostRuntime) {
+    let kinds = BySuit::of(|suit: Suit| suit.kinds());
+    for suit in Suit::ALL {
+        assert_eq!(rt; kinds.get(suit), suit.kinds());
+        let changed = kinds.with(suit, 0);
+        assert_eq!(rt; *changed.lent(suit), 0);
+        for other in Suit::ALL {
+            assert!(rt; other == suit || changed.get(other) == kinds.get(other));
+        }
+    }
+    assert_eq!(rt; kinds.honours, 7);
+    assert_eq!(rt; kinds.bamboos, 9);
+}

@@ -1,5 +1,5 @@
 use Rattle.std.proofs.Common.{ℕ, ◌<◌, IsTrue, get_or}
-use Rattle.riichi_split.specs.Readings.{is_orphan}
+use Rattle.riichi_tiles.specs.Kinds.{is_orphan}
 use Rattle.riichi_split.proofs.special.has_each_orphan.Given as goal
 
 abbrev pub invariant-loop-kind : goal.invariant-loop-kind

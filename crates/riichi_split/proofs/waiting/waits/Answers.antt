@@ -1,43 +1,42 @@
-use Rattle.std.proofs.Common.{◌≡◌, ◌≤◌, ◌+◌, ◌↔◌, List, Bool, true, length, set, refl, sym, ap, subst, ◌∙◌, arith}
-use Rattle.riichi_tiles.specs.Tiles.{IsMarked, IsCounts}
-use Rattle.riichi_hand.specs.HandParts.{HandParts}
-use Rattle.riichi_split.specs.Waits.{IsWait, is_wait, waits_of}
-use Rattle.riichi_split.proofs.Marks.{MarksTo, MarksTo-none, MarksTo-yes, MarksTo-no, all_marked, marked-iff, few_melds}
+use Rattle.std.proofs.Common.{length, ap, ◌∙◌, arith}
+use Rattle.riichi_tiles.specs.Tiles.{IsCounts}
+use Rattle.riichi_split.proofs.Marks.{AreStandard, open-waits, closed-waits, all_marked, few_melds}
 use Rattle.riichi_split.proofs.waiting.waits.Goals as goal
-use Rattle.riichi_split.proofs.waiting.waits.Goals.{then-is_wait, else-is_wait}
 
-pub loop-number-init : goal.loop-number-init
-loop-number-init c =
-    (MarksTo-none (record { concealed = c.concealed-tiles.result; melds = c.melds-melds.result }) c.new-waits.result c.new-waits.ensures, λ h. absurd (omega arith))
+pub returns-then-count-gt0-clause-value : goal.returns-then-count-gt0-clause-value
+returns-then-count-gt0-clause-value c =
+    let hand = c.args.hand.now in
+    let counts : IsCounts hand.concealed = rw c.concealed-tiles.ensures.value at c.to_array.ensures.counts in
+    let standard : AreStandard hand c.standard_waits-waits.result = rw (c.to_array.ensures.value, c.concealed-tiles.ensures.value, c.count.ensures.value, c.melds-melds.ensures.value) at c.standard_waits-waits.ensures.each in
+    let melds = ap length c.melds-melds.ensures.value in
+    all_marked hand c.with_tiles_left.result counts (few_melds hand c.melds-melds.ensures.hand) c.with_tiles_left.ensures.long
+    (open-waits hand c.standard_waits-waits.result c.with_tiles_left.result counts (omega (arith, melds, c.if-count-gt0.true, c.count-2.ensures.value)) standard
+    (rw (c.concealed-tiles.ensures.value, c.melds-melds.ensures.value) at c.with_tiles_left.ensures.each) c.with_tiles_left.ensures.others)
 
-pub loop-number-preserved : goal.loop-number-preserved
-loop-number-preserved c =
-    let hand : HandParts = record { concealed = c.concealed-tiles.result; melds = c.melds-melds.result } in
-    let M : List Bool → Type 0 = λ marks. MarksTo hand (c.loop-number.number + 1) marks in
-    let kind = c.at-kind.ensures in (
-      elim c.if-is_wait.branch [
-        | then-is_wait w ↦
-            let wait = sym w.if-is_wait.true ∙ c.is_wait.ensures.value ∙ ap (is_wait hand) kind in
-            subst M (sym (w.waits-is ∙ w.insert.ensures ∙ ap (λ k. set c.loop-number.waits k true) kind)) (MarksTo-yes hand c.loop-number.number c.loop-number.waits (omega arith) wait c.loop-number.invariant.0)
-        | else-is_wait w ↦
-            let wait = sym w.if-is_wait.false ∙ c.is_wait.ensures.value ∙ ap (is_wait hand) kind in
-            subst M (sym w.waits-is) (MarksTo-no hand c.loop-number.number c.loop-number.waits wait c.loop-number.invariant.0)
-      ],
-      λ _. c.is_wait.ensures.counts,
-    )
+pub returns-then-count-gt0-clause-each : goal.returns-then-count-gt0-clause-each
+returns-then-count-gt0-clause-each c =
+    let hand = c.args.hand.now in
+    let counts : IsCounts hand.concealed = rw c.concealed-tiles.ensures.value at c.to_array.ensures.counts in
+    let standard : AreStandard hand c.standard_waits-waits.result = rw (c.to_array.ensures.value, c.concealed-tiles.ensures.value, c.count.ensures.value, c.melds-melds.ensures.value) at c.standard_waits-waits.ensures.each in
+    let melds = ap length c.melds-melds.ensures.value in
+    open-waits hand c.standard_waits-waits.result c.with_tiles_left.result counts (omega (arith, melds, c.if-count-gt0.true, c.count-2.ensures.value)) standard
+    (rw (c.concealed-tiles.ensures.value, c.melds-melds.ensures.value) at c.with_tiles_left.ensures.each) c.with_tiles_left.ensures.others
 
 pub returns-clause-value : goal.returns-clause-value
 returns-clause-value c =
-    let hand : HandParts = record { concealed = c.concealed-tiles.result; melds = c.melds-melds.result } in
-    let same : waits_of hand ≡ waits_of c.args.hand.now = rw (c.concealed-tiles.ensures.value, c.melds-melds.ensures.value) refl in
-    all_marked hand c.loop-number.number c.loop-number.waits (omega arith) c.loop-number.invariant.0 ∙ same
+    let hand = c.args.hand.now in
+    let counts : IsCounts hand.concealed = rw c.concealed-tiles.ensures.value at c.to_array.ensures.counts in
+    let standard : AreStandard hand c.standard_waits-waits.result = rw (c.to_array.ensures.value, c.concealed-tiles.ensures.value, c.count.ensures.value, c.melds-melds.ensures.value) at c.standard_waits-waits.ensures.each in
+    let melds = ap length c.melds-melds.ensures.value in
+    all_marked hand c.mark_special_waits.new.marks counts (few_melds hand c.melds-melds.ensures.hand) (c.mark_special_waits.ensures.each_kind ∙ c.standard_waits-waits.ensures.long)
+    (closed-waits hand c.standard_waits-waits.result c.mark_special_waits.new.marks counts (omega (arith, melds, c.if-count-gt0.false, c.count-2.ensures.value)) standard
+    (rw c.concealed-tiles.ensures.value at c.mark_special_waits.ensures))
 
 pub returns-clause-each : goal.returns-clause-each
-returns-clause-each c = λ kind.
-    let hand : HandParts = record { concealed = c.concealed-tiles.result; melds = c.melds-melds.result } in
-    let counts : IsCounts c.concealed-tiles.result = c.loop-number.invariant.1 (omega arith) in
-    let few : length c.melds-melds.result ≤ 4 = rw c.melds-melds.ensures.value (few_melds c.args.hand.now c.melds-melds.ensures.hand) in
-    let same : waits_of hand ≡ waits_of c.args.hand.now = rw (c.concealed-tiles.ensures.value, c.melds-melds.ensures.value) refl in
-    let marked = all_marked hand c.loop-number.number c.loop-number.waits (omega arith) c.loop-number.invariant.0 in
-    let P : List Bool → Type 0 = λ z. IsMarked z kind ↔ IsWait hand kind in
-    rw (← c.concealed-tiles.ensures.value, ← c.melds-melds.ensures.value) (subst P (sym marked) (marked-iff hand kind counts few))
+returns-clause-each c =
+    let hand = c.args.hand.now in
+    let counts : IsCounts hand.concealed = rw c.concealed-tiles.ensures.value at c.to_array.ensures.counts in
+    let standard : AreStandard hand c.standard_waits-waits.result = rw (c.to_array.ensures.value, c.concealed-tiles.ensures.value, c.count.ensures.value, c.melds-melds.ensures.value) at c.standard_waits-waits.ensures.each in
+    let melds = ap length c.melds-melds.ensures.value in
+    closed-waits hand c.standard_waits-waits.result c.mark_special_waits.new.marks counts (omega (arith, melds, c.if-count-gt0.false, c.count-2.ensures.value)) standard
+    (rw c.concealed-tiles.ensures.value at c.mark_special_waits.ensures)

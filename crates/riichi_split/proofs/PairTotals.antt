@@ -1,0 +1,193 @@
+-- Four suits are won just where they are one pair beside sets.
+use Rattle.std.proofs.Common.{◌≡◌, ◌≢◌, ℕ, ◌+◌, ◌-◌, ◌≤◌, ◌<◌, ◌↔◌, ◌⊎◌, inl, inr, Bool, IsTrue, length, get_or, refl, sym, ap, ◌∙◌, subst, arith}
+use Rattle.std.proofs.lemmas.Bool.{cases_lt, cases_eq}
+use Rattle.riichi_tiles.specs.declared.suit.Suit.{Suit}
+use Rattle.riichi_tiles.specs.declared.suit.Suit.TheVariants.{Characters, Circles, Bamboos, Honours}
+use Rattle.riichi_tiles.specs.declared.by_suit.BySuit.{BySuit}
+use Rattle.riichi_tiles.specs.Kinds.{IsOfSuit, first_of, kinds_of, suit_of, rank_of}
+use Rattle.riichi_tiles.specs.Suits.{of_suit, with_suit}
+use Rattle.riichi_tiles.proofs.Suits.{only_suit, within, cases_suit, of_suit-with_same, of_suit-with_other}
+use Rattle.std.proofs.lemmas.List.{length-set}
+use Rattle.riichi_split.proofs.SuitCuts.{pairs-none, pairs-one}
+use Rattle.riichi_split.specs.SuitTiles.{OneSuit, AreSets, AreSetsAndPair, AreWon, AreCounted, HasPairs, Completes, total_of, with_tile, with_kind}
+
+-- ---- a total of one
+
+one-of : (by : BySuit ℕ) (pair : Suit) → of_suit by pair ≡ 1 → ((suit : Suit) → suit ≢ pair → of_suit by suit ≡ 0) → total_of by ≡ 1
+one-of by Characters e none = omega (arith, e, none Circles (λ e. cc), none Bamboos (λ e. cc), none Honours (λ e. cc))
+one-of by Circles e none = omega (arith, e, none Characters (λ e. cc), none Bamboos (λ e. cc), none Honours (λ e. cc))
+one-of by Bamboos e none = omega (arith, e, none Characters (λ e. cc), none Circles (λ e. cc), none Honours (λ e. cc))
+one-of by Honours e none = omega (arith, e, none Characters (λ e. cc), none Circles (λ e. cc), none Bamboos (λ e. cc))
+
+others-none : (by : BySuit ℕ) (pair suit : Suit) → total_of by ≡ 1 → of_suit by pair ≡ 1 → suit ≢ pair → of_suit by suit ≡ 0
+others-none by Characters Characters t e ne = absurd (ne refl)
+others-none by Characters Circles t e ne = omega (arith, t, e)
+others-none by Characters Bamboos t e ne = omega (arith, t, e)
+others-none by Characters Honours t e ne = omega (arith, t, e)
+others-none by Circles Characters t e ne = omega (arith, t, e)
+others-none by Circles Circles t e ne = absurd (ne refl)
+others-none by Circles Bamboos t e ne = omega (arith, t, e)
+others-none by Circles Honours t e ne = omega (arith, t, e)
+others-none by Bamboos Characters t e ne = omega (arith, t, e)
+others-none by Bamboos Circles t e ne = omega (arith, t, e)
+others-none by Bamboos Bamboos t e ne = absurd (ne refl)
+others-none by Bamboos Honours t e ne = omega (arith, t, e)
+others-none by Honours Characters t e ne = omega (arith, t, e)
+others-none by Honours Circles t e ne = omega (arith, t, e)
+others-none by Honours Bamboos t e ne = omega (arith, t, e)
+others-none by Honours Honours t e ne = absurd (ne refl)
+
+the-one : (by : BySuit ℕ) → total_of by ≡ 1 → (pair : Suit) × (of_suit by pair ≡ 1)
+the-one by t = elim (cases_eq by.characters 1) [
+  | inl e ↦ (Characters, e)
+  | inr n ↦ elim (cases_eq by.circles 1) [
+    | inl e ↦ (Circles, e)
+    | inr m ↦ elim (cases_eq by.bamboos 1) [ inl e ↦ (Bamboos, e) | inr o ↦ (Honours, omega (arith, t, n, m, o)) ]
+  ]
+]
+
+total-with : (by : BySuit ℕ) (suit : Suit) (value : ℕ) → total_of (with_suit by suit value) + of_suit by suit ≡ total_of by + value
+total-with by Characters value = omega arith
+total-with by Circles value = omega arith
+total-with by Bamboos value = omega arith
+total-with by Honours value = omega arith
+
+pub at-most : (by : BySuit ℕ) (suit : Suit) → of_suit by suit ≤ total_of by
+at-most by Characters = omega arith
+at-most by Circles = omega arith
+at-most by Bamboos = omega arith
+at-most by Honours = omega arith
+
+-- ---- suits
+
+abbrev EachCounted : BySuit OneSuit → BySuit ℕ → Type 0
+EachCounted tiles pairs = (suit : Suit) → HasPairs (of_suit tiles suit) (of_suit pairs suit)
+
+won-each : (tiles : BySuit OneSuit) (pairs : BySuit ℕ) → EachCounted tiles pairs → (total_of pairs ≡ 1) ↔ AreWon tiles
+won-each tiles pairs counted = (
+  λ t. let p = the-one pairs t in record {
+    pair = p.0;
+    has_pair = (counted p.0).one.0 p.1;
+    others = λ suit ne. (counted suit).none.0 (others-none pairs p.0 suit t p.1 ne);
+  },
+  λ w. one-of pairs w.pair ((counted w.pair).one.1 w.has_pair) (λ suit ne. (counted suit).none.1 (w.others suit ne)),
+)
+
+pub won-iff : (tiles : BySuit OneSuit) (pairs : BySuit ℕ) → AreCounted tiles pairs → (total_of pairs ≡ 1) ↔ AreWon tiles
+won-iff tiles pairs counted = won-each tiles pairs counted.each
+
+counted-with : (tiles : BySuit OneSuit) (pairs : BySuit ℕ) (suit : Suit) (more : OneSuit) (n : ℕ) → AreCounted tiles pairs → HasPairs more n → EachCounted (with_suit tiles suit more) (with_suit pairs suit n)
+counted-with tiles pairs suit more n counted has other = elim (cases_suit other suit) [
+  | inl same ↦
+      let P : Suit → Type 0 = λ s. HasPairs (of_suit (with_suit tiles suit more) s) (of_suit (with_suit pairs suit n) s) in
+      subst P (sym same) (rw (of_suit-with_same tiles suit more, of_suit-with_same pairs suit n) has)
+  | inr ne ↦ rw (of_suit-with_other tiles suit other more ne, of_suit-with_other pairs suit other n ne) (counted.each other)
+]
+
+-- with one suit changed, beside so many pairs of the others
+won-with : (tiles : BySuit OneSuit) (pairs : BySuit ℕ) (suit : Suit) (more : OneSuit) (n others : ℕ) → AreCounted tiles pairs → HasPairs more n → others + of_suit pairs suit ≡ total_of pairs → (others + n ≡ 1) ↔ AreWon (with_suit tiles suit more)
+won-with tiles pairs suit more n others counted has e =
+    let i = won-each (with_suit tiles suit more) (with_suit pairs suit n) (counted-with tiles pairs suit more n counted has) in
+    let t = total-with pairs suit n in
+    (λ s. i.0 (omega (arith, s, t, e)), λ w. omega (arith, i.1 w, t, e))
+
+-- ---- one more tile of a rank
+
+-- the pairs of the other suits, and of this one with the tile
+pub completed-iff : (tiles : BySuit OneSuit) (pairs : BySuit ℕ) (suit : Suit) (rank others n : ℕ) → AreCounted tiles pairs → rank < kinds_of suit → get_or (of_suit tiles suit).held rank 0 < 4 → others + of_suit pairs suit ≡ total_of pairs → HasPairs (with_tile (of_suit tiles suit) rank) n → (others + n ≡ 1) ↔ Completes tiles (first_of suit + rank)
+completed-iff tiles pairs suit rank others n counted small left e has =
+    let kind = first_of suit + rank in
+    let is : IsOfSuit suit kind = record { low = omega arith; high = omega arith } in
+    let own = only_suit suit kind is in
+    let at : rank_of kind ≡ rank = ap (λ s. kind - first_of s) own ∙ omega arith in
+    let w = won-with tiles pairs suit (with_tile (of_suit tiles suit) rank) n others counted has e in
+    let same : with_kind tiles kind ≡ with_suit tiles suit (with_tile (of_suit tiles suit) rank) =
+    ap (λ s. with_suit tiles s (with_tile (of_suit tiles s) (rank_of kind))) own ∙ ap (λ r. with_suit tiles suit (with_tile (of_suit tiles suit) r)) at in
+    let room : get_or (of_suit tiles (suit_of kind)).held (rank_of kind) 0 ≡ get_or (of_suit tiles suit).held rank 0 =
+    ap (λ s. get_or (of_suit tiles s).held (rank_of kind) 0) own ∙ ap (λ r. get_or (of_suit tiles suit).held r 0) at in (
+      λ s. record { of_a_kind = within suit kind is; some_left = omega (arith, room, left); wins = subst AreWon (sym same) (w.0 s) },
+      λ c. w.1 (subst AreWon same c.wins),
+    )
+
+-- what is asked of a rank of a suit, beside so many pairs of the other suits
+pub record IsAsked (tiles : BySuit OneSuit) (pairs : BySuit ℕ) (suit : Suit) (rank others : ℕ) (own : OneSuit) : Type 0 where
+  pub counted : AreCounted tiles pairs
+  pub small : rank < kinds_of suit
+  pub is : own ≡ of_suit tiles suit
+  pub nine : length own.held ≡ 9
+  pub left : get_or own.held rank 0 < 4
+  pub beside : others + of_suit pairs suit ≡ total_of pairs
+
+asked-iff : (tiles : BySuit OneSuit) (pairs : BySuit ℕ) (suit : Suit) (rank others n : ℕ) (own : OneSuit) → IsAsked tiles pairs suit rank others own → HasPairs (with_tile own rank) n → (others + n ≡ 1) ↔ Completes tiles (first_of suit + rank)
+asked-iff tiles pairs suit rank others n own a has =
+    let L : OneSuit → Type 0 = λ t. get_or t.held rank 0 < 4 in
+    let H : OneSuit → Type 0 = λ t. HasPairs (with_tile t rank) n in
+    completed-iff tiles pairs suit rank others n a.counted a.small (subst L a.is a.left) a.beside (subst H a.is has)
+
+nine-with : (own : OneSuit) (rank : ℕ) → length own.held ≡ 9 → length (with_tile own rank).held ≡ 9
+nine-with own rank nine = length-set own.held rank (get_or own.held rank 0 + 1) ∙ nine
+
+-- the suit with the tile, in the hand with it
+changed : (tiles : BySuit OneSuit) (suit : Suit) (rank : ℕ) → rank < kinds_of suit → of_suit (with_kind tiles (first_of suit + rank)) suit ≡ with_tile (of_suit tiles suit) rank
+changed tiles suit rank small =
+    let kind = first_of suit + rank in
+    let own = only_suit suit kind (record { low = omega arith; high = omega arith }) in
+    let at : rank_of kind ≡ rank = ap (λ s. kind - first_of s) own ∙ omega arith in
+    ap (λ s. of_suit (with_suit tiles s (with_tile (of_suit tiles s) (rank_of kind))) suit) own ∙ of_suit-with_same tiles suit (with_tile (of_suit tiles suit) (rank_of kind)) ∙ ap (λ r. with_tile (of_suit tiles suit) r) at
+
+-- it has the pair, or another suit has it
+asked-cases : (tiles : BySuit OneSuit) (pairs : BySuit ℕ) (suit : Suit) (rank others : ℕ) (own : OneSuit) → IsAsked tiles pairs suit rank others own → Completes tiles (first_of suit + rank) → (AreSetsAndPair (with_tile own rank) × (others ≡ 0)) ⊎ (AreSets (with_tile own rank) × (others ≡ 1))
+asked-cases tiles pairs suit rank others own a c =
+    let e : of_suit (with_kind tiles (first_of suit + rank)) suit ≡ with_tile own rank = changed tiles suit rank a.small ∙ ap (λ t. with_tile t rank) (sym a.is) in
+    elim (cases_suit suit c.wins.pair) [
+      | inl same ↦
+          let P : Suit → Type 0 = λ s. AreSetsAndPair (of_suit (with_kind tiles (first_of suit + rank)) s) in
+          let pair = subst AreSetsAndPair e (subst P (sym same) c.wins.has_pair) in
+          let i = asked-iff tiles pairs suit rank others 1 own a (pairs-one (with_tile own rank) (nine-with own rank a.nine) pair) in
+          inl (pair, omega (arith, i.1 c))
+      | inr ne ↦
+          let sets = subst AreSets e (c.wins.others suit ne) in
+          let i = asked-iff tiles pairs suit rank others 0 own a (pairs-none (with_tile own rank) (nine-with own rank a.nine) sets) in
+          inr (sets, omega (arith, i.1 c))
+    ]
+
+pub by-pair : (tiles : BySuit OneSuit) (pairs : BySuit ℕ) (suit : Suit) (rank : ℕ) (own : OneSuit) (holds : Bool) → IsAsked tiles pairs suit rank 0 own → IsTrue holds ↔ AreSetsAndPair (with_tile own rank) → IsTrue holds ↔ Completes tiles (first_of suit + rank)
+by-pair tiles pairs suit rank own holds a h = (
+  λ t. (asked-iff tiles pairs suit rank 0 1 own a (pairs-one (with_tile own rank) (nine-with own rank a.nine) (h.0 t))).0 (omega arith),
+  λ c. elim (asked-cases tiles pairs suit rank 0 own a c) [ inl p ↦ h.1 p.0 | inr s ↦ absurd (omega (arith, s.1)) ],
+)
+
+pub by-sets : (tiles : BySuit OneSuit) (pairs : BySuit ℕ) (suit : Suit) (rank : ℕ) (own : OneSuit) (holds : Bool) → IsAsked tiles pairs suit rank 1 own → IsTrue holds ↔ AreSets (with_tile own rank) → IsTrue holds ↔ Completes tiles (first_of suit + rank)
+by-sets tiles pairs suit rank own holds a h = (
+  λ t. (asked-iff tiles pairs suit rank 1 0 own a (pairs-none (with_tile own rank) (nine-with own rank a.nine) (h.0 t))).0 (omega arith),
+  λ c. elim (asked-cases tiles pairs suit rank 1 own a c) [ inl p ↦ absurd (omega (arith, p.1)) | inr s ↦ h.1 s.0 ],
+)
+
+pub by-none : (tiles : BySuit OneSuit) (pairs : BySuit ℕ) (suit : Suit) (rank others : ℕ) (own : OneSuit) → IsAsked tiles pairs suit rank others own → (others ≡ 0 → ⊥) → (others ≡ 1 → ⊥) → Completes tiles (first_of suit + rank) → ⊥
+by-none tiles pairs suit rank others own a zero one c = elim (asked-cases tiles pairs suit rank others own a c) [ inl p ↦ zero p.1 | inr s ↦ one s.1 ]
+
+pub a-kind : (suit : Suit) (rank : ℕ) → rank < kinds_of suit → first_of suit + rank < 34
+a-kind suit rank small = within suit (first_of suit + rank) (record { low = omega arith; high = omega arith })
+
+-- a fifth copy completes nothing
+pub full-iff : (tiles : BySuit OneSuit) (suit : Suit) (rank : ℕ) → rank < kinds_of suit → 4 ≤ get_or (of_suit tiles suit).held rank 0 → Completes tiles (first_of suit + rank) → ⊥
+full-iff tiles suit rank small full c =
+    let kind = first_of suit + rank in
+    let own = only_suit suit kind (record { low = omega arith; high = omega arith }) in
+    let at : rank_of kind ≡ rank = ap (λ s. kind - first_of s) own ∙ omega arith in
+    let room : get_or (of_suit tiles (suit_of kind)).held (rank_of kind) 0 ≡ get_or (of_suit tiles suit).held rank 0 =
+    ap (λ s. get_or (of_suit tiles s).held (rank_of kind) 0) own ∙ ap (λ r. get_or (of_suit tiles suit).held r 0) at in
+    omega (arith, room, full, c.some_left)
+
+-- where the other suits are more than one pair no tile of the suit completes the hand
+pub passed : (tiles : BySuit OneSuit) (pairs : BySuit ℕ) (suit : Suit) (others kind : ℕ) → AreCounted tiles pairs → others + of_suit pairs suit ≡ total_of pairs → 1 < others → first_of suit ≤ kind → kind < first_of suit + kinds_of suit → Completes tiles kind → ⊥
+passed tiles pairs suit others kind counted beside many low high c =
+    let rank = kind - first_of suit in
+    let small : rank < kinds_of suit = omega arith in
+    let P : ℕ → Type 0 = λ k. Completes tiles k in
+    let at : kind ≡ first_of suit + rank = omega arith in
+    let d = subst P at c in
+    elim (cases_lt (get_or (of_suit tiles suit).held rank 0) 4) [
+      | inl left ↦ by-none tiles pairs suit rank others (of_suit tiles suit) (record { counted = counted; small = small; is = refl; nine = (counted.each suit).nine_ranks; left = left; beside = beside }) (λ e. omega (arith, e, many)) (λ e. omega (arith, e, many)) d
+      | inr full ↦ full-iff tiles suit rank small full d
+    ]

@@ -1,0 +1,134 @@
+-- What the tiles of one suit can be cut into.
+use Rattle.std.proofs.Common.{◌≡◌, ℕ, zero, suc, ◌+◌, ◌-◌, ◌*◌, ◌/◌, ◌%◌, ◌<◌, ◌≤◌, ◌↔◌, Bool, true, false, IsTrue, List, [], ◌∷◌, length, get_or, map, set, drop, add-one, refl, sym, subst, arith}
+use Rattle.std.specs.List.{range_with_len, sum}
+use Rattle.std.proofs.lemmas.List.FromFn.{fill_by_all}
+use Rattle.std.proofs.Math.Seq.{drop-cons}
+use Rattle.std.proofs.lemmas.List.{drop_all}
+use Rattle.std.proofs.lemmas.List.Sums.{sum_by-set, sum_by-cons}
+use Rattle.riichi_split.specs.SuitTiles.{OneSuit, AreCut, AreSets, AreSetsAndPair, HasPairs, third_of}
+
+-- ---- three equal runs are three triplets
+
+fewer-two : (runs : Bool) (one two : ℕ) (held : List ℕ) → AreCut runs one (two + 3) held → AreCut runs one two held
+fewer-two runs one two [] s = absurd (omega (arith, s))
+fewer-two runs one two (h ∷ above) s = (s.0 + 1, s.1, omega (arith, s.2), s.3, s.4)
+
+fewer-one : (runs : Bool) (one two : ℕ) (held : List ℕ) → AreCut runs (one + 3) two held → AreCut runs one two held
+fewer-one runs one two [] s = absurd (omega (arith, s))
+fewer-one runs one two (h ∷ above) s = (s.0 + 1, s.1, omega (arith, s.2), s.3, fewer-two runs s.1 one above s.4)
+
+fewer : (runs : Bool) (q one many two : ℕ) (held : List ℕ) → many ≡ one + 3 * q → AreCut runs many two held → AreCut runs one two held
+fewer runs zero one many two held e s = let P : ℕ → Type 0 = λ n. AreCut runs n two held in let f : many ≡ one = omega (arith, e) in subst P f s
+fewer runs (suc q) one many two held e s =
+    let P : ℕ → Type 0 = λ n. AreCut runs n two held in
+    let f : many ≡ one + 3 * q + 3 = omega (arith, e) in
+    fewer runs q one (one + 3 * q) two held refl (fewer-one runs (one + 3 * q) two held (subst P f s))
+
+-- so what begins at the lowest rank is known by what is left over by three
+pub record IsStep (runs : Bool) (one two h : ℕ) (above : List ℕ) : Type 0 where
+  pub enough : one + two ≤ h
+  pub may : 0 < (h - (one + two)) % 3 → IsTrue runs
+  pub rest : AreCut runs ((h - (one + two)) % 3) one above
+
+pub step-to : (runs : Bool) (one two h : ℕ) (above : List ℕ) → AreCut runs one two (h ∷ above) → IsStep runs one two h above
+step-to runs one two h above s = record {
+  enough = omega (arith, s.2);
+  may = λ p. s.3 (omega (arith, s.2));
+  rest = fewer runs (s.1 / 3) ((h - (one + two)) % 3) s.1 one above (omega (arith, s.2)) s.4;
+}
+
+pub step-from : (runs : Bool) (one two h : ℕ) (above : List ℕ) → IsStep runs one two h above → AreCut runs one two (h ∷ above)
+step-from runs one two h above s = ((h - (one + two)) / 3, (h - (one + two)) % 3, omega (arith, s.enough), s.may, s.rest)
+
+-- ---- what is left over by three
+
+-- the number of tiles
+sum-cut : (runs : Bool) (one two : ℕ) (held : List ℕ) → AreCut runs one two held → (q : ℕ) × (sum held ≡ 2 * one + two + 3 * q)
+sum-cut runs one two [] s = (0, omega (arith, s))
+sum-cut runs one two (h ∷ above) s = let i = sum-cut runs s.1 one above s.4 in (s.0 + s.1 + i.0, omega (arith, s.2, i.1, sum_by-cons (λ x. x) h above))
+
+pub sum-of-sets : (tiles : OneSuit) → AreSets tiles → sum tiles.held % 3 ≡ 0
+sum-of-sets tiles s = let i = sum-cut tiles.has_runs 0 0 tiles.held s in omega (arith, i.1)
+
+pub sum-with-pair : (tiles : OneSuit) → length tiles.held ≡ 9 → AreSetsAndPair tiles → sum tiles.held % 3 ≡ 2
+sum-with-pair tiles n s =
+    let i = sum-cut tiles.has_runs 0 0 (set tiles.held s.rank (get_or tiles.held s.rank 0 - 2)) s.sets in
+    let e = sum_by-set (λ x. x) tiles.held s.rank (get_or tiles.held s.rank 0 - 2) 0 (omega (arith, n, s.of_nine)) in
+    omega (arith, i.1, e, s.two)
+
+-- how many pairs there are beside sets
+pub pairs-none : (tiles : OneSuit) → length tiles.held ≡ 9 → AreSets tiles → HasPairs tiles 0
+pairs-none tiles nine sets = record {
+  nine_ranks = nine;
+  none = (λ e. sets, λ s. refl);
+  one = (λ e. absurd (omega (arith, e)), λ p. absurd (omega (arith, sum-of-sets tiles sets, sum-with-pair tiles nine p)));
+}
+
+pub pairs-one : (tiles : OneSuit) → length tiles.held ≡ 9 → AreSetsAndPair tiles → HasPairs tiles 1
+pairs-one tiles nine pair = record {
+  nine_ranks = nine;
+  none = (λ e. absurd (omega (arith, e)), λ s. absurd (omega (arith, sum-of-sets tiles s, sum-with-pair tiles nine pair)));
+  one = (λ e. pair, λ p. refl);
+}
+
+pub pairs-neither : (tiles : OneSuit) → length tiles.held ≡ 9 → (AreSets tiles → ⊥) → (AreSetsAndPair tiles → ⊥) → HasPairs tiles 2
+pairs-neither tiles nine sets pair = record {
+  nine_ranks = nine;
+  none = (λ e. absurd (omega (arith, e)), λ s. absurd (sets s));
+  one = (λ e. absurd (omega (arith, e)), λ p. absurd (pair p));
+}
+
+-- the sum of the numbers
+third-nine : (runs : Bool) (g : ℕ → ℕ) → AreCut runs 0 0 (map g (range_with_len 0 9)) → (g 1 + g 4 + g 7 + 2 * (g 2 + g 5 + g 8)) % 3 ≡ 0
+third-nine runs g s =
+    let b = s.4 in let d = b.4 in let e = d.4 in let f = e.4 in let h = f.4 in let i = h.4 in let j = i.4 in let k = j.4 in
+    omega (arith, b.2, d.2, e.2, f.2, h.2, i.2, j.2, k.2, k.4)
+
+pub third-of-sets : (tiles : OneSuit) → length tiles.held ≡ 9 → AreSets tiles → third_of tiles.held ≡ 0
+third-of-sets tiles n s =
+    let e = fill_by_all (λ i. get_or tiles.held i 0) tiles.held 9 0 n (λ k l. refl) in
+    let P : List ℕ → Type 0 = λ xs. AreCut tiles.has_runs 0 0 xs in
+    third-nine tiles.has_runs (λ i. get_or tiles.held i 0) (subst P e s)
+
+-- ---- rank by rank
+
+-- the tiles are sets just where what is left of them from a rank on is, with the runs that began
+pub record IsCutTo (runs : Bool) (held : List ℕ) (rank one two : ℕ) : Type 0 where
+  pub rest : AreCut runs 0 0 held → AreCut runs one two (drop rank held)
+  pub whole : AreCut runs one two (drop rank held) → AreCut runs 0 0 held
+  pub one_few : one < 3
+  pub two_few : two < 3
+
+next-rank : (held : List ℕ) (rank h : ℕ) → rank < length held → h ≡ get_or held rank 0 → drop rank held ≡ h ∷ drop (rank + 1) held
+next-rank held rank h l e = rw (e, add-one, drop-cons held rank 0) refl
+
+pub cut-more : (runs : Bool) (held : List ℕ) (rank one two h begun : ℕ) → rank < length held → h ≡ get_or held rank 0 → one + two ≤ h → begun ≡ (h - (one + two)) % 3 → (0 < begun → IsTrue runs) → IsCutTo runs held rank one two → IsCutTo runs held (rank + 1) begun one
+cut-more runs held rank one two h begun l e enough b may i =
+    let n = next-rank held rank h l e in
+    let P : List ℕ → Type 0 = λ xs. AreCut runs one two xs in
+    let Q : ℕ → Type 0 = λ m. AreCut runs m one (drop (rank + 1) held) in
+    record {
+      rest = λ s. subst Q (sym b) (step-to runs one two h (drop (rank + 1) held) (subst P n (i.rest s))).rest;
+      whole = λ s. i.whole (subst P (sym n) (step-from runs one two h (drop (rank + 1) held) (record { enough = enough; may = λ p. may (omega (arith, b)); rest = subst Q b s })));
+      one_few = omega (arith, b);
+      two_few = i.one_few;
+    }
+
+pub too-few : (runs : Bool) (held : List ℕ) (rank one two h : ℕ) → rank < length held → h ≡ get_or held rank 0 → h < one + two → IsCutTo runs held rank one two → AreCut runs 0 0 held → ⊥
+too-few runs held rank one two h l e few i s =
+    let P : List ℕ → Type 0 = λ xs. AreCut runs one two xs in
+    let t = step-to runs one two h (drop (rank + 1) held) (subst P (next-rank held rank h l e) (i.rest s)) in
+    omega (arith, t.enough)
+
+pub no-run-here : (held : List ℕ) (rank one two h : ℕ) → rank < length held → h ≡ get_or held rank 0 → 0 < (h - (one + two)) % 3 → IsCutTo false held rank one two → AreCut false 0 0 held → ⊥
+no-run-here held rank one two h l e some i s =
+    let P : List ℕ → Type 0 = λ xs. AreCut false one two xs in
+    let t = step-to false one two h (drop (rank + 1) held) (subst P (next-rank held rank h l e) (i.rest s)) in
+    let f : false ≡ true = t.may some in
+    absurd (cc)
+
+pub at-end : (runs : Bool) (held : List ℕ) (rank one two : ℕ) → length held ≤ rank → IsCutTo runs held rank one two → (one + two ≡ 0) ↔ AreCut runs 0 0 held
+at-end runs held rank one two l i =
+    let n : drop rank held ≡ [] = drop_all rank held l in
+    let P : List ℕ → Type 0 = λ xs. AreCut runs one two xs in
+    (λ z. i.whole (subst P (sym n) z), λ s. subst P n (i.rest s))

@@ -1,0 +1,80 @@
+//! The kinds that complete seven pairs or the orphans.
+ghost use Rattle.std.specs.Prelude.{◌≡◌, ◌↔◌, ◌<◌, ◌≤◌, ℕ, IsTrue, length};
+ghost use Rattle.riichi_split.specs.Readings.{IsSevenPairs, IsOrphans};
+ghost use Rattle.riichi_split.specs.Waits.{with_one};
+ghost use Rattle.riichi_split.specs.SpecialWaits as spec;
+
+use crate::special::{is_orphans, is_seven_pairs, is_terminal_or_honour};
+use riichi_tiles::{Counts, Kind, KindSet};
+
+/// Marks the kinds that complete seven pairs or the orphans, where no meld stands.
+pub(crate) fn mark_special_waits(tiles: &Counts, marks: &mut KindSet)
+    requires { length marks.old ≡ 34 }
+    ensures { spec.AddsSpecial tiles.now 34 marks.old marks.new }
+{
+    let counts = tiles.to_array();
+    if are_orphans_alone(&counts) {
+        mark_between(tiles, 0, 34, marks);
+        return;
+    }
+    let single = single_of(&counts);
+    if single >= 34 {
+        return;
+    }
+    mark_between(tiles, single, single + 1, marks);
+}
+
+/// Marks those of some kinds, below which there are none.
+fn mark_between(tiles: &Counts, first: u8, end: u8, marks: &mut KindSet)
+    requires none { (kind : ℕ) → kind < first → spec.IsSpecialWait tiles.now kind → ⊥ }
+    requires order { first ≤ end }
+    requires kinds { end ≤ 34 }
+    requires long { length marks.old ≡ 34 }
+    ensures { spec.AddsSpecial tiles.now end marks.old marks.new }
+{
+    for number in first..end {
+        let kind = Kind::at(number);
+        if is_special_wait(tiles, kind) {
+            marks.insert(kind);
+        }
+    }
+}
+
+/// The first kind of which neither none nor two are held, or 34: no other kind completes seven pairs.
+fn single_of(counts: &[u8; 34]) -> u8
+    ensures only { (kind : ℕ) → kind < 34 → IsSevenPairs (with_one counts.now kind) 0 → kind ≡ result }
+    ensures kind { result ≤ 34 }
+{
+    let mut number = 0;
+    for count in counts {
+        if *count != 0 && *count != 2 {
+            return number;
+        }
+        number += 1;
+    }
+    34
+}
+
+/// Whether no tile but terminals and honours is held.
+fn are_orphans_alone(counts: &[u8; 34]) -> bool
+    ensures { (kind : ℕ) → kind < 34 → IsOrphans (with_one counts.now kind) 0 → IsTrue result }
+{
+    for (kind, count) in counts.iter().enumerate() {
+        if *count > 0 && !is_terminal_or_honour(kind) {
+            return false;
+        }
+    }
+    true
+}
+
+fn is_special_wait(tiles: &Counts, kind: Kind) -> bool
+    ensures { IsTrue result ↔ spec.IsSpecialWait tiles.now kind }
+{
+    if tiles.get(kind) >= 4 {
+        return false;
+    }
+    let mut completed = *tiles;
+    completed.add(kind);
+    let counts = completed.to_array();
+    is_seven_pairs(&counts, 0) || is_orphans(&counts, 0)
+}

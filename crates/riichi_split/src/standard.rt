@@ -1,0 +1,113 @@
+//! The kinds that complete sets and a pair, from what each suit is beside them.
+ghost use Rattle.std.specs.Prelude.{◌≡◌, ◌↔◌, ◌+◌, ◌*◌, ◌<◌, ◌≤◌, ℕ, IsTrue, length, slice_index, sum};
+ghost use Rattle.riichi_tiles.specs.Kinds.{first_of, kinds_of};
+ghost use Rattle.riichi_tiles.specs.Tiles.{IsMarked};
+ghost use Rattle.riichi_split.specs.SuitTiles as spec;
+ghost use Rattle.riichi_split.specs.Waits.{with_one};
+ghost use Rattle.riichi_split.specs.Winning.{HasSplit};
+
+use crate::suit_tiles::SuitTiles;
+use riichi_tiles::{BySuit, Kind, KindSet, Suit};
+
+/// The four suits of a hand.
+#[derive(Clone, Copy)]
+struct Suits {
+    tiles: BySuit<SuitTiles>,
+    // How many pairs each suit is beside sets.
+    pairs: BySuit<usize>,
+}
+
+impl Suits {
+    fn of(counts: &[u8; 34]) -> Suits
+        ensures tiles { result.tiles ≡ spec.suits_of counts.now }
+        ensures counted { spec.AreCounted result.tiles result.pairs }
+    {
+        let tiles = BySuit {
+            characters: SuitTiles::of(counts, Suit::Characters),
+            circles: SuitTiles::of(counts, Suit::Circles),
+            bamboos: SuitTiles::of(counts, Suit::Bamboos),
+            honours: SuitTiles::of(counts, Suit::Honours),
+        };
+        let pairs = BySuit {
+            characters: tiles.characters.pairs(),
+            circles: tiles.circles.pairs(),
+            bamboos: tiles.bamboos.pairs(),
+            honours: tiles.honours.pairs(),
+        };
+        Suits { tiles, pairs }
+    }
+
+    /// How many pairs the four suits are beside sets: just one where they are won.
+    fn total_pairs(&self) -> usize
+        requires { spec.AreCounted self.now.tiles self.now.pairs }
+        ensures total { result ≡ spec.total_of self.now.pairs }
+        ensures wins { (result ≡ 1) ↔ spec.AreWon self.now.tiles }
+    {
+        let BySuit {
+            characters,
+            circles,
+            bamboos,
+            honours,
+        } = self.pairs;
+        characters + circles + bamboos + honours
+    }
+
+    /// Whether one more tile of a rank completes the hand: with the pair, where the other suits are
+    /// sets; as sets, where another suit has the pair.
+    fn is_completed_by(&self, suit: Suit, rank: usize) -> bool
+        requires counted { spec.AreCounted self.now.tiles self.now.pairs }
+        requires rank { rank < kinds_of suit }
+        ensures { IsTrue result ↔ spec.Completes self.now.tiles (first_of suit + rank) }
+    {
+        let tiles = self.tiles.get(suit);
+        if tiles.get(rank) >= 4 {
+            return false;
+        }
+        match self.total_pairs() - self.pairs.get(suit) {
+            0 => tiles.with(rank).are_sets_and_pair(),
+            1 => tiles.with(rank).are_sets(),
+            _ => false,
+        }
+    }
+
+    /// Marks the kinds of a suit that complete the hand.
+    fn mark(&self, suit: Suit, marks: &mut KindSet)
+        requires counted { spec.AreCounted self.now.tiles self.now.pairs }
+        requires below { spec.MarksBelow (spec.Completes self.now.tiles) (first_of suit) marks.old }
+        ensures { spec.MarksBelow (spec.Completes self.now.tiles) (first_of suit + kinds_of suit) marks.new }
+    {
+        // No tile of this suit completes the others.
+        if self.total_pairs() - self.pairs.get(suit) > 1 {
+            return;
+        }
+        for rank in 0..suit.kinds() {
+            if self.is_completed_by(suit, rank) {
+                marks.insert(Kind::at((suit.first() + rank) as u8));
+            }
+        }
+    }
+}
+
+/// The kinds of which fewer than four are held, and which make sets and a pair of thirteen tiles.
+pub(crate) fn standard_waits(counts: &[u8; 34], melds: usize) -> KindSet
+    requires { sum counts.now + 3 * melds ≡ 13 }
+    ensures long { length result ≡ 34 }
+    ensures each { (kind : ℕ) → IsMarked result kind ↔
+        ((kind < 34) × (slice_index counts.now kind < 4) × HasSplit (with_one counts.now kind) melds) }
+{
+    let suits = Suits::of(counts);
+    let mut marks = KindSet::new();
+    suits.mark(Suit::Characters, &mut marks);
+    suits.mark(Suit::Circles, &mut marks);
+    suits.mark(Suit::Bamboos, &mut marks);
+    suits.mark(Suit::Honours, &mut marks);
+    marks
+}
+
+/// Whether tiles are sets and a pair, the melds among the sets.
+pub(crate) fn has_split(counts: &[u8; 34], melds: usize) -> bool
+    requires { sum counts.now + 3 * melds ≡ 14 }
+    ensures { IsTrue result ↔ HasSplit counts.now melds }
+{
+    Suits::of(counts).total_pairs() == 1
+}

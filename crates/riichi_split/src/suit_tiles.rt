@@ -1,0 +1,156 @@
+//! The tiles of one suit, and what they can be cut into.
+ghost use Rattle.std.specs.Prelude.{◌≡◌, ◌↔◌, ◌<◌, ◌≤◌, ℕ, IsTrue, length, slice_index, sum};
+ghost use Rattle.riichi_split.specs.SuitTiles as spec;
+
+use riichi_tiles::Suit;
+use std::marker::Model;
+
+/// How many tiles there are of each rank of a suit. Of the honours the last two ranks are empty, and
+/// they make no runs.
+#[derive(Clone, Copy)]
+pub(crate) struct SuitTiles {
+    held: [u8; 9],
+    has_runs: bool,
+}
+
+impl Model for SuitTiles {
+    ghost use Rattle.std.specs.Prelude.{◌≡◌, length};
+    ghost use Rattle.riichi_split.specs.SuitTiles.{OneSuit};
+
+    ghost Value = { OneSuit };
+
+    ghost view = { λ t. record { held = t.held; has_runs = t.has_runs } };
+
+    ghost invariant = { λ t. length t.held ≡ 9 };
+
+    ghost inverse = { λ s. record { held = s.held; has_runs = s.has_runs } };
+}
+
+impl SuitTiles {
+    /// The tiles of a suit in a hand.
+    pub(crate) fn of(counts: &[u8; 34], suit: Suit) -> SuitTiles
+        ensures { result ≡ spec.tiles_of_suit counts.now suit }
+    {
+        let mut held = [0; 9];
+        for rank in 0..suit.kinds() {
+            held[rank] = counts[suit.first() + rank];
+        }
+        SuitTiles {
+            held,
+            has_runs: has_runs(suit),
+        }
+    }
+
+    /// How many tiles of a rank there are.
+    pub(crate) fn get(&self, rank: usize) -> u8
+        requires { rank < 9 }
+        ensures value { result ≡ slice_index self.now.held rank }
+        ensures nine { length self.now.held ≡ 9 }
+    {
+        self.held[rank]
+    }
+
+    /// One tile more.
+    pub(crate) fn with(&self, rank: usize) -> SuitTiles
+        requires rank { rank < 9 }
+        requires room { slice_index self.now.held rank < 4 }
+        ensures { result ≡ spec.with_tile self.now rank }
+    {
+        let mut more = *self;
+        more.held[rank] += 1;
+        more
+    }
+
+    fn without_pair(&self, rank: usize) -> SuitTiles
+        requires rank { rank < 9 }
+        requires pair { 2 ≤ slice_index self.now.held rank }
+        ensures { result ≡ spec.without_pair self.now rank }
+    {
+        let mut fewer = *self;
+        fewer.held[rank] -= 2;
+        fewer
+    }
+
+    fn total(&self) -> u16
+        ensures value { result ≡ sum self.now.held }
+        ensures nine { length self.now.held ≡ 9 }
+    {
+        let mut total = 0u16;
+        for held in &self.held {
+            total += u16::from(*held);
+        }
+        total
+    }
+
+    /// What the sum of all numbers leaves over by three.
+    fn third(&self) -> u16
+        ensures value { result ≡ spec.third_of self.now.held }
+        ensures nine { length self.now.held ≡ 9 }
+    {
+        let once = u16::from(self.held[1]) + u16::from(self.held[4]) + u16::from(self.held[7]);
+        let twice = u16::from(self.held[2]) + u16::from(self.held[5]) + u16::from(self.held[8]);
+        (once + 2 * twice) % 3
+    }
+
+    /// Whether the tiles are triplets and runs. The three numbers of a set leave nothing over by three.
+    /// From the lowest rank on it is known what begins: three equal runs are three triplets.
+    pub(crate) fn are_sets(&self) -> bool
+        ensures { IsTrue result ↔ spec.AreSets self.now }
+    {
+        self.third() == 0 && self.can_be_cut()
+    }
+
+    fn can_be_cut(&self) -> bool
+        ensures { IsTrue result ↔ spec.AreSets self.now }
+    {
+        let (mut one, mut two) = (0u8, 0u8);
+        for held in &self.held {
+            let below = one + two;
+            if *held < below {
+                return false;
+            }
+            let begun = (*held - below) % 3;
+            if begun > 0 && !self.has_runs {
+                return false;
+            }
+            two = one;
+            one = begun;
+        }
+        one == 0 && two == 0
+    }
+
+    /// Whether the tiles are sets and a pair.
+    pub(crate) fn are_sets_and_pair(&self) -> bool
+        ensures { IsTrue result ↔ spec.AreSetsAndPair self.now }
+    {
+        for rank in 0..9 {
+            if self.held[rank] >= 2 && self.without_pair(rank).are_sets() {
+                return true;
+            }
+        }
+        false
+    }
+
+    /// How many pairs the tiles are beside sets: none or one, and two where they are neither. Sets have
+    /// tiles that leave nothing over by three, and a pair leaves two.
+    pub(crate) fn pairs(&self) -> usize
+        ensures pairs { spec.HasPairs self.now result }
+        ensures few { result ≤ 2 }
+    {
+        match self.total() % 3 {
+            0 => if self.are_sets() { 0 } else { 2 },
+            2 => if self.are_sets_and_pair() { 1 } else { 2 },
+            _ => 2,
+        }
+    }
+}
+
+/// Whether runs are made of a suit.
+fn has_runs(suit: Suit) -> bool
+    ensures { result ≡ spec.has_runs suit }
+{
+    match suit {
+        Suit::Honours => false,
+        _ => true,
+    }
+}

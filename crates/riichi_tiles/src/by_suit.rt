@@ -1,0 +1,67 @@
+ghost use Rattle.std.specs.Prelude.{◌≡◌};
+ghost use Rattle.riichi_tiles.specs.declared.suit.Suit.{Suit};
+ghost use Rattle.riichi_tiles.specs.Suits.{of_suit, with_suit};
+
+use crate::suit::Suit;
+
+/// Something for each suit.
+#[derive(Clone, Copy, Debug, PartialEq, Eq)]
+pub struct BySuit<T> {
+    pub characters: T,
+    pub circles: T,
+    pub bamboos: T,
+    pub honours: T,
+}
+
+impl<T: Copy> BySuit<T> {
+    /// What a function makes of each suit.
+    pub fn of<F: Fn(Suit) -> T>(f: F) -> BySuit<T>
+        requires { F.IsAlwaysCallable f }
+        ensures characters { F.post f Suit.Characters result.characters }
+        ensures circles { F.post f Suit.Circles result.circles }
+        ensures bamboos { F.post f Suit.Bamboos result.bamboos }
+        ensures honours { F.post f Suit.Honours result.honours }
+    {
+        BySuit {
+            characters: f(Suit::Characters),
+            circles: f(Suit::Circles),
+            bamboos: f(Suit::Bamboos),
+            honours: f(Suit::Honours),
+        }
+    }
+
+    /// What a suit has.
+    pub fn get(&self, suit: Suit) -> T
+        ensures { result ≡ of_suit self.now suit }
+    {
+        *self.lent(suit)
+    }
+
+    /// The same but for one suit.
+    pub fn with(&self, suit: Suit, value: T) -> BySuit<T>
+        ensures { result ≡ with_suit self.now suit value }
+    {
+        let mut changed = *self;
+        match suit {
+            Suit::Characters => changed.characters = value,
+            Suit::Circles => changed.circles = value,
+            Suit::Bamboos => changed.bamboos = value,
+            Suit::Honours => changed.honours = value,
+        }
+        changed
+    }
+}
+
+impl<T> BySuit<T> {
+    /// What a suit has, lent.
+    pub fn lent(&self, suit: Suit) -> &T
+        ensures { result.now ≡ of_suit self.now suit }
+    {
+        match suit {
+            Suit::Characters => &self.characters,
+            Suit::Circles => &self.circles,
+            Suit::Bamboos => &self.bamboos,
+            Suit::Honours => &self.honours,
+        }
+    }
+}

@@ -1,0 +1,48 @@
+ghost use Rattle.std.specs.Prelude.{◌≡◌, ◌≤◌};
+ghost use Rattle.riichi_tiles.specs.Kinds.{first_of, kinds_of};
+
+/// A suit: three have nine kinds each, and the honours are seven.
+#[derive(Clone, Copy, Debug, PartialEq, Eq)]
+pub enum Suit {
+    /// 1m to 9m.
+    Characters,
+    /// 1p to 9p.
+    Circles,
+    /// 1s to 9s.
+    Bamboos,
+    /// East, South, West, North, White, Green, Red. No run is made of them.
+    Honours,
+}
+
+impl Suit {
+    /// The four, in the order of their kinds.
+    pub const ALL: [Suit; 4] = [
+        Suit::Characters,
+        Suit::Circles,
+        Suit::Bamboos,
+        Suit::Honours,
+    ];
+
+    /// The number of its first kind.
+    pub fn first(self) -> usize
+        ensures { result ≡ first_of self }
+    {
+        match self {
+            Suit::Characters => 0,
+            Suit::Circles => 9,
+            Suit::Bamboos => 18,
+            Suit::Honours => 27,
+        }
+    }
+
+    /// How many kinds it has.
+    pub fn kinds(self) -> usize
+        ensures value { result ≡ kinds_of self }
+        ensures nine { result ≤ 9 }
+    {
+        match self {
+            Suit::Honours => 7,
+            _ => 9,
+        }
+    }
+}
