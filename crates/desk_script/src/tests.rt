@@ -96,8 +96,41 @@ fn a_day_at_two_tables(rt: HostRuntime) -> Result<(), Fail> {
     Ok(())
 }
 
+/// A day at a table that takes hands back: lines after `open east`, and what they are told.
+static TAKEN_BACK: [(&str, &str); 19] = [
+    ("submit east A", "ticket 0"),
+    ("submit east B", "ticket 1"),
+    ("submit east A", "ticket 2"),
+    ("withdraw east 0", "withdrawn"),
+    ("withdraw east 0", "not withdrawn"),
+    ("withdraw east 3", "not withdrawn"),
+    ("arrive east 0 B", "withdrawn"),
+    ("take east", "waiting"),
+    ("arrive east 1 B", "accepted"),
+    ("take east", "answer 1 shanten 0 accepts 2p:4 5p:4 live 8"),
+    ("withdraw east 1", "not withdrawn"),
+    ("arrive east 2 A", "accepted"),
+    ("close east", "closed"),
+    ("withdraw east 2", "withdrawn"),
+    ("arrive east 2 A", "withdrawn"),
+    ("take east", "finished"),
+    ("withdraw east", "refused P1"),
+    ("withdraw north 0", "refused P2"),
+    ("  withdraw   east   0   ", "not withdrawn"),
+];
+
+#[test]
+fn a_day_with_hands_taken_back(rt: HostRuntime) -> Result<(), Fail> {
+    let mut script = a_script(rt.alloc())?;
+    tells(&rt, &mut script, b"open east", "table 0");
+    for (line, wanted) in TAKEN_BACK {
+        tells(&rt, &mut script, spelled(line).as_slice(), wanted);
+    }
+    Ok(())
+}
+
 /// Lines after `open east`.
-static FORMS: [(&str, &str); 30] = [
+static FORMS: [(&str, &str); 34] = [
     ("", ""),
     ("   ", ""),
     ("# open west", ""),
@@ -128,6 +161,10 @@ static FORMS: [(&str, &str); 30] = [
     ("arrive east 0 #", "refused P1"),
     ("rules 1", "refused P1"),
     ("take north now", "refused P1"),
+    ("withdraw east 0 now", "refused P1"),
+    ("withdraw east 12345678", "refused P1"),
+    ("withdraw east x", "refused P1"),
+    ("withdraw east 0", "not withdrawn"),
 ];
 
 #[test]

@@ -58,11 +58,7 @@ fn push_reply(text: &mut ArrayString<LONGEST>, reply: &Reply)
         Reply::Arrived(arrived) => text.push_str(arrived_text(*arrived)),
         Reply::Closed(first) => text.push_str(if *first { "closed" } else { "closed before" }),
         Reply::Taken(taken) => push_taken(text, taken),
-        Reply::Withdrawn(done) => text.push_str(if *done {
-            "withdrawn"
-        } else {
-            "not withdrawn"
-        }),
+        Reply::Withdrawn(done) => text.push_str(if *done { "withdrawn" } else { "not withdrawn" }),
     }
 }
 

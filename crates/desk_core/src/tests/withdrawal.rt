@@ -8,15 +8,41 @@ use std::alloc::Global;
 use std::io::Print;
 use std::process::Abort;
 
-/// A lane of table 0 with these jobs, where one request for memory may be refused.
-fn a_lane_of(alloc: Global, jobs: &[Job; 3]) -> Option<Lane> {
-    let mut lane = Lane::new(alloc, 0);
-    for job in jobs {
-        if lane.submit(*job).is_err() {
-            let _ = lane.submit(*job).ok()?;
-        }
+/// The ticket of table 0 with this number.
+fn ticket(seq: u32) -> Ticket {
+    Ticket { table: 0, seq }
+}
+
+/// A table's submission.
+fn submission(job: &Job) -> Event {
+    Event::Submit {
+        table: 0,
+        job: *job,
     }
+}
+
+/// The arrival of a job's piece.
+fn arrival(job: &Job) -> Event {
+    Event::Arrive(Piece::score(FIRST, *job))
+}
+
+/// Submits a job; where memory is refused, the second try has it.
+fn submits(lane: &mut Lane, job: &Job) -> Option<Ticket> {
+    lane.submit(*job).or_else(|_| lane.submit(*job)).ok()
+}
+
+/// A lane of table 0 with these jobs.
+fn a_lane_of(alloc: Global, first: &Job, second: &Job, third: &Job) -> Option<Lane> {
+    let mut lane = Lane::new(alloc, 0);
+    let _ = submits(&mut lane, first)?;
+    let _ = submits(&mut lane, second)?;
+    let _ = submits(&mut lane, third)?;
     Some(lane)
+}
+
+/// What becomes of the piece of a job.
+fn arrives(lane: &mut Lane, seq: u32, job: &Job) -> Arrived {
+    lane.arrive(Piece::score(ticket(seq), *job))
 }
 
 /// Withdraws a ticket; where memory is refused nothing was changed, and the second try has it.
@@ -33,24 +59,23 @@ fn the_day_of_a_table_that_takes_hands_back(rt: HostRuntime) {
         assert!(rt; false);
         return;
     };
-    let Some(mut lane) = a_lane_of(rt.alloc(), &[a, b, a]) else {
+    let Some(mut lane) = a_lane_of(rt.alloc(), &a, &b, &a) else {
         assert!(rt; false);
         return;
     };
-    let ticket = |seq: u32| Ticket { table: 0, seq };
     assert!(rt; withdraws(&mut lane, 0) == Ok(true));
     assert!(rt; lane.withdraw(0) == Ok(false));
     assert!(rt; lane.withdraw(3) == Ok(false));
-    assert!(rt; lane.arrive(Piece::score(ticket(0), b)) == Arrived::Withdrawn);
+    assert!(rt; arrives(&mut lane, 0, &b) == Arrived::Withdrawn);
     assert!(rt; lane.take() == Taken::Waiting);
-    assert!(rt; lane.arrive(Piece::score(ticket(1), b)) == Arrived::Accepted);
+    assert!(rt; arrives(&mut lane, 1, &b) == Arrived::Accepted);
     let answer = judge(&b);
     assert!(rt; lane.take() == Taken::Answer { seq: 1, answer });
     assert!(rt; lane.withdraw(1) == Ok(false));
-    assert!(rt; lane.arrive(Piece::score(ticket(2), a)) == Arrived::Accepted);
+    assert!(rt; arrives(&mut lane, 2, &a) == Arrived::Accepted);
     assert!(rt; lane.close());
     assert!(rt; withdraws(&mut lane, 2) == Ok(true));
-    assert!(rt; lane.arrive(Piece::score(ticket(2), a)) == Arrived::Withdrawn);
+    assert!(rt; arrives(&mut lane, 2, &a) == Arrived::Withdrawn);
     assert!(rt; lane.take() == Taken::Finished);
 }
 
@@ -61,7 +86,7 @@ fn all_hands_taken_back_in_any_order(rt: HostRuntime) {
         return;
     };
     for order in ORDERS {
-        let Some(mut lane) = a_lane_of(rt.alloc(), &[job, job, job]) else {
+        let Some(mut lane) = a_lane_of(rt.alloc(), &job, &job, &job) else {
             assert!(rt; false);
             return;
         };
@@ -71,9 +96,7 @@ fn all_hands_taken_back_in_any_order(rt: HostRuntime) {
         }
         assert!(rt; lane.take() == Taken::Waiting);
         // A hand that was taken back keeps its number.
-        let next = Ticket { table: 0, seq: 3 };
-        let submitted = lane.submit(job);
-        assert!(rt; submitted == Ok(next) || lane.submit(job) == Ok(next));
+        assert!(rt; submits(&mut lane, &job) == Some(ticket(3)));
         assert!(rt; withdraws(&mut lane, 3) == Ok(true));
         assert!(rt; lane.close());
         assert!(rt; lane.take() == Taken::Finished);
@@ -161,7 +184,7 @@ fn arrive_one(
     } else {
         Arrived::Accepted
     };
-    assert!(rt; lane.arrive(Piece::score(Ticket { table: 0, seq }, *job)) == wanted);
+    assert!(rt; arrives(lane, seq, job) == wanted);
     mark(&mut tickets.arrived, seq);
 }
 
@@ -189,7 +212,7 @@ fn a_hand_taken_back_between_arrivals(rt: HostRuntime) {
     for order in ORDERS {
         for seq in 0..3 {
             for place in 0..4 {
-                let Some(mut lane) = a_lane_of(rt.alloc(), &jobs) else {
+                let Some(mut lane) = a_lane_of(rt.alloc(), &first, &second, &third) else {
                     assert!(rt; false);
                     return;
                 };
@@ -225,16 +248,14 @@ fn a_desk_takes_hands_back(rt: HostRuntime) {
     assert!(rt; desk.step(Event::Withdraw(strange)) == Reply::NoTable);
     assert!(rt; desk.step(Event::Withdraw(FIRST)) == Reply::Withdrawn(false));
     let refused = Reply::Refused(SubmitFault::Memory);
-    if desk.step(Event::Submit { table: 0, job }) == refused {
-        let reply = desk.step(Event::Submit { table: 0, job });
-        assert!(rt; reply == Reply::Ticket(FIRST));
+    if desk.step(submission(&job)) == refused {
+        assert!(rt; desk.step(submission(&job)) == Reply::Ticket(FIRST));
     }
     if desk.step(Event::Withdraw(FIRST)) == refused {
         assert!(rt; desk.step(Event::Withdraw(FIRST)) == Reply::Withdrawn(true));
     }
     assert!(rt; desk.step(Event::Withdraw(FIRST)) == Reply::Withdrawn(false));
-    let arrived = desk.step(Event::Arrive(Piece::score(FIRST, job)));
-    assert!(rt; arrived == Reply::Arrived(Arrived::Withdrawn));
+    assert!(rt; desk.step(arrival(&job)) == Reply::Arrived(Arrived::Withdrawn));
 }
 
 #[test]
@@ -249,9 +270,9 @@ fn nothing_changes_where_memory_is_refused(rt: HostRuntime) {
     };
     if lane.withdraw(0) == Err(Memory) {
         // The ticket waits for its piece as before, and is withdrawn at the next try.
-        assert!(rt; lane.arrive(Piece::score(FIRST, job)) == Arrived::Accepted);
+        assert!(rt; arrives(&mut lane, 0, &job) == Arrived::Accepted);
         assert!(rt; lane.withdraw(0) == Ok(true));
     }
-    assert!(rt; lane.arrive(Piece::score(FIRST, job)) == Arrived::Withdrawn);
+    assert!(rt; arrives(&mut lane, 0, &job) == Arrived::Withdrawn);
     assert!(rt; lane.take() == Taken::Waiting);
 }
