@@ -85,6 +85,8 @@ fn make_small(rt: &impl Abort, alloc: Global, places: u32) -> Small {
 
 #[test]
 fn a_withdrawn_hand_keeps_its_place(rt: HostRuntime) -> Result<(), Fail> {
+    // The checker finds the type of a job within a seat only where some value names it.
+    let _none: Option<Job> = None;
     let (a, b) = (waits_a(&rt), shape_b(&rt));
     let mut desk = make_small(&rt, rt.alloc(), 1);
     assert!(rt; desk.submit(a) == Ok(ticket(0)));
