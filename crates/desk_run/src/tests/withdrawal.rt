@@ -2,7 +2,7 @@
 ghost use Rattle.std.specs.Prelude.{◌≡◌};
 ghost use Rattle.desk_run.specs.Sitting.{board_name, same_board};
 
-use super::{a_board, given, shape_b, ticket, waits_a};
+use super::{a_board, given, shape_b, submit, ticket, waits_a};
 use crate::{Board, BoardParts, NoGate, OfferBack, OfferFault, TableSeat, Worked, WorkerSeat};
 use desk_core::{Taken, Ticket};
 use riichi_hand::Job;
@@ -35,21 +35,21 @@ impl Small {
         }
     }
 
-    /// Submits, where one request for memory may be refused.
     fn submit(&mut self, job: Job) -> Result<Ticket, OfferBack> {
-        match self.table.submit(&self.board, job) {
-            Err(back) if back.fault == OfferFault::Memory => self.table.submit(&self.board, job),
-            found => found,
-        }
+        submit(&mut self.table, &self.board, job)
     }
 
-    /// Withdraws, where one request for memory may be refused.
+    /// Whether the hand was withdrawn; false also where a request for memory was refused.
     fn withdraw(&mut self, seq: u32) -> bool {
-        let withdrawn = self
-            .table
-            .withdraw(seq)
-            .or_else(|_| self.table.withdraw(seq));
-        withdrawn == Ok(true)
+        self.table.withdraw(seq) == Ok(true)
+    }
+
+    fn take(&mut self) -> Taken {
+        self.table.take()
+    }
+
+    fn close(&mut self) -> bool {
+        self.table.close()
     }
 
     fn work(&mut self) -> Worked {
@@ -85,21 +85,23 @@ fn make_small(rt: &impl Abort, alloc: Global, places: u32) -> Small {
 
 #[test]
 fn a_withdrawn_hand_keeps_its_place(rt: HostRuntime) -> Result<(), Fail> {
+    // The checker finds the type of a job within a seat only where some value names it.
+    let _none: Option<Job> = None;
     let (a, b) = (waits_a(&rt), shape_b(&rt));
     let mut desk = make_small(&rt, rt.alloc(), 1);
     assert!(rt; desk.submit(a) == Ok(ticket(0)));
-    assert!(rt; desk.withdraw(0));
+    assert!(rt; desk.withdraw(0) || desk.withdraw(0));
     assert!(rt;
         desk.submit(b)
             .is_err_and(|back| back.fault == OfferFault::NoPlace)
     );
     assert!(rt; desk.work() == Worked::Did(ticket(0)));
     assert!(rt; desk.collect() == 1);
-    assert!(rt; desk.table.take() == Taken::Waiting);
+    assert!(rt; desk.take() == Taken::Waiting);
     assert!(rt; desk.submit(b) == Ok(ticket(1)));
     assert!(rt; desk.work() == Worked::Did(ticket(1)));
     assert!(rt; desk.collect() == 1);
-    assert!(rt; desk.table.take() == given(1, &b));
+    assert!(rt; desk.take() == given(1, &b));
     Ok(())
 }
 
@@ -113,18 +115,19 @@ fn hands_withdrawn_at_each_time(rt: HostRuntime) -> Result<(), Fail> {
     for (seq, job) in [(0, a), (1, b), (2, a), (3, b)] {
         assert!(rt; desk.submit(job) == Ok(ticket(seq)));
     }
-    assert!(rt; desk.withdraw(2) && !desk.withdraw(2) && !desk.withdraw(4));
+    assert!(rt; desk.withdraw(2) || desk.withdraw(2));
+    assert!(rt; !desk.withdraw(2) && !desk.withdraw(4));
     for _job in 0..4 {
         assert!(rt; desk.work() != Worked::Nothing);
     }
     assert!(rt; desk.work() == Worked::Nothing);
-    assert!(rt; desk.withdraw(1));
+    assert!(rt; desk.withdraw(1) || desk.withdraw(1));
     assert!(rt; desk.collect() == 4);
-    assert!(rt; desk.table.close());
-    assert!(rt; desk.table.take() == given(0, &a));
+    assert!(rt; desk.close());
+    assert!(rt; desk.take() == given(0, &a));
     assert!(rt; !desk.withdraw(0));
-    assert!(rt; desk.withdraw(3));
-    assert!(rt; desk.table.take() == Taken::Finished);
+    assert!(rt; desk.withdraw(3) || desk.withdraw(3));
+    assert!(rt; desk.take() == Taken::Finished);
     assert!(rt; desk.collect() == 0);
     Ok(())
 }
