@@ -1,5 +1,5 @@
 -- What rows of fu add up to.
-use Rattle.std.proofs.Common.{◌≡◌, ℕ, ◌+◌, Bool, true, false, cond, eqb, leb, List, [], ◌∷◌, ◌++◌, ◌||◌, refl, sym, ap, ◌∙◌, arith}
+use Rattle.std.proofs.Common.{◌≡◌, ℕ, ◌+◌, Bool, true, false, cond, eqb, leb, List, [], ◌∷◌, ◌++◌, ◌||◌, refl, ap, ◌∙◌, arith}
 use Rattle.std.specs.List.{sum_by, flat_map}
 use Rattle.std.proofs.lemmas.List.Concat.{flat_map-cons}
 use Rattle.std.proofs.lemmas.List.Sums.{sum_by-append, sum_by-cons}
@@ -14,14 +14,13 @@ use Rattle.riichi_blocks.specs.declared.hand_block.HandBlock.{HandBlock}
 use Rattle.riichi_blocks.specs.declared.hand_block.HandBlock.TheVariants.{Run, Triplet, Kong, Pair}
 use Rattle.riichi_blocks.specs.HandBlocks.{blocks_of}
 use Rattle.riichi_blocks.specs.Kinds.{white}
-use Rattle.riichi_blocks.specs.Pairs.{pair_fu}
 use Rattle.riichi_blocks.specs.Waits.{is_closed_wait, is_edge_wait, wait_fu}
 use Rattle.riichi_yaku.specs.Runs.{is_pinfu}
 use Rattle.riichi_score.specs.Fu.{ron_fu, draw_fu, block_fu, open_fu, fu_sum, fu_of, up_to_ten}
 use Rattle.riichi_explain.specs.declared.fu.FuPart.{FuPart}
 use Rattle.riichi_explain.specs.declared.fu.FuPart.TheVariants as part
 use Rattle.riichi_explain.specs.declared.fu.FuRow.{FuRow}
-use Rattle.riichi_explain.specs.Fu.{earned, pair_rows, block_rows, wait_rows, plain_rows, standard_rows, rows_from, fu_rows, fu_total, fu_from_rows}
+use Rattle.riichi_explain.specs.Fu.{earned, block_rows, wait_rows, plain_rows, standard_rows, fu_rows, fu_total, fu_from_rows}
 
 earned-cases : (part : FuPart) (fu : ℕ) (none : Bool) → none ≡ eqb fu 0 → fu_total (cond none [] (record { part = part; fu = fu } ∷ [])) ≡ fu
 earned-cases part fu true e = grind (arith, nat_tests)

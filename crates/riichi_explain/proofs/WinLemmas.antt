@@ -1,5 +1,5 @@
 -- The rows of a won hand add up to its score.
-use Rattle.std.proofs.Common.{◌≡◌, ℕ, ◌+◌, ◌*◌, ◌≤◌, Bool, true, false, cond, min, ltb, leb, eqb, Option, Some, None, List, [], refl, sym, ap, ◌∙◌, subst, arith}
+use Rattle.std.proofs.Common.{◌≡◌, ℕ, ◌+◌, ◌*◌, ◌≤◌, Bool, true, false, cond, min, ltb, leb, eqb, Some, None, List, [], refl, sym, ap, ◌∙◌, subst, arith}
 use Rattle.std.proofs.lemmas.Bool.Decides.{nat_tests}
 use Rattle.riichi_tiles.specs.Melds.{are_concealed}
 use Rattle.riichi_hand.specs.declared.win.By.{By}
@@ -18,15 +18,12 @@ use Rattle.riichi_score.specs.Fu.{fu_of}
 use Rattle.riichi_score.specs.Payment.{payment_of, paid_for, gain_of}
 use Rattle.riichi_score.specs.Scores.{score_of, counted, limit, IsReadingOf}
 use Rattle.riichi_score.specs.declared.score.Score.{Score}
-use Rattle.riichi_explain.specs.declared.base.BaseRule.{BaseRule}
 use Rattle.riichi_explain.specs.declared.base.BaseRule.TheVariants.{Product, Capped, Raised, Limited}
 use Rattle.riichi_explain.specs.declared.base.Limit.TheVariants.{Mangan, Haneman, Baiman, Sanbaiman, Yakuman}
-use Rattle.riichi_explain.specs.declared.fu.FuRow.{FuRow}
-use Rattle.riichi_explain.specs.declared.han.HanRow.{HanRow}
 use Rattle.riichi_explain.specs.declared.payers.PayRow.{PayRow}
 use Rattle.riichi_explain.specs.declared.win.WonHand.{WonHand}
-use Rattle.riichi_explain.specs.Base.{product_of, low_rule, counted_rule, base_rule, points_by}
-use Rattle.riichi_explain.specs.Fu.{fu_rows, fu_from_rows}
+use Rattle.riichi_explain.specs.Base.{product_of, counted_rule, base_rule, points_by}
+use Rattle.riichi_explain.specs.Fu.{fu_from_rows}
 use Rattle.riichi_explain.specs.Han.{han_rows, han_total}
 use Rattle.riichi_explain.specs.Payers.{rows_by, pay_rows, pay_total}
 use Rattle.riichi_explain.specs.Win.{counted_fu, IsWonHand}

@@ -12,7 +12,6 @@ use Rattle.riichi_shape.specs.Text.{kind_text}
 use Rattle.riichi_yaku.specs.Table.{word_of}
 use Rattle.riichi_yaku.specs.YakuSets.{is_yakuman}
 use Rattle.riichi_score.specs.Scores.{hand_of}
-use Rattle.riichi_score.specs.declared.score.Score.{Score}
 use Rattle.riichi_explain.specs.declared.base.BaseRule.{BaseRule}
 use Rattle.riichi_explain.specs.declared.base.BaseRule.TheVariants.{Product, Capped, Raised, Limited}
 use Rattle.riichi_explain.specs.declared.base.Limit.{Limit}

@@ -2,6 +2,7 @@
 #![tactic(auto)]
 
 mod base;
+mod faults;
 mod forms;
 mod fu;
 mod han;
@@ -16,6 +17,7 @@ mod win;
 mod win_text;
 
 pub use base::{BaseRule, Limit, base_rule};
+pub use faults::fault_words;
 pub use forms::{explain_shape, push_shanten_line};
 pub use fu::{FuPart, FuRow, FuRows, fu_rows, fu_total};
 pub use han::{HanPart, HanRow, HanRows, han_rows};

@@ -375,3 +375,22 @@ fn shapes(rt: HostRuntime) -> Result<(), Fail> {
         ],
     )
 }
+
+#[test]
+fn refusals(rt: HostRuntime) -> Result<(), Fail> {
+    for (line, words) in [
+        ("score 1m", "the first word is win, waits or shape"),
+        ("waits 12x3m", "a digit or one of m p s z stands here"),
+        ("waits 11111m", "there are four tiles of a kind"),
+        (
+            "win 234m567m345p67s99s on=5s by=ron seat=S round=E flags=first",
+            "first is a win by tsumo, without melds, riichi or another flag",
+        ),
+    ] {
+        match read_line(Rules::One, line.as_bytes()) {
+            Err(fault) => assert_eq!(rt; fault_words(&fault), words, "{line}"),
+            Ok(_) => return Err("a line without a fault")?,
+        }
+    }
+    Ok(())
+}

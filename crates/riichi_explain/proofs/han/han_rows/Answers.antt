@@ -1,7 +1,7 @@
 use Rattle.std.proofs.Common.{Bool, List, ◌++◌, ap, ◌∙◌}
 use Rattle.std.specs.List.{flat_map}
 use Rattle.riichi_tiles.specs.Melds.{are_concealed}
-use Rattle.riichi_explain.specs.Han.{every_yaku, yaku_row, dora_rows, han_rows, han_total}
+use Rattle.riichi_explain.specs.Han.{every_yaku, yaku_row, dora_rows, han_total}
 use Rattle.riichi_explain.specs.declared.han.HanRow.{HanRow}
 use Rattle.riichi_explain.proofs.HanLemmas.{rows_give_han, total-yakuman}
 use Rattle.riichi_explain.proofs.han.han_rows.Goals as goal
