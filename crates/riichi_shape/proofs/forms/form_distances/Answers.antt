@@ -10,7 +10,7 @@ pub unreachable-requires : goal.unreachable-requires
 unreachable-requires c =
     let hand = c.args.hand.now in
     let melds = c.args.melds.now in
-    let are = c.new-forms.ensures in
+    let are = c.new-forms.ensures.forms in
     let rows = c.new-forms.result.rows in
     let sets = 4 - c.count-melded.result in
     let least = least_by_rows hand melds rows are.are_rows c.requires sets (omega arith) c.with.result (c.with.ensures rows.circles rows.bamboos rows.honours are.are_joins.beside_characters) in
@@ -21,7 +21,7 @@ pub returns-clause-sets_and_pair : goal.returns-clause-sets_and_pair
 returns-clause-sets_and_pair c =
     let hand = c.args.hand.now in
     let melds = c.args.melds.now in
-    let are = c.new-forms.ensures in
+    let are = c.new-forms.ensures.forms in
     let rows = c.new-forms.result.rows in
     let sets = 4 - c.count-melded.result in
     let least = least_by_rows hand melds rows are.are_rows c.requires sets (omega arith) c.with.result (c.with.ensures rows.circles rows.bamboos rows.honours are.are_joins.beside_characters) in
@@ -32,13 +32,13 @@ pub returns-clause-seven_pairs : goal.returns-clause-seven_pairs
 returns-clause-seven_pairs c =
     let forms = c.new-forms.result.special in
     let same = c.without_meld.ensures ∙ ap (λ (n : ℕ). without_meld n forms.pairs.lack) c.count-melded.ensures.value in
-    subst (λ (o : Option ℕ). IsPairsDistance c.args.hand.now c.args.melds.now o) (sym same) (pairs_distance c.args.hand.now c.args.melds.now forms c.new-forms.ensures.special)
+    subst (λ (o : Option ℕ). IsPairsDistance c.args.hand.now c.args.melds.now o) (sym same) (pairs_distance c.args.hand.now c.args.melds.now forms c.new-forms.ensures.forms.special)
 
 pub returns-clause-thirteen_orphans : goal.returns-clause-thirteen_orphans
 returns-clause-thirteen_orphans c =
     let forms = c.new-forms.result.special in
     let same = c.without_meld-2.ensures ∙ ap (λ (n : ℕ). without_meld n forms.orphans.lack) c.count-melded.ensures.value in
-    subst (λ (o : Option ℕ). IsOrphansDistance c.args.hand.now c.args.melds.now o) (sym same) (orphans_distance c.args.hand.now c.args.melds.now forms c.new-forms.ensures.special)
+    subst (λ (o : Option ℕ). IsOrphansDistance c.args.hand.now c.args.melds.now o) (sym same) (orphans_distance c.args.hand.now c.args.melds.now forms c.new-forms.ensures.forms.special)
 
 pub returns-clause-least : goal.returns-clause-least
 returns-clause-least c =
@@ -50,4 +50,4 @@ returns-clause-least c =
     let orphans = c.without_meld-2.ensures ∙ ap (λ (k : ℕ). without_meld k forms.orphans.lack) c.count-melded.ensures.value in
     ap (λ (o : Option ℕ). min_with (min_with n o) c.without_meld-2.result) pairs
     ∙ ap (λ (o : Option ℕ). min_with (min_with n (without_meld (length melds) forms.pairs.lack)) o) orphans
-    ∙ least_form hand melds c.count-melded.ensures.melds.at_most_four c.requires forms n (returns-clause-sets_and_pair c) c.new-forms.ensures.special
+    ∙ least_form hand melds c.count-melded.ensures.melds.at_most_four c.requires forms n (returns-clause-sets_and_pair c) c.new-forms.ensures.forms.special
