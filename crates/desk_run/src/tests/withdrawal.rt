@@ -3,7 +3,7 @@ ghost use Rattle.std.specs.Prelude.{◌≡◌};
 ghost use Rattle.desk_run.specs.Sitting.{board_name, same_board};
 
 use super::{a_board, given, shape_b, submit, ticket, waits_a};
-use crate::{Board, BoardParts, NoGate, OfferBack, TableSeat, Worked, WorkerSeat};
+use crate::{Board, BoardParts, NoGate, OfferBack, OfferFault, TableSeat, Worked, WorkerSeat};
 use desk_core::{Taken, Ticket};
 use riichi_hand::Job;
 use riichi_shape::RowCache;
@@ -81,6 +81,32 @@ fn make_small(rt: &impl Abort, alloc: Global, places: u32) -> Small {
         panic!(rt; "no cache")
     };
     Small::of(board, table, worker, cache)
+}
+
+/// Whether a job was refused since all places are out.
+fn finds_no_place(found: Result<Ticket, OfferBack>) -> bool {
+    match found {
+        Ok(_) => false,
+        Err(back) => back.fault == OfferFault::NoPlace,
+    }
+}
+
+/// A withdrawn hand's place stays out until its piece is fetched.
+#[test]
+fn a_withdrawn_hand_keeps_its_place(rt: HostRuntime) -> Result<(), Fail> {
+    let (a, b) = (waits_a(&rt), shape_b(&rt));
+    let mut desk = make_small(&rt, rt.alloc(), 1);
+    assert!(rt; desk.submit(a) == Ok(ticket(0)));
+    assert!(rt; desk.withdraw(0) || desk.withdraw(0));
+    assert!(rt; finds_no_place(desk.submit(b)));
+    assert!(rt; desk.work() == Worked::Did(ticket(0)));
+    assert!(rt; desk.collect() == 1);
+    assert!(rt; desk.take() == Taken::Waiting);
+    assert!(rt; desk.submit(b) == Ok(ticket(1)));
+    assert!(rt; desk.work() == Worked::Did(ticket(1)));
+    assert!(rt; desk.collect() == 1);
+    assert!(rt; desk.take() == given(1, &b));
+    Ok(())
 }
 
 /// A hand is withdrawn before its piece is there, when the piece is done, and when it was fetched;
