@@ -98,9 +98,9 @@ fn line_command<'a>(alloc: Global) -> Command<'a> {
 }
 
 fn replay_command<'a>(alloc: Global) -> Result<Command<'a>, AllocError> {
-    let file = Arg::new(alloc, "FILE")
-        .required(true)
-        .help("A script: open, submit, arrive, take, withdraw, close, one a line");
+    let file = Arg::new(alloc, "FILE").required(true).help(
+        "A script: open, submit, arrive, take, withdraw, close, one a line",
+    );
     Command::new(alloc, "replay")
         .about("Answers a script of tables that submit hands and are given their answers in order")
         .after_help(REPLAY_HELP)
