@@ -185,7 +185,13 @@ status 127" "$(PATH=/usr/bin:/bin; kit=/nowhere by_hand "$tree" ./desk line)"
 told 'a proof without the kit' "prove: the command rt of the Rattle kit isn't here, and nothing can be proved without it; a release (README.md) has the built program, and needs no kit
 status 127" "$(PATH=/usr/bin:/bin; kit=/nowhere by_hand "$tree" ./prove)"
 ln -s "$tree/prove" "$scripts/linked-prove"
-count=$(grep -c '^[a-z].*:' crates.txt)
+# the crates that the program or a static library stands on
+count=$(awk -F: '/^[a-z_0-9 =]*:/ { split($1, name, " "); uses[name[1]] = $2; if ($1 ~ / staticlib/ || name[1] == "riichi_desk") wanted[name[1]] = 1 }
+  END {
+    do { more = 0; for (crate in wanted) { count = split(uses[crate], below, " "); for (i = 1; i <= count; i++) if (below[i] in uses && !(below[i] in wanted)) { wanted[below[i]] = 1; more = 1 } } } while (more)
+    for (crate in wanted) total++
+    print total
+  }' crates.txt)
 echo riichi_score > "$kit/wrong"
 told "a crate that isn't proved" "== riichi_score
 fn f: not proved
