@@ -6,3 +6,5 @@ pub mod MeldLemmas
 pub mod FieldLemmas
 pub mod OutcomeLemmas
 pub mod RangeLemmas
+pub mod RedLemmas
+pub mod RedFault

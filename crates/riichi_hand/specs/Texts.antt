@@ -1,9 +1,9 @@
 -- What the notation texts and the melds of a line spell.
-use Rattle.std.specs.Prelude.{ℕ, ◌==◌, List, [], Option, None, Some, nat_lt, unwrap_or, option_map, if◌then◌else◌, replicate, slice_index}
+use Rattle.std.specs.Prelude.{ℕ, ◌+◌, ◌==◌, List, [], ◌∷◌, Option, None, Some, nat_lt, unwrap_or, option_map, if◌then◌else◌, replicate, slice_index}
 use Rattle.std.specs.List.{find, sum}
-use Rattle.riichi_tiles.specs.Notation.{notation_fault, counts_of}
+use Rattle.riichi_tiles.specs.Notation.{notation_fault, counts_of, characters, circles, bamboos}
 use Rattle.riichi_tiles.specs.Melds.{every_kind}
-use Rattle.riichi_tiles.specs.Reds.{reds_in, joined}
+use Rattle.riichi_tiles.specs.Reds.{zeros, reds_in, joined}
 use Rattle.riichi_tiles.specs.declared.meld.Meld.{Meld}
 use Rattle.riichi_hand.specs.declared.fault.LineFault.{LineFault}
 use Rattle.riichi_hand.specs.declared.fault.LineFault.TheVariants.{Notation}
@@ -47,7 +47,15 @@ no_texts = record { hand = replicate 34 0; on = replicate 34 0; dora = replicate
 abbrev pub only_kind : List ℕ → Option ℕ
 only_kind counts = if sum counts == 1 then find (λ kind. nat_lt 0 (slice_index counts kind)) every_kind else None
 
--- the digits 0 of the hand, of the winning tile and of the melds
+-- how many digits 0 a letter closes in the texts of the hand, of the winning tile and of the melds
+abbrev pub zeros_in : LineParts → ℕ → ℕ
+zeros_in parts letter = zeros letter parts.hand + zeros letter (unwrap_or (value On parts) []) + zeros letter (unwrap_or (value Open parts) [])
+
+-- the red fives of a line: its digits 0 of m, of p and of s
 abbrev pub reds : LineParts → List ℕ
-reds parts =
+reds parts = zeros_in parts characters ∷ zeros_in parts circles ∷ zeros_in parts bamboos ∷ []
+
+-- the same as they are added text by text, where what is above four isn't counted
+abbrev pub joined_reds : LineParts → List ℕ
+joined_reds parts =
     joined (joined (reds_in parts.hand) (reds_in (unwrap_or (value On parts) []))) (reds_in (unwrap_or (value Open parts) []))

@@ -42,7 +42,7 @@ cut_joins (byte ∷ text) =
       | inr other ↦ rw other (front_joins byte text (cut_at 58 text) (cut_joins text))
     ]
 
-find_passes : {X : Type 0} (p : X → Bool) (xs : List X) (x : X) → find p xs ≡ Some x → p x ≡ true
+pub find_passes : {X : Type 0} (p : X → Bool) (xs : List X) (x : X) → find p xs ≡ Some x → p x ≡ true
 find_passes p [] x is = let bad : None ≡ Some x = is in absurd (cc)
 find_passes {X} p (y ∷ ys) x is =
     elim (cases_Bool (p y)) [
@@ -70,7 +70,7 @@ cut_text text (Some cut) joins = go (named cut.0) refl
     go None e = tt
     go (Some name) e = joins ∙ ap (λ word. word ++ 58 ∷ cut.1) (named_word cut.0 name e)
 
-text_of_cut : (text : List ℕ) (name : MeldName) (rest : List ℕ) → cut_named (cut_at 58 text) ≡ Some (name, rest) → text ≡ word_of name ++ 58 ∷ rest
+pub text_of_cut : (text : List ℕ) (name : MeldName) (rest : List ℕ) → cut_named (cut_at 58 text) ≡ Some (name, rest) → text ≡ word_of name ++ 58 ∷ rest
 unfolding CutText
 text_of_cut text name rest is =
     let P : Option (MeldName × List ℕ) → Type 0 = CutText text in
@@ -166,7 +166,7 @@ kind_below counts meld are just =
       | inr past ↦ absurd (omega (arith, has_its_kind meld, just (kind_in meld), get_or_past counts (kind_in meld) 0 (omega (arith, are.each_kind))))
     ]
 
-just_at : (counts : List ℕ) (meld : Meld) (kind : ℕ) → has_just counts meld ≡ true → kind < 34 → slice_index counts kind ≡ tiles_of meld kind
+pub just_at : (counts : List ℕ) (meld : Meld) (kind : ℕ) → has_just counts meld ≡ true → kind < 34 → slice_index counts kind ≡ tiles_of meld kind
 just_at counts meld kind just below =
     eqb-true (slice_index counts kind) (tiles_of meld kind)
     (all_in_range (λ k. nat_eq (slice_index counts k) (tiles_of meld k)) 0 34 kind just (omega arith) (omega arith))

@@ -1,13 +1,13 @@
 //! The job of a line whose texts are read.
-ghost use Rattle.std.specs.Prelude.{◌≡◌, nat_lt, slice_index, Some, if◌then◌else◌};
+ghost use Rattle.std.specs.Prelude.{◌≡◌, nat_lt, slice_index, None, Some, if◌then◌else◌};
 ghost use Rattle.std.specs.List.{find};
 ghost use Rattle.riichi_tiles.specs.Melds.{every_kind};
 ghost use Rattle.riichi_hand.specs.Win.{is_two, no_reds, kept_under};
-ghost use Rattle.riichi_hand.specs.Faults.{IsStep};
-ghost use Rattle.riichi_hand.specs.Lines.{job_faults};
+ghost use Rattle.riichi_hand.specs.Faults.{IsStep, first_fault};
+ghost use Rattle.riichi_hand.specs.Lines.{text_faults, job_faults};
 ghost use Rattle.riichi_hand.specs.Parts.{parts_in};
 ghost use Rattle.riichi_hand.specs.Entries.{Holds};
-ghost use Rattle.riichi_hand.specs.Texts.{only_kind, reds};
+ghost use Rattle.riichi_hand.specs.Texts.{texts_of, only_kind, joined_reds};
 ghost use Rattle.riichi_hand.specs.Jobs.{AreNeeded, win_parts, job_of};
 ghost use Rattle.riichi_hand.specs.declared.line.job_name.JobName.TheVariants.{Win};
 ghost use Rattle.riichi_hand.specs.declared.job.Job.TheVariants as jobs;
@@ -34,6 +34,8 @@ pub(crate) fn make_job(
 ) -> Result<Job, LineFault>
     requires holds { Holds fields.now (parts_in words.now).entries }
     requires needed { AreNeeded needed (parts_in words.now) }
+    requires spelled { first_fault (text_faults (parts_in words.now)) ≡ None }
+    requires texts { texts.now ≡ texts_of (parts_in words.now) }
     ensures { let parts = parts_in words.now in
         IsStep result (job_faults rules parts texts.now parts.job)
         (λ job. Some job ≡ job_of rules parts texts.now parts.job) }
@@ -55,6 +57,8 @@ fn make_win(
 ) -> Result<WinRecord, LineFault>
     requires holds { Holds fields.now (parts_in words.now).entries }
     requires needed { AreNeeded (needs.Win keys) (parts_in words.now) }
+    requires spelled { first_fault (text_faults (parts_in words.now)) ≡ None }
+    requires texts { texts.now ≡ texts_of (parts_in words.now) }
     ensures { let parts = parts_in words.now in IsStep result (job_faults rules parts texts.now Win)
         (λ win. Some (jobs.Win win) ≡ job_of rules parts texts.now Win) }
 {
@@ -102,7 +106,7 @@ fn lowest_kind(counts: &Counts) -> Option<Kind>
 /// The red fives that the rules keep.
 fn reds_under(rules: Rules, words: &Words<'_>, fields: &Fields<'_>) -> Reds
     requires { Holds fields.now (parts_in words.now).entries }
-    ensures { result ≡ (if is_two rules then reds (parts_in words.now) else no_reds) }
+    ensures { result ≡ (if is_two rules then joined_reds (parts_in words.now) else no_reds) }
 {
     match rules {
         Rules::One => Reds::none(),
@@ -113,7 +117,7 @@ fn reds_under(rules: Rules, words: &Words<'_>, fields: &Fields<'_>) -> Reds
 /// The digits 0 of the hand, the winning tile and the melds.
 fn reds_of_line(words: &Words<'_>, fields: &Fields<'_>) -> Reds
     requires { Holds fields.now (parts_in words.now).entries }
-    ensures { result ≡ reds (parts_in words.now) }
+    ensures { result ≡ joined_reds (parts_in words.now) }
 {
     reds_of(words.hand)
         .joined(&reds_of(fields.on.unwrap_or(&[])))

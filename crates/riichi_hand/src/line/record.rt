@@ -1,9 +1,9 @@
 //! A line that is a record.
-ghost use Rattle.std.specs.Prelude.{◌≡◌, ◌==◌, None, true, Ok, Err};
+ghost use Rattle.std.specs.Prelude.{◌≡◌, ◌≢◌, ◌==◌, None, true, Ok, Err};
 ghost use Rattle.std.specs.List.{list_all};
 ghost use Rattle.riichi_hand.specs.Lines.{outcome_of, is_no_record, has_bad_word};
 ghost use Rattle.riichi_hand.specs.declared.fault.LineFault.TheVariants.{Line};
-ghost use Rattle.riichi_hand.specs.declared.fault.LineCode.TheVariants.{H4};
+ghost use Rattle.riichi_hand.specs.declared.fault.LineCode.TheVariants.{H4, H16};
 
 use super::fields::Fields;
 use super::jobs::make_job;
@@ -23,9 +23,11 @@ const MOST_LINE: usize = 4096;
 pub fn read_line(rules: Rules, line: &[u8]) -> Result<Option<Job>, LineFault>
     ensures value { result ≡ outcome_of rules line.now }
 
-    // A record without faults has a job, and the numbers of a line are in range: H4 comes of a word alone.
+    // A record without faults has a job. The numbers of a line are in range, so H4 comes of a word alone; and no line has more red
+    // fives than fives.
     ensures silent { result ≡ Ok None → is_no_record line.now ≡ true }
     ensures bad_word { result ≡ Err (Line H4) → has_bad_word line.now ≡ true }
+    ensures no_reds_over { result ≢ Err (Line H16) }
 {
     if line.len() > MOST_LINE {
         return Err(LineFault::Line(LineCode::H1));

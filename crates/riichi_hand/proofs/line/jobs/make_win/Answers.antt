@@ -5,7 +5,8 @@ use Rattle.riichi_hand.specs.Win.{win_of}
 use Rattle.riichi_hand.specs.Parts.{parts_in}
 use Rattle.riichi_hand.specs.Texts.{only_kind}
 use Rattle.riichi_hand.specs.Jobs.{win_parts, win_of_line}
-use Rattle.riichi_hand.proofs.OutcomeLemmas.{win_step, kept_parts, win_of_kept}
+use Rattle.riichi_hand.proofs.OutcomeLemmas.{win_step}
+use Rattle.riichi_hand.proofs.RedLemmas.{win_of_line_reds}
 use Rattle.riichi_hand.proofs.line.jobs.make_win.Goals as goal
 
 pub returns : goal.returns
@@ -22,6 +23,6 @@ returns c =
     let counters : c.unwrap_or-3.result ≡ win.counters = c.unwrap_or-3.ensures ∙ ap (λ n. unwrap_or n 0) holds.counters in
     let sticks : c.unwrap_or-4.result ≡ win.sticks = c.unwrap_or-4.ensures ∙ ap (λ n. unwrap_or n 0) holds.sticks in
     let given : WinParts = record win { reds = c.reds_under.result } in
-    let kept = kept_parts rules win c.reds_under.result c.reds_under.ensures in
     let made : c.new.result ≡ win_of given = rw (c.new.ensures, riichi, flags, counters, sticks) refl in
-    win_step (only_kind texts.on) (win_of_line rules parts texts) rules c.in-Some.winning win c.new.result only line (made ∙ ap win_of kept ∙ win_of_kept rules win refl)
+    let told = win_of_line_reds rules parts texts c.in-Some.winning c.args.keys c.reds_under.result c.requires.texts only c.requires.spelled c.reds_under.ensures in
+    win_step (only_kind texts.on) (win_of_line rules parts texts) rules c.in-Some.winning win c.new.result only line (made ∙ told)

@@ -6,6 +6,7 @@ use Rattle.riichi_hand.specs.Parts.{parts_of, parts_in}
 use Rattle.riichi_hand.specs.Jobs.{job_of}
 use Rattle.riichi_hand.specs.Lines.{is_no_record, word_faults, entry_faults, need_faults, text_faults, job_faults}
 use Rattle.riichi_hand.proofs.RangeLemmas.{bad_word}
+use Rattle.riichi_hand.proofs.RedFault.{no_reds_over}
 use Rattle.riichi_hand.proofs.OutcomeLemmas.{first_fault-later, first_fault-here, outcome-err, outcome-ok}
 use Rattle.riichi_hand.proofs.line.record.read_line.Goals as goal
 
@@ -82,3 +83,18 @@ returns-in_err-spell-clause-bad_word c is = bad_word c.args.rules c.args.line.no
 
 pub returns-in_err-job-clause-bad_word : goal.returns-in_err-job-clause-bad_word
 returns-in_err-job-clause-bad_word c is = bad_word c.args.rules c.args.line.now (sym (returns-in_err-job-clause-value c) ∙ is)
+
+pub returns-in_err-words-clause-no_reds_over : goal.returns-in_err-words-clause-no_reds_over
+returns-in_err-words-clause-no_reds_over c is = no_reds_over c.args.rules c.args.line.now (sym (returns-in_err-words-clause-value c) ∙ is)
+
+pub returns-in_err-fill-clause-no_reds_over : goal.returns-in_err-fill-clause-no_reds_over
+returns-in_err-fill-clause-no_reds_over c is = no_reds_over c.args.rules c.args.line.now (sym (returns-in_err-fill-clause-value c) ∙ is)
+
+pub returns-in_err-needed-clause-no_reds_over : goal.returns-in_err-needed-clause-no_reds_over
+returns-in_err-needed-clause-no_reds_over c is = no_reds_over c.args.rules c.args.line.now (sym (returns-in_err-needed-clause-value c) ∙ is)
+
+pub returns-in_err-spell-clause-no_reds_over : goal.returns-in_err-spell-clause-no_reds_over
+returns-in_err-spell-clause-no_reds_over c is = no_reds_over c.args.rules c.args.line.now (sym (returns-in_err-spell-clause-value c) ∙ is)
+
+pub returns-in_err-job-clause-no_reds_over : goal.returns-in_err-job-clause-no_reds_over
+returns-in_err-job-clause-no_reds_over c is = no_reds_over c.args.rules c.args.line.now (sym (returns-in_err-job-clause-value c) ∙ is)
