@@ -87,7 +87,9 @@ class Browser:
         self.ask("Emulation.setTouchEmulationEnabled", enabled=touch)
 
     def scheme(self, name: str) -> None:
-        self.ask("Emulation.setEmulatedMedia", features=[{"name": "prefers-color-scheme", "value": name}])
+        """Light or dark, and no motion, so that colours don't change while they are looked at."""
+        wanted = {"prefers-color-scheme": name, "prefers-reduced-motion": "reduce"}
+        self.ask("Emulation.setEmulatedMedia", features=[{"name": key, "value": value} for key, value in wanted.items()])
 
     def tap(self, selector: str) -> None:
         """A press and a release of the mouse in the middle of an element, as a person does it."""

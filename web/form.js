@@ -88,7 +88,8 @@ function showFaults(fields) {
   for (const part of document.querySelectorAll("[data-field]")) {
     const isFaulty = fields.includes(part.dataset.field);
     part.classList.toggle("faulty", isFaulty);
-    for (const input of part.querySelectorAll("input, textarea")) input.setAttribute("aria-invalid", String(isFaulty));
+    const controls = part.matches("[role=radiogroup]") ? [part] : part.querySelectorAll("input:not([type=radio]), textarea");
+    for (const control of controls) control.setAttribute("aria-invalid", String(isFaulty));
   }
 }
 

@@ -72,6 +72,9 @@ function nextTarget(record, target) {
 function targetHelp(record, target) {
   if (target === "chi") return "Chi: tap the lowest tile of the run.";
   if (MELD_WORDS.includes(target)) return `${TARGET_NAMES[target]}: tap its kind.`;
-  if (target === "hand") return `Hand: ${record.hand.length} of ${roomOf(record)} tiles, without the winning tile.`.replace(record.job === "win" ? "" : ", without the winning tile", "");
+  if (target === "hand") {
+    const besides = record.job === "win" ? ", without the winning tile" : "";
+    return `Hand: ${record.hand.length} of ${roomOf(record)} tiles${besides}.`;
+  }
   return `${TARGET_NAMES[target]}: tap ${target === "on" ? "the tile that completes the hand" : "the tiles that are seen"}.`;
 }
