@@ -45,7 +45,7 @@ function acceptedOf(words) {
   return words.filter((word) => word !== "-").map((word) => ({ kind: word.split(":")[0], live: Number(word.split(":")[1]) }));
 }
 
-const ACCEPTS = /(?: discard ([0-9][mpsz]))? accepts((?: [^ ]+?)*) live ([0-9]+)/g;
+const ACCEPTS = /(?: discard ([0-9][mpsz]))? accepts((?: (?:-|[0-9][mpsz]:[0-9]+))+) live ([0-9]+)/g;
 
 function shapeOf(text) {
   const parts = [...text.matchAll(ACCEPTS)].map(([, discard, list, live]) => ({
