@@ -6,13 +6,7 @@ mkdir -p "$made"
 tests/static-library riichi_desk_c > "$room/said" 2>&1
 told 'the static library' 0 "$?"
 [ -f "$archive" ] || tail -n 20 "$room/said"
-# some 2,000 lines: each example under each seat, round and way to win, and each of these cut off somewhere
-cat examples/*.lines | grep -vE '^(rules|open|submit|arrive|take|close) ' | sort -u > "$made/kinds"
-for seat in E S W N; do
-  for round in E S; do
-    for by in ron tsumo; do sed -E "s/seat=[ESWN]/seat=$seat/; s/round=[ESWN]/round=$round/; s/by=[a-z]+/by=$by/" "$made/kinds"; done
-  done
-done | sort -u | awk '{ print; if (NR % 5 == 0) print substr($0, 1, NR * 7 % 60) }' | head -n 2000 > "$made/lines"
+tests/lines > "$made/lines"
 "$program" line < "$made/lines" > "$made/wanted"
 told 'lines for programs' 2000 "$(wc -l < "$made/lines")"
 cc -O1 -Wall -Wextra -std=c99 -pedantic -Iinclude examples/c/answer.c "$archive" -o "$made/in_c"

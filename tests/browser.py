@@ -1,0 +1,118 @@
+"""A headless Chromium, driven by the DevTools protocol over a pipe: no port, and nothing but Python's own library."""
+
+from __future__ import annotations
+
+import base64
+import itertools
+import json
+import os
+import shutil
+import subprocess
+import tempfile
+from pathlib import Path
+
+
+class Browser:
+    """A browser with one page. Its methods wait for what they ask."""
+
+    def __init__(self, program: str):
+        self.home = tempfile.mkdtemp(prefix="desk-browser-")
+        to_browser, self.to = os.pipe()
+        self.back, from_browser = os.pipe()
+        words = [program, "--headless=new", "--remote-debugging-pipe", "--no-first-run", "--disable-gpu", "--mute-audio"]
+        words += [f"--user-data-dir={self.home}", *(["--no-sandbox"] if os.getuid() == 0 else []), "about:blank"]
+
+        def place_pipes() -> None:
+            ends = os.dup(to_browser), os.dup(from_browser)
+            os.dup2(ends[0], 3)
+            os.dup2(ends[1], 4)
+
+        quiet = {"stdout": subprocess.DEVNULL, "stderr": subprocess.DEVNULL}
+        self.process = subprocess.Popen(words, preexec_fn=place_pipes, close_fds=False, **quiet)
+        os.close(to_browser)
+        os.close(from_browser)
+        self.numbers, self.rest, self.events = itertools.count(1), b"", []
+        self.session = None
+        target = self.ask("Target.createTarget", url="about:blank")["targetId"]
+        self.session = self.ask("Target.attachToTarget", targetId=target, flatten=True)["sessionId"]
+        for part in ("Page", "Runtime", "Network", "Log"):
+            self.ask(f"{part}.enable")
+
+    def close(self) -> None:
+        self.process.terminate()
+        self.process.wait()
+        os.close(self.to)
+        os.close(self.back)
+        shutil.rmtree(self.home, ignore_errors=True)
+
+    def message(self) -> dict:
+        while b"\0" not in self.rest:
+            more = os.read(self.back, 1 << 20)
+            if not more:
+                raise RuntimeError("the browser has ended")
+            self.rest += more
+        said, _, self.rest = self.rest.partition(b"\0")
+        return json.loads(said)
+
+    def ask(self, method: str, **parameters) -> dict:
+        """Calls a method of the protocol; events that come meanwhile are kept in `events`."""
+        number = next(self.numbers)
+        call = {"id": number, "method": method, "params": parameters}
+        call |= {"sessionId": self.session} if self.session else {}
+        said = json.dumps(call).encode() + b"\0"
+        while said:
+            said = said[os.write(self.to, said) :]
+        while (said := self.message()).get("id") != number:
+            self.events.append(said)
+        if "error" in said:
+            raise RuntimeError(f"{method}: {said['error']}")
+        return said["result"]
+
+    def run(self, script: str):
+        """The value of an expression in the page."""
+        said = self.ask("Runtime.evaluate", expression=script, returnByValue=True, awaitPromise=True, userGesture=True)
+        if "exceptionDetails" in said:
+            raise RuntimeError(f"{script}: {said['exceptionDetails']}")
+        return said["result"].get("value")
+
+    def open(self, page: Path) -> None:
+        self.ask("Page.navigate", url=page.as_uri())
+        self.run(
+            "new Promise(done => { const look = () => document.getElementById('desk') && "
+            "(!document.getElementById('desk').hidden || !document.getElementById('unable').hidden) ? done() : setTimeout(look, 20); look(); })"
+        )
+
+    def size(self, width: int, height: int, touch: bool = False) -> None:
+        self.ask("Emulation.setDeviceMetricsOverride", width=width, height=height, deviceScaleFactor=2 if touch else 1, mobile=touch)
+        self.ask("Emulation.setTouchEmulationEnabled", enabled=touch)
+
+    def scheme(self, name: str) -> None:
+        """Light or dark, and no motion, so that colours don't change while they are looked at."""
+        wanted = {"prefers-color-scheme": name, "prefers-reduced-motion": "reduce"}
+        self.ask("Emulation.setEmulatedMedia", features=[{"name": key, "value": value} for key, value in wanted.items()])
+
+    def tap(self, selector: str) -> None:
+        """A press and a release of the mouse in the middle of an element, as a person does it."""
+        place = (
+            f"(() => {{ const it = document.querySelector({json.dumps(selector)}); it.scrollIntoView({{block: 'center'}});"
+            " const box = it.getBoundingClientRect(); return [box.x + box.width / 2, box.y + box.height / 2]; })()"
+        )
+        x, y = self.run(place)
+        for sort in ("mousePressed", "mouseReleased"):
+            self.ask("Input.dispatchMouseEvent", type=sort, x=x, y=y, button="left", clickCount=1)
+
+    def key(self, name: str, times: int = 1) -> None:
+        codes = {"Tab": 9, "Enter": 13, " ": 32, "Backspace": 8, "ArrowLeft": 37, "ArrowUp": 38, "ArrowRight": 39, "ArrowDown": 40}
+        codes |= {"Home": 36, "End": 35}
+        text = {"Enter": {"text": "\r"}, " ": {"text": " "}}.get(name, {})
+        for _ in range(times):
+            about = {"key": name, "code": "Space" if name == " " else name, "windowsVirtualKeyCode": codes[name]}
+            self.ask("Input.dispatchKeyEvent", type="keyDown", **about, **text)
+            self.ask("Input.dispatchKeyEvent", type="keyUp", **about)
+
+    def type(self, text: str) -> None:
+        self.ask("Input.insertText", text=text)
+
+    def picture(self, file: Path, whole: bool = False) -> None:
+        said = self.ask("Page.captureScreenshot", format="png", captureBeyondViewport=whole)
+        file.write_bytes(base64.b64decode(said["data"]))
