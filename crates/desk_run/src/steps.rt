@@ -5,10 +5,10 @@ ghost use lib.ListN.{get_elem?};
 ghost use Rattle.atomic_table.specs.Table.{rest};
 ghost use Rattle.desk_run.specs.Counts.{times};
 ghost use Rattle.desk_run.specs.Rule.{count_of};
-ghost use Rattle.desk_run.specs.Views.{new_table, new_worker, with_lot, offering, table_lost, holding, worker_lost, having_finished, looking};
+ghost use Rattle.desk_run.specs.Views.{new_table, new_worker, with_state, offering, table_lost, holding, worker_lost, having_finished, looking};
 ghost use Rattle.desk_run.specs.Plays.{table_of, worker_of, stop_of};
 ghost use Rattle.desk_run.specs.Seats.{board_id, IsTable, IsWorker, IsStop};
-ghost use Rattle.desk_run.specs.declared.lot.Lot.TheVariants.{Fresh, Kept, Out};
+ghost use Rattle.desk_run.specs.declared.place_state.PlaceState.TheVariants.{Fresh, Vacant, Out};
 ghost use Rattle.desk_run.specs.declared.view.View.TheVariants.{Entering, Table, Worker, Stop};
 ghost use Rattle.desk_run.specs.declared.content.Content.TheVariants.{Empty, Offer, Done};
 
@@ -44,17 +44,17 @@ impl Board {
         &self,
         seat: &mut Seat,
         place: usize,
-        _lot: usize,
+        _offset: usize,
         ticket: Ticket,
         job: &Job,
     )
         requires id { (seat.old.table_id ≡ board_id self.now) × (place < (board_id self.now).slots) }
-        requires table { IsTable seat.old.me × (place ≡ (table_of seat.old.me.0).base + _lot) }
-        requires kept { get_elem? (table_of seat.old.me.0).lots _lot ≡ some Kept }
+        requires table { IsTable seat.old.me × (place ≡ (table_of seat.old.me.0).base + _offset) }
+        requires vacant { get_elem? (table_of seat.old.me.0).states _offset ≡ some Vacant }
         requires front { seat.old.me.1 ≡ (place, Empty) ∷ rest seat.old.me.1 }
         requires ticket { (ticket.table ≡ (table_of seat.old.me.0).number) × (ticket.seq ≡ (table_of seat.old.me.0).offers) }
         ensures id { seat.new.table_id ≡ seat.old.table_id }
-        ensures me { seat.new.me ≡ (Table (offering (table_of seat.old.me.0) _lot ticket job.now), rest seat.old.me.1) }
+        ensures me { seat.new.me ≡ (Table (offering (table_of seat.old.me.0) _offset ticket job.now), rest seat.old.me.1) }
     {
         let shared = &self.table.shared;
         shared.exchange(seat, place, Content::offer(ticket, job));
@@ -62,12 +62,12 @@ impl Board {
     }
 
     /// The piece, where the place was done.
-    pub(crate) fn fetch(&self, seat: &mut Seat, place: usize, _lot: usize) -> Option<Piece>
+    pub(crate) fn fetch(&self, seat: &mut Seat, place: usize, _offset: usize) -> Option<Piece>
         requires id { (seat.old.table_id ≡ board_id self.now) × (place < (board_id self.now).slots) }
-        requires table { IsTable seat.old.me × (place ≡ (table_of seat.old.me.0).base + _lot) }
-        requires lot { (lot : _) × (get_elem? (table_of seat.old.me.0).lots _lot ≡ some lot) }
+        requires table { IsTable seat.old.me × (place ≡ (table_of seat.old.me.0).base + _offset) }
+        requires state { (state : _) × (get_elem? (table_of seat.old.me.0).states _offset ≡ some state) }
         ensures id { seat.new.table_id ≡ seat.old.table_id }
-        ensures some { IfSome result (λ piece. (get_elem? (table_of seat.old.me.0).lots _lot ≡ some (Out piece.ticket piece.job)) × (seat.new.me ≡ (Table (with_lot (table_of seat.old.me.0) _lot Kept), (place, Empty) ∷ seat.old.me.1))) }
+        ensures some { IfSome result (λ piece. (get_elem? (table_of seat.old.me.0).states _offset ≡ some (Out piece.ticket piece.job)) × (seat.new.me ≡ (Table (with_state (table_of seat.old.me.0) _offset Vacant), (place, Empty) ∷ seat.old.me.1))) }
         ensures none { IfNone result (seat.new.me ≡ (Table (table_lost (table_of seat.old.me.0) place), seat.old.me.1)) }
     {
         let shared = &self.table.shared;
@@ -81,12 +81,12 @@ impl Board {
     }
 
     /// The table takes the content of a place that it has not taken up.
-    pub(crate) fn take_up(&self, seat: &mut Seat, place: usize, _lot: usize)
+    pub(crate) fn take_up(&self, seat: &mut Seat, place: usize, _offset: usize)
         requires id { (seat.old.table_id ≡ board_id self.now) × (place < (board_id self.now).slots) }
-        requires table { IsTable seat.old.me × (place ≡ (table_of seat.old.me.0).base + _lot) }
-        requires fresh { get_elem? (table_of seat.old.me.0).lots _lot ≡ some Fresh }
+        requires table { IsTable seat.old.me × (place ≡ (table_of seat.old.me.0).base + _offset) }
+        requires fresh { get_elem? (table_of seat.old.me.0).states _offset ≡ some Fresh }
         ensures id { seat.new.table_id ≡ seat.old.table_id }
-        ensures me { seat.new.me ≡ (Table (with_lot (table_of seat.old.me.0) _lot Kept), (place, Empty) ∷ seat.old.me.1) }
+        ensures me { seat.new.me ≡ (Table (with_state (table_of seat.old.me.0) _offset Vacant), (place, Empty) ∷ seat.old.me.1) }
     {
         self.table.shared.store::<TakeUp>(seat, FIRST + place, IDLE);
     }
