@@ -82,6 +82,10 @@ finished st m r n = (h : Held) → let v = worker_of m.0 in v.held ≡ Some h �
 abbrev pub Fetches : SeatState → ℕ → SeatState → Type 0
 Fetches m k n = (piece : Ticketed) × (get_elem? (table_of m.0).states k ≡ ghost_option.some (Out piece.ticket piece.job)) × (n ≡ (Table (with_state (table_of m.0) k Vacant), ((table_of m.0).base + k, Done piece) ∷ m.1))
 
+-- the same, where the table's place k is this place of the board
+abbrev pub FetchesAt : SeatState → ℕ → ℕ → SeatState → Type 0
+FetchesAt m place k n = Fetches m k n × (place ≡ (table_of m.0).base + k)
+
 abbrev pub fetched : Play
 fetched st m r n = (k : ℕ) → let v = table_of m.0 in st.word ≡ 2 + (v.base + k) → (r ≡ st.first → Fetches m k n) × (r ≢ st.first → n ≡ (Table (table_lost v (v.base + k)), m.1))
 

@@ -80,13 +80,13 @@ impl TableSeat {
         let PlaceState::Out(_, _) = &self.own.states[offset] else {
             return false;
         };
-        match board.fetch(&mut self.seat, self.base + offset, offset) {
-            None => false,
-            Some(piece) => {
-                self.own.receive(offset, piece);
-                true
-            }
+        let place = self.base + offset;
+        if !board.fetch(&mut self.seat, place, offset) {
+            return false;
         }
+        let piece = board.take_piece(&mut self.seat, place, offset);
+        self.own.receive(offset, piece);
+        true
     }
 
     /// Fetches the pieces that it finds done, and answers how many. Each is accepted, or its ticket
