@@ -10,8 +10,8 @@ use prog.Atomic.{either}
 use Rattle.atomic_table.specs.Table.{step, Act, keeps, takes, gives, Valid, carried_after, stepped, opening, Allows, Splits}
 use Rattle.atomic_table.proofs.Lists.{at_set, set_again, at_snoc, exchanged}
 use Rattle.desk_run.specs.Counts.{total, one_if, same_ticket, times}
-use Rattle.desk_run.specs.Views.{entering, has_number, is_at, holds_at, finished_of, numbered, holders, finishes, new_table, new_worker, with_lot, offering, table_lost, holding, worker_lost, having_finished, looking}
-use Rattle.desk_run.specs.Rule.{count_of, HeldWith, Standing, fresh, kept, ready, taken, done, Seated, Orderly}
+use Rattle.desk_run.specs.Views.{entering, has_number, is_at, holds_at, finished_of, numbered, holders, finishes, new_table, new_worker, with_state, offering, table_lost, holding, worker_lost, having_finished, looking}
+use Rattle.desk_run.specs.Rule.{count_of, HeldWith, Standing, fresh, vacant, ready, taken, done, Seated, Orderly}
 use Rattle.desk_run.specs.Plays.{SeatState, Claims, Fetches, table_of, worker_of, stop_of, entered_table, entered_worker, entered_stop, took_up, offered, claimed, finished, fetched, stopped, looked}
 use Rattle.desk_core.specs.declared.ticket.Ticket.{Ticket}
 use Rattle.riichi_hand.specs.declared.job.Job.{Job}
@@ -19,15 +19,15 @@ use Rattle.desk_core.specs.Ticketed.{Ticketed}
 use Rattle.desk_run.specs.declared.content.Content.{Content}
 use Rattle.desk_run.specs.declared.content.Content.TheVariants.{Empty, Offer, Done}
 use Rattle.desk_run.specs.declared.size.BoardSize.{BoardSize}
-use Rattle.desk_run.specs.declared.lot.Lot.{Lot}
-use Rattle.desk_run.specs.declared.lot.Lot.TheVariants.{Fresh, Kept, Out}
+use Rattle.desk_run.specs.declared.place_state.PlaceState.{PlaceState}
+use Rattle.desk_run.specs.declared.place_state.PlaceState.TheVariants.{Fresh, Vacant, Out}
 use Rattle.desk_run.specs.declared.held.Held.{Held}
 use Rattle.desk_run.specs.declared.view.TableView.{TableView}
 use Rattle.desk_run.specs.declared.view.WorkerView.{WorkerView}
 use Rattle.desk_run.specs.declared.view.StopView.{StopView}
 use Rattle.desk_run.specs.declared.view.View.{View}
 use Rattle.desk_run.specs.declared.view.View.TheVariants.{Entering, Table, Worker, Stop}
-use Rattle.desk_run.proofs.Moves.{St, board, there_is, table_step, worker_step, at_seat, unmoved, fresh_place, kept_place, ready_place, taken_place, done_place, holders_same, finishes_same, numbered_same, is_holding, below_roll, apart_numbers}
+use Rattle.desk_run.proofs.Moves.{St, board, there_is, table_step, worker_step, at_seat, unmoved, fresh_place, vacant_place, ready_place, taken_place, done_place, holders_same, finishes_same, numbered_same, is_holding, below_roll, apart_numbers}
 use Rattle.desk_run.proofs.Lists.{replicate_is, zeros, empties, held_is, two_more, tested, out_ticket, offer_ticket, offer_job, total-append, total-set, term_le, one, within, times-push}
 
 abbrev Goes : (size : BoardSize) → St → ℕ → ℕ → SeatState → (ℕ → SeatState → Type 0) → ℕ → Type 0
@@ -36,35 +36,35 @@ Goes size s i id m then k = (w : View) × (a : Act Content) × Valid s.homes m.1
 same_place : (base i k : ℕ) → 2 + (base + k) ≡ 2 + (base + i) → k ≡ i
 same_place base i k e = omega arith
 
--- the place of a table's lot, and what the board has there
-at_lot : (size : BoardSize) (s : St) (o : Orderly size s) (id k : ℕ) (v : TableView) (lot : Lot) → get_elem? s.views id ≡ some (Table v) → get_elem? v.lots k ≡ some lot
-    → (v.base + k < count_of size) × (o.lots (v.base + k) ≡ lot)
-at_lot size s o id k v lot me at = let t = o.seats id (Table v) me in let near = there_is v.lots k lot at in
-    (subst (λ (b : ℕ). b + k < count_of size) (sym t.1) (within v.number size.tables size.places k t.0 (omega arith)), t.3 k lot at)
+-- the place of a table's state, and what the board has there
+at_state : (size : BoardSize) (s : St) (o : Orderly size s) (id k : ℕ) (v : TableView) (state : PlaceState) → get_elem? s.views id ≡ some (Table v) → get_elem? v.states k ≡ some state
+    → (v.base + k < count_of size) × (o.states (v.base + k) ≡ state)
+at_state size s o id k v state me at = let t = o.seats id (Table v) me in let near = there_is v.states k state at in
+    (subst (λ (b : ℕ). b + k < count_of size) (sym t.1) (within v.number size.tables size.places k t.0 (omega arith)), t.3 k state at)
 
-pub takes_up : (size : BoardSize) (id k : ℕ) (v : TableView) (carried : List (ℕ × Content)) → get_elem? v.lots k ≡ some Fresh
+pub takes_up : (size : BoardSize) (id k : ℕ) (v : TableView) (carried : List (ℕ × Content)) → get_elem? v.states k ≡ some Fresh
     → Allows (Orderly size) (count_of size) id (Table v, carried) (2 + (v.base + k)) (λ _. 0) (λ _. took_up (step (count_of size) (2 + (v.base + k)) 0 0 none) (Table v, carried) 0)
-takes_up size id k v carried at s o wide me _ = let t = at_lot size s o id k v Fresh me at in let p : ℕ = v.base + k in
-    let f = fresh_place (get_or s.words (2 + p) 0) p (get_elem? s.homes p) (o.lots p) s.views t.1 (o.places p t.0) in (
-      Table (with_lot v k Kept),
+takes_up size id k v carried at s o wide me _ = let t = at_state size s o id k v Fresh me at in let p : ℕ = v.base + k in
+    let f = fresh_place (get_or s.words (2 + p) 0) p (get_elem? s.homes p) (o.states p) s.views t.1 (o.places p t.0) in (
+      Table (with_state v k Vacant),
       takes p Empty,
       f.0,
-      table_step size s o id k 0 v.offers v none Kept Fresh me wide at (omega arith)
-          (λ free. kept refl refl refl (holders_same s.views id p (Table v) (Table (with_lot v k Kept)) me refl ∙ free)) f.1 (λ x job l. cc),
-      λ i e. ap (λ (r : ℕ). let n : SeatState = (Table (with_lot v r Kept), (v.base + r, Empty) ∷ carried) in n) (same_place v.base i k e),
+      table_step size s o id k 0 v.offers v none Vacant Fresh me wide at (omega arith)
+          (λ free. vacant refl refl refl (holders_same s.views id p (Table v) (Table (with_state v k Vacant)) me refl ∙ free)) f.1 (λ x job l. cc),
+      λ i e. ap (λ (r : ℕ). let n : SeatState = (Table (with_state v r Vacant), (v.base + r, Empty) ∷ carried) in n) (same_place v.base i k e),
     )
 
-pub offers : (size : BoardSize) (id k : ℕ) (v : TableView) (x : Ticket) (job : Job) (more : List (ℕ × Content)) → get_elem? v.lots k ≡ some Kept → x.table ≡ v.number → x.seq ≡ v.offers
+pub offers : (size : BoardSize) (id k : ℕ) (v : TableView) (x : Ticket) (job : Job) (more : List (ℕ × Content)) → get_elem? v.states k ≡ some Vacant → x.table ≡ v.number → x.seq ≡ v.offers
     → Allows (Orderly size) (count_of size) id (Table v, (v.base + k, Offer x job) ∷ more) (2 + (v.base + k)) (λ _. 1)
     (λ _. offered (step (count_of size) (2 + (v.base + k)) 1 0 none) (Table v, (v.base + k, Offer x job) ∷ more) 1)
-offers size id k v x job more at mine next s o wide me _ = let t = at_lot size s o id k v Kept me at in let p : ℕ = v.base + k in
+offers size id k v x job more at mine next s o wide me _ = let t = at_state size s o id k v Vacant me at in let p : ℕ = v.base + k in
     let u = o.seats id (Table v) me in
-    let f = kept_place (get_or s.words (2 + p) 0) p (get_elem? s.homes p) (o.lots p) s.views t.1 (o.places p t.0) in
+    let f = vacant_place (get_or s.words (2 + p) 0) p (get_elem? s.homes p) (o.states p) s.views t.1 (o.places p t.0) in
     let w : View = Table (offering v k x job) in (
       w,
       gives,
       tt,
-      table_step size s o id k 1 (v.offers + 1) v (some (Offer x job)) (Out x job) Kept me wide at (omega arith)
+      table_step size s o id k 1 (v.offers + 1) v (some (Offer x job)) (Out x job) Vacant me wide at (omega arith)
           (λ free. ready x job refl refl refl (holders_same s.views id p (Table v) w me refl ∙ free)
           (finishes_same s.views id x (Table v) w me refl ∙ o.offered x (let a = ap o.offers mine in let b = u.4 in omega arith)))
           f.1
@@ -87,21 +87,21 @@ lost_table : (size : BoardSize) (s : St) (o : Orderly size s) (id i p : ℕ) (v 
     → Orderly size (board (set s.words i (get_or s.words i 0)) s.homes (set s.views id (Table (table_lost v p))))
 lost_table size s o id i p v me = unmoved size s o id i (Table v) (Table (table_lost v p)) me (λ n. refl) (o.seats id (Table v) me) (λ q. (refl, refl)) (λ x. refl)
 
-pub fetches : (size : BoardSize) (id k : ℕ) (v : TableView) (carried : List (ℕ × Content)) (lot : Lot) (said : Option Content) → get_elem? v.lots k ≡ some lot
+pub fetches : (size : BoardSize) (id k : ℕ) (v : TableView) (carried : List (ℕ × Content)) (state : PlaceState) (said : Option Content) → get_elem? v.states k ≡ some state
     → Allows (Orderly size) (count_of size) id (Table v, carried) (2 + (v.base + k)) (λ n. either (eqb n 3) 0 n)
     (fetched (step (count_of size) (2 + (v.base + k)) 3 0 said) (Table v, carried))
-fetches size id k v carried lot said at s o wide me _ = let t = at_lot size s o id k v lot me at in let p : ℕ = v.base + k in let i : ℕ = 2 + p in
+fetches size id k v carried state said at s o wide me _ = let t = at_state size s o id k v state me at in let p : ℕ = v.base + k in let i : ℕ = 2 + p in
     let then : ℕ → SeatState → Type 0 = fetched (step (count_of size) (2 + (v.base + k)) 3 0 said) (Table v, carried) in
     exchanged (get_or s.words i 0) 3 0 (Goes size s i id (Table v, carried) then)
-    (λ hit. let f = done_place (get_or s.words (2 + p) 0) p (get_elem? s.homes p) (o.lots p) s.views hit (o.places p t.0) in
+    (λ hit. let f = done_place (get_or s.words (2 + p) 0) p (get_elem? s.homes p) (o.states p) s.views hit (o.places p t.0) in
     let piece : Ticketed = f.0 in
-    let listed : get_elem? v.lots k ≡ some (Out piece.ticket piece.job) = at ∙ ap (λ (l : Lot). some l) (sym t.1 ∙ f.2) in (
-      Table (with_lot v k Kept),
+    let listed : get_elem? v.states k ≡ some (Out piece.ticket piece.job) = at ∙ ap (λ (l : PlaceState). some l) (sym t.1 ∙ f.2) in (
+      Table (with_state v k Vacant),
       takes p (Done piece),
       f.1,
-      table_step size s o id k 0 v.offers v none Kept lot me wide at (omega arith)
-          (λ free. kept refl refl refl (holders_same s.views id p (Table v) (Table (with_lot v k Kept)) me refl ∙ free)) f.3 (λ x job l. cc),
-      λ r e. ((λ _. subst (λ (j : ℕ). Fetches (Table v, carried) j (Table (with_lot v k Kept), (v.base + k, Done piece) ∷ carried)) (same_place v.base r k e) (piece, listed, refl)), λ miss. absurd (miss hit)),
+      table_step size s o id k 0 v.offers v none Vacant state me wide at (omega arith)
+          (λ free. vacant refl refl refl (holders_same s.views id p (Table v) (Table (with_state v k Vacant)) me refl ∙ free)) f.3 (λ x job l. cc),
+      λ r e. ((λ _. subst (λ (j : ℕ). Fetches (Table v, carried) j (Table (with_state v k Vacant), (v.base + k, Done piece) ∷ carried)) (same_place v.base r k e) (piece, listed, refl)), λ miss. absurd (miss hit)),
     ))
     (λ miss. (
       Table (table_lost v p),
@@ -117,7 +117,7 @@ pub claims : (size : BoardSize) (id p : ℕ) (v : WorkerView) (carried : List (�
 claims size id p v carried said free near s o wide me _ = let i : ℕ = 2 + p in
     let then : ℕ → SeatState → Type 0 = claimed (step (count_of size) (2 + p) 1 2 said) (Worker v, carried) in
     exchanged (get_or s.words i 0) 1 2 (Goes size s i id (Worker v, carried) then)
-    (λ hit. let f = ready_place (get_or s.words (2 + p) 0) p (get_elem? s.homes p) (o.lots p) s.views hit (o.places p near) in
+    (λ hit. let f = ready_place (get_or s.words (2 + p) 0) p (get_elem? s.homes p) (o.states p) s.views hit (o.places p near) in
     let x : Ticket = f.0 in let job : Job = f.1 in let w : WorkerView = holding v p x job in let vs : List View = set s.views id (Worker w) in
     let others_free : (q : ℕ) → q ≢ p → (is_at q v.held ≡ false) × (is_at q w.held ≡ false) = λ q ne. (ap (is_at q) free, ne_eqb p q (λ e. ne (sym e))) in
     let alone : HeldWith p x job vs = λ j u h at has here. ⊎_elim
@@ -153,11 +153,11 @@ pub finishes_at : (size : BoardSize) (id p : ℕ) (v : WorkerView) (h : Held) (p
 finishes_at size id p v h piece more has here ticket job near s o wide me _ =
     let mine : holds_at p (Worker v) ≡ true = is_holding v h p has here in
     let some_one : 1 ≤ holders p s.views = let a = term_le (λ u. one_if (holds_at p u)) s.views id (Worker v) me in let b = one (holds_at p (Worker v)) mine in omega arith in
-    let f = taken_place (get_or s.words (2 + p) 0) p (get_elem? s.homes p) (o.lots p) s.views some_one (o.places p near) in
+    let f = taken_place (get_or s.words (2 + p) 0) p (get_elem? s.homes p) (o.states p) s.views some_one (o.places p near) in
     let x : Ticket = f.0 in let given = f.4 id v h me has here in
     let e : piece.ticket ≡ x = ticket ∙ given.0 in let d : piece.job ≡ f.1 = job ∙ given.1 in
     let w : WorkerView = having_finished v h.ticket in let vs : List View = set s.views id (Worker w) in
-    let lot : o.lots p ≡ Out piece.ticket piece.job = f.2 ∙ sym (ap (λ (z : Ticket). Out z piece.job) e ∙ ap (λ (z : Job). Out x z) d) in
+    let state : o.states p ≡ Out piece.ticket piece.job = f.2 ∙ sym (ap (λ (z : Ticket). Out z piece.job) e ∙ ap (λ (z : Job). Out x z) d) in
     let none_left : holders p vs ≡ 0 = let c = total-set (λ u. one_if (holds_at p u)) s.views id (Worker v) (Worker w) me in let b = one (holds_at p (Worker v)) mine in let a = f.3 in omega arith in
     let counted : (y : Ticket) → finishes y vs ≡ finishes y s.views + one_if (same_ticket y h.ticket) = λ y. let c = total-set (λ u. times y (finished_of u)) s.views id (Worker v) (Worker w) me in omega (arith, times-push y h.ticket v.finished) in
     let unfinished : finishes h.ticket s.views ≡ 0 = ap (λ (z : Ticket). finishes z s.views) given.0 ∙ f.5 in
@@ -167,7 +167,7 @@ finishes_at size id p v h piece more has here ticket job near s o wide me _ =
       tt,
       worker_step size s o id p 3 v w (some (Done piece)) me wide near (refl, refl)
           (λ q ne. (ap (is_at q) has ∙ ne_eqb h.place q (λ c. ne (sym c ∙ here)), refl))
-          (done piece refl refl lot none_left)
+          (done piece refl refl state none_left)
           (λ q y j ne g l. ⊎_elim (λ (c : (y ≡ h.ticket) × (one_if (same_ticket y h.ticket) ≤ 1)). absurd (ne (o.differ q p y j f.1 g near l (f.2 ∙ ap (λ (z : Ticket). Out z f.1) (sym (c.0 ∙ given.0))))))
           (λ c. let a = times-push y h.ticket v.finished in omega arith) (either_way y))
           (λ y. ⊎_elim
@@ -182,7 +182,7 @@ finishes_at size id p v h piece more has here ticket job near s o wide me _ =
     )
 
 others_halted : (size : BoardSize) (s : St) (o : Orderly size s) (id r : ℕ) (v : StopView) → get_elem? s.views id ≡ some (Stop v) → r ≡ 1
-    → (j : ℕ) (u : View) → get_elem? s.views j ≡ some u → j ≢ id → Seated size o.lots o.offers r u
+    → (j : ℕ) (u : View) → get_elem? s.views j ≡ some u → j ≢ id → Seated size o.states o.offers r u
 others_halted size s o id r v me halt j (Entering about) at ne = o.seats j (Entering about) at
 others_halted size s o id r v me halt j (Table u) at ne = o.seats j (Table u) at
 others_halted size s o id r v me halt j (Worker u) at ne = let t = o.seats j (Worker u) at in (t.0, t.1, λ _. halt)
@@ -191,7 +191,7 @@ others_halted size s o id r v me halt j (Stop u) at ne = let t = o.seats j (Stop
 
 -- a seat gets the next number
 enters : (size : BoardSize) (s : St) (o : Orderly size s) (id i : ℕ) (about : BoardSize) (w : View) → get_elem? s.views id ≡ some (Entering about) → get_or s.words 0 0 ≡ i → i ≤ size.tables + size.workers
-    → ((n : ℕ) → has_number n w ≡ eqb i n) → Seated size o.lots o.offers (get_or s.words 1 0) w → ((q : ℕ) → holds_at q w ≡ false) → ((x : Ticket) → times x (finished_of w) ≡ 0)
+    → ((n : ℕ) → has_number n w ≡ eqb i n) → Seated size o.states o.offers (get_or s.words 1 0) w → ((q : ℕ) → holds_at q w ≡ false) → ((x : Ticket) → times x (finished_of w) ≡ 0)
     → Orderly size (board (set s.words 0 (i + 1)) s.homes (set s.views id w))
 enters size s o id i about w me hit few has mine free none_yet =
     let long = o.sized in let ws : List ℕ = set s.words 0 (i + 1) in
@@ -202,8 +202,8 @@ enters size s o id i about w me hit few has mine free none_yet =
     dite (ℕ_discrete i n)
     (λ e. let y : one_if (eqb i n) ≡ 1 = one (eqb i n) (eq-eqb i n e) in let z = a.1 (omega arith) in (λ _. omega arith, λ h. absurd (omega arith)))
     (λ ne. let y : one_if (eqb i n) ≡ 0 = ap one_if (ne_eqb i n ne) in (λ h. let z = a.0 (omega arith) in omega arith, λ h. let z = a.1 (omega arith) in omega arith)))
-    (subst (λ (r : ℕ). Seated size o.lots o.offers r w) (sym halt) mine)
-    (λ j u at ne. subst (λ (r : ℕ). Seated size o.lots o.offers r u) (sym halt) (o.seats j u at))
+    (subst (λ (r : ℕ). Seated size o.states o.offers r w) (sym halt) mine)
+    (λ j u at ne. subst (λ (r : ℕ). Seated size o.states o.offers r u) (sym halt) (o.seats j u at))
     (λ q. (refl, free q)) (λ x. none_yet x) (omega arith) (λ h. halt ∙ o.unstopped (omega arith))
 
 -- nothing was said, and the seat is as before
@@ -220,7 +220,7 @@ enters_table size id i carried said few s o wide me _ = let then : ℕ → SeatS
       keeps,
       tt,
       enters size s o id i size (Table (new_table i size)) me hit (omega arith) (λ n. refl)
-          (few, refl, length-replicate size.places Fresh, (λ k lot at. let c = replicate_is size.places Fresh k lot at in u.1 k c.0 ∙ c.1), sym u.0) (λ q. refl) (λ x. refl),
+          (few, refl, length-replicate size.places Fresh, (λ k state at. let c = replicate_is size.places Fresh k state at in u.1 k c.0 ∙ c.1), sym u.0) (λ q. refl) (λ x. refl),
       (λ _. ap (λ (r : ℕ). let n : SeatState = (Table (new_table r size), carried) in n) (sym hit), λ miss. absurd (miss hit)),
     ))
     (λ miss. (Entering size, keeps, tt, kept_out size s o id 0 size me, (λ hit. absurd (miss hit), λ _. refl)))
@@ -259,7 +259,7 @@ halts size id v carried s o wide me _ =
     let t = o.seats id (Stop v) me in let low = below_roll size s o id v.number (Stop v) me (eq-eqb v.number v.number refl) in
     let roll : get_or ws 0 0 ≡ get_or s.words 0 0 = get_or-set_other s.words 1 0 1 0 (λ e. omega arith) in
     let halt : get_or ws 1 0 ≡ 1 = get_or-set_same s.words 1 1 0 (omega arith) in
-    let others : (j : ℕ) (u : View) → get_elem? s.views j ≡ some u → j ≢ id → Seated size o.lots o.offers (get_or ws 1 0) u = λ j u at ne. others_halted size s o id (get_or ws 1 0) v me halt j u at ne in (
+    let others : (j : ℕ) (u : View) → get_elem? s.views j ≡ some u → j ≢ id → Seated size o.states o.offers (get_or ws 1 0) u = λ j u at ne. others_halted size s o id (get_or ws 1 0) v me halt j u at ne in (
       Stop w,
       keeps,
       tt,
@@ -284,26 +284,26 @@ looks size id v carried free s o wide me _ = let r : ℕ = get_or s.words 1 0 in
 longer : {A : Type 0} (g : A → ℕ) (l : List A) (a : A) → g a ≡ 0 → total g (l ++ a ∷ []) ≡ total g l
 longer g l a e = omega (arith, total-append g l (a ∷ []))
 
-more_views : (word p : ℕ) (home : Option (Option Content)) (lot : Lot) (vs : List View) (about : BoardSize) → Standing word home lot p vs → Standing word home lot p (vs ++ Entering about ∷ [])
-more_views word p home lot vs about (fresh e h l n) = fresh e h l (longer (λ u. one_if (holds_at p u)) vs (Entering about) refl ∙ n)
-more_views word p home lot vs about (kept e h l n) = kept e h l (longer (λ u. one_if (holds_at p u)) vs (Entering about) refl ∙ n)
-more_views word p home lot vs about (ready x job e h l n z) = ready x job e h l (longer (λ u. one_if (holds_at p u)) vs (Entering about) refl ∙ n) (longer (λ u. times x (finished_of u)) vs (Entering about) refl ∙ z)
-more_views word p home lot vs about (taken x job e h l n held z) = taken x job e h l (longer (λ u. one_if (holds_at p u)) vs (Entering about) refl ∙ n)
+more_views : (word p : ℕ) (home : Option (Option Content)) (state : PlaceState) (vs : List View) (about : BoardSize) → Standing word home state p vs → Standing word home state p (vs ++ Entering about ∷ [])
+more_views word p home state vs about (fresh e h l n) = fresh e h l (longer (λ u. one_if (holds_at p u)) vs (Entering about) refl ∙ n)
+more_views word p home state vs about (vacant e h l n) = vacant e h l (longer (λ u. one_if (holds_at p u)) vs (Entering about) refl ∙ n)
+more_views word p home state vs about (ready x job e h l n z) = ready x job e h l (longer (λ u. one_if (holds_at p u)) vs (Entering about) refl ∙ n) (longer (λ u. times x (finished_of u)) vs (Entering about) refl ∙ z)
+more_views word p home state vs about (taken x job e h l n held z) = taken x job e h l (longer (λ u. one_if (holds_at p u)) vs (Entering about) refl ∙ n)
     (λ i u y at has here. ⊎_elim (λ b. held i u y b has here) (λ (b : Entering about ≡ Worker u). cc) (at_snoc vs (Entering about) (Worker u) i at))
     (longer (λ u. times x (finished_of u)) vs (Entering about) refl ∙ z)
-more_views word p home lot vs about (done piece e h l n) = done piece e h l (longer (λ u. one_if (holds_at p u)) vs (Entering about) refl ∙ n)
+more_views word p home state vs about (done piece e h l n) = done piece e h l (longer (λ u. one_if (holds_at p u)) vs (Entering about) refl ∙ n)
 
 pub splits : (size : BoardSize) (id : ℕ) → Splits (Orderly size) id (Entering size) (Entering size) (Entering size)
 splits size id s o me = let w : View = Entering size in subst (λ (vs : List View). Orderly size (board s.words s.homes (vs ++ w ∷ []))) (sym (set_again s.views id w me)) (record {
-  lots = o.lots;
+  states = o.states;
   offers = o.offers;
   sized = o.sized;
   numbers = λ n. subst (λ (c : ℕ). (n < get_or s.words 0 0 → c ≡ 1) × (get_or s.words 0 0 ≤ n → c ≡ 0)) (sym (longer (λ u. one_if (has_number n u)) s.views w refl)) (o.numbers n);
-  seats = λ j u at. ⊎_elim (λ b. o.seats j u b) (λ (b : w ≡ u). subst (Seated size o.lots o.offers (get_or s.words 1 0)) b refl) (at_snoc s.views w u j at);
+  seats = λ j u at. ⊎_elim (λ b. o.seats j u b) (λ (b : w ≡ u). subst (Seated size o.states o.offers (get_or s.words 1 0)) b refl) (at_snoc s.views w u j at);
   unentered = o.unentered;
   strange = o.strange;
   unstopped = o.unstopped;
-  places = λ p h. more_views (get_or s.words (2 + p) 0) p (get_elem? s.homes p) (o.lots p) s.views size (o.places p h);
+  places = λ p h. more_views (get_or s.words (2 + p) 0) p (get_elem? s.homes p) (o.states p) s.views size (o.places p h);
   own = o.own;
   differ = o.differ;
   once = λ x. let e = longer (λ u. times x (finished_of u)) s.views w refl in let a = o.once x in omega arith;
@@ -315,7 +315,7 @@ opens size ws xs e d =
     let zero_at : (i : ℕ) → get_or ws i 0 ≡ 0 = λ i. ap (λ (l : List ℕ). get_or l i 0) e ∙ zeros (2 + count_of size) i in
     let roll = zero_at 0 in
     record {
-      lots = λ _. Fresh;
+      states = λ _. Fresh;
       offers = λ _. 0;
       sized = ap length e ∙ length-replicate (2 + count_of size) 0;
       numbers = λ n. (λ h. absurd (omega arith), λ h. refl);
@@ -335,23 +335,23 @@ along_me : (P : BoardSize → ℕ → ℕ → SeatState → Type 0) (key size : 
 along_me P key size slots n word i m m' a b c d p = subst (λ (x : BoardSize). P x slots word m) (sym a) (subst (λ (x : ℕ). P size x word m) (sym b) (subst (λ (x : ℕ). P size n x m) (sym c) (subst (λ (x : SeatState). P size n i x) (sym d) p)))
 
 module _ (key size : BoardSize) (slots id word : ℕ) (m : SeatState) (keyed : key ≡ size) (sized : slots ≡ count_of size) where
-  pub may_take_up : (k : ℕ) → m.0 ≡ Table (table_of m.0) → word ≡ 2 + ((table_of m.0).base + k) → get_elem? (table_of m.0).lots k ≡ some Fresh
+  pub may_take_up : (k : ℕ) → m.0 ≡ Table (table_of m.0) → word ≡ 2 + ((table_of m.0).base + k) → get_elem? (table_of m.0).states k ≡ some Fresh
       → Allows (Orderly key) slots id m word (λ _. 0) (λ _. took_up (step slots word 0 0 none) m 0)
-  may_take_up k is at lot = let v : TableView = table_of m.0 in
+  may_take_up k is at state = let v : TableView = table_of m.0 in
       along_me (λ a n i y. Allows (Orderly a) n id y i (λ _. 0) (λ _. took_up (step n i 0 0 none) y 0)) key size slots (count_of size) word (2 + (v.base + k)) m (Table v, m.1) keyed sized at (λ i. (is i, m.1))
-      (takes_up size id k v m.1 lot)
+      (takes_up size id k v m.1 state)
 
-  pub may_offer : (k : ℕ) (v : TableView) (x : Ticket) (job : Job) (more : List (ℕ × Content)) → m ≡ (Table v, (v.base + k, Offer x job) ∷ more) → word ≡ 2 + (v.base + k) → get_elem? v.lots k ≡ some Kept → x.table ≡ v.number → x.seq ≡ v.offers
+  pub may_offer : (k : ℕ) (v : TableView) (x : Ticket) (job : Job) (more : List (ℕ × Content)) → m ≡ (Table v, (v.base + k, Offer x job) ∷ more) → word ≡ 2 + (v.base + k) → get_elem? v.states k ≡ some Vacant → x.table ≡ v.number → x.seq ≡ v.offers
       → Allows (Orderly key) slots id m word (λ _. 1) (λ _. offered (step slots word 1 0 none) m 1)
-  may_offer k v x job more is at lot mine next =
+  may_offer k v x job more is at state mine next =
       along_me (λ a n i y. Allows (Orderly a) n id y i (λ _. 1) (λ _. offered (step n i 1 0 none) y 1)) key size slots (count_of size) word (2 + (v.base + k)) m (Table v, (v.base + k, Offer x job) ∷ more) keyed sized at is
-      (offers size id k v x job more lot mine next)
+      (offers size id k v x job more state mine next)
 
-  pub may_fetch : (k : ℕ) (lot : Lot) → m.0 ≡ Table (table_of m.0) → word ≡ 2 + ((table_of m.0).base + k) → get_elem? (table_of m.0).lots k ≡ some lot
+  pub may_fetch : (k : ℕ) (state : PlaceState) → m.0 ≡ Table (table_of m.0) → word ≡ 2 + ((table_of m.0).base + k) → get_elem? (table_of m.0).states k ≡ some state
       → Allows (Orderly key) slots id m word (λ n. either (eqb n 3) 0 n) (fetched (step slots word 3 0 none) m)
-  may_fetch k lot is at has = let v : TableView = table_of m.0 in
+  may_fetch k state is at has = let v : TableView = table_of m.0 in
       along_me (λ a n i y. Allows (Orderly a) n id y i (λ z. either (eqb z 3) 0 z) (fetched (step n i 3 0 none) y)) key size slots (count_of size) word (2 + (v.base + k)) m (Table v, m.1) keyed sized at (λ i. (is i, m.1))
-      (fetches size id k v m.1 lot none has)
+      (fetches size id k v m.1 state none has)
 
   pub may_claim : (p : ℕ) → m.0 ≡ Worker (worker_of m.0) → word ≡ 2 + p → (worker_of m.0).held ≡ None → p < slots
       → Allows (Orderly key) slots id m word (λ n. either (eqb n 1) 2 n) (claimed (step slots word 1 2 none) m)

@@ -9,7 +9,7 @@ use Rattle.desk_core.specs.declared.ticket.Ticket.{Ticket}
 use Rattle.riichi_hand.specs.declared.job.Job.{Job}
 use Rattle.desk_run.specs.declared.content.Content.TheVariants.{Empty, Offer}
 use Rattle.desk_run.specs.declared.held.Held.{Held}
-use Rattle.desk_run.specs.declared.lot.Lot.TheVariants.{Out}
+use Rattle.desk_run.specs.declared.place_state.PlaceState.TheVariants.{Out}
 
 module _ {A : Type 0} (g : A → ℕ) where
   pub total-append : (l m : List A) → total g (l ++ m) ≡ total g l + total g m

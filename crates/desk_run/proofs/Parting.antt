@@ -6,7 +6,7 @@ use Rattle.atomic_table.proofs.Lists.{at_longer, at_last}
 use Rattle.atomic_table.specs.Seated.{TableId}
 use Rattle.desk_run.specs.Parts.{IsNewTable, AreNewTables, IsNewWorker, AreNewWorkers}
 use Rattle.desk_run.specs.SeatStates.{TableState, WorkerState}
-use Rattle.desk_run.proofs.Bookkeeping.{at_push}
+use Rattle.desk_run.proofs.LanePlaces.{at_push}
 
 pub more_tables : (id : TableId) (places n : ℕ) (ts us : List TableState) (t : TableState) → AreNewTables id places ts → length ts ≡ n → IsNewTable id places n t → us ≡ ts ++ t ∷ [] → AreNewTables id places us
 more_tables id places n ts us t old many new e i u at = ⊎_elim (λ (h : (i < length ts) × (get_elem? ts i ≡ some u)). old i u h.1)

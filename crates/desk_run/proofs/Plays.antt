@@ -17,15 +17,15 @@ use Rattle.desk_core.specs.declared.arrived.Arrived.TheVariants as arrived
 use Rattle.desk_core.specs.declared.event.Event.TheVariants.{Arrive}
 use Rattle.desk_core.specs.declared.reply.Reply.TheVariants as reply
 use Rattle.std.specs.Prelude.{MatchBool}
-use Rattle.desk_run.specs.Books.{is_withdrawn}
+use Rattle.desk_run.specs.LanePlaces.{is_withdrawn}
 use Rattle.desk_run.specs.Sitting.{Receives, AreFetched, Collects}
-use Rattle.desk_run.specs.declared.lot.Lot.{Lot}
-use Rattle.desk_run.specs.declared.lot.Lot.TheVariants.{Kept}
+use Rattle.desk_run.specs.declared.place_state.PlaceState.{PlaceState}
+use Rattle.desk_run.specs.declared.place_state.PlaceState.TheVariants.{Vacant}
 use Rattle.atomic_table.specs.Seated.{TableId}
 use Rattle.atomic_table.proofs.Lists.{set_else}
 use Rattle.desk_run.specs.Parts.{IsNewTable, AreNewTables}
 use Rattle.desk_run.specs.SeatStates.{TableState}
-use Rattle.desk_run.proofs.Bookkeeping.{some_at}
+use Rattle.desk_run.proofs.LanePlaces.{some_at}
 use Rattle.std.specs.Global.{Vec}
 use Rattle.desk_run.specs.Runs.{AreValues}
 
@@ -93,12 +93,12 @@ played_received lane new jobs n answers piece r b =
     let accepted = subst (λ (gone : Bool). MatchBool gone ((new ≡ lane) × IsStep lane (Arrive piece) (reply.Arrived arrived.Withdrawn) new) (TakesInPiece lane piece new × IsStep lane (Arrive piece) (reply.Arrived arrived.Accepted) new)) live r in
     played_taken_in lane new jobs n answers piece accepted.0 b
 
-played_fetched : (ps : List Ticketed) (lane new : LaneState) (lots more : List Lot) (jobs : List Job) (n : ℕ) (answers : List Answer) → AreFetched ps lane lots new more → IsPlayed lane jobs n answers → IsPlayed new jobs n answers
-played_fetched [] lane new lots more jobs n answers f b = played_same lane new jobs n answers f.0 b
-played_fetched (p ∷ ps) lane new lots more jobs n answers f b = played_fetched ps f.1 new (set lots f.0 Kept) more jobs n answers f.4 (played_received lane f.1 jobs n answers p f.3 b)
+played_fetched : (ps : List Ticketed) (lane new : LaneState) (states more : List PlaceState) (jobs : List Job) (n : ℕ) (answers : List Answer) → AreFetched ps lane states new more → IsPlayed lane jobs n answers → IsPlayed new jobs n answers
+played_fetched [] lane new states more jobs n answers f b = played_same lane new jobs n answers f.0 b
+played_fetched (p ∷ ps) lane new states more jobs n answers f b = played_fetched ps f.1 new (set states f.0 Vacant) more jobs n answers f.4 (played_received lane f.1 jobs n answers p f.3 b)
 
-pub played_collected : (count : ℕ) (lane new : LaneState) (lots more : List Lot) (jobs : List Job) (n : ℕ) (answers : List Answer) → Collects count lane lots new more → IsPlayed lane jobs n answers → IsPlayed new jobs n answers
-played_collected count lane new lots more jobs n answers c b = played_fetched c.0 lane new lots more jobs n answers c.2 b
+pub played_collected : (count : ℕ) (lane new : LaneState) (states more : List PlaceState) (jobs : List Job) (n : ℕ) (answers : List Answer) → Collects count lane states new more → IsPlayed lane jobs n answers → IsPlayed new jobs n answers
+played_collected count lane new states more jobs n answers c b = played_fetched c.0 lane new states more jobs n answers c.2 b
 
 no_count : (count : ℕ) (lane : LaneState) → lane.withdrawn ≡ [] → ((i : ℕ) → i < count → is_among lane.withdrawn (lane.next + i) ≡ true) → count ≡ 0
 no_count zero lane none each = refl

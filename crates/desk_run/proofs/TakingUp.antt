@@ -6,21 +6,21 @@ use mathlib.Core.Option.{some, some-injective, some-ne-none}
 use lib.ListN.{get_elem?}
 use Rattle.atomic_table.proofs.Lists.{set_here, set_else}
 use Rattle.desk_core.specs.LaneState.{LaneState, new_lane}
-use Rattle.desk_run.specs.Books.{Agrees, outs, one_out}
-use Rattle.desk_run.specs.declared.lot.Lot.{Lot}
-use Rattle.desk_run.specs.declared.lot.Lot.TheVariants.{Fresh, Kept, Out}
+use Rattle.desk_run.specs.LanePlaces.{Agrees, outs, one_out}
+use Rattle.desk_run.specs.declared.place_state.PlaceState.{PlaceState}
+use Rattle.desk_run.specs.declared.place_state.PlaceState.TheVariants.{Fresh, Vacant, Out}
 use Rattle.desk_run.proofs.Lists.{total-set, term_le}
-use Rattle.desk_run.proofs.Bookkeeping.{at_push}
+use Rattle.desk_run.proofs.LanePlaces.{at_push}
 
--- the first n places are kept, and the others not yet taken up
-pub record TakenUp (n : ℕ) (lots : List Lot) (kept : List ℕ) : Type 0 where
-  pub kept_are : (i k : ℕ) → get_elem? kept i ≡ some k → get_elem? lots k ≡ some Kept
-  pub once : (i j k : ℕ) → get_elem? kept i ≡ some k → get_elem? kept j ≡ some k → i ≡ j
-  pub below : (i k : ℕ) → get_elem? kept i ≡ some k → k < n
-  pub up : (j : ℕ) → j < n → get_elem? lots j ≡ some Kept
-  pub none_out : outs lots ≡ 0
-  pub fresh : (j : ℕ) → n ≤ j → j < length lots → get_elem? lots j ≡ some Fresh
-  pub many : length kept ≡ n
+-- the first n places are vacant, and the others not yet taken up
+pub record TakenUp (n : ℕ) (states : List PlaceState) (vacant : List ℕ) : Type 0 where
+  pub vacant_are : (i k : ℕ) → get_elem? vacant i ≡ some k → get_elem? states k ≡ some Vacant
+  pub once : (i j k : ℕ) → get_elem? vacant i ≡ some k → get_elem? vacant j ≡ some k → i ≡ j
+  pub below : (i k : ℕ) → get_elem? vacant i ≡ some k → k < n
+  pub up : (j : ℕ) → j < n → get_elem? states j ≡ some Vacant
+  pub none_out : outs states ≡ 0
+  pub fresh : (j : ℕ) → n ≤ j → j < length states → get_elem? states j ≡ some Fresh
+  pub many : length vacant ≡ n
 
 no_outs : (n : ℕ) → outs (replicate n Fresh) ≡ 0
 no_outs zero = refl
@@ -31,9 +31,9 @@ all_fresh zero j h = absurd (omega arith)
 all_fresh (suc n) zero h = refl
 all_fresh (suc n) (suc j) h = all_fresh n j (omega arith)
 
-pub none_up : (n : ℕ) (lots : List Lot) → lots ≡ replicate n Fresh → TakenUp 0 lots []
-none_up n lots e = subst (λ (l : List Lot). TakenUp 0 l []) (sym e) (record {
-  kept_are = λ i k h. absurd (some-ne-none k (sym h));
+pub none_up : (n : ℕ) (states : List PlaceState) → states ≡ replicate n Fresh → TakenUp 0 states []
+none_up n states e = subst (λ (l : List PlaceState). TakenUp 0 l []) (sym e) (record {
+  vacant_are = λ i k h. absurd (some-ne-none k (sym h));
   once = λ i j k h g. absurd (some-ne-none k (sym h));
   below = λ i k h. absurd (some-ne-none k (sym h));
   up = λ j h. absurd (omega arith);
@@ -42,22 +42,22 @@ none_up n lots e = subst (λ (l : List Lot). TakenUp 0 l []) (sym e) (record {
   many = refl;
 })
 
-pub one_up : (n : ℕ) (lots : List Lot) (kept : List ℕ) → n < length lots → TakenUp n lots kept → TakenUp (n + 1) (set lots n Kept) (kept ++ n ∷ [])
-one_up n lots kept near b = record {
-  kept_are = λ i k e. ⊎_elim (λ (h : (i < length kept) × (get_elem? kept i ≡ some k)). let l = b.below i k h.1 in set_else lots n k Kept (λ same. omega arith) ∙ b.kept_are i k h.1)
-      (λ (h : (i ≡ length kept) × (n ≡ k)). subst (λ (m : ℕ). get_elem? (set lots n Kept) m ≡ some Kept) h.1 (set_here lots n Kept near)) (at_push kept n k i e);
+pub one_up : (n : ℕ) (states : List PlaceState) (vacant : List ℕ) → n < length states → TakenUp n states vacant → TakenUp (n + 1) (set states n Vacant) (vacant ++ n ∷ [])
+one_up n states vacant near b = record {
+  vacant_are = λ i k e. ⊎_elim (λ (h : (i < length vacant) × (get_elem? vacant i ≡ some k)). let l = b.below i k h.1 in set_else states n k Vacant (λ same. omega arith) ∙ b.vacant_are i k h.1)
+      (λ (h : (i ≡ length vacant) × (n ≡ k)). subst (λ (m : ℕ). get_elem? (set states n Vacant) m ≡ some Vacant) h.1 (set_here states n Vacant near)) (at_push vacant n k i e);
   once = λ i j k e d. ⊎_elim
-      (λ (h : (i < length kept) × (get_elem? kept i ≡ some k)). ⊎_elim (λ (g : (j < length kept) × (get_elem? kept j ≡ some k)). b.once i j k h.1 g.1)
-      (λ (g : (j ≡ length kept) × (n ≡ k)). let l = b.below i k h.1 in let s = g.1 in absurd (omega arith)) (at_push kept n k j d))
-      (λ (h : (i ≡ length kept) × (n ≡ k)). ⊎_elim (λ (g : (j < length kept) × (get_elem? kept j ≡ some k)). let l = b.below j k g.1 in let s = h.1 in absurd (omega arith))
-      (λ (g : (j ≡ length kept) × (n ≡ k)). h.0 ∙ sym g.0) (at_push kept n k j d))
-      (at_push kept n k i e);
-  below = λ i k e. ⊎_elim (λ (h : (i < length kept) × (get_elem? kept i ≡ some k)). let l = b.below i k h.1 in omega arith) (λ (h : (i ≡ length kept) × (n ≡ k)). let s = h.1 in omega arith) (at_push kept n k i e);
-  up = λ j h. dite (ℕ_discrete j n) (λ e. subst (λ (m : ℕ). get_elem? (set lots n Kept) m ≡ some Kept) (sym e) (set_here lots n Kept near))
-      (λ ne. set_else lots n j Kept ne ∙ b.up j (omega arith));
-  none_out = let f = b.fresh n (omega arith) near in let c = total-set one_out lots n Fresh Kept f in let z = b.none_out in omega arith;
-  fresh = λ j h g. set_else lots n j Kept (λ same. omega arith) ∙ b.fresh j (omega arith) (omega (arith, length-set lots n Kept));
-  many = let m = b.many in omega (arith, length-append kept (n ∷ []));
+      (λ (h : (i < length vacant) × (get_elem? vacant i ≡ some k)). ⊎_elim (λ (g : (j < length vacant) × (get_elem? vacant j ≡ some k)). b.once i j k h.1 g.1)
+      (λ (g : (j ≡ length vacant) × (n ≡ k)). let l = b.below i k h.1 in let s = g.1 in absurd (omega arith)) (at_push vacant n k j d))
+      (λ (h : (i ≡ length vacant) × (n ≡ k)). ⊎_elim (λ (g : (j < length vacant) × (get_elem? vacant j ≡ some k)). let l = b.below j k g.1 in let s = h.1 in absurd (omega arith))
+      (λ (g : (j ≡ length vacant) × (n ≡ k)). h.0 ∙ sym g.0) (at_push vacant n k j d))
+      (at_push vacant n k i e);
+  below = λ i k e. ⊎_elim (λ (h : (i < length vacant) × (get_elem? vacant i ≡ some k)). let l = b.below i k h.1 in omega arith) (λ (h : (i ≡ length vacant) × (n ≡ k)). let s = h.1 in omega arith) (at_push vacant n k i e);
+  up = λ j h. dite (ℕ_discrete j n) (λ e. subst (λ (m : ℕ). get_elem? (set states n Vacant) m ≡ some Vacant) (sym e) (set_here states n Vacant near))
+      (λ ne. set_else states n j Vacant ne ∙ b.up j (omega arith));
+  none_out = let f = b.fresh n (omega arith) near in let c = total-set one_out states n Fresh Vacant f in let z = b.none_out in omega arith;
+  fresh = λ j h g. set_else states n j Vacant (λ same. omega arith) ∙ b.fresh j (omega arith) (omega (arith, length-set states n Vacant));
+  many = let m = b.many in omega (arith, length-append vacant (n ∷ []));
 }
 
 all_alike : {A : Type 0} (n : ℕ) (l : List A) (a : A) → length l ≡ n → ((j : ℕ) → j < n → get_elem? l j ≡ some a) → l ≡ replicate n a
@@ -66,15 +66,15 @@ all_alike {A} zero (x ∷ xs) a e f = absurd (omega arith)
 all_alike {A} (suc n) [] a e f = absurd (omega arith)
 all_alike {A} (suc n) (x ∷ xs) a e f = ap (λ (y : A). y ∷ xs) (some-injective x a (f 0 (omega arith))) ∙ ap (λ (l : List A). a ∷ l) (all_alike n xs a (omega arith) (λ j h. f (suc j) (omega arith)))
 
-pub all_kept : (n : ℕ) (lots : List Lot) (kept : List ℕ) → length lots ≡ n → TakenUp n lots kept → lots ≡ replicate n Kept
-all_kept n lots kept e b = all_alike n lots Kept e b.up
+pub all_vacant : (n : ℕ) (states : List PlaceState) (vacant : List ℕ) → length states ≡ n → TakenUp n states vacant → states ≡ replicate n Vacant
+all_vacant n states vacant e b = all_alike n states Vacant e b.up
 
-pub all_up : (lane : LaneState) (t n : ℕ) (lots : List Lot) (kept : List ℕ) → lane ≡ new_lane t → n ≡ length lots → TakenUp n lots kept → Agrees lane lots kept
-all_up lane t n lots kept new e b = subst (λ (l : LaneState). Agrees l lots kept) (sym new) (record {
-  kept_are = b.kept_are;
+pub all_up : (lane : LaneState) (t n : ℕ) (states : List PlaceState) (vacant : List ℕ) → lane ≡ new_lane t → n ≡ length states → TakenUp n states vacant → Agrees lane states vacant
+all_up lane t n states vacant new e b = subst (λ (l : LaneState). Agrees l states vacant) (sym new) (record {
+  vacant_are = b.vacant_are;
   once = b.once;
   counted = let m = b.many in let z = b.none_out in omega arith;
-  own = λ k x job at. let c = term_le one_out lots k (Out x job) at in let z = b.none_out in absurd (omega arith);
-  pending = λ k x job at still. let c = term_le one_out lots k (Out x job) at in let z = b.none_out in absurd (omega arith);
+  own = λ k x job at. let c = term_le one_out states k (Out x job) at in let z = b.none_out in absurd (omega arith);
+  pending = λ k x job at still. let c = term_le one_out states k (Out x job) at in let z = b.none_out in absurd (omega arith);
   listed = λ i job at still. absurd (some-ne-none _ (sym at));
 })

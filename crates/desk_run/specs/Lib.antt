@@ -3,7 +3,7 @@ pub mod Views
 pub mod Rule
 pub mod Plays
 pub mod Seats
-pub mod Books
+pub mod LanePlaces
 pub mod Offers
 pub mod Sitting
 pub mod SeatStates

@@ -4,7 +4,7 @@ use mathlib.Core.Option as ghost_option
 use lib.ListN.{get_elem?}
 use Rattle.desk_core.specs.LaneState.{new_lane}
 use Rattle.atomic_table.specs.Seated.{TableId}
-use Rattle.desk_run.specs.Books.{outs}
+use Rattle.desk_run.specs.LanePlaces.{outs}
 use Rattle.desk_run.specs.SeatStates.{TableState, WorkerState}
 
 -- 1 to 64 tables, 1 to 16 workers, and 1 to 32 places for each table
@@ -15,7 +15,7 @@ IsInRange tables workers places =
 -- table i of the board: its lane is new, none of its places is out, and they stand after those of the tables before it
 abbrev pub IsNewTable : TableId → ℕ → ℕ → TableState → Type 0
 IsNewTable id places i t =
-    (t.board ≡ id) × (t.lane ≡ new_lane i) × (outs t.lots ≡ 0) × (length t.lots ≡ places) × (t.base ≡ i * places)
+    (t.board ≡ id) × (t.lane ≡ new_lane i) × (outs t.states ≡ 0) × (length t.states ≡ places) × (t.base ≡ i * places)
 
 abbrev pub AreNewTables : TableId → ℕ → List TableState → Type 0
 AreNewTables id places tables = (i : ℕ) (t : TableState) → get_elem? tables i ≡ ghost_option.some t → IsNewTable id places i t

@@ -4,14 +4,14 @@ use mathlib.Core.Option as ghost_option
 use lib.ListN.{get_elem?}
 use Rattle.atomic_table.specs.Table.{Me, Step, rest}
 use Rattle.desk_run.specs.Counts.{times}
-use Rattle.desk_run.specs.Views.{new_table, new_worker, with_lot, offering, table_lost, holding, worker_lost, having_finished, looking}
+use Rattle.desk_run.specs.Views.{new_table, new_worker, with_state, offering, table_lost, holding, worker_lost, having_finished, looking}
 use Rattle.desk_core.specs.declared.ticket.Ticket.{Ticket}
 use Rattle.riichi_hand.specs.declared.job.Job.{Job}
 use Rattle.desk_core.specs.Ticketed.{Ticketed}
 use Rattle.desk_run.specs.declared.content.Content.{Content}
 use Rattle.desk_run.specs.declared.content.Content.TheVariants.{Empty, Offer, Done}
 use Rattle.desk_run.specs.declared.size.BoardSize.{BoardSize}
-use Rattle.desk_run.specs.declared.lot.Lot.TheVariants.{Kept, Out}
+use Rattle.desk_run.specs.declared.place_state.PlaceState.TheVariants.{Vacant, Out}
 use Rattle.desk_run.specs.declared.held.Held.{Held}
 use Rattle.desk_run.specs.declared.view.TableView.{TableView}
 use Rattle.desk_run.specs.declared.view.WorkerView.{WorkerView}
@@ -62,7 +62,7 @@ abbrev pub entered_stop : Play
 entered_stop st m r n = (r ≡ st.first → n ≡ (Stop (record { number = r; knows_stop = false }), m.1)) × (r ≢ st.first → n ≡ m)
 
 abbrev pub took_up : Play
-took_up st m r n = (k : ℕ) → let v = table_of m.0 in st.word ≡ 2 + (v.base + k) → n ≡ (Table (with_lot v k Kept), (v.base + k, Empty) ∷ m.1)
+took_up st m r n = (k : ℕ) → let v = table_of m.0 in st.word ≡ 2 + (v.base + k) → n ≡ (Table (with_state v k Vacant), (v.base + k, Empty) ∷ m.1)
 
 -- the offer at the front of the seat's slots has gone home
 abbrev pub offered : Play
@@ -80,7 +80,11 @@ finished st m r n = (h : Held) → let v = worker_of m.0 in v.held ≡ Some h �
 
 -- the piece for the ticket that was out at the place, with its job
 abbrev pub Fetches : SeatState → ℕ → SeatState → Type 0
-Fetches m k n = (piece : Ticketed) × (get_elem? (table_of m.0).lots k ≡ ghost_option.some (Out piece.ticket piece.job)) × (n ≡ (Table (with_lot (table_of m.0) k Kept), ((table_of m.0).base + k, Done piece) ∷ m.1))
+Fetches m k n = (piece : Ticketed) × (get_elem? (table_of m.0).states k ≡ ghost_option.some (Out piece.ticket piece.job)) × (n ≡ (Table (with_state (table_of m.0) k Vacant), ((table_of m.0).base + k, Done piece) ∷ m.1))
+
+-- the same, where the table's place k is this place of the board
+abbrev pub FetchesAt : SeatState → ℕ → ℕ → SeatState → Type 0
+FetchesAt m place k n = Fetches m k n × (place ≡ (table_of m.0).base + k)
 
 abbrev pub fetched : Play
 fetched st m r n = (k : ℕ) → let v = table_of m.0 in st.word ≡ 2 + (v.base + k) → (r ≡ st.first → Fetches m k n) × (r ≢ st.first → n ≡ (Table (table_lost v (v.base + k)), m.1))

@@ -4,14 +4,14 @@ use Rattle.atomic_table.specs.Seated.{TableId}
 use Rattle.desk_core.specs.LaneState.{LaneState}
 use Rattle.desk_core.specs.declared.ticket.Ticket.{Ticket}
 use Rattle.desk_run.specs.Plays.{SeatState, table_of, worker_of, stop_of}
-use Rattle.desk_run.specs.declared.lot.Lot.{Lot}
+use Rattle.desk_run.specs.declared.place_state.PlaceState.{PlaceState}
 
 -- a table's seat: its board, its lane, what is at each of its places, the first of these places on
 -- the board, and the places of the board where it found no piece
 pub record TableState : Type 0 where
   pub board : TableId
   pub lane : LaneState
-  pub lots : List Lot
+  pub states : List PlaceState
   pub base : ℕ
   pub lost : List ℕ
 
@@ -31,8 +31,8 @@ pub record StopState : Type 0 where
 
 -- these states, as the seats have them
 
-abbrev pub table_state : TableId → SeatState → ℕ → LaneState → List Lot → TableState
-table_state board m base lane lots = record { board = board; lane = lane; lots = lots; base = base; lost = (table_of m.0).lost }
+abbrev pub table_state : TableId → SeatState → ℕ → LaneState → List PlaceState → TableState
+table_state board m base lane states = record { board = board; lane = lane; states = states; base = base; lost = (table_of m.0).lost }
 
 abbrev pub worker_state : TableId → SeatState → WorkerState
 worker_state board m = let v = worker_of m.0 in

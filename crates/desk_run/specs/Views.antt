@@ -4,8 +4,8 @@ use Rattle.desk_run.specs.Counts.{total, one_if, times}
 use Rattle.desk_core.specs.declared.ticket.Ticket.{Ticket}
 use Rattle.riichi_hand.specs.declared.job.Job.{Job}
 use Rattle.desk_run.specs.declared.size.BoardSize.{BoardSize}
-use Rattle.desk_run.specs.declared.lot.Lot.{Lot}
-use Rattle.desk_run.specs.declared.lot.Lot.TheVariants.{Fresh, Out}
+use Rattle.desk_run.specs.declared.place_state.PlaceState.{PlaceState}
+use Rattle.desk_run.specs.declared.place_state.PlaceState.TheVariants.{Fresh, Out}
 use Rattle.desk_run.specs.declared.held.Held.{Held}
 use Rattle.desk_run.specs.declared.view.TableView.{TableView}
 use Rattle.desk_run.specs.declared.view.WorkerView.{WorkerView}
@@ -49,20 +49,20 @@ abbrev pub finishes : Ticket → List View → ℕ
 finishes x views = total (λ v. times x (finished_of v)) views
 
 abbrev pub new_table : ℕ → BoardSize → TableView
-new_table n size = record { number = n; base = n * size.places; lots = replicate size.places Fresh; offers = 0; lost = [] }
+new_table n size = record { number = n; base = n * size.places; states = replicate size.places Fresh; offers = 0; lost = [] }
 
 abbrev pub new_worker : ℕ → WorkerView
 new_worker n = record { number = n; held = None; finished = []; lost = []; looks = 0; knows_stop = false }
 
-abbrev pub with_lot : TableView → ℕ → Lot → TableView
-with_lot v k lot = record { number = v.number; base = v.base; lots = slice_set v.lots k lot; offers = v.offers; lost = v.lost }
+abbrev pub with_state : TableView → ℕ → PlaceState → TableView
+with_state v k state = record { number = v.number; base = v.base; states = slice_set v.states k state; offers = v.offers; lost = v.lost }
 
 -- one more ticket is out, at the place k
 abbrev pub offering : TableView → ℕ → Ticket → Job → TableView
-offering v k x job = record { number = v.number; base = v.base; lots = slice_set v.lots k (Out x job); offers = v.offers + 1; lost = v.lost }
+offering v k x job = record { number = v.number; base = v.base; states = slice_set v.states k (Out x job); offers = v.offers + 1; lost = v.lost }
 
 abbrev pub table_lost : TableView → ℕ → TableView
-table_lost v p = record { number = v.number; base = v.base; lots = v.lots; offers = v.offers; lost = v.lost ++ p ∷ [] }
+table_lost v p = record { number = v.number; base = v.base; states = v.states; offers = v.offers; lost = v.lost ++ p ∷ [] }
 
 abbrev pub holding : WorkerView → ℕ → Ticket → Job → WorkerView
 holding v p x job = record { number = v.number; held = Some (record { place = p; ticket = x; job = job }); finished = v.finished; lost = v.lost; looks = v.looks; knows_stop = v.knows_stop }

@@ -20,17 +20,16 @@
 #![tactic(auto)]
 
 mod board;
-mod book;
 mod content;
 mod gate;
 mod held;
-mod lot;
+mod lane_places;
 mod making;
 mod offer;
 mod opening;
 mod parts;
+mod place_state;
 mod playing;
-mod post;
 mod rule;
 mod run_fault;
 mod running;
@@ -45,6 +44,7 @@ mod tests;
 mod view;
 mod worked;
 mod worker_seat;
+mod worker_thread;
 
 pub use board::Board;
 pub use gate::{Gate, NoGate};

@@ -1,14 +1,14 @@
 //! A board with no places taken up, and the seats that enter it.
 ghost use Rattle.std.specs.Prelude.{◌≡◌, ◌+◌, ◌*◌, ◌≤◌, ◌<◌, ◌^◌, [], true, false, IfOk, IfErr, length, vec_len, replicate};
 ghost use Rattle.desk_core.specs.LaneState.{new_lane};
-ghost use Rattle.desk_run.specs.Books.{outs};
+ghost use Rattle.desk_run.specs.LanePlaces.{outs};
 ghost use Rattle.desk_run.specs.Sitting.{board_name};
 ghost use Rattle.desk_run.specs.declared.content.Content.TheVariants.{Empty};
 ghost use Rattle.desk_run.specs.declared.view.View.TheVariants.{Entering};
 
 use crate::board::Board;
-use crate::book::Book;
 use crate::content::Content;
+use crate::lane_places::LanePlaces;
 use crate::size::BoardSize;
 use crate::steps::Seat;
 use crate::stop_seat::StopSeat;
@@ -54,20 +54,20 @@ impl Board {
         ensures board { IfOk result (λ t. t.board ≡ board_name self.now) }
         ensures lane { IfOk result (λ t. t.lane ≡ new_lane number) }
         ensures base { IfOk result (λ t. t.base ≡ number * self.now.size.places) }
-        ensures lots { IfOk result (λ t. (outs t.lots ≡ 0) × (length t.lots ≡ self.now.size.places)) }
+        ensures states { IfOk result (λ t. (outs t.states ≡ 0) × (length t.states ≡ self.now.size.places)) }
     {
         let places = self.size.places as usize;
         let base = number as usize * places;
-        let mut kept = Vec::with_capacity(alloc, places)?;
+        let mut vacant = Vec::with_capacity(alloc, places)?;
         if !self.enter_table(&mut seat, number as u64) {
             return Err(AllocError);
         }
-        for lot in 0..places {
-            self.take_up(&mut seat, base + lot, lot);
-            kept.push_reserved(lot);
+        for offset in 0..places {
+            self.take_up(&mut seat, base + offset, offset);
+            vacant.push_reserved(offset);
         }
-        let book = Book::opening(alloc, number, places, kept)?;
-        Ok(TableSeat { seat, base, book })
+        let own = LanePlaces::opening(alloc, number, places, vacant)?;
+        Ok(TableSeat { seat, base, own })
     }
 
     /// Enters as a worker.

@@ -7,10 +7,10 @@ ghost use Rattle.desk_run.specs.Sitting.{board_name};
 use crate::board::Board;
 use crate::gate::Gate;
 use crate::playing::play;
-use crate::post::{Post, start_workers};
 use crate::run_fault::RunFault;
 use crate::stop_seat::StopSeat;
 use crate::table_seat::TableSeat;
+use crate::worker_thread::{WorkerThread, start_workers};
 use desk_core::Answer;
 use riichi_hand::Job;
 use std::alloc::{AllocError, Global};
@@ -40,13 +40,13 @@ fn play_all<R: Wait>(
 /// What the calling thread has at the board: the seats of the tables, and the seat that stops the
 /// workers.
 #[derive(Drop)]
-pub(crate) struct Hall<'b> {
+pub(crate) struct TablesThread<'b> {
     pub(crate) board: &'b Board,
     pub(crate) tables: Vec<TableSeat>,
     pub(crate) stop: StopSeat,
 }
 
-impl<'b> Hall<'b> {
+impl<'b> TablesThread<'b> {
     /// Starts the workers, plays all tables, and stops the workers in every case.
     pub(crate) fn run<'s, E, R, G>(
         self,
@@ -54,7 +54,7 @@ impl<'b> Hall<'b> {
         rt: &'s R,
         alloc: Global,
         jobs: &[Vec<Job>],
-        posts: Vec<Post<'s, G>>,
+        threads: Vec<WorkerThread<'s, G>>,
     ) -> Result<Vec<Vec<Answer>>, RunFault>
     where
         R: Threads + Wait + Sync + 's,
@@ -63,12 +63,12 @@ impl<'b> Hall<'b> {
         ensures range { result ≢ Err RunFault.Range }
         ensures values { IfOk result (λ answers. AreValues jobs.now answers.items) }
     {
-        let Hall {
+        let TablesThread {
             board,
             mut tables,
             mut stop,
         } = self;
-        let answers = if start_workers(scope, rt, posts) {
+        let answers = if start_workers(scope, rt, threads) {
             play_all(rt, alloc, board, &mut tables, jobs).map_err(|_| RunFault::Memory)
         } else {
             Err(RunFault::Thread)

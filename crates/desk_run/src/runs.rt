@@ -7,11 +7,11 @@ use crate::board::Board;
 use crate::gate::{Gate, NoGate};
 use crate::opening::in_range;
 use crate::parts::BoardParts;
-use crate::post::Post;
 use crate::run_fault::RunFault;
-use crate::running::Hall;
+use crate::running::TablesThread;
 use crate::size::BoardSize;
 use crate::start::{Always, Start, ask_all};
+use crate::worker_thread::WorkerThread;
 use desk_core::{Answer, LIMIT};
 use riichi_hand::Job;
 use std::alloc::{AllocError, Global};
@@ -110,13 +110,13 @@ pub fn run_tables_started<R: Threads + Wait + Sync, G: Gate + Send + Drop, S: St
     } = parts;
     let board = &board;
     let count = gates.len() as u32;
-    let Ok(posts) = Post::all(alloc, board, workers, gates) else {
+    let Ok(threads) = WorkerThread::all(alloc, board, workers, gates) else {
         return Err(RunFault::Memory);
     };
     if !ask_all(start, count) {
         return Err(RunFault::Thread);
     }
-    let hall = Hall {
+    let tables_thread = TablesThread {
         board,
         tables,
         stop,
@@ -125,9 +125,9 @@ pub fn run_tables_started<R: Threads + Wait + Sync, G: Gate + Send + Drop, S: St
         thread::scope_env(),
         rt,
         move |scope| -> Result<Vec<Vec<Answer>>, RunFault>
-            requires { IsReady hall (length jobs.now) }
+            requires { IsReady tables_thread (length jobs.now) }
             ensures range { result ≢ Err RunFault.Range }
             ensures values { IfOk result (λ answers. AreValues jobs.entry.now answers.items) }
-        { hall.run(scope, rt, alloc, jobs, posts) },
+        { tables_thread.run(scope, rt, alloc, jobs, threads) },
     )
 }

@@ -1,14 +1,14 @@
 //! The steps on the board, each with the one atomic call that it makes.
-ghost use Rattle.std.specs.Prelude.{◌≡◌, ◌+◌, ◌<◌, ◌≤◌, ◌^◌, ◌∷◌, [], false, true, None, Some, IfSome, IfNone, ◌==◌};
+ghost use Rattle.std.specs.Prelude.{◌≡◌, ◌+◌, ◌<◌, ◌≤◌, ◌^◌, ◌∷◌, [], false, true, None, Some, ◌==◌};
 ghost use mathlib.Core.Option.{some};
 ghost use lib.ListN.{get_elem?};
 ghost use Rattle.atomic_table.specs.Table.{rest};
 ghost use Rattle.desk_run.specs.Counts.{times};
 ghost use Rattle.desk_run.specs.Rule.{count_of};
-ghost use Rattle.desk_run.specs.Views.{new_table, new_worker, with_lot, offering, table_lost, holding, worker_lost, having_finished, looking};
-ghost use Rattle.desk_run.specs.Plays.{table_of, worker_of, stop_of};
+ghost use Rattle.desk_run.specs.Views.{new_table, new_worker, with_state, offering, table_lost, holding, worker_lost, having_finished, looking};
+ghost use Rattle.desk_run.specs.Plays.{SeatState, Claims, FetchesAt, table_of, worker_of, stop_of};
 ghost use Rattle.desk_run.specs.Seats.{board_id, IsTable, IsWorker, IsStop};
-ghost use Rattle.desk_run.specs.declared.lot.Lot.TheVariants.{Fresh, Kept, Out};
+ghost use Rattle.desk_run.specs.declared.place_state.PlaceState.TheVariants.{Fresh, Vacant, Out};
 ghost use Rattle.desk_run.specs.declared.view.View.TheVariants.{Entering, Table, Worker, Stop};
 ghost use Rattle.desk_run.specs.declared.content.Content.TheVariants.{Empty, Offer, Done};
 
@@ -44,69 +44,92 @@ impl Board {
         &self,
         seat: &mut Seat,
         place: usize,
-        _lot: usize,
+        _offset: usize,
         ticket: Ticket,
         job: &Job,
     )
         requires id { (seat.old.table_id ≡ board_id self.now) × (place < (board_id self.now).slots) }
-        requires table { IsTable seat.old.me × (place ≡ (table_of seat.old.me.0).base + _lot) }
-        requires kept { get_elem? (table_of seat.old.me.0).lots _lot ≡ some Kept }
+        requires table { IsTable seat.old.me × (place ≡ (table_of seat.old.me.0).base + _offset) }
+        requires vacant { get_elem? (table_of seat.old.me.0).states _offset ≡ some Vacant }
         requires front { seat.old.me.1 ≡ (place, Empty) ∷ rest seat.old.me.1 }
         requires ticket { (ticket.table ≡ (table_of seat.old.me.0).number) × (ticket.seq ≡ (table_of seat.old.me.0).offers) }
         ensures id { seat.new.table_id ≡ seat.old.table_id }
-        ensures me { seat.new.me ≡ (Table (offering (table_of seat.old.me.0) _lot ticket job.now), rest seat.old.me.1) }
+        ensures me { seat.new.me ≡ (Table (offering (table_of seat.old.me.0) _offset ticket job.now), rest seat.old.me.1) }
     {
         let shared = &self.table.shared;
         shared.exchange(seat, place, Content::offer(ticket, job));
         shared.store::<Submit>(seat, FIRST + place, READY);
     }
 
-    /// The piece, where the place was done.
-    pub(crate) fn fetch(&self, seat: &mut Seat, place: usize, _lot: usize) -> Option<Piece>
+    /// Whether the place was done. Its piece is then with the seat, in front.
+    pub(crate) fn fetch(&self, seat: &mut Seat, place: usize, _offset: usize) -> bool
         requires id { (seat.old.table_id ≡ board_id self.now) × (place < (board_id self.now).slots) }
-        requires table { IsTable seat.old.me × (place ≡ (table_of seat.old.me.0).base + _lot) }
-        requires lot { (lot : _) × (get_elem? (table_of seat.old.me.0).lots _lot ≡ some lot) }
+        requires table { IsTable seat.old.me × (place ≡ (table_of seat.old.me.0).base + _offset) }
+        requires state { (state : _) × (get_elem? (table_of seat.old.me.0).states _offset ≡ some state) }
         ensures id { seat.new.table_id ≡ seat.old.table_id }
-        ensures some { IfSome result (λ piece. (get_elem? (table_of seat.old.me.0).lots _lot ≡ some (Out piece.ticket piece.job)) × (seat.new.me ≡ (Table (with_lot (table_of seat.old.me.0) _lot Kept), (place, Empty) ∷ seat.old.me.1))) }
-        ensures none { IfNone result (seat.new.me ≡ (Table (table_lost (table_of seat.old.me.0) place), seat.old.me.1)) }
+        ensures done { result ≡ true → FetchesAt seat.old.me place _offset seat.new.me }
+        ensures lost { result ≡ false → seat.new.me ≡ (Table (table_lost (table_of seat.old.me.0) place), seat.old.me.1) }
     {
-        let shared = &self.table.shared;
-        if shared.compare_exchange::<Fetch>(seat, FIRST + place, DONE, IDLE) != DONE {
-            return None;
-        }
-        let Content::Done(piece) = shared.exchange(seat, place, Content::Empty) else {
+        self.table
+            .shared
+            .compare_exchange::<Fetch>(seat, FIRST + place, DONE, IDLE)
+            == DONE
+    }
+
+    /// Takes the piece that was fetched out of the slot in front.
+    pub(crate) fn take_piece(&self, seat: &mut Seat, place: usize, _offset: usize) -> Piece
+        requires id { seat.old.table_id ≡ board_id self.now }
+        requires fetched { (m : SeatState) × FetchesAt m place _offset seat.old.me }
+        ensures id { seat.new.table_id ≡ seat.old.table_id }
+        ensures out { (m : SeatState) → FetchesAt m place _offset seat.old.me
+            → get_elem? (table_of m.0).states _offset ≡ some (Out result.ticket result.job) }
+        ensures me { (m : SeatState) → FetchesAt m place _offset seat.old.me
+            → seat.new.me ≡ (Table (with_state (table_of m.0) _offset Vacant), (place, Empty) ∷ m.1) }
+    {
+        let Content::Done(piece) = self.table.shared.exchange(seat, place, Content::Empty) else {
             unreachable!()
         };
-        Some(piece)
+        piece
     }
 
     /// The table takes the content of a place that it has not taken up.
-    pub(crate) fn take_up(&self, seat: &mut Seat, place: usize, _lot: usize)
+    pub(crate) fn take_up(&self, seat: &mut Seat, place: usize, _offset: usize)
         requires id { (seat.old.table_id ≡ board_id self.now) × (place < (board_id self.now).slots) }
-        requires table { IsTable seat.old.me × (place ≡ (table_of seat.old.me.0).base + _lot) }
-        requires fresh { get_elem? (table_of seat.old.me.0).lots _lot ≡ some Fresh }
+        requires table { IsTable seat.old.me × (place ≡ (table_of seat.old.me.0).base + _offset) }
+        requires fresh { get_elem? (table_of seat.old.me.0).states _offset ≡ some Fresh }
         ensures id { seat.new.table_id ≡ seat.old.table_id }
-        ensures me { seat.new.me ≡ (Table (with_lot (table_of seat.old.me.0) _lot Kept), (place, Empty) ∷ seat.old.me.1) }
+        ensures me { seat.new.me ≡ (Table (with_state (table_of seat.old.me.0) _offset Vacant), (place, Empty) ∷ seat.old.me.1) }
     {
         self.table.shared.store::<TakeUp>(seat, FIRST + place, IDLE);
     }
 
-    /// The ticket and the job, where the place was ready. Its content is then with the seat.
-    pub(crate) fn claim(&self, seat: &mut Seat, place: usize) -> Option<(Ticket, Job)>
+    /// Whether the place was ready. Its offer is then with the seat, in front.
+    pub(crate) fn claim(&self, seat: &mut Seat, place: usize) -> bool
         requires id { (seat.old.table_id ≡ board_id self.now) × (place < (board_id self.now).slots) }
         requires free { IsWorker seat.old.me × ((worker_of seat.old.me.0).held ≡ None) }
         ensures id { seat.new.table_id ≡ seat.old.table_id }
-        ensures some { IfSome result (λ got. seat.new.me ≡ (Worker (holding (worker_of seat.old.me.0) place got.0 got.1), (place, Empty) ∷ seat.old.me.1)) }
-        ensures none { IfNone result (seat.new.me ≡ (Worker (worker_lost (worker_of seat.old.me.0) place), seat.old.me.1)) }
+        ensures ready { result ≡ true → Claims seat.old.me place seat.new.me }
+        ensures lost { result ≡ false → seat.new.me ≡ (Worker (worker_lost (worker_of seat.old.me.0) place), seat.old.me.1) }
     {
-        let shared = &self.table.shared;
-        if shared.compare_exchange::<Claim>(seat, FIRST + place, READY, TAKEN) != READY {
-            return None;
-        }
-        let Content::Offer(ticket, job) = shared.exchange(seat, place, Content::Empty) else {
+        self.table
+            .shared
+            .compare_exchange::<Claim>(seat, FIRST + place, READY, TAKEN)
+            == READY
+    }
+
+    /// Takes the ticket and the job that were claimed out of the slot in front.
+    pub(crate) fn take_offer(&self, seat: &mut Seat, place: usize) -> (Ticket, Job)
+        requires id { seat.old.table_id ≡ board_id self.now }
+        requires claimed { (m : SeatState) × Claims m place seat.old.me }
+        ensures id { seat.new.table_id ≡ seat.old.table_id }
+        ensures me { (m : SeatState) → Claims m place seat.old.me
+            → seat.new.me ≡ (Worker (holding (worker_of m.0) place result.0 result.1), (place, Empty) ∷ m.1) }
+    {
+        let Content::Offer(ticket, job) = self.table.shared.exchange(seat, place, Content::Empty)
+        else {
             unreachable!()
         };
-        Some((ticket, job))
+        (ticket, job)
     }
 
     /// The piece goes home, and the place is done.

@@ -5,17 +5,17 @@ ghost use Rattle.desk_core.specs.LaneState.{with_job, CanTakeBack, TakesBack};
 ghost use Rattle.desk_core.specs.GivesFirst.{GivesFirst};
 ghost use Rattle.desk_core.specs.Step.{IsStep};
 ghost use Rattle.desk_core.specs.Replies.{withdraw_reply};
-ghost use Rattle.desk_run.specs.Books.{ticket, offered};
+ghost use Rattle.desk_run.specs.LanePlaces.{ticket, offered};
 ghost use Rattle.desk_run.specs.Offers.{IsOfferFault, MayOffer};
 ghost use Rattle.desk_run.specs.Sitting.{Collects, out_places, place_if_out, board_name};
 ghost use Rattle.desk_core.specs.declared.event.Event.TheVariants.{Submit, Close, Take, Withdraw};
 ghost use Rattle.desk_core.specs.declared.reply.Reply.TheVariants as reply;
-ghost use Rattle.desk_run.specs.declared.lot.Lot.TheVariants.{Fresh, Kept, Out};
+ghost use Rattle.desk_run.specs.declared.place_state.PlaceState.TheVariants.{Fresh, Vacant, Out};
 
 use crate::board::Board;
-use crate::book::Book;
-use crate::lot::Lot;
+use crate::lane_places::LanePlaces;
 use crate::offer::OfferBack;
+use crate::place_state::PlaceState;
 use crate::steps::Seat;
 use desk_core::{Taken, Ticket};
 use riichi_hand::Job;
@@ -29,7 +29,7 @@ use std::marker::Model;
 pub struct TableSeat {
     pub(crate) seat: Seat,
     pub(crate) base: usize,
-    pub(crate) book: Book,
+    pub(crate) own: LanePlaces,
 }
 
 impl Model for TableSeat {
@@ -38,9 +38,9 @@ impl Model for TableSeat {
 
     ghost Value = { TableState };
 
-    ghost view = { λ t. table_state t.seat.table_id t.seat.me t.base t.book.lane t.book.lots.items };
+    ghost view = { λ t. table_state t.seat.table_id t.seat.me t.base t.own.lane t.own.states.items };
 
-    ghost invariant = { λ t. IsTableSeat t.seat.table_id t.seat.me t.base t.book.lane t.book.lots.items t.book.kept.items };
+    ghost invariant = { λ t. IsTableSeat t.seat.table_id t.seat.me t.base t.own.lane t.own.states.items t.own.vacant.items };
 }
 
 impl TableSeat {
@@ -51,42 +51,42 @@ impl TableSeat {
         ensures ticket { IfOk result (λ x. x ≡ ticket self.old.lane.table (offered self.old.lane)) }
         ensures lane { IfOk result (λ _. self.new.lane ≡ with_job self.old.lane job) }
         ensures step { IfOk result (λ x. IsStep self.old.lane (Submit self.old.lane.table job) (reply.Ticket x) self.new.lane) }
-        ensures place { IfOk result (λ x. (k : _) × (get_elem? self.old.lots k ≡ some Kept)
-            × (self.new.lots ≡ slice_set self.old.lots k (Out x job))) }
-        ensures may { IfOk result (λ _. MayOffer self.old.lane self.old.lots) }
-        ensures fault { IfErr result (λ back. IsOfferFault self.old.lane self.old.lots back.fault) }
+        ensures place { IfOk result (λ x. (k : _) × (get_elem? self.old.states k ≡ some Vacant)
+            × (self.new.states ≡ slice_set self.old.states k (Out x job))) }
+        ensures may { IfOk result (λ _. MayOffer self.old.lane self.old.states) }
+        ensures fault { IfErr result (λ back. IsOfferFault self.old.lane self.old.states back.fault) }
         ensures back { IfErr result (λ back. back.job ≡ job) }
         ensures err { OnErr result (self.new ≡ self.old) }
     {
-        match self.book.submit(&job) {
+        match self.own.submit(&job) {
             Err(fault) => Err(OfferBack::of(fault, &job)),
-            Ok((lot, ticket)) => {
-                board.offer(&mut self.seat, self.base + lot, lot, ticket, &job);
+            Ok((offset, ticket)) => {
+                board.offer(&mut self.seat, self.base + offset, offset, ticket, &job);
                 Ok(ticket)
             }
         }
     }
 
     /// Tries to fetch the piece of the ticket that is out at the place.
-    fn fetch_at(&mut self, board: &Board, lot: usize) -> bool
+    fn fetch_at(&mut self, board: &Board, offset: usize) -> bool
         requires id { self.old.board ≡ board_name board.now }
-        requires near { lot < length self.old.lots }
+        requires near { offset < length self.old.states }
         ensures board { (self.new.board ≡ self.old.board) × (self.new.base ≡ self.old.base) }
-        ensures fetched { result ≡ true → Collects 1 self.old.lane self.old.lots self.new.lane self.new.lots
-            × (self.new.lots ≡ slice_set self.old.lots lot Kept) × (self.new.lost ≡ self.old.lost) }
-        ensures lost { result ≡ false → (self.new.lane ≡ self.old.lane) × (self.new.lots ≡ self.old.lots)
-            × (self.new.lost ≡ self.old.lost ++ place_if_out (self.old.base + lot) (slice_index_or self.old.lots lot Fresh)) }
+        ensures fetched { result ≡ true → Collects 1 self.old.lane self.old.states self.new.lane self.new.states
+            × (self.new.states ≡ slice_set self.old.states offset Vacant) × (self.new.lost ≡ self.old.lost) }
+        ensures lost { result ≡ false → (self.new.lane ≡ self.old.lane) × (self.new.states ≡ self.old.states)
+            × (self.new.lost ≡ self.old.lost ++ place_if_out (self.old.base + offset) (slice_index_or self.old.states offset Fresh)) }
     {
-        let Lot::Out(_, _) = &self.book.lots[lot] else {
+        let PlaceState::Out(_, _) = &self.own.states[offset] else {
             return false;
         };
-        match board.fetch(&mut self.seat, self.base + lot, lot) {
-            None => false,
-            Some(piece) => {
-                self.book.receive(lot, piece);
-                true
-            }
+        let place = self.base + offset;
+        if !board.fetch(&mut self.seat, place, offset) {
+            return false;
         }
+        let piece = board.take_piece(&mut self.seat, place, offset);
+        self.own.receive(offset, piece);
+        true
     }
 
     /// Fetches the pieces that it finds done, and answers how many. Each is accepted, or its ticket
@@ -94,12 +94,12 @@ impl TableSeat {
     pub fn collect(&mut self, board: &Board) -> u32
         requires { self.old.board ≡ board_name board.now }
         ensures same { (self.new.board ≡ self.old.board) × (self.new.base ≡ self.old.base) }
-        ensures arrived { Collects result self.old.lane self.old.lots self.new.lane self.new.lots }
-        ensures lost { self.new.lost ≡ self.old.lost ++ out_places self.old.base self.new.lots (length self.new.lots) }
+        ensures arrived { Collects result self.old.lane self.old.states self.new.lane self.new.states }
+        ensures lost { self.new.lost ≡ self.old.lost ++ out_places self.old.base self.new.states (length self.new.states) }
     {
         let mut count = 0;
-        for lot in 0..self.place_count() {
-            if self.fetch_at(board, lot) {
+        for offset in 0..self.place_count() {
+            if self.fetch_at(board, offset) {
                 count += 1;
             }
         }
@@ -108,9 +108,9 @@ impl TableSeat {
 
     /// How many places the table has.
     fn place_count(&self) -> usize
-        ensures { (result ≡ length self.now.lots) × (result < 4096) }
+        ensures { (result ≡ length self.now.states) × (result < 4096) }
     {
-        self.book.lots.len()
+        self.own.states.len()
     }
 
     /// Gives the next answer where its piece has arrived, and forgets the job.
@@ -119,7 +119,7 @@ impl TableSeat {
         ensures first { GivesFirst self.old.lane result self.new.lane }
         ensures same { self.new ≡ record self.old { lane = self.new.lane } }
     {
-        self.book.take()
+        self.own.take()
     }
 
     /// Takes the job of a ticket back: true where its answer was not given and it was not withdrawn
@@ -133,7 +133,7 @@ impl TableSeat {
         ensures wanted { OnErr result (CanTakeBack self.old.lane seq) }
         ensures same { self.new ≡ record self.old { lane = self.new.lane } }
     {
-        self.book.withdraw(seq)
+        self.own.withdraw(seq)
     }
 
     /// Closes the table to further jobs: true the first time.
@@ -141,13 +141,13 @@ impl TableSeat {
         ensures step { IsStep self.old.lane (Close self.old.lane.table) (reply.Closed result) self.new.lane }
         ensures closed { self.new ≡ record self.old { lane = record self.old.lane { closed = true } } }
     {
-        self.book.close()
+        self.own.close()
     }
 
     /// The table's number.
     pub fn table(&self) -> u32
         ensures { result ≡ self.now.lane.table }
     {
-        self.book.lane.table()
+        self.own.lane.table()
     }
 }

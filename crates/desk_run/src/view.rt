@@ -1,7 +1,7 @@
 //! What a seat knows of the board. No value of these types is made: they are data of the contracts.
 
 use crate::held::Held;
-use crate::lot::Lot;
+use crate::place_state::PlaceState;
 use crate::size::BoardSize;
 use desk_core::Ticket;
 use std::collections::LinkedList;
@@ -12,7 +12,7 @@ pub struct TableView {
     pub number: u64,
     /// The first of its places.
     pub base: u64,
-    pub lots: LinkedList<Lot>,
+    pub states: LinkedList<PlaceState>,
     pub offers: u64,
     pub lost: LinkedList<u64>,
 }

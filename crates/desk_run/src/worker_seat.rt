@@ -54,7 +54,10 @@ impl WorkerSeat {
         ensures uncalled { IfNone result (gate.new ≡ gate.old) }
         ensures stays { cache.new ≡ cache.old }
     {
-        let (ticket, job) = board.claim(&mut self.seat, place)?;
+        if !board.claim(&mut self.seat, place) {
+            return None;
+        }
+        let (ticket, job) = board.take_offer(&mut self.seat, place);
         let piece = Piece::score_with(cache, ticket, job);
         gate.before_finish(ticket);
         board.finish(&mut self.seat, place, piece);

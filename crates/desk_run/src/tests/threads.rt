@@ -3,7 +3,7 @@ ghost use Rattle.std.specs.Prelude.{◌≡◌};
 ghost use Rattle.desk_run.specs.Sitting.{board_name, same_board};
 
 use super::{job, shape_b, waits_a};
-use crate::post::{Post, start_workers};
+use crate::worker_thread::{WorkerThread, start_workers};
 use crate::{
     Board, BoardParts, Gate, NoGate, RunFault, Start, TableSeat, run_tables, run_tables_started,
     run_tables_with,
@@ -274,7 +274,7 @@ fn two_tables_and_two_workers_in_threads(rt: HostRuntime) -> Result<(), Fail> {
     let (Some(second), Some(first)) = (tables.pop(), tables.pop()) else {
         panic!(rt; "no seat")
     };
-    let posts = Post::all(alloc, board, workers, vec![in alloc; NoGate; 2]?)?;
+    let threads = WorkerThread::all(alloc, board, workers, vec![in alloc; NoGate; 2]?)?;
     let jobs = ([a, b, a], [b, b, a, b]);
     let first = Player::new(board, first, &jobs.0);
     let second = Player::new(board, second, &jobs.1);
@@ -285,7 +285,7 @@ fn two_tables_and_two_workers_in_threads(rt: HostRuntime) -> Result<(), Fail> {
         move |scope| -> Option<(Vec<Answer>, Vec<Answer>)>
             requires { stop.board ≡ board_name board.now }
         {
-            let started = start_workers(scope, rt, posts);
+            let started = start_workers(scope, rt, threads);
             let answers = if started {
                 play_both(scope, rt, alloc, (first, second))
             } else {

@@ -1,4 +1,4 @@
-use Rattle.desk_run.proofs.Posts.{may_more}
+use Rattle.desk_run.proofs.WorkerThreads.{may_more}
 use Rattle.desk_run.proofs.start.ask_all.Goals as goal
 
 pub loop-worker-preserved : goal.loop-worker-preserved

@@ -9,7 +9,7 @@ loop-number-preserved c = let i = c.loop-number.invariant in let t = c.in_ok-tab
   me = c.another-other.ensures.me.0 ∙ i.me;
   count = (let a = i.count.0 in let b = c.push_reserved.ensures.len in omega arith, let a = i.count.1 in let b = c.push_reserved.ensures.capacity in omega arith);
   tables = more_tables _ c.args.size.places c.loop-number.number c.loop-number.tables.items _ t.field-0 i.tables (let a = i.count.0 in omega arith)
-      (t.ensures.board, t.ensures.lane, t.ensures.lots.0, t.ensures.lots.1 ∙ ap (λ (s : BoardSize). s.places) c.in_ok-board.ensures.1, t.ensures.base ∙ ap (λ (s : BoardSize). c.loop-number.number * s.places) c.in_ok-board.ensures.1) c.push_reserved.ensures.items;
+      (t.ensures.board, t.ensures.lane, t.ensures.states.0, t.ensures.states.1 ∙ ap (λ (s : BoardSize). s.places) c.in_ok-board.ensures.1, t.ensures.base ∙ ap (λ (s : BoardSize). c.loop-number.number * s.places) c.in_ok-board.ensures.1) c.push_reserved.ensures.items;
 }
 
 pub loop-number-2-preserved : goal.loop-number-2-preserved

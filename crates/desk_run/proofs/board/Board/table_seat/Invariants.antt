@@ -5,11 +5,11 @@ use Rattle.desk_run.specs.Sitting.{Sits, board_name}
 use Rattle.desk_run.proofs.TakingUp.{TakenUp}
 use Rattle.desk_run.proofs.board.Board.table_seat.Given as goal
 
-abbrev pub invariant-loop-lot : goal.invariant-loop-lot
-invariant-loop-lot l = record {
+abbrev pub invariant-loop-offset : goal.invariant-loop-offset
+invariant-loop-offset l = record {
   id : l.seat.table_id ≡ board_name l.self;
-  sits : Sits l.seat.me l.base (new_lane l.number) (table_of l.seat.me.0).lots l.kept.items;
-  up : TakenUp l.lot (table_of l.seat.me.0).lots l.kept.items;
+  sits : Sits l.seat.me l.base (new_lane l.number) (table_of l.seat.me.0).states l.vacant.items;
+  up : TakenUp l.offset (table_of l.seat.me.0).states l.vacant.items;
   base : l.base ≡ l.number * l.self.size.places;
-  places : (l.places ≡ l.self.size.places) × (length (table_of l.seat.me.0).lots ≡ l.places) × (l.places ≤ vec_capacity l.kept);
+  places : (l.places ≡ l.self.size.places) × (length (table_of l.seat.me.0).states ≡ l.places) × (l.places ≤ vec_capacity l.vacant);
 }

@@ -1,7 +1,7 @@
 use Rattle.std.proofs.Common.{refl, ap, ◌∙◌, ◌++◌, ◌∷◌, [], append_assoc, List, ◌≡◌}
 use Rattle.desk_core.specs.declared.ticket.Ticket.{Ticket}
-use Rattle.desk_run.proofs.Posts.{folds_more}
-use Rattle.desk_run.proofs.post.work.Goals as goal
+use Rattle.desk_run.proofs.WorkerThreads.{folds_more}
+use Rattle.desk_run.proofs.worker_thread.work.Goals as goal
 
 pub loop-preserved-in-Did : goal.loop-preserved-in-Did
 loop-preserved-in-Did g c = let i = c.loop.invariant in let did = c.work_once.ensures.did c.in-Did.field-0 c.in-Did.is in (

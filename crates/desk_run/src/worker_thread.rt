@@ -20,7 +20,7 @@ const KEPT_ROWS: usize = 512;
 
 /// A worker at its board, with its gate and the suit rows that it keeps.
 #[derive(Drop)]
-pub(crate) struct Post<'b, G> {
+pub(crate) struct WorkerThread<'b, G> {
     board: &'b Board,
     seat: WorkerSeat,
     gate: G,
@@ -53,13 +53,13 @@ fn work<R: Wait, G: Gate>(
     }
 }
 
-impl<'b, G: Gate + Drop> Post<'b, G> {
-    fn new(board: &'b Board, seat: WorkerSeat, gate: G, cache: RowCache) -> Post<'b, G>
+impl<'b, G: Gate + Drop> WorkerThread<'b, G> {
+    fn new(board: &'b Board, seat: WorkerSeat, gate: G, cache: RowCache) -> WorkerThread<'b, G>
         requires here { seat.board ≡ board_name board.now }
         requires rows { cache ≡ 512 }
         ensures { (result.seat ≡ seat) × (result.gate ≡ gate) }
     {
-        Post {
+        WorkerThread {
             board,
             seat,
             gate,
@@ -67,19 +67,19 @@ impl<'b, G: Gate + Drop> Post<'b, G> {
         }
     }
 
-    /// A post for each worker and its gate, the last one first.
+    /// A worker for each worker and its gate, the last one first.
     pub(crate) fn all(
         alloc: Global,
         board: &'b Board,
         mut workers: Vec<WorkerSeat>,
         mut gates: Vec<G>,
-    ) -> Result<Vec<Post<'b, G>>, AllocError>
+    ) -> Result<Vec<WorkerThread<'b, G>>, AllocError>
         requires new { AreNewWorkers (board_name board.now) workers.items }
         requires alike { vec_len workers ≡ vec_len gates }
-        ensures workers { IfOk result (λ posts. reverse (map (λ post. post.seat) posts.items) ≡ workers.items) }
-        ensures gates { IfOk result (λ posts. reverse (map (λ post. post.gate) posts.items) ≡ gates.items) }
+        ensures workers { IfOk result (λ threads. reverse (map (λ worker. worker.seat) threads.items) ≡ workers.items) }
+        ensures gates { IfOk result (λ threads. reverse (map (λ worker. worker.gate) threads.items) ≡ gates.items) }
     {
-        let mut posts = Vec::new(alloc);
+        let mut threads = Vec::new(alloc);
         for _worker in 0..gates.len() {
             let (Some(seat), Some(gate)) = (workers.pop(), gates.pop()) else {
                 unreachable!()
@@ -87,13 +87,13 @@ impl<'b, G: Gate + Drop> Post<'b, G> {
             let Ok(cache) = RowCache::new(alloc, KEPT_ROWS) else {
                 return Err(AllocError);
             };
-            posts.push(Post::new(board, seat, gate, cache))?;
+            threads.push(WorkerThread::new(board, seat, gate, cache))?;
         }
-        Ok(posts)
+        Ok(threads)
     }
 
     fn work<R: Wait>(self, rt: &R) {
-        let Post {
+        let WorkerThread {
             board,
             mut seat,
             mut gate,
@@ -103,19 +103,19 @@ impl<'b, G: Gate + Drop> Post<'b, G> {
     }
 }
 
-/// Starts a thread of the scope for each post, and answers whether each was started. After one that
+/// Starts a thread of the scope for each worker, and answers whether each was started. After one that
 /// could not be started it starts no further.
 pub(crate) fn start_workers<'s, E, R, G>(
     scope: &Scope<'s, E>,
     rt: &'s R,
-    posts: Vec<Post<'s, G>>,
+    threads: Vec<WorkerThread<'s, G>>,
 ) -> bool
 where
     R: Threads + Wait + Sync + 's,
     G: Gate + Send + Drop + 's,
 {
-    for post in posts {
-        if scope.spawn(move || post.work(rt)).is_err() {
+    for worker in threads {
+        if scope.spawn(move || worker.work(rt)).is_err() {
             return false;
         }
     }

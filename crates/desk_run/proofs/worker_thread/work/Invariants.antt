@@ -2,7 +2,7 @@ use Rattle.std.proofs.Common.{◌≡◌, ◌++◌, List}
 use Rattle.std.specs.List.{FoldsTo}
 use Rattle.desk_core.specs.declared.ticket.Ticket.{Ticket}
 use Rattle.desk_run.specs.Sitting.{board_name}
-use Rattle.desk_run.proofs.post.work.Given as goal
+use Rattle.desk_run.proofs.worker_thread.work.Given as goal
 
 abbrev pub invariant-loop : goal.invariant-loop
 invariant-loop g l =

@@ -1,7 +1,7 @@
 use Rattle.std.proofs.Common.{arith, refl}
 use Rattle.desk_run.proofs.Parting.{last_worker, fewer_workers}
-use Rattle.desk_run.proofs.Posts.{reversed_more}
-use Rattle.desk_run.proofs.post.Post.all.Goals as goal
+use Rattle.desk_run.proofs.WorkerThreads.{reversed_more}
+use Rattle.desk_run.proofs.worker_thread.WorkerThread.all.Goals as goal
 
 pub new-requires-in-loop-worker : goal.new-requires-in-loop-worker
 new-requires-in-loop-worker g c = record {

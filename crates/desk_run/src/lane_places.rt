@@ -5,50 +5,50 @@ ghost use Rattle.desk_core.specs.LaneState.{new_lane, with_job, CanTakeBack, Tak
 ghost use Rattle.desk_core.specs.GivesFirst.{GivesFirst};
 ghost use Rattle.desk_core.specs.Step.{IsStep};
 ghost use Rattle.desk_core.specs.Replies.{withdraw_reply};
-ghost use Rattle.desk_run.specs.Books.{Agrees, ticket, offered};
+ghost use Rattle.desk_run.specs.LanePlaces.{Agrees, ticket, offered};
 ghost use Rattle.desk_run.specs.Sitting.{Receives};
 ghost use Rattle.desk_run.specs.Offers.{IsOfferFault, MayOffer};
 ghost use Rattle.desk_core.specs.declared.event.Event.TheVariants.{Submit, Close, Take, Withdraw};
 ghost use Rattle.desk_core.specs.declared.reply.Reply.TheVariants as reply;
-ghost use Rattle.desk_run.specs.declared.lot.Lot.TheVariants.{Kept, Out};
+ghost use Rattle.desk_run.specs.declared.place_state.PlaceState.TheVariants.{Vacant, Out};
 
-use crate::lot::Lot;
 use crate::offer::OfferFault;
+use crate::place_state::PlaceState;
 use desk_core::{Lane, Piece, Taken, Ticket};
 use riichi_hand::Job;
 use riichi_shape::Memory;
 use std::alloc::{AllocError, Global};
 
-/// What a table's code keeps of its own: its lane, what is at each of its places, and the places
+/// What a table has of its own: its lane, the state of each of its places, and the vacant places,
 /// whose content the seat has.
 #[derive(Drop)]
-pub struct Book {
+pub struct LanePlaces {
     pub(crate) lane: Lane,
-    pub(crate) lots: Vec<Lot>,
+    pub(crate) states: Vec<PlaceState>,
     /// The seat has the contents of these places, in this order from the last one on.
-    pub(crate) kept: Vec<usize>,
-    ghost room: { vec_len lots ≤ vec_capacity kept },
-    ghost agrees: { Agrees lane lots.items kept.items },
+    pub(crate) vacant: Vec<usize>,
+    ghost room: { vec_len states ≤ vec_capacity vacant },
+    ghost agrees: { Agrees lane states.items vacant.items },
 }
 
-impl Book {
-    /// The book of a new table that keeps all its places.
+impl LanePlaces {
+    /// What a new table has of its own: all its places are vacant.
     pub(crate) fn opening(
         alloc: Global,
         table: u32,
         places: usize,
-        kept: Vec<usize>,
-    ) -> Result<Book, AllocError>
-        requires agrees { Agrees (new_lane table) (replicate places Kept) kept.items }
-        requires room { places ≤ vec_capacity kept }
-        ensures lane { IfOk result (λ book. book.lane ≡ new_lane table) }
-        ensures lots { IfOk result (λ book. (book.lots.items ≡ replicate places Kept) × (book.kept.items ≡ kept.items)) }
+        vacant: Vec<usize>,
+    ) -> Result<LanePlaces, AllocError>
+        requires agrees { Agrees (new_lane table) (replicate places Vacant) vacant.items }
+        requires room { places ≤ vec_capacity vacant }
+        ensures lane { IfOk result (λ own. own.lane ≡ new_lane table) }
+        ensures states { IfOk result (λ own. (own.states.items ≡ replicate places Vacant) × (own.vacant.items ≡ vacant.items)) }
     {
-        let lots = Lot::all_kept(alloc, places)?;
-        Ok(Book {
+        let states = PlaceState::all_vacant(alloc, places)?;
+        Ok(LanePlaces {
             lane: Lane::new(alloc, table),
-            lots,
-            kept,
+            states,
+            vacant,
         })
     }
 
@@ -57,10 +57,10 @@ impl Book {
         ensures ticket { IfOk result (λ r. r.1 ≡ ticket self.old.lane.table (offered self.old.lane)) }
         ensures lane { IfOk result (λ r. self.new.lane ≡ with_job self.old.lane job.now) }
         ensures step { IfOk result (λ r. IsStep self.old.lane (Submit self.old.lane.table job.now) (reply.Ticket r.1) self.new.lane) }
-        ensures lots { IfOk result (λ r. (get_elem? self.old.lots.items r.0 ≡ some Kept) × (self.new.lots.items ≡ slice_set self.old.lots.items r.0 (Out r.1 job.now)) × (self.old.kept.items ≡ self.new.kept.items ++ r.0 ∷ [])) }
-        ensures may { IfOk result (λ _. MayOffer self.old.lane self.old.lots.items) }
-        ensures fault { IfErr result (λ fault. IsOfferFault self.old.lane self.old.lots.items fault) }
-        ensures err { OnErr result ((self.new.lane ≡ self.old.lane) × (self.new.lots.items ≡ self.old.lots.items) × (self.new.kept.items ≡ self.old.kept.items)) }
+        ensures states { IfOk result (λ r. (get_elem? self.old.states.items r.0 ≡ some Vacant) × (self.new.states.items ≡ slice_set self.old.states.items r.0 (Out r.1 job.now)) × (self.old.vacant.items ≡ self.new.vacant.items ++ r.0 ∷ [])) }
+        ensures may { IfOk result (λ _. MayOffer self.old.lane self.old.states.items) }
+        ensures fault { IfErr result (λ fault. IsOfferFault self.old.lane self.old.states.items fault) }
+        ensures err { OnErr result ((self.new.lane ≡ self.old.lane) × (self.new.states.items ≡ self.old.states.items) × (self.new.vacant.items ≡ self.old.vacant.items)) }
     {
         if self.lane.closed() {
             return Err(OfferFault::Closed);
@@ -68,35 +68,35 @@ impl Book {
         if self.lane.full() {
             return Err(OfferFault::Limit);
         }
-        if self.kept.is_empty() {
+        if self.vacant.is_empty() {
             return Err(OfferFault::NoPlace);
         }
         let ticket = match self.lane.submit(*job) {
             Ok(ticket) => ticket,
             Err(_) => return Err(OfferFault::Memory),
         };
-        let lot = self.kept.take_last();
-        self.lots[lot] = Lot::out(ticket, job);
-        Ok((lot, ticket))
+        let offset = self.vacant.take_last();
+        self.states[offset] = PlaceState::out(ticket, job);
+        Ok((offset, ticket))
     }
 
     /// Takes in the piece for the ticket that is out at the place. That of a withdrawn ticket is let
     /// go.
-    pub(crate) fn receive(&mut self, lot: usize, piece: Piece)
-        requires { get_elem? self.old.lots.items lot ≡ some (Out piece.ticket piece.job) }
+    pub(crate) fn receive(&mut self, offset: usize, piece: Piece)
+        requires { get_elem? self.old.states.items offset ≡ some (Out piece.ticket piece.job) }
         ensures lane { Receives self.old.lane piece self.new.lane }
-        ensures lots { (self.new.lots.items ≡ slice_set self.old.lots.items lot Kept) × (self.new.kept.items ≡ self.old.kept.items ++ lot ∷ []) }
+        ensures states { (self.new.states.items ≡ slice_set self.old.states.items offset Vacant) × (self.new.vacant.items ≡ self.old.vacant.items ++ offset ∷ []) }
     {
         self.lane.arrive(piece);
-        self.lots[lot] = Lot::Kept;
-        self.kept.push_reserved(lot);
+        self.states[offset] = PlaceState::Vacant;
+        self.vacant.push_reserved(offset);
     }
 
     /// Gives the next answer where its piece has arrived.
     pub(crate) fn take(&mut self) -> Taken
         ensures step { IsStep self.old.lane (Take self.old.lane.table) (reply.Taken result) self.new.lane }
         ensures first { GivesFirst self.old.lane result self.new.lane }
-        ensures lots { (self.new.lots.items ≡ self.old.lots.items) × (self.new.kept.items ≡ self.old.kept.items) }
+        ensures states { (self.new.states.items ≡ self.old.states.items) × (self.new.vacant.items ≡ self.old.vacant.items) }
     {
         self.lane.take()
     }
@@ -109,7 +109,7 @@ impl Book {
         ensures not { result ≡ Ok false → self.new.lane ≡ self.old.lane }
         ensures err { OnErr result (self.new.lane ≡ self.old.lane) }
         ensures wanted { OnErr result (CanTakeBack self.old.lane seq) }
-        ensures lots { (self.new.lots.items ≡ self.old.lots.items) × (self.new.kept.items ≡ self.old.kept.items) }
+        ensures states { (self.new.states.items ≡ self.old.states.items) × (self.new.vacant.items ≡ self.old.vacant.items) }
     {
         self.lane.withdraw(seq)
     }
@@ -118,7 +118,7 @@ impl Book {
     pub(crate) fn close(&mut self) -> bool
         ensures step { IsStep self.old.lane (Close self.old.lane.table) (reply.Closed result) self.new.lane }
         ensures closed { self.new.lane ≡ record self.old.lane { closed = true } }
-        ensures lots { (self.new.lots.items ≡ self.old.lots.items) × (self.new.kept.items ≡ self.old.kept.items) }
+        ensures states { (self.new.states.items ≡ self.old.states.items) × (self.new.vacant.items ≡ self.old.vacant.items) }
     {
         self.lane.close()
     }

@@ -1,4 +1,4 @@
--- The posts of the workers, the calls of their gates, and the questions of a starter.
+-- The threads of the workers, the calls of their gates, and the questions of a starter.
 use Rattle.std.proofs.Common.{◌≡◌, ℕ, zero, suc, ◌+◌, ◌<◌, Bool, true, List, [], ◌∷◌, ◌++◌, map, reverse, sym, refl, ap, ◌∙◌, subst, arith, append_assoc}
 use Rattle.std.specs.List.{FoldsTo}
 use Rattle.std.proofs.lemmas.List.{map-append, reverse-append}

@@ -6,8 +6,8 @@ use Rattle.desk_core.specs.LaneState.{LaneState, is_among}
 use Rattle.desk_core.specs.declared.ticket.Ticket.{Ticket}
 use Rattle.riichi_hand.specs.declared.job.Job.{Job}
 use Rattle.desk_run.specs.Counts.{total, one_if, same_ticket}
-use Rattle.desk_run.specs.declared.lot.Lot.{Lot}
-use Rattle.desk_run.specs.declared.lot.Lot.TheVariants.{Fresh, Kept, Out}
+use Rattle.desk_run.specs.declared.place_state.PlaceState.{PlaceState}
+use Rattle.desk_run.specs.declared.place_state.PlaceState.TheVariants.{Fresh, Vacant, Out}
 
 abbrev pub ticket : ℕ → ℕ → Ticket
 ticket table seq = record { table = table; seq = seq }
@@ -21,37 +21,37 @@ abbrev pub IsPending : LaneState → Ticket → Job → Type 0
 IsPending lane x job =
     (x.table ≡ lane.table) × (lane.next ≤ x.seq) × (get_elem? lane.window (x.seq - lane.next) ≡ ghost_option.some (job, false))
 
-abbrev pub one_out : Lot → ℕ
+abbrev pub one_out : PlaceState → ℕ
 one_out Fresh = 0
-one_out Kept = 0
+one_out Vacant = 0
 one_out (Out x job) = 1
 
 -- how many places are out
-abbrev pub outs : List Lot → ℕ
-outs lots = total one_out lots
+abbrev pub outs : List PlaceState → ℕ
+outs states = total one_out states
 
-abbrev pub is_out : Ticket → Lot → Bool
+abbrev pub is_out : Ticket → PlaceState → Bool
 is_out x Fresh = false
-is_out x Kept = false
+is_out x Vacant = false
 is_out x (Out y job) = same_ticket x y
 
 -- at how many places the ticket is out
-abbrev pub times_out : Ticket → List Lot → ℕ
-times_out x lots = total (λ lot. one_if (is_out x lot)) lots
+abbrev pub times_out : Ticket → List PlaceState → ℕ
+times_out x states = total (λ state. one_if (is_out x state)) states
 
 -- the table withdrew the ticket with this number
 abbrev pub is_withdrawn : LaneState → ℕ → Bool
 is_withdrawn lane seq = is_among lane.withdrawn seq
 
 -- Each ticket of the lane's window that has neither arrived nor was withdrawn is out with its job, at
--- one place, and each other ticket that is out was withdrawn. Each other place is kept.
-pub record Agrees (lane : LaneState) (lots : List Lot) (kept : List ℕ) : Type 0 where
-  pub kept_are : (i k : ℕ) → get_elem? kept i ≡ ghost_option.some k → get_elem? lots k ≡ ghost_option.some Kept
-  pub once : (i j k : ℕ) → get_elem? kept i ≡ ghost_option.some k → get_elem? kept j ≡ ghost_option.some k → i ≡ j
-  pub counted : length kept + outs lots ≡ length lots
-  pub own : (k : ℕ) (x : Ticket) (job : Job) → get_elem? lots k ≡ ghost_option.some (Out x job)
+-- one place, and each other ticket that is out was withdrawn. Each other place is vacant.
+pub record Agrees (lane : LaneState) (states : List PlaceState) (vacant : List ℕ) : Type 0 where
+  pub vacant_are : (i k : ℕ) → get_elem? vacant i ≡ ghost_option.some k → get_elem? states k ≡ ghost_option.some Vacant
+  pub once : (i j k : ℕ) → get_elem? vacant i ≡ ghost_option.some k → get_elem? vacant j ≡ ghost_option.some k → i ≡ j
+  pub counted : length vacant + outs states ≡ length states
+  pub own : (k : ℕ) (x : Ticket) (job : Job) → get_elem? states k ≡ ghost_option.some (Out x job)
       → (x.table ≡ lane.table) × (x.seq < offered lane)
-  pub pending : (k : ℕ) (x : Ticket) (job : Job) → get_elem? lots k ≡ ghost_option.some (Out x job)
+  pub pending : (k : ℕ) (x : Ticket) (job : Job) → get_elem? states k ≡ ghost_option.some (Out x job)
       → is_withdrawn lane x.seq ≡ false → IsPending lane x job
   pub listed : (i : ℕ) (job : Job) → get_elem? lane.window i ≡ ghost_option.some (job, false)
-      → is_withdrawn lane (lane.next + i) ≡ false → times_out (ticket lane.table (lane.next + i)) lots ≡ 1
+      → is_withdrawn lane (lane.next + i) ≡ false → times_out (ticket lane.table (lane.next + i)) states ≡ 1
