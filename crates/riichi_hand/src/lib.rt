@@ -30,7 +30,9 @@ mod shape;
 mod tests;
 mod win;
 
-pub use fault::{LineCode, LineFault, TextName, fault_text};
+pub use fault::{
+    LineCode, LineFault, TextName, fault_text, line_code_text, name_text, notation_code_text,
+};
 pub use hand::HandRecord;
 pub use job::Job;
 pub use line::{next_word, read_line};

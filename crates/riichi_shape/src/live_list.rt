@@ -63,7 +63,7 @@ impl LiveList {
     }
 
     /// The live copies of every kind.
-    pub(crate) fn copies(&self) -> [u8; 34]
+    pub fn copies(&self) -> [u8; 34]
         ensures value { self.now ≡ pairs_of result }
         ensures most { (kind : ℕ) → slice_index result kind ≤ 4 }
     {

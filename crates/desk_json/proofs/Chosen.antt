@@ -1,0 +1,119 @@
+-- The texts of those numbers from 0 on that pass a test, written one after another.
+use Rattle.std.proofs.Common.{◌≡◌, ℕ, zero, suc, ◌+◌, ◌<◌, ◌≤◌, Bool, true, false, cond, Some, take, length, List, [], ◌∷◌, ◌++◌, map, refl, sym, ap, ◌∙◌, append_assoc, arith}
+use Rattle.std.proofs.lemmas.List.{append-nil, map-append, map_more}
+use Rattle.std.proofs.lemmas.List.Elements.{filter-append}
+use Rattle.std.specs.List.{filter, range_with_len}
+use Rattle.std.specs.Prelude.{slice_index, slice_get, nat_lt, IsTrue, ◌↔◌}
+use Rattle.std.proofs.lemmas.Option.{get_or_from_slice_get, slice_get_within}
+use Rattle.riichi_shape.specs.LiveCopies.{pairs_of}
+use Rattle.riichi_shape.specs.declared.discard.Discard.{Discard}
+use Rattle.riichi_shape.proofs.TextLemmas.{is_live}
+use Rattle.desk_json.specs.Parts.{comma_if, joined, live_text, discard_text}
+use Rattle.desk_json.proofs.Lists.{is_begun, joined_more}
+
+unfoldable pub texts_below : (ℕ → List ℕ) → (ℕ → Bool) → ℕ → List (List ℕ)
+texts_below text test n = map text (filter test (range_with_len 0 n))
+
+-- what stands behind a text after the numbers below n, and whether that is more than nothing
+pub record IsWrittenTo (text : ℕ → List ℕ) (test : ℕ → Bool) (n : ℕ) (before now : List ℕ) (later : Bool) : Type 0 where
+  pub bytes : now ≡ before ++ joined (texts_below text test n)
+  pub begun : later ≡ is_begun (texts_below text test n)
+
+range_last : (a n : ℕ) → range_with_len a (suc n) ≡ range_with_len a n ++ (a + n) ∷ []
+range_last a zero = ap (λ k. k ∷ []) (same a)
+  where
+    same : (a : ℕ) → a ≡ a + 0
+    same a = omega arith
+range_last a (suc n) = ap (λ ks. a ∷ ks) (range_last (a + 1) n ∙ ap (λ k. range_with_len (a + 1) n ++ k ∷ []) (same a n))
+  where
+    same : (a n : ℕ) → a + 1 + n ≡ a + suc n
+    same a n = omega arith
+
+texts_last : (text : ℕ → List ℕ) (test : ℕ → Bool) (n : ℕ) → texts_below text test (n + 1) ≡ texts_below text test n ++ map text (cond (test n) (n ∷ []) [])
+unfolding texts_below
+texts_last text test n =
+    ap (λ k. map text (filter test (range_with_len 0 k))) (next n)
+    ∙ ap (λ ks. map text (filter test ks)) (range_last 0 n ∙ ap (λ k. range_with_len 0 n ++ k ∷ []) (same n))
+    ∙ ap (map text) (filter-append test (range_with_len 0 n) (n ∷ []))
+    ∙ map-append text (filter test (range_with_len 0 n)) (cond (test n) (n ∷ []) [])
+  where
+    next : (n : ℕ) → n + 1 ≡ suc n
+    next n = omega arith
+
+    same : (n : ℕ) → 0 + n ≡ n
+    same n = omega arith
+
+begun_more : (texts : List (List ℕ)) (next : List ℕ) → true ≡ is_begun (texts ++ next ∷ [])
+begun_more [] next = refl
+begun_more (text ∷ texts) next = refl
+
+pub start : (text : ℕ → List ℕ) (test : ℕ → Bool) (before : List ℕ) → IsWrittenTo text test 0 before before false
+unfolding texts_below
+start text test before = record { bytes = sym (append-nil before); begun = refl }
+
+regroup : (a b c d : List ℕ) → ((a ++ b) ++ c) ++ d ≡ a ++ (b ++ (c ++ d))
+regroup a b c d = simp append_assoc
+
+-- after one that passes the test
+pub with_one : (text : ℕ → List ℕ) (test : ℕ → Bool) (n : ℕ) (before now then : List ℕ) (later later' : Bool) → test n ≡ true → IsWrittenTo text test n before now later
+    → then ≡ (now ++ comma_if later) ++ text n → later' ≡ true → IsWrittenTo text test (n + 1) before then later'
+with_one text test n before now then later later' passes so_far e is =
+    let texts = texts_below text test n in
+    let more : texts_below text test (n + 1) ≡ texts ++ text n ∷ [] = texts_last text test n ∙ ap (λ b. texts ++ map text (cond b (n ∷ []) [])) passes in
+    record {
+      bytes = e ∙ ap (λ l. (now ++ comma_if l) ++ text n) so_far.begun ∙ ap (λ t. (t ++ comma_if (is_begun texts)) ++ text n) so_far.bytes
+          ∙ regroup before (joined texts) (comma_if (is_begun texts)) (text n)
+          ∙ ap (λ t. before ++ t) (sym (joined_more texts (text n)) ∙ ap joined (sym more));
+      begun = is ∙ begun_more texts (text n) ∙ ap is_begun (sym more);
+    }
+
+-- after one that doesn't
+pub without_one : (text : ℕ → List ℕ) (test : ℕ → Bool) (n : ℕ) (before now then : List ℕ) (later later' : Bool) → test n ≡ false → IsWrittenTo text test n before now later
+    → then ≡ now → later' ≡ later → IsWrittenTo text test (n + 1) before then later'
+without_one text test n before now then later later' fails so_far e is =
+    let texts = texts_below text test n in
+    let same : texts_below text test (n + 1) ≡ texts = texts_last text test n ∙ ap (λ b. texts ++ map text (cond b (n ∷ []) [])) fails ∙ append-nil texts in
+    record {
+      bytes = e ∙ so_far.bytes ∙ ap (λ ts. before ++ joined ts) (sym same);
+      begun = is ∙ so_far.begun ∙ ap is_begun (sym same);
+    }
+
+-- the texts of all numbers below an end
+pub at_end : (text : ℕ → List ℕ) (test : ℕ → Bool) (n end : ℕ) (before now : List ℕ) (later : Bool) → IsWrittenTo text test n before now later → n ≤ end → end ≤ n
+    → now ≡ before ++ joined (texts_below text test end)
+at_end text test n end before now later so_far most least =
+    let same : n ≡ end = omega arith in
+    so_far.bytes ∙ ap (λ m. before ++ joined (texts_below text test m)) same
+
+pub unmarked : (mark told : Bool) → (IsTrue told ↔ (mark ≡ true)) → told ≡ false → mark ≡ false
+unmarked true told both e = absurd (apart (both.1 refl) e)
+  where
+    apart : told ≡ true → told ≡ false → ⊥
+    apart marked e = cc
+unmarked false told both e = refl
+
+-- ---- pairs and discards
+
+fused : {X Y : Type 0} (text : Y → List ℕ) (make : X → Y) (xs : List X) → map (λ x. text (make x)) xs ≡ map text (map make xs)
+fused text make [] = refl
+fused text make (x ∷ xs) = ap (λ ys. text (make x) ∷ ys) (fused text make xs)
+
+pub all_pairs : (copies : List ℕ) → texts_below (λ kind. live_text (kind, slice_index copies kind)) (λ kind. nat_lt 0 (slice_index copies kind)) 34 ≡ map live_text (pairs_of copies)
+unfolding texts_below pairs_of
+all_pairs copies = fused live_text (λ kind. (kind, slice_index copies kind)) (filter (λ kind. nat_lt 0 (slice_index copies kind)) (range_with_len 0 34))
+
+begun_taken : {X : Type 0} (f : X → List ℕ) (xs : List X) (i : ℕ) → i < length xs → nat_lt 0 i ≡ is_begun (map f (take i xs))
+begun_taken f [] i low = absurd (omega arith)
+begun_taken f (x ∷ xs) zero low = refl
+begun_taken f (x ∷ xs) (suc i) low = is_live (suc i) (omega arith)
+
+pub discard_more : (discards : List Discard) (before : List ℕ) (i : ℕ) (discard : Discard) → slice_get discards i ≡ Some discard
+    → ((before ++ joined (map discard_text (take i discards))) ++ comma_if (nat_lt 0 i)) ++ discard_text discard ≡ before ++ joined (map discard_text (take (i + 1) discards))
+discard_more discards before i discard e =
+    let low : i < length discards = slice_get_within discards i discard e in
+    let texts : List (List ℕ) = map discard_text (take i discards) in
+    let more : map discard_text (take (i + 1) discards) ≡ texts ++ discard_text discard ∷ [] =
+    map_more discard_text discards i discard low ∙ ap (λ d. texts ++ discard_text d ∷ []) (get_or_from_slice_get discards i discard discard e) in
+    ap (λ l. ((before ++ joined texts) ++ comma_if l) ++ discard_text discard) (begun_taken discard_text discards i low)
+    ∙ regroup before (joined texts) (comma_if (is_begun texts)) (discard_text discard)
+    ∙ ap (λ t. before ++ t) (sym (joined_more texts (discard_text discard)) ∙ ap joined (sym more))

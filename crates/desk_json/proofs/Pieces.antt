@@ -1,0 +1,161 @@
+-- The text of each answer's tree is made of the pieces that are written.
+use Rattle.std.proofs.Common.{◌≡◌, ℕ, Bool, true, false, cond, List, [], ◌∷◌, ◌++◌, map, refl, sym, ap, ◌∙◌, append_assoc, decimal}
+use Rattle.std.proofs.lemmas.List.{append-nil}
+use Rattle.std.specs.Prelude.{codes, ◌==◌}
+use Rattle.std.specs.Fmt.{signed_decimal}
+use Rattle.json.specs.Json.{Json, number, string}
+use Rattle.json.specs.Print.{escape, escape_byte, quoted}
+use Rattle.riichi_score.specs.declared.payers.Payment.{Payment}
+use Rattle.riichi_score.specs.declared.payers.Payment.TheVariants.{Ron, Tsumo, DealerTsumo}
+use Rattle.riichi_score.specs.declared.score.Score.{Score}
+use Rattle.riichi_score.specs.declared.answer.WinAnswer.{WinAnswer}
+use Rattle.riichi_score.specs.declared.answer.WinAnswer.TheVariants.{Won, NoYaku, NoWin}
+use Rattle.riichi_shape.specs.LiveCopies.{live_in}
+use Rattle.riichi_shape.specs.Text.{kind_text}
+use Rattle.riichi_shape.specs.declared.accepts.Accepts.{Accepts}
+use Rattle.riichi_shape.specs.declared.accepts.Accepts.TheVariants.{Thirteen, Fourteen}
+use Rattle.riichi_shape.specs.declared.discard.Discard.{Discard}
+use Rattle.riichi_shape.specs.declared.shape_answer.ShapeAnswer.{ShapeAnswer}
+use Rattle.riichi_yaku.specs.Table.{word_of}
+use Rattle.riichi_yaku.specs.YakuSets.{is_yakuman}
+use Rattle.desk_core.specs.declared.answer.Answer.TheVariants as answer
+use Rattle.desk_json.specs.Parts as parts
+use Rattle.desk_json.specs.Parts.{joined, yaku_text, limit_text, truth_text, payment_text, worth_text, points_text, score_text, yaku_list_text, quoted_kind, live_text, pairs_text, accepted_text, discard_text, discards_text, accepts_text, shape_text}
+use Rattle.desk_json.specs.Text.{answer_text}
+use Rattle.desk_json.specs.Trees.{answer_tree, items_of, list_of, members_of, object_of, natural, kind_tree, yaku_in, yaku_tree, limit_tree, payment_tree, score_tree, win_tree, kinds_in, waits_tree, live_tree, accepted_members, discard_tree, accepts_members, shape_tree}
+use Rattle.desk_json.proofs.Lists.{items_joined}
+use Rattle.desk_json.proofs.WordLemmas.{escape_kind, escape_word}
+use Rattle.desk_json.proofs.Written.{written, items_written, members_written, text_written}
+
+-- ---- wins
+
+yaku_with : (n : ℕ) (word : List ℕ) → escape word ≡ word
+    → written (object_of ((codes "number", natural n) ∷ (codes "word", string word) ∷ []))
+    ≡ codes "{\"number\":" ++ decimal n ++ codes ",\"word\":\"" ++ word ++ codes "\"}"
+unfolding written escape_byte
+yaku_with n word same = simp (append_assoc, same)
+
+pub yaku_written : (yaku : ℕ) → written (yaku_tree yaku) ≡ yaku_text yaku
+unfolding yaku_tree yaku_text
+yaku_written yaku = yaku_with yaku (word_of yaku) (escape_word yaku)
+
+limit_written : (base : ℕ) → written (limit_tree base) ≡ limit_text base
+unfolding written escape_byte limit_tree
+limit_written base = by_tests (base == 2000) (base == 3000) (base == 4000) (base == 6000) (base == 8000)
+  where
+    by_tests : (a b c d e : Bool) →
+        written (cond a (string (codes "mangan")) (cond b (string (codes "haneman")) (cond c (string (codes "baiman")) (cond d (string (codes "sanbaiman")) (cond e (string (codes "yakuman")) Json.null)))))
+        ≡ cond a (codes "\"mangan\"") (cond b (codes "\"haneman\"") (cond c (codes "\"baiman\"") (cond d (codes "\"sanbaiman\"") (cond e (codes "\"yakuman\"") (codes "null")))))
+    by_tests true b c d e = refl
+    by_tests false true c d e = refl
+    by_tests false false true d e = refl
+    by_tests false false false true e = refl
+    by_tests false false false false true = refl
+    by_tests false false false false false = refl
+
+payment_written : (payment : Payment) → written (payment_tree payment) ≡ payment_text payment
+unfolding written escape_byte payment_tree
+payment_written (Ron points) = refl
+payment_written (Tsumo other dealer) = simp append_assoc
+payment_written (DealerTsumo each) = refl
+
+truth_written : (truth : Bool) → written (Json.boolean truth) ≡ truth_text truth
+unfolding written
+truth_written true = refl
+truth_written false = refl
+
+-- a score with the texts of its truth, limit, payment and yaku
+score_with : Score → List ℕ → List ℕ → List ℕ → List ℕ → List ℕ
+score_with score truth limit payment yaku =
+    codes "{\"answer\":\"won\",\"yakuman\":" ++ (truth ++ (codes ",\"han\":" ++ (decimal score.han ++ (codes ",\"fu\":" ++ (decimal score.fu
+    ++ (codes ",\"dora\":" ++ (decimal score.dora ++ (codes ",\"base\":" ++ (decimal score.base ++ (codes ",\"limit\":" ++ (limit
+    ++ (codes ",\"payment\":" ++ (payment ++ (codes ",\"gain\":" ++ (decimal score.gain ++ (codes ",\"yaku\":[" ++ (yaku ++ codes "}")))))))))))))))))
+
+same_score : (score : Score) (t t' l l' p p' y y' : List ℕ) → t ≡ t' → l ≡ l' → p ≡ p' → y ≡ y' → score_with score t l p y ≡ score_with score t' l' p' y'
+same_score score t t' l l' p p' y y' e f g h = cc
+
+grouped : (a t b h c f d o e s g l i p j n k y x z : List ℕ)
+    → a ++ (t ++ (b ++ (h ++ (c ++ (f ++ (d ++ (o ++ (e ++ (s ++ (g ++ (l ++ (i ++ (p ++ (j ++ (n ++ (k ++ ((y ++ x) ++ z)))))))))))))))))
+    ≡ ((((((((((a ++ t) ++ b) ++ h) ++ c) ++ f) ++ d) ++ o) ++ (((((((e ++ s) ++ g) ++ l) ++ i) ++ p) ++ j) ++ n)) ++ k) ++ y) ++ (x ++ z)
+grouped a t b h c f d o e s g l i p j n k y x z = simp append_assoc
+
+score_written : (score : Score) → written (score_tree score) ≡ score_text score
+unfolding written escape_byte score_tree score_text worth_text points_text score_with
+score_written score =
+    same_score score _ (truth_text (is_yakuman score.yaku)) _ (limit_text score.base) _ (payment_text score.payment) _ (yaku_list_text score.yaku ++ codes "]")
+    (truth_written (is_yakuman score.yaku)) (limit_written score.base) (payment_written score.payment) (items_joined yaku_tree yaku_text yaku_written (yaku_in score.yaku))
+    ∙ grouped (codes "{\"answer\":\"won\",\"yakuman\":") (truth_text (is_yakuman score.yaku)) (codes ",\"han\":") (decimal score.han) (codes ",\"fu\":") (decimal score.fu)
+    (codes ",\"dora\":") (decimal score.dora) (codes ",\"base\":") (decimal score.base) (codes ",\"limit\":") (limit_text score.base)
+    (codes ",\"payment\":") (payment_text score.payment) (codes ",\"gain\":") (decimal score.gain) (codes ",\"yaku\":[") (yaku_list_text score.yaku) (codes "]") (codes "}")
+
+pub win_written : (win : WinAnswer) → answer_text (answer.Win win) ≡ parts.win_text win
+unfolding answer_tree win_tree parts.win_text written escape_byte
+win_written (Won score) = text_written (score_tree score) ∙ score_written score
+win_written NoYaku = text_written (win_tree NoYaku)
+win_written NoWin = text_written (win_tree NoWin)
+
+-- ---- waits
+
+kind_written : (kind : ℕ) → written (kind_tree kind) ≡ quoted_kind kind
+unfolding written
+kind_written kind = ap (λ t. 34 ∷ (t ++ 34 ∷ [])) (escape_kind kind)
+
+list_ends : (a y x z : List ℕ) → a ++ ((y ++ x) ++ z) ≡ (a ++ y) ++ (x ++ z)
+list_ends a y x z = simp append_assoc
+
+pub waits_written : (marks : List Bool) → answer_text (answer.Waits marks) ≡ parts.waits_text marks
+unfolding answer_tree waits_tree parts.waits_text written escape_byte
+waits_written marks =
+    text_written (waits_tree marks)
+    ∙ ap (λ t. codes "{\"answer\":\"waits\",\"kinds\":[" ++ (t ++ codes "}")) (items_joined kind_tree quoted_kind kind_written (kinds_in marks))
+    ∙ list_ends (codes "{\"answer\":\"waits\",\"kinds\":[") (parts.kinds_text marks) (codes "]") (codes "}")
+
+-- ---- shapes
+
+live_with : (kind live : List ℕ) → codes "{\"kind\":" ++ ((34 ∷ (kind ++ 34 ∷ [])) ++ (codes ",\"live\":" ++ (live ++ codes "}")))
+    ≡ (((codes "{\"kind\":\"" ++ kind) ++ codes "\",\"live\":") ++ live) ++ codes "}"
+live_with kind live = simp append_assoc
+
+live_written : (pair : ℕ × ℕ) → written (live_tree pair) ≡ live_text pair
+unfolding written escape_byte live_tree live_text
+live_written pair =
+    ap (λ t. codes "{\"kind\":" ++ ((34 ∷ (t ++ 34 ∷ [])) ++ (codes ",\"live\":" ++ (decimal pair.1 ++ codes "}")))) (escape_kind pair.0)
+    ∙ live_with (kind_text pair.0) (decimal pair.1)
+
+accepted_with : (pairs live : List ℕ) → codes ",\"accepts\":[" ++ ((pairs ++ codes "]") ++ (codes ",\"live\":" ++ (live ++ codes "}")))
+    ≡ codes "," ++ ((((codes "\"accepts\":[" ++ pairs) ++ codes "],\"live\":") ++ live) ++ codes "}")
+accepted_with pairs live = simp append_assoc
+
+accepted_written : (pairs : List (ℕ × ℕ)) → members_written true (members_of (accepted_members pairs)) ≡ codes "," ++ accepted_text pairs
+unfolding written escape_byte accepted_text
+accepted_written pairs =
+    ap (λ t. codes ",\"accepts\":[" ++ (t ++ (codes ",\"live\":" ++ (decimal (live_in pairs) ++ codes "}")))) (items_joined live_tree live_text live_written pairs)
+    ∙ accepted_with (pairs_text pairs) (decimal (live_in pairs))
+
+discard_with : (kind accepted : List ℕ) → codes "{\"discard\":" ++ ((34 ∷ (kind ++ 34 ∷ [])) ++ (codes "," ++ accepted))
+    ≡ ((codes "{\"discard\":\"" ++ kind) ++ codes "\",") ++ accepted
+discard_with kind accepted = simp append_assoc
+
+discard_written : (discard : Discard) → written (discard_tree discard) ≡ discard_text discard
+unfolding written escape_byte discard_tree discard_text
+discard_written discard =
+    ap (λ t. codes "{\"discard\":" ++ ((34 ∷ (t ++ 34 ∷ [])) ++ members_written true (members_of (accepted_members discard.accepted)))) (escape_kind discard.kind)
+    ∙ ap (λ t. codes "{\"discard\":" ++ ((34 ∷ (kind_text discard.kind ++ 34 ∷ [])) ++ t)) (accepted_written discard.accepted)
+    ∙ discard_with (kind_text discard.kind) (accepted_text discard.accepted)
+
+accepts_written : (accepts : Accepts) → members_written true (members_of (accepts_members accepts)) ≡ codes "," ++ accepts_text accepts
+unfolding written escape_byte accepts_text
+accepts_written (Thirteen accepted) = accepted_written accepted
+accepts_written (Fourteen discards) =
+    ap (λ t. codes ",\"discards\":[" ++ (t ++ codes "}")) (items_joined discard_tree discard_text discard_written discards)
+    ∙ list_ends (codes ",\"discards\":[") (discards_text discards) (codes "]") (codes "}")
+
+shape_ends : (a s c t : List ℕ) → a ++ (s ++ (c ++ t)) ≡ ((a ++ s) ++ c) ++ t
+shape_ends a s c t = simp append_assoc
+
+pub shape_written : (shape : ShapeAnswer) → answer_text (answer.Shape shape) ≡ shape_text shape
+unfolding answer_tree shape_tree shape_text written escape_byte
+shape_written shape =
+    text_written (shape_tree shape)
+    ∙ ap (λ t. codes "{\"answer\":\"shape\",\"shanten\":" ++ (signed_decimal shape.shanten ++ t)) (accepts_written shape.accepts)
+    ∙ shape_ends (codes "{\"answer\":\"shape\",\"shanten\":") (signed_decimal shape.shanten) (codes ",") (accepts_text shape.accepts)

@@ -1,0 +1,118 @@
+-- The pieces that the texts of the answers are written from.
+use Rattle.std.specs.Prelude.{ℕ, ◌==◌, Bool, true, false, List, [], ◌∷◌, ◌++◌, if◌then◌else◌, codes, decimal, map, flat_map}
+use Rattle.std.specs.Fmt.{signed_decimal}
+use Rattle.riichi_hand.specs.FaultTexts.{line_code_text, notation_code_text, name_text}
+use Rattle.riichi_hand.specs.declared.fault.LineFault.{LineFault}
+use Rattle.riichi_hand.specs.declared.fault.LineFault.TheVariants.{Line, Notation}
+use Rattle.riichi_yaku.specs.Table.{word_of}
+use Rattle.riichi_yaku.specs.YakuSets.{is_yakuman}
+use Rattle.riichi_score.specs.declared.payers.Payment.{Payment}
+use Rattle.riichi_score.specs.declared.payers.Payment.TheVariants.{Ron, Tsumo, DealerTsumo}
+use Rattle.riichi_score.specs.declared.score.Score.{Score}
+use Rattle.riichi_score.specs.declared.answer.WinAnswer.{WinAnswer}
+use Rattle.riichi_score.specs.declared.answer.WinAnswer.TheVariants.{Won, NoYaku, NoWin}
+use Rattle.riichi_shape.specs.LiveCopies.{live_in}
+use Rattle.riichi_shape.specs.Text.{kind_text}
+use Rattle.riichi_shape.specs.declared.accepts.Accepts.{Accepts}
+use Rattle.riichi_shape.specs.declared.accepts.Accepts.TheVariants.{Thirteen, Fourteen}
+use Rattle.riichi_shape.specs.declared.discard.Discard.{Discard}
+use Rattle.riichi_shape.specs.declared.shape_answer.ShapeAnswer.{ShapeAnswer}
+use Rattle.desk_json.specs.Trees.{yaku_in, kinds_in}
+
+-- ---- lists
+
+abbrev pub comma_if : Bool → List ℕ
+comma_if later = if later then codes "," else []
+
+-- texts with commas between them
+abbrev pub joined : List (List ℕ) → List ℕ
+joined [] = []
+joined (text ∷ texts) = text ++ flat_map (λ next. codes "," ++ next) texts
+
+-- ---- wins
+
+unfoldable pub yaku_text : ℕ → List ℕ
+yaku_text number = codes "{\"number\":" ++ decimal number ++ codes ",\"word\":\"" ++ word_of number ++ codes "\"}"
+
+abbrev pub yaku_list_text : ℕ → List ℕ
+yaku_list_text set = joined (map yaku_text (yaku_in set))
+
+abbrev pub limit_text : ℕ → List ℕ
+limit_text base =
+    if base == 2000 then codes "\"mangan\""
+    else (if base == 3000 then codes "\"haneman\""
+    else (if base == 4000 then codes "\"baiman\""
+    else (if base == 6000 then codes "\"sanbaiman\""
+    else (if base == 8000 then codes "\"yakuman\""
+    else codes "null"))))
+
+abbrev pub truth_text : Bool → List ℕ
+truth_text truth = if truth then codes "true" else codes "false"
+
+abbrev pub payment_text : Payment → List ℕ
+payment_text (Ron points) = codes "{\"discarder\":" ++ decimal points ++ codes "}"
+payment_text (Tsumo other dealer) = codes "{\"dealer\":" ++ decimal dealer ++ codes ",\"each_other\":" ++ decimal other ++ codes "}"
+payment_text (DealerTsumo each) = codes "{\"each\":" ++ decimal each ++ codes "}"
+
+-- the han with the fu and the dora
+unfoldable pub worth_text : Score → List ℕ
+worth_text score =
+    codes "{\"answer\":\"won\",\"yakuman\":" ++ truth_text (is_yakuman score.yaku)
+    ++ codes ",\"han\":" ++ decimal score.han ++ codes ",\"fu\":" ++ decimal score.fu ++ codes ",\"dora\":" ++ decimal score.dora
+
+unfoldable pub points_text : Score → List ℕ
+points_text score =
+    codes ",\"base\":" ++ decimal score.base ++ codes ",\"limit\":" ++ limit_text score.base
+    ++ codes ",\"payment\":" ++ payment_text score.payment ++ codes ",\"gain\":" ++ decimal score.gain
+
+unfoldable pub score_text : Score → List ℕ
+score_text score = worth_text score ++ points_text score ++ codes ",\"yaku\":[" ++ yaku_list_text score.yaku ++ codes "]}"
+
+unfoldable pub win_text : WinAnswer → List ℕ
+win_text (Won score) = score_text score
+win_text NoYaku = codes "{\"answer\":\"no yaku\"}"
+win_text NoWin = codes "{\"answer\":\"no win\"}"
+
+-- ---- waits
+
+abbrev pub quoted_kind : ℕ → List ℕ
+quoted_kind kind = codes "\"" ++ kind_text kind ++ codes "\""
+
+abbrev pub kinds_text : List Bool → List ℕ
+kinds_text marks = joined (map quoted_kind (kinds_in marks))
+
+unfoldable pub waits_text : List Bool → List ℕ
+waits_text marks = codes "{\"answer\":\"waits\",\"kinds\":[" ++ kinds_text marks ++ codes "]}"
+
+-- ---- shapes
+
+unfoldable pub live_text : ℕ × ℕ → List ℕ
+live_text pair = codes "{\"kind\":\"" ++ kind_text pair.0 ++ codes "\",\"live\":" ++ decimal pair.1 ++ codes "}"
+
+abbrev pub pairs_text : List (ℕ × ℕ) → List ℕ
+pairs_text pairs = joined (map live_text pairs)
+
+-- with the brace that ends its object
+unfoldable pub accepted_text : List (ℕ × ℕ) → List ℕ
+accepted_text pairs = codes "\"accepts\":[" ++ pairs_text pairs ++ codes "],\"live\":" ++ decimal (live_in pairs) ++ codes "}"
+
+unfoldable pub discard_text : Discard → List ℕ
+discard_text discard = codes "{\"discard\":\"" ++ kind_text discard.kind ++ codes "\"," ++ accepted_text discard.accepted
+
+abbrev pub discards_text : List Discard → List ℕ
+discards_text discards = joined (map discard_text discards)
+
+unfoldable pub accepts_text : Accepts → List ℕ
+accepts_text (Thirteen accepted) = accepted_text accepted
+accepts_text (Fourteen discards) = codes "\"discards\":[" ++ discards_text discards ++ codes "]}"
+
+unfoldable pub shape_text : ShapeAnswer → List ℕ
+shape_text shape = codes "{\"answer\":\"shape\",\"shanten\":" ++ signed_decimal shape.shanten ++ codes "," ++ accepts_text shape.accepts
+
+-- ---- faults
+
+unfoldable pub fault_parts : LineFault → List ℕ
+fault_parts (Line code) = codes "{\"answer\":\"refused\",\"code\":\"" ++ line_code_text code ++ codes "\"}"
+fault_parts (Notation name fault) =
+    codes "{\"answer\":\"refused\",\"code\":\"" ++ notation_code_text fault.code ++ codes "\",\"text\":\"" ++ name_text name
+    ++ codes "\",\"place\":" ++ decimal fault.place ++ codes "}"

@@ -1,0 +1,145 @@
+-- The answers as values of JSON.
+use Rattle.std.specs.Prelude.{ℕ, Bool, false, List, [], ◌∷◌, ◌==◌, if◌then◌else◌, codes, decimal, filter, slice_index_or}
+use Rattle.std.specs.Fmt.{signed_decimal}
+use Rattle.std.specs.List.{range_with_len}
+use Rattle.json.specs.Json.{Json, null, boolean, number, string, array, object, Items, no_items, item, Members, no_members, member}
+use Rattle.riichi_tiles.specs.Melds.{every_kind}
+use Rattle.riichi_tiles.specs.declared.notation.NotationFault.{NotationFault}
+use Rattle.riichi_hand.specs.FaultTexts.{line_code_text, notation_code_text, name_text}
+use Rattle.riichi_hand.specs.declared.fault.LineFault.{LineFault}
+use Rattle.riichi_hand.specs.declared.fault.LineFault.TheVariants.{Line, Notation}
+use Rattle.riichi_yaku.specs.Table.{word_of}
+use Rattle.riichi_yaku.specs.YakuSets.{has_number, is_yakuman}
+use Rattle.riichi_score.specs.declared.payers.Payment.{Payment}
+use Rattle.riichi_score.specs.declared.payers.Payment.TheVariants.{Ron, Tsumo, DealerTsumo}
+use Rattle.riichi_score.specs.declared.score.Score.{Score}
+use Rattle.riichi_score.specs.declared.answer.WinAnswer.{WinAnswer}
+use Rattle.riichi_score.specs.declared.answer.WinAnswer.TheVariants.{Won, NoYaku, NoWin}
+use Rattle.riichi_shape.specs.LiveCopies.{live_in}
+use Rattle.riichi_shape.specs.Text.{kind_text}
+use Rattle.riichi_shape.specs.declared.accepts.Accepts.{Accepts}
+use Rattle.riichi_shape.specs.declared.accepts.Accepts.TheVariants.{Thirteen, Fourteen}
+use Rattle.riichi_shape.specs.declared.discard.Discard.{Discard}
+use Rattle.riichi_shape.specs.declared.shape_answer.ShapeAnswer.{ShapeAnswer}
+use Rattle.desk_core.specs.declared.answer.Answer.{Answer}
+use Rattle.desk_core.specs.declared.answer.Answer.TheVariants as answer
+
+-- ---- values
+
+abbrev pub items_of : {X : Type 0} → (X → Json) → List X → Items
+items_of tree [] = no_items
+items_of tree (x ∷ xs) = item (tree x) (items_of tree xs)
+
+-- a list, with a value for each
+abbrev pub list_of : {X : Type 0} → (X → Json) → List X → Json
+list_of tree xs = array (items_of tree xs)
+
+-- a name with its value
+abbrev pub Named : Type 0
+Named = List ℕ × Json
+
+abbrev pub members_of : List Named → Members
+members_of [] = no_members
+members_of (named ∷ more) = member named.0 named.1 (members_of more)
+
+abbrev pub object_of : List Named → Json
+object_of named = object (members_of named)
+
+abbrev pub natural : ℕ → Json
+natural n = number (decimal n)
+
+-- an object that begins with what sort of answer it is
+abbrev pub answer_of_sort : List ℕ → List Named → Json
+answer_of_sort sort named = object_of ((codes "answer", string sort) ∷ named)
+
+-- a kind as its digit and its letter, as in 5p
+abbrev pub kind_tree : ℕ → Json
+kind_tree kind = string (kind_text kind)
+
+-- ---- wins
+
+-- the numbers of the yaku in a set, ascending
+unfoldable pub yaku_in : ℕ → List ℕ
+yaku_in set = filter (has_number set) (range_with_len 0 41)
+
+unfoldable pub yaku_tree : ℕ → Json
+yaku_tree yaku = object_of ((codes "number", natural yaku) ∷ (codes "word", string (word_of yaku)) ∷ [])
+
+-- the name of a limit by its base points
+unfoldable pub limit_tree : ℕ → Json
+limit_tree base =
+    if base == 2000 then string (codes "mangan")
+    else (if base == 3000 then string (codes "haneman")
+    else (if base == 4000 then string (codes "baiman")
+    else (if base == 6000 then string (codes "sanbaiman")
+    else (if base == 8000 then string (codes "yakuman")
+    else null))))
+
+-- what each payer pays
+unfoldable pub payment_tree : Payment → Json
+payment_tree (Ron points) = object_of ((codes "discarder", natural points) ∷ [])
+payment_tree (Tsumo other dealer) = object_of ((codes "dealer", natural dealer) ∷ (codes "each_other", natural other) ∷ [])
+payment_tree (DealerTsumo each) = object_of ((codes "each", natural each) ∷ [])
+
+unfoldable pub score_tree : Score → Json
+score_tree score = answer_of_sort (codes "won") (
+    (codes "yakuman", boolean (is_yakuman score.yaku))
+    ∷ (codes "han", natural score.han)
+    ∷ (codes "fu", natural score.fu)
+    ∷ (codes "dora", natural score.dora)
+    ∷ (codes "base", natural score.base)
+    ∷ (codes "limit", limit_tree score.base)
+    ∷ (codes "payment", payment_tree score.payment)
+    ∷ (codes "gain", natural score.gain)
+    ∷ (codes "yaku", list_of yaku_tree (yaku_in score.yaku))
+    ∷ [])
+
+unfoldable pub win_tree : WinAnswer → Json
+win_tree (Won score) = score_tree score
+win_tree NoYaku = answer_of_sort (codes "no yaku") []
+win_tree NoWin = answer_of_sort (codes "no win") []
+
+-- ---- waits
+
+-- the marked kinds, ascending
+unfoldable pub kinds_in : List Bool → List ℕ
+kinds_in marks = filter (λ kind. slice_index_or marks kind false) every_kind
+
+unfoldable pub waits_tree : List Bool → Json
+waits_tree marks = answer_of_sort (codes "waits") ((codes "kinds", list_of kind_tree (kinds_in marks)) ∷ [])
+
+-- ---- shapes
+
+-- a kind, and how many copies of it are live
+unfoldable pub live_tree : ℕ × ℕ → Json
+live_tree pair = object_of ((codes "kind", kind_tree pair.0) ∷ (codes "live", natural pair.1) ∷ [])
+
+-- the accepted kinds, and the live copies of all of them
+abbrev pub accepted_members : List (ℕ × ℕ) → List Named
+accepted_members pairs = (codes "accepts", list_of live_tree pairs) ∷ (codes "live", natural (live_in pairs)) ∷ []
+
+unfoldable pub discard_tree : Discard → Json
+discard_tree discard = object_of ((codes "discard", kind_tree discard.kind) ∷ accepted_members discard.accepted)
+
+abbrev pub accepts_members : Accepts → List Named
+accepts_members (Thirteen accepted) = accepted_members accepted
+accepts_members (Fourteen discards) = (codes "discards", list_of discard_tree discards) ∷ []
+
+unfoldable pub shape_tree : ShapeAnswer → Json
+shape_tree shape = answer_of_sort (codes "shape") ((codes "shanten", number (signed_decimal shape.shanten)) ∷ accepts_members shape.accepts)
+
+-- ---- answers
+
+unfoldable pub answer_tree : Answer → Json
+answer_tree (answer.Win win) = win_tree win
+answer_tree (answer.Waits kinds) = waits_tree kinds
+answer_tree (answer.Shape shape) = shape_tree shape
+
+-- what is refused: the code, and for a notation text its name and the place
+unfoldable pub fault_tree : LineFault → Json
+fault_tree (Line code) = answer_of_sort (codes "refused") ((codes "code", string (line_code_text code)) ∷ [])
+fault_tree (Notation name fault) = answer_of_sort (codes "refused") (
+    (codes "code", string (notation_code_text fault.code))
+    ∷ (codes "text", string (name_text name))
+    ∷ (codes "place", natural fault.place)
+    ∷ [])

@@ -1,0 +1,112 @@
+//! How far a hand is from winning, and what brings it nearer.
+ghost use Rattle.std.specs.Prelude.{ℕ, ◌≡◌, ◌≤◌, ◌<◌, ◌+◌, ◌++◌, slice_index};
+ghost use Rattle.arrayvec.specs.ArrayString.{array_string_len};
+ghost use Rattle.riichi_shape.specs.LiveCopies.{pairs_of};
+ghost use Rattle.desk_json.specs.Parts as spec;
+
+use crate::number::{push_after, push_comma_if, push_digit, push_kind};
+use crate::text::JsonText;
+use itoa::Buffer;
+use riichi_shape::{Accepts, Discard, DiscardList, LiveList, ShapeAnswer};
+use riichi_tiles::Kind;
+
+#[tactic(auto, unfolding(crate::specs::Parts::shape_text))]
+pub(crate) fn push_shape(text: &mut JsonText, shape: &ShapeAnswer)
+    requires { array_string_len text.old + 11667 ≤ 12288 }
+    ensures { text.new.bytes ≡ text.old.bytes ++ spec.shape_text shape.now }
+{
+    let mut buffer = Buffer::new();
+    text.push_str("{\"answer\":\"shape\",\"shanten\":");
+    text.push_str(buffer.format(shape.shanten));
+    text.push_str(",");
+    push_accepts(text, &shape.accepts);
+}
+
+#[tactic(auto, unfolding(crate::specs::Parts::accepts_text))]
+fn push_accepts(text: &mut JsonText, accepts: &Accepts)
+    requires { array_string_len text.old + 11634 ≤ 12288 }
+    ensures { text.new.bytes ≡ text.old.bytes ++ spec.accepts_text accepts.now }
+{
+    match accepts {
+        Accepts::Thirteen(accepted) => push_accepted(text, accepted),
+        Accepts::Fourteen(discards) => {
+            text.push_str("\"discards\":[");
+            push_discards(text, discards);
+            text.push_str("]}");
+        }
+    }
+}
+
+fn push_discards(text: &mut JsonText, discards: &DiscardList)
+    requires { array_string_len text.old + 11620 ≤ 12288 }
+    ensures bytes { text.new.bytes ≡ text.old.bytes ++ spec.discards_text discards.now }
+    ensures len { array_string_len text.new ≤ array_string_len text.old + 11620 }
+{
+    for place in 0..discards.len() {
+        if let Some(discard) = discards.get(place) {
+            push_discard(text, place > 0, &discard);
+        }
+    }
+}
+
+/// One discard, behind a comma where it is not the first.
+#[tactic(auto, unfolding(crate::specs::Parts::discard_text))]
+fn push_discard(text: &mut JsonText, later: bool, discard: &Discard)
+    requires { array_string_len text.old + 830 ≤ 12288 }
+    ensures bytes { text.new.bytes ≡
+        text.old.bytes ++ spec.comma_if later ++ spec.discard_text discard.now }
+    ensures len { array_string_len text.new ≤ array_string_len text.old + 830 }
+{
+    push_comma_if(text, later);
+    text.push_str("{\"discard\":\"");
+    push_kind(text, discard.kind);
+    text.push_str("\",");
+    push_accepted(text, &discard.accepted);
+}
+
+/// The accepted kinds with the live copies of all of them, and the brace after these.
+#[tactic(auto, unfolding(crate::specs::Parts::accepted_text))]
+fn push_accepted(text: &mut JsonText, accepted: &LiveList)
+    requires { array_string_len text.old + 813 ≤ 12288 }
+    ensures bytes { text.new.bytes ≡ text.old.bytes ++ spec.accepted_text accepted.now }
+    ensures len { array_string_len text.new ≤ array_string_len text.old + 813 }
+{
+    text.push_str("\"accepts\":[");
+    push_pairs(text, &accepted.copies());
+    push_after(text, "],\"live\":", accepted.live());
+    text.push_str("}");
+}
+
+/// Each kind that has live copies, ascending.
+fn push_pairs(text: &mut JsonText, copies: &[u8; 34])
+    requires room { array_string_len text.old + 782 ≤ 12288 }
+    requires few { (kind : ℕ) → slice_index copies.now kind ≤ 4 }
+    ensures bytes { text.new.bytes ≡ text.old.bytes ++ spec.pairs_text (pairs_of copies.now) }
+    ensures len { array_string_len text.new ≤ array_string_len text.old + 782 }
+{
+    let mut later = false;
+    for number in 0..34 {
+        let live = copies[number as usize];
+        if live > 0 {
+            push_pair(text, later, Kind::at(number), live);
+            later = true;
+        }
+    }
+}
+
+/// One kind with its live copies, behind a comma where it is not the first.
+#[tactic(auto, unfolding(crate::specs::Parts::live_text))]
+fn push_pair(text: &mut JsonText, later: bool, kind: Kind, live: u8)
+    requires room { array_string_len text.old + 23 ≤ 12288 }
+    requires few { live ≤ 4 }
+    ensures bytes { text.new.bytes ≡
+        text.old.bytes ++ spec.comma_if later ++ spec.live_text (kind, live) }
+    ensures len { array_string_len text.new ≤ array_string_len text.old + 23 }
+{
+    push_comma_if(text, later);
+    text.push_str("{\"kind\":\"");
+    push_kind(text, kind);
+    text.push_str("\",\"live\":");
+    push_digit(text, live);
+    text.push_str("}");
+}

@@ -1,0 +1,35 @@
+//! The text of an answer.
+ghost use Rattle.std.specs.Prelude.{◌≡◌, ◌≤◌, ◌+◌, ◌++◌};
+ghost use Rattle.arrayvec.specs.ArrayString.{array_string_len};
+ghost use Rattle.desk_json.specs.Text as spec;
+
+use crate::shape::push_shape;
+use crate::waits::push_waits;
+use crate::win::push_win;
+use arrayvec::ArrayString;
+use desk_core::Answer;
+
+/// Room for any answer as JSON: the longest has fourteen discards that accept every kind.
+pub type JsonText = ArrayString<12288>;
+
+/// The answer as one object, without the line's end.
+pub fn answer_text(answer: &Answer) -> JsonText
+    ensures { result.bytes ≡ spec.answer_text answer.now }
+{
+    let mut text = JsonText::new();
+    push_answer(&mut text, answer);
+    text
+}
+
+/// Writes the answer behind a text, without the line's end. A text that is kept need not be made
+/// anew for each answer.
+pub fn push_answer(text: &mut JsonText, answer: &Answer)
+    requires { array_string_len text.old + 11667 ≤ 12288 }
+    ensures { text.new.bytes ≡ text.old.bytes ++ spec.answer_text answer.now }
+{
+    match answer {
+        Answer::Win(win) => push_win(text, win),
+        Answer::Waits(kinds) => push_waits(text, kinds),
+        Answer::Shape(shape) => push_shape(text, shape),
+    }
+}

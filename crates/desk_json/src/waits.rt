@@ -1,0 +1,46 @@
+//! The kinds that a hand waits for.
+ghost use Rattle.std.specs.Prelude.{◌≡◌, ◌≤◌, ◌+◌, ◌++◌};
+ghost use Rattle.arrayvec.specs.ArrayString.{array_string_len};
+ghost use Rattle.desk_json.specs.Parts as spec;
+
+use crate::number::{push_comma_if, push_kind};
+use crate::text::JsonText;
+use riichi_tiles::{Kind, KindSet};
+
+#[tactic(auto, unfolding(crate::specs::Parts::waits_text))]
+pub(crate) fn push_waits(text: &mut JsonText, kinds: &KindSet)
+    requires { array_string_len text.old + 210 ≤ 12288 }
+    ensures { text.new.bytes ≡ text.old.bytes ++ spec.waits_text kinds.now }
+{
+    text.push_str("{\"answer\":\"waits\",\"kinds\":[");
+    push_kinds(text, kinds);
+    text.push_str("]}");
+}
+
+/// The kinds of a set, ascending.
+fn push_kinds(text: &mut JsonText, kinds: &KindSet)
+    requires { array_string_len text.old + 170 ≤ 12288 }
+    ensures bytes { text.new.bytes ≡ text.old.bytes ++ spec.kinds_text kinds.now }
+    ensures len { array_string_len text.new ≤ array_string_len text.old + 170 }
+{
+    let mut later = false;
+    for number in 0..34 {
+        let kind = Kind::at(number);
+        if kinds.contains(kind) {
+            push_one(text, later, kind);
+            later = true;
+        }
+    }
+}
+
+/// One kind, behind a comma where it is not the first.
+fn push_one(text: &mut JsonText, later: bool, kind: Kind)
+    requires { array_string_len text.old + 5 ≤ 12288 }
+    ensures bytes { text.new.bytes ≡ text.old.bytes ++ spec.comma_if later ++ spec.quoted_kind kind }
+    ensures len { array_string_len text.new ≤ array_string_len text.old + 5 }
+{
+    push_comma_if(text, later);
+    text.push_str("\"");
+    push_kind(text, kind);
+    text.push_str("\"");
+}

@@ -1,0 +1,106 @@
+//! What a win is worth.
+ghost use Rattle.std.specs.Prelude.{◌≡◌, ◌≤◌, ◌+◌, ◌++◌, length};
+ghost use Rattle.arrayvec.specs.ArrayString.{array_string_len};
+ghost use Rattle.desk_json.specs.Parts as spec;
+
+use crate::number::push_after;
+use crate::text::JsonText;
+use crate::yaku::push_yaku;
+use riichi_score::{Payment, Score, WinAnswer};
+
+#[tactic(auto, unfolding(crate::specs::Parts::win_text))]
+pub(crate) fn push_win(text: &mut JsonText, answer: &WinAnswer)
+    requires { array_string_len text.old + 2610 ≤ 12288 }
+    ensures { text.new.bytes ≡ text.old.bytes ++ spec.win_text answer.now }
+{
+    match answer {
+        WinAnswer::Won(score) => push_score(text, score),
+        WinAnswer::NoYaku => text.push_str("{\"answer\":\"no yaku\"}"),
+        WinAnswer::NoWin => text.push_str("{\"answer\":\"no win\"}"),
+    }
+}
+
+#[tactic(auto, unfolding(crate::specs::Parts::score_text))]
+fn push_score(text: &mut JsonText, score: &Score)
+    requires { array_string_len text.old + 2610 ≤ 12288 }
+    ensures { text.new.bytes ≡ text.old.bytes ++ spec.score_text score.now }
+{
+    push_worth(text, score);
+    push_points(text, score);
+    text.push_str(",\"yaku\":[");
+    push_yaku(text, score.yaku);
+    text.push_str("]}");
+}
+
+/// The han with the fu and the dora.
+#[tactic(auto, unfolding(crate::specs::Parts::worth_text))]
+fn push_worth(text: &mut JsonText, score: &Score)
+    requires { array_string_len text.old + 100 ≤ 12288 }
+    ensures bytes { text.new.bytes ≡ text.old.bytes ++ spec.worth_text score.now }
+    ensures len { array_string_len text.new ≤ array_string_len text.old + 100 }
+{
+    text.push_str("{\"answer\":\"won\",\"yakuman\":");
+    text.push_str(truth_text(score.yaku.is_yakuman()));
+    push_after(text, ",\"han\":", u32::from(score.han));
+    push_after(text, ",\"fu\":", u32::from(score.fu));
+    push_after(text, ",\"dora\":", u32::from(score.dora));
+}
+
+/// The base points, and what is paid for them.
+#[tactic(auto, unfolding(crate::specs::Parts::points_text))]
+fn push_points(text: &mut JsonText, score: &Score)
+    requires { array_string_len text.old + 150 ≤ 12288 }
+    ensures bytes { text.new.bytes ≡ text.old.bytes ++ spec.points_text score.now }
+    ensures len { array_string_len text.new ≤ array_string_len text.old + 150 }
+{
+    push_after(text, ",\"base\":", score.base);
+    text.push_str(",\"limit\":");
+    text.push_str(limit_text(score.base));
+    text.push_str(",\"payment\":");
+    push_payment(text, &score.payment);
+    push_after(text, ",\"gain\":", score.gain);
+}
+
+fn push_payment(text: &mut JsonText, payment: &Payment)
+    requires { array_string_len text.old + 45 ≤ 12288 }
+    ensures bytes { text.new.bytes ≡ text.old.bytes ++ spec.payment_text payment.now }
+    ensures len { array_string_len text.new ≤ array_string_len text.old + 45 }
+{
+    match payment {
+        Payment::Ron { points } => {
+            push_after(text, "{\"discarder\":", *points);
+            text.push_str("}");
+        }
+        Payment::Tsumo { other, dealer } => {
+            push_after(text, "{\"dealer\":", *dealer);
+            push_after(text, ",\"each_other\":", *other);
+            text.push_str("}");
+        }
+        Payment::DealerTsumo { each } => {
+            push_after(text, "{\"each\":", *each);
+            text.push_str("}");
+        }
+    }
+}
+
+fn truth_text(truth: bool) -> &'static str
+    ensures value { result.now ≡ spec.truth_text truth }
+    ensures short { length result.now ≤ 5 }
+{
+    if truth { "true" } else { "false" }
+}
+
+/// The name of the limit of these base points, in its quotes; `null` where they are below each.
+fn limit_text(base: u32) -> &'static str
+    ensures value { result.now ≡ spec.limit_text base }
+    ensures short { length result.now ≤ 11 }
+{
+    match base {
+        2000 => "\"mangan\"",
+        3000 => "\"haneman\"",
+        4000 => "\"baiman\"",
+        6000 => "\"sanbaiman\"",
+        8000 => "\"yakuman\"",
+        _ => "null",
+    }
+}
