@@ -151,8 +151,8 @@ module _ (suits : SuitsLacked) (m p s h n : ℕ) (m_low : m < 512) (p_low : p < 
   suits_at kind inside =
       ⊎_elim (λ low. in_lower ((bit_and h 127 * 512 + s) * 512 + p) m n m_low is kind low ∙ m_is kind low ∙ tested kind true (ltb kind 18) (ltb kind 27) (lower_than kind 9 low) refl refl)
       (λ high. ⊎_elim (λ low. first kind high ∙ in_lower (bit_and h 127 * 512 + s) p ((bit_and h 127 * 512 + s) * 512 + p) p_low refl (kind - 9) (omega arith) ∙ p_is (kind - 9) (omega arith)
-          ∙ tested kind false true (ltb kind 27) (not_lower kind 9 high) (lower_than kind 18 low) refl)
+      ∙ tested kind false true (ltb kind 27) (not_lower kind 9 high) (lower_than kind 18 low) refl)
       (λ high'. ⊎_elim (λ low. second kind high' ∙ in_lower (bit_and h 127) s (bit_and h 127 * 512 + s) s_low refl (kind - 18) (omega arith) ∙ s_is (kind - 18) (omega arith)
-          ∙ tested kind false false true (not_lower kind 9 high) (not_lower kind 18 high') (lower_than kind 27 low))
+      ∙ tested kind false false true (not_lower kind 9 high) (not_lower kind 18 high') (lower_than kind 27 low))
       (λ high''. third kind high'' ∙ in_seven h (kind - 27) (omega arith) ∙ h_is (kind - 27) (omega arith) ∙ tested kind false false false (not_lower kind 9 high) (not_lower kind 18 high') (not_lower kind 27 high''))
       (cases_lt kind 27)) (cases_lt kind 18)) (cases_lt kind 9)

@@ -1,10 +1,12 @@
 -- The discards of a hand as they are kept: how many copies of each kind are live stands once for all of them, and beside
 -- each discard the set of the kinds that it accepts.
-use Rattle.std.specs.Prelude.{◌≡◌, ℕ, ◌+◌, ◌*◌, ◌-◌, ◌^◌, ◌<◌, ◌≤◌, ◌%◌, ◌/◌, max, nat_le, nat_lt, Bool, true, List, [], ◌∷◌, ◌++◌, length, map, replicate, slice_index, take}
+use Rattle.std.specs.Prelude.{◌≡◌, ℕ, ◌+◌, ◌*◌, ◌-◌, ◌^◌, ◌<◌, ◌≤◌, ◌%◌, ◌/◌, max, nat_le, nat_lt, Bool, List, [], ◌∷◌, ◌++◌, length, map, replicate, slice_index, take}
 use Rattle.std.specs.Simd.Lanes.{mask_l}
 use Rattle.riichi_tiles.specs.Melds.{every_kind}
-use Rattle.riichi_shape.specs.Discards.{live_with}
-use Rattle.riichi_shape.specs.KindBits.{copies_among, has_kind}
+use Rattle.riichi_tiles.specs.declared.meld.Meld.{Meld}
+use Rattle.riichi_shape.specs.Accepted.{AreLiveCopies}
+use Rattle.riichi_shape.specs.Discards.{discard_of, live_with}
+use Rattle.riichi_shape.specs.KindBits.{HaveCopies, copies_among}
 use Rattle.riichi_shape.specs.LiveCopies.{copies_in, live_in, pairs_of}
 use Rattle.riichi_shape.specs.declared.discard.Discard.{Discard}
 use Rattle.riichi_shape.specs.declared.kept_discard.KeptDiscard.{KeptDiscard}
@@ -35,11 +37,16 @@ pub record AreFirst (count : ℕ) (places : List KeptDiscard) : Type 0 where
 abbrev pub told : List ℕ → KeptDiscard → Discard
 told copies kept = record { kind = kept.kind; accepted = pairs_of (copies_among copies (kinds_of kept)) }
 
+-- that is the discard of a kind, whatever is seen of the copies that are not live
+abbrev pub IsToldOf : List ℕ → List Meld → ℕ → List ℕ → KeptDiscard → Type 0
+IsToldOf hand melds kind copies kept =
+    (seen : List ℕ) → AreLiveCopies hand melds seen copies → told copies kept ≡ discard_of hand melds seen kind
+
 -- it is told whole: each kind that it accepts has a live copy, and so many are live in all
 pub record IsKept (copies : List ℕ) (kept : KeptDiscard) : Type 0 where
   pub numbers_below : kept.numbers < 2 ^ 27
   pub honours_below : kept.honours < 2 ^ 7
-  pub some_live : (kind : ℕ) → kind < 34 → has_kind (kinds_of kept) kind ≡ true → 0 < slice_index copies kind
+  pub some_live : HaveCopies copies (kinds_of kept)
   pub live_is : kept.live ≡ live_with (told copies kept)
 
 -- each of the discards is

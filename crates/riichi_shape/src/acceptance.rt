@@ -1,10 +1,9 @@
 //! The kinds that bring a hand nearer.
-ghost use Rattle.std.specs.Prelude.{ℕ, List, true, ◌≡◌, ◌<◌, ◌≤◌, slice_index};
-ghost use Rattle.riichi_tiles.specs.declared.meld.Meld.{Meld};
+ghost use Rattle.std.specs.Prelude.{ℕ, ◌≡◌, ◌<◌, ◌≤◌};
 ghost use Rattle.riichi_tiles.specs.Melds.{tiles};
-ghost use Rattle.riichi_shape.specs.Accepted.{AreAccepted, AreLiveCopies, accepted_of};
-ghost use Rattle.riichi_shape.specs.KindBits.{has_kind};
-ghost use Rattle.riichi_shape.specs.LackedKinds.{AreLackedOf};
+ghost use Rattle.riichi_shape.specs.Accepted.{AreLiveCopies, accepted_of};
+ghost use Rattle.riichi_shape.specs.KindBits.{HaveCopies};
+ghost use Rattle.riichi_shape.specs.LackedKinds.{AreAcceptedBy};
 
 use crate::hand_forms::HandForms;
 use crate::kind_bits::KindBits;
@@ -38,8 +37,8 @@ pub(crate) fn live_copies(hand: &Counts, melds: &Melds, seen: &Counts) -> LiveCo
 
 /// The accepted kinds of a hand: those with live copies that some least winning multiset lacks.
 pub(crate) fn accepted_by(lacked: &LackedKinds, hand: &Counts, live: &LiveCopies) -> KindBits
-    ensures accepted { (melds : List Meld) (seen : List ℕ) → AreLackedOf hand.now melds lacked.now → AreLiveCopies hand.now melds seen live.now.copies → AreAccepted hand.now melds seen live.now.copies result }
-    ensures live { (kind : ℕ) → kind < 34 → has_kind result kind ≡ true → 0 < slice_index live.now.copies kind }
+    ensures accepted { AreAcceptedBy hand.now lacked.now live.now.copies result }
+    ensures live { HaveCopies live.now.copies result }
 {
     lacked.kinds(&hand.to_array()).both(live.kinds)
 }

@@ -1,6 +1,6 @@
 //! The kinds that the winning multisets lack which a hand is nearest to.
-ghost use Rattle.std.specs.Prelude.{ℕ, ◌≡◌, ◌<◌, slice_index};
-ghost use Rattle.riichi_shape.specs.KindBits.{has_kind};
+ghost use Rattle.std.specs.Prelude.{slice_index};
+ghost use Rattle.riichi_shape.specs.KindBits.{AreKindsOf};
 ghost use Rattle.riichi_shape.specs.LackedKinds.{lacks_kind};
 
 use crate::kind_bits::KindBits;
@@ -18,7 +18,7 @@ pub(crate) struct LackedKinds {
 impl LackedKinds {
     /// The kinds that are lacked by a hand that holds so many of each.
     pub(crate) fn kinds(&self, held: &[u8; 34]) -> KindBits
-        ensures { (kind : ℕ) → kind < 34 → has_kind result kind ≡ lacks_kind self.now kind (slice_index held.now kind) }
+        ensures { AreKindsOf result (λ kind. lacks_kind self.now kind (slice_index held.now kind)) }
     {
         let kinds = self.suits.kinds();
         if self.special.is_empty() {

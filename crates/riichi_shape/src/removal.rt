@@ -1,10 +1,10 @@
 //! Which tile to discard from a hand of fourteen.
-ghost use Rattle.std.specs.Prelude.{ℕ, List, ◌≡◌, ◌<◌, ◌≤◌, slice_index};
+ghost use Rattle.std.specs.Prelude.{ℕ, ◌≡◌, ◌<◌, ◌≤◌, slice_index};
 ghost use Rattle.std.specs.List.{sum};
 ghost use Rattle.riichi_tiles.specs.Melds.{tiles};
-ghost use Rattle.riichi_shape.specs.Accepted.{AreLiveCopies, without_one};
+ghost use Rattle.riichi_shape.specs.Accepted.{without_one};
 ghost use Rattle.riichi_shape.specs.Discards as spec;
-ghost use Rattle.riichi_shape.specs.KeptDiscards.{IsKept, told};
+ghost use Rattle.riichi_shape.specs.KeptDiscards.{IsKept, IsToldOf};
 ghost use Rattle.riichi_shape.specs.Rows.{AreFormsOf, AreSuitsOf, IsRowAt};
 ghost use Rattle.riichi_shape.specs.Special.{SpecialLacks};
 
@@ -94,7 +94,7 @@ fn discard_of(
     requires least { least ≡ spec.distance_without hand.now melds.now kind }
     requires few { least ≤ 14 }
     requires row { IsRowAt (without_one hand.now kind) melds.now kind row.now }
-    ensures told { (seen : List ℕ) → AreLiveCopies hand.now melds.now seen live.now.copies → told live.now.copies result ≡ spec.discard_of hand.now melds.now seen kind }
+    ensures told { IsToldOf hand.now melds.now kind live.now.copies result }
     ensures kept { IsKept live.now.copies result }
 {
     let lacked = forms.lacked_without(hand, melds, kind, row, least);

@@ -2,7 +2,7 @@
 ghost use Rattle.std.specs.Prelude.{ℕ, ◌≡◌, ◌<◌, IsTrue, List, false, slice_index};
 ghost use Rattle.riichi_tiles.specs.declared.meld.Meld.{Meld};
 ghost use Rattle.riichi_shape.specs.Accepted.{without_one};
-ghost use Rattle.riichi_shape.specs.KindBits.{has_kind};
+ghost use Rattle.riichi_shape.specs.KindBits.{AreKindsOf};
 ghost use Rattle.riichi_shape.specs.Special.{AreSpecialForms, AreSpecialLacked, IsSpecialDistance, SpecialLacks, special_lacks};
 
 use crate::kind_bits::KindBits;
@@ -109,7 +109,7 @@ impl SpecialLacked {
 
     /// The kinds that are lacked by a hand that holds so many of each.
     pub(crate) fn kinds(&self, held: &[u8; 34]) -> KindBits
-        ensures { (kind : ℕ) → kind < 34 → has_kind result kind ≡ special_lacks self.now kind (slice_index held.now kind) }
+        ensures { AreKindsOf result (λ kind. special_lacks self.now kind (slice_index held.now kind)) }
     {
         let mut marks = [false; 34];
         for number in 0..34u8 {

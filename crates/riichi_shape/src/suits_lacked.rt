@@ -1,6 +1,5 @@
 //! The kinds that sets and a pair lack.
-ghost use Rattle.std.specs.Prelude.{ℕ, ◌≡◌, ◌<◌};
-ghost use Rattle.riichi_shape.specs.KindBits.{has_kind};
+ghost use Rattle.riichi_shape.specs.KindBits.{AreKindsOf};
 ghost use Rattle.riichi_shape.specs.LackedKinds.{suits_lack};
 
 use crate::kind_bits::KindBits;
@@ -18,7 +17,7 @@ pub(crate) struct SuitsLacked {
 impl SuitsLacked {
     /// The kinds that are lacked.
     pub(crate) fn kinds(&self) -> KindBits
-        ensures { (kind : ℕ) → kind < 34 → has_kind result kind ≡ suits_lack self.now kind }
+        ensures { AreKindsOf result (suits_lack self.now) }
     {
         let honours = self.honours.bits() & 127;
         let from_bamboos = honours * 512 + self.bamboos.bits();
