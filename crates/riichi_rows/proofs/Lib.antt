@@ -13,6 +13,7 @@ pub mod MarkedRanks
 pub mod OneChanged
 pub mod OneMore
 pub mod Opposite
+pub mod RankBits
 pub mod RankLanes
 pub mod Spread
 pub mod Steps

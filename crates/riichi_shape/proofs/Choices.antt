@@ -11,7 +11,7 @@ use Rattle.riichi_tiles.specs.declared.meld.Meld.{Meld}
 use Rattle.riichi_shape.specs.Accepted.{accepted_of}
 use Rattle.riichi_shape.specs.Answer.{accepts_of, shape_of}
 use Rattle.riichi_shape.specs.Choosing.{DiscardsLaw, HasDiscards, LeavesLeast}
-use Rattle.riichi_shape.specs.Discards.{discard_of, discards_of, distance_without, in_order, inserted, is_best, is_discard, is_held, live_with}
+use Rattle.riichi_shape.specs.Discards.{discard_of, discards_of, distance_without, in_order, inserted, inserted_by, is_best, is_discard, is_held, live_with}
 use Rattle.riichi_shape.specs.declared.accepts.Accepts.TheVariants.{Thirteen, Fourteen}
 use Rattle.riichi_shape.specs.declared.discard.Discard.{Discard}
 use Rattle.riichi_shape.specs.declared.shape_answer.ShapeAnswer.{ShapeAnswer}
@@ -42,12 +42,12 @@ from_put x discard next rest others true earlier h = h
 from_put x discard next rest others false earlier h = ⊎_elim (λ e. inr (inl e)) (λ more. ⊎_elim (λ here. inl here) (λ r. inr (inr r)) (earlier more)) h
 
 among_inserted : (x discard : Discard) (rest : List Discard) → Among x (discard ∷ rest) → Among x (inserted discard rest)
-unfolding inserted
+unfolding inserted_by
 among_inserted x discard [] h = h
 among_inserted x discard (next ∷ rest) h = among_put x discard next rest (inserted discard rest) (nat_le (live_with next) (live_with discard)) (λ r. among_inserted x discard rest r) h
 
 from_inserted : (x discard : Discard) (rest : List Discard) → Among x (inserted discard rest) → Among x (discard ∷ rest)
-unfolding inserted
+unfolding inserted_by
 from_inserted x discard [] h = h
 from_inserted x discard (next ∷ rest) h = from_put x discard next rest (inserted discard rest) (nat_le (live_with next) (live_with discard)) (λ r. from_inserted x discard rest r) h
 

@@ -1,84 +1,83 @@
 -- Discards in the first of fourteen places.
-use Rattle.std.proofs.Common.{◌≡◌, ℕ, zero, suc, ◌+◌, ◌-◌, ◌<◌, ◌≤◌, Bool, true, false, cond, List, [], ◌∷◌, ◌++◌, not, set, Option, Some, None, map, replicate, length, take, drop, refl, sym, ap, ◌∙◌, arith}
-use Rattle.std.proofs.lemmas.List.Sums.{sum_by-cons}
-use Rattle.std.proofs.lemmas.List.{append-nil, drop_all, length-drop, length-take-le, set-append_right, take_all}
+use Rattle.std.proofs.Common.{◌≡◌, ℕ, zero, suc, ◌+◌, ◌-◌, ◌<◌, ◌≤◌, Bool, true, false, cond, List, [], ◌∷◌, ◌++◌, not, set, Option, Some, None, replicate, length, take, drop, refl, sym, ap, ◌∙◌, arith}
+use Rattle.std.proofs.lemmas.List.{append-nil, drop_all, length-append, length-drop, length-replicate, length-take-le, set-append_right, take_all}
+use Rattle.std.proofs.Math.Seq.{take-append_seam}
 use borrow.Rule.Slice.PartMut.{put_mid}
-use Rattle.std.proofs.lemmas.Bool.{lt-ltb}
-use Rattle.std.specs.Prelude.{count_by, is_some, nat_le, nat_lt, unwrap_or}
+use Rattle.std.proofs.lemmas.Bool.Decides.{nat_tests}
+use Rattle.std.specs.Prelude.{nat_le, nat_lt, unwrap_or}
 use Rattle.std.specs.List.{position, position_or_len}
-use Rattle.riichi_shape.specs.declared.discard.Discard.{Discard}
-use Rattle.riichi_shape.specs.Discards.{discards_in, gives_way, inserted, live_with, placed}
+use Rattle.riichi_shape.specs.declared.kept_discard.KeptDiscard.{KeptDiscard}
+use Rattle.riichi_shape.specs.Discards.{inserted_by}
+use Rattle.riichi_shape.specs.KeptDiscards.{AreFirst, gives_way, no_discard, placed}
 
-abbrev one_if : Option Discard → ℕ
-one_if place = cond (is_some place) 1 0
-
-pub count_places : (places : List (Option Discard)) → count_by is_some places ≡ length (discards_in places)
-count_places [] = refl
-count_places (None ∷ places) = sum_by-cons one_if None places ∙ omega (arith, count_places places)
-count_places (Some discard ∷ places) = sum_by-cons one_if (Some discard) places ∙ omega (arith, count_places places)
+module _ {A : Type 0} (key : A → ℕ) (item : A) where
+  pub inserted_length : (items : List A) → length (inserted_by key item items) ≡ length items + 1
+  unfolding inserted_by
+  inserted_length [] = omega arith
+  inserted_length (next ∷ items) = by_test (nat_le (key next) (key item)) (inserted_by key item items) (inserted_length items)
+    where
+      by_test : (t : Bool) (rest : List A) → length rest ≡ length items + 1 → length (cond t (item ∷ next ∷ items) (next ∷ rest)) ≡ length (next ∷ items) + 1
+      by_test true rest e = omega arith
+      by_test false rest e = omega (arith, e)
 
 -- so many free places after the discards
-abbrev pub then_free : List Discard → ℕ → List (Option Discard)
-then_free discards free = map Some discards ++ replicate free None
+abbrev then_free : List KeptDiscard → ℕ → List KeptDiscard
+then_free discards free = discards ++ replicate free no_discard
 
-none_in : (free : ℕ) → discards_in (replicate free None) ≡ []
-none_in zero = refl
-none_in (suc free) = none_in free
-
-pub in_then_free : (discards : List Discard) (free : ℕ) → discards_in (then_free discards free) ≡ discards
-in_then_free [] free = none_in free
-in_then_free (discard ∷ discards) free = ap (λ ds. discard ∷ ds) (in_then_free discards free)
-
-length_then_free : (discards : List Discard) (free : ℕ) → length (then_free discards free) ≡ length discards + free
-length_then_free [] zero = refl
-length_then_free [] (suc free) = omega (arith, length_then_free [] free)
-length_then_free (discard ∷ discards) free = omega (arith, length_then_free discards free)
+length_then_free : (discards : List KeptDiscard) (free : ℕ) → length (then_free discards free) ≡ length discards + free
+length_then_free discards free = omega (arith, length-append discards (replicate free no_discard), length-replicate free no_discard)
 
 -- all but the last place, which is free
-take_free : (discards : List Discard) (free : ℕ) → take (length discards + free) (then_free discards (suc free)) ≡ then_free discards free
+take_free : (discards : List KeptDiscard) (free : ℕ) → take (length discards + free) (then_free discards (suc free)) ≡ then_free discards free
 take_free [] zero = refl
-take_free [] (suc free) = at_front (0 + suc free) (suc (0 + free)) (omega arith) ∙ ap (λ ps. None ∷ ps) (take_free [] free)
+take_free [] (suc free) = at_front (0 + suc free) (suc (0 + free)) (omega arith) ∙ ap (λ ps. no_discard ∷ ps) (take_free [] free)
   where
     at_front : (m n : ℕ) → m ≡ n → take m (then_free [] (suc (suc free))) ≡ take n (then_free [] (suc (suc free)))
     at_front m n e = ap (λ k. take k (then_free [] (suc (suc free)))) e
-take_free (discard ∷ discards) free = at_front (length (discard ∷ discards) + free) (suc (length discards + free)) (omega arith) ∙ ap (λ ps. Some discard ∷ ps) (take_free discards free)
+take_free (discard ∷ discards) free = at_front (length (discard ∷ discards) + free) (suc (length discards + free)) (omega arith) ∙ ap (λ ps. discard ∷ ps) (take_free discards free)
   where
     at_front : (m n : ℕ) → m ≡ n → take m (then_free (discard ∷ discards) (suc free)) ≡ take n (then_free (discard ∷ discards) (suc free))
     at_front m n e = ap (λ k. take k (then_free (discard ∷ discards) (suc free))) e
 
 -- the place of the first that gives way
-abbrev pub first_place : ℕ → List (Option Discard) → ℕ
-first_place live places = position_or_len (gives_way live) places
+abbrev pub first_place : ℕ → List KeptDiscard → ℕ
+first_place live discards = position_or_len (gives_way live) discards
 
-module _ (discard next : Discard) (discards : List Discard) (free n place : ℕ) where
-  abbrev others : List (Option Discard)
+abbrev pub put_in : KeptDiscard → List KeptDiscard → List KeptDiscard
+put_in discard discards = inserted_by (λ kept. kept.live) discard discards
+
+pub put_length : (discard : KeptDiscard) (discards : List KeptDiscard) → length (put_in discard discards) ≡ length discards + 1
+put_length discard discards = inserted_length (λ (kept : KeptDiscard). kept.live) discard discards
+
+module _ (discard next : KeptDiscard) (discards : List KeptDiscard) (free n place : ℕ) where
+  abbrev others : List KeptDiscard
   others = then_free discards (suc free)
 
-  abbrev put_from : ℕ → List (Option Discard)
-  put_from k = take k (Some next ∷ others) ++ Some discard ∷ take n (drop k (Some next ∷ others))
+  abbrev put_from : ℕ → List KeptDiscard
+  put_from k = take k (next ∷ others) ++ discard ∷ take n (drop k (next ∷ others))
 
   put_next : (t : Bool) → n ≡ suc (length discards) + free - cond (not t) (1 + place) 0 →
-      (t ≡ false → take place others ++ Some discard ∷ take n (drop place others) ≡ then_free (inserted discard discards) free) →
-      put_from (cond (not t) (1 + place) 0) ≡ then_free (cond t (discard ∷ next ∷ discards) (next ∷ inserted discard discards)) free
-  put_next true e later = ap (λ k. Some discard ∷ take k (Some next ∷ others)) count ∙ ap (λ ps. Some discard ∷ ps) (take_free (next ∷ discards) free)
+      (t ≡ false → take place others ++ discard ∷ take n (drop place others) ≡ then_free (put_in discard discards) free) →
+      put_from (cond (not t) (1 + place) 0) ≡ then_free (cond t (discard ∷ next ∷ discards) (next ∷ put_in discard discards)) free
+  put_next true e later = ap (λ k. discard ∷ take k (next ∷ others)) count ∙ ap (λ ps. discard ∷ ps) (take_free (next ∷ discards) free)
     where
       count : n ≡ length (next ∷ discards) + free
       count = omega arith
-  put_next false e later = ap put_from one_more ∙ ap (λ ps. Some next ∷ ps) (later refl)
+  put_next false e later = ap put_from one_more ∙ ap (λ ps. next ∷ ps) (later refl)
     where
       one_more : 1 + place ≡ suc place
       one_more = omega arith
 
-put_where : (discard : Discard) (discards : List Discard) (free n : ℕ) → n ≡ length discards + free - first_place (live_with discard) (then_free discards (suc free)) →
-    take (first_place (live_with discard) (then_free discards (suc free))) (then_free discards (suc free)) ++ Some discard ∷ take n (drop (first_place (live_with discard) (then_free discards (suc free))) (then_free discards (suc free))) ≡ then_free (inserted discard discards) free
-unfolding inserted
-put_where discard [] free n e = ap (λ k. Some discard ∷ take k (then_free [] (suc free))) (count n e) ∙ ap (λ ps. Some discard ∷ ps) (take_free [] free)
+put_where : (discard : KeptDiscard) (discards : List KeptDiscard) (free n : ℕ) → n ≡ length discards + free - first_place discard.live discards →
+    take (first_place discard.live discards) (then_free discards (suc free)) ++ discard ∷ take n (drop (first_place discard.live discards) (then_free discards (suc free))) ≡ then_free (put_in discard discards) free
+unfolding inserted_by
+put_where discard [] free n e = ap (λ k. discard ∷ take k (then_free [] (suc free))) (count n e) ∙ ap (λ ps. discard ∷ ps) (take_free [] free)
   where
-    count : (n : ℕ) → n ≡ length {A = Discard} [] + free - 0 → n ≡ 0 + free
+    count : (n : ℕ) → n ≡ length {A = KeptDiscard} [] + free - 0 → n ≡ 0 + free
     count n e = omega (arith, e)
 put_where discard (next ∷ discards) free n e =
-    put_next discard next discards free n (first_place (live_with discard) (then_free discards (suc free))) (nat_le (live_with next) (live_with discard)) (omega (arith, e))
-    (λ less. put_where discard discards free n (omega (arith, e, fewer (nat_le (live_with next) (live_with discard)) (first_place (live_with discard) (then_free discards (suc free))) less)))
+    put_next discard next discards free n (first_place discard.live discards) (nat_le next.live discard.live) (omega (arith, e))
+    (λ less. put_where discard discards free n (omega (arith, e, fewer (nat_le next.live discard.live) (first_place discard.live discards) less)))
   where
     fewer : (t : Bool) (k : ℕ) → t ≡ false → cond (not t) (1 + k) 0 ≡ 1 + k
     fewer true k h = cc
@@ -86,28 +85,24 @@ put_where discard (next ∷ discards) free n e =
 
 -- ---- a discard put in its place
 
-pub inserted_length : (discard : Discard) (discards : List Discard) → length (inserted discard discards) ≡ length discards + 1
-unfolding inserted
-inserted_length discard [] = refl
-inserted_length discard (next ∷ discards) = by_test (nat_le (live_with next) (live_with discard)) (inserted discard discards) (inserted_length discard discards)
-  where
-    by_test : (t : Bool) (rest : List Discard) → length rest ≡ length discards + 1 → length (cond t (discard ∷ next ∷ discards) (next ∷ rest)) ≡ length (next ∷ discards) + 1
-    by_test true rest e = omega arith
-    by_test false rest e = omega (arith, e)
-
-first_within : (live : ℕ) (discards : List Discard) (free : ℕ) → first_place live (then_free discards (suc free)) ≤ length discards
-first_within live [] free = omega arith
-first_within live (next ∷ discards) free = by_test (nat_le (live_with next) live) (first_place live (then_free discards (suc free))) (first_within live discards free)
+pub first_within : (live : ℕ) (discards : List KeptDiscard) → first_place live discards ≤ length discards
+first_within live [] = omega arith
+first_within live (next ∷ discards) = by_test (nat_le next.live live) (first_place live discards) (first_within live discards)
   where
     by_test : (t : Bool) (k : ℕ) → k ≤ length discards → cond (not t) (1 + k) 0 ≤ length (next ∷ discards)
     by_test true k h = omega arith
     by_test false k h = omega (arith, h)
 
-found : (i n : ℕ) → i < n → unwrap_or (cond (nat_lt i n) (Some i) None) 13 ≡ i
-found i n h = ap (λ t. unwrap_or (cond t (Some i) None) 13) (lt-ltb i n h)
+-- the place of the first, or the one behind them all
+pub found : (live : ℕ) (discards : List KeptDiscard) → unwrap_or (position (gives_way live) discards) (length discards) ≡ first_place live discards
+found live discards = by_place (first_place live discards) (length discards) (nat_lt (first_place live discards) (length discards)) refl (first_within live discards)
+  where
+    by_place : (i n : ℕ) (t : Bool) → nat_lt i n ≡ t → i ≤ n → unwrap_or (cond t (Some i) None) n ≡ i
+    by_place i n true e h = refl
+    by_place i n false e h = grind (arith, nat_tests)
 
-module _ (places now : List (Option Discard)) (discards : List Discard) (discard : Discard) (place n : ℕ) (room : length discards < 14) (placed_are : places ≡ placed discards)
-    (place_is : place ≡ unwrap_or (position (gives_way (live_with discard)) places) 13) (now_is : now ≡ take place places ++ Some discard ∷ take n (drop place places)) (n_is : n ≡ 13 - place) where
+module _ (places now : List KeptDiscard) (discards : List KeptDiscard) (discard : KeptDiscard) (place n : ℕ) (room : length discards < 14) (placed_are : places ≡ placed discards)
+    (place_is : place ≡ first_place discard.live discards) (now_is : now ≡ take place places ++ discard ∷ take n (drop place places)) (n_is : n ≡ 13 - place) where
   abbrev free : ℕ
   free = 13 - length discards
 
@@ -117,27 +112,31 @@ module _ (places now : List (Option Discard)) (discards : List Discard) (discard
       more : 14 - length discards ≡ suc free
       more = omega arith
 
-  abbrev first : ℕ
-  first = first_place (live_with discard) (then_free discards (suc free))
+  now_free : now ≡ then_free (put_in discard discards) free
+  now_free = now_is ∙ ap (λ ps. take place ps ++ discard ∷ take n (drop place ps)) are_free ∙ ap (λ k. take k (then_free discards (suc free)) ++ discard ∷ take n (drop k (then_free discards (suc free)))) place_is
+      ∙ put_where discard discards free n (omega (arith, n_is, place_is))
 
-  place_first : place ≡ first
-  place_first = place_is ∙ ap (λ ps. unwrap_or (position (gives_way (live_with discard)) ps) 13) are_free ∙ found first (length (then_free discards (suc free))) (omega (arith, first_within (live_with discard) discards free, length_then_free discards (suc free)))
+  pub now_told : (count : ℕ) → count ≡ length discards + 1 → take count now ≡ put_in discard discards
+  now_told count is = ap (take count) now_free ∙ ap (λ k. take k (then_free (put_in discard discards) free)) (is ∙ sym (put_length discard discards)) ∙ take-append_seam (put_in discard discards) (replicate free no_discard)
 
-  now_free : now ≡ then_free (inserted discard discards) free
-  now_free = now_is ∙ ap (λ ps. take place ps ++ Some discard ∷ take n (drop place ps)) are_free ∙ ap (λ k. take k (then_free discards (suc free)) ++ Some discard ∷ take n (drop k (then_free discards (suc free)))) place_first
-      ∙ put_where discard discards free n (omega (arith, n_is, place_first))
-
-  now_placed : now ≡ placed (inserted discard discards)
-  now_placed = now_free ∙ ap (then_free (inserted discard discards)) rest
+  pub now_first : (count : ℕ) → count ≡ length discards + 1 → AreFirst count now
+  now_first count is = record {
+    long = omega (arith, ap length now_free, length_then_free (put_in discard discards) free, put_length discard discards);
+    few = omega (arith, is);
+    free = now_free ∙ ap (then_free (put_in discard discards)) rest ∙ ap placed (sym (now_told count is));
+  }
     where
-      rest : free ≡ 14 - length (inserted discard discards)
-      rest = omega (arith, inserted_length discard discards)
+      rest : free ≡ 14 - length (put_in discard discards)
+      rest = omega (arith, put_length discard discards)
 
-  pub now_told : discards_in now ≡ inserted discard discards
-  now_told = ap discards_in now_free ∙ in_then_free (inserted discard discards) free
+-- the discards that are seen are so many
+pub seen_are : (count : ℕ) (places seen : List KeptDiscard) → AreFirst count places → take count places ≡ seen → (length seen ≡ count) × (places ≡ placed seen)
+seen_are count places seen first view = (omega (arith, ap length view, length-take-le count places (omega (arith, first.few, first.long))), first.free ∙ ap placed view)
 
-  pub now_invariant : (now ≡ placed (discards_in now)) × (length (discards_in now) ≤ 14)
-  now_invariant = (now_placed ∙ ap placed (sym now_told), omega (arith, inserted_length discard discards, ap length now_told))
+pub place_of : (count : ℕ) (places seen : List KeptDiscard) (live place : ℕ) (found_at : Option ℕ) → AreFirst count places → take count places ≡ seen → found_at ≡ position (gives_way live) (take count places) → place ≡ unwrap_or found_at count → place ≡ first_place live seen
+place_of count places seen live place found_at first view at_is place_is =
+    place_is ∙ ap (λ o. unwrap_or o count) at_is ∙ ap (λ ks. unwrap_or (position (gives_way live) ks) count) view
+    ∙ ap (unwrap_or (position (gives_way live) seen)) (sym ((seen_are count places seen first view).0)) ∙ found live seen
 
 -- ---- a part of a slice turned by one
 

@@ -8,7 +8,9 @@ pub mod Exists
 pub mod FormLemmas
 pub mod FourSuits
 pub mod KeptJoins
+pub mod KeptLemmas
 pub mod KeptRows
+pub mod KindLemmas
 pub mod LackedRows
 pub mod LiveLemmas
 pub mod Members

@@ -4,7 +4,7 @@ use Rattle.std.proofs.lemmas.Bool.Decides.{nat_tests}
 use Rattle.std.specs.List.{filter, range_with_len}
 use Rattle.std.specs.Prelude.{nat_le}
 use Rattle.riichi_tiles.specs.declared.meld.Meld.{Meld}
-use Rattle.riichi_shape.specs.Discards.{discard_of, discards_of, in_order, inserted, is_discard, live_with}
+use Rattle.riichi_shape.specs.Discards.{discard_of, discards_of, in_order, inserted, inserted_by, is_discard, live_with}
 use Rattle.riichi_shape.specs.Ordered.{AreOrdered, OrderLaw, StandsBefore, StandsBeforeAll}
 use Rattle.riichi_shape.specs.declared.discard.Discard.{Discard}
 
@@ -43,7 +43,7 @@ more_live d n e = grind (arith, nat_tests)
 
 -- what stands before all others stands before one more put among them
 all_inserted : (first discard : Discard) (rest : List Discard) → StandsBefore first discard → StandsBeforeAll first rest → StandsBeforeAll first (inserted discard rest)
-unfolding inserted
+unfolding inserted_by
 all_inserted first discard [] before all = (before, tt)
 all_inserted first discard (next ∷ rest) before all = by_test (nat_le (live_with next) (live_with discard)) (all_inserted first discard rest before all.1)
   where
@@ -52,7 +52,7 @@ all_inserted first discard (next ∷ rest) before all = by_test (nat_le (live_wi
     by_test false later = (all.0, later)
 
 ordered_inserted : (discard : Discard) (rest : List Discard) → IsOfLesserKind discard rest → AreOrdered rest → AreOrdered (inserted discard rest)
-unfolding inserted
+unfolding inserted_by
 ordered_inserted discard [] lesser are = (tt, tt)
 ordered_inserted discard (next ∷ rest) lesser are = by_test (nat_le (live_with next) (live_with discard)) refl (ordered_inserted discard rest lesser.1 are.1)
   where
@@ -64,7 +64,7 @@ ordered_inserted discard (next ∷ rest) lesser are = by_test (nat_le (live_with
     by_test false e later = (all_inserted next discard rest (inl (more_live (live_with discard) (live_with next) e)) are.0, later)
 
 lesser_inserted : (first discard : Discard) (rest : List Discard) → first.kind < discard.kind → IsOfLesserKind first rest → IsOfLesserKind first (inserted discard rest)
-unfolding inserted
+unfolding inserted_by
 lesser_inserted first discard [] kind lesser = (kind, tt)
 lesser_inserted first discard (next ∷ rest) kind lesser = by_test (nat_le (live_with next) (live_with discard)) (lesser_inserted first discard rest kind lesser.1)
   where

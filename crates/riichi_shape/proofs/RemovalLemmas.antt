@@ -9,7 +9,6 @@ use Rattle.riichi_tiles.specs.declared.meld.Meld.{Meld}
 use Rattle.riichi_rows.proofs.Spread.{spread, spread_add}
 use Rattle.riichi_shape.specs.declared.discard.Discard.{Discard}
 use Rattle.riichi_shape.specs.Discards.{AreDistancesWithout, IsLeastOf, discard_of, discards_of, distance_without, in_order, inserted, is_best, is_discard, is_held}
-use Rattle.riichi_shape.proofs.DiscardLemmas.{inserted_length}
 use Rattle.riichi_shape.proofs.PairLemmas.{spread_total, sum_is_total}
 use Rattle.riichi_shape.proofs.Members.{Among, all_among, all_of, among_filter, among_range, from_filter, from_range}
 
@@ -113,8 +112,8 @@ module _ (hand : List ℕ) (melds : List Meld) (seen : List ℕ) (number : ℕ) 
       next : number - 1 + 1 ≡ number
       next = omega arith
 
-  pub still_room : (list : List Discard) → length hand ≡ 34 → sum hand ≤ 14 → 0 < slice_index hand (number - 1) → length list ≤ spread (slice_index hand) number (34 - number) → length list < 14
-  still_room list long few held so_many =
+  pub still_room : (size : ℕ) → length hand ≡ 34 → sum hand ≤ 14 → 0 < slice_index hand (number - 1) → size ≤ spread (slice_index hand) number (34 - number) → size < 14
+  still_room size long few held so_many =
       let whole = spread_add (slice_index hand) 0 (number - 1) (34 - (number - 1)) in
       omega (arith, whole, all, parts, here, spread_at, so_many, held, few)
     where
@@ -169,11 +168,11 @@ module _ (hand : List ℕ) (melds : List Meld) (seen : List ℕ) (number : ℕ) 
     left_worse held worse =
         left_list (either_false (is_held hand (number - 1)) (is_best hand melds (number - 1)) (inr (sym (best_is hand melds distances least are is (number - 1) (omega arith) held) ∙ not_equal (slice_index distances (number - 1)) least worse)))
 
-  pub put_few : (list : List Discard) (discard : Discard) → length list ≤ spread (slice_index hand) number (34 - number) → 0 < slice_index hand (number - 1) → length (inserted discard list) ≤ spread (slice_index hand) (number - 1) (34 - (number - 1))
-  put_few list discard few held = omega (arith, inserted_length discard list, few, held, spread_at)
+  pub put_few : (size : ℕ) → size ≤ spread (slice_index hand) number (34 - number) → 0 < slice_index hand (number - 1) → size + 1 ≤ spread (slice_index hand) (number - 1) (34 - (number - 1))
+  put_few size few held = omega (arith, few, held, spread_at)
 
-  pub left_few : (list : List Discard) → length list ≤ spread (slice_index hand) number (34 - number) → length list ≤ spread (slice_index hand) (number - 1) (34 - (number - 1))
-  left_few list few = omega (arith, few, spread_at)
+  pub left_few : (size : ℕ) → size ≤ spread (slice_index hand) number (34 - number) → size ≤ spread (slice_index hand) (number - 1) (34 - (number - 1))
+  left_few size few = omega (arith, few, spread_at)
 
 -- ---- the hand without each of so many kinds
 

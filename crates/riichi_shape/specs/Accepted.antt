@@ -4,6 +4,8 @@ use Rattle.riichi_tiles.specs.Melds.{every_kind}
 use Rattle.riichi_tiles.specs.declared.meld.Meld.{Meld}
 use Rattle.riichi_hand.specs.Hand.{copies_held}
 use Rattle.riichi_shape.specs.EveryWinning.{distance_of}
+use Rattle.riichi_shape.specs.KindBits.{copies_among}
+use Rattle.riichi_shape.specs.LiveCopies.{pairs_of}
 
 -- one tile of the kind more, and one less
 abbrev pub with_one : List ℕ → ℕ → List ℕ
@@ -33,3 +35,7 @@ accepted_copies hand melds seen kind = if is_accepted hand melds seen kind then 
 -- the accepted kinds with their live copies, ascending
 unfoldable pub accepted_of : List ℕ → List Meld → List ℕ → List (ℕ × ℕ)
 accepted_of hand melds seen = map (λ kind. (kind, live_of hand melds seen kind)) (filter (is_accepted hand melds seen) every_kind)
+
+-- of these live copies those of the kinds of a set are just the accepted ones
+abbrev pub AreAccepted : List ℕ → List Meld → List ℕ → List ℕ → ℕ → Type 0
+AreAccepted hand melds seen copies set = pairs_of (copies_among copies set) ≡ accepted_of hand melds seen

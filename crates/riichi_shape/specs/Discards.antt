@@ -1,5 +1,5 @@
 -- Which tile to discard from a hand of fourteen, and what it then accepts.
-use Rattle.std.specs.Prelude.{◌≡◌, ℕ, ◌<◌, ◌≤◌, ◌-◌, ◌&&◌, Bool, true, nat_le, nat_lt, if◌then◌else◌, List, [], ◌∷◌, ◌++◌, map, filter, replicate, length, slice_index, Option, None, Some}
+use Rattle.std.specs.Prelude.{◌≡◌, ℕ, ◌<◌, ◌≤◌, ◌-◌, ◌&&◌, Bool, true, nat_le, nat_lt, if◌then◌else◌, List, [], ◌∷◌, map, filter, slice_index}
 use Rattle.std.specs.List.{list_all}
 use Rattle.riichi_tiles.specs.Melds.{every_kind}
 use Rattle.riichi_tiles.specs.declared.meld.Meld.{Meld}
@@ -41,9 +41,14 @@ discard_of hand melds seen kind = record { kind = kind; accepted = accepted_of (
 abbrev pub live_with : Discard → ℕ
 live_with discard = live_in discard.accepted
 
-unfoldable pub inserted : Discard → List Discard → List Discard
-inserted discard [] = discard ∷ []
-inserted discard (next ∷ rest) = if nat_le (live_with next) (live_with discard) then discard ∷ next ∷ rest else next ∷ inserted discard rest
+-- put before the first whose key is no greater
+unfoldable pub inserted_by : {A : Type 0} → (A → ℕ) → A → List A → List A
+inserted_by key item [] = item ∷ []
+inserted_by key item (next ∷ rest) =
+    if nat_le (key next) (key item) then item ∷ next ∷ rest else next ∷ inserted_by key item rest
+
+abbrev pub inserted : Discard → List Discard → List Discard
+inserted = inserted_by live_with
 
 unfoldable pub in_order : List Discard → List Discard
 in_order [] = []
@@ -55,20 +60,3 @@ is_discard hand melds kind = is_held hand kind && is_best hand melds kind
 -- the discards of a hand
 unfoldable pub discards_of : List ℕ → List Meld → List ℕ → List Discard
 discards_of hand melds seen = in_order (map (discard_of hand melds seen) (filter (is_discard hand melds) every_kind))
-
--- a place that is free, or whose discard has no more live copies than this
-abbrev pub gives_way : ℕ → Option Discard → Bool
-gives_way live None = true
-gives_way live (Some discard) = nat_le (live_with discard) live
-
--- Discards stand in the first of fourteen places.
-abbrev pub as_list : Option Discard → List Discard
-as_list None = []
-as_list (Some discard) = discard ∷ []
-
-abbrev pub discards_in : List (Option Discard) → List Discard
-discards_in [] = []
-discards_in (place ∷ places) = as_list place ++ discards_in places
-
-abbrev pub placed : List Discard → List (Option Discard)
-placed discards = map Some discards ++ replicate (14 - length discards) None

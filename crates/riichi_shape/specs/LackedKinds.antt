@@ -3,6 +3,7 @@ use Rattle.std.specs.Prelude.{ℕ, ◌-◌, ◌<◌, ◌≤◌, ◌↔◌, ◌||
 use Rattle.riichi_rows.specs.Marks.{has_rank}
 use Rattle.riichi_tiles.specs.Melds.{tiles}
 use Rattle.riichi_tiles.specs.declared.meld.Meld.{Meld}
+use Rattle.riichi_shape.specs.Accepted.{AreAccepted, AreLiveCopies}
 use Rattle.riichi_shape.specs.EveryWinning.{distance_of}
 use Rattle.riichi_shape.specs.Lacked.{StandardLacks, WinningLacks}
 use Rattle.riichi_shape.specs.Special.{special_lacks}
@@ -39,3 +40,8 @@ pub record AreLackedOf (hand : List ℕ) (melds : List Meld) (lacked : LackedKin
   pub at_most_four : length melds ≤ 4
   pub of_a_kind : (kind : ℕ) → kind < 34 → tiles melds kind ≤ 4
   pub least : AreLackedKinds hand melds (distance_of hand melds) lacked
+
+-- what these kinds have of the live copies is what a hand accepts that lacks just the kinds that are lacked
+abbrev pub AreAcceptedBy : List ℕ → LackedKinds → List ℕ → ℕ → Type 0
+AreAcceptedBy hand lacked copies set =
+    (melds : List Meld) (seen : List ℕ) → AreLackedOf hand melds lacked → AreLiveCopies hand melds seen copies → AreAccepted hand melds seen copies set

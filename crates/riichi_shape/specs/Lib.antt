@@ -6,6 +6,8 @@ pub mod Distance
 pub mod Forms
 pub mod EveryWinning
 pub mod Lacked
+pub mod KeptDiscards
+pub mod KindBits
 pub mod LackedKinds
 pub mod LiveCopies
 pub mod Ordered

@@ -1,12 +1,14 @@
 //! The kinds that bring a hand nearer.
-ghost use Rattle.std.specs.Prelude.{ℕ, List, ◌≡◌, ◌<◌, ◌≤◌, slice_index};
-ghost use Rattle.riichi_tiles.specs.declared.meld.Meld.{Meld};
+ghost use Rattle.std.specs.Prelude.{ℕ, ◌≡◌, ◌<◌, ◌≤◌};
 ghost use Rattle.riichi_tiles.specs.Melds.{tiles};
 ghost use Rattle.riichi_shape.specs.Accepted.{AreLiveCopies, accepted_of};
-ghost use Rattle.riichi_shape.specs.LackedKinds.{AreLackedOf};
+ghost use Rattle.riichi_shape.specs.KindBits.{HaveCopies};
+ghost use Rattle.riichi_shape.specs.LackedKinds.{AreAcceptedBy};
 
 use crate::hand_forms::HandForms;
+use crate::kind_bits::KindBits;
 use crate::lacked_kinds::LackedKinds;
+use crate::live_copies::LiveCopies;
 use crate::live_list::LiveList;
 use crate::melded_tiles::melded_tiles;
 use riichi_rows::FreshRows;
@@ -14,25 +16,31 @@ use riichi_tiles::{Counts, Melds};
 
 /// The live copies of every kind: those that are in neither the hand nor the melds, and not seen
 /// elsewhere.
-pub(crate) fn live_copies(hand: &Counts, melds: &Melds, seen: &Counts) -> [u8; 34]
-    ensures { AreLiveCopies hand.now melds.now seen.now result }
+pub(crate) fn live_copies(hand: &Counts, melds: &Melds, seen: &Counts) -> LiveCopies
+    ensures { AreLiveCopies hand.now melds.now seen.now result.copies }
 {
     let held = hand.to_array();
     let melded = melded_tiles(melds);
     let elsewhere = seen.to_array();
-    let mut live = [0; 34];
+    let mut copies = [0; 34];
+    let mut marks = [false; 34];
     for kind in 0..34usize {
-        live[kind] = 4u8.saturating_sub(held[kind] + melded[kind] + elsewhere[kind]);
+        let live = 4u8.saturating_sub(held[kind] + melded[kind] + elsewhere[kind]);
+        copies[kind] = live;
+        marks[kind] = live > 0;
     }
-    live
+    LiveCopies {
+        copies,
+        kinds: KindBits::marked(&marks),
+    }
 }
 
 /// The accepted kinds of a hand: those with live copies that some least winning multiset lacks.
-pub(crate) fn accepted_by(lacked: &LackedKinds, hand: &Counts, live: &[u8; 34]) -> LiveList
-    requires live { (kind : ℕ) → slice_index live.now kind ≤ 4 }
-    ensures { (melds : List Meld) (seen : List ℕ) → AreLackedOf hand.now melds lacked.now → AreLiveCopies hand.now melds seen live.now → result ≡ accepted_of hand.now melds seen }
+pub(crate) fn accepted_by(lacked: &LackedKinds, hand: &Counts, live: &LiveCopies) -> KindBits
+    ensures accepted { AreAcceptedBy hand.now lacked.now live.now.copies result }
+    ensures live { HaveCopies live.now.copies result }
 {
-    LiveList::new(lacked.among(live, &hand.to_array()))
+    lacked.kinds(&hand.to_array()).both(live.kinds)
 }
 
 /// The kinds with live copies of which one more tile lowers the shanten, each with its live
@@ -42,6 +50,7 @@ pub fn accepted(hand: &Counts, melds: &Melds, seen: &Counts) -> LiveList
     ensures { result ≡ accepted_of hand.now melds.now seen.now }
 {
     let forms = HandForms::new(&mut FreshRows, hand, melds);
+    let live = live_copies(hand, melds, seen);
     let lacked = forms.lacked(melds, forms.distance(melds));
-    accepted_by(&lacked, hand, &live_copies(hand, melds, seen))
+    live.list(accepted_by(&lacked, hand, &live))
 }

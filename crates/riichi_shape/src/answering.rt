@@ -33,9 +33,10 @@ fn shape_of_thirteen<R: RowSource>(
     let forms = HandForms::new(source, hand, melds);
     let least = forms.distance(melds);
     let live = live_copies(hand, melds, seen);
+    let kinds = accepted_by(&forms.lacked(melds, least), hand, &live);
     ShapeAnswer {
         shanten: shanten_at(least),
-        accepts: Accepts::Thirteen(accepted_by(&forms.lacked(melds, least), hand, &live)),
+        accepts: Accepts::Thirteen(live.list(kinds)),
     }
 }
 
@@ -48,7 +49,6 @@ fn shape_of_fourteen<R: RowSource>(
 ) -> ShapeAnswer
     requires melded { (k : ℕ) → k < 34 → tiles melds.now k ≤ 4 }
     requires few { sum hand.now ≤ 14 }
-    requires room { (k : ℕ) → k < 34 → 0 < slice_index hand.now k → slice_index seen.now k < 4 }
     requires fourteen { is_thirteen hand.now melds.now ≡ false }
     ensures shape { result ≡ shape_of (record { tiles = hand.now; melds = melds.now; seen = seen.now }) }
     ensures stays { source.new ≡ source.old }

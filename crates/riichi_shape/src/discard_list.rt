@@ -1,37 +1,44 @@
 //! The discards of a hand of fourteen tiles.
-ghost use Rattle.std.specs.Prelude.{◌≡◌, ◌-◌, ◌<◌, ◌≤◌, ◌∷◌, ◌++◌, [], length, slice_get, take, drop, Some};
-ghost use Rattle.std.specs.List.{position};
-ghost use Rattle.riichi_shape.specs.Discards.{inserted, gives_way};
+ghost use Rattle.std.specs.Prelude.{ℕ, ◌≡◌, ◌≤◌, length, map, slice_get, slice_index};
+ghost use Rattle.riichi_shape.specs.KeptDiscards.{AreKept, told};
 
 use crate::discard::Discard;
+use crate::discard_order::DiscardOrder;
 use std::marker::Model;
 
-/// Discards, at most fourteen, in the order in which they are told.
+/// Discards, at most fourteen, in the order in which they are told. How many copies of a kind are live does not depend on
+/// the discard: it stands here once.
 #[derive(Clone, Copy, Debug, PartialEq, Eq)]
 pub struct DiscardList {
-    places: [Option<Discard>; 14],
+    copies: [u8; 34],
+    order: DiscardOrder,
 }
 
 impl Model for DiscardList {
-    ghost use Rattle.std.specs.Prelude.{List, ◌≡◌, ◌≤◌, length};
+    ghost use Rattle.std.specs.Prelude.{List, map};
     ghost use Rattle.riichi_shape.specs.declared.discard.Discard.{Discard};
-    ghost use Rattle.riichi_shape.specs.Discards.{discards_in, placed};
+    ghost use Rattle.riichi_shape.specs.KeptDiscards.{AreTold, all_copies, kept_of, told};
 
     ghost Value = { List Discard };
 
-    ghost view = { λ l. discards_in l.places };
+    ghost view = { λ l. map (told l.copies) l.order };
 
-    ghost invariant = { λ l. (l.places ≡ placed (discards_in l.places)) × (length (discards_in l.places) ≤ 14) };
+    ghost invariant = { λ l. AreTold l.copies l.order };
 
-    ghost inverse = { λ l. record { places = placed l } };
+    ghost inverse = { λ l. record { copies = all_copies l; order = map kept_of l } };
 }
 
 impl DiscardList {
-    /// No discards.
-    pub(crate) fn new() -> DiscardList
-        ensures { result ≡ [] }
+    /// The discards of an order, beside these live copies.
+    pub(crate) fn new(copies: &[u8; 34], order: DiscardOrder) -> DiscardList
+        requires few { (kind : ℕ) → slice_index copies.now kind ≤ 4 }
+        requires kept { AreKept copies.now order }
+        ensures { result ≡ map (told copies.now) order }
     {
-        DiscardList { places: [None; 14] }
+        DiscardList {
+            copies: order.accepted().among(copies),
+            order,
+        }
     }
 
     /// How many discards there are.
@@ -39,49 +46,16 @@ impl DiscardList {
         ensures value { result ≡ length self.now }
         ensures most { result ≤ 14 }
     {
-        self.places.iter().filter(|place| place.is_some()).count()
+        self.order.len()
     }
 
     /// The discard at a place of the order.
     pub fn get(&self, place: usize) -> Option<Discard>
         ensures { result ≡ slice_get self.now place }
     {
-        if place < 14 { self.places[place] } else { None }
+        match self.order.get(place) {
+            Some(kept) => Some(kept.told(&self.copies)),
+            None => None,
+        }
     }
-
-    /// Puts a discard before the first that has no more live copies.
-    pub(crate) fn insert(&mut self, discard: Discard)
-        requires { length self.old < 14 }
-        ensures { self.new ≡ inserted discard self.old }
-    {
-        let live = discard.accepted.live();
-        let place = first_place(&self.places, live).unwrap_or(13);
-        put_at(&mut self.places, place, discard);
-    }
-}
-
-/// A place that is free, or whose discard has no more live copies than this.
-fn gives_way(place: &Option<Discard>, live: u32) -> bool
-    ensures { result ≡ gives_way live place.now }
-{
-    match place {
-        None => true,
-        Some(held) => held.accepted.live() <= live,
-    }
-}
-
-/// The first place that gives way.
-fn first_place(places: &[Option<Discard>], live: u32) -> Option<usize>
-    ensures { result ≡ position (gives_way live) places.now }
-{
-    places.iter().position(|place| gives_way(place, live))
-}
-
-/// Puts a discard at a place, and moves the later ones on; the last place is lost.
-fn put_at(places: &mut [Option<Discard>], place: usize, discard: Discard)
-    requires { place < length places.old }
-    ensures { places.new ≡ take place places.old ++ Some discard ∷ take (length places.old - 1 - place) (drop place places.old) }
-{
-    places[place..].rotate_right(1);
-    places[place] = Some(discard);
 }

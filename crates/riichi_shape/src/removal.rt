@@ -1,18 +1,21 @@
 //! Which tile to discard from a hand of fourteen.
-ghost use Rattle.std.specs.Prelude.{ℕ, List, ◌≡◌, ◌<◌, ◌≤◌, slice_index};
+ghost use Rattle.std.specs.Prelude.{ℕ, ◌≡◌, ◌<◌, ◌≤◌, slice_index};
 ghost use Rattle.std.specs.List.{sum};
 ghost use Rattle.riichi_tiles.specs.Melds.{tiles};
-ghost use Rattle.riichi_shape.specs.Accepted.{AreLiveCopies, without_one};
+ghost use Rattle.riichi_shape.specs.Accepted.{without_one};
 ghost use Rattle.riichi_shape.specs.Discards as spec;
+ghost use Rattle.riichi_shape.specs.KeptDiscards.{IsKept, IsToldOf};
 ghost use Rattle.riichi_shape.specs.Rows.{AreFormsOf, AreSuitsOf, IsRowAt};
 ghost use Rattle.riichi_shape.specs.Special.{SpecialLacks};
 
 use crate::acceptance::{accepted_by, live_copies};
-use crate::discard::Discard;
 use crate::discard_list::DiscardList;
+use crate::discard_order::DiscardOrder;
 use crate::distance::distance_with;
 use crate::hand_forms::HandForms;
 use crate::hand_suits::HandSuits;
+use crate::kept_discard::KeptDiscard;
+use crate::live_copies::LiveCopies;
 use riichi_rows::SuitRow;
 use riichi_tiles::{Counts, Kind, Melds};
 
@@ -81,26 +84,24 @@ fn discard_of(
     least: u8,
     hand: &Counts,
     melds: &Melds,
-    live: &[u8; 34],
+    live: &LiveCopies,
     kind: Kind,
     row: &SuitRow,
-) -> Discard
+) -> KeptDiscard
     requires melded { (k : ℕ) → k < 34 → tiles melds.now k ≤ 4 }
     requires forms { AreFormsOf hand.now melds.now forms.now }
     requires held { 0 < slice_index hand.now kind }
     requires least { least ≡ spec.distance_without hand.now melds.now kind }
     requires few { least ≤ 14 }
-    requires live { (k : ℕ) → slice_index live.now k ≤ 4 }
     requires row { IsRowAt (without_one hand.now kind) melds.now kind row.now }
-    ensures { (seen : List ℕ) → AreLiveCopies hand.now melds.now seen live.now → result ≡ spec.discard_of hand.now melds.now seen kind }
+    ensures told { IsToldOf hand.now melds.now kind live.now.copies result }
+    ensures kept { IsKept live.now.copies result }
 {
     let lacked = forms.lacked_without(hand, melds, kind, row, least);
     let mut rest = *hand;
     rest.remove(kind);
-    Discard {
-        kind,
-        accepted: accepted_by(&lacked, &rest, live),
-    }
+    let accepted = accepted_by(&lacked, &rest, live);
+    KeptDiscard::new(kind, live.among(accepted), accepted)
 }
 
 /// The kinds whose removal leaves the least distance, each with what it then accepts.
@@ -115,19 +116,18 @@ pub(crate) fn discards_by(
     requires suits { AreSuitsOf hand.now melds.now suits.now }
     requires forms { AreFormsOf hand.now melds.now forms.now }
     requires few { sum hand.now ≤ 14 }
-    requires room { (k : ℕ) → k < 34 → 0 < slice_index hand.now k → slice_index seen.now k < 4 }
     ensures { result ≡ spec.discards_of hand.now melds.now seen.now }
 {
     let distances = distances_without(suits, forms, hand, melds);
     let least = least_of(&distances);
     let live = live_copies(hand, melds, seen);
-    let mut list = DiscardList::new();
+    let mut order = DiscardOrder::new();
     for number in (0..34u8).rev() {
         let kind = Kind::at(number);
         if hand.get(kind) > 0 && distances[number as usize] == least {
             let row = suits.without(kind);
-            list.insert(discard_of(forms, least, hand, melds, &live, kind, &row));
+            order.insert(discard_of(forms, least, hand, melds, &live, kind, &row));
         }
     }
-    list
+    DiscardList::new(&live.copies, order)
 }

@@ -2,8 +2,10 @@
 ghost use Rattle.std.specs.Prelude.{ℕ, ◌≡◌, ◌<◌, IsTrue, List, false, slice_index};
 ghost use Rattle.riichi_tiles.specs.declared.meld.Meld.{Meld};
 ghost use Rattle.riichi_shape.specs.Accepted.{without_one};
+ghost use Rattle.riichi_shape.specs.KindBits.{AreKindsOf};
 ghost use Rattle.riichi_shape.specs.Special.{AreSpecialForms, AreSpecialLacked, IsSpecialDistance, SpecialLacks, special_lacks};
 
+use crate::kind_bits::KindBits;
 use crate::lacked_held::{LackedHeld, NO_KIND};
 use crate::nearest_form::{FAR, NearestForm};
 use crate::orphans::{is_orphan, nearest_orphans};
@@ -103,5 +105,17 @@ impl SpecialLacked {
         ensures { result ≡ special_lacks self.now kind held }
     {
         self.pairs.contains(held) || self.orphans.contains(held) && is_orphan(kind)
+    }
+
+    /// The kinds that are lacked by a hand that holds so many of each.
+    pub(crate) fn kinds(&self, held: &[u8; 34]) -> KindBits
+        ensures { AreKindsOf result (λ kind. special_lacks self.now kind (slice_index held.now kind)) }
+    {
+        let mut marks = [false; 34];
+        for number in 0..34u8 {
+            let place = number as usize;
+            marks[place] = self.contains(Kind::at(number), held[place]);
+        }
+        KindBits::marked(&marks)
     }
 }

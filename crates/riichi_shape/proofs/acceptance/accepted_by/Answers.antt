@@ -1,21 +1,40 @@
-use Rattle.std.proofs.Common.{◌≡◌, cond, length, refl, rules, ap, ◌∙◌}
-use Rattle.std.specs.Prelude.{slice_index}
+use Rattle.std.proofs.Common.{◌≡◌, ℕ, ◌<◌, Bool, true, false, cond, ltb, refl, sym, ap, ◌∙◌, arith}
+use Rattle.std.proofs.lemmas.Bool.{and_parts}
+use Rattle.std.proofs.lemmas.Bool.Decides.{nat_tests}
+use Rattle.std.specs.Prelude.{◌&&◌, nat_lt, slice_index}
 use Rattle.riichi_shape.specs.EveryWinning.{distance_of}
+use Rattle.riichi_shape.specs.KindBits.{copies_among, has_kind}
 use Rattle.riichi_shape.specs.LackedKinds.{lacks_kind}
-use Rattle.riichi_shape.proofs.AcceptedLemmas.{accepted_pairs, some_few}
+use Rattle.riichi_shape.proofs.AcceptedLemmas.{accepted_pairs}
+use Rattle.riichi_shape.proofs.KindLemmas.{among_at, both_at, live_at, marked_at}
 use Rattle.riichi_shape.proofs.Nearer.{accepted_at}
+use Rattle.riichi_shape.proofs.RemovalLemmas.{of_ltb}
 use Rattle.riichi_shape.proofs.acceptance.accepted_by.Goals as goal
 
-pub new-requires : goal.new-requires
-new-requires c =
-    let long : length c.among.result ≡ 34 = search rules in
-    some_few c.among.result c.args.live.now (λ k. lacks_kind c.args.lacked.now k (slice_index c.to_array.result k)) long c.requires.live c.among.ensures
+lacked_and_live : (a : Bool) (l : ℕ) → cond (a && nat_lt 0 l) l 0 ≡ cond a l 0
+lacked_and_live true l = some_live l
+  where
+    some_live : (l : ℕ) → cond (ltb 0 l) l 0 ≡ l
+    some_live l = grind (arith, nat_tests)
+lacked_and_live false l = refl
 
-pub returns : goal.returns
-returns c = λ melds seen lacked are.
+module _ (c : goal.After-both) where
+  has_at : (k : ℕ) → k < 34 → has_kind c.both.result k ≡ (lacks_kind c.args.lacked.now k (slice_index c.args.hand.now k) && nat_lt 0 (slice_index c.args.live.now.copies k))
+  has_at k low =
+      ap (λ s. has_kind s k) c.both.ensures ∙ both_at c.kinds.result c.args.live.now.kinds k
+      ∙ ap (λ t. t && has_kind c.args.live.now.kinds k) (c.kinds.ensures k low ∙ ap (λ held. lacks_kind c.args.lacked.now k (slice_index held k)) c.to_array.ensures.value)
+      ∙ ap (λ t. lacks_kind c.args.lacked.now k (slice_index c.args.hand.now k) && t) (ap (λ s. has_kind s k) c.args.live.now.live ∙ marked_at _ k ∙ live_at c.args.live.now.copies k)
+
+pub returns-clause-accepted : goal.returns-clause-accepted
+returns-clause-accepted c = λ melds seen lacked are.
     (let hand = c.args.hand.now in
-    c.new.ensures
-    ∙ accepted_pairs c.among.result hand melds seen
+    let copies = c.args.live.now.copies in
+    accepted_pairs (copies_among copies c.both.result) hand melds seen
     (λ k low. accepted_at hand melds lacked.at_most_four lacked.of_a_kind c.to_array.ensures.counts.each_kind k low (distance_of hand melds) refl c.args.lacked.now lacked.least seen
-    (slice_index c.among.result k) (slice_index c.args.live.now k)
-    (c.among.ensures k low ∙ ap (λ held. cond (lacks_kind c.args.lacked.now k (slice_index held k)) (slice_index c.args.live.now k) 0) c.to_array.ensures.value) (are.at k low)))
+    (slice_index (copies_among copies c.both.result) k) (slice_index copies k)
+    (among_at copies c.both.result k low ∙ ap (λ t. cond t (slice_index copies k) 0) (has_at c k low) ∙ lacked_and_live (lacks_kind c.args.lacked.now k (slice_index hand k)) (slice_index copies k)) (are.at k low)))
+
+pub returns-clause-live : goal.returns-clause-live
+returns-clause-live c = λ kind low there.
+    of_ltb 0 (slice_index c.args.live.now.copies kind)
+    ((and_parts (lacks_kind c.args.lacked.now kind (slice_index c.args.hand.now kind)) (nat_lt 0 (slice_index c.args.live.now.copies kind)) (sym (has_at c kind low) ∙ there)).1)

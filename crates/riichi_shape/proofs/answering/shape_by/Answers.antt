@@ -1,6 +1,6 @@
 use Rattle.std.proofs.Common.{ap, ◌∙◌, arith}
 use Rattle.riichi_tiles.specs.Melds.{tiles}
-use Rattle.riichi_shape.proofs.ShapeFacts.{melds_few, same_shape, seen_few, tiles_few}
+use Rattle.riichi_shape.proofs.ShapeFacts.{melds_few, same_shape, tiles_few}
 use Rattle.riichi_shape.proofs.answering.shape_by.Goals as goal
 
 pub shape_of_thirteen-requires-clause-melded : goal.shape_of_thirteen-requires-clause-melded
@@ -11,9 +11,6 @@ shape_of_fourteen-requires-clause-melded g c = λ kind low. omega (arith, melds_
 
 pub shape_of_fourteen-requires-clause-few : goal.shape_of_fourteen-requires-clause-few
 shape_of_fourteen-requires-clause-few g c = rw c.tiles-hand.ensures.value (tiles_few c.args.asked.now c.tiles-hand.ensures.shape)
-
-pub shape_of_fourteen-requires-clause-room : goal.shape_of_fourteen-requires-clause-room
-shape_of_fourteen-requires-clause-room g c = rw (c.tiles-hand.ensures.value, c.seen-seen.ensures) (seen_few c.args.asked.now c.tiles-hand.ensures.shape)
 
 pub returns-then-total-count-eq13-clause-shape : goal.returns-then-total-count-eq13-clause-shape
 returns-then-total-count-eq13-clause-shape g c = c.shape_of_thirteen.ensures.shape ∙ same_shape c.args.asked.now c.tiles-hand.result c.melds-melds.result c.seen-seen.result c.tiles-hand.ensures.value c.melds-melds.ensures c.seen-seen.ensures

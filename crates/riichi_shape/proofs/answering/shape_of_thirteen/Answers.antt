@@ -7,5 +7,6 @@ pub returns-clause-shape : goal.returns-clause-shape
 returns-clause-shape g c =
     let same : to_z width.w8 (of_z width.w8 c.shanten_at.result) ≡ c.shanten_at.result = search rules in
     thirteen_is (record { tiles = c.args.hand.now; melds = c.args.melds.now; seen = c.args.seen.now }) (to_z width.w8 (of_z width.w8 c.shanten_at.result))
-    (same ∙ c.shanten_at.ensures ∙ ap (λ n. pos n -ℤ pos 1) (c.distance-least.ensures.value c.args.hand.now c.new-forms.ensures.forms)) c.accepted_by.result c.requires.thirteen
-    (c.accepted_by.ensures c.args.melds.now c.args.seen.now (c.lacked.ensures c.args.hand.now c.new-forms.ensures.forms (c.distance-least.ensures.value c.args.hand.now c.new-forms.ensures.forms)) c.live_copies-live.ensures)
+    (same ∙ c.shanten_at.ensures ∙ ap (λ n. pos n -ℤ pos 1) (c.distance-least.ensures.value c.args.hand.now c.new-forms.ensures.forms)) c.list.result c.requires.thirteen
+    (c.list.ensures
+    ∙ c.accepted_by-kinds.ensures.accepted c.args.melds.now c.args.seen.now (c.lacked.ensures c.args.hand.now c.new-forms.ensures.forms (c.distance-least.ensures.value c.args.hand.now c.new-forms.ensures.forms)) c.live_copies-live.ensures)

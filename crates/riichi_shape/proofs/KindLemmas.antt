@@ -1,0 +1,158 @@
+-- Sets of kinds as numbers.
+use Rattle.std.proofs.Common.{◌≡◌, ℕ, zero, suc, ◌+◌, ◌-◌, ◌*◌, ◌^◌, ◌<◌, ◌≤◌, Bool, true, false, cond, List, [], ◌∷◌, map, drop, get_or, length, max, min, ltb, refl, sym, ap, ◌∙◌, ⊎_elim, subst, arith, bit_and}
+use Rattle.std.proofs.lemmas.Bool.Decides.{nat_tests}
+use Rattle.std.proofs.lemmas.Bool.{cases_lt}
+use Rattle.std.proofs.lemmas.List.{ext_get_or, length-drop, length-map}
+use Rattle.std.proofs.lemmas.List.FromFn.{get_or-map-range_with_len, length-map-range_with_len}
+use Rattle.std.proofs.lemmas.Nat.Bits.{bit_at-lt, bit_at_and, bit_at_cat_high, bit_at_cat_low, bit_at_ones, bit_at_or, same_from_bits_below}
+use Rattle.std.proofs.lemmas.Simd.{bit_mask_l, mask_l-lt}
+use Rattle.std.proofs.Math.Nat.{pow-le-pow_right}
+use Rattle.std.proofs.Math.Seq.{drop-cons}
+use Rattle.std.specs.Int.{bit_at}
+use Rattle.std.specs.Int.RustNames.{bit_or}
+use Rattle.std.specs.List.{range_with_len}
+use Rattle.std.specs.Prelude.{◌==◌, ◌&&◌, ◌||◌, nat_lt, slice_index}
+use Rattle.std.specs.Simd.Lanes.{mask_l}
+use Rattle.riichi_tiles.specs.Melds.{every_kind}
+use Rattle.riichi_rows.specs.Marks.{has_rank}
+use Rattle.riichi_shape.specs.LackedKinds.{suits_lack}
+use Rattle.riichi_shape.proofs.AcceptedLemmas.{some_few}
+use Rattle.riichi_shape.specs.declared.suits_lacked.SuitsLacked.{SuitsLacked}
+use Rattle.riichi_shape.specs.KindBits.{copies_among, copies_at, has_kind}
+
+-- ---- a bit of two sets, and of marks
+
+is_bit : (b : Bool) → (cond b 1 0 == 1) ≡ b
+is_bit true = refl
+is_bit false = refl
+
+pub marked_at : (marks : List Bool) (kind : ℕ) → has_kind (mask_l marks) kind ≡ get_or marks kind false
+marked_at marks kind = ap (λ n. n == 1) (bit_mask_l marks kind) ∙ is_bit (get_or marks kind false)
+
+both_bits : (a b : ℕ) → a < 2 → b < 2 → (min a b == 1) ≡ ((a == 1) && (b == 1))
+both_bits zero b low low' = grind (arith, nat_tests)
+both_bits (suc zero) zero low low' = refl
+both_bits (suc zero) (suc zero) low low' = refl
+both_bits (suc zero) (suc (suc b)) low low' = absurd (omega arith)
+both_bits (suc (suc a)) b low low' = absurd (omega arith)
+
+pub both_at : (a b kind : ℕ) → has_kind (bit_and a b) kind ≡ (has_kind a kind && has_kind b kind)
+both_at a b kind = ap (λ n. n == 1) (bit_at_and a b kind) ∙ both_bits (bit_at a kind) (bit_at b kind) (bit_at-lt a kind) (bit_at-lt b kind)
+
+either_bits : (a b : ℕ) → a < 2 → b < 2 → (max a b == 1) ≡ ((a == 1) || (b == 1))
+either_bits zero zero low low' = refl
+either_bits zero (suc zero) low low' = refl
+either_bits (suc zero) zero low low' = refl
+either_bits (suc zero) (suc zero) low low' = refl
+either_bits zero (suc (suc b)) low low' = absurd (omega arith)
+either_bits (suc zero) (suc (suc b)) low low' = absurd (omega arith)
+either_bits (suc (suc a)) b low low' = absurd (omega arith)
+
+pub either_at : (a b kind : ℕ) → has_kind (bit_or a b) kind ≡ (has_kind a kind || has_kind b kind)
+either_at a b kind = ap (λ n. n == 1) (bit_at_or a b kind) ∙ either_bits (bit_at a kind) (bit_at b kind) (bit_at-lt a kind) (bit_at-lt b kind)
+
+-- ---- marks as bits, from the last kind on
+
+module _ (marks : List Bool) (long : length marks ≡ 34) (kind : ℕ) (some : 0 < kind) (most : kind ≤ 34) where
+  pub one_more_mark : (bits next : ℕ) → bits ≡ mask_l (drop kind marks) → next ≡ 2 * bits + cond (get_or marks (kind - 1) false) 1 0 → next ≡ mask_l (drop (kind - 1) marks)
+  one_more_mark bits next so_far next_is =
+      omega (arith, next_is, so_far, ap mask_l (drop-cons marks (kind - 1) false (omega arith)), ap (λ k. mask_l (drop k marks)) same)
+    where
+      same : suc (kind - 1) ≡ kind
+      same = omega arith
+
+pub few_marks : (marks : List Bool) (kind : ℕ) → length marks ≡ 34 → mask_l (drop kind marks) < 2 ^ 34
+few_marks marks kind long =
+    let low = mask_l-lt (drop kind marks) in
+    let most = pow-le-pow_right {n = 2} (omega arith) {i = length (drop kind marks)} {j = 34} (omega (arith, length-drop kind marks, long)) in
+    omega (arith, low, most)
+
+-- the kinds that have copies
+pub live_at : (copies : List ℕ) (kind : ℕ) → get_or (map (nat_lt 0) copies) kind false ≡ nat_lt 0 (slice_index copies kind)
+live_at [] kind = refl
+live_at (live ∷ copies) zero = refl
+live_at (live ∷ copies) (suc kind) = live_at copies kind
+
+pub marks_are : (marks : List Bool) (copies : List ℕ) → length marks ≡ 34 → length copies ≡ 34 → ((kind : ℕ) → kind < 34 → get_or marks kind false ≡ ltb 0 (get_or copies kind 0)) → marks ≡ map (nat_lt 0) copies
+marks_are marks copies long long' each = ext_get_or false marks (map (nat_lt 0) copies) (omega (arith, long, long', length-map copies (nat_lt 0))) (λ kind low. each kind (omega arith) ∙ sym (live_at copies kind))
+
+-- ---- the copies of the kinds of a set
+
+pub among_at : (copies : List ℕ) (set kind : ℕ) → kind < 34 → get_or (copies_among copies set) kind 0 ≡ copies_at copies set kind
+unfolding copies_among
+among_at copies set kind low = get_or-map-range_with_len (copies_at copies set) 0 34 kind kind 0 low (omega arith)
+
+pub among_long : (copies : List ℕ) (set : ℕ) → length (copies_among copies set) ≡ 34
+unfolding copies_among
+among_long copies set = length-map-range_with_len (copies_at copies set) 0 34
+
+pub are_among : (taken copies : List ℕ) (set : ℕ) → length taken ≡ 34 → ((kind : ℕ) → kind < 34 → get_or taken kind 0 ≡ copies_at copies set kind) → taken ≡ copies_among copies set
+are_among taken copies set long each = ext_get_or 0 taken (copies_among copies set) (long ∙ sym (among_long copies set)) (λ kind low. each kind (omega arith) ∙ sym (among_at copies set kind (omega arith)))
+
+pub among_same : (copies others : List ℕ) (set other : ℕ) → ((kind : ℕ) → kind < 34 → copies_at copies set kind ≡ copies_at others other kind) → copies_among copies set ≡ copies_among others other
+among_same copies others set other each = are_among (copies_among copies set) others other (among_long copies set) (λ kind low. among_at copies set kind low ∙ each kind low)
+
+pub few_among : (copies : List ℕ) (set : ℕ) → ((kind : ℕ) → slice_index copies kind ≤ 4) → (kind : ℕ) → slice_index (copies_among copies set) kind ≤ 4
+few_among copies set few = some_few (copies_among copies set) copies (has_kind set) (among_long copies set) few (among_at copies set)
+
+-- ---- two sets with the same kinds
+
+pub same_kinds : (a b : ℕ) → a < 2 ^ 34 → b < 2 ^ 34 → ((kind : ℕ) → kind < 34 → has_kind a kind ≡ has_kind b kind) → a ≡ b
+same_kinds a b low low' each = same_from_bits_below 34 a b low low' (λ kind inside. same_bit (bit_at a kind) (bit_at b kind) (bit_at-lt a kind) (bit_at-lt b kind) (each kind inside))
+  where
+    same_bit : (m n : ℕ) → m < 2 → n < 2 → (m == 1) ≡ (n == 1) → m ≡ n
+    same_bit m n low low' e = grind (arith, nat_tests)
+
+-- ---- the sets of four suits as one
+
+module _ (upper lower n : ℕ) (below : lower < 512) (is : n ≡ upper * 512 + lower) where
+  pub in_lower : (kind : ℕ) → kind < 9 → has_kind n kind ≡ has_kind lower kind
+  in_lower kind low = ap (λ m. has_kind m kind) is ∙ ap (λ b. b == 1) (bit_at_cat_low upper 9 lower kind low)
+
+  pub in_upper : (kind : ℕ) → 9 ≤ kind → has_kind n kind ≡ has_kind upper (kind - 9)
+  in_upper kind high = ap (λ m. has_kind m kind) is ∙ ap (λ b. b == 1) (bit_at_cat_high upper 9 lower kind below high)
+
+-- seven of nine bits
+in_seven : (n kind : ℕ) → kind < 7 → has_kind (bit_and n 127) kind ≡ has_kind n kind
+in_seven n kind low = both_at n 127 kind ∙ ap (λ b. has_kind n kind && (b == 1)) (bit_at_ones 7 kind low) ∙ and_true (has_kind n kind)
+  where
+    and_true : (b : Bool) → (b && true) ≡ b
+    and_true true = refl
+    and_true false = refl
+
+lower_than : (m n : ℕ) → m < n → ltb m n ≡ true
+lower_than m n h = grind (arith, nat_tests)
+
+not_lower : (m n : ℕ) → n ≤ m → ltb m n ≡ false
+not_lower m n h = grind (arith, nat_tests)
+
+module _ (suits : SuitsLacked) (m p s h n : ℕ) (m_low : m < 512) (p_low : p < 512) (s_low : s < 512) (is : n ≡ ((bit_and h 127 * 512 + s) * 512 + p) * 512 + m)
+    (m_is : (rank : ℕ) → rank < 9 → has_kind m rank ≡ has_rank suits.characters rank) (p_is : (rank : ℕ) → rank < 9 → has_kind p rank ≡ has_rank suits.circles rank)
+    (s_is : (rank : ℕ) → rank < 9 → has_kind s rank ≡ has_rank suits.bamboos rank) (h_is : (rank : ℕ) → rank < 9 → has_kind h rank ≡ has_rank suits.honours rank) where
+  abbrev by_suit : Bool → Bool → Bool → ℕ → Bool
+  by_suit a b c kind = cond a (has_rank suits.characters kind) (cond b (has_rank suits.circles (kind - 9)) (cond c (has_rank suits.bamboos (kind - 18)) (has_rank suits.honours (kind - 27))))
+
+  at_place : (rank other : ℕ) (set : ℕ) → rank ≡ other → has_kind set rank ≡ has_kind set other
+  at_place rank other set e = ap (has_kind set) e
+
+  first : (kind : ℕ) → 9 ≤ kind → has_kind n kind ≡ has_kind ((bit_and h 127 * 512 + s) * 512 + p) (kind - 9)
+  first kind high = in_upper ((bit_and h 127 * 512 + s) * 512 + p) m n m_low is kind high
+
+  second : (kind : ℕ) → 18 ≤ kind → has_kind n kind ≡ has_kind (bit_and h 127 * 512 + s) (kind - 18)
+  second kind high = first kind (omega arith) ∙ in_upper (bit_and h 127 * 512 + s) p ((bit_and h 127 * 512 + s) * 512 + p) p_low refl (kind - 9) (omega arith) ∙ at_place (kind - 9 - 9) (kind - 18) (bit_and h 127 * 512 + s) (omega arith)
+
+  third : (kind : ℕ) → 27 ≤ kind → has_kind n kind ≡ has_kind (bit_and h 127) (kind - 27)
+  third kind high = second kind (omega arith) ∙ in_upper (bit_and h 127) s (bit_and h 127 * 512 + s) s_low refl (kind - 18) (omega arith) ∙ at_place (kind - 18 - 9) (kind - 27) (bit_and h 127) (omega arith)
+
+  tested : (kind : ℕ) (a b c : Bool) → ltb kind 9 ≡ a → ltb kind 18 ≡ b → ltb kind 27 ≡ c → by_suit a b c kind ≡ suits_lack suits kind
+  tested kind a b c e e' e'' = sym (ap (λ a. by_suit a (ltb kind 18) (ltb kind 27) kind) e ∙ ap (λ b. by_suit a b (ltb kind 27) kind) e' ∙ ap (λ c. by_suit a b c kind) e'')
+
+  pub suits_at : (kind : ℕ) → kind < 34 → has_kind n kind ≡ suits_lack suits kind
+  suits_at kind inside =
+      ⊎_elim (λ low. in_lower ((bit_and h 127 * 512 + s) * 512 + p) m n m_low is kind low ∙ m_is kind low ∙ tested kind true (ltb kind 18) (ltb kind 27) (lower_than kind 9 low) refl refl)
+      (λ high. ⊎_elim (λ low. first kind high ∙ in_lower (bit_and h 127 * 512 + s) p ((bit_and h 127 * 512 + s) * 512 + p) p_low refl (kind - 9) (omega arith) ∙ p_is (kind - 9) (omega arith)
+      ∙ tested kind false true (ltb kind 27) (not_lower kind 9 high) (lower_than kind 18 low) refl)
+      (λ high'. ⊎_elim (λ low. second kind high' ∙ in_lower (bit_and h 127) s (bit_and h 127 * 512 + s) s_low refl (kind - 18) (omega arith) ∙ s_is (kind - 18) (omega arith)
+      ∙ tested kind false false true (not_lower kind 9 high) (not_lower kind 18 high') (lower_than kind 27 low))
+      (λ high''. third kind high'' ∙ in_seven h (kind - 27) (omega arith) ∙ h_is (kind - 27) (omega arith) ∙ tested kind false false false (not_lower kind 9 high) (not_lower kind 18 high') (not_lower kind 27 high''))
+      (cases_lt kind 27)) (cases_lt kind 18)) (cases_lt kind 9)
