@@ -19,6 +19,9 @@ extern "C" {
 /* No answer takes more bytes, so a room of this size always has space for it. */
 #define RIICHI_MOST_ANSWER 3072
 
+/* No answer takes more bytes as JSON. */
+#define RIICHI_MOST_JSON 12288
+
 /* The rule profiles, as docs/RULES.md has them. */
 #define RIICHI_RULES_ONE 1
 #define RIICHI_RULES_TWO 2
@@ -36,6 +39,16 @@ extern "C" {
  * A line `rules 2` is no profile here, but a line like any other, and refused: a program passes the number.
  */
 size_t riichi_answer(uint32_t rules, const uint8_t *line, size_t line_len, uint8_t *room, size_t room_len);
+
+/* Answers one line as `riichi_answer` does, but as one object of JSON, on one line and without a final zero:
+ *
+ *   {"answer":"waits","kinds":["2p","5p"]}
+ *
+ * docs/NOTATION.md says what each member means, and docs/answer.schema.json is the JSON Schema. What is refused is an
+ * object too, with the code: `{"answer":"refused","code":"rules"}` where `rules` is no profile's number. Sizes and returns
+ * are as above.
+ */
+size_t riichi_json(uint32_t rules, const uint8_t *line, size_t line_len, uint8_t *room, size_t room_len);
 
 /* The name and version, such as `riichi_desk 0.1.0`, into the room as above. Returns how many bytes it takes. */
 size_t riichi_version(uint8_t *room, size_t room_len);

@@ -15,23 +15,51 @@ import os
 import sys
 from pathlib import Path
 
+import answers
+
 _LIBRARY = ctypes.CDLL(os.environ.get("RIICHI_DESK", str(Path(__file__).with_name("libriichi_desk.so"))))
 _LIBRARY.riichi_answer.argtypes = [ctypes.c_uint32, ctypes.c_char_p, ctypes.c_size_t, ctypes.c_char_p, ctypes.c_size_t]
 _LIBRARY.riichi_answer.restype = ctypes.c_size_t
+_LIBRARY.riichi_json.argtypes = _LIBRARY.riichi_answer.argtypes
+_LIBRARY.riichi_json.restype = ctypes.c_size_t
 _LIBRARY.riichi_version.argtypes = [ctypes.c_char_p, ctypes.c_size_t]
 _LIBRARY.riichi_version.restype = ctypes.c_size_t
 _MOST_ANSWER = 3072
+_MOST_JSON = 12288
 
 
-def answer(line: bytes | str, rules: int = 1) -> str | None:
-    """The answer to one line under a profile, 1 or 2; None where the line is a comment or blank.
+def answer(line: bytes | str, rules: int = 1) -> answers.Answer | None:
+    """The answer to one line under a profile, 1 or 2, as a value; None where the line is a comment or blank.
 
     >>> answer("waits 1112345678999m")
+    Waits(kinds=('1m', '2m', '3m', '4m', '5m', '6m', '7m', '8m', '9m'))
+    """
+    told = json(line, rules)
+    return answers.read(told) if told is not None else None
+
+
+def json(line: bytes | str, rules: int = 1) -> str | None:
+    """The same answer as one line of JSON.
+
+    >>> json("waits 123456789m1134p")
+    '{"answer":"waits","kinds":["2p","5p"]}'
+    """
+    return _told(_LIBRARY.riichi_json, _MOST_JSON, line, rules)
+
+
+def text(line: bytes | str, rules: int = 1) -> str | None:
+    """The same answer as the command `line` tells it.
+
+    >>> text("waits 1112345678999m")
     'waits 123456789m'
     """
+    return _told(_LIBRARY.riichi_answer, _MOST_ANSWER, line, rules)
+
+
+def _told(call, most: int, line: bytes | str, rules: int) -> str | None:
     given = line.encode() if isinstance(line, str) else line
-    room = ctypes.create_string_buffer(_MOST_ANSWER)
-    needed = _LIBRARY.riichi_answer(rules, given, len(given), room, _MOST_ANSWER)
+    room = ctypes.create_string_buffer(most)
+    needed = call(rules, given, len(given), room, most)
     return room.raw[:needed].decode("ascii") if needed else None
 
 
@@ -44,6 +72,6 @@ def version() -> str:
 
 if __name__ == "__main__":
     for each in sys.stdin.buffer:
-        told = answer(each.rstrip(b"\r\n"))
+        told = text(each.rstrip(b"\r\n"))
         if told is not None:
             print(told)

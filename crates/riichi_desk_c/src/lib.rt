@@ -8,9 +8,11 @@
 ghost use Rattle.std.specs.Prelude.{◌≡◌, ◌≤◌, ◌<◌, ◌++◌, length, drop, codes};
 ghost use Rattle.riichi_desk_c.specs.Replies.{reply_to, profile_numbered};
 
+mod json;
 mod placing;
 
 use desk_core::{answer_text, judge};
+pub use json::riichi_json;
 use placing::place;
 use riichi_hand::{Rules, fault_text, read_line};
 

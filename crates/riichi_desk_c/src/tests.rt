@@ -1,4 +1,4 @@
-use super::{riichi_answer, riichi_version};
+use super::{riichi_answer, riichi_json, riichi_version};
 
 #[test]
 fn answers_a_line_in_a_room_of_just_its_length(rt: HostRuntime) {
@@ -43,4 +43,25 @@ fn tells_its_version(rt: HostRuntime) {
     let mut room = [0u8; 17];
     assert!(rt; riichi_version(&mut room) == 17);
     assert!(rt; room == *b"riichi_desk 0.1.0");
+}
+
+#[test]
+fn answers_as_json(rt: HostRuntime) {
+    let mut room = [7u8; 64];
+    let needed = riichi_json(1, b"waits 123456789m1134p", &mut room);
+    assert!(rt;
+        room.get(..needed) == Some(b"{\"answer\":\"waits\",\"kinds\":[\"2p\",\"5p\"]}".as_slice())
+    );
+    let needed = riichi_json(1, b"waits 8z", &mut room);
+    assert!(rt;
+        room.get(..needed)
+            == Some(
+                b"{\"answer\":\"refused\",\"code\":\"N5\",\"text\":\"hand\",\"place\":0}".as_slice()
+            )
+    );
+    let needed = riichi_json(3, b"waits 8z", &mut room);
+    assert!(rt;
+        room.get(..needed) == Some(b"{\"answer\":\"refused\",\"code\":\"rules\"}".as_slice())
+    );
+    assert!(rt; riichi_json(1, b"# table three", &mut room) == 0);
 }
