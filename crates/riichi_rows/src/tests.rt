@@ -79,6 +79,7 @@ fn ranks_lacked_by_a_run_of_two(rt: HostRuntime) -> Result<(), Fail> {
     let nothing = beside(NO_TILES);
     assert_eq!(rt; nothing.with(&characters, 0), Some(1));
     assert!(rt; are_just(nothing.lacked_by(&characters, 0, 1), &[0, 1]));
+    assert_eq!(rt; nothing.lacked_by(&characters, 0, 1).bits(), 3);
     // Beside 11p a set and a pair lack one tile: 3m, which makes 123m.
     let pair = beside([2, 0, 0, 0, 0, 0, 0, 0, 0]);
     assert_eq!(rt; pair.with(&characters, 1), Some(1));
