@@ -5,3 +5,6 @@ pub mod Chosen
 pub mod WordLemmas
 pub mod Pieces
 pub mod Faults
+pub mod Same
+pub mod ReadBack
+pub mod Seen

@@ -1,3 +1,4 @@
 pub mod Trees
 pub mod Text
 pub mod Parts
+pub mod Whole

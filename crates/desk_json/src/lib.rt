@@ -15,6 +15,7 @@
 #![tactic(auto)]
 
 mod fault;
+pub mod laws;
 mod number;
 mod shape;
 #[cfg(test)]

@@ -1,0 +1,200 @@
+-- A reader gets the tree of an answer back from its text.
+use Rattle.std.proofs.Common.{◌≡◌, ℕ, zero, suc, ◌+◌, ◌<◌, ◌≤◌, ◌^◌, Bool, true, false, cond, List, [], ◌∷◌, length, Some, sym, ap, ◌∙◌, arith, decimal}
+use Rattle.std.specs.Fmt.{signed_decimal}
+use Rattle.std.specs.List.{filter, range_with_len}
+use Rattle.std.specs.Prelude.{codes, slice_index_or, ◌==◌}
+use Rattle.json.specs.Json.{Json, null, boolean, number, string, array, object, document}
+use Rattle.json.specs.Tree.{depth, items_depth, members_depth, HasNumbers, ItemsHaveNumbers, MembersHaveNumbers}
+use Rattle.json.proofs.Printed.Decimals.{IsNumber-decimal, IsNumber-signed_decimal}
+use Rattle.json.proofs.Printed.Trees.{document-print}
+use Rattle.riichi_score.specs.declared.payers.Payment.{Payment}
+use Rattle.riichi_score.specs.declared.payers.Payment.TheVariants.{Ron, Tsumo, DealerTsumo}
+use Rattle.riichi_score.specs.declared.score.Score.{Score}
+use Rattle.riichi_score.specs.declared.answer.WinAnswer.{WinAnswer}
+use Rattle.riichi_score.specs.declared.answer.WinAnswer.TheVariants.{Won, NoYaku, NoWin}
+use Rattle.riichi_shape.specs.declared.accepts.Accepts.{Accepts}
+use Rattle.riichi_shape.specs.declared.accepts.Accepts.TheVariants.{Thirteen, Fourteen}
+use Rattle.riichi_shape.specs.declared.discard.Discard.{Discard}
+use Rattle.riichi_shape.specs.declared.shape_answer.ShapeAnswer.{ShapeAnswer}
+use Rattle.riichi_yaku.specs.YakuSets.{has_number}
+use Rattle.desk_core.specs.declared.answer.Answer.{Answer}
+use Rattle.desk_core.specs.declared.answer.Answer.TheVariants as answer
+use Rattle.desk_json.specs.Text.{text_of, answer_text}
+use Rattle.desk_json.specs.Trees.{Named, items_of, members_of, object_of, natural, kind_tree, yaku_in, yaku_tree, limit_tree, payment_tree, score_tree, win_tree, kinds_in, waits_tree, live_tree, accepted_members, discard_tree, accepts_members, shape_tree, answer_tree}
+use Rattle.desk_json.specs.Whole.{Each, IsWholePayment, IsWholeScore, IsWholePair, IsWholeList, IsWholeDiscard, AreWhole, IsWholeShape, IsWholeWin, IsWhole}
+use Rattle.desk_json.proofs.Same.{each_in_range, same_answers}
+
+-- ---- the numbers are numbers of JSON
+
+items_numbers : {X : Type 0} (tree : X → Json) (P : X → Type 0) → ((x : X) → P x → HasNumbers (tree x)) → (xs : List X) → Each P xs → ItemsHaveNumbers (items_of tree xs)
+items_numbers tree P each [] h = tt
+items_numbers tree P each (x ∷ xs) h = (each x h.0, items_numbers tree P each xs h.1)
+
+yaku_numbers : (yaku : ℕ) → yaku < 41 → HasNumbers (yaku_tree yaku)
+unfolding yaku_tree
+yaku_numbers yaku low = (IsNumber-decimal yaku (omega arith), (tt, tt))
+
+limit_numbers : (base : ℕ) → HasNumbers (limit_tree base)
+unfolding limit_tree
+limit_numbers base = by_tests (base == 2000) (base == 3000) (base == 4000) (base == 6000) (base == 8000)
+  where
+    by_tests : (a b c d e : Bool) →
+        HasNumbers (cond a (string (codes "mangan")) (cond b (string (codes "haneman")) (cond c (string (codes "baiman")) (cond d (string (codes "sanbaiman")) (cond e (string (codes "yakuman")) null)))))
+    by_tests true b c d e = tt
+    by_tests false true c d e = tt
+    by_tests false false true d e = tt
+    by_tests false false false true e = tt
+    by_tests false false false false true = tt
+    by_tests false false false false false = tt
+
+payment_numbers : (payment : Payment) → IsWholePayment payment → HasNumbers (payment_tree payment)
+unfolding payment_tree
+payment_numbers (Ron points) h = (IsNumber-decimal points (omega arith), tt)
+payment_numbers (Tsumo other dealer) h = (IsNumber-decimal dealer (omega arith), (IsNumber-decimal other (omega arith), tt))
+payment_numbers (DealerTsumo each) h = (IsNumber-decimal each (omega arith), tt)
+
+score_numbers : (score : Score) → IsWholeScore score → HasNumbers (score_tree score)
+unfolding score_tree yaku_in
+score_numbers score h = (
+  tt,
+  (
+    tt,
+    (
+      IsNumber-decimal score.han (omega arith),
+      (
+        IsNumber-decimal score.fu (omega arith),
+        (
+          IsNumber-decimal score.dora (omega arith),
+          (
+            IsNumber-decimal score.base (omega arith),
+            (
+              limit_numbers score.base,
+              (
+                payment_numbers score.payment h.payment,
+                (
+                  IsNumber-decimal score.gain (omega arith),
+                  (items_numbers yaku_tree (λ yaku. yaku < 41) yaku_numbers (yaku_in score.yaku) (each_in_range (has_number score.yaku) 0 41 41 (omega arith)), tt),
+                ),
+              ),
+            ),
+          ),
+        ),
+      ),
+    ),
+  ),
+)
+
+win_numbers : (win : WinAnswer) → IsWholeWin win → HasNumbers (win_tree win)
+unfolding win_tree
+win_numbers (Won score) h = score_numbers score h
+win_numbers NoYaku h = (tt, tt)
+win_numbers NoWin h = (tt, tt)
+
+kinds_numbers : (kinds : List ℕ) → ItemsHaveNumbers (items_of kind_tree kinds)
+kinds_numbers [] = tt
+kinds_numbers (kind ∷ kinds) = (tt, kinds_numbers kinds)
+
+live_numbers : (pair : ℕ × ℕ) → IsWholePair pair → HasNumbers (live_tree pair)
+unfolding live_tree
+live_numbers pair h = (tt, (IsNumber-decimal pair.1 (omega (arith, h.1)), tt))
+
+accepted_numbers : (pairs : List (ℕ × ℕ)) → IsWholeList pairs → MembersHaveNumbers (members_of (accepted_members pairs))
+accepted_numbers pairs h = (items_numbers live_tree IsWholePair live_numbers pairs h.each, (IsNumber-decimal _ (omega (arith, h.live)), tt))
+
+discard_numbers : (discard : Discard) → IsWholeDiscard discard → HasNumbers (discard_tree discard)
+unfolding discard_tree
+discard_numbers discard h = (tt, accepted_numbers discard.accepted h.accepted)
+
+accepts_numbers : (accepts : Accepts) → AreWhole accepts → MembersHaveNumbers (members_of (accepts_members accepts))
+accepts_numbers (Thirteen accepted) h = accepted_numbers accepted h
+accepts_numbers (Fourteen discards) h = (items_numbers discard_tree IsWholeDiscard discard_numbers discards h, tt)
+
+numbers : (a : Answer) → IsWhole a → HasNumbers (answer_tree a)
+unfolding answer_tree waits_tree shape_tree
+numbers (answer.Win win) h = win_numbers win h
+numbers (answer.Waits marks) h = (tt, (kinds_numbers (kinds_in marks), tt))
+numbers (answer.Shape shape) h = (tt, (IsNumber-signed_decimal shape.shanten h.shanten, accepts_numbers shape.accepts h.accepts))
+
+-- ---- no answer is nested deep
+
+items_shallow : {X : Type 0} (tree : X → Json) (d : ℕ) → ((x : X) → depth (tree x) ≤ d) → (xs : List X) → items_depth (items_of tree xs) ≤ d
+items_shallow tree d each [] = omega arith
+items_shallow tree d each (x ∷ xs) = omega (arith, each x, items_shallow tree d each xs)
+
+members_shallow : (named : List Named) (d : ℕ) → Each (λ one. depth one.1 ≤ d) named → members_depth (members_of named) ≤ d
+members_shallow [] d h = omega arith
+members_shallow (one ∷ named) d h = omega (arith, h.0, members_shallow named d h.1)
+
+below : (d : ℕ) → 0 ≤ d
+below d = omega arith
+
+yaku_shallow : (yaku : ℕ) → depth (yaku_tree yaku) ≤ 1
+unfolding yaku_tree
+yaku_shallow yaku = omega arith
+
+limit_shallow : (base : ℕ) → depth (limit_tree base) ≤ 0
+unfolding limit_tree
+limit_shallow base = by_tests (base == 2000) (base == 3000) (base == 4000) (base == 6000) (base == 8000)
+  where
+    by_tests : (a b c d e : Bool) →
+        depth (cond a (string (codes "mangan")) (cond b (string (codes "haneman")) (cond c (string (codes "baiman")) (cond d (string (codes "sanbaiman")) (cond e (string (codes "yakuman")) null))))) ≤ 0
+    by_tests true b c d e = omega arith
+    by_tests false true c d e = omega arith
+    by_tests false false true d e = omega arith
+    by_tests false false false true e = omega arith
+    by_tests false false false false true = omega arith
+    by_tests false false false false false = omega arith
+
+payment_shallow : (payment : Payment) → depth (payment_tree payment) ≤ 1
+unfolding payment_tree
+payment_shallow (Ron points) = omega arith
+payment_shallow (Tsumo other dealer) = omega arith
+payment_shallow (DealerTsumo each) = omega arith
+
+score_shallow : (score : Score) → depth (score_tree score) ≤ 3
+unfolding score_tree
+score_shallow score =
+    let yaku = items_shallow yaku_tree 1 yaku_shallow (yaku_in score.yaku) in
+    omega (arith, limit_shallow score.base, payment_shallow score.payment, yaku)
+
+win_shallow : (win : WinAnswer) → depth (win_tree win) ≤ 3
+unfolding win_tree
+win_shallow (Won score) = score_shallow score
+win_shallow NoYaku = omega arith
+win_shallow NoWin = omega arith
+
+kind_shallow : (kind : ℕ) → depth (kind_tree kind) ≤ 0
+kind_shallow kind = omega arith
+
+live_shallow : (pair : ℕ × ℕ) → depth (live_tree pair) ≤ 1
+unfolding live_tree
+live_shallow pair = omega arith
+
+accepted_shallow : (pairs : List (ℕ × ℕ)) → members_depth (members_of (accepted_members pairs)) ≤ 2
+accepted_shallow pairs = omega (arith, items_shallow live_tree 1 live_shallow pairs)
+
+discard_shallow : (discard : Discard) → depth (discard_tree discard) ≤ 3
+unfolding discard_tree
+discard_shallow discard = omega (arith, accepted_shallow discard.accepted)
+
+accepts_shallow : (accepts : Accepts) → members_depth (members_of (accepts_members accepts)) ≤ 4
+accepts_shallow (Thirteen accepted) = omega (arith, accepted_shallow accepted)
+accepts_shallow (Fourteen discards) = omega (arith, items_shallow discard_tree 3 discard_shallow discards)
+
+shallow : (a : Answer) → depth (answer_tree a) ≤ 5
+unfolding answer_tree waits_tree shape_tree
+shallow (answer.Win win) = omega (arith, win_shallow win)
+shallow (answer.Waits marks) = omega (arith, items_shallow kind_tree 0 kind_shallow (kinds_in marks))
+shallow (answer.Shape shape) = omega (arith, accepts_shallow shape.accepts)
+
+-- ---- answers
+
+pub reads_back : (a : Answer) → IsWhole a → document (answer_text a) ≡ Some (answer_tree a)
+unfolding text_of
+reads_back a h = document-print (answer_tree a) (numbers a h) (omega (arith, shallow a))
+
+some_same : (x y : Json) → Some x ≡ Some y → x ≡ y
+some_same x y e = cc
+
+pub same_texts : (a b : Answer) → IsWhole a → IsWhole b → answer_text a ≡ answer_text b → a ≡ b
+same_texts a b h k e = same_answers a b h k (some_same (answer_tree a) (answer_tree b) (sym (reads_back a h) ∙ ap document e ∙ reads_back b k))

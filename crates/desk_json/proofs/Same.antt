@@ -1,0 +1,287 @@
+-- Equal trees are those of equal answers.
+use Rattle.std.proofs.Common.{◌≡◌, ℕ, zero, suc, ◌+◌, ◌<◌, ◌≤◌, ◌^◌, ◌%◌, ◌⊎◌, inl, inr, Bool, true, false, cond, List, [], ◌∷◌, ◌++◌, length, get_or, refl, sym, ap, ◌∙◌, arith, decimal}
+use Rattle.std.proofs.lemmas.Bool.Decides.{nat_tests}
+use Rattle.std.proofs.lemmas.Bool.{cases_lt}
+use Rattle.std.proofs.lemmas.Fmt.{decimal_injective, signed_decimal_injective}
+use Rattle.std.proofs.lemmas.List.{ext_get_or}
+use Rattle.std.proofs.lemmas.Nat.Bits.{bit_at-lt, same_from_bits_below}
+use Rattle.std.specs.Fmt.{signed_decimal}
+use Rattle.std.specs.Int.{bit_at}
+use Rattle.std.specs.List.{filter, range_with_len}
+use Rattle.std.specs.Prelude.{codes, slice_index_or, ◌==◌}
+use Rattle.json.specs.Json.{Json, null, boolean, number, string, array, object, Items, no_items, item, Members, no_members, member}
+use Rattle.riichi_score.specs.declared.payers.Payment.{Payment}
+use Rattle.riichi_score.specs.declared.payers.Payment.TheVariants.{Ron, Tsumo, DealerTsumo}
+use Rattle.riichi_score.specs.declared.score.Score.{Score}
+use Rattle.riichi_score.specs.declared.answer.WinAnswer.{WinAnswer}
+use Rattle.riichi_score.specs.declared.answer.WinAnswer.TheVariants.{Won, NoYaku, NoWin}
+use Rattle.riichi_shape.specs.Text.{kind_text, letter_of}
+use Rattle.riichi_shape.specs.declared.accepts.Accepts.{Accepts}
+use Rattle.riichi_shape.specs.declared.accepts.Accepts.TheVariants.{Thirteen, Fourteen}
+use Rattle.riichi_shape.specs.declared.discard.Discard.{Discard}
+use Rattle.riichi_shape.specs.declared.shape_answer.ShapeAnswer.{ShapeAnswer}
+use Rattle.riichi_yaku.specs.YakuSets.{has_number}
+use Rattle.desk_core.specs.declared.answer.Answer.{Answer}
+use Rattle.desk_core.specs.declared.answer.Answer.TheVariants as answer
+use Rattle.desk_json.specs.Trees.{answer_of_sort, items_of, list_of, members_of, natural, kind_tree, yaku_in, yaku_tree, payment_tree, score_tree, win_tree, kinds_in, waits_tree, live_tree, accepted_members, discard_tree, accepts_members, shape_tree, answer_tree}
+use Rattle.desk_json.specs.Whole.{Each, IsWholePayment, IsWholeScore, IsWholePair, IsWholeList, IsWholeDiscard, AreWhole, IsWholeShape, IsWholeWin, IsWhole}
+
+-- ---- lists
+
+same_items : {X : Type 0} (tree : X → Json) (P : X → Type 0) → ((x y : X) → P x → P y → tree x ≡ tree y → x ≡ y)
+    → (xs ys : List X) → Each P xs → Each P ys → items_of tree xs ≡ items_of tree ys → xs ≡ ys
+same_items tree P same [] [] h k e = refl
+same_items tree P same [] (y ∷ ys) h k e = cc
+same_items tree P same (x ∷ xs) [] h k e = cc
+same_items tree P same (x ∷ xs) (y ∷ ys) h k e =
+    let heads : tree x ≡ tree y = cc in
+    let tails : items_of tree xs ≡ items_of tree ys = cc in
+    let one : x ≡ y = same x y h.0 k.0 heads in
+    let rest : xs ≡ ys = same_items tree P same xs ys h.1 k.1 tails in
+    cc
+
+-- ---- the numbers that pass a test
+
+no_first : (x : ℕ) (xs : List ℕ) → [] ≡ x ∷ xs → ⊥
+no_first x xs e = cc
+
+first_above : (test : ℕ → Bool) (a b n x : ℕ) (xs : List ℕ) → a < b → filter test (range_with_len b n) ≡ x ∷ xs → a < x
+first_above test a b zero x xs low e = absurd (no_first x xs e)
+first_above test a b (suc n) x xs low e = by_test (test b) (first_above test a (b + 1) n x xs (omega arith)) e
+  where
+    by_test : (t : Bool) → (filter test (range_with_len (b + 1) n) ≡ x ∷ xs → a < x)
+        → cond t (b ∷ filter test (range_with_len (b + 1) n)) (filter test (range_with_len (b + 1) n)) ≡ x ∷ xs → a < x
+    by_test true later e = let same : b ≡ x = cc in omega arith
+    by_test false later e = later e
+
+here_or_past : (a i : ℕ) → a ≤ i → (a ≡ i) ⊎ (a + 1 ≤ i)
+here_or_past a i low = go (cases_lt a i)
+  where
+    go : (a < i) ⊎ (i ≤ a) → (a ≡ i) ⊎ (a + 1 ≤ i)
+    go (inl above) = inr (omega arith)
+    go (inr at) = inl (omega arith)
+
+same_tails : (a : ℕ) (xs ys : List ℕ) → a ∷ xs ≡ a ∷ ys → xs ≡ ys
+same_tails a xs ys e = cc
+
+-- at a, and from there on
+past : (p q : ℕ → Bool) (a i : ℕ) → a ≤ i → p a ≡ q a → (a + 1 ≤ i → p i ≡ q i) → p i ≡ q i
+past p q a i low here rest = go (here_or_past a i low)
+  where
+    go : (a ≡ i) ⊎ (a + 1 ≤ i) → p i ≡ q i
+    go (inl at) = sym (ap p at) ∙ here ∙ ap q at
+    go (inr above) = rest above
+
+same_tests : (p q : ℕ → Bool) (a n : ℕ) → filter p (range_with_len a n) ≡ filter q (range_with_len a n) → (i : ℕ) → a ≤ i → i < a + n → p i ≡ q i
+same_tests p q a zero e i low high = absurd (omega arith)
+same_tests p q a (suc n) e i low high = by_tests (p a) (q a) refl refl (λ rest above. same_tests p q (a + 1) n rest i above (omega arith)) e
+  where
+    by_tests : (s t : Bool) → p a ≡ s → q a ≡ t → (filter p (range_with_len (a + 1) n) ≡ filter q (range_with_len (a + 1) n) → a + 1 ≤ i → p i ≡ q i)
+        → cond s (a ∷ filter p (range_with_len (a + 1) n)) (filter p (range_with_len (a + 1) n)) ≡ cond t (a ∷ filter q (range_with_len (a + 1) n)) (filter q (range_with_len (a + 1) n))
+        → p i ≡ q i
+    by_tests true true s t rest e = past p q a i low (s ∙ sym t) (rest (same_tails a _ _ e))
+    by_tests false false s t rest e = past p q a i low (s ∙ sym t) (rest e)
+    by_tests true false s t rest e = absurd (omega (arith, first_above q a (a + 1) n a (filter p (range_with_len (a + 1) n)) (omega arith) (sym e)))
+    by_tests false true s t rest e = absurd (omega (arith, first_above p a (a + 1) n a (filter q (range_with_len (a + 1) n)) (omega arith) e))
+
+pub each_in_range : (test : ℕ → Bool) (a n end : ℕ) → a + n ≤ end → Each (λ k. k < end) (filter test (range_with_len a n))
+each_in_range test a zero end within = tt
+each_in_range test a (suc n) end within = by_test (test a) (each_in_range test (a + 1) n end (omega arith))
+  where
+    by_test : (t : Bool) → Each (λ k. k < end) (filter test (range_with_len (a + 1) n))
+        → Each (λ k. k < end) (cond t (a ∷ filter test (range_with_len (a + 1) n)) (filter test (range_with_len (a + 1) n)))
+    by_test true rest = (omega arith, rest)
+    by_test false rest = rest
+
+-- ---- kinds
+
+first_kind : ℕ → ℕ
+first_kind letter = cond (letter == 109) 0 (cond (letter == 112) 9 (cond (letter == 115) 18 27))
+
+kind_from : (kind : ℕ) → kind < 34 → kind ≡ first_kind (letter_of kind) + kind % 9
+unfolding first_kind
+kind_from kind low = grind (arith, nat_tests)
+
+same_kinds : (k l : ℕ) → k < 34 → l < 34 → kind_tree k ≡ kind_tree l → k ≡ l
+same_kinds k l low high e =
+    let digits : 49 + k % 9 ≡ 49 + l % 9 = cc in
+    let letters : letter_of k ≡ letter_of l = cc in
+    omega (arith, kind_from k low, kind_from l high, ap first_kind letters, digits)
+
+-- ---- wins
+
+same_numbers : (m n : ℕ) → m < 2 ^ 64 → n < 2 ^ 64 → natural m ≡ natural n → m ≡ n
+same_numbers m n low high e = let texts : decimal m ≡ decimal n = cc in decimal_injective m n low high texts
+
+same_yaku : (m n : ℕ) → m < 41 → n < 41 → yaku_tree m ≡ yaku_tree n → m ≡ n
+unfolding yaku_tree
+same_yaku m n low high e = let numbers : natural m ≡ natural n = cc in same_numbers m n (omega arith) (omega arith) numbers
+
+same_bits : (a b i : ℕ) → has_number a i ≡ has_number b i → bit_at a i ≡ bit_at b i
+same_bits a b i e = of_bits (bit_at a i) (bit_at b i) (bit_at-lt a i) (bit_at-lt b i) e
+  where
+    of_bits : (x y : ℕ) → x < 2 → y < 2 → (x == 1) ≡ (y == 1) → x ≡ y
+    of_bits x y low high e = grind (arith, nat_tests)
+
+same_sets : (a b : ℕ) → a < 2 ^ 41 → b < 2 ^ 41 → items_of yaku_tree (yaku_in a) ≡ items_of yaku_tree (yaku_in b) → a ≡ b
+unfolding yaku_in
+same_sets a b low high e =
+    let numbers = same_items yaku_tree (λ n. n < 41) same_yaku (yaku_in a) (yaku_in b) (each_in_range (has_number a) 0 41 41 (omega arith)) (each_in_range (has_number b) 0 41 41 (omega arith)) e in
+    same_from_bits_below 41 a b low high (λ i within. same_bits a b i (same_tests (has_number a) (has_number b) 0 41 numbers i (omega arith) (omega arith)))
+
+-- the second letter of an object's first name, which tells payments apart
+second_letter : Json → ℕ
+second_letter (object (member name value more)) = get_or name 1 0
+second_letter json = 0
+
+same_payments : (p q : Payment) → IsWholePayment p → IsWholePayment q → payment_tree p ≡ payment_tree q → p ≡ q
+unfolding payment_tree second_letter
+same_payments (Ron m) (Ron n) h k e = let numbers : natural m ≡ natural n = cc in ap Ron (same_numbers m n (omega arith) (omega arith) numbers)
+same_payments (Ron m) (Tsumo o d) h k e = absurd (omega (arith, ap second_letter e))
+same_payments (Ron m) (DealerTsumo n) h k e = absurd (omega (arith, ap second_letter e))
+same_payments (Tsumo o d) (Ron n) h k e = absurd (omega (arith, ap second_letter e))
+same_payments (Tsumo o d) (Tsumo o' d') h k e =
+    let dealers : natural d ≡ natural d' = cc in
+    let others : natural o ≡ natural o' = cc in
+    let one = same_numbers d d' (omega arith) (omega arith) dealers in
+    let other = same_numbers o o' (omega arith) (omega arith) others in
+    λ i. Tsumo (other i) (one i)
+same_payments (Tsumo o d) (DealerTsumo n) h k e = absurd (omega (arith, ap second_letter e))
+same_payments (DealerTsumo m) (Ron n) h k e = absurd (omega (arith, ap second_letter e))
+same_payments (DealerTsumo m) (Tsumo o d) h k e = absurd (omega (arith, ap second_letter e))
+same_payments (DealerTsumo m) (DealerTsumo n) h k e = let numbers : natural m ≡ natural n = cc in ap DealerTsumo (same_numbers m n (omega arith) (omega arith) numbers)
+
+same_scores : (a b : Score) → IsWholeScore a → IsWholeScore b → score_tree a ≡ score_tree b → a ≡ b
+unfolding score_tree
+same_scores a b h k e =
+    let hans : natural a.han ≡ natural b.han = cc in
+    let fus : natural a.fu ≡ natural b.fu = cc in
+    let doras : natural a.dora ≡ natural b.dora = cc in
+    let bases : natural a.base ≡ natural b.base = cc in
+    let gains : natural a.gain ≡ natural b.gain = cc in
+    let payments : payment_tree a.payment ≡ payment_tree b.payment = cc in
+    let sets : items_of yaku_tree (yaku_in a.yaku) ≡ items_of yaku_tree (yaku_in b.yaku) = cc in
+    let han = same_numbers a.han b.han (omega arith) (omega arith) hans in
+    let fu = same_numbers a.fu b.fu (omega arith) (omega arith) fus in
+    let dora = same_numbers a.dora b.dora (omega arith) (omega arith) doras in
+    let base = same_numbers a.base b.base (omega arith) (omega arith) bases in
+    let gain = same_numbers a.gain b.gain (omega arith) (omega arith) gains in
+    let payment = same_payments a.payment b.payment h.payment k.payment payments in
+    let yaku = same_sets a.yaku b.yaku h.yaku k.yaku sets in
+    λ i. record { han = han i; fu = fu i; base = base i; yaku = yaku i; dora = dora i; payment = payment i; gain = gain i }
+
+-- the fourth letter of an answer's sort, which tells the sorts apart
+sort_letter : Json → ℕ
+sort_letter (object (member name (string sort) more)) = get_or sort 3 0
+sort_letter json = 0
+
+same_wins : (a b : WinAnswer) → IsWholeWin a → IsWholeWin b → win_tree a ≡ win_tree b → a ≡ b
+unfolding win_tree score_tree sort_letter
+same_wins (Won a) (Won b) h k e = ap Won (same_scores a b h k e)
+same_wins (Won a) NoYaku h k e = absurd (omega (arith, ap sort_letter e))
+same_wins (Won a) NoWin h k e = absurd (omega (arith, ap sort_letter e))
+same_wins NoYaku (Won b) h k e = absurd (omega (arith, ap sort_letter e))
+same_wins NoYaku NoYaku h k e = refl
+same_wins NoYaku NoWin h k e = absurd (omega (arith, ap sort_letter e))
+same_wins NoWin (Won b) h k e = absurd (omega (arith, ap sort_letter e))
+same_wins NoWin NoYaku h k e = absurd (omega (arith, ap sort_letter e))
+same_wins NoWin NoWin h k e = refl
+
+-- ---- waits
+
+same_lists : (kinds others : List ℕ) → answer_of_sort (codes "waits") ((codes "kinds", list_of kind_tree kinds) ∷ []) ≡ answer_of_sort (codes "waits") ((codes "kinds", list_of kind_tree others) ∷ [])
+    → items_of kind_tree kinds ≡ items_of kind_tree others
+same_lists kinds others e = cc
+
+marked_kinds : (marks : List Bool) → Each (λ k. k < 34) (kinds_in marks)
+unfolding kinds_in
+marked_kinds marks = each_in_range (λ k. slice_index_or marks k false) 0 34 34 (omega arith)
+
+same_marks : (a b : List Bool) → length a ≡ 34 → length b ≡ 34 → kinds_in a ≡ kinds_in b → a ≡ b
+unfolding kinds_in
+same_marks a b long as_long kinds =
+    ext_get_or false a b (long ∙ sym as_long)
+    (λ i within. same_tests (λ k. slice_index_or a k false) (λ k. slice_index_or b k false) 0 34 kinds i (omega arith) (omega arith))
+
+same_waits : (a b : List Bool) → length a ≡ 34 → length b ≡ 34 → waits_tree a ≡ waits_tree b → a ≡ b
+unfolding waits_tree
+same_waits a b long as_long e =
+    same_marks a b long as_long
+    (same_items kind_tree (λ k. k < 34) same_kinds (kinds_in a) (kinds_in b) (marked_kinds a) (marked_kinds b) (same_lists (kinds_in a) (kinds_in b) e))
+
+-- ---- shapes
+
+same_pairs : (p q : ℕ × ℕ) → IsWholePair p → IsWholePair q → live_tree p ≡ live_tree q → p ≡ q
+unfolding live_tree
+same_pairs p q h k e =
+    let kinds : kind_tree p.0 ≡ kind_tree q.0 = cc in
+    let lives : natural p.1 ≡ natural q.1 = cc in
+    let kind = same_kinds p.0 q.0 h.0 k.0 kinds in
+    let live = same_numbers p.1 q.1 (omega (arith, h.1)) (omega (arith, k.1)) lives in
+    λ i. (kind i, live i)
+
+same_accepted : (xs ys : List (ℕ × ℕ)) → IsWholeList xs → IsWholeList ys → members_of (accepted_members xs) ≡ members_of (accepted_members ys) → xs ≡ ys
+same_accepted xs ys h k e =
+    let items : items_of live_tree xs ≡ items_of live_tree ys = cc in
+    same_items live_tree IsWholePair same_pairs xs ys h.each k.each items
+
+same_discards : (a b : Discard) → IsWholeDiscard a → IsWholeDiscard b → discard_tree a ≡ discard_tree b → a ≡ b
+unfolding discard_tree
+same_discards a b h k e =
+    let kinds : kind_tree a.kind ≡ kind_tree b.kind = cc in
+    let members : members_of (accepted_members a.accepted) ≡ members_of (accepted_members b.accepted) = cc in
+    let kind = same_kinds a.kind b.kind h.kind k.kind kinds in
+    let accepted = same_accepted a.accepted b.accepted h.accepted k.accepted members in
+    λ i. record { kind = kind i; accepted = accepted i }
+
+first_letter : Members → ℕ
+first_letter no_members = 0
+first_letter (member name value more) = get_or name 0 0
+
+same_accepts : (a b : Accepts) → AreWhole a → AreWhole b → members_of (accepts_members a) ≡ members_of (accepts_members b) → a ≡ b
+unfolding first_letter
+same_accepts (Thirteen xs) (Thirteen ys) h k e = ap Thirteen (same_accepted xs ys h k e)
+same_accepts (Thirteen xs) (Fourteen ys) h k e = absurd (omega (arith, ap first_letter e))
+same_accepts (Fourteen xs) (Thirteen ys) h k e = absurd (omega (arith, ap first_letter e))
+same_accepts (Fourteen xs) (Fourteen ys) h k e =
+    let items : items_of discard_tree xs ≡ items_of discard_tree ys = cc in
+    ap Fourteen (same_items discard_tree IsWholeDiscard same_discards xs ys h k items)
+
+same_shapes : (a b : ShapeAnswer) → IsWholeShape a → IsWholeShape b → shape_tree a ≡ shape_tree b → a ≡ b
+unfolding shape_tree
+same_shapes a b h k e =
+    let numbers : signed_decimal a.shanten ≡ signed_decimal b.shanten = cc in
+    let members : members_of (accepts_members a.accepts) ≡ members_of (accepts_members b.accepts) = cc in
+    let shanten = signed_decimal_injective a.shanten b.shanten h.shanten k.shanten numbers in
+    let accepts = same_accepts a.accepts b.accepts h.accepts k.accepts members in
+    λ i. record { shanten = shanten i; accepts = accepts i }
+
+-- ---- answers
+
+no_waits : (win : WinAnswer) (marks : List Bool) → win_tree win ≡ waits_tree marks → ⊥
+unfolding win_tree score_tree waits_tree sort_letter
+no_waits (Won score) marks e = omega (arith, ap sort_letter e)
+no_waits NoYaku marks e = omega (arith, ap sort_letter e)
+no_waits NoWin marks e = omega (arith, ap sort_letter e)
+
+no_shape : (win : WinAnswer) (shape : ShapeAnswer) → win_tree win ≡ shape_tree shape → ⊥
+unfolding win_tree score_tree shape_tree sort_letter
+no_shape (Won score) shape e = omega (arith, ap sort_letter e)
+no_shape NoYaku shape e = omega (arith, ap sort_letter e)
+no_shape NoWin shape e = omega (arith, ap sort_letter e)
+
+waits_apart : (marks : List Bool) (shape : ShapeAnswer) → waits_tree marks ≡ shape_tree shape → ⊥
+unfolding waits_tree shape_tree sort_letter
+waits_apart marks shape e = omega (arith, ap sort_letter e)
+
+pub same_answers : (a b : Answer) → IsWhole a → IsWhole b → answer_tree a ≡ answer_tree b → a ≡ b
+unfolding answer_tree
+same_answers (answer.Win a) (answer.Win b) h k e = ap answer.Win (same_wins a b h k e)
+same_answers (answer.Win a) (answer.Waits b) h k e = absurd (no_waits a b e)
+same_answers (answer.Win a) (answer.Shape b) h k e = absurd (no_shape a b e)
+same_answers (answer.Waits a) (answer.Win b) h k e = absurd (no_waits b a (sym e))
+same_answers (answer.Waits a) (answer.Waits b) h k e = ap answer.Waits (same_waits a b h k e)
+same_answers (answer.Waits a) (answer.Shape b) h k e = absurd (waits_apart a b e)
+same_answers (answer.Shape a) (answer.Win b) h k e = absurd (no_shape b a (sym e))
+same_answers (answer.Shape a) (answer.Waits b) h k e = absurd (waits_apart b a (sym e))
+same_answers (answer.Shape a) (answer.Shape b) h k e = ap answer.Shape (same_shapes a b h k e)

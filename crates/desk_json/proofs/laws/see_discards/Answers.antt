@@ -1,0 +1,20 @@
+use Rattle.std.proofs.Common.{sym, ◌∙◌, subst, arith}
+use Rattle.std.proofs.lemmas.List.{take_all}
+use Rattle.riichi_shape.proofs.TextLemmas.{some_there}
+use Rattle.desk_json.specs.Whole.{Each, IsWholeDiscard}
+use Rattle.desk_json.proofs.Seen.{each_more}
+use Rattle.desk_json.proofs.laws.see_discards.Goals as goal
+use Rattle.desk_json.proofs.laws.see_discards.Goals.{in-Some, in_default}
+
+pub loop-place-preserved : goal.loop-place-preserved
+loop-place-preserved c =
+    let discards = c.args.discards.now in
+    elim c.match-get.branch [
+      | in-Some w ↦ each_more IsWholeDiscard discards c.loop-place.place w.in-Some.discard c.loop-place.invariant (sym c.get.ensures ∙ w.in-Some.is) w.see_discard.ensures
+      | in_default w ↦ absurd (some_there discards c.loop-place.place (omega (arith, c.loop-place-test.true, c.len-place-end.ensures.value)) (sym c.get.ensures ∙ w.in_default.is))
+    ]
+
+pub returns : goal.returns
+returns c =
+    let discards = c.args.discards.now in
+    subst (Each IsWholeDiscard) (take_all c.loop-place.place discards (omega (arith, c.len-place-end.ensures.value))) c.loop-place.invariant
