@@ -5,7 +5,7 @@ The shared object is made once from the static library:
     cc -shared -o libriichi_desk.so -Wl,--whole-archive libriichi_desk_c.a -Wl,--no-whole-archive
 
 It is looked for beside this file, or where the environment's RIICHI_DESK says. Run as a program, this file answers the lines
-of standard input.
+of standard input, and with the word `explain` says why.
 """
 
 from __future__ import annotations
@@ -16,11 +16,19 @@ import sys
 from pathlib import Path
 
 _LIBRARY = ctypes.CDLL(os.environ.get("RIICHI_DESK", str(Path(__file__).with_name("libriichi_desk.so"))))
-_LIBRARY.riichi_answer.argtypes = [ctypes.c_uint32, ctypes.c_char_p, ctypes.c_size_t, ctypes.c_char_p, ctypes.c_size_t]
-_LIBRARY.riichi_answer.restype = ctypes.c_size_t
+for _call in (_LIBRARY.riichi_answer, _LIBRARY.riichi_explain):
+    _call.argtypes = [ctypes.c_uint32, ctypes.c_char_p, ctypes.c_size_t, ctypes.c_char_p, ctypes.c_size_t]
+    _call.restype = ctypes.c_size_t
 _LIBRARY.riichi_version.argtypes = [ctypes.c_char_p, ctypes.c_size_t]
 _LIBRARY.riichi_version.restype = ctypes.c_size_t
 _MOST_ANSWER = 3072
+
+
+def _told(call, line: bytes | str, rules: int) -> str:
+    given = line.encode() if isinstance(line, str) else line
+    room = ctypes.create_string_buffer(_MOST_ANSWER)
+    needed = call(rules, given, len(given), room, _MOST_ANSWER)
+    return room.raw[:needed].decode("ascii")
 
 
 def answer(line: bytes | str, rules: int = 1) -> str | None:
@@ -29,10 +37,16 @@ def answer(line: bytes | str, rules: int = 1) -> str | None:
     >>> answer("waits 1112345678999m")
     'waits 123456789m'
     """
-    given = line.encode() if isinstance(line, str) else line
-    room = ctypes.create_string_buffer(_MOST_ANSWER)
-    needed = _LIBRARY.riichi_answer(rules, given, len(given), room, _MOST_ANSWER)
-    return room.raw[:needed].decode("ascii") if needed else None
+    return _told(_LIBRARY.riichi_answer, line, rules) or None
+
+
+def explain(line: bytes | str, rules: int = 1) -> list[str]:
+    """The lines that say why one line is answered as it is; none for a comment, a blank line, and waits.
+
+    >>> explain("shape 123456789m1134p")
+    ['  shanten sets and a pair 0, seven pairs 5, thirteen orphans 9']
+    """
+    return _told(_LIBRARY.riichi_explain, line, rules).splitlines()
 
 
 def version() -> str:
@@ -47,3 +61,5 @@ if __name__ == "__main__":
         told = answer(each.rstrip(b"\r\n"))
         if told is not None:
             print(told)
+        if sys.argv[1:] == ["explain"]:
+            print("".join(f"{why}\n" for why in explain(each.rstrip(b"\r\n"))), end="")

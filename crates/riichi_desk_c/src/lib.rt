@@ -9,9 +9,11 @@ ghost use Rattle.std.specs.Prelude.{◌≡◌, ◌≤◌, ◌<◌, ◌++◌, len
 ghost use Rattle.riichi_desk_c.specs.Replies.{reply_to, profile_numbered};
 
 mod placing;
+mod reasons;
 
 use desk_core::{answer_text, judge};
 use placing::place;
+pub use reasons::riichi_explain;
 use riichi_hand::{Rules, fault_text, read_line};
 
 /// Answers one line, without its line feed and a carriage return before that, under the profile of this number, 1 or 2: the bytes that the answer takes, 0
