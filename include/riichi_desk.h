@@ -22,6 +22,9 @@ extern "C" {
 /* No answer takes more bytes as JSON. */
 #define RIICHI_MOST_JSON 12288
 
+/* No explanation takes more bytes. */
+#define RIICHI_MOST_EXPLANATION 3072
+
 /* The rule profiles, as docs/RULES.md has them. */
 #define RIICHI_RULES_ONE 1
 #define RIICHI_RULES_TWO 2
@@ -49,6 +52,13 @@ size_t riichi_answer(uint32_t rules, const uint8_t *line, size_t line_len, uint8
  * are as above.
  */
 size_t riichi_json(uint32_t rules, const uint8_t *line, size_t line_len, uint8_t *room, size_t room_len);
+
+/* Says why one line is answered as it is: the lines that the command `explain` writes behind its answer, each of which begins
+ * with two spaces and ends with a line feed (docs/NOTATION.md, "Explanations"). Rules, line and room are those of `riichi_answer`.
+ *
+ * Returns how many bytes these lines take; 0 where the line has no answer, and for waits, whose answer has no explanation.
+ */
+size_t riichi_explain(uint32_t rules, const uint8_t *line, size_t line_len, uint8_t *room, size_t room_len);
 
 /* The name and version, such as `riichi_desk 0.1.0`, into the room as above. Returns how many bytes it takes. */
 size_t riichi_version(uint8_t *room, size_t room_len);

@@ -17,7 +17,7 @@ typedef struct {
     Call call;
     size_t most;
 } Told;
-static const Told TOLD[] = {{riichi_answer, RIICHI_MOST_ANSWER}};
+static const Told TOLD[] = {{riichi_answer, RIICHI_MOST_ANSWER}, {riichi_explain, RIICHI_MOST_EXPLANATION}};
 
 // libFuzzer keeps an input that sets one of these anew: here each word of an answer has one.
 __attribute__((section("__libfuzzer_extra_counters"))) static uint8_t words[1 << 14];

@@ -15,14 +15,19 @@ cc -O1 -g -fsanitize=address,undefined -Iinclude examples/c/answer.c "$archive" 
 told 'a program in C, with each access tested' "$(sha256sum < "$made/wanted")" "$("$made/checked" < "$made/lines" 2>&1 | sha256sum)"
 cc -pthread -Iinclude tests/threads.c "$archive" -o "$made/threads"
 told 'four threads of a program at once' "$(sha256sum < "$made/wanted")" "$("$made/threads" "$made/lines" | sha256sum)"
+"$program" explain < "$made/lines" > "$made/explained"
+told 'a program in C, with explanations' "$(sha256sum < "$made/explained")" "$("$made/checked" explain < "$made/lines" 2>&1 | sha256sum)"
 cc -shared -o "$made/libriichi_desk.so" -Wl,--whole-archive "$archive" -Wl,--no-whole-archive
 told 'a program in Python' "$(sha256sum < "$made/wanted")" "$(RIICHI_DESK=$made/libriichi_desk.so python3 examples/python/riichi_desk.py < "$made/lines" | sha256sum)"
+told 'a program in Python, with explanations' "$(sha256sum < "$made/explained")" \
+  "$(RIICHI_DESK=$made/libriichi_desk.so python3 examples/python/riichi_desk.py explain < "$made/lines" | sha256sum)"
 told 'the version by Python' "$("$program" --version)" \
   "$(RIICHI_DESK=$made/libriichi_desk.so PYTHONPATH=examples/python python3 -B -c 'import riichi_desk; print(riichi_desk.version())')"
 # (a machine that builds the rest may have no Rust)
 if command -v rustc > /dev/null; then
   rustc -O --edition 2021 -L "$(dirname "$archive")" -l static=riichi_desk_c examples/rust/answer.rs -o "$made/in_rust"
   told 'a program in Rust' "$(sha256sum < "$made/wanted")" "$("$made/in_rust" < "$made/lines" | sha256sum)"
+  told 'a program in Rust, with explanations' "$(sha256sum < "$made/explained")" "$("$made/in_rust" explain < "$made/lines" | sha256sum)"
 else
   echo 'rustc is not here: the program in Rust is not tried'
 fi

@@ -33,11 +33,6 @@ class Desk {
     return new Desk(instance.exports);
   }
 
-  // Whether the library has this call.
-  has(call) {
-    return `riichi_${call}` in this.#exports;
-  }
-
   #read(needed) {
     return new TextDecoder().decode(new Uint8Array(this.#exports.memory.buffer, this.#room, Number(needed)));
   }
@@ -55,9 +50,9 @@ class Desk {
     return this.#ask("answer", line, rules);
   }
 
-  // The lines that say why the answer is what it is; none where the library has no such call.
+  // The lines that say why the answer is what it is.
   explain(line, rules) {
-    return this.has("explain") ? this.#ask("explain", line, rules).split("\n").filter((it) => it !== "") : [];
+    return this.#ask("explain", line, rules).split("\n").filter((it) => it !== "");
   }
 
   version() {

@@ -48,9 +48,10 @@ function placeShown(answer, line) {
   return make("p", { class: "raw" }, text.slice(0, answer.place), mark, text.slice(answer.place + 1));
 }
 
-function shownRefusal(answer, line) {
+function shownRefusal(answer, line, reasons) {
   const fields = faultyFields(answer, line).map((name) => FIELD_NAMES[name] ?? name);
-  const box = make("div", { class: "refused" }, make("p", { class: "headline" }, "Refused"), make("p", {}, `Look at ${fields.join(" and ")}.`));
+  const box = make("div", { class: "refused" }, make("p", { class: "headline" }, "Refused"));
+  box.append(...reasons.map((row) => make("p", { class: "reason" }, row.trim())), make("p", {}, `Look at ${fields.join(" and ")}.`));
   if (answer.place !== null) box.append(placeShown(answer, line));
   return [box];
 }
@@ -62,7 +63,6 @@ function shownLack(lack) {
 
 // Rows of an explanation: a word, and what it tells.
 function shownReasons(rows) {
-  if (rows.length === 0) return [];
   const list = make("dl", { class: "why", "aria-label": "Why" });
   for (const row of rows) {
     const [, word, text] = /^ *(\S+) *(.*)$/.exec(row);
@@ -85,6 +85,7 @@ function shownAnswer(text, line, reasons, lack) {
   if (text === "") return [make("p", {}, "Tap the tiles of a hand, or type or paste its line.")];
   const answer = answerOf(text);
   const isUnfinished = lack !== "" && ["H3", "H6", "H8"].includes(answer.code);
-  const parts = isUnfinished ? shownLack(lack) : [...SHOWN[answer.sort](answer, line), ...shownReasons(reasons)];
-  return [...parts, make("p", { class: "raw" }, text)];
+  const parts = isUnfinished ? shownLack(lack) : SHOWN[answer.sort](answer, line, reasons);
+  const hasRows = reasons.length > 0 && answer.sort !== "refused";
+  return [...parts, ...(hasRows ? shownReasons(reasons) : []), make("p", { class: "raw" }, text)];
 }

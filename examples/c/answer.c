@@ -1,13 +1,15 @@
-/* Answers the lines of standard input, each under the first profile:
- *   cc answer.c -I../../include libriichi_desk_c.a -o answer && ./answer < FILE
+/* Answers the lines of standard input, each under the first profile, and with the word `explain` says why:
+ *   cc answer.c -I../../include libriichi_desk_c.a -o answer && ./answer < FILE && ./answer explain < FILE
  */
 #define _POSIX_C_SOURCE 200809L
 #include <riichi_desk.h>
 #include <stdio.h>
 #include <stdlib.h>
+#include <string.h>
 #include <sys/types.h>
 
-int main(void) {
+int main(int count, char **words) {
+    int explains = count > 1 && strcmp(words[1], "explain") == 0;
     char *line = NULL;
     size_t size = 0;
     ssize_t length;
@@ -18,6 +20,10 @@ int main(void) {
         if (needed > 0) {
             fwrite(room, 1, needed, stdout);
             putchar('\n');
+        }
+        if (explains) {
+            needed = riichi_explain(RIICHI_RULES_ONE, (const uint8_t *)line, (size_t)length, room, sizeof room);
+            fwrite(room, 1, needed, stdout);
         }
     }
     free(line);

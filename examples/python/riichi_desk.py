@@ -5,7 +5,7 @@ The shared object is made once from the static library:
     cc -shared -o libriichi_desk.so -Wl,--whole-archive libriichi_desk_c.a -Wl,--no-whole-archive
 
 It is looked for beside this file, or where the environment's RIICHI_DESK says. Run as a program, this file answers the lines
-of standard input.
+of standard input, and with the word `explain` says why.
 """
 
 from __future__ import annotations
@@ -18,10 +18,9 @@ from pathlib import Path
 import answers
 
 _LIBRARY = ctypes.CDLL(os.environ.get("RIICHI_DESK", str(Path(__file__).with_name("libriichi_desk.so"))))
-_LIBRARY.riichi_answer.argtypes = [ctypes.c_uint32, ctypes.c_char_p, ctypes.c_size_t, ctypes.c_char_p, ctypes.c_size_t]
-_LIBRARY.riichi_answer.restype = ctypes.c_size_t
-_LIBRARY.riichi_json.argtypes = _LIBRARY.riichi_answer.argtypes
-_LIBRARY.riichi_json.restype = ctypes.c_size_t
+for _call in (_LIBRARY.riichi_answer, _LIBRARY.riichi_explain, _LIBRARY.riichi_json):
+    _call.argtypes = [ctypes.c_uint32, ctypes.c_char_p, ctypes.c_size_t, ctypes.c_char_p, ctypes.c_size_t]
+    _call.restype = ctypes.c_size_t
 _LIBRARY.riichi_version.argtypes = [ctypes.c_char_p, ctypes.c_size_t]
 _LIBRARY.riichi_version.restype = ctypes.c_size_t
 _MOST_ANSWER = 3072
@@ -63,6 +62,15 @@ def _told(call, most: int, line: bytes | str, rules: int) -> str | None:
     return room.raw[:needed].decode("ascii") if needed else None
 
 
+def explain(line: bytes | str, rules: int = 1) -> list[str]:
+    """The lines that say why one line is answered as it is; none for a comment, a blank line, and waits.
+
+    >>> explain("shape 123456789m1134p")
+    ['  shanten sets and a pair 0, seven pairs 5, thirteen orphans 9']
+    """
+    return (_told(_LIBRARY.riichi_explain, _MOST_ANSWER, line, rules) or "").splitlines()
+
+
 def version() -> str:
     """The name and version of the library."""
     room = ctypes.create_string_buffer(64)
@@ -75,3 +83,5 @@ if __name__ == "__main__":
         told = text(each.rstrip(b"\r\n"))
         if told is not None:
             print(told)
+        if sys.argv[1:] == ["explain"]:
+            print("".join(f"{why}\n" for why in explain(each.rstrip(b"\r\n"))), end="")

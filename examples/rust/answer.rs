@@ -1,9 +1,10 @@
-//! Answers the lines of standard input, each under the first profile:
+//! Answers the lines of standard input, each under the first profile, and with the word `explain` says why:
 //! `rustc answer.rs -L FOLDER -l static=riichi_desk_c && ./answer < FILE`, with libriichi_desk_c.a in FOLDER.
 use std::io::{self, BufRead, Write};
 
 extern "C" {
     fn riichi_answer(rules: u32, line: *const u8, line_len: usize, room: *mut u8, room_len: usize) -> usize;
+    fn riichi_explain(rules: u32, line: *const u8, line_len: usize, room: *mut u8, room_len: usize) -> usize;
 }
 
 const MOST_ANSWER: usize = 3072;
@@ -15,7 +16,15 @@ fn answer<'r>(rules: u32, line: &[u8], room: &'r mut [u8; MOST_ANSWER]) -> Optio
     (needed > 0).then(|| &room[..needed])
 }
 
+/// The lines that say why one line is answered as it is, each with its line feed; none for waits.
+fn explanation<'r>(rules: u32, line: &[u8], room: &'r mut [u8; MOST_ANSWER]) -> &'r [u8] {
+    // As above.
+    let needed = unsafe { riichi_explain(rules, line.as_ptr(), line.len(), room.as_mut_ptr(), room.len()) };
+    &room[..needed]
+}
+
 fn main() -> io::Result<()> {
+    let explains = std::env::args().nth(1).as_deref() == Some("explain");
     let mut room = [0; MOST_ANSWER];
     let mut out = io::BufWriter::new(io::stdout().lock());
     for line in io::stdin().lock().split(b'\n') {
@@ -24,6 +33,9 @@ fn main() -> io::Result<()> {
         if let Some(text) = answer(1, line, &mut room) {
             out.write_all(text)?;
             out.write_all(b"\n")?;
+        }
+        if explains {
+            out.write_all(explanation(1, line, &mut room))?;
         }
     }
     out.flush()

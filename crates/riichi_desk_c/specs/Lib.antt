@@ -1,2 +1,3 @@
 pub mod Replies
 pub mod JsonReplies
+pub mod Reasons

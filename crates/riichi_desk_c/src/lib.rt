@@ -10,10 +10,12 @@ ghost use Rattle.riichi_desk_c.specs.Replies.{reply_to, profile_numbered};
 
 mod json;
 mod placing;
+mod reasons;
 
 use desk_core::{answer_text, judge};
 pub use json::riichi_json;
 use placing::place;
+pub use reasons::riichi_explain;
 use riichi_hand::{Rules, fault_text, read_line};
 
 /// Answers one line, without its line feed and a carriage return before that, under the profile of this number, 1 or 2: the bytes that the answer takes, 0

@@ -1,4 +1,4 @@
-use super::{riichi_answer, riichi_json, riichi_version};
+use super::{riichi_answer, riichi_explain, riichi_json, riichi_version};
 
 #[test]
 fn answers_a_line_in_a_room_of_just_its_length(rt: HostRuntime) {
@@ -64,4 +64,20 @@ fn answers_as_json(rt: HostRuntime) {
         room.get(..needed) == Some(b"{\"answer\":\"refused\",\"code\":\"rules\"}".as_slice())
     );
     assert!(rt; riichi_json(1, b"# table three", &mut room) == 0);
+}
+
+#[test]
+fn explains_a_line(rt: HostRuntime) {
+    let line = b"shape 123456789m1134p";
+    let why = b"  shanten sets and a pair 0, seven pairs 5, thirteen orphans 9\n".as_slice();
+    let mut room = [7u8; 3072];
+    let needed = riichi_explain(1, line, &mut room);
+    assert!(rt; room.get(..needed) == Some(why));
+    let mut small = [7u8; 8];
+    assert!(rt; riichi_explain(1, line, &mut small) == needed);
+    assert!(rt; small == [7u8; 8]);
+    assert!(rt; riichi_explain(1, b"waits 1112345678999m", &mut room) == 0);
+    assert!(rt; riichi_explain(1, b"# table three", &mut room) == 0);
+    let needed = riichi_explain(3, line, &mut room);
+    assert!(rt; room.get(..needed) == Some(b"refused rules".as_slice()));
 }

@@ -1,0 +1,53 @@
+//! Why a line is answered as it is.
+ghost use Rattle.std.specs.Prelude.{◌≡◌, ◌≤◌, ℕ, List};
+ghost use Rattle.riichi_explain.specs.Explanation.{IsJobText};
+ghost use Rattle.riichi_explain.specs.Faults.{refusal_lines};
+ghost use Rattle.riichi_desk_c.specs.Reasons.{IsReason, IsPlaced};
+
+use super::placing::place;
+use super::rules_numbered;
+use arrayvec::ArrayString;
+use riichi_explain::{
+    explain_shape, explain_win, push_refusal_lines, push_shanten_line, push_win_lines,
+};
+use riichi_hand::{Job, LineFault, read_line};
+
+/// Says why one line is answered as it is, under the profile of this number, 1 or 2: the bytes that the text takes, 0 where the
+/// line is no record or its answer has no explanation. The text is put at the start of the room if all of it fits there:
+/// the lines that stand behind the answer where it is explained, each with its line feed. Under any other number the text
+/// is `refused rules`.
+#[tactic(auto, unfolding(riichi_explain::specs::Explanation::IsExplanation))]
+#[unsafe(no_mangle)]
+pub extern "C" fn riichi_explain(rules: u32, line: &[u8], room: &mut [u8]) -> usize
+    ensures placed { (text : List ℕ) × IsReason rules line.now text × IsPlaced text result room.old room.new }
+    ensures most { result ≤ 3072 }
+{
+    let Some(rules) = rules_numbered(rules) else {
+        return place(b"refused rules", room);
+    };
+    match read_line(rules, line) {
+        Ok(None) => place(b"", room),
+        Ok(Some(job)) => place(job_lines(&job).as_str().as_bytes(), room),
+        Err(fault) => place(fault_lines(line, &fault).as_str().as_bytes(), room),
+    }
+}
+
+fn job_lines(job: &Job) -> ArrayString<3072>
+    ensures { IsJobText job.now result.bytes }
+{
+    let mut text = ArrayString::new();
+    match job {
+        Job::Win(win) => push_win_lines(&mut text, explain_win(win), win),
+        Job::Waits(_) => {}
+        Job::Shape(tiles) => push_shanten_line(&mut text, &explain_shape(tiles)),
+    }
+    text
+}
+
+fn fault_lines(line: &[u8], fault: &LineFault) -> ArrayString<3072>
+    ensures { result.bytes ≡ refusal_lines line.now fault.now }
+{
+    let mut text = ArrayString::new();
+    push_refusal_lines(&mut text, line, fault);
+    text
+}
