@@ -17,3 +17,7 @@ pub record IsPlaced (text : List ℕ) (needed : ℕ) (before after : List ℕ) :
   pub needed_is : needed ≡ length text
   pub fits : length text ≤ length before → after ≡ text ++ drop (length text) before
   pub untouched : length before < length text → after ≡ before
+
+-- Into the room was put a text that says why the line is answered as it is.
+abbrev pub PlacesReason : ℕ → List ℕ → ℕ → List ℕ → List ℕ → Type 0
+PlacesReason number line needed before after = (text : List ℕ) × IsReason number line text × IsPlaced text needed before after

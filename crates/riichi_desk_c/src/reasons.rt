@@ -1,8 +1,8 @@
 //! Why a line is answered as it is.
-ghost use Rattle.std.specs.Prelude.{◌≡◌, ◌≤◌, ℕ, List};
+ghost use Rattle.std.specs.Prelude.{◌≡◌, ◌≤◌};
 ghost use Rattle.riichi_explain.specs.Explanation.{IsJobText};
 ghost use Rattle.riichi_explain.specs.Faults.{refusal_lines};
-ghost use Rattle.riichi_desk_c.specs.Reasons.{IsReason, IsPlaced};
+ghost use Rattle.riichi_desk_c.specs.Reasons.{PlacesReason};
 
 use super::placing::place;
 use super::rules_numbered;
@@ -19,7 +19,7 @@ use riichi_hand::{Job, LineFault, read_line};
 #[tactic(auto, unfolding(riichi_explain::specs::Explanation::IsExplanation))]
 #[unsafe(no_mangle)]
 pub extern "C" fn riichi_explain(rules: u32, line: &[u8], room: &mut [u8]) -> usize
-    ensures placed { (text : List ℕ) × IsReason rules line.now text × IsPlaced text result room.old room.new }
+    ensures placed { PlacesReason rules line.now result room.old room.new }
     ensures most { result ≤ 3072 }
 {
     let Some(rules) = rules_numbered(rules) else {
