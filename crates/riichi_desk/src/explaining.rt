@@ -9,7 +9,7 @@ use std::io::{self, Input, Print};
 /// whether a line is refused.
 pub fn explain_lines<R: Input + Print + AllocGlobal>(
     rt: &R,
-    lines: &[&str],
+    lines: Option<&[&str]>,
     rules: Rules,
 ) -> Result<bool, Failure<'static>> {
     match explained(rt, lines, rules) {
@@ -20,14 +20,14 @@ pub fn explain_lines<R: Input + Print + AllocGlobal>(
 
 fn explained<R: Input + Print + AllocGlobal>(
     rt: &R,
-    lines: &[&str],
+    lines: Option<&[&str]>,
     rules: Rules,
 ) -> Result<DeskReport, DeskFault> {
     let mut writer = ToWriter::new(io::writer(rt));
-    if lines.is_empty() {
+    let Some(lines) = lines else {
         let mut reader = FromReader::new(rt.reader());
         return explain_text(rules, &mut reader, &mut writer);
-    }
+    };
     let Ok(text) = joined(rt.alloc(), lines) else {
         return Err(DeskFault::Memory);
     };

@@ -11,7 +11,7 @@ pub enum Request<'m, 'a> {
     Line(Rules),
     /// The same with the reasons for them, of these lines, or of standard input where there are none.
     Explain {
-        lines: &'m [&'a str],
+        lines: Option<&'m [&'a str]>,
         rules: Rules,
     },
     /// Every code in words.
@@ -194,7 +194,7 @@ pub fn request_of<'m, 'a>(matches: &'m ArgMatches<'a>) -> Option<Request<'m, 'a>
         return Some(Request::Line(rules_in(line)));
     }
     if let Some(explain) = matches.subcommand_matches("explain") {
-        let lines = explain.get_strs("LINE").unwrap_or(&[]);
+        let lines = explain.get_strs("LINE");
         let rules = rules_in(explain);
         return Some(Request::Explain { lines, rules });
     }
