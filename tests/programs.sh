@@ -23,6 +23,17 @@ told 'a program in Python, with explanations' "$(sha256sum < "$made/explained")"
   "$(RIICHI_DESK=$made/libriichi_desk.so python3 examples/python/riichi_desk.py explain < "$made/lines" | sha256sum)"
 told 'the version by Python' "$("$program" --version)" \
   "$(RIICHI_DESK=$made/libriichi_desk.so PYTHONPATH=examples/python python3 -B -c 'import riichi_desk; print(riichi_desk.version())')"
+told 'answers as values by Python' "$(sha256sum < "$made/wanted")" \
+  "$(RIICHI_DESK=$made/libriichi_desk.so python3 -B tests/typed_answers.py < "$made/lines" | sha256sum)"
+told 'the words of the Python modules' '' "$(cd examples/python && RIICHI_DESK=$made/libriichi_desk.so python3 -B -m doctest riichi_desk.py answers.py 2>&1)"
+RIICHI_DESK=$made/libriichi_desk.so PYTHONPATH=examples/python python3 -B -c 'import riichi_desk, sys
+for line in sys.stdin.buffer: print(riichi_desk.json(line.rstrip(b"\n")) or "", end="\n")' < "$made/lines" | grep . > "$made/json"
+# (the validator is the package python3-jsonschema)
+if python3 -c 'import jsonschema' 2> /dev/null; then
+  told 'answers by their JSON Schema' "$(wc -l < "$made/wanted") valid" "$(python3 -B tests/valid_answers.py docs/answer.schema.json < "$made/json")"
+else
+  echo 'python3-jsonschema is not here: docs/answer.schema.json is not tried'
+fi
 # (a machine that builds the rest may have no Rust)
 if command -v rustc > /dev/null; then
   rustc -O --edition 2021 -L "$(dirname "$archive")" -l static=riichi_desk_c examples/rust/answer.rs -o "$made/in_rust"

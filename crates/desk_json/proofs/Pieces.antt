@@ -1,10 +1,9 @@
 -- The text of each answer's tree is made of the pieces that are written.
-use Rattle.std.proofs.Common.{◌≡◌, ℕ, Bool, true, false, cond, List, [], ◌∷◌, ◌++◌, map, refl, sym, ap, ◌∙◌, append_assoc, decimal}
-use Rattle.std.proofs.lemmas.List.{append-nil}
+use Rattle.std.proofs.Common.{◌≡◌, ℕ, Bool, true, false, cond, List, [], ◌∷◌, ◌++◌, refl, ap, ◌∙◌, append_assoc, decimal}
 use Rattle.std.specs.Prelude.{codes, ◌==◌}
 use Rattle.std.specs.Fmt.{signed_decimal}
-use Rattle.json.specs.Json.{Json, number, string}
-use Rattle.json.specs.Print.{escape, escape_byte, quoted}
+use Rattle.json.specs.Json.{Json, string}
+use Rattle.json.specs.Print.{escape, escape_byte}
 use Rattle.riichi_score.specs.declared.payers.Payment.{Payment}
 use Rattle.riichi_score.specs.declared.payers.Payment.TheVariants.{Ron, Tsumo, DealerTsumo}
 use Rattle.riichi_score.specs.declared.score.Score.{Score}
@@ -22,10 +21,10 @@ use Rattle.desk_core.specs.declared.answer.Answer.TheVariants as answer
 use Rattle.desk_json.specs.Parts as parts
 use Rattle.desk_json.specs.Parts.{joined, yaku_text, limit_text, truth_text, payment_text, worth_text, points_text, score_text, yaku_list_text, quoted_kind, live_text, pairs_text, accepted_text, discard_text, discards_text, accepts_text, shape_text}
 use Rattle.desk_json.specs.Text.{answer_text}
-use Rattle.desk_json.specs.Trees.{answer_tree, items_of, list_of, members_of, object_of, natural, kind_tree, yaku_in, yaku_tree, limit_tree, payment_tree, score_tree, win_tree, kinds_in, waits_tree, live_tree, accepted_members, discard_tree, accepts_members, shape_tree}
+use Rattle.desk_json.specs.Trees.{answer_tree, members_of, object_of, natural, kind_tree, yaku_in, yaku_tree, limit_tree, payment_tree, score_tree, win_tree, kinds_in, waits_tree, live_tree, accepted_members, discard_tree, accepts_members, shape_tree}
 use Rattle.desk_json.proofs.Lists.{items_joined}
 use Rattle.desk_json.proofs.WordLemmas.{escape_kind, escape_word}
-use Rattle.desk_json.proofs.Written.{written, items_written, members_written, text_written}
+use Rattle.desk_json.proofs.Written.{written, members_written, text_written}
 
 -- ---- wins
 

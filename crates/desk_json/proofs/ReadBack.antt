@@ -1,9 +1,7 @@
 -- A reader gets the tree of an answer back from its text.
-use Rattle.std.proofs.Common.{◌≡◌, ℕ, zero, suc, ◌+◌, ◌<◌, ◌≤◌, ◌^◌, Bool, true, false, cond, List, [], ◌∷◌, length, Some, sym, ap, ◌∙◌, arith, decimal}
-use Rattle.std.specs.Fmt.{signed_decimal}
-use Rattle.std.specs.List.{filter, range_with_len}
-use Rattle.std.specs.Prelude.{codes, slice_index_or, ◌==◌}
-use Rattle.json.specs.Json.{Json, null, boolean, number, string, array, object, document}
+use Rattle.std.proofs.Common.{◌≡◌, ℕ, ◌<◌, ◌≤◌, Bool, true, false, cond, List, [], ◌∷◌, Some, sym, ap, ◌∙◌, arith}
+use Rattle.std.specs.Prelude.{codes, ◌==◌}
+use Rattle.json.specs.Json.{Json, null, string, document}
 use Rattle.json.specs.Tree.{depth, items_depth, members_depth, HasNumbers, ItemsHaveNumbers, MembersHaveNumbers}
 use Rattle.json.proofs.Printed.Decimals.{IsNumber-decimal, IsNumber-signed_decimal}
 use Rattle.json.proofs.Printed.Trees.{document-print}
@@ -15,13 +13,12 @@ use Rattle.riichi_score.specs.declared.answer.WinAnswer.TheVariants.{Won, NoYaku
 use Rattle.riichi_shape.specs.declared.accepts.Accepts.{Accepts}
 use Rattle.riichi_shape.specs.declared.accepts.Accepts.TheVariants.{Thirteen, Fourteen}
 use Rattle.riichi_shape.specs.declared.discard.Discard.{Discard}
-use Rattle.riichi_shape.specs.declared.shape_answer.ShapeAnswer.{ShapeAnswer}
 use Rattle.riichi_yaku.specs.YakuSets.{has_number}
 use Rattle.desk_core.specs.declared.answer.Answer.{Answer}
 use Rattle.desk_core.specs.declared.answer.Answer.TheVariants as answer
 use Rattle.desk_json.specs.Text.{text_of, answer_text}
-use Rattle.desk_json.specs.Trees.{Named, items_of, members_of, object_of, natural, kind_tree, yaku_in, yaku_tree, limit_tree, payment_tree, score_tree, win_tree, kinds_in, waits_tree, live_tree, accepted_members, discard_tree, accepts_members, shape_tree, answer_tree}
-use Rattle.desk_json.specs.Whole.{Each, IsWholePayment, IsWholeScore, IsWholePair, IsWholeList, IsWholeDiscard, AreWhole, IsWholeShape, IsWholeWin, IsWhole}
+use Rattle.desk_json.specs.Trees.{Named, items_of, members_of, kind_tree, yaku_in, yaku_tree, limit_tree, payment_tree, score_tree, win_tree, kinds_in, waits_tree, live_tree, accepted_members, discard_tree, accepts_members, shape_tree, answer_tree}
+use Rattle.desk_json.specs.Whole.{Each, IsWholePayment, IsWholeScore, IsWholePair, IsWholeList, IsWholeDiscard, AreWhole, IsWholeWin, IsWhole}
 use Rattle.desk_json.proofs.Same.{each_in_range, same_answers}
 
 -- ---- the numbers are numbers of JSON

@@ -4,7 +4,6 @@ use Rattle.std.specs.Fmt.{signed_decimal}
 use Rattle.std.specs.List.{range_with_len}
 use Rattle.json.specs.Json.{Json, null, boolean, number, string, array, object, Items, no_items, item, Members, no_members, member}
 use Rattle.riichi_tiles.specs.Melds.{every_kind}
-use Rattle.riichi_tiles.specs.declared.notation.NotationFault.{NotationFault}
 use Rattle.riichi_hand.specs.FaultTexts.{line_code_text, notation_code_text, name_text}
 use Rattle.riichi_hand.specs.declared.fault.LineFault.{LineFault}
 use Rattle.riichi_hand.specs.declared.fault.LineFault.TheVariants.{Line, Notation}

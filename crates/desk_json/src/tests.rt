@@ -1,5 +1,5 @@
 //! Worked lines and their answers.
-use crate::{JsonText, answer_text, fault_text, push_answer, push_fault};
+use crate::{JsonText, answer_text, fault_text, push_fault};
 use desk_core::{Answer, judge};
 use riichi_hand::{LineFault, Rules, read_line};
 use std::process::Abort;
@@ -123,11 +123,11 @@ fn what_is_refused(rt: HostRuntime) -> Result<(), Fail> {
 }
 
 #[test]
-fn behind_a_text(rt: HostRuntime) -> Result<(), Fail> {
-    let mut text = JsonText::new();
-    push_answer(&mut text, &judged("waits 123456789m1111z")?);
-    text.clear();
+fn in_a_text_that_is_kept(rt: HostRuntime) -> Result<(), Fail> {
     let fault = fault_of("waits 8z").ok_or("not refused")?;
+    let mut text = JsonText::new();
+    push_fault(&mut text, &fault);
+    text.clear();
     push_fault(&mut text, &fault);
     assert_eq!(rt;
         text.as_str(),

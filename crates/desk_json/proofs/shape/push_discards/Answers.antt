@@ -1,4 +1,4 @@
-use Rattle.std.proofs.Common.{◌≡◌, ◌++◌, length, sym, ap, ◌∙◌, arith}
+use Rattle.std.proofs.Common.{◌++◌, length, sym, ap, ◌∙◌, arith}
 use Rattle.riichi_shape.proofs.TextLemmas.{some_there}
 use Rattle.std.specs.Prelude.{nat_lt}
 use Rattle.desk_json.specs.Parts.{comma_if, discard_text}

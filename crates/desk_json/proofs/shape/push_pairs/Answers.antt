@@ -1,4 +1,4 @@
-use Rattle.std.proofs.Common.{◌++◌, ℕ, length, sym, ap, ◌∙◌, arith}
+use Rattle.std.proofs.Common.{◌++◌, length, ap, ◌∙◌, arith}
 use Rattle.std.specs.Prelude.{slice_index, nat_lt}
 use Rattle.riichi_shape.proofs.TextLemmas.{is_live, not_live}
 use Rattle.desk_json.specs.Parts.{comma_if, joined, live_text}

@@ -1,4 +1,4 @@
-use Rattle.std.proofs.Common.{◌++◌, ℕ, length, false, sym, ap, ◌∙◌, arith}
+use Rattle.std.proofs.Common.{◌++◌, length, false, sym, ap, ◌∙◌, arith}
 use Rattle.std.specs.Prelude.{slice_index_or}
 use Rattle.desk_json.specs.Trees.{kinds_in}
 use Rattle.desk_json.specs.Parts.{comma_if, quoted_kind}
