@@ -2,6 +2,7 @@
 use super::*;
 use desk_lines::DeskReport;
 use desk_streams::{BytesIn, BytesOut};
+use riichi_hand::Rules;
 use std::alloc::{AllocError, Global};
 use std::io::Print;
 use std::process::Abort;
