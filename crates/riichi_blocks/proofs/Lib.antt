@@ -1,3 +1,4 @@
 pub mod Additions
+pub mod Bits
 pub mod Tally
-pub mod Told
+pub mod Facts

@@ -2,7 +2,7 @@
 use Rattle.std.specs.Prelude.{ℕ, ◌%◌, Bool, false, ◌||◌, ◌==◌}
 use Rattle.riichi_blocks.specs.declared.hand_block.HandBlock.{HandBlock}
 use Rattle.riichi_blocks.specs.declared.hand_block.HandBlock.TheVariants.{Run, Triplet, Kong, Pair}
-use Rattle.riichi_blocks.specs.Kinds.{is_honour, is_terminal, is_orphan}
+use Rattle.riichi_tiles.specs.Kinds.{is_honour, is_terminal, is_orphan}
 
 -- a run 123 or 789 has a 1 or a 9
 abbrev pub is_outer_run : ℕ → Bool

@@ -1,6 +1,8 @@
 -- The blocks of a whole hand, melds included, and words on them.
-use Rattle.std.specs.Prelude.{ℕ, Bool, true, false, not, List, [], ◌∷◌, ◌++◌, map, count_by, ◌==◌, ◌&&◌}
-use Rattle.std.specs.List.{list_any}
+use Rattle.std.specs.Prelude.{ℕ, ◌+◌, ◌%◌, Bool, true, false, not, List, [], ◌∷◌, ◌++◌, map, count_by, nat_le, ◌==◌, ◌&&◌}
+use Rattle.std.specs.List.{list_any, list_all}
+use Rattle.riichi_tiles.specs.Kinds.{first_of}
+use Rattle.riichi_tiles.specs.Melds.{every_kind}
 use Rattle.riichi_tiles.specs.declared.meld.Meld.{Meld}
 use Rattle.riichi_tiles.specs.declared.meld.Meld.TheVariants.{Chi, Pon, Kan, Ankan}
 use Rattle.riichi_tiles.specs.declared.block.Block.{Block}
@@ -12,6 +14,7 @@ use Rattle.riichi_split.specs.declared.reading.Reading.{Reading}
 use Rattle.riichi_split.specs.declared.reading.Reading.TheVariants.{Standard, SevenPairs, Orphans}
 use Rattle.riichi_blocks.specs.declared.hand_block.HandBlock.{HandBlock}
 use Rattle.riichi_blocks.specs.declared.hand_block.HandBlock.TheVariants.{Run, Triplet, Kong, Pair}
+use Rattle.riichi_blocks.specs.Kinds.{number_suits, every_rank}
 
 abbrev pub is_this_triplet : ℕ → Block → Bool
 is_this_triplet kind (block.Run low) = false
@@ -36,20 +39,20 @@ blocks_of (Standard sets pair done) parts = map (of_set parts.by done) sets ++ P
 blocks_of SevenPairs parts = []
 blocks_of Orphans parts = []
 
-abbrev pub is_standard : Reading → Bool
-is_standard (Standard sets pair done) = true
-is_standard SevenPairs = false
-is_standard Orphans = false
+abbrev pub reads_sets : Reading → Bool
+reads_sets (Standard sets pair done) = true
+reads_sets SevenPairs = false
+reads_sets Orphans = false
 
-abbrev pub is_seven_pairs : Reading → Bool
-is_seven_pairs (Standard sets pair done) = false
-is_seven_pairs SevenPairs = true
-is_seven_pairs Orphans = false
+abbrev pub reads_seven_pairs : Reading → Bool
+reads_seven_pairs (Standard sets pair done) = false
+reads_seven_pairs SevenPairs = true
+reads_seven_pairs Orphans = false
 
-abbrev pub is_orphans : Reading → Bool
-is_orphans (Standard sets pair done) = false
-is_orphans SevenPairs = false
-is_orphans Orphans = true
+abbrev pub reads_orphans : Reading → Bool
+reads_orphans (Standard sets pair done) = false
+reads_orphans SevenPairs = false
+reads_orphans Orphans = true
 
 -- ---- words on a block; a triplet is a triplet or a kong
 
@@ -83,11 +86,17 @@ is_concealed_triplet (Triplet kind concealed) = concealed
 is_concealed_triplet (Kong kind concealed) = concealed
 is_concealed_triplet (Pair kind) = false
 
-abbrev pub is_kong : HandBlock → Bool
-is_kong (Run low) = false
-is_kong (Triplet kind concealed) = false
-is_kong (Kong kind concealed) = true
-is_kong (Pair kind) = false
+abbrev pub is_kong_block : HandBlock → Bool
+is_kong_block (Run low) = false
+is_kong_block (Triplet kind concealed) = false
+is_kong_block (Kong kind concealed) = true
+is_kong_block (Pair kind) = false
+
+abbrev pub is_pair_of : ℕ → HandBlock → Bool
+is_pair_of kind (Run low) = false
+is_pair_of kind (Triplet held concealed) = false
+is_pair_of kind (Kong held concealed) = false
+is_pair_of kind (Pair held) = held == kind
 
 -- ---- words on the blocks
 
@@ -97,9 +106,29 @@ has_run blocks low = list_any (is_run_from low) blocks
 abbrev pub has_triplet : List HandBlock → ℕ → Bool
 has_triplet blocks kind = list_any (is_triplet_of kind) blocks
 
--- how many blocks are the run that this one is; none where it is no run
-abbrev pub runs_equal_to : List HandBlock → HandBlock → ℕ
-runs_equal_to blocks (Run low) = count_by (is_run_from low) blocks
-runs_equal_to blocks (Triplet kind concealed) = 0
-runs_equal_to blocks (Kong kind concealed) = 0
-runs_equal_to blocks (Pair kind) = 0
+abbrev pub has_pair : List HandBlock → ℕ → Bool
+has_pair blocks kind = list_any (is_pair_of kind) blocks
+
+-- how many runs begin with this kind
+abbrev pub runs_from : List HandBlock → ℕ → ℕ
+runs_from blocks low = count_by (is_run_from low) blocks
+
+-- two equal runs
+abbrev pub has_equal_runs : List HandBlock → Bool
+has_equal_runs blocks = list_any (λ low. nat_le 2 (runs_from blocks low)) every_kind
+
+-- each run is there twice, or four times
+abbrev pub are_runs_paired : List HandBlock → Bool
+are_runs_paired blocks = list_all (λ low. runs_from blocks low % 2 == 0) every_kind
+
+-- of this rank in all three suits of numbers
+abbrev pub is_in_each_suit : (ℕ → Bool) → ℕ → Bool
+is_in_each_suit is_there rank = list_all (λ suit. is_there (first_of suit + rank)) number_suits
+
+-- for some number, a run from it on in each suit
+abbrev pub has_run_in_each_suit : List HandBlock → Bool
+has_run_in_each_suit blocks = list_any (is_in_each_suit (has_run blocks)) every_rank
+
+-- for some number, a triplet of it in each suit
+abbrev pub has_triplet_in_each_suit : List HandBlock → Bool
+has_triplet_in_each_suit blocks = list_any (is_in_each_suit (has_triplet blocks)) every_rank

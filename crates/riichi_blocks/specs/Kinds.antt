@@ -1,51 +1,31 @@
--- Words on kinds. 0 to 8 are 1m to 9m, 9 to 17 are 1p to 9p, 18 to 26 are 1s to 9s, 27 to 33 are 1z to 7z.
-use Rattle.std.specs.Prelude.{ℕ, ◌/◌, ◌%◌, Bool, not, ◌&&◌, ◌||◌, ◌==◌, nat_le, nat_lt, List, [], ◌∷◌}
+-- Words on kinds beside those of riichi_tiles.
+use Rattle.std.specs.Prelude.{ℕ, ◌+◌, Bool, not, ◌&&◌, ◌||◌, ◌==◌, nat_le, nat_lt, List, [], ◌∷◌}
 use Rattle.std.specs.List.{range_with_len}
 use Rattle.riichi_tiles.specs.declared.suit.Suit.{Suit}
 use Rattle.riichi_tiles.specs.declared.suit.Suit.TheVariants.{Characters, Circles, Bamboos}
-
-abbrev pub white : ℕ
-white = 31
+use Rattle.riichi_tiles.specs.Kinds.{first_of, kinds_of, is_honour, is_orphan}
+use Rattle.riichi_tiles.specs.Tiles.{east, white}
 
 abbrev pub green : ℕ
 green = 32
 
-abbrev pub red : ℕ
-red = 33
-
-abbrev pub is_wind : ℕ → Bool
-is_wind kind = nat_le 27 kind && nat_lt kind white
-
-abbrev pub is_dragon : ℕ → Bool
-is_dragon kind = nat_le white kind
-
 -- East, South, West, North
 abbrev pub winds : List ℕ
-winds = range_with_len 27 4
+winds = range_with_len east 4
 
 -- White, Green, Red
 abbrev pub dragons : List ℕ
-dragons = range_with_len 31 3
-
--- a wind or a dragon
-abbrev pub is_honour : ℕ → Bool
-is_honour kind = nat_le 27 kind
-
--- a 1 or a 9 of a suit
-abbrev pub is_terminal : ℕ → Bool
-is_terminal kind = nat_lt kind 27 && (kind % 9 == 0 || kind % 9 == 8)
-
--- a terminal or an honour
-abbrev pub is_orphan : ℕ → Bool
-is_orphan kind = is_terminal kind || is_honour kind
+dragons = range_with_len white 3
 
 -- a 2 to 8 of a suit
 abbrev pub is_simple : ℕ → Bool
 is_simple kind = not (is_orphan kind)
 
--- the suits are 0 for m, 1 for p, 2 for s
-abbrev pub is_of_suit : ℕ → ℕ → Bool
-is_of_suit suit kind = kind / 9 == suit
+abbrev pub is_of_suit : Suit → ℕ → Bool
+is_of_suit suit kind = nat_le (first_of suit) kind && nat_lt kind (first_of suit + kinds_of suit)
+
+abbrev pub is_of_suit_or_honour : Suit → ℕ → Bool
+is_of_suit_or_honour suit kind = is_of_suit suit kind || is_honour kind
 
 -- characters, circles and bamboos, whose tiles have numbers
 abbrev pub number_suits : List Suit

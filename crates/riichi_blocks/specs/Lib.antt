@@ -1,8 +1,9 @@
 pub mod Kinds
 pub mod Held
 pub mod HandBlocks
+pub mod KindBits
 pub mod Tally
-pub mod Told
+pub mod TileFacts
 pub mod BlockKinds
 pub mod Winner
 pub mod Pairs

@@ -4,7 +4,7 @@ use Rattle.riichi_hand.specs.declared.win.WinParts.{WinParts}
 use Rattle.riichi_hand.specs.Win.{wind_kind}
 use Rattle.riichi_blocks.specs.declared.hand_block.HandBlock.{HandBlock}
 use Rattle.riichi_blocks.specs.declared.hand_block.HandBlock.TheVariants.{Run, Triplet, Kong, Pair}
-use Rattle.riichi_blocks.specs.Kinds.{white}
+use Rattle.riichi_tiles.specs.Tiles.{white}
 
 -- The fu of a pair of this kind: of dragons 2, of the seat wind 2, of the prevalent wind 2; both winds 4.
 abbrev pub pair_fu : WinParts → ℕ → ℕ

@@ -1,17 +1,19 @@
--- What is counted of blocks as they are pushed.
-use Rattle.std.specs.Prelude.{ℕ, ◌≡◌, ◌<◌, ◌≤◌, Bool, false, List, length, count_by, slice_index, slice_index_or}
-use Rattle.std.specs.List.{list_any}
+-- What is known of blocks as they are pushed.
+use Rattle.std.specs.Prelude.{ℕ, ◌≡◌, ◌≤◌, ◌%◌, ◌==◌, nat_le, List, length, count_by}
 use Rattle.riichi_blocks.specs.declared.hand_block.HandBlock.{HandBlock}
-use Rattle.riichi_blocks.specs.HandBlocks.{is_run, is_run_from, is_triplet, is_triplet_of, is_concealed_triplet, is_kong}
+use Rattle.riichi_blocks.specs.HandBlocks.{has_run, has_triplet, has_pair, runs_from, is_run, is_triplet, is_concealed_triplet, is_kong_block}
+use Rattle.riichi_blocks.specs.KindBits.{is_among}
 
--- of each kind how many runs begin with it and whether a triplet is of it; how many runs, triplets, concealed triplets and kongs there are
-pub record IsTally (blocks : List HandBlock) (runs_from : List ℕ) (triplets_of : List Bool) (runs triplets concealed kongs : ℕ) : Type 0 where
+-- the kinds that runs begin with, those that two runs begin with and those that an odd number does, the kinds of triplets and
+-- of pairs; how many runs, triplets, concealed triplets and kongs there are
+pub record IsTally (blocks : List HandBlock) (lows twice odd triplet_kinds pair_kinds : ℕ) (runs triplets concealed kongs : ℕ) : Type 0 where
   pub at_most_nine : length blocks ≤ 9
-  pub every_run : length runs_from ≡ 34
-  pub every_triplet : length triplets_of ≡ 34
-  pub runs_from_are : (kind : ℕ) → kind < 34 → slice_index runs_from kind ≡ count_by (is_run_from kind) blocks
-  pub triplets_of_are : (kind : ℕ) → kind < 34 → slice_index_or triplets_of kind false ≡ list_any (is_triplet_of kind) blocks
+  pub lows_are : (kind : ℕ) → is_among lows kind ≡ has_run blocks kind
+  pub twice_are : (kind : ℕ) → is_among twice kind ≡ nat_le 2 (runs_from blocks kind)
+  pub odd_are : (kind : ℕ) → is_among odd kind ≡ (runs_from blocks kind % 2 == 1)
+  pub triplet_kinds_are : (kind : ℕ) → is_among triplet_kinds kind ≡ has_triplet blocks kind
+  pub pair_kinds_are : (kind : ℕ) → is_among pair_kinds kind ≡ has_pair blocks kind
   pub runs_are : runs ≡ count_by is_run blocks
   pub triplets_are : triplets ≡ count_by is_triplet blocks
   pub concealed_are : concealed ≡ count_by is_concealed_triplet blocks
-  pub kongs_are : kongs ≡ count_by is_kong blocks
+  pub kongs_are : kongs ≡ count_by is_kong_block blocks

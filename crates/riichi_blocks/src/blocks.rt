@@ -5,17 +5,21 @@ ghost use Rattle.riichi_blocks.specs.HandBlocks as spec;
 ghost use Rattle.riichi_blocks.specs.declared.hand_block.HandBlock.TheVariants as variants;
 
 use crate::HandBlock;
+use crate::kind_bits::KindBits;
 use arrayvec::ArrayVec;
 use riichi_tiles::Kind;
 use std::marker::Model;
 
-/// The blocks of a whole hand, seen as their list. What conditions ask of them again and again is counted as they are pushed.
+/// The blocks of a whole hand, seen as their list. What conditions ask of them again and again is noted as they are pushed.
 #[derive(Drop)]
 pub struct Blocks {
     list: ArrayVec<HandBlock, 9>,
-    // How many runs begin with each kind, and whether there is a triplet of it.
-    runs_from: [u8; 34],
-    triplets_of: [bool; 34],
+    // The kinds that a run begins with, two runs begin with, and an odd number of runs begins with.
+    lows: KindBits,
+    twice: KindBits,
+    odd: KindBits,
+    triplet_kinds: KindBits,
+    pair_kinds: KindBits,
     runs: u8,
     triplets: u8,
     concealed: u8,
@@ -31,7 +35,7 @@ impl Model for Blocks {
 
     ghost view = { λ b. b.list.items };
 
-    ghost invariant = { λ b. IsTally b.list.items b.runs_from b.triplets_of b.runs b.triplets b.concealed b.kongs };
+    ghost invariant = { λ b. IsTally b.list.items b.lows b.twice b.odd b.triplet_kinds b.pair_kinds b.runs b.triplets b.concealed b.kongs };
 }
 
 impl Blocks {
@@ -41,8 +45,11 @@ impl Blocks {
     {
         Blocks {
             list: ArrayVec::new(),
-            runs_from: [0; 34],
-            triplets_of: [false; 34],
+            lows: KindBits::none(),
+            twice: KindBits::none(),
+            odd: KindBits::none(),
+            triplet_kinds: KindBits::none(),
+            pair_kinds: KindBits::none(),
             runs: 0,
             triplets: 0,
             concealed: 0,
@@ -76,7 +83,9 @@ impl Blocks {
         ensures { self.new ≡ self.old ++ variants.Run low ∷ [] }
     {
         self.list.push(HandBlock::Run(low));
-        self.runs_from[low.index()] += 1;
+        self.twice = self.twice.with(low, self.lows.contains(low.index()));
+        self.odd = self.odd.toggled(low);
+        self.lows = self.lows.with(low, true);
         self.runs += 1;
     }
 
@@ -85,7 +94,7 @@ impl Blocks {
         ensures { self.new ≡ self.old ++ variants.Triplet kind concealed ∷ [] }
     {
         self.list.push(HandBlock::Triplet { kind, concealed });
-        self.triplets_of[kind.index()] = true;
+        self.triplet_kinds = self.triplet_kinds.with(kind, true);
         self.triplets += 1;
         self.concealed += one_if(concealed);
     }
@@ -95,7 +104,7 @@ impl Blocks {
         ensures { self.new ≡ self.old ++ variants.Kong kind concealed ∷ [] }
     {
         self.list.push(HandBlock::Kong { kind, concealed });
-        self.triplets_of[kind.index()] = true;
+        self.triplet_kinds = self.triplet_kinds.with(kind, true);
         self.triplets += 1;
         self.concealed += one_if(concealed);
         self.kongs += 1;
@@ -106,6 +115,7 @@ impl Blocks {
         ensures { self.new ≡ self.old ++ variants.Pair kind ∷ [] }
     {
         self.list.push(HandBlock::Pair(kind));
+        self.pair_kinds = self.pair_kinds.with(kind, true);
     }
 
     /// Whether some block is the run from this kind on.
@@ -113,7 +123,7 @@ impl Blocks {
         requires { low < 34 }
         ensures { result ≡ spec.has_run self.now low }
     {
-        self.runs_from[low] > 0
+        self.lows.contains(low)
     }
 
     /// Whether some block is a triplet or a kong of this kind.
@@ -121,17 +131,43 @@ impl Blocks {
         requires { kind < 34 }
         ensures { result ≡ spec.has_triplet self.now kind }
     {
-        self.triplets_of[kind]
+        self.triplet_kinds.contains(kind)
     }
 
-    /// How many blocks are the run that this one is. None where it is no run.
-    pub fn runs_equal_to(&self, block: &HandBlock) -> usize
-        ensures { result ≡ spec.runs_equal_to self.now block.now }
+    /// Whether the pair is of this kind.
+    pub fn has_pair(&self, kind: usize) -> bool
+        requires { kind < 34 }
+        ensures { result ≡ spec.has_pair self.now kind }
     {
-        match block {
-            HandBlock::Run(low) => self.runs_from[low.index()] as usize,
-            _ => 0,
-        }
+        self.pair_kinds.contains(kind)
+    }
+
+    /// Whether two runs are equal.
+    pub fn has_equal_runs(&self) -> bool
+        ensures { result ≡ spec.has_equal_runs self.now }
+    {
+        !self.twice.is_empty()
+    }
+
+    /// Whether each run is there twice, or four times.
+    pub fn are_runs_paired(&self) -> bool
+        ensures { result ≡ spec.are_runs_paired self.now }
+    {
+        self.odd.is_empty()
+    }
+
+    /// Whether for some number a run from it on is there in each of the three suits.
+    pub fn has_run_in_each_suit(&self) -> bool
+        ensures { result ≡ spec.has_run_in_each_suit self.now }
+    {
+        self.lows.has_rank_in_each_suit()
+    }
+
+    /// Whether for some number a triplet or a kong of it is there in each of the three suits.
+    pub fn has_triplet_in_each_suit(&self) -> bool
+        ensures { result ≡ spec.has_triplet_in_each_suit self.now }
+    {
+        self.triplet_kinds.has_rank_in_each_suit()
     }
 
     /// How many blocks are runs.
@@ -164,7 +200,7 @@ impl Blocks {
 
     /// How many blocks are kongs.
     pub fn kongs(&self) -> usize
-        ensures { result ≡ count_by spec.is_kong self.now }
+        ensures { result ≡ count_by spec.is_kong_block self.now }
     {
         self.kongs as usize
     }

@@ -1,6 +1,4 @@
-//! Words on kinds, by their numbers.
-ghost use Rattle.std.specs.Prelude.{◌≡◌};
-ghost use Rattle.riichi_blocks.specs.Kinds as spec;
+//! Kinds by their numbers.
 
 /// How many kinds there are.
 pub const KINDS: usize = 34;
@@ -16,52 +14,3 @@ pub const GREEN: usize = 32;
 
 /// The Red dragon.
 pub const RED: usize = 33;
-
-/// A wind or a dragon.
-pub(crate) fn is_honour(kind: usize) -> bool
-    ensures { result ≡ spec.is_honour kind }
-{
-    kind >= EAST
-}
-
-/// East, South, West or North.
-pub fn is_wind(kind: usize) -> bool
-    ensures { result ≡ spec.is_wind kind }
-{
-    kind >= EAST && kind < WHITE
-}
-
-/// White, Green or Red.
-pub fn is_dragon(kind: usize) -> bool
-    ensures { result ≡ spec.is_dragon kind }
-{
-    kind >= WHITE
-}
-
-/// A 1 or a 9 of a suit.
-pub fn is_terminal(kind: usize) -> bool
-    ensures { result ≡ spec.is_terminal kind }
-{
-    kind < EAST && (kind % 9 == 0 || kind % 9 == 8)
-}
-
-/// A terminal or an honour.
-pub fn is_orphan(kind: usize) -> bool
-    ensures { result ≡ spec.is_orphan kind }
-{
-    is_terminal(kind) || is_honour(kind)
-}
-
-/// Whether the kind is of this suit: 0 for m, 1 for p, 2 for s.
-pub fn is_of_suit(suit: usize, kind: usize) -> bool
-    ensures { result ≡ spec.is_of_suit suit kind }
-{
-    kind / 9 == suit
-}
-
-/// One of 2s 3s 4s 6s 8s 6z.
-pub(crate) fn is_green_tile(kind: usize) -> bool
-    ensures { result ≡ spec.is_green_tile kind }
-{
-    kind == 19 || kind == 20 || kind == 21 || kind == 23 || kind == 25 || kind == GREEN
-}

@@ -2,7 +2,7 @@
 //!
 //! A reading of a win gives the blocks of the whole hand, melds included: `blocks_of` makes the [`Blocks`], a list of
 //! [`HandBlock`], each a run, a triplet, a kong or the pair. `all_tiles` gives [`AllTiles`], the count of each kind, whatever the reading. Beside these
-//! stand the words that conditions are made of: of a kind (`is_terminal`), of a reading (`is_standard`), of the kinds in blocks
+//! stand the words that conditions are made of: of a reading (`reads_sets`), of the kinds in blocks
 //! (`all_have_terminals`), of the pair (`pair_fu`), of the wait (`wait_fu`), and of the winner
 //! (`is_ron`, `is_dealer`).
 //!
@@ -21,6 +21,7 @@ mod hand_block;
 mod held;
 mod held_kinds;
 mod joining;
+mod kind_bits;
 mod kinds;
 mod pairs;
 mod reading_shapes;
@@ -35,11 +36,9 @@ pub use blocks::Blocks;
 pub use hand_block::HandBlock;
 pub use held::all_tiles;
 pub use joining::{blocks_of, push_blocks};
-pub use kinds::{
-    EAST, GREEN, KINDS, RED, WHITE, is_dragon, is_of_suit, is_orphan, is_terminal, is_wind,
-};
+pub use kinds::{EAST, GREEN, KINDS, RED, WHITE};
 pub use pairs::{has_plain_pair, pair_fu};
-pub use reading_shapes::{is_orphans, is_seven_pairs, is_standard};
+pub use reading_shapes::{reads_orphans, reads_sets, reads_seven_pairs};
 pub use tiles::AllTiles;
 pub use waits::{has_two_sided_wait, is_closed_wait, is_edge_wait, wait_fu};
 pub use winner::{is_dealer, is_ron};

@@ -1,7 +1,7 @@
 use super::*;
 use riichi_hand::{By, Job, Rules, WinRecord, Wind, read_line};
 use riichi_split::{Reading, Readings};
-use riichi_tiles::{Block, Counts, Kind, read_counts};
+use riichi_tiles::{Block, Counts, Kind, Suit, read_counts};
 use std::process::Abort;
 use std::test::Fail;
 
@@ -40,13 +40,14 @@ fn open_hand(rt: &impl Abort, reading: &Reading, win: &WinRecord) {
     assert!(rt; blocks.as_slice() == [claimed, run, pair, kong, called].as_slice());
     assert!(rt; blocks.has_run(13) && !blocks.has_run(14) && blocks.has_runs());
     assert!(rt; blocks.has_triplet(0) && blocks.has_triplet(GREEN) && !blocks.has_triplet(20));
-    assert_eq!(rt; blocks.runs_equal_to(&run), 1);
-    assert_eq!(rt; blocks.runs_equal_to(&kong), 0);
+    assert!(rt; blocks.has_pair(20) && !blocks.has_pair(0));
+    assert!(rt; !blocks.has_equal_runs() && !blocks.are_runs_paired());
+    assert!(rt; !blocks.has_run_in_each_suit() && !blocks.has_triplet_in_each_suit());
     assert_eq!(rt; blocks.runs(), 1);
     assert_eq!(rt; blocks.triplets(), 3);
     assert_eq!(rt; blocks.concealed_triplets(), 1);
     assert_eq!(rt; blocks.kongs(), 1);
-    assert!(rt; is_standard(reading) && !is_seven_pairs(reading) && !is_orphans(reading));
+    assert!(rt; reads_sets(reading) && !reads_seven_pairs(reading) && !reads_orphans(reading));
     assert!(rt; has_plain_pair(blocks.as_slice(), win));
 }
 
@@ -131,9 +132,9 @@ fn looks_at_the_kinds_in_blocks(rt: HostRuntime) -> Result<(), Fail> {
 
 /// Seven pairs and thirteen orphans have no blocks.
 fn special(rt: &impl Abort, reading: &Reading, win: &WinRecord, seven_pairs: bool) {
-    assert!(rt; blocks_of(reading, win).as_slice().is_empty() && !is_standard(reading));
-    assert_eq!(rt; is_seven_pairs(reading), seven_pairs);
-    assert_eq!(rt; is_orphans(reading), !seven_pairs);
+    assert!(rt; blocks_of(reading, win).as_slice().is_empty() && !reads_sets(reading));
+    assert_eq!(rt; reads_seven_pairs(reading), seven_pairs);
+    assert_eq!(rt; reads_orphans(reading), !seven_pairs);
     assert!(rt; !has_plain_pair(&[], win) && !has_two_sided_wait(reading, win.winning()));
 }
 
@@ -171,24 +172,22 @@ fn looks_at_all_tiles(rt: HostRuntime) -> Result<(), Fail> {
     assert!(rt; tiles("28m5p28s")?.are_simples() && !tiles("289m")?.are_simples());
     assert!(rt; tiles("19m17z")?.are_orphans() && !tiles("19m8p")?.are_orphans());
     assert!(rt; tiles("19m19p19s")?.are_terminals() && !tiles("19m1z")?.are_terminals());
-    assert!(rt; tiles("1234567z")?.are_honours() && !tiles("9s1z")?.are_honours());
+    let honours = tiles("1234567z")?;
+    assert!(rt; honours.are_of_suit(Suit::Honours) && !honours.are_of_one_suit());
+    assert!(rt; !honours.has_one_suit() && !tiles("9s1z")?.are_of_suit(Suit::Honours));
     assert!(rt; tiles("23468s6z")?.are_green() && !tiles("5s")?.are_green());
-    assert!(rt; tiles("19p")?.are_of_suit(1) && !tiles("19p1z")?.are_of_suit(1));
-    assert!(rt; tiles("19p1z")?.are_of_suit_or_honours(1));
-    assert!(rt; !tiles("1m19p1z")?.are_of_suit_or_honours(1));
-    assert!(rt; tiles("9m1s")?.has_suit(2) && !tiles("9m1s")?.has_suit(1));
+    let circles = tiles("19p")?;
+    assert!(rt; circles.are_of_suit(Suit::Circles) && !circles.are_of_suit(Suit::Bamboos));
+    assert!(rt; circles.are_of_one_suit() && circles.has_one_suit());
+    assert!(rt; !tiles("19p1z")?.are_of_one_suit() && tiles("19p1z")?.has_one_suit());
+    assert!(rt; !tiles("1m19p1z")?.has_one_suit() && !tiles("9m1s")?.are_of_one_suit());
     assert!(rt; tiles("9s1z")?.has_honours() && !tiles("9s")?.has_honours());
     Ok(())
 }
 
 #[test]
-fn knows_kinds_waits_and_winners(rt: HostRuntime) -> Result<(), Fail> {
-    assert!(rt; is_wind(EAST) && is_wind(30) && !is_wind(26) && !is_wind(WHITE));
-    assert!(rt; is_dragon(WHITE) && is_dragon(RED) && !is_dragon(30));
-    assert!(rt; is_terminal(8) && is_terminal(18) && !is_terminal(7) && !is_terminal(EAST));
-    assert!(rt; is_orphan(8) && is_orphan(33) && !is_orphan(7));
-    assert!(rt; is_of_suit(1, 9) && is_of_suit(1, 17) && !is_of_suit(1, 18));
-    assert_eq!(rt; KINDS, 34);
+fn knows_waits_and_winners(rt: HostRuntime) -> Result<(), Fail> {
+    assert_eq!(rt; (KINDS, EAST, WHITE, RED), (34, 27, 31, 33));
     let run = Block::Run(Kind::at(6));
     assert_eq!(rt; wait_fu(Kind::at(6), &run), 2);
     assert_eq!(rt; wait_fu(Kind::at(7), &run), 2);
@@ -206,8 +205,13 @@ fn counts_blocks_as_they_come(rt: HostRuntime) -> Result<(), Fail> {
     let run = HandBlock::Run(Kind::at(9));
     blocks.push(run);
     blocks.push(run);
-    assert_eq!(rt; blocks.runs_equal_to(&run), 2);
-    assert_eq!(rt; blocks.runs(), 2);
-    assert!(rt; !blocks.has_triplet(9));
+    assert!(rt; blocks.has_equal_runs() && blocks.are_runs_paired());
+    blocks.push(run);
+    assert!(rt; blocks.has_equal_runs() && !blocks.are_runs_paired());
+    assert_eq!(rt; blocks.runs(), 3);
+    blocks.push(HandBlock::Run(Kind::at(0)));
+    assert!(rt; !blocks.has_run_in_each_suit() && !blocks.has_triplet(9));
+    blocks.push(HandBlock::Run(Kind::at(18)));
+    assert!(rt; blocks.has_run_in_each_suit());
     Ok(())
 }

@@ -1,36 +1,36 @@
 //! All tiles of a hand, and words on them.
-ghost use Rattle.std.specs.Prelude.{◌≡◌, ◌<◌, ◌||◌, not};
+ghost use Rattle.std.specs.Prelude.{◌≡◌, ◌&&◌, ◌||◌, not, false};
+ghost use Rattle.riichi_tiles.specs.Kinds as kinds;
 ghost use Rattle.riichi_blocks.specs.Held as spec;
-ghost use Rattle.riichi_blocks.specs.Kinds as kinds;
+ghost use Rattle.riichi_blocks.specs.Kinds.{is_green_tile, is_of_suit, is_simple};
 
 use crate::held_kinds::{are_green, has_terminals, some_in, some_of};
+use riichi_tiles::{BySuit, Suit};
 use std::marker::Model;
 
-/// Every tile of a win, seen as the count of each kind. What conditions ask of them again and again is told once.
+/// Every tile of a win, seen as the count of each kind. What conditions ask of them again and again is noted once.
 #[derive(Drop)]
 pub struct AllTiles {
     counts: [u8; 34],
     simples: bool,
     orphans: bool,
     terminals: bool,
-    honours: bool,
     green: bool,
     some_honour: bool,
-    // For each suit.
-    of_suit: [bool; 3],
-    of_suit_or_honours: [bool; 3],
-    some_of_suit: [bool; 3],
+    one_suit: bool,
+    suit_alone: bool,
+    of_suits: BySuit<bool>,
 }
 
 impl Model for AllTiles {
     ghost use Rattle.std.specs.Prelude.{ℕ, List};
-    ghost use Rattle.riichi_blocks.specs.Told.{IsTold};
+    ghost use Rattle.riichi_blocks.specs.TileFacts.{AreTileFacts};
 
     ghost Value = { List ℕ };
 
     ghost view = { λ t. t.counts };
 
-    ghost invariant = { λ t. IsTold t.counts t.simples t.orphans t.terminals t.honours t.green t.some_honour t.of_suit t.of_suit_or_honours t.some_of_suit };
+    ghost invariant = { λ t. AreTileFacts t.counts t.simples t.orphans t.terminals t.green t.some_honour t.one_suit t.suit_alone t.of_suits };
 }
 
 impl AllTiles {
@@ -48,24 +48,25 @@ impl AllTiles {
         let simples = some_of(low, middle, high);
         let terminals = has_terminals(&counts);
         let others = some_of(characters, circles, false);
+        let of_suits = BySuit {
+            characters: none_of(circles, bamboos, honours),
+            circles: none_of(characters, bamboos, honours),
+            bamboos: none_of(characters, circles, honours),
+            honours: none_of(characters, circles, bamboos),
+        };
         AllTiles {
             simples: none_of(terminals, honours, false),
             orphans: none_of(simples, false, false),
             terminals: none_of(simples, honours, false),
-            honours: none_of(characters, circles, bamboos),
             green: are_green(&counts, others),
             some_honour: honours,
-            of_suit: [
-                none_of(circles, bamboos, honours),
-                none_of(characters, bamboos, honours),
-                none_of(characters, circles, honours),
-            ],
-            of_suit_or_honours: [
-                none_of(circles, bamboos, false),
-                none_of(characters, bamboos, false),
-                none_of(characters, circles, false),
-            ],
-            some_of_suit: [characters, circles, bamboos],
+            one_suit: some_of(of_suits.characters, of_suits.circles, of_suits.bamboos),
+            suit_alone: some_of(
+                is_alone(characters, circles, bamboos),
+                is_alone(circles, characters, bamboos),
+                is_alone(bamboos, characters, circles),
+            ),
+            of_suits,
             counts,
         }
     }
@@ -79,7 +80,7 @@ impl AllTiles {
 
     /// Whether every tile is a 2 to 8 of a suit.
     pub fn are_simples(&self) -> bool
-        ensures { result ≡ spec.every kinds.is_simple self.now }
+        ensures { result ≡ spec.every is_simple self.now }
     {
         self.simples
     }
@@ -98,16 +99,9 @@ impl AllTiles {
         self.terminals
     }
 
-    /// Whether every tile is a wind or a dragon.
-    pub fn are_honours(&self) -> bool
-        ensures { result ≡ spec.every kinds.is_honour self.now }
-    {
-        self.honours
-    }
-
     /// Whether every tile is one of 2s 3s 4s 6s 8s 6z.
     pub fn are_green(&self) -> bool
-        ensures { result ≡ spec.every kinds.is_green_tile self.now }
+        ensures { result ≡ spec.every is_green_tile self.now }
     {
         self.green
     }
@@ -119,28 +113,25 @@ impl AllTiles {
         self.some_honour
     }
 
-    /// Whether every tile is of this suit: 0 for m, 1 for p, 2 for s.
-    pub fn are_of_suit(&self, suit: usize) -> bool
-        requires { suit < 3 }
-        ensures { result ≡ spec.every (kinds.is_of_suit suit) self.now }
+    /// Whether every tile is of this suit.
+    pub fn are_of_suit(&self, suit: Suit) -> bool
+        ensures { result ≡ spec.every (is_of_suit suit) self.now }
     {
-        self.of_suit[suit]
+        self.of_suits.get(suit)
     }
 
-    /// Whether every tile is of this suit or an honour.
-    pub fn are_of_suit_or_honours(&self, suit: usize) -> bool
-        requires { suit < 3 }
-        ensures { result ≡ spec.every (λ kind. kinds.is_of_suit suit kind || kinds.is_honour kind) self.now }
+    /// Whether every tile is of one suit of numbers.
+    pub fn are_of_one_suit(&self) -> bool
+        ensures { result ≡ spec.are_of_one_suit self.now }
     {
-        self.of_suit_or_honours[suit]
+        self.one_suit
     }
 
-    /// Whether some tile is of this suit.
-    pub fn has_suit(&self, suit: usize) -> bool
-        requires { suit < 3 }
-        ensures { result ≡ spec.some (kinds.is_of_suit suit) self.now }
+    /// Whether there are tiles of just one suit of numbers, with honours or without.
+    pub fn has_one_suit(&self) -> bool
+        ensures { result ≡ spec.has_one_suit self.now }
     {
-        self.some_of_suit[suit]
+        self.suit_alone
     }
 }
 
@@ -148,4 +139,10 @@ fn none_of(first: bool, second: bool, third: bool) -> bool
     ensures { result ≡ not (first || (second || third)) }
 {
     !(first || second || third)
+}
+
+fn is_alone(suit: bool, second: bool, third: bool) -> bool
+    ensures { result ≡ (not (second || (third || false)) && suit) }
+{
+    !(second || third) && suit
 }

@@ -1,6 +1,6 @@
 use Rattle.std.proofs.Common.{◌&&◌, not, sym, ap, ◌∙◌}
-use Rattle.riichi_blocks.proofs.Told.{all-green}
-use Rattle.riichi_blocks.specs.Told.{green_from_bamboos}
+use Rattle.riichi_blocks.proofs.Facts.{all-green}
+use Rattle.riichi_blocks.specs.TileFacts.{green_from_bamboos}
 use Rattle.riichi_blocks.proofs.held_kinds.are_green.Goals as goal
 
 pub returns-then-others : goal.returns-then-others

@@ -1,5 +1,5 @@
 use Rattle.std.proofs.Common.{◌∙◌, refl, false}
-use Rattle.riichi_blocks.proofs.Told.{some-of, some-terminal}
+use Rattle.riichi_blocks.proofs.Facts.{some-of, some-terminal}
 use Rattle.riichi_blocks.proofs.held_kinds.has_terminals.Goals as goal
 
 pub returns : goal.returns

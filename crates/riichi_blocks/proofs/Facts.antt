@@ -1,4 +1,4 @@
--- What holds of each suit, from whether some tile is of it.
+-- What holds of all tiles, from whether some tile is of a suit.
 use Rattle.std.proofs.Common.{◌≡◌, ◌∙◌, ℕ, zero, suc, ◌<◌, Bool, true, false, not, ◌&&◌, ◌||◌, nat_eq, nat_lt, List, [], ◌∷◌, ◌++◌, get_or, refl, sym, ap, arith}
 use Rattle.std.specs.Prelude.{slice_index}
 use Rattle.std.specs.List.{list_all, list_any, range_with_len}
@@ -6,14 +6,17 @@ use Rattle.std.proofs.lemmas.List.Folds.{list_any-append}
 use Rattle.std.proofs.lemmas.Bool.Decides.{nat_tests}
 use Rattle.riichi_tiles.specs.Melds.{every_kind}
 use Rattle.riichi_blocks.specs.Held.{every, some}
-use Rattle.riichi_blocks.specs.Kinds.{is_green_tile, is_honour, is_of_suit, is_orphan, is_simple, is_terminal}
-use Rattle.riichi_blocks.specs.Told.{green_from_bamboos, some_in}
+use Rattle.riichi_tiles.specs.declared.suit.Suit.{Suit}
+use Rattle.riichi_tiles.specs.declared.suit.Suit.TheVariants.{Characters, Circles, Bamboos, Honours}
+use Rattle.riichi_tiles.specs.Kinds.{is_honour, is_orphan, is_terminal}
+use Rattle.riichi_blocks.specs.Kinds.{is_green_tile, is_of_suit, is_of_suit_or_honour, is_simple}
+use Rattle.riichi_blocks.specs.TileFacts.{green_from_bamboos, some_in}
 
-pub of-three : (is_so : ℕ → Bool) (first second third : Bool) → first ≡ is_so 0 → second ≡ is_so 1 → third ≡ is_so 2 → (suit : ℕ) → suit < 3 → get_or (first ∷ second ∷ third ∷ []) suit false ≡ is_so suit
-of-three is_so first second third a b c zero h = a
-of-three is_so first second third a b c (suc zero) h = b
-of-three is_so first second third a b c (suc (suc zero)) h = c
-of-three is_so first second third a b c (suc (suc (suc suit))) h = absurd (omega (arith, h))
+pub each-suit : (P : Suit → Type 0) → P Characters → P Circles → P Bamboos → P Honours → (suit : Suit) → P suit
+each-suit P m p s z Characters = m
+each-suit P m p s z Circles = p
+each-suit P m p s z Bamboos = s
+each-suit P m p s z Honours = z
 
 zero-test : (n : ℕ) → nat_eq n 0 ≡ not (nat_lt 0 n)
 zero-test zero = refl
@@ -49,32 +52,43 @@ three tiles first second third =
 pub all-honours : (tiles : List ℕ) → not (some_in tiles 0 9 || (some_in tiles 9 9 || some_in tiles 18 9)) ≡ every is_honour tiles
 all-honours tiles = sym (every-none is_honour tiles every_kind ∙ ap not (three tiles (range_with_len 0 9) (range_with_len 9 9) (range_with_len 18 9)))
 
-pub all-characters : (tiles : List ℕ) → not (some_in tiles 9 9 || (some_in tiles 18 9 || some_in tiles 27 7)) ≡ every (is_of_suit 0) tiles
-all-characters tiles = sym (every-none (is_of_suit 0) tiles every_kind ∙ ap not (three tiles (range_with_len 9 9) (range_with_len 18 9) (range_with_len 27 7)))
+pub all-characters : (tiles : List ℕ) → not (some_in tiles 9 9 || (some_in tiles 18 9 || some_in tiles 27 7)) ≡ every (is_of_suit Characters) tiles
+all-characters tiles = sym (every-none (is_of_suit Characters) tiles every_kind ∙ ap not (three tiles (range_with_len 9 9) (range_with_len 18 9) (range_with_len 27 7)))
 
-pub all-circles : (tiles : List ℕ) → not (some_in tiles 0 9 || (some_in tiles 18 9 || some_in tiles 27 7)) ≡ every (is_of_suit 1) tiles
-all-circles tiles = sym (every-none (is_of_suit 1) tiles every_kind ∙ ap not (three tiles (range_with_len 0 9) (range_with_len 18 9) (range_with_len 27 7)))
+pub all-circles : (tiles : List ℕ) → not (some_in tiles 0 9 || (some_in tiles 18 9 || some_in tiles 27 7)) ≡ every (is_of_suit Circles) tiles
+all-circles tiles = sym (every-none (is_of_suit Circles) tiles every_kind ∙ ap not (three tiles (range_with_len 0 9) (range_with_len 18 9) (range_with_len 27 7)))
 
-pub all-bamboos : (tiles : List ℕ) → not (some_in tiles 0 9 || (some_in tiles 9 9 || some_in tiles 27 7)) ≡ every (is_of_suit 2) tiles
-all-bamboos tiles = sym (every-none (is_of_suit 2) tiles every_kind ∙ ap not (three tiles (range_with_len 0 9) (range_with_len 9 9) (range_with_len 27 7)))
+pub all-bamboos : (tiles : List ℕ) → not (some_in tiles 0 9 || (some_in tiles 9 9 || some_in tiles 27 7)) ≡ every (is_of_suit Bamboos) tiles
+all-bamboos tiles = sym (every-none (is_of_suit Bamboos) tiles every_kind ∙ ap not (three tiles (range_with_len 0 9) (range_with_len 9 9) (range_with_len 27 7)))
 
-pub characters-or-honours : (tiles : List ℕ) → not (some_in tiles 9 9 || (some_in tiles 18 9 || false)) ≡ every (λ kind. is_of_suit 0 kind || is_honour kind) tiles
-characters-or-honours tiles = sym (every-none (λ kind. is_of_suit 0 kind || is_honour kind) tiles every_kind ∙ ap not (three tiles (range_with_len 9 9) (range_with_len 18 9) []))
+pub characters-or-honours : (tiles : List ℕ) → not (some_in tiles 9 9 || (some_in tiles 18 9 || false)) ≡ every (is_of_suit_or_honour Characters) tiles
+characters-or-honours tiles = sym (every-none (is_of_suit_or_honour Characters) tiles every_kind ∙ ap not (three tiles (range_with_len 9 9) (range_with_len 18 9) []))
 
-pub circles-or-honours : (tiles : List ℕ) → not (some_in tiles 0 9 || (some_in tiles 18 9 || false)) ≡ every (λ kind. is_of_suit 1 kind || is_honour kind) tiles
-circles-or-honours tiles = sym (every-none (λ kind. is_of_suit 1 kind || is_honour kind) tiles every_kind ∙ ap not (three tiles (range_with_len 0 9) (range_with_len 18 9) []))
+pub circles-or-honours : (tiles : List ℕ) → not (some_in tiles 0 9 || (some_in tiles 18 9 || false)) ≡ every (is_of_suit_or_honour Circles) tiles
+circles-or-honours tiles = sym (every-none (is_of_suit_or_honour Circles) tiles every_kind ∙ ap not (three tiles (range_with_len 0 9) (range_with_len 18 9) []))
 
-pub bamboos-or-honours : (tiles : List ℕ) → not (some_in tiles 0 9 || (some_in tiles 9 9 || false)) ≡ every (λ kind. is_of_suit 2 kind || is_honour kind) tiles
-bamboos-or-honours tiles = sym (every-none (λ kind. is_of_suit 2 kind || is_honour kind) tiles every_kind ∙ ap not (three tiles (range_with_len 0 9) (range_with_len 9 9) []))
+pub bamboos-or-honours : (tiles : List ℕ) → not (some_in tiles 0 9 || (some_in tiles 9 9 || false)) ≡ every (is_of_suit_or_honour Bamboos) tiles
+bamboos-or-honours tiles = sym (every-none (is_of_suit_or_honour Bamboos) tiles every_kind ∙ ap not (three tiles (range_with_len 0 9) (range_with_len 9 9) []))
+
+pub some-of : {a b c x y z : Bool} → a ≡ x → b ≡ y → c ≡ z → (a || (b || c)) ≡ (x || (y || z))
+some-of {a} {b} {c} {x} {y} {z} e f g = ap (λ first. first || (b || c)) e ∙ ap (λ second. x || (second || c)) f ∙ ap (λ third. x || (y || third)) g
+
+pub alone : {a b c x y z : Bool} → a ≡ x → b ≡ y → c ≡ z → (not (b || (c || false)) && a) ≡ (not (y || (z || false)) && x)
+alone {a} {b} {c} {x} {y} {z} e f g = ap (λ suit. not (b || (c || false)) && suit) e ∙ ap (λ second. not (second || (c || false)) && x) f ∙ ap (λ third. not (y || (third || false)) && x) g
+
+or-false : (b : Bool) → (b || false) ≡ b
+or-false true = refl
+or-false false = refl
+
+-- one of the three
+pub one-of : {a b c x y z : Bool} → a ≡ x → b ≡ y → c ≡ z → (a || (b || c)) ≡ (x || (y || (z || false)))
+one-of {a} {b} {c} {x} {y} {z} e f g = some-of e f g ∙ ap (λ third. x || (y || third)) (sym (or-false z))
 
 -- kinds in five parts
 five : (tiles first second third fourth fifth : List ℕ) → list_any (λ kind. nat_lt 0 (slice_index tiles kind)) (first ++ (second ++ (third ++ (fourth ++ fifth)))) ≡ (list_any (λ kind. nat_lt 0 (slice_index tiles kind)) first || (list_any (λ kind. nat_lt 0 (slice_index tiles kind)) second || (list_any (λ kind. nat_lt 0 (slice_index tiles kind)) third || (list_any (λ kind. nat_lt 0 (slice_index tiles kind)) fourth || list_any (λ kind. nat_lt 0 (slice_index tiles kind)) fifth))))
 five tiles first second third fourth fifth =
     three tiles first second (third ++ (fourth ++ fifth))
     ∙ ap (λ b. list_any (λ kind. nat_lt 0 (slice_index tiles kind)) first || (list_any (λ kind. nat_lt 0 (slice_index tiles kind)) second || b)) (three tiles third fourth fifth)
-
-pub some-of : {a b c x y z : Bool} → a ≡ x → b ≡ y → c ≡ z → (a || (b || c)) ≡ (x || (y || z))
-some-of {a} {b} {c} {x} {y} {z} e f g = ap (λ first. first || (b || c)) e ∙ ap (λ second. x || (second || c)) f ∙ ap (λ third. x || (y || third)) g
 
 pub some-simple : (tiles : List ℕ) → (some_in tiles 1 7 || (some_in tiles 10 7 || some_in tiles 19 7)) ≡ some is_simple tiles
 some-simple tiles = sym (three tiles (range_with_len 1 7) (range_with_len 10 7) (range_with_len 19 7))
