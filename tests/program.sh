@@ -44,6 +44,16 @@ answers() {
   told "line < $1" "status $status: $(sha256sum < "$2")" "status $got: $(sha256sum < "$room/answers")"
 }
 
+# explains INPUT WANTED: the command `explain` answers the file INPUT as the file WANTED says, once the lines that begin with
+# two spaces are dropped
+explains() {
+  local status=0 got
+  grep -q '^refused' "$2" && status=1
+  "$program" explain < "$1" > "$room/answers" 2> "$room/said"
+  got=$?
+  told "explain < $1" "status $status: $(sha256sum < "$2")" "status $got: $(grep -v '^  ' "$room/answers" | sha256sum)"
+}
+
 # the command waits
 row 0 'waits 123456789m' '' waits 1112345678999m
 row 0 'waits -' '' waits 123456789m1111z
@@ -66,11 +76,12 @@ row 2 '' "invalid value '0' for '--workers <N>'" score --workers 0 file
 row 2 '' "invalid value '17' for '--workers <N>'" score --workers 17 file
 row 2 '' "invalid value 'many' for '--workers <N>'" score --workers many file
 row 0 'riichi_desk 0.1.0' '' --version
-for command in '' waits line replay score; do
+for command in '' waits line explain replay score; do
   told "the help of riichi_desk $command says the program's own name" 'Usage: riichi_desk' "$("$program" $command --help | grep -oE '^Usage: [a-z_]+')"
   told "the help of riichi_desk $command has the exit statuses" 5 "$("$program" $command --help | sed -n '/^Exit status:$/,$p' | grep -cE '^  [0-4]  ')"
 done
-told 'the help names the commands' 4 "$("$program" --help | grep -cE '^  (waits|line|replay|score) ')"
+told 'the help of riichi_desk help-codes has the exit statuses' 4 "$("$program" help-codes --help | sed -n '/^Exit status:$/,$p' | grep -cE '^  [0-4]  ')"
+told 'the help names the commands' 6 "$("$program" --help | grep -cE '^  (waits|line|explain|replay|score|help-codes) ')"
 
 # the command line: no input, a page of lines with its answers, and each example of the rules
 row 0 '' '' line
@@ -88,6 +99,41 @@ cat "$room/rules.lines.told" >> "$room/rules.lines"
 cat "$room/rules-two.lines.told" >> "$room/rules-two.lines"
 answers "$room/rules-two.lines" "$room/rules-two.wanted"
 answers "$room/rules.lines" "$room/rules.wanted"
+
+# the same lines with explanations; a profile from the command line; lines as words
+explains examples/club-night.lines examples/club-night.answers
+explains examples/rules.lines examples/rules.answers
+explains examples/rules-two.lines examples/rules-two.answers
+explains "$room/rules.lines" "$room/rules.wanted"
+explains "$room/rules-two.lines" "$room/rules-two.wanted"
+disputed='win 99978m444p567s22s on=9m by=ron seat=S round=E riichi=1'
+why=$'won 1 han 50 fu 1600 gain 1600 riichi\n  reading 789m 999m 444p 567s 22s, 9m completes 789m\n  han     riichi 1
+  fu      20 base, 10 concealed ron, 8 concealed triplet 999m, 4 concealed triplet 444p: 42, rounded to 50
+  base    50 x 2^3 = 400\n  pays    discarder 1600\n  gain    1600'
+row 0 "$why" '' explain "$disputed"
+row 1 "$why"$'\nrefused N5 hand at 0\n  honours are 1z to 7z' '' explain "$disputed" 'waits 8z'
+echo "$disputed" > "$room/input"
+row 0 "$why" '' explain
+echo 'win 123406789m22s34p on=2p by=ron seat=S round=E' > "$room/input"
+row 0 'won 4 han 30 fu 8000 gain 8000 pinfu pure-straight dora 1' '' line --rules 2
+row 0 'won 3 han 30 fu 3900 gain 3900 pinfu pure-straight' '' line --rules 1
+row 0 $'table 0\nwon 4 han 30 fu 8000 gain 8000 pinfu pure-straight dora 1' '' score --rules 2 "$room/input"
+told 'explain --rules 2' 'won 4 han 30 fu 8000 gain 8000 pinfu pure-straight dora 1' "$("$program" explain --rules 2 < "$room/input" | grep -v '^  ')"
+{ echo 'rules 1'; cat "$room/input"; } > "$room/own"
+cp "$room/own" "$room/input"
+row 0 'won 3 han 30 fu 3900 gain 3900 pinfu pure-straight' '' line --rules 2
+row 2 '' "invalid value '3' for '--rules <N>'" line --rules 3
+: > "$room/input"
+row 0 '' '' explain
+told 'explain and a full disk' $'riichi_desk: fault F2: the answers can\'t be written\nstatus 3' "$("$program" explain "$disputed" 2>&1 > /dev/full; echo "status $?")"
+told 'explain and a folder' $'riichi_desk: fault F1: the input can\'t be read, or has no end\nstatus 3' "$("$program" explain < "$room" 2>&1; echo "status $?")"
+
+# the codes in words: as the documentation has them, and as a refusal is explained
+"$program" help-codes > "$room/codes"
+told 'help-codes' "$(awk '/^## Codes$/ { here = 1 } /^```/ { inside = here && !inside; if (!inside && seen) exit; next } inside { seen = 1; print }' docs/NOTATION.md)" "$(cat "$room/codes")"
+while IFS='|' read -r _ code line; do
+  told "the words of $code" "$(sed -n "s/^  $code  *//p" "$room/codes")" "$("$program" explain "$line" | sed -n '2s/^  //p')"
+done < <(sed 's/^/|/' tests/refused.lines)
 
 # someone types: the answer to a line comes before the next line is sent
 coproc desk { "$program" line; }

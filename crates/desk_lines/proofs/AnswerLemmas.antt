@@ -1,96 +1,124 @@
 -- The answer to one more line.
-use Rattle.std.proofs.Common.{◌≡◌, ℕ, ◌<◌, inl, inr, List, [], ◌∷◌, ◌++◌, true, false, cond, length, Option, Some, None, refl, sym, subst, ◌∙◌, ap}
-use Rattle.std.specs.List.{filter_map}
+use Rattle.std.proofs.Common.{◌≡◌, ℕ, ◌<◌, inl, inr, List, [], ◌∷◌, ◌++◌, Bool, true, false, cond, length, Option, Some, None, refl, sym, subst, ◌∙◌, ap, append_assoc}
+use Rattle.std.proofs.lemmas.List.{append-nil}
+use Rattle.std.specs.List.{filter_map, cons_option}
 use Rattle.std.proofs.lemmas.List.Elements.{filter_map-append}
-use Rattle.std.proofs.lemmas.Bool.{lt-ltb}
-use Rattle.std.specs.Prelude.{codes, is_some, unwrap_or}
+use Rattle.std.specs.Prelude.{is_some, unwrap_or}
 use Rattle.riichi_hand.specs.declared.win.Rules.{Rules}
-use Rattle.riichi_hand.specs.declared.win.Rules.TheVariants.{One}
-use Rattle.riichi_hand.specs.Lines.{outcome_of}
-use Rattle.desk_lines.specs.Profile.{profile_of, rules_of, record_lines, rules_by}
-use Rattle.desk_lines.specs.LineAnswer.{answer_of}
+use Rattle.desk_lines.specs.Profile.{profile_of, rules_of, record_lines, rules_by, record_rules}
+use Rattle.desk_lines.specs.LineAnswer.{answer_of, IsAnswer}
 use Rattle.desk_lines.specs.LineAnswers.{answers_on, answers_to}
 use Rattle.desk_lines.specs.Telling.{text_of, answers_in, IsToldAs}
-use Rattle.desk_lines.specs.Records.{rules_after, told_under, told_by, TellsRecords}
+use Rattle.desk_lines.specs.Records.{rules_after, AnswerKind, IsToldUnder, IsToldBy, AreTold, AnswerRecords, TellsRecords}
 use Rattle.desk_lines.specs.declared.records.Records.{Records}
 use Rattle.desk_lines.specs.Streams.{StopsWriting}
 use Rattle.desk_streams.specs.declared.sink.Sink.{Ghosts as OfSink}
 use Rattle.desk_lines.proofs.TellingLemmas.{text_of-append}
 use Rattle.desk_lines.proofs.StreamLemmas.{StopsWriting-more}
-
-abbrev answers_under : Rules → List (List ℕ) → List (List ℕ)
-answers_under rules lines = filter_map (answer_of rules) lines
-
-answers_under-last : (rules : Rules) (lines : List (List ℕ)) (line : List ℕ) → answers_under rules (lines ++ line ∷ []) ≡ answers_under rules lines ++ answers_in (answer_of rules line)
-answers_under-last rules lines line = filter_map-append (answer_of rules) lines (line ∷ [])
+use Rattle.desk_lines.specs.LongLines.{long_profile}
 
 -- all but the first line are records
 pub record_lines-more : (line : List ℕ) (lines more : List (List ℕ)) → record_lines ((line ∷ lines) ++ more) ≡ record_lines (line ∷ lines) ++ more
 record_lines-more line lines more = elim (is_some (profile_of line)) as (λ test. cond test (lines ++ more) (line ∷ lines ++ more) ≡ cond test lines (line ∷ lines) ++ more) [ true ↦ refl | false ↦ refl ]
 
-first_answer : (line : List ℕ) (profile : Option Rules) → filter_map (answer_of (unwrap_or profile One)) (cond (is_some profile) [] (line ∷ [])) ≡ answers_in (told_under (cond (is_some profile) None (Some One)) line)
-first_answer line None = refl
-first_answer line (Some rules) = refl
+pub rules_after-last : (given : Rules) (lines : List (List ℕ)) (line : List ℕ) → rules_after given (lines ++ line ∷ []) ≡ Some (rules_by given (rules_after given lines) line)
+rules_after-last given [] line = refl
+rules_after-last given (first ∷ lines) line = refl
 
-pub answers_on-last : (lines : List (List ℕ)) (line : List ℕ) → answers_on (lines ++ line ∷ []) ≡ answers_on lines ++ answers_in (told_by (rules_after lines) line)
-answers_on-last [] line = first_answer line (profile_of line)
-answers_on-last (first ∷ lines) line =
-    ap (answers_under (rules_of (first ∷ lines))) (record_lines-more first lines (line ∷ [])) ∙ answers_under-last (rules_of (first ∷ lines)) (record_lines (first ∷ lines)) line
+rules_long : (given : Rules) (rules : Option Rules) (line : List ℕ) → 4096 < length line → rules_by given rules line ≡ unwrap_or rules given
+rules_long given None line long = rw (long_profile line long) refl
+rules_long given (Some rules) line long = refl
 
--- the answers to more lines follow those to the first
-answers_on-append : (lines more : List (List ℕ)) → (others : List (List ℕ)) × (answers_on (lines ++ more) ≡ answers_on lines ++ others)
-answers_on-append [] more = (answers_on more, refl)
-answers_on-append (first ∷ lines) more =
-    let rules = rules_of (first ∷ lines) in
-    (answers_under rules more, ap (answers_under rules) (record_lines-more first lines more) ∙ filter_map-append (answer_of rules) (record_lines (first ∷ lines)) more)
+pub same_rules : (given : Rules) (rules : Option Rules) (line next : List ℕ) → IsToldAs 4096 line next → rules_by given rules line ≡ rules_by given rules next
+same_rules given rules line next (inl same) = ap (rules_by given rules) same
+same_rules given rules line next (inr long) = rules_long given rules line long.0 ∙ sym (rules_long given rules next long.1)
 
-pub answers_to-append : (lines more : List (List ℕ)) → (others : List ℕ) × (answers_to (lines ++ more) ≡ answers_to lines ++ others)
-answers_to-append lines more =
-    let others = answers_on-append lines more in
-    (text_of others.0, ap text_of others.1 ∙ text_of-append (answers_on lines) others.0)
+-- ---- any kind of answer
 
-pub rules_after-last : (lines : List (List ℕ)) (line : List ℕ) → rules_after (lines ++ line ∷ []) ≡ Some (rules_by (rules_after lines) line)
-rules_after-last [] line = refl
-rules_after-last (first ∷ lines) line = refl
+-- one more line is told its answer
+AreTold-last : (Answers : AnswerKind) (rules : Rules) (lines : List (List ℕ)) (line : List ℕ) (told : List (List ℕ)) (answer : Option (List ℕ)) → AreTold Answers rules lines told → Answers rules line answer
+    → AreTold Answers rules (lines ++ line ∷ []) (told ++ answers_in answer)
+AreTold-last Answers rules [] line told answer are is = (answer, [], is, ap (λ (front : List (List ℕ)). front ++ answers_in answer) are ∙ sym (append-nil (answers_in answer)), refl)
+AreTold-last Answers rules (first ∷ lines) line told answer are is =
+    (are.0, are.1 ++ answers_in answer, are.2, ap (λ (front : List (List ℕ)). front ++ answers_in answer) are.3 ∙ append_assoc (answers_in are.0) are.1 (answers_in answer), AreTold-last Answers rules lines line are.1 answer are.4 is)
 
--- a line that is longer than any record
-too_long : (rules : Rules) (line : List ℕ) → 4096 < length line → answer_of rules line ≡ Some (codes "refused H1")
-unfolding answer_of outcome_of
-too_long rules line long = rw (lt-ltb 4096 (length line) long) refl
+first_told : (Answers : AnswerKind) (given : Rules) (line : List ℕ) (told : List (List ℕ)) (answer : Option (List ℕ)) (profile : Option Rules) → told ≡ []
+    → IsToldUnder Answers (cond (is_some profile) None (Some given)) line answer
+    → AreTold Answers (unwrap_or profile given) (cond (is_some profile) [] (line ∷ [])) (told ++ answers_in answer)
+first_told Answers given line told answer None none is = (answer, [], is, ap (λ (front : List (List ℕ)). front ++ answers_in answer) none ∙ sym (append-nil (answers_in answer)), refl)
+first_told Answers given line told answer (Some rules) none is = ap (λ (front : List (List ℕ)). front ++ answers_in answer) none ∙ ap answers_in is
 
-pub no_profile : (line : List ℕ) → 4096 < length line → profile_of line ≡ None
-unfolding profile_of
-no_profile line long = rw (lt-ltb 4096 (length line) long) refl
+AnswerRecords-last : (Answers : AnswerKind) (given : Rules) (lines : List (List ℕ)) (line : List ℕ) (told : List (List ℕ)) (answer : Option (List ℕ)) → AnswerRecords Answers given lines told
+    → IsToldBy Answers given (rules_after given lines) line answer → AnswerRecords Answers given (lines ++ line ∷ []) (told ++ answers_in answer)
+AnswerRecords-last Answers given [] line told answer are is = first_told Answers given line told answer (profile_of line) are is
+AnswerRecords-last Answers given (first ∷ lines) line told answer are is =
+    let rules = rules_of given (first ∷ lines) in
+    subst (λ (all : List (List ℕ)). AreTold Answers rules all (told ++ answers_in answer)) (sym (record_lines-more first lines (line ∷ [])))
+    (AreTold-last Answers rules (record_lines (first ∷ lines)) line told answer are is)
 
-told_long : (rules : Option Rules) (line : List ℕ) → 4096 < length line → told_by rules line ≡ Some (codes "refused H1")
-told_long None line long = rw (no_profile line long) (too_long One line long)
-told_long (Some rules) line long = too_long rules line long
+-- lines that are too long are told alike
+abbrev AreAlike : AnswerKind → Type 0
+AreAlike Answers = (rules : Rules) (line other : List ℕ) (told : Option (List ℕ)) → 4096 < length line → 4096 < length other → Answers rules line told → Answers rules other told
 
-rules_long : (rules : Option Rules) (line : List ℕ) → 4096 < length line → rules_by rules line ≡ unwrap_or rules One
-rules_long None line long = rw (no_profile line long) refl
-rules_long (Some rules) line long = refl
+alike_under : (Answers : AnswerKind) → AreAlike Answers → (rules : Option Rules) (line next : List ℕ) (answer : Option (List ℕ)) → 4096 < length line → 4096 < length next
+    → IsToldUnder Answers rules line answer → IsToldUnder Answers rules next answer
+alike_under Answers alike None line next answer long long_next is = is
+alike_under Answers alike (Some rules) line next answer long long_next is = alike rules line next answer long long_next is
 
-same_answer : (rules : Option Rules) (line next : List ℕ) → IsToldAs 4096 line next → told_by rules line ≡ told_by rules next
-same_answer rules line next (inl same) = ap (told_by rules) same
-same_answer rules line next (inr long) = told_long rules line long.0 ∙ sym (told_long rules next long.1)
+records_long : (given : Rules) (rules : Option Rules) (line : List ℕ) → 4096 < length line → record_rules given rules line ≡ Some (unwrap_or rules given)
+records_long given None line long = rw (long_profile line long) refl
+records_long given (Some rules) line long = refl
 
-pub same_rules : (rules : Option Rules) (line next : List ℕ) → IsToldAs 4096 line next → rules_by rules line ≡ rules_by rules next
-same_rules rules line next (inl same) = ap (rules_by rules) same
-same_rules rules line next (inr long) = rules_long rules line long.0 ∙ sym (rules_long rules next long.1)
+told_as : (Answers : AnswerKind) → AreAlike Answers → (given : Rules) (rules : Option Rules) (line next : List ℕ) (answer : Option (List ℕ)) → IsToldAs 4096 line next
+    → IsToldBy Answers given rules line answer → IsToldBy Answers given rules next answer
+told_as Answers alike given rules line next answer (inl same) is = subst (λ (l : List ℕ). IsToldBy Answers given rules l answer) same is
+told_as Answers alike given rules line next answer (inr long) is =
+    let kept = records_long given rules line long.0 in
+    let kept_next = records_long given rules next long.1 in
+    subst (λ (r : Option Rules). IsToldUnder Answers r next answer) (kept ∙ sym kept_next) (alike_under Answers alike (record_rules given rules line) line next answer long.0 long.1 is)
 
 -- one more line was answered as its records are
-pub TellsRecords-line : (old new : Records) (line next : List ℕ) (lines told : List (List ℕ)) → IsToldAs 4096 line next → TellsRecords old lines told
-    → new.rules ≡ Some (rules_by old.rules line) → TellsRecords new (lines ++ next ∷ []) (told ++ answers_in (told_by old.rules line))
-TellsRecords-line old new line next lines told as_this tells rules = (
-  rules ∙ ap (λ r. Some (rules_by r line)) tells.0 ∙ ap Some (same_rules (rules_after lines) line next as_this) ∙ sym (rules_after-last lines next),
-  ap (λ front. front ++ answers_in (told_by old.rules line)) tells.1 ∙ ap (λ r. answers_on lines ++ answers_in (told_by r line)) tells.0
-      ∙ ap (λ answer. answers_on lines ++ answers_in answer) (same_answer (rules_after lines) line next as_this) ∙ sym (answers_on-last lines next),
-)
+pub TellsRecords-line : {A P : Type 0} (Answers : AnswerKind) → AreAlike Answers → (old new : Records A P) (line next : List ℕ) (answer : Option (List ℕ)) (lines told : List (List ℕ)) → IsToldAs 4096 line next → TellsRecords Answers old lines told
+    → new.given ≡ old.given → new.rules ≡ Some (rules_by old.given old.rules line) → IsToldBy Answers old.given old.rules line answer → TellsRecords Answers new (lines ++ next ∷ []) (told ++ answers_in answer)
+TellsRecords-line Answers alike old new line next answer lines told as_this tells given rules is =
+    let so = subst (λ (r : Option Rules). IsToldBy Answers old.given r line answer) tells.0 is in
+    let front = AnswerRecords-last Answers old.given lines next told answer tells.1 (told_as Answers alike old.given (rules_after old.given lines) line next answer as_this so) in (
+      rules ∙ ap (λ r. Some (rules_by old.given r line)) tells.0 ∙ ap Some (same_rules old.given (rules_after old.given lines) line next as_this) ∙ sym (rules_after-last old.given lines next)
+          ∙ ap (λ (g : Rules). rules_after g (lines ++ next ∷ [])) (sym given),
+      subst (λ (g : Rules). AnswerRecords Answers g (lines ++ next ∷ []) (told ++ answers_in answer)) (sym given) front,
+    )
+
+-- ---- plain answers
+
+plain_told : (rules : Rules) (lines told : List (List ℕ)) → AreTold IsAnswer rules lines told → told ≡ filter_map (answer_of rules) lines
+plain_told rules [] told are = are
+plain_told rules (line ∷ lines) told are =
+    are.3 ∙ ap (λ (rest : List (List ℕ)). answers_in are.0 ++ rest) (plain_told rules lines are.1 are.4) ∙ cons are.0 (filter_map (answer_of rules) lines)
+    ∙ ap (λ (answer : Option (List ℕ)). cons_option answer (filter_map (answer_of rules) lines)) are.2
+  where
+    cons : (answer : Option (List ℕ)) (rest : List (List ℕ)) → answers_in answer ++ rest ≡ cons_option answer rest
+    cons None rest = refl
+    cons (Some answer) rest = refl
+
+pub plain_answers : (given : Rules) (lines told : List (List ℕ)) → AnswerRecords IsAnswer given lines told → told ≡ answers_on given lines
+plain_answers given lines told are = plain_told (rules_of given lines) (record_lines lines) told are
+
+-- the answers to more lines follow those to the first
+answers_on-append : (given : Rules) (lines more : List (List ℕ)) → (others : List (List ℕ)) × (answers_on given (lines ++ more) ≡ answers_on given lines ++ others)
+answers_on-append given [] more = (answers_on given more, refl)
+answers_on-append given (first ∷ lines) more =
+    let rules = rules_of given (first ∷ lines) in
+    (filter_map (answer_of rules) more, ap (filter_map (answer_of rules)) (record_lines-more first lines more) ∙ filter_map-append (answer_of rules) (record_lines (first ∷ lines)) more)
+
+pub answers_to-append : (given : Rules) (lines more : List (List ℕ)) → (others : List ℕ) × (answers_to given (lines ++ more) ≡ answers_to given lines ++ others)
+answers_to-append given lines more =
+    let others = answers_on-append given lines more in
+    (text_of others.0, ap text_of others.1 ∙ text_of-append (answers_on given lines) others.0)
 
 -- the text of the answers to the first lines begins that of all
-pub front_of_answers : {W : Type 0} (sink : OfSink W) (start new : W) (records : Records) (lines first others answers : List (List ℕ)) → lines ≡ first ++ others
-    → TellsRecords records first answers → StopsWriting sink start new (text_of answers) → StopsWriting sink start new (answers_to lines)
-front_of_answers sink start new records lines first others answers parts tells stops =
-    let more = answers_to-append first others in
-    subst (λ (all : List ℕ). StopsWriting sink start new all) (ap (λ told. text_of told ++ more.0) tells.1 ∙ sym more.1 ∙ ap answers_to (sym parts))
+pub front_of_answers : {W : Type 0} (sink : OfSink W) (start new : W) (given : Rules) (lines first others answers : List (List ℕ)) → lines ≡ first ++ others
+    → AnswerRecords IsAnswer given first answers → StopsWriting sink start new (text_of answers) → StopsWriting sink start new (answers_to given lines)
+front_of_answers sink start new given lines first others answers parts are stops =
+    let more = answers_to-append given first others in
+    subst (λ (all : List ℕ). StopsWriting sink start new all) (ap (λ told. text_of told ++ more.0) (plain_answers given first answers are) ∙ sym more.1 ∙ ap (answers_to given) (sym parts))
     (StopsWriting-more sink start new (text_of answers) more.0 stops)

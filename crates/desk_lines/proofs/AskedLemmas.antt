@@ -7,7 +7,6 @@ use Rattle.std.proofs.lemmas.Bool.{lt-ltb}
 use Rattle.std.specs.Prelude.{not, count_by, is_some, unwrap_or}
 use Rattle.std.specs.List.{filter_map, cons_option}
 use Rattle.riichi_hand.specs.declared.win.Rules.{Rules}
-use Rattle.riichi_hand.specs.declared.win.Rules.TheVariants.{One}
 use Rattle.riichi_hand.specs.declared.job.Job.{Job}
 use Rattle.riichi_hand.specs.declared.fault.LineCode.TheVariants.{H1}
 use Rattle.riichi_hand.specs.declared.fault.LineFault.{LineFault}
@@ -25,47 +24,48 @@ use Rattle.desk_lines.specs.Telling.{text_of, is_refusal, IsToldAs}
 use Rattle.desk_lines.specs.Records.{rules_after}
 use Rattle.desk_lines.specs.Asked.{outcomes, jobs_in, asked_in, jobs_of, asked_of, outcome_under, outcome_by, told}
 use Rattle.desk_lines.specs.Collector.{Collects}
-use Rattle.desk_lines.proofs.AnswerLemmas.{record_lines-more, no_profile, rules_after-last, same_rules}
+use Rattle.desk_lines.specs.LongLines.{long_outcome, long_profile}
+use Rattle.desk_lines.proofs.AnswerLemmas.{record_lines-more, rules_after-last, same_rules}
 use Rattle.desk_lines.proofs.KindLemmas.{is_refusal-fault, is_refusal-job}
 
-first_outcome : (line : List ℕ) (profile : Option Rules) → map (outcome_of (unwrap_or profile One)) (cond (is_some profile) [] (line ∷ [])) ≡ outcome_under (cond (is_some profile) None (Some One)) line
-first_outcome line None = refl
-first_outcome line (Some rules) = refl
+first_outcome : (given : Rules) (line : List ℕ) (profile : Option Rules) → map (outcome_of (unwrap_or profile given)) (cond (is_some profile) [] (line ∷ [])) ≡ outcome_under (cond (is_some profile) None (Some given)) line
+first_outcome given line None = refl
+first_outcome given line (Some rules) = refl
 
-pub outcomes-last : (lines : List (List ℕ)) (line : List ℕ) → outcomes (lines ++ line ∷ []) ≡ outcomes lines ++ outcome_by (rules_after lines) line
-outcomes-last [] line = first_outcome line (profile_of line)
-outcomes-last (first ∷ lines) line =
-    let rules = rules_of (first ∷ lines) in
+pub outcomes-last : (given : Rules) (lines : List (List ℕ)) (line : List ℕ) → outcomes given (lines ++ line ∷ []) ≡ outcomes given lines ++ outcome_by given (rules_after given lines) line
+outcomes-last given [] line = first_outcome given line (profile_of line)
+outcomes-last given (first ∷ lines) line =
+    let rules = rules_of given (first ∷ lines) in
     ap (map (outcome_of rules)) (record_lines-more first lines (line ∷ [])) ∙ map-append (outcome_of rules) (record_lines (first ∷ lines)) (line ∷ [])
 
-pub jobs_of-last : (lines : List (List ℕ)) (line : List ℕ) → jobs_of (lines ++ line ∷ []) ≡ jobs_of lines ++ flat_map jobs_in (outcome_by (rules_after lines) line)
-jobs_of-last lines line = ap (flat_map jobs_in) (outcomes-last lines line) ∙ flat_map-append jobs_in (outcomes lines) (outcome_by (rules_after lines) line)
+pub jobs_of-last : (given : Rules) (lines : List (List ℕ)) (line : List ℕ) → jobs_of given (lines ++ line ∷ []) ≡ jobs_of given lines ++ flat_map jobs_in (outcome_by given (rules_after given lines) line)
+jobs_of-last given lines line = ap (flat_map jobs_in) (outcomes-last given lines line) ∙ flat_map-append jobs_in (outcomes given lines) (outcome_by given (rules_after given lines) line)
 
-pub asked_of-last : (lines : List (List ℕ)) (line : List ℕ) → asked_of (lines ++ line ∷ []) ≡ asked_of lines ++ flat_map asked_in (outcome_by (rules_after lines) line)
-asked_of-last lines line = ap (flat_map asked_in) (outcomes-last lines line) ∙ flat_map-append asked_in (outcomes lines) (outcome_by (rules_after lines) line)
+pub asked_of-last : (given : Rules) (lines : List (List ℕ)) (line : List ℕ) → asked_of given (lines ++ line ∷ []) ≡ asked_of given lines ++ flat_map asked_in (outcome_by given (rules_after given lines) line)
+asked_of-last given lines line = ap (flat_map asked_in) (outcomes-last given lines line) ∙ flat_map-append asked_in (outcomes given lines) (outcome_by given (rules_after given lines) line)
 
 -- a line that is longer than any record is refused, whatever it holds
-long_outcome : (rules : Rules) (line : List ℕ) → 4096 < length line → outcome_of rules line ≡ Err (Line H1)
-unfolding outcome_of
-long_outcome rules line long = rw (lt-ltb 4096 (length line) long) refl
+outcome_long : (given : Rules) (rules : Option Rules) (line : List ℕ) → 4096 < length line → outcome_by given rules line ≡ Err (Line H1) ∷ []
+outcome_long given None line long = rw (long_profile line long) (ap (λ o. o ∷ []) (long_outcome given line long))
+outcome_long given (Some rules) line long = ap (λ o. o ∷ []) (long_outcome rules line long)
 
-outcome_long : (rules : Option Rules) (line : List ℕ) → 4096 < length line → outcome_by rules line ≡ Err (Line H1) ∷ []
-outcome_long None line long = rw (no_profile line long) (ap (λ o. o ∷ []) (long_outcome One line long))
-outcome_long (Some rules) line long = ap (λ o. o ∷ []) (long_outcome rules line long)
-
-same_outcome : (rules : Option Rules) (line next : List ℕ) → IsToldAs 4096 line next → outcome_by rules line ≡ outcome_by rules next
-same_outcome rules line next (inl same) = ap (outcome_by rules) same
-same_outcome rules line next (inr long) = outcome_long rules line long.0 ∙ sym (outcome_long rules next long.1)
+same_outcome : (given : Rules) (rules : Option Rules) (line next : List ℕ) → IsToldAs 4096 line next → outcome_by given rules line ≡ outcome_by given rules next
+same_outcome given rules line next (inl same) = ap (outcome_by given rules) same
+same_outcome given rules line next (inr long) = outcome_long given rules line long.0 ∙ sym (outcome_long given rules next long.1)
 
 -- one more line, or one that is told as it, was taken
-pub Collects-line : (old new : Collector) (line next : List ℕ) (lines : List (List ℕ)) → IsToldAs 4096 line next → Collects lines old
-    → new.rules ≡ Some (rules_by old.rules line) → new.jobs.items ≡ old.jobs.items ++ flat_map jobs_in (outcome_by old.rules line) → new.asked.items ≡ old.asked.items ++ flat_map asked_in (outcome_by old.rules line)
+pub Collects-line : {P : Type 0} (old new : Collector P) (line next : List ℕ) (lines : List (List ℕ)) → IsToldAs 4096 line next → Collects lines old → new.given ≡ old.given
+    → new.rules ≡ Some (rules_by old.given old.rules line) → new.jobs.items ≡ old.jobs.items ++ flat_map jobs_in (outcome_by old.given old.rules line) → new.asked.items ≡ old.asked.items ++ flat_map asked_in (outcome_by old.given old.rules line)
     → Collects (lines ++ next ∷ []) new
-Collects-line old new line next lines as_this collects rules jobs asked =
-    let outcome : outcome_by old.rules line ≡ outcome_by (rules_after lines) next = ap (λ r. outcome_by r line) collects.rules ∙ same_outcome (rules_after lines) line next as_this in record {
-      rules = rules ∙ ap (λ r. Some (rules_by r line)) collects.rules ∙ ap Some (same_rules (rules_after lines) line next as_this) ∙ sym (rules_after-last lines next);
-      jobs = jobs ∙ ap (λ front. front ++ flat_map jobs_in (outcome_by old.rules line)) collects.jobs ∙ ap (λ more. jobs_of lines ++ flat_map jobs_in more) outcome ∙ sym (jobs_of-last lines next);
-      asked = asked ∙ ap (λ front. front ++ flat_map asked_in (outcome_by old.rules line)) collects.asked ∙ ap (λ more. asked_of lines ++ flat_map asked_in more) outcome ∙ sym (asked_of-last lines next);
+Collects-line old new line next lines as_this collects given rules jobs asked =
+    let g = old.given in
+    let outcome : outcome_by g old.rules line ≡ outcome_by g (rules_after g lines) next = ap (λ r. outcome_by g r line) collects.rules ∙ same_outcome g (rules_after g lines) line next as_this in record {
+      rules = rules ∙ ap (λ r. Some (rules_by g r line)) collects.rules ∙ ap Some (same_rules g (rules_after g lines) line next as_this) ∙ sym (rules_after-last g lines next)
+          ∙ ap (λ (h : Rules). rules_after h (lines ++ next ∷ [])) (sym given);
+      jobs = jobs ∙ ap (λ front. front ++ flat_map jobs_in (outcome_by g old.rules line)) collects.jobs ∙ ap (λ more. jobs_of g lines ++ flat_map jobs_in more) outcome ∙ sym (jobs_of-last g lines next)
+          ∙ ap (λ (h : Rules). jobs_of h (lines ++ next ∷ [])) (sym given);
+      asked = asked ∙ ap (λ front. front ++ flat_map asked_in (outcome_by g old.rules line)) collects.asked ∙ ap (λ more. asked_of g lines ++ flat_map asked_in more) outcome ∙ sym (asked_of-last g lines next)
+          ∙ ap (λ (h : Rules). asked_of h (lines ++ next ∷ [])) (sym given);
     }
 
 -- the values of the jobs, each in its place, are the answers to the lines
@@ -85,8 +85,8 @@ unfolding answer_of
 answers_in_outcomes rules [] = refl
 answers_in_outcomes rules (line ∷ lines) = ap (cons_option (outcome_text (outcome_of rules line))) (answers_in_outcomes rules lines)
 
-pub told-answers : (lines : List (List ℕ)) → told (asked_of lines) (map value_of (jobs_of lines)) ≡ answers_to lines
-told-answers lines = told_outcomes (outcomes lines) ∙ ap text_of (answers_in_outcomes (rules_of lines) (record_lines lines))
+pub told-answers : (given : Rules) (lines : List (List ℕ)) → told (asked_of given lines) (map value_of (jobs_of given lines)) ≡ answers_to given lines
+told-answers given lines = told_outcomes (outcomes given lines) ∙ ap text_of (answers_in_outcomes (rules_of given lines) (record_lines lines))
 
 -- how many answer lines begin with `refused`, and how many don't
 
@@ -128,12 +128,12 @@ refused_outcomes (Err fault ∷ lines) =
     let one : weight (is_refusal text) ≡ 1 = ap weight (is_refusal-fault fault) in
     let rest = refused_outcomes lines in omega arith
 
-pub report-asked : (lines : List (List ℕ)) (report : DeskReport) → report.answered ≡ length (jobs_of lines) → report.refused ≡ length (asked_of lines) - length (jobs_of lines) → report ≡ report_on lines
-report-asked lines report answered refused =
-    let same = answers_in_outcomes (rules_of lines) (record_lines lines) in
-    let answered_so : report.answered ≡ (report_on lines).answered = answered ∙ sym (answered_outcomes (outcomes lines)) ∙ ap (count_by is_other) same in
-    let all = refused_outcomes (outcomes lines) in
-    let refused_here : report.refused ≡ count_by is_refusal (filter_map outcome_text (outcomes lines)) = omega arith in
-    let refused_so : report.refused ≡ (report_on lines).refused = refused_here ∙ ap (count_by is_refusal) same in
+pub report-asked : (given : Rules) (lines : List (List ℕ)) (report : DeskReport) → report.answered ≡ length (jobs_of given lines) → report.refused ≡ length (asked_of given lines) - length (jobs_of given lines) → report ≡ report_on given lines
+report-asked given lines report answered refused =
+    let same = answers_in_outcomes (rules_of given lines) (record_lines lines) in
+    let answered_so : report.answered ≡ (report_on given lines).answered = answered ∙ sym (answered_outcomes (outcomes given lines)) ∙ ap (count_by is_other) same in
+    let all = refused_outcomes (outcomes given lines) in
+    let refused_here : report.refused ≡ count_by is_refusal (filter_map outcome_text (outcomes given lines)) = omega arith in
+    let refused_so : report.refused ≡ (report_on given lines).refused = refused_here ∙ ap (count_by is_refusal) same in
     ap (λ (n : ℕ). let told : DeskReport = record { answered = n; refused = report.refused } in told) answered_so
-    ∙ ap (λ (n : ℕ). let told : DeskReport = record { answered = (report_on lines).answered; refused = n } in told) refused_so
+    ∙ ap (λ (n : ℕ). let told : DeskReport = record { answered = (report_on given lines).answered; refused = n } in told) refused_so

@@ -8,7 +8,7 @@ use Rattle.std.proofs.lemmas.Bool.{cases_lt}
 use Rattle.desk_lines.specs.declared.report.DeskReport.{DeskReport}
 use Rattle.desk_lines.specs.declared.line_kind.LineKind.TheVariants.{Answered, Refused}
 use Rattle.desk_lines.specs.Lines.{without_return}
-use Rattle.desk_lines.specs.Telling.{text_of, with_line_feed, is_refusal, report_of, report_with, answers_in, kind_of, IsToldAs}
+use Rattle.desk_lines.specs.Telling.{text_of, with_line_feed, report_by, report_with, answers_in, kind_by, IsToldAs}
 
 pub text_of-append : (answers more : List (List ℕ)) → text_of (answers ++ more) ≡ text_of answers ++ text_of more
 text_of-append answers more = flat_map-append (λ answer. answer ++ 10 ∷ []) answers more
@@ -28,14 +28,14 @@ counted_so true report = ap (λ (n : ℕ). let counted : DeskReport = record { a
 counted_so false report = ap (λ (n : ℕ). let counted : DeskReport = record { answered = report.answered + 1; refused = n } in counted) (add-zero report.refused)
 
 -- one more answer is counted
-pub report_of-more : (answers : List (List ℕ)) (answer : Option (List ℕ)) → report_of (answers ++ answers_in answer) ≡ report_with (report_of answers) (kind_of answer)
-report_of-more answers None = ap report_of (append-nil answers)
-report_of-more answers (Some answer) =
-    let answered = counted-last (λ text. not (is_refusal text)) answers answer in
-    let refused = counted-last is_refusal answers answer in
-    ap (λ (n : ℕ). let counted : DeskReport = record { answered = n; refused = count_by is_refusal (answers ++ answer ∷ []) } in counted) answered
-    ∙ ap (λ (n : ℕ). let counted : DeskReport = record { answered = count_by (λ text. not (is_refusal text)) answers + cond (not (is_refusal answer)) 1 0; refused = n } in counted) refused
-    ∙ counted_so (is_refusal answer) (report_of answers)
+pub report_by-more : (refuses : List ℕ → Bool) (answers : List (List ℕ)) (answer : Option (List ℕ)) → report_by refuses (answers ++ answers_in answer) ≡ report_with (report_by refuses answers) (kind_by refuses answer)
+report_by-more refuses answers None = ap (report_by refuses) (append-nil answers)
+report_by-more refuses answers (Some answer) =
+    let answered = counted-last (λ text. not (refuses text)) answers answer in
+    let refused = counted-last refuses answers answer in
+    ap (λ (n : ℕ). let counted : DeskReport = record { answered = n; refused = count_by refuses (answers ++ answer ∷ []) } in counted) answered
+    ∙ ap (λ (n : ℕ). let counted : DeskReport = record { answered = count_by (λ text. not (refuses text)) answers + cond (not (refuses answer)) 1 0; refused = n } in counted) refused
+    ∙ counted_so (refuses answer) (report_by refuses answers)
 
 without_return_short : (line : List ℕ) → length line ≤ length (without_return line) + 1
 without_return_short [] = omega arith

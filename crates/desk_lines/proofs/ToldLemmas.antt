@@ -7,21 +7,21 @@ use Rattle.desk_lines.specs.declared.told.Told.{Told}
 use Rattle.desk_lines.specs.declared.line_kind.LineKind.{LineKind}
 use Rattle.desk_lines.specs.declared.fault.DeskFault.{DeskFault}
 use Rattle.desk_lines.specs.declared.fault.DeskFault.TheVariants.{Write, Memory}
-use Rattle.desk_lines.specs.Telling.{text_of, with_line_feed, report_of, report_with, answers_in, AnswersLine, IsToldAs}
+use Rattle.desk_lines.specs.Telling.{text_of, with_line_feed, report_by, report_with, answers_in, AnswersLine, IsToldAs}
 use Rattle.desk_lines.specs.Streams.{WritesAll, StopsWriting}
 use Rattle.desk_lines.specs.Told.{Stands, StopsTelling}
-use Rattle.desk_lines.proofs.TellingLemmas.{text_of-more, report_of-more}
+use Rattle.desk_lines.proofs.TellingLemmas.{text_of-more, report_by-more}
 use Rattle.desk_lines.proofs.StreamLemmas.{WritesAll-trans, StopsWriting-after}
 
 module _ {W T : Type 0} (sink : OfSink W) (teller : OfTeller T) where
   -- a line was answered
   pub Stands-line : (start : W) (lines : List (List ℕ)) (old new : Told T) (writer : W) (line next : List ℕ) (kind : LineKind) → IsToldAs teller.most line next → Stands sink teller start lines old writer
-      → AnswersLine teller.most teller.tells old.teller new.teller line kind old.outbox.bytes.items new.outbox.bytes.items → new.report ≡ report_with old.report kind
+      → AnswersLine teller.refuses teller.most teller.tells old.teller new.teller line kind old.outbox.bytes.items new.outbox.bytes.items → new.report ≡ report_with old.report kind
       → Stands sink teller start (lines ++ next ∷ []) new writer
   Stands-line start lines old new writer line next kind as_this stands answered counted = record {
     answers = stands.answers ++ answers_in answered.answer;
     tells = answered.tells_more lines stands.answers next as_this stands.tells;
-    report = counted ∙ ap (λ report. report_with report kind) stands.report ∙ ap (report_with (report_of stands.answers)) answered.kind_is ∙ sym (report_of-more stands.answers answered.answer);
+    report = counted ∙ ap (λ report. report_with report kind) stands.report ∙ ap (report_with (report_by teller.refuses stands.answers)) answered.kind_is ∙ sym (report_by-more teller.refuses stands.answers answered.answer);
     sent = stands.sent;
     writes = stands.writes;
     text = ap (λ all. stands.sent ++ all) answered.put ∙ sym (append_assoc stands.sent old.outbox.bytes.items (with_line_feed answered.answer))

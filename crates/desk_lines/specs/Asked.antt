@@ -13,8 +13,8 @@ use Rattle.desk_lines.specs.declared.asked.Asked.TheVariants.{NextJob, Refusal}
 use Rattle.desk_lines.specs.Profile.{rules_of, record_lines, record_rules}
 
 -- what the lines that can be records are
-abbrev pub outcomes : List (List ℕ) → List (Result (Option Job) LineFault)
-outcomes lines = map (outcome_of (rules_of lines)) (record_lines lines)
+abbrev pub outcomes : Rules → List (List ℕ) → List (Result (Option Job) LineFault)
+outcomes given lines = map (outcome_of (rules_of given lines)) (record_lines lines)
 
 -- the job of a line
 abbrev pub jobs_in : Result (Option Job) LineFault → List Job
@@ -29,11 +29,11 @@ asked_in (Ok (Some job)) = NextJob ∷ []
 asked_in (Err fault) = Refusal fault ∷ []
 
 -- the jobs of lines, and the answer lines that they ask for
-abbrev pub jobs_of : List (List ℕ) → List Job
-jobs_of lines = flat_map jobs_in (outcomes lines)
+abbrev pub jobs_of : Rules → List (List ℕ) → List Job
+jobs_of given lines = flat_map jobs_in (outcomes given lines)
 
-abbrev pub asked_of : List (List ℕ) → List Asked
-asked_of lines = flat_map asked_in (outcomes lines)
+abbrev pub asked_of : Rules → List (List ℕ) → List Asked
+asked_of given lines = flat_map asked_in (outcomes given lines)
 
 -- the line that is told, where some answers are still to be told: of a job the first of them
 abbrev pub line_told : Asked → List Answer → List ℕ
@@ -58,5 +58,5 @@ outcome_under None line = []
 outcome_under (Some rules) line = outcome_of rules line ∷ []
 
 -- what one more line is
-abbrev pub outcome_by : Option Rules → List ℕ → List (Result (Option Job) LineFault)
-outcome_by rules line = outcome_under (record_rules rules line) line
+abbrev pub outcome_by : Rules → Option Rules → List ℕ → List (Result (Option Job) LineFault)
+outcome_by given rules line = outcome_under (record_rules given rules line) line

@@ -5,11 +5,11 @@ use Rattle.desk_lines.specs.Records.{rules_after}
 use Rattle.desk_lines.specs.Asked.{jobs_of, asked_of}
 
 -- The collector has taken these lines.
-pub record Collects (lines : List (List ℕ)) (collector : Collector) : Type 0 where
-  pub rules : collector.rules ≡ rules_after lines
-  pub jobs : collector.jobs.items ≡ jobs_of lines
-  pub asked : collector.asked.items ≡ asked_of lines
+pub record Collects {P : Type 0} (lines : List (List ℕ)) (collector : Collector P) : Type 0 where
+  pub rules : collector.rules ≡ rules_after collector.given lines
+  pub jobs : collector.jobs.items ≡ jobs_of collector.given lines
+  pub asked : collector.asked.items ≡ asked_of collector.given lines
 
 -- it has, and told nothing
-abbrev pub CollectsUntold : Collector → List (List ℕ) → List (List ℕ) → Type 0
+abbrev pub CollectsUntold : {P : Type 0} → Collector P → List (List ℕ) → List (List ℕ) → Type 0
 CollectsUntold collector lines told = Collects lines collector × (told ≡ [])

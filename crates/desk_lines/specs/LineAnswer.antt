@@ -1,5 +1,5 @@
 -- The answer to one line.
-use Rattle.std.specs.Prelude.{ℕ, List, Option, None, Some, Result, Ok, Err}
+use Rattle.std.specs.Prelude.{◌≡◌, ℕ, List, Option, None, Some, Result, Ok, Err}
 use Rattle.riichi_hand.specs.declared.win.Rules.{Rules}
 use Rattle.riichi_hand.specs.declared.fault.LineFault.{LineFault}
 use Rattle.riichi_hand.specs.declared.job.Job.{Job}
@@ -16,3 +16,7 @@ outcome_text (Err fault) = Some (fault_text fault)
 
 unfoldable pub answer_of : Rules → List ℕ → Option (List ℕ)
 answer_of rules line = outcome_text (outcome_of rules line)
+
+-- the plain answer to a line
+abbrev pub IsAnswer : Rules → List ℕ → Option (List ℕ) → Type 0
+IsAnswer rules line told = told ≡ answer_of rules line

@@ -1,24 +1,25 @@
 -- The answers to the lines of a stream, as texts and as a count.
 use Rattle.std.specs.Prelude.{ℕ, List}
 use Rattle.std.specs.List.{filter_map}
+use Rattle.riichi_hand.specs.declared.win.Rules.{Rules}
 use Rattle.desk_lines.specs.declared.report.DeskReport.{DeskReport}
 use Rattle.desk_lines.specs.Lines.{lines}
 use Rattle.desk_lines.specs.Profile.{rules_of, record_lines}
 use Rattle.desk_lines.specs.LineAnswer.{answer_of}
 use Rattle.desk_lines.specs.Telling.{text_of, report_of}
 
--- the answers to the records among the lines of a stream, under its profile
-abbrev pub answers_on : List (List ℕ) → List (List ℕ)
-answers_on lines = filter_map (answer_of (rules_of lines)) (record_lines lines)
+-- the answers to the records among the lines of a stream, under its profile, which is the given one where it sets none
+abbrev pub answers_on : Rules → List (List ℕ) → List (List ℕ)
+answers_on given lines = filter_map (answer_of (rules_of given lines)) (record_lines lines)
 
 -- the same as they are written, each with a line feed
-abbrev pub answers_to : List (List ℕ) → List ℕ
-answers_to lines = text_of (answers_on lines)
+abbrev pub answers_to : Rules → List (List ℕ) → List ℕ
+answers_to given lines = text_of (answers_on given lines)
 
 -- the answers to a text
-abbrev pub answers : List ℕ → List ℕ
-answers text = answers_to (lines text)
+abbrev pub answers : Rules → List ℕ → List ℕ
+answers given text = answers_to given (lines text)
 
 -- how many answers to the lines begin with `refused`, and how many don't
-abbrev pub report_on : List (List ℕ) → DeskReport
-report_on lines = report_of (answers_on lines)
+abbrev pub report_on : Rules → List (List ℕ) → DeskReport
+report_on given lines = report_of (answers_on given lines)

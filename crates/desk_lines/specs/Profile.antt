@@ -18,10 +18,10 @@ profile_of_words words = None
 unfoldable pub profile_of : List ℕ → Option Rules
 profile_of line = if nat_lt 4096 (length line) || list_any is_other_byte line then None else profile_of_words (words_of line)
 
--- the profile of a stream with these lines
-abbrev pub rules_of : List (List ℕ) → Rules
-rules_of [] = One
-rules_of (line ∷ lines) = unwrap_or (profile_of line) One
+-- the profile of a stream with these lines: the given one, where the first line sets none
+abbrev pub rules_of : Rules → List (List ℕ) → Rules
+rules_of given [] = given
+rules_of given (line ∷ lines) = unwrap_or (profile_of line) given
 
 -- the lines that can be records
 abbrev pub record_lines : List (List ℕ) → List (List ℕ)
@@ -29,11 +29,11 @@ record_lines [] = []
 record_lines (line ∷ lines) = if is_some (profile_of line) then lines else line ∷ lines
 
 -- the profile once one more line was read
-abbrev pub rules_by : Option Rules → List ℕ → Rules
-rules_by None line = unwrap_or (profile_of line) One
-rules_by (Some rules) line = rules
+abbrev pub rules_by : Rules → Option Rules → List ℕ → Rules
+rules_by given None line = unwrap_or (profile_of line) given
+rules_by given (Some rules) line = rules
 
 -- under which profile one more line is a record; none where it sets the profile
-abbrev pub record_rules : Option Rules → List ℕ → Option Rules
-record_rules None line = if is_some (profile_of line) then None else Some One
-record_rules (Some rules) line = Some rules
+abbrev pub record_rules : Rules → Option Rules → List ℕ → Option Rules
+record_rules given None line = if is_some (profile_of line) then None else Some given
+record_rules given (Some rules) line = Some rules

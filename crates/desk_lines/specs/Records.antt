@@ -1,25 +1,48 @@
 -- What is kept of the record lines that were answered.
-use Rattle.std.specs.Prelude.{◌≡◌, ℕ, List, [], ◌∷◌, Option, None, Some}
+use Rattle.std.specs.Prelude.{◌≡◌, ℕ, List, [], ◌∷◌, ◌++◌, Bool, Option, None, Some}
 use Rattle.riichi_hand.specs.declared.win.Rules.{Rules}
+use Rattle.desk_lines.specs.declared.line_kind.LineKind.{LineKind}
 use Rattle.desk_lines.specs.declared.records.Records.{Records}
-use Rattle.desk_lines.specs.Profile.{rules_of, record_rules}
-use Rattle.desk_lines.specs.LineAnswer.{answer_of}
-use Rattle.desk_lines.specs.LineAnswers.{answers_on}
+use Rattle.desk_lines.specs.Profile.{rules_of, record_lines, record_rules}
+use Rattle.desk_lines.specs.Telling.{answers_in, kind_by, with_line_feed}
 
 -- the profile once these lines were read, and none before the first
-abbrev pub rules_after : List (List ℕ) → Option Rules
-rules_after [] = None
-rules_after (line ∷ lines) = Some (rules_of (line ∷ lines))
+abbrev pub rules_after : Rules → List (List ℕ) → Option Rules
+rules_after given [] = None
+rules_after given (line ∷ lines) = Some (rules_of given (line ∷ lines))
+
+-- What a kind of answer is: which texts a record line may be told under a profile, or none.
+abbrev pub AnswerKind : Type 1
+AnswerKind = Rules → List ℕ → Option (List ℕ) → Type 0
+
+-- One of the texts that may be told was put behind what stood there, or none was.
+pub record Puts (refuses : List ℕ → Bool) (May : Option (List ℕ) → Type 0) (kind : LineKind) (before after : List ℕ) : Type 0 where
+  pub told : Option (List ℕ)
+  pub may_be_told : May told
+  pub kind_is : kind ≡ kind_by refuses told
+  pub put : after ≡ before ++ with_line_feed told
 
 -- the answer to a line that is a record under these rules, or none
-abbrev pub told_under : Option Rules → List ℕ → Option (List ℕ)
-told_under None line = None
-told_under (Some rules) line = answer_of rules line
+abbrev pub IsToldUnder : AnswerKind → Option Rules → List ℕ → Option (List ℕ) → Type 0
+IsToldUnder Answers None line told = told ≡ None
+IsToldUnder Answers (Some rules) line told = Answers rules line told
 
 -- the answer to one more line
-abbrev pub told_by : Option Rules → List ℕ → Option (List ℕ)
-told_by rules line = told_under (record_rules rules line) line
+abbrev pub IsToldBy : AnswerKind → Rules → Option Rules → List ℕ → Option (List ℕ) → Type 0
+IsToldBy Answers given rules line told = IsToldUnder Answers (record_rules given rules line) line told
+
+-- these texts answer the lines, in order
+abbrev pub AreTold : AnswerKind → Rules → List (List ℕ) → List (List ℕ) → Type 0
+AreTold Answers rules [] told = told ≡ []
+AreTold Answers rules (line ∷ lines) told =
+    (answer : Option (List ℕ)) × (others : List (List ℕ)) × Answers rules line answer
+    × (told ≡ answers_in answer ++ others) × AreTold Answers rules lines others
+
+-- these texts answer the records among the lines of a stream, under its profile
+abbrev pub AnswerRecords : AnswerKind → Rules → List (List ℕ) → List (List ℕ) → Type 0
+AnswerRecords Answers given lines told = AreTold Answers (rules_of given lines) (record_lines lines) told
 
 -- the lines were read, and their records answered
-abbrev pub TellsRecords : Records → List (List ℕ) → List (List ℕ) → Type 0
-TellsRecords records lines told = (records.rules ≡ rules_after lines) × (told ≡ answers_on lines)
+abbrev pub TellsRecords : {A P : Type 0} → AnswerKind → Records A P → List (List ℕ) → List (List ℕ) → Type 0
+TellsRecords Answers records lines told =
+    (records.rules ≡ rules_after records.given lines) × AnswerRecords Answers records.given lines told

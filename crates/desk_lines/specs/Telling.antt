@@ -9,7 +9,7 @@ use Rattle.desk_lines.specs.declared.line_kind.LineKind.TheVariants.{NoRecord, A
 abbrev pub text_of : List (List ℕ) → List ℕ
 text_of answers = flat_map (λ answer. answer ++ 10 ∷ []) answers
 
--- an answer that begins with `refused`
+-- A kind of answer tells by a test which answers are refusals. Of plain answers these begin with `refused`.
 abbrev pub is_refusal : List ℕ → Bool
 is_refusal answer = starts_with nat_eq answer (codes "refused")
 
@@ -18,12 +18,16 @@ abbrev pub with_line_feed : Option (List ℕ) → List ℕ
 with_line_feed None = []
 with_line_feed (Some answer) = answer ++ 10 ∷ []
 
+-- how many answers are refusals by a test, and how many are not
+abbrev pub report_by : (List ℕ → Bool) → List (List ℕ) → DeskReport
+report_by refuses answers = record {
+  answered = count_by (λ answer. not (refuses answer)) answers;
+  refused = count_by refuses answers;
+}
+
 -- how many answers begin with `refused`, and how many don't
 abbrev pub report_of : List (List ℕ) → DeskReport
-report_of answers = record {
-  answered = count_by (λ answer. not (is_refusal answer)) answers;
-  refused = count_by is_refusal answers;
-}
+report_of answers = report_by is_refusal answers
 
 -- the lines that a report counts
 abbrev pub count_of : DeskReport → ℕ
@@ -39,18 +43,21 @@ report_with report Refused = record { answered = report.answered; refused = repo
 abbrev pub answers_in : Option (List ℕ) → List (List ℕ)
 answers_in answer = cons_option answer []
 
--- what a line with this answer is
+-- what a line with this answer is, by a test for refusals
+abbrev pub kind_by : (List ℕ → Bool) → Option (List ℕ) → LineKind
+kind_by refuses None = NoRecord
+kind_by refuses (Some answer) = if refuses answer then Refused else Answered
+
 abbrev pub kind_of : Option (List ℕ) → LineKind
-kind_of None = NoRecord
-kind_of (Some answer) = if is_refusal answer then Refused else Answered
+kind_of answer = kind_by is_refusal answer
 
 -- a line may be told as another one: where they are one line, or both have more bytes than are told apart
 abbrev pub IsToldAs : ℕ → List ℕ → List ℕ → Type 0
 IsToldAs most line other = (line ≡ other) ⊎ ((most < length line) × (most < length other))
 
 -- The next line was answered so, and any that may be told as this one: the answer was put behind the text that stood there.
-pub record AnswersLine {T : Type 0} (most : ℕ) (tells : T → List (List ℕ) → List (List ℕ) → Type 0) (old new : T) (line : List ℕ) (kind : LineKind) (before after : List ℕ) : Type 0 where
+pub record AnswersLine {T : Type 0} (refuses : List ℕ → Bool) (most : ℕ) (tells : T → List (List ℕ) → List (List ℕ) → Type 0) (old new : T) (line : List ℕ) (kind : LineKind) (before after : List ℕ) : Type 0 where
   pub answer : Option (List ℕ)
-  pub kind_is : kind ≡ kind_of answer
+  pub kind_is : kind ≡ kind_by refuses answer
   pub put : after ≡ before ++ with_line_feed answer
   pub tells_more : (lines told : List (List ℕ)) (next : List ℕ) → IsToldAs most line next → tells old lines told → tells new (lines ++ next ∷ []) (told ++ answers_in answer)

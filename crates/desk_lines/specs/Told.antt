@@ -5,14 +5,14 @@ use Rattle.desk_lines.specs.declared.fault.DeskFault.{DeskFault}
 use Rattle.desk_lines.specs.declared.fault.DeskFault.TheVariants.{Read, Write, Memory}
 use Rattle.desk_lines.specs.declared.teller.Teller.{Ghosts as OfTeller}
 use Rattle.desk_lines.specs.declared.told.Told.{Told}
-use Rattle.desk_lines.specs.Telling.{text_of, report_of}
+use Rattle.desk_lines.specs.Telling.{text_of, report_by}
 use Rattle.desk_lines.specs.Streams.{WritesAll, StopsWriting}
 
 -- These lines were answered. What of the answers was not written since the start is in the outbox.
 pub record Stands {W T : Type 0} (sink : OfSink W) (teller : OfTeller T) (start : W) (lines : List (List ℕ)) (told : Told T) (writer : W) : Type 0 where
   pub answers : List (List ℕ)
   pub tells : teller.tells told.teller lines answers
-  pub report : told.report ≡ report_of answers
+  pub report : told.report ≡ report_by teller.refuses answers
   pub sent : List ℕ
   pub writes : WritesAll sink start writer sent
   pub text : sent ++ told.outbox.bytes.items ≡ text_of answers

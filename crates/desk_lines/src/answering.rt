@@ -1,5 +1,5 @@
 //! The answer to one line.
-ghost use Rattle.std.specs.Prelude.{◌≡◌, ◌∷◌, ◌++◌, []};
+ghost use Rattle.std.specs.Prelude.{◌≡◌, ◌+◌, ◌≤◌, ◌∷◌, ◌++◌, [], length};
 ghost use Rattle.desk_core.specs.AnswerText.{answer_text};
 ghost use Rattle.desk_core.specs.Value.{value_of};
 ghost use Rattle.riichi_score.specs.Best.{best_of};
@@ -13,14 +13,34 @@ ghost use Rattle.desk_lines.specs.Telling.{with_line_feed, kind_of};
 
 use super::line_kind::LineKind;
 use super::outbox::Outbox;
+use super::responder::Responder;
 use riichi_hand::{HandRecord, Job, Rules, ShapeRecord, WinRecord, fault_text, read_line};
 use riichi_score::{best, win_text};
 use riichi_shape::{push_shape, shape};
 use riichi_split::{waits, waits_text};
 
+/// The plain answers: a line for each record.
+pub(crate) struct Plain;
+
+impl Responder for Plain {
+    ghost use Rattle.desk_lines.specs.LineAnswer.{IsAnswer};
+    ghost use Rattle.desk_lines.specs.Telling.{is_refusal};
+    ghost use Rattle.desk_lines.specs.LongLines.{answers_alike};
+
+    ghost may_tell = { IsAnswer };
+
+    ghost refuses = { is_refusal };
+
+    ghost alike = { answers_alike };
+
+    fn respond(rules: Rules, line: &[u8], outbox: &mut Outbox) -> LineKind {
+        put_answer(rules, line, outbox)
+    }
+}
+
 /// Puts the answer to a line into the outbox, where it has one.
 #[tactic(auto, using(crate::proofs::KindLemmas::kinds), unfolding(crate::specs::LineAnswer::answer_of))]
-pub(crate) fn put_answer(rules: Rules, line: &[u8], outbox: &mut Outbox) -> LineKind
+fn put_answer(rules: Rules, line: &[u8], outbox: &mut Outbox) -> LineKind
     requires { HasRoom outbox.old }
     ensures kind { result ≡ kind_of (answer_of rules line.now) }
     ensures told { outbox.new.bytes.items ≡ outbox.old.bytes.items ++ with_line_feed (answer_of rules line.now) }
@@ -58,16 +78,18 @@ fn put_win(win: &WinRecord, outbox: &mut Outbox)
     outbox.put_line(win_text(&best(win)).as_str().as_bytes());
 }
 
-fn put_waits(hand: &HandRecord, outbox: &mut Outbox)
+pub(crate) fn put_waits(hand: &HandRecord, outbox: &mut Outbox)
     requires { HasRoom outbox.old }
-    ensures { outbox.new.bytes.items ≡ outbox.old.bytes.items ++ (spec_waits.waits_text (spec_waits.waits_of hand.now) ++ 10 ∷ []) }
+    ensures room { length outbox.new.bytes.items ≤ length outbox.old.bytes.items + 3073 }
+    ensures told { outbox.new.bytes.items ≡ outbox.old.bytes.items ++ (spec_waits.waits_text (spec_waits.waits_of hand.now) ++ 10 ∷ []) }
 {
     outbox.put_line(waits_text(waits(hand)).as_str().as_bytes());
 }
 
-fn put_shape(tiles: &ShapeRecord, outbox: &mut Outbox)
+pub(crate) fn put_shape(tiles: &ShapeRecord, outbox: &mut Outbox)
     requires { HasRoom outbox.old }
-    ensures { outbox.new.bytes.items ≡ outbox.old.bytes.items ++ (spec_shape.text_of (shape_of tiles.now) ++ 10 ∷ []) }
+    ensures room { length outbox.new.bytes.items ≤ length outbox.old.bytes.items + 3073 }
+    ensures told { outbox.new.bytes.items ≡ outbox.old.bytes.items ++ (spec_shape.text_of (shape_of tiles.now) ++ 10 ∷ []) }
 {
     outbox.text.clear();
     push_shape(&mut outbox.text, &shape(tiles));

@@ -1,5 +1,5 @@
 //! Answer lines on their way to the writer.
-ghost use Rattle.std.specs.Prelude.{◌≡◌, ◌+◌, ◌<◌, [], ◌∷◌, ◌++◌, length, IsTrue, ◌↔◌, OnOk};
+ghost use Rattle.std.specs.Prelude.{◌≡◌, ◌+◌, ◌<◌, ◌≤◌, [], ◌∷◌, ◌++◌, length, IsTrue, ◌↔◌, OnOk};
 ghost use Rattle.desk_lines.specs.Streams.{Writes};
 
 use super::fault::DeskFault;
@@ -9,8 +9,8 @@ use desk_streams::Sink;
 /// Room for many answer lines, so that they are written in large pieces.
 const ROOM: usize = 65_536;
 
-/// The longest answer line: a text of 3,096 bytes and a line feed.
-const LONGEST_ANSWER: usize = 3_097;
+/// The longest answer: a text of 3,096 bytes and a line feed, and the 3,072 bytes that may explain it.
+const LONGEST_ANSWER: usize = 6_169;
 
 /// Answer lines that were not written yet, and room for the text of the next one: to make it anew for
 /// each line takes as long as to fill it.
@@ -32,7 +32,7 @@ impl Outbox {
         }
     }
 
-    /// Whether any answer line fits.
+    /// Whether any answer fits.
     pub(crate) fn has_room(&self) -> bool
         ensures { IsTrue result ↔ HasRoom self.now }
     {
@@ -50,9 +50,20 @@ impl Outbox {
     /// Adds a line with the text that stands in its room.
     pub(crate) fn put_text(&mut self)
         requires { HasRoom self.old }
-        ensures { self.new.bytes.items ≡ self.old.bytes.items ++ (self.old.text.bytes ++ 10 ∷ []) }
+        ensures told { self.new.bytes.items ≡ self.old.bytes.items ++ (self.old.text.bytes ++ 10 ∷ []) }
+        ensures room { length self.new.bytes.items ≤ length self.old.bytes.items + 3073 }
     {
         push_line(&mut self.bytes, self.text.as_str().as_bytes());
+    }
+
+    /// Adds the lines that stand in its room, each with its line feed.
+    pub(crate) fn put_lines(&mut self)
+        requires { length self.old.bytes.items + 3072 ≤ ROOM }
+        ensures { self.new.bytes.items ≡ self.old.bytes.items ++ self.old.text.bytes }
+    {
+        self.bytes
+            .try_extend_from_slice(self.text.as_str().as_bytes())
+            .unwrap();
     }
 
     /// Writes all that is here. Any failed write ends it.

@@ -2,27 +2,39 @@
 ghost use Rattle.std.specs.Prelude.{◌≡◌, ◌<◌, Some};
 ghost use Rattle.std.specs.List.{list_any};
 ghost use Rattle.riichi_hand.specs.Lines.{is_other_byte};
+ghost use Rattle.riichi_hand.specs.declared.win.Rules.{Rules};
+ghost use Rattle.riichi_hand.specs.declared.win.Rules.TheVariants.{One};
 ghost use Rattle.desk_lines.specs.Profile.{profile_numbered, profile_of, rules_by, record_rules};
 
 use riichi_hand::{Rules, next_word};
+use std::marker::Brand;
+
+/// A type that stands for the profile of a stream that sets none.
+pub(crate) trait GivenRules {
+    ghost given: { Rules };
+}
+
+impl GivenRules for Brand {
+    ghost given = { One };
+}
 
 /// The longest line that is read as a record.
 const MOST_LINE: usize = 4_096;
 
-/// Takes the next line of a stream, whose profile is none before its first line. Answers under which profile the
-/// line is a record; none where it sets the profile.
-pub(crate) fn record_rules(stream: &mut Option<Rules>, line: &[u8]) -> Option<Rules>
-    ensures stream { stream.new ≡ Some (rules_by stream.old line.now) }
-    ensures record { result ≡ record_rules stream.old line.now }
+/// Takes the next line of a stream, whose profile is none before its first line, and then the given one where that
+/// line sets none. Answers under which profile the line is a record; none where it sets the profile.
+pub(crate) fn record_rules(given: Rules, stream: &mut Option<Rules>, line: &[u8]) -> Option<Rules>
+    ensures stream { stream.new ≡ Some (rules_by given stream.old line.now) }
+    ensures record { result ≡ record_rules given stream.old line.now }
 {
     if stream.is_some() {
         return *stream;
     }
     let set = profile_of(line);
-    *stream = Some(set.unwrap_or(Rules::One));
+    *stream = Some(set.unwrap_or(given));
     match set {
         Some(_) => None,
-        None => Some(Rules::One),
+        None => Some(given),
     }
 }
 

@@ -1,53 +1,66 @@
 //! Answers the record lines of a stream one by one.
-ghost use Rattle.std.specs.Prelude.{◌≡◌, ◌++◌, Some, None};
-ghost use Rattle.desk_lines.specs.LineAnswer.{answer_of};
+ghost use Rattle.std.specs.Prelude.{◌≡◌, Some, None};
 ghost use Rattle.desk_lines.specs.Outbox.{HasRoom};
-ghost use Rattle.desk_lines.specs.Records.{told_by};
+ghost use Rattle.desk_lines.specs.Records.{Puts, IsToldBy};
 ghost use Rattle.desk_lines.specs.Profile.{rules_by};
-ghost use Rattle.desk_lines.specs.Telling.{with_line_feed, kind_of};
 
-use super::answering::put_answer;
 use super::line_kind::LineKind;
 use super::outbox::Outbox;
-use super::profile::record_rules;
+use super::profile::{GivenRules, record_rules};
+use super::responder::Responder;
 use super::teller::Teller;
 use riichi_hand::Rules;
 use std::alloc::AllocError;
+use std::marker::PhantomData;
 
-/// The teller of record lines: each is answered by itself, under the profile of its stream. It takes no memory.
+/// The teller of record lines: each is answered by itself, by one kind of answer, under the profile of its stream. It
+/// takes no memory. `A` is the kind of answer, and `P` stands for the given profile.
 #[derive(Drop)]
-pub(crate) struct Records {
+pub(crate) struct Records<A, P> {
+    kind: PhantomData<A>,
+    profile: PhantomData<P>,
+    /// The profile of a stream that sets none.
+    given: Rules,
     /// The profile of the stream, or none before its first line.
     rules: Option<Rules>,
 }
 
-impl Records {
-    pub(crate) fn new() -> Records
-        ensures { result.rules ≡ None }
+impl<A: Responder, P: GivenRules> Records<A, P> {
+    pub(crate) fn new(given: Rules) -> Records<A, P>
+        ensures given { result.given ≡ given }
+        ensures rules { result.rules ≡ None }
     {
-        Records { rules: None }
+        Records {
+            kind: PhantomData,
+            profile: PhantomData,
+            given,
+            rules: None,
+        }
     }
 
     /// Answers the next line.
     fn put_line(&mut self, line: &[u8], outbox: &mut Outbox) -> LineKind
         requires { HasRoom outbox.old }
-        ensures rules { self.new.rules ≡ Some (rules_by self.old.rules line.now) }
-        ensures kind { result ≡ kind_of (told_by self.old.rules line.now) }
-        ensures told { outbox.new.bytes.items ≡ outbox.old.bytes.items ++ with_line_feed (told_by self.old.rules line.now) }
+        ensures given { self.new.given ≡ self.old.given }
+        ensures rules { self.new.rules ≡ Some (rules_by self.old.given self.old.rules line.now) }
+        ensures told { Puts A.refuses (IsToldBy A.may_tell self.old.given self.old.rules line.now) result
+            outbox.old.bytes.items outbox.new.bytes.items }
     {
-        match record_rules(&mut self.rules, line) {
-            Some(rules) => put_answer(rules, line, outbox),
+        match record_rules(self.given, &mut self.rules, line) {
+            Some(rules) => A::respond(rules, line, outbox),
             None => LineKind::NoRecord,
         }
     }
 }
 
-impl Teller for Records {
+impl<A: Responder, P: GivenRules> Teller for Records<A, P> {
     ghost use Rattle.desk_lines.specs.Records.{TellsRecords};
+
+    ghost refuses = { A.refuses };
 
     ghost most = { 4096 };
 
-    ghost tells = { TellsRecords };
+    ghost tells = { λ records lines told. (records.given ≡ P.given) × TellsRecords A.may_tell records lines told };
 
     ghost wants_memory = { λ _ _. ⊥ };
 

@@ -12,6 +12,9 @@ use std::alloc::AllocError;
 impl Teller for Script {
     ghost use Rattle.desk_script.specs.Asked.{asked_by, opens};
     ghost use Rattle.desk_lines.specs.Scripts.{TellsScript};
+    ghost use Rattle.desk_lines.specs.Telling.{is_refusal};
+
+    ghost refuses = { is_refusal };
 
     ghost most = { 8192 };
 

@@ -1,5 +1,5 @@
 //! What answers the lines of a stream, one after another.
-ghost use Rattle.std.specs.Prelude.{◌≡◌, ℕ, List, IfOk, OnErr};
+ghost use Rattle.std.specs.Prelude.{◌≡◌, ℕ, List, Bool, IfOk, OnErr};
 ghost use Rattle.desk_lines.specs.Outbox.{HasRoom};
 ghost use Rattle.desk_lines.specs.Telling.{AnswersLine};
 
@@ -9,6 +9,9 @@ use std::alloc::AllocError;
 
 /// What answers the lines of a stream, one after another. What it keeps of a line it may need memory for.
 pub(crate) trait Teller {
+    /// An answer is a refusal.
+    ghost refuses: { List ℕ → Bool };
+
     /// Lines of more bytes are told alike.
     ghost most: { ℕ };
 
@@ -22,6 +25,6 @@ pub(crate) trait Teller {
     /// nothing is told.
     fn tell(&mut self, line: &[u8], outbox: &mut Outbox) -> Result<LineKind, AllocError>
         requires { HasRoom outbox.old }
-        ensures told { IfOk result (λ kind. AnswersLine most tells self.old self.new line.now kind outbox.old.bytes.items outbox.new.bytes.items) }
+        ensures told { IfOk result (λ kind. AnswersLine refuses most tells self.old self.new line.now kind outbox.old.bytes.items outbox.new.bytes.items) }
         ensures err { OnErr result ((outbox.new.bytes.items ≡ outbox.old.bytes.items) × wants_memory self.old line.now) };
 }

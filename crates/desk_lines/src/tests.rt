@@ -16,7 +16,7 @@ const ANSWERS: &[u8] = b"waits 123456789m\nrefused N5 hand at 0\nwaits 25p\n";
 fn answer(rt: &impl Abort, text: &[u8], answers: &[u8], answered: u64, refused: u64) {
     let mut reader = BytesIn::new(text, 1000, None);
     let mut writer: BytesOut<2048> = BytesOut::new(1000, None);
-    let report = desk_text(&mut reader, &mut writer);
+    let report = desk_text(Rules::One, &mut reader, &mut writer);
     assert_eq!(rt; writer.bytes(), answers);
     assert!(rt;
         report == Ok(DeskReport { answered, refused }),
@@ -267,7 +267,7 @@ fn lines_up_to_the_limit(rt: HostRuntime) -> Result<(), Fail> {
             assert!(rt; most > 0);
             let mut reader = BytesIn::new(text.as_slice(), most, None);
             let mut writer: BytesOut<64> = BytesOut::new(1000, None);
-            assert!(rt; desk_text(&mut reader, &mut writer).is_ok());
+            assert!(rt; desk_text(Rules::One, &mut reader, &mut writer).is_ok());
             assert_eq!(rt; writer.bytes(), told.as_bytes(), "{length} {most}");
         }
     }
@@ -293,7 +293,7 @@ fn pieces_of_any_size(rt: HostRuntime) -> Result<(), Fail> {
         assert!(rt; most > 0);
         let mut reader = BytesIn::new(TEXT, most, None);
         let mut writer: BytesOut<64> = BytesOut::new(most, None);
-        let report = desk_text(&mut reader, &mut writer)?;
+        let report = desk_text(Rules::One, &mut reader, &mut writer)?;
         assert_eq!(rt; report.answered, 2);
         assert_eq!(rt; report.refused, 1);
         assert_eq!(rt; writer.bytes(), ANSWERS, "in pieces of {most}");
@@ -301,7 +301,7 @@ fn pieces_of_any_size(rt: HostRuntime) -> Result<(), Fail> {
     let mut reader = FromReader::new(TEXT);
     let mut room = [0; 48];
     let mut writer = ToWriter::new(room.as_mut_slice());
-    assert!(rt; desk_text(&mut reader, &mut writer).is_ok());
+    assert!(rt; desk_text(Rules::One, &mut reader, &mut writer).is_ok());
     assert_eq!(rt; room.as_slice(), ANSWERS);
     Ok(())
 }
@@ -313,7 +313,7 @@ fn stops_at_each_failing_read(rt: HostRuntime) {
         let mut reader = BytesIn::new(TEXT, 1, Some(failing));
         let mut writer: BytesOut<64> = BytesOut::new(7, None);
         assert!(rt;
-            desk_text(&mut reader, &mut writer) == Err(DeskFault::Read),
+            desk_text(Rules::One, &mut reader, &mut writer) == Err(DeskFault::Read),
             "{failing}"
         );
         let told = match failing {
@@ -331,7 +331,7 @@ fn stops_at_each_failing_write(rt: HostRuntime) {
         let mut reader = BytesIn::new(TEXT, 5, None);
         let mut writer: BytesOut<64> = BytesOut::new(1, Some(failing));
         assert!(rt;
-            desk_text(&mut reader, &mut writer) == Err(DeskFault::Write),
+            desk_text(Rules::One, &mut reader, &mut writer) == Err(DeskFault::Write),
             "{failing}"
         );
         assert_eq!(rt;
@@ -342,7 +342,7 @@ fn stops_at_each_failing_write(rt: HostRuntime) {
     }
     let mut reader = BytesIn::new(TEXT, 100, None);
     let mut writer: BytesOut<9> = BytesOut::new(100, None);
-    assert!(rt; desk_text(&mut reader, &mut writer) == Err(DeskFault::Write));
+    assert!(rt; desk_text(Rules::One, &mut reader, &mut writer) == Err(DeskFault::Write));
     assert_eq!(rt; writer.bytes(), b"waits 123".as_slice());
 }
 
@@ -350,7 +350,7 @@ fn stops_at_each_failing_write(rt: HostRuntime) {
 #[test]
 fn a_text_taken_apart(rt: HostRuntime) -> Result<(), Fail> {
     let mut reader = BytesIn::new(TEXT, 1, None);
-    let Ok(collected) = collect_text(rt.alloc(), &mut reader) else {
+    let Ok(collected) = collect_text(rt.alloc(), Rules::One, &mut reader) else {
         assert!(rt; false, "not collected");
         return Ok(());
     };
@@ -402,4 +402,39 @@ fn messages(rt: HostRuntime) -> Result<(), Fail> {
         assert_eq!(rt; text.as_str(), message);
     }
     Ok(())
+}
+
+#[test]
+fn a_text_with_the_reasons(rt: HostRuntime) {
+    let text =
+        b"rules 2\nwin 456m22s34p open=chi:123m,chi:678p on=2p by=ron seat=S round=E\nwaits 8z\n\nwaits 1112345678999m\nshape 123456789m1134p";
+    let told = b"no yaku
+  reading 456m 234p 22s chi:123m chi:678p, 2p completes 234p: no yaku
+refused N5 hand at 0
+  honours are 1z to 7z
+waits 123456789m
+shanten 0 accepts 2p:4 5p:4 live 8
+  shanten sets and a pair 0, seven pairs 5, thirteen orphans 9
+";
+    let mut reader = BytesIn::new(text, 7, None);
+    let mut writer: BytesOut<2048> = BytesOut::new(1000, None);
+    let report = explain_text(Rules::One, &mut reader, &mut writer);
+    assert_eq!(rt; writer.bytes(), told.as_slice());
+    assert!(rt;
+        report
+            == Ok(DeskReport {
+                answered: 3,
+                refused: 1
+            })
+    );
+}
+
+#[test]
+fn the_profile_that_is_given(rt: HostRuntime) {
+    let text = b"win 123406789m22s34p on=2p by=ron seat=S round=E";
+    let mut reader = BytesIn::new(text, 1000, None);
+    let mut writer: BytesOut<2048> = BytesOut::new(1000, None);
+    assert!(rt; desk_text(Rules::Two, &mut reader, &mut writer).is_ok());
+    let told = b"won 4 han 30 fu 8000 gain 8000 pinfu pure-straight dora 1\n";
+    assert_eq!(rt; writer.bytes(), told.as_slice());
 }

@@ -92,7 +92,7 @@ impl<T: Teller + Drop> Told<T> {
         requires room { HasRoom self.old.outbox }
         requires count { count_of self.old.report + 1 < 2 ^ 64 }
         ensures told { OnOk result ((kind : LineKind)
-            × AnswersLine T.most T.tells self.old.teller self.new.teller line.now kind self.old.outbox.bytes.items self.new.outbox.bytes.items
+            × AnswersLine T.refuses T.most T.tells self.old.teller self.new.teller line.now kind self.old.outbox.bytes.items self.new.outbox.bytes.items
             × (self.new.report ≡ report_with self.old.report kind)) }
         ensures err { OnErr result ((self.new.outbox.bytes.items ≡ self.old.outbox.bytes.items) × T.wants_memory self.old.teller line.now) }
         ensures count { count_of self.new.report ≤ count_of self.old.report + 1 }

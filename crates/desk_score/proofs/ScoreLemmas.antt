@@ -11,6 +11,7 @@ use Rattle.desk_run.specs.Played.{values}
 use Rattle.desk_lines.specs.declared.asked.Asked.{Asked}
 use Rattle.desk_lines.specs.Lines.{lines}
 use Rattle.desk_lines.specs.LineAnswers.{answers}
+use Rattle.riichi_hand.specs.declared.win.Rules.{Rules}
 use Rattle.desk_lines.specs.Asked.{jobs_of, asked_of}
 use Rattle.desk_lines.specs.Tables.{tables_text, told_tables}
 use Rattle.desk_lines.specs.Streams.{GivesAll, IsReadWithin}
@@ -31,55 +32,55 @@ module _ {R : Type 0} (source : OfSource R) where
   AllGive-length (reader ∷ readers) [] all = absurd all
   AllGive-length (reader ∷ readers) (text ∷ texts) all = ap suc (AllGive-length readers texts all.1)
 
-abbrev text_jobs : List ℕ → List Job
-text_jobs text = jobs_of (lines text)
+abbrev text_jobs : Rules → List ℕ → List Job
+text_jobs given text = jobs_of given (lines text)
 
-abbrev text_asked : List ℕ → List Asked
-text_asked text = asked_of (lines text)
+abbrev text_asked : Rules → List ℕ → List Asked
+text_asked given text = asked_of given (lines text)
 
 -- the values of the jobs, told in their places, are the answers to the texts
-told_tables-answers : (texts : List (List ℕ)) → told_tables (map text_asked texts) (map (λ text. values (text_jobs text)) texts) ≡ map answers texts
-told_tables-answers [] = refl
-told_tables-answers (text ∷ texts) =
-    ap (λ first. first ∷ told_tables (map text_asked texts) (map (λ t. values (text_jobs t)) texts)) (told-answers (lines text))
-    ∙ ap (λ rest. answers text ∷ rest) (told_tables-answers texts)
+told_tables-answers : (rules : Rules) (texts : List (List ℕ)) → told_tables (map (text_asked rules) texts) (map (λ text. values (text_jobs rules text)) texts) ≡ map (answers rules) texts
+told_tables-answers rules [] = refl
+told_tables-answers rules (text ∷ texts) =
+    ap (λ first. first ∷ told_tables (map (text_asked rules) texts) (map (λ t. values (text_jobs rules t)) texts)) (told-answers rules (lines text))
+    ∙ ap (λ rest. answers rules text ∷ rest) (told_tables-answers rules texts)
 
-pub score_of-told : (asked : List (Vec Asked Global)) (jobs : List (Vec Job Global)) (given : List (Vec Answer Global)) (texts : List (List ℕ))
-    → map (λ list. list.items) asked ≡ map text_asked texts → map (λ list. list.items) jobs ≡ map text_jobs texts → map (λ list. list.items) given ≡ map (λ list. values list.items) jobs
-    → tables_text (told_tables (map (λ list. list.items) asked) (map (λ list. list.items) given)) ≡ score_of texts
-score_of-told asked jobs given texts same_asked same_jobs are =
-    let same_given : map (λ (list : Vec Answer Global). list.items) given ≡ map (λ text. values (text_jobs text)) texts =
-    are ∙ sym (map-map values (λ (list : Vec Job Global). list.items) jobs) ∙ ap (map values) same_jobs ∙ map-map values text_jobs texts in
+pub score_of-told : (rules : Rules) (asked : List (Vec Asked Global)) (jobs : List (Vec Job Global)) (given : List (Vec Answer Global)) (texts : List (List ℕ))
+    → map (λ list. list.items) asked ≡ map (text_asked rules) texts → map (λ list. list.items) jobs ≡ map (text_jobs rules) texts → map (λ list. list.items) given ≡ map (λ list. values list.items) jobs
+    → tables_text (told_tables (map (λ list. list.items) asked) (map (λ list. list.items) given)) ≡ score_of rules texts
+score_of-told rules asked jobs given texts same_asked same_jobs are =
+    let same_given : map (λ (list : Vec Answer Global). list.items) given ≡ map (λ text. values (text_jobs rules text)) texts =
+    are ∙ sym (map-map values (λ (list : Vec Job Global). list.items) jobs) ∙ ap (map values) same_jobs ∙ map-map values (text_jobs rules) texts in
     ap (λ a. tables_text (told_tables a (map (λ (list : Vec Answer Global). list.items) given))) same_asked
-    ∙ ap (λ b. tables_text (told_tables (map text_asked texts) b)) same_given ∙ ap tables_text (told_tables-answers texts)
+    ∙ ap (λ b. tables_text (told_tables (map (text_asked rules) texts) b)) same_given ∙ ap tables_text (told_tables-answers rules texts)
 
 -- as many jobs of a table as of its text
-one_table : (jobs : List (Vec Job Global)) (texts : List (List ℕ)) → map (λ list. list.items) jobs ≡ map text_jobs texts
-    → (k : ℕ) (list : Vec Job Global) (text : List ℕ) → k < length jobs → k < length texts → vec_len (get_or jobs k list) ≡ length (text_jobs (get_or texts k text))
-one_table jobs texts same k list text here there =
-    (get_or jobs k list).ok.0 ∙ ap length (sym (get_or-map (λ (l : Vec Job Global). l.items) jobs k list [] here) ∙ ap (λ all. get_or all k []) same ∙ get_or-map text_jobs texts k text [] there)
+one_table : (rules : Rules) (jobs : List (Vec Job Global)) (texts : List (List ℕ)) → map (λ list. list.items) jobs ≡ map (text_jobs rules) texts
+    → (k : ℕ) (list : Vec Job Global) (text : List ℕ) → k < length jobs → k < length texts → vec_len (get_or jobs k list) ≡ length (text_jobs rules (get_or texts k text))
+one_table rules jobs texts same k list text here there =
+    (get_or jobs k list).ok.0 ∙ ap length (sym (get_or-map (λ (l : Vec Job Global). l.items) jobs k list [] here) ∙ ap (λ all. get_or all k []) same ∙ get_or-map (text_jobs rules) texts k text [] there)
 
-pub as_many : (jobs : List (Vec Job Global)) (texts : List (List ℕ)) → map (λ list. list.items) jobs ≡ map text_jobs texts → length jobs ≡ length texts
-as_many jobs texts same = sym (length-map jobs (λ (l : Vec Job Global). l.items)) ∙ ap length same ∙ length-map texts text_jobs
+pub as_many : (rules : Rules) (jobs : List (Vec Job Global)) (texts : List (List ℕ)) → map (λ list. list.items) jobs ≡ map (text_jobs rules) texts → length jobs ≡ length texts
+as_many rules jobs texts same = sym (length-map jobs (λ (l : Vec Job Global). l.items)) ∙ ap length same ∙ length-map texts (text_jobs rules)
 
-pub within-jobs : (most : ℕ) (jobs : List (Vec Job Global)) (texts : List (List ℕ)) → map (λ list. list.items) jobs ≡ map text_jobs texts
-    → All (λ text. length (text_jobs text) ≤ most) texts → All (λ list. vec_len list ≤ most) jobs
-within-jobs most jobs texts same within k list here =
-    let many = as_many jobs texts same in
+pub within-jobs : (rules : Rules) (most : ℕ) (jobs : List (Vec Job Global)) (texts : List (List ℕ)) → map (λ list. list.items) jobs ≡ map (text_jobs rules) texts
+    → All (λ text. length (text_jobs rules text) ≤ most) texts → All (λ list. vec_len list ≤ most) jobs
+within-jobs rules most jobs texts same within k list here =
+    let many = as_many rules jobs texts same in
     let there : k < length texts = omega arith in
-    let number = one_table jobs texts same k list [] here there in
+    let number = one_table rules jobs texts same k list [] here there in
     let few = within k [] there in
     omega arith
 
 -- where it can't be that a table has more jobs, no text has more
-pub within-texts : (most : ℕ) (jobs : List (Vec Job Global)) (texts : List (List ℕ)) → map (λ list. list.items) jobs ≡ map text_jobs texts
-    → ((All (λ list. vec_len list ≤ most) jobs → ⊥) → ⊥) → All (λ text. length (text_jobs text) ≤ most) texts
-within-texts most [] texts same never k text there = absurd (let many = as_many [] texts same in omega arith)
-within-texts most (first ∷ jobs) texts same never k text there =
-    let many = as_many (first ∷ jobs) texts same in
+pub within-texts : (rules : Rules) (most : ℕ) (jobs : List (Vec Job Global)) (texts : List (List ℕ)) → map (λ list. list.items) jobs ≡ map (text_jobs rules) texts
+    → ((All (λ list. vec_len list ≤ most) jobs → ⊥) → ⊥) → All (λ text. length (text_jobs rules text) ≤ most) texts
+within-texts rules most [] texts same never k text there = absurd (let many = as_many rules [] texts same in omega arith)
+within-texts rules most (first ∷ jobs) texts same never k text there =
+    let many = as_many rules (first ∷ jobs) texts same in
     let here : k < length (first ∷ jobs) = omega arith in
-    let number = one_table (first ∷ jobs) texts same k first text here there in
-    elim (cases_lt most (length (text_jobs (get_or texts k text)))) as (λ _. length (text_jobs (get_or texts k text)) ≤ most) [
+    let number = one_table rules (first ∷ jobs) texts same k first text here there in
+    elim (cases_lt most (length (text_jobs rules (get_or texts k text)))) as (λ _. length (text_jobs rules (get_or texts k text)) ≤ most) [
       | inl more ↦ absurd (never (λ all. let few = all k first here in let no : ⊥ = omega arith in no))
       | inr few ↦ few
     ]

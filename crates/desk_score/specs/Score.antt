@@ -2,6 +2,7 @@
 use Rattle.std.specs.Prelude.{◌≡◌, ℕ, ◌≤◌, List, [], ◌∷◌, ◌++◌, All, length, map}
 use Rattle.std.specs.List.{sum_by}
 use Rattle.desk_streams.specs.declared.source.Source.{Ghosts as OfSource}
+use Rattle.riichi_hand.specs.declared.win.Rules.{Rules}
 use Rattle.desk_core.specs.declared.lane.TheConstants.{LIMIT}
 use Rattle.desk_lines.specs.declared.report.DeskReport.{DeskReport}
 use Rattle.desk_lines.specs.Lines.{lines}
@@ -10,20 +11,20 @@ use Rattle.desk_lines.specs.Asked.{jobs_of}
 use Rattle.desk_lines.specs.Streams.{GivesAll, FailsOrGoesOn, IsReadWithin}
 use Rattle.desk_lines.specs.Tables.{tables_text}
 
--- the answers to each text, behind the number of its table
-abbrev pub score_of : List (List ℕ) → List ℕ
-score_of texts = tables_text (map answers texts)
+-- the answers to each text, behind the number of its table; a text that sets no profile has the given one
+abbrev pub score_of : Rules → List (List ℕ) → List ℕ
+score_of given texts = tables_text (map (answers given) texts)
 
 -- the answer lines of all texts that don't begin with `refused`, and those that do
-abbrev pub score_report : List (List ℕ) → DeskReport
-score_report texts = record {
-  answered = sum_by (λ text. (report_on (lines text)).answered) texts;
-  refused = sum_by (λ text. (report_on (lines text)).refused) texts;
+abbrev pub score_report : Rules → List (List ℕ) → DeskReport
+score_report given texts = record {
+  answered = sum_by (λ text. (report_on given (lines text)).answered) texts;
+  refused = sum_by (λ text. (report_on given (lines text)).refused) texts;
 }
 
 -- no text has more jobs than a table may submit
-abbrev pub AreWithinLimit : List (List ℕ) → Type 0
-AreWithinLimit texts = All (λ text. length (jobs_of (lines text)) ≤ LIMIT) texts
+abbrev pub AreWithinLimit : Rules → List (List ℕ) → Type 0
+AreWithinLimit given texts = All (λ text. length (jobs_of given (lines text)) ≤ LIMIT) texts
 
 -- each reader gave its text, to the end, and was read no oftener than it may be
 abbrev pub AllGive : {R : Type 0} → OfSource R → List R → List (List ℕ) → Type 0

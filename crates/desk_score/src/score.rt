@@ -9,6 +9,7 @@ use crate::tables::Tables;
 use desk_lines::{DeskReport, write_tables};
 use desk_run::run_tables;
 use desk_streams::{Sink, Source};
+use riichi_hand::Rules;
 use std::alloc::Global;
 use std::sync::Wait;
 use std::thread::Threads;
@@ -24,11 +25,12 @@ const PLACES: u32 = 8;
 
 /// Reads 1 to 64 readers to their ends, has 1 to 16 workers judge all their jobs in threads of their own,
 /// and writes for each reader, numbered from 0, the line `table` with its number and then what `desk_text`
-/// would answer to its text. The first line of each text may set the profile of that text. Nothing is
-/// written before all is judged.
+/// would answer to its text. The first line of each text may set the profile of that text, which else is
+/// the given one. Nothing is written before all is judged.
 pub fn score_text<H: Threads + Wait + Sync, R: Source + Drop, W: Sink>(
     rt: &H,
     alloc: Global,
+    rules: Rules,
     readers: Vec<R>,
     workers: u32,
     writer: &mut W,
@@ -36,31 +38,31 @@ pub fn score_text<H: Threads + Wait + Sync, R: Source + Drop, W: Sink>(
     // The readers were read to their ends, and the answers to what they gave were written.
     ensures ok { IfOk result (λ report. (texts : List (List ℕ))
         × AllGive ⟦<R as Source>⟧ readers.items texts
-        × AreWithinLimit texts
-        × WritesAll ⟦<W as Sink>⟧ writer.old writer.new (score_of texts)
-        × (report ≡ score_report texts)) }
+        × AreWithinLimit rules texts
+        × WritesAll ⟦<W as Sink>⟧ writer.old writer.new (score_of rules texts)
+        × (report ≡ score_report rules texts)) }
 
     // Numbers of readers and workers are tested before anything is read, numbers of jobs once all is read,
     // before a worker is started.
     ensures first_range { ¬ IsInRange (length readers.items) workers 8 → result ≡ Err ScoreFault.Range }
     ensures range { IsErrOf result ScoreFault.Range → (¬ IsInRange (length readers.items) workers 8)
-        ⊎ ((texts : List (List ℕ)) × AllGive ⟦<R as Source>⟧ readers.items texts × (¬ AreWithinLimit texts)) }
+        ⊎ ((texts : List (List ℕ)) × AllGive ⟦<R as Source>⟧ readers.items texts × (¬ AreWithinLimit rules texts)) }
     ensures no_thread { IsErrOf result ScoreFault.Thread → (texts : List (List ℕ))
         × AllGive ⟦<R as Source>⟧ readers.items texts
-        × AreWithinLimit texts }
+        × AreWithinLimit rules texts }
     ensures read_failed { IsErrOf result ScoreFault.Read → StopsReading ⟦<R as Source>⟧ readers.items }
 
     // Nothing was written but where a write failed, and then a front of the answers.
     ensures unwritten { IfErr result (λ fault. fault ≢ ScoreFault.Write → writer.new ≡ writer.old) }
     ensures write_failed { IsErrOf result ScoreFault.Write → (texts : List (List ℕ))
         × AllGive ⟦<R as Source>⟧ readers.items texts
-        × AreWithinLimit texts
-        × StopsWriting ⟦<W as Sink>⟧ writer.old writer.new (score_of texts) }
+        × AreWithinLimit rules texts
+        × StopsWriting ⟦<W as Sink>⟧ writer.old writer.new (score_of rules texts) }
 {
     if !in_range(readers.len(), workers) {
         return Err(ScoreFault::Range);
     }
-    let tables = Tables::read(alloc, readers)?;
+    let tables = Tables::read(alloc, rules, readers)?;
     let answers = run_tables(rt, alloc, tables.jobs.as_slice(), workers, PLACES)?;
     write_tables(tables.asked.as_slice(), answers.as_slice(), writer)?;
     Ok(tables.report)

@@ -1,5 +1,6 @@
 //! What the tables ask, read to the end before anything is answered.
 ghost use Rattle.std.specs.Prelude.{◌≡◌, ℕ, List, [], ◌∷◌, ◌++◌, ◌+◌, OnOk, IfOk, IfErr, IfSome, IsErrOf};
+ghost use Rattle.riichi_hand.specs.declared.win.Rules.{Rules};
 ghost use Rattle.desk_lines.specs.Lines.{lines};
 ghost use Rattle.desk_lines.specs.Asked.{jobs_of, asked_of};
 ghost use Rattle.desk_lines.specs.LineAnswers.{report_on};
@@ -9,7 +10,7 @@ ghost use Rattle.desk_score.specs.Tables.{AreRead};
 use crate::score_fault::ScoreFault;
 use desk_lines::{Asked, Collected, DeskReport, collect_text};
 use desk_streams::Source;
-use riichi_hand::Job;
+use riichi_hand::{Job, Rules};
 use std::alloc::Global;
 
 /// What the tables ask, in their order.
@@ -23,7 +24,7 @@ pub(crate) struct Tables {
 
 impl Tables {
     fn new(alloc: Global) -> Tables
-        ensures { AreRead [] result }
+        ensures { (given : Rules) → AreRead given [] result }
     {
         Tables {
             jobs: Vec::new(alloc),
@@ -38,9 +39,10 @@ impl Tables {
     /// Reads each reader to its end.
     pub(crate) fn read<R: Source + Drop>(
         alloc: Global,
+        rules: Rules,
         readers: Vec<R>,
     ) -> Result<Tables, ScoreFault>
-        ensures ok { IfOk result (λ tables. (texts : List (List ℕ)) × AllGive ⟦<R as Source>⟧ readers.items texts × AreRead texts tables) }
+        ensures ok { IfOk result (λ tables. (texts : List (List ℕ)) × AllGive ⟦<R as Source>⟧ readers.items texts × AreRead rules texts tables) }
         ensures read_failed { IsErrOf result ScoreFault.Read → StopsReading ⟦<R as Source>⟧ readers.items }
         ensures not_write { IsErrOf result ScoreFault.Write → ⊥ }
         ensures not_range { IsErrOf result ScoreFault.Range → ⊥ }
@@ -48,7 +50,7 @@ impl Tables {
     {
         let mut tables = Tables::new(alloc);
         for mut reader in readers {
-            let collected = collect_text(alloc, &mut reader)?;
+            let collected = collect_text(alloc, rules, &mut reader)?;
             tables.add(collected)?;
         }
         Ok(tables)
@@ -56,9 +58,9 @@ impl Tables {
 
     /// Adds what the next table asks. A count of more lines than a `u64` holds finds no memory.
     fn add(&mut self, collected: Collected) -> Result<(), ScoreFault>
-        ensures ok { OnOk result ((texts : List (List ℕ)) (text : List ℕ) → AreRead texts self.old
-            → collected.jobs.items ≡ jobs_of (lines text) → collected.asked.items ≡ asked_of (lines text) → collected.report ≡ report_on (lines text)
-            → AreRead (texts ++ text ∷ []) self.new) }
+        ensures ok { OnOk result ((given : Rules) (texts : List (List ℕ)) (text : List ℕ) → AreRead given texts self.old
+            → collected.jobs.items ≡ jobs_of given (lines text) → collected.asked.items ≡ asked_of given (lines text) → collected.report ≡ report_on given (lines text)
+            → AreRead given (texts ++ text ∷ []) self.new) }
         ensures err { IfErr result (λ fault. fault ≡ ScoreFault.Memory) }
     {
         let Collected {

@@ -55,7 +55,7 @@ fn score<R: Threads + Wait + Sync + Abort>(
     report: Result<DeskReport, ScoreFault>,
 ) {
     let mut writer: BytesOut<2048> = BytesOut::new(1000, None);
-    let told = score_text(rt, alloc, readers, workers, &mut writer);
+    let told = score_text(rt, alloc, Rules::One, readers, workers, &mut writer);
     assert!(rt; told == report, "{workers} workers");
     assert_eq!(rt; writer.bytes(), answers);
 }
@@ -155,7 +155,7 @@ fn a_failed_write(rt: HostRuntime) -> Result<(), Fail> {
     for (place, _) in ANSWERS.iter().enumerate() {
         let mut writer: BytesOut<2048> = BytesOut::new(1, Some(place as u64 + 1));
         let readers = two_readers(alloc, FIRST, b"")?;
-        let told = score_text(&rt, alloc, readers, 1, &mut writer);
+        let told = score_text(&rt, alloc, Rules::One, readers, 1, &mut writer);
         assert!(rt; told == Err(ScoreFault::Write), "{place}");
         assert_eq!(rt; writer.bytes(), &ANSWERS[..place]);
     }
@@ -169,7 +169,7 @@ fn is_scored(rt: &(impl Threads + Wait + Sync + Abort + Print), alloc: Global) -
         return false;
     };
     let mut writer: BytesOut<2048> = BytesOut::new(1000, None);
-    let told = score_text(rt, alloc, readers, 2, &mut writer);
+    let told = score_text(rt, alloc, Rules::One, readers, 2, &mut writer);
     match told {
         Ok(report) => {
             assert!(rt; report.answered == 1 && report.refused == 1);

@@ -20,6 +20,8 @@ pub enum Failure<'a> {
     CannotOpen(&'a str),
     /// Input, output, memory or a thread failed, or there is too much.
     Fault(ScoreFault),
+    /// The same of the command that explains, and so is told in words.
+    Explained(DeskFault),
 }
 
 impl<'a> From<AllocError> for Failure<'a> {
@@ -73,6 +75,12 @@ pub fn report<R: Print + Eprint>(rt: &R, failure: &Failure<'_>) -> u8 {
             let _ = eprintln!(rt; "riichi_desk: fault {code}");
             status_of(*fault)
         }
+        Failure::Explained(fault) => {
+            let fault = ScoreFault::from(*fault);
+            let (code, words) = (code_of(fault), words_of(fault));
+            let _ = eprintln!(rt; "riichi_desk: fault {code}: {words}");
+            status_of(fault)
+        }
     }
 }
 
@@ -85,6 +93,19 @@ fn code_of(fault: ScoreFault) -> &'static str
         ScoreFault::Memory => "F3",
         ScoreFault::Range => "B1",
         ScoreFault::Thread => "B4",
+    }
+}
+
+/// A fault in words, as `help-codes` has them.
+fn words_of(fault: ScoreFault) -> &'static str
+    ensures { result.now ≡ spec.words_of fault }
+{
+    match fault {
+        ScoreFault::Read => "the input can't be read, or has no end",
+        ScoreFault::Write => "the answers can't be written",
+        ScoreFault::Memory => "there is no memory",
+        ScoreFault::Range => "there are too many files, or too many hands in one",
+        ScoreFault::Thread => "there is no thread",
     }
 }
 

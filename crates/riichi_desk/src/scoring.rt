@@ -1,6 +1,7 @@
 //! The command `score`: files of hands, each a table.
 use crate::failure::Failure;
 use crate::files::open_file;
+use desk_lines::Rules;
 use desk_score::{ScoreFault, score_text};
 use desk_streams::{FromReader, ToWriter};
 use std::io::{self, Print};
@@ -16,13 +17,14 @@ pub fn score_files<'a, R: Files + Print + Threads + Wait + Sync + AllocGlobal>(
     rt: &R,
     files: &[&'a str],
     workers: u32,
+    rules: Rules,
 ) -> Result<bool, Failure<'a>> {
     if files.len() > MOST_FILES {
         return Err(Failure::Fault(ScoreFault::Range));
     }
     let readers = open_files(rt, files)?;
     let mut writer = ToWriter::new(io::writer(rt));
-    let report = score_text(rt, rt.alloc(), readers, workers, &mut writer)?;
+    let report = score_text(rt, rt.alloc(), rules, readers, workers, &mut writer)?;
     Ok(report.refused > 0)
 }
 

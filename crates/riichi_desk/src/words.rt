@@ -1,17 +1,29 @@
 //! The command line.
 use clap::{Arg, ArgMatches, Command, value_parser};
+use desk_lines::Rules;
 use std::alloc::{AllocError, Global};
 
 /// What the command line asks for.
 pub enum Request<'m, 'a> {
     /// The waits of this hand.
     Waits(&'a str),
-    /// The answers to the record lines of standard input.
-    Line,
+    /// The answers to the record lines of standard input, under these rules where the first line sets none.
+    Line(Rules),
+    /// The same with the reasons for them, of these lines, or of standard input where there are none.
+    Explain {
+        lines: Option<&'m [&'a str]>,
+        rules: Rules,
+    },
+    /// Every code in words.
+    HelpCodes,
     /// The answers to the script of this file.
     Replay(&'a str),
     /// The answers to the record lines of files, each a table, by so many workers.
-    Score { files: &'m [&'a str], workers: u32 },
+    Score {
+        files: &'m [&'a str],
+        workers: u32,
+        rules: Rules,
+    },
 }
 
 /// What stands below the help of the program, and of each command: an example, and the exit statuses that it can have.
@@ -45,6 +57,27 @@ Exit status:
   3  input or output failed
   4  there was no memory";
 
+const EXPLAIN_HELP: &str = "\
+Example:
+  riichi_desk explain 'win 99978m444p567s22s on=9m by=ron seat=S round=E riichi=1'
+
+Exit status:
+  0  answered
+  1  answered, and at least one line was refused
+  2  the words are wrong
+  3  input or output failed
+  4  there was no memory";
+
+const CODES_HELP: &str = "\
+Example:
+  riichi_desk help-codes
+
+Exit status:
+  0  printed
+  2  the words are wrong
+  3  output failed
+  4  there was no memory";
+
 const REPLAY_HELP: &str = "\
 Example:
   riichi_desk replay evening.lines
@@ -76,9 +109,11 @@ pub fn commands<'a>(alloc: Global) -> Result<Command<'a>, AllocError> {
         .after_help(PROGRAM_HELP)
         .subcommand_required(true)
         .subcommand(waits_command(alloc)?)?
-        .subcommand(line_command(alloc))?
+        .subcommand(line_command(alloc)?)?
+        .subcommand(explain_command(alloc)?)?
         .subcommand(replay_command(alloc)?)?
-        .subcommand(score_command(alloc)?)
+        .subcommand(score_command(alloc)?)?
+        .subcommand(codes_command(alloc))
 }
 
 fn waits_command<'a>(alloc: Global) -> Result<Command<'a>, AllocError> {
@@ -91,10 +126,38 @@ fn waits_command<'a>(alloc: Global) -> Result<Command<'a>, AllocError> {
         .arg(hand)
 }
 
-fn line_command<'a>(alloc: Global) -> Command<'a> {
+/// The rules of lines that are not told theirs.
+fn rules_arg<'a>(alloc: Global) -> Arg<'a> {
+    Arg::new(alloc, "rules")
+        .long("rules")
+        .value_name("N")
+        .value_parser(value_parser!(u32).range(1..=2))
+        .default_value("1")
+        .help("The rule profile, 1 or 2, where the first line sets none")
+}
+
+fn line_command<'a>(alloc: Global) -> Result<Command<'a>, AllocError> {
     Command::new(alloc, "line")
         .about("Answers hands from standard input, one a line: wins, waits, shapes")
         .after_help(LINE_HELP)
+        .arg(rules_arg(alloc))
+}
+
+fn explain_command<'a>(alloc: Global) -> Result<Command<'a>, AllocError> {
+    let lines = Arg::new(alloc, "LINE").num_args(0..).help(
+        "Hands, each in quotes as one word; without any, the lines of standard input",
+    );
+    Command::new(alloc, "explain")
+        .about("Answers hands as the command line does, and says below each answer why it is so")
+        .after_help(EXPLAIN_HELP)
+        .arg(rules_arg(alloc))?
+        .arg(lines)
+}
+
+fn codes_command<'a>(alloc: Global) -> Command<'a> {
+    Command::new(alloc, "help-codes")
+        .about("Prints every refusal, fault and exit status in words")
+        .after_help(CODES_HELP)
 }
 
 fn replay_command<'a>(alloc: Global) -> Result<Command<'a>, AllocError> {
@@ -120,14 +183,23 @@ fn score_command<'a>(alloc: Global) -> Result<Command<'a>, AllocError> {
     Command::new(alloc, "score")
         .about("Answers hands from files, table by table, with many threads")
         .after_help(SCORE_HELP)
+        .arg(rules_arg(alloc))?
         .arg(workers)?
         .arg(files)
 }
 
 /// What the words ask for; none where they name no command of ours.
 pub fn request_of<'m, 'a>(matches: &'m ArgMatches<'a>) -> Option<Request<'m, 'a>> {
-    if matches.subcommand_matches("line").is_some() {
-        return Some(Request::Line);
+    if let Some(line) = matches.subcommand_matches("line") {
+        return Some(Request::Line(rules_in(line)));
+    }
+    if let Some(explain) = matches.subcommand_matches("explain") {
+        let lines = explain.get_strs("LINE");
+        let rules = rules_in(explain);
+        return Some(Request::Explain { lines, rules });
+    }
+    if matches.subcommand_matches("help-codes").is_some() {
+        return Some(Request::HelpCodes);
     }
     if let Some(replay) = matches.subcommand_matches("replay") {
         return Some(Request::Replay(replay.get_str("FILE")?));
@@ -135,9 +207,22 @@ pub fn request_of<'m, 'a>(matches: &'m ArgMatches<'a>) -> Option<Request<'m, 'a>
     if let Some(score) = matches.subcommand_matches("score") {
         let files = score.get_strs("FILE")?;
         let workers = score.get_one("workers")?;
-        return Some(Request::Score { files, workers });
+        let rules = rules_in(score);
+        return Some(Request::Score {
+            files,
+            workers,
+            rules,
+        });
     }
     let waits = matches.subcommand_matches("waits")?;
     let hand = waits.get_str("HAND")?;
     Some(Request::Waits(hand))
+}
+
+/// The rule profile of this number.
+fn rules_in(matches: &ArgMatches<'_>) -> Rules {
+    match matches.get_one("rules") {
+        Some(2u32) => Rules::Two,
+        _ => Rules::One,
+    }
 }

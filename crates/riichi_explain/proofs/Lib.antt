@@ -4,3 +4,5 @@ pub mod HanLemmas
 pub mod WinLemmas
 pub mod TextLemmas
 pub mod FormLemmas
+pub mod PlainTexts
+pub mod ExplainedLines

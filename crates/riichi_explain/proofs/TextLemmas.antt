@@ -1,5 +1,5 @@
 -- Texts that grow piece by piece.
-use Rattle.std.proofs.Common.{◌≡◌, ℕ, zero, suc, ◌+◌, ◌<◌, ◌≤◌, Some, None, slice_get, List, [], ◌∷◌, ◌++◌, length, map, max, get_or, take, append_assoc, refl, sym, ap, ◌∙◌, arith}
+use Rattle.std.proofs.Common.{◌≡◌, ℕ, zero, suc, ◌+◌, ◌<◌, ◌≤◌, Some, None, slice_get, List, [], ◌∷◌, ◌++◌, length, map, max, get_or, take, drop, append_assoc, refl, sym, ap, ◌∙◌, arith}
 use Rattle.std.specs.List.{flat_map}
 use Rattle.std.proofs.lemmas.List.{flat_map_more}
 use Rattle.riichi_yaku.specs.Table.{Row, table, word_of}
@@ -62,3 +62,28 @@ no-word (row ∷ rows) (suc n) h = no-word rows n (omega arith)
 -- no other number has a word
 pub word_none : (number : ℕ) → 41 ≤ number → word_of number ≡ []
 word_none number h = no-word table number h
+
+-- ---- the first elements of a list, and the next one
+
+one_next : (n : ℕ) → n + 1 ≡ suc n
+one_next n = omega arith
+
+taken_more : {X : Type 0} (xs : List X) (i : ℕ) (x : X) (rest : List X) → drop i xs ≡ x ∷ rest → (take (suc i) xs ≡ take i xs ++ x ∷ []) × (drop (suc i) xs ≡ rest)
+taken_more [] zero x rest e = absurd (cc)
+taken_more [] (suc i) x rest e = absurd (cc)
+taken_more (y ∷ xs) zero x rest e = let same : y ≡ x = cc in let others : xs ≡ rest = cc in (ap (λ z. z ∷ []) same, others)
+taken_more (y ∷ xs) (suc i) x rest e = let more = taken_more xs i x rest e in (ap (λ zs. y ∷ zs) more.0, more.1)
+
+taken_all : {X : Type 0} (xs : List X) (i : ℕ) → drop i xs ≡ [] → (take (suc i) xs ≡ take i xs) × (drop (suc i) xs ≡ [])
+taken_all [] zero e = (refl, refl)
+taken_all [] (suc i) e = (refl, refl)
+taken_all (y ∷ xs) zero e = absurd (cc)
+taken_all (y ∷ xs) (suc i) e = let more = taken_all xs i e in (ap (λ zs. y ∷ zs) more.0, more.1)
+
+pub take-one_more : {X : Type 0} (xs : List X) (i : ℕ) (x : X) (rest : List X) → drop i xs ≡ x ∷ rest → (take (i + 1) xs ≡ take i xs ++ x ∷ []) × (drop (i + 1) xs ≡ rest)
+take-one_more xs i x rest e =
+    let more = taken_more xs i x rest e in (ap (λ n. take n xs) (one_next i) ∙ more.0, ap (λ n. drop n xs) (one_next i) ∙ more.1)
+
+pub take-no_more : {X : Type 0} (xs : List X) (i : ℕ) → drop i xs ≡ [] → (take (i + 1) xs ≡ take i xs) × (drop (i + 1) xs ≡ [])
+take-no_more xs i e =
+    let all = taken_all xs i e in (ap (λ n. take n xs) (one_next i) ∙ all.0, ap (λ n. drop n xs) (one_next i) ∙ all.1)

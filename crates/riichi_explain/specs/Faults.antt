@@ -1,5 +1,5 @@
 -- What a refusal asks for, in words.
-use Rattle.std.specs.Prelude.{ℕ, List, codes}
+use Rattle.std.specs.Prelude.{◌≡◌, ℕ, ◌<◌, List, [], ◌∷◌, ◌++◌, length, refl, codes}
 use Rattle.riichi_tiles.specs.declared.notation.NotationCode.{NotationCode}
 use Rattle.riichi_tiles.specs.declared.notation.NotationCode.TheVariants.{N1, N2, N3, N4, N5, N6}
 use Rattle.riichi_hand.specs.declared.fault.LineCode.{LineCode}
@@ -38,3 +38,13 @@ notation_words N6 = codes "there are four tiles of a kind"
 abbrev pub fault_words : LineFault → List ℕ
 fault_words (Line code) = line_words code
 fault_words (Notation name fault) = notation_words fault.code
+
+-- ---- the lines of a refusal
+
+unfoldable pub refusal_lines : List ℕ → LineFault → List ℕ
+refusal_lines line fault = codes "  " ++ fault_words fault ++ 10 ∷ []
+
+-- lines of more than 4,096 bytes are told the same
+pub long_refusals_alike : (line other : List ℕ) → 4096 < length line → 4096 < length other → refusal_lines line (Line H1) ≡ refusal_lines other (Line H1)
+unfolding refusal_lines
+long_refusals_alike line other long long_other = refl

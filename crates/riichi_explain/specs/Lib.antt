@@ -7,3 +7,4 @@ pub mod Payers
 pub mod Win
 pub mod Tiles
 pub mod Text
+pub mod Explanation

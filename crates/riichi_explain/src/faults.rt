@@ -1,13 +1,16 @@
 //! What a refusal asks for, in words.
-ghost use Rattle.std.specs.Prelude.{◌≡◌};
+ghost use Rattle.std.specs.Prelude.{◌≡◌, ◌+◌, ◌≤◌, ◌++◌, length};
+ghost use Rattle.arrayvec.specs.ArrayString.{array_string_len};
 ghost use Rattle.riichi_explain.specs.Faults as spec;
 
+use arrayvec::ArrayString;
 use riichi_hand::{LineCode, LineFault};
 use riichi_tiles::NotationCode;
 
 /// What holds of every line without this fault, in a few words.
 pub fn fault_words(fault: &LineFault) -> &'static str
-    ensures { result.now ≡ spec.fault_words fault.now }
+    ensures value { result.now ≡ spec.fault_words fault.now }
+    ensures short { length result.now ≤ 120 }
 {
     match fault {
         LineFault::Line(code) => line_words(*code),
@@ -15,8 +18,21 @@ pub fn fault_words(fault: &LineFault) -> &'static str
     }
 }
 
+/// Writes the lines of a refusal.
+#[tactic(auto, unfolding(crate::specs::Faults::refusal_lines))]
+pub fn push_refusal_lines(text: &mut ArrayString<3072>, line: &[u8], fault: &LineFault)
+    requires { array_string_len text.old + 2930 ≤ 3072 }
+    ensures { text.new.bytes ≡ text.old.bytes ++ spec.refusal_lines line.now fault.now }
+{
+    let _line = line;
+    text.push_str("  ");
+    text.push_str(fault_words(fault));
+    text.push_str("\n");
+}
+
 fn line_words(code: LineCode) -> &'static str
-    ensures { result.now ≡ spec.line_words code }
+    ensures value { result.now ≡ spec.line_words code }
+    ensures short { length result.now ≤ 120 }
 {
     match code {
         LineCode::H1 => "a line has at most 4096 bytes, all of them printable ASCII",
@@ -42,7 +58,8 @@ fn line_words(code: LineCode) -> &'static str
 }
 
 fn notation_words(code: NotationCode) -> &'static str
-    ensures { result.now ≡ spec.notation_words code }
+    ensures value { result.now ≡ spec.notation_words code }
+    ensures short { length result.now ≤ 120 }
 {
     match code {
         NotationCode::N1 => "a text of tiles is not empty",

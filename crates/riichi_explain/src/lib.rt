@@ -2,6 +2,7 @@
 #![tactic(auto)]
 
 mod base;
+mod explaining;
 mod faults;
 mod forms;
 mod fu;
@@ -17,7 +18,8 @@ mod win;
 mod win_text;
 
 pub use base::{BaseRule, Limit, base_rule};
-pub use faults::fault_words;
+pub use explaining::push_win_lines;
+pub use faults::{fault_words, push_refusal_lines};
 pub use forms::{explain_shape, push_shanten_line};
 pub use fu::{FuPart, FuRow, FuRows, fu_rows, fu_total};
 pub use han::{HanPart, HanRow, HanRows, han_rows};

@@ -1,8 +1,8 @@
 use crate::*;
 use arrayvec::ArrayString;
 use riichi_hand::{Job, Rules, WinRecord, read_line};
+use riichi_score::WinAnswer;
 use riichi_shape::FormDistances;
-use riichi_split::Readings;
 use std::process::Abort;
 use std::test::Fail;
 
@@ -15,26 +15,14 @@ fn text_of(job: &Job) -> ArrayString<3072> {
 }
 
 fn win_text(win: &WinRecord) -> ArrayString<3072> {
-    match explain_win(win) {
-        WinExplanation::Won(hand) => won_hand_text(&hand),
-        WinExplanation::NoYaku(readings) => no_yaku_text(readings, win),
-        WinExplanation::NoWin(forms) => forms_text(&forms),
-    }
+    let mut text = ArrayString::new();
+    push_win_lines(&mut text, explain_win(win), win);
+    text
 }
 
 fn forms_text(forms: &FormDistances) -> ArrayString<3072> {
     let mut text = ArrayString::new();
     push_shanten_line(&mut text, forms);
-    text
-}
-
-fn no_yaku_text(readings: Readings, win: &WinRecord) -> ArrayString<3072> {
-    let mut text = ArrayString::new();
-    for reading in readings {
-        if text.len() <= 2852 {
-            push_no_yaku(&mut text, &reading, win);
-        }
-    }
     text
 }
 
@@ -393,4 +381,33 @@ fn refusals(rt: HostRuntime) -> Result<(), Fail> {
         }
     }
     Ok(())
+}
+
+#[test]
+fn lines_of_a_refusal(rt: HostRuntime) -> Result<(), Fail> {
+    let line = b"waits 8z";
+    let Err(fault) = read_line(Rules::One, line) else {
+        return Err("a line without a fault")?;
+    };
+    let mut text = ArrayString::new();
+    push_refusal_lines(&mut text, line, &fault);
+    assert_eq!(rt; text.as_str(), "  honours are 1z to 7z\n");
+    Ok(())
+}
+
+#[test]
+fn the_answer_that_is_explained(rt: HostRuntime) -> Result<(), Fail> {
+    let line = b"win 456m22s34p open=chi:123m,chi:678p on=2p by=ron seat=S round=E";
+    match read_line(Rules::One, line) {
+        Ok(Some(job)) => assert!(rt; is_without_yaku(&job)),
+        _ => return Err("a line that tells no job")?,
+    }
+    Ok(())
+}
+
+fn is_without_yaku(job: &Job) -> bool {
+    match job {
+        Job::Win(win) => explain_win(win).answer() == WinAnswer::NoYaku,
+        _ => false,
+    }
 }

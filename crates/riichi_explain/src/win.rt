@@ -12,7 +12,7 @@ use crate::han::{HanRows, han_rows};
 use crate::payers::{PayRows, pay_rows};
 use arrayvec::ArrayVec;
 use riichi_hand::WinRecord;
-use riichi_score::{BestReading, Score, best_reading, hand_of};
+use riichi_score::{BestReading, Score, WinAnswer, best_reading, hand_of};
 use riichi_shape::FormDistances;
 use riichi_split::{Reading, Readings};
 
@@ -38,6 +38,21 @@ pub enum WinExplanation {
     NoYaku(Readings),
     /// The hand has no reading: so far is it from each form of a winning hand.
     NoWin(FormDistances),
+}
+
+impl WinExplanation {
+    ghost use Rattle.riichi_explain.specs.Win.{answer_of};
+
+    /// The answer that is explained.
+    pub fn answer(&self) -> WinAnswer
+        ensures { result ≡ answer_of self.now }
+    {
+        match self {
+            WinExplanation::Won(hand) => WinAnswer::Won(hand.score),
+            WinExplanation::NoYaku(_) => WinAnswer::NoYaku,
+            WinExplanation::NoWin(_) => WinAnswer::NoWin,
+        }
+    }
 }
 
 /// Why `best` answers what it answers.

@@ -1,21 +1,25 @@
-use Rattle.std.proofs.Common.{◌≡◌, ◌∙◌, ap, refl, Err}
-use Rattle.std.proofs.lemmas.Result.{err_from_is_err_and}
-use Rattle.desk_lines.specs.declared.fault.DeskFault.TheVariants.{Write, Memory}
-use Rattle.desk_lines.proofs.AnswerLemmas.{front_of_answers}
+use Rattle.std.proofs.Common.{◌≡◌, ◌∙◌, List, ℕ, ap, subst}
+use Rattle.std.proofs.lemmas.Result.{MatchResult-weaker}
+use Rattle.desk_lines.specs.declared.report.DeskReport.{DeskReport}
+use Rattle.desk_lines.specs.Lines.{lines, ended_lines}
+use Rattle.desk_lines.specs.Streams.{WritesAll}
+use Rattle.desk_lines.specs.Telling.{text_of, report_of}
+use Rattle.desk_lines.proofs.AnswerLemmas.{plain_answers, front_of_answers}
 use Rattle.desk_lines.proofs.text.desk_text.Goals as goal
 
-pub returns-in_err-told-clause-write_failed : goal.returns-in_err-told-clause-write_failed
-returns-in_err-told-clause-write_failed g c is =
-    let p = err_from_is_err_and c.from_residual.result c.from_residual.ensures.1 in
-    let same : c.in_err-told.field-0.0 ≡ Write = (let given = p.1 in let fault = p.2 in cc) in
-    let failed = c.tell_lines.ensures.write_failed (c.in_err-told.was ∙ ap Err same) in
-    let stops = failed.4 in
-    (failed.0, failed.1, failed.2, failed.3, front_of_answers g.W.Sink c.args.writer.now c.tell_lines.new.writer stops.last failed.1 stops.first stops.others stops.answers stops.parts stops.tells stops.stops)
+pub returns-clause-ok : goal.returns-clause-ok
+returns-clause-ok g c = MatchResult-weaker c.respond_text.result c.respond_text.ensures.ok (λ report ok.
+    let same = plain_answers c.args.rules (lines ok.0) ok.1 ok.3 in
+    (ok.0, ok.2, subst (λ (told : List (List ℕ)). WritesAll g.W.Sink c.args.writer.now c.respond_text.new.writer (text_of told)) same ok.4, ok.5 ∙ ap report_of same))
+    (λ fault told. told)
 
-pub returns-in_err-told-clause-no_memory : goal.returns-in_err-told-clause-no_memory
-returns-in_err-told-clause-no_memory g c is =
-    let p = err_from_is_err_and c.from_residual.result c.from_residual.ensures.1 in
-    let same : c.in_err-told.field-0.0 ≡ Memory = (let given = p.1 in let fault = p.2 in cc) in
-    let failed = c.tell_lines.ensures.no_memory (c.in_err-told.was ∙ ap Err same) in
-    let wanted = failed.4.wanted refl in
-    wanted.1
+pub returns-clause-read_failed : goal.returns-clause-read_failed
+returns-clause-read_failed g c is =
+    let failed = c.respond_text.ensures.read_failed is in
+    let same = plain_answers c.args.rules (ended_lines failed.1.0) failed.1.1 failed.1.3 in
+    (failed.0, (failed.1.0, failed.1.2, subst (λ (told : List (List ℕ)). WritesAll g.W.Sink c.args.writer.now c.respond_text.new.writer (text_of told)) same failed.1.4))
+
+pub returns-clause-write_failed : goal.returns-clause-write_failed
+returns-clause-write_failed g c is =
+    let failed = c.respond_text.ensures.write_failed is in
+    (failed.0, failed.1, failed.5, failed.6, front_of_answers g.W.Sink c.args.writer.now c.respond_text.new.writer c.args.rules failed.1 failed.2 failed.3 failed.4 failed.7 failed.8 failed.9)

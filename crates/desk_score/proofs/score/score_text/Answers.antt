@@ -31,7 +31,7 @@ returns-in_err-answers-clause-no_thread g c is =
     let slice = c.as_slice.ensures.value in (
       read.0,
       read.1,
-      within-texts LIMIT c.in_ok-tables.tables.jobs.items read.0 read.2.jobs
+      within-texts c.args.rules LIMIT c.in_ok-tables.tables.jobs.items read.0 read.2.jobs
           (λ never. let fault = c.in_err-answers.ensures.range.1 (λ runnable. never (rw slice at runnable.1)) in let no : ⊥ = cc in no),
     )
 
@@ -43,19 +43,19 @@ returns-in_err-answers-clause-range g c is =
     let in_range = c.in_range.ensures.0 c.if-not-in_range.false in
     let slice = c.as_slice.ensures.value in
     let tables : c.len.result ≡ length c.as_slice.result.now =
-    c.len.ensures ∙ c.args.readers.ok.0 ∙ AllGive-length g.R.Source c.args.readers.items read.0 read.1 ∙ sym (as_many c.in_ok-tables.tables.jobs.items read.0 read.2.jobs) ∙ sym (ap length slice) in
+    c.len.ensures ∙ c.args.readers.ok.0 ∙ AllGive-length g.R.Source c.args.readers.items read.0 read.1 ∙ sym (as_many c.args.rules c.in_ok-tables.tables.jobs.items read.0 read.2.jobs) ∙ sym (ap length slice) in
     let over = c.in_err-answers.ensures.range.0 (ap Err fault) in
-    inr (read.0, read.1, λ within. over (subst (λ (n : ℕ). IsInRange n c.args.workers 8) tables in_range, rw slice (within-jobs LIMIT c.in_ok-tables.tables.jobs.items read.0 read.2.jobs within)))
+    inr (read.0, read.1, λ within. over (subst (λ (n : ℕ). IsInRange n c.args.workers 8) tables in_range, rw slice (within-jobs c.args.rules LIMIT c.in_ok-tables.tables.jobs.items read.0 read.2.jobs within)))
 
 pub returns-in_err-write_tables-clause-write_failed : goal.returns-in_err-write_tables-clause-write_failed
 returns-in_err-write_tables-clause-write_failed g c is =
     let read = c.in_ok-tables.ensures.ok in
     let slice = c.as_slice.ensures.value in
     let values = rw slice at c.in_ok-answers.ensures.values in
-    let told = score_of-told c.in_ok-tables.tables.asked.items c.in_ok-tables.tables.jobs.items c.in_ok-answers.answers.items read.0 read.2.asked read.2.jobs values in
+    let told = score_of-told c.args.rules c.in_ok-tables.tables.asked.items c.in_ok-tables.tables.jobs.items c.in_ok-answers.answers.items read.0 read.2.asked read.2.jobs values in
     let asked = c.as_slice-2.ensures.value in
     let given = c.as_slice-3.ensures.value in
-    let within = within-texts LIMIT c.in_ok-tables.tables.jobs.items read.0 read.2.jobs
+    let within = within-texts c.args.rules LIMIT c.in_ok-tables.tables.jobs.items read.0 read.2.jobs
     (λ never. let fault = c.in_ok-answers.ensures.range.1 (λ runnable. never (rw slice at runnable.1)) in let no : ⊥ = cc in no) in
     (read.0, read.1, within, subst (λ (text : List ℕ). StopsWriting g.W.Sink c.args.writer.now c.write_tables.new.writer text) told (rw (asked, given) at c.in_err-write_tables.ensures.1))
 
@@ -64,10 +64,10 @@ returns-clause-ok g c =
     let read = c.in_ok-tables.ensures.ok in
     let slice = c.as_slice.ensures.value in
     let values = rw slice at c.in_ok-answers.ensures.values in
-    let told = score_of-told c.in_ok-tables.tables.asked.items c.in_ok-tables.tables.jobs.items c.in_ok-answers.answers.items read.0 read.2.asked read.2.jobs values in
+    let told = score_of-told c.args.rules c.in_ok-tables.tables.asked.items c.in_ok-tables.tables.jobs.items c.in_ok-answers.answers.items read.0 read.2.asked read.2.jobs values in
     let asked = c.as_slice-2.ensures.value in
     let given = c.as_slice-3.ensures.value in
-    let within = within-texts LIMIT c.in_ok-tables.tables.jobs.items read.0 read.2.jobs
+    let within = within-texts c.args.rules LIMIT c.in_ok-tables.tables.jobs.items read.0 read.2.jobs
     (λ never. let fault = c.in_ok-answers.ensures.range.1 (λ runnable. never (rw slice at runnable.1)) in let no : ⊥ = cc in no) in (
       read.0,
       read.1,

@@ -4,11 +4,11 @@ use Rattle.desk_lines.proofs.AskedLemmas.{Collects-line}
 use Rattle.desk_lines.proofs.collecting.CollectorTeller.tell.Goals as goal
 
 pub returns-clause-told : goal.returns-clause-told
-returns-clause-told c =
+returns-clause-told g c =
     let took = c.in_ok-take_line.ensures in record {
       answer = None;
       kind_is = refl;
       put = sym (append-nil c.args._outbox.now.bytes.items);
       tells_more = λ lines told next as_this untold.
-          (Collects-line c.args.self.now c.take_line.new.self c.args.line.now next lines as_this untold.0 took.rules took.jobs took.asked, append-nil told ∙ untold.1);
+          (took.given ∙ untold.0, (Collects-line c.args.self.now c.take_line.new.self c.args.line.now next lines as_this untold.1.0 took.given took.rules took.jobs took.asked, append-nil told ∙ untold.1.1));
     }

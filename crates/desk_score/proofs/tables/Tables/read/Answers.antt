@@ -21,7 +21,7 @@ none_left [] none = refl
 none_left (x ∷ xs) none = absurd (omega arith)
 
 pub loop-reader-init : goal.loop-reader-init
-loop-reader-init g c = ([], record { given = tt; read = c.new-tables.ensures; parts = sym c.into_iter-reader-iterator.ensures.into_iter_gives.0 })
+loop-reader-init g c = ([], record { given = tt; read = c.new-tables.ensures c.args.rules; parts = sym c.into_iter-reader-iterator.ensures.into_iter_gives.0 })
 
 pub loop-reader-preserved : goal.loop-reader-preserved
 loop-reader-preserved g c =
@@ -30,7 +30,7 @@ loop-reader-preserved g c =
       kept.0 ++ gave.0 ∷ [],
       record {
         given = AllGive-last g.R.Source c.loop-reader.yielded kept.0 c.in-Some.reader c.collect_text.new.reader gave.0 kept.1.given gave.1 c.collect_text.ensures.reads;
-        read = c.in_ok-add.ensures.ok kept.0 gave.0 kept.1.read gave.2 gave.3 gave.4;
+        read = c.in_ok-add.ensures.ok c.args.rules kept.0 gave.0 kept.1.read gave.2 gave.3 gave.4;
         parts = kept.1.parts ∙ ap (λ rest. c.loop-reader.yielded ++ rest) c.in-Some.ensures.steps.0 ∙ sym (append_assoc c.loop-reader.yielded (c.in-Some.reader ∷ []) (into_iter_items c.next.new.self));
       },
     )

@@ -9,6 +9,6 @@ abbrev pub invariant-loop-reader : goal.invariant-loop-reader
 invariant-loop-reader g l =
     (texts : List (List ℕ)) × record {
       given : AllGive g.R.Source l.yielded texts;
-      read : AreRead texts l.tables;
+      read : AreRead l.rules texts l.tables;
       parts : l.fn.readers.items ≡ l.yielded ++ into_iter_items l.reader-iterator;
     }

@@ -1,0 +1,181 @@
+-- No answer has a line feed in it, or begins with two spaces.
+use Rattle.std.proofs.Common.{◌≡◌, ℕ, ℤ, pos, negsuc, suc, ◌+◌, ◌%◌, List, [], ◌∷◌, ◌++◌, Bool, true, false, cond, nat_eq, length, Option, Some, None, Result, Ok, Err, refl, sym, subst, ap, ◌∙◌, arith}
+use Rattle.std.specs.Prelude.{codes, decimal}
+use Rattle.std.specs.Fmt.{signed_decimal}
+use Rattle.std.specs.List.{list_all, list_any, flat_map}
+use Rattle.riichi_tiles.specs.Printing.{tiles_text, once}
+use Rattle.riichi_tiles.specs.declared.notation.NotationCode.{NotationCode}
+use Rattle.riichi_tiles.specs.declared.notation.NotationCode.TheVariants.{N1, N2, N3, N4, N5, N6}
+use Rattle.riichi_hand.specs.declared.fault.LineCode.{LineCode}
+use Rattle.riichi_hand.specs.declared.fault.LineCode.TheVariants.{H1, H2, H3, H4, H5, H6, H7, H8, H9, H10, H11, H12, H13, H14, H15, H16}
+use Rattle.riichi_hand.specs.declared.fault.TextName.{TextName}
+use Rattle.riichi_hand.specs.declared.fault.TextName.TheVariants.{Hand, On, Dora, Ura, Seen}
+use Rattle.riichi_hand.specs.declared.fault.LineFault.{LineFault}
+use Rattle.riichi_hand.specs.declared.fault.LineFault.TheVariants.{Line, Notation}
+use Rattle.riichi_hand.specs.declared.job.Job.{Job}
+use Rattle.riichi_hand.specs.FaultTexts.{line_code_text, notation_code_text, name_text, fault_text}
+use Rattle.riichi_split.specs.Waits.{waits_text}
+use Rattle.riichi_yaku.specs.Table.{Row, table, words_of, words_from, spaced_if}
+use Rattle.riichi_yaku.specs.YakuSets.{has_number, is_yakuman}
+use Rattle.riichi_score.specs.declared.payers.Payment.{Payment}
+use Rattle.riichi_score.specs.declared.payers.Payment.TheVariants.{Ron, Tsumo, DealerTsumo}
+use Rattle.riichi_score.specs.declared.score.Score.{Score}
+use Rattle.riichi_score.specs.declared.answer.WinAnswer.{WinAnswer}
+use Rattle.riichi_score.specs.declared.answer.WinAnswer.TheVariants.{Won, NoYaku, NoWin}
+use Rattle.riichi_score.specs.Text.{payment_text, worth_text, dora_text, text_of as win_text}
+use Rattle.riichi_shape.specs.LiveCopies.{live_in}
+use Rattle.riichi_shape.specs.declared.accepts.Accepts.{Accepts}
+use Rattle.riichi_shape.specs.declared.accepts.Accepts.TheVariants.{Thirteen, Fourteen}
+use Rattle.riichi_shape.specs.declared.discard.Discard.{Discard}
+use Rattle.riichi_shape.specs.declared.shape_answer.ShapeAnswer.{ShapeAnswer}
+use Rattle.riichi_shape.specs.Text.{letter_of, kind_text, pair_text, kinds_text, list_text, discard_text, accepts_text, text_of as shape_text}
+use Rattle.riichi_explain.proofs.PlainTexts.{plain, after, after3, after4, after5, byte-plain, flat_map-plain, decimal-plain, letter_big, kind_text-plain, tiles_text-plain, and_both}
+use Rattle.desk_core.specs.AnswerText.{answer_text}
+use Rattle.desk_core.specs.Value.{value_of}
+use Rattle.desk_core.specs.declared.answer.Answer.{Answer}
+use Rattle.desk_core.specs.declared.answer.Answer.TheVariants as answer
+use Rattle.desk_lines.specs.Explained.{is_indented}
+use Rattle.desk_lines.specs.LineAnswer.{outcome_text}
+use Rattle.desk_lines.specs.Telling.{is_refusal}
+
+abbrev Outcome : Type 0
+Outcome = Result (Option Job) LineFault
+
+-- ---- faults
+
+line_code-plain : (code : LineCode) → plain (line_code_text code) ≡ true
+line_code-plain = elim [ H1 ↦ refl | H2 ↦ refl | H3 ↦ refl | H4 ↦ refl | H5 ↦ refl | H6 ↦ refl | H7 ↦ refl | H8 ↦ refl | H9 ↦ refl | H10 ↦ refl | H11 ↦ refl | H12 ↦ refl | H13 ↦ refl | H14 ↦ refl | H15 ↦ refl | H16 ↦ refl ]
+
+notation_code-plain : (code : NotationCode) → plain (notation_code_text code) ≡ true
+notation_code-plain = elim [ N1 ↦ refl | N2 ↦ refl | N3 ↦ refl | N4 ↦ refl | N5 ↦ refl | N6 ↦ refl ]
+
+name-plain : (name : TextName) → plain (name_text name) ≡ true
+name-plain = elim [ Hand ↦ refl | On ↦ refl | Dora ↦ refl | Ura ↦ refl | Seen ↦ refl ]
+
+fault_text-plain : (fault : LineFault) → plain (fault_text fault) ≡ true
+fault_text-plain (Line code) = line_code-plain code
+fault_text-plain (Notation name fault) =
+    let front = codes "refused " ++ notation_code_text fault.code ++ codes " " ++ name_text name ++ codes " at " in
+    after front (decimal fault.place) (after5 (codes "refused ") (notation_code_text fault.code) (codes " ") (name_text name) (codes " at ") refl (notation_code-plain fault.code) refl (name-plain name) refl) (decimal-plain fault.place)
+
+-- ---- wins
+
+payment-plain : (payment : Payment) → plain (payment_text payment) ≡ true
+payment-plain (Ron points) = decimal-plain points
+payment-plain (Tsumo other dealer) = after3 (decimal other) (codes "/") (decimal dealer) (decimal-plain other) refl (decimal-plain dealer)
+payment-plain (DealerTsumo each) = after (decimal each) (codes " all") (decimal-plain each) refl
+
+worth-plain : (score : Score) → plain (worth_text score) ≡ true
+worth-plain score = elim (is_yakuman score.yaku) as (λ test. plain (cond test (codes "yakuman ") (decimal score.han ++ codes " han " ++ decimal score.fu ++ codes " fu ")) ≡ true) [
+  | true ↦ refl
+  | false ↦ after4 (decimal score.han) (codes " han ") (decimal score.fu) (codes " fu ") (decimal-plain score.han) refl (decimal-plain score.fu) refl
+]
+
+spaced-plain : (is_there : Bool) (word : List ℕ) → plain word ≡ true → plain (spaced_if is_there word) ≡ true
+spaced-plain true word p = p
+spaced-plain false word p = refl
+
+words_from-plain : (number : ℕ) (rows : List Row) (set : ℕ) → list_all (λ (row : Row). plain row.word) rows ≡ true → plain (words_from number rows set) ≡ true
+words_from-plain number [] set p = refl
+words_from-plain number (row ∷ rows) set p =
+    let parts = and_both (plain row.word) (list_all (λ (other : Row). plain other.word) rows) p in
+    after (spaced_if (has_number set number) row.word) (words_from (number + 1) rows set) (spaced-plain (has_number set number) row.word parts.0) (words_from-plain (number + 1) rows set parts.1)
+
+words_of-plain : (set : ℕ) → plain (words_of set) ≡ true
+unfolding words_of
+words_of-plain set = words_from-plain 0 table set refl
+
+dora-plain : (dora : ℕ) → plain (dora_text dora) ≡ true
+dora-plain dora = elim (nat_eq dora 0) as (λ test. plain (cond test [] (codes " dora " ++ decimal dora)) ≡ true) [ true ↦ refl | false ↦ decimal-plain dora ]
+
+win_text-plain : (win : WinAnswer) → plain (win_text win) ≡ true
+unfolding win_text
+win_text-plain NoWin = refl
+win_text-plain NoYaku = refl
+win_text-plain (Won score) =
+    let front = codes "won " ++ worth_text score ++ payment_text score.payment ++ codes " gain " ++ decimal score.gain in
+    after (front ++ words_of score.yaku) (dora_text score.dora) (after front (words_of score.yaku)
+    (after5 (codes "won ") (worth_text score) (payment_text score.payment) (codes " gain ") (decimal score.gain) refl (worth-plain score) (payment-plain score.payment) refl (decimal-plain score.gain))
+    (words_of-plain score.yaku)) (dora-plain score.dora)
+
+-- ---- waits and shapes
+
+waits-plain : (kinds : List Bool) → plain (waits_text kinds) ≡ true
+waits-plain kinds = elim (list_any (λ mark. mark) kinds) as (λ test. plain (cond test (tiles_text (once kinds)) (codes "-")) ≡ true) [ true ↦ tiles_text-plain (once kinds) | false ↦ refl ]
+
+pair-plain : (pair : ℕ × ℕ) → plain (pair_text pair) ≡ true
+pair-plain pair = byte-plain (49 + pair.0 % 9) (letter_of pair.0 ∷ 58 ∷ (48 + pair.1) ∷ []) (omega arith) (byte-plain (letter_of pair.0) (58 ∷ (48 + pair.1) ∷ []) (letter_big pair.0) (byte-plain (48 + pair.1) [] (omega arith) refl))
+
+kinds-plain : (pairs : List (ℕ × ℕ)) → plain (kinds_text pairs) ≡ true
+kinds-plain [] = refl
+kinds-plain (pair ∷ pairs) = flat_map-plain pair_text (pair ∷ pairs) pair-plain
+
+list-plain : (pairs : List (ℕ × ℕ)) → plain (list_text pairs) ≡ true
+unfolding list_text
+list-plain pairs = after4 (codes " accepts") (kinds_text pairs) (codes " live ") (decimal (live_in pairs)) refl (kinds-plain pairs) refl (decimal-plain (live_in pairs))
+
+discard-plain : (discard : Discard) → plain (discard_text discard) ≡ true
+unfolding discard_text
+discard-plain discard = after3 (codes " discard ") (kind_text discard.kind) (list_text discard.accepted) refl (kind_text-plain discard.kind) (list-plain discard.accepted)
+
+accepts-plain : (accepts : Accepts) → plain (accepts_text accepts) ≡ true
+unfolding accepts_text
+accepts-plain (Thirteen accepted) = list-plain accepted
+accepts-plain (Fourteen discards) = flat_map-plain discard_text discards discard-plain
+
+signed-plain : (number : ℤ) → plain (signed_decimal number) ≡ true
+signed-plain (pos n) = decimal-plain n
+signed-plain (negsuc n) = decimal-plain (suc n)
+
+shape_text-plain : (shape : ShapeAnswer) → plain (shape_text shape) ≡ true
+unfolding shape_text
+shape_text-plain shape = after3 (codes "shanten ") (signed_decimal shape.shanten) (accepts_text shape.accepts) refl (signed-plain shape.shanten) (accepts-plain shape.accepts)
+
+answer_text-plain : (said : Answer) → plain (answer_text said) ≡ true
+unfolding answer_text
+answer_text-plain (answer.Win win) = win_text-plain win
+answer_text-plain (answer.Waits kinds) = waits-plain kinds
+answer_text-plain (answer.Shape shape) = shape_text-plain shape
+
+pub answer-plain : (outcome : Outcome) (said : List ℕ) → outcome_text outcome ≡ Some said → plain said ≡ true
+answer-plain (Ok None) said is = absurd (cc)
+answer-plain (Ok (Some job)) said is = let same : answer_text (value_of job) ≡ said = cc in ap plain (sym same) ∙ answer_text-plain (value_of job)
+answer-plain (Err fault) said is = let same : fault_text fault ≡ said = cc in ap plain (sym same) ∙ fault_text-plain fault
+
+-- ---- how an answer begins
+
+-- neither two spaces, nor `refused` where it is no refusal, whatever stands behind it
+record Begins (text : List ℕ) : Type 0 where
+  indented : is_indented text ≡ false
+  goes_on : (more : List ℕ) → is_refusal (text ++ more) ≡ is_refusal text
+
+win-begins : (win : WinAnswer) → Begins (win_text win)
+unfolding win_text
+win-begins NoWin = record { indented = refl; goes_on = λ more. refl }
+win-begins NoYaku = record { indented = refl; goes_on = λ more. refl }
+win-begins (Won score) = record { indented = refl; goes_on = λ more. refl }
+
+shape-begins : (shape : ShapeAnswer) → Begins (shape_text shape)
+unfolding shape_text
+shape-begins shape = record { indented = refl; goes_on = λ more. refl }
+
+answer-begins : (said : Answer) → Begins (answer_text said)
+unfolding answer_text
+answer-begins (answer.Win win) = win-begins win
+answer-begins (answer.Waits kinds) = record { indented = refl; goes_on = λ more. refl }
+answer-begins (answer.Shape shape) = shape-begins shape
+
+fault-begins : (fault : LineFault) → Begins (fault_text fault)
+fault-begins (Line code) = record { indented = refl; goes_on = λ more. refl }
+fault-begins (Notation name fault) = record { indented = refl; goes_on = λ more. refl }
+
+outcome-begins : (outcome : Outcome) (said : List ℕ) → outcome_text outcome ≡ Some said → Begins said
+outcome-begins (Ok None) said is = absurd (cc)
+outcome-begins (Ok (Some job)) said is = let same : answer_text (value_of job) ≡ said = cc in subst Begins same (answer-begins (value_of job))
+outcome-begins (Err fault) said is = let same : fault_text fault ≡ said = cc in subst Begins same (fault-begins fault)
+
+pub answer-not_indented : (outcome : Outcome) (said : List ℕ) → outcome_text outcome ≡ Some said → is_indented said ≡ false
+answer-not_indented outcome said is = (outcome-begins outcome said is).indented
+
+pub is_refusal-more : (outcome : Outcome) (said more : List ℕ) → outcome_text outcome ≡ Some said → is_refusal (said ++ more) ≡ is_refusal said
+is_refusal-more outcome said more is = (outcome-begins outcome said is).goes_on more

@@ -1,0 +1,98 @@
+//! The answer to one line, and why it is so.
+ghost use Rattle.std.specs.Prelude.{◌≡◌, ℕ, List, ◌∷◌, ◌++◌, []};
+ghost use Rattle.desk_core.specs.AnswerText.{answer_text};
+ghost use Rattle.desk_core.specs.Value.{value_of};
+ghost use Rattle.riichi_explain.specs.Explanation.{IsJobText, IsWinText, IsShapeText};
+ghost use Rattle.riichi_hand.specs.FaultTexts.{fault_text};
+ghost use Rattle.riichi_explain.specs.Faults.{refusal_lines};
+ghost use Rattle.riichi_score.specs.Best.{best_of};
+ghost use Rattle.riichi_score.specs.Text as spec_win;
+ghost use Rattle.riichi_shape.specs.Answer.{shape_of};
+ghost use Rattle.riichi_shape.specs.Text as spec_shape;
+ghost use Rattle.desk_lines.specs.Outbox.{HasRoom};
+
+use super::answering::{put_shape, put_waits};
+use super::line_kind::LineKind;
+use super::outbox::Outbox;
+use super::responder::Responder;
+use riichi_explain::{
+    explain_shape, explain_win, push_refusal_lines, push_shanten_line, push_win_lines,
+};
+use riichi_hand::{Job, LineFault, Rules, ShapeRecord, WinRecord, fault_text, read_line};
+use riichi_score::win_text;
+
+/// The explained answers: that of a line, and behind it lines that begin with two spaces and say why it is so.
+pub(crate) struct Explained;
+
+impl Responder for Explained {
+    ghost use Rattle.desk_lines.specs.Explained.{IsExplained};
+    ghost use Rattle.desk_lines.specs.LongLines.{explanations_alike};
+    ghost use Rattle.desk_lines.specs.Telling.{is_refusal};
+
+    ghost may_tell = { IsExplained };
+
+    ghost refuses = { is_refusal };
+
+    ghost alike = { explanations_alike };
+
+    fn respond(rules: Rules, line: &[u8], outbox: &mut Outbox) -> LineKind {
+        match read_line(rules, line) {
+            Ok(None) => LineKind::NoRecord,
+            Ok(Some(job)) => {
+                put_job(&job, outbox);
+                LineKind::Answered
+            }
+            Err(fault) => {
+                put_refusal(line, &fault, outbox);
+                LineKind::Refused
+            }
+        }
+    }
+}
+
+/// Puts the answer to a job into the outbox, and why it is so.
+fn put_job(job: &Job, outbox: &mut Outbox)
+    requires { HasRoom outbox.old }
+    ensures { (why : List ℕ) × IsJobText job.now why
+        × (outbox.new.bytes.items ≡ outbox.old.bytes.items ++ ((answer_text (value_of job.now) ++ 10 ∷ []) ++ why)) }
+{
+    match job {
+        Job::Win(win) => put_win(win, outbox),
+        Job::Waits(hand) => put_waits(hand, outbox),
+        Job::Shape(tiles) => put_forms(tiles, outbox),
+    }
+}
+
+fn put_win(win: &WinRecord, outbox: &mut Outbox)
+    requires { HasRoom outbox.old }
+    ensures { (why : List ℕ) × IsWinText win.now why
+        × (outbox.new.bytes.items ≡ outbox.old.bytes.items ++ ((spec_win.text_of (best_of win.now) ++ 10 ∷ []) ++ why)) }
+{
+    let explanation = explain_win(win);
+    outbox.put_line(win_text(&explanation.answer()).as_str().as_bytes());
+    outbox.text.clear();
+    push_win_lines(&mut outbox.text, explanation, win);
+    outbox.put_lines();
+}
+
+fn put_forms(tiles: &ShapeRecord, outbox: &mut Outbox)
+    requires { HasRoom outbox.old }
+    ensures { (why : List ℕ) × IsShapeText tiles.now why
+        × (outbox.new.bytes.items ≡ outbox.old.bytes.items ++ ((spec_shape.text_of (shape_of tiles.now) ++ 10 ∷ []) ++ why)) }
+{
+    put_shape(tiles, outbox);
+    outbox.text.clear();
+    push_shanten_line(&mut outbox.text, &explain_shape(tiles));
+    outbox.put_lines();
+}
+
+fn put_refusal(line: &[u8], fault: &LineFault, outbox: &mut Outbox)
+    requires { HasRoom outbox.old }
+    ensures { outbox.new.bytes.items ≡ outbox.old.bytes.items
+        ++ ((fault_text fault.now ++ 10 ∷ []) ++ refusal_lines line.now fault.now) }
+{
+    outbox.put_line(fault_text(fault).as_str().as_bytes());
+    outbox.text.clear();
+    push_refusal_lines(&mut outbox.text, line, fault);
+    outbox.put_lines();
+}

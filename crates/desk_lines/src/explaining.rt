@@ -1,0 +1,54 @@
+//! A text over streams, with explanations.
+ghost use Rattle.std.specs.Prelude.{◌≡◌, ◌++◌, ℕ, List, IfOk, IsErrOf};
+ghost use Rattle.desk_lines.specs.Explained.{IsExplained, without_indented};
+ghost use Rattle.desk_lines.specs.Lines.{ended_lines, lines};
+ghost use Rattle.desk_lines.specs.LineAnswers.{answers, answers_to, report_on};
+ghost use Rattle.desk_lines.specs.Records.{AnswerRecords};
+ghost use Rattle.desk_lines.specs.Streams.{Gives, GivesAll, WritesAll, StopsWriting, AreWhole, FailsOrGoesOn, IsReadWithin};
+ghost use Rattle.desk_lines.specs.Telling.{text_of};
+
+use super::explained::Explained;
+use super::fault::DeskFault;
+use super::report::DeskReport;
+use super::responding::respond_text;
+use desk_streams::{Sink, Source};
+use riichi_hand::Rules;
+use std::marker::Brand;
+
+/// Answers the record lines that a reader gives as `desk_text` does, and writes behind each answer lines that begin
+/// with two spaces and say why it is so. Without these lines the text is that of `desk_text`. It takes no memory, and
+/// has no limit on the number of lines.
+pub fn explain_text<R: Source, W: Sink>(
+    rules: Rules,
+    reader: &mut R,
+    writer: &mut W,
+) -> Result<DeskReport, DeskFault>
+    // The reader was read to its end, and the answers to what it gave were written with their explanations.
+    ensures ok { IfOk result (λ report. (text : List ℕ) × (told : List (List ℕ))
+        × GivesAll ⟦<R as Source>⟧ reader.old reader.new text
+        × AnswerRecords IsExplained rules (lines text) told
+        × WritesAll ⟦<W as Sink>⟧ writer.old writer.new (text_of told)
+        × (without_indented (text_of told) ≡ answers rules text)
+        × (report ≡ report_on rules (lines text))) }
+
+    // A read failed, or there were too many: the answers to the lines that had ended were written.
+    ensures read_failed { IsErrOf result DeskFault.Read → FailsOrGoesOn ⟦<R as Source>⟧ reader.old reader.new
+        × ((text : List ℕ) × (told : List (List ℕ))
+        × Gives ⟦<R as Source>⟧ reader.old reader.new text
+        × AnswerRecords IsExplained rules (ended_lines text) told
+        × WritesAll ⟦<W as Sink>⟧ writer.old writer.new (text_of told)
+        × (without_indented (text_of told) ≡ answers_to rules (ended_lines text))) }
+
+    // A write failed: a front of the answers to the first of the whole lines that the reader gave was written.
+    ensures write_failed { IsErrOf result DeskFault.Write → (text : List ℕ) × (whole first others told : List (List ℕ))
+        × Gives ⟦<R as Source>⟧ reader.old reader.new text
+        × AreWhole (R.is_ended reader.new) text whole
+        × (whole ≡ first ++ others)
+        × AnswerRecords IsExplained rules first told
+        × StopsWriting ⟦<W as Sink>⟧ writer.old writer.new (text_of told) }
+
+    ensures no_memory { IsErrOf result DeskFault.Memory → ⊥ }
+    ensures reads { IsReadWithin ⟦<R as Source>⟧ reader.old reader.new }
+{
+    respond_text::<Explained, Brand, R, W>(rules, reader, writer)
+}

@@ -1,0 +1,58 @@
+//! A text over streams, by one kind of answer.
+ghost use Rattle.std.specs.Prelude.{◌≡◌, ◌++◌, ℕ, List, IfOk, IsErrOf};
+ghost use Rattle.desk_lines.specs.Lines.{ended_lines, lines};
+ghost use Rattle.desk_lines.specs.Records.{AnswerRecords};
+ghost use Rattle.desk_lines.specs.Streams.{Gives, GivesAll, WritesAll, StopsWriting, AreWhole, FailsOrGoesOn, IsReadWithin};
+ghost use Rattle.desk_lines.specs.Telling.{text_of, report_by};
+
+use super::desk::Desk;
+use super::fault::DeskFault;
+use super::profile::GivenRules;
+use super::reading::tell_lines;
+use super::records::Records;
+use super::report::DeskReport;
+use super::responder::Responder;
+use desk_streams::{Sink, Source};
+use riichi_hand::Rules;
+
+/// A record line of 4,096 bytes and its carriage return fit. One byte more shows a longer line.
+pub(crate) const RECORD_ROOM: usize = 4_098;
+
+/// Answers the record lines that a reader gives by the kind of answer `A`, under the profile that the first line sets, or
+/// else the given one, for which `P` stands.
+pub(crate) fn respond_text<A: Responder, P: GivenRules, R: Source, W: Sink>(
+    rules: Rules,
+    reader: &mut R,
+    writer: &mut W,
+) -> Result<DeskReport, DeskFault>
+    requires { rules ≡ P.given }
+
+    // The reader was read to its end, and the answers to what it gave were written.
+    ensures ok { IfOk result (λ report. (text : List ℕ) × (told : List (List ℕ))
+        × GivesAll ⟦<R as Source>⟧ reader.old reader.new text
+        × AnswerRecords A.may_tell rules (lines text) told
+        × WritesAll ⟦<W as Sink>⟧ writer.old writer.new (text_of told)
+        × (report ≡ report_by A.refuses told)) }
+
+    // A read failed, or there were too many: the answers to the lines that had ended were written.
+    ensures read_failed { IsErrOf result DeskFault.Read → FailsOrGoesOn ⟦<R as Source>⟧ reader.old reader.new
+        × ((text : List ℕ) × (told : List (List ℕ))
+        × Gives ⟦<R as Source>⟧ reader.old reader.new text
+        × AnswerRecords A.may_tell rules (ended_lines text) told
+        × WritesAll ⟦<W as Sink>⟧ writer.old writer.new (text_of told)) }
+
+    // A write failed: a front of the answers to the first of the whole lines that the reader gave was written.
+    ensures write_failed { IsErrOf result DeskFault.Write → (text : List ℕ) × (whole first others told : List (List ℕ))
+        × Gives ⟦<R as Source>⟧ reader.old reader.new text
+        × AreWhole (R.is_ended reader.new) text whole
+        × (whole ≡ first ++ others)
+        × AnswerRecords A.may_tell rules first told
+        × StopsWriting ⟦<W as Sink>⟧ writer.old writer.new (text_of told) }
+
+    ensures no_memory { IsErrOf result DeskFault.Memory → ⊥ }
+    ensures reads { IsReadWithin ⟦<R as Source>⟧ reader.old reader.new }
+{
+    let desk: Desk<Records<A, P>, RECORD_ROOM> = Desk::new(Records::new(rules));
+    let told = tell_lines(desk, reader, writer)?;
+    Ok(told.report())
+}

@@ -1,0 +1,375 @@
+-- The lines of an explanation begin with two spaces, and each ends with its line feed.
+use Rattle.std.proofs.Common.{◌≡◌, ℕ, ◌+◌, ◌-◌, ◌*◌, ◌<◌, ◌%◌, List, [], ◌∷◌, ◌++◌, Bool, true, false, cond, nat_eq, nat_lt, length, take, Option, Some, None, Result, Ok, Err, refl, sym, subst, ap, ◌∙◌, arith}
+use Rattle.std.specs.Prelude.{codes, decimal, slice_index}
+use Rattle.std.specs.List.{flat_map}
+use Rattle.riichi_tiles.specs.declared.block.Block.{Block}
+use Rattle.riichi_tiles.specs.declared.block.Block.TheVariants as block
+use Rattle.riichi_tiles.specs.declared.meld.Meld.{Meld}
+use Rattle.riichi_tiles.specs.declared.meld.Meld.TheVariants.{Chi, Pon, Kan, Ankan}
+use Rattle.riichi_tiles.specs.declared.notation.NotationCode.{NotationCode}
+use Rattle.riichi_tiles.specs.declared.notation.NotationCode.TheVariants.{N1, N2, N3, N4, N5, N6}
+use Rattle.riichi_hand.specs.declared.fault.LineCode.{LineCode}
+use Rattle.riichi_hand.specs.declared.fault.LineCode.TheVariants.{H1, H2, H3, H4, H5, H6, H7, H8, H9, H10, H11, H12, H13, H14, H15, H16}
+use Rattle.riichi_hand.specs.declared.fault.LineFault.{LineFault}
+use Rattle.riichi_hand.specs.declared.fault.LineFault.TheVariants.{Line, Notation}
+use Rattle.riichi_hand.specs.declared.job.Job.{Job}
+use Rattle.riichi_hand.specs.declared.job.Job.TheVariants as job
+use Rattle.riichi_hand.specs.declared.win.WinParts.{WinParts}
+use Rattle.riichi_hand.specs.declared.win.Rules.{Rules}
+use Rattle.riichi_hand.specs.Lines.{outcome_of}
+use Rattle.riichi_split.specs.declared.reading.Reading.{Reading}
+use Rattle.riichi_split.specs.declared.reading.Reading.TheVariants as reading
+use Rattle.riichi_shape.specs.declared.forms.FormDistances.{FormDistances}
+use Rattle.riichi_shape.specs.Text.{kind_text, letter_of}
+use Rattle.riichi_yaku.specs.Table.{word_of}
+use Rattle.riichi_yaku.specs.YakuSets.{is_yakuman}
+use Rattle.riichi_score.specs.Scores.{hand_of}
+use Rattle.riichi_explain.specs.declared.base.BaseRule.{BaseRule}
+use Rattle.riichi_explain.specs.declared.base.BaseRule.TheVariants.{Product, Capped, Raised, Limited}
+use Rattle.riichi_explain.specs.declared.base.Limit.{Limit}
+use Rattle.riichi_explain.specs.declared.base.Limit.TheVariants as limit
+use Rattle.riichi_explain.specs.declared.fu.FuPart.{FuPart}
+use Rattle.riichi_explain.specs.declared.fu.FuPart.TheVariants as fu
+use Rattle.riichi_explain.specs.declared.fu.FuRow.{FuRow}
+use Rattle.riichi_explain.specs.declared.han.HanPart.{HanPart}
+use Rattle.riichi_explain.specs.declared.han.HanPart.TheVariants as han
+use Rattle.riichi_explain.specs.declared.han.HanRow.{HanRow}
+use Rattle.riichi_explain.specs.declared.payers.Payer.{Payer}
+use Rattle.riichi_explain.specs.declared.payers.Payer.TheVariants as payer
+use Rattle.riichi_explain.specs.declared.payers.PayRow.{PayRow}
+use Rattle.riichi_explain.specs.declared.win.WonHand.{WonHand}
+use Rattle.riichi_explain.specs.declared.win.WinExplanation.{WinExplanation}
+use Rattle.riichi_explain.specs.declared.win.WinExplanation.TheVariants.{Won, NoYaku, NoWin}
+use Rattle.riichi_explain.specs.Base.{limit_points}
+use Rattle.riichi_explain.specs.Fu.{fu_total}
+use Rattle.riichi_explain.specs.Explanation.{win_lines, IsJobText, IsOutcomeText}
+use Rattle.riichi_explain.specs.Faults.{line_words, notation_words, fault_words, refusal_lines}
+use Rattle.riichi_explain.specs.Forms.{shanten_text, form_text, other_text, shanten_line}
+use Rattle.riichi_explain.specs.Text as text
+use Rattle.riichi_explain.specs.Tiles.{digit_of, run_text, two_text, three_text, four_text, block_text, meld_text}
+use Rattle.riichi_explain.proofs.PlainTexts.{plain, after, after3, after4, after5, byte-plain, flat_map-plain, decimal-plain, letter_big, kind_text-plain, tiles_text-plain, word_of-plain, are_indented, within, pass, lines-append, flat_map-lines}
+
+-- ---- tiles
+
+two_text-plain : (kind : ℕ) → plain (two_text kind) ≡ true
+unfolding two_text
+two_text-plain kind = byte-plain (digit_of kind) (kind_text kind) (omega arith) (kind_text-plain kind)
+
+three_text-plain : (kind : ℕ) → plain (three_text kind) ≡ true
+unfolding three_text
+three_text-plain kind = byte-plain (digit_of kind) (two_text kind) (omega arith) (two_text-plain kind)
+
+four_text-plain : (kind : ℕ) → plain (four_text kind) ≡ true
+unfolding four_text
+four_text-plain kind = byte-plain (digit_of kind) (three_text kind) (omega arith) (three_text-plain kind)
+
+run_text-plain : (low : ℕ) → plain (run_text low) ≡ true
+unfolding run_text
+run_text-plain low =
+    byte-plain (digit_of low) ((digit_of low + 1) ∷ (digit_of low + 2) ∷ letter_of low ∷ []) (omega arith) (byte-plain (digit_of low + 1) ((digit_of low + 2) ∷ letter_of low ∷ []) (omega arith)
+    (byte-plain (digit_of low + 2) (letter_of low ∷ []) (omega arith) (byte-plain (letter_of low) [] (letter_big low) refl)))
+
+block_text-plain : (set : Block) → plain (block_text set) ≡ true
+unfolding block_text
+block_text-plain (block.Run low) = run_text-plain low
+block_text-plain (block.Triplet kind) = three_text-plain kind
+block_text-plain (block.Pair kind) = two_text-plain kind
+
+meld_text-plain : (meld : Meld) → plain (meld_text meld) ≡ true
+unfolding meld_text
+meld_text-plain (Chi low) = run_text-plain low
+meld_text-plain (Pon kind) = three_text-plain kind
+meld_text-plain (Kan kind) = four_text-plain kind
+meld_text-plain (Ankan kind) = four_text-plain kind
+
+-- ---- the reading
+
+set_text-plain : (set : Block) → plain (text.set_text set) ≡ true
+unfolding text.set_text
+set_text-plain set = after (block_text set) (codes " ") (block_text-plain set) refl
+
+spaced_meld-plain : (meld : Meld) → plain (text.spaced_meld meld) ≡ true
+unfolding text.spaced_meld
+spaced_meld-plain meld = meld_text-plain meld
+
+completes_text-plain : (winning : ℕ) (done : Block) → plain (text.completes_text winning done) ≡ true
+unfolding text.completes_text
+completes_text-plain winning done = after4 (codes ", ") (kind_text winning) (codes " completes ") (block_text done) refl (kind_text-plain winning) refl (block_text-plain done)
+
+hand_text-plain : (win : WinParts) → plain (text.hand_text win) ≡ true
+unfolding text.hand_text
+hand_text-plain win = tiles_text-plain (slice_index (hand_of win))
+
+reading_text-plain : (read : Reading) (win : WinParts) → plain (text.reading_text read win) ≡ true
+unfolding text.reading_text
+reading_text-plain (reading.Standard sets pair done) win =
+    let melds = flat_map text.spaced_meld win.melds in
+    let completes = text.completes_text win.winning done in
+    after4 (flat_map text.set_text sets) (two_text pair) melds completes (flat_map-plain text.set_text sets set_text-plain) (two_text-plain pair)
+    (flat_map-plain text.spaced_meld win.melds spaced_meld-plain) (completes_text-plain win.winning done)
+reading_text-plain reading.SevenPairs win =
+    after3 (codes "seven pairs ") (text.hand_text win) (text.completes_text win.winning (block.Pair win.winning)) refl (hand_text-plain win) (completes_text-plain win.winning (block.Pair win.winning))
+reading_text-plain reading.Orphans win = after4 (codes "thirteen orphans ") (text.hand_text win) (codes ", won by ") (kind_text win.winning) refl (hand_text-plain win) refl (kind_text-plain win.winning)
+
+reading_line-lines : (read : Reading) (win : WinParts) → are_indented (text.reading_line read win) ≡ true
+unfolding text.reading_line
+reading_line-lines read win = pass (text.reading_text read win) text.line_feed (reading_text-plain read win)
+
+no_yaku_line-lines : (read : Reading) (win : WinParts) → are_indented (text.no_yaku_line read win) ≡ true
+unfolding text.no_yaku_line
+no_yaku_line-lines read win = pass (text.reading_text read win ++ codes ": no yaku") text.line_feed (after (text.reading_text read win) (codes ": no yaku") (reading_text-plain read win) refl)
+
+-- ---- rows
+
+sum_text-plain : (rows sum : ℕ) → plain (text.sum_text rows sum) ≡ true
+unfolding text.sum_text
+sum_text-plain rows sum = elim (nat_lt 1 rows) as (λ test. plain (cond test (codes ": " ++ decimal sum) []) ≡ true) [ true ↦ decimal-plain sum | false ↦ refl ]
+
+han_part_text-plain : (part : HanPart) → plain (text.han_part_text part) ≡ true
+unfolding text.han_part_text
+han_part_text-plain (han.Yaku number) = word_of-plain number
+han_part_text-plain (han.Yakuman number) = word_of-plain number
+han_part_text-plain han.Dora = refl
+han_part_text-plain han.RedFives = refl
+
+han_number-plain : (part : HanPart) (number : ℕ) → plain (text.han_number part number) ≡ true
+unfolding text.han_number
+han_number-plain (han.Yaku yaku) number = decimal-plain number
+han_number-plain (han.Yakuman yaku) number = refl
+han_number-plain han.Dora number = decimal-plain number
+han_number-plain han.RedFives number = decimal-plain number
+
+han_text-plain : (row : HanRow) → plain (text.han_text row) ≡ true
+unfolding text.han_text
+han_text-plain row = after (text.han_part_text row.part) (text.han_number row.part row.han) (han_part_text-plain row.part) (han_number-plain row.part row.han)
+
+next_han-plain : (row : HanRow) → plain (text.next_han row) ≡ true
+unfolding text.next_han
+next_han-plain row = han_text-plain row
+
+han_list-plain : (rows : List HanRow) → plain (text.han_list rows) ≡ true
+unfolding text.han_list
+han_list-plain [] = refl
+han_list-plain (row ∷ rows) = after (text.han_text row) (flat_map text.next_han rows) (han_text-plain row) (flat_map-plain text.next_han rows next_han-plain)
+
+han_sum-plain : (yakuman : Bool) (rows sum : ℕ) → plain (text.han_sum yakuman rows sum) ≡ true
+unfolding text.han_sum
+han_sum-plain true rows sum = refl
+han_sum-plain false rows sum = sum_text-plain rows sum
+
+han_line-lines : (yakuman : Bool) (number : ℕ) (rows : List HanRow) → are_indented (text.han_line yakuman number rows) ≡ true
+unfolding text.han_line text.han_label
+han_line-lines true number rows =
+    let sum = text.han_sum true (length rows) number in
+    pass (text.han_list rows ++ sum) text.line_feed (after (text.han_list rows) sum (han_list-plain rows) (han_sum-plain true (length rows) number))
+han_line-lines false number rows =
+    let sum = text.han_sum false (length rows) number in
+    pass (text.han_list rows ++ sum) text.line_feed (after (text.han_list rows) sum (han_list-plain rows) (han_sum-plain false (length rows) number))
+
+triplet_words-plain : (kind : ℕ) (concealed : Bool) → plain (text.triplet_words kind concealed) ≡ true
+unfolding text.triplet_words text.shown_text
+triplet_words-plain kind true = three_text-plain kind
+triplet_words-plain kind false = three_text-plain kind
+
+kong_words-plain : (kind : ℕ) (concealed : Bool) → plain (text.kong_words kind concealed) ≡ true
+unfolding text.kong_words text.shown_text
+kong_words-plain kind true = four_text-plain kind
+kong_words-plain kind false = four_text-plain kind
+
+fu_part_text-plain : (part : FuPart) → plain (text.fu_part_text part) ≡ true
+unfolding text.fu_part_text
+fu_part_text-plain fu.Base = refl
+fu_part_text-plain fu.ConcealedRon = refl
+fu_part_text-plain fu.SelfDraw = refl
+fu_part_text-plain (fu.Triplet kind concealed) = triplet_words-plain kind concealed
+fu_part_text-plain (fu.Kong kind concealed) = kong_words-plain kind concealed
+fu_part_text-plain (fu.DragonPair kind) = two_text-plain kind
+fu_part_text-plain (fu.SeatWindPair kind) = two_text-plain kind
+fu_part_text-plain (fu.PrevalentWindPair kind) = two_text-plain kind
+fu_part_text-plain fu.ClosedWait = refl
+fu_part_text-plain fu.EdgeWait = refl
+fu_part_text-plain fu.PairWait = refl
+fu_part_text-plain fu.OpenRon = refl
+fu_part_text-plain fu.SevenPairs = refl
+
+fu_text-plain : (row : FuRow) → plain (text.fu_text row) ≡ true
+unfolding text.fu_text
+fu_text-plain row = after3 (decimal row.fu) (codes " ") (text.fu_part_text row.part) (decimal-plain row.fu) refl (fu_part_text-plain row.part)
+
+next_fu-plain : (row : FuRow) → plain (text.next_fu row) ≡ true
+unfolding text.next_fu
+next_fu-plain row = fu_text-plain row
+
+fu_list-plain : (rows : List FuRow) → plain (text.fu_list rows) ≡ true
+unfolding text.fu_list
+fu_list-plain [] = refl
+fu_list-plain (row ∷ rows) = after (text.fu_text row) (flat_map text.next_fu rows) (fu_text-plain row) (flat_map-plain text.next_fu rows next_fu-plain)
+
+rounded_text-plain : (sum fu : ℕ) → plain (text.rounded_text sum fu) ≡ true
+unfolding text.rounded_text text.rounded_to
+rounded_text-plain sum fu = elim (nat_eq sum fu) as (λ test. plain (cond test [] (codes ", rounded to " ++ decimal fu)) ≡ true) [ true ↦ refl | false ↦ decimal-plain fu ]
+
+fu_line-lines : (rows : List FuRow) (number : ℕ) → are_indented (text.fu_line rows number) ≡ true
+unfolding text.fu_line
+fu_line-lines rows number =
+    let sum = text.sum_text (length rows) (fu_total rows) in
+    let rounded = text.rounded_text (fu_total rows) number in
+    pass (text.fu_list rows ++ sum ++ rounded) text.line_feed (after3 (text.fu_list rows) sum rounded (fu_list-plain rows) (sum_text-plain (length rows) (fu_total rows)) (rounded_text-plain (fu_total rows) number))
+
+fu_line_if-lines : (yakuman : Bool) (rows : List FuRow) (number : ℕ) → are_indented (text.fu_line_if yakuman rows number) ≡ true
+unfolding text.fu_line_if
+fu_line_if-lines true rows number = refl
+fu_line_if-lines false rows number = fu_line-lines rows number
+
+-- ---- base points and payments
+
+product_text-plain : (han fu product : ℕ) → plain (text.product_text han fu product) ≡ true
+unfolding text.product_text
+product_text-plain han fu product =
+    after5 (decimal fu) (codes " x 2^") (decimal (han + 2)) (codes " = ") (decimal product) (decimal-plain fu) refl (decimal-plain (han + 2)) refl (decimal-plain product)
+
+limit_text-plain : (which : Limit) → plain (text.limit_text which) ≡ true
+unfolding text.limit_text text.limit_name
+limit_text-plain limit.Mangan = decimal-plain 2000
+limit_text-plain limit.Haneman = decimal-plain 3000
+limit_text-plain limit.Baiman = decimal-plain 4000
+limit_text-plain limit.Sanbaiman = decimal-plain 6000
+limit_text-plain limit.Yakuman = decimal-plain 8000
+
+han_words-plain : (han : ℕ) → plain (text.han_words han) ≡ true
+unfolding text.han_words
+han_words-plain han = elim (nat_eq han 0) as (λ test. plain (cond test [] (decimal han ++ codes " han, ")) ≡ true) [ true ↦ refl | false ↦ after (decimal han) (codes " han, ") (decimal-plain han) refl ]
+
+base_text-plain : (rule : BaseRule) (han fu : ℕ) → plain (text.base_text rule han fu) ≡ true
+unfolding text.base_text
+base_text-plain (Product product) han fu = product_text-plain han fu product
+base_text-plain (Capped product) han fu = after (text.product_text han fu product) (codes ", mangan 2000") (product_text-plain han fu product) refl
+base_text-plain (Raised product) han fu = after (text.product_text han fu product) (codes ", raised to mangan 2000") (product_text-plain han fu product) refl
+base_text-plain (Limited which) han fu = after (text.han_words han) (text.limit_text which) (han_words-plain han) (limit_text-plain which)
+
+base_line-lines : (rule : BaseRule) (han fu : ℕ) → are_indented (text.base_line rule han fu) ≡ true
+unfolding text.base_line
+base_line-lines rule han fu = pass (text.base_text rule han fu) text.line_feed (base_text-plain rule han fu)
+
+added_text-plain : (what : List ℕ) (points more : ℕ) → plain what ≡ true → plain (text.added_text what points more) ≡ true
+unfolding text.added_text text.sum_of_two
+added_text-plain what points more p =
+    elim (nat_eq more 0) as (λ test. plain (cond test (decimal points) (decimal points ++ codes " + " ++ decimal more ++ what ++ decimal (points + more))) ≡ true) [
+      | true ↦ decimal-plain points
+      | false ↦ after5 (decimal points) (codes " + ") (decimal more) what (decimal (points + more)) (decimal-plain points) refl (decimal-plain more) p (decimal-plain (points + more))
+    ]
+
+payer_name-plain : (who : Payer) → plain (text.payer_name who) ≡ true
+unfolding text.payer_name
+payer_name-plain payer.Discarder = refl
+payer_name-plain payer.Dealer = refl
+payer_name-plain payer.TwoOthers = refl
+payer_name-plain payer.ThreeOthers = refl
+
+each_text-plain : (who : Payer) → plain (text.each_text who) ≡ true
+unfolding text.each_text
+each_text-plain payer.Discarder = refl
+each_text-plain payer.Dealer = refl
+each_text-plain payer.TwoOthers = refl
+each_text-plain payer.ThreeOthers = refl
+
+pay_text-plain : (row : PayRow) → plain (text.pay_text row) ≡ true
+unfolding text.pay_text
+pay_text-plain row =
+    let added = text.added_text (codes " for counters = ") row.points row.counters in
+    after3 (text.payer_name row.payer) added (text.each_text row.payer) (payer_name-plain row.payer) (added_text-plain (codes " for counters = ") row.points row.counters refl) (each_text-plain row.payer)
+
+next_pay-plain : (row : PayRow) → plain (text.next_pay row) ≡ true
+unfolding text.next_pay
+next_pay-plain row = pay_text-plain row
+
+pay_list-plain : (rows : List PayRow) → plain (text.pay_list rows) ≡ true
+unfolding text.pay_list
+pay_list-plain [] = refl
+pay_list-plain (row ∷ rows) = after (text.pay_text row) (flat_map text.next_pay rows) (pay_text-plain row) (flat_map-plain text.next_pay rows next_pay-plain)
+
+pay_line-lines : (rows : List PayRow) → are_indented (text.pay_line rows) ≡ true
+unfolding text.pay_line
+pay_line-lines rows = pass (text.pay_list rows) text.line_feed (pay_list-plain rows)
+
+gain_line-lines : (gain sticks : ℕ) → are_indented (text.gain_line gain sticks) ≡ true
+unfolding text.gain_line
+gain_line-lines gain sticks =
+    pass (text.added_text (codes " for sticks = ") (gain - 1000 * sticks) (1000 * sticks)) text.line_feed (added_text-plain (codes " for sticks = ") (gain - 1000 * sticks) (1000 * sticks) refl)
+
+-- ---- the whole
+
+won_hand_text-lines : (hand : WonHand) → are_indented (text.won_hand_text hand) ≡ true
+unfolding text.won_hand_text
+won_hand_text-lines hand =
+    let yakuman = is_yakuman hand.score.yaku in
+    let reading = text.reading_line hand.reading hand.win in
+    let han = text.han_line yakuman hand.score.han hand.han.items in
+    let fu = text.fu_line_if yakuman hand.fu.items hand.score.fu in
+    let base = text.base_line hand.base hand.score.han hand.score.fu in
+    let pay = text.pay_line hand.payers.items in
+    lines-append (reading ++ han ++ fu ++ base ++ pay) (text.gain_line hand.score.gain hand.win.sticks)
+    (lines-append (reading ++ han ++ fu ++ base) pay
+    (lines-append (reading ++ han ++ fu) base
+    (lines-append (reading ++ han) fu (lines-append reading han (reading_line-lines hand.reading hand.win) (han_line-lines yakuman hand.score.han hand.han.items))
+    (fu_line_if-lines yakuman hand.fu.items hand.score.fu))
+    (base_line-lines hand.base hand.score.han hand.score.fu))
+    (pay_line-lines hand.payers.items))
+    (gain_line-lines hand.score.gain hand.win.sticks)
+
+-- ---- how far from each form
+
+shanten_text-plain : (lack : ℕ) → plain (shanten_text lack) ≡ true
+unfolding shanten_text
+shanten_text-plain lack = elim (nat_eq lack 0) as (λ test. plain (cond test (codes "-1") (decimal (lack - 1))) ≡ true) [ true ↦ refl | false ↦ decimal-plain (lack - 1) ]
+
+form_text-plain : (name : List ℕ) (lack : ℕ) → plain name ≡ true → plain (form_text name lack) ≡ true
+unfolding form_text
+form_text-plain name lack p = after name (shanten_text lack) p (shanten_text-plain lack)
+
+other_text-plain : (name : List ℕ) (lack : Option ℕ) → plain name ≡ true → plain (other_text name lack) ≡ true
+unfolding other_text
+other_text-plain name None p = refl
+other_text-plain name (Some lack) p = form_text-plain name lack p
+
+shanten_line-lines : (forms : FormDistances) → are_indented (shanten_line forms) ≡ true
+unfolding shanten_line
+shanten_line-lines forms =
+    let pairs = other_text (codes ", seven pairs ") forms.seven_pairs in
+    let orphans = other_text (codes ", thirteen orphans ") forms.thirteen_orphans in
+    let standard = form_text (codes "sets and a pair ") forms.sets_and_pair in
+    pass (standard ++ pairs ++ orphans) (10 ∷ []) (after3 standard pairs orphans (form_text-plain (codes "sets and a pair ") forms.sets_and_pair refl)
+    (other_text-plain (codes ", seven pairs ") forms.seven_pairs refl) (other_text-plain (codes ", thirteen orphans ") forms.thirteen_orphans refl))
+
+-- ---- every explanation
+
+win_lines-lines : (explanation : WinExplanation) (win : WinParts) → are_indented (win_lines explanation win) ≡ true
+win_lines-lines (Won hand) win = won_hand_text-lines hand
+win_lines-lines (NoYaku readings) win = flat_map-lines (λ (read : Reading). text.no_yaku_line read win) (take 12 readings) (λ read. no_yaku_line-lines read win)
+win_lines-lines (NoWin forms) win = shanten_line-lines forms
+
+pub job_text-lines : (job : Job) (said : List ℕ) → IsJobText job said → are_indented said ≡ true
+job_text-lines (job.Win win) said is = ap are_indented is.text_is ∙ win_lines-lines is.explanation win
+job_text-lines (job.Waits hand) said is = ap are_indented is
+job_text-lines (job.Shape shape) said is = ap are_indented is.text_is ∙ shanten_line-lines is.forms
+
+-- ---- refusals
+
+line_words-plain : (code : LineCode) → plain (line_words code) ≡ true
+line_words-plain = elim [ H1 ↦ refl | H2 ↦ refl | H3 ↦ refl | H4 ↦ refl | H5 ↦ refl | H6 ↦ refl | H7 ↦ refl | H8 ↦ refl | H9 ↦ refl | H10 ↦ refl | H11 ↦ refl | H12 ↦ refl | H13 ↦ refl | H14 ↦ refl | H15 ↦ refl | H16 ↦ refl ]
+
+notation_words-plain : (code : NotationCode) → plain (notation_words code) ≡ true
+notation_words-plain = elim [ N1 ↦ refl | N2 ↦ refl | N3 ↦ refl | N4 ↦ refl | N5 ↦ refl | N6 ↦ refl ]
+
+fault_words-plain : (fault : LineFault) → plain (fault_words fault) ≡ true
+fault_words-plain (Line code) = line_words-plain code
+fault_words-plain (Notation name fault) = notation_words-plain fault.code
+
+refusal_lines-lines : (line : List ℕ) (fault : LineFault) → are_indented (refusal_lines line fault) ≡ true
+unfolding refusal_lines
+refusal_lines-lines line fault = pass (fault_words fault) (10 ∷ []) (fault_words-plain fault)
+
+pub outcome_text-lines : (line : List ℕ) (outcome : Result (Option Job) LineFault) (said : List ℕ) → IsOutcomeText line outcome said → are_indented said ≡ true
+outcome_text-lines line (Ok None) said is = ap are_indented is
+outcome_text-lines line (Ok (Some job)) said is = job_text-lines job said is
+outcome_text-lines line (Err fault) said is = ap are_indented is ∙ refusal_lines-lines line fault
