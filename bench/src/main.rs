@@ -1,13 +1,14 @@
 //! The program beside plain Rust: the same lines, in one run, as ratios.
 //!
 //! `bench PROGRAM [LINES]` times both; `bench answer < FILE` writes the answers of plain Rust alone;
-//! `bench best TIMED` times the best score alone (`time_best` makes the program TIMED).
+//! `bench score PROGRAM [LINES]` times `score` beside `line`; `bench best TIMED` times the best score alone (`time_best` makes the program TIMED).
 mod answer;
 mod best;
 mod input;
 mod kinds;
 mod line;
 mod pen;
+mod pool;
 mod rows;
 mod score;
 mod shape;
@@ -64,6 +65,7 @@ fn main() -> std::io::Result<()> {
             }
             Ok(())
         }
+        Some("score") => pool::measure(&words[2], words.get(3).and_then(|word| word.parse().ok()).unwrap_or(1_000_000)),
         Some("lines") => std::io::stdout().write_all(&input::lines(&words[2], words[3].parse().unwrap_or(1000))),
         Some(program) => {
             let count = words.get(2).and_then(|word| word.parse().ok()).unwrap_or(100_000);
@@ -75,7 +77,7 @@ fn main() -> std::io::Result<()> {
             Ok(())
         }
         None => {
-            eprintln!("usage: bench PROGRAM [LINES] | bench best TIMED | bench answer < FILE | bench lines win|waits|shape13|shape14 COUNT");
+            eprintln!("usage: bench PROGRAM [LINES] | bench score PROGRAM [LINES] | bench best TIMED | bench answer < FILE | bench lines win|waits|shape13|shape14 COUNT");
             std::process::exit(2)
         }
     }

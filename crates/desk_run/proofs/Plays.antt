@@ -36,7 +36,7 @@ take-next (suc n) [] a h e = absurd (omega arith)
 take-next (suc n) (x ∷ xs) a h e = let same : suc n + 1 ≡ suc (n + 1) = omega arith in
     ap (λ (m : ℕ). take m (x ∷ xs)) same ∙ ap (λ l. x ∷ l) (take-next n xs a (omega arith) e)
 
-take-whole : (jobs : List Job) → take (length jobs) jobs ≡ jobs
+pub take-whole : (jobs : List Job) → take (length jobs) jobs ≡ jobs
 take-whole [] = refl
 take-whole (x ∷ xs) = ap (λ (l : List Job). x ∷ l) (take-whole xs)
 
@@ -120,7 +120,7 @@ played_given lane new jobs n seq answers more answer g e b = subst (λ (l : List
       all = b.all;
     }))
 
-length-taken : (n : ℕ) (jobs : List Job) → n ≤ length jobs → length (take n jobs) ≡ n
+pub length-taken : (n : ℕ) (jobs : List Job) → n ≤ length jobs → length (take n jobs) ≡ n
 length-taken zero jobs h = refl
 length-taken (suc n) [] h = absurd (omega arith)
 length-taken (suc n) (x ∷ xs) h = ap suc (length-taken n xs (omega arith))

@@ -9,5 +9,7 @@ pub mod Sitting
 pub mod SeatStates
 pub mod Parts
 pub mod Played
+pub mod Kept
+pub mod Playing
 pub mod Started
 pub mod Runs

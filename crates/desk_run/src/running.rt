@@ -1,79 +1,56 @@
 //! A run from the calling thread: it plays all tables while the workers work in threads.
-ghost use Rattle.std.specs.Prelude.{◌≡◌, ◌≢◌, ℕ, Err, IfOk, length};
-ghost use Rattle.desk_run.specs.Parts.{AreNewTables};
-ghost use Rattle.desk_run.specs.Runs.{AreValues, IsReady};
-ghost use Rattle.desk_run.specs.Sitting.{board_name};
+ghost use Rattle.std.specs.Prelude.{◌≢◌, Err, IfOk};
+ghost use Rattle.desk_run.specs.Kept.{AreKept};
+ghost use Rattle.desk_run.specs.Runs.{IsReady, lists_played};
 
 use crate::board::Board;
 use crate::gate::Gate;
-use crate::playing::play;
+use crate::keeper::Keeper;
+use crate::player::Player;
+use crate::players::{keepers_of, play_all};
 use crate::run_fault::RunFault;
 use crate::stop_seat::StopSeat;
-use crate::table_seat::TableSeat;
 use crate::worker_thread::{WorkerThread, start_workers};
-use desk_core::Answer;
-use riichi_hand::Job;
 use std::alloc::{AllocError, Global};
 use std::sync::Wait;
 use std::thread::{Scope, Threads};
 
-/// Plays each table with its list of jobs, one table after the other.
-fn play_all<R: Wait>(
-    rt: &R,
-    alloc: Global,
-    board: &Board,
-    tables: &mut Vec<TableSeat>,
-    jobs: &[Vec<Job>],
-) -> Result<Vec<Vec<Answer>>, AllocError>
-    requires tables { (places : ℕ) × AreNewTables (board_name board.now) places tables.old.items }
-    requires count { length tables.old.items ≡ length jobs.now }
-    ensures { IfOk result (λ answers. AreValues jobs.now answers.items) }
-{
-    let mut answers = Vec::with_capacity(alloc, jobs.len())?;
-    for table in 0..jobs.len() {
-        let list = jobs[table].as_slice();
-        answers.push_reserved(play(rt, alloc, board, &mut tables[table], list)?);
-    }
-    Ok(answers)
-}
-
-/// What the calling thread has at the board: the seats of the tables, and the seat that stops the
-/// workers.
+/// What the calling thread has at the board: the tables, and the seat that stops the workers.
 #[derive(Drop)]
-pub(crate) struct TablesThread<'b> {
+pub(crate) struct TablesThread<'b, K> {
     pub(crate) board: &'b Board,
-    pub(crate) tables: Vec<TableSeat>,
+    pub(crate) players: Vec<Player<'b, K>>,
     pub(crate) stop: StopSeat,
 }
 
-impl<'b> TablesThread<'b> {
+impl<'b, K: Keeper + Drop> TablesThread<'b, K> {
     /// Starts the workers, plays all tables, and stops the workers in every case.
     pub(crate) fn run<'s, E, R, G>(
         self,
         scope: &Scope<'s, E>,
         rt: &'s R,
         alloc: Global,
-        jobs: &[Vec<Job>],
         threads: Vec<WorkerThread<'s, G>>,
-    ) -> Result<Vec<Vec<Answer>>, RunFault>
+    ) -> Result<Vec<K>, RunFault>
     where
         R: Threads + Wait + Sync + 's,
         G: Gate + Send + Drop + 's,
-        requires { IsReady self (length jobs.now) }
+        requires { IsReady K.keeps self }
         ensures range { result ≢ Err RunFault.Range }
-        ensures values { IfOk result (λ answers. AreValues jobs.now answers.items) }
+        ensures kept { IfOk result (λ keepers. AreKept K.keeps (lists_played self.entry) keepers.items) }
     {
         let TablesThread {
             board,
-            mut tables,
+            mut players,
             mut stop,
         } = self;
-        let answers = if start_workers(scope, rt, threads) {
-            play_all(rt, alloc, board, &mut tables, jobs).map_err(|_| RunFault::Memory)
+        let played = if start_workers(scope, rt, threads) {
+            play_all(rt, &mut players).map_err(|_| RunFault::Memory)
         } else {
             Err(RunFault::Thread)
         };
         stop.stop(board);
-        answers
+        played?;
+        keepers_of(alloc, players).map_err(|_| RunFault::Memory)
     }
 }

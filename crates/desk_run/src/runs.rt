@@ -1,12 +1,15 @@
 //! Whole runs: the answers of many tables' jobs, with a thread for each worker.
-ghost use Rattle.std.specs.Prelude.{◌≡◌, ◌≢◌, ◌↔◌, ◌⊎◌, Err, IfOk, IsTrue, length, vec_len};
-ghost use Rattle.desk_run.specs.Runs.{IsRunnable, IsReady, AreValues};
+ghost use Rattle.std.specs.Prelude.{◌≡◌, ◌≢◌, ◌↔◌, ◌⊎◌, [], All, Err, IfOk, IsTrue, length, map, vec_len};
+ghost use Rattle.desk_run.specs.Kept.{AreKept};
+ghost use Rattle.desk_run.specs.Runs.{IsRunnable, IsReady, AreValues, lists_played};
 ghost use Rattle.desk_run.specs.Started.{MayStart, IsRefused};
 
 use crate::board::Board;
 use crate::gate::{Gate, NoGate};
 use crate::opening::in_range;
+use crate::keeper::Keeper;
 use crate::parts::BoardParts;
+use crate::players::seat_players;
 use crate::run_fault::RunFault;
 use crate::running::TablesThread;
 use crate::size::BoardSize;
@@ -99,7 +102,72 @@ pub fn run_tables_started<R: Threads + Wait + Sync, G: Gate + Send + Drop, S: St
     if !is_runnable(jobs, gates.len(), places) {
         return Err(RunFault::Range);
     }
-    let Ok(parts) = Board::new(alloc, jobs.len() as u32, gates.len() as u32, places) else {
+    match rooms_for(alloc, jobs) {
+        Ok(rooms) => run_kept(rt, alloc, jobs, rooms, gates, places, start),
+        Err(_) => Err(RunFault::Memory),
+    }
+}
+
+/// For each table room for its answers.
+fn rooms_for(alloc: Global, jobs: &[Vec<Job>]) -> Result<Vec<Vec<Answer>>, AllocError>
+    ensures as_many { IfOk result (λ rooms. length rooms.items ≡ length jobs.now) }
+    ensures empty { IfOk result (λ rooms. All (λ room. room.items ≡ []) rooms.items) }
+{
+    let mut rooms = Vec::with_capacity(alloc, jobs.len())?;
+    for list in jobs {
+        rooms.push_reserved(Vec::with_capacity(alloc, list.len())?);
+    }
+    Ok(rooms)
+}
+
+/// `run_tables` with a keeper for each table, which keeps the answers to the table's jobs as they are
+/// taken, in order, while the workers judge others.
+pub fn run_tables_kept<R: Threads + Wait + Sync, K: Keeper + Drop>(
+    rt: &R,
+    alloc: Global,
+    jobs: &[Vec<Job>],
+    keepers: Vec<K>,
+    workers: u32,
+    places: u32,
+) -> Result<Vec<K>, RunFault>
+    requires as_many { length keepers.items ≡ length jobs.now }
+    requires empty { All (λ keeper. K.keeps keeper []) keepers.items }
+    ensures range { (result ≡ Err RunFault.Range) ↔ (¬ IsRunnable jobs.now workers places) }
+    ensures kept { IfOk result (λ keepers. AreKept K.keeps (map (λ list. list.items) jobs.now) keepers.items) }
+{
+    if !is_runnable(jobs, workers as usize, places) {
+        return Err(RunFault::Range);
+    }
+    match no_gates(alloc, workers) {
+        Ok(gates) => run_kept(rt, alloc, jobs, keepers, gates, places, &mut Always),
+        Err(_) => Err(RunFault::Memory),
+    }
+}
+
+/// A run with a keeper for each table and a worker for each gate.
+fn run_kept<R: Threads + Wait + Sync, K: Keeper + Drop, G: Gate + Send + Drop, S: Start>(
+    rt: &R,
+    alloc: Global,
+    jobs: &[Vec<Job>],
+    keepers: Vec<K>,
+    gates: Vec<G>,
+    places: u32,
+    start: &mut S,
+) -> Result<Vec<K>, RunFault>
+    requires runnable { IsRunnable jobs.now (vec_len gates) places }
+    requires as_many { length keepers.items ≡ length jobs.now }
+    requires empty { All (λ keeper. K.keeps keeper []) keepers.items }
+    ensures range { result ≢ Err RunFault.Range }
+    ensures memory { result ≡ Err RunFault.Memory
+        → (start.new ≡ start.old) ⊎ MayStart S.asked (vec_len gates) start.old start.new }
+    ensures thread { result ≡ Err RunFault.Thread
+        → IsRefused S.asked (vec_len gates) start.old start.new
+        ⊎ MayStart S.asked (vec_len gates) start.old start.new }
+    ensures started { IfOk result (λ _. MayStart S.asked (vec_len gates) start.old start.new) }
+    ensures kept { IfOk result (λ keepers. AreKept K.keeps (map (λ list. list.items) jobs.now) keepers.items) }
+{
+    let count = gates.len() as u32;
+    let Ok(parts) = Board::new(alloc, jobs.len() as u32, count, places) else {
         return Err(RunFault::Memory);
     };
     let BoardParts {
@@ -109,7 +177,9 @@ pub fn run_tables_started<R: Threads + Wait + Sync, G: Gate + Send + Drop, S: St
         stop,
     } = parts;
     let board = &board;
-    let count = gates.len() as u32;
+    let Ok(players) = seat_players(alloc, board, tables, jobs, keepers) else {
+        return Err(RunFault::Memory);
+    };
     let Ok(threads) = WorkerThread::all(alloc, board, workers, gates) else {
         return Err(RunFault::Memory);
     };
@@ -118,16 +188,16 @@ pub fn run_tables_started<R: Threads + Wait + Sync, G: Gate + Send + Drop, S: St
     }
     let tables_thread = TablesThread {
         board,
-        tables,
+        players,
         stop,
     };
     thread::scope(
         thread::scope_env(),
         rt,
-        move |scope| -> Result<Vec<Vec<Answer>>, RunFault>
-            requires { IsReady tables_thread (length jobs.now) }
+        move |scope| -> Result<Vec<K>, RunFault>
+            requires { IsReady K.keeps tables_thread }
             ensures range { result ≢ Err RunFault.Range }
-            ensures values { IfOk result (λ answers. AreValues jobs.entry.now answers.items) }
-        { tables_thread.run(scope, rt, alloc, jobs, threads) },
+            ensures kept { IfOk result (λ keepers. AreKept K.keeps (lists_played tables_thread.entry) keepers.items) }
+        { tables_thread.run(scope, rt, alloc, threads) },
     )
 }

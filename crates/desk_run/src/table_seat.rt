@@ -106,6 +106,11 @@ impl TableSeat {
         count
     }
 
+    /// Whether some place of the table is free.
+    pub(crate) fn has_place(&self) -> bool {
+        !self.own.vacant.is_empty()
+    }
+
     /// How many places the table has.
     fn place_count(&self) -> usize
         ensures { (result ≡ length self.now.states) × (result < 4096) }

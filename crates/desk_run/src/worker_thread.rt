@@ -9,10 +9,10 @@ use crate::board::Board;
 use crate::gate::Gate;
 use crate::worked::Worked;
 use crate::worker_seat::WorkerSeat;
+use crossbeam_utils::Backoff;
 use riichi_shape::RowCache;
 use std::alloc::{AllocError, Global};
 use std::sync::Wait;
-use std::thread;
 use std::thread::{Scope, Threads};
 
 /// How many suit rows each worker keeps.
@@ -29,7 +29,8 @@ pub(crate) struct WorkerThread<'b, G> {
     ghost rows: { cache ≡ 512 },
 }
 
-/// Works until it knows of the stop and finds nothing ready.
+/// Works until it knows of the stop and finds nothing ready. After a round that found nothing it waits a
+/// little, and soon lets other threads run.
 fn work<R: Wait, G: Gate>(
     rt: &R,
     board: &Board,
@@ -40,14 +41,15 @@ fn work<R: Wait, G: Gate>(
     requires { seat.old.board ≡ board_name board.now }
     ensures gate { (xs : List Ticket) × (seat.new.finished ≡ seat.old.finished ++ xs) × FoldsTo G.called gate.old xs gate.new }
 {
+    let backoff = Backoff::new();
     for _ in rt.forever() {
         match seat.work_once(board, gate, cache) {
-            Worked::Did(_) => {}
+            Worked::Did(_) => backoff.reset(),
             Worked::Nothing => {
                 if seat.stopped(board) {
                     return;
                 }
-                thread::yield_now();
+                backoff.snooze();
             }
         }
     }

@@ -1,10 +1,5 @@
-use Rattle.std.proofs.Common.{rules, ℕ, inl, subst, refl}
-use Rattle.desk_run.specs.Started.{IsRefused}
+use Rattle.desk_run.proofs.Keeping.{rooms_kept}
 use Rattle.desk_run.proofs.runs.run_tables_started.Goals as goal
 
-pub scoped-requires : goal.scoped-requires
-scoped-requires g c = let made = c.in-Ok.ensures in
-    record { at = λ scope. (((_, made.tables), made.counts.0, made.stop.0), (search rules, search rules)) }
-
-pub returns-then-not-ask_all-clause-thread : goal.returns-then-not-ask_all-clause-thread
-returns-then-not-ask_all-clause-thread g c = λ _. inl (subst (λ (n : ℕ). IsRefused g.S.Start.asked n c.args.start.now c.ask_all.new.start) c.len-count.ensures (c.if-not-ask_all.ensures.refused refl))
+pub returns-in-Ok-clause-values : goal.returns-in-Ok-clause-values
+returns-in-Ok-clause-values g c = rooms_kept c.args.jobs.now c.run_kept.result c.run_kept.ensures.kept
