@@ -42,6 +42,3 @@ pub use reply::Reply;
 pub use taken::Taken;
 pub use text::{answer_text, push_answer};
 pub use ticket::Ticket;
-
-#[cfg(test)]
-mod tests;

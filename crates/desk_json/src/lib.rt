@@ -18,8 +18,6 @@ mod fault;
 pub mod laws;
 mod number;
 mod shape;
-#[cfg(test)]
-mod tests;
 mod text;
 mod waits;
 mod win;

@@ -14,6 +14,3 @@ pub fn ready_exactly_where_it_waits()
     ensures never_below { (hand : HandParts) → IsCounts hand.concealed → IsHand hand
         → pos 0 ≤ℤ shanten_of hand.concealed hand.melds }
 {}
-
-#[cfg(test)]
-mod tests;

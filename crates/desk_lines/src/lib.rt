@@ -55,6 +55,3 @@ pub use riichi_hand::Rules;
 pub use tables::write_tables;
 pub use text::desk_text;
 pub use waits::{WaitsLine, waits_answer};
-
-#[cfg(test)]
-mod tests;

@@ -20,6 +20,3 @@ pub fn is_ready(hand: &HandRecord) -> bool
     prove!(thirteen);
     shanten(&tiles, &melds) == 0
 }
-
-#[cfg(test)]
-mod tests;

@@ -65,6 +65,3 @@ pub fn replay_text<R: Source, W: Sink>(
     let told = tell_lines(desk, reader, writer)?;
     Ok(told.report())
 }
-
-#[cfg(test)]
-mod tests;

@@ -69,6 +69,3 @@ fn refusal(fault: &LineFault) -> WaitsLine
         refused: true,
     }
 }
-
-#[cfg(test)]
-mod tests;

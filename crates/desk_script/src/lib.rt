@@ -33,6 +33,3 @@ pub use refusal::Refusal;
 pub use script::Script;
 pub use text::{LONGEST, told_text};
 pub use told::Told;
-
-#[cfg(test)]
-mod tests;

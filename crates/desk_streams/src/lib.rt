@@ -31,6 +31,3 @@ pub use journal::Journal;
 pub use sink::Sink;
 pub use source::Source;
 pub use to_writer::ToWriter;
-
-#[cfg(test)]
-mod tests;

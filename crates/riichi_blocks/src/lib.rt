@@ -24,8 +24,6 @@ mod joining;
 mod kinds;
 mod pairs;
 mod reading_shapes;
-#[cfg(test)]
-mod tests;
 mod tiles;
 mod waits;
 mod winner;

@@ -16,8 +16,6 @@
 mod memory;
 mod row_cache;
 mod row_key;
-#[cfg(test)]
-mod tests;
 
 pub use memory::Memory;
 pub use row_cache::RowCache;

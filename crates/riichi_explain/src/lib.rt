@@ -11,8 +11,6 @@ mod payers;
 mod points_text;
 mod reading_text;
 mod rows_text;
-#[cfg(test)]
-mod tests;
 mod tiles_text;
 mod win;
 mod win_text;

@@ -26,8 +26,6 @@ mod hand;
 mod job;
 mod line;
 mod shape;
-#[cfg(test)]
-mod tests;
 mod win;
 
 pub use fault::{

@@ -29,8 +29,6 @@ mod removed;
 mod row;
 mod row_source;
 mod suit_lanes;
-#[cfg(test)]
-mod tests;
 
 pub use join::join_rows;
 pub use joined::{JoinedRows, join_two};

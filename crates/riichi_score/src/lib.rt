@@ -18,8 +18,6 @@ mod points;
 mod read;
 mod score;
 mod settlement;
-#[cfg(test)]
-mod tests;
 mod text;
 mod worth;
 

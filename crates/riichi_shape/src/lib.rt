@@ -46,8 +46,6 @@ mod special;
 mod suit_caps;
 mod suit_of_hand;
 mod suits_lacked;
-#[cfg(test)]
-mod tests;
 mod text;
 
 pub use acceptance::accepted;

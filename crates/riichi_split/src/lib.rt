@@ -35,8 +35,6 @@ mod splits;
 mod standard;
 mod suit;
 mod suit_tiles;
-#[cfg(test)]
-mod tests;
 mod waiting;
 mod winning;
 

@@ -33,8 +33,6 @@ mod melds;
 mod notation;
 mod reds;
 mod suit;
-#[cfg(test)]
-mod tests;
 
 pub use block::Block;
 pub use by_suit::BySuit;

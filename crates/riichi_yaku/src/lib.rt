@@ -13,8 +13,6 @@ mod luck;
 mod outside;
 mod runs;
 mod table;
-#[cfg(test)]
-mod tests;
 mod tiles;
 mod triplets;
 mod win_yaku;

@@ -1,6 +1,6 @@
 //! Worked lines and their answers.
-use crate::{JsonText, answer_text, fault_text, push_fault};
 use desk_core::{Answer, judge};
+use desk_json::{JsonText, answer_text, fault_text, push_fault};
 use riichi_hand::{LineFault, Rules, read_line};
 use std::process::Abort;
 use std::test::Fail;

@@ -1,8 +1,8 @@
-use crate::{
+use arrayvec::ArrayString;
+use desk_core::{
     Answer, Arrived, CoreFault, DeskCore, Event, LIMIT, Lane, Piece, Reply, RunBack, SubmitFault,
     Taken, Ticket, answer_text, judge, judge_with, laws, push_answer,
 };
-use arrayvec::ArrayString;
 use riichi_hand::{
     By, Flags, HandRecord, Job, Rules, ShapeRecord, WinParts, WinRecord, Wind, read_line,
 };

@@ -1,13 +1,13 @@
 //! Worked hands and their answers.
 ghost use Rattle.std.specs.Prelude.{◌<◌, ◌≤◌};
 
-use crate::{
-    Accepts, DiscardList, Memory, RowCache, ShapeAnswer, accepted, join_rows, laws, push_shape,
-    shanten, shape, shape_text, shape_with, suit_row,
-};
 use arrayvec::ArrayString;
 use riichi_hand::ShapeRecord;
 use riichi_rows::join_two;
+use riichi_shape::{
+    Accepts, DiscardList, Memory, RowCache, ShapeAnswer, accepted, join_rows, laws, push_shape,
+    shanten, shape, shape_text, shape_with, suit_row,
+};
 use riichi_tiles::{Counts, Kind, Meld, Melds, read_counts};
 use std::alloc::Global;
 use std::process::Abort;

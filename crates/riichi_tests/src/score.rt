@@ -1,6 +1,6 @@
-use crate::*;
 use arrayvec::ArrayString;
 use riichi_hand::{Job, Rules, read_line};
+use riichi_score::*;
 use std::process::Abort;
 use std::test::Fail;
 

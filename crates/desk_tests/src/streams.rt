@@ -1,6 +1,6 @@
 ghost use Rattle.std.specs.Prelude.{◌≤◌, IfOk};
 
-use super::*;
+use desk_streams::*;
 use std::io;
 use std::io::{Read, Write};
 use std::test::Fail;

@@ -1,5 +1,5 @@
-use super::*;
 use arrayvec::ArrayString;
+use riichi_hand::*;
 use riichi_tiles::{Counts, Kind, Melds, NotationCode, NotationFault, Reds, read_counts};
 use std::process::Abort;
 

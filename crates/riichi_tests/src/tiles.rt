@@ -1,4 +1,4 @@
-use super::*;
+use riichi_tiles::*;
 use std::test::Fail;
 
 #[test]

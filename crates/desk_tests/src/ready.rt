@@ -1,4 +1,4 @@
-use super::is_ready;
+use desk_lines::is_ready;
 use riichi_hand::HandRecord;
 use riichi_tiles::{Kind, Meld, Melds, read_counts};
 use std::test::Fail;

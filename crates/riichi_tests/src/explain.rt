@@ -1,5 +1,5 @@
-use crate::*;
 use arrayvec::ArrayString;
+use riichi_explain::*;
 use riichi_hand::{Job, Rules, WinRecord, read_line};
 use riichi_score::WinAnswer;
 use riichi_shape::FormDistances;

@@ -1,7 +1,7 @@
 //! Hands that are taken back.
 
 use super::{FIRST, a_desk, a_lane_with, quick_job, shape_job, waits_job};
-use crate::{Arrived, Event, Lane, Piece, Reply, SubmitFault, Taken, Ticket, judge};
+use desk_core::{Arrived, Event, Lane, Piece, Reply, SubmitFault, Taken, Ticket, judge};
 use riichi_hand::Job;
 use riichi_shape::Memory;
 use std::alloc::Global;

@@ -1,7 +1,7 @@
 //! A cache answers as fresh rows do, whatever it keeps.
 ghost use Rattle.std.specs.Prelude.{◌≤◌};
 
-use crate::{Memory, RowCache};
+use riichi_cache::{Memory, RowCache};
 use riichi_rows::{FreshRows, RowSource, SuitRow};
 use std::alloc::Global;
 use std::process::Abort;

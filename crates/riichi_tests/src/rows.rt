@@ -1,7 +1,7 @@
 //! Rows worked by hand, and rows without one tile beside rows made anew.
 ghost use Rattle.std.specs.Prelude.{◌≤◌};
 
-use crate::{JoinedRows, RankSet, SuitRow, join_two, suit_row, suit_rows};
+use riichi_rows::{JoinedRows, RankSet, SuitRow, join_two, suit_row, suit_rows};
 use std::process::Abort;
 use std::test::Fail;
 

@@ -1,4 +1,4 @@
-use super::*;
+use desk_lines::laws::*;
 
 #[test]
 fn states_the_law(_rt: HostRuntime) {

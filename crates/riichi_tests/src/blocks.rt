@@ -1,4 +1,4 @@
-use super::*;
+use riichi_blocks::*;
 use riichi_hand::{By, Job, Rules, WinRecord, Wind, read_line};
 use riichi_split::{Reading, Readings};
 use riichi_tiles::{Block, Counts, Kind, read_counts};

@@ -1,6 +1,6 @@
 //! Rows of whole texts.
-use super::*;
 use arrayvec::ArrayString;
+use desk_lines::*;
 use desk_streams::{BytesIn, BytesOut, FromReader, ToWriter};
 use riichi_hand::{LineCode, LineFault, TextName};
 use riichi_tiles::{NotationCode, NotationFault};

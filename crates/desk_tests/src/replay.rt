@@ -1,6 +1,6 @@
 //! Whole scripts. Where memory is refused, a script ends by `DeskFault::Memory`, or a submission is told so.
-use super::*;
 use arrayvec::{ArrayString, ArrayVec};
+use desk_lines::*;
 use desk_streams::{BytesIn, BytesOut};
 use std::io::Print;
 use std::process::Abort;

@@ -1,9 +1,9 @@
-use super::*;
 use arrayvec::ArrayString;
 use riichi_blocks::{all_tiles, blocks_of};
 use riichi_hand::{By, Flags, Rules, WinParts, WinRecord, Wind};
 use riichi_split::Readings;
 use riichi_tiles::{Counts, Kind, Meld, Melds, Reds, read_counts};
+use riichi_yaku::*;
 use std::test::Fail;
 
 fn tiles(text: &[u8]) -> Result<Counts, Fail> {

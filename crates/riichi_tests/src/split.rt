@@ -1,5 +1,5 @@
-use super::*;
 use riichi_hand::HandRecord;
+use riichi_split::*;
 use riichi_tiles::{Block, Counts, Kind, KindSet, Meld, Melds, read_counts};
 use std::test::Fail;
 

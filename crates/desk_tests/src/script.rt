@@ -1,6 +1,6 @@
 //! Scripts line by line.
-use super::*;
 use arrayvec::ArrayVec;
+use desk_script::*;
 use std::alloc::{AllocError, Global};
 use std::io::Print;
 use std::process::Abort;
