@@ -9,7 +9,7 @@ use Rattle.riichi_shape.specs.LiveCopies.{pairs_of}
 use Rattle.riichi_shape.specs.declared.discard.Discard.{Discard}
 use Rattle.riichi_shape.proofs.TextLemmas.{is_live}
 use Rattle.desk_json.specs.Parts.{comma_if, joined, live_text, discard_text}
-use Rattle.desk_json.proofs.Lists.{is_begun, joined_more}
+use Rattle.desk_json.proofs.Lists.{is_begun, begun_one_more, joined_more}
 
 unfoldable pub texts_below : (ℕ → List ℕ) → (ℕ → Bool) → ℕ → List (List ℕ)
 texts_below text test n = map text (filter test (range_with_len 0 n))
@@ -43,10 +43,6 @@ texts_last text test n =
     same : (n : ℕ) → 0 + n ≡ n
     same n = omega arith
 
-begun_more : (texts : List (List ℕ)) (next : List ℕ) → true ≡ is_begun (texts ++ next ∷ [])
-begun_more [] next = refl
-begun_more (text ∷ texts) next = refl
-
 pub start : (text : ℕ → List ℕ) (test : ℕ → Bool) (before : List ℕ) → IsWrittenTo text test 0 before before false
 unfolding texts_below
 start text test before = record { bytes = sym (append-nil before); begun = refl }
@@ -64,7 +60,7 @@ with_one text test n before now then later later' passes so_far e is =
       bytes = e ∙ ap (λ l. (now ++ comma_if l) ++ text n) so_far.begun ∙ ap (λ t. (t ++ comma_if (is_begun texts)) ++ text n) so_far.bytes
           ∙ regroup before (joined texts) (comma_if (is_begun texts)) (text n)
           ∙ ap (λ t. before ++ t) (sym (joined_more texts (text n)) ∙ ap joined (sym more));
-      begun = is ∙ begun_more texts (text n) ∙ ap is_begun (sym more);
+      begun = is ∙ begun_one_more texts (text n) ∙ ap is_begun (sym more);
     }
 
 -- after one that doesn't
@@ -91,6 +87,21 @@ unmarked true told both e = absurd (apart (both.1 refl) e)
     apart : told ≡ true → told ≡ false → ⊥
     apart marked e = cc
 unmarked false told both e = refl
+
+-- ---- the texts of a list
+
+begun_map : {X : Type 0} (text : X → List ℕ) (xs : List X) → is_begun xs ≡ is_begun (map text xs)
+begun_map text [] = refl
+begun_map text (x ∷ xs) = refl
+
+-- after one more of its elements
+pub listed_more : {X : Type 0} (text : X → List ℕ) (before now then : List ℕ) (done : List X) (x : X) (later : Bool) → now ≡ before ++ joined (map text done) → later ≡ is_begun done
+    → then ≡ (now ++ comma_if later) ++ text x → then ≡ before ++ joined (map text (done ++ x ∷ []))
+listed_more text before now then done x later so_far begun e =
+    let texts : List (List ℕ) = map text done in
+    e ∙ ap (λ l. (now ++ comma_if l) ++ text x) (begun ∙ begun_map text done) ∙ ap (λ t. (t ++ comma_if (is_begun texts)) ++ text x) so_far
+    ∙ regroup before (joined texts) (comma_if (is_begun texts)) (text x)
+    ∙ ap (λ t. before ++ t) (sym (joined_more texts (text x)) ∙ ap joined (sym (map-append text done (x ∷ []))))
 
 -- ---- pairs and discards
 

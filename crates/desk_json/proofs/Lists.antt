@@ -13,6 +13,10 @@ abbrev pub is_begun : {X : Type 0} → List X → Bool
 is_begun [] = false
 is_begun (x ∷ xs) = true
 
+pub begun_one_more : {X : Type 0} (xs : List X) (x : X) → true ≡ is_begun (xs ++ x ∷ [])
+begun_one_more [] x = refl
+begun_one_more (y ∷ xs) x = refl
+
 pub joined_more : (texts : List (List ℕ)) (next : List ℕ) → joined (texts ++ next ∷ []) ≡ joined texts ++ (comma_if (is_begun texts) ++ next)
 joined_more [] next = append-nil next
 joined_more (text ∷ texts) next = sym (flat_map_more (λ t. codes "," ++ t) text texts next)

@@ -13,13 +13,16 @@ use Rattle.riichi_score.specs.declared.answer.WinAnswer.TheVariants.{Won, NoYaku
 use Rattle.riichi_shape.specs.declared.accepts.Accepts.{Accepts}
 use Rattle.riichi_shape.specs.declared.accepts.Accepts.TheVariants.{Thirteen, Fourteen}
 use Rattle.riichi_shape.specs.declared.discard.Discard.{Discard}
-use Rattle.riichi_yaku.specs.YakuSets.{has_number}
+use Rattle.riichi_yaku.specs.declared.table.Yaku.{Yaku}
+use Rattle.riichi_yaku.specs.Table as table
+use Rattle.riichi_yaku.specs.YakuSets.{yaku_in}
+use Rattle.riichi_yaku.proofs.Sets.{below_41}
 use Rattle.desk_core.specs.declared.answer.Answer.{Answer}
 use Rattle.desk_core.specs.declared.answer.Answer.TheVariants as answer
 use Rattle.desk_json.specs.Text.{text_of, answer_text}
-use Rattle.desk_json.specs.Trees.{Named, items_of, members_of, kind_tree, yaku_in, yaku_tree, limit_tree, payment_tree, score_tree, win_tree, kinds_in, waits_tree, live_tree, accepted_members, discard_tree, accepts_members, shape_tree, answer_tree}
+use Rattle.desk_json.specs.Trees.{Named, items_of, members_of, kind_tree, yaku_tree, limit_tree, payment_tree, score_tree, win_tree, kinds_in, waits_tree, live_tree, accepted_members, discard_tree, accepts_members, shape_tree, answer_tree}
 use Rattle.desk_json.specs.Whole.{Each, IsWholePayment, IsWholeScore, IsWholePair, IsWholeList, IsWholeDiscard, AreWhole, IsWholeWin, IsWhole}
-use Rattle.desk_json.proofs.Same.{each_in_range, same_answers}
+use Rattle.desk_json.proofs.Same.{each_of_all, same_answers}
 
 -- ---- the numbers are numbers of JSON
 
@@ -27,9 +30,9 @@ items_numbers : {X : Type 0} (tree : X → Json) (P : X → Type 0) → ((x : X)
 items_numbers tree P each [] h = tt
 items_numbers tree P each (x ∷ xs) h = (each x h.0, items_numbers tree P each xs h.1)
 
-yaku_numbers : (yaku : ℕ) → yaku < 41 → HasNumbers (yaku_tree yaku)
+yaku_numbers : (yaku : Yaku) → HasNumbers (yaku_tree yaku)
 unfolding yaku_tree
-yaku_numbers yaku low = (IsNumber-decimal yaku (omega arith), (tt, tt))
+yaku_numbers yaku = (IsNumber-decimal (table.number yaku) (omega (arith, below_41 yaku)), (tt, tt))
 
 limit_numbers : (base : ℕ) → HasNumbers (limit_tree base)
 unfolding limit_tree
@@ -51,7 +54,7 @@ payment_numbers (Tsumo other dealer) h = (IsNumber-decimal dealer (omega arith),
 payment_numbers (DealerTsumo each) h = (IsNumber-decimal each (omega arith), tt)
 
 score_numbers : (score : Score) → IsWholeScore score → HasNumbers (score_tree score)
-unfolding score_tree yaku_in
+unfolding score_tree
 score_numbers score h = (
   tt,
   (
@@ -70,7 +73,7 @@ score_numbers score h = (
                 payment_numbers score.payment h.payment,
                 (
                   IsNumber-decimal score.gain (omega arith),
-                  (items_numbers yaku_tree (λ yaku. yaku < 41) yaku_numbers (yaku_in score.yaku) (each_in_range (has_number score.yaku) 0 41 41 (omega arith)), tt),
+                  (items_numbers yaku_tree (λ yaku. Unit {0}) (λ yaku h. yaku_numbers yaku) (yaku_in score.yaku) (each_of_all (yaku_in score.yaku)), tt),
                 ),
               ),
             ),
@@ -125,7 +128,7 @@ members_shallow (one ∷ named) d h = omega (arith, h.0, members_shallow named d
 below : (d : ℕ) → 0 ≤ d
 below d = omega arith
 
-yaku_shallow : (yaku : ℕ) → depth (yaku_tree yaku) ≤ 1
+yaku_shallow : (yaku : Yaku) → depth (yaku_tree yaku) ≤ 1
 unfolding yaku_tree
 yaku_shallow yaku = omega arith
 

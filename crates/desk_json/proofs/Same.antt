@@ -1,5 +1,5 @@
 -- Equal trees are those of equal answers.
-use Rattle.std.proofs.Common.{◌≡◌, ℕ, zero, suc, ◌+◌, ◌<◌, ◌≤◌, ◌^◌, ◌%◌, ◌⊎◌, inl, inr, Bool, true, false, cond, List, [], ◌∷◌, length, get_or, refl, sym, ap, ◌∙◌, arith, decimal}
+use Rattle.std.proofs.Common.{◌≡◌, ℕ, zero, suc, ◌+◌, ◌<◌, ◌≤◌, ◌^◌, ◌%◌, ◌⊎◌, inl, inr, Bool, true, false, cond, List, [], ◌∷◌, length, map, get_or, refl, sym, ap, ◌∙◌, arith, decimal}
 use Rattle.std.proofs.lemmas.Bool.Decides.{nat_tests}
 use Rattle.std.proofs.lemmas.Bool.{cases_lt}
 use Rattle.std.proofs.lemmas.Fmt.{decimal_injective, signed_decimal_injective}
@@ -20,10 +20,14 @@ use Rattle.riichi_shape.specs.declared.accepts.Accepts.{Accepts}
 use Rattle.riichi_shape.specs.declared.accepts.Accepts.TheVariants.{Thirteen, Fourteen}
 use Rattle.riichi_shape.specs.declared.discard.Discard.{Discard}
 use Rattle.riichi_shape.specs.declared.shape_answer.ShapeAnswer.{ShapeAnswer}
-use Rattle.riichi_yaku.specs.YakuSets.{has_number}
+use Rattle.riichi_yaku.specs.declared.table.Yaku.{Yaku}
+use Rattle.riichi_yaku.specs.declared.table.Yaku.TheVariants.{Riichi}
+use Rattle.riichi_yaku.specs.Table.{every_yaku, number}
+use Rattle.riichi_yaku.specs.YakuSets.{contains, yaku_in}
+use Rattle.riichi_yaku.proofs.Sets.{in_table, below_41}
 use Rattle.desk_core.specs.declared.answer.Answer.{Answer}
 use Rattle.desk_core.specs.declared.answer.Answer.TheVariants as answer
-use Rattle.desk_json.specs.Trees.{answer_of_sort, items_of, list_of, members_of, natural, kind_tree, yaku_in, yaku_tree, payment_tree, score_tree, win_tree, kinds_in, waits_tree, live_tree, accepted_members, discard_tree, accepts_members, shape_tree, answer_tree}
+use Rattle.desk_json.specs.Trees.{answer_of_sort, items_of, list_of, members_of, natural, kind_tree, yaku_tree, payment_tree, score_tree, win_tree, kinds_in, waits_tree, live_tree, accepted_members, discard_tree, accepts_members, shape_tree, answer_tree}
 use Rattle.desk_json.specs.Whole.{Each, IsWholePayment, IsWholeScore, IsWholePair, IsWholeList, IsWholeDiscard, AreWhole, IsWholeShape, IsWholeWin, IsWhole}
 
 -- ---- lists
@@ -39,6 +43,20 @@ same_items tree P same (x ∷ xs) (y ∷ ys) h k e =
     let one : x ≡ y = same x y h.0 k.0 heads in
     let rest : xs ≡ ys = same_items tree P same xs ys h.1 k.1 tails in
     cc
+
+pub each_of_all : {X : Type 0} (xs : List X) → Each (λ x. Unit {0}) xs
+each_of_all [] = tt
+each_of_all (x ∷ xs) = (tt, each_of_all xs)
+
+-- the values of those whose value passes a test
+chosen_values : {X : Type 0} (f : X → ℕ) (test : ℕ → Bool) (xs : List X) → map f (filter (λ x. test (f x)) xs) ≡ filter test (map f xs)
+chosen_values f test [] = refl
+chosen_values f test (x ∷ xs) = by_test (test (f x)) ∙ ap (λ ns. cond (test (f x)) (f x ∷ ns) ns) (chosen_values f test xs)
+  where
+    by_test : (t : Bool) → map f (cond t (x ∷ filter (λ y. test (f y)) xs) (filter (λ y. test (f y)) xs))
+        ≡ cond t (f x ∷ map f (filter (λ y. test (f y)) xs)) (map f (filter (λ y. test (f y)) xs))
+    by_test true = refl
+    by_test false = refl
 
 -- ---- the numbers that pass a test
 
@@ -113,21 +131,35 @@ same_kinds k l low high e =
 same_numbers : (m n : ℕ) → m < 2 ^ 64 → n < 2 ^ 64 → natural m ≡ natural n → m ≡ n
 same_numbers m n low high e = let texts : decimal m ≡ decimal n = cc in decimal_injective m n low high texts
 
-same_yaku : (m n : ℕ) → m < 41 → n < 41 → yaku_tree m ≡ yaku_tree n → m ≡ n
+same_yaku : (x y : Yaku) → yaku_tree x ≡ yaku_tree y → x ≡ y
 unfolding yaku_tree
-same_yaku m n low high e = let numbers : natural m ≡ natural n = cc in same_numbers m n (omega arith) (omega arith) numbers
+same_yaku x y e =
+    let trees : natural (number x) ≡ natural (number y) = cc in
+    let numbers : number x ≡ number y = same_numbers (number x) (number y) (omega (arith, below_41 x)) (omega (arith, below_41 y)) trees in
+    sym (in_table x) ∙ ap (λ n. get_or every_yaku n Riichi) numbers ∙ in_table y
 
-same_bits : (a b i : ℕ) → has_number a i ≡ has_number b i → bit_at a i ≡ bit_at b i
+-- whether a set has the yaku of a number
+has : ℕ → ℕ → Bool
+has set n = bit_at set n == 1
+
+numbers_in : (set : ℕ) → map number (yaku_in set) ≡ filter (has set) (range_with_len 0 41)
+unfolding yaku_in has
+numbers_in set =
+    let numbers : map number every_yaku ≡ range_with_len 0 41 = refl in
+    chosen_values number (has set) every_yaku ∙ ap (filter (has set)) numbers
+
+same_bits : (a b i : ℕ) → has a i ≡ has b i → bit_at a i ≡ bit_at b i
+unfolding has
 same_bits a b i e = of_bits (bit_at a i) (bit_at b i) (bit_at-lt a i) (bit_at-lt b i) e
   where
     of_bits : (x y : ℕ) → x < 2 → y < 2 → (x == 1) ≡ (y == 1) → x ≡ y
     of_bits x y low high e = grind (arith, nat_tests)
 
 same_sets : (a b : ℕ) → a < 2 ^ 41 → b < 2 ^ 41 → items_of yaku_tree (yaku_in a) ≡ items_of yaku_tree (yaku_in b) → a ≡ b
-unfolding yaku_in
 same_sets a b low high e =
-    let numbers = same_items yaku_tree (λ n. n < 41) same_yaku (yaku_in a) (yaku_in b) (each_in_range (has_number a) 0 41 41 (omega arith)) (each_in_range (has_number b) 0 41 41 (omega arith)) e in
-    same_from_bits_below 41 a b low high (λ i within. same_bits a b i (same_tests (has_number a) (has_number b) 0 41 numbers i (omega arith) (omega arith)))
+    let yaku = same_items yaku_tree (λ y. Unit {0}) (λ x y h k. same_yaku x y) (yaku_in a) (yaku_in b) (each_of_all (yaku_in a)) (each_of_all (yaku_in b)) e in
+    let numbers = sym (numbers_in a) ∙ ap (map number) yaku ∙ numbers_in b in
+    same_from_bits_below 41 a b low high (λ i within. same_bits a b i (same_tests (has a) (has b) 0 41 numbers i (omega arith) (omega arith)))
 
 -- the second letter of an object's first name, which tells payments apart
 second_letter : Json → ℕ

@@ -4,8 +4,9 @@ use Rattle.std.specs.Fmt.{signed_decimal}
 use Rattle.riichi_hand.specs.FaultTexts.{line_code_text, notation_code_text, name_text}
 use Rattle.riichi_hand.specs.declared.fault.LineFault.{LineFault}
 use Rattle.riichi_hand.specs.declared.fault.LineFault.TheVariants.{Line, Notation}
-use Rattle.riichi_yaku.specs.Table.{word_of}
-use Rattle.riichi_yaku.specs.YakuSets.{is_yakuman}
+use Rattle.riichi_yaku.specs.declared.table.Yaku.{Yaku}
+use Rattle.riichi_yaku.specs.Table.{number, word}
+use Rattle.riichi_yaku.specs.YakuSets.{is_yakuman, yaku_in}
 use Rattle.riichi_score.specs.declared.payers.Payment.{Payment}
 use Rattle.riichi_score.specs.declared.payers.Payment.TheVariants.{Ron, Tsumo, DealerTsumo}
 use Rattle.riichi_score.specs.declared.score.Score.{Score}
@@ -17,7 +18,7 @@ use Rattle.riichi_shape.specs.declared.accepts.Accepts.{Accepts}
 use Rattle.riichi_shape.specs.declared.accepts.Accepts.TheVariants.{Thirteen, Fourteen}
 use Rattle.riichi_shape.specs.declared.discard.Discard.{Discard}
 use Rattle.riichi_shape.specs.declared.shape_answer.ShapeAnswer.{ShapeAnswer}
-use Rattle.desk_json.specs.Trees.{yaku_in, kinds_in}
+use Rattle.desk_json.specs.Trees.{kinds_in}
 
 -- ---- lists
 
@@ -31,8 +32,8 @@ joined (text ∷ texts) = text ++ flat_map (λ next. codes "," ++ next) texts
 
 -- ---- wins
 
-unfoldable pub yaku_text : ℕ → List ℕ
-yaku_text number = codes "{\"number\":" ++ decimal number ++ codes ",\"word\":\"" ++ word_of number ++ codes "\"}"
+unfoldable pub yaku_text : Yaku → List ℕ
+yaku_text yaku = codes "{\"number\":" ++ decimal (number yaku) ++ codes ",\"word\":\"" ++ word yaku ++ codes "\"}"
 
 abbrev pub yaku_list_text : ℕ → List ℕ
 yaku_list_text set = joined (map yaku_text (yaku_in set))

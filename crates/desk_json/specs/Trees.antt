@@ -1,14 +1,14 @@
 -- The answers as values of JSON.
 use Rattle.std.specs.Prelude.{ℕ, Bool, false, List, [], ◌∷◌, ◌==◌, if◌then◌else◌, codes, decimal, filter, slice_index_or}
 use Rattle.std.specs.Fmt.{signed_decimal}
-use Rattle.std.specs.List.{range_with_len}
 use Rattle.json.specs.Json.{Json, null, boolean, number, string, array, object, Items, no_items, item, Members, no_members, member}
 use Rattle.riichi_tiles.specs.Melds.{every_kind}
 use Rattle.riichi_hand.specs.FaultTexts.{line_code_text, notation_code_text, name_text}
 use Rattle.riichi_hand.specs.declared.fault.LineFault.{LineFault}
 use Rattle.riichi_hand.specs.declared.fault.LineFault.TheVariants.{Line, Notation}
-use Rattle.riichi_yaku.specs.Table.{word_of}
-use Rattle.riichi_yaku.specs.YakuSets.{has_number, is_yakuman}
+use Rattle.riichi_yaku.specs.declared.table.Yaku.{Yaku}
+use Rattle.riichi_yaku.specs.Table as table
+use Rattle.riichi_yaku.specs.YakuSets.{is_yakuman, yaku_in}
 use Rattle.riichi_score.specs.declared.payers.Payment.{Payment}
 use Rattle.riichi_score.specs.declared.payers.Payment.TheVariants.{Ron, Tsumo, DealerTsumo}
 use Rattle.riichi_score.specs.declared.score.Score.{Score}
@@ -57,12 +57,9 @@ kind_tree kind = string (kind_text kind)
 
 -- ---- wins
 
--- the numbers of the yaku in a set, ascending
-unfoldable pub yaku_in : ℕ → List ℕ
-yaku_in set = filter (has_number set) (range_with_len 0 41)
-
-unfoldable pub yaku_tree : ℕ → Json
-yaku_tree yaku = object_of ((codes "number", natural yaku) ∷ (codes "word", string (word_of yaku)) ∷ [])
+-- a yaku, by its number and its word
+unfoldable pub yaku_tree : Yaku → Json
+yaku_tree yaku = object_of ((codes "number", natural (table.number yaku)) ∷ (codes "word", string (table.word yaku)) ∷ [])
 
 -- the name of a limit by its base points
 unfoldable pub limit_tree : ℕ → Json

@@ -2,7 +2,7 @@
 use Rattle.std.proofs.Common.{◌≡◌, ℕ, ℤ, pos, negsuc, suc, ◌+◌, ◌%◌, List, [], ◌∷◌, ◌++◌, Bool, true, false, cond, nat_eq, length, Option, Some, None, Result, Ok, Err, refl, sym, subst, ap, ◌∙◌, arith}
 use Rattle.std.specs.Prelude.{codes, decimal}
 use Rattle.std.specs.Fmt.{signed_decimal}
-use Rattle.std.specs.List.{list_all, list_any, flat_map}
+use Rattle.std.specs.List.{list_any, flat_map}
 use Rattle.riichi_tiles.specs.Printing.{tiles_text, once}
 use Rattle.riichi_tiles.specs.declared.notation.NotationCode.{NotationCode}
 use Rattle.riichi_tiles.specs.declared.notation.NotationCode.TheVariants.{N1, N2, N3, N4, N5, N6}
@@ -15,8 +15,8 @@ use Rattle.riichi_hand.specs.declared.fault.LineFault.TheVariants.{Line, Notatio
 use Rattle.riichi_hand.specs.declared.job.Job.{Job}
 use Rattle.riichi_hand.specs.FaultTexts.{line_code_text, notation_code_text, name_text, fault_text}
 use Rattle.riichi_split.specs.Waits.{waits_text}
-use Rattle.riichi_yaku.specs.Table.{Row, table, words_of, words_from, spaced_if}
-use Rattle.riichi_yaku.specs.YakuSets.{has_number, is_yakuman}
+use Rattle.riichi_yaku.specs.Table.{word}
+use Rattle.riichi_yaku.specs.YakuSets.{is_yakuman, words_of, yaku_in}
 use Rattle.riichi_score.specs.declared.payers.Payment.{Payment}
 use Rattle.riichi_score.specs.declared.payers.Payment.TheVariants.{Ron, Tsumo, DealerTsumo}
 use Rattle.riichi_score.specs.declared.score.Score.{Score}
@@ -29,7 +29,7 @@ use Rattle.riichi_shape.specs.declared.accepts.Accepts.TheVariants.{Thirteen, Fo
 use Rattle.riichi_shape.specs.declared.discard.Discard.{Discard}
 use Rattle.riichi_shape.specs.declared.shape_answer.ShapeAnswer.{ShapeAnswer}
 use Rattle.riichi_shape.specs.Text.{letter_of, kind_text, pair_text, kinds_text, list_text, discard_text, accepts_text, text_of as shape_text}
-use Rattle.riichi_explain.proofs.PlainTexts.{plain, after, after3, after4, after5, byte-plain, flat_map-plain, decimal-plain, letter_big, kind_text-plain, tiles_text-plain, and_both}
+use Rattle.riichi_explain.proofs.PlainTexts.{plain, after, after3, after4, after5, byte-plain, flat_map-plain, decimal-plain, letter_big, kind_text-plain, tiles_text-plain, word-plain}
 use Rattle.desk_core.specs.AnswerText.{answer_text}
 use Rattle.desk_core.specs.Value.{value_of}
 use Rattle.desk_core.specs.declared.answer.Answer.{Answer}
@@ -71,19 +71,9 @@ worth-plain score = elim (is_yakuman score.yaku) as (λ test. plain (cond test (
   | false ↦ after4 (decimal score.han) (codes " han ") (decimal score.fu) (codes " fu ") (decimal-plain score.han) refl (decimal-plain score.fu) refl
 ]
 
-spaced-plain : (is_there : Bool) (word : List ℕ) → plain word ≡ true → plain (spaced_if is_there word) ≡ true
-spaced-plain true word p = p
-spaced-plain false word p = refl
-
-words_from-plain : (number : ℕ) (rows : List Row) (set : ℕ) → list_all (λ (row : Row). plain row.word) rows ≡ true → plain (words_from number rows set) ≡ true
-words_from-plain number [] set p = refl
-words_from-plain number (row ∷ rows) set p =
-    let parts = and_both (plain row.word) (list_all (λ (other : Row). plain other.word) rows) p in
-    after (spaced_if (has_number set number) row.word) (words_from (number + 1) rows set) (spaced-plain (has_number set number) row.word parts.0) (words_from-plain (number + 1) rows set parts.1)
-
 words_of-plain : (set : ℕ) → plain (words_of set) ≡ true
 unfolding words_of
-words_of-plain set = words_from-plain 0 table set refl
+words_of-plain set = flat_map-plain (λ yaku. codes " " ++ word yaku) (yaku_in set) word-plain
 
 dora-plain : (dora : ℕ) → plain (dora_text dora) ≡ true
 dora-plain dora = elim (nat_eq dora 0) as (λ test. plain (cond test [] (codes " dora " ++ decimal dora)) ≡ true) [ true ↦ refl | false ↦ decimal-plain dora ]

@@ -1,6 +1,8 @@
 -- Words on kinds. 0 to 8 are 1m to 9m, 9 to 17 are 1p to 9p, 18 to 26 are 1s to 9s, 27 to 33 are 1z to 7z.
-use Rattle.std.specs.Prelude.{ℕ, ◌/◌, ◌%◌, Bool, not, ◌&&◌, ◌||◌, ◌==◌, nat_le, nat_lt, List}
+use Rattle.std.specs.Prelude.{ℕ, ◌/◌, ◌%◌, Bool, not, ◌&&◌, ◌||◌, ◌==◌, nat_le, nat_lt, List, [], ◌∷◌}
 use Rattle.std.specs.List.{range_with_len}
+use Rattle.riichi_tiles.specs.declared.suit.Suit.{Suit}
+use Rattle.riichi_tiles.specs.declared.suit.Suit.TheVariants.{Characters, Circles, Bamboos}
 
 abbrev pub white : ℕ
 white = 31
@@ -44,6 +46,14 @@ is_simple kind = not (is_orphan kind)
 -- the suits are 0 for m, 1 for p, 2 for s
 abbrev pub is_of_suit : ℕ → ℕ → Bool
 is_of_suit suit kind = kind / 9 == suit
+
+-- characters, circles and bamboos, whose tiles have numbers
+abbrev pub number_suits : List Suit
+number_suits = Characters ∷ Circles ∷ Bamboos ∷ []
+
+-- the ranks 0 to 8 are the numbers 1 to 9
+abbrev pub every_rank : List ℕ
+every_rank = range_with_len 0 9
 
 -- one of 2s 3s 4s 6s 8s 6z
 abbrev pub is_green_tile : ℕ → Bool

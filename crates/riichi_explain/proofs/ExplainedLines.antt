@@ -21,7 +21,6 @@ use Rattle.riichi_split.specs.declared.reading.Reading.{Reading}
 use Rattle.riichi_split.specs.declared.reading.Reading.TheVariants as reading
 use Rattle.riichi_shape.specs.declared.forms.FormDistances.{FormDistances}
 use Rattle.riichi_shape.specs.Text.{kind_text, letter_of}
-use Rattle.riichi_yaku.specs.Table.{word_of}
 use Rattle.riichi_yaku.specs.YakuSets.{is_yakuman}
 use Rattle.riichi_score.specs.Scores.{hand_of}
 use Rattle.riichi_explain.specs.declared.base.BaseRule.{BaseRule}
@@ -47,7 +46,7 @@ use Rattle.riichi_explain.specs.Faults.{line_words, notation_words, fault_words,
 use Rattle.riichi_explain.specs.Forms.{shanten_text, form_text, other_text, shanten_line}
 use Rattle.riichi_explain.specs.Text as text
 use Rattle.riichi_explain.specs.Tiles.{digit_of, run_text, two_text, three_text, four_text, block_text, meld_text}
-use Rattle.riichi_explain.proofs.PlainTexts.{plain, after, after3, after4, after5, byte-plain, flat_map-plain, decimal-plain, letter_big, kind_text-plain, tiles_text-plain, word_of-plain, are_indented, within, pass, lines-append, flat_map-lines}
+use Rattle.riichi_explain.proofs.PlainTexts.{plain, after, after3, after4, after5, byte-plain, flat_map-plain, decimal-plain, letter_big, kind_text-plain, tiles_text-plain, word-plain, are_indented, within, pass, lines-append, flat_map-lines}
 
 -- ---- tiles
 
@@ -127,8 +126,8 @@ sum_text-plain rows sum = elim (nat_lt 1 rows) as (λ test. plain (cond test (co
 
 han_part_text-plain : (part : HanPart) → plain (text.han_part_text part) ≡ true
 unfolding text.han_part_text
-han_part_text-plain (han.Yaku number) = word_of-plain number
-han_part_text-plain (han.Yakuman number) = word_of-plain number
+han_part_text-plain (han.Yaku yaku) = word-plain yaku
+han_part_text-plain (han.Yakuman yaku) = word-plain yaku
 han_part_text-plain han.Dora = refl
 han_part_text-plain han.RedFives = refl
 

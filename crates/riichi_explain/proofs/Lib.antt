@@ -1,4 +1,3 @@
-pub mod Lists
 pub mod FuLemmas
 pub mod HanLemmas
 pub mod WinLemmas

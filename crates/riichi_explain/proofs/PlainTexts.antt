@@ -1,6 +1,6 @@
 -- Texts without a line feed, and lines that begin with two spaces.
-use Rattle.std.proofs.Common.{◌≡◌, ℕ, zero, suc, ◌+◌, ◌<◌, ◌%◌, ◌/◌, List, [], ◌∷◌, ◌++◌, Bool, true, false, cond, nat_eq, nat_lt, map, replicate, refl, ap, ◌∙◌, arith}
-use Rattle.std.specs.Prelude.{not, ◌&&◌, codes, decimal, slice_index_or}
+use Rattle.std.proofs.Common.{◌≡◌, ℕ, zero, suc, ◌+◌, ◌<◌, ◌%◌, ◌/◌, List, [], ◌∷◌, ◌++◌, Bool, true, false, cond, nat_eq, nat_lt, replicate, refl, ap, ◌∙◌, arith}
+use Rattle.std.specs.Prelude.{not, ◌&&◌, codes, decimal}
 use Rattle.std.specs.Fmt.{digits, digits_onto, digit_glyph, signed_decimal}
 use Rattle.std.specs.List.{list_all, flat_map}
 use Rattle.std.proofs.lemmas.Bool.{ne_eqb}
@@ -8,7 +8,9 @@ use Rattle.std.proofs.lemmas.List.Folds.{list_all-append}
 use Rattle.riichi_tiles.specs.Printing.{tiles_text, group}
 use Rattle.riichi_tiles.specs.Printing as printing
 use Rattle.riichi_shape.specs.Text.{kind_text, letter_of}
-use Rattle.riichi_yaku.specs.Table.{Row, table, word_of}
+use Rattle.riichi_yaku.specs.declared.table.Yaku.{Yaku}
+use Rattle.riichi_yaku.specs.declared.table.Yaku.TheVariants.{Riichi}
+use Rattle.riichi_yaku.specs.Table.{word}
 
 abbrev pub plain : List ℕ → Bool
 plain text = list_all (λ byte. not (nat_eq byte 10)) text
@@ -93,13 +95,9 @@ tiles_text-plain copies =
 
 -- ---- the words of the yaku
 
-words_plain : (rows : List Row) (n : ℕ) → list_all (λ (row : Row). plain row.word) rows ≡ true → plain (slice_index_or (map (λ (row : Row). row.word) rows) n []) ≡ true
-words_plain [] n p = refl
-words_plain (row ∷ rows) zero p = (and_both (plain row.word) (list_all (λ (other : Row). plain other.word) rows) p).0
-words_plain (row ∷ rows) (suc n) p = words_plain rows n (and_both (plain row.word) (list_all (λ (other : Row). plain other.word) rows) p).1
-
-pub word_of-plain : (number : ℕ) → plain (word_of number) ≡ true
-word_of-plain number = words_plain table number refl
+pub word-plain : (yaku : Yaku) → plain (word yaku) ≡ true
+word-plain Riichi = refl
+word-plain other = refl
 
 -- ---- lines that begin with two spaces, each with its line feed
 

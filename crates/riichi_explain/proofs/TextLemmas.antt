@@ -2,7 +2,9 @@
 use Rattle.std.proofs.Common.{◌≡◌, ℕ, zero, suc, ◌+◌, ◌<◌, ◌≤◌, Some, None, slice_get, List, [], ◌∷◌, ◌++◌, length, map, max, get_or, take, drop, append_assoc, refl, sym, ap, ◌∙◌, arith}
 use Rattle.std.specs.List.{flat_map}
 use Rattle.std.proofs.lemmas.List.{flat_map_more}
-use Rattle.riichi_yaku.specs.Table.{Row, table, word_of}
+use Rattle.riichi_yaku.specs.declared.table.Yaku.{Yaku}
+use Rattle.riichi_yaku.specs.declared.table.Yaku.TheVariants.{Riichi}
+use Rattle.riichi_yaku.specs.Table.{word}
 
 -- two to five pieces written behind a text
 pub pushed-two : (old a b : List ℕ) {s t : List ℕ} → s ≡ old ++ a → t ≡ s ++ b → t ≡ old ++ (a ++ b)
@@ -39,29 +41,10 @@ some_there (x ∷ xs) (suc i) low e = some_there xs i (omega arith) e
 
 -- ---- the words of the yaku
 
-longest : List Row → ℕ
-longest [] = 0
-longest (row ∷ rows) = max (length row.word) (longest rows)
-
-word-bound : (rows : List Row) (n : ℕ) → length (get_or (map (λ (row : Row). row.word) rows) n []) ≤ longest rows
-unfolding longest
-word-bound [] n = omega arith
-word-bound (row ∷ rows) zero = omega arith
-word-bound (row ∷ rows) (suc n) = omega (arith, word-bound rows n)
-
 -- no word is longer than `all-terminals-and-honours`
-pub word_most : (number : ℕ) → length (word_of number) ≤ 25
-unfolding longest
-word_most number = word-bound table number
-
-no-word : (rows : List Row) (n : ℕ) → length rows ≤ n → get_or (map (λ (row : Row). row.word) rows) n [] ≡ []
-no-word [] n h = refl
-no-word (row ∷ rows) zero h = absurd (omega arith)
-no-word (row ∷ rows) (suc n) h = no-word rows n (omega arith)
-
--- no other number has a word
-pub word_none : (number : ℕ) → 41 ≤ number → word_of number ≡ []
-word_none number h = no-word table number h
+pub word_most : (yaku : Yaku) → length (word yaku) ≤ 25
+word_most Riichi = omega arith
+word_most other = omega arith
 
 -- ---- the first elements of a list, and the next one
 

@@ -10,8 +10,7 @@ use Rattle.riichi_split.specs.declared.reading.Reading.{Reading}
 use Rattle.riichi_split.specs.declared.reading.Reading.TheVariants.{Standard, SevenPairs, Orphans}
 use Rattle.riichi_blocks.specs.Winner.{is_dealer}
 use Rattle.riichi_yaku.specs.Conditions.{yaku_of}
-use Rattle.riichi_yaku.specs.Table.{han_of}
-use Rattle.riichi_yaku.specs.YakuSets.{is_yakuman}
+use Rattle.riichi_yaku.specs.YakuSets.{han_of, is_yakuman}
 use Rattle.riichi_score.specs.Base.{is_raised, base_of}
 use Rattle.riichi_score.specs.Dora.{dora_of}
 use Rattle.riichi_score.specs.Fu.{fu_of}

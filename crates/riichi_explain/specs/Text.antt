@@ -9,7 +9,7 @@ use Rattle.riichi_hand.specs.declared.win.WinParts.{WinParts}
 use Rattle.riichi_split.specs.declared.reading.Reading.{Reading}
 use Rattle.riichi_split.specs.declared.reading.Reading.TheVariants as reading
 use Rattle.riichi_shape.specs.Text.{kind_text}
-use Rattle.riichi_yaku.specs.Table.{word_of}
+use Rattle.riichi_yaku.specs.Table.{word}
 use Rattle.riichi_yaku.specs.YakuSets.{is_yakuman}
 use Rattle.riichi_score.specs.Scores.{hand_of}
 use Rattle.riichi_explain.specs.declared.base.BaseRule.{BaseRule}
@@ -71,15 +71,15 @@ unfoldable pub sum_text : ℕ → ℕ → List ℕ
 sum_text rows sum = if nat_lt 1 rows then codes ": " ++ decimal sum else []
 
 unfoldable pub han_part_text : HanPart → List ℕ
-han_part_text (han.Yaku number) = word_of number
-han_part_text (han.Yakuman number) = word_of number
+han_part_text (han.Yaku yaku) = word yaku
+han_part_text (han.Yakuman yaku) = word yaku
 han_part_text han.Dora = codes "dora"
 han_part_text han.RedFives = codes "red fives"
 
 -- a yakuman has no number of han
 unfoldable pub han_number : HanPart → ℕ → List ℕ
-han_number (han.Yaku number) han = codes " " ++ decimal han
-han_number (han.Yakuman number) han = []
+han_number (han.Yaku yaku) han = codes " " ++ decimal han
+han_number (han.Yakuman yaku) han = []
 han_number han.Dora han = codes " " ++ decimal han
 han_number han.RedFives han = codes " " ++ decimal han
 

@@ -1,8 +1,6 @@
 //! The rows of a hand's han.
-ghost use Rattle.std.specs.Prelude.{◌≡◌, ◌+◌, ◌<◌, ◌≤◌, ◌++◌, [], length, true, false};
-ghost use Rattle.std.specs.List.{flat_map};
-ghost use Rattle.riichi_yaku.specs.Table.{han_of};
-ghost use Rattle.riichi_yaku.specs.YakuSets.{is_yakuman};
+ghost use Rattle.std.specs.Prelude.{◌≡◌, ◌+◌, ◌<◌, ◌≤◌, ◌++◌, [], length, map, true, false};
+ghost use Rattle.riichi_yaku.specs.YakuSets.{han_of, is_yakuman, yaku_in};
 ghost use Rattle.riichi_tiles.specs.Melds.{are_concealed};
 ghost use Rattle.riichi_score.specs.Dora as dora_spec;
 ghost use Rattle.riichi_explain.specs.Han as spec;
@@ -10,14 +8,14 @@ ghost use Rattle.riichi_explain.specs.Han as spec;
 use arrayvec::ArrayVec;
 use riichi_hand::{Rules, WinRecord};
 use riichi_score::{YakuSet, dora};
-use riichi_yaku::han_at;
+use riichi_yaku::Yaku;
 
-/// What earns han. A yaku is told by its number in the table of the yaku.
+/// What earns han.
 #[derive(Clone, Copy, Debug, PartialEq, Eq)]
 pub enum HanPart {
-    Yaku(u8),
+    Yaku(Yaku),
     /// A yaku that is worth the limit, without han.
-    Yakuman(u8),
+    Yakuman(Yaku),
     /// What the indicators make dora.
     Dora,
     RedFives,
@@ -62,43 +60,22 @@ pub fn han_rows(set: YakuSet, win: &WinRecord) -> HanRows
 
 fn push_yakuman(rows: &mut HanRows, set: YakuSet)
     requires { rows.old.items ≡ [] }
-    ensures { rows.new.items ≡ flat_map (spec.yakuman_row set) spec.every_yaku }
+    ensures { rows.new.items ≡ map spec.yakuman_row (yaku_in set) }
 {
-    for number in 0..41 {
-        push_yakuman_row(rows, set, number);
-    }
-}
-
-fn push_yakuman_row(rows: &mut HanRows, set: YakuSet, number: u8)
-    requires { length rows.old.items ≤ 42 }
-    ensures items { rows.new.items ≡ rows.old.items ++ spec.yakuman_row set number }
-    ensures most { length rows.new.items ≤ length rows.old.items + 1 }
-{
-    if set.contains(number) {
-        let part = HanPart::Yakuman(number);
+    for yaku in set.iter() {
+        let part = HanPart::Yakuman(yaku);
         rows.push(HanRow { part, han: 0 });
     }
 }
 
 fn push_yaku(rows: &mut HanRows, set: YakuSet, concealed: bool)
     requires { rows.old.items ≡ [] }
-    ensures items { rows.new.items ≡ flat_map (spec.yaku_row set concealed) spec.every_yaku }
+    ensures items { rows.new.items ≡ map (spec.yaku_row concealed) (yaku_in set) }
     ensures most { length rows.new.items ≤ 41 }
 {
-    for number in 0..41 {
-        push_yaku_row(rows, set, concealed, number);
-    }
-}
-
-fn push_yaku_row(rows: &mut HanRows, set: YakuSet, concealed: bool, number: u8)
-    requires number { number < 41 }
-    requires room { length rows.old.items ≤ 42 }
-    ensures items { rows.new.items ≡ rows.old.items ++ spec.yaku_row set concealed number }
-    ensures most { length rows.new.items ≤ length rows.old.items + 1 }
-{
-    if set.contains(number) {
-        let part = HanPart::Yaku(number);
-        let han = han_at(number, concealed);
+    for yaku in set.iter() {
+        let part = HanPart::Yaku(yaku);
+        let han = yaku.han(concealed);
         rows.push(HanRow { part, han });
     }
 }

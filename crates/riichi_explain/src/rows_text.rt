@@ -2,7 +2,7 @@
 ghost use Rattle.std.specs.Prelude.{◌≡◌, ◌+◌, ◌≤◌, ◌++◌, length};
 ghost use Rattle.std.specs.List.{flat_map};
 ghost use Rattle.arrayvec.specs.ArrayString.{array_string_len};
-ghost use Rattle.riichi_yaku.specs.Table.{word_of};
+ghost use Rattle.riichi_yaku.specs.Table.{word};
 ghost use Rattle.riichi_explain.specs.Text as spec;
 ghost use Rattle.riichi_explain.specs.Tiles.{two_text};
 
@@ -11,7 +11,7 @@ use crate::han::{HanPart, HanRow};
 use crate::tiles_text::{push_four, push_number, push_small, push_three, push_two};
 use arrayvec::ArrayString;
 use riichi_tiles::Kind;
-use riichi_yaku::word;
+use riichi_yaku::Yaku;
 
 /// Writes the line of the rows of han. That of a yakuman has its names alone.
 #[tactic(auto, unfolding(crate::specs::Text::han_line))]
@@ -115,22 +115,19 @@ fn push_han_part(text: &mut ArrayString<3072>, part: &HanPart)
     ensures len { array_string_len text.new ≤ array_string_len text.old + 25 }
 {
     match part {
-        HanPart::Yaku(number) => push_word(text, *number),
-        HanPart::Yakuman(number) => push_word(text, *number),
+        HanPart::Yaku(yaku) => push_word(text, *yaku),
+        HanPart::Yakuman(yaku) => push_word(text, *yaku),
         HanPart::Dora => text.push_str("dora"),
         HanPart::RedFives => text.push_str("red fives"),
     }
 }
 
-/// The word of a yaku, and nothing for a number beyond their table.
-fn push_word(text: &mut ArrayString<3072>, number: u8)
+fn push_word(text: &mut ArrayString<3072>, yaku: Yaku)
     requires { array_string_len text.old + 25 ≤ 3072 }
-    ensures bytes { text.new.bytes ≡ text.old.bytes ++ word_of number }
+    ensures bytes { text.new.bytes ≡ text.old.bytes ++ word yaku }
     ensures len { array_string_len text.new ≤ array_string_len text.old + 25 }
 {
-    if number < 41 {
-        text.push_str(word(number));
-    }
+    text.push_str(yaku.word());
 }
 
 /// A yakuman has no number of han.

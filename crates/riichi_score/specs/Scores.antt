@@ -5,8 +5,7 @@ use Rattle.riichi_hand.specs.declared.win.WinParts.{WinParts}
 use Rattle.riichi_split.specs.declared.reading.Reading.{Reading}
 use Rattle.riichi_split.specs.Readings.{IsReading}
 use Rattle.riichi_yaku.specs.Conditions.{yaku_of}
-use Rattle.riichi_yaku.specs.Table.{han_of}
-use Rattle.riichi_yaku.specs.YakuSets.{is_yakuman}
+use Rattle.riichi_yaku.specs.YakuSets.{han_of, is_yakuman}
 use Rattle.riichi_score.specs.declared.score.Score.{Score}
 use Rattle.riichi_score.specs.Base.{base_of}
 use Rattle.riichi_score.specs.Dora.{dora_of}

@@ -1,7 +1,6 @@
 -- The text of an answer.
 use Rattle.std.specs.Prelude.{ℕ, ◌==◌, List, [], ◌++◌, codes, decimal, if◌then◌else◌}
-use Rattle.riichi_yaku.specs.Table.{words_of}
-use Rattle.riichi_yaku.specs.YakuSets.{is_yakuman}
+use Rattle.riichi_yaku.specs.YakuSets.{is_yakuman, words_of}
 use Rattle.riichi_score.specs.declared.payers.Payment.{Payment}
 use Rattle.riichi_score.specs.declared.payers.Payment.TheVariants.{Ron, Tsumo, DealerTsumo}
 use Rattle.riichi_score.specs.declared.score.Score.{Score}

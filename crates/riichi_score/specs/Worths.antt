@@ -2,8 +2,7 @@
 use Rattle.std.specs.Prelude.{ℕ, ◌+◌, ◌==◌, List, [], ◌∷◌, Option, Some, None, if◌then◌else◌}
 use Rattle.riichi_tiles.specs.Melds.{are_concealed}
 use Rattle.riichi_hand.specs.declared.win.WinParts.{WinParts}
-use Rattle.riichi_yaku.specs.Table.{han_of}
-use Rattle.riichi_yaku.specs.YakuSets.{is_yakuman}
+use Rattle.riichi_yaku.specs.YakuSets.{han_of, is_yakuman}
 use Rattle.riichi_score.specs.declared.answer.WinAnswer.{WinAnswer}
 use Rattle.riichi_score.specs.declared.answer.WinAnswer.TheVariants as answer
 use Rattle.riichi_score.specs.declared.leading.Leading.{Leading}

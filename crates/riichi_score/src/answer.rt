@@ -13,7 +13,6 @@ use riichi_blocks::all_tiles;
 use riichi_hand::WinRecord;
 use riichi_split::Readings;
 use riichi_tiles::Counts;
-use riichi_yaku::yaku_of_win;
 
 /// What a win is worth.
 #[derive(Clone, Copy, Debug, PartialEq, Eq)]
@@ -33,11 +32,10 @@ pub fn best(win: &WinRecord) -> WinAnswer
 {
     let dora = dora(win);
     let tiles = all_tiles(win);
-    let told = yaku_of_win(&tiles, win);
     let hand = hand_of(win);
     let mut best = Leading::NoWin;
     for reading in Readings::new(&hand, &win.melds(), win.winning()) {
-        best = best.better(worth_of(&reading, &tiles, &told, win, dora));
+        best = best.better(worth_of(&reading, &tiles, win, dora));
     }
     best.answer(win)
 }

@@ -1,17 +1,17 @@
 //! Han and base points.
 ghost use Rattle.std.specs.Prelude.{◌≡◌, ◌+◌, ◌≤◌};
-ghost use Rattle.riichi_yaku.specs.Table.{han_of};
+ghost use Rattle.riichi_yaku.specs.YakuSets.{han_of};
 ghost use Rattle.riichi_score.specs.Base as spec;
 
 use riichi_hand::Rules;
-use riichi_yaku::{YakuSet, han_of};
+use riichi_yaku::YakuSet;
 
 /// The han of a counted hand: those of its set of yaku, and the dora.
 pub fn han(yaku: YakuSet, concealed: bool, dora: u8) -> u8
     requires { dora ≤ 100 }
     ensures { result ≡ han_of yaku concealed + dora }
 {
-    han_of(yaku, concealed) + dora
+    yaku.han(concealed) + dora
 }
 
 /// The base points of a counted hand. Under the second profile four han 30 fu and three han 60 fu

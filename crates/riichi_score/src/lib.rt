@@ -2,7 +2,7 @@
 //!
 //! A `Score` is that of one reading of the hand: its han (`han`, with the `dora`) and its `fu` give the
 //! `base_points`, these what each player pays (`payment`, a `Payment`), and that the winner's `gain`.
-//! The yaku are those of riichi_yaku, whose `yaku` and `YakuSet` stand here again. `best` is the greatest
+//! The yaku are those of riichi_yaku, whose `Yaku`, `YakuSet` and `yaku_of` stand here again. `best` is the greatest
 //! score among the readings that have a yaku, and `best_reading` gives the reading too.
 //!
 //! Of 234m567m345p67s99s won by ron with 5s, `win_text(&best(&win))` says
@@ -27,7 +27,7 @@ pub use indicators::dora;
 pub use payers::{Payment, gain};
 pub use points::{block_fu, draw_fu, fu, ron_fu};
 pub use read::{BestReading, best_reading};
-pub use riichi_yaku::{YakuSet, yaku};
+pub use riichi_yaku::{Yaku, YakuSet, yaku_of};
 pub use score::Score;
 pub use settlement::{payment, up};
 pub use text::win_text;

@@ -14,7 +14,6 @@ use crate::worth::{Worth, worth_of};
 use riichi_blocks::all_tiles;
 use riichi_hand::WinRecord;
 use riichi_split::{Reading, Readings};
-use riichi_yaku::yaku_of_win;
 
 /// What a win is worth, as [`best`](crate::best) answers, with the reading that is worth so much.
 #[derive(Clone, Copy, Debug, PartialEq, Eq)]
@@ -111,11 +110,10 @@ pub fn best_reading(win: &WinRecord) -> BestReading
 {
     let dora = dora(win);
     let tiles = all_tiles(win);
-    let told = yaku_of_win(&tiles, win);
     let hand = hand_of(win);
     let mut leading = LeadingReading::none();
     for reading in Readings::new(&hand, &win.melds(), win.winning()) {
-        let worth = worth_of(&reading, &tiles, &told, win, dora);
+        let worth = worth_of(&reading, &tiles, win, dora);
         leading = leading.better(reading, worth);
     }
     leading.answer(win)

@@ -2,7 +2,6 @@
 ghost use Rattle.std.specs.Prelude.{◌≡◌, ◌≤◌};
 ghost use Rattle.riichi_tiles.specs.Melds.{are_concealed};
 ghost use Rattle.riichi_blocks.specs.Held.{all_tiles};
-ghost use Rattle.riichi_yaku.specs.WinYaku.{win_yaku};
 ghost use Rattle.riichi_score.specs.Best as best_spec;
 ghost use Rattle.riichi_score.specs.Dora.{dora_of};
 ghost use Rattle.riichi_score.specs.Fu.{HasFourSets};
@@ -15,7 +14,7 @@ use crate::{base_points, gain, han, payment};
 use riichi_blocks::{AllTiles, Blocks, push_blocks};
 use riichi_hand::WinRecord;
 use riichi_split::Reading;
-use riichi_yaku::{WinYaku, YakuSet, yaku_among};
+use riichi_yaku::{YakuSet, yaku_among};
 
 /// A score without what is paid for it, which the win and the base points tell.
 #[derive(Clone, Copy)]
@@ -66,18 +65,16 @@ impl Worth {
     }
 }
 
-/// What a reading is worth, if it has a yaku. All tiles, what is told of them and the dora are those of the win.
+/// What a reading is worth, if it has a yaku. All tiles and the dora are those of the win.
 #[tactic(auto, unfolding(crate::specs::Scores::score_of))]
 pub(crate) fn worth_of(
     reading: &Reading,
     tiles: &AllTiles,
-    told: &WinYaku,
     win: &WinRecord,
     dora: u8,
 ) -> Option<Worth>
     requires sets { HasFourSets reading.now win.now }
     requires tiles { tiles.now ≡ all_tiles win.now }
-    requires told { told.now ≡ win_yaku win.now }
     requires dora { dora ≡ dora_of win.now }
     requires most { dora ≤ 52 }
     ensures value { spec.score_if result win.now ≡ score_of reading.now win.now }
@@ -85,9 +82,10 @@ pub(crate) fn worth_of(
 {
     let mut blocks = Blocks::new();
     push_blocks(&mut blocks, reading, win);
-    let yaku = yaku_among(&blocks, reading, tiles, told, win);
-    let fu = fu_among(&blocks, reading, told.concealed, win);
-    valued(yaku, fu, dora, told.concealed, win)
+    let yaku = yaku_among(&blocks, reading, tiles, win);
+    let concealed = win.melds().concealed();
+    let fu = fu_among(&blocks, reading, concealed, win);
+    valued(yaku, fu, dora, concealed, win)
 }
 
 fn valued(yaku: YakuSet, fu: u8, dora: u8, concealed: bool, win: &WinRecord) -> Option<Worth>

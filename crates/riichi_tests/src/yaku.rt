@@ -41,7 +41,7 @@ fn drawn(text: &[u8], winning: u8) -> Result<YakuSet, Fail> {
     let win = won(text, winning, Melds::new(), By::Tsumo)?;
     let mut set = None;
     for reading in Readings::new(&tiles(text)?, &Melds::new(), winning) {
-        set = Some(yaku(&reading, &win));
+        set = Some(yaku_of(&reading, &win));
     }
     Ok(set.ok_or("a reading")?)
 }
@@ -88,7 +88,7 @@ fn tells_the_yaku(rt: HostRuntime) -> Result<(), Fail> {
     for (text, winning, words, han) in rows {
         let set = drawn(text, winning)?;
         assert_eq!(rt; words_of(set).as_str(), words);
-        assert_eq!(rt; han_of(set, true), han);
+        assert_eq!(rt; set.han(true), han);
         assert_eq!(rt; set.is_yakuman(), han == 0);
         assert!(rt; !set.is_empty());
     }
@@ -102,17 +102,16 @@ fn tells_an_open_hand(rt: HostRuntime) -> Result<(), Fail> {
     melds.push(Meld::Pon(Kind::at(27)));
     let win = won(text, Kind::at(20), melds, By::Ron)?;
     for reading in Readings::new(&tiles(text)?, &melds, Kind::at(20)) {
-        let set = yaku(&reading, &win);
+        let set = yaku_of(&reading, &win);
         assert_eq!(rt; set.bits(), 0b1100_0000_0000);
-        assert!(rt; set.contains(10) && set.contains(11));
-        assert!(rt; !set.contains(9) && !set.contains(64));
-        assert_eq!(rt; word(10), "seat-wind");
-        assert_eq!(rt; han_of(set, false), 2);
+        assert!(rt; set.contains(Yaku::SeatWind) && set.contains(Yaku::PrevalentWind));
+        assert!(rt; !set.contains(Yaku::RedDragon) && !set.contains(Yaku::BlessingOfEarth));
+        assert_eq!(rt; Yaku::SeatWind.word(), "seat-wind");
+        assert_eq!(rt; set.han(false), 2);
         let blocks = blocks_of(&reading, &win);
         assert!(rt; !is_pinfu(&blocks, &reading, &win));
         let all = all_tiles(&win);
-        let told = yaku_of_win(&all, &win);
-        assert!(rt; yaku_among(&blocks, &reading, &all, &told, &win) == set);
+        assert!(rt; yaku_among(&blocks, &reading, &all, &win) == set);
     }
     Ok(())
 }

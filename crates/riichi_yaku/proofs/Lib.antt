@@ -1,7 +1,3 @@
-pub mod Numbers
-pub mod Sums
-pub mod Flags
 pub mod Sets
-pub mod Words
-pub mod FewBlocks
-pub mod Joined
+pub mod InOrder
+pub mod Chains

@@ -5,7 +5,6 @@ use Rattle.riichi_hand.specs.declared.win.WinParts.{WinParts}
 use Rattle.riichi_hand.specs.Win.{wind_kind}
 use Rattle.riichi_blocks.specs.declared.hand_block.HandBlock.{HandBlock}
 use Rattle.riichi_blocks.specs.declared.hand_block.HandBlock.TheVariants.{Run, Triplet, Kong, Pair}
-use Rattle.riichi_yaku.specs.declared.honours.Honours.{Honours}
 use Rattle.riichi_blocks.specs.HandBlocks.{has_triplet}
 use Rattle.riichi_blocks.specs.Kinds.{white, green, red, winds, dragons, is_wind, is_dragon}
 
@@ -54,13 +53,3 @@ is_last_wind blocks (Pair kind) = is_wind kind && has_other_triplets blocks wind
 -- 23: triplets of two dragons, a pair of the third
 abbrev pub is_little_three_dragons : List HandBlock → Bool
 is_little_three_dragons blocks = list_any (is_last_dragon blocks) blocks
-
-abbrev pub honours_of : List HandBlock → WinParts → Honours
-honours_of blocks parts = record {
-  white_dragon = is_white_dragon blocks;
-  green_dragon = is_green_dragon blocks;
-  red_dragon = is_red_dragon blocks;
-  seat_wind = is_seat_wind blocks parts;
-  prevalent_wind = is_prevalent_wind blocks parts;
-  little_three_dragons = is_little_three_dragons blocks;
-}

@@ -1,3 +1,5 @@
+pub mod Table
+pub mod YakuSets
 pub mod Luck
 pub mod Honours
 pub mod Runs
@@ -5,7 +7,4 @@ pub mod Outside
 pub mod Triplets
 pub mod Tiles
 pub mod Yakuman
-pub mod YakuSets
 pub mod Conditions
-pub mod WinYaku
-pub mod Table

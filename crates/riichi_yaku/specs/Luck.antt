@@ -3,7 +3,6 @@ use Rattle.std.specs.Prelude.{Bool, not, ◌&&◌, ◌==◌}
 use Rattle.riichi_tiles.specs.Melds.{are_concealed}
 use Rattle.riichi_hand.specs.declared.win.WinParts.{WinParts}
 use Rattle.riichi_hand.specs.Win.{is_ron}
-use Rattle.riichi_yaku.specs.declared.luck.Luck.{Luck}
 
 -- 0: riichi
 abbrev pub is_riichi : WinParts → Bool
@@ -32,14 +31,3 @@ is_robbing_the_kong parts = parts.flags.chankan
 -- 14: the flag is set
 abbrev pub is_last_tile : WinParts → Bool
 is_last_tile parts = parts.flags.last
-
-abbrev pub luck_of : WinParts → Luck
-luck_of parts = record {
-  riichi = is_riichi parts;
-  double_riichi = is_double_riichi parts;
-  ippatsu = is_ippatsu parts;
-  fully_concealed = is_fully_concealed parts;
-  after_a_kong = is_after_a_kong parts;
-  robbing_the_kong = is_robbing_the_kong parts;
-  last_tile = is_last_tile parts;
-}

@@ -2,7 +2,6 @@
 use Rattle.std.specs.Prelude.{Bool, not, ◌&&◌, List}
 use Rattle.std.specs.List.{list_any, list_all}
 use Rattle.riichi_blocks.specs.declared.hand_block.HandBlock.{HandBlock}
-use Rattle.riichi_yaku.specs.declared.outside.Outside.{Outside}
 use Rattle.riichi_blocks.specs.HandBlocks.{is_run}
 use Rattle.riichi_blocks.specs.BlockKinds.{has_orphan, has_terminal, has_honour}
 
@@ -13,9 +12,3 @@ is_outside_hand blocks = list_all has_orphan blocks && list_any is_run blocks &&
 -- 26: each set and the pair has a terminal; no honour; at least one run
 abbrev pub is_terminals_in_all_sets : List HandBlock → Bool
 is_terminals_in_all_sets blocks = list_all has_terminal blocks && not (list_any has_honour blocks) && list_any is_run blocks
-
-abbrev pub outside_of : List HandBlock → Outside
-outside_of blocks = record {
-  outside_hand = is_outside_hand blocks;
-  terminals_in_all_sets = is_terminals_in_all_sets blocks;
-}

@@ -1,13 +1,14 @@
 -- The yaku of runs.
-use Rattle.std.specs.Prelude.{ℕ, ◌+◌, ◌%◌, Bool, false, not, ◌&&◌, ◌==◌, nat_le, nat_lt, List, count_by}
+use Rattle.std.specs.Prelude.{ℕ, ◌+◌, ◌%◌, Bool, not, ◌&&◌, ◌==◌, nat_le, List, [], ◌∷◌, count_by}
 use Rattle.std.specs.List.{list_any, list_all}
+use Rattle.riichi_tiles.specs.declared.suit.Suit.{Suit}
+use Rattle.riichi_tiles.specs.Kinds.{first_of}
 use Rattle.riichi_tiles.specs.Melds.{are_concealed}
 use Rattle.riichi_hand.specs.declared.win.WinParts.{WinParts}
 use Rattle.riichi_split.specs.declared.reading.Reading.{Reading}
 use Rattle.riichi_blocks.specs.declared.hand_block.HandBlock.{HandBlock}
-use Rattle.riichi_blocks.specs.declared.hand_block.HandBlock.TheVariants.{Run, Triplet, Kong, Pair}
-use Rattle.riichi_yaku.specs.declared.runs.Runs.{Runs}
 use Rattle.riichi_blocks.specs.HandBlocks.{is_run, has_run, runs_equal_to}
+use Rattle.riichi_blocks.specs.Kinds.{number_suits, every_rank}
 use Rattle.riichi_blocks.specs.Pairs.{is_plain_pair}
 use Rattle.riichi_blocks.specs.Waits.{has_two_sided_wait}
 
@@ -36,39 +37,18 @@ is_twice_pure_double_chow blocks parts = are_concealed parts.melds && are_four_r
 abbrev pub is_pure_double_chow : List HandBlock → WinParts → Bool
 is_pure_double_chow blocks parts = are_concealed parts.melds && has_equal_runs blocks && not (is_twice_pure_double_chow blocks parts)
 
--- the run from this kind on is of characters, and runs of the same numbers are there in circles and bamboos
+-- runs from this rank on in all three suits
 abbrev pub has_run_in_each_suit : List HandBlock → ℕ → Bool
-has_run_in_each_suit blocks low = nat_lt low 9 && has_run blocks (low + 9) && has_run blocks (low + 18)
+has_run_in_each_suit blocks rank = list_all (λ suit. has_run blocks (first_of suit + rank)) number_suits
 
-abbrev pub begins_triple_chow : List HandBlock → HandBlock → Bool
-begins_triple_chow blocks (Run low) = has_run_in_each_suit blocks low
-begins_triple_chow blocks (Triplet kind concealed) = false
-begins_triple_chow blocks (Kong kind concealed) = false
-begins_triple_chow blocks (Pair kind) = false
-
--- 15: runs of the same numbers in all three suits
+-- 15: for some number, a run from it on in each suit
 abbrev pub is_mixed_triple_chow : List HandBlock → Bool
-is_mixed_triple_chow blocks = list_any (begins_triple_chow blocks) blocks
+is_mixed_triple_chow blocks = list_any (has_run_in_each_suit blocks) every_rank
 
--- the run from this kind on is 123, and 456 and 789 of its suit are there
-abbrev pub has_straight_from : List HandBlock → ℕ → Bool
-has_straight_from blocks low = (low % 9 == 0) && has_run blocks (low + 3) && has_run blocks (low + 6)
+-- runs 123, 456, 789 of this suit
+abbrev pub has_straight : List HandBlock → Suit → Bool
+has_straight blocks suit = list_all (λ rank. has_run blocks (first_of suit + rank)) (0 ∷ 3 ∷ 6 ∷ [])
 
-abbrev pub begins_straight : List HandBlock → HandBlock → Bool
-begins_straight blocks (Run low) = has_straight_from blocks low
-begins_straight blocks (Triplet kind concealed) = false
-begins_straight blocks (Kong kind concealed) = false
-begins_straight blocks (Pair kind) = false
-
--- 16: runs 123, 456, 789 of one suit
+-- 16: for some suit, runs 123, 456, 789 of it
 abbrev pub is_pure_straight : List HandBlock → Bool
-is_pure_straight blocks = list_any (begins_straight blocks) blocks
-
-abbrev pub runs_of : List HandBlock → Reading → WinParts → Runs
-runs_of blocks reading parts = record {
-  pinfu = is_pinfu blocks reading parts;
-  pure_double_chow = is_pure_double_chow blocks parts;
-  mixed_triple_chow = is_mixed_triple_chow blocks;
-  pure_straight = is_pure_straight blocks;
-  twice_pure_double_chow = is_twice_pure_double_chow blocks parts;
-}
+is_pure_straight blocks = list_any (has_straight blocks) number_suits

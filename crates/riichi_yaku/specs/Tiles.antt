@@ -1,9 +1,8 @@
--- The yaku of every tile of the hand, by the count of each kind. But for seven pairs itself they hold of a standard reading and of seven pairs.
+-- The yaku of every tile of the hand, by the count of each kind. They hold of a standard reading and of seven pairs. 18, seven pairs, is the reading itself.
 use Rattle.std.specs.Prelude.{ℕ, Bool, not, ◌&&◌, ◌||◌, List}
 use Rattle.std.specs.List.{list_any, range_with_len}
 use Rattle.riichi_split.specs.declared.reading.Reading.{Reading}
-use Rattle.riichi_yaku.specs.declared.tiles.Tiles.{Tiles}
-use Rattle.riichi_blocks.specs.HandBlocks.{is_seven_pairs, is_orphans}
+use Rattle.riichi_blocks.specs.HandBlocks.{is_orphans}
 use Rattle.riichi_blocks.specs.Held.{every, some}
 use Rattle.riichi_blocks.specs.Kinds.{is_honour, is_orphan, is_simple, is_of_suit}
 
@@ -34,13 +33,3 @@ are_of_one_suit tiles = list_any (λ suit. every (is_of_suit suit) tiles) (range
 -- 28: every tile of one suit
 abbrev pub is_full_flush : Reading → List ℕ → Bool
 is_full_flush reading tiles = not (is_orphans reading) && are_of_one_suit tiles
-
--- 18, seven pairs, is the reading itself
-abbrev pub tiles_of : Reading → List ℕ → Tiles
-tiles_of reading tiles = record {
-  all_simples = is_all_simples reading tiles;
-  seven_pairs = is_seven_pairs reading;
-  all_terminals_and_honours = is_all_terminals_and_honours reading tiles;
-  half_flush = is_half_flush reading tiles;
-  full_flush = is_full_flush reading tiles;
-}

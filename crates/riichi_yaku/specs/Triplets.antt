@@ -1,24 +1,18 @@
 -- The yaku of triplets and kongs.
-use Rattle.std.specs.Prelude.{ℕ, ◌+◌, Bool, false, ◌&&◌, ◌==◌, nat_le, nat_lt, List, count_by}
-use Rattle.std.specs.List.{list_any}
+use Rattle.std.specs.Prelude.{ℕ, ◌+◌, Bool, ◌==◌, nat_le, List, count_by}
+use Rattle.std.specs.List.{list_any, list_all}
+use Rattle.riichi_tiles.specs.Kinds.{first_of}
 use Rattle.riichi_blocks.specs.declared.hand_block.HandBlock.{HandBlock}
-use Rattle.riichi_blocks.specs.declared.hand_block.HandBlock.TheVariants.{Run, Triplet, Kong, Pair}
-use Rattle.riichi_yaku.specs.declared.triplets.Triplets.{Triplets}
+use Rattle.riichi_blocks.specs.Kinds.{number_suits, every_rank}
 use Rattle.riichi_blocks.specs.HandBlocks.{is_triplet, is_kong, is_concealed_triplet, has_triplet}
 
--- the kind is of characters, and triplets of the same number are there in circles and bamboos
+-- triplets of this rank in all three suits
 abbrev pub has_triplet_in_each_suit : List HandBlock → ℕ → Bool
-has_triplet_in_each_suit blocks kind = nat_lt kind 9 && has_triplet blocks (kind + 9) && has_triplet blocks (kind + 18)
+has_triplet_in_each_suit blocks rank = list_all (λ suit. has_triplet blocks (first_of suit + rank)) number_suits
 
-abbrev pub begins_triple_pung : List HandBlock → HandBlock → Bool
-begins_triple_pung blocks (Run low) = false
-begins_triple_pung blocks (Triplet kind concealed) = has_triplet_in_each_suit blocks kind
-begins_triple_pung blocks (Kong kind concealed) = has_triplet_in_each_suit blocks kind
-begins_triple_pung blocks (Pair kind) = false
-
--- 19: triplets of the same number in all three suits
+-- 19: for some number, a triplet of it in each suit
 abbrev pub is_triple_pung : List HandBlock → Bool
-is_triple_pung blocks = list_any (begins_triple_pung blocks) blocks
+is_triple_pung blocks = list_any (has_triplet_in_each_suit blocks) every_rank
 
 -- 20: at least three kongs
 abbrev pub is_three_kongs : List HandBlock → Bool
@@ -31,11 +25,3 @@ is_all_pungs blocks = count_by is_triplet blocks == 4
 -- 22: at least three concealed triplets
 abbrev pub is_three_concealed_pungs : List HandBlock → Bool
 is_three_concealed_pungs blocks = nat_le 3 (count_by is_concealed_triplet blocks)
-
-abbrev pub triplets_of : List HandBlock → Triplets
-triplets_of blocks = record {
-  triple_pung = is_triple_pung blocks;
-  three_kongs = is_three_kongs blocks;
-  all_pungs = is_all_pungs blocks;
-  three_concealed_pungs = is_three_concealed_pungs blocks;
-}

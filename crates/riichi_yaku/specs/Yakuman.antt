@@ -1,20 +1,15 @@
--- The yakuman.
+-- The yakuman. 29, thirteen orphans, is the reading itself.
 use Rattle.std.specs.Prelude.{ℕ, Bool, not, ◌&&◌, ◌==◌, nat_le, List, length, count_by, slice_index, if◌then◌else◌}
 use Rattle.std.specs.List.{list_any, list_all, range_with_len}
 use Rattle.riichi_tiles.specs.Melds.{every_kind}
 use Rattle.riichi_hand.specs.declared.win.WinParts.{WinParts}
 use Rattle.riichi_split.specs.declared.reading.Reading.{Reading}
 use Rattle.riichi_blocks.specs.declared.hand_block.HandBlock.{HandBlock}
-use Rattle.riichi_yaku.specs.declared.yakuman.Yakuman.{Yakuman}
 use Rattle.riichi_blocks.specs.HandBlocks.{is_standard, is_orphans, is_concealed_triplet, is_kong}
 use Rattle.riichi_blocks.specs.Winner.{is_dealer}
 use Rattle.riichi_yaku.specs.Honours.{has_triplets, is_last_wind}
 use Rattle.riichi_blocks.specs.Held.{every}
 use Rattle.riichi_blocks.specs.Kinds.{winds, dragons, is_honour, is_terminal, is_of_suit, is_green_tile}
-
--- 29: the reading is thirteen orphans
-abbrev pub is_thirteen_orphans : Reading → Bool
-is_thirteen_orphans reading = is_orphans reading
 
 -- the copies that nine gates has at least: three 1, three 9 and one of each 2 to 8
 abbrev pub gate_copies : ℕ → ℕ → ℕ
@@ -71,19 +66,3 @@ is_blessing_of_heaven parts = parts.flags.first && is_dealer parts.seat
 -- 40: a win in the first turn by another seat; any reading
 abbrev pub is_blessing_of_earth : WinParts → Bool
 is_blessing_of_earth parts = parts.flags.first && not (is_dealer parts.seat)
-
-abbrev pub yakuman_of : List HandBlock → Reading → List ℕ → WinParts → Yakuman
-yakuman_of blocks reading tiles parts = record {
-  thirteen_orphans = is_thirteen_orphans reading;
-  nine_gates = is_nine_gates reading tiles parts;
-  four_concealed_pungs = is_four_concealed_pungs blocks;
-  big_three_dragons = is_big_three_dragons blocks;
-  little_four_winds = is_little_four_winds blocks;
-  big_four_winds = is_big_four_winds blocks;
-  all_honours = is_all_honours reading tiles;
-  all_terminals = is_all_terminals reading tiles;
-  all_green = is_all_green reading tiles;
-  four_kongs = is_four_kongs blocks;
-  blessing_of_heaven = is_blessing_of_heaven parts;
-  blessing_of_earth = is_blessing_of_earth parts;
-}

@@ -1,202 +1,120 @@
 //! The yaku that hold of a reading.
-ghost use Rattle.std.specs.Prelude.{◌≡◌, ◌<◌, ◌≤◌, ◌*◌, ◌^◌, ◌==◌, ℕ, IsTrue, false, true, [], length, if◌then◌else◌};
-ghost use Rattle.riichi_blocks.specs.HandBlocks.{blocks_of, is_standard};
+ghost use Rattle.std.specs.Prelude.{◌≡◌, ◌<◌, ◌^◌, IsTrue, false};
+ghost use Rattle.riichi_blocks.specs.HandBlocks.{blocks_of};
 ghost use Rattle.riichi_blocks.specs.Held.{all_tiles};
+ghost use Rattle.riichi_yaku.specs.declared.table.Yaku.{Yaku};
 ghost use Rattle.riichi_yaku.specs.Conditions as spec;
-ghost use Rattle.riichi_yaku.specs.WinYaku as told_spec;
-ghost use Rattle.riichi_yaku.specs.YakuSets.{number_of, has_number, is_yakuman};
+ghost use Rattle.riichi_yaku.specs.Table.{is_a_yakuman};
+ghost use Rattle.riichi_yaku.specs.YakuSets.{contains, is_yakuman, set_of};
 
-use crate::YakuSet;
-use crate::honours::{Honours, honours_of};
-use crate::luck::{Luck, luck_of};
-use crate::outside::{Outside, outside_of};
-use crate::runs::{Runs, runs_of};
-use crate::tiles::{Tiles, tiles_of};
-use crate::triplets::{Triplets, triplets_of};
-use crate::win_yaku::{WinYaku, yaku_of_win};
-use crate::yaku_set::FIRST_YAKUMAN;
-use crate::yakuman::{Yakuman, yakuman_of_blocks, yakuman_without_blocks};
-use riichi_blocks::{AllTiles, Blocks, all_tiles, blocks_of};
+use crate::honours::{
+    is_green_dragon, is_little_three_dragons, is_prevalent_wind, is_red_dragon, is_seat_wind,
+    is_white_dragon,
+};
+use crate::luck::{
+    is_after_a_kong, is_double_riichi, is_fully_concealed, is_ippatsu, is_last_tile, is_riichi,
+    is_robbing_the_kong,
+};
+use crate::outside::{is_outside_hand, is_terminals_in_all_sets};
+use crate::runs::{
+    is_mixed_triple_chow, is_pinfu, is_pure_double_chow, is_pure_straight,
+    is_twice_pure_double_chow,
+};
+use crate::tiles::{is_all_simples, is_all_terminals_and_honours, is_full_flush, is_half_flush};
+use crate::triplets::{is_all_pungs, is_three_concealed_pungs, is_three_kongs, is_triple_pung};
+use crate::yakuman::{
+    is_all_green, is_all_honours, is_all_terminals, is_big_four_winds, is_big_three_dragons,
+    is_blessing_of_earth, is_blessing_of_heaven, is_four_concealed_pungs, is_four_kongs,
+    is_little_four_winds, is_nine_gates,
+};
+use crate::{Yaku, YakuSet};
+use riichi_blocks::{AllTiles, Blocks, all_tiles, blocks_of, is_orphans, is_seven_pairs};
 use riichi_hand::WinRecord;
 use riichi_split::Reading;
 
-/// The yaku that hold of a reading of the win. Where a yakuman holds, the set has yakuman alone.
-pub fn yaku(reading: &Reading, win: &WinRecord) -> YakuSet
+/// The yaku that hold of a reading of the win. Where the conditions of yakuman are met, the set has these alone.
+pub fn yaku_of(reading: &Reading, win: &WinRecord) -> YakuSet
     ensures value { result ≡ spec.yaku_of reading.now win.now }
-    ensures each { (number : ℕ) → has_number result number ≡ spec.holds reading.now win.now number }
-    ensures alone { IsTrue (is_yakuman result) → (number : ℕ) → number < 29 → has_number result number ≡ false }
+    ensures each { (yaku : Yaku) → contains result yaku ≡ spec.holds reading.now win.now yaku }
+    ensures alone { IsTrue (is_yakuman result) → (yaku : Yaku) → is_a_yakuman yaku ≡ false
+        → contains result yaku ≡ false }
 {
-    let tiles = all_tiles(win);
-    let told = yaku_of_win(&tiles, win);
-    yaku_among(&blocks_of(reading, win), reading, &tiles, &told, win)
+    yaku_among(&blocks_of(reading, win), reading, &all_tiles(win), win)
 }
 
-/// The yaku that hold of a reading, for a caller that has its blocks, and every tile and the yaku of the win.
-pub fn yaku_among(
-    blocks: &Blocks,
-    reading: &Reading,
-    tiles: &AllTiles,
-    told: &WinYaku,
-    win: &WinRecord,
-) -> YakuSet
+/// The same, for a caller that has the blocks of the reading and every tile of the win.
+pub fn yaku_among(blocks: &Blocks, reading: &Reading, tiles: &AllTiles, win: &WinRecord) -> YakuSet
     requires blocks { blocks.now ≡ blocks_of reading.now win.now }
     requires tiles { tiles.now ≡ all_tiles win.now }
-    requires told { told.now ≡ told_spec.win_yaku win.now }
     ensures { result ≡ spec.yaku_of reading.now win.now }
 {
-    match reading {
-        Reading::Standard { .. } => yaku_of_blocks(blocks, reading, told, win),
-        Reading::SevenPairs => yaku_without_blocks(&Reading::SevenPairs, tiles, win),
-        Reading::Orphans => yaku_without_blocks(&Reading::Orphans, tiles, win),
-    }
-}
-
-/// The yaku of a standard reading: those of its blocks, and those of the win.
-fn yaku_of_blocks(blocks: &Blocks, reading: &Reading, told: &WinYaku, win: &WinRecord) -> YakuSet
-    requires standard { is_standard reading.now ≡ true }
-    requires blocks { blocks.now ≡ blocks_of reading.now win.now }
-    requires told { told.now ≡ told_spec.win_yaku win.now }
-    ensures { result ≡ spec.yaku_of reading.now win.now }
-{
-    let ordinary = ordinary(
-        &Luck::none(),
-        &honours_of(blocks, win),
-        &runs_of(told.concealed, blocks, reading, win),
-        &outside_of(blocks),
-        &triplets_of(blocks),
-        &Tiles::none(),
-    );
-    let yakuman = yakuman(&yakuman_of_blocks(blocks));
-    YakuSet::new(yakuman_alone(told.ordinary + ordinary, told.yakuman + yakuman))
-}
-
-/// The yaku of seven pairs or of thirteen orphans.
-fn yaku_without_blocks(reading: &Reading, tiles: &AllTiles, win: &WinRecord) -> YakuSet
-    requires none { blocks_of reading.now win.now ≡ [] }
-    requires tiles { tiles.now ≡ all_tiles win.now }
-    ensures { result ≡ spec.yaku_of reading.now win.now }
-{
-    let ordinary = without_blocks(&luck_of(win), &tiles_of(reading, tiles));
-    let yakuman = yakuman(&yakuman_without_blocks(reading, tiles, win));
-    YakuSet::new(yakuman_alone(ordinary, yakuman))
-}
-
-/// The numbers 0 to 28 of those yaku that blocks have no part in.
-pub(crate) fn without_blocks(luck: &Luck, tiles: &Tiles) -> u64
-    ensures value { result ≡ number_of (spec.ordinary_flags luck.now told_spec.no_honours told_spec.no_runs told_spec.no_outside told_spec.no_triplets tiles.now) }
-    ensures below { result < 2 ^ 29 }
-{
-    ordinary(
-        luck,
-        &Honours::none(),
-        &Runs::none(),
-        &Outside::none(),
-        &Triplets::none(),
-        tiles,
-    )
-}
-
-/// Where a yakuman holds, the set has these alone. Their numbers begin at 29.
-fn yakuman_alone(ordinary: u64, yakuman: u64) -> u64
-    requires ordinary { ordinary < 2 ^ 29 }
-    requires yakuman { yakuman < 2 ^ 12 }
-    ensures value { result ≡ (if yakuman == 0 then ordinary else 2 ^ 29 * yakuman) }
-    ensures below { result < 2 ^ 41 }
-{
-    if yakuman == 0 {
-        ordinary
+    let yakuman = yakuman_among(blocks, reading, tiles, win);
+    if yakuman.is_empty() {
+        others_among(blocks, reading, tiles, win)
     } else {
-        FIRST_YAKUMAN * yakuman
+        yakuman
     }
 }
 
-/// The numbers 0 to 28, in the order of the table.
+/// The yaku but for the yakuman.
 #[inline(always)]
-fn ordinary(
-    luck: &Luck,
-    honours: &Honours,
-    runs: &Runs,
-    outside: &Outside,
-    triplets: &Triplets,
-    tiles: &Tiles,
-) -> u64
-    ensures value { result ≡ number_of (spec.ordinary_flags luck.now honours.now runs.now outside.now triplets.now tiles.now) }
-    ensures below { result < 2 ^ 29 }
+fn others_among(blocks: &Blocks, reading: &Reading, tiles: &AllTiles, win: &WinRecord) -> YakuSet
+    ensures { result ≡ set_of (spec.is_other_met (spec.condition blocks.now reading.now tiles.now win.now)) }
 {
-    number(&[
-        luck.riichi,
-        luck.double_riichi,
-        luck.ippatsu,
-        luck.fully_concealed,
-        runs.pinfu,
-        runs.pure_double_chow,
-        tiles.all_simples,
-        honours.white_dragon,
-        honours.green_dragon,
-        honours.red_dragon,
-        honours.seat_wind,
-        honours.prevalent_wind,
-        luck.after_a_kong,
-        luck.robbing_the_kong,
-        luck.last_tile,
-        runs.mixed_triple_chow,
-        runs.pure_straight,
-        outside.outside_hand,
-        tiles.seven_pairs,
-        triplets.triple_pung,
-        triplets.three_kongs,
-        triplets.all_pungs,
-        triplets.three_concealed_pungs,
-        honours.little_three_dragons,
-        tiles.all_terminals_and_honours,
-        tiles.half_flush,
-        outside.terminals_in_all_sets,
-        runs.twice_pure_double_chow,
-        tiles.full_flush,
-    ])
+    YakuSet::none()
+        .with(Yaku::Riichi, is_riichi(win))
+        .with(Yaku::DoubleRiichi, is_double_riichi(win))
+        .with(Yaku::Ippatsu, is_ippatsu(win))
+        .with(Yaku::FullyConcealed, is_fully_concealed(win))
+        .with(Yaku::Pinfu, is_pinfu(blocks, reading, win))
+        .with(Yaku::PureDoubleChow, is_pure_double_chow(blocks, win))
+        .with(Yaku::AllSimples, is_all_simples(reading, tiles))
+        .with(Yaku::WhiteDragon, is_white_dragon(blocks))
+        .with(Yaku::GreenDragon, is_green_dragon(blocks))
+        .with(Yaku::RedDragon, is_red_dragon(blocks))
+        .with(Yaku::SeatWind, is_seat_wind(blocks, win))
+        .with(Yaku::PrevalentWind, is_prevalent_wind(blocks, win))
+        .with(Yaku::AfterAKong, is_after_a_kong(win))
+        .with(Yaku::RobbingTheKong, is_robbing_the_kong(win))
+        .with(Yaku::LastTile, is_last_tile(win))
+        .with(Yaku::MixedTripleChow, is_mixed_triple_chow(blocks))
+        .with(Yaku::PureStraight, is_pure_straight(blocks))
+        .with(Yaku::OutsideHand, is_outside_hand(blocks))
+        .with(Yaku::SevenPairs, is_seven_pairs(reading))
+        .with(Yaku::TriplePung, is_triple_pung(blocks))
+        .with(Yaku::ThreeKongs, is_three_kongs(blocks))
+        .with(Yaku::AllPungs, is_all_pungs(blocks))
+        .with(Yaku::ThreeConcealedPungs, is_three_concealed_pungs(blocks))
+        .with(Yaku::LittleThreeDragons, is_little_three_dragons(blocks))
+        .with(
+            Yaku::AllTerminalsAndHonours,
+            is_all_terminals_and_honours(reading, tiles),
+        )
+        .with(Yaku::HalfFlush, is_half_flush(reading, tiles))
+        .with(Yaku::TerminalsInAllSets, is_terminals_in_all_sets(blocks))
+        .with(
+            Yaku::TwicePureDoubleChow,
+            is_twice_pure_double_chow(blocks, win),
+        )
+        .with(Yaku::FullFlush, is_full_flush(reading, tiles))
 }
 
-/// The numbers 29 to 40, in the order of the table, the first of them as bit 0.
+/// The yakuman.
 #[inline(always)]
-pub(crate) fn yakuman(yakuman: &Yakuman) -> u64
-    ensures value { result ≡ number_of (spec.yakuman_flags yakuman.now) }
-    ensures below { result < 2 ^ 12 }
+fn yakuman_among(blocks: &Blocks, reading: &Reading, tiles: &AllTiles, win: &WinRecord) -> YakuSet
+    ensures { result ≡ set_of (spec.is_yakuman_met (spec.condition blocks.now reading.now tiles.now win.now)) }
 {
-    number(&[
-        yakuman.thirteen_orphans,
-        yakuman.nine_gates,
-        yakuman.four_concealed_pungs,
-        yakuman.big_three_dragons,
-        yakuman.little_four_winds,
-        yakuman.big_four_winds,
-        yakuman.all_honours,
-        yakuman.all_terminals,
-        yakuman.all_green,
-        yakuman.four_kongs,
-        yakuman.blessing_of_heaven,
-        yakuman.blessing_of_earth,
-    ])
-}
-
-/// The number whose bits these are, the lowest first.
-#[inline(always)]
-fn number(flags: &[bool]) -> u64
-    requires { length flags.now ≤ 29 }
-    ensures value { result ≡ number_of flags.now }
-    ensures below { result < 2 ^ length flags.now }
-{
-    let mut place = flags.len();
-    let mut number = 0;
-    while place > 0 {
-        place -= 1;
-        number = 2 * number + bit(flags[place]);
-    }
-    number
-}
-
-fn bit(flag: bool) -> u64
-    ensures value { result ≡ (if flag then 1 else 0) }
-    ensures most { result ≤ 1 }
-{
-    if flag { 1 } else { 0 }
+    YakuSet::none()
+        .with(Yaku::ThirteenOrphans, is_orphans(reading))
+        .with(Yaku::NineGates, is_nine_gates(reading, tiles, win))
+        .with(Yaku::FourConcealedPungs, is_four_concealed_pungs(blocks))
+        .with(Yaku::BigThreeDragons, is_big_three_dragons(blocks))
+        .with(Yaku::LittleFourWinds, is_little_four_winds(blocks))
+        .with(Yaku::BigFourWinds, is_big_four_winds(blocks))
+        .with(Yaku::AllHonours, is_all_honours(reading, tiles))
+        .with(Yaku::AllTerminals, is_all_terminals(reading, tiles))
+        .with(Yaku::AllGreen, is_all_green(reading, tiles))
+        .with(Yaku::FourKongs, is_four_kongs(blocks))
+        .with(Yaku::BlessingOfHeaven, is_blessing_of_heaven(win))
+        .with(Yaku::BlessingOfEarth, is_blessing_of_earth(win))
 }

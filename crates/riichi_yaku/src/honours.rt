@@ -2,63 +2,35 @@
 ghost use Rattle.std.specs.Prelude.{◌≡◌};
 ghost use Rattle.riichi_yaku.specs.Honours as spec;
 ghost use Rattle.riichi_blocks.specs.Kinds.{dragons, winds};
-ghost use Rattle.riichi_yaku.specs.WinYaku as told;
 
 use riichi_blocks::{Blocks, EAST, GREEN, HandBlock, KINDS, RED, WHITE, is_dragon, is_wind};
 use riichi_hand::WinRecord;
 
-/// Which yaku of winds and dragons hold.
-#[derive(Clone, Copy)]
-pub(crate) struct Honours {
-    pub white_dragon: bool,
-    pub green_dragon: bool,
-    pub red_dragon: bool,
-    pub seat_wind: bool,
-    pub prevalent_wind: bool,
-    pub little_three_dragons: bool,
-}
-
-impl Honours {
-    /// None of these.
-    pub(crate) fn none() -> Honours
-        ensures { result ≡ told.no_honours }
-    {
-        Honours {
-            white_dragon: false,
-            green_dragon: false,
-            red_dragon: false,
-            seat_wind: false,
-            prevalent_wind: false,
-            little_three_dragons: false,
-        }
-    }
-}
-
-fn is_white_dragon(blocks: &Blocks) -> bool
+pub(crate) fn is_white_dragon(blocks: &Blocks) -> bool
     ensures { result ≡ spec.is_white_dragon blocks.now }
 {
     blocks.has_triplet(WHITE)
 }
 
-fn is_green_dragon(blocks: &Blocks) -> bool
+pub(crate) fn is_green_dragon(blocks: &Blocks) -> bool
     ensures { result ≡ spec.is_green_dragon blocks.now }
 {
     blocks.has_triplet(GREEN)
 }
 
-fn is_red_dragon(blocks: &Blocks) -> bool
+pub(crate) fn is_red_dragon(blocks: &Blocks) -> bool
     ensures { result ≡ spec.is_red_dragon blocks.now }
 {
     blocks.has_triplet(RED)
 }
 
-fn is_seat_wind(blocks: &Blocks, win: &WinRecord) -> bool
+pub(crate) fn is_seat_wind(blocks: &Blocks, win: &WinRecord) -> bool
     ensures { result ≡ spec.is_seat_wind blocks.now win.now }
 {
     blocks.has_triplet(win.seat().kind().index())
 }
 
-fn is_prevalent_wind(blocks: &Blocks, win: &WinRecord) -> bool
+pub(crate) fn is_prevalent_wind(blocks: &Blocks, win: &WinRecord) -> bool
     ensures { result ≡ spec.is_prevalent_wind blocks.now win.now }
 {
     blocks.has_triplet(win.round().kind().index())
@@ -100,12 +72,9 @@ fn is_last_dragon(blocks: &Blocks, block: &HandBlock) -> bool
     }
 }
 
-fn is_little_three_dragons(blocks: &Blocks) -> bool
+pub(crate) fn is_little_three_dragons(blocks: &Blocks) -> bool
     ensures { result ≡ spec.is_little_three_dragons blocks.now }
 {
-    if blocks.triplets() < 2 {
-        return false;
-    }
     blocks
         .as_slice()
         .iter()
@@ -121,18 +90,5 @@ pub(crate) fn is_last_wind(blocks: &Blocks, block: &HandBlock) -> bool
             is_wind(kind.index()) && has_other_wind_triplets(blocks, kind.index())
         }
         _ => false,
-    }
-}
-
-pub(crate) fn honours_of(blocks: &Blocks, win: &WinRecord) -> Honours
-    ensures { result ≡ spec.honours_of blocks.now win.now }
-{
-    Honours {
-        white_dragon: is_white_dragon(blocks),
-        green_dragon: is_green_dragon(blocks),
-        red_dragon: is_red_dragon(blocks),
-        seat_wind: is_seat_wind(blocks, win),
-        prevalent_wind: is_prevalent_wind(blocks, win),
-        little_three_dragons: is_little_three_dragons(blocks),
     }
 }

@@ -1,147 +1,204 @@
-//! The table of the yaku.
-ghost use Rattle.std.specs.Prelude.{◌≡◌, ◌<◌, ◌≤◌, [], map, length, ◌+◌, ◌++◌, slice_index, slice_index_or, if◌then◌else◌};
+//! The table of the yaku: each by name, with the word that is printed for it and its han.
+ghost use Rattle.std.specs.Prelude.{◌≡◌, ◌<◌, ◌≤◌, if◌then◌else◌};
 ghost use Rattle.riichi_yaku.specs.Table as spec;
-ghost use Rattle.riichi_yaku.specs.YakuSets.{has_number};
 
-use crate::YakuSet;
-use arrayvec::ArrayString;
+/// A yaku. They stand in the order of the table; the yakuman are the last twelve.
+#[derive(Clone, Copy, Debug, PartialEq, Eq)]
+pub enum Yaku {
+    Riichi,
+    DoubleRiichi,
+    Ippatsu,
+    FullyConcealed,
+    Pinfu,
+    PureDoubleChow,
+    AllSimples,
+    WhiteDragon,
+    GreenDragon,
+    RedDragon,
+    SeatWind,
+    PrevalentWind,
+    AfterAKong,
+    RobbingTheKong,
+    LastTile,
+    MixedTripleChow,
+    PureStraight,
+    OutsideHand,
+    SevenPairs,
+    TriplePung,
+    ThreeKongs,
+    AllPungs,
+    ThreeConcealedPungs,
+    LittleThreeDragons,
+    AllTerminalsAndHonours,
+    HalfFlush,
+    TerminalsInAllSets,
+    TwicePureDoubleChow,
+    FullFlush,
+    ThirteenOrphans,
+    NineGates,
+    FourConcealedPungs,
+    BigThreeDragons,
+    LittleFourWinds,
+    BigFourWinds,
+    AllHonours,
+    AllTerminals,
+    AllGreen,
+    FourKongs,
+    BlessingOfHeaven,
+    BlessingOfEarth,
+}
 
-const WORDS: [&str; 41] = [
-    "riichi",
-    "double-riichi",
-    "ippatsu",
-    "fully-concealed",
-    "pinfu",
-    "pure-double-chow",
-    "all-simples",
-    "white-dragon",
-    "green-dragon",
-    "red-dragon",
-    "seat-wind",
-    "prevalent-wind",
-    "after-a-kong",
-    "robbing-the-kong",
-    "last-tile",
-    "mixed-triple-chow",
-    "pure-straight",
-    "outside-hand",
-    "seven-pairs",
-    "triple-pung",
-    "three-kongs",
-    "all-pungs",
-    "three-concealed-pungs",
-    "little-three-dragons",
-    "all-terminals-and-honours",
-    "half-flush",
-    "terminals-in-all-sets",
-    "twice-pure-double-chow",
-    "full-flush",
-    "thirteen-orphans",
-    "nine-gates",
-    "four-concealed-pungs",
-    "big-three-dragons",
-    "little-four-winds",
-    "big-four-winds",
-    "all-honours",
-    "all-terminals",
-    "all-green",
-    "four-kongs",
-    "blessing-of-heaven",
-    "blessing-of-earth",
-];
+/// A row of the table: the printed word, the han of a concealed hand and of an open one. These are 0 where the hand has to be
+/// concealed, and for a yakuman.
+#[derive(Clone, Copy)]
+struct YakuRow {
+    word: &'static str,
+    concealed: u8,
+    melded: u8,
+}
 
-const CONCEALED: [u8; 41] = [
-    1, 2, 1, 1, 1, 1, 1, 1, 1, 1, 1, 1, 1, 1, 1, 2, 2, 2, 2, 2, 2, 2, 2, 2, 2, 3, 3, 3, 6, 0, 0, 0,
-    0, 0, 0, 0, 0, 0, 0, 0, 0,
-];
-
-const OPEN: [u8; 41] = [
-    0, 0, 0, 0, 0, 0, 1, 1, 1, 1, 1, 1, 1, 1, 1, 1, 1, 1, 0, 2, 2, 2, 2, 2, 2, 2, 2, 0, 5, 0, 0, 0,
-    0, 0, 0, 0, 0, 0, 0, 0, 0,
-];
-
-/// The han of a set. A yakuman has none.
-#[tactic(auto, unfolding(crate::specs::Table::han_of))]
-pub fn han_of(set: YakuSet, concealed: bool) -> u8
-    ensures value { result ≡ spec.han_of set concealed }
-    ensures most { result ≤ 60 }
+fn row(word: &'static str, concealed: u8, melded: u8) -> YakuRow
+    ensures word { result.word.now ≡ word.now }
+    ensures concealed { result.concealed ≡ concealed }
+    ensures melded { result.melded ≡ melded }
 {
-    if concealed {
-        sum_of(&CONCEALED, set)
-    } else {
-        sum_of(&OPEN, set)
+    YakuRow {
+        word,
+        concealed,
+        melded,
     }
 }
 
-/// The han of the yaku of this number. A yakuman has none.
-pub fn han_at(number: u8, concealed: bool) -> u8
-    requires { number < 41 }
-    ensures { result ≡ spec.han_at concealed number }
-{
-    if concealed {
-        han_in(&CONCEALED, number)
-    } else {
-        han_in(&OPEN, number)
+impl Yaku {
+    /// All of them, in the order of the table.
+    pub const ALL: [Yaku; 41] = [
+        Yaku::Riichi,
+        Yaku::DoubleRiichi,
+        Yaku::Ippatsu,
+        Yaku::FullyConcealed,
+        Yaku::Pinfu,
+        Yaku::PureDoubleChow,
+        Yaku::AllSimples,
+        Yaku::WhiteDragon,
+        Yaku::GreenDragon,
+        Yaku::RedDragon,
+        Yaku::SeatWind,
+        Yaku::PrevalentWind,
+        Yaku::AfterAKong,
+        Yaku::RobbingTheKong,
+        Yaku::LastTile,
+        Yaku::MixedTripleChow,
+        Yaku::PureStraight,
+        Yaku::OutsideHand,
+        Yaku::SevenPairs,
+        Yaku::TriplePung,
+        Yaku::ThreeKongs,
+        Yaku::AllPungs,
+        Yaku::ThreeConcealedPungs,
+        Yaku::LittleThreeDragons,
+        Yaku::AllTerminalsAndHonours,
+        Yaku::HalfFlush,
+        Yaku::TerminalsInAllSets,
+        Yaku::TwicePureDoubleChow,
+        Yaku::FullFlush,
+        Yaku::ThirteenOrphans,
+        Yaku::NineGates,
+        Yaku::FourConcealedPungs,
+        Yaku::BigThreeDragons,
+        Yaku::LittleFourWinds,
+        Yaku::BigFourWinds,
+        Yaku::AllHonours,
+        Yaku::AllTerminals,
+        Yaku::AllGreen,
+        Yaku::FourKongs,
+        Yaku::BlessingOfHeaven,
+        Yaku::BlessingOfEarth,
+    ];
+
+    /// Its place in the table, from 0 on.
+    pub fn number(self) -> u8
+        ensures value { result ≡ spec.number self }
+        ensures below { result < 41 }
+    {
+        self as u8
     }
-}
 
-fn han_in(han: &[u8; 41], number: u8) -> u8
-    requires { number < 41 }
-    ensures { result ≡ slice_index han.now number }
-{
-    han[number as usize]
-}
-
-/// The sum of those han whose number is in the set.
-fn sum_of(han: &[u8; 41], set: YakuSet) -> u8
-    requires { spec.sum_of han.now ≤ 60 }
-    ensures value { result ≡ spec.han_from 0 han.now set }
-    ensures most { result ≤ 60 }
-{
-    let mut rest = set.bits();
-    let mut sum = 0;
-    while rest > 0 {
-        let number = rest.trailing_zeros();
-        sum += han[number as usize];
-        rest &= !(1 << number);
+    pub(crate) fn at(number: u8) -> Yaku
+        requires { number < 41 }
+        ensures { spec.number result ≡ number }
+    {
+        Yaku::ALL[number as usize]
     }
-    sum
-}
 
-/// The printed word of the yaku of this number.
-pub fn word(number: u8) -> &'static str
-    requires { number < 41 }
-    ensures { result.now ≡ spec.word_of number }
-{
-    word_in(&WORDS, number)
-}
-
-fn word_in(words: &[&'static str; 41], number: u8) -> &'static str
-    requires { number < 41 }
-    ensures { result.now ≡ slice_index_or (map (λ text. text.now) words.now) number [] }
-{
-    words[number as usize]
-}
-
-/// Writes the words of a set behind a text, in the order of their numbers, each after a space.
-#[tactic(auto, unfolding(crate::specs::Table::words_of))]
-pub fn push_words(text: &mut ArrayString<1024>, set: YakuSet)
-    requires { length text.old.bytes + 593 ≤ 1024 }
-    ensures value { text.new.bytes ≡ text.old.bytes ++ spec.words_of set }
-    ensures most { length text.new.bytes ≤ length text.old.bytes + 593 }
-{
-    for number in 0..41 {
-        push_word(text, set, number);
+    /// The printed word.
+    pub fn word(self) -> &'static str
+        ensures { result.now ≡ spec.word self }
+    {
+        self.row().word
     }
-}
 
-fn push_word(text: &mut ArrayString<1024>, set: YakuSet, number: u8)
-    requires number { number < 41 }
-    requires room { length text.old.bytes + length (spec.spaced_if (has_number set number) (spec.word_of number)) ≤ 1024 }
-    ensures { text.new.bytes ≡ text.old.bytes ++ spec.spaced_if (has_number set number) (spec.word_of number) }
-{
-    if set.contains(number) {
-        text.push_str(" ");
-        text.push_str(word(number));
+    /// The han. A yakuman has none, nor has a yaku of concealed hands in an open one.
+    pub fn han(self, concealed: bool) -> u8
+        ensures { result ≡ spec.han concealed self }
+    {
+        let row = self.row();
+        if concealed { row.concealed } else { row.melded }
+    }
+
+    /// Whether it is worth the limit, whatever else holds.
+    pub fn is_yakuman(self) -> bool
+        ensures { result ≡ spec.is_a_yakuman self }
+    {
+        self.number() >= Yaku::ThirteenOrphans.number()
+    }
+
+    fn row(self) -> YakuRow
+        ensures word { result.word.now ≡ (spec.row_of self).word }
+        ensures concealed { result.concealed ≡ (spec.row_of self).concealed }
+        ensures melded { result.melded ≡ (spec.row_of self).melded }
+    {
+        match self {
+            Yaku::Riichi => row("riichi", 1, 0),
+            Yaku::DoubleRiichi => row("double-riichi", 2, 0),
+            Yaku::Ippatsu => row("ippatsu", 1, 0),
+            Yaku::FullyConcealed => row("fully-concealed", 1, 0),
+            Yaku::Pinfu => row("pinfu", 1, 0),
+            Yaku::PureDoubleChow => row("pure-double-chow", 1, 0),
+            Yaku::AllSimples => row("all-simples", 1, 1),
+            Yaku::WhiteDragon => row("white-dragon", 1, 1),
+            Yaku::GreenDragon => row("green-dragon", 1, 1),
+            Yaku::RedDragon => row("red-dragon", 1, 1),
+            Yaku::SeatWind => row("seat-wind", 1, 1),
+            Yaku::PrevalentWind => row("prevalent-wind", 1, 1),
+            Yaku::AfterAKong => row("after-a-kong", 1, 1),
+            Yaku::RobbingTheKong => row("robbing-the-kong", 1, 1),
+            Yaku::LastTile => row("last-tile", 1, 1),
+            Yaku::MixedTripleChow => row("mixed-triple-chow", 2, 1),
+            Yaku::PureStraight => row("pure-straight", 2, 1),
+            Yaku::OutsideHand => row("outside-hand", 2, 1),
+            Yaku::SevenPairs => row("seven-pairs", 2, 0),
+            Yaku::TriplePung => row("triple-pung", 2, 2),
+            Yaku::ThreeKongs => row("three-kongs", 2, 2),
+            Yaku::AllPungs => row("all-pungs", 2, 2),
+            Yaku::ThreeConcealedPungs => row("three-concealed-pungs", 2, 2),
+            Yaku::LittleThreeDragons => row("little-three-dragons", 2, 2),
+            Yaku::AllTerminalsAndHonours => row("all-terminals-and-honours", 2, 2),
+            Yaku::HalfFlush => row("half-flush", 3, 2),
+            Yaku::TerminalsInAllSets => row("terminals-in-all-sets", 3, 2),
+            Yaku::TwicePureDoubleChow => row("twice-pure-double-chow", 3, 0),
+            Yaku::FullFlush => row("full-flush", 6, 5),
+            Yaku::ThirteenOrphans => row("thirteen-orphans", 0, 0),
+            Yaku::NineGates => row("nine-gates", 0, 0),
+            Yaku::FourConcealedPungs => row("four-concealed-pungs", 0, 0),
+            Yaku::BigThreeDragons => row("big-three-dragons", 0, 0),
+            Yaku::LittleFourWinds => row("little-four-winds", 0, 0),
+            Yaku::BigFourWinds => row("big-four-winds", 0, 0),
+            Yaku::AllHonours => row("all-honours", 0, 0),
+            Yaku::AllTerminals => row("all-terminals", 0, 0),
+            Yaku::AllGreen => row("all-green", 0, 0),
+            Yaku::FourKongs => row("four-kongs", 0, 0),
+            Yaku::BlessingOfHeaven => row("blessing-of-heaven", 0, 0),
+            Yaku::BlessingOfEarth => row("blessing-of-earth", 0, 0),
+        }
     }
 }

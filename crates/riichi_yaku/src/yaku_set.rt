@@ -1,13 +1,15 @@
 //! Sets of yaku.
-ghost use Rattle.std.specs.Prelude.{◌≡◌, ◌<◌, ◌^◌, ◌==◌};
+ghost use Rattle.std.specs.Prelude.{◌≡◌, ◌+◌, ◌*◌, ◌<◌, ◌≤◌, ◌^◌, ◌==◌, ◌++◌, length, if◌then◌else◌};
+ghost use Rattle.std.specs.Iterator.{YieldsFirst, item_count};
+ghost use Rattle.riichi_yaku.specs.Table.{number};
 ghost use Rattle.riichi_yaku.specs.YakuSets as spec;
 
+use crate::Yaku;
+use arrayvec::ArrayString;
+use std::iter::FusedIterator;
 use std::marker::Model;
 
-/// The bit of the first yakuman, which has number 29.
-pub(crate) const FIRST_YAKUMAN: u64 = 1 << 29;
-
-/// A set of yaku, seen as the number whose bit n says that yaku number n is in it.
+/// A set of yaku, seen as the number whose bit n says that the yaku with number n is in it.
 #[derive(Clone, Copy, Debug, PartialEq, Eq)]
 pub struct YakuSet {
     bits: u64,
@@ -26,18 +28,33 @@ impl Model for YakuSet {
 }
 
 impl YakuSet {
-    pub(crate) fn new(bits: u64) -> YakuSet
-        requires { bits < 2 ^ 41 }
-        ensures { result ≡ bits }
+    pub(crate) fn none() -> YakuSet
+        ensures { result ≡ 0 }
     {
-        YakuSet { bits }
+        YakuSet { bits: 0 }
     }
 
-    /// Whether the yaku of this number is in the set.
-    pub fn contains(self, number: u8) -> bool
-        ensures { result ≡ spec.has_number self number }
+    /// The set with one more yaku, if it holds. Yaku come in the order of the table.
+    #[inline(always)]
+    pub(crate) fn with(self, yaku: Yaku, holds: bool) -> YakuSet
+        requires { self < 2 ^ number yaku }
+        ensures value { result ≡ self + 2 ^ number yaku * (if holds then 1 else 0) }
+        ensures below { result < 2 ^ (number yaku + 1) }
     {
-        number < 64 && has_bit(self.bits, number)
+        if holds {
+            YakuSet {
+                bits: self.bits + (1 << yaku.number()),
+            }
+        } else {
+            self
+        }
+    }
+
+    /// Whether the yaku is in the set.
+    pub fn contains(self, yaku: Yaku) -> bool
+        ensures { result ≡ spec.contains self yaku }
+    {
+        (self.bits >> yaku.number()) & 1 == 1
     }
 
     /// Whether no yaku is in the set.
@@ -51,7 +68,7 @@ impl YakuSet {
     pub fn is_yakuman(self) -> bool
         ensures { result ≡ spec.is_yakuman self }
     {
-        self.bits >= FIRST_YAKUMAN
+        self.bits >= 1 << 29
     }
 
     /// The number itself.
@@ -61,11 +78,75 @@ impl YakuSet {
     {
         self.bits
     }
+
+    /// Its yaku, in the order of the table.
+    pub fn iter(self) -> YakuIter
+        ensures value { result ≡ spec.yaku_in self }
+        ensures most { length (spec.yaku_in self) ≤ 41 }
+    {
+        YakuIter { rest: self.bits }
+    }
+
+    /// The han of its yaku together.
+    #[tactic(auto, unfolding(crate::specs::YakuSets::han_of))]
+    pub fn han(self, concealed: bool) -> u8
+        ensures value { result ≡ spec.han_of self concealed }
+        ensures most { result ≤ 60 }
+    {
+        let mut sum = 0;
+        for yaku in self.iter() {
+            sum += yaku.han(concealed);
+        }
+        sum
+    }
 }
 
-fn has_bit(bits: u64, number: u8) -> bool
-    requires { number < 64 }
-    ensures { result ≡ spec.has_number bits number }
+/// The yaku of a set, seen as the list of those that are left.
+#[derive(Drop)]
+pub struct YakuIter {
+    rest: u64,
+}
+
+impl Model for YakuIter {
+    ghost use Rattle.std.specs.Prelude.{List, ◌<◌, ◌^◌};
+    ghost use Rattle.riichi_yaku.specs.declared.table.Yaku.{Yaku};
+    ghost use Rattle.riichi_yaku.specs.YakuSets.{yaku_in};
+
+    ghost Value = { List Yaku };
+
+    ghost view = { λ i. yaku_in i.rest };
+
+    ghost invariant = { λ i. i.rest < 2 ^ 41 };
+}
+
+impl Iterator for YakuIter {
+    type Item = Yaku;
+
+    ghost next_gives = { YieldsFirst (λ left. left) };
+
+    ghost remaining = { item_count (λ left. left) };
+
+    fn next(&mut self) -> Option<Yaku> {
+        if self.rest == 0 {
+            return None;
+        }
+        let number = self.rest.trailing_zeros();
+        self.rest &= !(1 << number);
+        Some(Yaku::at(number as u8))
+    }
+}
+
+impl FusedIterator for YakuIter {}
+
+/// Writes the words of a set behind a text, in the order of the table, each after a space.
+#[tactic(auto, unfolding(crate::specs::YakuSets::words_of))]
+pub fn push_words(text: &mut ArrayString<1024>, set: YakuSet)
+    requires { length text.old.bytes + 593 ≤ 1024 }
+    ensures value { text.new.bytes ≡ text.old.bytes ++ spec.words_of set }
+    ensures most { length text.new.bytes ≤ length text.old.bytes + 593 }
 {
-    (bits >> number) & 1 == 1
+    for yaku in set.iter() {
+        text.push_str(" ");
+        text.push_str(yaku.word());
+    }
 }

@@ -1,33 +1,28 @@
-use Rattle.std.proofs.Common.{length, sym, ap, ◌∙◌, arith}
-use Rattle.riichi_yaku.specs.YakuSets.{has_number}
-use Rattle.desk_json.specs.Trees.{yaku_in}
+use Rattle.std.proofs.Common.{length, length-append, ap, ◌∙◌, ◌∷◌, [], ◌++◌, arith}
 use Rattle.desk_json.specs.Parts.{yaku_text}
-use Rattle.desk_json.proofs.Chosen.{texts_below, start, with_one, without_one, at_end}
+use Rattle.desk_json.proofs.Lists.{begun_one_more}
+use Rattle.desk_json.proofs.Chosen.{listed_more}
 use Rattle.desk_json.proofs.yaku.push_yaku.Goals as goal
-use Rattle.desk_json.proofs.yaku.push_yaku.Goals.{then-contains, else-contains}
 
-pub loop-number-init : goal.loop-number-init
-loop-number-init c = record { in_range = omega arith; written = start yaku_text (has_number c.args.set) c.args.text.now.bytes; few = omega arith }
+pub push_one-requires : goal.push_one-requires
+push_one-requires c =
+    let l = c.loop-yaku in
+    let all = ap length (c.into_iter-yaku-iterator.ensures.into_iter_gives ∙ c.iter-yaku-items.ensures.value) in
+    let left = ap length c.in-Some.ensures.steps in
+    omega (arith, c.requires, l.invariant.few, all, left, ap length l.invariant.parts ∙ length-append l.yielded l.yaku-iterator, c.iter-yaku-items.ensures.most)
 
-pub loop-number-preserved : goal.loop-number-preserved
-loop-number-preserved c =
-    let so_far = c.loop-number.invariant in
-    elim c.if-contains.branch [
-      | then-contains w ↦ record {
-        in_range = omega arith;
-        written = with_one yaku_text (has_number c.args.set) c.loop-number.number c.args.text.now.bytes c.loop-number.text.bytes c.if-contains.text.bytes c.loop-number.later c.if-contains.later
-            (sym c.contains.ensures ∙ w.if-contains.true) so_far.written (ap (λ t. t.bytes) w.text-is ∙ w.push_one.ensures.bytes) w.later-is;
-        few = omega (arith, ap (λ t. length t.bytes) w.text-is, w.push_one.ensures.len, so_far.few);
-      }
-      | else-contains w ↦ record {
-        in_range = omega arith;
-        written = without_one yaku_text (has_number c.args.set) c.loop-number.number c.args.text.now.bytes c.loop-number.text.bytes c.if-contains.text.bytes c.loop-number.later c.if-contains.later
-            (sym c.contains.ensures ∙ w.if-contains.false) so_far.written (ap (λ t. t.bytes) w.text-is) w.later-is;
-        few = omega (arith, ap (λ t. length t.bytes) w.text-is, so_far.few);
-      }
-    ]
+pub loop-yaku-preserved : goal.loop-yaku-preserved
+loop-yaku-preserved c =
+    let l = c.loop-yaku in
+    record {
+      parts = search arith;
+      bytes = listed_more yaku_text c.args.text.now.bytes l.text.bytes c.push_one.new.text.bytes l.yielded c.in-Some.yaku l.later l.invariant.bytes l.invariant.begun c.push_one.ensures.bytes;
+      begun = begun_one_more l.yielded c.in-Some.yaku;
+      few = omega (arith, length-append l.yielded (c.in-Some.yaku ∷ []), c.push_one.ensures.len, l.invariant.few);
+    }
 
-pub returns-clause-bytes : goal.returns-clause-bytes
-unfolding texts_below yaku_in
-returns-clause-bytes c =
-    at_end yaku_text (has_number c.args.set) c.loop-number.number 41 c.args.text.now.bytes c.loop-number.text.bytes c.loop-number.later c.loop-number.invariant.written (omega arith) (omega arith)
+pub returns-clause-len : goal.returns-clause-len
+returns-clause-len c =
+    let l = c.loop-yaku in
+    let all = ap length (c.into_iter-yaku-iterator.ensures.into_iter_gives ∙ c.iter-yaku-items.ensures.value) in
+    omega (arith, l.invariant.few, all, ap length l.invariant.parts ∙ length-append l.yielded l.yaku-iterator, c.iter-yaku-items.ensures.most)

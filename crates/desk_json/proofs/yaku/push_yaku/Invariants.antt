@@ -1,12 +1,12 @@
-use Rattle.std.proofs.Common.{◌≤◌, ◌+◌, ◌*◌, length}
-use Rattle.riichi_yaku.specs.YakuSets.{has_number}
-use Rattle.desk_json.specs.Parts.{yaku_text}
-use Rattle.desk_json.proofs.Chosen.{IsWrittenTo}
+use Rattle.std.proofs.Common.{◌≡◌, ◌≤◌, ◌+◌, ◌*◌, ◌++◌, length, map}
+use Rattle.desk_json.specs.Parts.{joined, yaku_text}
+use Rattle.desk_json.proofs.Lists.{is_begun}
 use Rattle.desk_json.proofs.yaku.push_yaku.Given as goal
 
-abbrev pub invariant-loop-number : goal.invariant-loop-number
-invariant-loop-number l = record {
-  in_range : l.number ≤ 41;
-  written : IsWrittenTo yaku_text (has_number l.set) l.number l.initial.text.bytes l.text.bytes l.later;
-  few : length l.text.bytes ≤ length l.initial.text.bytes + 57 * l.number;
+abbrev pub invariant-loop-yaku : goal.invariant-loop-yaku
+invariant-loop-yaku l = record {
+  parts : l.initial.yaku-iterator ≡ l.yielded ++ l.yaku-iterator;
+  bytes : l.text.bytes ≡ l.fn.text.bytes ++ joined (map yaku_text l.yielded);
+  begun : l.later ≡ is_begun l.yielded;
+  few : length l.text.bytes ≤ length l.fn.text.bytes + 57 * length l.yielded;
 }

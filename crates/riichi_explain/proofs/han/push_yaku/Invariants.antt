@@ -1,8 +1,6 @@
-use Rattle.std.proofs.Common.{◌≡◌, ◌≤◌, length}
-use Rattle.std.specs.List.{flat_map, range_with_len}
+use Rattle.std.proofs.Common.{◌≡◌, ◌++◌, map}
 use Rattle.riichi_explain.specs.Han.{yaku_row}
 use Rattle.riichi_explain.proofs.han.push_yaku.Given as goal
 
-abbrev pub invariant-loop-number : goal.invariant-loop-number
-invariant-loop-number l =
-    (l.rows.items ≡ flat_map (yaku_row l.set l.concealed) (range_with_len 0 l.number)) × (length l.rows.items ≤ l.number)
+abbrev pub invariant-loop-yaku : goal.invariant-loop-yaku
+invariant-loop-yaku l = (l.initial.yaku-iterator ≡ l.yielded ++ l.yaku-iterator) × (l.rows.items ≡ map (yaku_row l.concealed) l.yielded)
