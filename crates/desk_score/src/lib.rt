@@ -19,3 +19,6 @@ mod tables;
 
 pub use score::score_text;
 pub use score_fault::ScoreFault;
+
+#[cfg(test)]
+mod tests;

@@ -1,7 +1,8 @@
 //! Tests of the desk's libraries, a module each, by what they export.
 //!
 //! They stand apart from the libraries, since a check of a crate with its tests proves the crate once more.
-//! Those of `desk_run` stand in that crate: some look at a part that it doesn't export.
+//! Those of `desk_run` stand in that crate, since some look at a part that it doesn't export, and those of `desk_score`
+//! in that one, since it comes late.
 #![tactic(auto)]
 
 #[cfg(test)]
@@ -16,8 +17,6 @@ mod lines;
 mod ready;
 #[cfg(test)]
 mod replay;
-#[cfg(test)]
-mod score;
 #[cfg(test)]
 mod script;
 #[cfg(test)]

@@ -127,7 +127,7 @@ fn indicates_dora(rt: HostRuntime) {
     ];
     for (indicator, dora) in rows {
         assert_eq!(rt;
-            Kind::new(indicator).map(dora_of),
+            Kind::new(indicator).map(|kind| dora_of(kind)),
             Kind::new(dora),
             "at {indicator}"
         );

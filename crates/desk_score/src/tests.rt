@@ -1,6 +1,6 @@
 //! Rows of several readers.
+use super::*;
 use desk_lines::DeskReport;
-use desk_score::*;
 use desk_streams::{BytesIn, BytesOut};
 use riichi_hand::Rules;
 use std::alloc::{AllocError, Global};
