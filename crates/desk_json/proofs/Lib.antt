@@ -8,3 +8,4 @@ pub mod Faults
 pub mod Same
 pub mod ReadBack
 pub mod Seen
+pub mod Refusals
