@@ -8,4 +8,3 @@ pub mod Faults
 pub mod Same
 pub mod ReadBack
 pub mod Seen
-pub mod Refusals

@@ -1,6 +1,5 @@
 -- The text of a value of JSON.
-use Rattle.std.specs.Prelude.{ℕ, List, Bool, codes, nat_eq}
-use Rattle.std.specs.List.{starts_with}
+use Rattle.std.specs.Prelude.{ℕ, List}
 use Rattle.json.specs.Json.{Json}
 use Rattle.json.specs.Print.{print}
 use Rattle.json.specs.Tree.{json_tokens}
@@ -17,7 +16,3 @@ answer_text answer = text_of (answer_tree answer)
 
 abbrev pub fault_text : LineFault → List ℕ
 fault_text fault = text_of (fault_tree fault)
-
--- a text begins as those of faults do, and those of answers don't
-abbrev pub is_refusal : List ℕ → Bool
-is_refusal text = starts_with nat_eq text (codes "{\"answer\":\"refused\"")

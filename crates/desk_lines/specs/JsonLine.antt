@@ -1,12 +1,13 @@
 -- The answer to one line as JSON, and the answers to the lines of a stream.
-use Rattle.std.specs.Prelude.{◌≡◌, ℕ, ◌<◌, List, Option, None, Some, Result, Ok, Err, length}
+use Rattle.std.specs.Prelude.{◌≡◌, ℕ, ◌<◌, List, Bool, Option, None, Some, Result, Ok, Err, length, codes, nat_eq}
+use Rattle.std.specs.List.{starts_with}
 use Rattle.std.proofs.Common.{sym, ap, ◌∙◌}
 use Rattle.riichi_hand.specs.declared.win.Rules.{Rules}
 use Rattle.riichi_hand.specs.declared.fault.LineFault.{LineFault}
 use Rattle.riichi_hand.specs.declared.job.Job.{Job}
 use Rattle.riichi_hand.specs.Lines.{outcome_of}
 use Rattle.desk_core.specs.Value.{value_of}
-use Rattle.desk_json.specs.Text.{answer_text, fault_text, is_refusal}
+use Rattle.desk_json.specs.Text.{answer_text, fault_text}
 use Rattle.desk_lines.specs.declared.report.DeskReport.{DeskReport}
 use Rattle.desk_lines.specs.LineAnswers.{answers_by}
 use Rattle.desk_lines.specs.LongLines.{long_outcome}
@@ -29,6 +30,10 @@ pub json_alike : (rules : Rules) (line other : List ℕ) (told : Option (List �
     → IsJson rules line told → IsJson rules other told
 unfolding json_of
 json_alike rules line other told long long_other is = is ∙ ap outcome_json (long_outcome rules line long ∙ sym (long_outcome rules other long_other))
+
+-- an object begins as those of faults do, and those of answers don't
+abbrev pub is_refusal : List ℕ → Bool
+is_refusal object = starts_with nat_eq object (codes "{\"answer\":\"refused\"")
 
 -- ---- streams
 

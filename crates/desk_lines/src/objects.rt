@@ -2,7 +2,7 @@
 ghost use Rattle.std.specs.Prelude.{◌≡◌, ◌∷◌, ◌++◌, []};
 ghost use Rattle.desk_core.specs.Value.{value_of};
 ghost use Rattle.desk_json.specs.Text as spec;
-ghost use Rattle.desk_lines.specs.JsonLine.{json_of};
+ghost use Rattle.desk_lines.specs.JsonLine.{json_of, is_refusal};
 ghost use Rattle.desk_lines.specs.Outbox.{HasRoom};
 ghost use Rattle.desk_lines.specs.Telling.{kind_by, with_line_feed};
 
@@ -17,8 +17,7 @@ use riichi_hand::{Job, LineFault, Rules, read_line};
 pub(crate) struct Objects;
 
 impl Responder for Objects {
-    ghost use Rattle.desk_json.specs.Text.{is_refusal};
-    ghost use Rattle.desk_lines.specs.JsonLine.{IsJson, json_alike};
+    ghost use Rattle.desk_lines.specs.JsonLine.{IsJson, is_refusal, json_alike};
 
     ghost may_tell = { IsJson };
 
@@ -35,7 +34,7 @@ impl Responder for Objects {
 #[tactic(auto, using(crate::proofs::JsonLemmas::kinds), unfolding(crate::specs::JsonLine::json_of))]
 fn put_json(rules: Rules, line: &[u8], outbox: &mut Outbox) -> LineKind
     requires { HasRoom outbox.old }
-    ensures kind { result ≡ kind_by spec.is_refusal (json_of rules line.now) }
+    ensures kind { result ≡ kind_by is_refusal (json_of rules line.now) }
     ensures told { outbox.new.bytes.items ≡
         outbox.old.bytes.items ++ with_line_feed (json_of rules line.now) }
 {
