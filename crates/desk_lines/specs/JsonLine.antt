@@ -8,10 +8,9 @@ use Rattle.riichi_hand.specs.declared.job.Job.{Job}
 use Rattle.riichi_hand.specs.Lines.{outcome_of}
 use Rattle.desk_core.specs.Value.{value_of}
 use Rattle.desk_json.specs.Text.{answer_text, fault_text}
-use Rattle.desk_lines.specs.declared.report.DeskReport.{DeskReport}
 use Rattle.desk_lines.specs.LineAnswers.{answers_by}
 use Rattle.desk_lines.specs.LongLines.{long_outcome}
-use Rattle.desk_lines.specs.Telling.{text_of, report_by}
+use Rattle.desk_lines.specs.Telling.{text_of}
 
 -- a line that is no record has no answer; a job is answered by its value, a fault is told
 abbrev pub outcome_json : Result (Option Job) LineFault → Option (List ℕ)
@@ -44,7 +43,3 @@ json_on given lines = answers_by json_of given lines
 -- the same as they are written, each with a line feed
 abbrev pub json_to : Rules → List (List ℕ) → List ℕ
 json_to given lines = text_of (json_on given lines)
-
--- how many of them are refusals, and how many are not
-abbrev pub json_report : Rules → List (List ℕ) → DeskReport
-json_report given lines = report_by is_refusal (json_on given lines)

@@ -1,7 +1,8 @@
 //! A text over streams, answered as JSON.
 ghost use Rattle.std.specs.Prelude.{◌≡◌, ℕ, List, IfOk, IsErrOf};
 ghost use Rattle.desk_lines.specs.Lines.{ended_lines, lines};
-ghost use Rattle.desk_lines.specs.JsonLine.{json_to, json_report};
+ghost use Rattle.desk_lines.specs.JsonLine.{json_to};
+ghost use Rattle.desk_lines.specs.LineAnswers.{report_on};
 ghost use Rattle.desk_lines.specs.Streams.{Gives, GivesAll, WritesAll, StopsWriting, AreWhole, FailsOrGoesOn, IsReadWithin};
 
 use super::fault::DeskFault;
@@ -19,11 +20,11 @@ pub fn json_text<R: Source, W: Sink>(
     reader: &mut R,
     writer: &mut W,
 ) -> Result<DeskReport, DeskFault>
-    // The reader was read to its end, and the answers to what it gave were written.
+    // The reader was read to its end, and the objects of what it gave were written. They are counted as the plain answers.
     ensures ok { IfOk result (λ report. (text : List ℕ)
         × GivesAll ⟦<R as Source>⟧ reader.old reader.new text
         × WritesAll ⟦<W as Sink>⟧ writer.old writer.new (json_to rules (lines text))
-        × (report ≡ json_report rules (lines text))) }
+        × (report ≡ report_on rules (lines text))) }
 
     // A read failed, or there were too many: the answers to the lines that had ended were written.
     ensures read_failed { IsErrOf result DeskFault.Read → FailsOrGoesOn ⟦<R as Source>⟧ reader.old reader.new

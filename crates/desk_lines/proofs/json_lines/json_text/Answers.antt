@@ -6,12 +6,13 @@ use Rattle.desk_lines.specs.Lines.{lines, ended_lines}
 use Rattle.desk_lines.specs.Streams.{WritesAll}
 use Rattle.desk_lines.specs.Telling.{text_of, report_by}
 use Rattle.desk_lines.proofs.AnswerLemmas.{answers_told, front_told}
+use Rattle.desk_lines.proofs.JsonLemmas.{json_report}
 use Rattle.desk_lines.proofs.json_lines.json_text.Goals as goal
 
 pub returns-clause-ok : goal.returns-clause-ok
 returns-clause-ok g c = MatchResult-weaker c.respond_text.result c.respond_text.ensures.ok (λ report ok.
     let same = answers_told json_of c.args.rules (lines ok.0) ok.1 ok.3 in
-    (ok.0, ok.2, subst (λ (told : List (List ℕ)). WritesAll g.W.Sink c.args.writer.now c.respond_text.new.writer (text_of told)) same ok.4, ok.5 ∙ ap (report_by is_refusal) same))
+    (ok.0, ok.2, subst (λ (told : List (List ℕ)). WritesAll g.W.Sink c.args.writer.now c.respond_text.new.writer (text_of told)) same ok.4, ok.5 ∙ ap (report_by is_refusal) same ∙ json_report c.args.rules (lines ok.0)))
     (λ fault told. told)
 
 pub returns-clause-read_failed : goal.returns-clause-read_failed
