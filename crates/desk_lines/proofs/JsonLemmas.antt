@@ -32,7 +32,7 @@ unfolding fault_parts
 parts_refuse (Line code) = refl
 parts_refuse (Notation name fault) = refl
 
-is_refusal-fault : (fault : LineFault) → is_refusal (fault_text fault) ≡ true
+pub is_refusal-fault : (fault : LineFault) → is_refusal (fault_text fault) ≡ true
 is_refusal-fault fault = ap is_refusal (fault_written fault) ∙ parts_refuse fault
 
 no_win_refuses : (win : WinAnswer) → is_refusal (win_text win) ≡ false
@@ -47,7 +47,7 @@ is_refusal-answer (answer.Win win) = ap is_refusal (win_written win) ∙ no_win_
 is_refusal-answer (answer.Waits marks) = ap is_refusal (waits_written marks)
 is_refusal-answer (answer.Shape shape) = ap is_refusal (shape_written shape)
 
-is_refusal-job : (job : Job) → is_refusal (answer_text (value_of job)) ≡ false
+pub is_refusal-job : (job : Job) → is_refusal (answer_text (value_of job)) ≡ false
 is_refusal-job job = is_refusal-answer (value_of job)
 
 pub ruleset kinds = (is_refusal-fault, is_refusal-job)
