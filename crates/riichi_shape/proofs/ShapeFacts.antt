@@ -2,7 +2,7 @@
 use Rattle.std.proofs.Common.{◌≡◌, ℕ, ◌<◌, ◌≤◌, ℤ, Bool, true, false, List, [], ◌∷◌, None, ltb, refl, ap, ◌∙◌, ⊎_elim, arith}
 use Rattle.std.proofs.lemmas.Bool.Decides.{nat_tests}
 use Rattle.std.specs.List.{list_any, sum}
-use Rattle.std.specs.Prelude.{not, slice_index, nat_lt, ◌==◌, ◌||◌}
+use Rattle.std.specs.Prelude.{not, nat_lt, ◌==◌, ◌||◌}
 use Rattle.riichi_tiles.specs.Melds.{every_kind, tiles}
 use Rattle.riichi_hand.specs.Faults.{coded, first_fault}
 use Rattle.riichi_hand.specs.Hand.{IsShape, copies_with, has_five_seen, is_thirteen, is_thirteen_or_more, size}
@@ -48,9 +48,6 @@ module _ (parts : ShapeParts) (is : IsShape parts) where
 
   pub melds_few : (kind : ℕ) → kind < 34 → tiles parts.melds kind ≤ 4
   melds_few kind low = omega (arith, copies_few kind low)
-
-  pub seen_few : (kind : ℕ) → kind < 34 → 0 < slice_index parts.tiles kind → slice_index parts.seen kind < 4
-  seen_few kind low held = omega (arith, copies_few kind low, held)
 
 -- the parts of the answer make the answer
 answer_is : (parts : ShapeParts) (shanten : ℤ) (accepts : Accepts) → shanten ≡ shanten_of parts.tiles parts.melds → accepts ≡ accepts_of parts → ◌≡◌ {A = ShapeAnswer} (record { shanten = shanten; accepts = accepts }) (shape_of parts)
