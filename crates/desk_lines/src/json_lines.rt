@@ -43,6 +43,3 @@ pub fn json_text<R: Source, W: Sink>(
 {
     respond_text::<Objects, Brand, R, W>(rules, reader, writer)
 }
-
-#[cfg(test)]
-mod tests;

@@ -10,6 +10,8 @@ mod desk;
 #[cfg(test)]
 mod json;
 #[cfg(test)]
+mod json_lines;
+#[cfg(test)]
 mod laws;
 #[cfg(test)]
 mod lines;

@@ -1,5 +1,5 @@
 //! Rows of whole texts, answered as JSON.
-use crate::*;
+use desk_lines::*;
 use desk_streams::{BytesIn, BytesOut};
 use std::test::Fail;
 
