@@ -10,6 +10,8 @@ mod cache;
 #[cfg(test)]
 mod explain;
 #[cfg(test)]
+mod faults;
+#[cfg(test)]
 mod hand;
 #[cfg(test)]
 mod rows;
