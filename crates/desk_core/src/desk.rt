@@ -51,7 +51,8 @@ impl DeskCore {
         ensures tables { length self.new ≡ length self.old }
         ensures unknown { (result ≡ Reply.NoTable) ↔ (length self.old ≤ table_of event) }
         ensures no_table { result ≡ Reply.NoTable → self.new ≡ self.old }
-        ensures refused { (fault : SubmitFault) → result ≡ Reply.Refused fault → self.new ≡ self.old }
+        ensures refused { (fault : SubmitFault) → result ≡ Reply.Refused fault
+            → self.new ≡ self.old }
     {
         match self.lanes.get_mut(event.table() as usize) {
             None => Reply::NoTable,
@@ -63,8 +64,10 @@ impl DeskCore {
     /// and the events come back.
     pub fn run(&mut self, events: Vec<Event>) -> Result<Vec<Reply>, RunBack>
         ensures count { IfOk result (λ replies. length replies.items ≡ length events.items) }
-        ensures stands { IfOk result (λ replies. IsDeskRun self.old (zip events.items replies.items) self.new) }
-        ensures promise { IfOk result (λ replies. (history : List Turn) → DeskStandsFor self.old history
+        ensures stands { IfOk result (λ replies. IsDeskRun self.old
+            (zip events.items replies.items) self.new) }
+        ensures promise { IfOk result (λ replies. (history : List Turn)
+            → DeskStandsFor self.old history
             → KeepsItsPromise (length self.old) (history ++ zip events.items replies.items)) }
         ensures tables { length self.new ≡ length self.old }
         ensures back { IfErr result (λ back. back.events.items ≡ events.items) }

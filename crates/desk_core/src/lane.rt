@@ -90,13 +90,15 @@ impl Lane {
 
     /// Submits a job, and makes the room for its answer. Tickets are numbered from 0 without gaps.
     pub fn submit(&mut self, job: Job) -> Result<Ticket, SubmitBack>
-        ensures step { IsStep self.old (Event.Submit self.old.table job) (submit_reply result) self.new }
+        ensures step { IsStep self.old (Event.Submit self.old.table job)
+            (submit_reply result) self.new }
         ensures back { IfErr result (λ back. back.job ≡ job) }
         ensures fault { IfErr result (λ back. RefusesJob self.old back.fault) }
         ensures accepts { OnOk result (AcceptsJob self.old) }
         ensures err { OnErr result (self.new ≡ self.old) }
         ensures ok { OnOk result (self.new ≡ with_job self.old job) }
-        ensures ticket { IfOk result (λ ticket. ticket ≡ record { table = self.old.table; seq = self.old.next + length self.old.window }) }
+        ensures ticket { IfOk result (λ ticket. ticket
+            ≡ record { table = self.old.table; seq = self.old.next + length self.old.window }) }
     {
         if self.closed {
             return Err(SubmitBack {
@@ -128,7 +130,8 @@ impl Lane {
     /// one carries, a stranger where another job was submitted under it, and else accepted. It takes
     /// no memory.
     pub fn arrive(&mut self, piece: Piece) -> Arrived
-        ensures step { piece.ticket.table ≡ self.old.table → IsStep self.old (Event.Arrive piece) (Reply.Arrived result) self.new }
+        ensures step { piece.ticket.table ≡ self.old.table
+            → IsStep self.old (Event.Arrive piece) (Reply.Arrived result) self.new }
         ensures other_table { piece.ticket.table ≢ self.old.table → result ≡ Arrived.Stranger }
         ensures accepted { result ≡ Arrived.Accepted → TakesInPiece self.old piece self.new }
         ensures awaited { Awaits self.old piece → result ≡ Arrived.Accepted }
@@ -185,7 +188,8 @@ impl Lane {
     /// given and it was not withdrawn before. It may come after closing. A piece that arrives for
     /// the ticket from then on is answered `Withdrawn`. Memory is taken where the answer is true.
     pub fn withdraw(&mut self, seq: u32) -> Result<bool, Memory>
-        ensures step { IsStep self.old (Event.Withdraw (record { table = self.old.table; seq = seq })) (withdraw_reply result) self.new }
+        ensures step { IsStep self.old (Event.Withdraw
+            (record { table = self.old.table; seq = seq })) (withdraw_reply result) self.new }
         ensures can { IfOk result (λ done. IsTrue done ↔ CanTakeBack self.old seq) }
         ensures done { result ≡ Ok true → TakesBack self.old seq self.new }
         ensures not { result ≡ Ok false → self.new ≡ self.old }
@@ -228,7 +232,8 @@ impl Lane {
         ensures step { table_of event ≡ self.old.table → IsStep self.old event result self.new }
         ensures table { self.new.table ≡ self.old.table }
         ensures known { result ≢ Reply.NoTable }
-        ensures refused { (fault : SubmitFault) → result ≡ Reply.Refused fault → self.new ≡ self.old }
+        ensures refused { (fault : SubmitFault) → result ≡ Reply.Refused fault
+            → self.new ≡ self.old }
     {
         match event {
             Event::Submit { job, .. } => match self.submit(job) {

@@ -36,7 +36,8 @@ fn push_kinds(text: &mut JsonText, kinds: &KindSet)
 /// One kind, behind a comma where it is not the first.
 fn push_one(text: &mut JsonText, later: bool, kind: Kind)
     requires { array_string_len text.old + 5 ≤ 12288 }
-    ensures bytes { text.new.bytes ≡ text.old.bytes ++ spec.comma_if later ++ spec.quoted_kind kind }
+    ensures bytes { text.new.bytes
+        ≡ text.old.bytes ++ spec.comma_if later ++ spec.quoted_kind kind }
     ensures len { array_string_len text.new ≤ array_string_len text.old + 5 }
 {
     push_comma_if(text, later);

@@ -43,7 +43,8 @@ impl Responder for Plain {
 fn put_answer(rules: Rules, line: &[u8], outbox: &mut Outbox) -> LineKind
     requires { HasRoom outbox.old }
     ensures kind { result ≡ kind_of (answer_of rules line.now) }
-    ensures told { outbox.new.bytes.items ≡ outbox.old.bytes.items ++ with_line_feed (answer_of rules line.now) }
+    ensures told { outbox.new.bytes.items
+        ≡ outbox.old.bytes.items ++ with_line_feed (answer_of rules line.now) }
 {
     match read_line(rules, line) {
         Ok(None) => LineKind::NoRecord,
@@ -62,7 +63,8 @@ fn put_answer(rules: Rules, line: &[u8], outbox: &mut Outbox) -> LineKind
 #[tactic(auto, using(crate::proofs::JobTexts::job_texts))]
 fn put_job(job: &Job, outbox: &mut Outbox)
     requires { HasRoom outbox.old }
-    ensures { outbox.new.bytes.items ≡ outbox.old.bytes.items ++ (answer_text (value_of job.now) ++ 10 ∷ []) }
+    ensures { outbox.new.bytes.items
+        ≡ outbox.old.bytes.items ++ (answer_text (value_of job.now) ++ 10 ∷ []) }
 {
     match job {
         Job::Win(win) => put_win(win, outbox),
@@ -73,7 +75,8 @@ fn put_job(job: &Job, outbox: &mut Outbox)
 
 fn put_win(win: &WinRecord, outbox: &mut Outbox)
     requires { HasRoom outbox.old }
-    ensures { outbox.new.bytes.items ≡ outbox.old.bytes.items ++ (spec_win.text_of (best_of win.now) ++ 10 ∷ []) }
+    ensures { outbox.new.bytes.items
+        ≡ outbox.old.bytes.items ++ (spec_win.text_of (best_of win.now) ++ 10 ∷ []) }
 {
     outbox.put_line(win_text(&best(win)).as_str().as_bytes());
 }
@@ -81,7 +84,9 @@ fn put_win(win: &WinRecord, outbox: &mut Outbox)
 pub(crate) fn put_waits(hand: &HandRecord, outbox: &mut Outbox)
     requires { HasRoom outbox.old }
     ensures room { length outbox.new.bytes.items ≤ length outbox.old.bytes.items + 3073 }
-    ensures told { outbox.new.bytes.items ≡ outbox.old.bytes.items ++ (spec_waits.waits_text (spec_waits.waits_of hand.now) ++ 10 ∷ []) }
+    ensures told { outbox.new.bytes.items
+        ≡ outbox.old.bytes.items
+        ++ (spec_waits.waits_text (spec_waits.waits_of hand.now) ++ 10 ∷ []) }
 {
     outbox.put_line(waits_text(waits(hand)).as_str().as_bytes());
 }
@@ -89,7 +94,8 @@ pub(crate) fn put_waits(hand: &HandRecord, outbox: &mut Outbox)
 pub(crate) fn put_shape(tiles: &ShapeRecord, outbox: &mut Outbox)
     requires { HasRoom outbox.old }
     ensures room { length outbox.new.bytes.items ≤ length outbox.old.bytes.items + 3073 }
-    ensures told { outbox.new.bytes.items ≡ outbox.old.bytes.items ++ (spec_shape.text_of (shape_of tiles.now) ++ 10 ∷ []) }
+    ensures told { outbox.new.bytes.items
+        ≡ outbox.old.bytes.items ++ (spec_shape.text_of (shape_of tiles.now) ++ 10 ∷ []) }
 {
     outbox.text.clear();
     push_shape(&mut outbox.text, &shape(tiles));

@@ -49,7 +49,8 @@ pub fn collect_text<R: Source>(
         × (collected.report ≡ report_on rules (lines text))) }
 
     // A read failed, or there were too many. Else memory was wanted.
-    ensures read_failed { IsErrOf result DeskFault.Read → FailsOrGoesOn ⟦<R as Source>⟧ reader.old reader.new }
+    ensures read_failed { IsErrOf result DeskFault.Read
+        → FailsOrGoesOn ⟦<R as Source>⟧ reader.old reader.new }
     ensures no_write { IsErrOf result DeskFault.Write → ⊥ }
     ensures reads { IsReadWithin ⟦<R as Source>⟧ reader.old reader.new }
 {
@@ -69,7 +70,8 @@ fn collect_given<P: GivenRules, R: Source>(
         × (collected.asked.items ≡ asked_of rules (lines text))
         × (collected.report ≡ report_on rules (lines text))) }
 
-    ensures read_failed { IsErrOf result DeskFault.Read → FailsOrGoesOn ⟦<R as Source>⟧ reader.old reader.new }
+    ensures read_failed { IsErrOf result DeskFault.Read
+        → FailsOrGoesOn ⟦<R as Source>⟧ reader.old reader.new }
     ensures no_write { IsErrOf result DeskFault.Write → ⊥ }
     ensures reads { IsReadWithin ⟦<R as Source>⟧ reader.old reader.new }
 {
@@ -130,9 +132,14 @@ impl<P: GivenRules> Collector<P> {
     /// Takes the next line.
     fn take_line(&mut self, line: &[u8]) -> Result<(), AllocError>
         ensures given { self.new.given ≡ self.old.given }
-        ensures rules { OnOk result (self.new.rules ≡ Some (rules_by self.old.given self.old.rules line.now)) }
-        ensures jobs { OnOk result (self.new.jobs.items ≡ self.old.jobs.items ++ flat_map jobs_in (outcome_by self.old.given self.old.rules line.now)) }
-        ensures asked { OnOk result (self.new.asked.items ≡ self.old.asked.items ++ flat_map asked_in (outcome_by self.old.given self.old.rules line.now)) }
+        ensures rules { OnOk result (self.new.rules
+            ≡ Some (rules_by self.old.given self.old.rules line.now)) }
+        ensures jobs { OnOk result (self.new.jobs.items
+            ≡ self.old.jobs.items
+            ++ flat_map jobs_in (outcome_by self.old.given self.old.rules line.now)) }
+        ensures asked { OnOk result (self.new.asked.items
+            ≡ self.old.asked.items
+            ++ flat_map asked_in (outcome_by self.old.given self.old.rules line.now)) }
     {
         match record_rules(self.given, &mut self.rules, line) {
             Some(rules) => self.take_record(rules, line),
@@ -144,8 +151,10 @@ impl<P: GivenRules> Collector<P> {
     fn take_record(&mut self, rules: Rules, line: &[u8]) -> Result<(), AllocError>
         ensures given { self.new.given ≡ self.old.given }
         ensures rules { self.new.rules ≡ self.old.rules }
-        ensures jobs { OnOk result (self.new.jobs.items ≡ self.old.jobs.items ++ jobs_in (outcome_of rules line.now)) }
-        ensures asked { OnOk result (self.new.asked.items ≡ self.old.asked.items ++ asked_in (outcome_of rules line.now)) }
+        ensures jobs { OnOk result (self.new.jobs.items
+            ≡ self.old.jobs.items ++ jobs_in (outcome_of rules line.now)) }
+        ensures asked { OnOk result (self.new.asked.items
+            ≡ self.old.asked.items ++ asked_in (outcome_of rules line.now)) }
     {
         match read_line(rules, line) {
             Ok(None) => {}

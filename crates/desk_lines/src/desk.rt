@@ -36,12 +36,15 @@ impl<T: Teller + Drop, const ROOM: usize> Desk<T, ROOM> {
     pub(crate) fn feed<W: Sink>(&mut self, bytes: &[u8], writer: &mut W) -> Result<(), DeskFault>
         requires room { T.most + 2 ≤ ROOM }
         requires count { count_of self.old.told.report + length bytes.now < 2 ^ 64 }
-        ensures holds { OnOk result ((start : W) (text : List ℕ) → Holds ⟦<W as Sink>⟧ ⟦<T as Teller>⟧ start self.old writer.old text
+        ensures holds { OnOk result ((start : W) (text : List ℕ)
+            → Holds ⟦<W as Sink>⟧ ⟦<T as Teller>⟧ start self.old writer.old text
             → Holds ⟦<W as Sink>⟧ ⟦<T as Teller>⟧ start self.new writer.new (text ++ bytes.now)) }
-        ensures stops { IfErr result (λ fault. (start : W) (text : List ℕ) → Holds ⟦<W as Sink>⟧ ⟦<T as Teller>⟧ start self.old writer.old text
+        ensures stops { IfErr result (λ fault. (start : W) (text : List ℕ)
+            → Holds ⟦<W as Sink>⟧ ⟦<T as Teller>⟧ start self.old writer.old text
             → StopsTelling ⟦<W as Sink>⟧ ⟦<T as Teller>⟧ start writer.new fault (ended_lines (text ++ bytes.now))) }
         ensures empty { OnOk result (self.new.told.outbox.bytes.items ≡ []) }
-        ensures count { count_of self.new.told.report ≤ count_of self.old.told.report + length bytes.now }
+        ensures count { count_of self.new.told.report
+            ≤ count_of self.old.told.report + length bytes.now }
     {
         let mut rest = bytes;
         while let Some((line, after)) = cut_line(rest) {
@@ -57,9 +60,11 @@ impl<T: Teller + Drop, const ROOM: usize> Desk<T, ROOM> {
         requires plain { is_plain bytes.now ≡ true }
         requires room { T.most + 2 ≤ ROOM }
         requires count { count_of self.old.told.report + 1 < 2 ^ 64 }
-        ensures holds { OnOk result ((start : W) (text : List ℕ) → Holds ⟦<W as Sink>⟧ ⟦<T as Teller>⟧ start self.old writer.old text
+        ensures holds { OnOk result ((start : W) (text : List ℕ)
+            → Holds ⟦<W as Sink>⟧ ⟦<T as Teller>⟧ start self.old writer.old text
             → Holds ⟦<W as Sink>⟧ ⟦<T as Teller>⟧ start self.new writer.new (text ++ (bytes.now ++ 10 ∷ []))) }
-        ensures stops { IfErr result (λ fault. (start : W) (text : List ℕ) → Holds ⟦<W as Sink>⟧ ⟦<T as Teller>⟧ start self.old writer.old text
+        ensures stops { IfErr result (λ fault. (start : W) (text : List ℕ)
+            → Holds ⟦<W as Sink>⟧ ⟦<T as Teller>⟧ start self.old writer.old text
             → StopsTelling ⟦<W as Sink>⟧ ⟦<T as Teller>⟧ start writer.new fault (ended_lines text)) }
         ensures count { count_of self.new.told.report ≤ count_of self.old.told.report + 1 }
     {
@@ -76,10 +81,12 @@ impl<T: Teller + Drop, const ROOM: usize> Desk<T, ROOM> {
     pub(crate) fn finish<W: Sink>(self, writer: &mut W) -> Result<Told<T>, DeskFault>
         requires room { T.most + 2 ≤ ROOM }
         requires count { count_of self.told.report + 1 < 2 ^ 64 }
-        ensures ends { IfOk result (λ told. (start : W) (text : List ℕ) → Holds ⟦<W as Sink>⟧ ⟦<T as Teller>⟧ start self writer.old text
+        ensures ends { IfOk result (λ told. (start : W) (text : List ℕ)
+            → Holds ⟦<W as Sink>⟧ ⟦<T as Teller>⟧ start self writer.old text
             → Stands ⟦<W as Sink>⟧ ⟦<T as Teller>⟧ start (lines text) told writer.new) }
         ensures empty { IfOk result (λ told. told.outbox.bytes.items ≡ []) }
-        ensures stops { IfErr result (λ fault. (start : W) (text : List ℕ) → Holds ⟦<W as Sink>⟧ ⟦<T as Teller>⟧ start self writer.old text
+        ensures stops { IfErr result (λ fault. (start : W) (text : List ℕ)
+            → Holds ⟦<W as Sink>⟧ ⟦<T as Teller>⟧ start self writer.old text
             → StopsTelling ⟦<W as Sink>⟧ ⟦<T as Teller>⟧ start writer.new fault (lines text)) }
     {
         let Desk { held, mut told } = self;

@@ -32,7 +32,8 @@ pub fn explain_text<R: Source, W: Sink>(
         × (report ≡ report_on rules (lines text))) }
 
     // A read failed, or there were too many: the answers to the lines that had ended were written.
-    ensures read_failed { IsErrOf result DeskFault.Read → FailsOrGoesOn ⟦<R as Source>⟧ reader.old reader.new
+    ensures read_failed { IsErrOf result DeskFault.Read
+        → FailsOrGoesOn ⟦<R as Source>⟧ reader.old reader.new
         × ((text : List ℕ) × (told : List (List ℕ))
         × Gives ⟦<R as Source>⟧ reader.old reader.new text
         × AnswerRecords IsExplained rules (ended_lines text) told
@@ -40,7 +41,8 @@ pub fn explain_text<R: Source, W: Sink>(
         × (without_indented (text_of told) ≡ answers_to rules (ended_lines text))) }
 
     // A write failed: a front of the answers to the first of the whole lines that the reader gave was written.
-    ensures write_failed { IsErrOf result DeskFault.Write → (text : List ℕ) × (whole first others told : List (List ℕ))
+    ensures write_failed { IsErrOf result DeskFault.Write
+        → (text : List ℕ) × (whole first others told : List (List ℕ))
         × Gives ⟦<R as Source>⟧ reader.old reader.new text
         × AreWhole (R.is_ended reader.new) text whole
         × (whole ≡ first ++ others)

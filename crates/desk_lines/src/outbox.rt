@@ -54,7 +54,8 @@ impl Outbox {
     /// Adds a line with the text that stands in its room.
     pub(crate) fn put_text(&mut self)
         requires { HasRoom self.old }
-        ensures told { self.new.bytes.items ≡ self.old.bytes.items ++ (self.old.text.bytes ++ 10 ∷ []) }
+        ensures told { self.new.bytes.items
+            ≡ self.old.bytes.items ++ (self.old.text.bytes ++ 10 ∷ []) }
         ensures room { length self.new.bytes.items ≤ length self.old.bytes.items + 3073 }
     {
         push_line(&mut self.bytes, self.text.as_str().as_bytes());
@@ -63,7 +64,8 @@ impl Outbox {
     /// Adds a line with the object that stands in its room.
     pub(crate) fn put_object(&mut self)
         requires { HasRoom self.old }
-        ensures { self.new.bytes.items ≡ self.old.bytes.items ++ (self.old.object.bytes ++ 10 ∷ []) }
+        ensures { self.new.bytes.items
+            ≡ self.old.bytes.items ++ (self.old.object.bytes ++ 10 ∷ []) }
     {
         push_line(&mut self.bytes, self.object.as_str().as_bytes());
     }

@@ -34,14 +34,16 @@ pub(crate) fn tell_lines<T: Teller + Drop, R: Source, W: Sink, const ROOM: usize
     ensures empty { IfOk result (λ told. told.outbox.bytes.items ≡ []) }
 
     // A read failed, or there were too many: the answers to the lines that had ended were written.
-    ensures read_failed { IsErrOf result DeskFault.Read → FailsOrGoesOn ⟦<R as Source>⟧ reader.old reader.new
+    ensures read_failed { IsErrOf result DeskFault.Read
+        → FailsOrGoesOn ⟦<R as Source>⟧ reader.old reader.new
         × ((text : List ℕ) × (told : Told T)
         × Gives ⟦<R as Source>⟧ reader.old reader.new text
         × Stands ⟦<W as Sink>⟧ ⟦<T as Teller>⟧ writer.old (ended_lines text) told writer.new
         × (told.outbox.bytes.items ≡ [])) }
 
     // A write failed, or memory was wanted: the first of the whole lines that the reader gave were answered.
-    ensures write_failed { IsErrOf result DeskFault.Write → (text : List ℕ) × (whole : List (List ℕ))
+    ensures write_failed { IsErrOf result DeskFault.Write
+        → (text : List ℕ) × (whole : List (List ℕ))
         × Gives ⟦<R as Source>⟧ reader.old reader.new text
         × AreWhole (R.is_ended reader.new) text whole
         × StopsTelling ⟦<W as Sink>⟧ ⟦<T as Teller>⟧ writer.old writer.new DeskFault.Write whole }

@@ -43,7 +43,8 @@ impl<A: Responder, P: GivenRules> Records<A, P> {
         requires { HasRoom outbox.old }
         ensures given { self.new.given ≡ self.old.given }
         ensures rules { self.new.rules ≡ Some (rules_by self.old.given self.old.rules line.now) }
-        ensures told { Puts A.refuses (IsToldBy A.may_tell self.old.given self.old.rules line.now) result
+        ensures told { Puts A.refuses
+            (IsToldBy A.may_tell self.old.given self.old.rules line.now) result
             outbox.old.bytes.items outbox.new.bytes.items }
     {
         match record_rules(self.given, &mut self.rules, line) {

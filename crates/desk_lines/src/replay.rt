@@ -35,21 +35,24 @@ pub fn replay_text<R: Source, W: Sink>(
         × (report ≡ report_of answers)) }
 
     // A read failed, or there were too many: answers to the lines that had ended were written.
-    ensures read_failed { IsErrOf result DeskFault.Read → FailsOrGoesOn ⟦<R as Source>⟧ reader.old reader.new
+    ensures read_failed { IsErrOf result DeskFault.Read
+        → FailsOrGoesOn ⟦<R as Source>⟧ reader.old reader.new
         × ((text : List ℕ) × (answers : List (List ℕ))
         × Gives ⟦<R as Source>⟧ reader.old reader.new text
         × Replays (ended_lines text) answers
         × WritesAll ⟦<W as Sink>⟧ writer.old writer.new (text_of answers)) }
 
     // A write failed: there are answers to all whole lines that the reader gave, and a front of their text was written.
-    ensures write_failed { IsErrOf result DeskFault.Write → (text : List ℕ) × (whole answers : List (List ℕ))
+    ensures write_failed { IsErrOf result DeskFault.Write
+        → (text : List ℕ) × (whole answers : List (List ℕ))
         × Gives ⟦<R as Source>⟧ reader.old reader.new text
         × AreWhole (R.is_ended reader.new) text whole
         × Replays whole answers
         × StopsWriting ⟦<W as Sink>⟧ writer.old writer.new (text_of answers) }
 
     // Memory ran out: there are answers to all whole lines that the reader gave, and the first of them were written.
-    ensures no_memory { IsErrOf result DeskFault.Memory → (text : List ℕ) × (whole first others : List (List ℕ))
+    ensures no_memory { IsErrOf result DeskFault.Memory
+        → (text : List ℕ) × (whole first others : List (List ℕ))
         × Gives ⟦<R as Source>⟧ reader.old reader.new text
         × AreWhole (R.is_ended reader.new) text whole
         × Replays whole (first ++ others)

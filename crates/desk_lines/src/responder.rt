@@ -19,7 +19,8 @@ pub(crate) trait Responder {
     /// Puts what a record line is told into the outbox.
     fn respond(rules: Rules, line: &[u8], outbox: &mut Outbox) -> LineKind
         requires { HasRoom outbox.old }
-        ensures { Puts refuses (may_tell rules line.now) result outbox.old.bytes.items outbox.new.bytes.items };
+        ensures { Puts refuses
+            (may_tell rules line.now) result outbox.old.bytes.items outbox.new.bytes.items };
 
     /// Lines of more than 4,096 bytes are told alike.
     ghost alike: { (rules : Rules) (line other : List ℕ) (told : Option (List ℕ))

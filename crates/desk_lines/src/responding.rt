@@ -35,14 +35,16 @@ pub(crate) fn respond_text<A: Responder, P: GivenRules, R: Source, W: Sink>(
         × (report ≡ report_by A.refuses told)) }
 
     // A read failed, or there were too many: the answers to the lines that had ended were written.
-    ensures read_failed { IsErrOf result DeskFault.Read → FailsOrGoesOn ⟦<R as Source>⟧ reader.old reader.new
+    ensures read_failed { IsErrOf result DeskFault.Read
+        → FailsOrGoesOn ⟦<R as Source>⟧ reader.old reader.new
         × ((text : List ℕ) × (told : List (List ℕ))
         × Gives ⟦<R as Source>⟧ reader.old reader.new text
         × AnswerRecords A.may_tell rules (ended_lines text) told
         × WritesAll ⟦<W as Sink>⟧ writer.old writer.new (text_of told)) }
 
     // A write failed: a front of the answers to the first of the whole lines that the reader gave was written.
-    ensures write_failed { IsErrOf result DeskFault.Write → (text : List ℕ) × (whole first others told : List (List ℕ))
+    ensures write_failed { IsErrOf result DeskFault.Write
+        → (text : List ℕ) × (whole first others told : List (List ℕ))
         × Gives ⟦<R as Source>⟧ reader.old reader.new text
         × AreWhole (R.is_ended reader.new) text whole
         × (whole ≡ first ++ others)

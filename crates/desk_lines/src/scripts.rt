@@ -35,7 +35,8 @@ fn put_text(text: &[u8], outbox: &mut Outbox) -> LineKind
     requires room { HasRoom outbox.old }
     requires short { length text.now ≤ 3096 }
     ensures kind { result ≡ kind_of (Some text.now) }
-    ensures told { outbox.new.bytes.items ≡ outbox.old.bytes.items ++ with_line_feed (Some text.now) }
+    ensures told { outbox.new.bytes.items
+        ≡ outbox.old.bytes.items ++ with_line_feed (Some text.now) }
 {
     outbox.put_line(text);
     if text.starts_with(b"refused") {

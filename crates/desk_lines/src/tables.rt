@@ -39,7 +39,8 @@ pub fn write_tables<W: Sink>(
 /// The answers of the first table, and those of the others.
 fn first_table(answers: &[Vec<Answer>]) -> (&[Answer], &[Vec<Answer>])
     ensures first { result.0.now ≡ first_answers (map (λ given. given.items) answers.now) }
-    ensures others { map (λ given. given.items) result.1.now ≡ other_answers (map (λ given. given.items) answers.now) }
+    ensures others { map (λ given. given.items) result.1.now
+        ≡ other_answers (map (λ given. given.items) answers.now) }
 {
     match answers.split_first() {
         Some((first, after)) => (first.as_slice(), after),
@@ -49,9 +50,11 @@ fn first_table(answers: &[Vec<Answer>]) -> (&[Answer], &[Vec<Answer>])
 
 /// Sends the line that stands before a table's answers.
 fn send_number<W: Sink>(number: usize, outbox: &mut Outbox, writer: &mut W) -> Result<(), DeskFault>
-    ensures sends { OnOk result ((start : W) (text : List ℕ) → Sends ⟦<W as Sink>⟧ start text outbox.old writer.old
+    ensures sends { OnOk result ((start : W) (text : List ℕ)
+        → Sends ⟦<W as Sink>⟧ start text outbox.old writer.old
         → Sends ⟦<W as Sink>⟧ start (text ++ table_line number) outbox.new writer.new) }
-    ensures stops { OnErr result ((start : W) (text : List ℕ) → Sends ⟦<W as Sink>⟧ start text outbox.old writer.old
+    ensures stops { OnErr result ((start : W) (text : List ℕ)
+        → Sends ⟦<W as Sink>⟧ start text outbox.old writer.old
         → StopsWriting ⟦<W as Sink>⟧ start writer.new text) }
     ensures fault { IfErr result (λ fault. fault ≡ DeskFault.Write) }
 {
@@ -69,9 +72,11 @@ fn send_answers<W: Sink>(
     outbox: &mut Outbox,
     writer: &mut W,
 ) -> Result<(), DeskFault>
-    ensures sends { OnOk result ((start : W) (text : List ℕ) → Sends ⟦<W as Sink>⟧ start text outbox.old writer.old
+    ensures sends { OnOk result ((start : W) (text : List ℕ)
+        → Sends ⟦<W as Sink>⟧ start text outbox.old writer.old
         → Sends ⟦<W as Sink>⟧ start (text ++ told asked.now answers.now) outbox.new writer.new) }
-    ensures stops { OnErr result ((start : W) (text : List ℕ) → Sends ⟦<W as Sink>⟧ start text outbox.old writer.old
+    ensures stops { OnErr result ((start : W) (text : List ℕ)
+        → Sends ⟦<W as Sink>⟧ start text outbox.old writer.old
         → StopsWriting ⟦<W as Sink>⟧ start writer.new (text ++ told asked.now answers.now)) }
     ensures fault { IfErr result (λ fault. fault ≡ DeskFault.Write) }
 {
@@ -90,9 +95,11 @@ fn send_asked<'a, W: Sink>(
     writer: &mut W,
 ) -> Result<&'a [Answer], DeskFault>
     ensures rest { IfOk result (λ rest. rest.now ≡ answers_after line.now answers.now) }
-    ensures sends { OnOk result ((start : W) (text : List ℕ) → Sends ⟦<W as Sink>⟧ start text outbox.old writer.old
+    ensures sends { OnOk result ((start : W) (text : List ℕ)
+        → Sends ⟦<W as Sink>⟧ start text outbox.old writer.old
         → Sends ⟦<W as Sink>⟧ start (text ++ line_told line.now answers.now) outbox.new writer.new) }
-    ensures stops { OnErr result ((start : W) (text : List ℕ) → Sends ⟦<W as Sink>⟧ start text outbox.old writer.old
+    ensures stops { OnErr result ((start : W) (text : List ℕ)
+        → Sends ⟦<W as Sink>⟧ start text outbox.old writer.old
         → StopsWriting ⟦<W as Sink>⟧ start writer.new text) }
     ensures fault { IfErr result (λ fault. fault ≡ DeskFault.Write) }
 {
@@ -117,9 +124,11 @@ fn send_answer<W: Sink>(
     outbox: &mut Outbox,
     writer: &mut W,
 ) -> Result<(), DeskFault>
-    ensures sends { OnOk result ((start : W) (text : List ℕ) → Sends ⟦<W as Sink>⟧ start text outbox.old writer.old
+    ensures sends { OnOk result ((start : W) (text : List ℕ)
+        → Sends ⟦<W as Sink>⟧ start text outbox.old writer.old
         → Sends ⟦<W as Sink>⟧ start (text ++ (answer_text answer.now ++ 10 ∷ [])) outbox.new writer.new) }
-    ensures stops { OnErr result ((start : W) (text : List ℕ) → Sends ⟦<W as Sink>⟧ start text outbox.old writer.old
+    ensures stops { OnErr result ((start : W) (text : List ℕ)
+        → Sends ⟦<W as Sink>⟧ start text outbox.old writer.old
         → StopsWriting ⟦<W as Sink>⟧ start writer.new text) }
     ensures fault { IfErr result (λ fault. fault ≡ DeskFault.Write) }
 {
@@ -133,9 +142,11 @@ fn send_answer<W: Sink>(
 /// Sends a line.
 fn send_line<W: Sink>(line: &[u8], outbox: &mut Outbox, writer: &mut W) -> Result<(), DeskFault>
     requires { length line.now ≤ 3072 }
-    ensures sends { OnOk result ((start : W) (text : List ℕ) → Sends ⟦<W as Sink>⟧ start text outbox.old writer.old
+    ensures sends { OnOk result ((start : W) (text : List ℕ)
+        → Sends ⟦<W as Sink>⟧ start text outbox.old writer.old
         → Sends ⟦<W as Sink>⟧ start (text ++ (line.now ++ 10 ∷ [])) outbox.new writer.new) }
-    ensures stops { OnErr result ((start : W) (text : List ℕ) → Sends ⟦<W as Sink>⟧ start text outbox.old writer.old
+    ensures stops { OnErr result ((start : W) (text : List ℕ)
+        → Sends ⟦<W as Sink>⟧ start text outbox.old writer.old
         → StopsWriting ⟦<W as Sink>⟧ start writer.new text) }
     ensures fault { IfErr result (λ fault. fault ≡ DeskFault.Write) }
 {
@@ -146,10 +157,12 @@ fn send_line<W: Sink>(line: &[u8], outbox: &mut Outbox, writer: &mut W) -> Resul
 
 /// Writes what stands in the way of another line.
 fn make_room<W: Sink>(outbox: &mut Outbox, writer: &mut W) -> Result<(), DeskFault>
-    ensures sends { OnOk result ((start : W) (text : List ℕ) → Sends ⟦<W as Sink>⟧ start text outbox.old writer.old
+    ensures sends { OnOk result ((start : W) (text : List ℕ)
+        → Sends ⟦<W as Sink>⟧ start text outbox.old writer.old
         → Sends ⟦<W as Sink>⟧ start text outbox.new writer.new) }
     ensures room { OnOk result (HasRoom outbox.new) }
-    ensures stops { OnErr result ((start : W) (text : List ℕ) → Sends ⟦<W as Sink>⟧ start text outbox.old writer.old
+    ensures stops { OnErr result ((start : W) (text : List ℕ)
+        → Sends ⟦<W as Sink>⟧ start text outbox.old writer.old
         → StopsWriting ⟦<W as Sink>⟧ start writer.new text) }
     ensures fault { IfErr result (λ fault. fault ≡ DeskFault.Write) }
 {

@@ -25,6 +25,8 @@ pub(crate) trait Teller {
     /// nothing is told.
     fn tell(&mut self, line: &[u8], outbox: &mut Outbox) -> Result<LineKind, AllocError>
         requires { HasRoom outbox.old }
-        ensures told { IfOk result (λ kind. AnswersLine refuses most tells self.old self.new line.now kind outbox.old.bytes.items outbox.new.bytes.items) }
-        ensures err { OnErr result ((outbox.new.bytes.items ≡ outbox.old.bytes.items) × wants_memory self.old line.now) };
+        ensures told { IfOk result
+            (λ kind. AnswersLine refuses most tells self.old self.new line.now kind outbox.old.bytes.items outbox.new.bytes.items) }
+        ensures err { OnErr result ((outbox.new.bytes.items ≡ outbox.old.bytes.items)
+            × wants_memory self.old line.now) };
 }

@@ -55,10 +55,12 @@ impl<T: Teller + Drop> Told<T> {
     /// are written first, and where memory is wanted all that were given before.
     pub(crate) fn answer<W: Sink>(&mut self, line: &[u8], writer: &mut W) -> Result<(), DeskFault>
         requires { count_of self.old.report + 1 < 2 ^ 64 }
-        ensures stands { OnOk result ((start : W) (lines : List (List ℕ)) (next : List ℕ) → IsToldAs T.most line.now next
+        ensures stands { OnOk result ((start : W) (lines : List (List ℕ)) (next : List ℕ)
+            → IsToldAs T.most line.now next
             → Stands ⟦<W as Sink>⟧ ⟦<T as Teller>⟧ start lines self.old writer.old
             → Stands ⟦<W as Sink>⟧ ⟦<T as Teller>⟧ start (lines ++ next ∷ []) self.new writer.new) }
-        ensures stops { IfErr result (λ fault. (start : W) (lines : List (List ℕ)) → Stands ⟦<W as Sink>⟧ ⟦<T as Teller>⟧ start lines self.old writer.old
+        ensures stops { IfErr result (λ fault. (start : W) (lines : List (List ℕ))
+            → Stands ⟦<W as Sink>⟧ ⟦<T as Teller>⟧ start lines self.old writer.old
             → StopsTelling ⟦<W as Sink>⟧ ⟦<T as Teller>⟧ start writer.new fault lines) }
         ensures count { count_of self.new.report ≤ count_of self.old.report + 1 }
     {
@@ -76,9 +78,11 @@ impl<T: Teller + Drop> Told<T> {
 
     /// Writes the answers that were not written yet.
     pub(crate) fn flush<W: Sink>(&mut self, writer: &mut W) -> Result<(), DeskFault>
-        ensures stands { OnOk result ((start : W) (lines : List (List ℕ)) → Stands ⟦<W as Sink>⟧ ⟦<T as Teller>⟧ start lines self.old writer.old
+        ensures stands { OnOk result ((start : W) (lines : List (List ℕ))
+            → Stands ⟦<W as Sink>⟧ ⟦<T as Teller>⟧ start lines self.old writer.old
             → Stands ⟦<W as Sink>⟧ ⟦<T as Teller>⟧ start lines self.new writer.new) }
-        ensures stops { IfErr result (λ fault. (start : W) (lines : List (List ℕ)) → Stands ⟦<W as Sink>⟧ ⟦<T as Teller>⟧ start lines self.old writer.old
+        ensures stops { IfErr result (λ fault. (start : W) (lines : List (List ℕ))
+            → Stands ⟦<W as Sink>⟧ ⟦<T as Teller>⟧ start lines self.old writer.old
             → StopsTelling ⟦<W as Sink>⟧ ⟦<T as Teller>⟧ start writer.new fault lines) }
         ensures empty { OnOk result (self.new.outbox.bytes.items ≡ []) }
         ensures report { self.new.report ≡ self.old.report }
@@ -94,7 +98,8 @@ impl<T: Teller + Drop> Told<T> {
         ensures told { OnOk result ((kind : LineKind)
             × AnswersLine T.refuses T.most T.tells self.old.teller self.new.teller line.now kind self.old.outbox.bytes.items self.new.outbox.bytes.items
             × (self.new.report ≡ report_with self.old.report kind)) }
-        ensures err { OnErr result ((self.new.outbox.bytes.items ≡ self.old.outbox.bytes.items) × T.wants_memory self.old.teller line.now) }
+        ensures err { OnErr result ((self.new.outbox.bytes.items ≡ self.old.outbox.bytes.items)
+            × T.wants_memory self.old.teller line.now) }
         ensures count { count_of self.new.report ≤ count_of self.old.report + 1 }
     {
         let kind = self.teller.tell(line, &mut self.outbox)?;

@@ -42,7 +42,8 @@ impl LanePlaces {
         requires agrees { Agrees (new_lane table) (replicate places Vacant) vacant.items }
         requires room { places ≤ vec_capacity vacant }
         ensures lane { IfOk result (λ own. own.lane ≡ new_lane table) }
-        ensures states { IfOk result (λ own. (own.states.items ≡ replicate places Vacant) × (own.vacant.items ≡ vacant.items)) }
+        ensures states { IfOk result (λ own. (own.states.items ≡ replicate places Vacant)
+            × (own.vacant.items ≡ vacant.items)) }
     {
         let states = PlaceState::all_vacant(alloc, places)?;
         Ok(LanePlaces {
@@ -54,13 +55,20 @@ impl LanePlaces {
 
     /// The place and the ticket of a new job.
     pub(crate) fn submit(&mut self, job: &Job) -> Result<(usize, Ticket), OfferFault>
-        ensures ticket { IfOk result (λ r. r.1 ≡ ticket self.old.lane.table (offered self.old.lane)) }
+        ensures ticket { IfOk result (λ r. r.1
+            ≡ ticket self.old.lane.table (offered self.old.lane)) }
         ensures lane { IfOk result (λ r. self.new.lane ≡ with_job self.old.lane job.now) }
-        ensures step { IfOk result (λ r. IsStep self.old.lane (Submit self.old.lane.table job.now) (reply.Ticket r.1) self.new.lane) }
-        ensures states { IfOk result (λ r. (get_elem? self.old.states.items r.0 ≡ some Vacant) × (self.new.states.items ≡ slice_set self.old.states.items r.0 (Out r.1 job.now)) × (self.old.vacant.items ≡ self.new.vacant.items ++ r.0 ∷ [])) }
+        ensures step { IfOk result (λ r. IsStep self.old.lane (Submit self.old.lane.table job.now)
+            (reply.Ticket r.1) self.new.lane) }
+        ensures states { IfOk result (λ r. (get_elem? self.old.states.items r.0 ≡ some Vacant)
+            × (self.new.states.items ≡ slice_set self.old.states.items r.0 (Out r.1 job.now))
+            × (self.old.vacant.items ≡ self.new.vacant.items ++ r.0 ∷ [])) }
         ensures may { IfOk result (λ _. MayOffer self.old.lane self.old.states.items) }
-        ensures fault { IfErr result (λ fault. IsOfferFault self.old.lane self.old.states.items fault) }
-        ensures err { OnErr result ((self.new.lane ≡ self.old.lane) × (self.new.states.items ≡ self.old.states.items) × (self.new.vacant.items ≡ self.old.vacant.items)) }
+        ensures fault { IfErr result
+            (λ fault. IsOfferFault self.old.lane self.old.states.items fault) }
+        ensures err { OnErr result ((self.new.lane ≡ self.old.lane)
+            × (self.new.states.items ≡ self.old.states.items)
+            × (self.new.vacant.items ≡ self.old.vacant.items)) }
     {
         if self.lane.closed() {
             return Err(OfferFault::Closed);
@@ -85,7 +93,8 @@ impl LanePlaces {
     pub(crate) fn receive(&mut self, offset: usize, piece: Piece)
         requires { get_elem? self.old.states.items offset ≡ some (Out piece.ticket piece.job) }
         ensures lane { Receives self.old.lane piece self.new.lane }
-        ensures states { (self.new.states.items ≡ slice_set self.old.states.items offset Vacant) × (self.new.vacant.items ≡ self.old.vacant.items ++ offset ∷ []) }
+        ensures states { (self.new.states.items ≡ slice_set self.old.states.items offset Vacant)
+            × (self.new.vacant.items ≡ self.old.vacant.items ++ offset ∷ []) }
     {
         self.lane.arrive(piece);
         self.states[offset] = PlaceState::Vacant;
@@ -94,31 +103,37 @@ impl LanePlaces {
 
     /// Gives the next answer where its piece has arrived.
     pub(crate) fn take(&mut self) -> Taken
-        ensures step { IsStep self.old.lane (Take self.old.lane.table) (reply.Taken result) self.new.lane }
+        ensures step { IsStep self.old.lane (Take self.old.lane.table)
+            (reply.Taken result) self.new.lane }
         ensures first { GivesFirst self.old.lane result self.new.lane }
-        ensures states { (self.new.states.items ≡ self.old.states.items) × (self.new.vacant.items ≡ self.old.vacant.items) }
+        ensures states { (self.new.states.items ≡ self.old.states.items)
+            × (self.new.vacant.items ≡ self.old.vacant.items) }
     {
         self.lane.take()
     }
 
     /// Takes the job of a ticket back.
     pub(crate) fn withdraw(&mut self, seq: u32) -> Result<bool, Memory>
-        ensures step { IsStep self.old.lane (Withdraw (ticket self.old.lane.table seq)) (withdraw_reply result) self.new.lane }
+        ensures step { IsStep self.old.lane (Withdraw (ticket self.old.lane.table seq))
+            (withdraw_reply result) self.new.lane }
         ensures can { IfOk result (λ done. IsTrue done ↔ CanTakeBack self.old.lane seq) }
         ensures done { result ≡ Ok true → TakesBack self.old.lane seq self.new.lane }
         ensures not { result ≡ Ok false → self.new.lane ≡ self.old.lane }
         ensures err { OnErr result (self.new.lane ≡ self.old.lane) }
         ensures wanted { OnErr result (CanTakeBack self.old.lane seq) }
-        ensures states { (self.new.states.items ≡ self.old.states.items) × (self.new.vacant.items ≡ self.old.vacant.items) }
+        ensures states { (self.new.states.items ≡ self.old.states.items)
+            × (self.new.vacant.items ≡ self.old.vacant.items) }
     {
         self.lane.withdraw(seq)
     }
 
     /// Closes the table to further jobs: true the first time.
     pub(crate) fn close(&mut self) -> bool
-        ensures step { IsStep self.old.lane (Close self.old.lane.table) (reply.Closed result) self.new.lane }
+        ensures step { IsStep self.old.lane (Close self.old.lane.table)
+            (reply.Closed result) self.new.lane }
         ensures closed { self.new.lane ≡ record self.old.lane { closed = true } }
-        ensures states { (self.new.states.items ≡ self.old.states.items) × (self.new.vacant.items ≡ self.old.vacant.items) }
+        ensures states { (self.new.states.items ≡ self.old.states.items)
+            × (self.new.vacant.items ≡ self.old.vacant.items) }
     {
         self.lane.close()
     }

@@ -31,7 +31,8 @@ impl Board {
     /// A board with no places taken up, and a seat that has not entered.
     pub(crate) fn lay(alloc: Global, size: BoardSize) -> Result<(Board, Seat), AllocError>
         requires { (size.tables ≤ 64) × (size.places ≤ 32) }
-        ensures { IfOk result (λ r. (r.1.table_id ≡ board_name r.0) × (r.0.size ≡ size) × (r.1.me ≡ (Entering size, []))) }
+        ensures { IfOk result (λ r. (r.1.table_id ≡ board_name r.0) × (r.0.size ≡ size)
+            × (r.1.me ≡ (Entering size, []))) }
     {
         let count = (size.tables * size.places) as usize;
         let words = vec![in alloc; 0u64; 2 + count]?;
@@ -49,12 +50,15 @@ impl Board {
         mut seat: Seat,
         number: u32,
     ) -> Result<TableSeat, AllocError>
-        requires seat { (seat.table_id ≡ board_name self.now) × (seat.me ≡ (Entering self.now.size, [])) }
-        requires number { (number < self.now.size.tables) × (self.now.size.tables ≤ 64) × (self.now.size.places ≤ 32) }
+        requires seat { (seat.table_id ≡ board_name self.now)
+            × (seat.me ≡ (Entering self.now.size, [])) }
+        requires number { (number < self.now.size.tables) × (self.now.size.tables ≤ 64)
+            × (self.now.size.places ≤ 32) }
         ensures board { IfOk result (λ t. t.board ≡ board_name self.now) }
         ensures lane { IfOk result (λ t. t.lane ≡ new_lane number) }
         ensures base { IfOk result (λ t. t.base ≡ number * self.now.size.places) }
-        ensures states { IfOk result (λ t. (outs t.states ≡ 0) × (length t.states ≡ self.now.size.places)) }
+        ensures states { IfOk result (λ t. (outs t.states ≡ 0)
+            × (length t.states ≡ self.now.size.places)) }
     {
         let places = self.size.places as usize;
         let base = number as usize * places;
@@ -72,10 +76,13 @@ impl Board {
 
     /// Enters as a worker.
     pub(crate) fn worker_seat(&self, mut seat: Seat, number: u64) -> Result<WorkerSeat, AllocError>
-        requires seat { (seat.table_id ≡ board_name self.now) × (seat.me ≡ (Entering self.now.size, [])) }
-        requires number { (self.now.size.tables ≤ number) × (number < self.now.size.tables + self.now.size.workers) × (number < 2 ^ 32) }
+        requires seat { (seat.table_id ≡ board_name self.now)
+            × (seat.me ≡ (Entering self.now.size, [])) }
+        requires number { (self.now.size.tables ≤ number)
+            × (number < self.now.size.tables + self.now.size.workers) × (number < 2 ^ 32) }
         ensures board { IfOk result (λ w. w.board ≡ board_name self.now) }
-        ensures view { IfOk result (λ w. (w.finished ≡ []) × (w.lost ≡ []) × (w.looks ≡ 0) × (w.knows_stop ≡ false)) }
+        ensures view { IfOk result (λ w. (w.finished ≡ []) × (w.lost ≡ []) × (w.looks ≡ 0)
+            × (w.knows_stop ≡ false)) }
     {
         if !self.enter_worker(&mut seat, number) {
             return Err(AllocError);
@@ -85,8 +92,10 @@ impl Board {
 
     /// Enters as the seat that stops the workers.
     pub(crate) fn stop_seat(&self, mut seat: Seat, number: u64) -> Result<StopSeat, AllocError>
-        requires seat { (seat.table_id ≡ board_name self.now) × (seat.me ≡ (Entering self.now.size, [])) }
-        requires number { (number ≡ self.now.size.tables + self.now.size.workers) × (number < 2 ^ 32) }
+        requires seat { (seat.table_id ≡ board_name self.now)
+            × (seat.me ≡ (Entering self.now.size, [])) }
+        requires number { (number ≡ self.now.size.tables + self.now.size.workers)
+            × (number < 2 ^ 32) }
         ensures { IfOk result (λ w. (w.board ≡ board_name self.now) × (w.knows_stop ≡ false)) }
     {
         if !self.enter_stop(&mut seat, number) {

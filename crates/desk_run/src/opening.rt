@@ -21,11 +21,16 @@ impl Board {
     /// The board of this size, with all its seats.
     fn make(alloc: Global, size: BoardSize) -> Result<BoardParts, AllocError>
         requires { IsInRange size.tables size.workers size.places }
-        ensures counts { IfOk result (λ parts. (vec_len parts.tables ≡ size.tables) × (vec_len parts.workers ≡ size.workers)) }
-        ensures slots { IfOk result (λ parts. (board_name parts.board).slots ≡ size.tables * size.places) }
-        ensures tables { IfOk result (λ parts. AreNewTables (board_name parts.board) size.places parts.tables.items) }
-        ensures workers { IfOk result (λ parts. AreNewWorkers (board_name parts.board) parts.workers.items) }
-        ensures stop { IfOk result (λ parts. (parts.stop.board ≡ board_name parts.board) × (parts.stop.knows_stop ≡ false)) }
+        ensures counts { IfOk result (λ parts. (vec_len parts.tables ≡ size.tables)
+            × (vec_len parts.workers ≡ size.workers)) }
+        ensures slots { IfOk result (λ parts. (board_name parts.board).slots
+            ≡ size.tables * size.places) }
+        ensures tables { IfOk result (λ parts. AreNewTables
+            (board_name parts.board) size.places parts.tables.items) }
+        ensures workers { IfOk result (λ parts. AreNewWorkers
+            (board_name parts.board) parts.workers.items) }
+        ensures stop { IfOk result (λ parts. (parts.stop.board ≡ board_name parts.board)
+            × (parts.stop.knows_stop ≡ false)) }
     {
         let (board, mut seat) = Board::lay(alloc, size)?;
         let mut tables = Vec::with_capacity(alloc, size.tables as usize)?;
@@ -55,11 +60,15 @@ impl Board {
         places: u32,
     ) -> Result<BoardParts, BoardFault>
         ensures range { (result ≡ Err BoardFault.Range) ↔ (¬ IsInRange tables workers places) }
-        ensures counts { IfOk result (λ parts. (vec_len parts.tables ≡ tables) × (vec_len parts.workers ≡ workers)) }
+        ensures counts { IfOk result (λ parts. (vec_len parts.tables ≡ tables)
+            × (vec_len parts.workers ≡ workers)) }
         ensures slots { IfOk result (λ parts. (board_name parts.board).slots ≡ tables * places) }
-        ensures tables { IfOk result (λ parts. AreNewTables (board_name parts.board) places parts.tables.items) }
-        ensures workers { IfOk result (λ parts. AreNewWorkers (board_name parts.board) parts.workers.items) }
-        ensures stop { IfOk result (λ parts. (parts.stop.board ≡ board_name parts.board) × (parts.stop.knows_stop ≡ false)) }
+        ensures tables { IfOk result (λ parts. AreNewTables
+            (board_name parts.board) places parts.tables.items) }
+        ensures workers { IfOk result (λ parts. AreNewWorkers
+            (board_name parts.board) parts.workers.items) }
+        ensures stop { IfOk result (λ parts. (parts.stop.board ≡ board_name parts.board)
+            × (parts.stop.knows_stop ≡ false)) }
     {
         let size = BoardSize {
             tables,

@@ -24,7 +24,9 @@ fn offer_next(
 ) -> Result<usize, AllocError>
     requires { seat.old.board ≡ board_name board.now }
     ensures board { seat.new.board ≡ seat.old.board }
-    ensures played { IfOk result (λ n. (answers : List Answer) → IsPlayed seat.old.lane jobs.now next answers → IsPlayed seat.new.lane jobs.now n answers) }
+    ensures played { IfOk result (λ n. (answers : List Answer)
+        → IsPlayed seat.old.lane jobs.now next answers
+        → IsPlayed seat.new.lane jobs.now n answers) }
 {
     if next >= jobs.len() {
         seat.close();

@@ -48,13 +48,20 @@ impl Board {
         ticket: Ticket,
         job: &Job,
     )
-        requires id { (seat.old.table_id ≡ board_id self.now) × (place < (board_id self.now).slots) }
+        requires id { (seat.old.table_id ≡ board_id self.now)
+            × (place < (board_id self.now).slots) }
         requires table { IsTable seat.old.me × (place ≡ (table_of seat.old.me.0).base + _offset) }
         requires vacant { get_elem? (table_of seat.old.me.0).states _offset ≡ some Vacant }
         requires front { seat.old.me.1 ≡ (place, Empty) ∷ rest seat.old.me.1 }
-        requires ticket { (ticket.table ≡ (table_of seat.old.me.0).number) × (ticket.seq ≡ (table_of seat.old.me.0).offers) }
+        requires ticket { (ticket.table ≡ (table_of seat.old.me.0).number)
+            × (ticket.seq ≡ (table_of seat.old.me.0).offers) }
         ensures id { seat.new.table_id ≡ seat.old.table_id }
-        ensures me { seat.new.me ≡ (Table (offering (table_of seat.old.me.0) _offset ticket job.now), rest seat.old.me.1) }
+        ensures me { seat.new.me
+            ≡ (
+              Table (offering
+                  (table_of seat.old.me.0) _offset ticket job.now),
+              rest seat.old.me.1,
+            ) }
     {
         let shared = &self.table.shared;
         shared.exchange(seat, place, Content::offer(ticket, job));
@@ -63,12 +70,15 @@ impl Board {
 
     /// Whether the place was done. Its piece is then with the seat, in front.
     pub(crate) fn fetch(&self, seat: &mut Seat, place: usize, _offset: usize) -> bool
-        requires id { (seat.old.table_id ≡ board_id self.now) × (place < (board_id self.now).slots) }
+        requires id { (seat.old.table_id ≡ board_id self.now)
+            × (place < (board_id self.now).slots) }
         requires table { IsTable seat.old.me × (place ≡ (table_of seat.old.me.0).base + _offset) }
-        requires state { (state : _) × (get_elem? (table_of seat.old.me.0).states _offset ≡ some state) }
+        requires state { (state : _)
+            × (get_elem? (table_of seat.old.me.0).states _offset ≡ some state) }
         ensures id { seat.new.table_id ≡ seat.old.table_id }
         ensures done { result ≡ true → FetchesAt seat.old.me place _offset seat.new.me }
-        ensures lost { result ≡ false → seat.new.me ≡ (Table (table_lost (table_of seat.old.me.0) place), seat.old.me.1) }
+        ensures lost { result ≡ false
+            → seat.new.me ≡ (Table (table_lost (table_of seat.old.me.0) place), seat.old.me.1) }
     {
         self.table
             .shared
@@ -94,22 +104,29 @@ impl Board {
 
     /// The table takes the content of a place that it has not taken up.
     pub(crate) fn take_up(&self, seat: &mut Seat, place: usize, _offset: usize)
-        requires id { (seat.old.table_id ≡ board_id self.now) × (place < (board_id self.now).slots) }
+        requires id { (seat.old.table_id ≡ board_id self.now)
+            × (place < (board_id self.now).slots) }
         requires table { IsTable seat.old.me × (place ≡ (table_of seat.old.me.0).base + _offset) }
         requires fresh { get_elem? (table_of seat.old.me.0).states _offset ≡ some Fresh }
         ensures id { seat.new.table_id ≡ seat.old.table_id }
-        ensures me { seat.new.me ≡ (Table (with_state (table_of seat.old.me.0) _offset Vacant), (place, Empty) ∷ seat.old.me.1) }
+        ensures me { seat.new.me
+            ≡ (
+              Table (with_state (table_of seat.old.me.0) _offset Vacant),
+              (place, Empty) ∷ seat.old.me.1,
+            ) }
     {
         self.table.shared.store::<TakeUp>(seat, FIRST + place, IDLE);
     }
 
     /// Whether the place was ready. Its offer is then with the seat, in front.
     pub(crate) fn claim(&self, seat: &mut Seat, place: usize) -> bool
-        requires id { (seat.old.table_id ≡ board_id self.now) × (place < (board_id self.now).slots) }
+        requires id { (seat.old.table_id ≡ board_id self.now)
+            × (place < (board_id self.now).slots) }
         requires free { IsWorker seat.old.me × ((worker_of seat.old.me.0).held ≡ None) }
         ensures id { seat.new.table_id ≡ seat.old.table_id }
         ensures ready { result ≡ true → Claims seat.old.me place seat.new.me }
-        ensures lost { result ≡ false → seat.new.me ≡ (Worker (worker_lost (worker_of seat.old.me.0) place), seat.old.me.1) }
+        ensures lost { result ≡ false
+            → seat.new.me ≡ (Worker (worker_lost (worker_of seat.old.me.0) place), seat.old.me.1) }
     {
         self.table
             .shared
@@ -134,11 +151,19 @@ impl Board {
 
     /// The piece goes home, and the place is done.
     pub(crate) fn finish(&self, seat: &mut Seat, place: usize, piece: Piece)
-        requires id { (seat.old.table_id ≡ board_id self.now) × (place < (board_id self.now).slots) }
-        requires held { IsWorker seat.old.me × ((worker_of seat.old.me.0).held ≡ Some (record { place = place; ticket = piece.ticket; job = piece.job })) }
+        requires id { (seat.old.table_id ≡ board_id self.now)
+            × (place < (board_id self.now).slots) }
+        requires held { IsWorker seat.old.me
+            × ((worker_of seat.old.me.0).held
+            ≡ Some (record { place = place; ticket = piece.ticket; job = piece.job })) }
         requires front { seat.old.me.1 ≡ (place, Empty) ∷ rest seat.old.me.1 }
         ensures id { seat.new.table_id ≡ seat.old.table_id }
-        ensures me { seat.new.me ≡ (Worker (having_finished (worker_of seat.old.me.0) piece.ticket), rest seat.old.me.1) }
+        ensures me { seat.new.me
+            ≡ (
+              Worker (having_finished
+                  (worker_of seat.old.me.0) piece.ticket),
+              rest seat.old.me.1,
+            ) }
         ensures once { times piece.ticket (worker_of seat.old.me.0).finished ≡ 0 }
     {
         let shared = &self.table.shared;
@@ -151,7 +176,15 @@ impl Board {
         requires id { seat.old.table_id ≡ board_id self.now }
         requires stop { IsStop seat.old.me }
         ensures id { seat.new.table_id ≡ seat.old.table_id }
-        ensures me { seat.new.me ≡ (Stop (record { number = (stop_of seat.old.me.0).number; knows_stop = true }), seat.old.me.1) }
+        ensures me { seat.new.me
+            ≡ (
+              Stop (record {
+                number =
+                    (stop_of seat.old.me.0).number;
+                knows_stop = true;
+              }),
+              seat.old.me.1,
+            ) }
     {
         self.table.shared.store::<Halt>(seat, STOP, 1);
     }
@@ -161,7 +194,8 @@ impl Board {
         requires id { seat.old.table_id ≡ board_id self.now }
         requires free { IsWorker seat.old.me × ((worker_of seat.old.me.0).held ≡ None) }
         ensures id { seat.new.table_id ≡ seat.old.table_id }
-        ensures me { seat.new.me ≡ (Worker (looking (worker_of seat.old.me.0) result), seat.old.me.1) }
+        ensures me { seat.new.me
+            ≡ (Worker (looking (worker_of seat.old.me.0) result), seat.old.me.1) }
         ensures always { (worker_of seat.old.me.0).knows_stop ≡ true → result ≡ true }
     {
         self.table.shared.load::<Look>(seat, STOP) == 1
@@ -170,9 +204,11 @@ impl Board {
     /// Enters as the table of this number where it is the next one, and else changes nothing.
     pub(crate) fn enter_table(&self, seat: &mut Seat, number: u64) -> bool
         requires id { seat.old.table_id ≡ board_id self.now }
-        requires new { (seat.old.me.0 ≡ Entering self.now.size) × (number < self.now.size.tables) × (number < 2 ^ 32) }
+        requires new { (seat.old.me.0 ≡ Entering self.now.size) × (number < self.now.size.tables)
+            × (number < 2 ^ 32) }
         ensures id { seat.new.table_id ≡ seat.old.table_id }
-        ensures me { result ≡ true → seat.new.me ≡ (Table (new_table number self.now.size), seat.old.me.1) }
+        ensures me { result ≡ true
+            → seat.new.me ≡ (Table (new_table number self.now.size), seat.old.me.1) }
     {
         self.table
             .shared
@@ -183,7 +219,8 @@ impl Board {
     /// Enters as the worker of this number where it is the next one, and else changes nothing.
     pub(crate) fn enter_worker(&self, seat: &mut Seat, number: u64) -> bool
         requires id { seat.old.table_id ≡ board_id self.now }
-        requires new { (seat.old.me.0 ≡ Entering self.now.size) × (self.now.size.tables ≤ number) × (number < self.now.size.tables + self.now.size.workers) × (number < 2 ^ 32) }
+        requires new { (seat.old.me.0 ≡ Entering self.now.size) × (self.now.size.tables ≤ number)
+            × (number < self.now.size.tables + self.now.size.workers) × (number < 2 ^ 32) }
         ensures id { seat.new.table_id ≡ seat.old.table_id }
         ensures me { result ≡ true → seat.new.me ≡ (Worker (new_worker number), seat.old.me.1) }
     {
@@ -197,9 +234,11 @@ impl Board {
     /// changes nothing.
     pub(crate) fn enter_stop(&self, seat: &mut Seat, number: u64) -> bool
         requires id { seat.old.table_id ≡ board_id self.now }
-        requires new { (seat.old.me.0 ≡ Entering self.now.size) × (number ≡ self.now.size.tables + self.now.size.workers) × (number < 2 ^ 32) }
+        requires new { (seat.old.me.0 ≡ Entering self.now.size)
+            × (number ≡ self.now.size.tables + self.now.size.workers) × (number < 2 ^ 32) }
         ensures id { seat.new.table_id ≡ seat.old.table_id }
-        ensures me { result ≡ true → seat.new.me ≡ (Stop (record { number = number; knows_stop = false }), seat.old.me.1) }
+        ensures me { result ≡ true
+            → seat.new.me ≡ (Stop (record { number = number; knows_stop = false }), seat.old.me.1) }
     {
         self.table
             .shared
@@ -211,7 +250,8 @@ impl Board {
     pub(crate) fn another(&self, seat: &mut Seat) -> Seat
         requires id { seat.old.table_id ≡ board_id self.now }
         requires new { seat.old.me.0 ≡ Entering self.now.size }
-        ensures id { (seat.new.table_id ≡ seat.old.table_id) × (result.table_id ≡ seat.old.table_id) }
+        ensures id { (seat.new.table_id ≡ seat.old.table_id)
+            × (result.table_id ≡ seat.old.table_id) }
         ensures me { (seat.new.me ≡ seat.old.me) × (result.me ≡ (Entering self.now.size, [])) }
     {
         self.table.shared.split_seat::<Another>(seat)

@@ -47,14 +47,17 @@ impl TableSeat {
     /// Offers the job to the workers. After a refusal nothing has changed.
     pub fn submit(&mut self, board: &Board, job: Job) -> Result<Ticket, OfferBack>
         requires { self.old.board ≡ board_name board.now }
-        ensures same { (self.new.board ≡ self.old.board) × (self.new.base ≡ self.old.base) × (self.new.lost ≡ self.old.lost) }
+        ensures same { (self.new.board ≡ self.old.board) × (self.new.base ≡ self.old.base)
+            × (self.new.lost ≡ self.old.lost) }
         ensures ticket { IfOk result (λ x. x ≡ ticket self.old.lane.table (offered self.old.lane)) }
         ensures lane { IfOk result (λ _. self.new.lane ≡ with_job self.old.lane job) }
-        ensures step { IfOk result (λ x. IsStep self.old.lane (Submit self.old.lane.table job) (reply.Ticket x) self.new.lane) }
+        ensures step { IfOk result (λ x. IsStep self.old.lane (Submit self.old.lane.table job)
+            (reply.Ticket x) self.new.lane) }
         ensures place { IfOk result (λ x. (k : _) × (get_elem? self.old.states k ≡ some Vacant)
             × (self.new.states ≡ slice_set self.old.states k (Out x job))) }
         ensures may { IfOk result (λ _. MayOffer self.old.lane self.old.states) }
-        ensures fault { IfErr result (λ back. IsOfferFault self.old.lane self.old.states back.fault) }
+        ensures fault { IfErr result
+            (λ back. IsOfferFault self.old.lane self.old.states back.fault) }
         ensures back { IfErr result (λ back. back.job ≡ job) }
         ensures err { OnErr result (self.new ≡ self.old) }
     {
@@ -72,9 +75,11 @@ impl TableSeat {
         requires id { self.old.board ≡ board_name board.now }
         requires near { offset < length self.old.states }
         ensures board { (self.new.board ≡ self.old.board) × (self.new.base ≡ self.old.base) }
-        ensures fetched { result ≡ true → Collects 1 self.old.lane self.old.states self.new.lane self.new.states
+        ensures fetched { result ≡ true
+            → Collects 1 self.old.lane self.old.states self.new.lane self.new.states
             × (self.new.states ≡ slice_set self.old.states offset Vacant) × (self.new.lost ≡ self.old.lost) }
-        ensures lost { result ≡ false → (self.new.lane ≡ self.old.lane) × (self.new.states ≡ self.old.states)
+        ensures lost { result ≡ false
+            → (self.new.lane ≡ self.old.lane) × (self.new.states ≡ self.old.states)
             × (self.new.lost ≡ self.old.lost ++ place_if_out (self.old.base + offset) (slice_index_or self.old.states offset Fresh)) }
     {
         let PlaceState::Out(_, _) = &self.own.states[offset] else {
@@ -95,7 +100,8 @@ impl TableSeat {
         requires { self.old.board ≡ board_name board.now }
         ensures same { (self.new.board ≡ self.old.board) × (self.new.base ≡ self.old.base) }
         ensures arrived { Collects result self.old.lane self.old.states self.new.lane self.new.states }
-        ensures lost { self.new.lost ≡ self.old.lost ++ out_places self.old.base self.new.states (length self.new.states) }
+        ensures lost { self.new.lost
+            ≡ self.old.lost ++ out_places self.old.base self.new.states (length self.new.states) }
     {
         let mut count = 0;
         for offset in 0..self.place_count() {
@@ -115,7 +121,8 @@ impl TableSeat {
 
     /// Gives the next answer where its piece has arrived, and forgets the job.
     pub fn take(&mut self) -> Taken
-        ensures step { IsStep self.old.lane (Take self.old.lane.table) (reply.Taken result) self.new.lane }
+        ensures step { IsStep self.old.lane (Take self.old.lane.table)
+            (reply.Taken result) self.new.lane }
         ensures first { GivesFirst self.old.lane result self.new.lane }
         ensures same { self.new ≡ record self.old { lane = self.new.lane } }
     {
@@ -125,7 +132,8 @@ impl TableSeat {
     /// Takes the job of a ticket back: true where its answer was not given and it was not withdrawn
     /// before. It may come after closing. A withdrawn job keeps its place until its piece is fetched.
     pub fn withdraw(&mut self, seq: u32) -> Result<bool, Memory>
-        ensures step { IsStep self.old.lane (Withdraw (ticket self.old.lane.table seq)) (withdraw_reply result) self.new.lane }
+        ensures step { IsStep self.old.lane (Withdraw (ticket self.old.lane.table seq))
+            (withdraw_reply result) self.new.lane }
         ensures can { IfOk result (λ done. IsTrue done ↔ CanTakeBack self.old.lane seq) }
         ensures done { result ≡ Ok true → TakesBack self.old.lane seq self.new.lane }
         ensures not { result ≡ Ok false → self.new ≡ self.old }
@@ -138,8 +146,10 @@ impl TableSeat {
 
     /// Closes the table to further jobs: true the first time.
     pub fn close(&mut self) -> bool
-        ensures step { IsStep self.old.lane (Close self.old.lane.table) (reply.Closed result) self.new.lane }
-        ensures closed { self.new ≡ record self.old { lane = record self.old.lane { closed = true } } }
+        ensures step { IsStep self.old.lane (Close self.old.lane.table)
+            (reply.Closed result) self.new.lane }
+        ensures closed { self.new
+            ≡ record self.old { lane = record self.old.lane { closed = true } } }
     {
         self.own.close()
     }

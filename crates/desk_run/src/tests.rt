@@ -42,8 +42,10 @@ fn given(seq: u32, job: &Job) -> Taken {
 
 /// A board, where one request for memory may be refused.
 fn a_board(alloc: Global, tables: u32, workers: u32, places: u32) -> Result<BoardParts, BoardFault>
-    ensures tables { IfOk result (λ parts. AreNewTables (board_name parts.board) places parts.tables.items) }
-    ensures workers { IfOk result (λ parts. AreNewWorkers (board_name parts.board) parts.workers.items) }
+    ensures tables { IfOk result (λ parts. AreNewTables
+        (board_name parts.board) places parts.tables.items) }
+    ensures workers { IfOk result (λ parts. AreNewWorkers
+        (board_name parts.board) parts.workers.items) }
     ensures stop { IfOk result (λ parts. parts.stop.board ≡ board_name parts.board) }
 {
     match Board::new(alloc, tables, workers, places) {

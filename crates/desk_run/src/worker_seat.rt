@@ -32,7 +32,8 @@ impl WorkerSeat {
     /// One look at the stop word: true only after a stop, and once true always.
     pub fn stopped(&mut self, board: &Board) -> bool
         requires { self.old.board ≡ board_name board.now }
-        ensures looks { self.new ≡ record self.old { looks = self.old.looks + 1; knows_stop = result } }
+        ensures looks { self.new
+            ≡ record self.old { looks = self.old.looks + 1; knows_stop = result } }
         ensures always { self.old.knows_stop ≡ true → result ≡ true }
     {
         board.look(&mut self.seat)
@@ -48,8 +49,11 @@ impl WorkerSeat {
     ) -> Option<Ticket>
         requires id { self.old.board ≡ board_name board.now }
         requires near { place < (board_name board.now).slots }
-        ensures did { IfSome result (λ x. (self.new ≡ record self.old { finished = self.old.finished ++ x ∷ [] }) × (times x self.old.finished ≡ 0)) }
-        ensures nothing { IfNone result (self.new ≡ record self.old { lost = self.old.lost ++ place ∷ [] }) }
+        ensures did { IfSome result (λ x. (self.new
+            ≡ record self.old { finished = self.old.finished ++ x ∷ [] })
+            × (times x self.old.finished ≡ 0)) }
+        ensures nothing { IfNone result (self.new
+            ≡ record self.old { lost = self.old.lost ++ place ∷ [] }) }
         ensures called { IfSome result (λ x. G.called gate.old x gate.new) }
         ensures uncalled { IfNone result (gate.new ≡ gate.old) }
         ensures stays { cache.new ≡ cache.old }
@@ -78,7 +82,8 @@ impl WorkerSeat {
             → (self.new.finished ≡ self.old.finished ++ x ∷ []) × (times x self.old.finished ≡ 0) }
         ensures nothing { result ≡ Nothing → (self.new.finished ≡ self.old.finished)
             × (self.new.lost ≡ self.old.lost ++ places_from 0 (board_name board.now).slots) }
-        ensures stop { (self.new.knows_stop ≡ self.old.knows_stop) × (self.new.looks ≡ self.old.looks) }
+        ensures stop { (self.new.knows_stop ≡ self.old.knows_stop)
+            × (self.new.looks ≡ self.old.looks) }
         ensures called { (x : _) → result ≡ Did x → G.called gate.old x gate.new }
         ensures uncalled { result ≡ Nothing → gate.new ≡ gate.old }
         ensures stays { cache.new ≡ cache.old }

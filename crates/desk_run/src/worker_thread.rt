@@ -38,7 +38,8 @@ fn work<R: Wait, G: Gate>(
     cache: &mut RowCache,
 )
     requires { seat.old.board ≡ board_name board.now }
-    ensures gate { (xs : List Ticket) × (seat.new.finished ≡ seat.old.finished ++ xs) × FoldsTo G.called gate.old xs gate.new }
+    ensures gate { (xs : List Ticket) × (seat.new.finished ≡ seat.old.finished ++ xs)
+        × FoldsTo G.called gate.old xs gate.new }
 {
     for _ in rt.forever() {
         match seat.work_once(board, gate, cache) {
@@ -76,8 +77,10 @@ impl<'b, G: Gate + Drop> WorkerThread<'b, G> {
     ) -> Result<Vec<WorkerThread<'b, G>>, AllocError>
         requires new { AreNewWorkers (board_name board.now) workers.items }
         requires alike { vec_len workers ≡ vec_len gates }
-        ensures workers { IfOk result (λ threads. reverse (map (λ worker. worker.seat) threads.items) ≡ workers.items) }
-        ensures gates { IfOk result (λ threads. reverse (map (λ worker. worker.gate) threads.items) ≡ gates.items) }
+        ensures workers { IfOk result (λ threads. reverse (map
+            (λ worker. worker.seat) threads.items) ≡ workers.items) }
+        ensures gates { IfOk result (λ threads. reverse (map (λ worker. worker.gate) threads.items)
+            ≡ gates.items) }
     {
         let mut threads = Vec::new(alloc);
         for _worker in 0..gates.len() {

@@ -44,13 +44,15 @@ pub fn score_text<H: Threads + Wait + Sync, R: Source + Drop, W: Sink>(
 
     // Numbers of readers and workers are tested before anything is read, numbers of jobs once all is read,
     // before a worker is started.
-    ensures first_range { ¬ IsInRange (length readers.items) workers 8 → result ≡ Err ScoreFault.Range }
+    ensures first_range { ¬ IsInRange (length readers.items) workers 8
+        → result ≡ Err ScoreFault.Range }
     ensures range { IsErrOf result ScoreFault.Range → (¬ IsInRange (length readers.items) workers 8)
         ⊎ ((texts : List (List ℕ)) × AllGive ⟦<R as Source>⟧ readers.items texts × (¬ AreWithinLimit rules texts)) }
     ensures no_thread { IsErrOf result ScoreFault.Thread → (texts : List (List ℕ))
         × AllGive ⟦<R as Source>⟧ readers.items texts
         × AreWithinLimit rules texts }
-    ensures read_failed { IsErrOf result ScoreFault.Read → StopsReading ⟦<R as Source>⟧ readers.items }
+    ensures read_failed { IsErrOf result ScoreFault.Read
+        → StopsReading ⟦<R as Source>⟧ readers.items }
 
     // Nothing was written but where a write failed, and then a front of the answers.
     ensures unwritten { IfErr result (λ fault. fault ≢ ScoreFault.Write → writer.new ≡ writer.old) }

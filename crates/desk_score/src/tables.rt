@@ -42,8 +42,10 @@ impl Tables {
         rules: Rules,
         readers: Vec<R>,
     ) -> Result<Tables, ScoreFault>
-        ensures ok { IfOk result (λ tables. (texts : List (List ℕ)) × AllGive ⟦<R as Source>⟧ readers.items texts × AreRead rules texts tables) }
-        ensures read_failed { IsErrOf result ScoreFault.Read → StopsReading ⟦<R as Source>⟧ readers.items }
+        ensures ok { IfOk result (λ tables. (texts : List (List ℕ))
+            × AllGive ⟦<R as Source>⟧ readers.items texts × AreRead rules texts tables) }
+        ensures read_failed { IsErrOf result ScoreFault.Read
+            → StopsReading ⟦<R as Source>⟧ readers.items }
         ensures not_write { IsErrOf result ScoreFault.Write → ⊥ }
         ensures not_range { IsErrOf result ScoreFault.Range → ⊥ }
         ensures not_thread { IsErrOf result ScoreFault.Thread → ⊥ }
@@ -58,7 +60,8 @@ impl Tables {
 
     /// Adds what the next table asks. A count of more lines than a `u64` holds finds no memory.
     fn add(&mut self, collected: Collected) -> Result<(), ScoreFault>
-        ensures ok { OnOk result ((given : Rules) (texts : List (List ℕ)) (text : List ℕ) → AreRead given texts self.old
+        ensures ok { OnOk result ((given : Rules) (texts : List (List ℕ)) (text : List ℕ)
+            → AreRead given texts self.old
             → collected.jobs.items ≡ jobs_of given (lines text) → collected.asked.items ≡ asked_of given (lines text) → collected.report ≡ report_on given (lines text)
             → AreRead given (texts ++ text ∷ []) self.new) }
         ensures err { IfErr result (λ fault. fault ≡ ScoreFault.Memory) }
@@ -76,7 +79,8 @@ impl Tables {
 
 /// Two counts together; none where a `u64` can't hold them.
 fn sum_of(one: DeskReport, other: DeskReport) -> Option<DeskReport>
-    ensures { IfSome result (λ sum. (sum.answered ≡ one.answered + other.answered) × (sum.refused ≡ one.refused + other.refused)) }
+    ensures { IfSome result (λ sum. (sum.answered ≡ one.answered + other.answered)
+        × (sum.refused ≡ one.refused + other.refused)) }
 {
     Some(DeskReport {
         answered: one.answered.checked_add(other.answered)?,

@@ -23,7 +23,8 @@ const MOST_LINE: usize = 8_192;
 pub(crate) fn ask(names: &mut Names, line: &[u8]) -> Result<Asked, AllocError>
     ensures asked { IfOk result (λ asked. asked ≡ asked_by names.old line.now) }
     ensures names { OnOk result (names.new ≡ names_by names.old line.now) }
-    ensures err { OnErr result ((names.new ≡ names.old) × (asked_by names.old line.now ≡ opens names.old)) }
+    ensures err { OnErr result ((names.new ≡ names.old)
+        × (asked_by names.old line.now ≡ opens names.old)) }
 {
     if line.len() > MOST_LINE {
         return Ok(refused(Refusal::NoCommand));
@@ -39,9 +40,12 @@ pub(crate) fn ask(names: &mut Names, line: &[u8]) -> Result<Asked, AllocError>
 
 /// What a command asks.
 fn ask_command(names: &mut Names, command: &Command<'_>) -> Result<Asked, AllocError>
-    ensures asked { IfOk result (λ asked. asked ≡ asked_of_command names.old (Some (said_of command.now))) }
-    ensures names { OnOk result (names.new ≡ names_of_command names.old (Some (said_of command.now))) }
-    ensures err { OnErr result ((names.new ≡ names.old) × (asked_of_command names.old (Some (said_of command.now)) ≡ opens names.old)) }
+    ensures asked { IfOk result (λ asked. asked
+        ≡ asked_of_command names.old (Some (said_of command.now))) }
+    ensures names { OnOk result (names.new
+        ≡ names_of_command names.old (Some (said_of command.now))) }
+    ensures err { OnErr result ((names.new ≡ names.old)
+        × (asked_of_command names.old (Some (said_of command.now)) ≡ opens names.old)) }
 {
     match names.number_of(command.name) {
         Some(table) => Ok(ask_table(table, command.action, command.job_line)),

@@ -52,8 +52,10 @@ impl Script {
     /// submission or a withdrawal that finds no memory is told so; only where a new table's name finds none there is
     /// no answer, and the script is as before.
     pub fn answer(&mut self, line: &[u8]) -> Result<Option<ArrayString<LONGEST>>, AllocError>
-        ensures told { IfOk result (λ text. AnswersLine self.old self.new line.now (bytes_of text)) }
-        ensures err { OnErr result ((self.new ≡ self.old) × (asked_by self.old.names line.now ≡ opens self.old.names)) }
+        ensures told { IfOk result (λ text. AnswersLine self.old self.new line.now
+            (bytes_of text)) }
+        ensures err { OnErr result ((self.new ≡ self.old)
+            × (asked_by self.old.names line.now ≡ opens self.old.names)) }
     {
         match ask(&mut self.names, line)? {
             Asked::Told(told) => Ok(told_text(&told)),

@@ -61,16 +61,20 @@ impl Source for BytesIn<'_> {
 
     fn read(&mut self, buffer: &mut [u8]) -> io::Result<usize>
         ensures bound { ReadsAtMost result buffer.new }
-        ensures given { bytes_given self.new ≡ bytes_given self.old ++ bytes_read result buffer.new }
-        ensures left { ReadConsumes (Some (bytes_left self.old)) (Some (bytes_left self.new)) result buffer.new }
-        ensures ended { IfOk result (λ count. count ≡ 0 → 0 < length buffer.old → bytes_left self.new ≡ []) }
+        ensures given { bytes_given self.new
+            ≡ bytes_given self.old ++ bytes_read result buffer.new }
+        ensures left { ReadConsumes (Some (bytes_left self.old)) (Some
+            (bytes_left self.new)) result buffer.new }
+        ensures ended { IfOk result (λ count. count ≡ 0 → 0 < length buffer.old
+            → bytes_left self.new ≡ []) }
         ensures calls { read_calls self.new ≡ read_calls self.old + 1 }
         ensures failures { read_failures self.new ≡ read_failures self.old + failed_reads result }
         ensures ends { read_ends self.new ≡ read_ends self.old + found_ends result buffer.old }
 
         // It fails at the chosen call alone, and else gives as much as it may.
         ensures fails { IsErr result ↔ (failing_read self.old ≡ Some (read_calls self.old + 1)) }
-        ensures count { IfOk result (λ count. count ≡ min (min (length (bytes_left self.old)) (most_read self.old)) (length buffer.old)) }
+        ensures count { IfOk result (λ count. count
+            ≡ min (min (length (bytes_left self.old)) (most_read self.old)) (length buffer.old)) }
         ensures failing { OnOk result (failing_read self.new ≡ failing_read self.old) }
         ensures failed { OnErr result (failing_read self.new ≡ None) }
         ensures most { most_read self.new ≡ most_read self.old }

@@ -62,16 +62,23 @@ impl<const N: usize> Sink for BytesOut<N> {
 
     fn write(&mut self, bytes: &[u8]) -> io::Result<usize>
         ensures bound { WritesAtMost result bytes.now }
-        ensures written { bytes_kept self.new ≡ bytes_kept self.old ++ bytes_taken result bytes.now }
-        ensures contents { WriteAppends (Some (bytes_kept self.old)) (Some (bytes_kept self.new)) result bytes.now }
+        ensures written { bytes_kept self.new
+            ≡ bytes_kept self.old ++ bytes_taken result bytes.now }
+        ensures contents { WriteAppends (Some (bytes_kept self.old)) (Some
+            (bytes_kept self.new)) result bytes.now }
         ensures calls { write_calls self.new ≡ write_calls self.old + 1 }
-        ensures failures { write_failures self.new ≡ write_failures self.old + failed_writes result bytes.now }
+        ensures failures { write_failures self.new
+            ≡ write_failures self.old + failed_writes result bytes.now }
 
         // It fails at the chosen call, and where it can take none of some bytes; else it takes as much as it may.
-        ensures fails { IsErr result ↔ ((failing_write self.old ≡ Some (write_calls self.old + 1)) ⊎ (bytes.now ≢ []) × (room_for self.old (length bytes.now) ≡ 0)) }
+        ensures fails { IsErr result
+            ↔ ((failing_write self.old ≡ Some (write_calls self.old + 1)) ⊎ (bytes.now ≢ [])
+            × (room_for self.old (length bytes.now) ≡ 0)) }
         ensures count { IfOk result (λ count. count ≡ room_for self.old (length bytes.now)) }
-        ensures failed { failing_write self.old ≡ Some (write_calls self.old + 1) → failing_write self.new ≡ None }
-        ensures failing { failing_write self.old ≢ Some (write_calls self.old + 1) → failing_write self.new ≡ failing_write self.old }
+        ensures failed { failing_write self.old ≡ Some (write_calls self.old + 1)
+            → failing_write self.new ≡ None }
+        ensures failing { failing_write self.old ≢ Some (write_calls self.old + 1)
+            → failing_write self.new ≡ failing_write self.old }
         ensures most { most_written self.new ≡ most_written self.old }
     {
         let room = self.taken.remaining_capacity();

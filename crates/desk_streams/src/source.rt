@@ -32,7 +32,8 @@ pub trait Source {
         ensures bound { ReadsAtMost result buffer.new }
         ensures given { given self.new ≡ given self.old ++ bytes_read result buffer.new }
         ensures left { ReadConsumes (left self.old) (left self.new) result buffer.new }
-        ensures ended { IfOk result (λ count. count ≡ 0 → 0 < length buffer.old → is_ended self.new) }
+        ensures ended { IfOk result (λ count. count ≡ 0 → 0 < length buffer.old
+            → is_ended self.new) }
         ensures calls { calls self.new ≡ calls self.old + 1 }
         ensures failures { failures self.new ≡ failures self.old + failed_reads result }
         ensures ends { ends self.new ≡ ends self.old + found_ends result buffer.old };

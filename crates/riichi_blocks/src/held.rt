@@ -26,7 +26,8 @@ fn counts_of(win: &WinRecord) -> [u8; 34]
 
 fn add_melds(counts: &mut [u8; 34], melds: &Melds)
     requires { (kind : ℕ) → slice_index counts.old kind ≤ 5 }
-    ensures { (kind : ℕ) → kind < 34 → slice_index counts.new kind ≡ slice_index counts.old kind + tiles melds.now kind }
+    ensures { (kind : ℕ) → kind < 34
+        → slice_index counts.new kind ≡ slice_index counts.old kind + tiles melds.now kind }
 {
     for place in 0..melds.count() {
         if let Some(meld) = melds.get(place) {
@@ -38,7 +39,8 @@ fn add_melds(counts: &mut [u8; 34], melds: &Melds)
 fn add_meld(counts: &mut [u8; 34], meld: &Meld)
     requires proper { is_meld meld.now ≡ true }
     requires room { (kind : ℕ) → slice_index counts.old kind ≤ 200 }
-    ensures { (kind : ℕ) → slice_index counts.new kind ≡ slice_index counts.old kind + tiles_of meld.now kind }
+    ensures { (kind : ℕ)
+        → slice_index counts.new kind ≡ slice_index counts.old kind + tiles_of meld.now kind }
 {
     match *meld {
         Meld::Chi(low) => add_run(counts, low.index()),
@@ -50,7 +52,10 @@ fn add_meld(counts: &mut [u8; 34], meld: &Meld)
 fn add_run(counts: &mut [u8; 34], low: usize)
     requires proper { low < 32 }
     requires room { (kind : ℕ) → slice_index counts.old kind ≤ 200 }
-    ensures { (kind : ℕ) → slice_index counts.new kind ≡ slice_index counts.old kind + (if nat_le low kind && nat_le kind (low + 2) then 1 else 0) }
+    ensures { (kind : ℕ)
+        → slice_index counts.new kind
+        ≡ slice_index counts.old kind + (if nat_le low kind && nat_le kind
+        (low + 2) then 1 else 0) }
 {
     counts[low] += 1;
     counts[low + 1] += 1;

@@ -130,7 +130,8 @@ impl AllTiles {
     /// Whether every tile is of this suit or an honour.
     pub fn are_of_suit_or_honours(&self, suit: usize) -> bool
         requires { suit < 3 }
-        ensures { result ≡ spec.every (λ kind. kinds.is_of_suit suit kind || kinds.is_honour kind) self.now }
+        ensures { result
+            ≡ spec.every (λ kind. kinds.is_of_suit suit kind || kinds.is_honour kind) self.now }
     {
         self.of_suit_or_honours[suit]
     }

@@ -122,7 +122,8 @@ fn push_earned(rows: &mut FuRows, part: FuPart, fu: u8)
 fn push_blocks(rows: &mut FuRows, blocks: &Blocks, win: &WinRecord)
     requires few { length blocks.now ≤ 5 }
     requires room { length rows.old.items ≤ 3 }
-    ensures items { rows.new.items ≡ rows.old.items ++ flat_map (spec.block_rows win.now) blocks.now }
+    ensures items { rows.new.items
+        ≡ rows.old.items ++ flat_map (spec.block_rows win.now) blocks.now }
     ensures most { length rows.new.items ≤ length rows.old.items + 15 }
 {
     for block in blocks.as_slice() {

@@ -64,7 +64,8 @@ fn push_line_lines(text: &mut ArrayString<3072>, code: LineCode, line: &[u8])
 fn push_word_line(text: &mut ArrayString<3072>, word: Option<&[u8]>, words: &str)
     requires room { array_string_len text.old + 600 ≤ 3072 }
     requires words { length words.now ≤ 120 }
-    ensures { text.new.bytes ≡ text.old.bytes ++ spec.word_line (option_map (λ word. word.now) word.entry) words.now }
+    ensures { text.new.bytes
+        ≡ text.old.bytes ++ spec.word_line (option_map (λ word. word.now) word.entry) words.now }
 {
     text.push_str("  ");
     push_named_word(text, word);
@@ -75,7 +76,8 @@ fn push_word_line(text: &mut ArrayString<3072>, word: Option<&[u8]>, words: &str
 #[tactic(auto, unfolding(crate::specs::Refusal::named_word))]
 fn push_named_word(text: &mut ArrayString<3072>, word: Option<&[u8]>)
     requires { array_string_len text.old + 290 ≤ 3072 }
-    ensures bytes { text.new.bytes ≡ text.old.bytes ++ spec.named_word (option_map (λ word. word.now) word.entry) }
+    ensures bytes { text.new.bytes
+        ≡ text.old.bytes ++ spec.named_word (option_map (λ word. word.now) word.entry) }
     ensures len { array_string_len text.new ≤ array_string_len text.old + 290 }
 {
     if let Some(word) = word {
@@ -151,7 +153,8 @@ fn push_notation_lines(
     requires room { array_string_len text.old + 600 ≤ 3072 }
     requires key { length key.now ≤ 5 }
     requires words { length words.now ≤ 120 }
-    ensures { text.new.bytes ≡ text.old.bytes ++ spec.notation_lines place key.now word.now words.now }
+    ensures { text.new.bytes
+        ≡ text.old.bytes ++ spec.notation_lines place key.now word.now words.now }
 {
     push_marked(text, word, key.len() + place.min(word.len()), 36, words);
 }

@@ -112,7 +112,8 @@ fn push_shown_byte(out: &mut ArrayString<3072>, byte: u8)
 
 fn push_escape(out: &mut ArrayString<3072>, byte: u8)
     requires { array_string_len out.old + 4 ≤ 3072 }
-    ensures bytes { out.new.bytes ≡ out.old.bytes ++ 92 ∷ 120 ∷ spec.hex_digit (byte / 16) ∷ spec.hex_digit (byte % 16) ∷ [] }
+    ensures bytes { out.new.bytes
+        ≡ out.old.bytes ++ 92 ∷ 120 ∷ spec.hex_digit (byte / 16) ∷ spec.hex_digit (byte % 16) ∷ [] }
     ensures len { array_string_len out.new ≤ array_string_len out.old + 4 }
 {
     push_byte(out, b'\\');

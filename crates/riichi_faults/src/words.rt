@@ -75,7 +75,9 @@ pub(crate) fn first_word_words(word: Option<&[u8]>) -> &'static str
 /// What may stand after the hand in place of a word.
 #[tactic(auto, unfolding(crate::specs::Faults::entry_words))]
 pub(crate) fn entry_words(job: Option<&[u8]>, word: Option<&[u8]>) -> &'static str
-    ensures value { result.now ≡ spec.entry_words (option_map (λ job. job.now) job.entry) (option_map (λ word. word.now) word.entry) }
+    ensures value { result.now
+        ≡ spec.entry_words (option_map (λ job. job.now) job.entry) (option_map
+        (λ word. word.now) word.entry) }
     ensures short { length result.now ≤ 120 }
 {
     match (job, word) {

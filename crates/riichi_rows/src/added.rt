@@ -26,9 +26,18 @@ impl Added {
     pub fn lanes(&self, runs_open: u8, costs: &Costs) -> MarkedLanes
         requires { runs_open ≤ 4 }
         // as they are with one more tile of another rank, or of none
-        ensures others { (have limit bit other : ℕ) (counts caps : List ℕ) (a b : ℕ) (later : table.Begun) → limit ≤ 4 → AreCosts have limit bit costs.now → bit_and bit other ≡ 0 → table.FewAdded (added_seen 0 self.now) → a + b ≡ runs_open → table.IsAdded later (added_seen other self.now) → table.LeastBegun counts caps a later → AreLeast true (have ∷ counts) (limit ∷ caps) a b (seen other result) }
+        ensures others { (have limit bit other : ℕ) (counts caps : List ℕ) (a b : ℕ)
+            (later : table.Begun) → limit ≤ 4 → AreCosts have limit bit costs.now
+            → bit_and bit other ≡ 0 → table.FewAdded (added_seen 0 self.now) → a + b ≡ runs_open
+            → table.IsAdded later (added_seen other self.now) → table.LeastBegun counts caps a later
+            → AreLeast true (have ∷ counts) (limit ∷ caps) a b (seen other result) }
         // with one more tile of this rank
-        ensures own { (have limit bit : ℕ) (counts caps : List ℕ) (a b : ℕ) (later : table.Begun) → limit ≤ 4 → AreCosts have limit bit costs.now → 0 < bit → table.FewAdded (added_seen 0 self.now) → table.SameAdded (added_seen bit self.now) (added_seen 0 self.now) → a + b ≡ runs_open → table.IsAdded later (added_seen 0 self.now) → table.LeastBegun counts caps a later → AreLeast true ((have + 1) ∷ counts) (limit ∷ caps) a b (seen bit result) }
+        ensures own { (have limit bit : ℕ) (counts caps : List ℕ) (a b : ℕ) (later : table.Begun)
+            → limit ≤ 4 → AreCosts have limit bit costs.now → 0 < bit
+            → table.FewAdded (added_seen 0 self.now)
+            → table.SameAdded (added_seen bit self.now) (added_seen 0 self.now) → a + b ≡ runs_open
+            → table.IsAdded later (added_seen 0 self.now) → table.LeastBegun counts caps a later
+            → AreLeast true ((have + 1) ∷ counts) (limit ∷ caps) a b (seen bit result) }
     {
         let zero = self.zero.lacking(costs.of(runs_open));
         let one = self.one.lacking(costs.of(runs_open + 1));
@@ -42,7 +51,10 @@ impl Added {
     #[inline(always)]
     fn first_by_costs(&self, have: u8, limit: u8) -> MarkedLanes
         requires { limit ≤ 4 }
-        ensures { (other : ℕ) (counts caps : List ℕ) (later : table.Begun) → table.FewAdded (added_seen 0 self.now) → table.IsAdded later (added_seen other self.now) → table.LeastBegun counts caps 0 later → AreLeast true (have ∷ counts) (limit ∷ caps) 0 0 (seen other result) }
+        ensures { (other : ℕ) (counts caps : List ℕ) (later : table.Begun)
+            → table.FewAdded (added_seen 0 self.now)
+            → table.IsAdded later (added_seen other self.now) → table.LeastBegun counts caps 0 later
+            → AreLeast true (have ∷ counts) (limit ∷ caps) 0 0 (seen other result) }
     {
         self.lanes(0, &Costs::new(have, limit, 0))
     }
@@ -51,7 +63,10 @@ impl Added {
     #[inline(always)]
     pub fn first_lanes(&self, have: u8, limit: u8) -> MarkedLanes
         requires { limit ≤ 4 }
-        ensures { (other : ℕ) (counts caps : List ℕ) (later : table.Begun) → table.FewAdded (added_seen 0 self.now) → table.IsAdded later (added_seen other self.now) → table.LeastBegun counts caps 0 later → AreLeast true (have ∷ counts) (limit ∷ caps) 0 0 (seen other result) }
+        ensures { (other : ℕ) (counts caps : List ℕ) (later : table.Begun)
+            → table.FewAdded (added_seen 0 self.now)
+            → table.IsAdded later (added_seen other self.now) → table.LeastBegun counts caps 0 later
+            → AreLeast true (have ∷ counts) (limit ∷ caps) 0 0 (seen other result) }
     {
         match (have, limit) {
             (0, 4) => self.first_by_costs(0, 4),
@@ -65,8 +80,13 @@ impl Added {
     /// those of a rank that has none of four.
     #[inline(always)]
     fn up_to_one(&self, each: &Costs) -> MarkedLanes
-        ensures others { (bit other s p : ℕ) → AreCosts 0 4 bit each.now → bit_and bit other ≡ 0 → table.FewAdded (added_seen 0 self.now) → s < 5 → p < 2 → seen other result s p ≡ table.up_to (added_seen other self.now) 0 1 s p }
-        ensures own { (bit s p : ℕ) → AreCosts 0 4 bit each.now → 0 < bit → table.FewAdded (added_seen 0 self.now) → table.SameAdded (added_seen bit self.now) (added_seen 0 self.now) → s < 5 → p < 2 → seen bit result s p ≡ table.up_to (added_seen 0 self.now) 1 1 s p }
+        ensures others { (bit other s p : ℕ) → AreCosts 0 4 bit each.now → bit_and bit other ≡ 0
+            → table.FewAdded (added_seen 0 self.now) → s < 5 → p < 2
+            → seen other result s p ≡ table.up_to (added_seen other self.now) 0 1 s p }
+        ensures own { (bit s p : ℕ) → AreCosts 0 4 bit each.now → 0 < bit
+            → table.FewAdded (added_seen 0 self.now)
+            → table.SameAdded (added_seen bit self.now) (added_seen 0 self.now) → s < 5 → p < 2
+            → seen bit result s p ≡ table.up_to (added_seen 0 self.now) 1 1 s p }
     {
         self.zero.or(self.one.lacking(each.one))
     }
@@ -74,8 +94,13 @@ impl Added {
     /// Two tiles at most.
     #[inline(always)]
     fn up_to_two(&self, each: &Costs) -> MarkedLanes
-        ensures others { (bit other s p : ℕ) → AreCosts 0 4 bit each.now → bit_and bit other ≡ 0 → table.FewAdded (added_seen 0 self.now) → s < 5 → p < 2 → seen other result s p ≡ table.up_to (added_seen other self.now) 0 2 s p }
-        ensures own { (bit s p : ℕ) → AreCosts 0 4 bit each.now → 0 < bit → table.FewAdded (added_seen 0 self.now) → table.SameAdded (added_seen bit self.now) (added_seen 0 self.now) → s < 5 → p < 2 → seen bit result s p ≡ table.up_to (added_seen 0 self.now) 1 2 s p }
+        ensures others { (bit other s p : ℕ) → AreCosts 0 4 bit each.now → bit_and bit other ≡ 0
+            → table.FewAdded (added_seen 0 self.now) → s < 5 → p < 2
+            → seen other result s p ≡ table.up_to (added_seen other self.now) 0 2 s p }
+        ensures own { (bit s p : ℕ) → AreCosts 0 4 bit each.now → 0 < bit
+            → table.FewAdded (added_seen 0 self.now)
+            → table.SameAdded (added_seen bit self.now) (added_seen 0 self.now) → s < 5 → p < 2
+            → seen bit result s p ≡ table.up_to (added_seen 0 self.now) 1 2 s p }
     {
         self.up_to_one(each).or(self.two.lacking(each.two))
     }
@@ -83,8 +108,13 @@ impl Added {
     /// Three tiles at most.
     #[inline(always)]
     fn up_to_three(&self, each: &Costs) -> MarkedLanes
-        ensures others { (bit other s p : ℕ) → AreCosts 0 4 bit each.now → bit_and bit other ≡ 0 → table.FewAdded (added_seen 0 self.now) → s < 5 → p < 2 → seen other result s p ≡ table.up_to (added_seen other self.now) 0 3 s p }
-        ensures own { (bit s p : ℕ) → AreCosts 0 4 bit each.now → 0 < bit → table.FewAdded (added_seen 0 self.now) → table.SameAdded (added_seen bit self.now) (added_seen 0 self.now) → s < 5 → p < 2 → seen bit result s p ≡ table.up_to (added_seen 0 self.now) 1 3 s p }
+        ensures others { (bit other s p : ℕ) → AreCosts 0 4 bit each.now → bit_and bit other ≡ 0
+            → table.FewAdded (added_seen 0 self.now) → s < 5 → p < 2
+            → seen other result s p ≡ table.up_to (added_seen other self.now) 0 3 s p }
+        ensures own { (bit s p : ℕ) → AreCosts 0 4 bit each.now → 0 < bit
+            → table.FewAdded (added_seen 0 self.now)
+            → table.SameAdded (added_seen bit self.now) (added_seen 0 self.now) → s < 5 → p < 2
+            → seen bit result s p ≡ table.up_to (added_seen 0 self.now) 1 3 s p }
     {
         self.up_to_two(each).or(self.three.lacking(each.three))
     }
@@ -94,8 +124,14 @@ impl Added {
     fn beside(&self, runs_open: u8, each: &Costs) -> MarkedLanes
         requires some { 0 < runs_open }
         requires most { runs_open ≤ 4 }
-        ensures others { (bit other s p : ℕ) → AreCosts 0 4 bit each.now → bit_and bit other ≡ 0 → table.FewAdded (added_seen 0 self.now) → s < 5 → p < 2 → seen other result s p ≡ table.up_to (added_seen other self.now) 0 (4 - runs_open) s p }
-        ensures own { (bit s p : ℕ) → AreCosts 0 4 bit each.now → 0 < bit → table.FewAdded (added_seen 0 self.now) → table.SameAdded (added_seen bit self.now) (added_seen 0 self.now) → s < 5 → p < 2 → seen bit result s p ≡ table.up_to (added_seen 0 self.now) 1 (4 - runs_open) s p }
+        ensures others { (bit other s p : ℕ) → AreCosts 0 4 bit each.now → bit_and bit other ≡ 0
+            → table.FewAdded (added_seen 0 self.now) → s < 5 → p < 2
+            → seen other result s p
+            ≡ table.up_to (added_seen other self.now) 0 (4 - runs_open) s p }
+        ensures own { (bit s p : ℕ) → AreCosts 0 4 bit each.now → 0 < bit
+            → table.FewAdded (added_seen 0 self.now)
+            → table.SameAdded (added_seen bit self.now) (added_seen 0 self.now) → s < 5 → p < 2
+            → seen bit result s p ≡ table.up_to (added_seen 0 self.now) 1 (4 - runs_open) s p }
     {
         match runs_open {
             1 => self.up_to_three(each),
@@ -113,8 +149,16 @@ impl Added {
         requires some { 0 < runs_open }
         requires most { runs_open ≤ 4 }
         requires held { have ≤ 1 }
-        ensures others { (bit other : ℕ) (counts caps : List ℕ) (a b : ℕ) (later : table.Begun) → AreCosts 0 4 bit each.now → bit_and bit other ≡ 0 → table.FewAdded (added_seen 0 self.now) → a + b ≡ runs_open → table.IsAdded later (added_seen other self.now) → table.LeastBegun counts caps a later → AreLeast true (have ∷ counts) (4 ∷ caps) a b (seen other result) }
-        ensures own { (bit : ℕ) (counts caps : List ℕ) (a b : ℕ) (later : table.Begun) → AreCosts 0 4 bit each.now → 0 < bit → table.FewAdded (added_seen 0 self.now) → table.SameAdded (added_seen bit self.now) (added_seen 0 self.now) → a + b ≡ runs_open → table.IsAdded later (added_seen 0 self.now) → table.LeastBegun counts caps a later → AreLeast true ((have + 1) ∷ counts) (4 ∷ caps) a b (seen bit result) }
+        ensures others { (bit other : ℕ) (counts caps : List ℕ) (a b : ℕ) (later : table.Begun)
+            → AreCosts 0 4 bit each.now → bit_and bit other ≡ 0
+            → table.FewAdded (added_seen 0 self.now) → a + b ≡ runs_open
+            → table.IsAdded later (added_seen other self.now) → table.LeastBegun counts caps a later
+            → AreLeast true (have ∷ counts) (4 ∷ caps) a b (seen other result) }
+        ensures own { (bit : ℕ) (counts caps : List ℕ) (a b : ℕ) (later : table.Begun)
+            → AreCosts 0 4 bit each.now → 0 < bit → table.FewAdded (added_seen 0 self.now)
+            → table.SameAdded (added_seen bit self.now) (added_seen 0 self.now) → a + b ≡ runs_open
+            → table.IsAdded later (added_seen 0 self.now) → table.LeastBegun counts caps a later
+            → AreLeast true ((have + 1) ∷ counts) (4 ∷ caps) a b (seen bit result) }
     {
         self.beside(runs_open, each)
             .lacking(each.of(runs_open - have))

@@ -48,7 +48,8 @@ impl Costs {
     /// What it costs to hold so many tiles.
     #[inline(always)]
     pub fn of(&self, used: u8) -> Cost
-        ensures { (have limit bit : ℕ) → limit ≤ 4 → AreCosts have limit bit self.now → IsCost have limit bit used result }
+        ensures { (have limit bit : ℕ) → limit ≤ 4 → AreCosts have limit bit self.now
+            → IsCost have limit bit used result }
     {
         match used {
             0 => self.zero,

@@ -17,7 +17,8 @@ pub struct JoinedRows {
 
 /// The rows of two suits.
 pub fn join_two(left: &SuitRow, right: &SuitRow) -> JoinedRows
-    ensures { IsLeastSum (lane left.now.entries.lacks) (lane right.now.entries.lacks) (lane result.sums.lacks) }
+    ensures { IsLeastSum (lane left.now.entries.lacks) (lane right.now.entries.lacks)
+        (lane result.sums.lacks) }
 {
     JoinedRows {
         sums: join_lanes(left.entries, right.entries),
@@ -27,7 +28,8 @@ pub fn join_two(left: &SuitRow, right: &SuitRow) -> JoinedRows
 impl JoinedRows {
     /// These and the row of one suit more.
     pub fn and(&self, row: &SuitRow) -> JoinedRows
-        ensures { IsLeastSum (lane row.now.entries.lacks) (lane self.now.sums.lacks) (lane result.sums.lacks) }
+        ensures { IsLeastSum (lane row.now.entries.lacks) (lane self.now.sums.lacks)
+            (lane result.sums.lacks) }
     {
         JoinedRows {
             sums: join_lanes(row.entries, self.sums),
@@ -38,7 +40,9 @@ impl JoinedRows {
     /// `row`, whose sets add up to the number asked, with one pair in all.
     pub fn with(&self, row: &SuitRow, sets: u8) -> Option<u8>
         requires { sets ≤ 4 }
-        ensures { (b c d : SuitRow) → AreJoinedThree b c d self.now → IsLeastJoin (entries_of row.now) (entries_of b) (entries_of c) (entries_of d) sets result }
+        ensures { (b c d : SuitRow) → AreJoinedThree b c d self.now
+            → IsLeastJoin (entries_of row.now) (entries_of b) (entries_of c)
+            (entries_of d) sets result }
     {
         let sums = add_lanes(row.entries.lacks, self.sums.opposite(sets).lacks);
         let least = sums.least();

@@ -11,7 +11,8 @@ use std::simd::prelude::*;
 
 /// Whether one tile more makes some lane lack fewer, of those whose sum is just `least`.
 fn any_fewer(sums: Lanes, least: u8, lacks: Lanes, fewer: Lanes) -> bool
-    ensures { IsTrue result ↔ SomeLane sums.lacks least (λ s p. nat_lt (lane fewer.lacks s p) (lane lacks.lacks s p)) }
+    ensures { IsTrue result
+        ↔ SomeLane sums.lacks least (λ s p. nat_lt (lane fewer.lacks s p) (lane lacks.lacks s p)) }
 {
     let takes_part = sums.lacks.simd_eq(u8x16::splat(least));
     let with_more = takes_part.select(fewer.lacks, lacks.lacks);
@@ -20,7 +21,9 @@ fn any_fewer(sums: Lanes, least: u8, lacks: Lanes, fewer: Lanes) -> bool
 
 /// The marks of the lanes whose sum is just `least`, together.
 fn marks_at(sums: Lanes, least: u8, marks: u8x16) -> u8
-    ensures { (bit : ℕ) → IsTrue (nat_lt 0 (bit_and result bit)) ↔ SomeLane sums.lacks least (λ s p. nat_lt 0 (bit_and (mark marks s p) bit)) }
+    ensures { (bit : ℕ)
+        → IsTrue (nat_lt 0 (bit_and result bit))
+        ↔ SomeLane sums.lacks least (λ s p. nat_lt 0 (bit_and (mark marks s p) bit)) }
 {
     let takes_part = sums.lacks.simd_eq(u8x16::splat(least));
     takes_part.select(marks, u8x16::splat(0)).reduce_or()
@@ -32,7 +35,8 @@ impl JoinedRows {
     pub fn lacked_by(&self, row: &SuitRow, sets: u8, least: u8) -> RankSet
         requires sets { sets ≤ 4 }
         requires least { least < 255 }
-        ensures { (rank : ℕ) → rank < 9 → IsTrue (has_rank result rank) ↔ MarkedBeside row.now self.now sets least rank }
+        ensures { (rank : ℕ) → rank < 9
+            → IsTrue (has_rank result rank) ↔ MarkedBeside row.now self.now sets least rank }
     {
         let sums = add_lanes(row.entries.lacks, self.sums.opposite(sets).lacks);
         RankSet {

@@ -78,7 +78,8 @@ impl Lanes {
     /// Beside each lane the one that makes up so many sets and one pair with it.
     pub fn opposite(self, sets: u8) -> Lanes
         requires { sets ≤ 4 }
-        ensures { (s p : ℕ) → s < 8 → p < 2 → lane result.lacks s p ≡ opposite sets (lane self.lacks) s p }
+        ensures { (s p : ℕ) → s < 8 → p < 2
+            → lane result.lacks s p ≡ opposite sets (lane self.lacks) s p }
     {
         let none = u8x16::splat(NONE);
         let lacks = match sets {
@@ -141,7 +142,8 @@ impl Lanes {
 
 /// The sums of two vectors, lane by lane.
 pub(crate) fn add_lanes(left: u8x16, right: u8x16) -> Lanes
-    ensures { (s p : ℕ) → s < 8 → p < 2 → lane result.lacks s p ≡ capped (lane left s p + lane right s p) }
+    ensures { (s p : ℕ) → s < 8 → p < 2
+        → lane result.lacks s p ≡ capped (lane left s p + lane right s p) }
 {
     Lanes {
         lacks: left.saturating_add(right),

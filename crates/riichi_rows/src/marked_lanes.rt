@@ -40,7 +40,9 @@ impl MarkedLanes {
 
     /// The same choices with one set more.
     pub fn with_set(self) -> MarkedLanes
-        ensures { (bit : ℕ) → Agree (lacks_with bit result.lacks.lacks result.marks) (with_set (lacks_with bit self.lacks.lacks self.marks)) }
+        ensures { (bit : ℕ)
+            → Agree (lacks_with bit result.lacks.lacks result.marks) (with_set
+            (lacks_with bit self.lacks.lacks self.marks)) }
     {
         let unmarked = u8x16::splat(0);
         let marks = self.marks.shuffle(
@@ -55,7 +57,9 @@ impl MarkedLanes {
 
     /// The same choices with a pair, where they had none.
     pub fn with_pair(self) -> MarkedLanes
-        ensures { (bit : ℕ) → Agree (lacks_with bit result.lacks.lacks result.marks) (with_pair (lacks_with bit self.lacks.lacks self.marks)) }
+        ensures { (bit : ℕ)
+            → Agree (lacks_with bit result.lacks.lacks result.marks) (with_pair
+            (lacks_with bit self.lacks.lacks self.marks)) }
     {
         let unmarked = u8x16::splat(0);
         let marks = self.marks.shuffle(
@@ -71,9 +75,21 @@ impl MarkedLanes {
     /// The same choices at the cost of some tiles of a rank.
     pub fn lacking(self, cost: Cost) -> MarkedLanes
         // what was lacked of other ranks stays lacked
-        ensures others { (bit other s p : ℕ) → IsMarkOf bit cost.tiles cost.mark → s < 5 → p < 2 → bit_and bit other ≡ 0 → (cost.tiles < 255 → cost.tiles ≤ 4) → HasRoom (lacks_with 0 self.lacks.lacks self.marks s p) → lacks_with other result.lacks.lacks result.marks s p ≡ capped (lacks_with other self.lacks.lacks self.marks s p + cost.tiles) }
+        ensures others { (bit other s p : ℕ) → IsMarkOf bit cost.tiles cost.mark → s < 5 → p < 2
+            → bit_and bit other ≡ 0 → (cost.tiles < 255 → cost.tiles ≤ 4)
+            → HasRoom (lacks_with 0 self.lacks.lacks self.marks s p)
+            → lacks_with other result.lacks.lacks result.marks s p
+            ≡ capped (lacks_with other self.lacks.lacks self.marks s p + cost.tiles) }
         // with one more tile of the rank one less is lacking, where any is
-        ensures own { (bit s p : ℕ) → IsMarkOf bit cost.tiles cost.mark → s < 5 → p < 2 → 0 < bit → (cost.tiles < 255 → cost.tiles ≤ 4) → HasRoom (lacks_with 0 self.lacks.lacks self.marks s p) → (cost.tiles ≡ 0 → lacks_with bit self.lacks.lacks self.marks s p ≡ lacks_with 0 self.lacks.lacks self.marks s p) → lacks_with bit result.lacks.lacks result.marks s p ≡ capped (lacks_with 0 self.lacks.lacks self.marks s p + (if nat_lt cost.tiles 255 then cost.tiles - 1 else 255)) }
+        ensures own { (bit s p : ℕ) → IsMarkOf bit cost.tiles cost.mark → s < 5 → p < 2 → 0 < bit
+            → (cost.tiles < 255 → cost.tiles ≤ 4)
+            → HasRoom (lacks_with 0 self.lacks.lacks self.marks s p)
+            → (cost.tiles ≡ 0
+            → lacks_with bit self.lacks.lacks self.marks s p
+            ≡ lacks_with 0 self.lacks.lacks self.marks s p)
+            → lacks_with bit result.lacks.lacks result.marks s p
+            ≡ capped (lacks_with 0 self.lacks.lacks self.marks s p +
+            (if nat_lt cost.tiles 255 then cost.tiles - 1 else 255)) }
     {
         MarkedLanes {
             lacks: self.lacks.lacking(cost.tiles),
@@ -83,7 +99,10 @@ impl MarkedLanes {
 
     /// The better of two choices; of two that lack as much the marks of both.
     pub fn or(self, other: MarkedLanes) -> MarkedLanes
-        ensures { (bit : ℕ) → Agree (lacks_with bit result.lacks.lacks result.marks) (λ s p. min (lacks_with bit self.lacks.lacks self.marks s p) (lacks_with bit other.lacks.lacks other.marks s p)) }
+        ensures { (bit : ℕ)
+            → Agree (lacks_with bit result.lacks.lacks result.marks) (λ s p. min
+            (lacks_with bit self.lacks.lacks self.marks s p)
+            (lacks_with bit other.lacks.lacks other.marks s p)) }
     {
         let unmarked = u8x16::splat(0);
         let lacks = self.lacks.lacks;

@@ -31,8 +31,12 @@ pub struct Open {
 #[inline(always)]
 pub fn before_without_runs(later: MarkedLanes, have: u8, limit: u8, bit: u8) -> MarkedLanes
     requires { limit ≤ 4 }
-    ensures others { (other : ℕ) (counts caps : List ℕ) → bit_and bit other ≡ 0 → table.AreFew (seen 0 later) → AreLeast false counts caps 0 0 (seen other later) → AreLeast false (have ∷ counts) (limit ∷ caps) 0 0 (seen other result) }
-    ensures own { (counts caps : List ℕ) → 0 < bit → table.AreFew (seen 0 later) → Agree (seen bit later) (seen 0 later) → AreLeast false counts caps 0 0 (seen 0 later) → AreLeast false ((have + 1) ∷ counts) (limit ∷ caps) 0 0 (seen bit result) }
+    ensures others { (other : ℕ) (counts caps : List ℕ) → bit_and bit other ≡ 0
+        → table.AreFew (seen 0 later) → AreLeast false counts caps 0 0 (seen other later)
+        → AreLeast false (have ∷ counts) (limit ∷ caps) 0 0 (seen other result) }
+    ensures own { (counts caps : List ℕ) → 0 < bit → table.AreFew (seen 0 later)
+        → Agree (seen bit later) (seen 0 later) → AreLeast false counts caps 0 0 (seen 0 later)
+        → AreLeast false ((have + 1) ∷ counts) (limit ∷ caps) 0 0 (seen bit result) }
 {
     let costs = Costs::new(have, limit, bit);
     let plain = later.lacking(costs.zero);
@@ -45,8 +49,12 @@ pub fn before_without_runs(later: MarkedLanes, have: u8, limit: u8, bit: u8) -> 
 /// which none may be held. Where that is known the costs are.
 pub fn often_without_runs(later: MarkedLanes, have: u8, limit: u8, bit: u8) -> MarkedLanes
     requires { limit ≤ 4 }
-    ensures others { (other : ℕ) (counts caps : List ℕ) → bit_and bit other ≡ 0 → table.AreFew (seen 0 later) → AreLeast false counts caps 0 0 (seen other later) → AreLeast false (have ∷ counts) (limit ∷ caps) 0 0 (seen other result) }
-    ensures own { (counts caps : List ℕ) → 0 < bit → table.AreFew (seen 0 later) → Agree (seen bit later) (seen 0 later) → AreLeast false counts caps 0 0 (seen 0 later) → AreLeast false ((have + 1) ∷ counts) (limit ∷ caps) 0 0 (seen bit result) }
+    ensures others { (other : ℕ) (counts caps : List ℕ) → bit_and bit other ≡ 0
+        → table.AreFew (seen 0 later) → AreLeast false counts caps 0 0 (seen other later)
+        → AreLeast false (have ∷ counts) (limit ∷ caps) 0 0 (seen other result) }
+    ensures own { (counts caps : List ℕ) → 0 < bit → table.AreFew (seen 0 later)
+        → Agree (seen bit later) (seen 0 later) → AreLeast false counts caps 0 0 (seen 0 later)
+        → AreLeast false ((have + 1) ∷ counts) (limit ∷ caps) 0 0 (seen bit result) }
 {
     match (have, limit) {
         (0, 0) => before_without_runs(later, 0, 0, bit),
@@ -100,8 +108,14 @@ impl Open {
     #[inline(always)]
     pub fn before(&self, have: u8, limit: u8, bit: u8) -> Open
         requires { limit ≤ 4 }
-        ensures others { (other : ℕ) (counts caps : List ℕ) → bit_and bit other ≡ 0 → table.FewOpen (open_seen 0 self.now) → table.LeastOpen counts caps (open_seen other self.now) → table.LeastOpen (have ∷ counts) (limit ∷ caps) (open_seen other result) }
-        ensures own { (counts caps : List ℕ) → 0 < bit → table.FewOpen (open_seen 0 self.now) → table.SameOpen (open_seen bit self.now) (open_seen 0 self.now) → table.LeastOpen counts caps (open_seen 0 self.now) → table.LeastOpen ((have + 1) ∷ counts) (limit ∷ caps) (open_seen bit result) }
+        ensures others { (other : ℕ) (counts caps : List ℕ) → bit_and bit other ≡ 0
+            → table.FewOpen (open_seen 0 self.now)
+            → table.LeastOpen counts caps (open_seen other self.now)
+            → table.LeastOpen (have ∷ counts) (limit ∷ caps) (open_seen other result) }
+        ensures own { (counts caps : List ℕ) → 0 < bit → table.FewOpen (open_seen 0 self.now)
+            → table.SameOpen (open_seen bit self.now) (open_seen 0 self.now)
+            → table.LeastOpen counts caps (open_seen 0 self.now)
+            → table.LeastOpen ((have + 1) ∷ counts) (limit ∷ caps) (open_seen bit result) }
     {
         let costs = Costs::new(have, limit, bit);
         let none_open = self.zero.added();
@@ -130,8 +144,14 @@ impl Open {
     #[inline(always)]
     pub fn before_few(&self, have: u8, bit: u8) -> Open
         requires { have ≤ 1 }
-        ensures others { (other : ℕ) (counts caps : List ℕ) → bit_and bit other ≡ 0 → table.FewOpen (open_seen 0 self.now) → table.LeastOpen counts caps (open_seen other self.now) → table.LeastOpen (have ∷ counts) (4 ∷ caps) (open_seen other result) }
-        ensures own { (counts caps : List ℕ) → 0 < bit → table.FewOpen (open_seen 0 self.now) → table.SameOpen (open_seen bit self.now) (open_seen 0 self.now) → table.LeastOpen counts caps (open_seen 0 self.now) → table.LeastOpen ((have + 1) ∷ counts) (4 ∷ caps) (open_seen bit result) }
+        ensures others { (other : ℕ) (counts caps : List ℕ) → bit_and bit other ≡ 0
+            → table.FewOpen (open_seen 0 self.now)
+            → table.LeastOpen counts caps (open_seen other self.now)
+            → table.LeastOpen (have ∷ counts) (4 ∷ caps) (open_seen other result) }
+        ensures own { (counts caps : List ℕ) → 0 < bit → table.FewOpen (open_seen 0 self.now)
+            → table.SameOpen (open_seen bit self.now) (open_seen 0 self.now)
+            → table.LeastOpen counts caps (open_seen 0 self.now)
+            → table.LeastOpen ((have + 1) ∷ counts) (4 ∷ caps) (open_seen bit result) }
     {
         let costs = Costs::new(have, 4, bit);
         let each = Costs::new(0, 4, bit);
@@ -161,8 +181,14 @@ impl Open {
     /// where that is known a step takes half as long.
     pub fn go_before(&mut self, have: u8, limit: u8, bit: u8)
         requires { limit ≤ 4 }
-        ensures others { (other : ℕ) (counts caps : List ℕ) → bit_and bit other ≡ 0 → table.FewOpen (open_seen 0 self.old) → table.LeastOpen counts caps (open_seen other self.old) → table.LeastOpen (have ∷ counts) (limit ∷ caps) (open_seen other self.new) }
-        ensures own { (counts caps : List ℕ) → 0 < bit → table.FewOpen (open_seen 0 self.old) → table.SameOpen (open_seen bit self.old) (open_seen 0 self.old) → table.LeastOpen counts caps (open_seen 0 self.old) → table.LeastOpen ((have + 1) ∷ counts) (limit ∷ caps) (open_seen bit self.new) }
+        ensures others { (other : ℕ) (counts caps : List ℕ) → bit_and bit other ≡ 0
+            → table.FewOpen (open_seen 0 self.old)
+            → table.LeastOpen counts caps (open_seen other self.old)
+            → table.LeastOpen (have ∷ counts) (limit ∷ caps) (open_seen other self.new) }
+        ensures own { (counts caps : List ℕ) → 0 < bit → table.FewOpen (open_seen 0 self.old)
+            → table.SameOpen (open_seen bit self.old) (open_seen 0 self.old)
+            → table.LeastOpen counts caps (open_seen 0 self.old)
+            → table.LeastOpen ((have + 1) ∷ counts) (limit ∷ caps) (open_seen bit self.new) }
     {
         match (have, limit) {
             (0, 4) => *self = self.before_few(0, bit),
@@ -176,8 +202,14 @@ impl Open {
     #[inline(always)]
     pub fn begun_before(&self, have: u8, limit: u8, bit: u8) -> Begun
         requires { limit ≤ 4 }
-        ensures others { (other : ℕ) (counts caps : List ℕ) → bit_and bit other ≡ 0 → table.FewOpen (open_seen 0 self.now) → table.LeastOpen counts caps (open_seen other self.now) → table.LeastBegun (have ∷ counts) (limit ∷ caps) 0 (begun_seen other result) }
-        ensures own { (counts caps : List ℕ) → 0 < bit → table.FewOpen (open_seen 0 self.now) → table.SameOpen (open_seen bit self.now) (open_seen 0 self.now) → table.LeastOpen counts caps (open_seen 0 self.now) → table.LeastBegun ((have + 1) ∷ counts) (limit ∷ caps) 0 (begun_seen bit result) }
+        ensures others { (other : ℕ) (counts caps : List ℕ) → bit_and bit other ≡ 0
+            → table.FewOpen (open_seen 0 self.now)
+            → table.LeastOpen counts caps (open_seen other self.now)
+            → table.LeastBegun (have ∷ counts) (limit ∷ caps) 0 (begun_seen other result) }
+        ensures own { (counts caps : List ℕ) → 0 < bit → table.FewOpen (open_seen 0 self.now)
+            → table.SameOpen (open_seen bit self.now) (open_seen 0 self.now)
+            → table.LeastOpen counts caps (open_seen 0 self.now)
+            → table.LeastBegun ((have + 1) ∷ counts) (limit ∷ caps) 0 (begun_seen bit result) }
     {
         match (have, limit) {
             (0, 4) => self.before_few(0, bit).zero,

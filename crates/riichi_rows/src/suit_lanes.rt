@@ -21,7 +21,9 @@ impl SuitLanes {
 
     /// The row that shows them.
     pub(crate) fn row(self) -> SuitRow
-        ensures { (runs : Bool) (counts caps : List ℕ) → length counts ≡ 9 → length caps ≡ 9 → ((r : ℕ) → r < 9 → slice_index caps r ≤ 4) → AreSuitLanes runs counts caps self → IsMarkedRow runs counts caps result }
+        ensures { (runs : Bool) (counts caps : List ℕ) → length counts ≡ 9 → length caps ≡ 9
+            → ((r : ℕ) → r < 9 → slice_index caps r ≤ 4) → AreSuitLanes runs counts caps self
+            → IsMarkedRow runs counts caps result }
     {
         SuitRow {
             entries: self.all.lacks,

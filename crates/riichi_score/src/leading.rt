@@ -23,7 +23,9 @@ impl Leading {
     pub(crate) fn better(self, worth: Option<Worth>) -> Leading
         requires most { spec.leading_base self ≤ 8000 }
         requires worth { spec.base_if worth ≤ 8000 }
-        ensures value { (win : WinParts) → spec.answer_of result win ≡ best_spec.better (spec.answer_of self win) (spec.score_if worth win) }
+        ensures value { (win : WinParts)
+            → spec.answer_of result win
+            ≡ best_spec.better (spec.answer_of self win) (spec.score_if worth win) }
         ensures most { spec.leading_base result ≤ 8000 }
     {
         match (self, worth) {

@@ -51,7 +51,8 @@ impl LeadingReading {
         ensures value { (win : WinParts) → answer_of result.best win
             ≡ best_spec.better (answer_of self.best win) (score_if worth win) }
         ensures most { leading_base result.best ≤ 8000 }
-        ensures scored { (win : WinParts) → IsReadingOf win reading → score_if worth win ≡ score_of reading win
+        ensures scored { (win : WinParts) → IsReadingOf win reading
+            → score_if worth win ≡ score_of reading win
             → spec.IsScored win self.reading self.best → spec.IsScored win result.reading result.best }
     {
         match (self.best, worth) {
@@ -87,7 +88,8 @@ impl LeadingReading {
     fn answer(self, win: &WinRecord) -> BestReading
         requires { leading_base self.best ≤ 8000 }
         ensures value { spec.answer_in result ≡ answer_of self.best win.now }
-        ensures reading { spec.IsScored win.now self.reading self.best → spec.HasItsScore win.now result }
+        ensures reading { spec.IsScored win.now self.reading self.best
+            → spec.HasItsScore win.now result }
     {
         let LeadingReading { reading, best } = self;
         match best {

@@ -27,7 +27,8 @@ fn shape_of_thirteen<R: RowSource>(
 ) -> ShapeAnswer
     requires melded { (k : ℕ) → k < 34 → tiles melds.now k ≤ 4 }
     requires thirteen { is_thirteen hand.now melds.now ≡ true }
-    ensures shape { result ≡ shape_of (record { tiles = hand.now; melds = melds.now; seen = seen.now }) }
+    ensures shape { result
+        ≡ shape_of (record { tiles = hand.now; melds = melds.now; seen = seen.now }) }
     ensures stays { source.new ≡ source.old }
 {
     let forms = HandForms::new(source, hand, melds);
@@ -50,7 +51,8 @@ fn shape_of_fourteen<R: RowSource>(
     requires melded { (k : ℕ) → k < 34 → tiles melds.now k ≤ 4 }
     requires few { sum hand.now ≤ 14 }
     requires fourteen { is_thirteen hand.now melds.now ≡ false }
-    ensures shape { result ≡ shape_of (record { tiles = hand.now; melds = melds.now; seen = seen.now }) }
+    ensures shape { result
+        ≡ shape_of (record { tiles = hand.now; melds = melds.now; seen = seen.now }) }
     ensures stays { source.new ≡ source.old }
 {
     let suits = HandSuits::new(source, hand, melds);

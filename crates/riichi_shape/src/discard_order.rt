@@ -75,7 +75,8 @@ impl DiscardOrder {
     /// The kinds that any of the discards accepts.
     pub(crate) fn accepted(&self) -> KindBits
         requires { All (λ kept. kinds_of kept < 2 ^ 34) self.now }
-        ensures { (kind : ℕ) → has_kind result kind ≡ list_any (λ kept. has_kind (kinds_of kept) kind) self.now }
+        ensures { (kind : ℕ)
+            → has_kind result kind ≡ list_any (λ kept. has_kind (kinds_of kept) kind) self.now }
     {
         let mut kinds = KindBits::new(0);
         for place in 0..self.count as usize {
@@ -102,7 +103,9 @@ fn first_place(held: &[KeptDiscard], live: u8) -> Option<usize>
 /// Puts a discard at a place, and moves the later ones on; the last place is lost.
 fn put_at(places: &mut [KeptDiscard], place: usize, discard: KeptDiscard)
     requires { place < length places.old }
-    ensures { places.new ≡ take place places.old ++ discard ∷ take (length places.old - 1 - place) (drop place places.old) }
+    ensures { places.new
+        ≡ take place places.old
+        ++ discard ∷ take (length places.old - 1 - place) (drop place places.old) }
 {
     places[place..].rotate_right(1);
     places[place] = discard;

@@ -21,7 +21,8 @@ pub struct FormDistances {
 /// How far a hand is from each form. The least of these is one more than the shanten.
 pub fn form_distances(hand: &Counts, melds: &Melds) -> FormDistances
     requires { (kind : ℕ) → kind < 34 → tiles melds.now kind ≤ 4 }
-    ensures sets_and_pair { IsLeastStandard hand.now melds.now (4 - length melds.now) (Some result.sets_and_pair) }
+    ensures sets_and_pair { IsLeastStandard hand.now melds.now (4 - length melds.now)
+        (Some result.sets_and_pair) }
     ensures seven_pairs { spec.IsPairsDistance hand.now melds.now result.seven_pairs }
     ensures thirteen_orphans { spec.IsOrphansDistance hand.now melds.now result.thirteen_orphans }
     ensures least { spec.least_of result ≡ distance_of hand.now melds.now }

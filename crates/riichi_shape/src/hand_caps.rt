@@ -22,7 +22,8 @@ fn suit_caps(melded: &[u8; 34], first: u8, ranks: u8) -> SuitCaps
     requires ranks { ranks ≤ 9 }
     requires within { first + ranks ≤ 34 }
     requires melded { (k : ℕ) → slice_index melded.now k ≤ 4 }
-    ensures caps { (rank : ℕ) → rank < ranks → slice_index result.left rank ≡ 4 - slice_index melded.now (first + rank) }
+    ensures caps { (rank : ℕ) → rank < ranks
+        → slice_index result.left rank ≡ 4 - slice_index melded.now (first + rank) }
     ensures none_past { (rank : ℕ) → ranks ≤ rank → slice_index result.left rank ≡ 0 }
 {
     let mut left = [0; 9];

@@ -50,8 +50,10 @@ impl HandForms {
     /// The least number of tiles that the hand lacks of a winning multiset.
     pub(crate) fn distance(&self, melds: &Melds) -> u8
         requires { (k : ℕ) → k < 34 → tiles melds.now k ≤ 4 }
-        ensures value { (hand : List ℕ) → AreFormsOf hand melds.now self.now → result ≡ distance_of hand melds.now }
-        ensures least { (hand : List ℕ) → AreFormsOf hand melds.now self.now → IsDistance hand melds.now result }
+        ensures value { (hand : List ℕ) → AreFormsOf hand melds.now self.now
+            → result ≡ distance_of hand melds.now }
+        ensures least { (hand : List ℕ) → AreFormsOf hand melds.now self.now
+            → IsDistance hand melds.now result }
         ensures few { (hand : List ℕ) → AreFormsOf hand melds.now self.now → result ≤ 14 }
     {
         let sets = 4 - melds.count() as u8;
@@ -66,7 +68,8 @@ impl HandForms {
     pub(crate) fn lacked(&self, melds: &Melds, least: u8) -> LackedKinds
         requires melded { (k : ℕ) → k < 34 → tiles melds.now k ≤ 4 }
         requires few { least ≤ 14 }
-        ensures { (hand : List ℕ) → AreFormsOf hand melds.now self.now → least ≡ distance_of hand melds.now → AreLackedOf hand melds.now result }
+        ensures { (hand : List ℕ) → AreFormsOf hand melds.now self.now
+            → least ≡ distance_of hand melds.now → AreLackedOf hand melds.now result }
     {
         let sets = 4 - melds.count() as u8;
         LackedKinds {

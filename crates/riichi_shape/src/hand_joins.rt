@@ -45,7 +45,8 @@ impl HandJoins {
 
     /// The joins of these rows, where the rows that were joined differ in the suit of a kind alone.
     pub(crate) fn with_row(&self, kind: Kind, rows: &HandRows) -> HandJoins
-        ensures { (before : HandRows) → AreJoinsOf before self.now → AreSameBeside kind before rows.now → AreJoinsOf rows.now result }
+        ensures { (before : HandRows) → AreJoinsOf before self.now
+            → AreSameBeside kind before rows.now → AreJoinsOf rows.now result }
     {
         let number = kind.index();
         if number < 9 {
@@ -60,7 +61,8 @@ impl HandJoins {
     }
 
     fn with_characters(&self, rows: &HandRows) -> HandJoins
-        ensures { (before : SuitRow) → AreJoinsOf (with_characters rows.now before) self.now → AreJoinsOf rows.now result }
+        ensures { (before : SuitRow) → AreJoinsOf (with_characters rows.now before) self.now
+            → AreJoinsOf rows.now result }
     {
         let low = join_two(&rows.characters, &rows.circles);
         HandJoins {
@@ -73,7 +75,8 @@ impl HandJoins {
     }
 
     fn with_circles(&self, rows: &HandRows) -> HandJoins
-        ensures { (before : SuitRow) → AreJoinsOf (with_circles rows.now before) self.now → AreJoinsOf rows.now result }
+        ensures { (before : SuitRow) → AreJoinsOf (with_circles rows.now before) self.now
+            → AreJoinsOf rows.now result }
     {
         let low = join_two(&rows.characters, &rows.circles);
         HandJoins {
@@ -86,7 +89,8 @@ impl HandJoins {
     }
 
     fn with_bamboos(&self, rows: &HandRows) -> HandJoins
-        ensures { (before : SuitRow) → AreJoinsOf (with_bamboos rows.now before) self.now → AreJoinsOf rows.now result }
+        ensures { (before : SuitRow) → AreJoinsOf (with_bamboos rows.now before) self.now
+            → AreJoinsOf rows.now result }
     {
         let high = join_two(&rows.bamboos, &rows.honours);
         HandJoins {
@@ -99,7 +103,8 @@ impl HandJoins {
     }
 
     fn with_honours(&self, rows: &HandRows) -> HandJoins
-        ensures { (before : SuitRow) → AreJoinsOf (with_honours rows.now before) self.now → AreJoinsOf rows.now result }
+        ensures { (before : SuitRow) → AreJoinsOf (with_honours rows.now before) self.now
+            → AreJoinsOf rows.now result }
     {
         let high = join_two(&rows.bamboos, &rows.honours);
         HandJoins {
@@ -116,7 +121,9 @@ impl HandJoins {
     pub(crate) fn lacked(&self, rows: &HandRows, sets: u8, least: u8) -> SuitsLacked
         requires sets { sets ≤ 4 }
         requires least { least < 255 }
-        ensures { (hand : List ℕ) (melds : List Meld) → AreRowsOf hand melds rows.now → AreJoinsOf rows.now self.now → IsMeldedFew melds → NoneStandardLess hand melds sets least → AreSuitsLacked hand melds sets least result }
+        ensures { (hand : List ℕ) (melds : List Meld) → AreRowsOf hand melds rows.now
+            → AreJoinsOf rows.now self.now → IsMeldedFew melds
+            → NoneStandardLess hand melds sets least → AreSuitsLacked hand melds sets least result }
     {
         SuitsLacked {
             characters: self
@@ -133,7 +140,9 @@ impl HandJoins {
     /// of the suit of that kind.
     pub(crate) fn standard_with(&self, kind: Kind, row: &SuitRow, sets: u8) -> Option<u8>
         requires { sets ≤ 4 }
-        ensures { (hand : List ℕ) (melds : List Meld) → AreJoinsBeside kind hand melds self.now → IsMeldedFew melds → IsRowAt hand melds kind row.now → IsLeastStandard hand melds sets result }
+        ensures { (hand : List ℕ) (melds : List Meld) → AreJoinsBeside kind hand melds self.now
+            → IsMeldedFew melds → IsRowAt hand melds kind row.now
+            → IsLeastStandard hand melds sets result }
     {
         let number = kind.index();
         if number < 9 {

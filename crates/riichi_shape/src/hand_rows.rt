@@ -37,7 +37,9 @@ impl HandRows {
     /// The rows of a hand that has changed at one kind, with this row of the suit of that kind.
     pub(crate) fn with_row(&self, kind: Kind, row: &SuitRow) -> HandRows
         ensures others { AreSameBeside kind self.now result }
-        ensures rows { (before hand : List ℕ) (melds : List Meld) → AreRowsOf before melds self.now → DifferAt kind before hand → IsRowAt hand melds kind row.now → AreRowsOf hand melds result }
+        ensures rows { (before hand : List ℕ) (melds : List Meld) → AreRowsOf before melds self.now
+            → DifferAt kind before hand → IsRowAt hand melds kind row.now
+            → AreRowsOf hand melds result }
     {
         let number = kind.index();
         if number < 9 {

@@ -39,7 +39,8 @@ impl HandSuits {
 
     /// The rows of the whole hand.
     pub(crate) fn rows(&self) -> HandRows
-        ensures { (hand : List ℕ) (melds : List Meld) → AreSuitsOf hand melds self.now → AreRowsOf hand melds result }
+        ensures { (hand : List ℕ) (melds : List Meld) → AreSuitsOf hand melds self.now
+            → AreRowsOf hand melds result }
     {
         HandRows {
             characters: self.characters.whole,
@@ -51,7 +52,8 @@ impl HandSuits {
 
     /// The row that the suit of a kind has without one tile of that kind.
     pub(crate) fn without(&self, kind: Kind) -> SuitRow
-        ensures { (hand : List ℕ) (melds : List Meld) → AreSuitsOf hand melds self.now → 0 < slice_index hand kind → IsRowAt (without_one hand kind) melds kind result }
+        ensures { (hand : List ℕ) (melds : List Meld) → AreSuitsOf hand melds self.now
+            → 0 < slice_index hand kind → IsRowAt (without_one hand kind) melds kind result }
     {
         let number = kind.index();
         if number < 9 {

@@ -39,7 +39,8 @@ fn orphan_counts(hand: &Counts) -> u8x16
 /// How many of the terminals and honours are held so many times or more.
 fn orphans_held(orphans: u8x16, times: u8) -> usize
     requires { 0 < times }
-    ensures { (counts : List ℕ) → length counts ≡ 13 → orphans ≡ counts ++ 0 ∷ 0 ∷ 0 ∷ [] → (result ≡ count_by (λ held. nat_le times held) counts) × (result ≤ 13) }
+    ensures { (counts : List ℕ) → length counts ≡ 13 → orphans ≡ counts ++ 0 ∷ 0 ∷ 0 ∷ []
+        → (result ≡ count_by (λ held. nat_le times held) counts) × (result ≤ 13) }
 {
     let held = orphans.simd_ge(u8x16::splat(times));
     held.to_bitmask().count_ones() as usize

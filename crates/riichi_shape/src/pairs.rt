@@ -23,7 +23,8 @@ fn counts_from(counts: &[u8; 34], times: u8) -> u8
 
 /// How many kinds are held so many times or more.
 fn kinds_held(hand: &Counts, times: u8) -> usize
-    ensures value { result ≡ count_by (λ kind. nat_le times (slice_index hand.now kind)) every_kind }
+    ensures value { result
+        ≡ count_by (λ kind. nat_le times (slice_index hand.now kind)) every_kind }
     ensures most { result ≤ 34 }
 {
     counts_from(&hand.to_array(), times) as usize

@@ -47,7 +47,8 @@ fn write_pair(bytes: &mut [u8; 175], at: usize, kind: usize, live: u8) -> usize
     requires room { at ≤ 170 }
     requires kind { kind < 34 }
     requires live { live ≤ 4 }
-    ensures text { take result bytes.new ≡ take at bytes.old ++ (if nat_lt 0 live then spec.pair_text (kind, live) else []) }
+    ensures text { take result bytes.new
+        ≡ take at bytes.old ++ (if nat_lt 0 live then spec.pair_text (kind, live) else []) }
     ensures most { result ≤ at + 5 }
 {
     bytes[at] = b' ';

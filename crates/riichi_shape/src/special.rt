@@ -51,7 +51,8 @@ impl SpecialForms {
     /// The least number of tiles that the hand lacks of either; beside melds it is more than any
     /// distance.
     pub(crate) fn distance(&self) -> u8
-        ensures { (hand : List ℕ) (melds : List Meld) → AreSpecialForms hand melds self.now → IsSpecialDistance hand melds result }
+        ensures { (hand : List ℕ) (melds : List Meld) → AreSpecialForms hand melds self.now
+            → IsSpecialDistance hand melds result }
     {
         self.pairs.lack.min(self.orphans.lack)
     }
@@ -59,7 +60,8 @@ impl SpecialForms {
     /// The kinds that they lack, where they lack just so many tiles, and none lacks fewer.
     pub(crate) fn lacked_at(&self, least: u8) -> SpecialLacked
         requires { least < 255 }
-        ensures { (hand : List ℕ) (melds : List Meld) → AreSpecialForms hand melds self.now → SpecialLacks hand melds least → AreSpecialLacked hand melds least result }
+        ensures { (hand : List ℕ) (melds : List Meld) → AreSpecialForms hand melds self.now
+            → SpecialLacks hand melds least → AreSpecialLacked hand melds least result }
     {
         SpecialLacked {
             pairs: self.pairs.lacked_at(least),
@@ -109,7 +111,8 @@ impl SpecialLacked {
 
     /// The kinds that are lacked by a hand that holds so many of each.
     pub(crate) fn kinds(&self, held: &[u8; 34]) -> KindBits
-        ensures { AreKindsOf result (λ kind. special_lacks self.now kind (slice_index held.now kind)) }
+        ensures { AreKindsOf result (λ kind. special_lacks self.now kind
+            (slice_index held.now kind)) }
     {
         let mut marks = [false; 34];
         for number in 0..34u8 {

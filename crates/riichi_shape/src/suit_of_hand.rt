@@ -33,7 +33,8 @@ pub(crate) fn suit_row_of<R: RowSource>(
 ) -> SuitRow
     requires ranks { ranks ≤ 9 }
     requires within { first + ranks ≤ 34 }
-    ensures row { (melds : List Meld) → AreCapsOf first ranks melds caps.now.left → IsRowOf hand.now melds first ranks result }
+    ensures row { (melds : List Meld) → AreCapsOf first ranks melds caps.now.left
+        → IsRowOf hand.now melds first ranks result }
     ensures stays { source.new ≡ source.old }
 {
     let counts = suit_counts(hand, first, ranks);
@@ -50,7 +51,8 @@ pub(crate) fn suit_rows_of<R: RowSource>(
 ) -> SuitRows
     requires ranks { ranks ≤ 9 }
     requires within { first + ranks ≤ 34 }
-    ensures rows { (melds : List Meld) → AreCapsOf first ranks melds caps.now.left → AreSuitRowsOf hand.now melds first ranks result }
+    ensures rows { (melds : List Meld) → AreCapsOf first ranks melds caps.now.left
+        → AreSuitRowsOf hand.now melds first ranks result }
     ensures stays { source.new ≡ source.old }
 {
     let counts = suit_counts(hand, first, ranks);

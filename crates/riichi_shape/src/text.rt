@@ -29,7 +29,8 @@ fn push_kind(text: &mut ArrayString<3072>, kind: Kind)
 fn push_pairs(text: &mut ArrayString<3072>, copies: &[u8; 34])
     requires room { array_string_len text.old + 170 ≤ 3072 }
     requires few { (k : ℕ) → slice_index copies.now k ≤ 4 }
-    ensures bytes { text.new.bytes ≡ text.old.bytes ++ flat_map spec.pair_text (pairs_of copies.now) }
+    ensures bytes { text.new.bytes
+        ≡ text.old.bytes ++ flat_map spec.pair_text (pairs_of copies.now) }
     ensures len { array_string_len text.new ≤ array_string_len text.old + 170 }
 {
     let mut bytes = [0; 175];

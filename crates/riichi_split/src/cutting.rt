@@ -50,7 +50,9 @@ fn choose(
     choices: usize,
 ) -> Option<Choice>
     requires { kind < 34 }
-    ensures { result ≡ choice_of kind (slice_index counts.now kind) (may_have_runs (drop (kind + 1) counts.now)) below left choices }
+    ensures { result
+        ≡ choice_of kind (slice_index counts.now kind) (may_have_runs (drop
+        (kind + 1) counts.now)) below left choices }
 {
     let count = counts[kind] as usize;
     if count < below {

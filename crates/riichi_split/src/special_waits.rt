@@ -42,7 +42,8 @@ fn mark_between(tiles: &Counts, first: u8, end: u8, marks: &mut KindSet)
 
 /// The first kind of which neither none nor two are held, or 34: no other kind completes seven pairs.
 fn single_of(counts: &[u8; 34]) -> u8
-    ensures only { (kind : ℕ) → kind < 34 → IsSevenPairs (with_one counts.now kind) 0 → kind ≡ result }
+    ensures only { (kind : ℕ) → kind < 34 → IsSevenPairs (with_one counts.now kind) 0
+        → kind ≡ result }
     ensures kind { result ≤ 34 }
 {
     let mut number = 0;

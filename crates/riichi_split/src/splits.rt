@@ -112,7 +112,8 @@ fn end_of(counts: &[u8; 34]) -> usize
 
 fn is_in_doubt(counts: &[u8; 34], kind: usize) -> bool
     requires { kind < 32 }
-    ensures { result ≡ nat_le 3 (slice_index counts.now kind) && may_have_runs (drop (kind + 1) counts.now) }
+    ensures { result
+        ≡ nat_le 3 (slice_index counts.now kind) && may_have_runs (drop (kind + 1) counts.now) }
 {
     let own = counts[kind] >= 3;
     let next = counts[kind + 1] >= 3;
@@ -139,7 +140,8 @@ fn choices_of(counts: &[u8; 34]) -> usize
 fn choices_with(counts: &[u8; 34], pair: Kind, choices: usize) -> usize
     requires { choices ≤ 16 }
     ensures fewer { result ≤ choices }
-    ensures splits { (wanted : ℕ) → from_choices counts.now wanted pair result ≡ from_choices counts.now wanted pair choices }
+    ensures splits { (wanted : ℕ)
+        → from_choices counts.now wanted pair result ≡ from_choices counts.now wanted pair choices }
 {
     // In most hands no kind is in doubt.
     if choices <= 1 {

@@ -74,7 +74,8 @@ impl Suits {
     fn mark(&self, suit: Suit, marks: &mut KindSet)
         requires counted { spec.AreCounted self.now.tiles self.now.pairs }
         requires below { spec.MarksBelow (spec.Completes self.now.tiles) (first_of suit) marks.old }
-        ensures { spec.MarksBelow (spec.Completes self.now.tiles) (first_of suit + kinds_of suit) marks.new }
+        ensures { spec.MarksBelow (spec.Completes self.now.tiles)
+            (first_of suit + kinds_of suit) marks.new }
     {
         // No tile of this suit completes the others.
         if self.total_pairs() - self.pairs.get(suit) > 1 {

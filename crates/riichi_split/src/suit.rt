@@ -38,7 +38,9 @@ impl Rests {
 
     /// The suit that has the pair of each split, or none of its kinds where there is no split.
     pub(crate) fn suit_of_pair(self) -> Suit
-        ensures pair { (counts : List ℕ) (melds : ℕ) (sets : List Block) (pair : ℕ) → AreRestsOf counts self → IsSplit counts melds sets pair → (result.first ≤ pair) × (pair < result.first + result.kinds) }
+        ensures pair { (counts : List ℕ) (melds : ℕ) (sets : List Block) (pair : ℕ)
+            → AreRestsOf counts self → IsSplit counts melds sets pair
+            → (result.first ≤ pair) × (pair < result.first + result.kinds) }
         ensures within { result.first + result.kinds ≤ 34 }
     {
         let Rests {

@@ -9,7 +9,8 @@ use riichi_tiles::Counts;
 /// The tiles have a reading beside so many melds. It does not matter which of them wins.
 pub fn is_win(counts: &Counts, melds: u8) -> bool
     ensures wins { IsTrue result ↔ IsWin counts.now melds }
-    ensures by_any { (winning : ℕ) → 0 < slice_index counts.now winning → IsTrue result ↔ HasReading counts.now melds winning }
+    ensures by_any { (winning : ℕ) → 0 < slice_index counts.now winning
+        → IsTrue result ↔ HasReading counts.now melds winning }
 {
     has_shape(counts, melds as usize)
 }

@@ -42,54 +42,52 @@ fn explains(rt: &impl Abort, rules: Rules, rows: &[(&str, &str)]) -> Result<(), 
     Ok(())
 }
 
-#[test]
-fn runs(rt: HostRuntime) -> Result<(), Fail> {
-    explains(
-        &rt,
-        Rules::One,
-        &[
-            (
-                "win 234m567m345p67s99s on=5s by=tsumo seat=S round=E",
-                "  reading 234m 567m 345p 567s 99s, 5s completes 567s
+const RUNS: [(&str, &str); 4] = [
+    (
+        "win 234m567m345p67s99s on=5s by=tsumo seat=S round=E",
+        "  reading 234m 567m 345p 567s 99s, 5s completes 567s
   han     fully-concealed 1, pinfu 1: 2
   fu      20 base
   base    20 x 2^4 = 320
   pays    dealer 700, two others 400 each
   gain    1500
 ",
-            ),
-            (
-                "win 234m567m345p67s99s on=5s by=tsumo seat=E round=E counters=2 sticks=1",
-                "  reading 234m 567m 345p 567s 99s, 5s completes 567s
+    ),
+    (
+        "win 234m567m345p67s99s on=5s by=tsumo seat=E round=E counters=2 sticks=1",
+        "  reading 234m 567m 345p 567s 99s, 5s completes 567s
   han     fully-concealed 1, pinfu 1: 2
   fu      20 base
   base    20 x 2^4 = 320
   pays    three others 700 + 200 for counters = 900 each
   gain    2700 + 1000 for sticks = 3700
 ",
-            ),
-            (
-                "win 234m567m345p67s99s on=5s by=ron seat=S round=E counters=3 sticks=2",
-                "  reading 234m 567m 345p 567s 99s, 5s completes 567s
+    ),
+    (
+        "win 234m567m345p67s99s on=5s by=ron seat=S round=E counters=3 sticks=2",
+        "  reading 234m 567m 345p 567s 99s, 5s completes 567s
   han     pinfu 1
   fu      20 base, 10 concealed ron: 30
   base    30 x 2^3 = 240
   pays    discarder 1000 + 900 for counters = 1900
   gain    1900 + 2000 for sticks = 3900
 ",
-            ),
-            (
-                "win 567m345p67s88s open=chi:234m on=5s by=ron seat=S round=E",
-                "  reading 567m 345p 567s 88s chi:234m, 5s completes 567s
+    ),
+    (
+        "win 567m345p67s88s open=chi:234m on=5s by=ron seat=S round=E",
+        "  reading 567m 345p 567s 88s chi:234m, 5s completes 567s
   han     all-simples 1
   fu      20 base, 10 open ron of 20: 30
   base    30 x 2^3 = 240
   pays    discarder 1000
   gain    1000
 ",
-            ),
-        ],
-    )
+    ),
+];
+
+#[test]
+fn runs(rt: HostRuntime) -> Result<(), Fail> {
+    explains(&rt, Rules::One, &RUNS)
 }
 
 #[test]
@@ -172,132 +170,128 @@ fn waits_of_one_tile(rt: HostRuntime) -> Result<(), Fail> {
     )
 }
 
-#[test]
-fn triplets_and_kongs(rt: HostRuntime) -> Result<(), Fail> {
-    explains(
-        &rt,
-        Rules::One,
-        &[
-            (
-                "win 99978m444p567s22s on=9m by=ron seat=S round=E riichi=1",
-                "  reading 789m 999m 444p 567s 22s, 9m completes 789m
+const TRIPLETS_AND_KONGS: [(&str, &str); 4] = [
+    (
+        "win 99978m444p567s22s on=9m by=ron seat=S round=E riichi=1",
+        "  reading 789m 999m 444p 567s 22s, 9m completes 789m
   han     riichi 1
   fu      20 base, 10 concealed ron, 8 concealed triplet 999m, 4 concealed triplet 444p: 42, rounded to 50
   base    50 x 2^3 = 400
   pays    discarder 1600
   gain    1600
 ",
-            ),
-            (
-                "win 234m567m34p99s open=ankan:1111z on=2p by=tsumo seat=S round=E flags=rinshan dora=1p",
-                "  reading 234m 567m 234p 99s ankan:1111z, 2p completes 234p
+    ),
+    (
+        "win 234m567m34p99s open=ankan:1111z on=2p by=tsumo seat=S round=E flags=rinshan dora=1p",
+        "  reading 234m 567m 234p 99s ankan:1111z, 2p completes 234p
   han     fully-concealed 1, prevalent-wind 1, after-a-kong 1, dora 1: 4
   fu      20 base, 2 self-draw, 32 concealed kong 1111z: 54, rounded to 60
   base    60 x 2^6 = 3840, mangan 2000
   pays    dealer 4000, two others 2000 each
   gain    8000
 ",
-            ),
-            (
-                "win 234m567m34p99s open=kan:5555z on=2p by=ron seat=S round=E",
-                "  reading 234m 567m 234p 99s kan:5555z, 2p completes 234p
+    ),
+    (
+        "win 234m567m34p99s open=kan:5555z on=2p by=ron seat=S round=E",
+        "  reading 234m 567m 234p 99s kan:5555z, 2p completes 234p
   han     white-dragon 1
   fu      20 base, 16 open kong 5555z: 36, rounded to 40
   base    40 x 2^3 = 320
   pays    discarder 1300
   gain    1300
 ",
-            ),
-            (
-                "win 11223m789p99s open=pon:111z on=3m by=ron seat=S round=E",
-                "  reading 123m 123m 789p 99s pon:111z, 3m completes 123m
+    ),
+    (
+        "win 11223m789p99s open=pon:111z on=3m by=ron seat=S round=E",
+        "  reading 123m 123m 789p 99s pon:111z, 3m completes 123m
   han     prevalent-wind 1, outside-hand 1: 2
   fu      20 base, 4 open triplet 111z, 2 edge wait: 26, rounded to 30
   base    30 x 2^4 = 480
   pays    discarder 2000
   gain    2000
 ",
-            ),
-        ],
-    )
-}
+    ),
+];
 
 #[test]
-fn limit_hands(rt: HostRuntime) -> Result<(), Fail> {
-    explains(
-        &rt,
-        Rules::One,
-        &[
-            (
-                "win 222m444p666s33m88s on=8s by=ron seat=S round=E",
-                "  reading 222m 444p 666s 888s 33m, 8s completes 888s
+fn triplets_and_kongs(rt: HostRuntime) -> Result<(), Fail> {
+    explains(&rt, Rules::One, &TRIPLETS_AND_KONGS)
+}
+
+const LIMIT_HANDS: [(&str, &str); 7] = [
+    (
+        "win 222m444p666s33m88s on=8s by=ron seat=S round=E",
+        "  reading 222m 444p 666s 888s 33m, 8s completes 888s
   han     all-simples 1, all-pungs 2, three-concealed-pungs 2: 5
   fu      20 base, 10 concealed ron, 4 concealed triplet 222m, 4 concealed triplet 444p, 4 concealed triplet 666s, 2 open triplet 888s: 44, rounded to 50
   base    5 han, mangan 2000
   pays    discarder 8000
   gain    8000
 ",
-            ),
-            (
-                "win 111222333p78m99s on=9m by=ron seat=S round=E riichi=1",
-                "  reading 789m 123p 123p 123p 99s, 9m completes 789m
+    ),
+    (
+        "win 111222333p78m99s on=9m by=ron seat=S round=E riichi=1",
+        "  reading 789m 123p 123p 123p 99s, 9m completes 789m
   han     riichi 1, pinfu 1, pure-double-chow 1, terminals-in-all-sets 3: 6
   fu      20 base, 10 concealed ron: 30
   base    6 han, haneman 3000
   pays    discarder 12000
   gain    12000
 ",
-            ),
-            (
-                "win 2233445678999m on=1m by=ron seat=S round=E",
-                "  reading 123m 234m 456m 789m 99m, 1m completes 123m
+    ),
+    (
+        "win 2233445678999m on=1m by=ron seat=S round=E",
+        "  reading 123m 234m 456m 789m 99m, 1m completes 123m
   han     pinfu 1, pure-straight 2, full-flush 6: 9
   fu      20 base, 10 concealed ron: 30
   base    9 han, baiman 4000
   pays    discarder 16000
   gain    16000
 ",
-            ),
-            (
-                "win 2233445678999m on=1m by=ron seat=E round=E riichi=2",
-                "  reading 123m 234m 456m 789m 99m, 1m completes 123m
+    ),
+    (
+        "win 2233445678999m on=1m by=ron seat=E round=E riichi=2",
+        "  reading 123m 234m 456m 789m 99m, 1m completes 123m
   han     double-riichi 2, pinfu 1, pure-straight 2, full-flush 6: 11
   fu      20 base, 10 concealed ron: 30
   base    11 han, sanbaiman 6000
   pays    discarder 36000
   gain    36000
 ",
-            ),
-            (
-                "win 2233445678999m on=1m by=ron seat=S round=E riichi=2 flags=ippatsu,last",
-                "  reading 123m 234m 456m 789m 99m, 1m completes 123m
+    ),
+    (
+        "win 2233445678999m on=1m by=ron seat=S round=E riichi=2 flags=ippatsu,last",
+        "  reading 123m 234m 456m 789m 99m, 1m completes 123m
   han     double-riichi 2, ippatsu 1, pinfu 1, last-tile 1, pure-straight 2, full-flush 6: 13
   fu      20 base, 10 concealed ron: 30
   base    13 han, yakuman 8000
   pays    discarder 32000
   gain    32000
 ",
-            ),
-            (
-                "win 222m444p666s33m88s on=8s by=tsumo seat=S round=E",
-                "  reading 222m 444p 666s 888s 33m, 8s completes 888s
+    ),
+    (
+        "win 222m444p666s33m88s on=8s by=tsumo seat=S round=E",
+        "  reading 222m 444p 666s 888s 33m, 8s completes 888s
   yakuman four-concealed-pungs
   base    yakuman 8000
   pays    dealer 16000, two others 8000 each
   gain    32000
 ",
-            ),
-            (
-                "win 19m19p19s1234567z on=1m by=ron seat=E round=E",
-                "  reading thirteen orphans 119m19p19s1234567z, won by 1m
+    ),
+    (
+        "win 19m19p19s1234567z on=1m by=ron seat=E round=E",
+        "  reading thirteen orphans 119m19p19s1234567z, won by 1m
   yakuman thirteen-orphans
   base    yakuman 8000
   pays    discarder 48000
   gain    48000
 ",
-            ),
-        ],
-    )
+    ),
+];
+
+#[test]
+fn limit_hands(rt: HostRuntime) -> Result<(), Fail> {
+    explains(&rt, Rules::One, &LIMIT_HANDS)
 }
 
 #[test]

@@ -143,7 +143,8 @@ fn has_just(counts: &Counts, meld: &Meld) -> bool
 
 /// The word of a meld, and the text after its colon.
 fn read_name(text: &[u8]) -> Option<(MeldName, &[u8])>
-    ensures { MatchOption result (cut_named (cut_at 58 text.now) ≡ None) (λ cut. cut_named (cut_at 58 text.now) ≡ Some (cut.0, cut.1.now)) }
+    ensures { MatchOption result (cut_named (cut_at 58 text.now)
+        ≡ None) (λ cut. cut_named (cut_at 58 text.now) ≡ Some (cut.0, cut.1.now)) }
 {
     let (word, tiles) = split_at_colon(text)?;
     let name = name_of(word)?;
@@ -152,7 +153,8 @@ fn read_name(text: &[u8]) -> Option<(MeldName, &[u8])>
 
 /// What stands before and after the first colon.
 fn split_at_colon(text: &[u8]) -> Option<(&[u8], &[u8])>
-    ensures { MatchOption result (cut_at 58 text.now ≡ None) (λ cut. cut_at 58 text.now ≡ Some (cut.0.now, cut.1.now)) }
+    ensures { MatchOption result (cut_at 58 text.now ≡ None) (λ cut. cut_at 58 text.now
+        ≡ Some (cut.0.now, cut.1.now)) }
 {
     for (place, byte) in text.iter().enumerate() {
         if *byte == b':' {

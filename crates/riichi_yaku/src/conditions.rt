@@ -59,7 +59,8 @@ pub fn yaku_among(blocks: &Blocks, reading: &Reading, tiles: &AllTiles, win: &Wi
 /// The yaku but for the yakuman.
 #[inline(always)]
 fn others_among(blocks: &Blocks, reading: &Reading, tiles: &AllTiles, win: &WinRecord) -> YakuSet
-    ensures { result ≡ set_of (spec.is_other_met (spec.condition blocks.now reading.now tiles.now win.now)) }
+    ensures { result
+        ≡ set_of (spec.is_other_met (spec.condition blocks.now reading.now tiles.now win.now)) }
 {
     YakuSet::none()
         .with(Yaku::Riichi, is_riichi(win))
@@ -102,7 +103,8 @@ fn others_among(blocks: &Blocks, reading: &Reading, tiles: &AllTiles, win: &WinR
 /// The yakuman.
 #[inline(always)]
 fn yakuman_among(blocks: &Blocks, reading: &Reading, tiles: &AllTiles, win: &WinRecord) -> YakuSet
-    ensures { result ≡ set_of (spec.is_yakuman_met (spec.condition blocks.now reading.now tiles.now win.now)) }
+    ensures { result
+        ≡ set_of (spec.is_yakuman_met (spec.condition blocks.now reading.now tiles.now win.now)) }
 {
     YakuSet::none()
         .with(Yaku::ThirteenOrphans, is_orphans(reading))
