@@ -99,7 +99,8 @@ impl TableSeat {
     pub fn collect(&mut self, board: &Board) -> u32
         requires { self.old.board ≡ board_name board.now }
         ensures same { (self.new.board ≡ self.old.board) × (self.new.base ≡ self.old.base) }
-        ensures arrived { Collects result self.old.lane self.old.states self.new.lane self.new.states }
+        ensures arrived { Collects result self.old.lane self.old.states
+            self.new.lane self.new.states }
         ensures lost { self.new.lost
             ≡ self.old.lost ++ out_places self.old.base self.new.states (length self.new.states) }
     {
