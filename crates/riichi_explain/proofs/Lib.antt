@@ -1,3 +1,4 @@
+pub mod Lists
 pub mod FuLemmas
 pub mod HanLemmas
 pub mod WinLemmas

@@ -383,7 +383,7 @@ fn kinds_that_are_waited_for(rt: HostRuntime) -> Result<(), Fail> {
             ),
             (
                 "waits 99978m444p567s22s",
-                "  6m 4 left, two-sided; 9m 1 left, two-sided, two pairs\n",
+                "  6m 4 left, two-sided; 9m 1 left, two-sided, two pairs; 2s 2 left, two pairs\n",
             ),
             (
                 "waits 23m567p99s open=pon:111m,kan:4444m",
