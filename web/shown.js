@@ -48,10 +48,16 @@ function placeShown(answer, line) {
   return make("p", { class: "raw" }, text.slice(0, answer.place), mark, text.slice(answer.place + 1));
 }
 
+// What a refusal says, without the mark under a place: the page shows the place of a text of tiles itself.
+function saidOf(answer, reasons) {
+  const rows = reasons.map((row) => row.trim().replace(/^\^ /, ""));
+  return answer.place === null ? rows : rows.slice(-1);
+}
+
 function shownRefusal(answer, line, reasons) {
   const fields = faultyFields(answer, line).map((name) => FIELD_NAMES[name] ?? name);
   const box = make("div", { class: "refused" }, make("p", { class: "headline" }, "Refused"));
-  box.append(...reasons.map((row) => make("p", { class: "reason" }, row.trim())), make("p", {}, `Look at ${fields.join(" and ")}.`));
+  box.append(...saidOf(answer, reasons).map((row) => make("p", { class: "reason" }, row)), make("p", {}, `Look at ${fields.join(" and ")}.`));
   if (answer.place !== null) box.append(placeShown(answer, line));
   return [box];
 }
@@ -61,10 +67,10 @@ function shownLack(lack) {
   return [make("div", { class: "lacking" }, make("p", {}, `Still wanted: ${lack}.`))];
 }
 
-// Rows of an explanation: a word, and what it tells.
+// Rows of an explanation: a word, and what it tells. Each kind that a hand waits for has a row.
 function shownReasons(rows) {
   const list = make("dl", { class: "why", "aria-label": "Why" });
-  for (const row of rows) {
+  for (const row of rows.flatMap((it) => it.split("; "))) {
     const [, word, text] = /^ *(\S+) *(.*)$/.exec(row);
     list.append(make("dt", {}, word), make("dd", {}, ...textWithTiles(text)));
   }

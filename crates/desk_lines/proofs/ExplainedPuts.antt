@@ -7,7 +7,7 @@ use Rattle.riichi_hand.specs.declared.win.Rules.{Rules}
 use Rattle.riichi_hand.specs.FaultTexts.{fault_text}
 use Rattle.riichi_hand.specs.Lines.{outcome_of}
 use Rattle.riichi_explain.specs.Explanation.{IsJobText, IsOutcomeText, IsExplanation}
-use Rattle.riichi_explain.specs.Faults.{refusal_lines}
+use Rattle.riichi_faults.specs.Refusal.{refusal_lines}
 use Rattle.riichi_explain.proofs.ExplainedLines.{outcome_text-lines}
 use Rattle.desk_core.specs.AnswerText.{answer_text}
 use Rattle.desk_core.specs.Value.{value_of}

@@ -15,7 +15,7 @@ use Rattle.riichi_hand.specs.Parts.{parts_of}
 use Rattle.riichi_hand.specs.Texts.{texts_of}
 use Rattle.riichi_hand.specs.Words.{words_of}
 use Rattle.riichi_explain.specs.Explanation.{IsOutcomeText, IsExplanation}
-use Rattle.riichi_explain.specs.Faults.{long_refusals_alike}
+use Rattle.riichi_faults.specs.Refusal.{long_refusals_alike}
 use Rattle.desk_lines.specs.Explained.{IsToldWithWhy, IsExplained}
 use Rattle.desk_lines.specs.Profile.{profile_of, profile_of_words}
 use Rattle.desk_lines.specs.LineAnswer.{answer_of, outcome_text, IsAnswer}

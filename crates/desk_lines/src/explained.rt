@@ -4,11 +4,13 @@ ghost use Rattle.desk_core.specs.AnswerText.{answer_text};
 ghost use Rattle.desk_core.specs.Value.{value_of};
 ghost use Rattle.riichi_explain.specs.Explanation.{IsJobText, IsWinText, IsShapeText};
 ghost use Rattle.riichi_hand.specs.FaultTexts.{fault_text};
-ghost use Rattle.riichi_explain.specs.Faults.{refusal_lines};
+ghost use Rattle.riichi_explain.specs.Waits.{kind_waits, waits_line};
+ghost use Rattle.riichi_faults.specs.Refusal.{refusal_lines};
 ghost use Rattle.riichi_score.specs.Best.{best_of};
 ghost use Rattle.riichi_score.specs.Text as spec_win;
 ghost use Rattle.riichi_shape.specs.Answer.{shape_of};
 ghost use Rattle.riichi_shape.specs.Text as spec_shape;
+ghost use Rattle.riichi_split.specs.Waits.{waits_of, waits_text};
 ghost use Rattle.desk_lines.specs.Outbox.{HasRoom};
 
 use super::answering::{put_shape, put_waits};
@@ -16,9 +18,12 @@ use super::line_kind::LineKind;
 use super::outbox::Outbox;
 use super::responder::Responder;
 use riichi_explain::{
-    explain_shape, explain_win, push_refusal_lines, push_shanten_line, push_win_lines,
+    explain_shape, explain_waits, explain_win, push_shanten_line, push_waits_line, push_win_lines,
 };
-use riichi_hand::{Job, LineFault, Rules, ShapeRecord, WinRecord, fault_text, read_line};
+use riichi_faults::push_refusal_lines;
+use riichi_hand::{
+    HandRecord, Job, LineFault, Rules, ShapeRecord, WinRecord, fault_text, read_line,
+};
 use riichi_score::win_text;
 
 /// The explained answers: that of a line, and behind it lines that begin with two spaces and say why it is so.
@@ -58,7 +63,7 @@ fn put_job(job: &Job, outbox: &mut Outbox)
 {
     match job {
         Job::Win(win) => put_win(win, outbox),
-        Job::Waits(hand) => put_waits(hand, outbox),
+        Job::Waits(hand) => put_kinds(hand, outbox),
         Job::Shape(tiles) => put_forms(tiles, outbox),
     }
 }
@@ -72,6 +77,17 @@ fn put_win(win: &WinRecord, outbox: &mut Outbox)
     outbox.put_line(win_text(&explanation.answer()).as_str().as_bytes());
     outbox.text.clear();
     push_win_lines(&mut outbox.text, explanation, win);
+    outbox.put_lines();
+}
+
+fn put_kinds(hand: &HandRecord, outbox: &mut Outbox)
+    requires { HasRoom outbox.old }
+    ensures { outbox.new.bytes.items ≡ outbox.old.bytes.items
+        ++ ((waits_text (waits_of hand.now) ++ 10 ∷ []) ++ waits_line (kind_waits hand.now)) }
+{
+    put_waits(hand, outbox);
+    outbox.text.clear();
+    push_waits_line(&mut outbox.text, explain_waits(hand).as_slice());
     outbox.put_lines();
 }
 

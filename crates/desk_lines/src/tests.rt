@@ -407,12 +407,14 @@ fn messages(rt: HostRuntime) -> Result<(), Fail> {
 #[test]
 fn a_text_with_the_reasons(rt: HostRuntime) {
     let text =
-        b"rules 2\nwin 456m22s34p open=chi:123m,chi:678p on=2p by=ron seat=S round=E\nwaits 8z\n\nwaits 1112345678999m\nshape 123456789m1134p";
+        b"rules 2\nwin 456m22s34p open=chi:123m,chi:678p on=2p by=ron seat=S round=E\nwaits 8z\n\nwaits 123456789m1134p\nshape 123456789m1134p";
     let told = b"no yaku
   reading 456m 234p 22s chi:123m chi:678p, 2p completes 234p: no yaku
 refused N5 hand at 0
-  honours are 1z to 7z
-waits 123456789m
+  8z
+  ^ honours are 1z to 7z
+waits 25p
+  2p 4 left, two-sided; 5p 4 left, two-sided
 shanten 0 accepts 2p:4 5p:4 live 8
   shanten sets and a pair 0, seven pairs 5, thirteen orphans 9
 ";

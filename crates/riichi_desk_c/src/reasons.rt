@@ -1,19 +1,20 @@
 //! Why a line is answered as it is.
 ghost use Rattle.std.specs.Prelude.{◌≡◌, ◌≤◌};
 ghost use Rattle.riichi_explain.specs.Explanation.{IsJobText};
-ghost use Rattle.riichi_explain.specs.Faults.{refusal_lines};
+ghost use Rattle.riichi_faults.specs.Refusal.{refusal_lines};
 ghost use Rattle.riichi_desk_c.specs.Reasons.{PlacesReason};
 
 use super::placing::place;
 use super::rules_numbered;
 use arrayvec::ArrayString;
 use riichi_explain::{
-    explain_shape, explain_win, push_refusal_lines, push_shanten_line, push_win_lines,
+    explain_shape, explain_waits, explain_win, push_shanten_line, push_waits_line, push_win_lines,
 };
+use riichi_faults::push_refusal_lines;
 use riichi_hand::{Job, LineFault, read_line};
 
 /// Says why one line is answered as it is, under the profile of this number, 1 or 2: the bytes that the text takes, 0 where the
-/// line is no record or its answer has no explanation. The text is put at the start of the room if all of it fits there:
+/// line is no record or its answer has no explanation, as that of a hand without waits. The text is put at the start of the room if all of it fits there:
 /// the lines that stand behind the answer where it is explained, each with its line feed. Under any other number the text
 /// is `refused rules`.
 #[tactic(auto, unfolding(riichi_explain::specs::Explanation::IsExplanation))]
@@ -38,7 +39,7 @@ fn job_lines(job: &Job) -> ArrayString<3072>
     let mut text = ArrayString::new();
     match job {
         Job::Win(win) => push_win_lines(&mut text, explain_win(win), win),
-        Job::Waits(_) => {}
+        Job::Waits(hand) => push_waits_line(&mut text, explain_waits(hand).as_slice()),
         Job::Shape(tiles) => push_shanten_line(&mut text, &explain_shape(tiles)),
     }
     text

@@ -1,27 +1,19 @@
 -- The lines of an explanation begin with two spaces, and each ends with its line feed.
-use Rattle.std.proofs.Common.{◌≡◌, ℕ, ◌+◌, ◌-◌, ◌*◌, ◌<◌, ◌%◌, List, [], ◌∷◌, ◌++◌, Bool, true, false, cond, nat_eq, nat_lt, length, take, Option, Some, None, Result, Ok, Err, refl, sym, subst, ap, ◌∙◌, arith}
+use Rattle.std.proofs.Common.{◌≡◌, ℕ, ◌+◌, ◌-◌, ◌*◌, List, [], ◌∷◌, ◌++◌, Bool, true, false, cond, nat_eq, nat_lt, length, take, Option, Some, None, Result, Ok, Err, refl, ap, ◌∙◌, arith}
 use Rattle.std.specs.Prelude.{codes, decimal, slice_index}
 use Rattle.std.specs.List.{flat_map}
 use Rattle.riichi_tiles.specs.declared.block.Block.{Block}
 use Rattle.riichi_tiles.specs.declared.block.Block.TheVariants as block
 use Rattle.riichi_tiles.specs.declared.meld.Meld.{Meld}
 use Rattle.riichi_tiles.specs.declared.meld.Meld.TheVariants.{Chi, Pon, Kan, Ankan}
-use Rattle.riichi_tiles.specs.declared.notation.NotationCode.{NotationCode}
-use Rattle.riichi_tiles.specs.declared.notation.NotationCode.TheVariants.{N1, N2, N3, N4, N5, N6}
-use Rattle.riichi_hand.specs.declared.fault.LineCode.{LineCode}
-use Rattle.riichi_hand.specs.declared.fault.LineCode.TheVariants.{H1, H2, H3, H4, H5, H6, H7, H8, H9, H10, H11, H12, H13, H14, H15, H16}
 use Rattle.riichi_hand.specs.declared.fault.LineFault.{LineFault}
-use Rattle.riichi_hand.specs.declared.fault.LineFault.TheVariants.{Line, Notation}
 use Rattle.riichi_hand.specs.declared.job.Job.{Job}
 use Rattle.riichi_hand.specs.declared.job.Job.TheVariants as job
 use Rattle.riichi_hand.specs.declared.win.WinParts.{WinParts}
-use Rattle.riichi_hand.specs.declared.win.Rules.{Rules}
-use Rattle.riichi_hand.specs.Lines.{outcome_of}
 use Rattle.riichi_split.specs.declared.reading.Reading.{Reading}
 use Rattle.riichi_split.specs.declared.reading.Reading.TheVariants as reading
 use Rattle.riichi_shape.specs.declared.forms.FormDistances.{FormDistances}
 use Rattle.riichi_shape.specs.Text.{kind_text, letter_of}
-use Rattle.riichi_yaku.specs.Table.{word_of}
 use Rattle.riichi_yaku.specs.YakuSets.{is_yakuman}
 use Rattle.riichi_score.specs.Scores.{hand_of}
 use Rattle.riichi_explain.specs.declared.base.BaseRule.{BaseRule}
@@ -40,14 +32,17 @@ use Rattle.riichi_explain.specs.declared.payers.PayRow.{PayRow}
 use Rattle.riichi_explain.specs.declared.win.WonHand.{WonHand}
 use Rattle.riichi_explain.specs.declared.win.WinExplanation.{WinExplanation}
 use Rattle.riichi_explain.specs.declared.win.WinExplanation.TheVariants.{Won, NoYaku, NoWin}
-use Rattle.riichi_explain.specs.Base.{limit_points}
 use Rattle.riichi_explain.specs.Fu.{fu_total}
 use Rattle.riichi_explain.specs.Explanation.{win_lines, IsJobText, IsOutcomeText}
-use Rattle.riichi_explain.specs.Faults.{line_words, notation_words, fault_words, refusal_lines}
 use Rattle.riichi_explain.specs.Forms.{shanten_text, form_text, other_text, shanten_line}
 use Rattle.riichi_explain.specs.Text as text
+use Rattle.riichi_explain.specs.Waits as waits
+use Rattle.riichi_explain.specs.Waits.{kind_waits}
+use Rattle.riichi_explain.specs.declared.waits.KindWait.{KindWait}
+use Rattle.riichi_explain.specs.declared.waits.WaitSorts.{WaitSorts}
 use Rattle.riichi_explain.specs.Tiles.{digit_of, run_text, two_text, three_text, four_text, block_text, meld_text}
-use Rattle.riichi_explain.proofs.PlainTexts.{plain, after, after3, after4, after5, byte-plain, flat_map-plain, decimal-plain, letter_big, kind_text-plain, tiles_text-plain, word_of-plain, are_indented, within, pass, lines-append, flat_map-lines}
+use Rattle.riichi_explain.proofs.RefusalLines.{refusal_lines-lines}
+use Rattle.riichi_explain.proofs.PlainTexts.{plain, after, after3, after4, after5, byte-plain, flat_map-plain, decimal-plain, letter_big, kind_text-plain, tiles_text-plain, word_of-plain, are_indented, pass, lines-append, flat_map-lines}
 
 -- ---- tiles
 
@@ -341,6 +336,49 @@ shanten_line-lines forms =
     pass (standard ++ pairs ++ orphans) (10 ∷ []) (after3 standard pairs orphans (form_text-plain (codes "sets and a pair ") forms.sets_and_pair refl)
     (other_text-plain (codes ", seven pairs ") forms.seven_pairs refl) (other_text-plain (codes ", thirteen orphans ") forms.thirteen_orphans refl))
 
+-- ---- waits
+
+word_if-plain : (there : Bool) (word : List ℕ) → plain word ≡ true → plain (waits.word_if there word) ≡ true
+unfolding waits.word_if
+word_if-plain true word p = p
+word_if-plain false word p = refl
+
+run_words-plain : (sorts : WaitSorts) → plain (waits.run_words sorts) ≡ true
+unfolding waits.run_words
+run_words-plain sorts =
+    let two_sided = waits.word_if sorts.two_sided (codes ", two-sided") in
+    let closed = waits.word_if sorts.closed (codes ", closed") in
+    let edge = waits.word_if sorts.edge (codes ", edge") in
+    after3 two_sided closed edge (word_if-plain sorts.two_sided (codes ", two-sided") refl) (word_if-plain sorts.closed (codes ", closed") refl) (word_if-plain sorts.edge (codes ", edge") refl)
+
+other_words-plain : (sorts : WaitSorts) → plain (waits.other_words sorts) ≡ true
+unfolding waits.other_words
+other_words-plain sorts =
+    let pair = waits.word_if sorts.pair (codes ", pair") in
+    let two_pairs = waits.word_if sorts.two_pairs (codes ", two pairs") in
+    let orphans = waits.word_if sorts.orphans (codes ", thirteen orphans") in
+    after3 pair two_pairs orphans (word_if-plain sorts.pair (codes ", pair") refl) (word_if-plain sorts.two_pairs (codes ", two pairs") refl) (word_if-plain sorts.orphans (codes ", thirteen orphans") refl)
+
+left_text-plain : (kind left : ℕ) → plain (waits.left_text kind left) ≡ true
+unfolding waits.left_text
+left_text-plain kind left = after4 (kind_text kind) (codes " ") (decimal left) (codes " left") (kind_text-plain kind) refl (decimal-plain left) refl
+
+wait_text-plain : (row : KindWait) → plain (waits.wait_text row) ≡ true
+unfolding waits.wait_text
+wait_text-plain row =
+    after3 (waits.left_text row.kind row.left) (waits.run_words row.sorts) (waits.other_words row.sorts) (left_text-plain row.kind row.left) (run_words-plain row.sorts) (other_words-plain row.sorts)
+
+next_wait-plain : (row : KindWait) → plain (waits.next_wait row) ≡ true
+unfolding waits.next_wait
+next_wait-plain row = wait_text-plain row
+
+waits_line-lines : (rows : List KindWait) → are_indented (waits.waits_line rows) ≡ true
+unfolding waits.waits_line
+waits_line-lines [] = refl
+waits_line-lines (row ∷ rows) =
+    let others = flat_map waits.next_wait rows in
+    pass (waits.wait_text row ++ others) (10 ∷ []) (after (waits.wait_text row) others (wait_text-plain row) (flat_map-plain waits.next_wait rows next_wait-plain))
+
 -- ---- every explanation
 
 win_lines-lines : (explanation : WinExplanation) (win : WinParts) → are_indented (win_lines explanation win) ≡ true
@@ -350,24 +388,10 @@ win_lines-lines (NoWin forms) win = shanten_line-lines forms
 
 pub job_text-lines : (job : Job) (said : List ℕ) → IsJobText job said → are_indented said ≡ true
 job_text-lines (job.Win win) said is = ap are_indented is.text_is ∙ win_lines-lines is.explanation win
-job_text-lines (job.Waits hand) said is = ap are_indented is
+job_text-lines (job.Waits hand) said is = ap are_indented is ∙ waits_line-lines (kind_waits hand)
 job_text-lines (job.Shape shape) said is = ap are_indented is.text_is ∙ shanten_line-lines is.forms
 
--- ---- refusals
-
-line_words-plain : (code : LineCode) → plain (line_words code) ≡ true
-line_words-plain = elim [ H1 ↦ refl | H2 ↦ refl | H3 ↦ refl | H4 ↦ refl | H5 ↦ refl | H6 ↦ refl | H7 ↦ refl | H8 ↦ refl | H9 ↦ refl | H10 ↦ refl | H11 ↦ refl | H12 ↦ refl | H13 ↦ refl | H14 ↦ refl | H15 ↦ refl | H16 ↦ refl ]
-
-notation_words-plain : (code : NotationCode) → plain (notation_words code) ≡ true
-notation_words-plain = elim [ N1 ↦ refl | N2 ↦ refl | N3 ↦ refl | N4 ↦ refl | N5 ↦ refl | N6 ↦ refl ]
-
-fault_words-plain : (fault : LineFault) → plain (fault_words fault) ≡ true
-fault_words-plain (Line code) = line_words-plain code
-fault_words-plain (Notation name fault) = notation_words-plain fault.code
-
-refusal_lines-lines : (line : List ℕ) (fault : LineFault) → are_indented (refusal_lines line fault) ≡ true
-unfolding refusal_lines
-refusal_lines-lines line fault = pass (fault_words fault) (10 ∷ []) (fault_words-plain fault)
+-- ---- any outcome
 
 pub outcome_text-lines : (line : List ℕ) (outcome : Result (Option Job) LineFault) (said : List ℕ) → IsOutcomeText line outcome said → are_indented said ≡ true
 outcome_text-lines line (Ok None) said is = ap are_indented is

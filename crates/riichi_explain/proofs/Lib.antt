@@ -5,4 +5,6 @@ pub mod WinLemmas
 pub mod TextLemmas
 pub mod FormLemmas
 pub mod PlainTexts
+pub mod RefusalLines
+pub mod WaitLemmas
 pub mod ExplainedLines

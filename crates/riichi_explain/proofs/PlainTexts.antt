@@ -1,7 +1,7 @@
 -- Texts without a line feed, and lines that begin with two spaces.
 use Rattle.std.proofs.Common.{◌≡◌, ℕ, zero, suc, ◌+◌, ◌<◌, ◌%◌, ◌/◌, List, [], ◌∷◌, ◌++◌, Bool, true, false, cond, nat_eq, nat_lt, map, replicate, refl, ap, ◌∙◌, arith}
-use Rattle.std.specs.Prelude.{not, ◌&&◌, codes, decimal, slice_index_or}
-use Rattle.std.specs.Fmt.{digits, digits_onto, digit_glyph, signed_decimal}
+use Rattle.std.specs.Prelude.{not, ◌&&◌, decimal, slice_index_or}
+use Rattle.std.specs.Fmt.{digits, digits_onto, digit_glyph}
 use Rattle.std.specs.List.{list_all, flat_map}
 use Rattle.std.proofs.lemmas.Bool.{ne_eqb}
 use Rattle.std.proofs.lemmas.List.Folds.{list_all-append}
@@ -67,7 +67,7 @@ letter_big kind = elim (nat_lt kind 9) as (λ m. 10 < cond m 109 (cond (nat_lt k
 pub kind_text-plain : (kind : ℕ) → plain (kind_text kind) ≡ true
 kind_text-plain kind = byte-plain (49 + kind % 9) (letter_of kind ∷ []) (omega arith) (byte-plain (letter_of kind) [] (letter_big kind) refl)
 
-replicate-plain : (n byte : ℕ) → 10 < byte → plain (replicate n byte) ≡ true
+pub replicate-plain : (n byte : ℕ) → 10 < byte → plain (replicate n byte) ≡ true
 replicate-plain zero byte big = refl
 replicate-plain (suc n) byte big = byte-plain byte (replicate n byte) big (replicate-plain n byte big)
 

@@ -1,5 +1,5 @@
 -- The lines that follow an answer and say why it is what it is.
-use Rattle.std.specs.Prelude.{◌≡◌, ℕ, List, [], ◌++◌, Option, None, Some, Result, Ok, Err, codes, take}
+use Rattle.std.specs.Prelude.{◌≡◌, ℕ, List, [], Option, None, Some, Result, Ok, Err, take}
 use Rattle.std.specs.List.{flat_map}
 use Rattle.riichi_hand.specs.declared.win.WinParts.{WinParts}
 use Rattle.riichi_hand.specs.declared.win.Rules.{Rules}
@@ -13,9 +13,10 @@ use Rattle.riichi_score.specs.Best.{best_of}
 use Rattle.riichi_shape.specs.declared.forms.FormDistances.{FormDistances}
 use Rattle.riichi_explain.specs.declared.win.WinExplanation.{WinExplanation}
 use Rattle.riichi_explain.specs.declared.win.WinExplanation.TheVariants.{Won, NoYaku, NoWin}
-use Rattle.riichi_explain.specs.Faults.{refusal_lines}
+use Rattle.riichi_faults.specs.Refusal.{refusal_lines}
 use Rattle.riichi_explain.specs.Forms.{AreFormDistances, shanten_line}
 use Rattle.riichi_explain.specs.Text.{won_hand_text, no_yaku_line}
+use Rattle.riichi_explain.specs.Waits.{kind_waits, waits_line}
 use Rattle.riichi_explain.specs.Win.{Explains, answer_of}
 
 -- the lines of readings without yaku: of the first twelve
@@ -42,7 +43,7 @@ pub record IsShapeText (shape : ShapeParts) (text : List ℕ) : Type 0 where
 
 abbrev pub IsJobText : Job → List ℕ → Type 0
 IsJobText (job.Win win) text = IsWinText win text
-IsJobText (job.Waits hand) text = text ≡ []
+IsJobText (job.Waits hand) text = text ≡ waits_line (kind_waits hand)
 IsJobText (job.Shape shape) text = IsShapeText shape text
 
 -- The text says why a line with this outcome is answered as it is.

@@ -1,4 +1,3 @@
-pub mod Faults
 pub mod Forms
 pub mod Fu
 pub mod Han
@@ -7,4 +6,5 @@ pub mod Payers
 pub mod Win
 pub mod Tiles
 pub mod Text
+pub mod Waits
 pub mod Explanation

@@ -10,7 +10,7 @@ fn text_of(job: &Job) -> ArrayString<3072> {
     match job {
         Job::Win(win) => win_text(win),
         Job::Shape(shape) => forms_text(&explain_shape(shape)),
-        Job::Waits(_) => ArrayString::new(),
+        Job::Waits(hand) => waits_text(&explain_waits(hand)),
     }
 }
 
@@ -23,6 +23,12 @@ fn win_text(win: &WinRecord) -> ArrayString<3072> {
 fn forms_text(forms: &FormDistances) -> ArrayString<3072> {
     let mut text = ArrayString::new();
     push_shanten_line(&mut text, forms);
+    text
+}
+
+fn waits_text(kinds: &KindWaits) -> ArrayString<3072> {
+    let mut text = ArrayString::new();
+    push_waits_line(&mut text, kinds.as_slice());
     text
 }
 
@@ -365,34 +371,33 @@ fn shapes(rt: HostRuntime) -> Result<(), Fail> {
 }
 
 #[test]
-fn refusals(rt: HostRuntime) -> Result<(), Fail> {
-    for (line, words) in [
-        ("score 1m", "the first word is win, waits or shape"),
-        ("waits 12x3m", "a digit or one of m p s z stands here"),
-        ("waits 11111m", "there are four tiles of a kind"),
-        (
-            "win 234m567m345p67s99s on=5s by=ron seat=S round=E flags=first",
-            "first is a win by tsumo, without melds, riichi or another flag",
-        ),
-    ] {
-        match read_line(Rules::One, line.as_bytes()) {
-            Err(fault) => assert_eq!(rt; fault_words(&fault), words, "{line}"),
-            Ok(_) => return Err("a line without a fault")?,
-        }
-    }
-    Ok(())
-}
-
-#[test]
-fn lines_of_a_refusal(rt: HostRuntime) -> Result<(), Fail> {
-    let line = b"waits 8z";
-    let Err(fault) = read_line(Rules::One, line) else {
-        return Err("a line without a fault")?;
-    };
-    let mut text = ArrayString::new();
-    push_refusal_lines(&mut text, line, &fault);
-    assert_eq!(rt; text.as_str(), "  honours are 1z to 7z\n");
-    Ok(())
+fn kinds_that_are_waited_for(rt: HostRuntime) -> Result<(), Fail> {
+    explains(
+        &rt,
+        Rules::One,
+        &[
+            (
+                "waits 123456789m1134p",
+                "  2p 4 left, two-sided; 5p 4 left, two-sided\n",
+            ),
+            ("waits 13m456m789p234s88s", "  2m 4 left, closed\n"),
+            ("waits 456m88m89p234567s", "  7p 4 left, edge\n"),
+            ("waits 1133m5577p2288s4z", "  4z 3 left, pair\n"),
+            (
+                "waits 234m567m345p99s55z",
+                "  9s 2 left, two pairs; 5z 2 left, two pairs\n",
+            ),
+            (
+                "waits 99978m444p567s22s",
+                "  6m 4 left, two-sided; 9m 1 left, two-sided, two pairs; 2s 2 left, two pairs\n",
+            ),
+            (
+                "waits 23m567p99s open=pon:111m,kan:4444m",
+                "  1m 1 left, two-sided\n",
+            ),
+            ("waits 123456789m1111z", ""),
+        ],
+    )
 }
 
 #[test]

@@ -1,8 +1,5 @@
 use Rattle.std.proofs.Common.{ℕ, List, [], ◌∷◌, ◌++◌, refl, sym, ap, ◌∙◌}
-use Rattle.std.proofs.lemmas.List.{append-nil}
-use Rattle.riichi_hand.specs.declared.job.Job.TheVariants as job
-use Rattle.desk_core.specs.AnswerText.{answer_text}
-use Rattle.desk_core.specs.Value.{value_of}
+use Rattle.riichi_explain.specs.Waits.{kind_waits, waits_line}
 use Rattle.desk_lines.proofs.JobTexts.{of_win, of_waits, of_shape}
 use Rattle.desk_lines.proofs.explained.put_job.Goals as goal
 
@@ -15,12 +12,8 @@ returns-in-Win c =
 pub returns-in-Waits : goal.returns-in-Waits
 returns-in-Waits c =
     let before = c.args.outbox.now.bytes.items in
-    rw c.in-Waits.is (
-      [],
-      refl,
-      c.put_waits.ensures.told ∙ ap (λ (answer : List ℕ). before ++ (answer ++ 10 ∷ [])) (sym (of_waits c.in-Waits.hand))
-          ∙ ap (λ (text : List ℕ). before ++ text) (sym (append-nil (answer_text (value_of (job.Waits c.in-Waits.hand)) ++ 10 ∷ []))),
-    )
+    let why = waits_line (kind_waits c.in-Waits.hand) in
+    rw c.in-Waits.is (why, refl, c.put_kinds.ensures ∙ ap (λ (answer : List ℕ). before ++ ((answer ++ 10 ∷ []) ++ why)) (sym (of_waits c.in-Waits.hand)))
 
 pub returns-in-Shape : goal.returns-in-Shape
 returns-in-Shape c =

@@ -1,0 +1,4 @@
+pub mod Faults
+pub mod LineWords
+pub mod Shown
+pub mod Refusal
