@@ -111,9 +111,11 @@ why=$'won 1 han 50 fu 1600 gain 1600 riichi\n  reading 789m 999m 444p 567s 22s, 
   fu      20 base, 10 concealed ron, 8 concealed triplet 999m, 4 concealed triplet 444p: 42, rounded to 50
   base    50 x 2^3 = 400\n  pays    discarder 1600\n  gain    1600'
 row 0 "$why" '' explain "$disputed"
-row 1 "$why"$'\nrefused N5 hand at 0\n  honours are 1z to 7z' '' explain "$disputed" 'waits 8z'
+row 1 "$why"$'\nrefused N5 hand at 0\n  8z\n  ^ honours are 1z to 7z' '' explain "$disputed" 'waits 8z'
 echo "$disputed" > "$room/input"
 row 0 "$why" '' explain
+# hands, waits and a shape, worked by hand from the tables of the rules
+told 'explain < tests/explained.lines' "$(cat tests/explained.answers)" "$("$program" explain < tests/explained.lines)"
 echo 'win 123406789m22s34p on=2p by=ron seat=S round=E' > "$room/input"
 row 0 'won 4 han 30 fu 8000 gain 8000 pinfu pure-straight dora 1' '' line --rules 2
 row 0 'won 3 han 30 fu 3900 gain 3900 pinfu pure-straight' '' line --rules 1
@@ -128,11 +130,14 @@ row 0 '' '' explain
 told 'explain and a full disk' $'riichi_desk: fault F2: the answers can\'t be written\nstatus 3' "$("$program" explain "$disputed" 2>&1 > /dev/full; echo "status $?")"
 told 'explain and a folder' $'riichi_desk: fault F1: the input can\'t be read, or has no end\nstatus 3' "$("$program" explain < "$room" 2>&1; echo "status $?")"
 
-# the codes in words: as the documentation has them, and as a refusal is explained
+# the codes in words, as the documentation has them; and what follows each refusal, where `{}` stands for the words of its code
 "$program" help-codes > "$room/codes"
 told 'help-codes' "$(awk '/^## Codes$/ { here = 1 } /^```/ { inside = here && !inside; if (!inside && seen) exit; next } inside { seen = 1; print }' docs/NOTATION.md)" "$(cat "$room/codes")"
-while IFS='|' read -r _ code line; do
-  told "the words of $code" "$(sed -n "s/^  $code  *//p" "$room/codes")" "$("$program" explain "$line" | sed -n '2s/^  //p')"
+while IFS='|' read -r _ code line said; do
+  words=$(sed -n "s/^  $code  *//p" "$room/codes")
+  got=$("$program" explain "$line")
+  told "the code of $line" "refused $code" "$(sed -nE '1s/^(refused [A-Z][0-9]+).*/\1/p' <<< "$got")"
+  told "the word at fault of $line" "$(printf '%b' "${said/'{}'/$words}")" "$(tail -n +2 <<< "$got")"
 done < <(sed 's/^/|/' tests/refused.lines)
 
 # someone types: the answer to a line comes before the next line is sent
