@@ -7,7 +7,7 @@ use Rattle.std.specs.Prelude.{is_some, unwrap_or}
 use Rattle.riichi_hand.specs.declared.win.Rules.{Rules}
 use Rattle.desk_lines.specs.Profile.{profile_of, rules_of, record_lines, rules_by, record_rules}
 use Rattle.desk_lines.specs.LineAnswer.{answer_of, IsAnswer}
-use Rattle.desk_lines.specs.LineAnswers.{answers_on, answers_to}
+use Rattle.desk_lines.specs.LineAnswers.{answers_by, answers_on, answers_to}
 use Rattle.desk_lines.specs.Telling.{text_of, answers_in, IsToldAs}
 use Rattle.desk_lines.specs.Records.{rules_after, AnswerKind, IsToldUnder, IsToldBy, AreTold, AnswerRecords, TellsRecords}
 use Rattle.desk_lines.specs.declared.records.Records.{Records}
@@ -88,37 +88,53 @@ TellsRecords-line Answers alike old new line next answer lines told as_this tell
       subst (λ (g : Rules). AnswerRecords Answers g (lines ++ next ∷ []) (told ++ answers_in answer)) (sym given) front,
     )
 
--- ---- plain answers
+-- ---- answers by a function
 
-plain_told : (rules : Rules) (lines told : List (List ℕ)) → AreTold IsAnswer rules lines told → told ≡ filter_map (answer_of rules) lines
-plain_told rules [] told are = are
-plain_told rules (line ∷ lines) told are =
-    are.3 ∙ ap (λ (rest : List (List ℕ)). answers_in are.0 ++ rest) (plain_told rules lines are.1 are.4) ∙ cons are.0 (filter_map (answer_of rules) lines)
-    ∙ ap (λ (answer : Option (List ℕ)). cons_option answer (filter_map (answer_of rules) lines)) are.2
+-- a line has the answer of this kind
+abbrev IsBy : (Rules → List ℕ → Option (List ℕ)) → AnswerKind
+IsBy by rules line told = told ≡ by rules line
+
+told_by : (by : Rules → List ℕ → Option (List ℕ)) (rules : Rules) (lines told : List (List ℕ)) → AreTold (IsBy by) rules lines told → told ≡ filter_map (by rules) lines
+told_by by rules [] told are = are
+told_by by rules (line ∷ lines) told are =
+    are.3 ∙ ap (λ (rest : List (List ℕ)). answers_in are.0 ++ rest) (told_by by rules lines are.1 are.4) ∙ cons are.0 (filter_map (by rules) lines)
+    ∙ ap (λ (answer : Option (List ℕ)). cons_option answer (filter_map (by rules) lines)) are.2
   where
     cons : (answer : Option (List ℕ)) (rest : List (List ℕ)) → answers_in answer ++ rest ≡ cons_option answer rest
     cons None rest = refl
     cons (Some answer) rest = refl
 
-pub plain_answers : (given : Rules) (lines told : List (List ℕ)) → AnswerRecords IsAnswer given lines told → told ≡ answers_on given lines
-plain_answers given lines told are = plain_told (rules_of given lines) (record_lines lines) told are
+pub answers_told : (by : Rules → List ℕ → Option (List ℕ)) (given : Rules) (lines told : List (List ℕ)) → AnswerRecords (IsBy by) given lines told → told ≡ answers_by by given lines
+answers_told by given lines told are = told_by by (rules_of given lines) (record_lines lines) told are
 
 -- the answers to more lines follow those to the first
-answers_on-append : (given : Rules) (lines more : List (List ℕ)) → (others : List (List ℕ)) × (answers_on given (lines ++ more) ≡ answers_on given lines ++ others)
-answers_on-append given [] more = (answers_on given more, refl)
-answers_on-append given (first ∷ lines) more =
+answers_by-append : (by : Rules → List ℕ → Option (List ℕ)) (given : Rules) (lines more : List (List ℕ)) → (others : List (List ℕ)) × (answers_by by given (lines ++ more) ≡ answers_by by given lines ++ others)
+answers_by-append by given [] more = (answers_by by given more, refl)
+answers_by-append by given (first ∷ lines) more =
     let rules = rules_of given (first ∷ lines) in
-    (filter_map (answer_of rules) more, ap (filter_map (answer_of rules)) (record_lines-more first lines more) ∙ filter_map-append (answer_of rules) (record_lines (first ∷ lines)) more)
+    (filter_map (by rules) more, ap (filter_map (by rules)) (record_lines-more first lines more) ∙ filter_map-append (by rules) (record_lines (first ∷ lines)) more)
+
+text_of-more : (by : Rules → List ℕ → Option (List ℕ)) (given : Rules) (lines more : List (List ℕ)) → (others : List ℕ) × (text_of (answers_by by given (lines ++ more)) ≡ text_of (answers_by by given lines) ++ others)
+text_of-more by given lines more =
+    let others = answers_by-append by given lines more in
+    (text_of others.0, ap text_of others.1 ∙ text_of-append (answers_by by given lines) others.0)
 
 pub answers_to-append : (given : Rules) (lines more : List (List ℕ)) → (others : List ℕ) × (answers_to given (lines ++ more) ≡ answers_to given lines ++ others)
-answers_to-append given lines more =
-    let others = answers_on-append given lines more in
-    (text_of others.0, ap text_of others.1 ∙ text_of-append (answers_on given lines) others.0)
+answers_to-append given lines more = text_of-more answer_of given lines more
 
 -- the text of the answers to the first lines begins that of all
+pub front_told : {W : Type 0} (by : Rules → List ℕ → Option (List ℕ)) (sink : OfSink W) (start new : W) (given : Rules) (lines first others answers : List (List ℕ)) → lines ≡ first ++ others
+    → AnswerRecords (IsBy by) given first answers → StopsWriting sink start new (text_of answers) → StopsWriting sink start new (text_of (answers_by by given lines))
+front_told by sink start new given lines first others answers parts are stops =
+    let more = text_of-more by given first others in
+    subst (λ (all : List ℕ). StopsWriting sink start new all) (ap (λ told. text_of told ++ more.0) (answers_told by given first answers are) ∙ sym more.1 ∙ ap (λ ls. text_of (answers_by by given ls)) (sym parts))
+    (StopsWriting-more sink start new (text_of answers) more.0 stops)
+
+-- ---- plain answers
+
+pub plain_answers : (given : Rules) (lines told : List (List ℕ)) → AnswerRecords IsAnswer given lines told → told ≡ answers_on given lines
+plain_answers given lines told are = answers_told answer_of given lines told are
+
 pub front_of_answers : {W : Type 0} (sink : OfSink W) (start new : W) (given : Rules) (lines first others answers : List (List ℕ)) → lines ≡ first ++ others
     → AnswerRecords IsAnswer given first answers → StopsWriting sink start new (text_of answers) → StopsWriting sink start new (answers_to given lines)
-front_of_answers sink start new given lines first others answers parts are stops =
-    let more = answers_to-append given first others in
-    subst (λ (all : List ℕ). StopsWriting sink start new all) (ap (λ told. text_of told ++ more.0) (plain_answers given first answers are) ∙ sym more.1 ∙ ap (answers_to given) (sym parts))
-    (StopsWriting-more sink start new (text_of answers) more.0 stops)
+front_of_answers sink start new given lines first others answers parts are stops = front_told answer_of sink start new given lines first others answers parts are stops

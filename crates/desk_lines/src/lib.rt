@@ -2,7 +2,8 @@
 //!
 //! [`desk_text`] answers the record lines that a `desk_streams::Source` gives, one line for each, and
 //! writes the answers into a `desk_streams::Sink`. It tells in a [`DeskReport`] how many were answered and
-//! how many refused, or in a [`DeskFault`] why it gave up. [`replay_text`] does so with the commands of a
+//! how many refused, or in a [`DeskFault`] why it gave up. [`json_text`] answers the same lines by objects of
+//! JSON, [`explain_text`] with the reasons. [`replay_text`] does so with the commands of a
 //! script, over a desk of 64 tables. `waits_answer` answers one hand, as the command `waits` prints it.
 //! `is_ready` tells whether a hand is ready, and [`laws`] that its shanten and its waits agree on that.
 //!
@@ -25,9 +26,11 @@ mod desk;
 mod explained;
 mod explaining;
 mod fault;
+mod json_lines;
 pub mod laws;
 mod line_buffer;
 mod line_kind;
+mod objects;
 mod outbox;
 mod profile;
 mod reading;
@@ -48,6 +51,7 @@ pub use asked::Asked;
 pub use collecting::{Collected, collect_text};
 pub use explaining::explain_text;
 pub use fault::DeskFault;
+pub use json_lines::json_text;
 pub use ready::is_ready;
 pub use replay::replay_text;
 pub use report::DeskReport;

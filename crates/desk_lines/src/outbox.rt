@@ -4,13 +4,15 @@ ghost use Rattle.desk_lines.specs.Streams.{Writes};
 
 use super::fault::DeskFault;
 use arrayvec::{ArrayString, ArrayVec};
+use desk_json::JsonText;
 use desk_streams::Sink;
 
 /// Room for many answer lines, so that they are written in large pieces.
 const ROOM: usize = 65_536;
 
-/// The longest answer: a text of 3,096 bytes and a line feed, and the 3,072 bytes that may explain it.
-const LONGEST_ANSWER: usize = 6_169;
+/// The longest answer: an object of 12,288 bytes and a line feed. A text of 3,096 bytes and a line feed, and the 3,072
+/// bytes that may explain it, are fewer.
+const LONGEST_ANSWER: usize = 12_289;
 
 /// Answer lines that were not written yet, and room for the text of the next one: to make it anew for
 /// each line takes as long as to fill it.
@@ -18,6 +20,7 @@ const LONGEST_ANSWER: usize = 6_169;
 pub(crate) struct Outbox {
     bytes: ArrayVec<u8, ROOM>,
     pub(crate) text: ArrayString<3072>,
+    pub(crate) object: JsonText,
 }
 
 impl Outbox {
@@ -29,6 +32,7 @@ impl Outbox {
         Outbox {
             bytes: ArrayVec::new(),
             text: ArrayString::new(),
+            object: JsonText::new(),
         }
     }
 
@@ -54,6 +58,14 @@ impl Outbox {
         ensures room { length self.new.bytes.items ≤ length self.old.bytes.items + 3073 }
     {
         push_line(&mut self.bytes, self.text.as_str().as_bytes());
+    }
+
+    /// Adds a line with the object that stands in its room.
+    pub(crate) fn put_object(&mut self)
+        requires { HasRoom self.old }
+        ensures { self.new.bytes.items ≡ self.old.bytes.items ++ (self.old.object.bytes ++ 10 ∷ []) }
+    {
+        push_line(&mut self.bytes, self.object.as_str().as_bytes());
     }
 
     /// Adds the lines that stand in its room, each with its line feed.

@@ -1,0 +1,45 @@
+-- The answer to one line as JSON, and the answers to the lines of a stream.
+use Rattle.std.specs.Prelude.{◌≡◌, ℕ, ◌<◌, List, Bool, Option, None, Some, Result, Ok, Err, length, codes, nat_eq}
+use Rattle.std.specs.List.{starts_with}
+use Rattle.std.proofs.Common.{sym, ap, ◌∙◌}
+use Rattle.riichi_hand.specs.declared.win.Rules.{Rules}
+use Rattle.riichi_hand.specs.declared.fault.LineFault.{LineFault}
+use Rattle.riichi_hand.specs.declared.job.Job.{Job}
+use Rattle.riichi_hand.specs.Lines.{outcome_of}
+use Rattle.desk_core.specs.Value.{value_of}
+use Rattle.desk_json.specs.Text.{answer_text, fault_text}
+use Rattle.desk_lines.specs.LineAnswers.{answers_by}
+use Rattle.desk_lines.specs.LongLines.{long_outcome}
+use Rattle.desk_lines.specs.Telling.{text_of}
+
+-- a line that is no record has no answer; a job is answered by its value, a fault is told
+abbrev pub outcome_json : Result (Option Job) LineFault → Option (List ℕ)
+outcome_json (Ok None) = None
+outcome_json (Ok (Some job)) = Some (answer_text (value_of job))
+outcome_json (Err fault) = Some (fault_text fault)
+
+unfoldable pub json_of : Rules → List ℕ → Option (List ℕ)
+json_of rules line = outcome_json (outcome_of rules line)
+
+-- the answer to a line as JSON
+abbrev pub IsJson : Rules → List ℕ → Option (List ℕ) → Type 0
+IsJson rules line told = told ≡ json_of rules line
+
+pub json_alike : (rules : Rules) (line other : List ℕ) (told : Option (List ℕ)) → 4096 < length line → 4096 < length other
+    → IsJson rules line told → IsJson rules other told
+unfolding json_of
+json_alike rules line other told long long_other is = is ∙ ap outcome_json (long_outcome rules line long ∙ sym (long_outcome rules other long_other))
+
+-- an object begins as those of faults do, and those of answers don't
+abbrev pub is_refusal : List ℕ → Bool
+is_refusal object = starts_with nat_eq object (codes "{\"answer\":\"refused\"")
+
+-- ---- streams
+
+-- the answers to the records among the lines of a stream, under its profile
+abbrev pub json_on : Rules → List (List ℕ) → List (List ℕ)
+json_on given lines = answers_by json_of given lines
+
+-- the same as they are written, each with a line feed
+abbrev pub json_to : Rules → List (List ℕ) → List ℕ
+json_to given lines = text_of (json_on given lines)

@@ -1,0 +1,48 @@
+//! A text over streams, answered as JSON.
+ghost use Rattle.std.specs.Prelude.{◌≡◌, ℕ, List, IfOk, IsErrOf};
+ghost use Rattle.desk_lines.specs.Lines.{ended_lines, lines};
+ghost use Rattle.desk_lines.specs.JsonLine.{json_to};
+ghost use Rattle.desk_lines.specs.LineAnswers.{report_on};
+ghost use Rattle.desk_lines.specs.Streams.{Gives, GivesAll, WritesAll, StopsWriting, AreWhole, FailsOrGoesOn, IsReadWithin};
+
+use super::fault::DeskFault;
+use super::objects::Objects;
+use super::report::DeskReport;
+use super::responding::respond_text;
+use desk_streams::{Sink, Source};
+use riichi_hand::Rules;
+use std::marker::Brand;
+
+/// Answers the record lines that a reader gives as `desk_text` does, but each by one object of JSON, those that are
+/// refused too. It takes no memory, and has no limit on the number of lines.
+pub fn json_text<R: Source, W: Sink>(
+    rules: Rules,
+    reader: &mut R,
+    writer: &mut W,
+) -> Result<DeskReport, DeskFault>
+    // The reader was read to its end, and the objects of what it gave were written. They are counted as the plain answers.
+    ensures ok { IfOk result (λ report. (text : List ℕ)
+        × GivesAll ⟦<R as Source>⟧ reader.old reader.new text
+        × WritesAll ⟦<W as Sink>⟧ writer.old writer.new (json_to rules (lines text))
+        × (report ≡ report_on rules (lines text))) }
+
+    // A read failed, or there were too many: the answers to the lines that had ended were written.
+    ensures read_failed { IsErrOf result DeskFault.Read → FailsOrGoesOn ⟦<R as Source>⟧ reader.old reader.new
+        × ((text : List ℕ)
+        × Gives ⟦<R as Source>⟧ reader.old reader.new text
+        × WritesAll ⟦<W as Sink>⟧ writer.old writer.new (json_to rules (ended_lines text))) }
+
+    // A write failed: a front of the answers to the whole lines that the reader gave was written.
+    ensures write_failed { IsErrOf result DeskFault.Write → (text : List ℕ) × (whole : List (List ℕ))
+        × Gives ⟦<R as Source>⟧ reader.old reader.new text
+        × AreWhole (R.is_ended reader.new) text whole
+        × StopsWriting ⟦<W as Sink>⟧ writer.old writer.new (json_to rules whole) }
+
+    ensures no_memory { IsErrOf result DeskFault.Memory → ⊥ }
+    ensures reads { IsReadWithin ⟦<R as Source>⟧ reader.old reader.new }
+{
+    respond_text::<Objects, Brand, R, W>(rules, reader, writer)
+}
+
+#[cfg(test)]
+mod tests;

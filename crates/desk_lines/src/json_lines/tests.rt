@@ -1,0 +1,99 @@
+//! Rows of whole texts, answered as JSON.
+use crate::*;
+use desk_streams::{BytesIn, BytesOut};
+use std::test::Fail;
+
+/// A profile, a comment, an empty line, a line with a carriage return, and a last line without an end.
+const TEXT: &[u8] = b"rules 2
+win 123406789m22s34p on=2p by=ron seat=S round=E
+# table three
+
+waits 8z\r
+waits 123456789m1134p
+wait 1112345678999m
+shape 123456789m11348p";
+
+const OBJECTS: &[u8] =
+    b"{\"answer\":\"won\",\"yakuman\":false,\"han\":4,\"fu\":30,\"dora\":1,\"base\":2000,\"limit\":\"mangan\",\"payment\":{\"discarder\":8000},\"gain\":8000,\"yaku\":[{\"number\":4,\"word\":\"pinfu\"},{\"number\":16,\"word\":\"pure-straight\"}]}
+{\"answer\":\"refused\",\"code\":\"N5\",\"text\":\"hand\",\"place\":0}
+{\"answer\":\"waits\",\"kinds\":[\"2p\",\"5p\"]}
+{\"answer\":\"refused\",\"code\":\"H2\"}
+{\"answer\":\"shape\",\"shanten\":0,\"discards\":[{\"discard\":\"8p\",\"accepts\":[{\"kind\":\"2p\",\"live\":4},{\"kind\":\"5p\",\"live\":4}],\"live\":8}]}
+";
+
+#[test]
+fn an_object_for_each_record(rt: HostRuntime) {
+    for most in [1, 7, 1000] {
+        assert!(rt; most > 0);
+        let mut reader = BytesIn::new(TEXT, most, None);
+        let mut writer: BytesOut<1024> = BytesOut::new(most, None);
+        let report = json_text(Rules::One, &mut reader, &mut writer);
+        assert_eq!(rt; writer.bytes(), OBJECTS, "in pieces of {most}");
+        let counted = DeskReport {
+            answered: 3,
+            refused: 2,
+        };
+        assert!(rt; report == Ok(counted), "in pieces of {most}");
+    }
+}
+
+/// Three tiles of each suit that lie apart, and five honours: any of them may go, and each leaves many to accept.
+const WIDE: &[u8] = b"shape 258m369p147s12345z\n";
+
+/// Answers with many bytes, more than the desk keeps before it writes.
+#[test]
+fn many_long_objects(rt: HostRuntime) -> Result<(), Fail> {
+    let mut once: BytesOut<12288> = BytesOut::new(1000, None);
+    let mut reader = BytesIn::new(WIDE, 1000, None);
+    assert!(rt; json_text(Rules::One, &mut reader, &mut once).is_ok());
+    let mut text = Vec::new(rt.alloc());
+    let mut objects = Vec::new(rt.alloc());
+    for _ in 0..16u32 {
+        text.extend_from_slice(WIDE)?;
+        objects.extend_from_slice(once.bytes())?;
+    }
+    let mut reader = BytesIn::new(text.as_slice(), 1000, None);
+    let mut writer: BytesOut<131072> = BytesOut::new(100_000, None);
+    assert!(rt; json_text(Rules::One, &mut reader, &mut writer).is_ok());
+    assert!(rt; objects.len() > 65_536, "{}", objects.len());
+    assert!(rt; writer.bytes() == objects.as_slice());
+    Ok(())
+}
+
+/// The objects of the lines that have ended are written before each read.
+#[test]
+fn stops_at_each_failing_read(rt: HostRuntime) {
+    for failing in 1..148u64 {
+        let mut reader = BytesIn::new(TEXT, 1, Some(failing));
+        let mut writer: BytesOut<1024> = BytesOut::new(7, None);
+        assert!(rt;
+            json_text(Rules::One, &mut reader, &mut writer) == Err(DeskFault::Read),
+            "{failing}"
+        );
+        let told = match failing {
+            0..58 => 0,
+            58..83 => 202,
+            83..105 => 259,
+            105..125 => 298,
+            _ => 331,
+        };
+        assert_eq!(rt; writer.bytes(), &OBJECTS[..told], "{failing}");
+    }
+}
+
+#[test]
+fn stops_at_each_failing_write(rt: HostRuntime) {
+    for failing in 1..460u64 {
+        let mut reader = BytesIn::new(TEXT, 5, None);
+        let mut writer: BytesOut<1024> = BytesOut::new(1, Some(failing));
+        assert!(rt;
+            json_text(Rules::One, &mut reader, &mut writer) == Err(DeskFault::Write),
+            "{failing}"
+        );
+        assert_eq!(rt;
+            writer.bytes(),
+            &OBJECTS[..failing as usize - 1],
+            "{failing}"
+        );
+    }
+}
