@@ -128,6 +128,37 @@ row 0 '' '' explain
 told 'explain and a full disk' $'riichi_desk: fault F2: the answers can\'t be written\nstatus 3' "$("$program" explain "$disputed" 2>&1 > /dev/full; echo "status $?")"
 told 'explain and a folder' $'riichi_desk: fault F1: the input can\'t be read, or has no end\nstatus 3' "$("$program" explain < "$room" 2>&1; echo "status $?")"
 
+# the same lines as JSON: what is refused too, each job, each payment, a yakuman; a profile from the command line
+printf '# table three\nwaits 123456789m1134p\n\nwaits 8z\r\nwait 1m' > "$room/input"
+row 1 $'{"answer":"waits","kinds":["2p","5p"]}\n{"answer":"refused","code":"N5","text":"hand","place":0}\n{"answer":"refused","code":"H2"}' '' line --json
+cp examples/club-night.lines "$room/input"
+pinfu='{"number":4,"word":"pinfu"}' concealed='{"number":3,"word":"fully-concealed"}'
+row 1 '{"answer":"won","yakuman":false,"han":2,"fu":20,"dora":0,"base":320,"limit":null,"payment":{"dealer":700,"each_other":400},"gain":1500,"yaku":['$concealed,$pinfu']}
+{"answer":"won","yakuman":false,"han":3,"fu":40,"dora":0,"base":1280,"limit":null,"payment":{"discarder":5200},"gain":5200,"yaku":[{"number":27,"word":"twice-pure-double-chow"}]}
+{"answer":"won","yakuman":false,"han":4,"fu":60,"dora":1,"base":2000,"limit":"mangan","payment":{"dealer":4000,"each_other":2000},"gain":8000,"yaku":['$concealed',{"number":11,"word":"prevalent-wind"},{"number":12,"word":"after-a-kong"}]}
+{"answer":"no yaku"}
+{"answer":"waits","kinds":["1m","2m","3m","4m","5m","6m","7m","8m"]}
+{"answer":"shape","shanten":0,"discards":[{"discard":"8p","accepts":[{"kind":"2p","live":4},{"kind":"5p","live":4}],"live":8}]}
+{"answer":"refused","code":"H8"}' '' line --json
+printf '%s\n' 'win 123406789m22s34p on=2p by=ron seat=S round=E' 'win 19m19p19s1234567z on=1m by=ron seat=E round=E' \
+  'win 234m567m345p67s99s on=5s by=tsumo seat=E round=E counters=2 sticks=1' 'win 123456789m22s34p on=9s by=ron seat=S round=E' \
+  'shape 123456789m1134p' > "$room/input"
+rest='{"answer":"won","yakuman":true,"han":0,"fu":0,"dora":0,"base":8000,"limit":"yakuman","payment":{"discarder":48000},"gain":48000,"yaku":[{"number":29,"word":"thirteen-orphans"}]}
+{"answer":"won","yakuman":false,"han":2,"fu":20,"dora":0,"base":320,"limit":null,"payment":{"each":900},"gain":3700,"yaku":['$concealed,$pinfu']}
+{"answer":"no win"}
+{"answer":"shape","shanten":0,"accepts":[{"kind":"2p","live":4},{"kind":"5p","live":4}],"live":8}'
+straight='"payment":{"discarder":%s},"gain":%s,"yaku":['$pinfu',{"number":16,"word":"pure-straight"}]}'
+row 0 '{"answer":"won","yakuman":false,"han":4,"fu":30,"dora":1,"base":2000,"limit":"mangan",'"${straight//%s/8000}
+$rest" '' line --json --rules 2
+row 0 '{"answer":"won","yakuman":false,"han":3,"fu":30,"dora":0,"base":960,"limit":null,'"${straight//%s/3900}
+$rest" '' line --json
+: > "$room/input"
+row 0 '' '' line --json
+row 2 '' "unexpected argument '--json' found" score --json file
+row 2 '' "unexpected argument '--json' found" explain --json
+told 'line --json and a full disk' $'riichi_desk: fault F2\nstatus 3' "$("$program" line --json < examples/club-night.lines 2>&1 > /dev/full; echo "status $?")"
+told 'line --json and a folder' $'riichi_desk: fault F1\nstatus 3' "$("$program" line --json < "$room" 2>&1; echo "status $?")"
+
 # the codes in words: as the documentation has them, and as a refusal is explained
 "$program" help-codes > "$room/codes"
 told 'help-codes' "$(awk '/^## Codes$/ { here = 1 } /^```/ { inside = here && !inside; if (!inside && seen) exit; next } inside { seen = 1; print }' docs/NOTATION.md)" "$(cat "$room/codes")"

@@ -28,9 +28,14 @@ told 'answers as values by Python' "$(sha256sum < "$made/wanted")" \
 told 'the words of the Python modules' '' "$(cd examples/python && RIICHI_DESK=$made/libriichi_desk.so python3 -B -m doctest riichi_desk.py answers.py 2>&1)"
 RIICHI_DESK=$made/libriichi_desk.so PYTHONPATH=examples/python python3 -B -c 'import riichi_desk, sys
 for line in sys.stdin.buffer: print(riichi_desk.json(line.rstrip(b"\n")) or "", end="\n")' < "$made/lines" | grep . > "$made/json"
+told 'line --json' "$(sha256sum < "$made/json")" "$("$program" line --json < "$made/lines" | sha256sum)"
 # (the validator is the package python3-jsonschema)
 if python3 -c 'import jsonschema' 2> /dev/null; then
   told 'answers by their JSON Schema' "$(wc -l < "$made/wanted") valid" "$(python3 -B tests/valid_answers.py docs/answer.schema.json < "$made/json")"
+  texts=(examples/{club-night,rules,rules-two}.lines "$room"/rules{,-two}.lines tests/hostile/*.lines)
+  told 'line --json of the examples, the rules and hostile lines, by the JSON Schema' \
+    "$(for text in "${texts[@]}"; do "$program" line < "$text"; done | wc -l) valid" \
+    "$(for text in "${texts[@]}"; do "$program" line --json < "$text"; done | python3 -B tests/valid_answers.py docs/answer.schema.json)"
 else
   echo 'python3-jsonschema is not here: docs/answer.schema.json is not tried'
 fi

@@ -139,6 +139,10 @@ tried: line
 status 1
 one
 two" "$({ echo one; sleep 2.5; echo two; } | by_hand "$scripts" ./linked-desk line; cat "$kit/given")"
+told 'lines to be answered as JSON' "$unproved
+tried: line --json
+status 1
+one" "$(echo one | by_hand "$scripts" ./linked-desk line --json; cat "$kit/given")"
 cat > "$scripts/types" << 'END'
 import os, sys, time
 import pty

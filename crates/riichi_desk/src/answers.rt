@@ -5,9 +5,9 @@ use crate::failure::{Failure, report};
 use crate::files::open_file;
 use crate::scoring::score_files;
 use crate::version::print_version;
-use crate::words::{Request, commands, request_of};
+use crate::words::{Form, Request, commands, request_of};
 use clap::error::ErrorKind;
-use desk_lines::{Rules, desk_text, replay_text, waits_answer};
+use desk_lines::{Rules, desk_text, json_text, replay_text, waits_answer};
 use desk_score::ScoreFault;
 use desk_streams::{FromReader, ToWriter};
 use std::env::{self, Env};
@@ -54,7 +54,7 @@ fn answer_words<'a, R: Input + Print + Eprint + Files + Threads + Wait + Sync + 
     };
     match request_of(&matches) {
         Some(Request::Waits(hand)) => print_waits(rt, hand),
-        Some(Request::Line(rules)) => answer_lines(rt, rules),
+        Some(Request::Line { form, rules }) => answer_lines(rt, form, rules),
         Some(Request::Explain { lines, rules }) => explain_lines(rt, lines, rules),
         Some(Request::HelpCodes) => print_codes(rt),
         Some(Request::Replay(file)) => replay_file(rt, file),
@@ -80,10 +80,17 @@ fn print_waits<R: Print>(rt: &R, hand: &str) -> Result<bool, Failure<'static>> {
 }
 
 /// Answers the record lines of standard input on standard output.
-fn answer_lines<R: Input + Print>(rt: &R, rules: Rules) -> Result<bool, Failure<'static>> {
+fn answer_lines<R: Input + Print>(
+    rt: &R,
+    form: Form,
+    rules: Rules,
+) -> Result<bool, Failure<'static>> {
     let mut reader = FromReader::new(rt.reader());
     let mut writer = ToWriter::new(io::writer(rt));
-    let report = desk_text(rules, &mut reader, &mut writer)?;
+    let report = match form {
+        Form::Words => desk_text(rules, &mut reader, &mut writer)?,
+        Form::Json => json_text(rules, &mut reader, &mut writer)?,
+    };
     Ok(report.refused > 0)
 }
 

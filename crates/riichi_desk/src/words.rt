@@ -1,5 +1,5 @@
 //! The command line.
-use clap::{Arg, ArgMatches, Command, value_parser};
+use clap::{Arg, ArgAction, ArgMatches, Command, value_parser};
 use desk_lines::Rules;
 use std::alloc::{AllocError, Global};
 
@@ -7,8 +7,11 @@ use std::alloc::{AllocError, Global};
 pub enum Request<'m, 'a> {
     /// The waits of this hand.
     Waits(&'a str),
-    /// The answers to the record lines of standard input, under these rules where the first line sets none.
-    Line(Rules),
+    /// The answers to the record lines of standard input in this form, under these rules where the first line sets none.
+    Line {
+        form: Form,
+        rules: Rules,
+    },
     /// The same with the reasons for them, of these lines, or of standard input where there are none.
     Explain {
         lines: Option<&'m [&'a str]>,
@@ -24,6 +27,15 @@ pub enum Request<'m, 'a> {
         workers: u32,
         rules: Rules,
     },
+}
+
+/// How answers are written.
+#[derive(Clone, Copy)]
+pub enum Form {
+    /// In words, a line for each.
+    Words,
+    /// As JSON, an object on a line for each.
+    Json,
 }
 
 /// What stands below the help of the program, and of each command: an example, and the exit statuses that it can have.
@@ -49,6 +61,7 @@ Exit status:
 const LINE_HELP: &str = "\
 Example:
   riichi_desk line < club-night.lines
+  riichi_desk line --json < club-night.lines
 
 Exit status:
   0  answered
@@ -140,7 +153,16 @@ fn line_command<'a>(alloc: Global) -> Result<Command<'a>, AllocError> {
     Command::new(alloc, "line")
         .about("Answers hands from standard input, one a line: wins, waits, shapes")
         .after_help(LINE_HELP)
-        .arg(rules_arg(alloc))
+        .arg(rules_arg(alloc))?
+        .arg(json_arg(alloc))
+}
+
+/// That answers are wanted as JSON.
+fn json_arg<'a>(alloc: Global) -> Arg<'a> {
+    Arg::new(alloc, "json")
+        .long("json")
+        .action(ArgAction::SetTrue)
+        .help("Answers each hand by one object of JSON, what is refused too")
 }
 
 fn explain_command<'a>(alloc: Global) -> Result<Command<'a>, AllocError> {
@@ -191,7 +213,9 @@ fn score_command<'a>(alloc: Global) -> Result<Command<'a>, AllocError> {
 /// What the words ask for; none where they name no command of ours.
 pub fn request_of<'m, 'a>(matches: &'m ArgMatches<'a>) -> Option<Request<'m, 'a>> {
     if let Some(line) = matches.subcommand_matches("line") {
-        return Some(Request::Line(rules_in(line)));
+        let form = form_in(line);
+        let rules = rules_in(line);
+        return Some(Request::Line { form, rules });
     }
     if let Some(explain) = matches.subcommand_matches("explain") {
         let lines = explain.get_strs("LINE");
@@ -224,5 +248,14 @@ fn rules_in(matches: &ArgMatches<'_>) -> Rules {
     match matches.get_one("rules") {
         Some(2u32) => Rules::Two,
         _ => Rules::One,
+    }
+}
+
+/// The form that answers are wanted in.
+fn form_in(matches: &ArgMatches<'_>) -> Form {
+    if matches.get_flag("json") {
+        Form::Json
+    } else {
+        Form::Words
     }
 }
