@@ -3,13 +3,19 @@
 
 shop=$scripts/shop
 mkdir -p "$shop/docs" "$shop/bin"
-cp -r "$tree"/{sources,desk,crates.txt,crates} release packaging examples include LICENSE "$shop"
+cp -r "$tree"/{sources,desk,crates.txt,crates} release packaging examples include web LICENSE "$shop"
 echo archive > "$shop/bin/libriichi_desk_c.a"
-cp docs/NOTATION.md docs/RULES.md "$shop/docs"
+echo page > "$shop/bin/desk.html"
+cp docs/NOTATION.md docs/RULES.md docs/answer.schema.json "$shop/docs"
 cp "$program" "$shop/bin/riichi_desk"
 printf 'proved with kit-0, logic 0123\nsources %s\nprogram %s\n' "$sum" "$(sha256sum < "$program" | cut -d' ' -f1)" > "$shop/bin/riichi_desk.proved"
 version=$("$program" --version | sed 's/^riichi_desk //')
 name=riichi_desk-$version-linux-x86_64
+echo another > "$shop/bin/desk.html.sources"
+told 'a release, and a page of other sources' "release: no page of these sources lies in bin; ./page builds it
+release: releases/$name.tar.gz
+status 0 0" "$(by_hand "$shop" ./release) $(tar -tf "$shop/releases/$name.tar.gz" | grep -c 'desk.html$')"
+"$shop/web/sources" > "$shop/bin/desk.html.sources"
 told 'a release' "release: releases/$name.tar.gz
 status 0" "$(by_hand "$shop" ./release)"
 first=$(sha256sum < "$shop/releases/$name.tar.gz")
@@ -17,7 +23,7 @@ told 'the checksum of the release' "$name.tar.gz: OK" "$(cd "$shop/releases" && 
 told 'the release once more, to the byte' "$first" "$(by_hand "$shop" ./release > /dev/null; sha256sum < "$shop/releases/$name.tar.gz")"
 tar -C "$scripts" -xf "$shop/releases/$name.tar.gz"
 unpacked=$scripts/$name
-told 'what is in the release' 'LICENSE NOTATION.md README.md RULES.md SHA256SUMS completions examples libriichi_desk_c.a licences riichi_desk riichi_desk.1 riichi_desk.h riichi_desk.proved' \
+told 'what is in the release' 'LICENSE NOTATION.md README.md RULES.md SHA256SUMS answer.schema.json completions desk.html examples libriichi_desk_c.a licences riichi_desk riichi_desk.1 riichi_desk.h riichi_desk.proved' \
   "$(cd "$unpacked" && echo *)"
 told 'its files are whole' 0 "$(cd "$unpacked" && sha256sum --quiet -c SHA256SUMS > /dev/null; echo $?)"
 told 'the version says what it was proved with' "riichi_desk $version
