@@ -27,13 +27,15 @@ pub fn json_text<R: Source, W: Sink>(
         × (report ≡ report_on rules (lines text))) }
 
     // A read failed, or there were too many: the answers to the lines that had ended were written.
-    ensures read_failed { IsErrOf result DeskFault.Read → FailsOrGoesOn ⟦<R as Source>⟧ reader.old reader.new
+    ensures read_failed { IsErrOf result DeskFault.Read
+        → FailsOrGoesOn ⟦<R as Source>⟧ reader.old reader.new
         × ((text : List ℕ)
         × Gives ⟦<R as Source>⟧ reader.old reader.new text
         × WritesAll ⟦<W as Sink>⟧ writer.old writer.new (json_to rules (ended_lines text))) }
 
     // A write failed: a front of the answers to the whole lines that the reader gave was written.
-    ensures write_failed { IsErrOf result DeskFault.Write → (text : List ℕ) × (whole : List (List ℕ))
+    ensures write_failed { IsErrOf result DeskFault.Write
+        → (text : List ℕ) × (whole : List (List ℕ))
         × Gives ⟦<R as Source>⟧ reader.old reader.new text
         × AreWhole (R.is_ended reader.new) text whole
         × StopsWriting ⟦<W as Sink>⟧ writer.old writer.new (json_to rules whole) }
