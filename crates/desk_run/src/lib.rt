@@ -39,8 +39,6 @@ mod start;
 mod steps;
 mod stop_seat;
 mod table_seat;
-#[cfg(test)]
-mod tests;
 mod view;
 mod worked;
 mod worker_seat;
