@@ -37,6 +37,21 @@ orphans-alone c kind other small l held not h =
     let z : orphan_copies h.twice.0 other ≡ 0 = rw not refl in
     grind (arith, nat_tests, e, o, z)
 
+held-orphan : (twice kind : ℕ) → IsTrue (is_orphan kind) → 0 < orphan_copies twice kind
+held-orphan twice kind o = grind (arith, nat_tests, o)
+
+-- the kind that is completed isn't one that is still lacking
+lacked-completed : (c : List ℕ) (kind lacked : ℕ) → lacked < 34 → IsTrue (is_orphan lacked) → get_or c lacked 0 ≡ 0 → lacked ≢ kind → IsOrphans (with_one c kind) 0 → ⊥
+lacked-completed c kind lacked l o z n h =
+    omega (arith, get_or-set_other c kind lacked (get_or c kind 0 + 1) 0 n, h.twice.3 lacked l, z, held-orphan h.twice.0 lacked o)
+
+-- who lacks two terminals and honours completes no orphans
+pub two-lacked : (c : List ℕ) (kind first second : ℕ) → first < second → second < 34 → IsTrue (is_orphan first) → IsTrue (is_orphan second) → get_or c first 0 ≡ 0 → get_or c second 0 ≡ 0 → IsOrphans (with_one c kind) 0 → ⊥
+two-lacked c kind first second before l p q y z h = elim (cases_eq first kind) [
+  | inl e ↦ lacked-completed c kind second l q z (omega (arith, e, before)) h
+  | inr n ↦ lacked-completed c kind first (omega (arith, before, l)) p y n h
+]
+
 few-orphans : (twice kind : ℕ) → orphan_copies twice kind ≤ 2
 few-orphans twice kind = grind (arith, nat_tests)
 

@@ -1,5 +1,6 @@
 //! The kinds that complete seven pairs or the orphans.
-ghost use Rattle.std.specs.Prelude.{◌≡◌, ◌↔◌, ◌<◌, ◌≤◌, ℕ, IsTrue, length};
+ghost use Rattle.std.specs.Prelude.{◌≡◌, ◌↔◌, ◌<◌, ◌≤◌, ℕ, IsTrue, IsFalse, length, slice_index};
+ghost use Rattle.riichi_tiles.specs.Kinds.{is_orphan};
 ghost use Rattle.riichi_split.specs.Readings.{IsSevenPairs, IsOrphans};
 ghost use Rattle.riichi_split.specs.Waits.{with_one};
 ghost use Rattle.riichi_split.specs.SpecialWaits as spec;
@@ -13,7 +14,7 @@ pub(crate) fn mark_special_waits(tiles: &Counts, marks: &mut KindSet)
     ensures { spec.AddsSpecial tiles.now 34 marks.old marks.new }
 {
     let counts = tiles.to_array();
-    if are_orphans_alone(&counts) {
+    if is_near_orphans(&counts) {
         mark_between(tiles, 0, 34, marks);
         return;
     }
@@ -52,6 +53,40 @@ fn single_of(counts: &[u8; 34]) -> u8
             return number;
         }
         number += 1;
+    }
+    34
+}
+
+/// Whether no tile but terminals and honours is held, and at most one of these kinds is lacking.
+fn is_near_orphans(counts: &[u8; 34]) -> bool
+    ensures { (kind : ℕ) → kind < 34 → IsOrphans (with_one counts.now kind) 0 → IsTrue result }
+{
+    are_orphans_alone(counts) && !lacks_two_orphans(counts)
+}
+
+/// Whether two of the terminals and honours are lacking, so that one tile more isn't enough.
+fn lacks_two_orphans(counts: &[u8; 34]) -> bool
+    ensures { (kind : ℕ) → kind < 34 → IsOrphans (with_one counts.now kind) 0 → IsFalse result }
+{
+    let first = next_lacking(counts, 0);
+    if first >= 34 {
+        return false;
+    }
+    let second = next_lacking(counts, first + 1);
+    second < 34
+}
+
+/// The first terminal or honour from a kind on of which no tile is held, or 34.
+fn next_lacking(counts: &[u8; 34], from: usize) -> usize
+    requires { from ≤ 34 }
+    ensures kind { result ≤ 34 }
+    ensures lacking { result < 34
+        → (from ≤ result) × IsTrue (is_orphan result) × (slice_index counts.now result ≡ 0) }
+{
+    for kind in from..34 {
+        if counts[kind] == 0 && is_terminal_or_honour(kind) {
+            return kind;
+        }
     }
     34
 }
