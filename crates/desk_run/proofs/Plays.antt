@@ -29,16 +29,16 @@ use Rattle.desk_run.proofs.LanePlaces.{some_at}
 use Rattle.std.specs.Global.{Vec}
 use Rattle.desk_run.specs.Runs.{AreValues}
 
-take-next : {A : Type 0} (n : ℕ) (list : List A) (a : A) → n < length list → a ≡ get_or list n a → take (n + 1) list ≡ take n list ++ a ∷ []
+pub take-next : {A : Type 0} (n : ℕ) (list : List A) (a : A) → n < length list → a ≡ get_or list n a → take (n + 1) list ≡ take n list ++ a ∷ []
 take-next zero [] a h e = absurd (omega arith)
 take-next zero (x ∷ xs) a h e = ap (λ y. y ∷ []) (sym e)
 take-next (suc n) [] a h e = absurd (omega arith)
 take-next (suc n) (x ∷ xs) a h e = let same : suc n + 1 ≡ suc (n + 1) = omega arith in
     ap (λ (m : ℕ). take m (x ∷ xs)) same ∙ ap (λ l. x ∷ l) (take-next n xs a (omega arith) e)
 
-take-whole : (jobs : List Job) → take (length jobs) jobs ≡ jobs
+pub take-whole : {A : Type 0} (list : List A) → take (length list) list ≡ list
 take-whole [] = refl
-take-whole (x ∷ xs) = ap (λ (l : List Job). x ∷ l) (take-whole xs)
+take-whole (x ∷ xs) = ap (λ l. x ∷ l) (take-whole xs)
 
 pub played_new : (lane : LaneState) (t : ℕ) (jobs : List Job) (answers : List Answer) → lane ≡ new_lane t → answers ≡ [] → IsPlayed lane jobs 0 answers
 played_new lane t jobs answers new none = record {

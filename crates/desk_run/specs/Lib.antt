@@ -9,5 +9,6 @@ pub mod Sitting
 pub mod SeatStates
 pub mod Parts
 pub mod Played
+pub mod Players
 pub mod Started
 pub mod Runs

@@ -29,6 +29,7 @@ mod offer;
 mod opening;
 mod parts;
 mod place_state;
+mod player;
 mod playing;
 mod rule;
 mod run_fault;
@@ -39,8 +40,6 @@ mod start;
 mod steps;
 mod stop_seat;
 mod table_seat;
-#[cfg(test)]
-mod tests;
 mod view;
 mod worked;
 mod worker_seat;

@@ -6,36 +6,16 @@ ghost use Rattle.desk_run.specs.Sitting.{board_name};
 
 use crate::board::Board;
 use crate::gate::Gate;
-use crate::playing::play;
+use crate::playing::play_all;
 use crate::run_fault::RunFault;
 use crate::stop_seat::StopSeat;
 use crate::table_seat::TableSeat;
 use crate::worker_thread::{WorkerThread, start_workers};
 use desk_core::Answer;
 use riichi_hand::Job;
-use std::alloc::{AllocError, Global};
+use std::alloc::Global;
 use std::sync::Wait;
 use std::thread::{Scope, Threads};
-
-/// Plays each table with its list of jobs, one table after the other.
-fn play_all<R: Wait>(
-    rt: &R,
-    alloc: Global,
-    board: &Board,
-    tables: &mut Vec<TableSeat>,
-    jobs: &[Vec<Job>],
-) -> Result<Vec<Vec<Answer>>, AllocError>
-    requires tables { (places : ℕ) × AreNewTables (board_name board.now) places tables.old.items }
-    requires count { length tables.old.items ≡ length jobs.now }
-    ensures { IfOk result (λ answers. AreValues jobs.now answers.items) }
-{
-    let mut answers = Vec::with_capacity(alloc, jobs.len())?;
-    for table in 0..jobs.len() {
-        let list = jobs[table].as_slice();
-        answers.push_reserved(play(rt, alloc, board, &mut tables[table], list)?);
-    }
-    Ok(answers)
-}
 
 /// What the calling thread has at the board: the seats of the tables, and the seat that stops the
 /// workers.
@@ -65,11 +45,11 @@ impl<'b> TablesThread<'b> {
     {
         let TablesThread {
             board,
-            mut tables,
+            tables,
             mut stop,
         } = self;
         let answers = if start_workers(scope, rt, threads) {
-            play_all(rt, alloc, board, &mut tables, jobs).map_err(|_| RunFault::Memory)
+            play_all(rt, alloc, board, tables, jobs).map_err(|_| RunFault::Memory)
         } else {
             Err(RunFault::Thread)
         };

@@ -9,10 +9,10 @@ use crate::board::Board;
 use crate::gate::Gate;
 use crate::worked::Worked;
 use crate::worker_seat::WorkerSeat;
+use crossbeam_utils::Backoff;
 use riichi_shape::RowCache;
 use std::alloc::{AllocError, Global};
 use std::sync::Wait;
-use std::thread;
 use std::thread::{Scope, Threads};
 
 /// How many suit rows each worker keeps.
@@ -41,14 +41,15 @@ fn work<R: Wait, G: Gate>(
     ensures gate { (xs : List Ticket) × (seat.new.finished ≡ seat.old.finished ++ xs)
         × FoldsTo G.called gate.old xs gate.new }
 {
+    let backoff = Backoff::new();
     for _ in rt.forever() {
         match seat.work_once(board, gate, cache) {
-            Worked::Did(_) => {}
+            Worked::Did(_) => backoff.reset(),
             Worked::Nothing => {
                 if seat.stopped(board) {
                     return;
                 }
-                thread::yield_now();
+                backoff.snooze();
             }
         }
     }

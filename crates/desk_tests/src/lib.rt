@@ -1,8 +1,7 @@
 //! Tests of the desk's libraries, a module each, by what they export.
 //!
 //! They stand apart from the libraries, since a check of a crate with its tests proves the crate once more.
-//! Those of `desk_run` stand in that crate, since some look at a part that it doesn't export, and those of `desk_score`
-//! in that one, since it comes late.
+//! Those of `desk_run` have a crate of their own, and those of `desk_score` stand in that one, since it comes late.
 #![tactic(auto)]
 
 #[cfg(test)]

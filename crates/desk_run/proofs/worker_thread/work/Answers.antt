@@ -1,4 +1,4 @@
-use Rattle.std.proofs.Common.{refl, ap, ◌∙◌, ◌++◌, ◌∷◌, [], append_assoc, List, ◌≡◌}
+use Rattle.std.proofs.Common.{ap, ◌∙◌, ◌++◌, ◌∷◌, [], append_assoc, List}
 use Rattle.desk_core.specs.declared.ticket.Ticket.{Ticket}
 use Rattle.desk_run.proofs.WorkerThreads.{folds_more}
 use Rattle.desk_run.proofs.worker_thread.work.Goals as goal

@@ -1,4 +1,4 @@
-use Rattle.std.proofs.Common.{rules, arith, ◌+◌, ◌≡◌, ap, ℕ, ◌∙◌, sym}
+use Rattle.std.proofs.Common.{rules, arith, ap, ℕ, ◌∙◌, sym}
 use Rattle.desk_run.specs.Plays.{SeatState, table_of}
 use Rattle.desk_run.specs.Views.{table_lost}
 use Rattle.desk_run.specs.declared.view.View.TheVariants.{Table}

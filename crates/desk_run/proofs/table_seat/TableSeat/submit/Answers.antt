@@ -1,5 +1,4 @@
 use Rattle.std.proofs.Common.{ap, ◌∙◌, sym, length, length-set, set, List}
-use mathlib.Core.Option.{some}
 use lib.ListN.{get_elem?}
 use Rattle.desk_run.specs.SeatStates.{TableState}
 use Rattle.desk_run.specs.declared.place_state.PlaceState.{PlaceState}

@@ -1,4 +1,4 @@
-use Rattle.std.proofs.Common.{arith, refl}
+use Rattle.std.proofs.Common.{arith}
 use Rattle.desk_run.proofs.Parting.{last_worker, fewer_workers}
 use Rattle.desk_run.proofs.WorkerThreads.{reversed_more}
 use Rattle.desk_run.proofs.worker_thread.WorkerThread.all.Goals as goal

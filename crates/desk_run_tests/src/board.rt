@@ -1,0 +1,53 @@
+//! A board, its seats and its rules, on one thread.
+use crate::common::{a_board, a_cache, given, shape_b, submit, ticket, waits_a};
+use desk_core::Taken;
+use desk_run::{Board, BoardFault, BoardParts, NoGate, OfferFault, Worked};
+use std::test::Fail;
+
+#[test]
+fn the_board_on_one_thread(rt: HostRuntime) -> Result<(), Fail> {
+    let (a, b) = (waits_a(&rt), shape_b(&rt));
+    let Ok(parts) = a_board(rt.alloc(), 1, 1, 2) else {
+        panic!(rt; "no board")
+    };
+    let BoardParts {
+        board,
+        mut tables,
+        mut workers,
+        mut stop,
+    } = parts;
+    let (Some(mut table), Some(mut worker)) = (tables.pop(), workers.pop()) else {
+        panic!(rt; "no seat")
+    };
+    assert!(rt; table.table() == 0);
+    assert!(rt; submit(&mut table, &board, a) == Ok(ticket(0)));
+    assert!(rt; submit(&mut table, &board, b) == Ok(ticket(1)));
+    let refused = submit(&mut table, &board, a);
+    assert!(rt; refused.is_err_and(|back| back.fault == OfferFault::NoPlace && back.job == a));
+    let mut cache = a_cache(&rt, rt.alloc());
+    let first = worker.work_once(&board, &mut NoGate, &mut cache);
+    let second = worker.work_once(&board, &mut NoGate, &mut cache);
+    assert!(rt; first == Worked::Did(ticket(0)) || first == Worked::Did(ticket(1)));
+    assert!(rt; second == Worked::Did(ticket(0)) || second == Worked::Did(ticket(1)));
+    assert!(rt; first != second);
+    assert!(rt; worker.work_once(&board, &mut NoGate, &mut cache) == Worked::Nothing);
+    assert!(rt; table.collect(&board) == 2);
+    assert!(rt; table.take() == given(0, &a));
+    assert!(rt; table.take() == given(1, &b));
+    assert!(rt; submit(&mut table, &board, a) == Ok(ticket(2)));
+    assert!(rt; !worker.stopped(&board));
+    stop.stop(&board);
+    assert!(rt; worker.stopped(&board));
+    assert!(rt; table.close());
+    assert!(rt; table.take() == Taken::Waiting);
+    Ok(())
+}
+
+#[test]
+fn boards_out_of_range(rt: HostRuntime) -> Result<(), Fail> {
+    for (tables, workers, places) in [(65, 1, 1), (1, 17, 1), (1, 1, 0)] {
+        let fault = Board::new(rt.alloc(), tables, workers, places);
+        assert!(rt; fault.is_err_and(|fault| fault == BoardFault::Range));
+    }
+    Ok(())
+}
