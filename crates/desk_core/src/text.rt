@@ -4,7 +4,7 @@ ghost use Rattle.desk_core.specs.AnswerText as spec;
 
 use crate::answer::Answer;
 use arrayvec::ArrayString;
-use riichi_score::win_text;
+use riichi_score::push_win;
 use riichi_shape::push_shape;
 use riichi_split::waits_text;
 
@@ -25,7 +25,7 @@ pub fn push_answer(text: &mut ArrayString<3072>, answer: &Answer)
     ensures { text.new.bytes ≡ text.old.bytes ++ spec.answer_text answer.now }
 {
     match answer {
-        Answer::Win(win) => text.push_str(win_text(win).as_str()),
+        Answer::Win(win) => push_win(text, win),
         Answer::Waits(kinds) => text.push_str(waits_text(*kinds).as_str()),
         Answer::Shape(shape) => push_shape(text, shape),
     }

@@ -1,5 +1,5 @@
--- Texts that need no escapes, and how long a word of the table is.
-use Rattle.std.proofs.Common.{◌≡◌, ℕ, ◌+◌, ◌%◌, ◌≤◌, true, List, [], ◌∷◌, ◌++◌, length, refl, ap, ◌∙◌, arith}
+-- Texts that need no escapes.
+use Rattle.std.proofs.Common.{◌≡◌, ℕ, ◌+◌, ◌%◌, ◌≤◌, true, List, [], ◌∷◌, ◌++◌, refl, ap, ◌∙◌, arith}
 use Rattle.std.proofs.lemmas.Bool.{or_parts, and_parts, not-true, eqb-false, ltb-false}
 use Rattle.std.proofs.lemmas.Bool.Decides.{nat_tests}
 use Rattle.std.specs.Prelude.{◌==◌}
@@ -35,7 +35,3 @@ escape_kind kind =
     let high = letter_high kind in
     ap (λ t. t ++ (escape_byte (letter_of kind) ++ [])) (escape_byte_plain (49 + kind % 9) (λ e. omega arith) (λ e. omega arith) (omega arith))
     ∙ ap (λ t. (49 + kind % 9) ∷ (t ++ [])) (escape_byte_plain (letter_of kind) (λ e. omega arith) (λ e. omega arith) (omega arith))
-
-pub word_short : (yaku : Yaku) → length (word yaku) ≤ 25
-word_short Riichi = omega arith
-word_short other = omega arith

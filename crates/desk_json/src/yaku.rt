@@ -1,7 +1,6 @@
 //! The yaku of a win.
 ghost use Rattle.std.specs.Prelude.{◌≡◌, ◌≤◌, ◌+◌, ◌++◌, length};
 ghost use Rattle.arrayvec.specs.ArrayString.{array_string_len};
-ghost use Rattle.riichi_yaku.specs.Table as table;
 ghost use Rattle.desk_json.specs.Parts as spec;
 
 use crate::number::{push_after, push_comma_if};
@@ -31,14 +30,6 @@ fn push_one(text: &mut JsonText, later: bool, yaku: Yaku)
     push_comma_if(text, later);
     push_after(text, "{\"number\":", u32::from(yaku.number()));
     text.push_str(",\"word\":\"");
-    text.push_str(short_word(yaku));
+    text.push_str(yaku.word());
     text.push_str("\"}");
-}
-
-/// The printed word of a yaku.
-fn short_word(yaku: Yaku) -> &'static str
-    ensures value { result.now ≡ table.word yaku }
-    ensures short { length result.now ≤ 25 }
-{
-    yaku.word()
 }

@@ -1,24 +1,18 @@
 -- What was explained, without the lines that begin with two spaces.
-use Rattle.std.proofs.Common.{◌≡◌, ◌⊎◌, inl, inr, ℕ, ◌+◌, List, [], ◌∷◌, ◌++◌, Bool, true, false, cond, nat_eq, filter, Option, Some, None, Result, Ok, Err, refl, sym, subst, ap, ◌∙◌, append_assoc}
+use Rattle.std.proofs.Common.{◌≡◌, ◌⊎◌, inl, inr, ℕ, ◌+◌, List, [], ◌∷◌, ◌++◌, Bool, true, false, cond, nat_eq, filter, Option, Some, None, refl, sym, subst, ap, ◌∙◌, append_assoc}
 use Rattle.std.specs.Prelude.{not, ◌&&◌, count_by}
-use Rattle.std.specs.List.{filter_map, list_all, cons_option}
+use Rattle.std.specs.List.{filter_map, cons_option}
 use Rattle.std.proofs.lemmas.Bool.{eqb-true}
 use Rattle.std.proofs.lemmas.List.Sums.{sum_by-cons}
-use Rattle.riichi_hand.specs.declared.fault.LineFault.{LineFault}
-use Rattle.riichi_hand.specs.declared.fault.LineFault.TheVariants.{Line, Notation}
-use Rattle.riichi_hand.specs.declared.job.Job.{Job}
 use Rattle.riichi_hand.specs.declared.win.Rules.{Rules}
-use Rattle.riichi_hand.specs.FaultTexts.{fault_text}
 use Rattle.riichi_hand.specs.Lines.{outcome_of}
-use Rattle.riichi_explain.specs.Explanation.{IsOutcomeText, IsExplanation}
+use Rattle.riichi_explain.specs.Explanation.{IsExplanation}
 use Rattle.riichi_explain.proofs.PlainTexts.{are_indented, within, and_both}
 use Rattle.riichi_explain.proofs.ExplainedLines.{outcome_text-lines}
-use Rattle.desk_core.specs.AnswerText.{answer_text}
-use Rattle.desk_core.specs.Value.{value_of}
 use Rattle.desk_lines.specs.declared.report.DeskReport.{DeskReport}
 use Rattle.desk_lines.specs.Explained.{IsToldWithWhy, IsExplained, is_indented, without_indented}
 use Rattle.desk_lines.specs.Lines.{Cut, cut_of, with_front, in_front, is_plain}
-use Rattle.desk_lines.specs.LineAnswer.{answer_of, outcome_text}
+use Rattle.desk_lines.specs.LineAnswer.{answer_of}
 use Rattle.desk_lines.specs.LineAnswers.{answers_on, answers_to, report_on}
 use Rattle.desk_lines.specs.Profile.{rules_of, record_lines}
 use Rattle.desk_lines.specs.Records.{AreTold, AnswerRecords}

@@ -1,8 +1,9 @@
 -- One more byte at the end of a text.
-use Rattle.std.proofs.Common.{◌≡◌, ℕ, inl, inr, List, [], ◌∷◌, ◌++◌, Bool, true, false, cond, nat_eq, map, refl, sym, ◌∙◌, ap, append_assoc}
+use Rattle.std.proofs.Common.{◌≡◌, ℕ, zero, suc, ◌<◌, ◌≤◌, length, take, get_or, add-one, arith, inl, inr, List, [], ◌∷◌, ◌++◌, Bool, true, false, cond, nat_eq, map, refl, sym, ◌∙◌, ap, append_assoc}
 use Rattle.std.proofs.lemmas.List.{map-append, append-nil}
-use Rattle.std.proofs.lemmas.Bool.{cases_eq, ne_eqb}
-use Rattle.std.specs.Prelude.{not, ◌&&◌}
+use Rattle.std.proofs.lemmas.List.Folds.{list_all_more}
+use Rattle.std.proofs.lemmas.Bool.{cases_eq, ne_eqb, eq-eqb}
+use Rattle.std.specs.Prelude.{not, ◌&&◌, ◌==◌}
 use Rattle.desk_lines.specs.Lines.{Cut, in_front, with_front, cut_of, without_return, ended_lines, is_plain}
 
 -- the rest is a line now
@@ -105,3 +106,13 @@ rest-line text bytes plain = ap (λ (cut : Cut). cut.rest) (cut_of-line text byt
 pub ended_lines-line : (text bytes : List ℕ) → is_plain bytes ≡ true → ended_lines (text ++ (bytes ++ 10 ∷ [])) ≡ ended_lines text ++ without_return ((cut_of text).rest ++ bytes) ∷ []
 ended_lines-line text bytes plain =
     ap (λ (cut : Cut). map without_return cut.ended) (cut_of-line text bytes plain) ∙ map-append without_return (cut_of text).ended (((cut_of text).rest ++ bytes) ∷ [])
+
+-- ---- the first line feed
+
+-- a text without one below a place
+pub plain-before : (text : List ℕ) (place : ℕ) → place ≤ length text → ((k : ℕ) → k < place → (get_or text k 0 == 10) ≡ true → ⊥) → is_plain (take place text) ≡ true
+plain-before text zero within none = refl
+plain-before text (suc n) within none =
+    let before = plain-before text n (omega (arith, within)) (λ k l. none k (omega (arith, l))) in
+    let other = ne_eqb (get_or text n 0) 10 (λ e. none n (omega arith) (eq-eqb (get_or text n 0) 10 e)) in
+    rw (← add-one n, list_all_more (λ byte. not (byte == 10)) text n 0 (omega (arith, within)), before, other) refl

@@ -1,5 +1,5 @@
 -- Lines of more than 4,096 bytes, of which only a front is kept: they set no profile, and are all told alike.
-use Rattle.std.specs.Prelude.{◌≡◌, ℕ, ◌<◌, List, Bool, length, Option, Some, None, Result, Ok, Err, nat_lt, ◌||◌, if◌then◌else◌}
+use Rattle.std.specs.Prelude.{◌≡◌, ℕ, ◌<◌, List, Bool, length, Option, Some, None, Result, Ok, Err, ◌||◌, if◌then◌else◌}
 use Rattle.std.specs.List.{list_any}
 use Rattle.std.proofs.Common.{sym, subst, ap, ◌∙◌}
 use Rattle.std.proofs.lemmas.Bool.{lt-ltb}

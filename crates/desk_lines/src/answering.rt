@@ -15,7 +15,7 @@ use super::line_kind::LineKind;
 use super::outbox::Outbox;
 use super::responder::Responder;
 use riichi_hand::{HandRecord, Job, Rules, ShapeRecord, WinRecord, fault_text, read_line};
-use riichi_score::{best, win_text};
+use riichi_score::{best, push_win};
 use riichi_shape::{push_shape, shape};
 use riichi_split::{waits, waits_text};
 
@@ -78,7 +78,9 @@ fn put_win(win: &WinRecord, outbox: &mut Outbox)
     ensures { outbox.new.bytes.items
         ≡ outbox.old.bytes.items ++ (spec_win.text_of (best_of win.now) ++ 10 ∷ []) }
 {
-    outbox.put_line(win_text(&best(win)).as_str().as_bytes());
+    outbox.text.clear();
+    push_win(&mut outbox.text, &best(win));
+    outbox.put_text();
 }
 
 pub(crate) fn put_waits(hand: &HandRecord, outbox: &mut Outbox)

@@ -10,6 +10,7 @@ use super::line_buffer::LineBuffer;
 use super::teller::Teller;
 use super::told::Told;
 use desk_streams::Sink;
+use memchr::memchr;
 
 /// What is kept between two reads: the front of a line, and what the lines before it were told. Of a line it
 /// holds `ROOM` bytes, which are two more than those that the teller tells apart: a carriage return, and one
@@ -104,12 +105,10 @@ fn cut_line(text: &[u8]) -> Option<(&[u8], &[u8])>
     ensures { MatchOption result (is_plain text.now ≡ true)
         (λ cut. (text.now ≡ cut.0.now ++ 10 ∷ cut.1.now) × (is_plain cut.0.now ≡ true)) }
 {
-    for (place, byte) in text.iter().enumerate() {
-        if *byte == b'\n' {
-            return Some((&text[..place], &text[place + 1..]));
-        }
+    match memchr(b'\n', text) {
+        None => None,
+        Some(place) => Some((&text[..place], &text[place + 1..])),
     }
-    None
 }
 
 /// The line without a carriage return at its end.

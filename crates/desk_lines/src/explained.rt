@@ -24,7 +24,7 @@ use riichi_faults::push_refusal_lines;
 use riichi_hand::{
     HandRecord, Job, LineFault, Rules, ShapeRecord, WinRecord, fault_text, read_line,
 };
-use riichi_score::win_text;
+use riichi_score::push_win;
 
 /// The explained answers: that of a line, and behind it lines that begin with two spaces and say why it is so.
 pub(crate) struct Explained;
@@ -74,7 +74,9 @@ fn put_win(win: &WinRecord, outbox: &mut Outbox)
         × (outbox.new.bytes.items ≡ outbox.old.bytes.items ++ ((spec_win.text_of (best_of win.now) ++ 10 ∷ []) ++ why)) }
 {
     let explanation = explain_win(win);
-    outbox.put_line(win_text(&explanation.answer()).as_str().as_bytes());
+    outbox.text.clear();
+    push_win(&mut outbox.text, &explanation.answer());
+    outbox.put_text();
     outbox.text.clear();
     push_win_lines(&mut outbox.text, explanation, win);
     outbox.put_lines();

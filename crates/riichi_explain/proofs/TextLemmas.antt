@@ -1,10 +1,7 @@
 -- Texts that grow piece by piece.
-use Rattle.std.proofs.Common.{◌≡◌, ℕ, zero, suc, ◌+◌, ◌<◌, ◌≤◌, Some, None, slice_get, List, [], ◌∷◌, ◌++◌, length, map, max, get_or, take, drop, append_assoc, refl, sym, ap, ◌∙◌, arith}
+use Rattle.std.proofs.Common.{◌≡◌, ℕ, zero, suc, ◌+◌, ◌<◌, Some, None, slice_get, List, [], ◌∷◌, ◌++◌, length, map, max, get_or, take, drop, append_assoc, refl, sym, ap, ◌∙◌, arith}
 use Rattle.std.specs.List.{flat_map}
 use Rattle.std.proofs.lemmas.List.{flat_map_more}
-use Rattle.riichi_yaku.specs.declared.table.Yaku.{Yaku}
-use Rattle.riichi_yaku.specs.declared.table.Yaku.TheVariants.{Riichi}
-use Rattle.riichi_yaku.specs.Table.{word}
 
 -- two to five pieces written behind a text
 pub pushed-two : (old a b : List ℕ) {s t : List ℕ} → s ≡ old ++ a → t ≡ s ++ b → t ≡ old ++ (a ++ b)
@@ -38,13 +35,6 @@ pub some_there : {X : Type 0} (xs : List X) (i : ℕ) → i < length xs → slic
 some_there [] i low e = absurd (omega arith)
 some_there (x ∷ xs) zero low e = cc
 some_there (x ∷ xs) (suc i) low e = some_there xs i (omega arith) e
-
--- ---- the words of the yaku
-
--- no word is longer than `all-terminals-and-honours`
-pub word_most : (yaku : Yaku) → length (word yaku) ≤ 25
-word_most Riichi = omega arith
-word_most other = omega arith
 
 -- ---- the first elements of a list, and the next one
 

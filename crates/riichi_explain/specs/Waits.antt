@@ -98,7 +98,6 @@ wait_text row = left_text row.kind row.left ++ run_words row.sorts ++ other_word
 unfoldable pub next_wait : KindWait → List ℕ
 next_wait row = codes "; " ++ wait_text row
 
--- no line where there are no waits
 unfoldable pub waits_line : List KindWait → List ℕ
-waits_line [] = []
+waits_line [] = codes "  no tile that is left completes the hand\n"
 waits_line (row ∷ rows) = codes "  " ++ wait_text row ++ flat_map next_wait rows ++ codes "\n"

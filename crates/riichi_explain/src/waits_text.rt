@@ -10,7 +10,7 @@ use arrayvec::ArrayString;
 use riichi_tiles::Kind;
 
 /// Writes the line of the kinds that a hand waits for: of each how many are left, and the sorts of wait. Where there are
-/// none it writes nothing.
+/// none, it says so.
 #[tactic(auto, unfolding(crate::specs::Waits::waits_line))]
 pub fn push_waits_line(text: &mut ArrayString<3072>, rows: &[KindWait])
     requires few { length rows.now ≤ 34 }
@@ -22,6 +22,8 @@ pub fn push_waits_line(text: &mut ArrayString<3072>, rows: &[KindWait])
         push_wait(text, first);
         push_more_waits(text, rest);
         text.push_str("\n");
+    } else {
+        text.push_str("  no tile that is left completes the hand\n");
     }
 }
 

@@ -1,11 +1,11 @@
-//! What a win is worth: `best` gives the `WinAnswer` of a `WinRecord`, and `win_text` writes it on one line.
+//! What a win is worth: `best` gives the `WinAnswer` of a `WinRecord`, and `push_win` writes it on one line.
 //!
 //! A `Score` is that of one reading of the hand: its han (`han`, with the `dora`) and its `fu` give the
 //! `base_points`, these what each player pays (`payment`, a `Payment`), and that the winner's `gain`.
 //! The yaku are those of riichi_yaku, whose `Yaku`, `YakuSet` and `yaku_of` stand here again. `best` is the greatest
 //! score among the readings that have a yaku, and `best_reading` gives the reading too.
 //!
-//! Of 234m567m345p67s99s won by ron with 5s, `win_text(&best(&win))` says
+//! Of 234m567m345p67s99s won by ron with 5s, `push_win(&mut text, &best(&win))` writes
 //! `won 1 han 30 fu 1000 gain 1000 pinfu`.
 #![tactic(auto)]
 
@@ -30,4 +30,4 @@ pub use read::{BestReading, best_reading};
 pub use riichi_yaku::{Yaku, YakuSet, yaku_of};
 pub use score::Score;
 pub use settlement::{payment, up};
-pub use text::win_text;
+pub use text::push_win;

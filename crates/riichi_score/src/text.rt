@@ -8,22 +8,21 @@ use arrayvec::ArrayString;
 use itoa::Buffer;
 use riichi_yaku::push_words;
 
-/// The answer on one line, without the line's end.
+/// Writes the answer behind a text, without the line's end. A text that is kept need not be made anew for each answer.
 #[tactic(auto, unfolding(crate::specs::Text::text_of))]
-pub fn win_text(answer: &WinAnswer) -> ArrayString<1024>
-    ensures { result.bytes ≡ spec.text_of answer.now }
+pub fn push_win(text: &mut ArrayString<3072>, answer: &WinAnswer)
+    requires { array_string_len text.old + 664 ≤ 3072 }
+    ensures { text.new.bytes ≡ text.old.bytes ++ spec.text_of answer.now }
 {
-    let mut text = ArrayString::new();
     match answer {
         WinAnswer::NoWin => text.push_str("no win"),
         WinAnswer::NoYaku => text.push_str("no yaku"),
-        WinAnswer::Won(score) => push_score(&mut text, score),
+        WinAnswer::Won(score) => push_score(text, score),
     }
-    text
 }
 
-fn push_score(text: &mut ArrayString<1024>, score: &Score)
-    requires { array_string_len text.old + 658 ≤ 1024 }
+fn push_score(text: &mut ArrayString<3072>, score: &Score)
+    requires { array_string_len text.old + 658 ≤ 3072 }
     ensures { text.new.bytes ≡ text.old.bytes ++ spec.score_text score.now }
 {
     text.push_str("won ");
@@ -35,8 +34,8 @@ fn push_score(text: &mut ArrayString<1024>, score: &Score)
     push_dora(text, score.dora);
 }
 
-fn push_worth(text: &mut ArrayString<1024>, score: &Score)
-    requires { array_string_len text.old + 15 ≤ 1024 }
+fn push_worth(text: &mut ArrayString<3072>, score: &Score)
+    requires { array_string_len text.old + 15 ≤ 3072 }
     ensures bytes { text.new.bytes ≡ text.old.bytes ++ spec.worth_text score.now }
     ensures len { array_string_len text.new ≤ array_string_len text.old + 15 }
 {
@@ -50,8 +49,8 @@ fn push_worth(text: &mut ArrayString<1024>, score: &Score)
     }
 }
 
-fn push_payment(text: &mut ArrayString<1024>, payment: &Payment)
-    requires { array_string_len text.old + 21 ≤ 1024 }
+fn push_payment(text: &mut ArrayString<3072>, payment: &Payment)
+    requires { array_string_len text.old + 21 ≤ 3072 }
     ensures bytes { text.new.bytes ≡ text.old.bytes ++ spec.payment_text payment.now }
     ensures len { array_string_len text.new ≤ array_string_len text.old + 21 }
 {
@@ -69,8 +68,8 @@ fn push_payment(text: &mut ArrayString<1024>, payment: &Payment)
     }
 }
 
-fn push_dora(text: &mut ArrayString<1024>, dora: u8)
-    requires { array_string_len text.old + 9 ≤ 1024 }
+fn push_dora(text: &mut ArrayString<3072>, dora: u8)
+    requires { array_string_len text.old + 9 ≤ 3072 }
     ensures { text.new.bytes ≡ text.old.bytes ++ spec.dora_text dora }
 {
     if dora > 0 {
@@ -79,8 +78,8 @@ fn push_dora(text: &mut ArrayString<1024>, dora: u8)
     }
 }
 
-fn push_number(text: &mut ArrayString<1024>, number: u32)
-    requires { array_string_len text.old + 10 ≤ 1024 }
+fn push_number(text: &mut ArrayString<3072>, number: u32)
+    requires { array_string_len text.old + 10 ≤ 3072 }
     ensures bytes { text.new.bytes ≡ text.old.bytes ++ decimal number }
     ensures len { array_string_len text.new ≤ array_string_len text.old + 10 }
 {
@@ -89,8 +88,8 @@ fn push_number(text: &mut ArrayString<1024>, number: u32)
 }
 
 /// A number of at most three digits.
-fn push_small(text: &mut ArrayString<1024>, number: u8)
-    requires { array_string_len text.old + 3 ≤ 1024 }
+fn push_small(text: &mut ArrayString<3072>, number: u8)
+    requires { array_string_len text.old + 3 ≤ 3072 }
     ensures bytes { text.new.bytes ≡ text.old.bytes ++ decimal number }
     ensures len { array_string_len text.new ≤ array_string_len text.old + 3 }
 {

@@ -389,7 +389,10 @@ fn kinds_that_are_waited_for(rt: HostRuntime) -> Result<(), Fail> {
                 "waits 23m567p99s open=pon:111m,kan:4444m",
                 "  1m 1 left, two-sided\n",
             ),
-            ("waits 123456789m1111z", ""),
+            (
+                "waits 123456789m1111z",
+                "  no tile that is left completes the hand\n",
+            ),
         ],
     )
 }

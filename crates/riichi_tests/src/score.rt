@@ -4,11 +4,12 @@ use riichi_score::*;
 use std::process::Abort;
 use std::test::Fail;
 
-fn text_of(job: &Job) -> ArrayString<1024> {
-    match job {
-        Job::Win(win) => win_text(&best(win)),
-        _ => ArrayString::new(),
+fn text_of(job: &Job) -> ArrayString<3072> {
+    let mut text = ArrayString::new();
+    if let Job::Win(win) = job {
+        push_win(&mut text, &best(win));
     }
+    text
 }
 
 fn answers(rt: &impl Abort, rules: Rules, rows: &[(&str, &str)]) -> Result<(), Fail> {

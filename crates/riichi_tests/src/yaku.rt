@@ -46,7 +46,7 @@ fn drawn(text: &[u8], winning: u8) -> Result<YakuSet, Fail> {
     Ok(set.ok_or("a reading")?)
 }
 
-fn words_of(set: YakuSet) -> ArrayString<1024> {
+fn words_of(set: YakuSet) -> ArrayString<3072> {
     let mut text = ArrayString::new();
     push_words(&mut text, set);
     text

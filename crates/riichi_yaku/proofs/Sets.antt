@@ -15,7 +15,7 @@ use Rattle.riichi_blocks.specs.HandBlocks.{blocks_of}
 use Rattle.riichi_blocks.specs.Held.{all_tiles}
 use Rattle.riichi_yaku.specs.declared.table.Yaku.{Yaku}
 use Rattle.riichi_yaku.specs.declared.table.Yaku.TheVariants.{Riichi}
-use Rattle.riichi_yaku.specs.Table.{every_yaku, number, is_a_yakuman}
+use Rattle.riichi_yaku.specs.Table.{every_yaku, number, word, is_a_yakuman}
 use Rattle.riichi_yaku.specs.YakuSets.{contains, number_of, set_of}
 use Rattle.riichi_yaku.specs.Conditions.{condition, is_met, is_yakuman_met, is_other_met, counts_where, counts, holds, yaku_of}
 
@@ -116,3 +116,10 @@ unfolding yaku_of
 yakuman-alone reading w large yaku e =
     contains-set_of (counts (is_met reading w)) yaku
     ∙ no-other (is_met reading w) yaku (list_any (is_yakuman_met (is_met reading w)) every_yaku) large e
+
+-- ---- words
+
+-- no word is longer than `all-terminals-and-honours`
+pub word_short : (yaku : Yaku) → length (word yaku) ≤ 25
+word_short Riichi = omega arith
+word_short other = omega arith

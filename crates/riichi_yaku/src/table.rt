@@ -1,5 +1,5 @@
 //! The table of the yaku: each by name, with the word that is printed for it and its han.
-ghost use Rattle.std.specs.Prelude.{◌≡◌, ◌<◌, ◌≤◌, if◌then◌else◌};
+ghost use Rattle.std.specs.Prelude.{◌≡◌, ◌<◌, ◌≤◌, length, if◌then◌else◌};
 ghost use Rattle.riichi_yaku.specs.Table as spec;
 
 /// A yaku. They stand in the order of the table; the yakuman are the last twelve.
@@ -132,7 +132,8 @@ impl Yaku {
 
     /// The printed word.
     pub fn word(self) -> &'static str
-        ensures { result.now ≡ spec.word self }
+        ensures value { result.now ≡ spec.word self }
+        ensures short { length result.now ≤ 25 }
     {
         self.row().word
     }

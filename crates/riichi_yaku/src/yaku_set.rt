@@ -140,8 +140,8 @@ impl FusedIterator for YakuIter {}
 
 /// Writes the words of a set behind a text, in the order of the table, each after a space.
 #[tactic(auto, unfolding(crate::specs::YakuSets::words_of))]
-pub fn push_words(text: &mut ArrayString<1024>, set: YakuSet)
-    requires { length text.old.bytes + 593 ≤ 1024 }
+pub fn push_words(text: &mut ArrayString<3072>, set: YakuSet)
+    requires { length text.old.bytes + 593 ≤ 3072 }
     ensures value { text.new.bytes ≡ text.old.bytes ++ spec.words_of set }
     ensures most { length text.new.bytes ≤ length text.old.bytes + 593 }
 {

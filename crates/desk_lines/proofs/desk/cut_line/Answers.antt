@@ -1,5 +1,7 @@
 use Rattle.std.proofs.Common.{◌≡◌, ◌<◌, ◌+◌, ◌-◌, ◌∙◌, List, ℕ, ◌∷◌, ◌++◌, sym, ap, length, take, drop, get_or, arith, drop-cons, length-drop, add-one}
+use Rattle.std.proofs.lemmas.Bool.{eqb-true}
 use Rattle.std.proofs.lemmas.List.{take-append-drop, take_all}
+use Rattle.desk_lines.proofs.LineLemmas.{plain-before}
 use Rattle.desk_lines.proofs.desk.cut_line.Goals as goal
 
 -- a text around its byte at a place
@@ -9,15 +11,18 @@ around text place within =
     let all : take (length text - (place + 1)) (drop (place + 1) text) ≡ drop (place + 1) text = take_all (length text - (place + 1)) (drop (place + 1) text) (omega (arith, length-drop (place + 1) text)) in
     rw (all, ← rest) (sym (take-append-drop place text))
 
-pub returns-then-byte-eq10 : goal.returns-then-byte-eq10
-returns-then-byte-eq10 c =
-    let place = c.loop-place.place in
+pub returns-in-None : goal.returns-in-None
+returns-in-None c =
     let text = c.args.text.now in
-    let within : place < length text = omega arith in
-    (around text place within ∙ ap (λ (byte : ℕ). take place text ++ byte ∷ take (length text - (place + 1)) (drop (place + 1) text)) c.if-byte-eq10.true, c.loop-place.invariant)
+    let all : take (length text) text ≡ text = take_all (length text) text (omega arith) in
+    rw all at (plain-before text (length text) (omega arith) (λ k l t. c.in-None.ensures k (omega arith) l t))
 
-pub returns : goal.returns
-returns c =
+pub returns-in-Some : goal.returns-in-Some
+returns-in-Some c =
+    let place = c.in-Some.place in
     let text = c.args.text.now in
-    let all : take c.loop-place.place text ≡ text = take_all c.loop-place.place text (omega arith) in
-    rw all at c.loop-place.invariant
+    let first = c.in-Some.ensures in
+    let within : place < length text = first.0.high in (
+      around text place within ∙ ap (λ (byte : ℕ). take place text ++ byte ∷ take (length text - (place + 1)) (drop (place + 1) text)) (eqb-true (get_or text place 0) 10 first.1),
+      plain-before text place (omega (arith, within)) (λ k l t. first.0.before k (omega arith) l t),
+    )

@@ -16,7 +16,7 @@ push_str-requires-in-loop-yaku c =
     let all = ap (sum_by letters) (c.into_iter-yaku-iterator.ensures.into_iter_gives ∙ c.iter-yaku-items.ensures.value) in
     let within = sum-within letters c.into_iter-yaku-iterator.result l.yielded l.yaku-iterator c.next.new.self c.in-Some.yaku l.invariant.0 c.in-Some.ensures.steps in
     let space = ap length c.push_str.ensures.bytes ∙ length-append l.text.bytes (codes " ") in
-    (omega arith, omega (arith, all, within, letters-of l.text.bytes c.args.text.now.bytes l.yielded l.invariant.1, letters-most c.args.set, c.requires, space, ap length c.word.ensures))
+    (omega arith, omega (arith, all, within, letters-of l.text.bytes c.args.text.now.bytes l.yielded l.invariant.1, letters-most c.args.set, c.requires, space, ap length c.word.ensures.value))
 
 pub returns-clause-most : goal.returns-clause-most
 returns-clause-most c =

@@ -1,4 +1,4 @@
-use Rattle.std.proofs.Common.{Ok, Some, None, refl, sym, ap, ◌∙◌}
+use Rattle.std.proofs.Common.{Ok, refl, sym, ap, ◌∙◌}
 use Rattle.desk_lines.proofs.ExplainedPuts.{puts-none, puts-job, puts-refusal}
 use Rattle.desk_lines.proofs.explained.ExplainedResponder.respond.Goals as goal
 
