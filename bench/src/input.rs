@@ -91,25 +91,25 @@ fn win_line(dice: &mut Dice, out: &mut Vec<u8>) {
     }
 }
 
+/// The sorts of lines; `mixed` has the four others, which one by chance.
+pub const SORTS: [&str; 5] = ["win", "waits", "shape13", "shape14", "mixed"];
+
+fn hand_line(dice: &mut Dice, out: &mut Vec<u8>, word: &[u8], size: usize, changes: usize) {
+    out.extend_from_slice(word);
+    write_counts(out, &drawn(dice, size, changes));
+}
+
 /// So many lines of a sort.
 pub fn lines(sort: &str, count: usize) -> Vec<u8> {
     let mut dice = Dice::new(88172645463325252);
     let mut out = Vec::new();
     for _ in 0..count {
+        let sort = if sort == "mixed" { SORTS[dice.below(4)] } else { sort };
         match sort {
             "win" => win_line(&mut dice, &mut out),
-            "waits" => {
-                out.extend_from_slice(b"waits ");
-                write_counts(&mut out, &drawn(&mut dice, 13, 0));
-            }
-            "shape13" => {
-                out.extend_from_slice(b"shape ");
-                write_counts(&mut out, &drawn(&mut dice, 13, 4));
-            }
-            _ => {
-                out.extend_from_slice(b"shape ");
-                write_counts(&mut out, &drawn(&mut dice, 14, 4));
-            }
+            "waits" => hand_line(&mut dice, &mut out, b"waits ", 13, 0),
+            "shape13" => hand_line(&mut dice, &mut out, b"shape ", 13, 4),
+            _ => hand_line(&mut dice, &mut out, b"shape ", 14, 4),
         }
         out.push(b'\n');
     }

@@ -1,13 +1,15 @@
 //! The program beside plain Rust: the same lines, in one run, as ratios.
 //!
 //! `bench PROGRAM [LINES]` times both; `bench answer < FILE` writes the answers of plain Rust alone;
-//! `bench best TIMED` times the best score alone (`time_best` makes the program TIMED).
+//! `bench best TIMED` times the best score alone (`time_best` makes the program TIMED);
+//! `bench pool PROGRAM [LINES]` times `score` beside `line`.
 mod answer;
 mod best;
 mod input;
 mod kinds;
 mod line;
 mod pen;
+mod pool;
 mod rows;
 mod score;
 mod shape;
@@ -64,10 +66,11 @@ fn main() -> std::io::Result<()> {
             }
             Ok(())
         }
+        Some("pool") => pool::measure(&words[2], words.get(3).and_then(|word| word.parse().ok()).unwrap_or(1_000_000)),
         Some("lines") => std::io::stdout().write_all(&input::lines(&words[2], words[3].parse().unwrap_or(1000))),
         Some(program) => {
             let count = words.get(2).and_then(|word| word.parse().ok()).unwrap_or(100_000);
-            for sort in ["win", "waits", "shape13", "shape14"] {
+            for sort in input::SORTS {
                 if !measure(program, sort, count)? {
                     std::process::exit(1);
                 }
@@ -75,7 +78,7 @@ fn main() -> std::io::Result<()> {
             Ok(())
         }
         None => {
-            eprintln!("usage: bench PROGRAM [LINES] | bench best TIMED | bench answer < FILE | bench lines win|waits|shape13|shape14 COUNT");
+            eprintln!("usage: bench PROGRAM [LINES] | bench best TIMED | bench pool PROGRAM [LINES] | bench answer < FILE | bench lines win|waits|shape13|shape14|mixed COUNT");
             std::process::exit(2)
         }
     }
