@@ -56,7 +56,7 @@ size_t riichi_json(uint32_t rules, const uint8_t *line, size_t line_len, uint8_t
 /* Says why one line is answered as it is: the lines that the command `explain` writes behind its answer, each of which begins
  * with two spaces and ends with a line feed (docs/NOTATION.md, "Explanations"). Rules, line and room are those of `riichi_answer`.
  *
- * Returns how many bytes these lines take; 0 where the line has no answer, and where a hand has no waits, which has no explanation.
+ * Returns how many bytes these lines take; 0 where the line is no record.
  */
 size_t riichi_explain(uint32_t rules, const uint8_t *line, size_t line_len, uint8_t *room, size_t room_len);
 

@@ -144,19 +144,19 @@ tried: line --json
 status 1
 one" "$(echo one | by_hand "$scripts" ./linked-desk line --json; cat "$kit/given")"
 cat > "$scripts/types" << 'END'
-import os, sys, time
+import os, sys
 import pty
 child, terminal = pty.fork()
 if child == 0:
     os.execv(sys.argv[1], [sys.argv[1], "line"])
-time.sleep(0.5)
-for typed in (b"waits 8z\n", b"waits 4z\n", b"\x04"):
-    os.write(terminal, typed)
-    time.sleep(0.2)
+typed = [b"waits 8z\n", b"waits 4z\n", b"\x04"]
 said = b""
 try:
     while more := os.read(terminal, 4096):
         said += more
+        # the next line once the last one is seen: the first when it is said how to type
+        while typed and said.endswith(b"\n") and said.count(b"\n") >= 5 - len(typed):
+            os.write(terminal, typed.pop(0))
 except OSError:
     pass
 sys.stdout.write(said.decode().replace("\r", ""))

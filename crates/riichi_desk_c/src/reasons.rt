@@ -14,9 +14,8 @@ use riichi_faults::push_refusal_lines;
 use riichi_hand::{Job, LineFault, read_line};
 
 /// Says why one line is answered as it is, under the profile of this number, 1 or 2: the bytes that the text takes, 0 where the
-/// line is no record or its answer has no explanation, as that of a hand without waits. The text is put at the start of the room if all of it fits there:
-/// the lines that stand behind the answer where it is explained, each with its line feed. Under any other number the text
-/// is `refused rules`.
+/// line is no record. The text is put at the start of the room if all of it fits there: the lines that stand behind the
+/// answer where it is explained, each with its line feed. Under any other number the text is `refused rules`.
 #[tactic(auto, unfolding(riichi_explain::specs::Explanation::IsExplanation))]
 #[unsafe(no_mangle)]
 pub extern "C" fn riichi_explain(rules: u32, line: &[u8], room: &mut [u8]) -> usize

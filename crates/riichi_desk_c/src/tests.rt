@@ -79,7 +79,9 @@ fn explains_a_line(rt: HostRuntime) {
     let waits = b"  2p 4 left, two-sided; 5p 4 left, two-sided\n".as_slice();
     let needed = riichi_explain(1, b"waits 123456789m1134p", &mut room);
     assert!(rt; room.get(..needed) == Some(waits));
-    assert!(rt; riichi_explain(1, b"waits 147m258p369s1234z", &mut room) == 0);
+    let none = b"  no tile that is left completes the hand\n".as_slice();
+    let needed = riichi_explain(1, b"waits 147m258p369s1234z", &mut room);
+    assert!(rt; room.get(..needed) == Some(none));
     assert!(rt; riichi_explain(1, b"# table three", &mut room) == 0);
     let needed = riichi_explain(3, line, &mut room);
     assert!(rt; room.get(..needed) == Some(b"refused rules".as_slice()));
