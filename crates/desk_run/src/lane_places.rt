@@ -5,7 +5,7 @@ ghost use Rattle.desk_core.specs.LaneState.{new_lane, with_job, CanTakeBack, Tak
 ghost use Rattle.desk_core.specs.GivesFirst.{GivesFirst};
 ghost use Rattle.desk_core.specs.Step.{IsStep};
 ghost use Rattle.desk_core.specs.Replies.{withdraw_reply};
-ghost use Rattle.desk_run.specs.LanePlaces.{Agrees, ticket, offered};
+ghost use Rattle.desk_run.specs.LanePlaces.{Agrees, ticket, offered, outs};
 ghost use Rattle.desk_run.specs.Sitting.{Receives};
 ghost use Rattle.desk_run.specs.Offers.{IsOfferFault, MayOffer};
 ghost use Rattle.desk_core.specs.declared.event.Event.TheVariants.{Submit, Close, Take, Withdraw};
@@ -86,6 +86,16 @@ impl LanePlaces {
         let offset = self.vacant.take_last();
         self.states[offset] = PlaceState::out(ticket, job);
         Ok((offset, ticket))
+    }
+
+    /// Whether some place is free for one more job.
+    pub(crate) fn has_place(&self) -> bool
+        ensures place { result ≡ true
+            → outs self.now.states.items ≢ length self.now.states.items }
+        ensures none { result ≡ false
+            → outs self.now.states.items ≡ length self.now.states.items }
+    {
+        !self.vacant.is_empty()
     }
 
     /// Takes in the piece for the ticket that is out at the place. That of a withdrawn ticket is let

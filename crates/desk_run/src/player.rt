@@ -6,7 +6,6 @@ ghost use Rattle.desk_run.specs.Played.{IsPlayed, values};
 ghost use Rattle.desk_run.specs.Sitting.{board_name, same_board};
 
 use crate::board::Board;
-use crate::offer::OfferFault;
 use crate::table_seat::TableSeat;
 use desk_core::{Answer, Taken};
 use riichi_hand::Job;
@@ -71,9 +70,11 @@ fn offer_next(
         seat.close();
         return Ok(next);
     }
+    if !seat.has_place() {
+        return Ok(next);
+    }
     match seat.submit(board, jobs[next]) {
         Ok(_) => Ok(next + 1),
-        Err(back) if back.fault == OfferFault::NoPlace => Ok(next),
         Err(_) => Err(AllocError),
     }
 }

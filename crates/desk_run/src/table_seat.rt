@@ -1,13 +1,19 @@
-ghost use Rattle.std.specs.Prelude.{◌≡◌, ◌↔◌, ◌+◌, ◌<◌, ◌∷◌, ◌++◌, [], true, false, Ok, IsTrue, IfOk, IfErr, OnErr, length, slice_set, slice_index_or};
+ghost use Rattle.std.specs.Prelude.{◌≡◌, ◌≢◌, ◌↔◌, ◌+◌, ◌<◌, ◌∷◌, ◌++◌, [], true, false, Ok, IsTrue, IfOk, IfErr, OnErr, length, slice_set, slice_index_or};
 ghost use mathlib.Core.Option.{some};
 ghost use lib.ListN.{get_elem?};
 ghost use Rattle.desk_core.specs.LaneState.{with_job, CanTakeBack, TakesBack};
 ghost use Rattle.desk_core.specs.GivesFirst.{GivesFirst};
 ghost use Rattle.desk_core.specs.Step.{IsStep};
 ghost use Rattle.desk_core.specs.Replies.{withdraw_reply};
-ghost use Rattle.desk_run.specs.LanePlaces.{ticket, offered};
+ghost use Rattle.desk_run.specs.LanePlaces.{ticket, offered, outs};
 ghost use Rattle.desk_run.specs.Offers.{IsOfferFault, MayOffer};
-ghost use Rattle.desk_run.specs.Sitting.{Collects, out_places, place_if_out, board_name};
+ghost use Rattle.desk_run.specs.Plays.{SeatState, FetchesAt, table_of};
+ghost use Rattle.desk_run.specs.Seats.{board_id};
+ghost use Rattle.desk_run.specs.Sitting.{Collects, Receives, out_places, place_if_out, board_name};
+ghost use Rattle.desk_run.specs.Views.{with_state};
+ghost use Rattle.desk_run.specs.declared.content.Content.TheVariants.{Empty};
+ghost use Rattle.desk_run.specs.declared.view.View.TheVariants.{Table};
+ghost use Rattle.desk_core.specs.Ticketed.{Ticketed};
 ghost use Rattle.desk_core.specs.declared.event.Event.TheVariants.{Submit, Close, Take, Withdraw};
 ghost use Rattle.desk_core.specs.declared.reply.Reply.TheVariants as reply;
 ghost use Rattle.desk_run.specs.declared.place_state.PlaceState.TheVariants.{Fresh, Vacant, Out};
@@ -44,6 +50,14 @@ impl Model for TableSeat {
 }
 
 impl TableSeat {
+    /// Whether some place is free for one more job.
+    pub(crate) fn has_place(&self) -> bool
+        ensures place { result ≡ true → outs self.now.states ≢ length self.now.states }
+        ensures none { result ≡ false → outs self.now.states ≡ length self.now.states }
+    {
+        self.own.has_place()
+    }
+
     /// Offers the job to the workers. After a refusal nothing has changed.
     pub fn submit(&mut self, board: &Board, job: Job) -> Result<Ticket, OfferBack>
         requires { self.old.board ≡ board_name board.now }
@@ -89,8 +103,7 @@ impl TableSeat {
         if !board.fetch(&mut self.seat, place, offset) {
             return false;
         }
-        let piece = board.take_piece(&mut self.seat, place, offset);
-        self.own.receive(offset, piece);
+        take_in(&mut self.own, board, &mut self.seat, place, offset);
         true
     }
 
@@ -161,4 +174,24 @@ impl TableSeat {
     {
         self.own.lane.table()
     }
+}
+
+/// Takes the piece that was fetched out of its slot, and into the lane. It stands apart from the fetch, since a call clears
+/// the room of all its values when it begins, and most fetches find nothing.
+#[inline(never)]
+fn take_in(own: &mut LanePlaces, board: &Board, seat: &mut Seat, place: usize, offset: usize)
+    requires id { seat.old.table_id ≡ board_id board.now }
+    requires fetched { (m : SeatState) × FetchesAt m place offset seat.old.me
+        × ((table_of m.0).states ≡ own.old.states.items) }
+    ensures id { seat.new.table_id ≡ seat.old.table_id }
+    ensures me { (m : SeatState) → FetchesAt m place offset seat.old.me
+        → seat.new.me ≡ (Table (with_state (table_of m.0) offset Vacant), (place, Empty) ∷ m.1) }
+    ensures taken { (piece : Ticketed)
+        × (get_elem? own.old.states.items offset ≡ some (Out piece.ticket piece.job))
+        × Receives own.old.lane piece own.new.lane }
+    ensures states { (own.new.states.items ≡ slice_set own.old.states.items offset Vacant)
+        × (own.new.vacant.items ≡ own.old.vacant.items ++ offset ∷ []) }
+{
+    let piece = board.take_piece(seat, place, offset);
+    own.receive(offset, piece);
 }

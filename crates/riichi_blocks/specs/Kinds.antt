@@ -1,17 +1,13 @@
 -- Words on kinds. 0 to 8 are 1m to 9m, 9 to 17 are 1p to 9p, 18 to 26 are 1s to 9s, 27 to 33 are 1z to 7z.
-use Rattle.std.specs.Prelude.{ℕ, ◌/◌, ◌%◌, Bool, not, ◌&&◌, ◌||◌, ◌==◌, nat_le, nat_lt, List, [], ◌∷◌}
+use Rattle.std.specs.Prelude.{ℕ, ◌/◌, Bool, not, ◌&&◌, ◌||◌, ◌==◌, nat_le, nat_lt, List, [], ◌∷◌}
 use Rattle.std.specs.List.{range_with_len}
+pub use Rattle.riichi_tiles.specs.Kinds.{is_honour, is_terminal, is_orphan}
+pub use Rattle.riichi_tiles.specs.Tiles.{white, red}
 use Rattle.riichi_tiles.specs.declared.suit.Suit.{Suit}
 use Rattle.riichi_tiles.specs.declared.suit.Suit.TheVariants.{Characters, Circles, Bamboos}
 
-abbrev pub white : ℕ
-white = 31
-
 abbrev pub green : ℕ
 green = 32
-
-abbrev pub red : ℕ
-red = 33
 
 abbrev pub is_wind : ℕ → Bool
 is_wind kind = nat_le 27 kind && nat_lt kind white
@@ -26,18 +22,6 @@ winds = range_with_len 27 4
 -- White, Green, Red
 abbrev pub dragons : List ℕ
 dragons = range_with_len 31 3
-
--- a wind or a dragon
-abbrev pub is_honour : ℕ → Bool
-is_honour kind = nat_le 27 kind
-
--- a 1 or a 9 of a suit
-abbrev pub is_terminal : ℕ → Bool
-is_terminal kind = nat_lt kind 27 && (kind % 9 == 0 || kind % 9 == 8)
-
--- a terminal or an honour
-abbrev pub is_orphan : ℕ → Bool
-is_orphan kind = is_terminal kind || is_honour kind
 
 -- a 2 to 8 of a suit
 abbrev pub is_simple : ℕ → Bool

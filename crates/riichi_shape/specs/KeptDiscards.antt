@@ -17,7 +17,7 @@ kinds_of kept = kept.honours * 2 ^ 27 + kept.numbers
 
 -- a place without a discard
 abbrev pub no_discard : KeptDiscard
-no_discard = record { kind = 0; live = 0; numbers = 0; honours = 0 }
+no_discard = record { numbers = 0; honours = 0; kind = 0; live = 0 }
 
 -- a discard that has no more live copies than this
 abbrev pub gives_way : ℕ → KeptDiscard → Bool
@@ -60,7 +60,7 @@ kinds_in pairs = mask_l (map (λ kind. nat_lt 0 (copies_in pairs kind)) every_ki
 
 -- what is kept of a discard
 abbrev pub kept_of : Discard → KeptDiscard
-kept_of discard = record { kind = discard.kind; live = live_with discard; numbers = kinds_in discard.accepted % 2 ^ 27; honours = kinds_in discard.accepted / 2 ^ 27 }
+kept_of discard = record { numbers = kinds_in discard.accepted % 2 ^ 27; honours = kinds_in discard.accepted / 2 ^ 27; kind = discard.kind; live = live_with discard }
 
 -- the live copies of a kind, where some discard accepts it
 unfoldable pub most_copies : List Discard → ℕ → ℕ

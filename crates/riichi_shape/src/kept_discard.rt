@@ -10,13 +10,13 @@ use riichi_tiles::Kind;
 /// A discard without the live copies of the kinds that it accepts, which stand once for all discards of a hand.
 #[derive(Clone, Copy, Debug, PartialEq, Eq)]
 pub(crate) struct KeptDiscard {
-    pub(crate) kind: Kind,
-    /// How many tiles it accepts in all.
-    pub(crate) live: u8,
-    /// A bit for each kind of the suits with numbers that it accepts.
+    /// A bit for each kind of the suits with numbers that it accepts. It stands first, so that a discard takes eight bytes.
     numbers: u32,
     /// A bit for each honour.
     honours: u8,
+    pub(crate) kind: Kind,
+    /// How many tiles it accepts in all.
+    pub(crate) live: u8,
 }
 
 /// The bit of the first honour in a set of kinds.
@@ -32,10 +32,10 @@ impl KeptDiscard {
     {
         let bits = accepted.bits();
         KeptDiscard {
-            kind,
-            live,
             numbers: (bits % FIRST_HONOUR) as u32,
             honours: (bits / FIRST_HONOUR) as u8,
+            kind,
+            live,
         }
     }
 
@@ -44,10 +44,10 @@ impl KeptDiscard {
         ensures { result ≡ no_discard }
     {
         KeptDiscard {
-            kind: Kind::at(0),
-            live: 0,
             numbers: 0,
             honours: 0,
+            kind: Kind::at(0),
+            live: 0,
         }
     }
 
