@@ -1,5 +1,5 @@
 //! The kinds that complete seven pairs or the orphans.
-ghost use Rattle.std.specs.Prelude.{◌≡◌, ◌↔◌, ◌<◌, ◌≤◌, ℕ, IsTrue, IsFalse, length, slice_index};
+ghost use Rattle.std.specs.Prelude.{◌≡◌, ◌≢◌, ◌↔◌, ◌<◌, ◌≤◌, ◌⊎◌, ℕ, IsTrue, IsFalse, length, slice_index};
 ghost use Rattle.riichi_tiles.specs.Kinds.{is_orphan};
 ghost use Rattle.riichi_split.specs.Readings.{IsSevenPairs, IsOrphans};
 ghost use Rattle.riichi_split.specs.Waits.{with_one};
@@ -41,18 +41,37 @@ fn mark_between(tiles: &Counts, first: u8, end: u8, marks: &mut KindSet)
     }
 }
 
-/// The first kind of which neither none nor two are held, or 34: no other kind completes seven pairs.
+/// The only kind of which neither none nor two are held, or 34: no other kind completes seven pairs.
 fn single_of(counts: &[u8; 34]) -> u8
     ensures only { (kind : ℕ) → kind < 34 → IsSevenPairs (with_one counts.now kind) 0
         → kind ≡ result }
     ensures kind { result ≤ 34 }
 {
-    let mut number = 0;
-    for count in counts {
-        if *count != 0 && *count != 2 {
+    let first = next_single(counts, 0);
+    if first >= 34 {
+        return 34;
+    }
+    let second = next_single(counts, first + 1);
+    if second < 34 {
+        return 34;
+    }
+    first
+}
+
+/// The first kind from one on of which neither none nor two are held, or 34.
+fn next_single(counts: &[u8; 34], from: u8) -> u8
+    requires { from ≤ 34 }
+    ensures kind { result ≤ 34 }
+    ensures pairs { (kind : ℕ) → from ≤ kind → kind < result
+        → (slice_index counts.now kind ≡ 0) ⊎ (slice_index counts.now kind ≡ 2) }
+    ensures single { result < 34 → (from ≤ result)
+        × (slice_index counts.now result ≢ 0) × (slice_index counts.now result ≢ 2) }
+{
+    for number in from..34 {
+        let count = counts[number as usize];
+        if count != 0 && count != 2 {
             return number;
         }
-        number += 1;
     }
     34
 }
