@@ -1,41 +1,11 @@
--- Copies of each kind: tests of the kinds so far, and the tiles of one meld more.
-use Rattle.std.proofs.Common.{◌≡◌, ◌∙◌, ℕ, zero, suc, ◌+◌, ◌<◌, ◌≤◌, List, [], ◌∷◌, Bool, true, false, Some, None, nat_eq, take, length, get_or, replicate, refl, ap, arith, lit≤}
-use Rattle.std.specs.Prelude.{◌||◌, ◌&&◌, if◌then◌else◌, nat_le, slice_get}
-use Rattle.std.specs.List.{list_any, list_all}
-use Rattle.std.proofs.lemmas.Bool.{and_parts}
+-- Copies of each kind: tests of the kinds so far.
+use Rattle.std.proofs.Common.{◌≡◌, ◌∙◌, ℕ, ◌+◌, ◌<◌, Bool, take, ap, arith}
+use Rattle.std.specs.Prelude.{◌||◌}
+use Rattle.std.specs.List.{list_any}
 use Rattle.std.proofs.lemmas.List.Folds.{list_any_more}
 use Rattle.std.proofs.lemmas.List.FromFn.{get_or-range_with_len}
-use Rattle.riichi_tiles.specs.declared.meld.Meld.{Meld}
-use Rattle.riichi_tiles.specs.declared.meld.Meld.TheVariants.{Chi, Pon, Kan, Ankan}
-use Rattle.riichi_tiles.specs.Melds.{every_kind, tiles, tiles_of, is_meld}
+use Rattle.riichi_tiles.specs.Melds.{every_kind}
 
 pub any_kind_more : (p : ℕ → Bool) (n : ℕ) → n < 34 → list_any p (take (n + 1) every_kind) ≡ (list_any p (take n every_kind) || p n)
 any_kind_more p n within =
     list_any_more p every_kind n 0 within ∙ ap (λ kind. list_any p (take n every_kind) || p kind) (get_or-range_with_len 0 34 n 0 within ∙ omega arith)
-
--- the tiles of the melds so far, and of the next
-pub tiles_more : (melds : List Meld) (place : ℕ) (meld : Meld) (kind : ℕ) → Some meld ≡ slice_get melds place → tiles (take (suc place) melds) kind ≡ tiles (take place melds) kind + tiles_of meld kind
-tiles_more [] place meld kind is = absurd (cc)
-tiles_more (first ∷ melds) zero meld kind is = let e : first ≡ meld = cc in rw e (omega arith)
-tiles_more (first ∷ melds) (suc place) meld kind is = let e = tiles_more melds place meld kind is in omega (arith, e)
-
-pub tiles_of-most : (meld : Meld) (kind : ℕ) → tiles_of meld kind ≤ 4
-tiles_of-most (Chi low) kind = elim (nat_le low kind && nat_le kind (low + 2)) as (λ b. (if b then 1 else 0) ≤ 4) [ true ↦ lit≤ tt | false ↦ lit≤ tt ]
-tiles_of-most (Pon held) kind = elim (nat_eq held kind) as (λ b. (if b then 3 else 0) ≤ 4) [ true ↦ lit≤ tt | false ↦ lit≤ tt ]
-tiles_of-most (Kan held) kind = elim (nat_eq held kind) as (λ b. (if b then 4 else 0) ≤ 4) [ true ↦ lit≤ tt | false ↦ lit≤ tt ]
-tiles_of-most (Ankan held) kind = elim (nat_eq held kind) as (λ b. (if b then 4 else 0) ≤ 4) [ true ↦ lit≤ tt | false ↦ lit≤ tt ]
-
-pub zeros : (n kind : ℕ) → ◌≡◌ {A = ℕ} (get_or (replicate n 0) kind 0) 0
-zeros zero kind = refl
-zeros (suc n) zero = refl
-zeros (suc n) (suc kind) = zeros n kind
-
-pub within_melds : (melds : List Meld) (place : ℕ) → place < length melds → None ≡ slice_get melds place → ⊥
-within_melds [] place within none = omega (arith, within)
-within_melds (first ∷ melds) zero within none = absurd (cc)
-within_melds (first ∷ melds) (suc place) within none = within_melds melds place (omega (arith, within)) none
-
-pub is_meld-get : (melds : List Meld) (place : ℕ) (meld : Meld) → list_all is_meld melds ≡ true → Some meld ≡ slice_get melds place → is_meld meld ≡ true
-is_meld-get [] place meld all is = absurd (cc)
-is_meld-get (first ∷ melds) zero meld all is = let e : first ≡ meld = cc in rw e at (and_parts (is_meld first) (list_all is_meld melds) all).0
-is_meld-get (first ∷ melds) (suc place) meld all is = is_meld-get melds place meld (and_parts (is_meld first) (list_all is_meld melds) all).1 is

@@ -20,7 +20,6 @@
 //! ```
 #![tactic(auto)]
 
-mod copies;
 mod fault;
 mod hand;
 mod job;

@@ -3,10 +3,9 @@ ghost use Rattle.std.specs.Prelude.{◌≡◌, ◌≤◌, ℕ, slice_index};
 ghost use Rattle.riichi_tiles.specs.Melds.{tiles};
 ghost use Rattle.riichi_hand.specs.Win as spec;
 
-use crate::copies::meld_tiles;
 use crate::fault::{LineCode, LineFault};
 use crate::hand::is_thirteen;
-use riichi_tiles::{Counts, Kind, Melds, Reds};
+use riichi_tiles::{Counts, Kind, Melds, Reds, meld_tiles};
 use std::marker::Model;
 
 /// The rule profile of a win.

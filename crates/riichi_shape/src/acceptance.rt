@@ -10,9 +10,8 @@ use crate::kind_bits::KindBits;
 use crate::lacked_kinds::LackedKinds;
 use crate::live_copies::LiveCopies;
 use crate::live_list::LiveList;
-use crate::melded_tiles::melded_tiles;
 use riichi_rows::FreshRows;
-use riichi_tiles::{Counts, Melds};
+use riichi_tiles::{Counts, Melds, meld_tiles};
 
 /// The live copies of every kind: those that are in neither the hand nor the melds, and not seen
 /// elsewhere.
@@ -20,7 +19,7 @@ pub(crate) fn live_copies(hand: &Counts, melds: &Melds, seen: &Counts) -> LiveCo
     ensures { AreLiveCopies hand.now melds.now seen.now result.copies }
 {
     let held = hand.to_array();
-    let melded = melded_tiles(melds);
+    let melded = meld_tiles(melds);
     let elsewhere = seen.to_array();
     let mut copies = [0; 34];
     let mut marks = [false; 34];

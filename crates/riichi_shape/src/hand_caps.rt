@@ -3,9 +3,8 @@ ghost use Rattle.std.specs.Prelude.{ℕ, ◌≡◌, ◌+◌, ◌-◌, ◌<◌, �
 ghost use Rattle.riichi_tiles.specs.Melds.{tiles};
 ghost use Rattle.riichi_shape.specs.Suits.{AreHandCaps};
 
-use crate::melded_tiles::melded_tiles;
 use crate::suit_caps::SuitCaps;
-use riichi_tiles::Melds;
+use riichi_tiles::{Melds, meld_tiles};
 
 /// How many of each kind a winning multiset may hold beside the melds, suit by suit. It is told
 /// once a hand: the melds stay as they are while tiles are added and removed.
@@ -38,7 +37,7 @@ impl HandCaps {
         requires { (k : ℕ) → k < 34 → tiles melds.now k ≤ 4 }
         ensures { AreHandCaps melds.now result }
     {
-        let melded = melded_tiles(melds);
+        let melded = meld_tiles(melds);
         HandCaps {
             characters: suit_caps(&melded, 0, 9),
             circles: suit_caps(&melded, 9, 9),

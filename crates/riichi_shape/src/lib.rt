@@ -35,7 +35,6 @@ mod lacked_kinds;
 pub mod laws;
 mod live_copies;
 mod live_list;
-mod melded_tiles;
 mod nearest_form;
 mod orphans;
 mod pairs;

@@ -182,6 +182,9 @@ fn adds_up_melds_and_blocks(rt: HostRuntime) {
     assert_eq!(rt; melds.tiles(Kind::at(27)), 4);
     assert_eq!(rt; melds.tiles(Kind::at(4)), 1);
     assert_eq!(rt; melds.tiles(Kind::at(5)), 0);
+    let tiles = meld_tiles(&melds);
+    assert_eq!(rt; tiles.iter().filter(|held| **held > 0).count(), 4);
+    assert!(rt; tiles[27] == 4 && tiles[2] == 1 && tiles[3] == 1 && tiles[4] == 1);
     assert!(rt; !run.is_kong());
     assert!(rt; run.is_open());
 

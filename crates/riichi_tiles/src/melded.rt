@@ -2,10 +2,11 @@
 ghost use Rattle.std.specs.Prelude.{◌≡◌, ◌≤◌, ◌+◌, ℕ, slice_index, true};
 ghost use Rattle.riichi_tiles.specs.Melds.{tiles, tiles_of, is_meld};
 
-use riichi_tiles::{Meld, Melds};
+use crate::meld::Meld;
+use crate::melds::Melds;
 
-/// The tiles of melds, kind by kind.
-pub(crate) fn meld_tiles(melds: &Melds) -> [u8; 34]
+/// How many tiles of each kind the melds of a hand have together, kind by kind.
+pub fn meld_tiles(melds: &Melds) -> [u8; 34]
     ensures value { (kind : ℕ) → slice_index result kind ≡ tiles melds.now kind }
     ensures most { (kind : ℕ) → slice_index result kind ≤ 16 }
 {

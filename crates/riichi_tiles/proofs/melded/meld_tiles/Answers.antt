@@ -1,8 +1,8 @@
 use Rattle.std.proofs.Common.{◌∙◌, ◌+◌, ap, sym, arith, add-one, take, get_or}
 use Rattle.riichi_tiles.specs.Melds.{tiles, tiles_of}
-use Rattle.riichi_hand.proofs.CopyLemmas.{tiles_more, tiles_of-most, zeros, within_melds, is_meld-get}
-use Rattle.riichi_hand.proofs.copies.meld_tiles.Goals.{in-Some, in_default}
-use Rattle.riichi_hand.proofs.copies.meld_tiles.Goals as goal
+use Rattle.riichi_tiles.proofs.MeldTiles.{tiles_more, tiles_of-most, zeros, within_melds, is_meld-get}
+use Rattle.riichi_tiles.proofs.melded.meld_tiles.Goals.{in-Some, in_default}
+use Rattle.riichi_tiles.proofs.melded.meld_tiles.Goals as goal
 
 pub loop-place-init : goal.loop-place-init
 loop-place-init c = (zeros 34, λ kind. omega (arith, zeros 34 kind))

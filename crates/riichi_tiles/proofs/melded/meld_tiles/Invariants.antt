@@ -1,6 +1,6 @@
 use Rattle.std.proofs.Common.{◌≡◌, ◌≤◌, ◌*◌, ℕ, take, get_or}
 use Rattle.riichi_tiles.specs.Melds.{tiles}
-use Rattle.riichi_hand.proofs.copies.meld_tiles.Given as goal
+use Rattle.riichi_tiles.proofs.melded.meld_tiles.Given as goal
 
 -- the tiles of the melds so far
 abbrev pub invariant-loop-place : goal.invariant-loop-place

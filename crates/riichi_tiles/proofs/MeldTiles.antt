@@ -1,0 +1,35 @@
+-- The tiles of melds: those of one meld more.
+use Rattle.std.proofs.Common.{◌≡◌, ℕ, zero, suc, ◌+◌, ◌<◌, ◌≤◌, List, [], ◌∷◌, true, false, Some, None, nat_eq, take, length, get_or, replicate, refl, arith, lit≤}
+use Rattle.std.specs.Prelude.{◌&&◌, if◌then◌else◌, nat_le, slice_get}
+use Rattle.std.specs.List.{list_all}
+use Rattle.std.proofs.lemmas.Bool.{and_parts}
+use Rattle.riichi_tiles.specs.declared.meld.Meld.{Meld}
+use Rattle.riichi_tiles.specs.declared.meld.Meld.TheVariants.{Chi, Pon, Kan, Ankan}
+use Rattle.riichi_tiles.specs.Melds.{tiles, tiles_of, is_meld}
+
+-- the tiles of the melds so far, and of the next
+pub tiles_more : (melds : List Meld) (place : ℕ) (meld : Meld) (kind : ℕ) → Some meld ≡ slice_get melds place → tiles (take (suc place) melds) kind ≡ tiles (take place melds) kind + tiles_of meld kind
+tiles_more [] place meld kind is = absurd (cc)
+tiles_more (first ∷ melds) zero meld kind is = let e : first ≡ meld = cc in rw e (omega arith)
+tiles_more (first ∷ melds) (suc place) meld kind is = let e = tiles_more melds place meld kind is in omega (arith, e)
+
+pub tiles_of-most : (meld : Meld) (kind : ℕ) → tiles_of meld kind ≤ 4
+tiles_of-most (Chi low) kind = elim (nat_le low kind && nat_le kind (low + 2)) as (λ b. (if b then 1 else 0) ≤ 4) [ true ↦ lit≤ tt | false ↦ lit≤ tt ]
+tiles_of-most (Pon held) kind = elim (nat_eq held kind) as (λ b. (if b then 3 else 0) ≤ 4) [ true ↦ lit≤ tt | false ↦ lit≤ tt ]
+tiles_of-most (Kan held) kind = elim (nat_eq held kind) as (λ b. (if b then 4 else 0) ≤ 4) [ true ↦ lit≤ tt | false ↦ lit≤ tt ]
+tiles_of-most (Ankan held) kind = elim (nat_eq held kind) as (λ b. (if b then 4 else 0) ≤ 4) [ true ↦ lit≤ tt | false ↦ lit≤ tt ]
+
+pub zeros : (n kind : ℕ) → ◌≡◌ {A = ℕ} (get_or (replicate n 0) kind 0) 0
+zeros zero kind = refl
+zeros (suc n) zero = refl
+zeros (suc n) (suc kind) = zeros n kind
+
+pub within_melds : (melds : List Meld) (place : ℕ) → place < length melds → None ≡ slice_get melds place → ⊥
+within_melds [] place within none = omega (arith, within)
+within_melds (first ∷ melds) zero within none = absurd (cc)
+within_melds (first ∷ melds) (suc place) within none = within_melds melds place (omega (arith, within)) none
+
+pub is_meld-get : (melds : List Meld) (place : ℕ) (meld : Meld) → list_all is_meld melds ≡ true → Some meld ≡ slice_get melds place → is_meld meld ≡ true
+is_meld-get [] place meld all is = absurd (cc)
+is_meld-get (first ∷ melds) zero meld all is = let e : first ≡ meld = cc in rw e at (and_parts (is_meld first) (list_all is_meld melds) all).0
+is_meld-get (first ∷ melds) (suc place) meld all is = is_meld-get melds place meld (and_parts (is_meld first) (list_all is_meld melds) all).1 is
