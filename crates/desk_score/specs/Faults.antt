@@ -1,4 +1,5 @@
--- How the faults of a text and of a run are told.
+-- How the faults of a text and of a run are told: as which fault of a score, by which code and words, with which exit status.
+use Rattle.std.specs.Prelude.{ℕ, List, codes}
 use Rattle.desk_lines.specs.declared.fault.DeskFault.{DeskFault}
 use Rattle.desk_lines.specs.declared.fault.DeskFault.TheVariants as desk
 use Rattle.desk_run.specs.declared.run_fault.RunFault.{RunFault}
@@ -16,3 +17,27 @@ abbrev pub run_fault : RunFault → ScoreFault
 run_fault run.Range = Range
 run_fault run.Memory = Memory
 run_fault run.Thread = Thread
+
+-- the code of a fault
+abbrev pub code_of : ScoreFault → List ℕ
+code_of Read = codes "F1"
+code_of Write = codes "F2"
+code_of Memory = codes "F3"
+code_of Range = codes "B1"
+code_of Thread = codes "B4"
+
+-- a fault in words
+abbrev pub words_of : ScoreFault → List ℕ
+words_of Read = codes "the input can't be read, or has no end"
+words_of Write = codes "the answers can't be written"
+words_of Memory = codes "there is no memory"
+words_of Range = codes "there are too many files, or too many hands in one"
+words_of Thread = codes "there is no thread"
+
+-- 2 where there was too much, 3 where input or output failed, 4 where there was no memory or no thread
+abbrev pub status_of : ScoreFault → ℕ
+status_of Range = 2
+status_of Read = 3
+status_of Write = 3
+status_of Memory = 4
+status_of Thread = 4

@@ -23,6 +23,49 @@ pub enum ScoreFault {
     Thread,
 }
 
+impl ScoreFault {
+    ghost use Rattle.std.specs.Prelude.{◌≡◌};
+    ghost use Rattle.desk_score.specs.Faults.{code_of, words_of, status_of};
+
+    /// The code of the fault, as the program tells it on standard error.
+    pub fn code(self) -> &'static str
+        ensures { result.now ≡ code_of self }
+    {
+        match self {
+            ScoreFault::Read => "F1",
+            ScoreFault::Write => "F2",
+            ScoreFault::Memory => "F3",
+            ScoreFault::Range => "B1",
+            ScoreFault::Thread => "B4",
+        }
+    }
+
+    /// The fault in words, as the command `help-codes` has them.
+    pub fn words(self) -> &'static str
+        ensures { result.now ≡ words_of self }
+    {
+        match self {
+            ScoreFault::Read => "the input can't be read, or has no end",
+            ScoreFault::Write => "the answers can't be written",
+            ScoreFault::Memory => "there is no memory",
+            ScoreFault::Range => "there are too many files, or too many hands in one",
+            ScoreFault::Thread => "there is no thread",
+        }
+    }
+
+    /// The exit status of a program that ends by the fault: 2 where there was too much, 3 where input or output failed, 4
+    /// where there was no memory or no thread.
+    pub fn status(self) -> u8
+        ensures { result ≡ status_of self }
+    {
+        match self {
+            ScoreFault::Range => 2,
+            ScoreFault::Read | ScoreFault::Write => 3,
+            ScoreFault::Memory | ScoreFault::Thread => 4,
+        }
+    }
+}
+
 impl From<DeskFault> for ScoreFault {
     ghost use Rattle.std.specs.Prelude.{◌≡◌};
     ghost use Rattle.desk_score.specs.Faults.{desk_fault};

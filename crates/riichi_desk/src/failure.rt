@@ -1,6 +1,4 @@
 //! What keeps the program from an answer, and how it is told.
-ghost use Rattle.std.specs.Prelude.{◌≡◌};
-ghost use Rattle.riichi_desk.specs.Statuses as spec;
 
 use clap::Error;
 use clap::error::ErrorKind;
@@ -71,50 +69,15 @@ pub fn report<R: Print + Eprint>(rt: &R, failure: &Failure<'_>) -> u8 {
             3
         }
         Failure::Fault(fault) => {
-            let code = code_of(*fault);
+            let code = fault.code();
             let _ = eprintln!(rt; "riichi_desk: fault {code}");
-            status_of(*fault)
+            fault.status()
         }
         Failure::Explained(fault) => {
             let fault = ScoreFault::from(*fault);
-            let (code, words) = (code_of(fault), words_of(fault));
+            let (code, words) = (fault.code(), fault.words());
             let _ = eprintln!(rt; "riichi_desk: fault {code}: {words}");
-            status_of(fault)
+            fault.status()
         }
-    }
-}
-
-fn code_of(fault: ScoreFault) -> &'static str
-    ensures { result.now ≡ spec.code_of fault }
-{
-    match fault {
-        ScoreFault::Read => "F1",
-        ScoreFault::Write => "F2",
-        ScoreFault::Memory => "F3",
-        ScoreFault::Range => "B1",
-        ScoreFault::Thread => "B4",
-    }
-}
-
-/// A fault in words, as `help-codes` has them.
-fn words_of(fault: ScoreFault) -> &'static str
-    ensures { result.now ≡ spec.words_of fault }
-{
-    match fault {
-        ScoreFault::Read => "the input can't be read, or has no end",
-        ScoreFault::Write => "the answers can't be written",
-        ScoreFault::Memory => "there is no memory",
-        ScoreFault::Range => "there are too many files, or too many hands in one",
-        ScoreFault::Thread => "there is no thread",
-    }
-}
-
-fn status_of(fault: ScoreFault) -> u8
-    ensures { result ≡ spec.status_of fault }
-{
-    match fault {
-        ScoreFault::Range => 2,
-        ScoreFault::Read | ScoreFault::Write => 3,
-        ScoreFault::Memory | ScoreFault::Thread => 4,
     }
 }
