@@ -1,6 +1,7 @@
 //! A win, and what must be true of its parts.
 ghost use Rattle.std.specs.Prelude.{◌≡◌, ◌≤◌, ℕ, slice_index};
 ghost use Rattle.riichi_tiles.specs.Melds.{tiles};
+ghost use Rattle.riichi_hand.specs.Faults.{first_fault};
 ghost use Rattle.riichi_hand.specs.Win as spec;
 
 use crate::fault::{LineCode, LineFault};
@@ -136,43 +137,14 @@ impl WinRecord {
     pub fn new(parts: WinParts) -> Result<WinRecord, LineFault>
         ensures { result ≡ spec.win_of parts }
     {
-        if is_out_of_range(&parts) {
-            return Err(LineFault::Line(LineCode::H4));
-        }
-        if has_wrong_size(&parts) {
-            return Err(LineFault::Line(LineCode::H8));
-        }
-        if has_five_copies(&parts) {
-            return Err(LineFault::Line(LineCode::H9));
-        }
-        if parts.riichi != 0 && !parts.melds.concealed() {
-            return Err(LineFault::Line(LineCode::H10));
-        }
-        if parts.riichi == 0 && (parts.flags.ippatsu || parts.ura.total() > 0) {
-            return Err(LineFault::Line(LineCode::H11));
-        }
-        if parts.flags.rinshan && (is_ron(parts.by) || !parts.melds.has_kong()) {
-            return Err(LineFault::Line(LineCode::H12));
-        }
-        if parts.flags.chankan && !is_ron(parts.by) {
-            return Err(LineFault::Line(LineCode::H13));
-        }
-        if are_exclusive(parts.flags) {
-            return Err(LineFault::Line(LineCode::H14));
-        }
-        if is_late_first(&parts) {
-            return Err(LineFault::Line(LineCode::H15));
+        if let Some(fault) = fault_of(&parts) {
+            return Err(fault);
         }
         match parts.rules {
             Rules::One => Ok(WinRecord {
                 parts: without_reds(parts),
             }),
-            Rules::Two => {
-                if has_too_many_reds(&parts) {
-                    return Err(LineFault::Line(LineCode::H16));
-                }
-                Ok(WinRecord { parts })
-            }
+            Rules::Two => Ok(WinRecord { parts }),
         }
     }
 
@@ -280,6 +252,53 @@ impl WinRecord {
         ensures { result ≡ self.now.reds }
     {
         self.parts.reds
+    }
+}
+
+/// The first fault of the parts, if they have one.
+#[inline(never)]
+fn fault_of(parts: &WinParts) -> Option<LineFault>
+    ensures { result ≡ first_fault (spec.win_faults parts.now) }
+{
+    if is_out_of_range(parts) {
+        return Some(LineFault::Line(LineCode::H4));
+    }
+    if has_wrong_size(parts) {
+        return Some(LineFault::Line(LineCode::H8));
+    }
+    if has_five_copies(parts) {
+        return Some(LineFault::Line(LineCode::H9));
+    }
+    if parts.riichi != 0 && !parts.melds.concealed() {
+        return Some(LineFault::Line(LineCode::H10));
+    }
+    if parts.riichi == 0 && (parts.flags.ippatsu || parts.ura.total() > 0) {
+        return Some(LineFault::Line(LineCode::H11));
+    }
+    if parts.flags.rinshan && (is_ron(parts.by) || !parts.melds.has_kong()) {
+        return Some(LineFault::Line(LineCode::H12));
+    }
+    if parts.flags.chankan && !is_ron(parts.by) {
+        return Some(LineFault::Line(LineCode::H13));
+    }
+    if are_exclusive(parts.flags) {
+        return Some(LineFault::Line(LineCode::H14));
+    }
+    if is_late_first(parts) {
+        return Some(LineFault::Line(LineCode::H15));
+    }
+    if is_two(parts.rules) && has_too_many_reds(parts) {
+        return Some(LineFault::Line(LineCode::H16));
+    }
+    None
+}
+
+fn is_two(rules: Rules) -> bool
+    ensures { result ≡ spec.is_two rules }
+{
+    match rules {
+        Rules::One => false,
+        Rules::Two => true,
     }
 }
 
