@@ -1,15 +1,9 @@
 -- The lowest kind of which any are held.
-use Rattle.std.proofs.Common.{◌≡◌, ℕ, zero, suc, ◌+◌, ◌<◌, ◌≤◌, List, Option, Some, None, Bool, nat_lt, get_or, refl, sym, ap, subst, inl, inr, arith, true, false}
-use Rattle.std.specs.Prelude.{MatchOption, SomeIff}
+use Rattle.std.proofs.Common.{◌≡◌, ℕ, zero, suc, ◌+◌, ◌<◌, ◌≤◌, List, Option, Some, None, Bool, nat_lt, get_or, refl, sym, inl, inr, arith}
+use Rattle.std.specs.Prelude.{MatchOption}
 use Rattle.std.specs.List.{find, range_with_len}
 use Rattle.std.proofs.lemmas.Bool.{cases_lt, lt-ltb}
 use Rattle.riichi_tiles.specs.Melds.{every_kind}
-
--- the lowest of the kinds below a number; 34 where none of these is held
-pub record IsLowestTo (counts : List ℕ) (number low : ℕ) : Type 0 where
-  pub within : low ≤ 34
-  pub held : low < 34 → (low < number) × (0 < get_or counts low 0)
-  pub none : (kind : ℕ) → kind < number → kind < low → get_or counts kind 0 ≡ 0
 
 abbrev is_held : List ℕ → ℕ → Bool
 is_held counts kind = nat_lt 0 (get_or counts kind 0)
@@ -33,10 +27,6 @@ abbrev pub IsLowest : List ℕ → Option ℕ → Type 0
 IsLowest counts found =
     MatchOption found ((kind : ℕ) → kind < 34 → get_or counts kind 0 ≡ 0)
     (λ low. (low < 34) × (0 < get_or counts low 0) × ((kind : ℕ) → kind < low → get_or counts kind 0 ≡ 0))
-
-pub lowest_is : (counts : List ℕ) (number low : ℕ) (found : Option ℕ) → IsLowestTo counts number low → 34 ≤ number → SomeIff found (low < 34) low → IsLowest counts found
-lowest_is counts number low None least all none = λ kind below. least.none kind (omega arith) (elim (cases_lt kind low) [ inl lower ↦ lower | inr above ↦ absurd (none (omega arith)) ])
-lowest_is counts number low (Some kind) least all some = rw some.1 (some.0, (least.held some.0).1, λ k below. least.none k (omega (arith, (least.held some.0).0)) below)
 
 pub lowest_found : (counts : List ℕ) (found : Option ℕ) → IsLowest counts found → found ≡ find (λ kind. nat_lt 0 (get_or counts kind 0)) every_kind
 lowest_found counts None none = sym (find_nothing counts 0 34 (λ kind k. none kind (omega arith)))
