@@ -1,9 +1,9 @@
 //! The values of the keys that are no notation, but for the flags.
 ghost use Rattle.std.specs.Prelude.{◌≡◌};
-ghost use Rattle.riichi_tiles.specs.Notation.{is_digit};
 ghost use Rattle.riichi_hand.specs.Values.{by_of, wind_of, riichi_of, number_of};
 
 use crate::win::{By, Wind};
+use riichi_tiles::is_digit;
 
 pub(crate) fn read_by(value: &[u8]) -> Option<By>
     ensures { result ≡ by_of value.now }
@@ -55,10 +55,4 @@ pub(crate) fn read_number(value: &[u8]) -> Option<u8>
         },
         _ => None,
     }
-}
-
-fn is_digit(byte: u8) -> bool
-    ensures { result ≡ is_digit byte }
-{
-    byte >= b'0' && byte <= b'9'
 }
