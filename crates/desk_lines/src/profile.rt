@@ -52,11 +52,9 @@ pub(crate) fn profile_of(line: &[u8]) -> Option<Rules>
 fn profile_numbered(number: &[u8]) -> Option<Rules>
     ensures { result ≡ profile_numbered number.now }
 {
-    if number == b"1".as_slice() {
-        Some(Rules::One)
-    } else if number == b"2".as_slice() {
-        Some(Rules::Two)
-    } else {
-        None
+    match number {
+        b"1" => Some(Rules::One),
+        b"2" => Some(Rules::Two),
+        _ => None,
     }
 }
