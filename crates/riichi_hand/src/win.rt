@@ -266,7 +266,7 @@ fn fault_of(parts: &WinParts) -> Option<LineFault>
     if has_wrong_size(parts) {
         return Some(LineFault::Line(LineCode::H8));
     }
-    if has_five_copies(parts) {
+    if has_five_in(parts) {
         return Some(LineFault::Line(LineCode::H9));
     }
     if parts.riichi != 0 && !parts.melds.concealed() {
@@ -327,8 +327,8 @@ fn is_ron(by: By) -> bool
 
 /// Over hand, melds, the winning tile and the indicators.
 #[tactic(auto, using(crate::proofs::CopyLemmas::any_kind_more))]
-fn has_five_copies(parts: &WinParts) -> bool
-    ensures { result ≡ spec.has_five_copies parts.now }
+fn has_five_in(parts: &WinParts) -> bool
+    ensures { result ≡ spec.has_five_in parts.now }
 {
     let melds = meld_tiles(&parts.melds);
     let mut found = false;
@@ -350,8 +350,8 @@ fn copies_of(parts: &WinParts, melds: &[u8; 34], kind: Kind) -> u8
 }
 
 /// The copies of a kind among hand, melds and the winning tile.
-fn copies_held(parts: &WinParts, kind: Kind) -> u8
-    ensures value { result ≡ spec.copies_held parts.now kind }
+fn copies_won(parts: &WinParts, kind: Kind) -> u8
+    ensures value { result ≡ spec.copies_won parts.now kind }
     ensures most { result ≤ 21 }
 {
     let one = if parts.winning == kind { 1 } else { 0 };
@@ -386,9 +386,9 @@ fn has_other_flag(flags: Flags) -> bool
 fn has_too_many_reds(parts: &WinParts) -> bool
     ensures { result ≡ spec.has_too_many_reds parts.now }
 {
-    let characters = parts.reds.get(0) > copies_held(parts, Kind::at(4));
-    let circles = parts.reds.get(1) > copies_held(parts, Kind::at(13));
-    let bamboos = parts.reds.get(2) > copies_held(parts, Kind::at(22));
+    let characters = parts.reds.get(0) > copies_won(parts, Kind::at(4));
+    let circles = parts.reds.get(1) > copies_won(parts, Kind::at(13));
+    let bamboos = parts.reds.get(2) > copies_won(parts, Kind::at(22));
     characters || circles || bamboos
 }
 
