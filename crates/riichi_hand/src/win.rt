@@ -1,5 +1,5 @@
 //! A win, and what must be true of its parts.
-ghost use Rattle.std.specs.Prelude.{◌≡◌, ◌≤◌, ℕ, slice_index};
+ghost use Rattle.std.specs.Prelude.{◌≡◌, ◌≤◌, ◌+◌, ℕ, slice_index, nat_eq, if◌then◌else◌};
 ghost use Rattle.riichi_tiles.specs.Melds.{tiles};
 ghost use Rattle.riichi_hand.specs.Faults.{first_fault};
 ghost use Rattle.riichi_hand.specs.Win as spec;
@@ -133,6 +133,7 @@ impl Model for WinRecord {
 impl WinRecord {
     /// The record of the parts, or the first of their faults: H4 for a number out of range, then H8 to H15, and under the second
     /// profile H16. Under the first profile no red five is kept.
+    #[inline(never)]
     #[tactic(auto, unfolding(crate::specs::Win::win_of))]
     pub fn new(parts: WinParts) -> Result<WinRecord, LineFault>
         ensures { result ≡ spec.win_of parts }
@@ -330,22 +331,34 @@ fn is_ron(by: By) -> bool
 fn has_five_in(parts: &WinParts) -> bool
     ensures { result ≡ spec.has_five_in parts.now }
 {
-    let melds = meld_tiles(&parts.melds);
+    let called = called_tiles(parts);
     let mut found = false;
     for number in 0..34 {
-        found = found | (copies_of(parts, &melds, Kind::at(number)) > 4);
+        found = found | (copies_of(parts, &called, Kind::at(number)) > 4);
     }
     found
 }
 
-/// The copies of a kind, with those among the indicators, where the tiles of the melds are told kind by kind.
-fn copies_of(parts: &WinParts, melds: &[u8; 34], kind: Kind) -> u8
-    requires value { (kind : ℕ) → slice_index melds.now kind ≡ tiles parts.now.melds kind }
-    requires most { (kind : ℕ) → slice_index melds.now kind ≤ 16 }
+/// How many tiles of each kind the melds and the winning tile have together, kind by kind.
+fn called_tiles(parts: &WinParts) -> [u8; 34]
+    ensures value { (kind : ℕ) → slice_index result kind
+        ≡ tiles parts.now.melds kind + (if nat_eq parts.now.winning kind then 1 else 0) }
+    ensures most { (kind : ℕ) → slice_index result kind ≤ 17 }
+{
+    let mut called = meld_tiles(&parts.melds);
+    called[parts.winning.index()] += 1;
+    called
+}
+
+/// The copies of a kind, with those among the indicators, where the tiles of the melds and the winning tile are told
+/// kind by kind.
+fn copies_of(parts: &WinParts, called: &[u8; 34], kind: Kind) -> u8
+    requires value { (kind : ℕ) → slice_index called.now kind
+        ≡ tiles parts.now.melds kind + (if nat_eq parts.now.winning kind then 1 else 0) }
+    requires most { (kind : ℕ) → slice_index called.now kind ≤ 17 }
     ensures { result ≡ spec.copies_in parts.now kind }
 {
-    let one = if parts.winning == kind { 1 } else { 0 };
-    let held = parts.concealed.get(kind) + melds[kind.index()] + one;
+    let held = parts.concealed.get(kind) + called[kind.index()];
     held + parts.dora.get(kind) + parts.ura.get(kind)
 }
 
