@@ -133,7 +133,6 @@ impl Model for WinRecord {
 impl WinRecord {
     /// The record of the parts, or the first of their faults: H4 for a number out of range, then H8 to H15, and under the second
     /// profile H16. Under the first profile no red five is kept.
-    #[inline(never)]
     #[tactic(auto, unfolding(crate::specs::Win::win_of))]
     pub fn new(parts: WinParts) -> Result<WinRecord, LineFault>
         ensures { result ≡ spec.win_of parts }

@@ -46,6 +46,7 @@ pub(crate) fn make_job(
 }
 
 /// The win, where there is one winning tile and the record takes the parts.
+#[inline(never)]
 fn make_win(
     rules: Rules,
     keys: WinKeys,
