@@ -1,12 +1,10 @@
 //! The rule profile that a stream's first line can set.
 ghost use Rattle.std.specs.Prelude.{◌≡◌, ◌<◌, Some};
-ghost use Rattle.std.specs.List.{list_any};
-ghost use Rattle.riichi_hand.specs.Lines.{is_other_byte};
 ghost use Rattle.riichi_hand.specs.declared.win.Rules.{Rules};
 ghost use Rattle.riichi_hand.specs.declared.win.Rules.TheVariants.{One};
 ghost use Rattle.desk_lines.specs.Profile.{profile_numbered, profile_of, rules_by, record_rules};
 
-use riichi_hand::{Rules, next_word};
+use riichi_hand::{MOST_LINE, Rules, has_other_byte, next_word};
 use std::marker::Brand;
 
 /// A type that stands for the profile of a stream that sets none.
@@ -17,9 +15,6 @@ pub(crate) trait GivenRules {
 impl GivenRules for Brand {
     ghost given = { One };
 }
-
-/// The longest line that is read as a record.
-const MOST_LINE: usize = 4_096;
 
 /// Takes the next line of a stream, whose profile is none before its first line, and then the given one where that
 /// line sets none. Answers under which profile the line is a record; none where it sets the profile.
@@ -57,18 +52,9 @@ pub(crate) fn profile_of(line: &[u8]) -> Option<Rules>
 fn profile_numbered(number: &[u8]) -> Option<Rules>
     ensures { result ≡ profile_numbered number.now }
 {
-    if number == b"1".as_slice() {
-        Some(Rules::One)
-    } else if number == b"2".as_slice() {
-        Some(Rules::Two)
-    } else {
-        None
+    match number {
+        b"1" => Some(Rules::One),
+        b"2" => Some(Rules::Two),
+        _ => None,
     }
-}
-
-/// Whether a byte isn't printed ASCII.
-fn has_other_byte(line: &[u8]) -> bool
-    ensures { result ≡ list_any is_other_byte line.now }
-{
-    line.iter().any(|byte| *byte < b' ' || *byte > b'~')
 }

@@ -4,4 +4,3 @@ pub mod Scripts
 pub mod Only
 pub mod NameLemmas
 pub mod SeqLemmas
-pub mod WordLemmas

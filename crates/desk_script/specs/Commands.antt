@@ -3,7 +3,8 @@ use Rattle.std.specs.Prelude.{ℕ, List, [], ◌∷◌, Option, None, Some, if�
 use Rattle.std.specs.Str.{bytes_eq}
 use Rattle.desk_script.specs.declared.action.Action.{Action}
 use Rattle.desk_script.specs.declared.action.Action.TheVariants.{Open, Submit, Arrive, Close, Take, Withdraw}
-use Rattle.desk_script.specs.Words.{without_spaces, first_word, after_word, is_name, is_comment}
+use Rattle.riichi_hand.specs.Words.{without_spaces}
+use Rattle.desk_script.specs.Words.{first_word, after_word, is_name, is_comment}
 use Rattle.desk_script.specs.Seq.{seq_of}
 
 -- a command for the table of a name, with the record line of its job where it has one

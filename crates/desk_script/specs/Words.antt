@@ -1,14 +1,7 @@
 -- The words of a line of a script.
 use Rattle.std.specs.Prelude.{ℕ, ◌==◌, List, [], ◌∷◌, length, take, drop, Bool, false, ◌&&◌, ◌||◌, nat_le, if◌then◌else◌}
 use Rattle.std.specs.List.{list_all, position_or_len}
-
-abbrev pub is_space : ℕ → Bool
-is_space byte = byte == 32
-
--- without the spaces that it begins with
-abbrev pub without_spaces : List ℕ → List ℕ
-without_spaces [] = []
-without_spaces (byte ∷ bytes) = if is_space byte then without_spaces bytes else byte ∷ bytes
+use Rattle.riichi_hand.specs.Words.{is_space, without_spaces}
 
 -- what stands before and after the first space
 abbrev pub before_space : List ℕ → List ℕ

@@ -5,7 +5,8 @@ ghost use Rattle.desk_script.specs.Said.{said_of};
 
 use crate::action::Action;
 use crate::seq::read_seq;
-use crate::words::{cut_word, is_name, without_spaces};
+use crate::words::{cut_word, is_name};
+use riichi_hand::without_spaces;
 
 /// A command for the table of a name.
 #[derive(Drop)]

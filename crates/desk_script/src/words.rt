@@ -1,21 +1,13 @@
 //! The words of a line, one by one.
-ghost use Rattle.std.specs.Prelude.{◌≡◌, ◌≤◌, length};
-ghost use Rattle.std.specs.List.{list_all, position_or_len};
-ghost use Rattle.desk_script.specs.Words.{without_spaces, first_word, after_word, is_space, is_comment, is_blank, is_name_byte, is_name};
+ghost use Rattle.std.specs.Prelude.{◌≡◌};
+ghost use Rattle.std.specs.List.{list_all};
+ghost use Rattle.riichi_hand.specs.Words.{is_space};
+ghost use Rattle.desk_script.specs.Words.{first_word, after_word, is_comment, is_blank, is_name_byte, is_name};
+
+use riichi_hand::{without_spaces, word_len};
 
 /// The longest name of a table.
 const MOST_NAME: usize = 32;
-
-/// The text without the spaces that it begins with.
-pub(crate) fn without_spaces(text: &[u8]) -> &[u8]
-    ensures { result.now ≡ without_spaces text.now }
-{
-    let mut rest = text;
-    while let [b' ', ..] = rest {
-        rest = &rest[1..];
-    }
-    rest
-}
 
 /// The first word of a text, and what comes after it. The word is empty where there is none.
 pub(crate) fn cut_word(text: &[u8]) -> (&[u8], &[u8])
@@ -24,19 +16,6 @@ pub(crate) fn cut_word(text: &[u8]) -> (&[u8], &[u8])
 {
     let text = without_spaces(text);
     text.split_at(word_len(text))
-}
-
-/// How many bytes come before the first space.
-fn word_len(text: &[u8]) -> usize
-    ensures place { result ≡ position_or_len is_space text.now }
-    ensures within { result ≤ length text.now }
-{
-    for (place, byte) in text.iter().enumerate() {
-        if *byte == b' ' {
-            return place;
-        }
-    }
-    text.len()
 }
 
 /// Whether a line has nothing but spaces, or is a comment.

@@ -3,10 +3,10 @@ use Rattle.std.specs.Prelude.{ℕ, Bool, ◌&&◌, ◌||◌, ◌==◌, nat_lt, L
 use Rattle.std.specs.List.{list_any, list_all}
 use Rattle.riichi_tiles.specs.Melds.{every_kind}
 use Rattle.riichi_hand.specs.declared.win.WinParts.{WinParts}
-use Rattle.riichi_hand.specs.Win.{copies_held}
+use Rattle.riichi_hand.specs.Win.{copies_won}
 
 abbrev pub all_tiles : WinParts → List ℕ
-all_tiles parts = map (copies_held parts) every_kind
+all_tiles parts = map (copies_won parts) every_kind
 
 -- every tile is of a kind that is so
 abbrev pub every : (ℕ → Bool) → List ℕ → Bool

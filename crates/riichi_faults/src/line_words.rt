@@ -8,6 +8,7 @@ ghost use Rattle.riichi_faults.specs.LineWords as spec;
 
 use crate::shown::front;
 use riichi_hand::{Job, LineCode, LineFault, Rules, TextName, next_word, read_line};
+use riichi_tiles::is_digit;
 
 /// A fault of a word after the hand.
 #[derive(Clone, Copy)]
@@ -108,12 +109,6 @@ fn digits_in(word: &[u8]) -> usize
     ensures { result ≡ count_by is_digit word.now }
 {
     word.iter().filter(|byte| is_digit(**byte)).count()
-}
-
-fn is_digit(byte: u8) -> bool
-    ensures { result ≡ is_digit byte }
-{
-    byte >= b'0' && byte <= b'9'
 }
 
 /// Of `on`, `dora`, `ura` and the hand the first with a wrong number of tiles.

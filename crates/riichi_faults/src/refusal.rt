@@ -6,13 +6,10 @@ ghost use Rattle.riichi_hand.specs.Lines.{is_other_byte};
 ghost use Rattle.riichi_faults.specs.Refusal as spec;
 
 use crate::line_words::{first_with, job_word, key_of, text_word, word_at_fault};
-use crate::shown::{front, is_other_byte, push_marked, push_shown};
+use crate::shown::{front, push_marked, push_shown};
 use crate::words::{byte_words, entry_words, first_word_words, line_words, notation_words};
 use arrayvec::ArrayString;
-use riichi_hand::{LineCode, LineFault};
-
-/// The longest line that is read.
-const MOST_LINE: usize = 4096;
+use riichi_hand::{LineCode, LineFault, MOST_LINE, is_other_byte};
 
 /// How many bytes of a word are shown.
 const SHOWN: usize = 72;

@@ -1,10 +1,10 @@
 //! What is shown of a line: printable, and of few columns.
-ghost use Rattle.std.specs.Prelude.{◌≡◌, ◌+◌, ◌/◌, ◌%◌, ◌≤◌, ◌<◌, ◌++◌, ◌∷◌, [], false, length, take, drop, replicate};
+ghost use Rattle.std.specs.Prelude.{◌≡◌, ◌+◌, ◌/◌, ◌%◌, ◌≤◌, ◌<◌, ◌++◌, ◌∷◌, [], length, take, drop, replicate};
 ghost use Rattle.arrayvec.specs.ArrayString.{array_string_len};
-ghost use Rattle.riichi_hand.specs.Lines.{is_other_byte};
 ghost use Rattle.riichi_faults.specs.Shown as spec;
 
 use arrayvec::ArrayString;
+use riichi_hand::is_other_byte;
 
 /// How many bytes are shown before a place.
 const BEFORE: usize = 36;
@@ -141,14 +141,6 @@ fn push_byte(out: &mut ArrayString<3072>, byte: u8)
     ensures len { array_string_len out.new ≡ array_string_len out.old + 1 }
 {
     out.push(byte as char);
-}
-
-/// A byte outside 0x20 to 0x7E.
-pub(crate) fn is_other_byte(byte: u8) -> bool
-    ensures value { result ≡ is_other_byte byte }
-    ensures ascii { result ≡ false → byte < 128 }
-{
-    byte < 0x20 || byte > 0x7e
 }
 
 fn push_spaces(out: &mut ArrayString<3072>, count: usize)

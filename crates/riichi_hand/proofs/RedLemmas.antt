@@ -23,7 +23,7 @@ use Rattle.riichi_hand.specs.declared.fault.LineCode.TheVariants.{H4, H7, H8, H9
 use Rattle.riichi_hand.specs.declared.fault.LineFault.{LineFault}
 use Rattle.riichi_hand.specs.declared.win.Rules.TheVariants.{One, Two}
 use Rattle.riichi_hand.specs.Faults.{coded, first_fault, fault_or}
-use Rattle.riichi_hand.specs.Win.{is_two, no_reds, kept_under, copies_held, copies_in, is_out_of_range, has_wrong_size, has_five_copies, has_too_many_reds, win_faults, win_of}
+use Rattle.riichi_hand.specs.Win.{is_two, no_reds, kept_under, copies_won, copies_in, is_out_of_range, has_wrong_size, has_five_in, has_too_many_reds, win_faults, win_of}
 use Rattle.riichi_hand.specs.Parts.{LineParts, value}
 use Rattle.riichi_hand.specs.Texts.{texts_of, text_fault, counts_in, melds_in, only_kind, zeros_in, reds, joined_reds}
 use Rattle.riichi_hand.specs.Jobs.{win_parts}
@@ -150,7 +150,7 @@ open_few letter kind (Some text) five some = melds_few letter kind text five som
 -- The red fives of a win, among hand, melds and the winning tile.
 
 zeros_held : (rules : Rules) (parts : LineParts) (winning : ℕ) (keys : WinKeys) (letter kind : ℕ) → IsOfFives letter kind → only_kind (texts_of parts).on ≡ Some winning
-    → is_some (melds_in (value Open parts)) ≡ true → zeros_in parts letter ≤ copies_held (win_parts rules parts (texts_of parts) winning keys) kind
+    → is_some (melds_in (value Open parts)) ≡ true → zeros_in parts letter ≤ copies_won (win_parts rules parts (texts_of parts) winning keys) kind
 zeros_held rules parts winning keys letter kind five only some =
     let hand = zeros_counted letter parts.hand five.suit five.has (omega (arith, five.kind_is, five.near)) in
     let same : slice_index (counts_of parts.hand) (first_of letter + 4) ≡ slice_index (counts_of parts.hand) kind = ap (slice_index (counts_of parts.hand)) five.kind_is in
@@ -160,15 +160,15 @@ zeros_held rules parts winning keys letter kind five only some =
 
 -- no more of each suit than fives
 record HasRoom (win : WinParts) (reds : List ℕ) : Type 0 where
-  characters : slice_index reds 0 ≤ copies_held win 4
-  circles : slice_index reds 1 ≤ copies_held win 13
-  bamboos : slice_index reds 2 ≤ copies_held win 22
+  characters : slice_index reds 0 ≤ copies_won win 4
+  circles : slice_index reds 1 ≤ copies_won win 13
+  bamboos : slice_index reds 2 ≤ copies_won win 22
 
 not_too_many : (win : WinParts) → HasRoom win win.reds → has_too_many_reds win ≡ false
 not_too_many win room = rw (
-  le-ltb (copies_held win 4) (slice_index win.reds 0) room.characters,
-  le-ltb (copies_held win 13) (slice_index win.reds 1) room.circles,
-  le-ltb (copies_held win 22) (slice_index win.reds 2) room.bamboos,
+  le-ltb (copies_won win 4) (slice_index win.reds 0) room.characters,
+  le-ltb (copies_won win 13) (slice_index win.reds 1) room.circles,
+  le-ltb (copies_won win 22) (slice_index win.reds 2) room.bamboos,
 ) refl
 
 room_of_line : (rules : Rules) (parts : LineParts) (winning : ℕ) (keys : WinKeys) → only_kind (texts_of parts).on ≡ Some winning → is_some (melds_in (value Open parts)) ≡ true
@@ -189,7 +189,7 @@ joined_few a b c few =
     rw (capped_few a (omega (arith, few)), capped_few b (omega (arith, few)), capped_few c (omega (arith, few)), capped_few (a + b) (omega (arith, few)), capped_few (a + b + c) few) refl
 
 -- at most four of a kind
-four_at_most : (win : WinParts) (kind : ℕ) → kind < 34 → has_five_copies win ≡ false → copies_held win kind ≤ 4
+four_at_most : (win : WinParts) (kind : ℕ) → kind < 34 → has_five_in win ≡ false → copies_won win kind ≤ 4
 four_at_most win kind near none =
     elim (cases_Bool (nat_lt 4 (copies_in win kind))) [
       | inl five ↦ absurd (
@@ -207,11 +207,11 @@ five_copies_first true b later others one other = refl
 five_copies_first false true later others one other = refl
 five_copies_first false false later others one other = refl
 
-win_of_cut : (win : WinParts) (cut : List ℕ) → win.rules ≡ Two → (has_five_copies win ≡ false → cut ≡ win.reds) → win_of (record win { reds = cut }) ≡ fault_or (first_fault (win_faults win)) win
+win_of_cut : (win : WinParts) (cut : List ℕ) → win.rules ≡ Two → (has_five_in win ≡ false → cut ≡ win.reds) → win_of (record win { reds = cut }) ≡ fault_or (first_fault (win_faults win)) win
 unfolding win_of
 win_of_cut win cut two same =
     let given : WinParts = record win { reds = cut } in
-    elim (cases_Bool (has_five_copies win)) [
+    elim (cases_Bool (has_five_in win)) [
       | inl five ↦ rw five (five_copies_first (is_out_of_range win) (has_wrong_size win) _ _ _ win)
       | inr four ↦ (let told : given ≡ win = ap (λ (held : List ℕ). record win { reds = held }) (same four) in
           ap (λ (w : WinParts). fault_or (first_fault (win_faults w)) (kept_under w.rules w)) told ∙ rw two refl)
@@ -246,10 +246,10 @@ win_of_line_here Two parts winning keys kept only some is =
     let hand = parts.hand in
     let on = unwrap_or (value On parts) [] in
     let melds = unwrap_or (value Open parts) [] in
-    let plain : (letter kind : ℕ) → kind < 34 → zeros_in parts letter ≤ copies_held win kind → has_five_copies win ≡ false
+    let plain : (letter kind : ℕ) → kind < 34 → zeros_in parts letter ≤ copies_won win kind → has_five_in win ≡ false
     → capped (capped (capped (zeros letter hand) + capped (zeros letter on)) + capped (zeros letter melds)) ≡ zeros_in parts letter =
     λ letter kind near few none. joined_few (zeros letter hand) (zeros letter on) (zeros letter melds) (omega (arith, few, four_at_most win kind near none)) in
-    let same : has_five_copies win ≡ false → joined_reds parts ≡ reds parts = λ none. rw (
+    let same : has_five_in win ≡ false → joined_reds parts ≡ reds parts = λ none. rw (
       plain 109 4 (omega arith) room.characters none,
       plain 112 13 (omega arith) room.circles none,
       plain 115 22 (omega arith) room.bamboos none,

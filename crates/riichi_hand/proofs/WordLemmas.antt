@@ -1,11 +1,11 @@
 -- The first word of a text.
-use Rattle.std.proofs.Common.{◌≡◌, ℕ, zero, suc, ◌<◌, ◌≤◌, ◌⊎◌, inl, inr, List, [], ◌∷◌, ◌++◌, true, false, nat_eq, length, take, drop, refl, sym, ◌∙◌, ap, arith, length-drop}
+use Rattle.std.proofs.Common.{◌≡◌, ℕ, zero, suc, ◌+◌, ◌<◌, ◌≤◌, ◌⊎◌, inl, inr, List, [], ◌∷◌, ◌++◌, true, false, nat_eq, length, take, drop, refl, sym, ◌∙◌, ap, arith, length-drop, length-take}
 use Rattle.std.proofs.lemmas.Bool.{cases_lt, and_parts}
 use Rattle.std.proofs.lemmas.List.{take-append-drop, drop_all}
 use Rattle.std.specs.Prelude.{filter}
-use Rattle.std.specs.List.{list_all, slice_split, onto_first}
+use Rattle.std.specs.List.{list_all, slice_split, onto_first, position_or_len}
 use Rattle.riichi_hand.proofs.CutLemmas.{plain, plain_is}
-use Rattle.riichi_hand.specs.Words.{is_word, words_of, begins_with_space}
+use Rattle.riichi_hand.specs.Words.{is_word, words_of, is_space, without_spaces, begins_with_space}
 
 -- what stands between the spaces
 abbrev pieces : List ℕ → List (List ℕ)
@@ -37,3 +37,25 @@ first_word (byte ∷ bytes) (suc len) some begins all after within =
 pub words_of-spaces : (spaces rest : List ℕ) → list_all (λ byte. nat_eq byte 32) spaces ≡ true → words_of (spaces ++ rest) ≡ words_of rest
 words_of-spaces [] rest all = refl
 words_of-spaces (byte ∷ spaces) rest all = let h = and_parts (nat_eq byte 32) (list_all (λ byte. nat_eq byte 32) spaces) all in rw h.0 (words_of-spaces spaces rest h.1)
+
+pub without_spaces-past : (spaces rest : List ℕ) → list_all (λ byte. nat_eq byte 32) spaces ≡ true → begins_with_space rest ≡ false → without_spaces (spaces ++ rest) ≡ rest
+without_spaces-past [] [] all begins = refl
+without_spaces-past [] (byte ∷ bytes) all begins = rw begins refl
+without_spaces-past (byte ∷ spaces) rest all begins = let h = and_parts (nat_eq byte 32) (list_all (λ byte. nat_eq byte 32) spaces) all in rw h.0 (without_spaces-past spaces rest h.1 begins)
+
+-- a word ends at the first space
+position_or_len-word : (word rest : List ℕ) → list_all (plain 32) word ≡ true → (rest ≡ []) ⊎ (begins_with_space rest ≡ true) → position_or_len is_space (word ++ rest) ≡ length word
+position_or_len-word [] [] all after = refl
+position_or_len-word [] (byte ∷ bytes) all (inl none) = absurd (cc)
+position_or_len-word [] (byte ∷ bytes) all (inr space) = rw space refl
+position_or_len-word (byte ∷ bytes) rest all after =
+    let h = plain_is 32 byte (list_all (plain 32) bytes) all in
+    let later : position_or_len is_space (bytes ++ rest) ≡ length bytes = position_or_len-word bytes rest h.1 after in
+    let here : position_or_len is_space ((byte ∷ bytes) ++ rest) ≡ 1 + position_or_len is_space (bytes ++ rest) = rw h.0 refl in
+    omega (arith, here, later)
+
+pub word_end : (text : List ℕ) (len : ℕ) → len ≤ length text → list_all (plain 32) (take len text) ≡ true → (len < length text → begins_with_space (drop len text) ≡ true) → len ≡ position_or_len is_space text
+word_end text len within all after =
+    let rest : (drop len text ≡ []) ⊎ (begins_with_space (drop len text) ≡ true) =
+    elim (cases_lt len (length text)) as (λ _. (drop len text ≡ []) ⊎ (begins_with_space (drop len text) ≡ true)) [ inl more ↦ inr (after more) | inr over ↦ inl (drop_all len text over) ] in
+    omega (arith, ap (position_or_len is_space) (take-append-drop len text), position_or_len-word (take len text) (drop len text) all rest, length-take len text, within)

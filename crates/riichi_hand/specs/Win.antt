@@ -34,14 +34,14 @@ is_two One = false
 is_two Two = true
 
 -- the copies of a kind among hand, melds and the winning tile, and those with the indicators
-abbrev pub copies_held : WinParts → ℕ → ℕ
-copies_held parts kind = slice_index parts.concealed kind + tiles parts.melds kind + (if nat_eq parts.winning kind then 1 else 0)
+abbrev pub copies_won : WinParts → ℕ → ℕ
+copies_won parts kind = slice_index parts.concealed kind + tiles parts.melds kind + (if nat_eq parts.winning kind then 1 else 0)
 
 abbrev pub copies_in : WinParts → ℕ → ℕ
-copies_in parts kind = copies_held parts kind + slice_index parts.dora kind + slice_index parts.ura kind
+copies_in parts kind = copies_won parts kind + slice_index parts.dora kind + slice_index parts.ura kind
 
-abbrev pub has_five_copies : WinParts → Bool
-has_five_copies parts = list_any (λ kind. nat_lt 4 (copies_in parts kind)) every_kind
+abbrev pub has_five_in : WinParts → Bool
+has_five_in parts = list_any (λ kind. nat_lt 4 (copies_in parts kind)) every_kind
 
 abbrev pub is_out_of_range : WinParts → Bool
 is_out_of_range parts = nat_lt 2 parts.riichi || nat_lt 99 parts.counters || nat_lt 99 parts.sticks
@@ -65,16 +65,16 @@ is_late_first parts =
 -- more red fives of a suit than fives among hand, melds and the winning tile; the fives are the kinds 4, 13, 22
 abbrev pub has_too_many_reds : WinParts → Bool
 has_too_many_reds parts =
-    nat_lt (copies_held parts 4) (slice_index parts.reds 0)
-    || nat_lt (copies_held parts 13) (slice_index parts.reds 1)
-    || nat_lt (copies_held parts 22) (slice_index parts.reds 2)
+    nat_lt (copies_won parts 4) (slice_index parts.reds 0)
+    || nat_lt (copies_won parts 13) (slice_index parts.reds 1)
+    || nat_lt (copies_won parts 22) (slice_index parts.reds 2)
 
 -- Every fault of a win in order.
 abbrev pub win_faults : WinParts → List (Option LineFault)
 win_faults parts =
     coded H4 (is_out_of_range parts)
     ∷ coded H8 (has_wrong_size parts)
-    ∷ coded H9 (has_five_copies parts)
+    ∷ coded H9 (has_five_in parts)
     ∷ coded H10 (not (parts.riichi == 0) && not (are_concealed parts.melds))
     ∷ coded H11 ((parts.riichi == 0) && (parts.flags.ippatsu || nat_lt 0 (sum parts.ura)))
     ∷ coded H12 (parts.flags.rinshan && (is_ron parts.by || not (list_any is_kong parts.melds)))

@@ -32,6 +32,8 @@ pub use fault::{
 };
 pub use hand::HandRecord;
 pub use job::Job;
-pub use line::{next_word, read_line};
+pub use line::{
+    MOST_LINE, has_other_byte, is_other_byte, next_word, read_line, without_spaces, word_len,
+};
 pub use shape::ShapeRecord;
 pub use win::{By, Flags, Rules, WinParts, WinRecord, Wind};

@@ -1,4 +1,5 @@
 //! Record lines: a word for the job, a word for the hand, and words of keys and values.
+mod bytes;
 mod cuts;
 mod fields;
 mod flags;
@@ -12,5 +13,6 @@ mod texts;
 mod values;
 mod words;
 
-pub use cuts::next_word;
+pub use bytes::{MOST_LINE, has_other_byte, is_other_byte};
+pub use cuts::{next_word, without_spaces, word_len};
 pub use record::read_line;

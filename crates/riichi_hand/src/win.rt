@@ -1,6 +1,7 @@
 //! A win, and what must be true of its parts.
-ghost use Rattle.std.specs.Prelude.{◌≡◌, ◌≤◌, ℕ, slice_index};
+ghost use Rattle.std.specs.Prelude.{◌≡◌, ◌≤◌, ◌+◌, ℕ, slice_index, nat_eq, if◌then◌else◌};
 ghost use Rattle.riichi_tiles.specs.Melds.{tiles};
+ghost use Rattle.riichi_hand.specs.Faults.{first_fault};
 ghost use Rattle.riichi_hand.specs.Win as spec;
 
 use crate::fault::{LineCode, LineFault};
@@ -136,43 +137,14 @@ impl WinRecord {
     pub fn new(parts: WinParts) -> Result<WinRecord, LineFault>
         ensures { result ≡ spec.win_of parts }
     {
-        if is_out_of_range(&parts) {
-            return Err(LineFault::Line(LineCode::H4));
-        }
-        if has_wrong_size(&parts) {
-            return Err(LineFault::Line(LineCode::H8));
-        }
-        if has_five_copies(&parts) {
-            return Err(LineFault::Line(LineCode::H9));
-        }
-        if parts.riichi != 0 && !parts.melds.concealed() {
-            return Err(LineFault::Line(LineCode::H10));
-        }
-        if parts.riichi == 0 && (parts.flags.ippatsu || parts.ura.total() > 0) {
-            return Err(LineFault::Line(LineCode::H11));
-        }
-        if parts.flags.rinshan && (is_ron(parts.by) || !parts.melds.has_kong()) {
-            return Err(LineFault::Line(LineCode::H12));
-        }
-        if parts.flags.chankan && !is_ron(parts.by) {
-            return Err(LineFault::Line(LineCode::H13));
-        }
-        if are_exclusive(parts.flags) {
-            return Err(LineFault::Line(LineCode::H14));
-        }
-        if is_late_first(&parts) {
-            return Err(LineFault::Line(LineCode::H15));
+        if let Some(fault) = fault_of(&parts) {
+            return Err(fault);
         }
         match parts.rules {
             Rules::One => Ok(WinRecord {
                 parts: without_reds(parts),
             }),
-            Rules::Two => {
-                if has_too_many_reds(&parts) {
-                    return Err(LineFault::Line(LineCode::H16));
-                }
-                Ok(WinRecord { parts })
-            }
+            Rules::Two => Ok(WinRecord { parts }),
         }
     }
 
@@ -283,6 +255,53 @@ impl WinRecord {
     }
 }
 
+/// The first fault of the parts, if they have one.
+#[inline(never)]
+fn fault_of(parts: &WinParts) -> Option<LineFault>
+    ensures { result ≡ first_fault (spec.win_faults parts.now) }
+{
+    if is_out_of_range(parts) {
+        return Some(LineFault::Line(LineCode::H4));
+    }
+    if has_wrong_size(parts) {
+        return Some(LineFault::Line(LineCode::H8));
+    }
+    if has_five_in(parts) {
+        return Some(LineFault::Line(LineCode::H9));
+    }
+    if parts.riichi != 0 && !parts.melds.concealed() {
+        return Some(LineFault::Line(LineCode::H10));
+    }
+    if parts.riichi == 0 && (parts.flags.ippatsu || parts.ura.total() > 0) {
+        return Some(LineFault::Line(LineCode::H11));
+    }
+    if parts.flags.rinshan && (is_ron(parts.by) || !parts.melds.has_kong()) {
+        return Some(LineFault::Line(LineCode::H12));
+    }
+    if parts.flags.chankan && !is_ron(parts.by) {
+        return Some(LineFault::Line(LineCode::H13));
+    }
+    if are_exclusive(parts.flags) {
+        return Some(LineFault::Line(LineCode::H14));
+    }
+    if is_late_first(parts) {
+        return Some(LineFault::Line(LineCode::H15));
+    }
+    if is_two(parts.rules) && has_too_many_reds(parts) {
+        return Some(LineFault::Line(LineCode::H16));
+    }
+    None
+}
+
+fn is_two(rules: Rules) -> bool
+    ensures { result ≡ spec.is_two rules }
+{
+    match rules {
+        Rules::One => false,
+        Rules::Two => true,
+    }
+}
+
 /// Riichi over 2, or counters or sticks over 99.
 fn is_out_of_range(parts: &WinParts) -> bool
     ensures { result ≡ spec.is_out_of_range parts.now }
@@ -308,31 +327,43 @@ fn is_ron(by: By) -> bool
 
 /// Over hand, melds, the winning tile and the indicators.
 #[tactic(auto, using(crate::proofs::CopyLemmas::any_kind_more))]
-fn has_five_copies(parts: &WinParts) -> bool
-    ensures { result ≡ spec.has_five_copies parts.now }
+fn has_five_in(parts: &WinParts) -> bool
+    ensures { result ≡ spec.has_five_in parts.now }
 {
-    let melds = meld_tiles(&parts.melds);
+    let called = called_tiles(parts);
     let mut found = false;
     for number in 0..34 {
-        found = found | (copies_of(parts, &melds, Kind::at(number)) > 4);
+        found = found | (copies_of(parts, &called, Kind::at(number)) > 4);
     }
     found
 }
 
-/// The copies of a kind, with those among the indicators, where the tiles of the melds are told kind by kind.
-fn copies_of(parts: &WinParts, melds: &[u8; 34], kind: Kind) -> u8
-    requires value { (kind : ℕ) → slice_index melds.now kind ≡ tiles parts.now.melds kind }
-    requires most { (kind : ℕ) → slice_index melds.now kind ≤ 16 }
+/// How many tiles of each kind the melds and the winning tile have together, kind by kind.
+fn called_tiles(parts: &WinParts) -> [u8; 34]
+    ensures value { (kind : ℕ) → slice_index result kind
+        ≡ tiles parts.now.melds kind + (if nat_eq parts.now.winning kind then 1 else 0) }
+    ensures most { (kind : ℕ) → slice_index result kind ≤ 17 }
+{
+    let mut called = meld_tiles(&parts.melds);
+    called[parts.winning.index()] += 1;
+    called
+}
+
+/// The copies of a kind, with those among the indicators, where the tiles of the melds and the winning tile are told
+/// kind by kind.
+fn copies_of(parts: &WinParts, called: &[u8; 34], kind: Kind) -> u8
+    requires value { (kind : ℕ) → slice_index called.now kind
+        ≡ tiles parts.now.melds kind + (if nat_eq parts.now.winning kind then 1 else 0) }
+    requires most { (kind : ℕ) → slice_index called.now kind ≤ 17 }
     ensures { result ≡ spec.copies_in parts.now kind }
 {
-    let one = if parts.winning == kind { 1 } else { 0 };
-    let held = parts.concealed.get(kind) + melds[kind.index()] + one;
+    let held = parts.concealed.get(kind) + called[kind.index()];
     held + parts.dora.get(kind) + parts.ura.get(kind)
 }
 
 /// The copies of a kind among hand, melds and the winning tile.
-fn copies_held(parts: &WinParts, kind: Kind) -> u8
-    ensures value { result ≡ spec.copies_held parts.now kind }
+fn copies_won(parts: &WinParts, kind: Kind) -> u8
+    ensures value { result ≡ spec.copies_won parts.now kind }
     ensures most { result ≤ 21 }
 {
     let one = if parts.winning == kind { 1 } else { 0 };
@@ -367,9 +398,9 @@ fn has_other_flag(flags: Flags) -> bool
 fn has_too_many_reds(parts: &WinParts) -> bool
     ensures { result ≡ spec.has_too_many_reds parts.now }
 {
-    let characters = parts.reds.get(0) > copies_held(parts, Kind::at(4));
-    let circles = parts.reds.get(1) > copies_held(parts, Kind::at(13));
-    let bamboos = parts.reds.get(2) > copies_held(parts, Kind::at(22));
+    let characters = parts.reds.get(0) > copies_won(parts, Kind::at(4));
+    let circles = parts.reds.get(1) > copies_won(parts, Kind::at(13));
+    let bamboos = parts.reds.get(2) > copies_won(parts, Kind::at(22));
     characters || circles || bamboos
 }
 

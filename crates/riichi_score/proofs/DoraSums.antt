@@ -8,7 +8,7 @@ use Rattle.std.proofs.lemmas.List.FromFn.{map-range_with_len_more}
 use Rattle.std.proofs.lemmas.Bool.Decides.{nat_tests}
 use Rattle.riichi_tiles.specs.Dora.{indicated}
 use Rattle.riichi_hand.specs.declared.win.WinParts.{WinParts}
-use Rattle.riichi_hand.specs.Win.{IsWin, copies_held}
+use Rattle.riichi_hand.specs.Win.{IsWin, copies_won}
 use Rattle.riichi_score.specs.Dora.{indicators, kind_dora}
 use Rattle.riichi_score.proofs.Wins.{ten_indicators, four_copies}
 
@@ -72,8 +72,8 @@ four_more : (win : WinParts) (n : ℕ) → IsWin win → n < 34 → AtMostFourEa
 unfolding AtMostFourEach
 four_more win n h lt so_far =
     let copies = four_copies win (indicated n) h (same_suit n lt) in
-    let few : copies_held win (indicated n) ≤ 4 = omega (arith, copies) in
-    let each = times_four (indicators win n) (copies_held win (indicated n)) (total win n) (held win.dora n + held win.ura n) few so_far in
+    let few : copies_won win (indicated n) ≤ 4 = omega (arith, copies) in
+    let each = times_four (indicators win n) (copies_won win (indicated n)) (total win n) (held win.dora n + held win.ura n) few so_far in
     omega (arith, each, kinds_more (kind_dora win) n, kinds_more (λ kind. get_or win.dora kind 0) n, kinds_more (λ kind. get_or win.ura kind 0) n)
 
 four_each : (win : WinParts) (n : ℕ) → IsWin win → n ≤ 34 → AtMostFourEach win n
@@ -132,7 +132,7 @@ stays win n (suc more) all =
     let kind = n + more in
     let next : kind + 1 ≡ n + suc more = omega arith in
     let none : indicators win kind ≡ 0 = omega (arith, all, held_grows win.dora n more, held_grows win.ura n more, held_more win.dora kind, held_more win.ura kind, held_most win.dora (kind + 1), held_most win.ura (kind + 1)) in
-    let nothing : kind_dora win kind ≡ 0 = none_of_kind (indicators win kind) (copies_held win (indicated kind)) none in
+    let nothing : kind_dora win kind ≡ 0 = none_of_kind (indicators win kind) (copies_won win (indicated kind)) none in
     omega (arith, ap (total win) next, kinds_more (kind_dora win) kind, nothing, stays win n more all)
 
 pub IsShown-end : (win : WinParts) (n told left : ℕ) → left ≡ 0 → IsShown win n told left → told ≡ total win 34

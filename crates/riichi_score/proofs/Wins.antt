@@ -9,7 +9,7 @@ use Rattle.riichi_hand.specs.declared.fault.LineCode.TheVariants.{H4, H8, H9}
 use Rattle.riichi_hand.specs.declared.fault.LineFault.{LineFault}
 use Rattle.riichi_hand.specs.declared.win.WinParts.{WinParts}
 use Rattle.riichi_hand.specs.Faults.{coded, first_fault}
-use Rattle.riichi_hand.specs.Win.{IsWin, win_faults, copies_in, has_five_copies, has_wrong_size, is_out_of_range}
+use Rattle.riichi_hand.specs.Win.{IsWin, win_faults, copies_in, has_five_in, has_wrong_size, is_out_of_range}
 
 -- none of the first three faults
 pub record IsClear (a b c : Bool) : Type 0 where
@@ -23,8 +23,8 @@ clear true size copies later h = absurd (cc)
 clear false true copies later h = absurd (cc)
 clear false false true later h = absurd (cc)
 
-is_clear : (win : WinParts) → IsWin win → IsClear (is_out_of_range win) (has_wrong_size win) (has_five_copies win)
-is_clear win h = clear (is_out_of_range win) (has_wrong_size win) (has_five_copies win) (drop 3 (win_faults win)) h.no_fault
+is_clear : (win : WinParts) → IsWin win → IsClear (is_out_of_range win) (has_wrong_size win) (has_five_in win)
+is_clear win h = clear (is_out_of_range win) (has_wrong_size win) (has_five_in win) (drop 3 (win_faults win)) h.no_fault
 
 few : (a : Bool) (dora ura : ℕ) → (not a || ltb 5 dora || ltb 5 ura) ≡ false → dora + ura ≤ 10
 few a dora ura h = grind (arith, nat_tests)

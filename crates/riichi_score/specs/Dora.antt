@@ -6,7 +6,7 @@ use Rattle.riichi_tiles.specs.Melds.{every_kind}
 use Rattle.riichi_hand.specs.declared.win.Rules.{Rules}
 use Rattle.riichi_hand.specs.declared.win.Rules.TheVariants.{One, Two}
 use Rattle.riichi_hand.specs.declared.win.WinParts.{WinParts}
-use Rattle.riichi_hand.specs.Win.{copies_held}
+use Rattle.riichi_hand.specs.Win.{copies_won}
 
 -- how many indicators there are of a kind
 abbrev pub indicators : WinParts → ℕ → ℕ
@@ -14,7 +14,7 @@ indicators win kind = slice_index win.dora kind + slice_index win.ura kind
 
 -- each indicator of this kind earns one han for each copy of the kind that it indicates, among every tile
 abbrev pub kind_dora : WinParts → ℕ → ℕ
-kind_dora win kind = indicators win kind * copies_held win (indicated kind)
+kind_dora win kind = indicators win kind * copies_won win (indicated kind)
 
 -- under the second profile each red five earns one han
 abbrev pub red_dora : Rules → List ℕ → ℕ

@@ -3,7 +3,7 @@ ghost use Rattle.std.specs.Prelude.{◌≡◌, ◌≤◌};
 ghost use Rattle.std.specs.List.{sum_by};
 ghost use Rattle.riichi_tiles.specs.Melds.{every_kind};
 ghost use Rattle.riichi_tiles.specs.Tiles.{IsCounts};
-ghost use Rattle.riichi_hand.specs.Win.{copies_held};
+ghost use Rattle.riichi_hand.specs.Win.{copies_won};
 ghost use Rattle.riichi_score.specs.Dora as spec;
 
 use riichi_hand::{Rules, WinRecord};
@@ -64,7 +64,7 @@ fn kind_dora(win: &WinRecord, kind: Kind, indicators: u8) -> u8
 
 /// The copies of a kind among hand, melds and the winning tile.
 fn copies_held(win: &WinRecord, kind: Kind) -> u8
-    ensures value { result ≡ copies_held win.now kind }
+    ensures value { result ≡ copies_won win.now kind }
     ensures most { result ≤ 21 }
 {
     let winning = if win.winning() == kind { 1 } else { 0 };

@@ -1,11 +1,13 @@
 -- The tiles of melds: those of one meld more.
-use Rattle.std.proofs.Common.{◌≡◌, ℕ, zero, suc, ◌+◌, ◌<◌, ◌≤◌, List, [], ◌∷◌, true, false, Some, None, nat_eq, take, length, get_or, replicate, refl, arith, lit≤}
+use Rattle.std.proofs.Common.{◌≡◌, ℕ, zero, suc, ◌+◌, ◌<◌, ◌≤◌, List, [], ◌∷◌, Bool, true, false, Some, None, nat_eq, take, length, get_or, replicate, refl, ap, ◌∙◌, arith, lit≤}
 use Rattle.std.specs.Prelude.{◌&&◌, if◌then◌else◌, nat_le, slice_get}
 use Rattle.std.specs.List.{list_all}
+use Rattle.std.proofs.lemmas.List.Folds.{list_all_more}
+use Rattle.std.proofs.lemmas.List.FromFn.{get_or-range_with_len}
 use Rattle.std.proofs.lemmas.Bool.{and_parts}
 use Rattle.riichi_tiles.specs.declared.meld.Meld.{Meld}
 use Rattle.riichi_tiles.specs.declared.meld.Meld.TheVariants.{Chi, Pon, Kan, Ankan}
-use Rattle.riichi_tiles.specs.Melds.{tiles, tiles_of, is_meld}
+use Rattle.riichi_tiles.specs.Melds.{every_kind, tiles, tiles_of, is_meld}
 
 -- the tiles of the melds so far, and of the next
 pub tiles_more : (melds : List Meld) (place : ℕ) (meld : Meld) (kind : ℕ) → Some meld ≡ slice_get melds place → tiles (take (suc place) melds) kind ≡ tiles (take place melds) kind + tiles_of meld kind
@@ -33,3 +35,8 @@ pub is_meld-get : (melds : List Meld) (place : ℕ) (meld : Meld) → list_all i
 is_meld-get [] place meld all is = absurd (cc)
 is_meld-get (first ∷ melds) zero meld all is = let e : first ≡ meld = cc in rw e at (and_parts (is_meld first) (list_all is_meld melds) all).0
 is_meld-get (first ∷ melds) (suc place) meld all is = is_meld-get melds place meld (and_parts (is_meld first) (list_all is_meld melds) all).1 is
+
+-- a test of the kinds so far, and of the next
+pub all_kinds_more : (p : ℕ → Bool) (n : ℕ) → n < 34 → list_all p (take (n + 1) every_kind) ≡ (list_all p (take n every_kind) && p n)
+all_kinds_more p n within =
+    list_all_more p every_kind n 0 within ∙ ap (λ kind. list_all p (take n every_kind) && p kind) (get_or-range_with_len 0 34 n 0 within ∙ omega arith)

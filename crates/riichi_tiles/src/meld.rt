@@ -5,6 +5,7 @@ ghost use Rattle.riichi_tiles.specs.declared.meld.Meld.{Meld};
 
 use crate::counts::Counts;
 use crate::kind::Kind;
+use crate::melded::add_meld;
 use crate::notation::read_counts;
 
 /// A set that a player called from a discard, or a kong that was declared.
@@ -95,26 +96,12 @@ fn find_meld(name: MeldName, counts: &Counts) -> Option<Meld>
     ensures value { result ≡ find (reads_as counts.now) (map (melded name) (range_with_len 0 34)) }
     ensures proper { IfSome result (λ meld. is_meld meld ≡ true) }
 {
-    let meld = make(name, lowest_kind(counts)?);
+    let meld = make(name, counts.lowest()?);
     if is_spelled(counts, &meld) {
         Some(meld)
     } else {
         None
     }
-}
-
-/// The lowest kind that is held.
-fn lowest_kind(counts: &Counts) -> Option<Kind>
-    ensures { MatchOption result ((kind : ℕ) → kind < 34 → slice_index counts.now kind ≡ 0)
-        (λ low. (low < 34) × (0 < slice_index counts.now low) × ((kind : ℕ) → kind < low → slice_index counts.now kind ≡ 0)) }
-{
-    for number in 0..34 {
-        let kind = Kind::at(number);
-        if counts.get(kind) > 0 {
-            return Some(kind);
-        }
-    }
-    None
 }
 
 fn make(name: MeldName, kind: Kind) -> Meld
@@ -136,9 +123,16 @@ fn is_spelled(counts: &Counts, meld: &Meld) -> bool
 }
 
 fn has_just(counts: &Counts, meld: &Meld) -> bool
+    requires { is_meld meld.now ≡ true }
     ensures { result ≡ has_just counts.now meld.now }
 {
-    (0..34).all(|number| counts.get(Kind::at(number)) == meld.tiles(Kind::at(number)))
+    let mut tiles = [0; 34];
+    add_meld(&mut tiles, *meld);
+    let mut same = true;
+    for number in 0..34 {
+        same = same & (counts.get(Kind::at(number)) == tiles[number as usize]);
+    }
+    same
 }
 
 /// The word of a meld, and the text after its colon.
@@ -167,15 +161,11 @@ fn split_at_colon(text: &[u8]) -> Option<(&[u8], &[u8])>
 fn name_of(word: &[u8]) -> Option<MeldName>
     ensures { result ≡ named word.now }
 {
-    if word == b"chi".as_slice() {
-        Some(MeldName::Chi)
-    } else if word == b"pon".as_slice() {
-        Some(MeldName::Pon)
-    } else if word == b"kan".as_slice() {
-        Some(MeldName::Kan)
-    } else if word == b"ankan".as_slice() {
-        Some(MeldName::Ankan)
-    } else {
-        None
+    match word {
+        b"chi" => Some(MeldName::Chi),
+        b"pon" => Some(MeldName::Pon),
+        b"kan" => Some(MeldName::Kan),
+        b"ankan" => Some(MeldName::Ankan),
+        _ => None,
     }
 }

@@ -19,8 +19,8 @@ pub fn meld_tiles(melds: &Melds) -> [u8; 34]
     held
 }
 
-/// Adds the tiles of a meld.
-fn add_meld(held: &mut [u8; 34], meld: Meld)
+/// Adds the tiles of a meld to those held, kind by kind.
+pub(crate) fn add_meld(held: &mut [u8; 34], meld: Meld)
     requires few { (kind : ℕ) → slice_index held.old kind ≤ 12 }
     requires proper { is_meld meld ≡ true }
     ensures { (kind : ℕ)

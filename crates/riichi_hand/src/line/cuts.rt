@@ -1,8 +1,8 @@
 //! The words of a line, and texts cut at a mark.
 ghost use Rattle.std.specs.Prelude.{◌≡◌, ◌<◌, ◌≤◌, ◌==◌, [], ◌∷◌, ◌++◌, false, true, length, IfSome, MatchOption, None, Some, not, take, drop};
-ghost use Rattle.std.specs.List.{list_all};
+ghost use Rattle.std.specs.List.{list_all, position_or_len};
 ghost use Rattle.riichi_tiles.specs.Melds.{cut_at};
-ghost use Rattle.riichi_hand.specs.Words.{words_of, begins_with_space, BeginsWithSpaces};
+ghost use Rattle.riichi_hand.specs.Words.{words_of, is_space, without_spaces, begins_with_space, BeginsWithSpaces};
 
 /// The first word of a text, and all that comes after it.
 pub fn next_word(text: &[u8]) -> Option<(&[u8], &[u8])>
@@ -19,7 +19,8 @@ pub fn next_word(text: &[u8]) -> Option<(&[u8], &[u8])>
 }
 
 /// The text without the spaces that it begins with.
-fn without_spaces(text: &[u8]) -> &[u8]
+pub fn without_spaces(text: &[u8]) -> &[u8]
+    ensures value { result.now ≡ without_spaces text.now }
     ensures words { words_of result.now ≡ words_of text.now }
     ensures text { BeginsWithSpaces text.now result.now }
     ensures begins { begins_with_space result.now ≡ false }
@@ -42,7 +43,8 @@ fn spaces_len(text: &[u8]) -> usize
 }
 
 /// How many bytes come before the first space.
-fn word_len(text: &[u8]) -> usize
+pub fn word_len(text: &[u8]) -> usize
+    ensures place { result ≡ position_or_len is_space text.now }
     ensures bound { result ≤ length text.now }
     ensures word { list_all (λ byte. not (byte == 32)) (take result text.now) ≡ true }
     ensures rest { result < length text.now → begins_with_space (drop result text.now) ≡ true }

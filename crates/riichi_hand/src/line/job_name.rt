@@ -15,14 +15,11 @@ impl JobName {
     pub(crate) fn read(word: &[u8]) -> Option<JobName>
         ensures { result ≡ job_named word.now }
     {
-        if word == b"win".as_slice() {
-            Some(JobName::Win)
-        } else if word == b"waits".as_slice() {
-            Some(JobName::Waits)
-        } else if word == b"shape".as_slice() {
-            Some(JobName::Shape)
-        } else {
-            None
+        match word {
+            b"win" => Some(JobName::Win),
+            b"waits" => Some(JobName::Waits),
+            b"shape" => Some(JobName::Shape),
+            _ => None,
         }
     }
 

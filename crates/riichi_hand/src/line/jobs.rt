@@ -1,7 +1,5 @@
 //! The job of a line whose texts are read.
-ghost use Rattle.std.specs.Prelude.{◌≡◌, nat_lt, slice_index, None, Some, if◌then◌else◌};
-ghost use Rattle.std.specs.List.{find};
-ghost use Rattle.riichi_tiles.specs.Melds.{every_kind};
+ghost use Rattle.std.specs.Prelude.{◌≡◌, None, Some, if◌then◌else◌};
 ghost use Rattle.riichi_hand.specs.Win.{is_two, no_reds, kept_under};
 ghost use Rattle.riichi_hand.specs.Faults.{IsStep, first_fault};
 ghost use Rattle.riichi_hand.specs.Lines.{text_faults, job_faults};
@@ -48,6 +46,7 @@ pub(crate) fn make_job(
 }
 
 /// The win, where there is one winning tile and the record takes the parts.
+#[inline(never)]
 fn make_win(
     rules: Rules,
     keys: WinKeys,
@@ -88,19 +87,10 @@ fn only_kind(counts: &Counts) -> Option<Kind>
     ensures { result ≡ only_kind counts.now }
 {
     if counts.total() == 1 {
-        lowest_kind(counts)
+        counts.lowest()
     } else {
         None
     }
-}
-
-/// The lowest kind that is held.
-fn lowest_kind(counts: &Counts) -> Option<Kind>
-    ensures { result ≡ find (λ kind. nat_lt 0 (slice_index counts.now kind)) every_kind }
-{
-    (0..34)
-        .map(|number| Kind::at(number))
-        .find(|kind| counts.get(*kind) > 0)
 }
 
 /// The red fives that the rules keep.

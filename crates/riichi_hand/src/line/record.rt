@@ -5,6 +5,7 @@ ghost use Rattle.riichi_hand.specs.Lines.{outcome_of, is_no_record, has_bad_word
 ghost use Rattle.riichi_hand.specs.declared.fault.LineFault.TheVariants.{Line};
 ghost use Rattle.riichi_hand.specs.declared.fault.LineCode.TheVariants.{H4, H16};
 
+use super::bytes::MOST_LINE;
 use super::fields::Fields;
 use super::jobs::make_job;
 use super::needed::Needed;
@@ -13,9 +14,6 @@ use super::words::Words;
 use crate::fault::{LineCode, LineFault};
 use crate::job::Job;
 use crate::win::Rules;
-
-/// The longest line that is read.
-const MOST_LINE: usize = 4096;
 
 /// The job of a line, `None` for a comment or a line of spaces alone or nothing, or the line's first fault. The line comes
 /// without the line feed and the carriage return that ended it.

@@ -1,9 +1,9 @@
 ghost use Rattle.std.specs.Prelude.{◌≡◌};
-ghost use Rattle.std.specs.List.{list_any};
 ghost use Rattle.riichi_hand.specs.Words.{words_of};
 ghost use Rattle.riichi_hand.specs.Faults.{IsStep};
-ghost use Rattle.riichi_hand.specs.Lines.{is_other_byte, word_faults};
+ghost use Rattle.riichi_hand.specs.Lines.{word_faults};
 
+use super::bytes::has_other_byte;
 use super::cuts::{next_word, split_at_mark};
 use super::job_name::JobName;
 use crate::fault::{LineCode, LineFault};
@@ -41,21 +41,4 @@ impl<'a> Words<'a> {
         }
         Ok(Words { job, hand, entries })
     }
-}
-
-/// Whether a line has a byte outside 0x20 to 0x7E.
-fn has_other_byte(line: &[u8]) -> bool
-    ensures { result ≡ list_any is_other_byte line.now }
-{
-    let mut found = false;
-    for byte in line {
-        found = found | is_other_byte(*byte);
-    }
-    found
-}
-
-fn is_other_byte(byte: u8) -> bool
-    ensures { result ≡ is_other_byte byte }
-{
-    byte < 0x20 || byte > 0x7e
 }

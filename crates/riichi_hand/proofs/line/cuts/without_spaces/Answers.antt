@@ -1,8 +1,8 @@
 use Rattle.std.proofs.Common.{◌≡◌, ◌∙◌, false, ap, sym, length, take, drop, inl, inr, arith, length-drop}
 use Rattle.std.proofs.lemmas.Bool.{cases_lt}
 use Rattle.std.proofs.lemmas.List.{take-append-drop, drop_all}
-use Rattle.riichi_hand.specs.Words.{words_of, begins_with_space}
-use Rattle.riichi_hand.proofs.WordLemmas.{words_of-spaces}
+use Rattle.riichi_hand.specs.Words.{words_of, without_spaces, begins_with_space}
+use Rattle.riichi_hand.proofs.WordLemmas.{words_of-spaces, without_spaces-past}
 use Rattle.riichi_hand.proofs.line.cuts.without_spaces.Goals as goal
 
 pub returns-clause-words : goal.returns-clause-words
@@ -27,3 +27,10 @@ returns-clause-begins c =
 
 pub returns-clause-shorter : goal.returns-clause-shorter
 returns-clause-shorter c = rw c.split_at.ensures.back (omega (arith, length-drop c.spaces_len.result c.args.text.now))
+
+pub returns-clause-value : goal.returns-clause-value
+returns-clause-value c =
+    let text = c.args.text.now in
+    let len = c.spaces_len.result in
+    let begins : begins_with_space (drop len text) ≡ false = rw c.split_at.ensures.back at (returns-clause-begins c) in
+    rw c.split_at.ensures.back (sym (ap without_spaces (sym (take-append-drop len text)) ∙ without_spaces-past (take len text) (drop len text) c.spaces_len.ensures.spaces begins))

@@ -3,7 +3,7 @@ use Rattle.std.specs.Prelude.{nat_lt}
 use Rattle.std.specs.List.{list_any}
 use Rattle.riichi_tiles.specs.Melds.{every_kind}
 use Rattle.riichi_hand.specs.Win.{copies_in}
-use Rattle.riichi_hand.proofs.win.has_five_copies.Goals as goal
+use Rattle.riichi_hand.proofs.win.has_five_in.Goals as goal
 
 pub returns : goal.returns
 returns c =
