@@ -34,4 +34,4 @@ pub use hand::HandRecord;
 pub use job::Job;
 pub use line::{next_word, read_line};
 pub use shape::ShapeRecord;
-pub use win::{By, Flags, Rules, WinParts, WinRecord, Wind};
+pub use win::{By, Flags, Rules, WinParts, WinRecord, Wind, is_ron};

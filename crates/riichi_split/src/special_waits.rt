@@ -5,7 +5,7 @@ ghost use Rattle.riichi_split.specs.Readings.{IsSevenPairs, IsOrphans};
 ghost use Rattle.riichi_split.specs.Waits.{with_one};
 ghost use Rattle.riichi_split.specs.SpecialWaits as spec;
 
-use crate::special::{is_orphans, is_seven_pairs, is_terminal_or_honour};
+use crate::special::{are_seven_pairs, are_thirteen_orphans, is_terminal_or_honour};
 use riichi_tiles::{Counts, Kind, KindSet};
 
 /// Marks the kinds that complete seven pairs or the orphans, where no meld stands.
@@ -131,5 +131,5 @@ fn is_special_wait(tiles: &Counts, kind: Kind) -> bool
     let mut completed = *tiles;
     completed.add(kind);
     let counts = completed.to_array();
-    is_seven_pairs(&counts, 0) || is_orphans(&counts, 0)
+    are_seven_pairs(&counts, 0) || are_thirteen_orphans(&counts, 0)
 }

@@ -1,5 +1,5 @@
 //! The tiles of one suit, and what they can be cut into.
-ghost use Rattle.std.specs.Prelude.{◌≡◌, ◌↔◌, ◌<◌, ◌≤◌, ℕ, IsTrue, length, slice_index, sum};
+ghost use Rattle.std.specs.Prelude.{◌≡◌, ◌↔◌, ◌<◌, ◌≤◌, ◌*◌, ◌%◌, ℕ, IsTrue, length, slice_index, sum};
 ghost use Rattle.riichi_split.specs.SuitTiles as spec;
 
 use riichi_tiles::Suit;
@@ -119,16 +119,31 @@ impl SuitTiles {
         one == 0 && two == 0
     }
 
-    /// Whether the tiles are sets and a pair.
+    /// What the number of a pair's rank leaves over by three where the other tiles are sets: twice what
+    /// all numbers leave over.
+    fn third_of_pair(&self) -> usize
+        ensures value { result ≡ 2 * spec.third_of self.now.held % 3 }
+        ensures nine { length self.now.held ≡ 9 }
+    {
+        2 * usize::from(self.third()) % 3
+    }
+
+    /// Whether there is a pair of a rank, and the other tiles are sets.
+    fn are_sets_beside(&self, rank: usize) -> bool
+        requires { rank < 9 }
+        ensures { IsTrue result ↔ spec.HasPairOf self.now rank }
+    {
+        self.held[rank] >= 2 && self.without_pair(rank).can_be_cut()
+    }
+
+    /// Whether the tiles are sets and a pair. Only every third rank can have the pair.
     pub(crate) fn are_sets_and_pair(&self) -> bool
         ensures { IsTrue result ↔ spec.AreSetsAndPair self.now }
     {
-        for rank in 0..9 {
-            if self.held[rank] >= 2 && self.without_pair(rank).are_sets() {
-                return true;
-            }
-        }
-        false
+        let first = self.third_of_pair();
+        self.are_sets_beside(first)
+            || self.are_sets_beside(first + 3)
+            || self.are_sets_beside(first + 6)
     }
 
     /// How many pairs the tiles are beside sets: none or one, and two where they are neither. Sets have

@@ -1,25 +1,31 @@
-use Rattle.std.proofs.Common.{◌≡◌, ℕ, inl, inr, false, true, get_or, subst, ap, arith}
-use Rattle.std.proofs.lemmas.Bool.{cases_eq}
-use Rattle.riichi_split.specs.SuitTiles.{AreSets, without_pair}
+use Rattle.std.proofs.Common.{◌≡◌, ◌+◌, inl, inr, true, false, sym, ◌∙◌, arith}
+use Rattle.riichi_split.proofs.SuitCuts.{pair-of, one-of-three}
 use Rattle.riichi_split.proofs.suit_tiles.SuitTiles.are_sets_and_pair.Goals as goal
-use Rattle.riichi_split.proofs.suit_tiles.SuitTiles.are_sets_and_pair.Goals.{else-self-rank-ge2-via-then-self-rank-ge2+else-are_sets, else-self-rank-ge2-via-else-self-rank-ge2}
+use Rattle.riichi_split.proofs.suit_tiles.SuitTiles.are_sets_and_pair.Goals.{then-are_sets_beside, else-are_sets_beside}
 
-pub loop-rank-preserved : goal.loop-rank-preserved
-loop-rank-preserved c = λ s. elim (cases_eq s.rank c.loop-rank.rank) [
-  | inl same ↦ elim c.else-self-rank-ge2.branch [
-    | else-self-rank-ge2-via-then-self-rank-ge2+else-are_sets w ↦
-        let P : ℕ → Type 0 = λ r. AreSets (without_pair c.args.self.now r) in
-        let holds : w.are_sets.result ≡ true = w.are_sets.ensures.1 (rw w.without_pair.ensures (subst P same s.sets)) in
-        let fails : w.are_sets.result ≡ false = w.if-are_sets.false in
-        absurd (cc)
-    | else-self-rank-ge2-via-else-self-rank-ge2 w ↦
-        let e = ap (λ r. get_or c.args.self.now.held r 0) same in
-        let two = s.two in
-        let inside = ap (λ t. get_or t.held c.loop-rank.rank 0) c.self.view_is in
-        absurd (omega (arith, e, two, inside, w.if-self-rank-ge2.false))
-  ]
-  | inr ne ↦ let i = c.loop-rank.invariant s in omega (arith, i, ne)
-]
+pub returns-then-are_sets_beside-2 : goal.returns-then-are_sets_beside-2
+returns-then-are_sets_beside-2 c = (
+  λ t. elim c.if-are_sets_beside.branch [
+    | then-are_sets_beside w ↦ pair-of c.args.self.now c.third_of_pair-first.result (omega (arith, c.third_of_pair-first.ensures.value)) (c.are_sets_beside.ensures.0 w.if-are_sets_beside.true)
+    | else-are_sets_beside w ↦ pair-of c.args.self.now (c.third_of_pair-first.result + 3) (omega (arith, c.third_of_pair-first.ensures.value)) (w.are_sets_beside-else-are_sets_beside.ensures.0 (sym w.value-is ∙ t))
+  ],
+  λ p. c.if-are_sets_beside-2.true,
+)
 
-pub returns : goal.returns
-returns c = (λ holds. absurd (cc), λ s. let i = c.loop-rank.invariant s in let n = s.of_nine in absurd (omega (arith, i, n, c.loop-rank-test.false)))
+pub returns-else-are_sets_beside-2 : goal.returns-else-are_sets_beside-2
+returns-else-are_sets_beside-2 c = (
+  λ t. pair-of c.args.self.now (c.third_of_pair-first.result + 6) (omega (arith, c.third_of_pair-first.ensures.value)) (c.are_sets_beside-else-are_sets_beside-2.ensures.0 t),
+  λ p. elim (one-of-three c.args.self.now c.third_of_pair-first.result c.third_of_pair-first.ensures.nine c.third_of_pair-first.ensures.value p) [
+    | inl first ↦ elim c.if-are_sets_beside.branch [
+      | then-are_sets_beside w ↦ let t : c.if-are_sets_beside.value ≡ true = w.value-is ∙ w.if-are_sets_beside.true in let f : c.if-are_sets_beside.value ≡ false = c.if-are_sets_beside-2.false in absurd (cc)
+      | else-are_sets_beside w ↦ let t : c.are_sets_beside.result ≡ true = c.are_sets_beside.ensures.1 first in let f : c.are_sets_beside.result ≡ false = w.if-are_sets_beside.false in absurd (cc)
+    ]
+    | inr other ↦ elim other [
+      | inl second ↦ elim c.if-are_sets_beside.branch [
+        | then-are_sets_beside w ↦ let t : c.if-are_sets_beside.value ≡ true = w.value-is ∙ w.if-are_sets_beside.true in let f : c.if-are_sets_beside.value ≡ false = c.if-are_sets_beside-2.false in absurd (cc)
+        | else-are_sets_beside w ↦ let t : c.if-are_sets_beside.value ≡ true = w.value-is ∙ w.are_sets_beside-else-are_sets_beside.ensures.1 second in let f : c.if-are_sets_beside.value ≡ false = c.if-are_sets_beside-2.false in absurd (cc)
+      ]
+      | inr third ↦ c.are_sets_beside-else-are_sets_beside-2.ensures.1 third
+    ]
+  ],
+)
