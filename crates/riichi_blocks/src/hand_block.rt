@@ -2,8 +2,7 @@
 ghost use Rattle.std.specs.Prelude.{◌≡◌};
 ghost use Rattle.riichi_blocks.specs.HandBlocks as spec;
 
-use crate::winner::is_ron;
-use riichi_hand::By;
+use riichi_hand::{By, is_ron};
 use riichi_tiles::{Block, Kind, Meld};
 
 /// A block of a standard reading or a meld. A triplet in hand that the winning tile completes by ron is open.

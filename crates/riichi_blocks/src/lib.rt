@@ -4,7 +4,7 @@
 //! [`HandBlock`], each a run, a triplet, a kong or the pair. `all_tiles` gives [`AllTiles`], the count of each kind, whatever the reading. Beside these
 //! stand the words that conditions are made of: of a kind (`is_terminal`), of a reading (`is_standard`), of the kinds in blocks
 //! (`all_have_terminals`), of the pair (`pair_fu`), of the wait (`wait_fu`), and of the winner
-//! (`is_ron`, `is_dealer`).
+//! (`is_dealer`).
 //!
 //! All of these are plain values. No call takes memory.
 //!
@@ -40,4 +40,4 @@ pub use pairs::{has_plain_pair, pair_fu};
 pub use reading_shapes::{is_orphans, is_seven_pairs, is_standard};
 pub use tiles::AllTiles;
 pub use waits::{has_two_sided_wait, is_closed_wait, is_edge_wait, wait_fu};
-pub use winner::{is_dealer, is_ron};
+pub use winner::is_dealer;

@@ -6,8 +6,8 @@ ghost use Rattle.riichi_score.specs.Fu.{HasFourSets, fu_of};
 ghost use Rattle.riichi_explain.specs.Fu as spec;
 
 use arrayvec::ArrayVec;
-use riichi_blocks::{Blocks, HandBlock, WHITE, blocks_of, is_closed_wait, is_edge_wait, is_ron};
-use riichi_hand::WinRecord;
+use riichi_blocks::{Blocks, HandBlock, WHITE, blocks_of, is_closed_wait, is_edge_wait};
+use riichi_hand::{WinRecord, is_ron};
 use riichi_score::{block_fu, draw_fu, ron_fu};
 use riichi_split::Reading;
 use riichi_tiles::{Block, Kind};

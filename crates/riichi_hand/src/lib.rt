@@ -36,4 +36,4 @@ pub use line::{
     MOST_LINE, has_other_byte, is_other_byte, next_word, read_line, without_spaces, word_len,
 };
 pub use shape::ShapeRecord;
-pub use win::{By, Flags, Rules, WinParts, WinRecord, Wind};
+pub use win::{By, Flags, Rules, WinParts, WinRecord, Wind, is_ron};

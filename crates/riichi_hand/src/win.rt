@@ -316,7 +316,8 @@ fn has_wrong_size(parts: &WinParts) -> bool
     !is_thirteen(&parts.concealed, &parts.melds) || parts.dora.total() > 5 || parts.ura.total() > 5
 }
 
-fn is_ron(by: By) -> bool
+/// Whether a win is by ron.
+pub fn is_ron(by: By) -> bool
     ensures { result ≡ spec.is_ron by }
 {
     match by {

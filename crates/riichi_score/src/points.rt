@@ -6,8 +6,8 @@ ghost use Rattle.riichi_blocks.specs.HandBlocks.{blocks_of};
 ghost use Rattle.riichi_yaku.specs.Runs.{is_pinfu};
 ghost use Rattle.riichi_score.specs.Fu as spec;
 
-use riichi_blocks::{Blocks, HandBlock, blocks_of, is_orphan, is_ron, pair_fu, wait_fu};
-use riichi_hand::WinRecord;
+use riichi_blocks::{Blocks, HandBlock, blocks_of, is_orphan, pair_fu, wait_fu};
+use riichi_hand::{WinRecord, is_ron};
 use riichi_split::Reading;
 use riichi_tiles::{Block, Kind};
 use riichi_yaku::is_pinfu;

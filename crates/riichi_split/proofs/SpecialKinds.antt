@@ -1,13 +1,13 @@
 -- Which kinds may complete seven pairs or the orphans.
-use Rattle.std.proofs.Common.{◌≡◌, ◌≢◌, ℕ, ◌+◌, ◌<◌, ◌≤◌, ◌⊎◌, Bool, true, false, IsTrue, inl, inr, List, length, get_or, set, refl, sym, ◌∙◌, subst, arith}
+use Rattle.std.proofs.Common.{◌≡◌, ◌≢◌, ℕ, ◌+◌, ◌<◌, ◌≤◌, ◌↔◌, ◌⊎◌, Bool, true, false, IsTrue, inl, inr, List, length, get_or, set, refl, sym, ◌∙◌, subst, arith}
 use Rattle.std.proofs.lemmas.Bool.{cases_lt, cases_eq}
 use Rattle.std.proofs.lemmas.Bool.Decides.{nat_tests}
 use Rattle.std.proofs.lemmas.List.{length-set, get_or-set_other}
 use Rattle.std.proofs.lemmas.Grind.{get_or-set_at}
 use Rattle.riichi_tiles.specs.Kinds.{is_orphan}
-use Rattle.riichi_split.specs.Readings.{IsSevenPairs, IsOrphans, orphan_copies}
+use Rattle.riichi_split.specs.Readings.{IsSevenPairs, IsOrphans, HasEachOrphan, orphan_copies}
 use Rattle.riichi_split.specs.Waits.{with_one}
-use Rattle.riichi_split.specs.SpecialWaits.{IsSpecialWait, AddsSpecial}
+use Rattle.riichi_split.specs.SpecialWaits.{IsSpecialWait, CompletesPairs, CompletesOrphans, Adds, AddsSpecial}
 use Rattle.riichi_split.proofs.Suits.{one-at, only}
 
 -- a kind that is neither none nor two is the one that is completed
@@ -45,13 +45,6 @@ lacked-completed : (c : List ℕ) (kind lacked : ℕ) → lacked < 34 → IsTrue
 lacked-completed c kind lacked l o z n h =
     omega (arith, get_or-set_other c kind lacked (get_or c kind 0 + 1) 0 n, h.twice.3 lacked l, z, held-orphan h.twice.0 lacked o)
 
--- who lacks two terminals and honours completes no orphans
-pub two-lacked : (c : List ℕ) (kind first second : ℕ) → first < second → second < 34 → IsTrue (is_orphan first) → IsTrue (is_orphan second) → get_or c first 0 ≡ 0 → get_or c second 0 ≡ 0 → IsOrphans (with_one c kind) 0 → ⊥
-two-lacked c kind first second before l p q y z h = elim (cases_eq first kind) [
-  | inl e ↦ lacked-completed c kind second l q z (omega (arith, e, before)) h
-  | inr n ↦ lacked-completed c kind first (omega (arith, before, l)) p y n h
-]
-
 few-orphans : (twice kind : ℕ) → orphan_copies twice kind ≤ 2
 few-orphans twice kind = grind (arith, nat_tests)
 
@@ -64,19 +57,81 @@ fifth-completes-none c kind long four w =
       | inr h ↦ omega (arith, o, h.twice.3 kind w.0, few-orphans h.twice.0 kind, four)
     ]
 
+-- the kind that is completed is the one that is lacking
+pub lacked-is : (c : List ℕ) (kind lacked : ℕ) → lacked < 34 → IsTrue (is_orphan lacked) → get_or c lacked 0 ≡ 0 → IsOrphans (with_one c kind) 0 → kind ≡ lacked
+lacked-is c kind lacked l o z h = elim (cases_eq lacked kind) [ inl e ↦ sym e | inr n ↦ absurd (lacked-completed c kind lacked l o z n h) ]
+
+twice-is : (twice kind : ℕ) → 2 ≤ orphan_copies twice kind → kind ≡ twice
+twice-is twice kind two = grind (arith, nat_tests, two)
+
+once-is : (twice kind : ℕ) → kind ≢ twice → kind < 34 → orphan_copies twice kind ≡ orphan_copies 34 kind
+once-is twice kind n l = grind (arith, nat_tests, n, l)
+
+some-orphan : (twice kind : ℕ) → 0 < orphan_copies twice kind → IsTrue (is_orphan kind)
+some-orphan twice kind some = grind (arith, nat_tests, some)
+
+orphan-twice : (kind : ℕ) → kind < 34 → IsTrue (is_orphan kind) → (orphan_copies kind kind ≡ 2) × (orphan_copies 34 kind ≡ 1)
+orphan-twice kind l o = (grind (arith, nat_tests, l, o), grind (arith, nat_tests, l, o))
+
+here : (c : List ℕ) (kind : ℕ) → kind < length c → get_or (with_one c kind) kind 0 ≡ get_or c kind 0 + 1
+here c kind l = get_or-set_at c kind kind (get_or c kind 0 + 1) 0 refl l
+
+there : (c : List ℕ) (kind k : ℕ) → k ≢ kind → get_or (with_one c kind) k 0 ≡ get_or c k 0
+there c kind k n = get_or-set_other c kind k (get_or c kind 0 + 1) 0 n
+
+-- each terminal and honour is there once, and no other kind
+abbrev AreOnce : List ℕ → Type 0
+AreOnce c = (k : ℕ) → k < 34 → get_or c k 0 ≡ orphan_copies 34 k
+
+-- where none is lacking, orphans are completed from one of each
+pub once-before : (c : List ℕ) (kind : ℕ) → length c ≡ 34 → kind < 34 → HasEachOrphan c → IsOrphans (with_one c kind) 0 → AreOnce c × IsTrue (is_orphan kind)
+once-before c kind long l each h =
+    let twice = h.twice.0 in
+    let at = here c kind (omega (arith, long, l)) in
+    let is = h.twice.3 kind l in
+    let orphan = some-orphan twice kind (omega (arith, at, is)) in
+    let held = each kind l orphan in
+    let same = twice-is twice kind (omega (arith, at, is, held)) in (
+      λ k small. elim (cases_eq k kind) [
+        | inl e ↦
+            let P : ℕ → Type 0 = λ n. get_or c n 0 ≡ orphan_copies 34 n in
+            let Q : ℕ → Type 0 = λ n. orphan_copies n kind ≡ 2 in
+            let two = subst Q same (orphan-twice kind l orphan).0 in
+            subst P (sym e) (omega (arith, at, is, two, (orphan-twice kind l orphan).1))
+        | inr n ↦ sym (there c kind k n) ∙ h.twice.3 k small ∙ once-is twice k (λ e. n (e ∙ sym same)) small
+      ],
+      orphan,
+    )
+
+pub once-completes : (c : List ℕ) (kind : ℕ) → length c ≡ 34 → kind < 34 → IsTrue (is_orphan kind) → AreOnce c → IsOrphans (with_one c kind) 0
+once-completes c kind long l orphan once = record {
+  no_meld = refl;
+  twice = (
+    kind,
+    orphan,
+    l,
+    λ k small. elim (cases_eq k kind) [
+      | inl e ↦
+          let P : ℕ → Type 0 = λ n. get_or (with_one c kind) n 0 ≡ orphan_copies kind n in
+          subst P (sym e) (omega (arith, here c kind (omega (arith, long, l)), once kind l, orphan-twice kind l orphan))
+      | inr n ↦ there c kind k n ∙ once k small ∙ sym (once-is kind k n small)
+    ],
+  );
+}
+
 -- ---- marks
 
-pub adds-none : (c : List ℕ) (first : ℕ) (marks : List Bool) → ((kind : ℕ) → kind < first → IsSpecialWait c kind → ⊥) → AddsSpecial c first marks marks
-adds-none c first marks none = record {
+pub adds-none : (P : ℕ → Type 0) (number : ℕ) (marks : List Bool) → ((kind : ℕ) → kind < number → P kind → ⊥) → Adds P number marks marks
+adds-none P number marks none = record {
   each_kind = refl;
   each = λ kind. (λ m. inl m, λ h. elim h [ inl m ↦ m | inr s ↦ absurd (none kind s.0 s.1) ]);
 }
 
-pub adds-yes : (c : List ℕ) (number : ℕ) (old marks : List Bool) → number < length marks → IsSpecialWait c number → AddsSpecial c number old marks → AddsSpecial c (number + 1) old (set marks number true)
-adds-yes c number old marks l w a = record {
+pub adds-yes : (P : ℕ → Type 0) (number : ℕ) (old marks : List Bool) → number < length marks → P number → Adds P number old marks → Adds P (number + 1) old (set marks number true)
+adds-yes P number old marks l w a = record {
   each_kind = length-set marks number true ∙ a.each_kind;
   each = λ kind. elim (cases_eq kind number) [
-    | inl e ↦ let P : ℕ → Type 0 = λ n. IsSpecialWait c n in (λ m. inr (omega arith, subst P (sym e) w), λ h. get_or-set_at marks number kind true false e l)
+    | inl e ↦ (λ m. inr (omega arith, subst P (sym e) w), λ h. get_or-set_at marks number kind true false e l)
     | inr n ↦
         let o = get_or-set_other marks number kind true false n in
         let i = a.each kind in (
@@ -86,43 +141,48 @@ adds-yes c number old marks l w a = record {
   ];
 }
 
-pub adds-no : (c : List ℕ) (number : ℕ) (old marks : List Bool) → (IsSpecialWait c number → ⊥) → AddsSpecial c number old marks → AddsSpecial c (number + 1) old marks
-adds-no c number old marks fails a = record {
+-- no further kind is so
+pub adds-to : (P : ℕ → Type 0) (number end : ℕ) (old marks : List Bool) → number ≤ end → ((kind : ℕ) → number ≤ kind → kind < end → P kind → ⊥) → Adds P number old marks → Adds P end old marks
+adds-to P number end old marks order none a = record {
   each_kind = a.each_kind;
   each = λ kind. let i = a.each kind in (
-    λ m. elim (i.0 m) [ inl b ↦ inl b | inr s ↦ inr (omega (arith, s.0), s.1) ],
+    λ m. elim (i.0 m) [ inl b ↦ inl b | inr s ↦ inr (omega (arith, s.0, order), s.1) ],
     λ h. i.1 (elim h [
       | inl b ↦ inl b
-      | inr s ↦ elim (cases_eq kind number) [
-        | inl e ↦ let P : ℕ → Type 0 = λ n. IsSpecialWait c n in absurd (fails (subst P e s.1))
-        | inr n ↦ inr (omega (arith, s.0, n), s.1)
-      ]
+      | inr s ↦ elim (cases_lt kind number) [ inl l ↦ inr (l, s.1) | inr g ↦ absurd (none kind g s.0 s.1) ]
     ]),
   );
 }
 
-pub adds-all : (c : List ℕ) (number : ℕ) (old marks : List Bool) → ((kind : ℕ) → number ≤ kind → IsSpecialWait c kind → ⊥) → AddsSpecial c number old marks → AddsSpecial c 34 old marks
-adds-all c number old marks none a = record {
+pub adds-no : (P : ℕ → Type 0) (number : ℕ) (old marks : List Bool) → (P number → ⊥) → Adds P number old marks → Adds P (number + 1) old marks
+adds-no P number old marks fails a = adds-to P number (number + 1) old marks (omega arith) (λ kind low high p. fails (let e : kind ≡ number = omega (arith, low, high) in subst P e p)) a
+
+-- just one kind is so
+pub adds-one : (P : ℕ → Type 0) (only : ℕ) (marks : List Bool) → length marks ≡ 34 → only < 34 → P only → ((kind : ℕ) → kind < 34 → P kind → kind ≡ only) → Adds P 34 marks (set marks only true)
+adds-one P only marks long small w one =
+    adds-to P (only + 1) 34 marks (set marks only true) (omega (arith, small)) (λ kind low high p. omega (arith, low, one kind high p))
+    (adds-yes P only marks marks (omega (arith, long, small)) w (adds-none P only marks (λ kind low p. omega (arith, low, one kind (omega (arith, low, small)) p))))
+
+pub adds-same : (P Q : ℕ → Type 0) (old marks : List Bool) → ((kind : ℕ) → kind < 34 → P kind ↔ Q kind) → Adds P 34 old marks → Adds Q 34 old marks
+adds-same P Q old marks same a = record {
   each_kind = a.each_kind;
   each = λ kind. let i = a.each kind in (
-    λ m. elim (i.0 m) [ inl b ↦ inl b | inr s ↦ inr (s.1.0, s.1) ],
-    λ h. i.1 (elim h [
-      | inl b ↦ inl b
-      | inr s ↦ elim (cases_lt kind number) [ inl l ↦ inr (l, s.1) | inr g ↦ absurd (none kind g s.1) ]
-    ]),
+    λ m. elim (i.0 m) [ inl b ↦ inl b | inr s ↦ inr (s.0, (same kind s.0).0 s.1) ],
+    λ h. i.1 (elim h [ inl b ↦ inl b | inr s ↦ inr (s.0, (same kind s.0).1 s.1) ]),
   );
 }
 
--- who holds other tiles than terminals and honours can complete seven pairs alone
-pub pairs-alone : (c : List ℕ) (kind : ℕ) (alone : Bool) → alone ≡ false → ((k : ℕ) → k < 34 → IsOrphans (with_one c k) 0 → IsTrue alone) → IsSpecialWait c kind → IsSevenPairs (with_one c kind) 0
-pairs-alone c kind alone e h w = elim w.1 [
-  | inl s ↦ s
-  | inr o ↦ absurd (let t : alone ≡ true = h kind w.0 o in cc)
-]
-
--- and then one kind alone
-pub one-special : (tiles counts : List ℕ) (single : ℕ) (alone : Bool) → counts ≡ tiles → alone ≡ false → ((k : ℕ) → k < 34 → IsOrphans (with_one counts k) 0 → IsTrue alone) → ((k : ℕ) → k < 34 → IsSevenPairs (with_one counts k) 0 → k ≡ single) → (kind : ℕ) → IsSpecialWait tiles kind → kind ≡ single
-one-special tiles counts single alone e f h only kind w =
-    let P : List ℕ → Type 0 = λ c. IsSpecialWait c kind in
-    let v = subst P (sym e) w in
-    only kind v.0 (pairs-alone counts kind alone f h v)
+pub adds-both : (c : List ℕ) (old middle marks : List Bool) → Adds (CompletesPairs c) 34 old middle → Adds (CompletesOrphans c) 34 middle marks → AddsSpecial c 34 old marks
+adds-both c old middle marks pairs orphans = record {
+  each_kind = orphans.each_kind ∙ pairs.each_kind;
+  each = λ kind. let p = pairs.each kind in let o = orphans.each kind in (
+    λ m. elim (o.0 m) [
+      | inl b ↦ elim (p.0 b) [ inl a ↦ inl a | inr s ↦ inr (s.0, (s.0, inl s.1)) ]
+      | inr s ↦ inr (s.0, (s.0, inr s.1))
+    ],
+    λ h. elim h [
+      | inl a ↦ o.1 (inl (p.1 (inl a)))
+      | inr s ↦ elim s.1.1 [ inl q ↦ o.1 (inl (p.1 (inr (s.0, q)))) | inr r ↦ o.1 (inr (s.0, r)) ]
+    ],
+  );
+}

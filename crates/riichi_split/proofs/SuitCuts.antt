@@ -1,11 +1,13 @@
 -- What the tiles of one suit can be cut into.
-use Rattle.std.proofs.Common.{◌≡◌, ℕ, zero, suc, ◌+◌, ◌-◌, ◌*◌, ◌/◌, ◌%◌, ◌<◌, ◌≤◌, ◌↔◌, Bool, true, false, IsTrue, List, [], ◌∷◌, length, get_or, map, set, drop, add-one, refl, sym, subst, arith}
-use Rattle.std.specs.List.{range_with_len, sum}
+use Rattle.std.proofs.Common.{◌≡◌, ℕ, zero, suc, ◌+◌, ◌-◌, ◌*◌, ◌/◌, ◌%◌, ◌<◌, ◌≤◌, ◌↔◌, ◌⊎◌, inl, inr, Bool, true, false, IsTrue, nat_eq, List, [], ◌∷◌, length, get_or, map, set, drop, add-one, refl, sym, ◌∙◌, subst, arith}
+use Rattle.std.specs.List.{list_all, range_with_len, sum}
+use Rattle.std.proofs.lemmas.Bool.Decides.{nat_tests}
+use Rattle.std.proofs.lemmas.Bool.{cases_lt}
 use Rattle.std.proofs.lemmas.List.FromFn.{fill_by_all}
 use Rattle.std.proofs.Math.Seq.{drop-cons}
-use Rattle.std.proofs.lemmas.List.{drop_all}
+use Rattle.std.proofs.lemmas.List.{drop_all, length-set}
 use Rattle.std.proofs.lemmas.List.Sums.{sum_by-set, sum_by-cons}
-use Rattle.riichi_split.specs.SuitTiles.{OneSuit, AreCut, AreSets, AreSetsAndPair, HasPairs, third_of}
+use Rattle.riichi_split.specs.SuitTiles.{OneSuit, AreCut, AreSets, AreSetsAndPair, HasPairs, HasPairOf, third_of, with_tile, without_pair}
 
 -- ---- three equal runs are three triplets
 
@@ -89,6 +91,86 @@ third-of-sets tiles n s =
     let e = fill_by_all (λ i. get_or tiles.held i 0) tiles.held 9 0 n (λ k l. refl) in
     let P : List ℕ → Type 0 = λ xs. AreCut tiles.has_runs 0 0 xs in
     third-nine tiles.has_runs (λ i. get_or tiles.held i 0) (subst P e s)
+
+-- ---- the rank of a pair
+
+-- where the numbers beside a pair leave nothing over, twice what all numbers leave is what the pair's leaves
+third-beside : (g : ℕ → ℕ) (rank : ℕ) → rank < 9 → 2 ≤ g rank → third_of (set (map g (range_with_len 0 9)) rank (g rank - 2)) ≡ 0 → 2 * third_of (map g (range_with_len 0 9)) % 3 ≡ rank % 3
+third-beside g zero small two e = omega (arith, two, e)
+third-beside g (suc zero) small two e = omega (arith, two, e)
+third-beside g (suc (suc zero)) small two e = omega (arith, two, e)
+third-beside g (suc (suc (suc zero))) small two e = omega (arith, two, e)
+third-beside g (suc (suc (suc (suc zero)))) small two e = omega (arith, two, e)
+third-beside g (suc (suc (suc (suc (suc zero))))) small two e = omega (arith, two, e)
+third-beside g (suc (suc (suc (suc (suc (suc zero)))))) small two e = omega (arith, two, e)
+third-beside g (suc (suc (suc (suc (suc (suc (suc zero))))))) small two e = omega (arith, two, e)
+third-beside g (suc (suc (suc (suc (suc (suc (suc (suc zero)))))))) small two e = omega (arith, two, e)
+third-beside g (suc (suc (suc (suc (suc (suc (suc (suc (suc more))))))))) small two e = absurd (omega (arith, small))
+
+pub third-of-rank : (tiles : OneSuit) (pair : AreSetsAndPair tiles) → length tiles.held ≡ 9 → 2 * third_of tiles.held % 3 ≡ pair.rank % 3
+third-of-rank tiles pair nine =
+    let g = λ (i : ℕ). get_or tiles.held i 0 in
+    let e = fill_by_all g tiles.held 9 0 nine (λ k l. refl) in
+    let sets = third-of-sets (without_pair tiles pair.rank) (length-set tiles.held pair.rank (g pair.rank - 2) ∙ nine) pair.sets in
+    let P : List ℕ → Type 0 = λ xs. third_of (set xs pair.rank (g pair.rank - 2)) ≡ 0 in
+    third-beside g pair.rank pair.of_nine pair.two (subst P e sets)
+
+pub pair-of : (tiles : OneSuit) (rank : ℕ) → rank < 9 → HasPairOf tiles rank → AreSetsAndPair tiles
+pair-of tiles rank small h = record { rank = rank; of_nine = small; two = h.0; sets = h.1 }
+
+-- so the pair is of one of three ranks
+pub one-of-three : (tiles : OneSuit) (first : ℕ) → length tiles.held ≡ 9 → first ≡ 2 * third_of tiles.held % 3 → AreSetsAndPair tiles → HasPairOf tiles first ⊎ (HasPairOf tiles (first + 3) ⊎ HasPairOf tiles (first + 6))
+one-of-three tiles first nine is pair =
+    let e = third-of-rank tiles pair nine in
+    let P : ℕ → Type 0 = HasPairOf tiles in
+    let h : P pair.rank = (pair.two, pair.sets) in
+    elim (cases_lt pair.rank 3) [
+      | inl low ↦ inl (subst P (let r : pair.rank ≡ first = omega (arith, e, is, low) in r) h)
+      | inr some ↦ inr (elim (cases_lt pair.rank 6) [
+        | inl middle ↦ inl (subst P (let r : pair.rank ≡ first + 3 = omega (arith, e, is, some, middle) in r) h)
+        | inr high ↦ inr (subst P (let r : pair.rank ≡ first + 6 = omega (arith, e, is, high, pair.of_nine) in r) h)
+      ])
+    ]
+
+-- ---- one more tile
+
+third-more-nine : (g : ℕ → ℕ) (rank : ℕ) → rank < 9 → third_of (set (map g (range_with_len 0 9)) rank (g rank + 1)) ≡ (third_of (map g (range_with_len 0 9)) + rank) % 3
+third-more-nine g zero small = omega arith
+third-more-nine g (suc zero) small = omega arith
+third-more-nine g (suc (suc zero)) small = omega arith
+third-more-nine g (suc (suc (suc zero))) small = omega arith
+third-more-nine g (suc (suc (suc (suc zero)))) small = omega arith
+third-more-nine g (suc (suc (suc (suc (suc zero))))) small = omega arith
+third-more-nine g (suc (suc (suc (suc (suc (suc zero)))))) small = omega arith
+third-more-nine g (suc (suc (suc (suc (suc (suc (suc zero))))))) small = omega arith
+third-more-nine g (suc (suc (suc (suc (suc (suc (suc (suc zero)))))))) small = omega arith
+third-more-nine g (suc (suc (suc (suc (suc (suc (suc (suc (suc more))))))))) small = absurd (omega (arith, small))
+
+-- what the sum leaves over with one more tile of a rank
+pub third-more : (tiles : OneSuit) (rank : ℕ) → length tiles.held ≡ 9 → rank < 9 → third_of (with_tile tiles rank).held ≡ (third_of tiles.held + rank) % 3
+third-more tiles rank nine small =
+    let g = λ (i : ℕ). get_or tiles.held i 0 in
+    let e = fill_by_all g tiles.held 9 0 nine (λ k l. refl) in
+    let P : List ℕ → Type 0 = λ xs. third_of (set xs rank (g rank + 1)) ≡ (third_of xs + rank) % 3 in
+    subst P (sym e) (third-more-nine g rank small)
+
+-- ---- triplets alone
+
+no-runs : (one : ℕ) → (0 < one → IsTrue false) → one ≡ 0
+no-runs zero h = refl
+no-runs (suc n) h = absurd (let f : false ≡ true = h (omega arith) in cc)
+
+pub triplets-alone : (held : List ℕ) → IsTrue (list_all (λ h. nat_eq (h % 3) 0) held) ↔ AreCut false 0 0 held
+triplets-alone [] = (λ t. refl, λ s. refl)
+triplets-alone (h ∷ above) = let i = triplets-alone above in (
+  λ t. let e : h % 3 ≡ 0 = grind (arith, nat_tests, t) in (h / 3, 0, omega (arith, e), λ p. absurd (omega (arith, p)), i.0 (grind (arith, nat_tests, t))),
+  λ s.
+      let none = no-runs s.1 s.3 in
+      let P : ℕ → Type 0 = λ n. AreCut false n 0 above in
+      let e : h % 3 ≡ 0 = omega (arith, s.2, none) in
+      let r = i.1 (subst P none s.4) in
+      grind (arith, nat_tests, e, r),
+)
 
 -- ---- rank by rank
 

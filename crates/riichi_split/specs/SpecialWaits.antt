@@ -4,11 +4,23 @@ use Rattle.riichi_tiles.specs.Tiles.{IsMarked}
 use Rattle.riichi_split.specs.Readings.{IsSevenPairs, IsOrphans}
 use Rattle.riichi_split.specs.Waits.{with_one}
 
--- one more of the kind makes one of these shapes, where no meld stands
+-- one more of the kind makes seven pairs, where no meld stands
+abbrev pub CompletesPairs : List ℕ → ℕ → Type 0
+CompletesPairs counts kind = IsSevenPairs (with_one counts kind) 0
+
+-- one more of the kind makes the orphans
+abbrev pub CompletesOrphans : List ℕ → ℕ → Type 0
+CompletesOrphans counts kind = IsOrphans (with_one counts kind) 0
+
+-- one more of the kind makes one of these shapes
 abbrev pub IsSpecialWait : List ℕ → ℕ → Type 0
 IsSpecialWait counts kind = (kind < 34) × (IsSevenPairs (with_one counts kind) 0 ⊎ IsOrphans (with_one counts kind) 0)
 
--- the kinds below a number that do so are marked beside those that were
-pub record AddsSpecial (counts : List ℕ) (number : ℕ) (old new : List Bool) : Type 0 where
+-- the kinds below a number that are so are marked beside those that were
+pub record Adds (IsSo : ℕ → Type 0) (number : ℕ) (old new : List Bool) : Type 0 where
   pub each_kind : length new ≡ length old
-  pub each : (kind : ℕ) → IsMarked new kind ↔ (IsMarked old kind ⊎ ((kind < number) × IsSpecialWait counts kind))
+  pub each : (kind : ℕ) → IsMarked new kind ↔ (IsMarked old kind ⊎ ((kind < number) × IsSo kind))
+
+-- those that complete one of these shapes
+abbrev pub AddsSpecial : List ℕ → ℕ → List Bool → List Bool → Type 0
+AddsSpecial counts number old new = Adds (IsSpecialWait counts) number old new

@@ -40,6 +40,10 @@ AreSets tiles = AreCut tiles.has_runs 0 0 tiles.held
 abbrev pub without_pair : OneSuit → ℕ → OneSuit
 without_pair tiles rank = record tiles { held = slice_set tiles.held rank (slice_index tiles.held rank - 2) }
 
+-- there is a pair of the rank, and the other tiles are sets
+abbrev pub HasPairOf : OneSuit → ℕ → Type 0
+HasPairOf tiles rank = (2 ≤ slice_index tiles.held rank) × AreSets (without_pair tiles rank)
+
 -- the tiles are sets and a pair
 pub record AreSetsAndPair (tiles : OneSuit) : Type 0 where
   pub rank : ℕ

@@ -4,7 +4,7 @@ ghost use Rattle.std.specs.Iterator.{YieldsFirst, item_count};
 use crate::done::next_done;
 use crate::reading::Reading;
 use crate::sets::Sets;
-use crate::special::{is_orphans, is_seven_pairs};
+use crate::special::{are_seven_pairs, are_thirteen_orphans};
 use crate::split::Split;
 use crate::splits::Splits;
 use crate::suit::Rests;
@@ -49,8 +49,8 @@ impl Readings {
         let tiles = counts.to_array();
         Readings {
             winning,
-            seven_pairs: is_seven_pairs(&tiles, melds),
-            orphans: is_orphans(&tiles, melds),
+            seven_pairs: are_seven_pairs(&tiles, melds),
+            orphans: are_thirteen_orphans(&tiles, melds),
             split: Split {
                 sets: Sets::new(),
                 pair: Kind::at(0),

@@ -1,11 +1,13 @@
 //! The kinds that complete seven pairs or the orphans.
-ghost use Rattle.std.specs.Prelude.{◌≡◌, ◌≢◌, ◌↔◌, ◌<◌, ◌≤◌, ◌⊎◌, ℕ, IsTrue, IsFalse, length, slice_index};
+ghost use Rattle.std.specs.Prelude.{◌≡◌, ◌≢◌, ◌↔◌, ◌<◌, ◌≤◌, ◌⊎◌, ℕ, IsTrue, length, slice_index};
 ghost use Rattle.riichi_tiles.specs.Kinds.{is_orphan};
-ghost use Rattle.riichi_split.specs.Readings.{IsSevenPairs, IsOrphans};
+ghost use Rattle.riichi_split.specs.Readings.{IsSevenPairs, IsOrphans, HasEachOrphan};
 ghost use Rattle.riichi_split.specs.Waits.{with_one};
 ghost use Rattle.riichi_split.specs.SpecialWaits as spec;
 
-use crate::special::{is_orphans, is_seven_pairs, is_terminal_or_honour};
+use crate::special::{
+    are_orphans_once, are_seven_pairs, are_thirteen_orphans, is_terminal_or_honour,
+};
 use riichi_tiles::{Counts, Kind, KindSet};
 
 /// Marks the kinds that complete seven pairs or the orphans, where no meld stands.
@@ -13,30 +15,58 @@ pub(crate) fn mark_special_waits(tiles: &Counts, marks: &mut KindSet)
     requires { length marks.old ≡ 34 }
     ensures { spec.AddsSpecial tiles.now 34 marks.old marks.new }
 {
-    let counts = tiles.to_array();
-    if is_near_orphans(&counts) {
-        mark_between(tiles, 0, 34, marks);
-        return;
-    }
-    let single = single_of(&counts);
-    if single >= 34 {
-        return;
-    }
-    mark_between(tiles, single, single + 1, marks);
+    mark_pair_wait(tiles, marks);
+    mark_orphan_waits(tiles, marks);
 }
 
-/// Marks those of some kinds, below which there are none.
-fn mark_between(tiles: &Counts, first: u8, end: u8, marks: &mut KindSet)
-    requires none { (kind : ℕ) → kind < first → spec.IsSpecialWait tiles.now kind → ⊥ }
-    requires order { first ≤ end }
-    requires kinds { end ≤ 34 }
-    requires long { length marks.old ≡ 34 }
-    ensures { spec.AddsSpecial tiles.now end marks.old marks.new }
+/// Marks the kind that completes seven pairs, if one does.
+fn mark_pair_wait(tiles: &Counts, marks: &mut KindSet)
+    requires { length marks.old ≡ 34 }
+    ensures { spec.Adds (spec.CompletesPairs tiles.now) 34 marks.old marks.new }
 {
-    for number in first..end {
-        let kind = Kind::at(number);
-        if is_special_wait(tiles, kind) {
-            marks.insert(kind);
+    let single = single_of(&tiles.to_array());
+    if single < 34 && completes_pairs(tiles, Kind::at(single)) {
+        marks.insert(Kind::at(single));
+    }
+}
+
+/// Marks the kinds that complete the orphans: the one that is lacking, or each where none is.
+fn mark_orphan_waits(tiles: &Counts, marks: &mut KindSet)
+    requires { length marks.old ≡ 34 }
+    ensures { spec.Adds (spec.CompletesOrphans tiles.now) 34 marks.old marks.new }
+{
+    let counts = tiles.to_array();
+    if !are_orphans_alone(&counts) {
+        return;
+    }
+    let lacking = next_lacking(&counts);
+    if lacking < 34 {
+        mark_lacking(tiles, Kind::at(lacking), marks);
+    } else if are_orphans_once(&counts) {
+        mark_orphans(marks);
+    }
+}
+
+/// Marks a terminal or honour of which no tile is held, where it completes the orphans.
+fn mark_lacking(tiles: &Counts, lacking: Kind, marks: &mut KindSet)
+    requires long { length marks.old ≡ 34 }
+    requires orphan { IsTrue (is_orphan lacking) }
+    requires none { slice_index tiles.now lacking ≡ 0 }
+    ensures { spec.Adds (spec.CompletesOrphans tiles.now) 34 marks.old marks.new }
+{
+    if completes_orphans(tiles, lacking) {
+        marks.insert(lacking);
+    }
+}
+
+/// Marks each terminal and honour.
+fn mark_orphans(marks: &mut KindSet)
+    requires { length marks.old ≡ 34 }
+    ensures { spec.Adds (λ kind. IsTrue (is_orphan kind)) 34 marks.old marks.new }
+{
+    for number in 0..34u8 {
+        if is_terminal_or_honour(number as usize) {
+            marks.insert(Kind::at(number));
         }
     }
 }
@@ -76,35 +106,17 @@ fn next_single(counts: &[u8; 34], from: u8) -> u8
     34
 }
 
-/// Whether no tile but terminals and honours is held, and at most one of these kinds is lacking.
-fn is_near_orphans(counts: &[u8; 34]) -> bool
-    ensures { (kind : ℕ) → kind < 34 → IsOrphans (with_one counts.now kind) 0 → IsTrue result }
-{
-    are_orphans_alone(counts) && !lacks_two_orphans(counts)
-}
-
-/// Whether two of the terminals and honours are lacking, so that one tile more isn't enough.
-fn lacks_two_orphans(counts: &[u8; 34]) -> bool
-    ensures { (kind : ℕ) → kind < 34 → IsOrphans (with_one counts.now kind) 0 → IsFalse result }
-{
-    let first = next_lacking(counts, 0);
-    if first >= 34 {
-        return false;
-    }
-    let second = next_lacking(counts, first + 1);
-    second < 34
-}
-
-/// The first terminal or honour from a kind on of which no tile is held, or 34.
-fn next_lacking(counts: &[u8; 34], from: usize) -> usize
-    requires { from ≤ 34 }
+/// The first terminal or honour of which no tile is held, or 34.
+fn next_lacking(counts: &[u8; 34]) -> u8
     ensures kind { result ≤ 34 }
     ensures lacking { result < 34
-        → (from ≤ result) × IsTrue (is_orphan result) × (slice_index counts.now result ≡ 0) }
+        → IsTrue (is_orphan result) × (slice_index counts.now result ≡ 0) }
+    ensures all { result ≡ 34 → HasEachOrphan counts.now }
 {
-    for kind in from..34 {
+    for number in 0..34u8 {
+        let kind = number as usize;
         if counts[kind] == 0 && is_terminal_or_honour(kind) {
-            return kind;
+            return number;
         }
     }
     34
@@ -122,14 +134,26 @@ fn are_orphans_alone(counts: &[u8; 34]) -> bool
     true
 }
 
-fn is_special_wait(tiles: &Counts, kind: Kind) -> bool
-    ensures { IsTrue result ↔ spec.IsSpecialWait tiles.now kind }
+/// Whether one more of a kind makes seven pairs.
+fn completes_pairs(tiles: &Counts, kind: Kind) -> bool
+    ensures { IsTrue result ↔ spec.CompletesPairs tiles.now kind }
 {
     if tiles.get(kind) >= 4 {
         return false;
     }
     let mut completed = *tiles;
     completed.add(kind);
-    let counts = completed.to_array();
-    is_seven_pairs(&counts, 0) || is_orphans(&counts, 0)
+    are_seven_pairs(&completed.to_array(), 0)
+}
+
+/// Whether one more of a kind makes the orphans.
+fn completes_orphans(tiles: &Counts, kind: Kind) -> bool
+    ensures { IsTrue result ↔ spec.CompletesOrphans tiles.now kind }
+{
+    if tiles.get(kind) >= 4 {
+        return false;
+    }
+    let mut completed = *tiles;
+    completed.add(kind);
+    are_thirteen_orphans(&completed.to_array(), 0)
 }

@@ -1,6 +1,7 @@
 //! The kinds that complete sets and a pair, from what each suit is beside them.
 ghost use Rattle.std.specs.Prelude.{◌≡◌, ◌↔◌, ◌+◌, ◌*◌, ◌<◌, ◌≤◌, ℕ, IsTrue, length, slice_index, sum};
 ghost use Rattle.riichi_tiles.specs.Kinds.{first_of, kinds_of};
+ghost use Rattle.riichi_tiles.specs.Suits.{of_suit};
 ghost use Rattle.riichi_tiles.specs.Tiles.{IsMarked};
 ghost use Rattle.riichi_split.specs.SuitTiles as spec;
 ghost use Rattle.riichi_split.specs.Waits.{with_one};
@@ -53,19 +54,22 @@ impl Suits {
     }
 
     /// Whether one more tile of a rank completes the hand: with the pair, where the other suits are
-    /// sets; as sets, where another suit has the pair.
-    fn is_completed_by(&self, suit: Suit, rank: usize) -> bool
+    /// sets; as sets, where another suit has the pair. It is told how many pairs the others are, and what
+    /// the sum of this suit's numbers leaves over by three.
+    fn is_completed_by(&self, suit: Suit, rank: usize, others: usize, third: usize) -> bool
         requires counted { spec.AreCounted self.now.tiles self.now.pairs }
         requires rank { rank < kinds_of suit }
+        requires others { others + of_suit self.now.pairs suit ≡ spec.total_of self.now.pairs }
+        requires third { third ≡ spec.third_of (of_suit self.now.tiles suit).held }
         ensures { IsTrue result ↔ spec.Completes self.now.tiles (first_of suit + rank) }
     {
-        let tiles = self.tiles.get(suit);
+        let tiles = self.tiles.lent(suit);
         if tiles.get(rank) >= 4 {
             return false;
         }
-        match self.total_pairs() - self.pairs.get(suit) {
-            0 => tiles.with(rank).are_sets_and_pair(),
-            1 => tiles.with(rank).are_sets(),
+        match others {
+            0 => tiles.are_sets_and_pair_with(rank, third),
+            1 => tiles.are_sets_with(rank, third),
             _ => false,
         }
     }
@@ -77,12 +81,14 @@ impl Suits {
         ensures { spec.MarksBelow (spec.Completes self.now.tiles)
             (first_of suit + kinds_of suit) marks.new }
     {
+        let others = self.total_pairs() - self.pairs.get(suit);
         // No tile of this suit completes the others.
-        if self.total_pairs() - self.pairs.get(suit) > 1 {
+        if others > 1 {
             return;
         }
+        let third = self.tiles.lent(suit).third();
         for rank in 0..suit.kinds() {
-            if self.is_completed_by(suit, rank) {
+            if self.is_completed_by(suit, rank, others, third) {
                 marks.insert(Kind::at((suit.first() + rank) as u8));
             }
         }

@@ -1,5 +1,6 @@
 //! The tiles of one suit, and what they can be cut into.
-ghost use Rattle.std.specs.Prelude.{◌≡◌, ◌↔◌, ◌<◌, ◌≤◌, ℕ, IsTrue, length, slice_index, sum};
+ghost use Rattle.std.specs.Prelude.{◌≡◌, ◌↔◌, ◌%◌, ◌==◌, ◌<◌, ◌≤◌, ℕ, IsTrue, true, length, slice_index, sum};
+ghost use Rattle.std.specs.List.{list_all};
 ghost use Rattle.riichi_split.specs.SuitTiles as spec;
 
 use riichi_tiles::Suit;
@@ -51,7 +52,7 @@ impl SuitTiles {
     }
 
     /// One tile more.
-    pub(crate) fn with(&self, rank: usize) -> SuitTiles
+    fn with(&self, rank: usize) -> SuitTiles
         requires rank { rank < 9 }
         requires room { slice_index self.now.held rank < 4 }
         ensures { result ≡ spec.with_tile self.now rank }
@@ -83,17 +84,16 @@ impl SuitTiles {
     }
 
     /// What the sum of all numbers leaves over by three.
-    fn third(&self) -> u16
+    pub(crate) fn third(&self) -> usize
         ensures value { result ≡ spec.third_of self.now.held }
         ensures nine { length self.now.held ≡ 9 }
     {
         let once = u16::from(self.held[1]) + u16::from(self.held[4]) + u16::from(self.held[7]);
         let twice = u16::from(self.held[2]) + u16::from(self.held[5]) + u16::from(self.held[8]);
-        (once + 2 * twice) % 3
+        usize::from((once + 2 * twice) % 3)
     }
 
     /// Whether the tiles are triplets and runs. The three numbers of a set leave nothing over by three.
-    /// From the lowest rank on it is known what begins: three equal runs are three triplets.
     pub(crate) fn are_sets(&self) -> bool
         ensures { IsTrue result ↔ spec.AreSets self.now }
     {
@@ -103,6 +103,18 @@ impl SuitTiles {
     fn can_be_cut(&self) -> bool
         ensures { IsTrue result ↔ spec.AreSets self.now }
     {
+        if self.has_runs {
+            self.are_triplets_and_runs()
+        } else {
+            are_triplets(&self.held)
+        }
+    }
+
+    /// From the lowest rank on it is known what begins: three equal runs are three triplets.
+    fn are_triplets_and_runs(&self) -> bool
+        requires { self.now.has_runs ≡ true }
+        ensures { IsTrue result ↔ spec.AreSets self.now }
+    {
         let (mut one, mut two) = (0u8, 0u8);
         for held in &self.held {
             let below = one + two;
@@ -110,25 +122,60 @@ impl SuitTiles {
                 return false;
             }
             let begun = (*held - below) % 3;
-            if begun > 0 && !self.has_runs {
-                return false;
-            }
             two = one;
             one = begun;
         }
         one == 0 && two == 0
     }
 
+    /// Whether there is a pair of a rank, and the other tiles are sets.
+    fn are_sets_beside(&self, rank: usize) -> bool
+        requires { rank < 9 }
+        ensures pair { IsTrue result ↔ spec.HasPairOf self.now rank }
+        ensures nine { length self.now.held ≡ 9 }
+    {
+        self.held[rank] >= 2 && self.without_pair(rank).can_be_cut()
+    }
+
     /// Whether the tiles are sets and a pair.
-    pub(crate) fn are_sets_and_pair(&self) -> bool
+    fn are_sets_and_pair(&self) -> bool
         ensures { IsTrue result ↔ spec.AreSetsAndPair self.now }
     {
-        for rank in 0..9 {
-            if self.held[rank] >= 2 && self.without_pair(rank).are_sets() {
-                return true;
-            }
-        }
-        false
+        self.are_sets_and_pair_by(self.third())
+    }
+
+    /// The same, where it is told what the sum of all numbers leaves over by three. What the number of
+    /// the pair's rank leaves over is twice as much, so that only every third rank can have the pair.
+    fn are_sets_and_pair_by(&self, third: usize) -> bool
+        requires { third ≡ spec.third_of self.now.held }
+        ensures { IsTrue result ↔ spec.AreSetsAndPair self.now }
+    {
+        let first = 2 * third % 3;
+        self.are_sets_beside(first)
+            || self.are_sets_beside(first + 3)
+            || self.are_sets_beside(first + 6)
+    }
+
+    /// Whether the tiles and one more of a rank are sets, where it is told what the sum of all numbers
+    /// leaves over without it.
+    pub(crate) fn are_sets_with(&self, rank: usize, third: usize) -> bool
+        requires rank { rank < 9 }
+        requires room { slice_index self.now.held rank < 4 }
+        requires third { third ≡ spec.third_of self.now.held }
+        requires nine { length self.now.held ≡ 9 }
+        ensures { IsTrue result ↔ spec.AreSets (spec.with_tile self.now rank) }
+    {
+        (third + rank) % 3 == 0 && self.with(rank).can_be_cut()
+    }
+
+    /// Whether the tiles and one more of a rank are sets and a pair.
+    pub(crate) fn are_sets_and_pair_with(&self, rank: usize, third: usize) -> bool
+        requires rank { rank < 9 }
+        requires room { slice_index self.now.held rank < 4 }
+        requires third { third ≡ spec.third_of self.now.held }
+        ensures { IsTrue result ↔ spec.AreSetsAndPair (spec.with_tile self.now rank) }
+    {
+        self.with(rank).are_sets_and_pair_by((third + rank) % 3)
     }
 
     /// How many pairs the tiles are beside sets: none or one, and two where they are neither. Sets have
@@ -143,6 +190,13 @@ impl SuitTiles {
             _ => 2,
         }
     }
+}
+
+/// Whether there are triplets alone.
+fn are_triplets(held: &[u8; 9]) -> bool
+    ensures { result ≡ list_all (λ held. held % 3 == 0) held.now }
+{
+    held.iter().all(|held| *held % 3 == 0)
 }
 
 /// Whether runs are made of a suit.

@@ -2,7 +2,7 @@
 ghost use Rattle.std.specs.Prelude.{◌↔◌, ◌<◌, ℕ, IsTrue, slice_index};
 ghost use Rattle.riichi_split.specs.Winning.{HasReading, IsWin, HasSplit, HasShape};
 
-use crate::special::{is_orphans, is_seven_pairs};
+use crate::special::{are_seven_pairs, are_thirteen_orphans};
 use crate::standard::has_split;
 use riichi_tiles::Counts;
 
@@ -20,10 +20,12 @@ fn has_shape(counts: &Counts, melds: usize) -> bool
     ensures { IsTrue result ↔ HasShape counts.now melds }
 {
     let tiles = counts.to_array();
-    is_standard(counts, melds) || is_seven_pairs(&tiles, melds) || is_orphans(&tiles, melds)
+    are_sets_and_pair(counts, melds)
+        || are_seven_pairs(&tiles, melds)
+        || are_thirteen_orphans(&tiles, melds)
 }
 
-fn is_standard(counts: &Counts, melds: usize) -> bool
+fn are_sets_and_pair(counts: &Counts, melds: usize) -> bool
     ensures { IsTrue result ↔ HasSplit counts.now melds }
 {
     if melds > 4 || counts.total() as usize + 3 * melds != 14 {

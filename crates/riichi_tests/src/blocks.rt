@@ -1,5 +1,5 @@
 use riichi_blocks::*;
-use riichi_hand::{By, Job, Rules, WinRecord, Wind, read_line};
+use riichi_hand::{By, Job, Rules, WinRecord, Wind, is_ron, read_line};
 use riichi_split::{Reading, Readings};
 use riichi_tiles::{Block, Counts, Kind, read_counts};
 use std::process::Abort;

@@ -1,3 +1,4 @@
 pub mod Sets
 pub mod InOrder
 pub mod Chains
+pub mod Needs

@@ -75,10 +75,12 @@ fn is_last_dragon(blocks: &Blocks, block: &HandBlock) -> bool
 pub(crate) fn is_little_three_dragons(blocks: &Blocks) -> bool
     ensures { result ≡ spec.is_little_three_dragons blocks.now }
 {
-    blocks
-        .as_slice()
-        .iter()
-        .any(|block| is_last_dragon(blocks, block))
+    // Most hands have neither a triplet of White nor one of Green.
+    (blocks.has_triplet(WHITE) || blocks.has_triplet(GREEN))
+        && blocks
+            .as_slice()
+            .iter()
+            .any(|block| is_last_dragon(blocks, block))
 }
 
 /// A pair of winds, and triplets of the others.

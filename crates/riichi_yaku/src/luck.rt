@@ -2,8 +2,7 @@
 ghost use Rattle.std.specs.Prelude.{◌≡◌};
 ghost use Rattle.riichi_yaku.specs.Luck as spec;
 
-use riichi_blocks::is_ron;
-use riichi_hand::WinRecord;
+use riichi_hand::{WinRecord, is_ron};
 
 pub(crate) fn is_riichi(win: &WinRecord) -> bool
     ensures { result ≡ spec.is_riichi win.now }

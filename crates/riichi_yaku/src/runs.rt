@@ -64,7 +64,8 @@ fn has_run_in_each_suit(blocks: &Blocks, rank: usize) -> bool
 pub(crate) fn is_mixed_triple_chow(blocks: &Blocks) -> bool
     ensures { result ≡ spec.is_mixed_triple_chow blocks.now }
 {
-    (0..9).any(|rank| has_run_in_each_suit(blocks, rank))
+    // Most hands have too few runs.
+    blocks.runs() >= 3 && (0..9).any(|rank| has_run_in_each_suit(blocks, rank))
 }
 
 fn has_straight(blocks: &Blocks, suit: Suit) -> bool

@@ -14,7 +14,8 @@ fn has_triplet_in_each_suit(blocks: &Blocks, rank: usize) -> bool
 pub(crate) fn is_triple_pung(blocks: &Blocks) -> bool
     ensures { result ≡ spec.is_triple_pung blocks.now }
 {
-    (0..9).any(|rank| has_triplet_in_each_suit(blocks, rank))
+    // Most hands have too few triplets.
+    blocks.triplets() >= 3 && (0..9).any(|rank| has_triplet_in_each_suit(blocks, rank))
 }
 
 pub(crate) fn is_three_kongs(blocks: &Blocks) -> bool

@@ -5,7 +5,7 @@ ghost use Rattle.riichi_yaku.specs.Yakuman as spec;
 
 use crate::honours::{has_dragon_triplets, has_wind_triplets, is_last_wind};
 use riichi_blocks::{
-    AllTiles, Blocks, KINDS, is_dealer, is_of_suit, is_orphans, is_standard, is_terminal,
+    AllTiles, Blocks, EAST, KINDS, is_dealer, is_of_suit, is_orphans, is_standard, is_terminal,
 };
 use riichi_hand::WinRecord;
 use riichi_split::Reading;
@@ -69,10 +69,12 @@ pub(crate) fn is_big_three_dragons(blocks: &Blocks) -> bool
 pub(crate) fn is_little_four_winds(blocks: &Blocks) -> bool
     ensures { result ≡ spec.is_little_four_winds blocks.now }
 {
-    blocks
-        .as_slice()
-        .iter()
-        .any(|block| is_last_wind(blocks, block))
+    // Most hands have neither a triplet of East nor one of South.
+    (blocks.has_triplet(EAST) || blocks.has_triplet(EAST + 1))
+        && blocks
+            .as_slice()
+            .iter()
+            .any(|block| is_last_wind(blocks, block))
 }
 
 pub(crate) fn is_big_four_winds(blocks: &Blocks) -> bool

@@ -1,44 +1,44 @@
-use Rattle.std.proofs.Common.{◌-◌, arith}
-use Rattle.riichi_split.proofs.PairTotals.{at-most, by-pair, by-sets, by-none}
+use Rattle.std.proofs.Common.{arith}
+use Rattle.riichi_split.proofs.PairTotals.{by-pair, by-sets, by-none}
 use Rattle.riichi_split.proofs.standard.Suits.is_completed_by.Goals as goal
 
 pub returns-in-0 : goal.returns-in-0
 returns-in-0 c =
-    by-pair c.args.self.now.tiles c.args.self.now.pairs c.args.suit c.args.rank c.get-tiles.result c.are_sets_and_pair.result
+    by-pair c.args.self.now.tiles c.args.self.now.pairs c.args.suit c.args.rank c.lent-tiles.result.now c.are_sets_and_pair_with.result
     (record {
       counted = c.requires.counted;
       small = c.requires.rank;
-      is = c.get-tiles.ensures;
+      is = c.lent-tiles.ensures;
       nine = c.get.ensures.nine;
       left = omega (arith, c.get.ensures.value, c.if-get-ge4.false);
-      beside = omega (arith, c.in-0.is, c.total_pairs.ensures.total, c.get-2.ensures, at-most c.args.self.now.pairs c.args.suit);
+      beside = omega (arith, c.in-0.is, c.requires.others);
     })
-    (rw c.with.ensures at c.are_sets_and_pair.ensures)
+    c.are_sets_and_pair_with.ensures
 
 pub returns-in-1 : goal.returns-in-1
 returns-in-1 c =
-    by-sets c.args.self.now.tiles c.args.self.now.pairs c.args.suit c.args.rank c.get-tiles.result c.are_sets.result
+    by-sets c.args.self.now.tiles c.args.self.now.pairs c.args.suit c.args.rank c.lent-tiles.result.now c.are_sets_with.result
     (record {
       counted = c.requires.counted;
       small = c.requires.rank;
-      is = c.get-tiles.ensures;
+      is = c.lent-tiles.ensures;
       nine = c.get.ensures.nine;
       left = omega (arith, c.get.ensures.value, c.if-get-ge4.false);
-      beside = omega (arith, c.in-1.is, c.total_pairs.ensures.total, c.get-2.ensures, at-most c.args.self.now.pairs c.args.suit);
+      beside = omega (arith, c.in-1.is, c.requires.others);
     })
-    (rw c.with-in-1.ensures at c.are_sets.ensures)
+    c.are_sets_with.ensures
 
 pub returns-in_default : goal.returns-in_default
 returns-in_default c = (
   λ t. absurd (cc),
-  λ h. absurd (by-none c.args.self.now.tiles c.args.self.now.pairs c.args.suit c.args.rank (c.total_pairs.result - c.get-2.result) c.get-tiles.result
+  λ h. absurd (by-none c.args.self.now.tiles c.args.self.now.pairs c.args.suit c.args.rank c.args.others c.lent-tiles.result.now
       (record {
         counted = c.requires.counted;
         small = c.requires.rank;
-        is = c.get-tiles.ensures;
+        is = c.lent-tiles.ensures;
         nine = c.get.ensures.nine;
         left = omega (arith, c.get.ensures.value, c.if-get-ge4.false);
-        beside = omega (arith, c.total_pairs.ensures.total, c.get-2.ensures, at-most c.args.self.now.pairs c.args.suit);
+        beside = c.requires.others;
       })
       (λ e. omega (arith, e, c.in_default)) (λ e. omega (arith, e, c.in_default)) h),
 )

@@ -6,8 +6,8 @@ use Rattle.riichi_split.proofs.PairTotals.{a-kind, at-most, passed}
 use Rattle.riichi_split.proofs.standard.Suits.mark.Goals as goal
 use Rattle.riichi_split.proofs.standard.Suits.mark.Goals.{then-is_completed_by, else-is_completed_by}
 
-pub returns-then-total_pairs-get-gt1 : goal.returns-then-total_pairs-get-gt1
-returns-then-total_pairs-get-gt1 c =
+pub returns-then-others-gt1 : goal.returns-then-others-gt1
+returns-then-others-gt1 c =
     marks-pass (Completes c.args.self.now.tiles) (first_of c.args.suit) (first_of c.args.suit + kinds_of c.args.suit) c.args.marks.now (omega arith)
     (λ kind low high w. passed c.args.self.now.tiles c.args.self.now.pairs c.args.suit (c.total_pairs.result - c.get.result) kind c.requires.counted
     (omega (arith, c.total_pairs.ensures.total, c.get.ensures, at-most c.args.self.now.pairs c.args.suit)) (omega arith) low high w) c.requires.below

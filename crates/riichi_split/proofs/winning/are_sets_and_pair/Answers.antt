@@ -1,7 +1,7 @@
 use Rattle.std.proofs.Common.{arith}
 use Rattle.riichi_split.proofs.SplitSuits.{split-size}
-use Rattle.riichi_split.proofs.winning.is_standard.Goals as goal
-use Rattle.riichi_split.proofs.winning.is_standard.Goals.{then-melds-gt4-via-then-melds-gt4, then-melds-gt4-via-else-melds-gt4+then-total-melds-ne14}
+use Rattle.riichi_split.proofs.winning.are_sets_and_pair.Goals as goal
+use Rattle.riichi_split.proofs.winning.are_sets_and_pair.Goals.{then-melds-gt4-via-then-melds-gt4, then-melds-gt4-via-else-melds-gt4+then-total-melds-ne14}
 
 pub returns-then-melds-gt4 : goal.returns-then-melds-gt4
 returns-then-melds-gt4 c = (

@@ -1,0 +1,18 @@
+use Rattle.std.proofs.Common.{◌≡◌, true, false, sym, subst, List, Bool, rules}
+use Rattle.riichi_split.specs.SpecialWaits.{CompletesOrphans, Adds}
+use Rattle.riichi_split.proofs.SpecialKinds.{adds-none, adds-one, lacked-is}
+use Rattle.riichi_split.proofs.special_waits.mark_lacking.Goals as goal
+
+pub returns-then-completes_orphans : goal.returns-then-completes_orphans
+returns-then-completes_orphans c =
+    let M : List Bool → Type 0 = λ marks. Adds (CompletesOrphans c.args.tiles.now) 34 c.args.marks.now marks in
+    subst M (sym c.insert.ensures)
+    (adds-one (CompletesOrphans c.args.tiles.now) c.args.lacking c.args.marks.now c.requires.long (search rules) (c.completes_orphans.ensures.0 c.if-completes_orphans.true)
+    (λ kind l o. lacked-is c.args.tiles.now kind c.args.lacking (search rules) c.requires.orphan c.requires.none o))
+
+pub returns-else-completes_orphans : goal.returns-else-completes_orphans
+returns-else-completes_orphans c = adds-none (CompletesOrphans c.args.tiles.now) 34 c.args.marks.now (λ kind l o.
+    let only : kind ≡ c.args.lacking = lacked-is c.args.tiles.now kind c.args.lacking (search rules) c.requires.orphan c.requires.none o in
+    let t : c.completes_orphans.result ≡ true = c.completes_orphans.ensures.1 (subst (CompletesOrphans c.args.tiles.now) only o) in
+    let f : c.completes_orphans.result ≡ false = c.if-completes_orphans.false in
+    absurd (cc))
