@@ -1,0 +1,14 @@
+//! The small texts that answers are written from: numbers, kinds, blocks and melds.
+//!
+//! Each is pushed behind a text of the caller's, of whatever room; no call takes memory. [`push_number`] writes a number of any
+//! integer type in decimal. A kind is its digit and its letter, as `5p`, and two or more tiles are a digit for each with one
+//! letter, as `555p`: so a block is written, and a meld with its name before it, as `pon:777z`.
+#![tactic(auto)]
+
+mod block;
+mod kind;
+mod number;
+
+pub use block::{push_block, push_meld};
+pub use kind::{digit_of, letter_of, push_four, push_kind, push_three, push_two};
+pub use number::push_number;
