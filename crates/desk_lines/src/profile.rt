@@ -1,12 +1,10 @@
 //! The rule profile that a stream's first line can set.
 ghost use Rattle.std.specs.Prelude.{◌≡◌, ◌<◌, Some};
-ghost use Rattle.std.specs.List.{list_any};
-ghost use Rattle.riichi_hand.specs.Lines.{is_other_byte};
 ghost use Rattle.riichi_hand.specs.declared.win.Rules.{Rules};
 ghost use Rattle.riichi_hand.specs.declared.win.Rules.TheVariants.{One};
 ghost use Rattle.desk_lines.specs.Profile.{profile_numbered, profile_of, rules_by, record_rules};
 
-use riichi_hand::{Rules, next_word};
+use riichi_hand::{Rules, has_other_byte, next_word};
 use std::marker::Brand;
 
 /// A type that stands for the profile of a stream that sets none.
@@ -64,11 +62,4 @@ fn profile_numbered(number: &[u8]) -> Option<Rules>
     } else {
         None
     }
-}
-
-/// Whether a byte isn't printed ASCII.
-fn has_other_byte(line: &[u8]) -> bool
-    ensures { result ≡ list_any is_other_byte line.now }
-{
-    line.iter().any(|byte| *byte < b' ' || *byte > b'~')
 }

@@ -32,6 +32,6 @@ pub use fault::{
 };
 pub use hand::HandRecord;
 pub use job::Job;
-pub use line::{next_word, read_line};
+pub use line::{has_other_byte, next_word, read_line};
 pub use shape::ShapeRecord;
 pub use win::{By, Flags, Rules, WinParts, WinRecord, Wind};

@@ -14,3 +14,4 @@ mod words;
 
 pub use cuts::next_word;
 pub use record::read_line;
+pub use words::has_other_byte;

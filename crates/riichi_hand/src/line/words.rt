@@ -44,7 +44,7 @@ impl<'a> Words<'a> {
 }
 
 /// Whether a line has a byte outside 0x20 to 0x7E.
-fn has_other_byte(line: &[u8]) -> bool
+pub fn has_other_byte(line: &[u8]) -> bool
     ensures { result ≡ list_any is_other_byte line.now }
 {
     let mut found = false;
