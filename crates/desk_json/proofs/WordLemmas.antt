@@ -1,13 +1,13 @@
 -- Texts that need no escapes.
 use Rattle.std.proofs.Common.{◌≡◌, ℕ, ◌+◌, ◌%◌, ◌≤◌, true, List, [], ◌∷◌, ◌++◌, refl, ap, ◌∙◌, arith}
 use Rattle.std.proofs.lemmas.Bool.{or_parts, and_parts, not-true, eqb-false, ltb-false}
-use Rattle.std.proofs.lemmas.Bool.Decides.{nat_tests}
 use Rattle.std.specs.Prelude.{◌==◌}
 use Rattle.std.specs.List.{list_all}
 use Rattle.json.specs.Run.{is_plain, is_stop}
 use Rattle.json.specs.Print.{escape, escape_byte}
 use Rattle.json.proofs.Printed.Strings.{escape_byte_plain}
-use Rattle.riichi_shape.specs.Text.{kind_text, letter_of}
+use Rattle.riichi_text.specs.Tiles.{kind_text, letter_of}
+use Rattle.riichi_text.proofs.Letters.{letter_high}
 use Rattle.riichi_yaku.specs.declared.table.Yaku.{Yaku}
 use Rattle.riichi_yaku.specs.declared.table.Yaku.TheVariants.{Riichi}
 use Rattle.riichi_yaku.specs.Table.{word}
@@ -26,9 +26,6 @@ word_plain other = refl
 
 pub escape_word : (yaku : Yaku) → escape (word yaku) ≡ word yaku
 escape_word yaku = escape_same (word yaku) (word_plain yaku)
-
-letter_high : (kind : ℕ) → 100 ≤ letter_of kind
-letter_high kind = grind (arith, nat_tests)
 
 pub escape_kind : (kind : ℕ) → escape (kind_text kind) ≡ kind_text kind
 escape_kind kind =

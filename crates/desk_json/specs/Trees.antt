@@ -15,7 +15,7 @@ use Rattle.riichi_score.specs.declared.score.Score.{Score}
 use Rattle.riichi_score.specs.declared.answer.WinAnswer.{WinAnswer}
 use Rattle.riichi_score.specs.declared.answer.WinAnswer.TheVariants.{Won, NoYaku, NoWin}
 use Rattle.riichi_shape.specs.LiveCopies.{live_in}
-use Rattle.riichi_shape.specs.Text.{kind_text}
+use Rattle.riichi_text.specs.Tiles.{kind_text}
 use Rattle.riichi_shape.specs.declared.accepts.Accepts.{Accepts}
 use Rattle.riichi_shape.specs.declared.accepts.Accepts.TheVariants.{Thirteen, Fourteen}
 use Rattle.riichi_shape.specs.declared.discard.Discard.{Discard}

@@ -4,8 +4,8 @@ ghost use Rattle.arrayvec.specs.ArrayString.{array_string_len};
 ghost use Rattle.desk_json.specs.Text as spec;
 
 use crate::text::JsonText;
-use itoa::Buffer;
 use riichi_hand::{LineFault, line_code_text, name_text, notation_code_text};
+use riichi_text::push_number;
 
 /// The fault as one object, without the line's end.
 pub fn fault_text(fault: &LineFault) -> JsonText
@@ -33,8 +33,7 @@ pub fn push_fault(text: &mut JsonText, fault: &LineFault)
             text.push_str("\",\"text\":\"");
             text.push_str(name_text(*name));
             text.push_str("\",\"place\":");
-            let mut buffer = Buffer::new();
-            text.push_str(buffer.format(fault.place));
+            push_number(text, fault.place);
             text.push_str("}");
         }
     }

@@ -4,10 +4,10 @@ ghost use Rattle.arrayvec.specs.ArrayString.{array_string_len};
 ghost use Rattle.riichi_shape.specs.LiveCopies.{pairs_of};
 ghost use Rattle.desk_json.specs.Parts as spec;
 
-use crate::number::{push_after, push_comma_if, push_digit, push_kind};
+use crate::number::{push_after, push_comma_if, push_digit};
 use crate::text::JsonText;
-use itoa::Buffer;
 use riichi_shape::{Accepts, Discard, DiscardList, LiveList, ShapeAnswer};
+use riichi_text::{push_kind, push_number};
 use riichi_tiles::Kind;
 
 #[tactic(auto, unfolding(crate::specs::Parts::shape_text))]
@@ -15,9 +15,8 @@ pub(crate) fn push_shape(text: &mut JsonText, shape: &ShapeAnswer)
     requires { array_string_len text.old + 11667 ≤ 12288 }
     ensures { text.new.bytes ≡ text.old.bytes ++ spec.shape_text shape.now }
 {
-    let mut buffer = Buffer::new();
     text.push_str("{\"answer\":\"shape\",\"shanten\":");
-    text.push_str(buffer.format(shape.shanten));
+    push_number(text, shape.shanten);
     text.push_str(",");
     push_accepts(text, &shape.accepts);
 }

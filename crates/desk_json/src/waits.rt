@@ -3,8 +3,9 @@ ghost use Rattle.std.specs.Prelude.{◌≡◌, ◌≤◌, ◌+◌, ◌++◌};
 ghost use Rattle.arrayvec.specs.ArrayString.{array_string_len};
 ghost use Rattle.desk_json.specs.Parts as spec;
 
-use crate::number::{push_comma_if, push_kind};
+use crate::number::push_comma_if;
 use crate::text::JsonText;
+use riichi_text::push_kind;
 use riichi_tiles::{Kind, KindSet};
 
 #[tactic(auto, unfolding(crate::specs::Parts::waits_text))]

@@ -28,8 +28,10 @@ use Rattle.riichi_shape.specs.declared.accepts.Accepts.{Accepts}
 use Rattle.riichi_shape.specs.declared.accepts.Accepts.TheVariants.{Thirteen, Fourteen}
 use Rattle.riichi_shape.specs.declared.discard.Discard.{Discard}
 use Rattle.riichi_shape.specs.declared.shape_answer.ShapeAnswer.{ShapeAnswer}
-use Rattle.riichi_shape.specs.Text.{letter_of, kind_text, pair_text, kinds_text, list_text, discard_text, accepts_text, text_of as shape_text}
-use Rattle.riichi_explain.proofs.PlainTexts.{plain, after, after3, after4, after5, byte-plain, flat_map-plain, decimal-plain, letter_big, kind_text-plain, tiles_text-plain, word-plain}
+use Rattle.riichi_text.specs.Tiles.{letter_of, kind_text}
+use Rattle.riichi_text.proofs.Letters.{letter_high}
+use Rattle.riichi_shape.specs.Text.{pair_text, kinds_text, list_text, discard_text, accepts_text, text_of as shape_text}
+use Rattle.riichi_explain.proofs.PlainTexts.{plain, after, after3, after4, after5, byte-plain, flat_map-plain, decimal-plain, kind_text-plain, tiles_text-plain, word-plain}
 use Rattle.desk_core.specs.AnswerText.{answer_text}
 use Rattle.desk_core.specs.Value.{value_of}
 use Rattle.desk_core.specs.declared.answer.Answer.{Answer}
@@ -94,7 +96,7 @@ waits-plain : (kinds : List Bool) → plain (waits_text kinds) ≡ true
 waits-plain kinds = elim (list_any (λ mark. mark) kinds) as (λ test. plain (cond test (tiles_text (once kinds)) (codes "-")) ≡ true) [ true ↦ tiles_text-plain (once kinds) | false ↦ refl ]
 
 pair-plain : (pair : ℕ × ℕ) → plain (pair_text pair) ≡ true
-pair-plain pair = byte-plain (49 + pair.0 % 9) (letter_of pair.0 ∷ 58 ∷ (48 + pair.1) ∷ []) (omega arith) (byte-plain (letter_of pair.0) (58 ∷ (48 + pair.1) ∷ []) (letter_big pair.0) (byte-plain (48 + pair.1) [] (omega arith) refl))
+pair-plain pair = byte-plain (49 + pair.0 % 9) (letter_of pair.0 ∷ 58 ∷ (48 + pair.1) ∷ []) (omega arith) (byte-plain (letter_of pair.0) (58 ∷ (48 + pair.1) ∷ []) (omega (arith, letter_high pair.0)) (byte-plain (48 + pair.1) [] (omega arith) refl))
 
 kinds-plain : (pairs : List (ℕ × ℕ)) → plain (kinds_text pairs) ≡ true
 kinds-plain [] = refl

@@ -17,6 +17,7 @@ use Rattle.riichi_split.specs.Winning.{HasSplit, HasShape}
 use Rattle.riichi_split.proofs.Lists.{all-in, any-in, in-range}
 use Rattle.riichi_shape.specs.Orphans as orphans
 use Rattle.riichi_shape.specs.Pairs as pairs
+use Rattle.riichi_shape.proofs.ListedOrphans.{listed_is}
 use Rattle.riichi_shape.specs.Winning.{IsSetsAndPair, HasWinningForm}
 use Rattle.desk_lines.proofs.InOrder.{in_order}
 
@@ -101,45 +102,27 @@ won_pairs counts melds long is = record { two_or_none = λ kind low. is.twos kin
 
 -- ---- thirteen orphans
 
-same_test : Bool → Bool → Bool
-same_test true b = b
-same_test false true = false
-same_test false false = true
-
-same_tests : (a b : Bool) → same_test a b ≡ true → a ≡ b
-unfolding same_test
-same_tests true b same = sym same
-same_tests false false same = refl
-same_tests false true same = cc
-
--- the terminals and honours are listed here, and told by a test there
-same_orphan : (kind : ℕ) → kind < 34 → orphans.is_orphan kind ≡ reading.is_orphan kind
-unfolding same_test
-same_orphan kind low =
-    same_tests (orphans.is_orphan kind) (reading.is_orphan kind)
-    (all-in (λ kind. same_test (orphans.is_orphan kind) (reading.is_orphan kind)) every_kind refl kind (in-range 34 0 kind (omega arith) (omega (arith, low))))
-
-orphan_below : (kind : ℕ) → orphans.is_orphan kind ≡ true → kind < 34
+orphan_below : (kind : ℕ) → orphans.is_listed_orphan kind ≡ true → kind < 34
 orphan_below kind is =
     let listed = any-in (eqb kind) orphans.orphan_kinds is in
     let low : nat_lt listed.0 34 ≡ true = all-in (λ other. nat_lt other 34) orphans.orphan_kinds refl listed.0 listed.1 in
     let same = listed.2 in grind (arith, nat_tests)
 
 same_copies : (doubled kind : ℕ) → kind < 34 → orphans.orphan_tiles doubled kind ≡ reading.orphan_copies doubled kind
-same_copies doubled kind low = ap (λ is. cond is (cond (eqb kind doubled) 2 1) 0) (same_orphan kind low)
+same_copies doubled kind low = ap (λ is. cond is (cond (eqb kind doubled) 2 1) 0) (listed_is kind low)
 
 read_orphans : (counts : List ℕ) (melds : ℕ) → melds ≡ 0 → orphans.IsThirteenOrphans counts → reading.IsOrphans counts melds
 read_orphans counts melds none is =
     let below = orphan_below is.doubled is.doubles_orphan in
     record {
       no_meld = none;
-      twice = (is.doubled, sym (same_orphan is.doubled below) ∙ is.doubles_orphan, below, λ kind low. is.at kind low ∙ same_copies is.doubled kind low);
+      twice = (is.doubled, sym (listed_is is.doubled below) ∙ is.doubles_orphan, below, λ kind low. is.at kind low ∙ same_copies is.doubled kind low);
     }
 
 won_orphans : (counts : List ℕ) (melds : ℕ) → reading.IsOrphans counts melds → orphans.IsThirteenOrphans counts
 won_orphans counts melds is = record {
   doubled = is.twice.0;
-  doubles_orphan = same_orphan is.twice.0 is.twice.2 ∙ is.twice.1;
+  doubles_orphan = listed_is is.twice.0 is.twice.2 ∙ is.twice.1;
   at = λ kind low. is.twice.3 kind low ∙ sym (same_copies is.twice.0 kind low);
 }
 

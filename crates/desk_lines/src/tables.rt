@@ -12,8 +12,8 @@ use super::outbox::Outbox;
 use arrayvec::ArrayString;
 use desk_core::{Answer, push_answer};
 use desk_streams::Sink;
-use itoa::Buffer;
 use riichi_hand::fault_text;
+use riichi_text::push_number;
 
 /// Writes for each table, numbered from 0, the line `table` with its number and then the lines that it
 /// asked for: the answers to its jobs, in their order, and the faults of its other lines between them.
@@ -58,10 +58,9 @@ fn send_number<W: Sink>(number: usize, outbox: &mut Outbox, writer: &mut W) -> R
         → StopsWriting ⟦<W as Sink>⟧ start writer.new text) }
     ensures fault { IfErr result (λ fault. fault ≡ DeskFault.Write) }
 {
-    let mut buffer = Buffer::new();
     let mut text: ArrayString<48> = ArrayString::new();
     text.push_str("table ");
-    text.push_str(buffer.format(number));
+    push_number(&mut text, number);
     send_line(text.as_str().as_bytes(), outbox, writer)
 }
 

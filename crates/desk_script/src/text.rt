@@ -1,5 +1,5 @@
 //! What a line of a script is told, as text.
-ghost use Rattle.std.specs.Prelude.{◌≡◌, ◌++◌, ◌+◌, ◌≤◌, decimal};
+ghost use Rattle.std.specs.Prelude.{◌≡◌, ◌++◌, ◌+◌, ◌≤◌};
 ghost use Rattle.arrayvec.specs.ArrayString.{array_string_len};
 ghost use Rattle.desk_script.specs.Texts as spec;
 
@@ -7,8 +7,8 @@ use crate::refusal::Refusal;
 use crate::told::Told;
 use arrayvec::ArrayString;
 use desk_core::{Arrived, Reply, SubmitFault, Taken, answer_text};
-use itoa::Buffer;
 use riichi_hand::fault_text;
+use riichi_text::push_number;
 
 /// The longest text: an answer of 3,072 bytes behind a word and a ticket's number.
 pub const LONGEST: usize = 3_096;
@@ -97,13 +97,4 @@ fn arrived_text(arrived: Arrived) -> &'static str
         Arrived::Doubled => "doubled",
         Arrived::Stranger => "stranger",
     }
-}
-
-fn push_number(text: &mut ArrayString<LONGEST>, number: u32)
-    requires { array_string_len text.old + 10 ≤ LONGEST }
-    ensures bytes { text.new.bytes ≡ text.old.bytes ++ decimal number }
-    ensures len { array_string_len text.new ≤ array_string_len text.old + 10 }
-{
-    let mut buffer = Buffer::new();
-    text.push_str(buffer.format(number));
 }

@@ -2,7 +2,7 @@
 use Rattle.std.specs.Prelude.{◌≡◌, ◌≤◌, ◌<◌, ◌++◌, ℕ, List, Option, None, Some, length, drop, codes}
 use Rattle.riichi_hand.specs.declared.win.Rules.{Rules}
 use Rattle.riichi_explain.specs.Explanation.{IsExplanation}
-use Rattle.riichi_desk_c.specs.Replies.{profile_numbered}
+use Rattle.riichi_desk_c.specs.Replies.{rules_numbered}
 
 abbrev pub IsReasonUnder : Option Rules → List ℕ → List ℕ → Type 0
 IsReasonUnder None line text = text ≡ codes "refused rules"
@@ -10,7 +10,7 @@ IsReasonUnder (Some rules) line text = IsExplanation rules line text
 
 -- The text says why a line is answered as it is under the profile of this number.
 abbrev pub IsReason : ℕ → List ℕ → List ℕ → Type 0
-IsReason number line text = IsReasonUnder (profile_numbered number) line text
+IsReason number line text = IsReasonUnder (rules_numbered number) line text
 
 -- A text was put at the start of a room if all of it fits there; `needed` are its bytes.
 pub record IsPlaced (text : List ℕ) (needed : ℕ) (before after : List ℕ) : Type 0 where

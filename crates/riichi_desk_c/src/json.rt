@@ -12,7 +12,7 @@ use riichi_hand::read_line;
 /// docs/answer.schema.json have: the bytes that it takes, 0 where the line is no record. They are
 /// put at the start of the room if all of them fit there. Under a number that is no profile's the
 /// answer is `{"answer":"refused","code":"rules"}`.
-#[tactic(auto, unfolding(crate::specs::JsonReplies::json_reply_to))]
+#[tactic(auto, unfolding(crate::specs::JsonReplies::json_reply_to, desk_lines::specs::JsonLine::json_of))]
 #[unsafe(no_mangle)]
 pub extern "C" fn riichi_json(rules: u32, line: &[u8], room: &mut [u8]) -> usize
     ensures needed { result ≡ length (json_reply_to rules line.now) }

@@ -6,7 +6,7 @@
 #![tactic(auto)]
 
 ghost use Rattle.std.specs.Prelude.{◌≡◌, ◌≤◌, ◌<◌, ◌++◌, length, drop, codes};
-ghost use Rattle.riichi_desk_c.specs.Replies.{reply_to, profile_numbered};
+ghost use Rattle.riichi_desk_c.specs.Replies.{reply_to, rules_numbered};
 
 mod json;
 mod placing;
@@ -52,7 +52,7 @@ pub extern "C" fn riichi_version(room: &mut [u8]) -> usize
 }
 
 fn rules_numbered(number: u32) -> Option<Rules>
-    ensures { result ≡ profile_numbered number }
+    ensures { result ≡ rules_numbered number }
 {
     match number {
         1 => Some(Rules::One),

@@ -13,7 +13,6 @@ use Rattle.riichi_hand.specs.declared.win.WinParts.{WinParts}
 use Rattle.riichi_split.specs.declared.reading.Reading.{Reading}
 use Rattle.riichi_split.specs.declared.reading.Reading.TheVariants as reading
 use Rattle.riichi_shape.specs.declared.forms.FormDistances.{FormDistances}
-use Rattle.riichi_shape.specs.Text.{kind_text, letter_of}
 use Rattle.riichi_yaku.specs.YakuSets.{is_yakuman}
 use Rattle.riichi_score.specs.Scores.{hand_of}
 use Rattle.riichi_explain.specs.declared.base.BaseRule.{BaseRule}
@@ -40,9 +39,10 @@ use Rattle.riichi_explain.specs.Waits as waits
 use Rattle.riichi_explain.specs.Waits.{kind_waits}
 use Rattle.riichi_explain.specs.declared.waits.KindWait.{KindWait}
 use Rattle.riichi_explain.specs.declared.waits.WaitSorts.{WaitSorts}
-use Rattle.riichi_explain.specs.Tiles.{digit_of, run_text, two_text, three_text, four_text, block_text, meld_text}
+use Rattle.riichi_text.specs.Tiles.{kind_text, letter_of, digit_of, run_text, two_text, three_text, four_text, block_text, meld_text}
 use Rattle.riichi_explain.proofs.RefusalLines.{refusal_lines-lines}
-use Rattle.riichi_explain.proofs.PlainTexts.{plain, after, after3, after4, after5, byte-plain, flat_map-plain, decimal-plain, letter_big, kind_text-plain, tiles_text-plain, word-plain, are_indented, pass, lines-append, flat_map-lines}
+use Rattle.riichi_text.proofs.Letters.{letter_high}
+use Rattle.riichi_explain.proofs.PlainTexts.{plain, after, after3, after4, after5, byte-plain, flat_map-plain, decimal-plain, kind_text-plain, tiles_text-plain, word-plain, are_indented, pass, lines-append, flat_map-lines}
 
 -- ---- tiles
 
@@ -62,7 +62,7 @@ run_text-plain : (low : ℕ) → plain (run_text low) ≡ true
 unfolding run_text
 run_text-plain low =
     byte-plain (digit_of low) ((digit_of low + 1) ∷ (digit_of low + 2) ∷ letter_of low ∷ []) (omega arith) (byte-plain (digit_of low + 1) ((digit_of low + 2) ∷ letter_of low ∷ []) (omega arith)
-    (byte-plain (digit_of low + 2) (letter_of low ∷ []) (omega arith) (byte-plain (letter_of low) [] (letter_big low) refl)))
+    (byte-plain (digit_of low + 2) (letter_of low ∷ []) (omega arith) (byte-plain (letter_of low) [] (omega (arith, letter_high low)) refl)))
 
 block_text-plain : (set : Block) → plain (block_text set) ≡ true
 unfolding block_text

@@ -7,7 +7,8 @@ use Rattle.std.proofs.lemmas.Bool.{ne_eqb}
 use Rattle.std.proofs.lemmas.List.Folds.{list_all-append}
 use Rattle.riichi_tiles.specs.Printing.{tiles_text, group}
 use Rattle.riichi_tiles.specs.Printing as printing
-use Rattle.riichi_shape.specs.Text.{kind_text, letter_of}
+use Rattle.riichi_text.specs.Tiles.{kind_text, letter_of}
+use Rattle.riichi_text.proofs.Letters.{letter_high}
 use Rattle.riichi_yaku.specs.declared.table.Yaku.{Yaku}
 use Rattle.riichi_yaku.specs.declared.table.Yaku.TheVariants.{Riichi}
 use Rattle.riichi_yaku.specs.Table.{word}
@@ -57,17 +58,8 @@ decimal-plain n = digits_onto-plain 64 n [] refl
 
 -- ---- tiles
 
-pub letter_big : (kind : ℕ) → 10 < letter_of kind
-letter_big kind = elim (nat_lt kind 9) as (λ m. 10 < cond m 109 (cond (nat_lt kind 18) 112 (cond (nat_lt kind 27) 115 122))) [
-  | true ↦ omega arith
-  | false ↦ elim (nat_lt kind 18) as (λ p. 10 < cond p 112 (cond (nat_lt kind 27) 115 122)) [
-    | true ↦ omega arith
-    | false ↦ elim (nat_lt kind 27) as (λ s. 10 < cond s 115 122) [ true ↦ omega arith | false ↦ omega arith ]
-  ]
-]
-
 pub kind_text-plain : (kind : ℕ) → plain (kind_text kind) ≡ true
-kind_text-plain kind = byte-plain (49 + kind % 9) (letter_of kind ∷ []) (omega arith) (byte-plain (letter_of kind) [] (letter_big kind) refl)
+kind_text-plain kind = byte-plain (49 + kind % 9) (letter_of kind ∷ []) (omega arith) (byte-plain (letter_of kind) [] (omega (arith, letter_high kind)) refl)
 
 pub replicate-plain : (n byte : ℕ) → 10 < byte → plain (replicate n byte) ≡ true
 replicate-plain zero byte big = refl

@@ -11,7 +11,7 @@ use Rattle.riichi_split.specs.declared.reading.Reading.TheVariants.{Standard, Se
 use Rattle.riichi_blocks.specs.Winner.{is_dealer}
 use Rattle.riichi_yaku.specs.Conditions.{yaku_of}
 use Rattle.riichi_yaku.specs.YakuSets.{han_of, is_yakuman}
-use Rattle.riichi_score.specs.Base.{is_raised, base_of}
+use Rattle.riichi_score.specs.Base.{is_raised, product_of, base_of}
 use Rattle.riichi_score.specs.Dora.{dora_of}
 use Rattle.riichi_score.specs.Fu.{fu_of}
 use Rattle.riichi_score.specs.Payment.{payment_of, paid_for, gain_of}
@@ -21,7 +21,7 @@ use Rattle.riichi_explain.specs.declared.base.BaseRule.TheVariants.{Product, Cap
 use Rattle.riichi_explain.specs.declared.base.Limit.TheVariants.{Mangan, Haneman, Baiman, Sanbaiman, Yakuman}
 use Rattle.riichi_explain.specs.declared.payers.PayRow.{PayRow}
 use Rattle.riichi_explain.specs.declared.win.WonHand.{WonHand}
-use Rattle.riichi_explain.specs.Base.{product_of, counted_rule, base_rule, points_by}
+use Rattle.riichi_explain.specs.Base.{counted_rule, base_rule, points_by}
 use Rattle.riichi_explain.specs.Fu.{fu_from_rows}
 use Rattle.riichi_explain.specs.Han.{han_rows, han_total}
 use Rattle.riichi_explain.specs.Payers.{rows_by, pay_rows, pay_total}

@@ -1,15 +1,11 @@
 -- How base points come from han and fu.
-use Rattle.std.specs.Prelude.{ℕ, ◌+◌, ◌*◌, ◌^◌, Bool, nat_le, nat_lt, if◌then◌else◌}
+use Rattle.std.specs.Prelude.{ℕ, Bool, nat_le, nat_lt, if◌then◌else◌}
 use Rattle.riichi_hand.specs.declared.win.Rules.{Rules}
-use Rattle.riichi_score.specs.Base.{is_raised}
+use Rattle.riichi_score.specs.Base.{is_raised, product_of}
 use Rattle.riichi_explain.specs.declared.base.Limit.{Limit}
 use Rattle.riichi_explain.specs.declared.base.Limit.TheVariants.{Mangan, Haneman, Baiman, Sanbaiman, Yakuman}
 use Rattle.riichi_explain.specs.declared.base.BaseRule.{BaseRule}
 use Rattle.riichi_explain.specs.declared.base.BaseRule.TheVariants.{Product, Capped, Raised, Limited}
-
--- fu times two to the power of two more than the han
-abbrev pub product_of : ℕ → ℕ → ℕ
-product_of han fu = fu * 2 ^ (han + 2)
 
 -- at most four han: the product, but no more than a mangan
 abbrev pub low_rule : Rules → ℕ → ℕ → BaseRule

@@ -4,7 +4,6 @@ pub mod Han
 pub mod Base
 pub mod Payers
 pub mod Win
-pub mod Tiles
 pub mod Text
 pub mod Waits
 pub mod Explanation

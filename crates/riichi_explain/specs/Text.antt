@@ -8,7 +8,6 @@ use Rattle.riichi_tiles.specs.declared.meld.Meld.{Meld}
 use Rattle.riichi_hand.specs.declared.win.WinParts.{WinParts}
 use Rattle.riichi_split.specs.declared.reading.Reading.{Reading}
 use Rattle.riichi_split.specs.declared.reading.Reading.TheVariants as reading
-use Rattle.riichi_shape.specs.Text.{kind_text}
 use Rattle.riichi_yaku.specs.Table.{word}
 use Rattle.riichi_yaku.specs.YakuSets.{is_yakuman}
 use Rattle.riichi_score.specs.Scores.{hand_of}
@@ -28,7 +27,7 @@ use Rattle.riichi_explain.specs.declared.payers.PayRow.{PayRow}
 use Rattle.riichi_explain.specs.declared.win.WonHand.{WonHand}
 use Rattle.riichi_explain.specs.Base.{limit_points}
 use Rattle.riichi_explain.specs.Fu.{fu_total}
-use Rattle.riichi_explain.specs.Tiles.{block_text, meld_text, two_text, three_text, four_text}
+use Rattle.riichi_text.specs.Tiles.{kind_text, block_text, meld_text, two_text, three_text, four_text}
 
 -- a line ends with a line feed
 abbrev pub line_feed : List ℕ

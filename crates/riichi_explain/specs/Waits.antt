@@ -11,7 +11,7 @@ use Rattle.riichi_split.specs.declared.reading.Reading.TheVariants.{Standard, Se
 use Rattle.riichi_split.specs.ReadingsOf.{readings_of}
 use Rattle.riichi_split.specs.Waits.{with_one, is_wait}
 use Rattle.riichi_blocks.specs.Waits.{is_closed_wait, is_edge_wait, is_two_sided}
-use Rattle.riichi_shape.specs.Text.{kind_text}
+use Rattle.riichi_text.specs.Tiles.{kind_text}
 use Rattle.riichi_explain.specs.declared.waits.WaitSorts.{WaitSorts}
 use Rattle.riichi_explain.specs.declared.waits.KindWait.{KindWait}
 

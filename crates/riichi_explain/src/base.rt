@@ -1,9 +1,9 @@
 //! How base points come from han and fu.
 ghost use Rattle.std.specs.Prelude.{◌≡◌, ◌≤◌};
-ghost use Rattle.riichi_score.specs.Base as base_spec;
 ghost use Rattle.riichi_explain.specs.Base as spec;
 
 use riichi_hand::Rules;
+use riichi_score::{is_raised, product_of};
 
 /// A limit hand.
 #[derive(Clone, Copy, Debug, PartialEq, Eq)]
@@ -56,35 +56,12 @@ fn low_rule(rules: Rules, han: u8, fu: u8) -> BaseRule
     requires { han ≤ 4 }
     ensures value { result ≡ spec.low_rule rules han fu }
 {
-    let product = product(han, fu);
+    let product = product_of(han, fu);
     if is_raised(rules, han, fu) {
         BaseRule::Raised { product }
     } else if product > 2000 {
         BaseRule::Capped { product }
     } else {
         BaseRule::Product { product }
-    }
-}
-
-fn product(han: u8, fu: u8) -> u32
-    requires { han ≤ 4 }
-    ensures { result ≡ spec.product_of han fu }
-{
-    let factor = match han {
-        0 => 4,
-        1 => 8,
-        2 => 16,
-        3 => 32,
-        _ => 64,
-    };
-    u32::from(fu) * factor
-}
-
-fn is_raised(rules: Rules, han: u8, fu: u8) -> bool
-    ensures { result ≡ base_spec.is_raised rules han fu }
-{
-    match rules {
-        Rules::One => false,
-        Rules::Two => (han == 4 && fu == 30) || (han == 3 && fu == 60),
     }
 }

@@ -6,11 +6,11 @@ ghost use Rattle.riichi_shape.specs.EveryWinning.{shanten_of};
 ghost use Rattle.riichi_shape.specs.Forms.{least_of};
 ghost use Rattle.riichi_explain.specs.Forms as spec;
 
-use crate::tiles_text::push_small;
 use arrayvec::ArrayString;
 use riichi_hand::{ShapeRecord, WinRecord};
 use riichi_score::hand_of;
 use riichi_shape::{FormDistances, form_distances};
+use riichi_text::push_number;
 
 /// How far the tiles of a shape are from each form. The least of these, less one, is its shanten.
 pub fn explain_shape(shape: &ShapeRecord) -> FormDistances
@@ -75,6 +75,6 @@ fn push_shanten(text: &mut ArrayString<3072>, lack: u8)
     if lack == 0 {
         text.push_str("-1");
     } else {
-        push_small(text, lack - 1);
+        push_number(text, lack - 1);
     }
 }

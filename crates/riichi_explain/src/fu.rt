@@ -1,14 +1,13 @@
 //! The rows of a hand's fu.
 ghost use Rattle.std.specs.Prelude.{◌≡◌, ◌+◌, ◌≤◌, ◌<◌, ◌++◌, [], length, if◌then◌else◌};
 ghost use Rattle.std.specs.List.{flat_map};
-ghost use Rattle.riichi_score.specs.Fu as score_spec;
 ghost use Rattle.riichi_score.specs.Fu.{HasFourSets, fu_of};
 ghost use Rattle.riichi_explain.specs.Fu as spec;
 
 use arrayvec::ArrayVec;
 use riichi_blocks::{Blocks, HandBlock, WHITE, blocks_of, is_closed_wait, is_edge_wait};
-use riichi_hand::{WinRecord, is_ron};
-use riichi_score::{block_fu, draw_fu, ron_fu};
+use riichi_hand::WinRecord;
+use riichi_score::{block_fu, draw_fu, open_fu, ron_fu};
 use riichi_split::Reading;
 use riichi_tiles::{Block, Kind};
 
@@ -88,7 +87,11 @@ fn push_standard(
 {
     push_plain(rows, blocks, reading, done, win);
     let sum = fu_total(rows.as_slice());
-    push_earned(rows, FuPart::OpenRon, open_fu(win, sum));
+    push_earned(
+        rows,
+        FuPart::OpenRon,
+        open_fu(win.melds().concealed(), win, sum),
+    );
 }
 
 fn push_plain(rows: &mut FuRows, blocks: &Blocks, reading: &Reading, done: &Block, win: &WinRecord)
@@ -104,8 +107,8 @@ fn push_plain(rows: &mut FuRows, blocks: &Blocks, reading: &Reading, done: &Bloc
         ron_fu(win.melds().concealed(), win),
     );
     push_earned(rows, FuPart::SelfDraw, draw_fu(blocks, reading, win));
-    push_blocks(rows, blocks, win);
-    push_wait(rows, win.winning(), done);
+    push_rows_of_blocks(rows, blocks, win);
+    push_wait_rows(rows, win.winning(), done);
 }
 
 /// A row, where the part earns any fu.
@@ -119,7 +122,7 @@ fn push_earned(rows: &mut FuRows, part: FuPart, fu: u8)
     }
 }
 
-fn push_blocks(rows: &mut FuRows, blocks: &Blocks, win: &WinRecord)
+fn push_rows_of_blocks(rows: &mut FuRows, blocks: &Blocks, win: &WinRecord)
     requires few { length blocks.now ≤ 5 }
     requires room { length rows.old.items ≤ 3 }
     ensures items { rows.new.items
@@ -127,11 +130,11 @@ fn push_blocks(rows: &mut FuRows, blocks: &Blocks, win: &WinRecord)
     ensures most { length rows.new.items ≤ length rows.old.items + 15 }
 {
     for block in blocks.as_slice() {
-        push_block(rows, block, win);
+        push_block_rows(rows, block, win);
     }
 }
 
-fn push_block(rows: &mut FuRows, block: &HandBlock, win: &WinRecord)
+fn push_block_rows(rows: &mut FuRows, block: &HandBlock, win: &WinRecord)
     requires { length rows.old.items ≤ 18 }
     ensures items { rows.new.items ≡ rows.old.items ++ spec.block_rows win.now block.now }
     ensures most { length rows.new.items ≤ length rows.old.items + 3 }
@@ -145,11 +148,11 @@ fn push_block(rows: &mut FuRows, block: &HandBlock, win: &WinRecord)
         HandBlock::Kong { kind, concealed } => {
             push_earned(rows, FuPart::Kong { kind, concealed }, fu);
         }
-        HandBlock::Pair(kind) => push_pair(rows, kind, win),
+        HandBlock::Pair(kind) => push_pair_rows(rows, kind, win),
     }
 }
 
-fn push_pair(rows: &mut FuRows, kind: Kind, win: &WinRecord)
+fn push_pair_rows(rows: &mut FuRows, kind: Kind, win: &WinRecord)
     requires { length rows.old.items ≤ 18 }
     ensures items { rows.new.items ≡ rows.old.items ++ spec.pair_rows win.now kind }
     ensures most { length rows.new.items ≤ length rows.old.items + 3 }
@@ -171,7 +174,7 @@ fn push_pair(rows: &mut FuRows, kind: Kind, win: &WinRecord)
     );
 }
 
-fn push_wait(rows: &mut FuRows, winning: Kind, done: &Block)
+fn push_wait_rows(rows: &mut FuRows, winning: Kind, done: &Block)
     requires { length rows.old.items ≤ 18 }
     ensures items { rows.new.items ≡ rows.old.items ++ spec.wait_rows winning done.now }
     ensures most { length rows.new.items ≤ length rows.old.items + 2 }
@@ -191,17 +194,6 @@ fn two_if(is_so: bool) -> u8
     ensures { result ≡ (if is_so then 2 else 0) }
 {
     if is_so { 2 } else { 0 }
-}
-
-/// An open hand won by ron, where the other rows have this sum.
-fn open_fu(win: &WinRecord, sum: u32) -> u8
-    ensures { result ≡ score_spec.open_fu win.now sum }
-{
-    if !win.melds().concealed() && is_ron(win.by()) && sum == 20 {
-        10
-    } else {
-        0
-    }
 }
 
 /// The sum of some rows.

@@ -6,8 +6,8 @@ ghost use Rattle.riichi_score.specs.Dora as dora_spec;
 ghost use Rattle.riichi_explain.specs.Han as spec;
 
 use arrayvec::ArrayVec;
-use riichi_hand::{Rules, WinRecord};
-use riichi_score::{YakuSet, dora};
+use riichi_hand::WinRecord;
+use riichi_score::{YakuSet, dora, red_dora};
 use riichi_yaku::Yaku;
 
 /// What earns han.
@@ -50,15 +50,15 @@ pub fn han_rows(set: YakuSet, win: &WinRecord) -> HanRows
 {
     let mut rows = ArrayVec::new();
     if set.is_yakuman() {
-        push_yakuman(&mut rows, set);
+        push_yakuman_rows(&mut rows, set);
     } else {
-        push_yaku(&mut rows, set, win.melds().concealed());
-        push_dora(&mut rows, win);
+        push_yaku_rows(&mut rows, set, win.melds().concealed());
+        push_dora_rows(&mut rows, win);
     }
     rows
 }
 
-fn push_yakuman(rows: &mut HanRows, set: YakuSet)
+fn push_yakuman_rows(rows: &mut HanRows, set: YakuSet)
     requires { rows.old.items ≡ [] }
     ensures { rows.new.items ≡ map spec.yakuman_row (yaku_in set) }
 {
@@ -68,7 +68,7 @@ fn push_yakuman(rows: &mut HanRows, set: YakuSet)
     }
 }
 
-fn push_yaku(rows: &mut HanRows, set: YakuSet, concealed: bool)
+fn push_yaku_rows(rows: &mut HanRows, set: YakuSet, concealed: bool)
     requires { rows.old.items ≡ [] }
     ensures items { rows.new.items ≡ map (spec.yaku_row concealed) (yaku_in set) }
     ensures most { length rows.new.items ≤ 41 }
@@ -81,22 +81,13 @@ fn push_yaku(rows: &mut HanRows, set: YakuSet, concealed: bool)
 }
 
 /// The dora of the indicators, and apart from them the red fives.
-fn push_dora(rows: &mut HanRows, win: &WinRecord)
+fn push_dora_rows(rows: &mut HanRows, win: &WinRecord)
     requires { length rows.old.items ≤ 41 }
     ensures { rows.new.items ≡ rows.old.items ++ spec.dora_rows win.now }
 {
-    let reds = red_dora(win);
+    let reds = red_dora(win.rules(), &win.reds());
     push_counted(rows, HanPart::Dora, indicated_dora(win, reds));
     push_counted(rows, HanPart::RedFives, reds);
-}
-
-fn red_dora(win: &WinRecord) -> u8
-    ensures { result ≡ dora_spec.red_dora win.now.rules win.now.reds }
-{
-    match win.rules() {
-        Rules::One => 0,
-        Rules::Two => win.reds().total(),
-    }
 }
 
 /// The dora without so many red fives.

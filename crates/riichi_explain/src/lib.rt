@@ -15,7 +15,6 @@ mod payers;
 mod points_text;
 mod reading_text;
 mod rows_text;
-mod tiles_text;
 mod waits;
 mod waits_text;
 mod win;

@@ -7,8 +7,8 @@ ghost use Rattle.riichi_explain.specs.Text as spec;
 
 use crate::base::{BaseRule, Limit};
 use crate::payers::{PayRow, Payer};
-use crate::tiles_text::{push_number, push_small, push_sum};
 use arrayvec::ArrayString;
+use riichi_text::push_number;
 
 /// Writes the line of the base points.
 #[tactic(auto, unfolding(crate::specs::Text::base_line))]
@@ -51,7 +51,7 @@ fn push_product(text: &mut ArrayString<3072>, han: u8, fu: u8, product: u32)
     ensures bytes { text.new.bytes ≡ text.old.bytes ++ spec.product_text han fu product }
     ensures len { array_string_len text.new ≤ array_string_len text.old + 35 }
 {
-    push_small(text, fu);
+    push_number(text, fu);
     text.push_str(" x 2^");
     push_number(text, u32::from(han) + 2);
     text.push_str(" = ");
@@ -66,7 +66,7 @@ fn push_han_words(text: &mut ArrayString<3072>, han: u8)
     ensures len { array_string_len text.new ≤ array_string_len text.old + 9 }
 {
     if han > 0 {
-        push_small(text, han);
+        push_number(text, han);
         text.push_str(" han, ");
     }
 }
@@ -219,7 +219,7 @@ fn push_sum_of_two(text: &mut ArrayString<3072>, what: &str, points: u32, more: 
     text.push_str(" + ");
     push_number(text, more);
     text.push_str(what);
-    push_sum(text, points, more);
+    push_number(text, u64::from(points) + u64::from(more));
 }
 
 /// Writes the line of the gain: what is paid, and the riichi sticks.

@@ -4,11 +4,11 @@ ghost use Rattle.std.specs.List.{flat_map};
 ghost use Rattle.arrayvec.specs.ArrayString.{array_string_len};
 ghost use Rattle.riichi_explain.specs.Text as spec;
 
-use crate::tiles_text::{push_block, push_kind, push_meld, push_two};
 use arrayvec::ArrayString;
 use riichi_hand::WinRecord;
 use riichi_score::hand_of;
 use riichi_split::{Reading, Sets};
+use riichi_text::{push_block, push_kind, push_meld, push_two};
 use riichi_tiles::{Block, Kind, Meld, Melds, write_counts};
 
 /// Writes the line of a reading that has no yaku.
@@ -44,9 +44,9 @@ fn push_reading(text: &mut ArrayString<3072>, reading: &Reading, win: &WinRecord
 {
     match reading {
         Reading::Standard { sets, pair, done } => {
-            push_sets(text, sets);
+            push_set_texts(text, sets);
             push_two(text, *pair);
-            push_melds(text, &win.melds());
+            push_spaced_melds(text, &win.melds());
             push_completes(text, win.winning(), done);
         }
         Reading::SevenPairs => {
@@ -63,7 +63,7 @@ fn push_reading(text: &mut ArrayString<3072>, reading: &Reading, win: &WinRecord
     }
 }
 
-fn push_sets(text: &mut ArrayString<3072>, sets: &Sets)
+fn push_set_texts(text: &mut ArrayString<3072>, sets: &Sets)
     requires { array_string_len text.old + 20 ≤ 3072 }
     ensures bytes { text.new.bytes ≡ text.old.bytes ++ flat_map spec.set_text sets.now }
     ensures len { array_string_len text.new ≤ array_string_len text.old + 20 }
@@ -83,7 +83,7 @@ fn push_set(text: &mut ArrayString<3072>, set: &Block)
     text.push_str(" ");
 }
 
-fn push_melds(text: &mut ArrayString<3072>, melds: &Melds)
+fn push_spaced_melds(text: &mut ArrayString<3072>, melds: &Melds)
     requires { array_string_len text.old + 48 ≤ 3072 }
     ensures bytes { text.new.bytes ≡ text.old.bytes ++ flat_map spec.spaced_meld melds.now }
     ensures len { array_string_len text.new ≤ array_string_len text.old + 48 }

@@ -4,12 +4,12 @@ ghost use Rattle.std.specs.List.{flat_map};
 ghost use Rattle.arrayvec.specs.ArrayString.{array_string_len};
 ghost use Rattle.riichi_yaku.specs.Table.{word};
 ghost use Rattle.riichi_explain.specs.Text as spec;
-ghost use Rattle.riichi_explain.specs.Tiles.{two_text};
+ghost use Rattle.riichi_text.specs.Tiles.{two_text};
 
 use crate::fu::{FuPart, FuRow, fu_total};
 use crate::han::{HanPart, HanRow};
-use crate::tiles_text::{push_four, push_number, push_small, push_three, push_two};
 use arrayvec::ArrayString;
+use riichi_text::{push_four, push_number, push_three, push_two};
 use riichi_tiles::Kind;
 use riichi_yaku::Yaku;
 
@@ -141,7 +141,7 @@ fn push_han_number(text: &mut ArrayString<3072>, part: &HanPart, han: u8)
         HanPart::Yakuman(_) => {}
         HanPart::Yaku(_) | HanPart::Dora | HanPart::RedFives => {
             text.push_str(" ");
-            push_small(text, han);
+            push_number(text, han);
         }
     }
 }
@@ -180,7 +180,7 @@ fn push_rounded_to(text: &mut ArrayString<3072>, fu: u8)
     ensures len { array_string_len text.new ≤ array_string_len text.old + 16 }
 {
     text.push_str(", rounded to ");
-    push_small(text, fu);
+    push_number(text, fu);
 }
 
 #[tactic(auto, unfolding(crate::specs::Text::fu_list))]
@@ -223,7 +223,7 @@ fn push_fu(text: &mut ArrayString<3072>, row: &FuRow)
     ensures bytes { text.new.bytes ≡ text.old.bytes ++ spec.fu_text row.now }
     ensures len { array_string_len text.new ≤ array_string_len text.old + 35 }
 {
-    push_small(text, row.fu);
+    push_number(text, row.fu);
     text.push_str(" ");
     push_fu_part(text, &row.part);
 }

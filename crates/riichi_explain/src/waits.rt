@@ -91,12 +91,12 @@ pub fn explain_waits(hand: &HandRecord) -> KindWaits
     let kinds = waits(hand);
     let mut rows = ArrayVec::new();
     for number in 0..34 {
-        push_kind(&mut rows, hand, &kinds, Kind::at(number));
+        push_kind_wait(&mut rows, hand, &kinds, Kind::at(number));
     }
     rows
 }
 
-fn push_kind(rows: &mut KindWaits, hand: &HandRecord, kinds: &KindSet, kind: Kind)
+fn push_kind_wait(rows: &mut KindWaits, hand: &HandRecord, kinds: &KindSet, kind: Kind)
     requires kind { kind < 34 }
     requires kinds { kinds.now ≡ waits_of hand.now }
     requires room { length rows.old.items ≤ 33 }

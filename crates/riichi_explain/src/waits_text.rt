@@ -4,9 +4,9 @@ ghost use Rattle.std.specs.List.{flat_map};
 ghost use Rattle.arrayvec.specs.ArrayString.{array_string_len};
 ghost use Rattle.riichi_explain.specs.Waits as spec;
 
-use crate::tiles_text::{push_kind, push_small};
 use crate::waits::{KindWait, WaitSorts};
 use arrayvec::ArrayString;
+use riichi_text::{push_kind, push_number};
 use riichi_tiles::Kind;
 
 /// Writes the line of the kinds that a hand waits for: of each how many are left, and the sorts of wait. Where there are
@@ -67,7 +67,7 @@ fn push_left(text: &mut ArrayString<3072>, kind: Kind, left: u8)
 {
     push_kind(text, kind);
     text.push_str(" ");
-    push_small(text, left);
+    push_number(text, left);
     text.push_str(" left");
 }
 

@@ -156,6 +156,14 @@ impl WinRecord {
         self.parts
     }
 
+    /// The copies of a kind among hand, melds and the winning tile.
+    pub fn copies_won(&self, kind: Kind) -> u8
+        ensures value { result ≡ spec.copies_won self.now kind }
+        ensures most { result ≤ 21 }
+    {
+        copies_won(&self.parts, kind)
+    }
+
     /// The rule profile.
     pub fn rules(&self) -> Rules
         ensures { result ≡ self.now.rules }

@@ -8,9 +8,13 @@ abbrev pub is_raised : Rules → ℕ → ℕ → Bool
 is_raised One han fu = false
 is_raised Two han fu = ((han == 4) && (fu == 30)) || ((han == 3) && (fu == 60))
 
--- 1 to 4 han: the lesser of 2000 and fu * 2^(han+2)
+-- fu times two to the power of two more than the han
+abbrev pub product_of : ℕ → ℕ → ℕ
+product_of han fu = fu * 2 ^ (han + 2)
+
+-- 1 to 4 han: the lesser of 2000 and the product
 abbrev pub low_base : Rules → ℕ → ℕ → ℕ
-low_base rules han fu = if is_raised rules han fu then 2000 else min 2000 (fu * 2 ^ (han + 2))
+low_base rules han fu = if is_raised rules han fu then 2000 else min 2000 (product_of han fu)
 
 -- 5: 2000; 6, 7: 3000; 8 to 10: 4000; 11, 12: 6000; 13 and more: 8000
 abbrev pub base_of : Rules → ℕ → ℕ → ℕ

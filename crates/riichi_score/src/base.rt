@@ -39,6 +39,14 @@ fn low_base(rules: Rules, han: u8, fu: u8) -> u32
     if is_raised(rules, han, fu) {
         return 2000;
     }
+    product_of(han, fu).min(2000)
+}
+
+/// The fu, doubled for each han and twice more.
+pub fn product_of(han: u8, fu: u8) -> u32
+    requires { han ≤ 4 }
+    ensures { result ≡ spec.product_of han fu }
+{
     let factor = match han {
         0 => 4,
         1 => 8,
@@ -46,10 +54,11 @@ fn low_base(rules: Rules, han: u8, fu: u8) -> u32
         3 => 32,
         _ => 64,
     };
-    (u32::from(fu) * factor).min(2000)
+    u32::from(fu) * factor
 }
 
-fn is_raised(rules: Rules, han: u8, fu: u8) -> bool
+/// Whether the second profile raises so many han and fu to a mangan.
+pub fn is_raised(rules: Rules, han: u8, fu: u8) -> bool
     ensures { result ≡ spec.is_raised rules han fu }
 {
     match rules {

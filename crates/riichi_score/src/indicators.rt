@@ -3,7 +3,6 @@ ghost use Rattle.std.specs.Prelude.{◌≡◌, ◌≤◌};
 ghost use Rattle.std.specs.List.{sum_by};
 ghost use Rattle.riichi_tiles.specs.Melds.{every_kind};
 ghost use Rattle.riichi_tiles.specs.Tiles.{IsCounts};
-ghost use Rattle.riichi_hand.specs.Win.{copies_won};
 ghost use Rattle.riichi_score.specs.Dora as spec;
 
 use riichi_hand::{Rules, WinRecord};
@@ -19,7 +18,8 @@ pub fn dora(win: &WinRecord) -> u8
     indicator_dora(win) + red_dora(win.rules(), &win.reds())
 }
 
-fn red_dora(rules: Rules, reds: &Reds) -> u8
+/// The han of the red fives, which earn some under the second profile alone.
+pub fn red_dora(rules: Rules, reds: &Reds) -> u8
     ensures value { result ≡ spec.red_dora rules reds.now }
     ensures most { result ≤ 12 }
 {
@@ -59,14 +59,5 @@ fn kind_dora(win: &WinRecord, kind: Kind, indicators: u8) -> u8
     if indicators == 0 {
         return 0;
     }
-    indicators * copies_held(win, dora_of(kind))
-}
-
-/// The copies of a kind among hand, melds and the winning tile.
-fn copies_held(win: &WinRecord, kind: Kind) -> u8
-    ensures value { result ≡ copies_won win.now kind }
-    ensures most { result ≤ 21 }
-{
-    let winning = if win.winning() == kind { 1 } else { 0 };
-    win.concealed().get(kind) + win.melds().tiles(kind) + winning
+    indicators * win.copies_won(dora_of(kind))
 }

@@ -68,7 +68,7 @@ fn standard_fu(
     let drawn = draw_fu(blocks, reading, win);
     let ron = ron_fu(concealed, win);
     let sum = 20 + ron + drawn + blocks_fu(blocks, win) + wait_fu(win.winning(), done);
-    up_to_ten(sum + open_fu(concealed, win, sum))
+    up_to_ten(sum + open_fu(concealed, win, u32::from(sum)))
 }
 
 /// What a concealed hand won by ron earns.
@@ -125,7 +125,8 @@ fn triplet_fu(kind: Kind, concealed: bool) -> u8
     if concealed { 2 * open } else { open }
 }
 
-fn open_fu(concealed: bool, win: &WinRecord, sum: u8) -> u8
+/// What an open hand won by ron earns whose other rows have this sum.
+pub fn open_fu(concealed: bool, win: &WinRecord, sum: u32) -> u8
     requires { concealed ≡ are_concealed win.now.melds }
     ensures value { result ≡ spec.open_fu win.now sum }
     ensures most { result ≤ 10 }

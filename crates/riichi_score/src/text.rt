@@ -1,11 +1,11 @@
 //! The text of an answer.
-ghost use Rattle.std.specs.Prelude.{◌≡◌, ◌≤◌, ◌++◌, ◌+◌, decimal};
+ghost use Rattle.std.specs.Prelude.{◌≡◌, ◌≤◌, ◌++◌, ◌+◌};
 ghost use Rattle.arrayvec.specs.ArrayString.{array_string_len};
 ghost use Rattle.riichi_score.specs.Text as spec;
 
 use crate::{Payment, Score, WinAnswer};
 use arrayvec::ArrayString;
-use itoa::Buffer;
+use riichi_text::push_number;
 use riichi_yaku::push_words;
 
 /// Writes the answer behind a text, without the line's end. A text that is kept need not be made anew for each answer.
@@ -42,9 +42,9 @@ fn push_worth(text: &mut ArrayString<3072>, score: &Score)
     if score.yaku.is_yakuman() {
         text.push_str("yakuman ");
     } else {
-        push_small(text, score.han);
+        push_number(text, score.han);
         text.push_str(" han ");
-        push_small(text, score.fu);
+        push_number(text, score.fu);
         text.push_str(" fu ");
     }
 }
@@ -74,25 +74,6 @@ fn push_dora(text: &mut ArrayString<3072>, dora: u8)
 {
     if dora > 0 {
         text.push_str(" dora ");
-        push_small(text, dora);
+        push_number(text, dora);
     }
-}
-
-fn push_number(text: &mut ArrayString<3072>, number: u32)
-    requires { array_string_len text.old + 10 ≤ 3072 }
-    ensures bytes { text.new.bytes ≡ text.old.bytes ++ decimal number }
-    ensures len { array_string_len text.new ≤ array_string_len text.old + 10 }
-{
-    let mut buffer = Buffer::new();
-    text.push_str(buffer.format(number));
-}
-
-/// A number of at most three digits.
-fn push_small(text: &mut ArrayString<3072>, number: u8)
-    requires { array_string_len text.old + 3 ≤ 3072 }
-    ensures bytes { text.new.bytes ≡ text.old.bytes ++ decimal number }
-    ensures len { array_string_len text.new ≤ array_string_len text.old + 3 }
-{
-    let mut buffer = Buffer::new();
-    text.push_str(buffer.format(number));
 }

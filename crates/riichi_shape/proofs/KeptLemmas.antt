@@ -1,5 +1,5 @@
 -- The discards that are kept, and those that they tell.
-use Rattle.std.proofs.Common.{◌≡◌, ℕ, zero, suc, ◌+◌, ◌*◌, ◌^◌, ◌/◌, ◌%◌, ◌<◌, ◌≤◌, Bool, true, false, cond, Option, Some, None, List, [], ◌∷◌, map, get_or, length, max, ltb, refl, sym, ap, ◌∙◌, subst, arith}
+use Rattle.std.proofs.Common.{◌≡◌, ℕ, zero, suc, ◌+◌, ◌*◌, ◌^◌, ◌/◌, ◌%◌, ◌<◌, ◌≤◌, Bool, true, false, cond, Option, Some, None, List, [], ◌∷◌, map, get_or, length, max, refl, sym, ap, ◌∙◌, subst, arith}
 use Rattle.std.proofs.lemmas.Bool.Decides.{nat_tests}
 use Rattle.std.proofs.lemmas.List.FromFn.{get_or-map-range_with_len, length-map-range_with_len}
 use Rattle.std.proofs.lemmas.Option.{slice_get-map}
@@ -16,7 +16,7 @@ use Rattle.riichi_shape.specs.LiveCopies.{copies_in, pairs_of}
 use Rattle.riichi_shape.specs.declared.discard.Discard.{Discard}
 use Rattle.riichi_shape.specs.declared.kept_discard.KeptDiscard.{KeptDiscard}
 use Rattle.riichi_shape.proofs.DiscardLemmas.{put_in}
-use Rattle.riichi_shape.proofs.KindLemmas.{among_at, among_long, among_same, are_among, few_among, marked_at, same_kinds}
+use Rattle.riichi_shape.proofs.KindLemmas.{among_at, among_same, are_among, few_among, marked_at, same_kinds}
 use Rattle.riichi_shape.proofs.LiveLemmas.{copies_told}
 
 -- ---- the set of a discard, out of the kinds that it is told with

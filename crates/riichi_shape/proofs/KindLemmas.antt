@@ -1,5 +1,5 @@
 -- Sets of kinds as numbers.
-use Rattle.std.proofs.Common.{◌≡◌, ℕ, zero, suc, ◌+◌, ◌-◌, ◌*◌, ◌^◌, ◌<◌, ◌≤◌, Bool, true, false, cond, List, [], ◌∷◌, map, drop, get_or, length, max, min, ltb, refl, sym, ap, ◌∙◌, ⊎_elim, subst, arith, bit_and}
+use Rattle.std.proofs.Common.{◌≡◌, ℕ, zero, suc, ◌+◌, ◌-◌, ◌*◌, ◌^◌, ◌<◌, ◌≤◌, Bool, true, false, cond, List, [], ◌∷◌, map, drop, get_or, length, max, min, ltb, refl, sym, ap, ◌∙◌, ⊎_elim, arith, bit_and}
 use Rattle.std.proofs.lemmas.Bool.Decides.{nat_tests}
 use Rattle.std.proofs.lemmas.Bool.{cases_lt}
 use Rattle.std.proofs.lemmas.List.{ext_get_or, length-drop, length-map}
@@ -8,12 +8,10 @@ use Rattle.std.proofs.lemmas.Nat.Bits.{bit_at-lt, bit_at_and, bit_at_cat_high, b
 use Rattle.std.proofs.lemmas.Simd.{bit_mask_l, mask_l-lt}
 use Rattle.std.proofs.Math.Nat.{pow-le-pow_right}
 use Rattle.std.proofs.Math.Seq.{drop-cons}
-use Rattle.std.specs.Int.{bit_at}
+use Rattle.std.specs.Int.{bit_at, from_bool}
 use Rattle.std.specs.Int.RustNames.{bit_or}
-use Rattle.std.specs.List.{range_with_len}
 use Rattle.std.specs.Prelude.{◌==◌, ◌&&◌, ◌||◌, nat_lt, slice_index}
 use Rattle.std.specs.Simd.Lanes.{mask_l}
-use Rattle.riichi_tiles.specs.Melds.{every_kind}
 use Rattle.riichi_rows.specs.Marks.{has_rank}
 use Rattle.riichi_shape.specs.LackedKinds.{suits_lack}
 use Rattle.riichi_shape.proofs.AcceptedLemmas.{some_few}
@@ -53,10 +51,14 @@ either_at a b kind = ap (λ n. n == 1) (bit_at_or a b kind) ∙ either_bits (bit
 
 -- ---- marks as bits, from the last kind on
 
+bit_is : (mark : Bool) → from_bool mark ≡ cond mark 1 0
+bit_is true = refl
+bit_is false = refl
+
 module _ (marks : List Bool) (long : length marks ≡ 34) (kind : ℕ) (some : 0 < kind) (most : kind ≤ 34) where
-  pub one_more_mark : (bits next : ℕ) → bits ≡ mask_l (drop kind marks) → next ≡ 2 * bits + cond (get_or marks (kind - 1) false) 1 0 → next ≡ mask_l (drop (kind - 1) marks)
+  pub one_more_mark : (bits next : ℕ) → bits ≡ mask_l (drop kind marks) → next ≡ 2 * bits + from_bool (get_or marks (kind - 1) false) → next ≡ mask_l (drop (kind - 1) marks)
   one_more_mark bits next so_far next_is =
-      omega (arith, next_is, so_far, ap mask_l (drop-cons marks (kind - 1) false (omega arith)), ap (λ k. mask_l (drop k marks)) same)
+      omega (arith, next_is, so_far, bit_is (get_or marks (kind - 1) false), ap mask_l (drop-cons marks (kind - 1) false (omega arith)), ap (λ k. mask_l (drop k marks)) same)
     where
       same : suc (kind - 1) ≡ kind
       same = omega arith

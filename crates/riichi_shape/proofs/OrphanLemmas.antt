@@ -10,7 +10,7 @@ use Rattle.std.proofs.lemmas.Bool.Decides.{nat_tests}
 use Rattle.std.specs.List.{list_any}
 use Rattle.std.specs.Prelude.{count_by, slice_index, nat_le, ◌==◌, ◌||◌}
 use Rattle.riichi_shape.specs.Distance.{OrphansReached}
-use Rattle.riichi_shape.specs.Orphans.{IsThirteenOrphans, orphan_kinds, is_orphan, orphan_tiles}
+use Rattle.riichi_shape.specs.Orphans.{IsThirteenOrphans, orphan_kinds, is_listed_orphan, orphan_tiles}
 use Rattle.riichi_shape.specs.Winning.{lacking}
 use Rattle.riichi_rows.proofs.Spread.{spread, sum_range, spread_shift, table, table_at, at_same_number, spread_with, eqb_is, is_eqb}
 use Rattle.riichi_shape.proofs.PairLemmas.{total_of, sum_is_total}
@@ -73,7 +73,7 @@ below (k ∷ ks) t all here = ⊎_elim (λ first. small k t (eqb_is t k first) (
     small : (k t : ℕ) → t ≡ k → beyond k ≡ 0 → t < 34
     small k t e low = grind (arith, nat_tests)
 
-orphan_below : (t : ℕ) → is_orphan t ≡ true → t < 34
+orphan_below : (t : ℕ) → is_listed_orphan t ≡ true → t < 34
 unfolding total_of
 orphan_below t is = below orphan_kinds t refl is
 
@@ -93,18 +93,18 @@ missing_count hand held some are counted =
 
 module _ (hand : List ℕ) where
   abbrev lack_of_one : ℕ → ℕ
-  lack_of_one k = cond (is_orphan k) (missing_one (slice_index hand k)) 0
+  lack_of_one k = cond (is_listed_orphan k) (missing_one (slice_index hand k)) 0
 
   missing_is : spread lack_of_one 0 34 ≡ total_of missing_one (map (slice_index hand) orphan_kinds)
   unfolding spread total_of
   missing_is = omega arith
 
-  pub lack_is : (t : ℕ) → is_orphan t ≡ true → (wanted : List ℕ) → ((k : ℕ) → k < 34 → slice_index wanted k ≡ orphan_tiles t k) → lacking hand wanted ≡ total_of missing_one (map (slice_index hand) orphan_kinds) + extra (slice_index hand t)
+  pub lack_is : (t : ℕ) → is_listed_orphan t ≡ true → (wanted : List ℕ) → ((k : ℕ) → k < 34 → slice_index wanted k ≡ orphan_tiles t k) → lacking hand wanted ≡ total_of missing_one (map (slice_index hand) orphan_kinds) + extra (slice_index hand t)
   lack_is t is wanted at =
       let whole = sum_range (λ k. slice_index wanted k - slice_index hand k) 0 34 in
       let same = spread_shift (λ k. slice_index wanted k - slice_index hand k) (λ k. orphan_tiles t k - slice_index hand k) 0 0 34 (λ r h. ap (λ w. w - slice_index hand (0 + r)) (at (0 + r) (omega arith))) in
       let split = spread_with (λ k. orphan_tiles t k - slice_index hand k) lack_of_one (λ k. extra (slice_index hand k)) t
-      (λ k. orphan_lack t k (slice_index hand k) (is_orphan k) (λ e. ap is_orphan (eqb_is k t e) ∙ is)) 0 34 (omega arith) (omega (arith, orphan_below t is)) in
+      (λ k. orphan_lack t k (slice_index hand k) (is_listed_orphan k) (λ e. ap is_listed_orphan (eqb_is k t e) ∙ is)) 0 34 (omega arith) (omega (arith, orphan_below t is)) in
       whole ∙ same ∙ split ∙ ap (λ n. n + extra (slice_index hand t)) missing_is
 
   abbrev pub orphans_wanted : ℕ → List ℕ
@@ -113,7 +113,7 @@ module _ (hand : List ℕ) where
   pub orphans_at : (t k : ℕ) → k < 34 → slice_index (orphans_wanted t) k ≡ orphan_tiles t k
   orphans_at t k h = table_at (orphan_tiles t) 0 34 k h ∙ at_same_number (orphan_tiles t) (0 + k) k (omega arith)
 
-  pub are_orphans : (t n : ℕ) → is_orphan t ≡ true → n ≡ total_of missing_one (map (slice_index hand) orphan_kinds) + extra (slice_index hand t) → OrphansReached hand n
+  pub are_orphans : (t n : ℕ) → is_listed_orphan t ≡ true → n ≡ total_of missing_one (map (slice_index hand) orphan_kinds) + extra (slice_index hand t) → OrphansReached hand n
   are_orphans t n is e = record {
     wanted = orphans_wanted t;
     thirteen_orphans = record { doubled = t; doubles_orphan = is; at = orphans_at t };
@@ -147,7 +147,7 @@ module _ (hand : List ℕ) where
         are_orphans 0 (missing + 1) refl (omega (arith, missing_total, single, extra_is (slice_index hand 0)))
 
     -- some orphan that is held twice, or none
-    pub orphan_doubled : 0 < doubled → (k : ℕ) × (is_orphan k ≡ true) × (2 ≤ slice_index hand k)
+    pub orphan_doubled : 0 < doubled → (k : ℕ) × (is_listed_orphan k ≡ true) × (2 ≤ slice_index hand k)
     orphan_doubled some =
         let d = some_doubled (slice_index hand) orphan_kinds (omega (arith, some, doubled_total)) in
         (d.kind, d.is_one, at_least_two (slice_index hand d.kind) d.twice)
@@ -155,7 +155,7 @@ module _ (hand : List ℕ) where
         at_least_two : (h : ℕ) → 0 < two h → 2 ≤ h
         at_least_two h some = grind (arith, nat_tests)
 
-    pub orphan_single : doubled ≤ 0 → (k : ℕ) → is_orphan k ≡ true → slice_index hand k ≤ 1
+    pub orphan_single : doubled ≤ 0 → (k : ℕ) → is_listed_orphan k ≡ true → slice_index hand k ≤ 1
     orphan_single none k is = at_most_one (slice_index hand k) (none_doubled (slice_index hand) orphan_kinds k (omega (arith, none, doubled_total)) is)
       where
         at_most_one : (h : ℕ) → two h ≡ 0 → h ≤ 1

@@ -24,7 +24,7 @@ no_faults true false e = (refl, refl)
 no_faults true true e = cc
 no_faults false b e = cc
 
-none_of : {A : Type 0} (p : A → Bool) (xs : List A) (x : A) → list_any p xs ≡ false → Among x xs → p x ≡ false
+pub none_of : {A : Type 0} (p : A → Bool) (xs : List A) (x : A) → list_any p xs ≡ false → Among x xs → p x ≡ false
 none_of p [] x none h = absurd h
 none_of p (y ∷ xs) x none h = let both = neither (p y) (list_any p xs) none in ⊎_elim (λ e. ap p e ∙ both.0) (λ later. none_of p xs x both.1 later) h
   where

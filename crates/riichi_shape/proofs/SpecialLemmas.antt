@@ -7,7 +7,7 @@ use Rattle.riichi_tiles.specs.Melds.{tiles}
 use Rattle.riichi_tiles.specs.declared.meld.Meld.{Meld}
 use Rattle.riichi_shape.specs.Distance.{IsDistance}
 use Rattle.riichi_shape.specs.Lacked.{FormLacks}
-use Rattle.riichi_shape.specs.Orphans.{IsThirteenOrphans, is_orphan}
+use Rattle.riichi_shape.specs.Orphans.{IsThirteenOrphans, is_listed_orphan}
 use Rattle.riichi_shape.specs.Pairs.{IsSevenPairs}
 use Rattle.riichi_shape.specs.Special.{AreNoMelds, AreSpecialForms, AreSpecialLacked, SpecialLacks, lacked_at, lacks_held, no_kind, special_lacks}
 use Rattle.riichi_shape.specs.Winning.{lacking}
@@ -121,31 +121,31 @@ module _ (hand : List ℕ) (melds : List Meld) (forms : SpecialForms) (are : Are
         let lacked = ((are.pairs w.0).lacked melds (no_tiles melds w.0) kind inside).1 (subst (λ (m : ℕ). FormLacks IsSevenPairs hand melds m kind) (sym just) w.1) in
         subst (λ (l : LackedHeld). lacks_held l held ≡ true) (at_just forms.pairs n just) lacked
 
-    orphans_there : (lacks_held (lacked_at forms.orphans n) held && is_orphan kind) ≡ true → (length melds ≡ 0) × FormLacks IsThirteenOrphans hand melds n kind
+    orphans_there : (lacks_held (lacked_at forms.orphans n) held && is_listed_orphan kind) ≡ true → (length melds ≡ 0) × FormLacks IsThirteenOrphans hand melds n kind
     orphans_there e =
-        let both = both_of (lacks_held (lacked_at forms.orphans n) held) (is_orphan kind) e in
+        let both = both_of (lacks_held (lacked_at forms.orphans n) held) (is_listed_orphan kind) e in
         let just = at_least forms.orphans n held both.0 in
-        let there = of_both (lacks_held forms.orphans.lacked held) (is_orphan kind) just.1 both.1 in
+        let there = of_both (lacks_held forms.orphans.lacked held) (is_listed_orphan kind) just.1 both.1 in
         ⊎_elim (λ some. absurd (omega (arith, are.no_orphans some, just.0, low)))
         (λ none. (let no : length melds ≡ 0 = omega (arith, none) in (no, subst (λ (m : ℕ). FormLacks IsThirteenOrphans hand melds m kind) just.0 (((are.orphans no).lacked melds (no_tiles melds no) kind inside).0 there))))
         (cases_lt 0 (length melds))
 
-    orphans_back : (length melds ≡ 0) × FormLacks IsThirteenOrphans hand melds n kind → (lacks_held (lacked_at forms.orphans n) held && is_orphan kind) ≡ true
+    orphans_back : (length melds ≡ 0) × FormLacks IsThirteenOrphans hand melds n kind → (lacks_held (lacked_at forms.orphans n) held && is_listed_orphan kind) ≡ true
     orphans_back w =
         let just = orphans_least w.0 w.1.wanted w.1.is_form w.1.lacks in
         let lacked = ((are.orphans w.0).lacked melds (no_tiles melds w.0) kind inside).1 (subst (λ (m : ℕ). FormLacks IsThirteenOrphans hand melds m kind) (sym just) w.1) in
-        subst (λ (l : LackedHeld). (lacks_held l held && is_orphan kind) ≡ true) (at_just forms.orphans n just) lacked
+        subst (λ (l : LackedHeld). (lacks_held l held && is_listed_orphan kind) ≡ true) (at_just forms.orphans n just) lacked
 
   pub special_lacked : (lacked : SpecialLacked) → lacked.pairs ≡ lacked_at forms.pairs n → lacked.orphans ≡ lacked_at forms.orphans n → AreSpecialLacked hand melds n lacked
   special_lacked lacked pairs_are orphans_are = record {
     at = λ kind inside.
         (let held = slice_index hand kind in
         let pair_bit = lacks_held lacked.pairs held in
-        let orphan_bit = lacks_held lacked.orphans held && is_orphan kind in (
+        let orphan_bit = lacks_held lacked.orphans held && is_listed_orphan kind in (
           λ e. ⊎_elim (λ p. inl (pairs_there kind inside (subst (λ (l : LackedHeld). lacks_held l held ≡ true) pairs_are p)))
-              (λ o. inr (orphans_there kind inside (subst (λ (l : LackedHeld). (lacks_held l held && is_orphan kind) ≡ true) orphans_are o))) (or_true pair_bit orphan_bit e),
+              (λ o. inr (orphans_there kind inside (subst (λ (l : LackedHeld). (lacks_held l held && is_listed_orphan kind) ≡ true) orphans_are o))) (or_true pair_bit orphan_bit e),
           λ w. ⊎_elim (λ p. or_left pair_bit orphan_bit (subst (λ (l : LackedHeld). lacks_held l held ≡ true) (sym pairs_are) (pairs_back kind inside p)))
-              (λ o. or_right pair_bit orphan_bit (subst (λ (l : LackedHeld). (lacks_held l held && is_orphan kind) ≡ true) (sym orphans_are) (orphans_back kind inside o))) w,
+              (λ o. or_right pair_bit orphan_bit (subst (λ (l : LackedHeld). (lacks_held l held && is_listed_orphan kind) ≡ true) (sym orphans_are) (orphans_back kind inside o))) w,
         ));
   }
 

@@ -14,7 +14,9 @@ use Rattle.std.specs.List.{filter, flat_map, range_with_len}
 use Rattle.std.specs.Prelude.{nat_lt, slice_get, slice_index, slice_set}
 use Rattle.riichi_tiles.specs.Melds.{every_kind}
 use Rattle.riichi_shape.specs.LiveCopies.{live_in, pairs_of}
-use Rattle.riichi_shape.specs.Text.{discard_text, kinds_text, letter_of, pair_text}
+use Rattle.riichi_text.specs.Tiles.{letter_of}
+use Rattle.riichi_text.proofs.Letters.{letter_below}
+use Rattle.riichi_shape.specs.Text.{discard_text, kinds_text, pair_text}
 use Rattle.riichi_shape.specs.declared.discard.Discard.{Discard}
 use Rattle.riichi_shape.proofs.Members.{Among, from_filter, from_map}
 
@@ -118,9 +120,6 @@ some_there (x ∷ xs) zero low e = cc
 some_there (x ∷ xs) (suc i) low e = some_there xs i (omega arith) e
 
 -- ---- the text is ASCII
-
-pub letter_below : (kind : ℕ) → letter_of kind < 128
-letter_below kind = grind (arith, nat_tests)
 
 pair_ascii : (kind live : ℕ) → live ≤ 4 → IsAscii (pair_text (kind, live))
 pair_ascii kind live few =

@@ -1,18 +1,12 @@
 -- Which kinds bring a hand nearer, and how many copies of them are live.
-use Rattle.std.specs.Prelude.{◌≡◌, ℕ, ◌<◌, ◌+◌, ◌-◌, ◌&&◌, Bool, nat_lt, if◌then◌else◌, List, map, filter, length, slice_index, slice_set}
+use Rattle.std.specs.Prelude.{◌≡◌, ℕ, ◌<◌, ◌+◌, ◌-◌, ◌&&◌, Bool, nat_lt, if◌then◌else◌, List, map, filter, length, slice_index}
 use Rattle.riichi_tiles.specs.Melds.{every_kind}
+pub use Rattle.riichi_tiles.specs.OneTile.{with_one, without_one}
 use Rattle.riichi_tiles.specs.declared.meld.Meld.{Meld}
 use Rattle.riichi_hand.specs.Hand.{copies_held}
 use Rattle.riichi_shape.specs.EveryWinning.{distance_of}
 use Rattle.riichi_shape.specs.KindBits.{copies_among}
 use Rattle.riichi_shape.specs.LiveCopies.{pairs_of}
-
--- one tile of the kind more, and one less
-abbrev pub with_one : List ℕ → ℕ → List ℕ
-with_one hand kind = slice_set hand kind (slice_index hand kind + 1)
-
-abbrev pub without_one : List ℕ → ℕ → List ℕ
-without_one hand kind = slice_set hand kind (slice_index hand kind - 1)
 
 -- the copies of a kind that are not in the hand, the melds or seen elsewhere
 abbrev pub live_of : List ℕ → List Meld → List ℕ → ℕ → ℕ

@@ -7,7 +7,7 @@ use Rattle.riichi_tiles.specs.declared.meld.Meld.{Meld}
 use Rattle.riichi_shape.specs.Accepted.{AreLiveCopies}
 use Rattle.riichi_shape.specs.Discards.{discard_of, live_with}
 use Rattle.riichi_shape.specs.KindBits.{HaveCopies, copies_among}
-use Rattle.riichi_shape.specs.LiveCopies.{copies_in, live_in, pairs_of}
+use Rattle.riichi_shape.specs.LiveCopies.{copies_in, pairs_of}
 use Rattle.riichi_shape.specs.declared.discard.Discard.{Discard}
 use Rattle.riichi_shape.specs.declared.kept_discard.KeptDiscard.{KeptDiscard}
 

@@ -1,24 +1,17 @@
 -- The text of a shape's answer.
-use Rattle.std.specs.Prelude.{ℕ, ◌+◌, ◌%◌, nat_lt, if◌then◌else◌, List, [], ◌∷◌, ◌++◌, codes, decimal}
+use Rattle.std.specs.Prelude.{ℕ, ◌+◌, List, [], ◌∷◌, ◌++◌, codes, decimal}
 use Rattle.std.specs.Fmt.{signed_decimal}
 use Rattle.std.specs.List.{flat_map}
+use Rattle.riichi_text.specs.Tiles.{digit_of, letter_of, kind_text}
 use Rattle.riichi_shape.specs.LiveCopies.{live_in}
 use Rattle.riichi_shape.specs.declared.accepts.Accepts.{Accepts}
 use Rattle.riichi_shape.specs.declared.accepts.Accepts.TheVariants.{Thirteen, Fourteen}
 use Rattle.riichi_shape.specs.declared.discard.Discard.{Discard}
 use Rattle.riichi_shape.specs.declared.shape_answer.ShapeAnswer.{ShapeAnswer}
 
--- the letter of a kind's suit: m, p, s or z
-abbrev pub letter_of : ℕ → ℕ
-letter_of kind = if nat_lt kind 9 then 109 else (if nat_lt kind 18 then 112 else (if nat_lt kind 27 then 115 else 122))
-
--- a kind is its digit and its letter
-abbrev pub kind_text : ℕ → List ℕ
-kind_text kind = (49 + kind % 9) ∷ letter_of kind ∷ []
-
 -- a space, the kind, a colon, and one digit for its live copies
 abbrev pub pair_text : ℕ × ℕ → List ℕ
-pair_text pair = 32 ∷ (49 + pair.0 % 9) ∷ letter_of pair.0 ∷ 58 ∷ (48 + pair.1) ∷ []
+pair_text pair = 32 ∷ digit_of pair.0 ∷ letter_of pair.0 ∷ 58 ∷ (48 + pair.1) ∷ []
 
 -- the accepted kinds, or a dash where there is none
 abbrev pub kinds_text : List (ℕ × ℕ) → List ℕ

@@ -1,6 +1,6 @@
 //! Sets of kinds in a word.
 ghost use Rattle.std.specs.Int.RustNames.{bit_or};
-ghost use Rattle.std.specs.Prelude.{ℕ, ◌≡◌, ◌<◌, ◌^◌, bit_and, if◌then◌else◌};
+ghost use Rattle.std.specs.Prelude.{ℕ, ◌≡◌, ◌<◌, ◌^◌, bit_and};
 ghost use Rattle.std.specs.Simd.Lanes.{mask_l};
 ghost use Rattle.riichi_shape.specs.KindBits.{copies_among, has_kind};
 
@@ -24,13 +24,6 @@ impl Model for KindBits {
     ghost inverse = { λ n. record { bits = n } };
 }
 
-/// The bit of a kind that is marked, in the lowest place.
-fn bit_of(mark: bool) -> u64
-    ensures { result ≡ (if mark then 1 else 0) }
-{
-    if mark { 1 } else { 0 }
-}
-
 impl KindBits {
     /// The set of these bits.
     pub(crate) fn new(bits: u64) -> KindBits
@@ -46,7 +39,7 @@ impl KindBits {
     {
         let mut bits = 0;
         for kind in (0..34usize).rev() {
-            bits = 2 * bits + bit_of(marks[kind]);
+            bits = 2 * bits + u64::from(marks[kind]);
         }
         KindBits { bits }
     }

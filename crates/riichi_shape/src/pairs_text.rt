@@ -4,27 +4,7 @@ ghost use Rattle.std.specs.List.{flat_map};
 ghost use Rattle.riichi_shape.specs.LiveCopies.{pairs_of};
 ghost use Rattle.riichi_shape.specs.Text as spec;
 
-/// The digit of a kind within its suit.
-#[inline(always)]
-pub(crate) fn digit_of(kind: usize) -> u8
-    requires { kind < 34 }
-    ensures value { result ≡ 49 + kind % 9 }
-    ensures ascii { result < 128 }
-{
-    const DIGITS: [u8; 34] = *b"1234567891234567891234567891234567";
-    DIGITS[kind]
-}
-
-/// The letter of a kind's suit.
-#[inline(always)]
-pub(crate) fn letter_of(kind: usize) -> u8
-    requires { kind < 34 }
-    ensures value { result ≡ spec.letter_of kind }
-    ensures ascii { result < 128 }
-{
-    const LETTERS: [u8; 34] = *b"mmmmmmmmmpppppppppssssssssszzzzzzz";
-    LETTERS[kind]
-}
+use riichi_text::{digit_of, letter_of};
 
 /// Writes the kinds that have live copies, from the first byte on, and tells how many bytes they
 /// take.

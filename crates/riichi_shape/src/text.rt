@@ -1,5 +1,5 @@
 //! The text of a shape's answer.
-ghost use Rattle.std.specs.Prelude.{ℕ, ◌≡◌, ◌+◌, ◌*◌, ◌<◌, ◌≤◌, ◌++◌, length, slice_index, decimal};
+ghost use Rattle.std.specs.Prelude.{ℕ, ◌≡◌, ◌+◌, ◌*◌, ◌<◌, ◌≤◌, ◌++◌, length, slice_index};
 ghost use Rattle.std.specs.List.{flat_map};
 ghost use Rattle.arrayvec.specs.ArrayString.{array_string_len};
 ghost use Rattle.riichi_shape.specs.LiveCopies.{pairs_of};
@@ -9,21 +9,11 @@ use crate::accepts::Accepts;
 use crate::discard::Discard;
 use crate::discard_list::DiscardList;
 use crate::live_list::LiveList;
-use crate::pairs_text::{digit_of, letter_of, write_pairs};
+use crate::pairs_text::write_pairs;
 use crate::shape_answer::ShapeAnswer;
 use arrayvec::ArrayString;
-use itoa::Buffer;
-use riichi_tiles::Kind;
+use riichi_text::{push_kind, push_number};
 use std::str;
-
-fn push_kind(text: &mut ArrayString<3072>, kind: Kind)
-    requires { array_string_len text.old + 2 ≤ 3072 }
-    ensures bytes { text.new.bytes ≡ text.old.bytes ++ spec.kind_text kind }
-    ensures len { array_string_len text.new ≡ array_string_len text.old + 2 }
-{
-    text.push(digit_of(kind.index()) as char);
-    text.push(letter_of(kind.index()) as char);
-}
 
 /// Writes each kind that has live copies.
 fn push_pairs(text: &mut ArrayString<3072>, copies: &[u8; 34])
@@ -49,15 +39,6 @@ fn push_kinds(text: &mut ArrayString<3072>, list: &LiveList)
     } else {
         push_pairs(text, &list.copies());
     }
-}
-
-fn push_number(text: &mut ArrayString<3072>, number: u32)
-    requires { array_string_len text.old + 10 ≤ 3072 }
-    ensures bytes { text.new.bytes ≡ text.old.bytes ++ decimal number }
-    ensures len { array_string_len text.new ≤ array_string_len text.old + 10 }
-{
-    let mut buffer = Buffer::new();
-    text.push_str(buffer.format(number));
 }
 
 #[tactic(auto, unfolding(crate::specs::Text::list_text))]
@@ -121,8 +102,7 @@ pub fn push_shape(text: &mut ArrayString<3072>, answer: &ShapeAnswer)
     requires { array_string_len text.old + 2890 ≤ 3072 }
     ensures { text.new.bytes ≡ text.old.bytes ++ spec.text_of answer.now }
 {
-    let mut buffer = Buffer::new();
     text.push_str("shanten ");
-    text.push_str(buffer.format(answer.shanten));
+    push_number(text, answer.shanten);
     push_accepts(text, &answer.accepts);
 }

@@ -2,15 +2,12 @@
 use Rattle.std.specs.Prelude.{ℕ, ◌+◌, ◌<◌, Bool, ◌&&◌, List, ◌++◌, length, map, if◌then◌else◌, nat_lt, slice_index, slice_set, codes}
 use Rattle.std.specs.List.{list_any}
 use Rattle.riichi_tiles.specs.Melds.{every_kind}
+pub use Rattle.riichi_tiles.specs.OneTile.{with_one}
 use Rattle.riichi_tiles.specs.Printing.{tiles_text, once}
 use Rattle.riichi_hand.specs.HandParts.{HandParts}
 use Rattle.riichi_hand.specs.Hand.{copies_held}
 use Rattle.riichi_split.specs.Winning.{HasReading}
 use Rattle.riichi_split.specs.ReadingsOf.{readings_of}
-
--- the tiles and one more of a kind
-abbrev pub with_one : List ℕ → ℕ → List ℕ
-with_one counts kind = slice_set counts kind (slice_index counts kind + 1)
 
 -- hand and melds hold fewer than four of the kind, and with one more of it the hand has a reading
 pub record IsWait (hand : HandParts) (kind : ℕ) : Type 0 where

@@ -1,6 +1,7 @@
 pub mod Kinds
 pub mod Suits
 pub mod Tiles
+pub mod OneTile
 pub mod Notation
 pub mod Printing
 pub mod Groups

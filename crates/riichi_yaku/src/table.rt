@@ -1,5 +1,5 @@
 //! The table of the yaku: each by name, with the word that is printed for it and its han.
-ghost use Rattle.std.specs.Prelude.{◌≡◌, ◌<◌, ◌≤◌, length, if◌then◌else◌};
+ghost use Rattle.std.specs.Prelude.{◌≡◌, ◌<◌, ◌≤◌, length, if◌then◌else◌, true};
 ghost use Rattle.riichi_yaku.specs.Table as spec;
 
 /// A yaku. They stand in the order of the table; the yakuman are the last twelve.
@@ -153,6 +153,7 @@ impl Yaku {
         self.number() >= Yaku::ThirteenOrphans.number()
     }
 
+    /// The row of the table. Those of the yakuman have no han.
     fn row(self) -> YakuRow
         ensures word { result.word.now ≡ (spec.row_of self).word }
         ensures concealed { result.concealed ≡ (spec.row_of self).concealed }
@@ -188,18 +189,28 @@ impl Yaku {
             Yaku::TerminalsInAllSets => row("terminals-in-all-sets", 3, 2),
             Yaku::TwicePureDoubleChow => row("twice-pure-double-chow", 3, 0),
             Yaku::FullFlush => row("full-flush", 6, 5),
-            Yaku::ThirteenOrphans => row("thirteen-orphans", 0, 0),
-            Yaku::NineGates => row("nine-gates", 0, 0),
-            Yaku::FourConcealedPungs => row("four-concealed-pungs", 0, 0),
-            Yaku::BigThreeDragons => row("big-three-dragons", 0, 0),
-            Yaku::LittleFourWinds => row("little-four-winds", 0, 0),
-            Yaku::BigFourWinds => row("big-four-winds", 0, 0),
-            Yaku::AllHonours => row("all-honours", 0, 0),
-            Yaku::AllTerminals => row("all-terminals", 0, 0),
-            Yaku::AllGreen => row("all-green", 0, 0),
-            Yaku::FourKongs => row("four-kongs", 0, 0),
-            Yaku::BlessingOfHeaven => row("blessing-of-heaven", 0, 0),
-            Yaku::BlessingOfEarth => row("blessing-of-earth", 0, 0),
+            yakuman => row(yakuman.yakuman_word(), 0, 0),
+        }
+    }
+
+    /// The printed word of a yakuman.
+    fn yakuman_word(self) -> &'static str
+        ensures { spec.is_a_yakuman self ≡ true → result.now ≡ spec.word self }
+    {
+        match self {
+            Yaku::ThirteenOrphans => "thirteen-orphans",
+            Yaku::NineGates => "nine-gates",
+            Yaku::FourConcealedPungs => "four-concealed-pungs",
+            Yaku::BigThreeDragons => "big-three-dragons",
+            Yaku::LittleFourWinds => "little-four-winds",
+            Yaku::BigFourWinds => "big-four-winds",
+            Yaku::AllHonours => "all-honours",
+            Yaku::AllTerminals => "all-terminals",
+            Yaku::AllGreen => "all-green",
+            Yaku::FourKongs => "four-kongs",
+            Yaku::BlessingOfHeaven => "blessing-of-heaven",
+            Yaku::BlessingOfEarth => "blessing-of-earth",
+            _ => "",
         }
     }
 }

@@ -27,9 +27,8 @@ returns-in-Notation c =
     let before = c.args.text.now.bytes in
     let name = c.in-Notation.name in
     let fault = c.in-Notation.fault in
-    c.push_str-in-Notation-6.ensures.bytes
-    ∙ ap (λ t. t ++ codes "}") (c.push_str-in-Notation-5.ensures.bytes
-    ∙ ap (λ s. c.push_str-in-Notation-4.new.self.bytes ++ s) c.format.ensures.text
+    c.push_str-in-Notation-5.ensures.bytes
+    ∙ ap (λ t. t ++ codes "}") (c.push_number.ensures.bytes
     ∙ ap (λ t. t ++ decimal fault.place) (c.push_str-in-Notation-4.ensures.bytes
     ∙ ap (λ t. t ++ codes "\",\"place\":") (c.push_str-in-Notation-3.ensures.bytes
     ∙ ap (λ s. c.push_str-in-Notation-2.new.self.bytes ++ s) c.name_text.ensures.value

@@ -1,6 +1,6 @@
 use Rattle.std.proofs.Common.{◌++◌, ap, ◌∙◌}
 use Rattle.std.specs.Prelude.{codes}
-use Rattle.riichi_shape.specs.Text.{kind_text}
+use Rattle.riichi_text.specs.Tiles.{kind_text}
 use Rattle.desk_json.specs.Parts.{comma_if, accepted_text, discard_text}
 use Rattle.desk_json.proofs.Behind.{four}
 use Rattle.desk_json.proofs.shape.push_discard.Goals as goal

@@ -1,6 +1,6 @@
 use Rattle.std.proofs.Common.{◌++◌, ap, ◌∙◌, decimal}
 use Rattle.std.specs.Prelude.{codes}
-use Rattle.riichi_shape.specs.Text.{kind_text}
+use Rattle.riichi_text.specs.Tiles.{kind_text}
 use Rattle.desk_json.specs.Parts.{comma_if, live_text}
 use Rattle.desk_json.proofs.Behind.{five}
 use Rattle.desk_json.proofs.shape.push_pair.Goals as goal

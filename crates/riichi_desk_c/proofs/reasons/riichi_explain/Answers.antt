@@ -1,14 +1,14 @@
 use Rattle.std.proofs.Common.{◌≡◌, Option, None, refl, sym, subst, ◌∙◌}
 use Rattle.std.specs.Prelude.{codes}
 use Rattle.riichi_hand.specs.declared.win.Rules.{Rules}
-use Rattle.riichi_desk_c.specs.Replies.{profile_numbered}
+use Rattle.riichi_desk_c.specs.Replies.{rules_numbered}
 use Rattle.riichi_desk_c.specs.Reasons.{IsReasonUnder}
 use Rattle.riichi_desk_c.proofs.reasons.riichi_explain.Goals as goal
 
 -- no profile has this number
 pub returns-in_default-clause-placed : goal.returns-in_default-clause-placed
 returns-in_default-clause-placed c =
-    let none : profile_numbered c.args.rules ≡ None = sym c.rules_numbered.ensures ∙ c.in_default.is in
+    let none : rules_numbered c.args.rules ≡ None = sym c.rules_numbered.ensures ∙ c.in_default.is in
     let refusal = codes "refused rules" in (
       refusal,
       subst (λ (rules : Option Rules). IsReasonUnder rules c.args.line.now refusal) (sym none) refl,

@@ -12,6 +12,6 @@ returns c =
     let plain = plain_rows c.args.blocks.now c.args.reading.now c.args.done.now w in
     let sum = c.fu_total-sum.ensures ∙ ap fu_total (c.as_slice.ensures.value ∙ c.push_plain.ensures.items)
     ∙ total-plain c.args.blocks.now c.args.reading.now c.args.done.now w in
-    let open_row = c.open_fu.ensures ∙ ap (open_fu w) sum in
+    let open_row = c.open_fu.ensures.value ∙ ap (open_fu w) sum in
     c.push_earned.ensures.items ∙ ap (λ (x : List FuRow). x ++ earned part.OpenRon c.open_fu.result) c.push_plain.ensures.items
     ∙ ap (λ (n : ℕ). plain ++ earned part.OpenRon n) open_row

@@ -9,4 +9,4 @@ loop-number-preserved c =
     let row = waits_at c.args.hand.now in
     let n = c.loop-number.number in
     let at = ap (λ (k : ℕ). c.loop-number.rows.items ++ row k) c.at.ensures in
-    (c.push_kind.ensures.items ∙ at ∙ ap (λ (x : List KindWait). x ++ row n) c.loop-number.invariant.0 ∙ sym (flat_map-more row n), omega arith)
+    (c.push_kind_wait.ensures.items ∙ at ∙ ap (λ (x : List KindWait). x ++ row n) c.loop-number.invariant.0 ∙ sym (flat_map-more row n), omega arith)

@@ -1,7 +1,6 @@
-use Rattle.std.proofs.Common.{◌≡◌, ◌<◌, ◌-◌, length, map, sym, ap, subst, ◌∙◌, arith, List}
+use Rattle.std.proofs.Common.{◌≡◌, ◌<◌, ◌-◌, length, map, sym, ap, subst, ◌∙◌, arith}
 use Rattle.std.specs.Prelude.{slice_index}
 use Rattle.riichi_shape.specs.KeptDiscards.{AreKept, told}
-use Rattle.riichi_shape.specs.declared.kept_discard.KeptDiscard.{KeptDiscard}
 use Rattle.riichi_shape.proofs.DiscardLemmas.{put_length}
 use Rattle.riichi_shape.proofs.KeptLemmas.{all_put, told_put}
 use Rattle.riichi_shape.proofs.RemovalLemmas.{discards_all, discards_from, discards_none, left_few, left_unheld, left_worse, put_few, put_list, still_room}

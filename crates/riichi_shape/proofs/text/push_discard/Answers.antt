@@ -1,5 +1,6 @@
 use Rattle.std.proofs.Common.{◌≡◌, ℕ, List, ◌++◌, ap, ◌∙◌, append_assoc}
-use Rattle.riichi_shape.specs.Text.{discard_text, kind_text, list_text}
+use Rattle.riichi_text.specs.Tiles.{kind_text}
+use Rattle.riichi_shape.specs.Text.{discard_text, list_text}
 use Rattle.riichi_shape.proofs.text.push_discard.Goals as goal
 
 regroup : (a b c d : List ℕ) → ((a ++ b) ++ c) ++ d ≡ a ++ ((b ++ c) ++ d)

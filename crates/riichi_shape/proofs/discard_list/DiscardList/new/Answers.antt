@@ -1,4 +1,3 @@
-use Rattle.std.proofs.Common.{refl}
 use Rattle.riichi_shape.proofs.KeptLemmas.{all_low, are_told, shown_same}
 use Rattle.riichi_shape.proofs.discard_list.DiscardList.new.Goals as goal
 

@@ -14,8 +14,8 @@ pub loop-kind-preserved : goal.loop-kind-preserved
 loop-kind-preserved c =
     let marks = c.args.marks.now in
     let bits = c.loop-kind.bits in
-    let next : 2 * bits + c.bit_of.result ≡ mask_l (drop (c.loop-kind.kind - 1) marks) =
-    one_more_mark marks c.told-marks c.loop-kind.kind c.loop-kind-test.true c.loop-kind.auto.kind bits (2 * bits + c.bit_of.result) c.loop-kind.invariant.so_far (ap (λ b. 2 * bits + b) c.bit_of.ensures) in
+    let next : 2 * bits + c.from.result ≡ mask_l (drop (c.loop-kind.kind - 1) marks) =
+    one_more_mark marks c.told-marks c.loop-kind.kind c.loop-kind-test.true c.loop-kind.auto.kind bits (2 * bits + c.from.result) c.loop-kind.invariant.so_far (ap (λ b. 2 * bits + b) c.from.ensures) in
     record {
       so_far = next;
       few = omega (arith, next, few_marks marks (c.loop-kind.kind - 1) c.told-marks);

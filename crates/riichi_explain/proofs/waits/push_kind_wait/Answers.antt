@@ -1,7 +1,7 @@
 use Rattle.std.proofs.Common.{List, [], ◌∷◌, ◌++◌, append-nil, sym, ap, ◌∙◌}
 use Rattle.riichi_explain.specs.declared.waits.KindWait.{KindWait}
 use Rattle.riichi_explain.proofs.WaitLemmas.{is_wait-marked, copies-below, waits_at-wait, waits_at-other}
-use Rattle.riichi_explain.proofs.waits.push_kind.Goals as goal
+use Rattle.riichi_explain.proofs.waits.push_kind_wait.Goals as goal
 
 pub kind_wait-requires : goal.kind_wait-requires
 kind_wait-requires c =

@@ -1,8 +1,8 @@
 use Rattle.std.proofs.Common.{◌++◌, length, sym, ap, ◌∙◌, arith}
 use Rattle.riichi_explain.specs.Text.{spaced_meld}
 use Rattle.riichi_explain.proofs.TextLemmas.{flat_map-get, some_there}
-use Rattle.riichi_explain.proofs.reading_text.push_melds.Goals as goal
-use Rattle.riichi_explain.proofs.reading_text.push_melds.Goals.{in-Some, in_default}
+use Rattle.riichi_explain.proofs.reading_text.push_spaced_melds.Goals as goal
+use Rattle.riichi_explain.proofs.reading_text.push_spaced_melds.Goals.{in-Some, in_default}
 
 pub loop-place-preserved : goal.loop-place-preserved
 loop-place-preserved c =

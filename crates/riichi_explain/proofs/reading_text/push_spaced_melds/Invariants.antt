@@ -2,7 +2,7 @@ use Rattle.std.proofs.Common.{◌≡◌, ◌≤◌, ◌+◌, ◌*◌, ◌++◌, 
 use Rattle.std.specs.List.{flat_map}
 use Rattle.arrayvec.specs.ArrayString.{array_string_len}
 use Rattle.riichi_explain.specs.Text.{spaced_meld}
-use Rattle.riichi_explain.proofs.reading_text.push_melds.Given as goal
+use Rattle.riichi_explain.proofs.reading_text.push_spaced_melds.Given as goal
 
 abbrev pub invariant-loop-place : goal.invariant-loop-place
 invariant-loop-place l =

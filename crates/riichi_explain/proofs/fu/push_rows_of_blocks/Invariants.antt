@@ -1,7 +1,7 @@
 use Rattle.std.proofs.Common.{◌≡◌, ◌≤◌, ◌+◌, ◌*◌, ◌++◌, length, take}
 use Rattle.std.specs.List.{flat_map}
 use Rattle.riichi_explain.specs.Fu.{block_rows}
-use Rattle.riichi_explain.proofs.fu.push_blocks.Given as goal
+use Rattle.riichi_explain.proofs.fu.push_rows_of_blocks.Given as goal
 
 abbrev pub invariant-loop-block : goal.invariant-loop-block
 invariant-loop-block l =

@@ -2,7 +2,7 @@ use Rattle.std.proofs.Common.{◌≡◌, ◌≤◌, ◌+◌, ◌*◌, ◌++◌, 
 use Rattle.std.specs.List.{flat_map}
 use Rattle.arrayvec.specs.ArrayString.{array_string_len}
 use Rattle.riichi_explain.specs.Text.{set_text}
-use Rattle.riichi_explain.proofs.reading_text.push_sets.Given as goal
+use Rattle.riichi_explain.proofs.reading_text.push_set_texts.Given as goal
 
 abbrev pub invariant-loop-set : goal.invariant-loop-set
 invariant-loop-set l =
