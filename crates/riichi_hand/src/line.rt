@@ -16,4 +16,3 @@ mod words;
 pub use bytes::{MOST_LINE, has_other_byte, is_other_byte};
 pub use cuts::{next_word, without_spaces, word_len};
 pub use record::read_line;
-pub use words::has_other_byte;
