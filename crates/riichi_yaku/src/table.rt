@@ -154,6 +154,7 @@ impl Yaku {
     }
 
     /// The row of the table. Those of the yakuman have no han.
+    #[inline(always)]
     fn row(self) -> YakuRow
         ensures word { result.word.now ≡ (spec.row_of self).word }
         ensures concealed { result.concealed ≡ (spec.row_of self).concealed }
@@ -194,6 +195,7 @@ impl Yaku {
     }
 
     /// The printed word of a yakuman.
+    #[inline(always)]
     fn yakuman_word(self) -> &'static str
         ensures { spec.is_a_yakuman self ≡ true → result.now ≡ spec.word self }
     {
