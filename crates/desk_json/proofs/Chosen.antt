@@ -7,7 +7,7 @@ use Rattle.std.specs.Prelude.{slice_index, slice_get, nat_lt, IsTrue, ◌↔◌}
 use Rattle.std.proofs.lemmas.Option.{get_or_from_slice_get, slice_get_within}
 use Rattle.riichi_shape.specs.LiveCopies.{pairs_of}
 use Rattle.riichi_shape.specs.declared.discard.Discard.{Discard}
-use Rattle.riichi_shape.proofs.TextLemmas.{is_live}
+use Rattle.riichi_shape.proofs.LiveLemmas.{is_live}
 use Rattle.desk_json.specs.Parts.{comma_if, joined, live_text, discard_text}
 use Rattle.desk_json.proofs.Lists.{is_begun, begun_one_more, joined_more}
 

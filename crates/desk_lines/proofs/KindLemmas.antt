@@ -8,7 +8,7 @@ use Rattle.riichi_score.specs.declared.answer.WinAnswer.{WinAnswer}
 use Rattle.riichi_score.specs.declared.answer.WinAnswer.TheVariants.{Won, NoYaku, NoWin}
 use Rattle.riichi_score.specs.Text.{text_of}
 use Rattle.riichi_shape.specs.declared.shape_answer.ShapeAnswer.{ShapeAnswer}
-use Rattle.riichi_shape.specs.Text.{text_of as shape_text}
+use Rattle.riichi_shape_text.specs.Text.{text_of as shape_text}
 use Rattle.desk_core.specs.AnswerText.{answer_text}
 use Rattle.desk_core.specs.Value.{value_of}
 use Rattle.desk_core.specs.declared.answer.Answer.{Answer}

@@ -5,7 +5,7 @@ ghost use Rattle.desk_core.specs.Value.{value_of};
 ghost use Rattle.riichi_score.specs.Best.{best_of};
 ghost use Rattle.riichi_score.specs.Text as spec_win;
 ghost use Rattle.riichi_shape.specs.Answer.{shape_of};
-ghost use Rattle.riichi_shape.specs.Text as spec_shape;
+ghost use Rattle.riichi_shape_text.specs.Text as spec_shape;
 ghost use Rattle.riichi_split.specs.Waits as spec_waits;
 ghost use Rattle.desk_lines.specs.LineAnswer.{answer_of};
 ghost use Rattle.desk_lines.specs.Outbox.{HasRoom};
@@ -16,7 +16,8 @@ use super::outbox::Outbox;
 use super::responder::Responder;
 use riichi_hand::{HandRecord, Job, Rules, ShapeRecord, WinRecord, fault_text, read_line};
 use riichi_score::{best, push_win};
-use riichi_shape::{push_shape, shape};
+use riichi_shape::shape;
+use riichi_shape_text::push_shape;
 use riichi_split::{waits, waits_text};
 
 /// The plain answers: a line for each record.

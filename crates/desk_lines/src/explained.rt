@@ -4,27 +4,26 @@ ghost use Rattle.desk_core.specs.AnswerText.{answer_text};
 ghost use Rattle.desk_core.specs.Value.{value_of};
 ghost use Rattle.riichi_explain.specs.Explanation.{IsJobText, IsWinText, IsShapeText};
 ghost use Rattle.riichi_hand.specs.FaultTexts.{fault_text};
-ghost use Rattle.riichi_explain.specs.Waits.{kind_waits, waits_line};
 ghost use Rattle.riichi_faults.specs.Refusal.{refusal_lines};
 ghost use Rattle.riichi_score.specs.Best.{best_of};
 ghost use Rattle.riichi_score.specs.Text as spec_win;
 ghost use Rattle.riichi_shape.specs.Answer.{shape_of};
-ghost use Rattle.riichi_shape.specs.Text as spec_shape;
+ghost use Rattle.riichi_shape_text.specs.Text as spec_shape;
 ghost use Rattle.riichi_split.specs.Waits.{waits_of, waits_text};
+ghost use Rattle.riichi_waits.specs.Waits.{kind_waits, waits_line};
 ghost use Rattle.desk_lines.specs.Outbox.{HasRoom};
 
 use super::answering::{put_shape, put_waits};
 use super::line_kind::LineKind;
 use super::outbox::Outbox;
 use super::responder::Responder;
-use riichi_explain::{
-    explain_shape, explain_waits, explain_win, push_shanten_line, push_waits_line, push_win_lines,
-};
+use riichi_explain::{explain_shape, explain_win, push_shanten_line, push_win_lines};
 use riichi_faults::push_refusal_lines;
 use riichi_hand::{
     HandRecord, Job, LineFault, Rules, ShapeRecord, WinRecord, fault_text, read_line,
 };
 use riichi_score::push_win;
+use riichi_waits::{explain_waits, push_waits_line};
 
 /// The explained answers: that of a line, and behind it lines that begin with two spaces and say why it is so.
 pub(crate) struct Explained;

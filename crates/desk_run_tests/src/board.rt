@@ -1,5 +1,6 @@
 //! A board, its seats and its rules, on one thread.
 use crate::common::{a_board, a_cache, given, shape_b, submit, ticket, waits_a};
+use crate::facts::holds;
 use desk_core::Taken;
 use desk_run::{Board, BoardFault, BoardParts, NoGate, OfferFault, Worked};
 use std::test::Fail;
@@ -19,27 +20,28 @@ fn the_board_on_one_thread(rt: HostRuntime) -> Result<(), Fail> {
     let (Some(mut table), Some(mut worker)) = (tables.pop(), workers.pop()) else {
         panic!(rt; "no seat")
     };
-    assert!(rt; table.table() == 0);
-    assert!(rt; submit(&mut table, &board, a) == Ok(ticket(0)));
-    assert!(rt; submit(&mut table, &board, b) == Ok(ticket(1)));
+    holds(&rt, table.table() == 0);
+    holds(&rt, submit(&mut table, &board, a) == Ok(ticket(0)));
+    holds(&rt, submit(&mut table, &board, b) == Ok(ticket(1)));
     let refused = submit(&mut table, &board, a);
-    assert!(rt; refused.is_err_and(|back| back.fault == OfferFault::NoPlace && back.job == a));
+    let no_place = refused.is_err_and(|back| back.fault == OfferFault::NoPlace && back.job == a);
+    holds(&rt, no_place);
     let mut cache = a_cache(&rt, rt.alloc());
     let first = worker.work_once(&board, &mut NoGate, &mut cache);
     let second = worker.work_once(&board, &mut NoGate, &mut cache);
-    assert!(rt; first == Worked::Did(ticket(0)) || first == Worked::Did(ticket(1)));
-    assert!(rt; second == Worked::Did(ticket(0)) || second == Worked::Did(ticket(1)));
-    assert!(rt; first != second);
-    assert!(rt; worker.work_once(&board, &mut NoGate, &mut cache) == Worked::Nothing);
-    assert!(rt; table.collect(&board) == 2);
-    assert!(rt; table.take() == given(0, &a));
-    assert!(rt; table.take() == given(1, &b));
-    assert!(rt; submit(&mut table, &board, a) == Ok(ticket(2)));
-    assert!(rt; !worker.stopped(&board));
+    let done = (Worked::Did(ticket(0)), Worked::Did(ticket(1)));
+    holds(&rt, (first, second) == done || (second, first) == done);
+    let third = worker.work_once(&board, &mut NoGate, &mut cache);
+    holds(&rt, third == Worked::Nothing);
+    holds(&rt, table.collect(&board) == 2);
+    holds(&rt, table.take() == given(0, &a));
+    holds(&rt, table.take() == given(1, &b));
+    holds(&rt, submit(&mut table, &board, a) == Ok(ticket(2)));
+    holds(&rt, !worker.stopped(&board));
     stop.stop(&board);
-    assert!(rt; worker.stopped(&board));
-    assert!(rt; table.close());
-    assert!(rt; table.take() == Taken::Waiting);
+    holds(&rt, worker.stopped(&board));
+    holds(&rt, table.close());
+    holds(&rt, table.take() == Taken::Waiting);
     Ok(())
 }
 
@@ -47,7 +49,7 @@ fn the_board_on_one_thread(rt: HostRuntime) -> Result<(), Fail> {
 fn boards_out_of_range(rt: HostRuntime) -> Result<(), Fail> {
     for (tables, workers, places) in [(65, 1, 1), (1, 17, 1), (1, 1, 0)] {
         let fault = Board::new(rt.alloc(), tables, workers, places);
-        assert!(rt; fault.is_err_and(|fault| fault == BoardFault::Range));
+        holds(&rt, fault.is_err_and(|fault| fault == BoardFault::Range));
     }
     Ok(())
 }

@@ -9,6 +9,8 @@ mod board;
 #[cfg(test)]
 mod common;
 #[cfg(test)]
+mod facts;
+#[cfg(test)]
 mod refused;
 #[cfg(test)]
 mod seats;

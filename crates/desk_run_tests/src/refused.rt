@@ -2,6 +2,7 @@
 //! refused.
 
 use crate::common::waits_a;
+use crate::facts::holds;
 use crate::threads::are;
 use desk_core::{Ticket, judge};
 use desk_run::{Gate, RunFault, Start, run_tables, run_tables_started, run_tables_with};
@@ -67,8 +68,8 @@ fn refused_in_run_tables(rt: HostRuntime) -> Result<(), Fail> {
     let a = waits_a(&rt);
     let jobs = [six(&rt, rt.alloc(), &a)];
     match run_tables(&rt, rt.alloc(), &jobs, 2, 1) {
-        Ok(answers) => assert!(rt; are(&answers, &[&[judge(&a); 6]])),
-        Err(fault) => assert!(rt; fault != RunFault::Range),
+        Ok(answers) => holds(&rt, are(&answers, &[&[judge(&a); 6]])),
+        Err(fault) => holds(&rt, fault != RunFault::Range),
     }
     Ok(())
 }
@@ -82,9 +83,9 @@ fn refused_in_run_tables_with(rt: HostRuntime) -> Result<(), Fail> {
     let called = AtomicBool::new(false);
     let gates = two(&rt, rt.alloc(), &called);
     match run_tables_with(&rt, rt.alloc(), &jobs, gates, 1) {
-        Ok(answers) => assert!(rt; are(&answers, &[&[judge(&a); 6]])),
+        Ok(answers) => holds(&rt, are(&answers, &[&[judge(&a); 6]])),
         Err(RunFault::Memory) => {}
-        Err(RunFault::Thread) => assert!(rt; !called.load(SeqCst)),
+        Err(RunFault::Thread) => holds(&rt, !called.load(SeqCst)),
         Err(RunFault::Range) => panic!(rt; "in range"),
     }
     Ok(())
@@ -100,11 +101,11 @@ fn refused_in_run_tables_started(rt: HostRuntime) -> Result<(), Fail> {
     let mut start = Counting { asked: 0 };
     match run_tables_started(&rt, rt.alloc(), &jobs, gates, 1, &mut start) {
         Ok(answers) => {
-            assert!(rt; start.asked == 2 && called.load(SeqCst));
-            assert!(rt; are(&answers, &[&[judge(&a); 6]]));
+            holds(&rt, start.asked == 2 && called.load(SeqCst));
+            holds(&rt, are(&answers, &[&[judge(&a); 6]]));
         }
-        Err(RunFault::Memory) => assert!(rt; start.asked == 0 || start.asked == 2),
-        Err(RunFault::Thread) => assert!(rt; start.asked > 0 && !called.load(SeqCst)),
+        Err(RunFault::Memory) => holds(&rt, start.asked == 0 || start.asked == 2),
+        Err(RunFault::Thread) => holds(&rt, start.asked > 0 && !called.load(SeqCst)),
         Err(RunFault::Range) => panic!(rt; "in range"),
     }
     Ok(())

@@ -4,6 +4,7 @@ ghost use Rattle.desk_run.specs.Parts.{AreNewTables, AreNewWorkers};
 ghost use Rattle.desk_run.specs.Sitting.{board_name, same_board};
 
 use crate::common::{a_cache, shape_b, waits_a};
+use crate::facts::holds;
 use desk_core::{Answer, Taken, judge};
 use desk_run::{Board, BoardParts, NoGate, TableSeat, Worked, WorkerSeat};
 use riichi_hand::Job;
@@ -192,7 +193,13 @@ fn two_tables_and_two_workers_in_threads(rt: HostRuntime) -> Result<(), Fail> {
         panic!(*rt; "no answers")
     };
     let (first, second) = (judge(&a), judge(&b));
-    assert!(*rt; answers.0.as_slice() == [first, second, first].as_slice());
-    assert!(*rt; answers.1.as_slice() == [second, second, first, second].as_slice());
+    holds(
+        rt,
+        answers.0.as_slice() == [first, second, first].as_slice(),
+    );
+    holds(
+        rt,
+        answers.1.as_slice() == [second, second, first, second].as_slice(),
+    );
     Ok(())
 }

@@ -1,5 +1,6 @@
 //! Runs over threads.
 use crate::common::{shape_b, waits_a};
+use crate::facts::holds;
 use desk_core::{Answer, Ticket, answer_text, judge};
 use desk_run::{Gate, NoGate, RunFault, Start, run_tables, run_tables_started, run_tables_with};
 use riichi_hand::Job;
@@ -22,8 +23,11 @@ fn answers_in_order_for_every_number_of_workers(rt: HostRuntime) -> Result<(), F
     let alloc = rt.alloc();
     let (a, b) = (waits_a(&rt), shape_b(&rt));
     let (first, second) = (judge(&a), judge(&b));
-    assert!(rt; answer_text(&first).as_str() == "waits 123456789m");
-    assert!(rt; answer_text(&second).as_str() == "shanten 0 accepts 2p:4 5p:4 live 8");
+    holds(&rt, answer_text(&first).as_str() == "waits 123456789m");
+    holds(
+        &rt,
+        answer_text(&second).as_str() == "shanten 0 accepts 2p:4 5p:4 live 8",
+    );
     let jobs = [
         vec![in alloc; a, b, a]?,
         Vec::new(alloc),
@@ -32,7 +36,10 @@ fn answers_in_order_for_every_number_of_workers(rt: HostRuntime) -> Result<(), F
     for (workers, places) in [(1, 1), (3, 4)] {
         match run_tables(&rt, alloc, &jobs, workers, places) {
             Ok(answers) => {
-                assert!(rt; are(&answers, &[&[first, second, first], &[], &[second]]));
+                holds(
+                    &rt,
+                    are(&answers, &[&[first, second, first], &[], &[second]]),
+                );
             }
             Err(_) => panic!(rt; "no answers"),
         }
@@ -54,7 +61,7 @@ fn runs_out_of_range(rt: HostRuntime) -> Result<(), Fail> {
     ];
     for (jobs, workers, places) in runs {
         let answers = run_tables(&rt, alloc, jobs, workers, places);
-        assert!(rt; answers.is_err_and(|fault| fault == RunFault::Range));
+        holds(&rt, answers.is_err_and(|fault| fault == RunFault::Range));
     }
     Ok(())
 }
@@ -104,11 +111,14 @@ fn two_workers_meet(rt: HostRuntime) -> Result<(), Fail> {
     };
     let jobs = [vec![in alloc; a, b]?];
     match run_tables_with(&rt, alloc, &jobs, vec![in alloc; gate, gate]?, 2) {
-        Ok(answers) => assert!(rt; are(&answers, &[&[judge(&a), judge(&b)]])),
+        Ok(answers) => holds(&rt, are(&answers, &[&[judge(&a), judge(&b)]])),
         Err(_) => panic!(rt; "no answers"),
     }
-    assert!(rt; first.load(SeqCst) && second.load(SeqCst) && !missed.load(SeqCst));
-    assert!(rt; calls.load(SeqCst) == 2);
+    holds(
+        &rt,
+        first.load(SeqCst) && second.load(SeqCst) && !missed.load(SeqCst),
+    );
+    holds(&rt, calls.load(SeqCst) == 2);
     Ok(())
 }
 
@@ -143,10 +153,10 @@ fn sixteen_workers_gather(rt: HostRuntime) -> Result<(), Fail> {
     };
     let jobs = [vec![in alloc; a; 16]?];
     match run_tables_with(&rt, alloc, &jobs, vec![in alloc; gate; 16]?, 16) {
-        Ok(answers) => assert!(rt; are(&answers, &[&[judge(&a); 16]])),
+        Ok(answers) => holds(&rt, are(&answers, &[&[judge(&a); 16]])),
         Err(_) => panic!(rt; "no answers"),
     }
-    assert!(rt; here.load(SeqCst) == 16 && !missed.load(SeqCst));
+    holds(&rt, here.load(SeqCst) == 16 && !missed.load(SeqCst));
     Ok(())
 }
 
@@ -175,11 +185,11 @@ fn a_worker_that_cannot_be_started(rt: HostRuntime) -> Result<(), Fail> {
         let gates = vec![in alloc; NoGate; 3]?;
         match run_tables_started(&rt, alloc, &jobs, gates, 2, &mut start) {
             Ok(answers) => {
-                assert!(rt; worker == 3 && start.asked == 3);
-                assert!(rt; are(&answers, &[&[judge(&a), judge(&b)]]));
+                holds(&rt, worker == 3 && start.asked == 3);
+                holds(&rt, are(&answers, &[&[judge(&a), judge(&b)]]));
             }
             Err(fault) => {
-                assert!(rt; fault == RunFault::Thread && start.asked == worker + 1);
+                holds(&rt, fault == RunFault::Thread && start.asked == worker + 1);
             }
         }
     }

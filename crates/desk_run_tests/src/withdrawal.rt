@@ -3,6 +3,7 @@ ghost use Rattle.std.specs.Prelude.{◌≡◌};
 ghost use Rattle.desk_run.specs.Sitting.{board_name, same_board};
 
 use crate::common::{a_board, a_cache, given, shape_b, submit, ticket, waits_a};
+use crate::facts::holds;
 use desk_core::{Taken, Ticket};
 use desk_run::{Board, BoardParts, NoGate, OfferBack, OfferFault, TableSeat, Worked, WorkerSeat};
 use riichi_hand::Job;
@@ -92,16 +93,16 @@ fn finds_no_place(found: Result<Ticket, OfferBack>) -> bool {
 fn a_withdrawn_hand_keeps_its_place(rt: HostRuntime) -> Result<(), Fail> {
     let (a, b) = (waits_a(&rt), shape_b(&rt));
     let mut desk = make_small(&rt, rt.alloc(), 1);
-    assert!(rt; desk.submit(a) == Ok(ticket(0)));
-    assert!(rt; desk.withdraw(0) || desk.withdraw(0));
-    assert!(rt; finds_no_place(desk.submit(b)));
-    assert!(rt; desk.work() == Worked::Did(ticket(0)));
-    assert!(rt; desk.collect() == 1);
-    assert!(rt; desk.take() == Taken::Waiting);
-    assert!(rt; desk.submit(b) == Ok(ticket(1)));
-    assert!(rt; desk.work() == Worked::Did(ticket(1)));
-    assert!(rt; desk.collect() == 1);
-    assert!(rt; desk.take() == given(1, &b));
+    holds(&rt, desk.submit(a) == Ok(ticket(0)));
+    holds(&rt, desk.withdraw(0) || desk.withdraw(0));
+    holds(&rt, finds_no_place(desk.submit(b)));
+    holds(&rt, desk.work() == Worked::Did(ticket(0)));
+    holds(&rt, desk.collect() == 1);
+    holds(&rt, desk.take() == Taken::Waiting);
+    holds(&rt, desk.submit(b) == Ok(ticket(1)));
+    holds(&rt, desk.work() == Worked::Did(ticket(1)));
+    holds(&rt, desk.collect() == 1);
+    holds(&rt, desk.take() == given(1, &b));
     Ok(())
 }
 
@@ -111,23 +112,23 @@ fn a_withdrawn_hand_keeps_its_place(rt: HostRuntime) -> Result<(), Fail> {
 fn hands_withdrawn_at_each_time(rt: HostRuntime) -> Result<(), Fail> {
     let (a, b) = (waits_a(&rt), shape_b(&rt));
     let mut desk = make_small(&rt, rt.alloc(), 4);
-    assert!(rt; !desk.withdraw(0));
+    holds(&rt, !desk.withdraw(0));
     for (seq, job) in [(0, a), (1, b), (2, a), (3, b)] {
-        assert!(rt; desk.submit(job) == Ok(ticket(seq)));
+        holds(&rt, desk.submit(job) == Ok(ticket(seq)));
     }
-    assert!(rt; desk.withdraw(2) || desk.withdraw(2));
-    assert!(rt; !desk.withdraw(2) && !desk.withdraw(4));
+    holds(&rt, desk.withdraw(2) || desk.withdraw(2));
+    holds(&rt, !desk.withdraw(2) && !desk.withdraw(4));
     for _job in 0..4 {
-        assert!(rt; desk.work() != Worked::Nothing);
+        holds(&rt, desk.work() != Worked::Nothing);
     }
-    assert!(rt; desk.work() == Worked::Nothing);
-    assert!(rt; desk.withdraw(1) || desk.withdraw(1));
-    assert!(rt; desk.collect() == 4);
-    assert!(rt; desk.close());
-    assert!(rt; desk.take() == given(0, &a));
-    assert!(rt; !desk.withdraw(0));
-    assert!(rt; desk.withdraw(3) || desk.withdraw(3));
-    assert!(rt; desk.take() == Taken::Finished);
-    assert!(rt; desk.collect() == 0);
+    holds(&rt, desk.work() == Worked::Nothing);
+    holds(&rt, desk.withdraw(1) || desk.withdraw(1));
+    holds(&rt, desk.collect() == 4);
+    holds(&rt, desk.close());
+    holds(&rt, desk.take() == given(0, &a));
+    holds(&rt, !desk.withdraw(0));
+    holds(&rt, desk.withdraw(3) || desk.withdraw(3));
+    holds(&rt, desk.take() == Taken::Finished);
+    holds(&rt, desk.collect() == 0);
     Ok(())
 }

@@ -1,7 +1,10 @@
 //! Rows of several readers.
+mod facts;
+
 use super::*;
 use desk_lines::DeskReport;
 use desk_streams::{BytesIn, BytesOut};
+use facts::{holds, holds_in, same};
 use riichi_hand::Rules;
 use std::alloc::{AllocError, Global};
 use std::io::Print;
@@ -57,8 +60,8 @@ fn score<R: Threads + Wait + Sync + Abort>(
 ) {
     let mut writer: BytesOut<2048> = BytesOut::new(1000, None);
     let told = score_text(rt, alloc, Rules::One, readers, workers, &mut writer);
-    assert!(rt; told == report, "{workers} workers");
-    assert_eq!(rt; writer.bytes(), answers);
+    holds_in(rt, &workers, told == report);
+    same(rt, writer.bytes(), answers);
 }
 
 #[test]
@@ -157,8 +160,8 @@ fn a_failed_write(rt: HostRuntime) -> Result<(), Fail> {
         let mut writer: BytesOut<2048> = BytesOut::new(1, Some(place as u64 + 1));
         let readers = two_readers(alloc, FIRST, b"")?;
         let told = score_text(&rt, alloc, Rules::One, readers, 1, &mut writer);
-        assert!(rt; told == Err(ScoreFault::Write), "{place}");
-        assert_eq!(rt; writer.bytes(), &ANSWERS[..place]);
+        holds_in(&rt, &place, told == Err(ScoreFault::Write));
+        same(&rt, writer.bytes(), &ANSWERS[..place]);
     }
     Ok(())
 }
@@ -173,19 +176,19 @@ fn is_scored(rt: &(impl Threads + Wait + Sync + Abort + Print), alloc: Global) -
     let told = score_text(rt, alloc, Rules::One, readers, 2, &mut writer);
     match told {
         Ok(report) => {
-            assert!(rt; report.answered == 1 && report.refused == 1);
-            assert_eq!(rt; writer.bytes(), ANSWERS);
+            holds(rt, report.answered == 1 && report.refused == 1);
+            same(rt, writer.bytes(), ANSWERS);
             return true;
         }
         Err(ScoreFault::Thread) => {
             let _ = println!(rt; "a thread was refused");
         }
         Err(fault) => {
-            assert!(rt; fault == ScoreFault::Memory, "{fault}");
+            holds_in(rt, &fault, fault == ScoreFault::Memory);
             let _ = println!(rt; "memory was refused");
         }
     }
-    assert_eq!(rt; writer.bytes(), b"".as_slice());
+    same(rt, writer.bytes(), b"".as_slice());
     false
 }
 
@@ -193,9 +196,10 @@ fn is_scored(rt: &(impl Threads + Wait + Sync + Abort + Print), alloc: Global) -
 #[test]
 fn a_request_refused_at_the_call(rt: HostRuntime) {
     let alloc = rt.alloc();
-    assert!(rt;
+    holds_in(
+        &rt,
+        &"no memory twice",
         is_scored(&rt, alloc) || is_scored(&rt, alloc),
-        "no memory twice"
     );
 }
 
@@ -219,18 +223,25 @@ fn a_profile_of_one_table(rt: HostRuntime) -> Result<(), Fail> {
 #[test]
 fn messages(rt: HostRuntime) -> Result<(), Fail> {
     let told = [
-        (ScoreFault::Read, "F1: a read failed, or gave no end"),
-        (ScoreFault::Write, "F2: a write failed"),
-        (ScoreFault::Memory, "F3: memory ran out"),
+        (ScoreFault::Read, 3, "F1: a read failed, or gave no end"),
+        (ScoreFault::Write, 3, "F2: a write failed"),
+        (ScoreFault::Memory, 4, "F3: memory ran out"),
         (
             ScoreFault::Range,
+            2,
             "B1: too many or too few tables, workers or jobs",
         ),
-        (ScoreFault::Thread, "B4: a worker could not be started"),
+        (ScoreFault::Thread, 4, "B4: a worker could not be started"),
     ];
-    for (fault, text) in told {
+    for (fault, status, text) in told {
         let message = format!(in rt.alloc(); "{fault}")?;
-        assert_eq!(rt; message.as_str(), text);
+        same(&rt, message.as_str(), text);
+        let code = format!(in rt.alloc(); "{}:", fault.code())?;
+        holds(
+            &rt,
+            message.as_str().starts_with(code.as_str()) && fault.words().len() > 10,
+        );
+        same(&rt, fault.status(), status);
     }
     Ok(())
 }

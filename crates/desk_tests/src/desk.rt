@@ -1,3 +1,4 @@
+use crate::facts::{holds, same};
 use arrayvec::ArrayString;
 use desk_core::{
     Answer, Arrived, CoreFault, DeskCore, Event, LIMIT, Lane, Piece, Reply, RunBack, SubmitFault,
@@ -122,14 +123,21 @@ const WITHOUT_MEMORY: [Reply; 9] = [
 #[test]
 fn answers_and_their_texts(rt: HostRuntime) {
     let waits = waits_job(b"1112345678999m").map(|job| judge(&job));
-    assert!(rt;
-        matches!(waits, Some(answer) if answer_text(&answer).as_str() == "waits 123456789m")
+    holds(
+        &rt,
+        matches!(waits, Some(answer) if answer_text(&answer).as_str() == "waits 123456789m"),
     );
     let none = waits_job(b"123456789m1111z").map(|job| judge(&job));
-    assert!(rt; matches!(none, Some(answer) if answer_text(&answer).as_str() == "waits -"));
+    holds(
+        &rt,
+        matches!(none, Some(answer) if answer_text(&answer).as_str() == "waits -"),
+    );
     let shape = shape_job(b"123456789m1134p").map(|job| judge(&job));
     let text = "shanten 0 accepts 2p:4 5p:4 live 8";
-    assert!(rt; matches!(shape, Some(answer) if answer_text(&answer).as_str() == text));
+    holds(
+        &rt,
+        matches!(shape, Some(answer) if answer_text(&answer).as_str() == text),
+    );
 }
 
 /// What stands before an answer is kept.
@@ -140,14 +148,17 @@ fn an_answer_behind_a_text(rt: HostRuntime) {
     if let Some(job) = shape_job(b"123456789m1134p") {
         push_answer(&mut text, &judge(&job));
     }
-    assert_eq!(rt; text.as_str(), "> shanten 0 accepts 2p:4 5p:4 live 8");
+    same(&rt, text.as_str(), "> shanten 0 accepts 2p:4 5p:4 live 8");
 }
 
 #[test]
 fn a_win_and_its_text(rt: HostRuntime) {
     let answer = quick_job().map(|job| judge(&job));
-    assert!(rt; answer == Some(Answer::Win(WinAnswer::NoWin)));
-    assert!(rt; matches!(answer, Some(answer) if answer_text(&answer).as_str() == "no win"));
+    holds(&rt, answer == Some(Answer::Win(WinAnswer::NoWin)));
+    holds(
+        &rt,
+        matches!(answer, Some(answer) if answer_text(&answer).as_str() == "no win"),
+    );
 }
 
 #[test]
@@ -155,7 +166,7 @@ fn the_same_by_a_cache(rt: HostRuntime) {
     // One request for memory may be refused.
     let made = RowCache::new(rt.alloc(), 4).or_else(|_| RowCache::new(rt.alloc(), 4));
     let Ok(mut cache) = made else {
-        assert!(rt; false);
+        holds(&rt, false);
         return;
     };
     let jobs = [
@@ -167,12 +178,15 @@ fn the_same_by_a_cache(rt: HostRuntime) {
     ];
     for job in &jobs {
         let Some(job) = job else {
-            assert!(rt; false);
+            holds(&rt, false);
             return;
         };
-        assert!(rt; judge_with(&mut cache, job) == judge(job));
+        holds(&rt, judge_with(&mut cache, job) == judge(job));
         let piece = Piece::score_with(&mut cache, FIRST, *job);
-        assert!(rt; piece.ticket() == FIRST && piece.job() == *job && piece.answer() == judge(job));
+        holds(
+            &rt,
+            piece.ticket() == FIRST && piece.job() == *job && piece.answer() == judge(job),
+        );
     }
 }
 
@@ -180,37 +194,37 @@ fn the_same_by_a_cache(rt: HostRuntime) {
 fn a_lane_of_each_call(rt: HostRuntime) {
     let (Some(job), Some(other)) = (waits_job(b"1112345678999m"), shape_job(b"123456789m1134p"))
     else {
-        assert!(rt; false);
+        holds(&rt, false);
         return;
     };
     let mut lane = Lane::new(rt.alloc(), 7);
-    assert_eq!(rt; lane.table(), 7);
+    same(&rt, lane.table(), 7);
     let ticket = Ticket { table: 7, seq: 0 };
     let submitted = lane.submit(job);
     if let Err(back) = submitted {
         // One request for memory may be refused, and nothing was changed then.
-        assert!(rt; back.fault == SubmitFault::Memory && back.job == job);
-        assert!(rt; lane.submit(job) == Ok(ticket));
+        holds(&rt, back.fault == SubmitFault::Memory && back.job == job);
+        holds(&rt, lane.submit(job) == Ok(ticket));
     } else {
-        assert!(rt; submitted == Ok(ticket));
+        holds(&rt, submitted == Ok(ticket));
     }
-    assert!(rt; lane.take() == Taken::Waiting);
-    assert!(rt; lane.arrive(Piece::score(FIRST, job)) == Arrived::Stranger);
-    assert!(rt; lane.arrive(Piece::score(ticket, other)) == Arrived::Stranger);
-    let piece = Piece::score(ticket, job);
-    assert!(rt; piece.ticket() == ticket && piece.job() == job && piece.answer() == judge(&job));
-    assert!(rt; lane.arrive(piece) == Arrived::Accepted);
-    assert!(rt; lane.arrive(Piece::score(ticket, other)) == Arrived::Doubled);
-    assert!(rt; !lane.full() && !lane.closed());
-    assert!(rt; lane.close() && !lane.close() && lane.closed());
-    assert!(rt;
-        lane.take()
-            == Taken::Answer {
-                seq: 0,
-                answer: judge(&job)
-            }
+    holds(&rt, lane.take() == Taken::Waiting);
+    let foreign = lane.arrive(Piece::score(FIRST, job));
+    let of_another_hand = lane.arrive(Piece::score(ticket, other));
+    holds(
+        &rt,
+        foreign == Arrived::Stranger && of_another_hand == foreign,
     );
-    assert!(rt; lane.take() == Taken::Finished);
+    let (piece, answer) = (Piece::score(ticket, job), judge(&job));
+    holds(&rt, piece.ticket() == ticket && piece.job() == job);
+    holds(&rt, piece.answer() == answer);
+    holds(&rt, lane.arrive(piece) == Arrived::Accepted);
+    let late = lane.arrive(Piece::score(ticket, other));
+    holds(&rt, late == Arrived::Doubled);
+    holds(&rt, !lane.full() && !lane.closed());
+    holds(&rt, lane.close() && !lane.close() && lane.closed());
+    holds(&rt, lane.take() == Taken::Answer { seq: 0, answer });
+    holds(&rt, lane.take() == Taken::Finished);
 }
 
 /// The job of a record line.
@@ -236,16 +250,25 @@ fn another_profile_or_five_is_another_job(rt: HostRuntime) {
         job_of(Rules::Two, plain),
         job_of(Rules::One, red),
     ) else {
-        assert!(rt; false);
+        holds(&rt, false);
         return;
     };
     let Some(mut lane) = a_lane_with(rt.alloc(), &job) else {
-        assert!(rt; false);
+        holds(&rt, false);
         return;
     };
-    assert!(rt; lane.arrive(Piece::score(FIRST, of_plain)) == Arrived::Stranger);
-    assert!(rt; lane.arrive(Piece::score(FIRST, of_one)) == Arrived::Stranger);
-    assert!(rt; lane.arrive(Piece::score(FIRST, job)) == Arrived::Accepted);
+    holds(
+        &rt,
+        lane.arrive(Piece::score(FIRST, of_plain)) == Arrived::Stranger,
+    );
+    holds(
+        &rt,
+        lane.arrive(Piece::score(FIRST, of_one)) == Arrived::Stranger,
+    );
+    holds(
+        &rt,
+        lane.arrive(Piece::score(FIRST, job)) == Arrived::Accepted,
+    );
 }
 
 /// A desk, where one request for memory may be refused.
@@ -269,7 +292,7 @@ fn replies_of_a_run(alloc: Global, job: &Job) -> Option<Vec<Reply>> {
 #[test]
 fn a_run_replies(rt: HostRuntime) {
     let Some(job) = waits_job(b"1112345678999m") else {
-        assert!(rt; false);
+        holds(&rt, false);
         return;
     };
     let mut is_replied = false;
@@ -279,79 +302,88 @@ fn a_run_replies(rt: HostRuntime) {
             if replies.as_slice() == its_replies(&job).as_slice() {
                 is_replied = true;
             } else {
-                assert!(rt; replies.as_slice() == WITHOUT_MEMORY.as_slice());
+                holds(&rt, replies.as_slice() == WITHOUT_MEMORY.as_slice());
             }
         }
     }
-    assert!(rt; is_replied);
+    holds(&rt, is_replied);
 }
 
 #[test]
 fn a_run_over_no_events(rt: HostRuntime) {
     let Some(mut desk) = a_desk(rt.alloc(), 64) else {
-        assert!(rt; false);
+        holds(&rt, false);
         return;
     };
     let none = desk.run(Vec::new(rt.alloc())).ok();
-    assert!(rt; none.is_some_and(|replies| replies.is_empty()));
+    holds(&rt, none.is_some_and(|replies| replies.is_empty()));
 }
 
 #[test]
 fn steps_reply(rt: HostRuntime) {
     let Some(job) = waits_job(b"1112345678999m") else {
-        assert!(rt; false);
+        holds(&rt, false);
         return;
     };
     let Some(mut desk) = a_desk(rt.alloc(), 1) else {
-        assert!(rt; false);
+        holds(&rt, false);
         return;
     };
     let wanted = its_replies(&job);
     for (place, wanted) in wanted.iter().enumerate() {
         let reply = desk.step(event_at(place, &job));
         if reply == Reply::Refused(SubmitFault::Memory) {
-            assert!(rt; desk.step(event_at(place, &job)) == *wanted);
+            holds(&rt, desk.step(event_at(place, &job)) == *wanted);
         } else {
-            assert!(rt; reply == *wanted);
+            holds(&rt, reply == *wanted);
         }
     }
 }
 
 #[test]
 fn numbers_of_tables(rt: HostRuntime) {
-    assert!(rt; matches!(DeskCore::new(rt.alloc(), 0), Err(CoreFault::Tables)));
-    assert!(rt; matches!(DeskCore::new(rt.alloc(), 65), Err(CoreFault::Tables)));
-    assert!(rt; a_desk(rt.alloc(), 64).is_some());
+    holds(
+        &rt,
+        matches!(DeskCore::new(rt.alloc(), 0), Err(CoreFault::Tables)),
+    );
+    holds(
+        &rt,
+        matches!(DeskCore::new(rt.alloc(), 65), Err(CoreFault::Tables)),
+    );
+    holds(&rt, a_desk(rt.alloc(), 64).is_some());
 }
 
 #[test]
 fn a_lane_takes_its_limit(rt: HostRuntime) {
     let (Some(job), Some(other)) = (quick_job(), shape_job(b"123456789m1134p")) else {
-        assert!(rt; false);
+        holds(&rt, false);
         return;
     };
     let mut lane = Lane::new(rt.alloc(), 0);
     for seq in 0..LIMIT {
         let ticket = Ticket { table: 0, seq };
         if lane.submit(job).is_err() {
-            assert!(rt; lane.submit(job) == Ok(ticket));
+            holds(&rt, lane.submit(job) == Ok(ticket));
         }
-        assert!(rt; lane.arrive(Piece::score(ticket, job)) == Arrived::Accepted);
-        assert!(rt; matches!(lane.take(), Taken::Answer { seq: given, .. } if given == seq));
+        let arrived = lane.arrive(Piece::score(ticket, job));
+        holds(&rt, arrived == Arrived::Accepted);
+        let is_given = matches!(lane.take(), Taken::Answer { seq: given, .. } if given == seq);
+        holds(&rt, is_given);
     }
-    assert!(rt; lane.full());
+    holds(&rt, lane.full());
     let back = lane.submit(job);
-    assert!(rt; matches!(back, Err(back) if back.fault == SubmitFault::Limit && back.job == job));
-    assert!(rt; lane.arrive(Piece::score(FIRST, other)) == Arrived::Doubled);
+    let is_full = matches!(back, Err(back) if back.fault == SubmitFault::Limit && back.job == job);
+    let late = lane.arrive(Piece::score(FIRST, other));
+    holds(&rt, is_full && late == Arrived::Doubled);
     let next = Ticket {
         table: 0,
         seq: LIMIT,
     };
-    assert!(rt; lane.arrive(Piece::score(next, job)) == Arrived::Stranger);
-    assert!(rt; lane.close());
+    let early = lane.arrive(Piece::score(next, job));
+    holds(&rt, early == Arrived::Stranger && lane.close());
     let back = lane.submit(job);
-    assert!(rt; matches!(back, Err(back) if back.fault == SubmitFault::Closed && back.job == job));
-    assert!(rt; lane.take() == Taken::Finished);
+    let is_late = matches!(back, Err(back) if back.fault == SubmitFault::Closed && back.job == job);
+    holds(&rt, is_late && lane.take() == Taken::Finished);
 }
 
 #[test]

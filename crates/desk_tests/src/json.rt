@@ -1,4 +1,5 @@
 //! Worked lines and their answers.
+use crate::facts::same;
 use desk_core::{Answer, judge};
 use desk_json::{JsonText, answer_text, fault_text, push_fault};
 use riichi_hand::{LineFault, Rules, read_line};
@@ -89,7 +90,7 @@ fn judged(line: &str) -> Result<Answer, Fail> {
 }
 
 fn check(rt: &impl Abort, row: &Row) -> Result<(), Fail> {
-    assert_eq!(rt; answer_text(&judged(row.line)?).as_str(), row.text);
+    same(rt, answer_text(&judged(row.line)?).as_str(), row.text);
     Ok(())
 }
 
@@ -117,7 +118,7 @@ fn fault_of(line: &str) -> Option<LineFault> {
 fn what_is_refused(rt: HostRuntime) -> Result<(), Fail> {
     for row in &FAULTS {
         let fault = fault_of(row.line).ok_or("not refused")?;
-        assert_eq!(rt; fault_text(&fault).as_str(), row.text);
+        same(&rt, fault_text(&fault).as_str(), row.text);
     }
     Ok(())
 }
@@ -129,9 +130,10 @@ fn in_a_text_that_is_kept(rt: HostRuntime) -> Result<(), Fail> {
     push_fault(&mut text, &fault);
     text.clear();
     push_fault(&mut text, &fault);
-    assert_eq!(rt;
+    same(
+        &rt,
         text.as_str(),
-        "{\"answer\":\"refused\",\"code\":\"N5\",\"text\":\"hand\",\"place\":0}"
+        "{\"answer\":\"refused\",\"code\":\"N5\",\"text\":\"hand\",\"place\":0}",
     );
     Ok(())
 }

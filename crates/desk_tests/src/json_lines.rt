@@ -1,4 +1,5 @@
 //! Rows of whole texts, answered as JSON.
+use crate::facts::{holds, holds_in, same_in};
 use desk_lines::*;
 use desk_streams::{BytesIn, BytesOut};
 use std::test::Fail;
@@ -24,16 +25,16 @@ const OBJECTS: &[u8] =
 #[test]
 fn an_object_for_each_record(rt: HostRuntime) {
     for most in [1, 7, 1000] {
-        assert!(rt; most > 0);
+        holds(&rt, most > 0);
         let mut reader = BytesIn::new(TEXT, most, None);
         let mut writer: BytesOut<1024> = BytesOut::new(most, None);
         let report = json_text(Rules::One, &mut reader, &mut writer);
-        assert_eq!(rt; writer.bytes(), OBJECTS, "in pieces of {most}");
+        same_in(&rt, &most, writer.bytes(), OBJECTS);
         let counted = DeskReport {
             answered: 3,
             refused: 2,
         };
-        assert!(rt; report == Ok(counted), "in pieces of {most}");
+        holds_in(&rt, &most, report == Ok(counted));
     }
 }
 
@@ -45,7 +46,7 @@ const WIDE: &[u8] = b"shape 258m369p147s12345z\n";
 fn many_long_objects(rt: HostRuntime) -> Result<(), Fail> {
     let mut once: BytesOut<12288> = BytesOut::new(1000, None);
     let mut reader = BytesIn::new(WIDE, 1000, None);
-    assert!(rt; json_text(Rules::One, &mut reader, &mut once).is_ok());
+    holds(&rt, json_text(Rules::One, &mut reader, &mut once).is_ok());
     let mut text = Vec::new(rt.alloc());
     let mut objects = Vec::new(rt.alloc());
     for _ in 0..16u32 {
@@ -54,9 +55,9 @@ fn many_long_objects(rt: HostRuntime) -> Result<(), Fail> {
     }
     let mut reader = BytesIn::new(text.as_slice(), 1000, None);
     let mut writer: BytesOut<131072> = BytesOut::new(100_000, None);
-    assert!(rt; json_text(Rules::One, &mut reader, &mut writer).is_ok());
-    assert!(rt; objects.len() > 65_536, "{}", objects.len());
-    assert!(rt; writer.bytes() == objects.as_slice());
+    holds(&rt, json_text(Rules::One, &mut reader, &mut writer).is_ok());
+    holds_in(&rt, &objects.len(), objects.len() > 65_536);
+    holds(&rt, writer.bytes() == objects.as_slice());
     Ok(())
 }
 
@@ -66,9 +67,10 @@ fn stops_at_each_failing_read(rt: HostRuntime) {
     for failing in 1..148u64 {
         let mut reader = BytesIn::new(TEXT, 1, Some(failing));
         let mut writer: BytesOut<1024> = BytesOut::new(7, None);
-        assert!(rt;
+        holds_in(
+            &rt,
+            &failing,
             json_text(Rules::One, &mut reader, &mut writer) == Err(DeskFault::Read),
-            "{failing}"
         );
         let told = match failing {
             0..58 => 0,
@@ -77,7 +79,7 @@ fn stops_at_each_failing_read(rt: HostRuntime) {
             105..125 => 298,
             _ => 331,
         };
-        assert_eq!(rt; writer.bytes(), &OBJECTS[..told], "{failing}");
+        same_in(&rt, &failing, writer.bytes(), &OBJECTS[..told]);
     }
 }
 
@@ -86,14 +88,16 @@ fn stops_at_each_failing_write(rt: HostRuntime) {
     for failing in 1..460u64 {
         let mut reader = BytesIn::new(TEXT, 5, None);
         let mut writer: BytesOut<1024> = BytesOut::new(1, Some(failing));
-        assert!(rt;
+        holds_in(
+            &rt,
+            &failing,
             json_text(Rules::One, &mut reader, &mut writer) == Err(DeskFault::Write),
-            "{failing}"
         );
-        assert_eq!(rt;
+        same_in(
+            &rt,
+            &failing,
             writer.bytes(),
             &OBJECTS[..failing as usize - 1],
-            "{failing}"
         );
     }
 }

@@ -7,6 +7,8 @@
 #[cfg(test)]
 mod desk;
 #[cfg(test)]
+mod facts;
+#[cfg(test)]
 mod json;
 #[cfg(test)]
 mod json_lines;

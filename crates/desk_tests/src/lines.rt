@@ -1,4 +1,5 @@
 //! Rows of whole texts.
+use crate::facts::{holds, holds_in, same, same_in};
 use arrayvec::ArrayString;
 use desk_lines::*;
 use desk_streams::{BytesIn, BytesOut, FromReader, ToWriter};
@@ -17,10 +18,11 @@ fn answer(rt: &impl Abort, text: &[u8], answers: &[u8], answered: u64, refused: 
     let mut reader = BytesIn::new(text, 1000, None);
     let mut writer: BytesOut<2048> = BytesOut::new(1000, None);
     let report = desk_text(Rules::One, &mut reader, &mut writer);
-    assert_eq!(rt; writer.bytes(), answers);
-    assert!(rt;
+    same(rt, writer.bytes(), answers);
+    holds_in(
+        rt,
+        &(answered, refused),
         report == Ok(DeskReport { answered, refused }),
-        "{answered} {refused}"
     );
 }
 
@@ -224,14 +226,17 @@ fn profiles(rt: HostRuntime) {
         ("\nrules 2\n", PLAIN, 1),
     ] {
         let mut text: ArrayString<256> = ArrayString::new();
-        assert!(rt; text.try_push_str(first).is_ok() && text.try_push_str(LINE).is_ok());
+        holds(
+            &rt,
+            text.try_push_str(first).is_ok() && text.try_push_str(LINE).is_ok(),
+        );
         let mut answers: ArrayString<256> = ArrayString::new();
         let refusal = match first.as_bytes().split_last() {
             Some((_, [.., b'\t'])) => "refused H1\n",
             _ => "refused H2\n",
         };
-        assert!(rt; refused == 0 || answers.try_push_str(refusal).is_ok());
-        assert!(rt; answers.try_push_str(told).is_ok());
+        holds(&rt, refused == 0 || answers.try_push_str(refusal).is_ok());
+        holds(&rt, answers.try_push_str(told).is_ok());
         answer(
             &rt,
             text.as_str().as_bytes(),
@@ -264,11 +269,11 @@ fn lines_up_to_the_limit(rt: HostRuntime) -> Result<(), Fail> {
         }
         text.extend_from_slice(ending.as_bytes())?;
         for most in [1, 1000, 100_000] {
-            assert!(rt; most > 0);
+            holds(&rt, most > 0);
             let mut reader = BytesIn::new(text.as_slice(), most, None);
             let mut writer: BytesOut<64> = BytesOut::new(1000, None);
-            assert!(rt; desk_text(Rules::One, &mut reader, &mut writer).is_ok());
-            assert_eq!(rt; writer.bytes(), told.as_bytes(), "{length} {most}");
+            holds(&rt, desk_text(Rules::One, &mut reader, &mut writer).is_ok());
+            same_in(&rt, &(length, most), writer.bytes(), told.as_bytes());
         }
     }
     Ok(())
@@ -290,19 +295,19 @@ fn fronts_of_a_long_comment(rt: HostRuntime) -> Result<(), Fail> {
 #[test]
 fn pieces_of_any_size(rt: HostRuntime) -> Result<(), Fail> {
     for most in [1, 3, 1000] {
-        assert!(rt; most > 0);
+        holds(&rt, most > 0);
         let mut reader = BytesIn::new(TEXT, most, None);
         let mut writer: BytesOut<64> = BytesOut::new(most, None);
         let report = desk_text(Rules::One, &mut reader, &mut writer)?;
-        assert_eq!(rt; report.answered, 2);
-        assert_eq!(rt; report.refused, 1);
-        assert_eq!(rt; writer.bytes(), ANSWERS, "in pieces of {most}");
+        same(&rt, report.answered, 2);
+        same(&rt, report.refused, 1);
+        same_in(&rt, &most, writer.bytes(), ANSWERS);
     }
     let mut reader = FromReader::new(TEXT);
     let mut room = [0; 48];
     let mut writer = ToWriter::new(room.as_mut_slice());
-    assert!(rt; desk_text(Rules::One, &mut reader, &mut writer).is_ok());
-    assert_eq!(rt; room.as_slice(), ANSWERS);
+    holds(&rt, desk_text(Rules::One, &mut reader, &mut writer).is_ok());
+    same(&rt, room.as_slice(), ANSWERS);
     Ok(())
 }
 
@@ -312,16 +317,17 @@ fn stops_at_each_failing_read(rt: HostRuntime) {
     for failing in 1..69u64 {
         let mut reader = BytesIn::new(TEXT, 1, Some(failing));
         let mut writer: BytesOut<64> = BytesOut::new(7, None);
-        assert!(rt;
+        holds_in(
+            &rt,
+            &failing,
             desk_text(Rules::One, &mut reader, &mut writer) == Err(DeskFault::Read),
-            "{failing}"
         );
         let told = match failing {
             0..36 => 0,
             36..47 => 17,
             _ => 38,
         };
-        assert_eq!(rt; writer.bytes(), &ANSWERS[..told], "{failing}");
+        same_in(&rt, &failing, writer.bytes(), &ANSWERS[..told]);
     }
 }
 
@@ -330,20 +336,25 @@ fn stops_at_each_failing_write(rt: HostRuntime) {
     for failing in 1..49u64 {
         let mut reader = BytesIn::new(TEXT, 5, None);
         let mut writer: BytesOut<64> = BytesOut::new(1, Some(failing));
-        assert!(rt;
+        holds_in(
+            &rt,
+            &failing,
             desk_text(Rules::One, &mut reader, &mut writer) == Err(DeskFault::Write),
-            "{failing}"
         );
-        assert_eq!(rt;
+        same_in(
+            &rt,
+            &failing,
             writer.bytes(),
             &ANSWERS[..failing as usize - 1],
-            "{failing}"
         );
     }
     let mut reader = BytesIn::new(TEXT, 100, None);
     let mut writer: BytesOut<9> = BytesOut::new(100, None);
-    assert!(rt; desk_text(Rules::One, &mut reader, &mut writer) == Err(DeskFault::Write));
-    assert_eq!(rt; writer.bytes(), b"waits 123".as_slice());
+    holds(
+        &rt,
+        desk_text(Rules::One, &mut reader, &mut writer) == Err(DeskFault::Write),
+    );
+    same(&rt, writer.bytes(), b"waits 123".as_slice());
 }
 
 /// What a text asks: the answers to its jobs, and the fault of a line in its place between them.
@@ -351,15 +362,15 @@ fn stops_at_each_failing_write(rt: HostRuntime) {
 fn a_text_taken_apart(rt: HostRuntime) -> Result<(), Fail> {
     let mut reader = BytesIn::new(TEXT, 1, None);
     let Ok(collected) = collect_text(rt.alloc(), Rules::One, &mut reader) else {
-        assert!(rt; false, "not collected");
+        holds_in(&rt, &"not collected", false);
         return Ok(());
     };
     let report = DeskReport {
         answered: 2,
         refused: 1,
     };
-    assert!(rt; collected.report == report);
-    assert_eq!(rt; collected.jobs.len(), 2);
+    holds(&rt, collected.report == report);
+    same(&rt, collected.jobs.len(), 2);
     let fault = NotationFault {
         code: NotationCode::N5,
         place: 0,
@@ -369,7 +380,7 @@ fn a_text_taken_apart(rt: HostRuntime) -> Result<(), Fail> {
         Asked::Refusal(LineFault::Notation(TextName::Hand, fault)),
         Asked::NextJob,
     ];
-    assert!(rt; collected.asked.as_slice() == asked.as_slice());
+    holds(&rt, collected.asked.as_slice() == asked.as_slice());
     Ok(())
 }
 
@@ -383,10 +394,14 @@ fn tables_without_answers(rt: HostRuntime) -> Result<(), Fail> {
     tables.push(first)?;
     tables.push(Vec::new(alloc))?;
     let mut writer: BytesOut<64> = BytesOut::new(7, None);
-    assert!(rt; write_tables(tables.as_slice(), &[], &mut writer) == Ok(()));
-    assert_eq!(rt;
+    holds(
+        &rt,
+        write_tables(tables.as_slice(), &[], &mut writer) == Ok(()),
+    );
+    same(
+        &rt,
         writer.bytes(),
-        b"table 0\nrefused H8\ntable 1\n".as_slice()
+        b"table 0\nrefused H8\ntable 1\n".as_slice(),
     );
     Ok(())
 }
@@ -399,7 +414,7 @@ fn messages(rt: HostRuntime) -> Result<(), Fail> {
         (DeskFault::Memory, "F3: memory ran out"),
     ] {
         let text = format!(in rt.alloc(); "{fault}")?;
-        assert_eq!(rt; text.as_str(), message);
+        same(&rt, text.as_str(), message);
     }
     Ok(())
 }
@@ -421,13 +436,14 @@ shanten 0 accepts 2p:4 5p:4 live 8
     let mut reader = BytesIn::new(text, 7, None);
     let mut writer: BytesOut<2048> = BytesOut::new(1000, None);
     let report = explain_text(Rules::One, &mut reader, &mut writer);
-    assert_eq!(rt; writer.bytes(), told.as_slice());
-    assert!(rt;
+    same(&rt, writer.bytes(), told.as_slice());
+    holds(
+        &rt,
         report
             == Ok(DeskReport {
                 answered: 3,
-                refused: 1
-            })
+                refused: 1,
+            }),
     );
 }
 
@@ -436,7 +452,7 @@ fn the_profile_that_is_given(rt: HostRuntime) {
     let text = b"win 123406789m22s34p on=2p by=ron seat=S round=E";
     let mut reader = BytesIn::new(text, 1000, None);
     let mut writer: BytesOut<2048> = BytesOut::new(1000, None);
-    assert!(rt; desk_text(Rules::Two, &mut reader, &mut writer).is_ok());
+    holds(&rt, desk_text(Rules::Two, &mut reader, &mut writer).is_ok());
     let told = b"won 4 han 30 fu 8000 gain 8000 pinfu pure-straight dora 1\n";
-    assert_eq!(rt; writer.bytes(), told.as_slice());
+    same(&rt, writer.bytes(), told.as_slice());
 }

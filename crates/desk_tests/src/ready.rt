@@ -1,3 +1,4 @@
+use crate::facts::{holds, holds_in};
 use desk_lines::is_ready;
 use riichi_hand::HandRecord;
 use riichi_tiles::{Kind, Meld, Melds, read_counts};
@@ -24,7 +25,7 @@ static ROWS: [(&str, bool); 7] = [
 #[test]
 fn rows(rt: HostRuntime) -> Result<(), Fail> {
     for (tiles, ready) in ROWS {
-        assert!(rt; is_ready_with(tiles, Melds::new())? == ready, "{tiles}");
+        holds_in(&rt, &tiles, is_ready_with(tiles, Melds::new())? == ready);
     }
     Ok(())
 }
@@ -33,7 +34,7 @@ fn rows(rt: HostRuntime) -> Result<(), Fail> {
 fn the_last_tile_of_its_kind_is_melded(rt: HostRuntime) -> Result<(), Fail> {
     let mut melds = Melds::new();
     melds.push(Meld::Pon(Kind::at(27)));
-    assert!(rt; !is_ready_with("123456789m1z", melds)?);
-    assert!(rt; is_ready_with("123456789m2z", melds)?);
+    holds(&rt, !is_ready_with("123456789m1z", melds)?);
+    holds(&rt, is_ready_with("123456789m2z", melds)?);
     Ok(())
 }

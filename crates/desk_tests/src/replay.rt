@@ -1,4 +1,5 @@
 //! Whole scripts. Where memory is refused, a script ends by `DeskFault::Memory`, or a submission is told so.
+use crate::facts::{holds_in, same, same_in};
 use arrayvec::{ArrayString, ArrayVec};
 use desk_lines::*;
 use desk_streams::{BytesIn, BytesOut};
@@ -127,19 +128,20 @@ fn is_replayed(
     let mut writer: BytesOut<2048> = BytesOut::new(1000, None);
     match replay_text(rt.alloc(), &mut reader, &mut writer) {
         Ok(report) if writer.bytes() == answers => {
-            assert!(rt;
+            holds_in(
+                rt,
+                &(answered, refused),
                 report == DeskReport { answered, refused },
-                "{answered} {refused}"
             );
             true
         }
         Ok(_) | Err(DeskFault::Memory) => {
             let _ = println!(rt; "memory was refused");
-            assert!(rt; is_front(writer.bytes(), answers), "another answer");
+            holds_in(rt, &"another answer", is_front(writer.bytes(), answers));
             false
         }
         Err(fault) => {
-            assert!(rt; false, "{fault}");
+            holds_in(rt, &fault, false);
             false
         }
     }
@@ -154,9 +156,10 @@ fn replay(
     refused: u64,
 ) {
     if !is_replayed(rt, text, answers, answered, refused) {
-        assert!(rt;
+        holds_in(
+            rt,
+            &"no memory twice",
             is_replayed(rt, text, answers, answered, refused),
-            "no memory twice"
         );
     }
 }
@@ -245,14 +248,14 @@ fn stops_at_each_failing_read(rt: HostRuntime) {
         match fault {
             Err(DeskFault::Read) => {
                 let ended = count_lines(&SCRIPT[..read as usize - 1]);
-                assert_eq!(rt; count_lines(writer.bytes()), ended, "{read}");
+                same_in(&rt, &read, count_lines(writer.bytes()), ended);
             }
             fault => {
-                assert!(rt; fault == Err(DeskFault::Memory) && !was_refused, "{read}");
+                holds_in(&rt, &read, fault == Err(DeskFault::Memory) && !was_refused);
                 was_refused = true;
             }
         }
-        assert!(rt; is_front(writer.bytes(), ANSWERS), "{read}");
+        holds_in(&rt, &read, is_front(writer.bytes(), ANSWERS));
     }
 }
 
@@ -264,17 +267,17 @@ fn stops_at_each_failing_write(rt: HostRuntime) {
         let mut writer: BytesOut<1024> = BytesOut::new(1, Some(write));
         let fault = replay_text(rt.alloc(), &mut reader, &mut writer);
         match fault {
-            Err(DeskFault::Write) => assert_eq!(rt; writer.bytes().len() as u64, write - 1),
+            Err(DeskFault::Write) => same(&rt, writer.bytes().len() as u64, write - 1),
             // A submission found no memory, and the answers are fewer bytes.
             Ok(_) => {
-                assert!(rt; writer.bytes() != ANSWERS && !was_refused, "{write}");
+                holds_in(&rt, &write, writer.bytes() != ANSWERS && !was_refused);
                 was_refused = true;
             }
             fault => {
-                assert!(rt; fault == Err(DeskFault::Memory) && !was_refused, "{write}");
+                holds_in(&rt, &write, fault == Err(DeskFault::Memory) && !was_refused);
                 was_refused = true;
             }
         }
-        assert!(rt; is_front(writer.bytes(), ANSWERS), "{write}");
+        holds_in(&rt, &write, is_front(writer.bytes(), ANSWERS));
     }
 }

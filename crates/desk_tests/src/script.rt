@@ -1,4 +1,5 @@
 //! Scripts line by line.
+use crate::facts::{holds_in, same};
 use arrayvec::ArrayVec;
 use desk_script::*;
 use std::alloc::{AllocError, Global};
@@ -65,11 +66,11 @@ fn is_told(rt: &(impl Abort + Print), script: &mut Script, line: &[u8], wanted: 
     let had_memory = match script.answer(line) {
         Ok(Some(text)) if text.as_str() == "refused C3" => false,
         Ok(Some(text)) => {
-            assert_eq!(rt; text.as_str(), wanted);
+            same(rt, text.as_str(), wanted);
             true
         }
         Ok(None) => {
-            assert_eq!(rt; "", wanted);
+            same(rt, "", wanted);
             true
         }
         Err(_) => false,
@@ -83,7 +84,7 @@ fn is_told(rt: &(impl Abort + Print), script: &mut Script, line: &[u8], wanted: 
 /// The same. Where memory is refused, the second try has it.
 fn tells(rt: &(impl Abort + Print), script: &mut Script, line: &[u8], wanted: &str) {
     if !is_told(rt, script, line, wanted) {
-        assert!(rt; is_told(rt, script, line, wanted), "no memory twice");
+        holds_in(rt, &"no memory twice", is_told(rt, script, line, wanted));
     }
 }
 

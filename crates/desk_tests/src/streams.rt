@@ -1,5 +1,6 @@
 ghost use Rattle.std.specs.Prelude.{◌≤◌, IfOk};
 
+use crate::facts::{holds, holds_in, same, same_in};
 use desk_streams::*;
 use std::io;
 use std::io::{Read, Write};
@@ -25,11 +26,11 @@ fn read_out(reader: &mut impl Source, kept: &mut BytesOut<16>, room: usize) -> b
 #[test]
 fn gives_the_bytes_in_pieces(rt: HostRuntime) {
     for (most, room) in [(1, 8), (3, 8), (1000, 8), (1000, 1), (2, 3)] {
-        assert!(rt; most > 0);
+        holds(&rt, most > 0);
         let mut reader = BytesIn::new(b"waits 8z", most, None);
         let mut kept: BytesOut<16> = BytesOut::new(1000, None);
-        assert!(rt; read_out(&mut reader, &mut kept, room), "{most} {room}");
-        assert_eq!(rt; kept.bytes(), b"waits 8z".as_slice());
+        holds_in(&rt, &(most, room), read_out(&mut reader, &mut kept, room));
+        same(&rt, kept.bytes(), b"waits 8z".as_slice());
     }
 }
 
@@ -38,41 +39,41 @@ fn fails_at_the_chosen_read(rt: HostRuntime) {
     for (failing, told) in [(1, ""), (2, "wai"), (3, "waits "), (4, "waits 8z")] {
         let mut reader = BytesIn::new(b"waits 8z", 3, Some(failing));
         let mut kept: BytesOut<16> = BytesOut::new(1000, None);
-        assert!(rt; !read_out(&mut reader, &mut kept, 8), "{failing}");
-        assert_eq!(rt; kept.bytes(), told.as_bytes(), "{failing}");
+        holds_in(&rt, &failing, !read_out(&mut reader, &mut kept, 8));
+        same_in(&rt, &failing, kept.bytes(), told.as_bytes());
     }
     let mut reader = BytesIn::new(b"waits 8z", 3, Some(5));
     let mut kept: BytesOut<16> = BytesOut::new(1000, None);
-    assert!(rt; read_out(&mut reader, &mut kept, 8));
+    holds(&rt, read_out(&mut reader, &mut kept, 8));
 }
 
 #[test]
 fn takes_what_it_has_room_for(rt: HostRuntime) {
     let mut kept: BytesOut<4> = BytesOut::new(3, Some(3));
-    assert_eq!(rt; kept.write(b"").ok(), Some(0));
-    assert_eq!(rt; kept.write(b"waits").ok(), Some(3));
-    assert!(rt; kept.write(b"ts").is_err(), "the chosen one");
-    assert_eq!(rt; kept.write(b"ts").ok(), Some(1));
-    assert!(rt; kept.write(b"s").is_err(), "it is full");
-    assert_eq!(rt; kept.write(b"").ok(), Some(0));
-    assert_eq!(rt; kept.bytes(), b"wait".as_slice());
+    same(&rt, kept.write(b"").ok(), Some(0));
+    same(&rt, kept.write(b"waits").ok(), Some(3));
+    holds_in(&rt, &"the chosen one", kept.write(b"ts").is_err());
+    same(&rt, kept.write(b"ts").ok(), Some(1));
+    holds_in(&rt, &"it is full", kept.write(b"s").is_err());
+    same(&rt, kept.write(b"").ok(), Some(0));
+    same(&rt, kept.bytes(), b"wait".as_slice());
 }
 
 #[test]
 fn wraps_readers_and_writers_of_std(rt: HostRuntime) -> Result<(), Fail> {
     let mut reader = FromReader::new(b"waits 8z".as_slice());
     let mut buffer = [0; 5];
-    assert_eq!(rt; reader.read(&mut buffer)?, 5);
-    assert_eq!(rt; buffer.as_slice(), b"waits".as_slice());
-    assert_eq!(rt; reader.read(&mut buffer)?, 3);
-    assert_eq!(rt; reader.read(&mut buffer)?, 0);
+    same(&rt, reader.read(&mut buffer)?, 5);
+    same(&rt, buffer.as_slice(), b"waits".as_slice());
+    same(&rt, reader.read(&mut buffer)?, 3);
+    same(&rt, reader.read(&mut buffer)?, 0);
 
     let mut room = [0; 8];
     let mut writer = ToWriter::new(room.as_mut_slice());
-    assert_eq!(rt; writer.write(b"waits")?, 5);
-    assert_eq!(rt; writer.write(b"")?, 0);
-    assert_eq!(rt; writer.write(b" 8z!")?, 3);
-    assert_eq!(rt; writer.write(b"!")?, 0);
+    same(&rt, writer.write(b"waits")?, 5);
+    same(&rt, writer.write(b"")?, 0);
+    same(&rt, writer.write(b" 8z!")?, 3);
+    same(&rt, writer.write(b"!")?, 0);
     Ok(())
 }
 
@@ -115,13 +116,13 @@ impl Write for FailsOnce {
 fn calls_once_and_passes_on_a_failure(rt: HostRuntime) -> Result<(), Fail> {
     let mut buffer = [0; 8];
     let mut reader = FromReader::new(FailsOnce { calls: 0 });
-    assert_eq!(rt; reader.read(&mut buffer)?, 1);
-    assert!(rt; reader.read(&mut buffer).is_err());
-    assert_eq!(rt; reader.read(&mut buffer)?, 3);
+    same(&rt, reader.read(&mut buffer)?, 1);
+    holds(&rt, reader.read(&mut buffer).is_err());
+    same(&rt, reader.read(&mut buffer)?, 3);
 
     let mut writer = ToWriter::new(FailsOnce { calls: 0 });
-    assert_eq!(rt; writer.write(&buffer)?, 1);
-    assert!(rt; writer.write(&buffer).is_err());
-    assert_eq!(rt; writer.write(&buffer)?, 3);
+    same(&rt, writer.write(&buffer)?, 1);
+    holds(&rt, writer.write(&buffer).is_err());
+    same(&rt, writer.write(&buffer)?, 3);
     Ok(())
 }

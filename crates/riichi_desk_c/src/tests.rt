@@ -1,19 +1,22 @@
+mod facts;
+
 use super::{riichi_answer, riichi_explain, riichi_json, riichi_version};
+use facts::holds;
 
 #[test]
 fn answers_a_line_in_a_room_of_just_its_length(rt: HostRuntime) {
     let mut room = [7u8; 16];
     let needed = riichi_answer(1, b"waits 1112345678999m", &mut room);
-    assert!(rt; needed == 16);
-    assert!(rt; room == *b"waits 123456789m");
+    holds(&rt, needed == 16);
+    holds(&rt, room == *b"waits 123456789m");
 }
 
 #[test]
 fn leaves_a_room_that_is_too_small(rt: HostRuntime) {
     let mut room = [7u8; 15];
     let needed = riichi_answer(1, b"waits 1112345678999m", &mut room);
-    assert!(rt; needed == 16);
-    assert!(rt; room == [7u8; 15]);
+    holds(&rt, needed == 16);
+    holds(&rt, room == [7u8; 15]);
 }
 
 #[test]
@@ -21,49 +24,56 @@ fn answers_under_the_profile_of_the_number(rt: HostRuntime) {
     let line = b"win 123406789m22s34p on=2p by=ron seat=S round=E";
     let mut room = [0u8; 64];
     let needed = riichi_answer(2, line, &mut room);
-    assert!(rt;
+    holds(
+        &rt,
         room.get(..needed)
-            == Some(b"won 4 han 30 fu 8000 gain 8000 pinfu pure-straight dora 1".as_slice())
+            == Some(b"won 4 han 30 fu 8000 gain 8000 pinfu pure-straight dora 1".as_slice()),
     );
     let needed = riichi_answer(3, line, &mut room);
-    assert!(rt; room.get(..needed) == Some(b"refused rules".as_slice()));
+    holds(&rt, room.get(..needed) == Some(b"refused rules".as_slice()));
 }
 
 #[test]
 fn tells_of_a_comment_and_of_a_fault(rt: HostRuntime) {
     let mut room = [0u8; 64];
-    assert!(rt; riichi_answer(1, b"# table three", &mut room) == 0);
-    assert!(rt; room == [0u8; 64]);
+    holds(&rt, riichi_answer(1, b"# table three", &mut room) == 0);
+    holds(&rt, room == [0u8; 64]);
     let needed = riichi_answer(1, b"waits 8z", &mut room);
-    assert!(rt; room.get(..needed) == Some(b"refused N5 hand at 0".as_slice()));
+    holds(
+        &rt,
+        room.get(..needed) == Some(b"refused N5 hand at 0".as_slice()),
+    );
 }
 
 #[test]
 fn tells_its_version(rt: HostRuntime) {
     let mut room = [0u8; 17];
-    assert!(rt; riichi_version(&mut room) == 17);
-    assert!(rt; room == *b"riichi_desk 0.1.0");
+    holds(&rt, riichi_version(&mut room) == 17);
+    holds(&rt, room == *b"riichi_desk 0.1.0");
 }
 
 #[test]
 fn answers_as_json(rt: HostRuntime) {
     let mut room = [7u8; 64];
     let needed = riichi_json(1, b"waits 123456789m1134p", &mut room);
-    assert!(rt;
-        room.get(..needed) == Some(b"{\"answer\":\"waits\",\"kinds\":[\"2p\",\"5p\"]}".as_slice())
+    holds(
+        &rt,
+        room.get(..needed) == Some(b"{\"answer\":\"waits\",\"kinds\":[\"2p\",\"5p\"]}".as_slice()),
     );
     let needed = riichi_json(1, b"waits 8z", &mut room);
-    assert!(rt;
+    holds(
+        &rt,
         room.get(..needed)
             == Some(
-                b"{\"answer\":\"refused\",\"code\":\"N5\",\"text\":\"hand\",\"place\":0}".as_slice()
-            )
+                b"{\"answer\":\"refused\",\"code\":\"N5\",\"text\":\"hand\",\"place\":0}".as_slice(),
+            ),
     );
     let needed = riichi_json(3, b"waits 8z", &mut room);
-    assert!(rt;
-        room.get(..needed) == Some(b"{\"answer\":\"refused\",\"code\":\"rules\"}".as_slice())
+    holds(
+        &rt,
+        room.get(..needed) == Some(b"{\"answer\":\"refused\",\"code\":\"rules\"}".as_slice()),
     );
-    assert!(rt; riichi_json(1, b"# table three", &mut room) == 0);
+    holds(&rt, riichi_json(1, b"# table three", &mut room) == 0);
 }
 
 #[test]
@@ -72,17 +82,17 @@ fn explains_a_line(rt: HostRuntime) {
     let why = b"  shanten sets and a pair 0, seven pairs 5, thirteen orphans 9\n".as_slice();
     let mut room = [7u8; 3072];
     let needed = riichi_explain(1, line, &mut room);
-    assert!(rt; room.get(..needed) == Some(why));
+    holds(&rt, room.get(..needed) == Some(why));
     let mut small = [7u8; 8];
-    assert!(rt; riichi_explain(1, line, &mut small) == needed);
-    assert!(rt; small == [7u8; 8]);
+    holds(&rt, riichi_explain(1, line, &mut small) == needed);
+    holds(&rt, small == [7u8; 8]);
     let waits = b"  2p 4 left, two-sided; 5p 4 left, two-sided\n".as_slice();
     let needed = riichi_explain(1, b"waits 123456789m1134p", &mut room);
-    assert!(rt; room.get(..needed) == Some(waits));
+    holds(&rt, room.get(..needed) == Some(waits));
     let none = b"  no tile that is left completes the hand\n".as_slice();
     let needed = riichi_explain(1, b"waits 147m258p369s1234z", &mut room);
-    assert!(rt; room.get(..needed) == Some(none));
-    assert!(rt; riichi_explain(1, b"# table three", &mut room) == 0);
+    holds(&rt, room.get(..needed) == Some(none));
+    holds(&rt, riichi_explain(1, b"# table three", &mut room) == 0);
     let needed = riichi_explain(3, line, &mut room);
-    assert!(rt; room.get(..needed) == Some(b"refused rules".as_slice()));
+    holds(&rt, room.get(..needed) == Some(b"refused rules".as_slice()));
 }

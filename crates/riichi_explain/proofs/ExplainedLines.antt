@@ -35,10 +35,10 @@ use Rattle.riichi_explain.specs.Fu.{fu_total}
 use Rattle.riichi_explain.specs.Explanation.{win_lines, IsJobText, IsOutcomeText}
 use Rattle.riichi_explain.specs.Forms.{shanten_text, form_text, other_text, shanten_line}
 use Rattle.riichi_explain.specs.Text as text
-use Rattle.riichi_explain.specs.Waits as waits
-use Rattle.riichi_explain.specs.Waits.{kind_waits}
-use Rattle.riichi_explain.specs.declared.waits.KindWait.{KindWait}
-use Rattle.riichi_explain.specs.declared.waits.WaitSorts.{WaitSorts}
+use Rattle.riichi_waits.specs.Waits as waits
+use Rattle.riichi_waits.specs.Waits.{kind_waits}
+use Rattle.riichi_waits.specs.declared.waits.KindWait.{KindWait}
+use Rattle.riichi_waits.specs.declared.waits.WaitSorts.{WaitSorts}
 use Rattle.riichi_text.specs.Tiles.{kind_text, letter_of, digit_of, run_text, two_text, three_text, four_text, block_text, meld_text}
 use Rattle.riichi_explain.proofs.RefusalLines.{refusal_lines-lines}
 use Rattle.riichi_text.proofs.Letters.{letter_high}

@@ -1,4 +1,3 @@
-pub mod Lists
 pub mod FuLemmas
 pub mod HanLemmas
 pub mod WinLemmas
@@ -6,5 +5,4 @@ pub mod TextLemmas
 pub mod FormLemmas
 pub mod PlainTexts
 pub mod RefusalLines
-pub mod WaitLemmas
 pub mod ExplainedLines

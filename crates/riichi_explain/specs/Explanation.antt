@@ -16,7 +16,7 @@ use Rattle.riichi_explain.specs.declared.win.WinExplanation.TheVariants.{Won, No
 use Rattle.riichi_faults.specs.Refusal.{refusal_lines}
 use Rattle.riichi_explain.specs.Forms.{AreFormDistances, shanten_line}
 use Rattle.riichi_explain.specs.Text.{won_hand_text, no_yaku_line}
-use Rattle.riichi_explain.specs.Waits.{kind_waits, waits_line}
+use Rattle.riichi_waits.specs.Waits.{kind_waits, waits_line}
 use Rattle.riichi_explain.specs.Win.{Explains, answer_of}
 
 -- the lines of readings without yaku: of the first twelve

@@ -5,5 +5,4 @@ pub mod Base
 pub mod Payers
 pub mod Win
 pub mod Text
-pub mod Waits
 pub mod Explanation

@@ -1,9 +1,8 @@
 //! Why an answer is what it is.
 //!
-//! [`explain_win`] gives the reading of a win that scores and the rows of it, which add up; [`explain_waits`] the kinds that a
-//! hand waits for, with the copies left and the sorts of wait; [`explain_shape`] how far a shape is from each form.
-//! [`push_win_lines`], [`push_waits_line`] and [`push_shanten_line`] write their lines, which begin with two spaces. No call
-//! takes memory.
+//! [`explain_win`] gives the reading of a win that scores and the rows of it, which add up; [`explain_shape`] how far a shape is
+//! from each form. [`push_win_lines`] and [`push_shanten_line`] write their lines, which begin with two spaces. Why a hand waits
+//! for a kind, `riichi_waits` tells. No call takes memory.
 #![tactic(auto)]
 
 mod base;
@@ -15,8 +14,6 @@ mod payers;
 mod points_text;
 mod reading_text;
 mod rows_text;
-mod waits;
-mod waits_text;
 mod win;
 mod win_text;
 
@@ -27,7 +24,5 @@ pub use fu::{FuPart, FuRow, FuRows, fu_rows, fu_total};
 pub use han::{HanPart, HanRow, HanRows, han_rows};
 pub use payers::{PayRow, PayRows, Payer, pay_rows};
 pub use reading_text::push_no_yaku;
-pub use waits::{KindWait, KindWaits, WaitSorts, explain_waits};
-pub use waits_text::push_waits_line;
 pub use win::{WinExplanation, WonHand, explain_win};
 pub use win_text::{push_won_hand, won_hand_text};

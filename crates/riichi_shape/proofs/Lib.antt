@@ -28,5 +28,4 @@ pub mod RemovalLemmas
 pub mod RowsWithout
 pub mod ShapeFacts
 pub mod SpecialLemmas
-pub mod TextLemmas
 pub mod Uniqueness

@@ -1,5 +1,5 @@
 -- Live copies as counts and as pairs.
-use Rattle.std.proofs.Common.{◌≡◌, ℕ, zero, suc, ◌+◌, ◌<◌, ◌≤◌, Bool, true, false, cond, List, ◌∷◌, map, length, take, get_or, eqb, ltb, refl, sym, ap, ◌∙◌, arith}
+use Rattle.std.proofs.Common.{◌≡◌, ℕ, zero, suc, ◌+◌, ◌<◌, ◌≤◌, Bool, true, false, cond, List, [], ◌∷◌, map, length, take, get_or, eqb, ltb, refl, sym, ap, ◌∙◌, inl, subst, arith}
 use Rattle.std.proofs.lemmas.Bool.Decides.{nat_tests}
 use Rattle.std.proofs.lemmas.List.{ext_get_or, take_all}
 use Rattle.std.proofs.lemmas.List.Sums.{sum_by-cons}
@@ -8,7 +8,7 @@ use Rattle.std.specs.Prelude.{slice_index, sum_by, nat_lt, ◌==◌}
 use Rattle.riichi_tiles.specs.Melds.{every_kind}
 use Rattle.riichi_rows.proofs.Spread.{spread, spread_none, spread_shift, spread_with}
 use Rattle.riichi_shape.specs.LiveCopies.{AreLive, copies_from, copies_in, live_in, pairs_of}
-use Rattle.riichi_shape.proofs.Members.{length_map_range, map_range_at}
+use Rattle.riichi_shape.proofs.Members.{Among, from_filter, from_map, length_map_range, map_range_at}
 use Rattle.riichi_shape.proofs.PairLemmas.{spread_total, sum_is_total}
 
 -- ---- a sum over the chosen of successive numbers
@@ -64,3 +64,24 @@ told_at copies pairs place kind view is low = ap (λ k. get_or copies k 0) is �
 
 pub live_is : (copies : List ℕ) (pairs : List (ℕ × ℕ)) (live place : ℕ) → pairs_of copies ≡ pairs → length copies ≡ 34 → live ≡ sum (take place copies) → length copies ≤ place → live ≡ live_in pairs
 live_is copies pairs live place view long is all = is ∙ ap sum (take_all place copies all) ∙ sym (live_told copies long) ∙ ap live_in view
+
+-- ---- whether copies are live
+
+pub is_live : (h : ℕ) → 0 < h → ltb 0 h ≡ true
+is_live h some = grind (arith, nat_tests)
+
+pub not_live : (h : ℕ) → h ≤ 0 → ltb 0 h ≡ false
+not_live h none = grind (arith, nat_tests)
+
+-- without live copies there is no pair
+pub empty_is : (copies : List ℕ) (pairs : List (ℕ × ℕ)) → pairs_of copies ≡ pairs → live_in pairs ≡ 0 → pairs ≡ []
+unfolding pairs_of
+empty_is copies [] e none = refl
+empty_is copies (pair ∷ pairs) e none =
+    let there = subst (λ (ps : List (ℕ × ℕ)). Among pair ps) (sym e) (inl refl) in
+    let r = from_map (λ kind. (kind, slice_index copies kind)) pair (filter (λ kind. nat_lt 0 (slice_index copies kind)) every_kind) there in
+    let t = from_filter (λ kind. nat_lt 0 (slice_index copies kind)) r.0 every_kind r.1 in
+    absurd (omega (arith, above (slice_index copies r.0) t.1, ap (λ p. p.1) r.2, sum_by-cons (λ p. p.1) pair pairs, none))
+  where
+    above : (h : ℕ) → ltb 0 h ≡ true → 0 < h
+    above h e = grind (arith, nat_tests)

@@ -1,5 +1,5 @@
 -- What stands among the elements of a list that is made of others.
-use Rattle.std.proofs.Common.{◌≡◌, ℕ, zero, suc, ◌+◌, ◌<◌, ◌≤◌, min, Bool, true, false, cond, ◌⊎◌, inl, inr, List, [], ◌∷◌, ◌++◌, map, length, get_or, refl, sym, ap, ◌∙◌, ⊎_elim, subst, arith}
+use Rattle.std.proofs.Common.{◌≡◌, ℕ, zero, suc, ◌+◌, ◌<◌, ◌≤◌, min, Bool, true, false, cond, ◌⊎◌, inl, inr, List, [], ◌∷◌, ◌++◌, map, length, get_or, slice_get, None, refl, sym, ap, ◌∙◌, ⊎_elim, subst, arith}
 use Rattle.std.proofs.lemmas.Bool.{cases_lt, false≢true}
 use Rattle.std.specs.List.{filter, flat_map, list_all, range_with_len}
 use Rattle.std.specs.Prelude.{◌&&◌}
@@ -155,3 +155,9 @@ pub among_get_or : (xs : List ℕ) (k : ℕ) → k < length xs → Among (get_or
 among_get_or [] k h = absurd (omega arith)
 among_get_or (x ∷ xs) zero h = inl refl
 among_get_or (x ∷ xs) (suc k) h = inr (among_get_or xs k (omega arith))
+
+-- an element is at each place that is below the length
+pub some_there : {X : Type 0} (xs : List X) (i : ℕ) → i < length xs → slice_get xs i ≡ None → ⊥
+some_there [] i low e = absurd (omega arith)
+some_there (x ∷ xs) zero low e = cc
+some_there (x ∷ xs) (suc i) low e = some_there xs i (omega arith) e

@@ -17,5 +17,4 @@ pub mod Ready
 pub mod Rows
 pub mod Special
 pub mod Suits
-pub mod Text
 pub mod Winning

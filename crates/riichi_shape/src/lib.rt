@@ -3,14 +3,13 @@
 //! `shape` answers a `riichi_hand::ShapeRecord` by a `ShapeAnswer`: its shanten, and what it
 //! `Accepts`. Thirteen tiles accept the kinds of a `LiveList`, which lower the shanten, each with
 //! its live copies. Of fourteen tiles a `DiscardList` has each `Discard` that leaves the least
-//! shanten, with the list that the rest then accepts. `shanten` and `accepted` are the parts alone,
-//! and `shape_text` is the answer on a line, which `push_shape` writes behind a text that is kept. A
-//! hand is measured by its four suit rows, which `riichi_rows` makes, and beside each the other three
-//! are joined. The marks of a row say which ranks its least choices lack, so the rows of the hand
-//! alone tell the kinds that bring it nearer: no row of the hand with one more tile is ever made. A
-//! tile that is discarded changes one row: of fourteen tiles the rows of a suit, whole and without
-//! each of its tiles, are asked for together. `shape_with` is `shape` by the rows of a `RowCache`,
-//! which many hands share.
+//! shanten, with the list that the rest then accepts. `shanten` and `accepted` are the parts alone;
+//! the text of an answer is `riichi_shape_text`. A hand is measured by its four suit rows, which
+//! `riichi_rows` makes, and beside each the other three are joined. The marks of a row say which
+//! ranks its least choices lack, so the rows of the hand alone tell the kinds that bring it nearer:
+//! no row of the hand with one more tile is ever made. A tile that is discarded changes one row: of
+//! fourteen tiles the rows of a suit, whole and without each of its tiles, are asked for together.
+//! `shape_with` is `shape` by the rows of a `RowCache`, which many hands share.
 //!
 //! So `123456789m1134p` is ready: `shanten` is 0, and `accepted` has four live 2p and four 5p.
 #![tactic(auto)]
@@ -38,14 +37,12 @@ mod live_list;
 mod nearest_form;
 mod orphans;
 mod pairs;
-mod pairs_text;
 mod removal;
 mod shape_answer;
 mod special;
 mod suit_caps;
 mod suit_of_hand;
 mod suits_lacked;
-mod text;
 
 pub use acceptance::accepted;
 pub use accepts::Accepts;
@@ -58,4 +55,3 @@ pub use live_list::LiveList;
 pub use riichi_cache::{Memory, RowCache};
 pub use riichi_rows::{SuitRow, join_rows, suit_row};
 pub use shape_answer::ShapeAnswer;
-pub use text::{push_shape, shape_text};

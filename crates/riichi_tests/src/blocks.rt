@@ -1,3 +1,4 @@
+use crate::facts::{holds, holds_in, same};
 use riichi_blocks::*;
 use riichi_hand::{By, Job, Rules, WinRecord, Wind, is_ron, read_line};
 use riichi_split::{Reading, Readings};
@@ -37,28 +38,41 @@ fn open_hand(rt: &impl Abort, reading: &Reading, win: &WinRecord) {
         kind: Kind::at(32),
         concealed: false,
     };
-    assert!(rt; blocks.as_slice() == [claimed, run, pair, kong, called].as_slice());
-    assert!(rt; blocks.has_run(13) && !blocks.has_run(14) && blocks.has_runs());
-    assert!(rt; blocks.has_triplet(0) && blocks.has_triplet(GREEN) && !blocks.has_triplet(20));
-    assert_eq!(rt; blocks.runs_equal_to(&run), 1);
-    assert_eq!(rt; blocks.runs_equal_to(&kong), 0);
-    assert_eq!(rt; blocks.runs(), 1);
-    assert_eq!(rt; blocks.triplets(), 3);
-    assert_eq!(rt; blocks.concealed_triplets(), 1);
-    assert_eq!(rt; blocks.kongs(), 1);
-    assert!(rt; is_standard(reading) && !is_seven_pairs(reading) && !is_orphans(reading));
-    assert!(rt; has_plain_pair(blocks.as_slice(), win));
+    holds(
+        rt,
+        blocks.as_slice() == [claimed, run, pair, kong, called].as_slice(),
+    );
+    holds(
+        rt,
+        blocks.has_run(13) && !blocks.has_run(14) && blocks.has_runs(),
+    );
+    holds(
+        rt,
+        blocks.has_triplet(0) && blocks.has_triplet(GREEN) && !blocks.has_triplet(20),
+    );
+    same(rt, blocks.runs_equal_to(&run), 1);
+    same(rt, blocks.runs_equal_to(&kong), 0);
+    same(rt, blocks.runs(), 1);
+    same(rt, blocks.triplets(), 3);
+    same(rt, blocks.concealed_triplets(), 1);
+    same(rt, blocks.kongs(), 1);
+    holds(
+        rt,
+        is_standard(reading) && !is_seven_pairs(reading) && !is_orphans(reading),
+    );
+    holds(rt, has_plain_pair(blocks.as_slice(), win));
 }
 
 fn pairs_and_tiles(rt: &impl Abort, win: &WinRecord) {
-    assert_eq!(rt; pair_fu(win, Kind::at(20)), 0);
-    assert_eq!(rt; pair_fu(win, Kind::at(31)), 2);
-    assert_eq!(rt; pair_fu(win, Kind::at(27)), 4);
+    same(rt, pair_fu(win, Kind::at(20)), 0);
+    same(rt, pair_fu(win, Kind::at(31)), 2);
+    same(rt, pair_fu(win, Kind::at(27)), 4);
     let all = all_tiles(win);
     let all = all.counts();
-    assert_eq!(rt;
+    same(
+        rt,
         (all[0], all[8], all[14], all[20], all[32]),
-        (3, 4, 1, 2, 3)
+        (3, 4, 1, 2, 3),
     );
 }
 
@@ -72,7 +86,7 @@ fn looks_at_an_open_hand(rt: HostRuntime) -> Result<(), Fail> {
             open_hand(&rt, &reading, win);
             is_read = true;
         }
-        assert!(rt; is_read);
+        holds(&rt, is_read);
         pairs_and_tiles(&rt, win);
     }
     Ok(())
@@ -121,9 +135,9 @@ fn looks_at_the_kinds_in_blocks(rt: HostRuntime) -> Result<(), Fail> {
             let mut is_read = false;
             for reading in Readings::new(&hand, &win.melds(), win.winning()) {
                 is_read = true;
-                assert!(rt; kinds_in_blocks(&reading, win) == wanted, "{line}");
+                holds_in(&rt, &line, kinds_in_blocks(&reading, win) == wanted);
             }
-            assert!(rt; is_read, "{line}");
+            holds_in(&rt, &line, is_read);
         }
     }
     Ok(())
@@ -131,10 +145,16 @@ fn looks_at_the_kinds_in_blocks(rt: HostRuntime) -> Result<(), Fail> {
 
 /// Seven pairs and thirteen orphans have no blocks.
 fn special(rt: &impl Abort, reading: &Reading, win: &WinRecord, seven_pairs: bool) {
-    assert!(rt; blocks_of(reading, win).as_slice().is_empty() && !is_standard(reading));
-    assert_eq!(rt; is_seven_pairs(reading), seven_pairs);
-    assert_eq!(rt; is_orphans(reading), !seven_pairs);
-    assert!(rt; !has_plain_pair(&[], win) && !has_two_sided_wait(reading, win.winning()));
+    holds(
+        rt,
+        blocks_of(reading, win).as_slice().is_empty() && !is_standard(reading),
+    );
+    same(rt, is_seven_pairs(reading), seven_pairs);
+    same(rt, is_orphans(reading), !seven_pairs);
+    holds(
+        rt,
+        !has_plain_pair(&[], win) && !has_two_sided_wait(reading, win.winning()),
+    );
 }
 
 #[test]
@@ -160,7 +180,7 @@ fn looks_at_special_readings(rt: HostRuntime) -> Result<(), Fail> {
                 special(&rt, &reading, win, seven_pairs);
                 is_read = true;
             }
-            assert!(rt; is_read, "{line}");
+            holds_in(&rt, &line, is_read);
         }
     }
     Ok(())
@@ -168,35 +188,68 @@ fn looks_at_special_readings(rt: HostRuntime) -> Result<(), Fail> {
 
 #[test]
 fn looks_at_all_tiles(rt: HostRuntime) -> Result<(), Fail> {
-    assert!(rt; tiles("28m5p28s")?.are_simples() && !tiles("289m")?.are_simples());
-    assert!(rt; tiles("19m17z")?.are_orphans() && !tiles("19m8p")?.are_orphans());
-    assert!(rt; tiles("19m19p19s")?.are_terminals() && !tiles("19m1z")?.are_terminals());
-    assert!(rt; tiles("1234567z")?.are_honours() && !tiles("9s1z")?.are_honours());
-    assert!(rt; tiles("23468s6z")?.are_green() && !tiles("5s")?.are_green());
-    assert!(rt; tiles("19p")?.are_of_suit(1) && !tiles("19p1z")?.are_of_suit(1));
-    assert!(rt; tiles("19p1z")?.are_of_suit_or_honours(1));
-    assert!(rt; !tiles("1m19p1z")?.are_of_suit_or_honours(1));
-    assert!(rt; tiles("9m1s")?.has_suit(2) && !tiles("9m1s")?.has_suit(1));
-    assert!(rt; tiles("9s1z")?.has_honours() && !tiles("9s")?.has_honours());
+    holds(
+        &rt,
+        tiles("28m5p28s")?.are_simples() && !tiles("289m")?.are_simples(),
+    );
+    holds(
+        &rt,
+        tiles("19m17z")?.are_orphans() && !tiles("19m8p")?.are_orphans(),
+    );
+    holds(
+        &rt,
+        tiles("19m19p19s")?.are_terminals() && !tiles("19m1z")?.are_terminals(),
+    );
+    holds(
+        &rt,
+        tiles("1234567z")?.are_honours() && !tiles("9s1z")?.are_honours(),
+    );
+    holds(
+        &rt,
+        tiles("23468s6z")?.are_green() && !tiles("5s")?.are_green(),
+    );
+    holds(
+        &rt,
+        tiles("19p")?.are_of_suit(1) && !tiles("19p1z")?.are_of_suit(1),
+    );
+    holds(&rt, tiles("19p1z")?.are_of_suit_or_honours(1));
+    holds(&rt, !tiles("1m19p1z")?.are_of_suit_or_honours(1));
+    holds(
+        &rt,
+        tiles("9m1s")?.has_suit(2) && !tiles("9m1s")?.has_suit(1),
+    );
+    holds(
+        &rt,
+        tiles("9s1z")?.has_honours() && !tiles("9s")?.has_honours(),
+    );
     Ok(())
 }
 
 #[test]
 fn knows_kinds_waits_and_winners(rt: HostRuntime) -> Result<(), Fail> {
-    assert!(rt; is_wind(EAST) && is_wind(30) && !is_wind(26) && !is_wind(WHITE));
-    assert!(rt; is_dragon(WHITE) && is_dragon(RED) && !is_dragon(30));
-    assert!(rt; is_terminal(8) && is_terminal(18) && !is_terminal(7) && !is_terminal(EAST));
-    assert!(rt; is_orphan(8) && is_orphan(33) && !is_orphan(7));
-    assert!(rt; is_of_suit(1, 9) && is_of_suit(1, 17) && !is_of_suit(1, 18));
-    assert_eq!(rt; KINDS, 34);
+    holds(
+        &rt,
+        is_wind(EAST) && is_wind(30) && !is_wind(26) && !is_wind(WHITE),
+    );
+    holds(&rt, is_dragon(WHITE) && is_dragon(RED) && !is_dragon(30));
+    holds(
+        &rt,
+        is_terminal(8) && is_terminal(18) && !is_terminal(7) && !is_terminal(EAST),
+    );
+    holds(&rt, is_orphan(8) && is_orphan(33) && !is_orphan(7));
+    holds(
+        &rt,
+        is_of_suit(1, 9) && is_of_suit(1, 17) && !is_of_suit(1, 18),
+    );
+    same(&rt, KINDS, 34);
     let run = Block::Run(Kind::at(6));
-    assert_eq!(rt; wait_fu(Kind::at(6), &run), 2);
-    assert_eq!(rt; wait_fu(Kind::at(7), &run), 2);
-    assert_eq!(rt; wait_fu(Kind::at(8), &run), 0);
-    assert_eq!(rt; wait_fu(Kind::at(6), &Block::Pair(Kind::at(6))), 2);
-    assert_eq!(rt; wait_fu(Kind::at(6), &Block::Triplet(Kind::at(6))), 0);
-    assert!(rt; is_ron(By::Ron) && !is_ron(By::Tsumo));
-    assert!(rt; is_dealer(Wind::East) && !is_dealer(Wind::North));
+    same(&rt, wait_fu(Kind::at(6), &run), 2);
+    same(&rt, wait_fu(Kind::at(7), &run), 2);
+    same(&rt, wait_fu(Kind::at(8), &run), 0);
+    same(&rt, wait_fu(Kind::at(6), &Block::Pair(Kind::at(6))), 2);
+    same(&rt, wait_fu(Kind::at(6), &Block::Triplet(Kind::at(6))), 0);
+    holds(&rt, is_ron(By::Ron) && !is_ron(By::Tsumo));
+    holds(&rt, is_dealer(Wind::East) && !is_dealer(Wind::North));
     Ok(())
 }
 
@@ -206,8 +259,8 @@ fn counts_blocks_as_they_come(rt: HostRuntime) -> Result<(), Fail> {
     let run = HandBlock::Run(Kind::at(9));
     blocks.push(run);
     blocks.push(run);
-    assert_eq!(rt; blocks.runs_equal_to(&run), 2);
-    assert_eq!(rt; blocks.runs(), 2);
-    assert!(rt; !blocks.has_triplet(9));
+    same(&rt, blocks.runs_equal_to(&run), 2);
+    same(&rt, blocks.runs(), 2);
+    holds(&rt, !blocks.has_triplet(9));
     Ok(())
 }

@@ -1,6 +1,7 @@
 //! A cache answers as fresh rows do, whatever it keeps.
 ghost use Rattle.std.specs.Prelude.{◌≤◌};
 
+use crate::facts::{holds, same};
 use riichi_cache::{Memory, RowCache};
 use riichi_rows::{FreshRows, RowSource, SuitRow};
 use std::alloc::Global;
@@ -30,7 +31,7 @@ fn check(
 {
     let caps = [cap; 9];
     let row = cache.row(&counts, &caps, runs);
-    assert!(rt; is_same(&row, &FreshRows.row(&counts, &caps, runs)));
+    holds(rt, is_same(&row, &FreshRows.row(&counts, &caps, runs)));
     Ok(())
 }
 
@@ -46,7 +47,7 @@ fn rows_of_keys_that_are_alike(rt: HostRuntime) -> Result<(), Fail> {
         check(&rt, &mut cache, counts, 2, false)?;
         check(&rt, &mut cache, [0; 9], 2, false)?;
     }
-    assert_eq!(rt; cache.row(&[0; 9], &[4; 9], true).get(2, true), Some(8));
+    same(&rt, cache.row(&[0; 9], &[4; 9], true).get(2, true), Some(8));
     Ok(())
 }
 
@@ -56,10 +57,13 @@ fn rows_without_a_tile(rt: HostRuntime) -> Result<(), Fail> {
     let mut cache = one_place(rt.alloc()).map_err(|_| "no memory twice")?;
     let rows = cache.rows(&[0, 1, 1, 1, 0, 0, 2, 0, 0], &[4; 9], true);
     let rest = [0, 1, 0, 1, 0, 0, 2, 0, 0];
-    assert!(rt; is_same(&rows.without[2], &FreshRows.row(&rest, &[4; 9], true)));
+    holds(
+        &rt,
+        is_same(&rows.without[2], &FreshRows.row(&rest, &[4; 9], true)),
+    );
     // a run, and a pair
-    assert_eq!(rt; rows.whole.get(1, true), Some(0));
-    assert_eq!(rt; rows.without[2].get(1, true), Some(1));
-    assert_eq!(rt; rows.without[6].get(1, true), Some(1));
+    same(&rt, rows.whole.get(1, true), Some(0));
+    same(&rt, rows.without[2].get(1, true), Some(1));
+    same(&rt, rows.without[6].get(1, true), Some(1));
     Ok(())
 }

@@ -1,8 +1,10 @@
+use crate::facts::{holds, same_in};
 use arrayvec::ArrayString;
 use riichi_explain::*;
 use riichi_hand::{Job, Rules, WinRecord, read_line};
 use riichi_score::WinAnswer;
 use riichi_shape::FormDistances;
+use riichi_waits::{KindWaits, explain_waits, push_waits_line};
 use std::process::Abort;
 use std::test::Fail;
 
@@ -35,7 +37,7 @@ fn waits_text(kinds: &KindWaits) -> ArrayString<3072> {
 fn explains(rt: &impl Abort, rules: Rules, rows: &[(&str, &str)]) -> Result<(), Fail> {
     for (line, text) in rows {
         match read_line(rules, line.as_bytes()) {
-            Ok(Some(job)) => assert_eq!(rt; text_of(&job).as_str(), *text, "{line}"),
+            Ok(Some(job)) => same_in(rt, &line, text_of(&job).as_str(), *text),
             _ => return Err("a line that tells no job")?,
         }
     }
@@ -401,7 +403,7 @@ fn kinds_that_are_waited_for(rt: HostRuntime) -> Result<(), Fail> {
 fn the_answer_that_is_explained(rt: HostRuntime) -> Result<(), Fail> {
     let line = b"win 456m22s34p open=chi:123m,chi:678p on=2p by=ron seat=S round=E";
     match read_line(Rules::One, line) {
-        Ok(Some(job)) => assert!(rt; is_without_yaku(&job)),
+        Ok(Some(job)) => holds(&rt, is_without_yaku(&job)),
         _ => return Err("a line that tells no job")?,
     }
     Ok(())

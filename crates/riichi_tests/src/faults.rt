@@ -1,3 +1,4 @@
+use crate::facts::same;
 use arrayvec::ArrayString;
 use riichi_faults::*;
 use riichi_hand::{LineCode, LineFault, Rules, TextName, read_line};
@@ -12,7 +13,7 @@ fn refuses(rt: &impl Abort, rows: &[(&[u8], &str)]) -> Result<(), Fail> {
         };
         let mut text = ArrayString::new();
         push_refusal_lines(&mut text, line, &fault);
-        assert_eq!(rt; text.as_str(), *lines);
+        same(rt, text.as_str(), *lines);
     }
     Ok(())
 }
@@ -199,13 +200,18 @@ fn faults_of_the_record(rt: HostRuntime) -> Result<(), Fail> {
 #[test]
 fn words_by_name(rt: HostRuntime) -> Result<(), Fail> {
     let line = b"win 1m on=2m seat=s";
-    assert_eq!(rt;
+    same(
+        &rt,
         word_at_fault(LineCode::H4, line),
-        Some(b"seat=s".as_slice())
+        Some(b"seat=s".as_slice()),
     );
-    assert_eq!(rt; text_word(TextName::On, line), Some(b"on=2m".as_slice()));
-    assert_eq!(rt; text_word(TextName::Dora, line), None);
+    same(
+        &rt,
+        text_word(TextName::On, line),
+        Some(b"on=2m".as_slice()),
+    );
+    same(&rt, text_word(TextName::Dora, line), None);
     let words = fault_words(&LineFault::Line(LineCode::H16));
-    assert_eq!(rt; words, "a red five is one of the fives");
+    same(&rt, words, "a red five is one of the fives");
     Ok(())
 }

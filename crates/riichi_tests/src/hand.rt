@@ -1,3 +1,4 @@
+use crate::facts::{holds, same};
 use arrayvec::ArrayString;
 use riichi_hand::*;
 use riichi_tiles::{Counts, Kind, Melds, NotationCode, NotationFault, Reds, read_counts};
@@ -19,11 +20,33 @@ fn told(rules: Rules, line: &[u8]) -> ArrayString<40> {
     }
 }
 
+#[test]
+fn tells_bytes_and_cuts_words(rt: HostRuntime) {
+    holds(
+        &rt,
+        is_other_byte(0x1f) && is_other_byte(0x7f) && !is_other_byte(b' ') && !is_other_byte(b'~'),
+    );
+    holds(
+        &rt,
+        has_other_byte(b"1\tm") && !has_other_byte(b"1m 2p") && !has_other_byte(b""),
+    );
+    let rows: [(&[u8], &[u8], usize); 4] = [
+        (b"", b"", 0),
+        (b"   ", b"", 0),
+        (b"win 1m", b"win 1m", 3),
+        (b"  waits", b"waits", 5),
+    ];
+    for (text, rest, len) in rows {
+        same(&rt, without_spaces(text), rest);
+        same(&rt, word_len(rest), len);
+    }
+}
+
 /// A line is answered with this text under both profiles, or is a job where there is none.
 fn expect(rt: &impl Abort, line: &[u8], text: &str) {
-    assert_eq!(rt; told(Rules::One, line).as_str(), text);
-    assert_eq!(rt; told(Rules::Two, line).as_str(), text);
-    assert_eq!(rt; outcome(Rules::One, line).is_err(), !text.is_empty());
+    same(rt, told(Rules::One, line).as_str(), text);
+    same(rt, told(Rules::Two, line).as_str(), text);
+    same(rt, outcome(Rules::One, line).is_err(), !text.is_empty());
 }
 
 /// What a mark stands for: `-` no record, `J` a job, a digit or `A` to `F` the codes H1 to H15, and `h`, `o`, `d`, `u`, `s` a
@@ -75,14 +98,18 @@ fn last_len(front: &[u8]) -> usize {
 
 /// Below each byte of a line stands the mark of the front that ends there; `!` stands for the text.
 fn fronts(rt: &impl Abort, line: &[u8], marks: &[u8], text: &str) {
-    assert_eq!(rt; line.len(), marks.len());
+    holds(rt, line.len() == marks.len());
     for end in 0..line.len() {
         let front = &line[..end + 1];
         let mark = marks[end];
         if mark == b'!' {
-            assert_eq!(rt; told(Rules::One, front).as_str(), text);
+            same(rt, told(Rules::One, front).as_str(), text);
         } else {
-            assert_eq!(rt; outcome(Rules::One, front), wanted(mark, last_len(front)));
+            same(
+                rt,
+                outcome(Rules::One, front),
+                wanted(mark, last_len(front)),
+            );
         }
     }
 }
@@ -563,11 +590,11 @@ fn with_spaces(front: &[u8]) -> [u8; 4097] {
 
 /// With spaces after it, 4096 bytes in all, a line is what the mark stands for; with one space more it is too long.
 fn padded(rt: &impl Abort, front: &[u8], mark: u8) {
-    assert_eq!(rt; outcome(Rules::One, front), wanted(mark, 0));
+    same(rt, outcome(Rules::One, front), wanted(mark, 0));
     let line = with_spaces(front);
     let (_, short) = line.split_last().expect(rt, "a space");
-    assert_eq!(rt; short.len(), 4096);
-    assert_eq!(rt; outcome(Rules::One, short), wanted(mark, 0));
+    same(rt, short.len(), 4096);
+    same(rt, outcome(Rules::One, short), wanted(mark, 0));
     expect(rt, &line, "refused H1");
 }
 
@@ -601,8 +628,8 @@ fn keeps_reds_under_the_second_profile(rt: HostRuntime) {
         ),
     ];
     for (line, reds) in rows {
-        assert_eq!(rt; reds_of_win(Rules::One, line), Some(0));
-        assert_eq!(rt; reds_of_win(Rules::Two, line), Some(reds));
+        same(&rt, reds_of_win(Rules::One, line), Some(0));
+        same(&rt, reds_of_win(Rules::Two, line), Some(reds));
     }
 }
 
@@ -634,42 +661,52 @@ fn win_with(rules: Rules, riichi: u8, reds: Reds) -> Result<WinRecord, LineFault
 fn tests_the_parts_of_a_win(rt: HostRuntime) {
     let reds = Reds::new(2, 0, 0).expect(&rt, "two red fives");
     let riichi = LineFault::Line(LineCode::H4);
-    assert_eq!(rt; win_with(Rules::One, 3, Reds::none()).err(), Some(riichi));
+    same(
+        &rt,
+        win_with(Rules::One, 3, Reds::none()).err(),
+        Some(riichi),
+    );
     let too_many = LineFault::Line(LineCode::H16);
-    assert_eq!(rt; win_with(Rules::Two, 0, reds).err(), Some(too_many));
+    same(&rt, win_with(Rules::Two, 0, reds).err(), Some(too_many));
     let plain = win_with(Rules::One, 0, Reds::none());
-    assert_eq!(rt; win_with(Rules::One, 0, reds), plain);
-    assert_eq!(rt; plain.is_ok(), true);
+    same(&rt, win_with(Rules::One, 0, reds), plain);
+    same(&rt, plain.is_ok(), true);
 }
 
 #[test]
 fn reads_each_key(rt: HostRuntime) {
     let one = b"win 123456789m22s34p on=2p by=ron seat=S round=E";
     let plain = win_with(Rules::Two, 0, Reds::none()).ok();
-    assert_eq!(rt; win_of(Rules::Two, one), plain);
+    same(&rt, win_of(Rules::Two, one), plain);
     let all =
         b"win 234m567m34p99s open=ankan:1111z on=2p by=tsumo seat=W round=N riichi=2 flags=rinshan dora=1p ura=3m counters=7 sticks=12";
     let win = win_of(Rules::Two, all).expect(&rt, "a win");
-    assert_eq!(rt; win.rules(), Rules::Two);
-    assert_eq!(rt; win.concealed().total(), 10);
-    assert_eq!(rt; win.melds().count(), 1);
-    assert_eq!(rt; win.winning(), Kind::at(10));
-    assert_eq!(rt; win.by(), By::Tsumo);
-    assert_eq!(rt; win.seat(), Wind::West);
-    assert_eq!(rt; win.round().kind(), Kind::at(30));
-    assert_eq!(rt; win.riichi(), 2);
-    assert_eq!(rt;
+    same(&rt, win.rules(), Rules::Two);
+    same(&rt, win.concealed().total(), 10);
+    same(&rt, win.melds().count(), 1);
+    same(&rt, win.winning(), Kind::at(10));
+    same(&rt, win.by(), By::Tsumo);
+    same(&rt, win.seat(), Wind::West);
+    same(&rt, win.round().kind(), Kind::at(30));
+    same(&rt, win.riichi(), 2);
+    same(
+        &rt,
         win.flags(),
         Flags {
             rinshan: true,
             ..Flags::none()
-        }
+        },
     );
-    assert_eq!(rt; win.dora().get(Kind::at(9)), 1);
-    assert_eq!(rt; win.ura().get(Kind::at(2)), 1);
-    assert_eq!(rt; win.counters(), 7);
-    assert_eq!(rt; win.sticks(), 12);
-    assert_eq!(rt; WinRecord::new(win.parts()), Ok(win));
+    same(&rt, win.dora().get(Kind::at(9)), 1);
+    same(&rt, win.ura().get(Kind::at(2)), 1);
+    same(&rt, win.counters(), 7);
+    same(&rt, win.sticks(), 12);
+    same(
+        &rt,
+        (win.copies_won(Kind::at(27)), win.copies_won(Kind::at(10))),
+        (4, 1),
+    );
+    same(&rt, WinRecord::new(win.parts()), Ok(win));
 }
 
 fn hand_of(line: &[u8]) -> Option<HandRecord> {
@@ -692,16 +729,21 @@ fn shape_of(line: &[u8]) -> Option<ShapeRecord> {
 fn reads_waits_and_shapes(rt: HostRuntime) {
     let waits = b"waits 2223456777m open=pon:111z";
     let hand = hand_of(waits).expect(&rt, "a hand");
-    assert_eq!(rt; hand.concealed().total(), 10);
-    assert_eq!(rt; hand.melds().tiles(Kind::at(27)), 3);
-    assert_eq!(rt; HandRecord::new(hand.concealed(), hand.melds()), Ok(hand));
+    same(&rt, hand.concealed().total(), 10);
+    same(&rt, hand.melds().tiles(Kind::at(27)), 3);
+    same(
+        &rt,
+        HandRecord::new(hand.concealed(), hand.melds()),
+        Ok(hand),
+    );
     let line = b"shape 12z open=pon:333z,chi:123m,chi:123m,chi:123m seen=222z";
     let shape = shape_of(line).expect(&rt, "a shape");
-    assert_eq!(rt; shape.tiles().total(), 2);
-    assert_eq!(rt; shape.melds().count(), 4);
-    assert_eq!(rt; shape.seen().get(Kind::at(28)), 3);
-    assert_eq!(rt;
+    same(&rt, shape.tiles().total(), 2);
+    same(&rt, shape.melds().count(), 4);
+    same(&rt, shape.seen().get(Kind::at(28)), 3);
+    same(
+        &rt,
         ShapeRecord::new(shape.tiles(), shape.melds(), shape.seen()),
-        Ok(shape)
+        Ok(shape),
     );
 }

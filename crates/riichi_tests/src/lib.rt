@@ -10,6 +10,8 @@ mod cache;
 #[cfg(test)]
 mod explain;
 #[cfg(test)]
+mod facts;
+#[cfg(test)]
 mod faults;
 #[cfg(test)]
 mod hand;
@@ -21,6 +23,8 @@ mod score;
 mod shape;
 #[cfg(test)]
 mod split;
+#[cfg(test)]
+mod text;
 #[cfg(test)]
 mod tiles;
 #[cfg(test)]

@@ -1,6 +1,7 @@
 //! Rows worked by hand, and rows without one tile beside rows made anew.
 ghost use Rattle.std.specs.Prelude.{◌≤◌};
 
+use crate::facts::{holds, same};
 use riichi_rows::{JoinedRows, RankSet, SuitRow, join_two, suit_row, suit_rows};
 use std::process::Abort;
 use std::test::Fail;
@@ -16,13 +17,13 @@ fn row(counts: [u8; 9], runs: bool) -> SuitRow {
 #[test]
 fn rows_of_no_tiles(rt: HostRuntime) -> Result<(), Fail> {
     let suit = row(NO_TILES, true);
-    assert_eq!(rt; suit.get(0, false), Some(0));
-    assert_eq!(rt; suit.get(2, true), Some(8));
-    assert_eq!(rt; suit.get(4, true), Some(14));
+    same(&rt, suit.get(0, false), Some(0));
+    same(&rt, suit.get(2, true), Some(8));
+    same(&rt, suit.get(4, true), Some(14));
     // Without runs, and with two of each tile to be had, there is no set.
     let pairs = suit_row(NO_TILES, [2; 9], false);
-    assert_eq!(rt; pairs.get(0, true), Some(2));
-    assert_eq!(rt; pairs.get(1, false), None);
+    same(&rt, pairs.get(0, true), Some(2));
+    same(&rt, pairs.get(1, false), None);
     Ok(())
 }
 
@@ -39,12 +40,15 @@ fn check_rows(rt: &impl Abort, counts: [u8; 9], cap: u8, runs: bool) -> Result<(
 {
     let caps = [cap; 9];
     let rows = suit_rows(&counts, &caps, runs);
-    assert!(rt; is_same(&rows.whole, &suit_row(counts, caps, runs)));
+    holds(rt, is_same(&rows.whole, &suit_row(counts, caps, runs)));
     for rank in 0..9usize {
         if counts[rank] > 0 {
             let mut rest = counts;
             rest[rank] -= 1;
-            assert!(rt; is_same(&rows.without[rank], &suit_row(rest, caps, runs)));
+            holds(
+                rt,
+                is_same(&rows.without[rank], &suit_row(rest, caps, runs)),
+            );
         }
     }
     Ok(())
@@ -77,19 +81,19 @@ fn ranks_lacked_by_a_run_of_two(rt: HostRuntime) -> Result<(), Fail> {
     let characters = row(held, true);
     // With nothing else held, a pair lacks one tile, a second 1m or a second 2m.
     let nothing = beside(NO_TILES);
-    assert_eq!(rt; nothing.with(&characters, 0), Some(1));
-    assert!(rt; are_just(nothing.lacked_by(&characters, 0, 1), &[0, 1]));
-    assert_eq!(rt; nothing.lacked_by(&characters, 0, 1).bits(), 3);
+    same(&rt, nothing.with(&characters, 0), Some(1));
+    holds(&rt, are_just(nothing.lacked_by(&characters, 0, 1), &[0, 1]));
+    same(&rt, nothing.lacked_by(&characters, 0, 1).bits(), 3);
     // Beside 11p a set and a pair lack one tile: 3m, which makes 123m.
     let pair = beside([2, 0, 0, 0, 0, 0, 0, 0, 0]);
-    assert_eq!(rt; pair.with(&characters, 1), Some(1));
-    assert!(rt; are_just(pair.lacked_by(&characters, 1, 1), &[2]));
+    same(&rt, pair.with(&characters, 1), Some(1));
+    holds(&rt, are_just(pair.lacked_by(&characters, 1, 1), &[2]));
     // There the pair alone is whole: no character takes part in it, and none is lacked.
-    assert_eq!(rt; pair.with(&characters, 0), Some(0));
-    assert!(rt; are_just(pair.lacked_by(&characters, 0, 0), &[]));
+    same(&rt, pair.with(&characters, 0), Some(0));
+    holds(&rt, are_just(pair.lacked_by(&characters, 0, 0), &[]));
     // With no 3m to be had they lack two: 111m or 222m beside 11p, or 11m or 22m beside 111p.
     let no_run = suit_row(held, [4, 4, 0, 4, 4, 4, 4, 4, 4], true);
-    assert_eq!(rt; pair.with(&no_run, 1), Some(2));
-    assert!(rt; are_just(pair.lacked_by(&no_run, 1, 2), &[0, 1]));
+    same(&rt, pair.with(&no_run, 1), Some(2));
+    holds(&rt, are_just(pair.lacked_by(&no_run, 1, 2), &[0, 1]));
     Ok(())
 }

@@ -1,6 +1,8 @@
+use crate::facts::{holds, same, same_in};
 use arrayvec::ArrayString;
 use riichi_hand::{Job, Rules, read_line};
 use riichi_score::*;
+use riichi_tiles::Reds;
 use std::process::Abort;
 use std::test::Fail;
 
@@ -15,7 +17,7 @@ fn text_of(job: &Job) -> ArrayString<3072> {
 fn answers(rt: &impl Abort, rules: Rules, rows: &[(&str, &str)]) -> Result<(), Fail> {
     for (line, text) in rows {
         match read_line(rules, line.as_bytes()) {
-            Ok(Some(job)) => assert_eq!(rt; text_of(&job).as_str(), *text, "{line}"),
+            Ok(Some(job)) => same_in(rt, &line, text_of(&job).as_str(), *text),
             _ => return Err("a line that tells no job")?,
         }
     }
@@ -201,17 +203,51 @@ fn the_second_profile(rt: HostRuntime) -> Result<(), Fail> {
 
 #[test]
 fn base_points_and_gain(rt: HostRuntime) -> Result<(), Fail> {
-    assert_eq!(rt; base_points(Rules::One, 4, 30), 1920);
-    assert_eq!(rt; base_points(Rules::Two, 4, 30), 2000);
-    assert_eq!(rt;
+    same(&rt, base_points(Rules::One, 4, 30), 1920);
+    same(&rt, base_points(Rules::Two, 4, 30), 2000);
+    same(
+        &rt,
         gain(
             &Payment::Tsumo {
                 other: 400,
-                dealer: 700
+                dealer: 700,
             },
-            2
+            2,
         ),
-        3500
+        3500,
     );
+    same(&rt, (product_of(2, 40), product_of(4, 30)), (640, 1920));
+    holds(
+        &rt,
+        is_raised(Rules::Two, 4, 30) && is_raised(Rules::Two, 3, 60),
+    );
+    holds(
+        &rt,
+        !is_raised(Rules::Two, 4, 25) && !is_raised(Rules::One, 4, 30),
+    );
+    let reds = Reds::new(1, 2, 0).ok_or("three red fives")?;
+    same(
+        &rt,
+        (red_dora(Rules::One, &reds), red_dora(Rules::Two, &reds)),
+        (0, 3),
+    );
+    Ok(())
+}
+
+/// The fu that a win has for being open, with 20 fu and with 22 in all.
+fn open_fu_of(job: &Job) -> Option<(u8, u8)> {
+    if let Job::Win(win) = job {
+        let concealed = win.melds().concealed();
+        return Some((open_fu(concealed, win, 20), open_fu(concealed, win, 22)));
+    }
+    None
+}
+
+#[test]
+fn an_open_hand_of_twenty_fu(rt: HostRuntime) -> Result<(), Fail> {
+    match read_line(Rules::One, SIMPLES.as_bytes()) {
+        Ok(Some(job)) => same(&rt, open_fu_of(&job), Some((10, 0))),
+        _ => return Err("a line that tells no job")?,
+    }
     Ok(())
 }

@@ -1,13 +1,15 @@
 //! Worked hands and their answers.
 ghost use Rattle.std.specs.Prelude.{◌<◌, ◌≤◌};
 
+use crate::facts::{holds, same};
 use arrayvec::ArrayString;
 use riichi_hand::ShapeRecord;
 use riichi_rows::join_two;
 use riichi_shape::{
-    Accepts, DiscardList, Memory, RowCache, ShapeAnswer, accepted, join_rows, laws, push_shape,
-    shanten, shape, shape_text, shape_with, suit_row,
+    Accepts, DiscardList, Memory, RowCache, ShapeAnswer, accepted, join_rows, laws, shanten, shape,
+    shape_with, suit_row,
 };
+use riichi_shape_text::{push_shape, shape_text};
 use riichi_tiles::{Counts, Kind, Meld, Melds, read_counts};
 use std::alloc::Global;
 use std::process::Abort;
@@ -45,15 +47,15 @@ fn asked_in(row: &Row) -> Result<ShapeRecord, Fail> {
 }
 
 fn check(rt: &impl Abort, row: &Row) -> Result<(), Fail> {
-    assert_eq!(rt; shape_text(&shape(&asked_in(row)?)).as_str(), row.text);
+    same(rt, shape_text(&shape(&asked_in(row)?)).as_str(), row.text);
     Ok(())
 }
 
 fn check_with(rt: &impl Abort, cache: &mut RowCache, row: &Row) -> Result<(), Fail> {
     let asked = asked_in(row)?;
     let answer = shape_with(cache, &asked);
-    assert_eq!(rt; shape_text(&answer).as_str(), row.text);
-    assert!(rt; answer == shape(&asked));
+    same(rt, shape_text(&answer).as_str(), row.text);
+    holds(rt, answer == shape(&asked));
     Ok(())
 }
 
@@ -64,7 +66,7 @@ fn writes_behind_a_text(rt: HostRuntime) -> Result<(), Fail> {
     let mut text = ArrayString::new();
     text.push_str("> ");
     push_shape(&mut text, &shape(&asked));
-    assert_eq!(rt; text.as_str(), "> shanten 0 accepts 2p:4 5p:4 live 8");
+    same(&rt, text.as_str(), "> shanten 0 accepts 2p:4 5p:4 live 8");
     Ok(())
 }
 
@@ -200,17 +202,17 @@ fn parts_of_an_answer(rt: HostRuntime) -> Result<(), Fail> {
         tiles("222z")?,
     )?;
     let answer = shape(&asked);
-    assert_eq!(rt; answer.shanten, 0);
+    same(&rt, answer.shanten, 0);
     let discards = discards_of(&answer).ok_or("thirteen tiles")?;
-    assert_eq!(rt; discards.len(), 2);
+    same(&rt, discards.len(), 2);
     let first = discards.get(0).ok_or("no discard")?;
-    assert_eq!(rt; first.kind, Kind::at(28));
-    assert_eq!(rt; first.accepted.live(), 3);
-    assert_eq!(rt; first.accepted.get(Kind::at(27)), 3);
+    same(&rt, first.kind, Kind::at(28));
+    same(&rt, first.accepted.live(), 3);
+    same(&rt, first.accepted.get(Kind::at(27)), 3);
     let second = discards.get(1).ok_or("no discard")?;
-    assert_eq!(rt; second.kind, Kind::at(27));
-    assert!(rt; second.accepted.is_empty());
-    assert!(rt; discards.get(2).is_none());
+    same(&rt, second.kind, Kind::at(27));
+    holds(&rt, second.accepted.is_empty());
+    holds(&rt, discards.get(2).is_none());
     Ok(())
 }
 
@@ -218,9 +220,9 @@ fn parts_of_an_answer(rt: HostRuntime) -> Result<(), Fail> {
 fn thirteen_tiles(rt: HostRuntime) -> Result<(), Fail> {
     let hand = tiles("123456789m1134p")?;
     let melds = Melds::new();
-    assert_eq!(rt; shanten(&hand, &melds), 0);
-    assert_eq!(rt; accepted(&hand, &melds, &Counts::new()).live(), 8);
-    assert_eq!(rt; shanten(&Counts::new(), &melds), 13);
+    same(&rt, shanten(&hand, &melds), 0);
+    same(&rt, accepted(&hand, &melds, &Counts::new()).live(), 8);
+    same(&rt, shanten(&Counts::new(), &melds), 13);
     Ok(())
 }
 
@@ -228,16 +230,16 @@ fn thirteen_tiles(rt: HostRuntime) -> Result<(), Fail> {
 fn rows_of_no_tiles(rt: HostRuntime) -> Result<(), Fail> {
     let row = suit_row([0; 9], [4; 9], true);
     for sets in 0..5u8 {
-        assert_eq!(rt; row.get(sets, false), Some(3 * sets));
-        assert_eq!(rt; row.get(sets, true), Some(3 * sets + 2));
+        same(&rt, row.get(sets, false), Some(3 * sets));
+        same(&rt, row.get(sets, true), Some(3 * sets + 2));
     }
     let closed = suit_row([0; 9], [0; 9], true);
-    assert_eq!(rt; closed.get(0, false), Some(0));
-    assert_eq!(rt; closed.get(0, true), None);
-    assert_eq!(rt; closed.get(1, false), None);
-    assert_eq!(rt; join_rows(&[row, row, row, row], 4), Some(14));
-    assert_eq!(rt; join_rows(&[closed, closed, closed, row], 1), Some(5));
-    assert_eq!(rt; join_rows(&[closed, closed, closed, closed], 0), None);
+    same(&rt, closed.get(0, false), Some(0));
+    same(&rt, closed.get(0, true), None);
+    same(&rt, closed.get(1, false), None);
+    same(&rt, join_rows(&[row, row, row, row], 4), Some(14));
+    same(&rt, join_rows(&[closed, closed, closed, row], 1), Some(5));
+    same(&rt, join_rows(&[closed, closed, closed, closed], 0), None);
     Ok(())
 }
 
@@ -246,27 +248,27 @@ fn rows_kept_joined(rt: HostRuntime) -> Result<(), Fail> {
     let row = suit_row([0; 9], [4; 9], true);
     let closed = suit_row([0; 9], [0; 9], true);
     let one_open = join_two(&row, &closed).and(&closed);
-    assert_eq!(rt; one_open.with(&closed, 4), Some(14));
-    assert_eq!(rt; one_open.with(&row, 4), Some(14));
+    same(&rt, one_open.with(&closed, 4), Some(14));
+    same(&rt, one_open.with(&row, 4), Some(14));
     let none_open = join_two(&closed, &closed).and(&closed);
-    assert_eq!(rt; none_open.with(&row, 1), Some(5));
-    assert_eq!(rt; none_open.with(&closed, 0), None);
+    same(&rt, none_open.with(&row, 1), Some(5));
+    same(&rt, none_open.with(&closed, 0), None);
     Ok(())
 }
 
 #[test]
 fn rows_of_some_tiles(rt: HostRuntime) -> Result<(), Fail> {
     let runs = suit_row([2, 2, 2, 0, 0, 0, 0, 0, 0], [4; 9], true);
-    assert_eq!(rt; runs.get(2, false), Some(0));
-    assert_eq!(rt; runs.get(2, true), Some(2));
-    assert_eq!(rt; runs.get(1, true), Some(1));
+    same(&rt, runs.get(2, false), Some(0));
+    same(&rt, runs.get(2, true), Some(2));
+    same(&rt, runs.get(1, true), Some(1));
     let honours = suit_row(
         [1, 1, 1, 0, 0, 0, 0, 0, 0],
         [4, 4, 4, 4, 4, 4, 4, 0, 0],
         false,
     );
-    assert_eq!(rt; honours.get(1, false), Some(2));
-    assert_eq!(rt; honours.get(1, true), Some(3));
+    same(&rt, honours.get(1, false), Some(2));
+    same(&rt, honours.get(1, true), Some(3));
     Ok(())
 }
 

@@ -1,3 +1,4 @@
+use crate::facts::{holds, same};
 use riichi_hand::HandRecord;
 use riichi_split::*;
 use riichi_tiles::{Block, Counts, Kind, KindSet, Meld, Melds, read_counts};
@@ -30,12 +31,12 @@ fn gives_each_reading(rt: HostRuntime) -> Result<(), Fail> {
         (b"123456789m1122z", 27, 0),
     ];
     for (text, winning, count) in rows {
-        assert_eq!(rt; count_readings(text, &Melds::new(), winning)?, count);
+        same(&rt, count_readings(text, &Melds::new(), winning)?, count);
     }
     let mut melds = Melds::new();
     melds.push(Meld::Pon(Kind::at(27)));
-    assert_eq!(rt; count_readings(b"22234567778m", &melds, 7)?, 1);
-    assert_eq!(rt; count_readings(b"1122334455667m", &melds, 6)?, 0);
+    same(&rt, count_readings(b"22234567778m", &melds, 7)?, 1);
+    same(&rt, count_readings(b"1122334455667m", &melds, 6)?, 0);
     Ok(())
 }
 
@@ -48,25 +49,26 @@ fn completes_the_triplet_or_the_run(rt: HostRuntime) -> Result<(), Fail> {
         let Reading::Standard { sets, pair, done } = reading else {
             return Err("a standard reading".into());
         };
-        assert_eq!(rt; pair, Kind::at(19));
-        assert_eq!(rt; sets.len(), 4);
-        assert!(rt; !sets.is_empty());
-        assert_eq!(rt; sets.get(0), Some(Block::Run(Kind::at(6))));
-        assert_eq!(rt; sets.get(1), Some(Block::Triplet(Kind::at(8))));
-        assert_eq!(rt; sets.as_slice()[2], Block::Triplet(Kind::at(12)));
-        assert_eq!(rt; sets.get(3), Some(Block::Run(Kind::at(22))));
-        assert_eq!(rt; sets.get(4), None);
+        same(&rt, pair, Kind::at(19));
+        same(&rt, sets.len(), 4);
+        holds(&rt, !sets.is_empty());
+        same(&rt, sets.get(0), Some(Block::Run(Kind::at(6))));
+        same(&rt, sets.get(1), Some(Block::Triplet(Kind::at(8))));
+        same(&rt, sets.as_slice()[2], Block::Triplet(Kind::at(12)));
+        same(&rt, sets.get(3), Some(Block::Run(Kind::at(22))));
+        same(&rt, sets.get(4), None);
         if place < 2 {
             dones[place] = Some(done);
             place += 1;
         }
     }
-    assert_eq!(rt;
+    same(
+        &rt,
         dones,
         [
             Some(Block::Run(Kind::at(6))),
-            Some(Block::Triplet(Kind::at(8)))
-        ]
+            Some(Block::Triplet(Kind::at(8))),
+        ],
     );
     Ok(())
 }
@@ -84,7 +86,7 @@ fn tells_a_win(rt: HostRuntime) -> Result<(), Fail> {
         (b"1122m3344p5566s77z", 1, false),
     ];
     for (text, melds, won) in rows {
-        assert_eq!(rt; is_win(&tiles(text)?, melds), won);
+        same(&rt, is_win(&tiles(text)?, melds), won);
     }
     Ok(())
 }
@@ -107,18 +109,23 @@ fn tells_the_waits(rt: HostRuntime) -> Result<(), Fail> {
         (b"11222p55666777z", "waits 1p5z"),
     ];
     for (text, written) in rows {
-        assert_eq!(rt; waits_text(waits_of(text, Melds::new())?).as_str(), written);
+        same(
+            &rt,
+            waits_text(waits_of(text, Melds::new())?).as_str(),
+            written,
+        );
     }
     let mut melds = Melds::new();
     melds.push(Meld::Pon(Kind::at(27)));
     let written = waits_text(waits_of(b"2223456777m", melds)?);
-    assert_eq!(rt; written.as_str(), "waits 12345678m");
+    same(&rt, written.as_str(), "waits 12345678m");
     // The meld holds all four 1m, one of the two kinds that would complete the hand.
     let mut held = Melds::new();
     held.push(Meld::Kan(Kind::at(0)));
-    assert_eq!(rt;
+    same(
+        &rt,
         waits_text(waits_of(b"23m456p456s22z", held)?).as_str(),
-        "waits 4m"
+        "waits 4m",
     );
     Ok(())
 }

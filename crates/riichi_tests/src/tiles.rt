@@ -1,3 +1,4 @@
+use crate::facts::{holds, holds_in, same, same_in};
 use riichi_tiles::*;
 use std::test::Fail;
 
@@ -21,7 +22,7 @@ fn tells_the_first_fault_of_a_text(rt: HostRuntime) {
         (b"8z11111m", NotationCode::N5, 0),
     ];
     for (text, code, place) in rows {
-        assert_eq!(rt; read_counts(text), Err(NotationFault { code, place }));
+        same(&rt, read_counts(text), Err(NotationFault { code, place }));
     }
 }
 
@@ -37,12 +38,22 @@ fn writes_what_it_reads(rt: HostRuntime) -> Result<(), Fail> {
     ];
     for (text, written, total) in rows {
         let counts = read_counts(text).ok().ok_or("a text of tiles")?;
-        assert_eq!(rt; counts.total(), total);
-        assert_eq!(rt; write_counts(&counts).as_str(), written);
-        assert_eq!(rt; read_counts(written.as_bytes()), Ok(counts));
+        same(&rt, counts.total(), total);
+        same(&rt, write_counts(&counts).as_str(), written);
+        same(&rt, read_counts(written.as_bytes()), Ok(counts));
     }
     let none = Counts::new();
-    assert_eq!(rt; write_counts(&none).as_str(), "");
+    same(&rt, write_counts(&none).as_str(), "");
+    same(&rt, none.lowest(), None);
+    same(
+        &rt,
+        read_counts(b"7z9p").map(|counts| counts.lowest()),
+        Ok(Some(Kind::at(17))),
+    );
+    holds(
+        &rt,
+        is_digit(b'0') && is_digit(b'9') && !is_digit(b'/') && !is_digit(b':'),
+    );
     Ok(())
 }
 
@@ -50,10 +61,10 @@ fn writes_what_it_reads(rt: HostRuntime) -> Result<(), Fail> {
 fn counts_the_whole_wall(rt: HostRuntime) {
     let mut wall = Counts::new();
     let mut kinds = KindSet::new();
-    assert!(rt; kinds.is_empty());
+    holds(&rt, kinds.is_empty());
     for number in 0..34 {
         let kind = Kind::at(number);
-        assert!(rt; !kinds.contains(kind));
+        holds(&rt, !kinds.contains(kind));
         kinds.insert(kind);
         for _copy in 0..4 {
             if wall.get(kind) < 4 {
@@ -61,20 +72,21 @@ fn counts_the_whole_wall(rt: HostRuntime) {
             }
         }
     }
-    assert_eq!(rt; wall.total(), 136);
-    assert_eq!(rt; write_counts(&wall).len(), 140);
-    assert_eq!(rt;
+    same(&rt, wall.total(), 136);
+    same(&rt, write_counts(&wall).len(), 140);
+    same(
+        &rt,
         write_kinds(kinds).as_str(),
-        "123456789m123456789p123456789s1234567z"
+        "123456789m123456789p123456789s1234567z",
     );
     let red = Kind::at(33);
     if 0 < wall.get(red) {
         wall.remove(red);
     }
-    assert_eq!(rt; wall.get(red), 3);
-    assert_eq!(rt; Kind::new(33), Some(red));
-    assert_eq!(rt; Kind::new(34), None);
-    assert_eq!(rt; red.index(), 33);
+    same(&rt, wall.get(red), 3);
+    same(&rt, Kind::new(33), Some(red));
+    same(&rt, Kind::new(34), None);
+    same(&rt, red.index(), 33);
 }
 
 #[test]
@@ -104,7 +116,7 @@ fn reads_melds(rt: HostRuntime) {
         (b"123m", None),
     ];
     for (text, meld) in rows {
-        assert_eq!(rt; Meld::read(text), meld);
+        same(&rt, Meld::read(text), meld);
     }
 }
 
@@ -126,10 +138,11 @@ fn indicates_dora(rt: HostRuntime) {
         (33, 31),
     ];
     for (indicator, dora) in rows {
-        assert_eq!(rt;
+        same_in(
+            &rt,
+            &indicator,
             Kind::new(indicator).map(|kind| dora_of(kind)),
             Kind::new(dora),
-            "at {indicator}"
         );
     }
 }
@@ -146,99 +159,102 @@ fn counts_red_fives(rt: HostRuntime) -> Result<(), Fail> {
     ];
     for (text, wanted) in rows {
         let [characters, circles, bamboos] = wanted;
-        assert_eq!(rt;
+        same(
+            &rt,
             Some(reds_of(text)),
-            Reds::new(characters, circles, bamboos)
+            Reds::new(characters, circles, bamboos),
         );
     }
-    assert_eq!(rt; Reds::new(5, 0, 0), None);
-    assert_eq!(rt; Reds::new(0, 5, 0), None);
-    assert_eq!(rt; Reds::new(0, 0, 5), None);
+    same(&rt, Reds::new(5, 0, 0), None);
+    same(&rt, Reds::new(0, 5, 0), None);
+    same(&rt, Reds::new(0, 0, 5), None);
     let reds = Reds::new(4, 1, 2).ok_or("at most four of each")?;
     let both = reds.joined(&reds_of(b"0p0s"));
-    assert_eq!(rt; [both.get(0), both.get(1), both.get(2)], [4, 2, 3]);
-    assert_eq!(rt; both.total(), 9);
-    assert_eq!(rt; Reds::none().total(), 0);
+    same(&rt, [both.get(0), both.get(1), both.get(2)], [4, 2, 3]);
+    same(&rt, both.total(), 9);
+    same(&rt, Reds::none().total(), 0);
     Ok(())
 }
 
 #[test]
 fn adds_up_melds_and_blocks(rt: HostRuntime) {
     let mut melds = Melds::new();
-    assert!(rt; melds.concealed());
+    holds(&rt, melds.concealed());
     melds.push(Meld::Ankan(Kind::at(27)));
-    assert!(rt; melds.concealed());
-    assert!(rt; melds.has_kong());
+    holds(&rt, melds.concealed());
+    holds(&rt, melds.has_kong());
     let run = Meld::Chi(Kind::at(2));
-    assert!(rt; run.is_proper());
-    assert!(rt; !Meld::Chi(Kind::at(7)).is_proper());
+    holds(&rt, run.is_proper());
+    holds(&rt, !Meld::Chi(Kind::at(7)).is_proper());
     if run.is_proper() && melds.count() < 4 {
         melds.push(run);
     }
-    assert!(rt; !melds.concealed());
-    assert_eq!(rt; melds.count(), 2);
-    assert_eq!(rt; melds.get(1), Some(run));
-    assert_eq!(rt; melds.get(2), None);
-    assert_eq!(rt; melds.tiles(Kind::at(27)), 4);
-    assert_eq!(rt; melds.tiles(Kind::at(4)), 1);
-    assert_eq!(rt; melds.tiles(Kind::at(5)), 0);
+    holds(&rt, !melds.concealed());
+    same(&rt, melds.count(), 2);
+    same(&rt, melds.get(1), Some(run));
+    same(&rt, melds.get(2), None);
+    same(&rt, melds.tiles(Kind::at(27)), 4);
+    same(&rt, melds.tiles(Kind::at(4)), 1);
+    same(&rt, melds.tiles(Kind::at(5)), 0);
     let tiles = meld_tiles(&melds);
-    assert_eq!(rt; tiles.iter().filter(|held| **held > 0).count(), 4);
-    assert!(rt; tiles[27] == 4 && tiles[2] == 1 && tiles[3] == 1 && tiles[4] == 1);
-    assert!(rt; !run.is_kong());
-    assert!(rt; run.is_open());
+    same(&rt, tiles.iter().filter(|held| **held > 0).count(), 4);
+    holds(
+        &rt,
+        tiles[27] == 4 && tiles[2] == 1 && tiles[3] == 1 && tiles[4] == 1,
+    );
+    holds(&rt, !run.is_kong());
+    holds(&rt, run.is_open());
 
     let three = Kind::at(2);
-    assert_eq!(rt; Block::Run(Kind::at(0)).tiles(three), 1);
-    assert_eq!(rt; Block::Triplet(three).tiles(three), 3);
-    assert_eq!(rt; Block::Pair(three).tiles(three), 2);
-    assert!(rt; !Block::Pair(three).contains(Kind::at(3)));
+    same(&rt, Block::Run(Kind::at(0)).tiles(three), 1);
+    same(&rt, Block::Triplet(three).tiles(three), 3);
+    same(&rt, Block::Pair(three).tiles(three), 2);
+    holds(&rt, !Block::Pair(three).contains(Kind::at(3)));
+}
+
+/// Whether the kind of this number has this suit and rank, and is a terminal, an honour, the first of a run, or not.
+fn is_named(number: u8, suit: Suit, rank: usize, [terminal, honour, begins]: [bool; 3]) -> bool {
+    let Some(kind) = Kind::new(number) else {
+        return false;
+    };
+    let place = kind.suit() == suit && kind.rank() == rank;
+    let orphan = kind.is_orphan() == (terminal || honour);
+    let natures = [kind.is_terminal(), kind.is_honour(), kind.begins_run()];
+    place && orphan && natures == [terminal, honour, begins]
 }
 
 #[test]
 fn names_each_kind(rt: HostRuntime) {
-    let rows: [(u8, Suit, usize, &str); 10] = [
-        (0, Suit::Characters, 0, "terminal begins"),
-        (6, Suit::Characters, 6, "begins"),
-        (7, Suit::Characters, 7, ""),
-        (8, Suit::Characters, 8, "terminal"),
-        (9, Suit::Circles, 0, "terminal begins"),
-        (17, Suit::Circles, 8, "terminal"),
-        (18, Suit::Bamboos, 0, "terminal begins"),
-        (26, Suit::Bamboos, 8, "terminal"),
-        (27, Suit::Honours, 0, "honour"),
-        (33, Suit::Honours, 6, "honour"),
+    let rows = [
+        (0, Suit::Characters, 0, [true, false, true]),
+        (6, Suit::Characters, 6, [false, false, true]),
+        (7, Suit::Characters, 7, [false, false, false]),
+        (8, Suit::Characters, 8, [true, false, false]),
+        (9, Suit::Circles, 0, [true, false, true]),
+        (17, Suit::Circles, 8, [true, false, false]),
+        (18, Suit::Bamboos, 0, [true, false, true]),
+        (26, Suit::Bamboos, 8, [true, false, false]),
+        (27, Suit::Honours, 0, [false, true, false]),
+        (33, Suit::Honours, 6, [false, true, false]),
     ];
-    for (number, suit, rank, words) in rows {
-        if let Some(kind) = Kind::new(number) {
-            assert_eq!(rt; kind.suit(), suit);
-            assert_eq!(rt; kind.rank(), rank);
-            assert_eq!(rt;
-                kind.is_terminal(),
-                words == "terminal" || words == "terminal begins"
-            );
-            assert_eq!(rt; kind.is_honour(), words == "honour");
-            assert_eq!(rt; kind.is_orphan(), kind.is_terminal() || kind.is_honour());
-            assert_eq!(rt;
-                kind.begins_run(),
-                words == "begins" || words == "terminal begins"
-            );
-            assert_eq!(rt; suit.first() + rank, number as usize);
-        }
+    for (number, suit, rank, natures) in rows {
+        holds_in(&rt, &number, is_named(number, suit, rank, natures));
     }
+    let firsts = Suit::ALL.map(|suit| suit.first());
+    same(&rt, firsts, [0, 9, 18, 27]);
 }
 
 #[test]
 fn has_something_for_each_suit(rt: HostRuntime) {
     let kinds = BySuit::of(|suit: Suit| suit.kinds());
     for suit in Suit::ALL {
-        assert_eq!(rt; kinds.get(suit), suit.kinds());
+        same(&rt, kinds.get(suit), suit.kinds());
         let changed = kinds.with(suit, 0);
-        assert_eq!(rt; *changed.lent(suit), 0);
+        same(&rt, *changed.lent(suit), 0);
         for other in Suit::ALL {
-            assert!(rt; other == suit || changed.get(other) == kinds.get(other));
+            holds(&rt, other == suit || changed.get(other) == kinds.get(other));
         }
     }
-    assert_eq!(rt; kinds.honours, 7);
-    assert_eq!(rt; kinds.bamboos, 9);
+    same(&rt, kinds.honours, 7);
+    same(&rt, kinds.bamboos, 9);
 }

@@ -1,3 +1,4 @@
+use crate::facts::{holds, same};
 use arrayvec::ArrayString;
 use riichi_blocks::{all_tiles, blocks_of};
 use riichi_hand::{By, Flags, Rules, WinParts, WinRecord, Wind};
@@ -87,10 +88,10 @@ fn tells_the_yaku(rt: HostRuntime) -> Result<(), Fail> {
     ];
     for (text, winning, words, han) in rows {
         let set = drawn(text, winning)?;
-        assert_eq!(rt; words_of(set).as_str(), words);
-        assert_eq!(rt; set.han(true), han);
-        assert_eq!(rt; set.is_yakuman(), han == 0);
-        assert!(rt; !set.is_empty());
+        same(&rt, words_of(set).as_str(), words);
+        same(&rt, set.han(true), han);
+        same(&rt, set.is_yakuman(), han == 0);
+        holds(&rt, !set.is_empty());
     }
     Ok(())
 }
@@ -103,15 +104,21 @@ fn tells_an_open_hand(rt: HostRuntime) -> Result<(), Fail> {
     let win = won(text, Kind::at(20), melds, By::Ron)?;
     for reading in Readings::new(&tiles(text)?, &melds, Kind::at(20)) {
         let set = yaku_of(&reading, &win);
-        assert_eq!(rt; set.bits(), 0b1100_0000_0000);
-        assert!(rt; set.contains(Yaku::SeatWind) && set.contains(Yaku::PrevalentWind));
-        assert!(rt; !set.contains(Yaku::RedDragon) && !set.contains(Yaku::BlessingOfEarth));
-        assert_eq!(rt; Yaku::SeatWind.word(), "seat-wind");
-        assert_eq!(rt; set.han(false), 2);
+        same(&rt, set.bits(), 0b1100_0000_0000);
+        holds(
+            &rt,
+            set.contains(Yaku::SeatWind) && set.contains(Yaku::PrevalentWind),
+        );
+        holds(
+            &rt,
+            !set.contains(Yaku::RedDragon) && !set.contains(Yaku::BlessingOfEarth),
+        );
+        same(&rt, Yaku::SeatWind.word(), "seat-wind");
+        same(&rt, set.han(false), 2);
         let blocks = blocks_of(&reading, &win);
-        assert!(rt; !is_pinfu(&blocks, &reading, &win));
+        holds(&rt, !is_pinfu(&blocks, &reading, &win));
         let all = all_tiles(&win);
-        assert!(rt; yaku_among(&blocks, &reading, &all, &win) == set);
+        holds(&rt, yaku_among(&blocks, &reading, &all, &win) == set);
     }
     Ok(())
 }

@@ -1,6 +1,7 @@
 //! Hands that are taken back.
 
 use super::{FIRST, a_desk, a_lane_with, quick_job, shape_job, waits_job};
+use crate::facts::holds;
 use desk_core::{Arrived, Event, Lane, Piece, Reply, SubmitFault, Taken, Ticket, judge};
 use riichi_hand::Job;
 use riichi_shape::Memory;
@@ -56,50 +57,50 @@ fn withdraws(lane: &mut Lane, seq: u32) -> Result<bool, Memory> {
 #[test]
 fn the_day_of_a_table_that_takes_hands_back(rt: HostRuntime) {
     let (Some(a), Some(b)) = (waits_job(b"1112345678999m"), shape_job(b"123456789m1134p")) else {
-        assert!(rt; false);
+        holds(&rt, false);
         return;
     };
     let Some(mut lane) = a_lane_of(rt.alloc(), &a, &b, &a) else {
-        assert!(rt; false);
+        holds(&rt, false);
         return;
     };
-    assert!(rt; withdraws(&mut lane, 0) == Ok(true));
-    assert!(rt; lane.withdraw(0) == Ok(false));
-    assert!(rt; lane.withdraw(3) == Ok(false));
-    assert!(rt; arrives(&mut lane, 0, &b) == Arrived::Withdrawn);
-    assert!(rt; lane.take() == Taken::Waiting);
-    assert!(rt; arrives(&mut lane, 1, &b) == Arrived::Accepted);
+    holds(&rt, withdraws(&mut lane, 0) == Ok(true));
+    holds(&rt, lane.withdraw(0) == Ok(false));
+    holds(&rt, lane.withdraw(3) == Ok(false));
+    holds(&rt, arrives(&mut lane, 0, &b) == Arrived::Withdrawn);
+    holds(&rt, lane.take() == Taken::Waiting);
+    holds(&rt, arrives(&mut lane, 1, &b) == Arrived::Accepted);
     let answer = judge(&b);
-    assert!(rt; lane.take() == Taken::Answer { seq: 1, answer });
-    assert!(rt; lane.withdraw(1) == Ok(false));
-    assert!(rt; arrives(&mut lane, 2, &a) == Arrived::Accepted);
-    assert!(rt; lane.close());
-    assert!(rt; withdraws(&mut lane, 2) == Ok(true));
-    assert!(rt; arrives(&mut lane, 2, &a) == Arrived::Withdrawn);
-    assert!(rt; lane.take() == Taken::Finished);
+    holds(&rt, lane.take() == Taken::Answer { seq: 1, answer });
+    holds(&rt, lane.withdraw(1) == Ok(false));
+    holds(&rt, arrives(&mut lane, 2, &a) == Arrived::Accepted);
+    holds(&rt, lane.close());
+    holds(&rt, withdraws(&mut lane, 2) == Ok(true));
+    holds(&rt, arrives(&mut lane, 2, &a) == Arrived::Withdrawn);
+    holds(&rt, lane.take() == Taken::Finished);
 }
 
 #[test]
 fn all_hands_taken_back_in_any_order(rt: HostRuntime) {
     let Some(job) = quick_job() else {
-        assert!(rt; false);
+        holds(&rt, false);
         return;
     };
     for order in ORDERS {
         let Some(mut lane) = a_lane_of(rt.alloc(), &job, &job, &job) else {
-            assert!(rt; false);
+            holds(&rt, false);
             return;
         };
         for seq in order {
-            assert!(rt; lane.take() == Taken::Waiting);
-            assert!(rt; withdraws(&mut lane, seq) == Ok(true));
+            holds(&rt, lane.take() == Taken::Waiting);
+            holds(&rt, withdraws(&mut lane, seq) == Ok(true));
         }
-        assert!(rt; lane.take() == Taken::Waiting);
+        holds(&rt, lane.take() == Taken::Waiting);
         // A hand that was taken back keeps its number.
-        assert!(rt; submits(&mut lane, &job) == Some(ticket(3)));
-        assert!(rt; withdraws(&mut lane, 3) == Ok(true));
-        assert!(rt; lane.close());
-        assert!(rt; lane.take() == Taken::Finished);
+        holds(&rt, submits(&mut lane, &job) == Some(ticket(3)));
+        holds(&rt, withdraws(&mut lane, 3) == Ok(true));
+        holds(&rt, lane.close());
+        holds(&rt, lane.take() == Taken::Finished);
     }
 }
 
@@ -154,15 +155,15 @@ impl Tickets {
 fn take_all(rt: &(impl Abort + Print), lane: &mut Lane, jobs: &[Job; 3], tickets: &mut Tickets) {
     for _ in 0..4 {
         let Some(seq) = tickets.taken() else {
-            assert!(rt; lane.take() == Taken::Waiting);
+            holds(rt, lane.take() == Taken::Waiting);
             return;
         };
         let Some(job) = jobs.get(seq as usize) else {
-            assert!(rt; false);
+            holds(rt, false);
             return;
         };
         let answer = judge(job);
-        assert!(rt; lane.take() == Taken::Answer { seq, answer });
+        holds(rt, lane.take() == Taken::Answer { seq, answer });
         mark(&mut tickets.given, seq);
     }
 }
@@ -176,7 +177,7 @@ fn arrive_one(
     seq: u32,
 ) {
     let Some(job) = jobs.get(seq as usize) else {
-        assert!(rt; false);
+        holds(rt, false);
         return;
     };
     let wanted = if has(&tickets.withdrawn, seq) {
@@ -184,15 +185,15 @@ fn arrive_one(
     } else {
         Arrived::Accepted
     };
-    assert!(rt; arrives(lane, seq, job) == wanted);
+    holds(rt, arrives(lane, seq, job) == wanted);
     mark(&mut tickets.arrived, seq);
 }
 
 /// Withdraws a ticket, and compares whether it could be.
 fn withdraw_one(rt: &(impl Abort + Print), lane: &mut Lane, tickets: &mut Tickets, seq: u32) {
     let wanted = !has(&tickets.given, seq) && !has(&tickets.withdrawn, seq);
-    assert!(rt; withdraws(lane, seq) == Ok(wanted));
-    assert!(rt; lane.withdraw(seq) == Ok(false));
+    holds(rt, withdraws(lane, seq) == Ok(wanted));
+    holds(rt, lane.withdraw(seq) == Ok(false));
     if wanted {
         mark(&mut tickets.withdrawn, seq);
     }
@@ -205,7 +206,7 @@ fn a_hand_taken_back_between_arrivals(rt: HostRuntime) {
         waits_job(b"123456789m1134p"),
         waits_job(b"123456789m1122z"),
     ) else {
-        assert!(rt; false);
+        holds(&rt, false);
         return;
     };
     let jobs = [first, second, third];
@@ -213,7 +214,7 @@ fn a_hand_taken_back_between_arrivals(rt: HostRuntime) {
         for seq in 0..3 {
             for place in 0..4 {
                 let Some(mut lane) = a_lane_of(rt.alloc(), &first, &second, &third) else {
-                    assert!(rt; false);
+                    holds(&rt, false);
                     return;
                 };
                 let mut tickets = Tickets {
@@ -231,8 +232,8 @@ fn a_hand_taken_back_between_arrivals(rt: HostRuntime) {
                 if place == 3 {
                     withdraw_one(&rt, &mut lane, &mut tickets, seq);
                 }
-                assert!(rt; lane.close());
-                assert!(rt; lane.take() == Taken::Finished);
+                holds(&rt, lane.close());
+                holds(&rt, lane.take() == Taken::Finished);
             }
         }
     }
@@ -241,38 +242,50 @@ fn a_hand_taken_back_between_arrivals(rt: HostRuntime) {
 #[test]
 fn a_desk_takes_hands_back(rt: HostRuntime) {
     let (Some(job), Some(mut desk)) = (quick_job(), a_desk(rt.alloc(), 1)) else {
-        assert!(rt; false);
+        holds(&rt, false);
         return;
     };
     let strange = Ticket { table: 1, seq: 0 };
-    assert!(rt; desk.step(Event::Withdraw(strange)) == Reply::NoTable);
-    assert!(rt; desk.step(Event::Withdraw(FIRST)) == Reply::Withdrawn(false));
+    holds(&rt, desk.step(Event::Withdraw(strange)) == Reply::NoTable);
+    holds(
+        &rt,
+        desk.step(Event::Withdraw(FIRST)) == Reply::Withdrawn(false),
+    );
     let refused = Reply::Refused(SubmitFault::Memory);
     if desk.step(submission(&job)) == refused {
-        assert!(rt; desk.step(submission(&job)) == Reply::Ticket(FIRST));
+        holds(&rt, desk.step(submission(&job)) == Reply::Ticket(FIRST));
     }
     if desk.step(Event::Withdraw(FIRST)) == refused {
-        assert!(rt; desk.step(Event::Withdraw(FIRST)) == Reply::Withdrawn(true));
+        holds(
+            &rt,
+            desk.step(Event::Withdraw(FIRST)) == Reply::Withdrawn(true),
+        );
     }
-    assert!(rt; desk.step(Event::Withdraw(FIRST)) == Reply::Withdrawn(false));
-    assert!(rt; desk.step(arrival(&job)) == Reply::Arrived(Arrived::Withdrawn));
+    holds(
+        &rt,
+        desk.step(Event::Withdraw(FIRST)) == Reply::Withdrawn(false),
+    );
+    holds(
+        &rt,
+        desk.step(arrival(&job)) == Reply::Arrived(Arrived::Withdrawn),
+    );
 }
 
 #[test]
 fn nothing_changes_where_memory_is_refused(rt: HostRuntime) {
     let Some(job) = quick_job() else {
-        assert!(rt; false);
+        holds(&rt, false);
         return;
     };
     let Some(mut lane) = a_lane_with(rt.alloc(), &job) else {
-        assert!(rt; false);
+        holds(&rt, false);
         return;
     };
     if lane.withdraw(0) == Err(Memory) {
         // The ticket waits for its piece as before, and is withdrawn at the next try.
-        assert!(rt; arrives(&mut lane, 0, &job) == Arrived::Accepted);
-        assert!(rt; lane.withdraw(0) == Ok(true));
+        holds(&rt, arrives(&mut lane, 0, &job) == Arrived::Accepted);
+        holds(&rt, lane.withdraw(0) == Ok(true));
     }
-    assert!(rt; arrives(&mut lane, 0, &job) == Arrived::Withdrawn);
-    assert!(rt; lane.take() == Taken::Waiting);
+    holds(&rt, arrives(&mut lane, 0, &job) == Arrived::Withdrawn);
+    holds(&rt, lane.take() == Taken::Waiting);
 }

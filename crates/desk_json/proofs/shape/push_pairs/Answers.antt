@@ -1,6 +1,6 @@
 use Rattle.std.proofs.Common.{◌++◌, length, ap, ◌∙◌, arith}
 use Rattle.std.specs.Prelude.{slice_index, nat_lt}
-use Rattle.riichi_shape.proofs.TextLemmas.{is_live, not_live}
+use Rattle.riichi_shape.proofs.LiveLemmas.{is_live, not_live}
 use Rattle.desk_json.specs.Parts.{comma_if, joined, live_text}
 use Rattle.desk_json.proofs.Chosen.{start, with_one, without_one, at_end, all_pairs}
 use Rattle.desk_json.proofs.shape.push_pairs.Goals as goal

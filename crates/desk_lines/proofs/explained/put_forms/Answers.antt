@@ -1,7 +1,7 @@
 use Rattle.std.proofs.Common.{ℕ, List, [], ◌∷◌, ◌++◌, refl, ap, ◌∙◌, append_assoc}
 use Rattle.riichi_explain.specs.Forms.{shanten_line}
 use Rattle.riichi_shape.specs.Answer.{shape_of}
-use Rattle.riichi_shape.specs.Text.{text_of}
+use Rattle.riichi_shape_text.specs.Text.{text_of}
 use Rattle.desk_lines.proofs.explained.put_forms.Goals as goal
 
 pub returns : goal.returns

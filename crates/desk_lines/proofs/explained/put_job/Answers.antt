@@ -1,5 +1,5 @@
 use Rattle.std.proofs.Common.{ℕ, List, [], ◌∷◌, ◌++◌, refl, sym, ap, ◌∙◌}
-use Rattle.riichi_explain.specs.Waits.{kind_waits, waits_line}
+use Rattle.riichi_waits.specs.Waits.{kind_waits, waits_line}
 use Rattle.desk_lines.proofs.JobTexts.{of_win, of_waits, of_shape}
 use Rattle.desk_lines.proofs.explained.put_job.Goals as goal
 

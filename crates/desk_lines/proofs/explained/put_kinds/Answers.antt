@@ -1,5 +1,5 @@
 use Rattle.std.proofs.Common.{ℕ, List, [], ◌∷◌, ◌++◌, ap, ◌∙◌, append_assoc}
-use Rattle.riichi_explain.specs.Waits.{waits_line}
+use Rattle.riichi_waits.specs.Waits.{waits_line}
 use Rattle.riichi_split.specs.Waits.{waits_of, waits_text}
 use Rattle.desk_lines.proofs.explained.put_kinds.Goals as goal
 

@@ -18,8 +18,8 @@ work_once-first-requires g c = (last_worker _ _ _ _ c.in-Ok.ensures.workers c.in
 pub work_once-second-requires : goal.work_once-second-requires
 work_once-second-requires g c = c.work_once-first.ensures.board ∙ (last_worker _ _ _ _ c.in-Ok.ensures.workers c.in-Some-Some.ensures'.items).0
 
-pub work_once-requires : goal.work_once-requires
-work_once-requires g c = c.work_once-second.ensures.board ∙ c.work_once-first.ensures.board ∙ (last_worker _ _ _ _ c.in-Ok.ensures.workers c.in-Some-Some.ensures'.items).0
+pub work_once-third-requires : goal.work_once-third-requires
+work_once-third-requires g c = c.work_once-second.ensures.board ∙ c.work_once-first.ensures.board ∙ (last_worker _ _ _ _ c.in-Ok.ensures.workers c.in-Some-Some.ensures'.items).0
 
 pub collect-requires : goal.collect-requires
 collect-requires g c = c.submit-refused.ensures.board ∙ c.submit-2.ensures.board ∙ c.submit.ensures.board ∙ (last_table _ _ _ _ _ c.in-Ok.ensures.tables c.in-Some-Some.ensures.items).0
@@ -28,7 +28,7 @@ pub submit-requires-3 : goal.submit-requires-3
 submit-requires-3 g c = ap (λ (s : TableState). s.board) c.take-2.ensures.same ∙ ap (λ (s : TableState). s.board) c.take.ensures.same ∙ c.collect.ensures.same.0 ∙ c.submit-refused.ensures.board ∙ c.submit-2.ensures.board ∙ c.submit.ensures.board ∙ (last_table _ _ _ _ _ c.in-Ok.ensures.tables c.in-Some-Some.ensures.items).0
 
 pub stopped-requires : goal.stopped-requires
-stopped-requires g c = c.work_once.ensures.board ∙ c.work_once-second.ensures.board ∙ c.work_once-first.ensures.board ∙ (last_worker _ _ _ _ c.in-Ok.ensures.workers c.in-Some-Some.ensures'.items).0
+stopped-requires g c = c.work_once-third.ensures.board ∙ c.work_once-second.ensures.board ∙ c.work_once-first.ensures.board ∙ (last_worker _ _ _ _ c.in-Ok.ensures.workers c.in-Some-Some.ensures'.items).0
 
 pub stopped-requires-2 : goal.stopped-requires-2
-stopped-requires-2 g c = ap (λ (w : WorkerState). w.board) c.stopped.ensures.looks ∙ c.work_once.ensures.board ∙ c.work_once-second.ensures.board ∙ c.work_once-first.ensures.board ∙ (last_worker _ _ _ _ c.in-Ok.ensures.workers c.in-Some-Some.ensures'.items).0
+stopped-requires-2 g c = ap (λ (w : WorkerState). w.board) c.stopped.ensures.looks ∙ c.work_once-third.ensures.board ∙ c.work_once-second.ensures.board ∙ c.work_once-first.ensures.board ∙ (last_worker _ _ _ _ c.in-Ok.ensures.workers c.in-Some-Some.ensures'.items).0

@@ -1,6 +1,5 @@
 use Rattle.std.proofs.Common.{sym, ◌∙◌, arith}
-use Rattle.riichi_shape.proofs.LiveLemmas.{live_is}
-use Rattle.riichi_shape.proofs.TextLemmas.{empty_is}
+use Rattle.riichi_shape.proofs.LiveLemmas.{empty_is, live_is}
 use Rattle.riichi_shape.proofs.live_list.LiveList.live.Goals as goal
 
 pub returns-clause-value : goal.returns-clause-value

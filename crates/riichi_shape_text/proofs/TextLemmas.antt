@@ -1,0 +1,143 @@
+-- The text of the accepted kinds and of the discards.
+use Rattle.std.proofs.Common.{◌≡◌, ℕ, zero, suc, ◌+◌, ◌≤◌, Bool, true, false, cond, List, [], ◌∷◌, ◌++◌, map, length, take, length-set, ◌%◌, Some, ltb, refl, sym, ap, ◌∙◌, arith}
+use Rattle.std.proofs.lemmas.List.{append-nil, flat_map_more}
+use Rattle.std.specs.Str.{IsAscii}
+use Rattle.std.proofs.lemmas.Str.Ascii.{IsAscii-cons, IsAscii-nil}
+use Rattle.std.proofs.lemmas.Str.{IsAscii-append}
+use Rattle.std.proofs.lemmas.Grind.{take-set_at}
+use Rattle.std.proofs.lemmas.List.{take-set-le}
+use Rattle.std.specs.Result.{IsOk, MatchResult}
+use Rattle.std.proofs.Common.{Result, Ok, Err}
+use Rattle.std.specs.List.{filter, flat_map, range_with_len}
+use Rattle.std.specs.Prelude.{nat_lt, slice_get, slice_index, slice_set}
+use Rattle.riichi_tiles.specs.Melds.{every_kind}
+use Rattle.riichi_shape.specs.LiveCopies.{pairs_of}
+use Rattle.riichi_text.specs.Tiles.{letter_of}
+use Rattle.riichi_text.proofs.Letters.{letter_below}
+use Rattle.riichi_shape_text.specs.Text.{discard_text, kinds_text, pair_text}
+use Rattle.riichi_shape.specs.declared.discard.Discard.{Discard}
+
+-- the pairs of the kinds below a number
+unfoldable pub pairs_below : List ℕ → ℕ → List (ℕ × ℕ)
+pairs_below copies n = map (λ kind. (kind, slice_index copies kind)) (filter (λ kind. nat_lt 0 (slice_index copies kind)) (range_with_len 0 n))
+
+pub pairs_all : (copies : List ℕ) → pairs_below copies 34 ≡ pairs_of copies
+unfolding pairs_below pairs_of
+pairs_all copies = refl
+
+pub pairs_none : (copies : List ℕ) → pairs_below copies 0 ≡ []
+unfolding pairs_below
+pairs_none copies = refl
+
+chosen_last : {X : Type 0} (f : ℕ → X) (p : ℕ → Bool) (a n : ℕ) → map f (filter p (range_with_len a (suc n))) ≡ map f (filter p (range_with_len a n)) ++ cond (p (a + n)) (f (a + n) ∷ []) []
+chosen_last f p a zero = at_front (p a) ∙ ap (λ k. cond (p k) (f k ∷ []) []) (same a)
+  where
+    same : (a : ℕ) → a ≡ a + 0
+    same a = omega arith
+
+    at_front : (t : Bool) → map f (cond t (a ∷ []) []) ≡ cond t (f a ∷ []) []
+    at_front true = refl
+    at_front false = refl
+chosen_last f p a (suc n) = by_test (p a) (chosen_last f p (a + 1) n ∙ ap (λ k. map f (filter p (range_with_len (a + 1) n)) ++ cond (p k) (f k ∷ []) []) (same a n))
+  where
+    same : (a n : ℕ) → a + 1 + n ≡ a + suc n
+    same a n = omega arith
+
+    by_test : (t : Bool) → map f (filter p (range_with_len (a + 1) (suc n))) ≡ map f (filter p (range_with_len (a + 1) n)) ++ cond (p (a + suc n)) (f (a + suc n) ∷ []) [] →
+        map f (cond t (a ∷ filter p (range_with_len (a + 1) (suc n))) (filter p (range_with_len (a + 1) (suc n)))) ≡ map f (cond t (a ∷ filter p (range_with_len (a + 1) n)) (filter p (range_with_len (a + 1) n))) ++ cond (p (a + suc n)) (f (a + suc n) ∷ []) []
+    by_test true rest = ap (λ xs. f a ∷ xs) rest
+    by_test false rest = rest
+
+pairs_more : (copies : List ℕ) (n : ℕ) → pairs_below copies (n + 1) ≡ pairs_below copies n ++ cond (ltb 0 (slice_index copies n)) ((n, slice_index copies n) ∷ []) []
+unfolding pairs_below
+pairs_more copies n =
+    ap (λ m. map (λ kind. (kind, slice_index copies kind)) (filter (λ kind. nat_lt 0 (slice_index copies kind)) (range_with_len 0 m))) (next n)
+    ∙ chosen_last (λ kind. (kind, slice_index copies kind)) (λ kind. nat_lt 0 (slice_index copies kind)) 0 n
+    ∙ ap (λ k. map (λ kind. (kind, slice_index copies kind)) (filter (λ kind. nat_lt 0 (slice_index copies kind)) (range_with_len 0 n)) ++ cond (ltb 0 (slice_index copies k)) ((k, slice_index copies k) ∷ []) []) (same n)
+  where
+    next : (n : ℕ) → n + 1 ≡ suc n
+    next n = omega arith
+
+    same : (n : ℕ) → 0 + n ≡ n
+    same n = omega arith
+
+pub text_with : (copies : List ℕ) (n : ℕ) → flat_map pair_text (pairs_below copies n) ++ cond (ltb 0 (slice_index copies n)) (pair_text (n, slice_index copies n)) [] ≡ flat_map pair_text (pairs_below copies (n + 1))
+text_with copies n = by_test (ltb 0 (slice_index copies n)) (pairs_more copies n)
+  where
+    by_test : (t : Bool) → pairs_below copies (n + 1) ≡ pairs_below copies n ++ cond t ((n, slice_index copies n) ∷ []) [] →
+        flat_map pair_text (pairs_below copies n) ++ cond t (pair_text (n, slice_index copies n)) [] ≡ flat_map pair_text (pairs_below copies (n + 1))
+    by_test true e = flat_map_more pair_text [] (pairs_below copies n) (n, slice_index copies n) ∙ sym (ap (λ ps. flat_map pair_text ps) e)
+    by_test false e = append-nil (flat_map pair_text (pairs_below copies n)) ∙ sym (ap (λ ps. flat_map pair_text ps) (e ∙ append-nil (pairs_below copies n)))
+
+-- ---- no kind
+
+pub kinds_some : (pairs : List (ℕ × ℕ)) → (pairs ≡ [] → ⊥) → kinds_text pairs ≡ flat_map pair_text pairs
+kinds_some [] some = absurd (some refl)
+kinds_some (pair ∷ pairs) some = refl
+
+-- ---- discards
+
+taken : {X : Type 0} (xs : List X) (i : ℕ) (x : X) → slice_get xs i ≡ Some x → take (suc i) xs ≡ take i xs ++ x ∷ []
+taken [] i x e = cc
+taken (y ∷ xs) zero x e = same y x e xs
+  where
+    same : {X : Type 0} (y x : X) → Some y ≡ Some x → (xs : List X) → take (suc zero) (y ∷ xs) ≡ x ∷ []
+    same y x e xs = cc
+taken (y ∷ xs) (suc i) x e = ap (λ ys. y ∷ ys) (taken xs i x e)
+
+pub discard_more : (discards : List Discard) (before : List ℕ) (i : ℕ) (discard : Discard) → slice_get discards i ≡ Some discard →
+    (before ++ flat_map discard_text (take i discards)) ++ discard_text discard ≡ before ++ flat_map discard_text (take (i + 1) discards)
+discard_more discards before i discard e =
+    flat_map_more discard_text before (take i discards) discard ∙ sym (ap (λ ds. before ++ flat_map discard_text ds) (ap (λ n. take n discards) (next i) ∙ taken discards i discard e))
+  where
+    next : (n : ℕ) → n + 1 ≡ suc n
+    next n = omega arith
+
+-- ---- the text is ASCII
+
+pair_ascii : (kind live : ℕ) → live ≤ 4 → IsAscii (pair_text (kind, live))
+pair_ascii kind live few =
+    IsAscii-cons 32 ((49 + kind % 9) ∷ letter_of kind ∷ 58 ∷ (48 + live) ∷ []) (omega arith)
+    (IsAscii-cons (49 + kind % 9) (letter_of kind ∷ 58 ∷ (48 + live) ∷ []) (omega arith)
+    (IsAscii-cons (letter_of kind) (58 ∷ (48 + live) ∷ []) (letter_below kind)
+    (IsAscii-cons 58 ((48 + live) ∷ []) (omega arith) (IsAscii-cons (48 + live) [] (omega (arith, few)) IsAscii-nil))))
+
+kinds_ascii : (copies : List ℕ) → ((kind : ℕ) → slice_index copies kind ≤ 4) → (kinds : List ℕ) → IsAscii (flat_map pair_text (map (λ kind. (kind, slice_index copies kind)) kinds))
+kinds_ascii copies few [] = IsAscii-nil
+kinds_ascii copies few (kind ∷ kinds) = IsAscii-append (pair_text (kind, slice_index copies kind)) _ (pair_ascii kind (slice_index copies kind) (few kind)) (kinds_ascii copies few kinds)
+
+pub pairs_ascii : (copies : List ℕ) → ((kind : ℕ) → slice_index copies kind ≤ 4) → IsAscii (flat_map pair_text (pairs_of copies))
+unfolding pairs_of
+pairs_ascii copies few = kinds_ascii copies few (filter (λ kind. nat_lt 0 (slice_index copies kind)) every_kind)
+
+-- ---- a kind behind a text
+
+five_bytes : (old : List ℕ) (a b c d e : ℕ) → ((((old ++ a ∷ []) ++ b ∷ []) ++ c ∷ []) ++ d ∷ []) ++ e ∷ [] ≡ old ++ a ∷ b ∷ c ∷ d ∷ e ∷ []
+five_bytes [] a b c d e = refl
+five_bytes (x ∷ xs) a b c d e = ap (λ ys. x ∷ ys) (five_bytes xs a b c d e)
+
+-- five bytes from a place on
+pub written : (bytes : List ℕ) (at a b c d e : ℕ) → at + 5 ≤ length bytes →
+    take (at + 5) (slice_set (slice_set (slice_set (slice_set (slice_set bytes at a) (at + 1) b) (at + 2) c) (at + 3) d) (at + 4) e) ≡ take at bytes ++ a ∷ b ∷ c ∷ d ∷ e ∷ []
+written bytes at a b c d e room =
+    let with_a = slice_set bytes at a in
+    let with_b = slice_set with_a (at + 1) b in
+    let with_c = slice_set with_b (at + 2) c in
+    let with_d = slice_set with_c (at + 3) d in
+    take-set_at with_d (at + 4) (at + 5) e (omega arith) (omega (arith, length-set with_c (at + 3) d, length-set with_b (at + 2) c, length-set with_a (at + 1) b, length-set bytes at a, room))
+    ∙ ap (λ t. t ++ e ∷ []) (take-set_at with_c (at + 3) (at + 4) d (omega arith) (omega (arith, length-set with_b (at + 2) c, length-set with_a (at + 1) b, length-set bytes at a, room))
+    ∙ ap (λ t. t ++ d ∷ []) (take-set_at with_b (at + 2) (at + 3) c (omega arith) (omega (arith, length-set with_a (at + 1) b, length-set bytes at a, room))
+    ∙ ap (λ t. t ++ c ∷ []) (take-set_at with_a (at + 1) (at + 2) b (omega arith) (omega (arith, length-set bytes at a, room))
+    ∙ ap (λ t. t ++ b ∷ []) (take-set_at bytes at (at + 1) a (omega arith) (omega (arith, room))))))
+    ∙ five_bytes (take at bytes) a b c d e
+
+-- what is written there leaves the bytes before it
+pub kept_before : (bytes : List ℕ) (at a b c d e : ℕ) →
+    take at (slice_set (slice_set (slice_set (slice_set (slice_set bytes at a) (at + 1) b) (at + 2) c) (at + 3) d) (at + 4) e) ≡ take at bytes
+kept_before bytes at a b c d e =
+    take-set-le at _ (at + 4) e (omega arith) ∙ take-set-le at _ (at + 3) d (omega arith) ∙ take-set-le at _ (at + 2) c (omega arith) ∙ take-set-le at _ (at + 1) b (omega arith) ∙ take-set-le at bytes at a (omega arith)
+
+-- of no error a value is left
+pub ok_unless : {T E : Type 0} (P : T → Type 0) (Q : E → Type 0) (r : Result T E) → MatchResult r P Q → ((e : E) → Q e → ⊥) → IsOk r
+ok_unless P Q (Ok x) cases no_error = refl
+ok_unless P Q (Err e) cases no_error = absurd (no_error e cases)

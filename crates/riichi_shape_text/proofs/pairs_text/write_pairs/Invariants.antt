@@ -1,0 +1,11 @@
+use Rattle.std.proofs.Common.{◌≡◌, ◌*◌, ◌≤◌, take}
+use Rattle.std.specs.List.{flat_map}
+use Rattle.riichi_shape_text.specs.Text.{pair_text}
+use Rattle.riichi_shape_text.proofs.TextLemmas.{pairs_below}
+use Rattle.riichi_shape_text.proofs.pairs_text.write_pairs.Given as goal
+
+abbrev pub invariant-loop-kind : goal.invariant-loop-kind
+invariant-loop-kind l = record {
+  text : take l.end l.bytes ≡ flat_map pair_text (pairs_below l.copies l.kind);
+  few : l.end ≤ 5 * l.kind;
+}

@@ -1,0 +1,97 @@
+-- The sorts of wait of readings, one reading after another.
+use Rattle.std.proofs.Common.{◌≡◌, ◌≤◌, ◌<◌, ℕ, List, [], ◌∷◌, Bool, true, false, cond, nat_lt, get_or, length, refl, sym, ap, ◌∙◌, arith}
+use Rattle.std.specs.Prelude.{◌||◌, ◌↔◌, IsTrue}
+use Rattle.std.proofs.lemmas.Bool.Decides.{nat_tests}
+use Rattle.std.proofs.lemmas.List.FromFn.{get_or-map-range_with_len}
+use Rattle.std.specs.List.{list_any}
+use Rattle.std.proofs.Math.Bool.{or_assoc}
+use Rattle.riichi_split.specs.declared.reading.Reading.{Reading}
+use Rattle.riichi_split.specs.Readings.{IsReading, AreTheReadings}
+use Rattle.riichi_split.specs.ReadingsOf.{readings_of}
+use Rattle.riichi_tiles.specs.Tiles.{IsMarked}
+use Rattle.riichi_hand.specs.Hand.{copies_held}
+use Rattle.riichi_hand.specs.HandParts.{HandParts}
+use Rattle.riichi_split.specs.Waits.{waits_of, is_wait, with_one}
+use Rattle.riichi_split.proofs.Lists.{IsIn, and-left, in-All, in-Contains, any-in, any-from}
+use Rattle.riichi_split.proofs.EveryReading.{every_reading}
+use Rattle.riichi_waits.specs.declared.waits.WaitSorts.{WaitSorts}
+use Rattle.riichi_waits.specs.Waits.{sorts_by, sorts_in, both_sorts, kind_wait, waits_at}
+
+-- sorts by their six marks
+abbrev made : Bool → Bool → Bool → Bool → Bool → Bool → WaitSorts
+made a b c d e f = record { two_sided = a; closed = b; edge = c; pair = d; two_pairs = e; orphans = f }
+
+made-same : (a b c d e f g h i j k l : Bool) → a ≡ g → b ≡ h → c ≡ i → d ≡ j → e ≡ k → f ≡ l → made a b c d e f ≡ made g h i j k l
+made-same a b c d e f g h i j k l p q r s t u =
+    ap (λ x. made x b c d e f) p ∙ ap (λ x. made g x c d e f) q ∙ ap (λ x. made g h x d e f) r ∙ ap (λ x. made g h i x e f) s ∙ ap (λ x. made g h i j x f) t
+    ∙ ap (λ x. made g h i j k x) u
+
+-- ---- one reading more
+
+pub both-more : (w : ℕ) (sorts : WaitSorts) (reading : Reading) (rest : List Reading) → both_sorts sorts (sorts_in w (reading ∷ rest)) ≡ both_sorts (both_sorts sorts (sorts_by w reading)) (sorts_in w rest)
+both-more w sorts reading rest =
+    let one = sorts_by w reading in
+    let others = sorts_in w rest in
+    made-same _ _ _ _ _ _ _ _ _ _ _ _
+    (sym (or_assoc sorts.two_sided one.two_sided others.two_sided)) (sym (or_assoc sorts.closed one.closed others.closed)) (sym (or_assoc sorts.edge one.edge others.edge))
+    (sym (or_assoc sorts.pair one.pair others.pair)) (sym (or_assoc sorts.two_pairs one.two_pairs others.two_pairs)) (sym (or_assoc sorts.orphans one.orphans others.orphans))
+
+or-none : (b : Bool) → (b || false) ≡ b
+or-none true = refl
+or-none false = refl
+
+pub both-none : (w : ℕ) (sorts : WaitSorts) → both_sorts sorts (sorts_in w []) ≡ sorts
+both-none w sorts =
+    made-same _ _ _ _ _ _ _ _ _ _ _ _ (or-none sorts.two_sided) (or-none sorts.closed) (or-none sorts.edge) (or-none sorts.pair) (or-none sorts.two_pairs) (or-none sorts.orphans)
+
+-- ---- the same readings in another order
+
+same-test : (a b : Bool) → (a ≡ true → b ≡ true) → (b ≡ true → a ≡ true) → a ≡ b
+same-test true b f g = sym (f refl)
+same-test false true f g = g refl
+same-test false false f g = refl
+
+any-same : (p : Reading → Bool) (xs ys : List Reading) → ((r : Reading) → IsIn r xs → IsIn r ys) → ((r : Reading) → IsIn r ys → IsIn r xs) → list_any p xs ≡ list_any p ys
+any-same p xs ys f g =
+    same-test (list_any p xs) (list_any p ys)
+    (λ e. let i = any-in p xs e in any-from p ys i.0 (f i.0 i.1) i.2)
+    (λ e. let i = any-in p ys e in any-from p xs i.0 (g i.0 i.1) i.2)
+
+sorts_in-same : (w : ℕ) (xs ys : List Reading) → ((r : Reading) → IsIn r xs → IsIn r ys) → ((r : Reading) → IsIn r ys → IsIn r xs) → sorts_in w xs ≡ sorts_in w ys
+sorts_in-same w xs ys f g =
+    made-same _ _ _ _ _ _ _ _ _ _ _ _
+    (any-same (λ r. (sorts_by w r).two_sided) xs ys f g) (any-same (λ r. (sorts_by w r).closed) xs ys f g) (any-same (λ r. (sorts_by w r).edge) xs ys f g)
+    (any-same (λ r. (sorts_by w r).pair) xs ys f g) (any-same (λ r. (sorts_by w r).two_pairs) xs ys f g) (any-same (λ r. (sorts_by w r).orphans) xs ys f g)
+
+pub sorts-of_all : (c : List ℕ) (melds w : ℕ) (all : List Reading) → length c ≡ 34 → melds ≤ 4 → AreTheReadings c melds w all → sorts_in w all ≡ sorts_in w (readings_of c melds w)
+sorts-of_all c melds w all long few are =
+    let every = every_reading c melds w long few in
+    sorts_in-same w all (readings_of c melds w)
+    (λ r i. in-Contains r (readings_of c melds w) (every.complete r (in-All (IsReading c melds w) all are.sound r i)))
+    (λ r i. in-Contains r all (are.complete r (in-All (IsReading c melds w) (readings_of c melds w) every.sound r i)))
+
+-- ---- the kinds
+
+mark_of : (hand : HandParts) (kind : ℕ) → kind < 34 → get_or (waits_of hand) kind false ≡ is_wait hand kind
+unfolding waits_of
+mark_of hand kind low = get_or-map-range_with_len (is_wait hand) 0 34 kind kind false low (omega arith)
+
+-- a mark of the waits tells whether the hand waits for the kind
+pub is_wait-marked : (hand : HandParts) (kinds : List Bool) (kind : ℕ) (held : Bool) → kind < 34 → kinds ≡ waits_of hand → IsTrue held ↔ IsMarked kinds kind → held ≡ is_wait hand kind
+is_wait-marked hand kinds kind held low same member =
+    let marked : get_or kinds kind false ≡ is_wait hand kind = ap (λ (marks : List Bool). get_or marks kind false) same ∙ mark_of hand kind low in
+    same-test held (is_wait hand kind) (λ e. sym marked ∙ member.0 e) (λ e. member.1 (marked ∙ e))
+
+pub copies-below : (hand : HandParts) (kind : ℕ) → is_wait hand kind ≡ true → copies_held hand.concealed hand.melds kind < 4
+copies-below hand kind e = below (copies_held hand.concealed hand.melds kind) (and-left (nat_lt (copies_held hand.concealed hand.melds kind) 4) (nat_lt 0 (length (readings_of (with_one hand.concealed kind) (length hand.melds) kind))) e)
+  where
+    below : (copies : ℕ) → nat_lt copies 4 ≡ true → copies < 4
+    below copies test = grind (arith, nat_tests)
+
+pub waits_at-wait : (hand : HandParts) (kind : ℕ) → is_wait hand kind ≡ true → waits_at hand kind ≡ kind_wait hand kind ∷ []
+unfolding waits_at
+waits_at-wait hand kind e = ap (λ (waits : Bool). cond waits (kind_wait hand kind ∷ []) []) e
+
+pub waits_at-other : (hand : HandParts) (kind : ℕ) → is_wait hand kind ≡ false → waits_at hand kind ≡ []
+unfolding waits_at
+waits_at-other hand kind e = ap (λ (waits : Bool). cond waits (kind_wait hand kind ∷ []) []) e
