@@ -1,5 +1,5 @@
 //! The words of a line, and texts cut at a mark.
-ghost use Rattle.std.specs.Prelude.{◌≡◌, ◌<◌, ◌≤◌, ◌==◌, [], ◌∷◌, ◌++◌, false, true, length, IfSome, MatchOption, None, Some, not, take, drop};
+ghost use Rattle.std.specs.Prelude.{◌≡◌, ◌<◌, ◌≤◌, ◌==◌, [], ◌∷◌, ◌++◌, false, true, length, IfSome, MatchOption, None, Some, is_some, not, take, drop};
 ghost use Rattle.std.specs.List.{list_all, position_or_len};
 ghost use Rattle.riichi_tiles.specs.Melds.{cut_at};
 ghost use Rattle.riichi_hand.specs.Words.{words_of, is_space, without_spaces, begins_with_space, BeginsWithSpaces};
@@ -67,4 +67,15 @@ pub(crate) fn split_at_mark(text: &[u8], mark: u8) -> Option<(&[u8], &[u8])>
         }
     }
     None
+}
+
+/// Whether a mark stands in a text.
+pub(crate) fn has_mark(text: &[u8], mark: u8) -> bool
+    ensures { result ≡ is_some (cut_at mark text.now) }
+{
+    let mut found = false;
+    for byte in text {
+        found = found | (*byte == mark);
+    }
+    found
 }

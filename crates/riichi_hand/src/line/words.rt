@@ -4,7 +4,7 @@ ghost use Rattle.riichi_hand.specs.Faults.{IsStep};
 ghost use Rattle.riichi_hand.specs.Lines.{word_faults};
 
 use super::bytes::has_other_byte;
-use super::cuts::{next_word, split_at_mark};
+use super::cuts::{has_mark, next_word};
 use super::job_name::JobName;
 use crate::fault::{LineCode, LineFault};
 
@@ -36,7 +36,7 @@ impl<'a> Words<'a> {
         let Some((hand, entries)) = next_word(after_job) else {
             return Err(LineFault::Line(LineCode::H3));
         };
-        if split_at_mark(hand, b'=').is_some() {
+        if has_mark(hand, b'=') {
             return Err(LineFault::Line(LineCode::H3));
         }
         Ok(Words { job, hand, entries })
