@@ -1,4 +1,8 @@
 //! What keeps the program from an answer, and how it is told.
+ghost use Rattle.std.specs.Prelude.{◌≡◌};
+ghost use Rattle.desk_score.specs.Faults.{desk_fault, status_of};
+ghost use Rattle.desk_score.specs.declared.score_fault.ScoreFault.{ScoreFault};
+ghost use Rattle.desk_lines.specs.declared.fault.DeskFault.{DeskFault};
 
 use clap::Error;
 use clap::error::ErrorKind;
@@ -23,24 +27,50 @@ pub enum Failure<'a> {
 }
 
 impl<'a> From<AllocError> for Failure<'a> {
+    ghost use Rattle.std.specs.Prelude.{◌≡◌};
+    ghost use Rattle.desk_score.specs.declared.score_fault.ScoreFault.TheVariants.{Memory};
+    ghost use Rattle.riichi_desk.specs.declared.failure.Failure.TheVariants.{Fault};
+
+    ghost from_gives = { λ _ given. given ≡ Fault Memory };
+
     fn from(_error: AllocError) -> Failure<'a> {
         Failure::Fault(ScoreFault::Memory)
     }
 }
 
 impl<'a> From<DeskFault> for Failure<'a> {
+    ghost use Rattle.std.specs.Prelude.{◌≡◌};
+    ghost use Rattle.desk_score.specs.Faults.{desk_fault};
+    ghost use Rattle.riichi_desk.specs.declared.failure.Failure.TheVariants.{Fault};
+
+    ghost from_gives = { λ fault given. given ≡ Fault (desk_fault fault) };
+
     fn from(fault: DeskFault) -> Failure<'a> {
         Failure::Fault(ScoreFault::from(fault))
     }
 }
 
 impl<'a> From<ScoreFault> for Failure<'a> {
+    ghost use Rattle.std.specs.Prelude.{◌≡◌};
+    ghost use Rattle.riichi_desk.specs.declared.failure.Failure.TheVariants.{Fault};
+
+    ghost from_gives = { λ fault given. given ≡ Fault fault };
+
     fn from(fault: ScoreFault) -> Failure<'a> {
         Failure::Fault(fault)
     }
 }
 
 impl<'a> From<Error> for Failure<'a> {
+    ghost use Rattle.std.specs.Prelude.{◌≡◌, ◌≢◌};
+    ghost use Rattle.clap.specs.Values.{kind_of};
+    ghost use Rattle.clap.specs.declared.error.ErrorKind.TheVariants.{OutOfMemory};
+    ghost use Rattle.desk_score.specs.declared.score_fault.ScoreFault.TheVariants.{Memory};
+    ghost use Rattle.riichi_desk.specs.declared.failure.Failure.TheVariants.{Fault, Words};
+
+    ghost from_gives = { λ error given. (kind_of error ≡ OutOfMemory → given ≡ Fault Memory)
+        × (kind_of error ≢ OutOfMemory → given ≡ Words error) };
+
     fn from(error: Error) -> Failure<'a> {
         match error.kind() {
             ErrorKind::OutOfMemory => Failure::Fault(ScoreFault::Memory),
@@ -51,7 +81,13 @@ impl<'a> From<Error> for Failure<'a> {
 
 /// Says on standard error why the program stops, and tells its exit status: 2 for a fault of the command line or too much
 /// of something, 3 for input or output, 4 for memory or a thread; 0 where help or the version was asked for.
-pub fn report<R: Print + Eprint>(rt: &R, failure: &Failure<'_>) -> u8 {
+pub fn report<R: Print + Eprint>(rt: &R, failure: &Failure<'_>) -> u8
+    ensures fault { (fault : ScoreFault) → failure.now ≡ Failure.Fault fault
+        → result ≡ status_of fault }
+    ensures explained { (fault : DeskFault) → failure.now ≡ Failure.Explained fault
+        → result ≡ status_of (desk_fault fault) }
+    ensures text { failure.now ≡ Failure.Text → result ≡ 2 }
+{
     match failure {
         Failure::Words(error) => {
             if error.print(rt).is_err() {

@@ -1,6 +1,6 @@
 //! The program `riichi_desk`: a scoring desk for riichi mahjong.
 //!
-//! `words` reads the command line into a `Request`, `answers` carries it out over the standard streams, `explaining`
+//! `desk_words` reads the command line into a `Request`, `answers` carries it out over the standard streams, `explaining`
 //! with reasons and `scoring` over files, `codes` and `version` tell what they are named for, and `failure` says what is
 //! told on standard error and with which exit status the program ends.
 #![tactic(auto)]
@@ -12,7 +12,6 @@ mod failure;
 mod files;
 mod scoring;
 mod version;
-mod words;
 
 use answers::answer;
 use std::process::ExitCode;

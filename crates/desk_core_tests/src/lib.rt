@@ -1,0 +1,15 @@
+//! Tests of `desk_core`, `desk_json`, `desk_script` and `desk_streams`, a module each, by what they export.
+//!
+//! They stand apart from the libraries, since a check of a crate with its tests proves the crate once more.
+#![tactic(auto)]
+
+#[cfg(test)]
+mod desk;
+#[cfg(test)]
+mod facts;
+#[cfg(test)]
+mod json;
+#[cfg(test)]
+mod script;
+#[cfg(test)]
+mod streams;

@@ -1,0 +1,75 @@
+//! What stands below the help of the program, and of each command: an example, and the exit statuses that it can have.
+
+pub(crate) const PROGRAM_HELP: &str = "\
+Exit status:
+  0  answered
+  1  answered, and at least one hand was refused
+  2  the words are wrong, or there is too much
+  3  input or output failed
+  4  there was no memory, or no thread";
+
+pub(crate) const WAITS_HELP: &str = "\
+Example:
+  riichi_desk waits 1112345678999m
+
+Exit status:
+  0  answered
+  1  the hand was refused
+  2  the words are wrong
+  3  output failed
+  4  there was no memory";
+
+pub(crate) const LINE_HELP: &str = "\
+Example:
+  riichi_desk line < club-night.lines
+  riichi_desk line --json < club-night.lines
+
+Exit status:
+  0  answered
+  1  answered, and at least one line was refused
+  2  the words are wrong
+  3  input or output failed
+  4  there was no memory";
+
+pub(crate) const EXPLAIN_HELP: &str = "\
+Example:
+  riichi_desk explain 'win 99978m444p567s22s on=9m by=ron seat=S round=E riichi=1'
+
+Exit status:
+  0  answered
+  1  answered, and at least one line was refused
+  2  the words are wrong
+  3  input or output failed
+  4  there was no memory";
+
+pub(crate) const CODES_HELP: &str = "\
+Example:
+  riichi_desk help-codes
+
+Exit status:
+  0  printed
+  2  the words are wrong
+  3  output failed
+  4  there was no memory";
+
+pub(crate) const REPLAY_HELP: &str = "\
+Example:
+  riichi_desk replay evening.lines
+
+Exit status:
+  0  answered
+  1  answered, and at least one line was refused
+  2  the words are wrong
+  3  the file can't be opened, or input or output failed
+  4  there was no memory";
+
+pub(crate) const SCORE_HELP: &str = "\
+Example:
+  riichi_desk score --workers 2 table-one.lines table-two.lines
+
+Exit status:
+  0  answered
+  1  answered, and at least one hand was refused
+  2  the words are wrong, or there are more than 64 files, or more than 1,000,000 hands in one
+  3  a file can't be opened, or input or output failed
+  4  there was no memory, or no thread";

@@ -1,0 +1,17 @@
+//! The words of the command line of `riichi_desk`.
+//!
+//! `commands` makes the commands with their help, `clap` matches the words with them, and `request_of` tells what they
+//! ask for. They stand apart from the program, since they need nothing of the desk but the rule profiles.
+//!
+//! ```text
+//! let matches = commands(alloc)?.try_get_matches_from(words)?;
+//! match request_of(&matches) { Some(Request::Waits(hand)) => .. }
+//! ```
+#![tactic(auto)]
+
+mod help;
+mod request;
+mod words;
+
+pub use request::{Form, Request, request_of};
+pub use words::commands;

@@ -1,0 +1,11 @@
+//! Tests of `riichi_faults`, and of `riichi_explain` with `riichi_waits`, a module each, by what they export.
+//!
+//! They stand apart from the libraries, since a check of a crate with its tests proves the crate once more.
+#![tactic(auto)]
+
+#[cfg(test)]
+mod explain;
+#[cfg(test)]
+mod facts;
+#[cfg(test)]
+mod faults;

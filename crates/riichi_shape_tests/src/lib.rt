@@ -1,0 +1,13 @@
+//! Tests of `riichi_rows`, `riichi_cache` and `riichi_shape` with its text, a module each, by what they export.
+//!
+//! They stand apart from the libraries, since a check of a crate with its tests proves the crate once more.
+#![tactic(auto)]
+
+#[cfg(test)]
+mod cache;
+#[cfg(test)]
+mod facts;
+#[cfg(test)]
+mod rows;
+#[cfg(test)]
+mod shape;
