@@ -69,30 +69,6 @@ text_with copies n = by_test (ltb 0 (slice_index copies n)) (pairs_more copies n
     by_test true e = flat_map_more pair_text [] (pairs_below copies n) (n, slice_index copies n) ∙ sym (ap (λ ps. flat_map pair_text ps) e)
     by_test false e = append-nil (flat_map pair_text (pairs_below copies n)) ∙ sym (ap (λ ps. flat_map pair_text ps) (e ∙ append-nil (pairs_below copies n)))
 
--- ---- no kind
-
-pub kinds_some : (pairs : List (ℕ × ℕ)) → (pairs ≡ [] → ⊥) → kinds_text pairs ≡ flat_map pair_text pairs
-kinds_some [] some = absurd (some refl)
-kinds_some (pair ∷ pairs) some = refl
-
--- ---- discards
-
-taken : {X : Type 0} (xs : List X) (i : ℕ) (x : X) → slice_get xs i ≡ Some x → take (suc i) xs ≡ take i xs ++ x ∷ []
-taken [] i x e = cc
-taken (y ∷ xs) zero x e = same y x e xs
-  where
-    same : {X : Type 0} (y x : X) → Some y ≡ Some x → (xs : List X) → take (suc zero) (y ∷ xs) ≡ x ∷ []
-    same y x e xs = cc
-taken (y ∷ xs) (suc i) x e = ap (λ ys. y ∷ ys) (taken xs i x e)
-
-pub discard_more : (discards : List Discard) (before : List ℕ) (i : ℕ) (discard : Discard) → slice_get discards i ≡ Some discard →
-    (before ++ flat_map discard_text (take i discards)) ++ discard_text discard ≡ before ++ flat_map discard_text (take (i + 1) discards)
-discard_more discards before i discard e =
-    flat_map_more discard_text before (take i discards) discard ∙ sym (ap (λ ds. before ++ flat_map discard_text ds) (ap (λ n. take n discards) (next i) ∙ taken discards i discard e))
-  where
-    next : (n : ℕ) → n + 1 ≡ suc n
-    next n = omega arith
-
 -- ---- the text is ASCII
 
 pair_ascii : (kind live : ℕ) → live ≤ 4 → IsAscii (pair_text (kind, live))
