@@ -1,5 +1,5 @@
 -- One more tile of a rank: an entry falls where a choice with the least lack lacks that rank.
-use Rattle.std.proofs.Common.{ℕ, ◌+◌, ◌-◌, ◌<◌, inl, inr, List, sym, ap, ◌∙◌, ⊎_elim, arith}
+use Rattle.std.proofs.Common.{ℕ, ◌<◌, List, ⊎_elim, arith}
 use Rattle.std.specs.Prelude.{slice_index}
 use Rattle.riichi_tiles.specs.Blocks.{total}
 use Rattle.riichi_tiles.specs.declared.block.Block.{Block}

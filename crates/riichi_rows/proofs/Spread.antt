@@ -1,6 +1,6 @@
 -- Sums over successive numbers, and lists of a function's values.
-use Rattle.std.proofs.Common.{◌≡◌, ◌≢◌, ℕ, zero, suc, ◌+◌, ◌-◌, ◌<◌, ◌≤◌, cond, true, false, ◌⊎◌, inl, inr, List, [], ◌∷◌, eqb, get_or, refl, ap, ◌∙◌, ⊎_elim, arith, sym}
-use Rattle.std.proofs.lemmas.Bool.{cases_lt, eqb-true, eq-eqb}
+use Rattle.std.proofs.Common.{◌≡◌, ◌≢◌, ℕ, zero, suc, ◌+◌, ◌-◌, ◌<◌, ◌≤◌, cond, false, ◌⊎◌, inl, inr, List, [], ◌∷◌, eqb, get_or, refl, ap, ◌∙◌, ⊎_elim, arith, sym}
+use Rattle.std.proofs.lemmas.Bool.{cases_lt, eq-eqb}
 use Rattle.std.proofs.lemmas.Bool.Decides.{nat_tests}
 use Rattle.std.proofs.lemmas.List.Sums.{sum_by-cons}
 use Rattle.std.specs.Prelude.{sum_by}

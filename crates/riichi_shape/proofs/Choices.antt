@@ -1,7 +1,6 @@
 -- The list of the discards of a hand has those that leave the least, and no other.
-use Rattle.std.proofs.Common.{◌≡◌, ℕ, zero, suc, ◌<◌, ◌≤◌, Bool, true, false, cond, inl, inr, List, [], ◌∷◌, map, length, get_or, leb, ltb, sym, ap, ◌∙◌, ⊎_elim, subst, arith, Contains}
+use Rattle.std.proofs.Common.{◌≡◌, ℕ, zero, suc, ◌<◌, Bool, true, false, cond, inl, inr, List, [], ◌∷◌, map, length, get_or, sym, ap, ◌∙◌, ⊎_elim, subst, arith, Contains}
 use Rattle.std.proofs.lemmas.Bool.{and_parts, and_from, ltb-true, lt-ltb, leb-true, le-leb}
-use Rattle.std.proofs.lemmas.Bool.Decides.{nat_tests}
 use Rattle.std.specs.List.{filter}
 use Rattle.std.specs.Prelude.{nat_le, slice_index}
 use Rattle.riichi_hand.specs.Hand.{is_thirteen}

@@ -247,7 +247,7 @@ module _ (hand : List ℕ) (melds : List Meld) (c0 c1 c2 c3 k0 k1 k2 k3 : List �
       unfolding entries_of
       entry_lacks =
           let exact = sums_meet part_0.entry part_1.entry part_2.entry part_3.entry (lack c0 (part 0 is.blocks)) (lack c1 (part 9 is.blocks)) (lack c2 (part 18 is.blocks)) (lack c3 (part 27 is.blocks))
-              part_0.below part_1.below part_2.below part_3.below (omega (arith, all_lacks, sum_least, lacks)) in
+          part_0.below part_1.below part_2.below part_3.below (omega (arith, all_lacks, sum_least, lacks)) in
           record {
             entries = entries_of n (omega (arith, sum_least, sum_below, lacks));
             lacks_kind = ⊎_elim (λ low. inl (in_suit true 0 9 c0 k0 a part_0 exact.0 (inl refl) suit0 (omega arith) (omega arith) (omega arith)))

@@ -1,7 +1,6 @@
 -- The discards that are kept, and those that they tell.
 use Rattle.std.proofs.Common.{◌≡◌, ℕ, zero, suc, ◌+◌, ◌*◌, ◌^◌, ◌/◌, ◌%◌, ◌<◌, ◌≤◌, Bool, true, false, cond, Option, Some, None, List, [], ◌∷◌, map, get_or, length, max, refl, sym, ap, ◌∙◌, subst, arith}
 use Rattle.std.proofs.lemmas.Bool.{or_left, or_right, lt-ltb}
-use Rattle.std.proofs.lemmas.Bool.Decides.{nat_tests}
 use Rattle.std.proofs.lemmas.List.FromFn.{get_or-map-range_with_len, length-map-range_with_len}
 use Rattle.std.proofs.lemmas.Option.{slice_get-map}
 use Rattle.std.proofs.lemmas.Simd.{mask_l-lt}
@@ -108,6 +107,7 @@ module _ (copies : List ℕ) where
     all_within : (order : List KeptDiscard) → ((kind : ℕ) → list_any (λ kept. has_kind (kinds_of kept) kind) order ≡ true → has_kind set kind ≡ true) → AllWithin order
     all_within [] any = tt
     all_within (kept ∷ order) any = (λ kind low h. any kind (or_left (has_kind (kinds_of kept) kind) (list_any (λ kept. has_kind (kinds_of kept) kind) order) h), all_within order (λ kind h. any kind (or_right (has_kind (kinds_of kept) kind) (list_any (λ kept. has_kind (kinds_of kept) kind) order) h)))
+
     same_told : (kept : KeptDiscard) → Within kept → told (copies_among copies set) kept ≡ told copies kept
     same_told kept within = same_discard (ap pairs_of (among_same (copies_among copies set) copies (kinds_of kept) (kinds_of kept) each))
       where

@@ -1,7 +1,6 @@
 -- Which kinds sets and a pair lack, by the marks of a row beside the join of the other three.
-use Rattle.std.proofs.Common.{◌≡◌, ℕ, ◌+◌, ◌-◌, ◌<◌, ◌≤◌, Bool, IsTrue, inl, inr, List, refl, ⊎_elim, subst, Option, Some, true, false, cond, ltb, arith}
+use Rattle.std.proofs.Common.{◌≡◌, ℕ, ◌+◌, ◌-◌, ◌<◌, ◌≤◌, Bool, IsTrue, inl, inr, List, refl, ⊎_elim, subst, true, false, cond, ltb, arith}
 use Rattle.std.proofs.lemmas.Bool.{ltb-true, ltb-false}
-use Rattle.std.proofs.lemmas.Bool.Decides.{nat_tests}
 use Rattle.std.specs.Prelude.{◌↔◌}
 use Rattle.riichi_rows.specs.Join.{EntriesSum}
 use Rattle.riichi_rows.specs.Lacked.{ChoiceLacks}

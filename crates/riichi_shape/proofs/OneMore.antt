@@ -1,5 +1,5 @@
 -- One more tile of a kind: the distance falls where a winning multiset with the least lack lacks that kind.
-use Rattle.std.proofs.Common.{ℕ, ◌+◌, ◌-◌, ◌<◌, inl, inr, List, sym, ap, ◌∙◌, ⊎_elim, arith}
+use Rattle.std.proofs.Common.{ℕ, ◌<◌, inl, inr, List, ⊎_elim, arith}
 use Rattle.std.specs.Prelude.{slice_index}
 use Rattle.riichi_rows.specs.Lacked.{IsOneMore}
 use Rattle.riichi_rows.proofs.Spread.{Falls, sums_fall}

@@ -56,6 +56,7 @@ some_doubled h (k ∷ ks) some =
     ⊎_elim (λ first. record { kind = k; is_one = ap (λ b. b || list_any (eqb k) ks) (eq-eqb k k refl); twice = first })
     (λ later. (let d = some_doubled h ks (omega (arith, some, later)) in record { kind = d.kind; is_one = or_right (eqb d.kind k) (list_any (eqb d.kind) ks) d.is_one; twice = d.twice }))
     (cases_lt 0 (two (h k)))
+
 below : (ks : List ℕ) (t : ℕ) → total_of beyond ks ≡ 0 → list_any (eqb t) ks ≡ true → t < 34
 unfolding total_of
 below [] t all here = absurd (grind arith)

@@ -1,7 +1,6 @@
 -- The kinds whose removal leaves the least distance.
-use Rattle.std.proofs.Common.{◌≡◌, ℕ, suc, ◌+◌, ◌-◌, ◌<◌, ◌≤◌, Bool, true, false, cond, ◌⊎◌, inl, inr, List, [], ◌∷◌, map, length, slice_set, below_more, length-set, get_or-set_same, get_or-set_other, leb, ltb, refl, sym, ap, ◌∙◌, ⊎_elim, arith}
+use Rattle.std.proofs.Common.{◌≡◌, ℕ, suc, ◌+◌, ◌-◌, ◌<◌, ◌≤◌, Bool, true, false, cond, ◌⊎◌, inl, inr, List, [], ◌∷◌, map, length, slice_set, below_more, length-set, get_or-set_same, get_or-set_other, refl, sym, ap, ◌∙◌, ⊎_elim, arith}
 use Rattle.std.proofs.lemmas.Bool.{cases_lt, eq-eqb, eqb-true, le-leb, leb-true, lt-ltb, ltb-true, and_from, le-ltb, ne_eqb}
-use Rattle.std.proofs.lemmas.Bool.Decides.{nat_tests}
 use Rattle.std.specs.List.{filter, range_with_len, sum}
 use Rattle.std.specs.Prelude.{slice_index, nat_le, ◌==◌, ◌&&◌}
 use Rattle.riichi_tiles.specs.Melds.{every_kind}
@@ -125,6 +124,7 @@ module _ (hand : List ℕ) (melds : List Meld) (seen : List ℕ) (number : ℕ) 
 
         chosen : is_discard hand melds (number - 1) ≡ true
         chosen = and_from (is_held hand (number - 1)) (is_best hand melds (number - 1)) (lt-ltb 0 (slice_index hand (number - 1)) there) (sym (best_is hand melds distances least are is (number - 1) (omega arith) there) ∙ eq-eqb (slice_index distances (number - 1)) least equal)
+
     left_list : (is_discard hand melds (number - 1) ≡ false) → list ≡ discards_from hand melds seen (number - 1) (34 - (number - 1))
     left_list chosen = so_far ∙ sym (discards_at ∙ ap (λ t. cond t (inserted (discard_of hand melds seen (number - 1)) (discards_from hand melds seen number (34 - number))) (discards_from hand melds seen number (34 - number))) chosen)
 

@@ -1,8 +1,7 @@
 -- What a hand lacks of the forms that stand beside no meld.
 use Rattle.std.proofs.Common.{◌≡◌, ℕ, ◌+◌, ◌<◌, ◌≤◌, Bool, true, false, cond, ◌⊎◌, inl, inr, List, length, refl, sym, ap, ◌∙◌, ⊎_elim, subst, arith}
 use Rattle.std.proofs.lemmas.Bool.{cases_lt, false≢true, or_left, or_right, and_parts, and_from, eqb-true, eq-eqb, or_cases}
-use Rattle.std.proofs.lemmas.Bool.Decides.{nat_tests}
-use Rattle.std.specs.Prelude.{slice_index, ◌==◌, ◌&&◌, ◌||◌}
+use Rattle.std.specs.Prelude.{slice_index, ◌==◌, ◌&&◌}
 use Rattle.riichi_tiles.specs.Melds.{tiles}
 use Rattle.riichi_tiles.specs.declared.meld.Meld.{Meld}
 use Rattle.riichi_shape.specs.Distance.{IsDistance}
@@ -18,17 +17,18 @@ use Rattle.riichi_shape.specs.declared.special.SpecialLacked.{SpecialLacked}
 use Rattle.riichi_shape.proofs.Distances.{each_below, orphan_few}
 use Rattle.riichi_shape.proofs.Exists.{melds_few}
 
-
 -- ---- kinds by how many are held
 
 pub lacks_there : (held : ℕ) (lacked : LackedHeld) → lacks_held lacked held ≡ true → ((held ≡ 0) × (lacked.missing ≡ true)) ⊎ ((held ≡ 1) × (lacked.single ≡ true))
 lacks_there held lacked e =
     ⊎_elim (λ none. (let b = and_parts (held == 0) lacked.missing none in inl (eqb-true held 0 b.0, b.1))) (λ one. (let b = and_parts (held == 1) lacked.single one in inr (eqb-true held 1 b.0, b.1)))
     (or_cases (held == 0 && lacked.missing) (held == 1 && lacked.single) e)
+
 pub lacks_back : (held : ℕ) (lacked : LackedHeld) → ((held ≡ 0) × (lacked.missing ≡ true)) ⊎ ((held ≡ 1) × (lacked.single ≡ true)) → lacks_held lacked held ≡ true
 lacks_back held lacked h =
     ⊎_elim (λ none. or_left (held == 0 && lacked.missing) (held == 1 && lacked.single) (and_from (held == 0) lacked.missing (eq-eqb held 0 none.0) none.1))
     (λ one. or_right (held == 0 && lacked.missing) (held == 1 && lacked.single) (and_from (held == 1) lacked.single (eq-eqb held 1 one.0) one.1)) h
+
 -- a form counts only where it lacks just n tiles
 at_least : (form : NearestForm) (n held : ℕ) → lacks_held (lacked_at form n) held ≡ true → (form.lack ≡ n) × (lacks_held form.lacked held ≡ true)
 at_least form n held e = by_test (form.lack == n) refl e

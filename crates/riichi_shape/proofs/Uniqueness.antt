@@ -1,11 +1,11 @@
 -- The distance is one number: the least lack over the list of every winning multiset.
-use Rattle.std.proofs.Common.{◌≡◌, ℕ, zero, suc, ◌+◌, ◌-◌, ◌<◌, ◌≤◌, ◌%◌, Bool, true, false, inl, inr, List, [], ◌∷◌, ◌++◌, map, length, eqb, leb, ltb, refl, sym, ap, ◌∙◌, ⊎_elim, subst, arith}
+use Rattle.std.proofs.Common.{◌≡◌, ℕ, zero, suc, ◌+◌, ◌-◌, ◌<◌, ◌%◌, true, inl, inr, List, [], ◌∷◌, ◌++◌, map, length, eqb, ltb, refl, sym, ap, ◌∙◌, ⊎_elim, subst, arith}
 use Rattle.std.proofs.lemmas.List.FromFn.{get_or-map-range_with_len, length-map-range_with_len}
 use Rattle.std.proofs.lemmas.Bool.{false≢true, lt-ltb, ltb-true, or_left, or_right, le-leb, leb-true, or_cases, eqb-true, eq-eqb, and_from, and_parts}
 use Rattle.std.proofs.lemmas.Bool.Decides.{nat_tests}
 use Rattle.std.proofs.lemmas.List.Elements.{All-nil, All-cons, All-head, All-tail}
 use Rattle.std.specs.List.{filter, list_any}
-use Rattle.std.specs.Prelude.{All, slice_index, sum_by, nat_le, ◌==◌, ◌&&◌, ◌||◌}
+use Rattle.std.specs.Prelude.{All, slice_index, sum_by, nat_le, ◌==◌}
 use Rattle.riichi_tiles.specs.Kinds.{IsRunLow}
 use Rattle.riichi_tiles.specs.Blocks.{IsSet, total}
 use Rattle.riichi_tiles.specs.Melds.{every_kind, tiles}

@@ -1,6 +1,6 @@
-use Rattle.std.proofs.Common.{◌≡◌, ◌+◌, ◌^◌, ℕ, ◌<◌, Bool, ap, ◌∙◌}
+use Rattle.std.proofs.Common.{◌^◌, ℕ, Bool}
 use Rattle.std.specs.Prelude.{bit_and, nat_lt}
-use Rattle.riichi_rows.specs.Lanes.{capped, lacks_with, lane, mark, opposite}
+use Rattle.riichi_rows.specs.Lanes.{lacks_with, lane, mark}
 use Rattle.riichi_rows.proofs.LackedRanks.{is_lowered, lowered}
 use Rattle.riichi_rows.proofs.Lacking.{lacked_rank}
 use Rattle.riichi_rows.proofs.Opposite.{opposite_sums, taken_is, through}

@@ -1,5 +1,5 @@
-use Rattle.std.proofs.Common.{◌≡◌, ◌+◌, ◌<◌, ℕ, ap, ◌∙◌}
-use Rattle.riichi_rows.specs.Lanes.{capped, lane, opposite}
+use Rattle.std.proofs.Common.{◌+◌}
+use Rattle.riichi_rows.specs.Lanes.{lane}
 use Rattle.riichi_rows.proofs.OneChanged.{LeastTaken, taken_some, taken_none}
 use Rattle.riichi_rows.proofs.Opposite.{opposite_sums, taken_least}
 use Rattle.riichi_rows.proofs.joined.JoinedRows.with.Goals as goal
