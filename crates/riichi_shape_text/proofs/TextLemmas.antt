@@ -1,5 +1,5 @@
 -- The text of the accepted kinds and of the discards.
-use Rattle.std.proofs.Common.{◌≡◌, ℕ, zero, suc, ◌+◌, ◌≤◌, Bool, true, false, cond, List, [], ◌∷◌, ◌++◌, map, length, take, length-set, ◌%◌, Some, ltb, refl, sym, ap, ◌∙◌, arith}
+use Rattle.std.proofs.Common.{◌≡◌, ℕ, zero, suc, ◌+◌, ◌≤◌, Bool, true, false, cond, List, [], ◌∷◌, ◌++◌, map, length, take, length-set, ◌%◌, ltb, refl, sym, ap, ◌∙◌, arith}
 use Rattle.std.proofs.lemmas.List.{append-nil, flat_map_more}
 use Rattle.std.specs.Str.{IsAscii}
 use Rattle.std.proofs.lemmas.Str.Ascii.{IsAscii-cons, IsAscii-nil}
@@ -9,13 +9,12 @@ use Rattle.std.proofs.lemmas.List.{take-set-le}
 use Rattle.std.specs.Result.{IsOk, MatchResult}
 use Rattle.std.proofs.Common.{Result, Ok, Err}
 use Rattle.std.specs.List.{filter, flat_map, range_with_len}
-use Rattle.std.specs.Prelude.{nat_lt, slice_get, slice_index, slice_set}
+use Rattle.std.specs.Prelude.{nat_lt, slice_index, slice_set}
 use Rattle.riichi_tiles.specs.Melds.{every_kind}
 use Rattle.riichi_shape.specs.LiveCopies.{pairs_of}
 use Rattle.riichi_text.specs.Tiles.{letter_of}
 use Rattle.riichi_text.proofs.Letters.{letter_below}
-use Rattle.riichi_shape_text.specs.Text.{discard_text, kinds_text, pair_text}
-use Rattle.riichi_shape.specs.declared.discard.Discard.{Discard}
+use Rattle.riichi_shape_text.specs.Text.{pair_text}
 
 -- the pairs of the kinds below a number
 unfoldable pub pairs_below : List ℕ → ℕ → List (ℕ × ℕ)
