@@ -402,6 +402,7 @@ passed_is_next turns lane n left within each ends =
       stops = λ below. ⊎_elim (λ past. absurd (omega (arith, past)))
           (λ stays. or_from (is_given turns (lane.next + n)) (is_withdrawn turns (lane.next + n)) (left.not_given (lane.next + n) (omega arith)) (sym (left.withdrawn (lane.next + n)) ∙ stays)) ends;
     }
+
 left_passed : (turns : List Turn) (lane new : LaneState) → IsLeftUnpassed turns lane → PassesWithdrawn lane new → IsLeftBy turns new
 left_passed turns lane new left passes =
     let n = passes.count in
