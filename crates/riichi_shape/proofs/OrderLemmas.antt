@@ -68,7 +68,7 @@ module _ (hand : List ℕ) (melds : List Meld) (seen : List ℕ) where
   abbrev chosen : ℕ → ℕ → List Discard
   chosen a n = in_order (map (discard_of hand melds seen) (filter (is_discard hand melds) (range_with_len a n)))
 
-  chosen_step : (t : Bool) (kind : ℕ) (kinds : List ℕ) → in_order (map (discard_of hand melds seen) (cond t (kind ∷ kinds) kinds)) ≡ cond t (inserted (discard_of hand melds seen kind) (in_order (map (discard_of hand melds seen) kinds))) (in_order (map (discard_of hand melds seen) kinds))
+  pub chosen_step : (t : Bool) (kind : ℕ) (kinds : List ℕ) → in_order (map (discard_of hand melds seen) (cond t (kind ∷ kinds) kinds)) ≡ cond t (inserted (discard_of hand melds seen kind) (in_order (map (discard_of hand melds seen) kinds))) (in_order (map (discard_of hand melds seen) kinds))
   unfolding in_order
   chosen_step true kind kinds = refl
   chosen_step false kind kinds = refl

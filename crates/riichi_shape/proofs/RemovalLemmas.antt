@@ -1,5 +1,5 @@
 -- The kinds whose removal leaves the least distance.
-use Rattle.std.proofs.Common.{◌≡◌, ℕ, suc, ◌+◌, ◌-◌, ◌<◌, ◌≤◌, Bool, true, false, cond, ◌⊎◌, inl, inr, List, [], ◌∷◌, map, length, slice_set, below_more, length-set, get_or-set_same, get_or-set_other, refl, sym, ap, ◌∙◌, ⊎_elim, arith}
+use Rattle.std.proofs.Common.{◌≡◌, ℕ, suc, ◌+◌, ◌-◌, ◌<◌, ◌≤◌, Bool, true, false, cond, ◌⊎◌, inl, inr, List, [], map, length, slice_set, below_more, length-set, get_or-set_same, get_or-set_other, refl, sym, ap, ◌∙◌, ⊎_elim, arith}
 use Rattle.std.proofs.lemmas.Bool.{cases_lt, eq-eqb, eqb-true, le-leb, leb-true, lt-ltb, ltb-true, and_from, le-ltb, ne_eqb}
 use Rattle.std.specs.List.{filter, range_with_len, sum}
 use Rattle.std.specs.Prelude.{slice_index, nat_le, ◌==◌, ◌&&◌}
@@ -10,6 +10,7 @@ use Rattle.riichi_shape.specs.declared.discard.Discard.{Discard}
 use Rattle.riichi_shape.specs.Discards.{AreDistancesWithout, IsLeastOf, discard_of, discards_of, distance_without, in_order, inserted, is_best, is_discard, is_held}
 use Rattle.riichi_shape.proofs.PairLemmas.{spread_total, sum_is_total}
 use Rattle.riichi_shape.proofs.Members.{Among, all_among, all_of, among_filter, among_range, from_filter, from_range}
+use Rattle.riichi_shape.proofs.OrderLemmas.{chosen_step}
 
 pub bool_same : (a b : Bool) → (a ≡ true → b ≡ true) → (b ≡ true → a ≡ true) → a ≡ b
 bool_same true true there back = refl
@@ -59,14 +60,9 @@ unfolding discards_from in_order
 discards_none hand melds seen a = refl
 
 module _ (hand : List ℕ) (melds : List Meld) (seen : List ℕ) where
-  chosen_next : (t : Bool) (kind : ℕ) (kinds : List ℕ) → in_order (map (discard_of hand melds seen) (cond t (kind ∷ kinds) kinds)) ≡ cond t (inserted (discard_of hand melds seen kind) (in_order (map (discard_of hand melds seen) kinds))) (in_order (map (discard_of hand melds seen) kinds))
-  unfolding in_order
-  chosen_next true kind kinds = refl
-  chosen_next false kind kinds = refl
-
   discards_next : (kind n : ℕ) → discards_from hand melds seen kind (suc n) ≡ cond (is_discard hand melds kind) (inserted (discard_of hand melds seen kind) (discards_from hand melds seen (kind + 1) n)) (discards_from hand melds seen (kind + 1) n)
   unfolding discards_from
-  discards_next kind n = chosen_next (is_discard hand melds kind) kind (filter (is_discard hand melds) (range_with_len (kind + 1) n))
+  discards_next kind n = chosen_step hand melds seen (is_discard hand melds kind) kind (filter (is_discard hand melds) (range_with_len (kind + 1) n))
 
 -- ---- one kind less, from the greatest down
 

@@ -48,13 +48,14 @@ at_just form n e = ap (λ t. cond t form.lacked (record { missing = false; singl
 pub no_tiles : (melds : List Meld) → length melds ≡ 0 → AreNoMelds melds
 no_tiles melds none kind low = omega (arith, each_below (tiles melds) 0 34 kind (omega arith) (omega (arith, low)), melds_few melds 0 34, none)
 
+-- none or two of a kind that is not melded are within four
+pub pair_few : (w m : ℕ) → (w ≡ 0) ⊎ (w ≡ 2) → m ≡ 0 → w + m ≤ 4
+pair_few w m h none = ⊎_elim (λ e. omega (arith, e, none)) (λ e. omega (arith, e, none)) h
+
 -- no special form lacks less than the distance
 pub special_none_less : (hand : List ℕ) (melds : List Meld) (n : ℕ) → IsDistance hand melds n → SpecialLacks hand melds n
 special_none_less hand melds n is = record { bound = λ wanted form. ⊎_elim (by_pairs wanted) (by_orphans wanted) form }
   where
-    pair_few : (w m : ℕ) → (w ≡ 0) ⊎ (w ≡ 2) → m ≡ 0 → w + m ≤ 4
-    pair_few w m h none = ⊎_elim (λ e. omega (arith, e, none)) (λ e. omega (arith, e, none)) h
-
     by_pairs : (wanted : List ℕ) → (length melds ≡ 0) × IsSevenPairs wanted → n ≤ lacking hand wanted
     by_pairs wanted form =
         is.none_less wanted (record { form = inr (inl form); within_four = record { at = λ k low. pair_few (slice_index wanted k) (tiles melds k) (form.1.two_or_none k low) (no_tiles melds form.0 k low) } })
