@@ -14,9 +14,7 @@ use Rattle.desk_core.specs.Desk.{DeskStandsFor, IsDeskRun}
 use Rattle.desk_core.specs.declared.event.Event.{Event}
 use Rattle.desk_core.specs.declared.reply.Reply.{Reply}
 use Rattle.desk_core.specs.declared.reply.Reply.TheVariants as reply
-
-some_injective : {X : Type 0} {x y : X} → Some x ≡ Some y → x ≡ y
-some_injective e = cc
+use Rattle.desk_core.proofs.Steps.{some_injective}
 
 turns_of-other : (table : ℕ) (history : List Turn) (turn : Turn) → table_of turn.0 ≢ table → turns_of table (history ++ turn ∷ []) ≡ turns_of table history
 turns_of-other table history turn differ = turns_of-push table history turn ∙ (rw (ne_eqb (table_of turn.0) table differ) refl)

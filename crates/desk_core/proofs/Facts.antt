@@ -5,11 +5,11 @@ use Rattle.std.specs.List.{list_any}
 use Rattle.std.proofs.lemmas.List.{map-append, length-map}
 use Rattle.std.proofs.lemmas.List.Elements.{filter-append}
 use Rattle.std.proofs.lemmas.List.Folds.{list_any-append}
-use Rattle.std.proofs.lemmas.Bool.{cases_lt, cases_eq, eqb-true, eq-eqb, ne_eqb, lt-ltb, false≢true}
+use Rattle.std.proofs.lemmas.Bool.{cases_lt, cases_eq, eqb-true, eq-eqb, ne_eqb, lt-ltb, false≢true, or_cases, or_from, or_parts}
 use Rattle.desk_core.proofs.Lists.{option_map-Some, append-cond, slice_get-map}
 use Rattle.desk_core.proofs.Due.{due, due-same, due-more, due-below, due-after_answer, due-after_withdrawal, due-front}
 use Rattle.desk_core.proofs.Next.{IsNext, IsNext-next_ticket, IsNext-is}
-use Rattle.desk_core.proofs.Histories.{submitted-push, given-push, given_same, withdrawn-push, withdrawn_same, length-submitted-push, HasArrived-push, HasArrived-within, slice_get-submitted-push}
+use Rattle.desk_core.proofs.Histories.{or-false, submitted-push, given-push, given_same, withdrawn-push, withdrawn_same, length-submitted-push, HasArrived-push, HasArrived-within, slice_get-submitted-push}
 use Rattle.desk_core.specs.Value.{value_of}
 use Rattle.desk_core.specs.LaneState.{is_among}
 use Rattle.desk_core.specs.History.{Turn, table_of, turns_of, submitted, HasArrived, given, answer_in, withdrawn, withdrawn_in, is_given, is_withdrawn, is_done, next_ticket, CanWithdraw, ReplyOf, DeskReplyOf, IsLegalAfter, IsLegal, GivenInOrder}
@@ -37,24 +37,6 @@ by_bool : {P : Type 0} (b : Bool) → (b ≡ true → P) → (b ≡ false → P)
 by_bool true if_true if_false = if_true refl
 by_bool false if_true if_false = if_false refl
 
-or-cases : (a b : Bool) → (a || b) ≡ true → (a ≡ true) ⊎ (b ≡ true)
-or-cases true b holds = inl refl
-or-cases false b holds = inr holds
-
-or-false : (a b : Bool) → a ≡ false → b ≡ false → (a || b) ≡ false
-or-false a b first second = rw (first, second) refl
-
-or-neither : (a b : Bool) → (a || b) ≡ false → (a ≡ false) × (b ≡ false)
-or-neither true b neither = cc
-or-neither false b neither = (refl, neither)
-
-or-left : (a b : Bool) → a ≡ true → (a || b) ≡ true
-or-left a b holds = rw holds refl
-
-pub or-right : (a b : Bool) → b ≡ true → (a || b) ≡ true
-or-right true b holds = refl
-or-right false b holds = holds
-
 pub next-within : (turns : List Turn) → next_ticket turns ≤ length (submitted turns)
 next-within turns = (IsNext-next_ticket turns).within
 
@@ -69,18 +51,18 @@ not_given turns i sound past =
 
 -- a ticket from the next one on that is done was withdrawn
 withdrawn-done : (turns : List Turn) (i : ℕ) → is_given turns i ≡ false → is_done turns i ≡ true → is_withdrawn turns i ≡ true
-withdrawn-done turns i not_one done = ⊎_elim (λ given_one. absurd (false≢true (sym not_one ∙ given_one))) (λ gone. gone) (or-cases (is_given turns i) (is_withdrawn turns i) done)
+withdrawn-done turns i not_one done = ⊎_elim (λ given_one. absurd (false≢true (sym not_one ∙ given_one))) (λ gone. gone) (or_cases (is_given turns i) (is_withdrawn turns i) done)
 
 -- each ticket before the next one that was not withdrawn has arrived
 pub arrived_before : (turns : List Turn) (i : ℕ) → IsSound turns → i < next_ticket turns → is_withdrawn turns i ≡ false → HasArrived turns i
 arrived_before turns i sound before stays =
     ⊎_elim (λ given_one. sound.arrived i given_one) (λ gone. absurd (false≢true (sym stays ∙ gone)))
-    (or-cases (is_given turns i) (is_withdrawn turns i) ((IsNext-next_ticket turns).before i before))
+    (or_cases (is_given turns i) (is_withdrawn turns i) ((IsNext-next_ticket turns).before i before))
 
 -- the next ticket was not withdrawn, where it was given out
 pub next_stays : (turns : List Turn) → next_ticket turns < length (submitted turns) → is_withdrawn turns (next_ticket turns) ≡ false
 next_stays turns within =
-    (or-neither (is_given turns (next_ticket turns)) (is_withdrawn turns (next_ticket turns)) ((IsNext-next_ticket turns).stops within)).1
+    (or_parts (is_given turns (next_ticket turns)) (is_withdrawn turns (next_ticket turns)) ((IsNext-next_ticket turns).stops within)).1
 
 -- what was given is a front of what is due
 pub in_order : (turns : List Turn) → IsSound turns → GivenInOrder turns
@@ -106,7 +88,7 @@ next-is turns turn sound none stays =
       within = omega (arith, old.within, length-submitted-push turns turn);
       before = λ i below. done i ∙ old.before i below;
       stops = λ below. done n ∙ ⊎_elim (λ here. old.stops here)
-          (λ past. or-false (is_given turns n) (is_withdrawn turns n) (not_given turns n sound (omega arith)) (unknown past))
+          (λ past. or_from (is_given turns n) (is_withdrawn turns n) (not_given turns n sound (omega arith)) (unknown past))
           (cases_lt n (length (submitted turns)));
     }
 
@@ -151,11 +133,7 @@ pub given_more : (turns : List Turn) (turn : Turn) (seq : ℕ) (answer : Answer)
 given_more turns turn seq answer some = given-push turns turn ∙ (rw some refl)
 
 last_given : (seq i : ℕ) (answer : Answer) → list_any (λ (numbered : ℕ × Answer). eqb numbered.0 i) ((seq, answer) ∷ []) ≡ eqb seq i
-last_given seq i answer = by_test (eqb seq i)
-  where
-    by_test : (b : Bool) → (b || false) ≡ b
-    by_test true = refl
-    by_test false = refl
+last_given seq i answer = or-false (eqb seq i)
 
 pub is_given-more : (turns : List Turn) (turn : Turn) (seq : ℕ) (answer : Answer) (i : ℕ) → answer_in turn.1 ≡ Some (seq, answer) → is_given (turns ++ turn ∷ []) i ≡ (is_given turns i || eqb seq i)
 is_given-more turns turn seq answer i some =
@@ -169,7 +147,7 @@ gone_between turns turn seq answer sound is_next i low high =
     let after : List Turn = turns ++ turn ∷ [] in
     let other : is_given after i ≡ false =
     is_given-more turns turn seq answer i is_next.gives
-    ∙ or-false (is_given turns i) (eqb seq i) (not_given turns i sound (omega (arith, is_next.next))) (ne_eqb seq i (λ e. absurd (omega arith))) in
+    ∙ or_from (is_given turns i) (eqb seq i) (not_given turns i sound (omega (arith, is_next.next))) (ne_eqb seq i (λ e. absurd (omega arith))) in
     let gone : is_withdrawn after i ≡ true = withdrawn-done after i other ((IsNext-next_ticket after).before i high) in
     sym (ap (λ w. is_among w i) (withdrawn_same turns turn is_next.stays)) ∙ gone
 
@@ -182,12 +160,12 @@ later_next turns turn seq answer sound is_next =
     let inside : seq < length (submitted turns) = HasArrived-within turns seq is_next.arrived in
     ⊎_elim (λ above. above) (λ past.
     let open_one : is_done after m ≡ false = now.stops (omega (arith, past, size, inside)) in
-    let parts = or-neither (is_given after m) (is_withdrawn after m) open_one in
-    let was_given = or-neither (is_given turns m) (eqb seq m) (sym (is_given-more turns turn seq answer m is_next.gives) ∙ parts.0) in
+    let parts = or_parts (is_given after m) (is_withdrawn after m) open_one in
+    let was_given = or_parts (is_given turns m) (eqb seq m) (sym (is_given-more turns turn seq answer m is_next.gives) ∙ parts.0) in
     let other : seq ≢ m = λ same. false≢true (sym was_given.1 ∙ eq-eqb seq m same) in
     let below : m < next_ticket turns = omega (arith, past, is_next.next, other) in
     let was_gone : is_withdrawn turns m ≡ false = sym (ap (λ w. is_among w m) (withdrawn_same turns turn is_next.stays)) ∙ parts.1 in
-    absurd (false≢true (sym (or-false (is_given turns m) (is_withdrawn turns m) was_given.0 was_gone) ∙ (IsNext-next_ticket turns).before m below)))
+    absurd (false≢true (sym (or_from (is_given turns m) (is_withdrawn turns m) was_given.0 was_gone) ∙ (IsNext-next_ticket turns).before m below)))
     (cases_lt seq m)
 
 IsSound-push_next : (turns : List Turn) (turn : Turn) (seq : ℕ) (answer : Answer) → IsSound turns → IsNextAnswer turns turn seq answer → IsSound (turns ++ turn ∷ [])
@@ -215,7 +193,7 @@ IsSound-push_next turns turn seq answer sound is_next =
       arrived = λ i given_one.
           ⊎_elim (λ earlier. HasArrived-push turns turn i (sound.arrived i earlier))
           (λ now. HasArrived-push turns turn i (subst (HasArrived turns) (eqb-true seq i now) is_next.arrived))
-          (or-cases (is_given turns i) (eqb seq i) (sym (is_given-more turns turn seq answer i is_next.gives) ∙ given_one));
+          (or_cases (is_given turns i) (eqb seq i) (sym (is_given-more turns turn seq answer i is_next.gives) ∙ given_one));
       known = λ i gone_one.
           let before : i < length (submitted turns) = sound.known i (sym (ap (λ g. g i) gone) ∙ gone_one) in
           omega (arith, before, length-submitted-push turns turn);
@@ -230,11 +208,7 @@ pub record IsWithdrawal (turns : List Turn) (turn : Turn) (seq : ℕ) : Type 0 w
   pub can : CanWithdraw turns seq
 
 last_among : (seq i : ℕ) → is_among (seq ∷ []) i ≡ eqb i seq
-last_among seq i = by_test (eqb i seq)
-  where
-    by_test : (b : Bool) → (b || false) ≡ b
-    by_test true = refl
-    by_test false = refl
+last_among seq i = or-false (eqb i seq)
 
 pub is_withdrawn-more : (turns : List Turn) (turn : Turn) (seq i : ℕ) → withdrawn_in turn.0 turn.1 ≡ Some seq → is_withdrawn (turns ++ turn ∷ []) i ≡ (is_withdrawn turns i || eqb i seq)
 is_withdrawn-more turns turn seq i gone =
@@ -250,10 +224,10 @@ no_earlier turns turn seq is =
     let m = next_ticket after in
     ⊎_elim (λ below.
     let open_one : is_done after m ≡ false = (IsNext-next_ticket after).stops (omega (arith, below, next-within turns, length-submitted-push turns turn)) in
-    let parts = or-neither (is_given after m) (is_withdrawn after m) open_one in
+    let parts = or_parts (is_given after m) (is_withdrawn after m) open_one in
     let was_given : is_given turns m ≡ false = sym (ap (list_any (λ (answer : ℕ × Answer). eqb answer.0 m)) (given_same turns turn is.none)) ∙ parts.0 in
-    let was_gone = or-neither (is_withdrawn turns m) (eqb m seq) (sym (is_withdrawn-more turns turn seq m is.gone) ∙ parts.1) in
-    absurd (false≢true (sym (or-false (is_given turns m) (is_withdrawn turns m) was_given was_gone.0) ∙ (IsNext-next_ticket turns).before m below)))
+    let was_gone = or_parts (is_withdrawn turns m) (eqb m seq) (sym (is_withdrawn-more turns turn seq m is.gone) ∙ parts.1) in
+    absurd (false≢true (sym (or_from (is_given turns m) (is_withdrawn turns m) was_given was_gone.0) ∙ (IsNext-next_ticket turns).before m below)))
     (λ past. past) (cases_lt m (next_ticket turns))
 
 IsSound-push_withdrawal : (turns : List Turn) (turn : Turn) (seq : ℕ) → IsSound turns → IsWithdrawal turns turn seq → IsSound (turns ++ turn ∷ [])
@@ -266,7 +240,7 @@ IsSound-push_withdrawal turns turn seq sound is =
     ⊎_elim (λ below. absurd (false≢true (sym is.can.1 ∙ (IsNext-next_ticket turns).before seq below))) (λ past. past) (cases_lt seq (next_ticket turns)) in
     let same : (i : ℕ) → i < next_ticket turns → is_withdrawn turns i ≡ is_withdrawn after i = λ i below.
     let other : eqb i seq ≡ false = ne_eqb i seq (λ e. absurd (omega arith)) in
-    sym (more i ∙ ap (λ b. is_withdrawn turns i || b) other ∙ or_nothing (is_withdrawn turns i)) in
+    sym (more i ∙ ap (λ b. is_withdrawn turns i || b) other ∙ or-false (is_withdrawn turns i)) in
     let gone : (i : ℕ) → next_ticket turns ≤ i → i < next_ticket after → is_withdrawn after i ≡ true = λ i low high.
     let other : is_given after i ≡ false = ap (list_any (λ (answer : ℕ × Answer). eqb answer.0 i)) same_given ∙ not_given turns i sound low in
     withdrawn-done after i other ((IsNext-next_ticket after).before i high) in
@@ -280,12 +254,8 @@ IsSound-push_withdrawal turns turn seq sound is =
       known = λ i gone_one.
           ⊎_elim (λ before. omega (arith, sound.known i before, length-submitted-push turns turn))
           (λ now. let here : i ≡ seq = eqb-true i seq now in omega (arith, here, is.can.0, length-submitted-push turns turn))
-          (or-cases (is_withdrawn turns i) (eqb i seq) (sym (more i) ∙ gone_one));
+          (or_cases (is_withdrawn turns i) (eqb i seq) (sym (more i) ∙ gone_one));
     }
-  where
-    or_nothing : (b : Bool) → (b || false) ≡ b
-    or_nothing true = refl
-    or_nothing false = refl
 
 -- what a legal turn is
 

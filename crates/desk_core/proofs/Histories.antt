@@ -26,7 +26,7 @@ pub submitted-push : (turns : List Turn) (turn : Turn) → submitted (turns ++ t
 submitted-push turns turn =
     filter_map-take_while-push (λ t. submitted_job t.0 t.1) (λ t. is_close t.0) turns turn (close_submits_nothing turn.0 turn.1)
 
-or-false : (b : Bool) → (b || false) ≡ b
+pub or-false : (b : Bool) → (b || false) ≡ b
 or-false true = refl
 or-false false = refl
 

@@ -1,6 +1,7 @@
 -- Two jobs are one where `==` says so: the derived test of each record is that of its fields.
-use Rattle.std.proofs.Common.{◌≡◌, ℕ, Bool, true, false, List, refl, ap, rules}
-use Rattle.std.specs.Prelude.{◌&&◌, nat_eq}
+use Rattle.std.proofs.Common.{◌≡◌, ℕ, Bool, true, List, refl, ap, rules}
+use Rattle.std.proofs.lemmas.Bool.{and_parts}
+use Rattle.std.specs.Prelude.{nat_eq}
 use Rattle.std.specs.Bool.{Decides, beq}
 use Rattle.std.specs.Cmp.{unsigned_Decides, booleans_Decides}
 use Rattle.std.proofs.lemmas.Slice.Eq.{slice_eq-Decides}
@@ -26,10 +27,6 @@ use Rattle.riichi_hand.specs.contracts.shape.ShapeRecordPartialEq.TheImpl.{ghost
 use Rattle.riichi_hand.specs.contracts.win.WinPartsPartialEq.TheImpl.{ghosts as parts}
 use Rattle.riichi_hand.specs.contracts.job.JobPartialEq.TheImpl.{ghosts as job}
 use Rattle.riichi_hand.specs.contracts.job.JobEq.TheImpl.Laws.{laws-law as job_equiv}
-
-and_true : (a b : Bool) → (a && b) ≡ true → (a ≡ true) × (b ≡ true)
-and_true true b h = (refl, h)
-and_true false b h = cc
 
 same_bools : (a b : Bool) → beq a b ≡ true → a ≡ b
 same_bools a b h = (booleans_Decides a b).0 h
@@ -57,25 +54,25 @@ same_rules a b h = search rules
 
 same_flags : (a b : Flags) → flags.eq a b ≡ true → a ≡ b
 same_flags a b h =
-    let i = and_true _ _ h in
-    let r = and_true _ _ i.1 in
-    let c = and_true _ _ r.1 in
-    let l = and_true _ _ c.1 in
+    let i = and_parts _ _ h in
+    let r = and_parts _ _ i.1 in
+    let c = and_parts _ _ r.1 in
+    let l = and_parts _ _ c.1 in
     let flags_of : Bool → Bool → Bool → Bool → Bool → Flags = λ v w x y z. record { ippatsu = v; rinshan = w; chankan = x; last = y; first = z } in
     let same : flags_of a.ippatsu a.rinshan a.chankan a.last a.first ≡ b =
     rw (same_bools a.ippatsu b.ippatsu i.0, same_bools a.rinshan b.rinshan r.0, same_bools a.chankan b.chankan c.0, same_bools a.last b.last l.0, same_bools a.first b.first l.1) refl in same
 
 same_hand : (a b : HandParts) → hand.eq a b ≡ true → a ≡ b
 same_hand a b h =
-    let both = and_true (counts.eq a.concealed b.concealed) (melds.eq a.melds b.melds) h in
+    let both = and_parts (counts.eq a.concealed b.concealed) (melds.eq a.melds b.melds) h in
     let parts_of : List ℕ → List Meld → HandParts = λ x y. record { concealed = x; melds = y } in
     let same : parts_of a.concealed a.melds ≡ b =
     rw (same_counts a.concealed b.concealed both.0, (same_melds a.melds b.melds).0 both.1) refl in same
 
 same_shape : (a b : ShapeParts) → shape.eq a b ≡ true → a ≡ b
 same_shape a b h =
-    let tiles = and_true (counts.eq a.tiles b.tiles) _ h in
-    let both = and_true (melds.eq a.melds b.melds) (counts.eq a.seen b.seen) tiles.1 in
+    let tiles = and_parts (counts.eq a.tiles b.tiles) _ h in
+    let both = and_parts (melds.eq a.melds b.melds) (counts.eq a.seen b.seen) tiles.1 in
     let parts_of : List ℕ → List Meld → List ℕ → ShapeParts = λ x y z. record { tiles = x; melds = y; seen = z } in
     let same : parts_of a.tiles a.melds a.seen ≡ b =
     rw (same_counts a.tiles b.tiles tiles.0, (same_melds a.melds b.melds).0 both.0, same_counts a.seen b.seen both.1) refl in same
@@ -85,19 +82,19 @@ same_numbers a b h = (unsigned_Decides a b).0 h
 
 same_parts : (a b : WinParts) → parts.eq a b ≡ true → a ≡ b
 same_parts a b h =
-    let by_rules = and_true (rules_are.eq a.rules b.rules) _ h in
-    let by_concealed = and_true (counts.eq a.concealed b.concealed) _ by_rules.1 in
-    let by_melds = and_true (melds.eq a.melds b.melds) _ by_concealed.1 in
-    let by_winning = and_true (nat_eq a.winning b.winning) _ by_melds.1 in
-    let by_by = and_true (by.eq a.by b.by) _ by_winning.1 in
-    let by_seat = and_true (wind.eq a.seat b.seat) _ by_by.1 in
-    let by_round = and_true (wind.eq a.round b.round) _ by_seat.1 in
-    let by_riichi = and_true (nat_eq a.riichi b.riichi) _ by_round.1 in
-    let by_flags = and_true (flags.eq a.flags b.flags) _ by_riichi.1 in
-    let by_dora = and_true (counts.eq a.dora b.dora) _ by_flags.1 in
-    let by_ura = and_true (counts.eq a.ura b.ura) _ by_dora.1 in
-    let by_counters = and_true (nat_eq a.counters b.counters) _ by_ura.1 in
-    let by_sticks = and_true (nat_eq a.sticks b.sticks) (reds.eq a.reds b.reds) by_counters.1 in
+    let by_rules = and_parts (rules_are.eq a.rules b.rules) _ h in
+    let by_concealed = and_parts (counts.eq a.concealed b.concealed) _ by_rules.1 in
+    let by_melds = and_parts (melds.eq a.melds b.melds) _ by_concealed.1 in
+    let by_winning = and_parts (nat_eq a.winning b.winning) _ by_melds.1 in
+    let by_by = and_parts (by.eq a.by b.by) _ by_winning.1 in
+    let by_seat = and_parts (wind.eq a.seat b.seat) _ by_by.1 in
+    let by_round = and_parts (wind.eq a.round b.round) _ by_seat.1 in
+    let by_riichi = and_parts (nat_eq a.riichi b.riichi) _ by_round.1 in
+    let by_flags = and_parts (flags.eq a.flags b.flags) _ by_riichi.1 in
+    let by_dora = and_parts (counts.eq a.dora b.dora) _ by_flags.1 in
+    let by_ura = and_parts (counts.eq a.ura b.ura) _ by_dora.1 in
+    let by_counters = and_parts (nat_eq a.counters b.counters) _ by_ura.1 in
+    let by_sticks = and_parts (nat_eq a.sticks b.sticks) (reds.eq a.reds b.reds) by_counters.1 in
     let whole : WinParts = record {
       rules = a.rules;
       concealed = a.concealed;

@@ -4,11 +4,11 @@ use Rattle.std.specs.Prelude.{slice_get, slice_set, option_map, ◌||◌, ◌≢
 use Rattle.std.specs.List.{list_any}
 use Rattle.std.proofs.lemmas.List.{map-append, length-map, drop-append-le}
 use Rattle.std.proofs.lemmas.Option.{slice_get_within}
-use Rattle.std.proofs.lemmas.Bool.{cases_lt, cases_eq, eq-eqb, ne_eqb, lt-ltb, false≢true}
+use Rattle.std.proofs.lemmas.Bool.{cases_lt, cases_eq, eq-eqb, ne_eqb, lt-ltb, false≢true, or_right, or_from, or_parts}
 use Rattle.desk_core.proofs.Lists.{slice_get-append_left, slice_get-push, slice_get-drop, slice_get-map, slice_get-set_same, slice_get-set_other, map-set_same, drop-suc, drop-drop, map-drop, if-same, set-slice_get}
-use Rattle.desk_core.proofs.Histories.{submitted-push, is_closed-push, HasArrived-push, HasArrived-push_cases, HasArrived-within, HasArrived-from_BringsIn, BringsIn, given_same, withdrawn_same}
+use Rattle.desk_core.proofs.Histories.{or-false, submitted-push, is_closed-push, HasArrived-push, HasArrived-push_cases, HasArrived-within, HasArrived-from_BringsIn, BringsIn, given_same, withdrawn_same}
 use Rattle.desk_core.proofs.Next.{IsNext, IsNext-next_ticket, IsNext-is}
-use Rattle.desk_core.proofs.Facts.{IsSound, IsSound-IsLegal, next-within, next-same, not_given, arrived_before, next_stays, is_given-more, is_withdrawn-more, or-right, turns_of-push, IsLegal-push}
+use Rattle.desk_core.proofs.Facts.{IsSound, IsSound-IsLegal, next-within, next-same, not_given, arrived_before, next_stays, is_given-more, is_withdrawn-more, turns_of-push, IsLegal-push}
 use Rattle.desk_core.specs.Value.{value_of}
 use Rattle.desk_core.specs.Ticketed.{Ticketed}
 use Rattle.desk_core.specs.LaneState.{LaneState, is_among, with_job, PassesWithdrawn, CanTakeBack, TakesBack}
@@ -97,7 +97,7 @@ IsLeftBy-kept turns turn lane closed sound left quiet jobs old close =
       closed = close;
     }
 
-some_injective : {X : Type 0} {x y : X} → Some x ≡ Some y → x ≡ y
+pub some_injective : {X : Type 0} {x y : X} → Some x ≡ Some y → x ≡ y
 some_injective e = cc
 
 -- submissions
@@ -113,10 +113,6 @@ submit_after_close lane job closed = λ turns sound left.
     let jobs : submitted (turns ++ turn ∷ []) ≡ submitted turns = submitted-push turns turn ∙ (rw was (append-nil (submitted turns))) in
     let still : lane.closed ≡ is_closed (turns ++ turn ∷ []) = closed ∙ sym (is_closed-push turns turn ∙ (rw was refl)) in
     (was, IsLeftBy-kept turns turn lane lane.closed sound left (record { no_answer = refl; no_withdrawal = refl }) jobs (submit_brings_nothing turns lane.table job _) still)
-
-or-false : (b : Bool) → (b || false) ≡ b
-or-false true = refl
-or-false false = refl
 
 or-true : (b : Bool) → (b || true) ≡ true
 or-true true = refl
@@ -401,14 +397,11 @@ passed_is_next turns lane n left within each ends =
           let k : ℕ = i - lane.next in
           let same : lane.next + k ≡ i = omega arith in
           let gone : is_among lane.withdrawn (lane.next + k) ≡ true = each k (omega arith) in
-          or-right (is_given turns i) (is_withdrawn turns i) (sym (left.withdrawn i) ∙ subst (λ m. is_among lane.withdrawn m ≡ true) same gone))
+          or_right (is_given turns i) (is_withdrawn turns i) (sym (left.withdrawn i) ∙ subst (λ m. is_among lane.withdrawn m ≡ true) same gone))
           (cases_lt i lane.next);
       stops = λ below. ⊎_elim (λ past. absurd (omega (arith, past)))
-          (λ stays. both_false (is_given turns (lane.next + n)) (is_withdrawn turns (lane.next + n)) (left.not_given (lane.next + n) (omega arith)) (sym (left.withdrawn (lane.next + n)) ∙ stays)) ends;
+          (λ stays. or_from (is_given turns (lane.next + n)) (is_withdrawn turns (lane.next + n)) (left.not_given (lane.next + n) (omega arith)) (sym (left.withdrawn (lane.next + n)) ∙ stays)) ends;
     }
-  where
-    both_false : (a b : Bool) → a ≡ false → b ≡ false → (a || b) ≡ false
-    both_false a b first second = rw (first, second) refl
 
 left_passed : (turns : List Turn) (lane new : LaneState) → IsLeftUnpassed turns lane → PassesWithdrawn lane new → IsLeftBy turns new
 left_passed turns lane new left passes =
@@ -549,7 +542,7 @@ left_taken_back lane seq numbers turns added sound left =
       total = count turns lane left ∙ ap length (sym jobs);
       jobs = left.jobs ∙ ap (drop lane.next) (sym jobs);
       arrived = λ k job flag there stays.
-          let stayed : is_withdrawn turns (lane.next + k) ≡ false = first_false (is_withdrawn turns (lane.next + k)) (eqb (lane.next + k) seq) (sym (gone (lane.next + k)) ∙ stays) in
+          let stayed : is_withdrawn turns (lane.next + k) ≡ false = (or_parts (is_withdrawn turns (lane.next + k)) (eqb (lane.next + k) seq) (sym (gone (lane.next + k)) ∙ stays)).0 in
           arrived_on turns turn lane k job flag left stayed (withdraw_brings_nothing turns (ticket_of lane seq) _) there;
       withdrawn = λ i. added i ∙ ap (λ b. b || eqb i seq) (left.withdrawn i) ∙ sym (gone i);
       closed = still_closed turns turn lane left refl;
@@ -559,10 +552,6 @@ left_taken_back lane seq numbers turns added sound left =
     still_done true b c done = refl
     still_done false true c done = refl
     still_done false false c done = cc
-
-    first_false : (a b : Bool) → (a || b) ≡ false → a ≡ false
-    first_false true b neither = cc
-    first_false false b neither = refl
 
 pub withdraw_done : (lane : LaneState) (seq : ℕ) (new : LaneState) → CanTakeBack lane seq → TakesBack lane seq new → IsOwnStep lane (Withdraw (ticket_of lane seq)) (reply.Withdrawn true) new
 withdraw_done lane seq new can takes = λ turns sound left. (

@@ -1,5 +1,6 @@
 -- The texts of those numbers from 0 on that pass a test, written one after another.
 use Rattle.std.proofs.Common.{◌≡◌, ℕ, zero, suc, ◌+◌, ◌<◌, ◌≤◌, Bool, true, false, cond, Some, take, length, List, [], ◌∷◌, ◌++◌, map, refl, sym, ap, ◌∙◌, append_assoc, arith}
+use Rattle.std.proofs.lemmas.Bool.{lt-ltb}
 use Rattle.std.proofs.lemmas.List.{append-nil, map-append, map_more}
 use Rattle.std.proofs.lemmas.List.Elements.{filter-append}
 use Rattle.std.specs.List.{filter, range_with_len}
@@ -7,7 +8,6 @@ use Rattle.std.specs.Prelude.{slice_index, slice_get, nat_lt, IsTrue, ◌↔◌}
 use Rattle.std.proofs.lemmas.Option.{get_or_from_slice_get, slice_get_within}
 use Rattle.riichi_shape.specs.LiveCopies.{pairs_of}
 use Rattle.riichi_shape.specs.declared.discard.Discard.{Discard}
-use Rattle.riichi_shape.proofs.LiveLemmas.{is_live}
 use Rattle.desk_json.specs.Parts.{comma_if, joined, live_text, discard_text}
 use Rattle.desk_json.proofs.Lists.{is_begun, begun_one_more, joined_more}
 
@@ -116,7 +116,7 @@ all_pairs copies = fused live_text (λ kind. (kind, slice_index copies kind)) (f
 begun_taken : {X : Type 0} (f : X → List ℕ) (xs : List X) (i : ℕ) → i < length xs → nat_lt 0 i ≡ is_begun (map f (take i xs))
 begun_taken f [] i low = absurd (omega arith)
 begun_taken f (x ∷ xs) zero low = refl
-begun_taken f (x ∷ xs) (suc i) low = is_live (suc i) (omega arith)
+begun_taken f (x ∷ xs) (suc i) low = lt-ltb 0 (suc i) (omega arith)
 
 pub discard_more : (discards : List Discard) (before : List ℕ) (i : ℕ) (discard : Discard) → slice_get discards i ≡ Some discard
     → ((before ++ joined (map discard_text (take i discards))) ++ comma_if (nat_lt 0 i)) ++ discard_text discard ≡ before ++ joined (map discard_text (take (i + 1) discards))

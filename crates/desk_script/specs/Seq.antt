@@ -1,10 +1,8 @@
 -- The number of a ticket, as a word.
 use Rattle.std.specs.Prelude.{ℕ, ◌+◌, ◌-◌, ◌*◌, List, [], ◌∷◌, length, Bool, ◌&&◌, Option, None, Some, if◌then◌else◌}
 use Rattle.std.specs.List.{list_all}
+use Rattle.riichi_tiles.specs.Notation.{is_digit}
 use Rattle.desk_script.specs.Words.{is_within}
-
-abbrev pub is_digit : ℕ → Bool
-is_digit byte = is_within 48 57 byte
 
 -- one to seven decimal digits
 abbrev pub is_seq : List ℕ → Bool

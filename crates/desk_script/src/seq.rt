@@ -1,7 +1,10 @@
 //! The number of a ticket.
 ghost use Rattle.std.specs.Prelude.{◌≡◌, ◌+◌, ◌-◌, ◌*◌, ◌<◌, ◌≤◌, true, length};
 ghost use Rattle.std.specs.List.{list_all};
-ghost use Rattle.desk_script.specs.Seq.{seq_of, value_of_digits, is_seq, is_digit};
+ghost use Rattle.riichi_tiles.specs.Notation.{is_digit};
+ghost use Rattle.desk_script.specs.Seq.{seq_of, value_of_digits, is_seq};
+
+use riichi_tiles::is_digit;
 
 /// The most digits of a ticket's number.
 const MOST_DIGITS: usize = 7;
@@ -29,7 +32,7 @@ fn is_seq(word: &[u8]) -> bool
 fn has_digits_alone(word: &[u8]) -> bool
     ensures { result ≡ list_all is_digit word.now }
 {
-    word.iter().all(|byte| matches!(*byte, b'0'..=b'9'))
+    word.iter().all(|byte| is_digit(*byte))
 }
 
 /// The number that at most seven digits spell.

@@ -262,7 +262,7 @@ fn push_pair(text: &mut ArrayString<3072>, what: &str, kind: Kind)
 }
 
 #[tactic(auto, unfolding(crate::specs::Text::shown_text))]
-fn push_shown(text: &mut ArrayString<3072>, concealed: bool)
+fn push_openness(text: &mut ArrayString<3072>, concealed: bool)
     requires { array_string_len text.old + 10 ≤ 3072 }
     ensures bytes { text.new.bytes ≡ text.old.bytes ++ spec.shown_text concealed }
     ensures len { array_string_len text.new ≤ array_string_len text.old + 10 }
@@ -280,7 +280,7 @@ fn push_triplet(text: &mut ArrayString<3072>, kind: Kind, concealed: bool)
     ensures bytes { text.new.bytes ≡ text.old.bytes ++ spec.triplet_words kind concealed }
     ensures len { array_string_len text.new ≤ array_string_len text.old + 22 }
 {
-    push_shown(text, concealed);
+    push_openness(text, concealed);
     text.push_str("triplet ");
     push_three(text, kind);
 }
@@ -291,7 +291,7 @@ fn push_kong(text: &mut ArrayString<3072>, kind: Kind, concealed: bool)
     ensures bytes { text.new.bytes ≡ text.old.bytes ++ spec.kong_words kind concealed }
     ensures len { array_string_len text.new ≤ array_string_len text.old + 20 }
 {
-    push_shown(text, concealed);
+    push_openness(text, concealed);
     text.push_str("kong ");
     push_four(text, kind);
 }

@@ -7,14 +7,12 @@ use Rattle.riichi_rows.specs.Columns.{AreLeast}
 use Rattle.riichi_rows.specs.Lanes.{HasRoom, IsFew, capped}
 use Rattle.riichi_rows.specs.Open.{Added, Begun, cost, FewAdded, IsAdded, LeastBegun, taking, up_to}
 use Rattle.riichi_rows.proofs.RankLanes.{cost_above, rank_with_runs}
+use Rattle.riichi_rows.proofs.CostLemmas.{with_room}
 
 -- ---- there is room for four tiles more
 
 more_room : (m x k : ℕ) → HasRoom m → IsFew x → k ≤ 4 → HasRoom (min m (capped (x + k)))
 more_room m x k room few small = grind arith
-
-few_room : (m : ℕ) → IsFew m → HasRoom m
-few_room m few low = omega (arith, few low)
 
 few_taking : (x : Added) → FewAdded x → (n s p : ℕ) → s < 5 → p < 2 → IsFew (taking x n s p)
 few_taking x few zero s p hs hp = few.zero s p hs hp
@@ -24,7 +22,7 @@ few_taking x few (suc (suc (suc zero))) s p hs hp = few.three s p hs hp
 few_taking x few (suc (suc (suc (suc n)))) s p hs hp = few.four s p hs hp
 
 pub room_up_to : (x : Added) → FewAdded x → (most s p : ℕ) → most ≤ 4 → s < 5 → p < 2 → HasRoom (up_to x 0 most s p)
-room_up_to x few zero s p small hs hp = few_room (x.zero s p) (few.zero s p hs hp)
+room_up_to x few zero s p small hs hp = with_room (x.zero s p) (few.zero s p hs hp)
 room_up_to x few (suc most) s p small hs hp =
     more_room (up_to x 0 most s p) (taking x (suc most) s p) (suc most - 0) (room_up_to x few most s p (omega (arith, small)) hs hp) (few_taking x few (suc most) s p hs hp) (omega (arith, small))
 

@@ -78,10 +78,10 @@ module _ (f x y z t p : Block → ℕ) (splits : (b : Block) → f b ≡ x b + y
   block_sum-splits [] = omega (arith, block_sum-nil f, block_sum-nil x, block_sum-nil y, block_sum-nil z, block_sum-nil t, block_sum-nil p)
   block_sum-splits (b ∷ bs) = omega (arith, splits b, block_sum-cons f b bs, block_sum-cons x b bs, block_sum-cons y b bs, block_sum-cons z b bs, block_sum-cons t b bs, block_sum-cons p b bs, block_sum-splits bs)
 
-abbrev no_block : Block → ℕ
+abbrev pub no_block : Block → ℕ
 no_block b = 0
 
-block_sum-none : (bs : List Block) → block_sum no_block bs ≡ 0
+pub block_sum-none : (bs : List Block) → block_sum no_block bs ≡ 0
 block_sum-none [] = block_sum-nil no_block
 block_sum-none (b ∷ bs) = omega (arith, block_sum-cons no_block b bs, block_sum-none bs)
 

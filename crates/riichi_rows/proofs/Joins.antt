@@ -121,9 +121,40 @@ entries f s p = entry_of (f s p)
 abbrev pub IsSmall : (ℕ → ℕ → ℕ) → Type 0
 IsSmall f = (s p : ℕ) → s < 5 → p < 2 → f s p < 255 → f s p ≤ 36
 
+-- four entries of four rows
+module _ (a b c d : ℕ → ℕ → ℕ) (sets n : ℕ) where
+  unfoldable pub four_entries : (s0 s1 s2 s3 p0 p1 p2 p3 : ℕ) → s0 + s1 + s2 + s3 ≡ sets → p0 + p1 + p2 + p3 ≡ 1 → a s0 p0 + b s1 p1 + c s2 p2 + d s3 p3 ≡ n → n < 255
+      → EntriesSum (entries a) (entries b) (entries c) (entries d) sets n
+  four_entries s0 s1 s2 s3 p0 p1 p2 p3 has_sets has_pair total low = record {
+    split = record { sets_0 = s0; sets_1 = s1; sets_2 = s2; sets_3 = s3; pairs_0 = p0; pairs_1 = p1; pairs_2 = p2; pairs_3 = p3 };
+    has_sets = has_sets;
+    has_pair = has_pair;
+    lack_0 = a s0 p0;
+    lack_1 = b s1 p1;
+    lack_2 = c s2 p2;
+    lack_3 = d s3 p3;
+    entry_0 = entry_some (a s0 p0) (omega arith);
+    entry_1 = entry_some (b s1 p1) (omega arith);
+    entry_2 = entry_some (c s2 p2) (omega arith);
+    entry_3 = entry_some (d s3 p3) (omega arith);
+    total = total;
+  }
+
+  module _ (e : EntriesSum (entries a) (entries b) (entries c) (entries d) sets n) (few : sets ≤ 4) (small_a : IsSmall a) (small_b : IsSmall b) (small_c : IsSmall c) (small_d : IsSmall d) where
+    pub entries_total : (a e.split.sets_0 e.split.pairs_0 + b e.split.sets_1 e.split.pairs_1 + c e.split.sets_2 e.split.pairs_2 + d e.split.sets_3 e.split.pairs_3 ≡ n) × (n ≤ 144)
+    entries_total =
+        let e0 = entry_is (a e.split.sets_0 e.split.pairs_0) e.lack_0 e.entry_0 in
+        let e1 = entry_is (b e.split.sets_1 e.split.pairs_1) e.lack_1 e.entry_1 in
+        let e2 = entry_is (c e.split.sets_2 e.split.pairs_2) e.lack_2 e.entry_2 in
+        let e3 = entry_is (d e.split.sets_3 e.split.pairs_3) e.lack_3 e.entry_3 in
+        let m0 = small_a e.split.sets_0 e.split.pairs_0 (omega (arith, e.has_sets)) (omega (arith, e.has_pair)) e0.1 in
+        let m1 = small_b e.split.sets_1 e.split.pairs_1 (omega (arith, e.has_sets)) (omega (arith, e.has_pair)) e1.1 in
+        let m2 = small_c e.split.sets_2 e.split.pairs_2 (omega (arith, e.has_sets)) (omega (arith, e.has_pair)) e2.1 in
+        let m3 = small_d e.split.sets_3 e.split.pairs_3 (omega (arith, e.has_sets)) (omega (arith, e.has_pair)) e3.1 in
+        (omega (arith, e0.0, e1.0, e2.0, e3.0, e.total), omega (arith, m0, m1, m2, m3, e0.0, e1.0, e2.0, e3.0, e.total))
+
 module _ (a b c d left right all : ℕ → ℕ → ℕ) (left_least : IsLeastSum a b left) (right_least : IsLeastSum c d right) (all_least : IsLeastSum left right all) (sets : ℕ) (few : sets ≤ 4)
-    (small_a : (s p : ℕ) → s < 5 → p < 2 → a s p < 255 → a s p ≤ 36) (small_b : (s p : ℕ) → s < 5 → p < 2 → b s p < 255 → b s p ≤ 36)
-    (small_c : (s p : ℕ) → s < 5 → p < 2 → c s p < 255 → c s p ≤ 36) (small_d : (s p : ℕ) → s < 5 → p < 2 → d s p < 255 → d s p ≤ 36) where
+    (small_a : IsSmall a) (small_b : IsSmall b) (small_c : IsSmall c) (small_d : IsSmall d) where
   join_bound : (n : ℕ) → EntriesSum (entries a) (entries b) (entries c) (entries d) sets n → (all sets 1 ≤ n) × (n ≤ 144)
   join_bound n e =
       let s0 = e.split.sets_0 in
@@ -134,39 +165,20 @@ module _ (a b c d left right all : ℕ → ℕ → ℕ) (left_least : IsLeastSum
       let p1 = e.split.pairs_1 in
       let p2 = e.split.pairs_2 in
       let p3 = e.split.pairs_3 in
-      let e0 = entry_is (a s0 p0) e.lack_0 e.entry_0 in
-      let e1 = entry_is (b s1 p1) e.lack_1 e.entry_1 in
-      let e2 = entry_is (c s2 p2) e.lack_2 e.entry_2 in
-      let e3 = entry_is (d s3 p3) e.lack_3 e.entry_3 in
-      let m0 = small_a s0 p0 (omega (arith, e.has_sets)) (omega (arith, e.has_pair)) e0.1 in
-      let m1 = small_b s1 p1 (omega (arith, e.has_sets)) (omega (arith, e.has_pair)) e1.1 in
-      let m2 = small_c s2 p2 (omega (arith, e.has_sets)) (omega (arith, e.has_pair)) e2.1 in
-      let m3 = small_d s3 p3 (omega (arith, e.has_sets)) (omega (arith, e.has_pair)) e3.1 in
+      let sum = entries_total a b c d sets n e few small_a small_b small_c small_d in
       let l = left_least.bound s0 p0 s1 p1 (omega (arith, e.has_sets)) (omega (arith, e.has_pair)) in
       let r = right_least.bound s2 p2 s3 p3 (omega (arith, e.has_sets)) (omega (arith, e.has_pair)) in
       let t = all_least.bound (s0 + s1) (p0 + p1) (s2 + s3) (p2 + p3) (omega (arith, e.has_sets)) (omega (arith, e.has_pair)) in
       let place = at_same all sets (s0 + s1 + (s2 + s3)) 1 (p0 + p1 + (p2 + p3)) (omega (arith, e.has_sets)) (omega (arith, e.has_pair)) in
-      (omega (arith, place, t, l, r, e0.0, e1.0, e2.0, e3.0, e.total), omega (arith, m0, m1, m2, m3, e0.0, e1.0, e2.0, e3.0, e.total))
+      (omega (arith, place, t, l, r, sum.0), sum.1)
 
   join_reached : all sets 1 < 255 → EntriesSum (entries a) (entries b) (entries c) (entries d) sets (all sets 1)
   join_reached low =
       let t = all_least.reached sets 1 few (omega arith) low in
       let l = left_least.reached t.left_sets t.left_pairs (omega (arith, t.sets)) (omega (arith, t.pairs)) (omega (arith, t.value)) in
       let r = right_least.reached t.right_sets t.right_pairs (omega (arith, t.sets)) (omega (arith, t.pairs)) (omega (arith, t.value)) in
-      record {
-        split = record { sets_0 = l.left_sets; sets_1 = l.right_sets; sets_2 = r.left_sets; sets_3 = r.right_sets; pairs_0 = l.left_pairs; pairs_1 = l.right_pairs; pairs_2 = r.left_pairs; pairs_3 = r.right_pairs };
-        has_sets = omega (arith, t.sets, l.sets, r.sets);
-        has_pair = omega (arith, t.pairs, l.pairs, r.pairs);
-        lack_0 = a l.left_sets l.left_pairs;
-        lack_1 = b l.right_sets l.right_pairs;
-        lack_2 = c r.left_sets r.left_pairs;
-        lack_3 = d r.right_sets r.right_pairs;
-        entry_0 = entry_some _ (omega (arith, t.value, l.value, r.value));
-        entry_1 = entry_some _ (omega (arith, t.value, l.value, r.value));
-        entry_2 = entry_some _ (omega (arith, t.value, l.value, r.value));
-        entry_3 = entry_some _ (omega (arith, t.value, l.value, r.value));
-        total = omega (arith, t.value, l.value, r.value);
-      }
+      four_entries a b c d sets (all sets 1) l.left_sets l.right_sets r.left_sets r.right_sets l.left_pairs l.right_pairs r.left_pairs r.right_pairs
+      (omega (arith, t.sets, l.sets, r.sets)) (omega (arith, t.pairs, l.pairs, r.pairs)) (omega (arith, t.value, l.value, r.value)) low
 
   pub join_some : (n : ℕ) → n < 255 → n ≡ all sets 1 → IsLeastJoin (entries a) (entries b) (entries c) (entries d) sets (Some n)
   join_some n low same = (

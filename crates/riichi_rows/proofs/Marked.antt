@@ -2,7 +2,7 @@
 use Rattle.std.proofs.lemmas.List.{length-set}
 use Rattle.std.proofs.Common.{◌≡◌, ◌∙◌, ℕ, ◌+◌, ◌<◌, ◌≤◌, List, Some, None, length, subst, ⊎_elim, get_or-set_same, get_or-set_other, arith, zero, suc, ◌^◌}
 use Rattle.std.specs.Prelude.{◌↔◌, ◌⊎◌, Bool, IsTrue, nat_lt, slice_index, slice_set, Option}
-use Rattle.std.proofs.lemmas.Bool.{cases_lt}
+use Rattle.std.proofs.lemmas.Bool.{cases_lt, lt-ltb, ltb-true}
 use Rattle.std.proofs.lemmas.Bool.Decides.{nat_tests}
 use Rattle.riichi_rows.specs.Columns.{AreLeast, LeastFrom}
 use Rattle.riichi_rows.specs.Lacked.{ChoiceLacks, IsOneMore}
@@ -18,12 +18,6 @@ use Rattle.riichi_rows.proofs.OneMore.{entry_falls}
 
 some_or_none : (v : ℕ) → (entry_of v ≡ Some v) ⊎ (entry_of v ≡ None)
 some_or_none v = grind (arith, nat_tests)
-
-less_is : (w v : ℕ) → w < v → IsTrue (nat_lt w v)
-less_is w v less = grind (arith, nat_tests)
-
-is_less : (w v : ℕ) → IsTrue (nat_lt w v) → w < v
-is_less w v less = grind (arith, nat_tests)
 
 module _ (runs : Bool) (counts caps : List ℕ) (long : length counts ≡ 9) (caps_long : length caps ≡ 9) (few : (r : ℕ) → r < 9 → slice_index caps r ≤ 4)
     (sets pairs rank : ℕ) (inside : rank < 9) (v w : ℕ) (base : LeastFrom runs counts caps 0 0 sets pairs v) (n : ℕ) (is : entry_of v ≡ Some n) where
@@ -55,7 +49,7 @@ module _ (runs : Bool) (counts caps : List ℕ) (long : length counts ≡ 9) (ca
     pub marked_with : IsTrue (nat_lt w v) ↔ ChoiceLacks runs counts caps sets pairs n rank
     marked_with =
         let same = (entry_is v n is).0 in
-        (λ less. falls.0 (omega (arith, same, is_less w v less)), λ lacks. less_is w v (omega (arith, same, falls.1 lacks)))
+        (λ less. falls.0 (omega (arith, same, ltb-true w v less)), λ lacks. lt-ltb w v (omega (arith, same, falls.1 lacks)))
 
   -- with four or more no choice lacks the rank
   module _ (held : 4 ≤ slice_index counts rank) where
@@ -75,7 +69,7 @@ module _ (runs : Bool) (counts caps : List ℕ) (long : length counts ≡ 9) (ca
         omega (arith, bound, lacks, less)
 
     pub marked_never : LeastFrom runs counts caps 0 0 sets pairs w → IsTrue (nat_lt w v) ↔ ChoiceLacks runs counts caps sets pairs n rank
-    marked_never next = (λ less. absurd (not_less next (is_less w v less)), λ lacks. absurd (never_lacked lacks))
+    marked_never next = (λ less. absurd (not_less next (ltb-true w v less)), λ lacks. absurd (never_lacked lacks))
 
   pub marked_exactly :
       (slice_index counts rank < 4 → LeastFrom runs (slice_set counts rank (slice_index counts rank + 1)) caps 0 0 sets pairs w) →

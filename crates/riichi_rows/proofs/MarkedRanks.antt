@@ -62,9 +62,6 @@ few_open counts caps few short x least = record {
 
 -- ---- a bit that marks no rank yet changes nothing
 
-lack_without : (lack here : ℕ) → lack_with 0 lack here ≡ lack
-lack_without lack here = as_it_is lack here
-
 lack_or_less : (bit lack here : ℕ) → lack_with bit lack here ≤ lack
 lack_or_less bit lack here = grind (arith, nat_tests)
 
@@ -73,11 +70,11 @@ none_as_it_is bit lack here large = grind (arith, nat_tests)
 
 same_value : (runs : Bool) (counts caps : List ℕ) (a b s p bit lack here : ℕ) → LeastFrom runs counts caps a b s p (lack_with bit lack here) → LeastFrom runs counts caps a b s p (lack_with 0 lack here) →
     lack_with bit lack here ≡ lack_with 0 lack here
-same_value runs counts caps a b s p bit lack here one plain = ⊎_elim (λ low. below low) (λ high. none_as_it_is bit lack here high ∙ sym (lack_without lack here)) (cases_lt lack 255)
+same_value runs counts caps a b s p bit lack here one plain = ⊎_elim (λ low. below low) (λ high. none_as_it_is bit lack here high ∙ sym (as_it_is lack here)) (cases_lt lack 255)
   where
     below : lack < 255 → lack_with bit lack here ≡ lack_with 0 lack here
     below low =
-        let is = lack_without lack here in
+        let is = as_it_is lack here in
         let less = lack_or_less bit lack here in
         let found = one.reached (omega (arith, less, low)) in
         let bound = plain.least found.columns found.fits found.has_sets found.has_pairs in

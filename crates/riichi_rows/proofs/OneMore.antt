@@ -1,18 +1,14 @@
 -- One more tile of a rank: an entry falls where a choice with the least lack lacks that rank.
-use Rattle.std.proofs.Common.{ℕ, ◌+◌, ◌-◌, ◌<◌, inl, inr, List, sym, ap, ◌∙◌, ⊎_elim, arith}
+use Rattle.std.proofs.Common.{ℕ, ◌<◌, List, ⊎_elim, arith}
 use Rattle.std.specs.Prelude.{slice_index}
 use Rattle.riichi_tiles.specs.Blocks.{total}
 use Rattle.riichi_tiles.specs.declared.block.Block.{Block}
 use Rattle.riichi_rows.specs.Lacked.{IsOneMore, ChoiceLacks, EntryLaw}
 use Rattle.riichi_rows.specs.Suit.{lack}
-use Rattle.riichi_rows.proofs.Spread.{Falls, falls, sum_range}
+use Rattle.riichi_rows.proofs.Spread.{Falls, sums_fall}
 
 suit_falls : (counts more : List ℕ) (blocks : List Block) (r : ℕ) → r < 9 → IsOneMore r counts more → Falls (slice_index counts) (total blocks) r (lack counts blocks) (lack more blocks)
-suit_falls counts more blocks r inside one =
-    let f = falls (slice_index counts) (slice_index more) (total blocks) r one.here one.elsewhere 9 inside in
-    let e = sum_range (λ r. total blocks r - slice_index counts r) 0 9 in
-    let e' = sum_range (λ r. total blocks r - slice_index more r) 0 9 in
-    ⊎_elim (λ lacks. inl (lacks.0, e ∙ lacks.1 ∙ ap (λ n. n + 1) (sym e'))) (λ not. inr (not.0, e ∙ not.1 ∙ sym e')) f
+suit_falls counts more blocks r inside one = sums_fall (slice_index counts) (slice_index more) (total blocks) r one.here one.elsewhere 9 inside
 
 pub entry_falls : EntryLaw
 entry_falls runs counts more caps sets pairs n m r inside one before after = (lower, raise)

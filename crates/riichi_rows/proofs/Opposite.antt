@@ -4,7 +4,7 @@ use Rattle.std.proofs.Common as width
 use Rattle.std.specs.Prelude.{◌↔◌, ◌||◌, IsTrue, if◌then◌else◌, nat_lt, nat_le}
 use Rattle.std.specs.Int.Bits.{and_zero_l}
 use Rattle.std.specs.List.{range_with_len}
-use Rattle.std.proofs.lemmas.Bool.{cases_lt, false≢true}
+use Rattle.std.proofs.lemmas.Bool.{cases_lt, false≢true, eq-eqb}
 use Rattle.std.proofs.lemmas.Bool.Decides.{nat_tests}
 use Rattle.std.proofs.lemmas.List.{get_or_append_left, get_or_default, get_or_at, get_or_past, get_or-map, length-map}
 use Rattle.std.proofs.lemmas.List.FromFn.{get_or-map-range_with_len, length-map-range_with_len}
@@ -45,9 +45,6 @@ turned_at xs long sets i few inside =
     get_or-map (λ k. get_or (xs ++ nones) k 0) (places sets) i 16 255 (omega arith)
     ∙ ap (λ k. get_or (xs ++ nones) k 0) (get_or-map-range_with_len (place sets) 0 16 i i 16 inside (omega arith))
     ∙ taken_at xs long (place sets i) (place_within sets i few)
-
-past_or_within : (sets s : ℕ) → (sets < s) ⊎ (s ≤ sets)
-past_or_within sets s = ⊎_elim (λ past. inl past) (λ within. inr (omega (arith, within))) (cases_lt sets s)
 
 opposite_is : (sets : ℕ) (f : ℕ → ℕ → ℕ) (s p : ℕ) → s ≤ sets → opposite sets f s p ≡ f (sets - s) (1 - p)
 opposite_is sets f s p within = grind (arith, nat_tests)
@@ -317,12 +314,9 @@ module _ (sums : List ℕ) (least : ℕ) (ls : length sums ≡ 16) where
         let both = mark_here t.place (eqb (get_or sums t.place 255) least) refl here (ap (λ n. has_bit n bit) (sym (chosen_at marks zeros lm refl t.place 0 here)) ∙ t.is) in
         record { place = t.place; inside = here; has_value = both.0; test = both.1 }
 
-    same_true : (a e : ℕ) → a ≡ e → eqb a e ≡ true
-    same_true a e h = grind (arith, nat_tests)
-
     marks_kept : (t : AtPlace sums least (λ k. nat_lt 0 (bit_and (get_or marks k 0) bit))) → IsTrue (has_bit (get_or kept t.place 0) bit)
     marks_kept t =
-        ap (λ n. has_bit n bit) (chosen_at marks zeros lm refl t.place 0 t.inside ∙ ap (λ (b : Bool). cond b (get_or marks t.place 0) (get_or zeros t.place 0)) (same_true (get_or sums t.place 255) least t.has_value)) ∙ t.test
+        ap (λ n. has_bit n bit) (chosen_at marks zeros lm refl t.place 0 t.inside ∙ ap (λ (b : Bool). cond b (get_or marks t.place 0) (get_or zeros t.place 0)) (eq-eqb (get_or sums t.place 255) least t.has_value)) ∙ t.test
 
     abbrev bit_passes : ℕ → ℕ → Bool
     bit_passes s p = nat_lt 0 (bit_and (mark marks s p) bit)
@@ -385,7 +379,7 @@ module _ (f g : ℕ → ℕ → ℕ) (sums : List ℕ) (sets least : ℕ) (few :
       }
 
   pub taken_is : SomeLane sums least passes ↔ TakenBefore f g marked sets least (sets + 1)
-  taken_is = (λ t. own t.sets t.pairs t.few_sets t.few_pairs t.has_value t.test (past_or_within sets t.sets), found)
+  taken_is = (λ t. own t.sets t.pairs t.few_sets t.few_pairs t.has_value t.test (cases_lt sets t.sets), found)
 
 pub through : {A B C : Type 0} → A ↔ B → B ↔ C → A ↔ C
 through x y = (λ a. y.0 (x.0 a), λ z. x.1 (y.1 z))
@@ -427,6 +421,11 @@ module _ (xs both : List ℕ) (n : ℕ) (at : (s : ℕ) → s < 5 → lane both 
       (λ e3. reached_at 3 (omega arith) (is ∙ e4 ∙ e3)) (min_is three (lane both 3 0)))
       (λ e4. reached_at 4 (omega arith) (is ∙ e4)) (min_is four (lane both 4 0))
 
+-- the sums of lanes with those that stand opposite
+pub opposite_sums : (f g : ℕ → ℕ → ℕ) (opposites sums : List ℕ) (sets : ℕ) → ((s p : ℕ) → s < 8 → p < 2 → lane sums s p ≡ capped (f s p + lane opposites s p)) → ((s p : ℕ) → s < 8 → p < 2 → lane opposites s p ≡ opposite sets g s p)
+    → (s p : ℕ) → s < 8 → p < 2 → lane sums s p ≡ capped (f s p + opposite sets g s p)
+opposite_sums f g opposites sums sets added turned s p hs hp = added s p hs hp ∙ ap (λ n. capped (f s p + n)) (turned s p hs hp)
+
 module _ (f g : ℕ → ℕ → ℕ) (sums : List ℕ) (sets n : ℕ) (few : sets ≤ 4) (sum : (s p : ℕ) → s < 8 → p < 2 → lane sums s p ≡ capped (f s p + opposite sets g s p))
     (bound : (s p : ℕ) → s < 5 → p < 2 → n ≤ lane sums s p) (at : LaneOf sums n) where
   sum_at : (s p : ℕ) → s ≤ sets → p < 2 → lane sums s p ≡ capped (f s p + g (sets - s) (1 - p))
@@ -449,6 +448,6 @@ module _ (f g : ℕ → ℕ → ℕ) (sums : List ℕ) (sets n : ℕ) (few : set
   pub taken_least : LeastTaken f g sets n (sets + 1)
   taken_least = record {
     bound = least_in;
-    reached = λ low. sum_reached at.sets at.pairs at.few_sets at.few_pairs at.has_value low (past_or_within sets at.sets);
+    reached = λ low. sum_reached at.sets at.pairs at.few_sets at.few_pairs at.has_value low (cases_lt sets at.sets);
     few = (let e = at.has_value in let whole = sum at.sets at.pairs (let low = at.few_sets in omega (arith, low)) at.few_pairs in omega (arith, e, whole));
   }

@@ -1,6 +1,6 @@
 -- Sums over successive numbers, and lists of a function's values.
-use Rattle.std.proofs.Common.{◌≡◌, ◌≢◌, ℕ, zero, suc, ◌+◌, ◌-◌, ◌<◌, ◌≤◌, cond, true, false, ◌⊎◌, inl, inr, List, [], ◌∷◌, eqb, get_or, refl, ap, ◌∙◌, ⊎_elim, arith}
-use Rattle.std.proofs.lemmas.Bool.{cases_lt}
+use Rattle.std.proofs.Common.{◌≡◌, ◌≢◌, ℕ, zero, suc, ◌+◌, ◌-◌, ◌<◌, ◌≤◌, cond, false, ◌⊎◌, inl, inr, List, [], ◌∷◌, eqb, get_or, refl, ap, ◌∙◌, ⊎_elim, arith, sym}
+use Rattle.std.proofs.lemmas.Bool.{cases_lt, eq-eqb}
 use Rattle.std.proofs.lemmas.Bool.Decides.{nat_tests}
 use Rattle.std.proofs.lemmas.List.Sums.{sum_by-cons}
 use Rattle.std.specs.Prelude.{sum_by}
@@ -17,20 +17,17 @@ unfolding spread
 sum_range f a zero = refl
 sum_range f a (suc n) = sum_by-cons f a (range_with_len (a + 1) n) ∙ ap (λ m. f a + m) (sum_range f (a + 1) n)
 
+pub same_spread : (f : ℕ → ℕ) (a b m n : ℕ) → a ≡ b → m ≡ n → spread f a m ≡ spread f b n
+same_spread f a b m n e e' = cc
+
 pub spread_add : (f : ℕ → ℕ) (a m n : ℕ) → spread f a (m + n) ≡ spread f a m + spread f (a + m) n
 unfolding spread
 spread_add f a zero n = let e = same_spread f a (a + 0) (0 + n) n (omega arith) (omega arith) in omega (arith, e)
-  where
-    same_spread : (f : ℕ → ℕ) (a b m n : ℕ) → a ≡ b → m ≡ n → spread f a m ≡ spread f b n
-    same_spread f a b m n e e' = cc
 spread_add f a (suc m) n =
     let e = same_spread f a a (suc m + n) (suc (m + n)) refl (omega arith) in
     let e' = same_spread f (a + 1 + m) (a + suc m) n n (omega arith) refl in
     omega (arith, e, spread_more f a (m + n), spread_add f (a + 1) m n, e')
   where
-    same_spread : (f : ℕ → ℕ) (a b m n : ℕ) → a ≡ b → m ≡ n → spread f a m ≡ spread f b n
-    same_spread f a b m n e e' = cc
-
     spread_more : (f : ℕ → ℕ) (a n : ℕ) → spread f a (suc n) ≡ f a + spread f (a + 1) n
     spread_more f a n = refl
 
@@ -71,12 +68,6 @@ table_at f a (suc n) (suc k) h = table_at f (a + 1) n k (omega arith) ∙ at_sam
 
 -- ---- one term more at one place
 
-pub eqb_is : (k t : ℕ) → eqb k t ≡ true → k ≡ t
-eqb_is k t e = grind (arith, nat_tests)
-
-pub is_eqb : (k t : ℕ) → k ≡ t → eqb k t ≡ true
-is_eqb k t e = grind (arith, nat_tests)
-
 pub not_eqb : (k t : ℕ) → (k < t) ⊎ (t < k) → eqb k t ≡ false
 not_eqb k t e = grind (arith, nat_tests)
 
@@ -86,7 +77,7 @@ module _ (f g e : ℕ → ℕ) (t : ℕ) (each : (k : ℕ) → f k ≡ g k + con
   at_other k h = each k ∙ ap (λ b. g k + cond b (e k) 0) (not_eqb k t h) ∙ omega arith
 
   at_point : f t ≡ g t + e t
-  at_point = each t ∙ ap (λ b. g t + cond b (e t) 0) (is_eqb t t refl)
+  at_point = each t ∙ ap (λ b. g t + cond b (e t) 0) (eq-eqb t t refl)
 
   spread_past : (a n : ℕ) → t < a → spread f a n ≡ spread g a n
   unfolding spread
@@ -122,12 +113,19 @@ module _ (h more w : ℕ → ℕ) (x : ℕ) (here : more x ≡ h x + 1) (elsewhe
 
       same : k ≡ x → w k - h k ≡ (w k - more k) + cond (eqb k x) d 0
       same e =
-          let one : cond (eqb k x) d 0 ≡ d = ap (λ b. cond b d 0) (is_eqb k x e) in
+          let one : cond (eqb k x) d 0 ≡ d = ap (λ b. cond b d 0) (eq-eqb k x e) in
           ⊎_elim (λ lacks. omega (arith, one, lacks, here, ap w e, ap h e, ap more e)) (λ not. omega (arith, one, not, here, ap w e, ap h e, ap more e)) is
 
-  pub falls : (n : ℕ) → x < n → Falls h w x (spread (λ k. w k - h k) 0 n) (spread (λ k. w k - more k) 0 n)
+  falls : (n : ℕ) → x < n → Falls h w x (spread (λ k. w k - h k) 0 n) (spread (λ k. w k - more k) 0 n)
   falls n inside =
       ⊎_elim
       (λ lacks. inl (lacks, spread_with (λ k. w k - h k) (λ k. w k - more k) (λ k. 1) x (λ k. one_term 1 k (inl (lacks, refl))) 0 n (omega arith) (omega arith)))
       (λ not. inr (not, spread_with (λ k. w k - h k) (λ k. w k - more k) (λ k. 0) x (λ k. one_term 0 k (inr (not, refl))) 0 n (omega arith) (omega arith) ∙ omega arith))
       (cases_lt (h x) (w x))
+
+  -- the sums over all numbers below n
+  pub sums_fall : (n : ℕ) → x < n → Falls h w x (sum_by (λ k. w k - h k) (range_with_len 0 n)) (sum_by (λ k. w k - more k) (range_with_len 0 n))
+  sums_fall n inside =
+      let e = sum_range (λ k. w k - h k) 0 n in
+      let e' = sum_range (λ k. w k - more k) 0 n in
+      ⊎_elim (λ lacks. inl (lacks.0, e ∙ lacks.1 ∙ ap (λ m. m + 1) (sym e'))) (λ not. inr (not.0, e ∙ not.1 ∙ sym e')) (falls n inside)

@@ -1,10 +1,11 @@
 -- One rank more: the least lack from a rank on, out of the least lacks from the next rank on.
-use Rattle.std.proofs.Common.{◌≡◌, ℕ, zero, suc, ◌+◌, ◌-◌, ◌*◌, ◌<◌, ◌≤◌, min, Bool, true, false, ◌⊎◌, inl, inr, List, [], ◌∷◌, refl, sym, ◌∙◌, ⊎_elim, arith}
+use Rattle.std.proofs.Common.{◌≡◌, ℕ, zero, suc, ◌+◌, ◌-◌, ◌*◌, ◌<◌, ◌≤◌, min, Bool, true, false, inl, inr, List, [], ◌∷◌, refl, sym, ◌∙◌, ⊎_elim, arith}
 use Rattle.std.proofs.lemmas.Bool.{false≢true}
 use Rattle.std.proofs.lemmas.Bool.Decides.{nat_tests}
 use Rattle.riichi_rows.specs.Lanes.{Agree, capped, nothing, with_set, with_pair}
 use Rattle.riichi_rows.specs.Open.{cost}
 use Rattle.riichi_rows.specs.Columns.{Column, held, MayRun, Fits, lack_from, sets_in, pairs_in, Reaches, LeastFrom, AreLeast}
+use Rattle.riichi_rows.proofs.Joins.{min_is, at_same}
 
 -- the best of adding nothing, a triplet or a pair to w tiles of the rank
 abbrev pub with_blocks : (ℕ → ℕ → ℕ) → ℕ → ℕ → ℕ → ℕ → ℕ → ℕ
@@ -71,9 +72,6 @@ module _ (f : ℕ → ℕ → ℕ) (w have limit : ℕ) where
       let r = sum_reached (f s p) have limit (w + 2) small in
       record { triplets = 0; pairs = 1; later_sets = s; later_pairs = p; in_cap = omega (arith, r.0); has_sets = omega arith; has_pairs = omega arith; below = r.2; value = omega (arith, r.1) }
 
-min_is : (a b : ℕ) → (min a b ≡ a) ⊎ (min a b ≡ b)
-min_is a b = grind arith
-
 blocks_reached : (f : ℕ → ℕ → ℕ) (w have limit s p v : ℕ) → v < 255 → v ≡ with_blocks f w have limit s p → Taken f w have limit s p v
 blocks_reached f w have limit s p v low e =
     let plain : ℕ = capped (f s p + cost have limit w) in
@@ -119,9 +117,6 @@ trade runs counts (k ∷ k' ∷ caps) u more a (x ∷ y ∷ xs) e fits =
     }
 
 -- ---- one rank
-
-at_same : (h : ℕ → ℕ → ℕ) (s s' p p' : ℕ) → s ≡ s' → p ≡ p' → h s p ≡ h s' p'
-at_same h s s' p p' es ep = cc
 
 least_blocks : (f : ℕ → ℕ → ℕ) (w have limit t d s' p' s p v : ℕ) → w + 3 * t + 2 * d ≤ limit → limit ≤ 4 → t + s' ≡ s → d + p' ≡ p → p < 2 → f s' p' ≤ v → with_blocks f w have limit s p ≤ (w + 3 * t + 2 * d - have) + v
 least_blocks f w have limit zero zero s' p' s p v h c es ep low le =

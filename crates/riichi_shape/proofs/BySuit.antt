@@ -10,7 +10,7 @@ use Rattle.riichi_tiles.specs.declared.block.Block.{Block}
 use Rattle.riichi_rows.specs.Suit.{is_set, is_pair, IsInSuit}
 use Rattle.riichi_tiles.specs.declared.block.Block.TheVariants.{Run, Triplet, Pair}
 use Rattle.riichi_shape.proofs.Counted.{IsOfKinds}
-use Rattle.riichi_rows.proofs.Blocks.{block_sum, block_sum-same, block_sum-cons, block_sum-nil, sum_by_is_sum, tiles_of, tiles_is_sum, set_of, has_pair}
+use Rattle.riichi_rows.proofs.Blocks.{no_block, block_sum-none, block_sum, block_sum-same, block_sum-cons, block_sum-nil, sum_by_is_sum, tiles_of, tiles_is_sum, set_of, has_pair}
 
 -- the lowest kind of a block
 abbrev start : Block → ℕ
@@ -199,17 +199,10 @@ tiles_within runs base r bs h all =
     ∙ block_sum-same_of (IsInSuit runs) (λ b. tiles_of (base + r) (raise base b)) (tiles_of r) (λ b inside. block_within runs base r b h inside) bs all
     ∙ sym (tiles_is_sum r bs)
 
-abbrev nothing_of : Block → ℕ
-nothing_of b = 0
-
-block_sum-nothing : (bs : List Block) → block_sum nothing_of bs ≡ 0
-block_sum-nothing [] = block_sum-nil nothing_of
-block_sum-nothing (b ∷ bs) = block_sum-cons nothing_of b bs ∙ omega (arith, block_sum-nothing bs)
-
 pub tiles_outside : (runs : Bool) (base k : ℕ) (bs : List Block) → (k < base) ⊎ (base + 9 ≤ k) → All (IsInSuit runs) bs → total (raised base bs) k ≡ 0
 tiles_outside runs base k bs h all =
     tiles_is_sum k (raised base bs) ∙ block_sum-raised (tiles_of k) base bs
-    ∙ block_sum-same_of (IsInSuit runs) (λ b. tiles_of k (raise base b)) nothing_of (λ b inside. block_outside runs base k b h inside) bs all ∙ block_sum-nothing bs
+    ∙ block_sum-same_of (IsInSuit runs) (λ b. tiles_of k (raise base b)) no_block (λ b inside. block_outside runs base k b h inside) bs all ∙ block_sum-none bs
 
 set_raise : (base : ℕ) (b : Block) → set_of (raise base b) ≡ set_of b
 set_raise base (Run k) = refl

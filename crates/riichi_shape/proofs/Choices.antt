@@ -1,7 +1,6 @@
 -- The list of the discards of a hand has those that leave the least, and no other.
-use Rattle.std.proofs.Common.{◌≡◌, ℕ, zero, suc, ◌<◌, ◌≤◌, Bool, true, false, cond, inl, inr, List, [], ◌∷◌, map, length, get_or, leb, ltb, sym, ap, ◌∙◌, ⊎_elim, subst, arith, Contains}
-use Rattle.std.proofs.lemmas.Bool.{and_parts, and_from}
-use Rattle.std.proofs.lemmas.Bool.Decides.{nat_tests}
+use Rattle.std.proofs.Common.{◌≡◌, ℕ, zero, suc, ◌<◌, Bool, true, false, cond, inl, inr, List, [], ◌∷◌, map, length, get_or, sym, ap, ◌∙◌, ⊎_elim, subst, arith, Contains}
+use Rattle.std.proofs.lemmas.Bool.{and_parts, and_from, ltb-true, lt-ltb, leb-true, le-leb}
 use Rattle.std.specs.List.{filter}
 use Rattle.std.specs.Prelude.{nat_le, slice_index}
 use Rattle.riichi_hand.specs.Hand.{is_thirteen}
@@ -63,18 +62,6 @@ from_in_order x (discard ∷ rest) h = ⊎_elim (λ here. inl here) (λ later. i
 
 -- ---- the test of a kind
 
-lt_from : (a b : ℕ) → ltb a b ≡ true → a < b
-lt_from a b e = grind (arith, nat_tests)
-
-lt_to : (a b : ℕ) → a < b → ltb a b ≡ true
-lt_to a b low = grind (arith, nat_tests)
-
-le_from : (a b : ℕ) → leb a b ≡ true → a ≤ b
-le_from a b e = grind (arith, nat_tests)
-
-le_to : (a b : ℕ) → a ≤ b → leb a b ≡ true
-le_to a b low = grind (arith, nat_tests)
-
 module _ (hand : List ℕ) (melds : List Meld) where
   abbrev leaves_no_more : ℕ → ℕ → Bool
   leaves_no_more kind other = nat_le (distance_without hand melds kind) (distance_without hand melds other)
@@ -83,20 +70,20 @@ module _ (hand : List ℕ) (melds : List Meld) where
   leaves_least kind low is =
       let tests = and_parts (is_held hand kind) (is_best hand melds kind) is in record {
         is_kind = low;
-        held = lt_from 0 (slice_index hand kind) tests.0;
+        held = ltb-true 0 (slice_index hand kind) tests.0;
         none_less = λ other small held.
-            le_from (distance_without hand melds kind) (distance_without hand melds other)
+            leb-true (distance_without hand melds kind) (distance_without hand melds other)
             (all_among (leaves_no_more kind) other (filter (is_held hand) every_kind) tests.1
-            (among_filter (is_held hand) other every_kind (among_range other 0 34 (omega arith) (omega (arith, small))) (lt_to 0 (slice_index hand other) held)));
+            (among_filter (is_held hand) other every_kind (among_range other 0 34 (omega arith) (omega (arith, small))) (lt-ltb 0 (slice_index hand other) held)));
       }
 
   is_chosen : (kind : ℕ) → LeavesLeast hand melds kind → is_discard hand melds kind ≡ true
   is_chosen kind least =
-      and_from (is_held hand kind) (is_best hand melds kind) (lt_to 0 (slice_index hand kind) least.held)
+      and_from (is_held hand kind) (is_best hand melds kind) (lt-ltb 0 (slice_index hand kind) least.held)
       (all_of (leaves_no_more kind) (filter (is_held hand) every_kind) (λ other h.
       (let kept = from_filter (is_held hand) other every_kind h in
       let within = from_range other 0 34 kept.0 in
-      le_to (distance_without hand melds kind) (distance_without hand melds other) (least.none_less other (omega (arith, within.1)) (lt_from 0 (slice_index hand other) kept.1)))))
+      le-leb (distance_without hand melds kind) (distance_without hand melds other) (least.none_less other (omega (arith, within.1)) (ltb-true 0 (slice_index hand other) kept.1)))))
 
   module _ (seen : List ℕ) where
     abbrev chosen : List Discard

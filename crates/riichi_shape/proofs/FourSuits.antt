@@ -19,7 +19,7 @@ use Rattle.riichi_shape.specs.Suits.{IsSuitOf}
 use Rattle.riichi_shape.specs.Winning.{IsSetsAndPair, WithinFour, lacking}
 use Rattle.riichi_shape.proofs.Counted.{AreCounted, IsOfKinds, counted, uncounted}
 use Rattle.riichi_rows.proofs.Blocks.{block_sum, block_sum-cons, block_sum-nil, tiles_of, tiles_is_sum, total-append, set_of, has_pair}
-use Rattle.riichi_rows.proofs.Spread.{spread, sum_range, spread_add, at_same_number, spread_shift, spread_none, table, table_at}
+use Rattle.riichi_rows.proofs.Spread.{same_spread, spread, sum_range, spread_add, at_same_number, spread_shift, spread_none, table, table_at}
 use Rattle.riichi_shape.proofs.BySuit.{part, IsBase, tiles_part, sets_by_suit, pairs_by_suit, part_in_suit, raised, tiles_within, tiles_outside, sets_raised, pairs_raised, raised_kinds, raised_honours}
 
 -- ---- a suit of a hand
@@ -43,14 +43,11 @@ module _ (hand : List ℕ) (melds : List Meld) (wanted : List ℕ) (base width :
   suit_sum =
       let whole = sum_range (λ r. total blocks r - slice_index counts r) 0 9 in
       let split = spread_add (λ r. total blocks r - slice_index counts r) 0 width (9 - width) in
-      let cut = same_length (λ r. total blocks r - slice_index counts r) 9 (width + (9 - width)) (omega arith) in
+      let cut = same_spread (λ r. total blocks r - slice_index counts r) 0 0 9 (width + (9 - width)) refl (omega arith) in
       let front = spread_shift (λ r. total blocks r - slice_index counts r) (λ k. slice_index wanted k - slice_index hand k) 0 base width at in
       let back = spread_none (λ r. total blocks r - slice_index counts r) (0 + width) (9 - width) past in
       whole ∙ cut ∙ split ∙ omega (arith, front, back)
     where
-      same_length : (f : ℕ → ℕ) (m n : ℕ) → m ≡ n → spread f 0 m ≡ spread f 0 n
-      same_length f m n e = ap (λ n. spread f 0 n) e
-
       sub_same : (a b c d : ℕ) → a ≡ b → c ≡ d → a - c ≡ b - d
       sub_same a b c d e e' = cc
 
@@ -62,7 +59,28 @@ module _ (hand : List ℕ) (melds : List Meld) (wanted : List ℕ) (base width :
       past : (r : ℕ) → 0 + width ≤ r → r < 0 + width + (9 - width) → total blocks r - slice_index counts r ≡ 0
       past r low high = omega (arith, in_caps r (omega arith), suit.none_past r (omega arith) (omega arith))
 
--- what one suit gives to a winning multiset
+-- ---- the entries of a row
+
+row_below : (runs : Bool) (counts caps : List ℕ) (row : ℕ → ℕ → Option ℕ) → IsSuitRow runs counts caps row → (s p : ℕ) → s ≤ 4 → p ≤ 1 → (bs : List Block) → IsChoice runs caps s p bs → (l : ℕ) × (row s p ≡ Some l) × (l ≤ lack counts bs)
+row_below runs counts caps row is s p hs hp bs choice = by_value (row s p) refl
+  where
+    by_value : (o : Option ℕ) → row s p ≡ o → (l : ℕ) × (row s p ≡ Some l) × (l ≤ lack counts bs)
+    by_value (Some l) e = let least = subst (λ (o : Option ℕ). IsLeastLack runs counts caps s p o) e (is.entry s p hs hp) in (l, e, least.1.bound bs choice)
+    by_value None e = let least = subst (λ (o : Option ℕ). IsLeastLack runs counts caps s p o) e (is.entry s p hs hp) in absurd (least bs choice)
+
+row_chosen : (runs : Bool) (counts caps : List ℕ) (row : ℕ → ℕ → Option ℕ) → IsSuitRow runs counts caps row → (s p l : ℕ) → s ≤ 4 → p ≤ 1 → row s p ≡ Some l → LackReached runs counts caps s p l
+row_chosen runs counts caps row is s p l hs hp e = (subst (λ (o : Option ℕ). IsLeastLack runs counts caps s p o) e (is.entry s p hs hp)).0
+
+-- ---- one suit of a winning multiset
+
+-- what one suit gives to a winning multiset: a choice of its blocks, what that lacks, and the entry of the suit's row
+record PartOf (runs : Bool) (base width : ℕ) (hand wanted counts caps : List ℕ) (row : ℕ → ℕ → Option ℕ) (blocks : List Block) : Type 0 where
+  pub choice : IsChoice runs caps (count_by is_set blocks) (count_by is_pair blocks) blocks
+  pub lacks : lack counts blocks ≡ spread (λ k. slice_index wanted k - slice_index hand k) base width
+  pub entry : ℕ
+  pub is_entry : row (count_by is_set blocks) (count_by is_pair blocks) ≡ Some entry
+  pub below : entry ≤ lack counts blocks
+
 module _ (hand : List ℕ) (melds : List Meld) (wanted : List ℕ) (sets : ℕ) (is : AreCounted sets wanted) (four : WithinFour melds wanted) (runs : Bool) (base width : ℕ) (counts caps : List ℕ) (is_base : IsBase base)
     (runs_here : IsTrue runs ⊎ (base ≡ 27)) (nine : width ≤ 9) (inside : base + width ≤ 34) (all_kinds : (width ≡ 9) ⊎ (base + width ≡ 34)) (suit : IsSuitOf base width hand melds counts caps) where
   abbrev suit_blocks : List Block
@@ -91,22 +109,19 @@ module _ (hand : List ℕ) (melds : List Meld) (wanted : List ℕ) (sets : ℕ) 
   suit_lack : lack counts suit_blocks ≡ spread (λ k. slice_index wanted k - slice_index hand k) base width
   suit_lack = suit_sum hand melds wanted base width counts caps suit nine suit_blocks suit_choice.in_caps (λ r h. omega (arith, suit_tiles r (omega arith), is.adds_up (base + r) (omega arith)))
 
+  suit_part : (row : ℕ → ℕ → Option ℕ) → IsSuitRow runs counts caps row → count_by is_set suit_blocks ≤ 4 → count_by is_pair suit_blocks ≤ 1 → PartOf runs base width hand wanted counts caps row suit_blocks
+  suit_part row is_row few_sets few_pairs =
+      let entry = row_below runs counts caps row is_row (count_by is_set suit_blocks) (count_by is_pair suit_blocks) few_sets few_pairs suit_blocks suit_choice in
+      record { choice = suit_choice; lacks = suit_lack; entry = entry.0; is_entry = entry.1; below = entry.2 }
+
+-- terms that are no greater, with a sum that is no less, are the same
+sums_meet : (a b c d e f g h : ℕ) → a ≤ e → b ≤ f → c ≤ g → d ≤ h → e + f + g + h ≤ a + b + c + d → (e ≡ a) × (f ≡ b) × (g ≡ c) × (h ≡ d)
+sums_meet a b c d e f g h first second third last sum = (omega arith, omega arith, omega arith, omega arith)
+
 lacking_by_suit : (hand wanted : List ℕ) → (let f = λ (k : ℕ). slice_index wanted k - slice_index hand k in lacking hand wanted ≡ spread f 0 9 + spread f 9 9 + spread f 18 9 + spread f 27 7)
 lacking_by_suit hand wanted =
     let f : ℕ → ℕ = λ k. slice_index wanted k - slice_index hand k in
     omega (arith, sum_range f 0 34, spread_add f 0 9 25, spread_add f 9 9 16, spread_add f 18 9 7)
-
--- ---- the entries of a row
-
-row_below : (runs : Bool) (counts caps : List ℕ) (row : ℕ → ℕ → Option ℕ) → IsSuitRow runs counts caps row → (s p : ℕ) → s ≤ 4 → p ≤ 1 → (bs : List Block) → IsChoice runs caps s p bs → (l : ℕ) × (row s p ≡ Some l) × (l ≤ lack counts bs)
-row_below runs counts caps row is s p hs hp bs choice = by_value (row s p) refl
-  where
-    by_value : (o : Option ℕ) → row s p ≡ o → (l : ℕ) × (row s p ≡ Some l) × (l ≤ lack counts bs)
-    by_value (Some l) e = let least = subst (λ (o : Option ℕ). IsLeastLack runs counts caps s p o) e (is.entry s p hs hp) in (l, e, least.1.bound bs choice)
-    by_value None e = let least = subst (λ (o : Option ℕ). IsLeastLack runs counts caps s p o) e (is.entry s p hs hp) in absurd (least bs choice)
-
-row_chosen : (runs : Bool) (counts caps : List ℕ) (row : ℕ → ℕ → Option ℕ) → IsSuitRow runs counts caps row → (s p l : ℕ) → s ≤ 4 → p ≤ 1 → row s p ≡ Some l → LackReached runs counts caps s p l
-row_chosen runs counts caps row is s p l hs hp e = (subst (λ (o : Option ℕ). IsLeastLack runs counts caps s p o) e (is.entry s p hs hp)).0
 
 -- the blocks of four suits together
 module _ (b0 b1 b2 b3 : List Block) (in0 : All (IsInSuit true) b0) (in1 : All (IsInSuit true) b1) (in2 : All (IsInSuit true) b2) (in3 : All (IsInSuit false) b3) where
@@ -165,43 +180,19 @@ module _ (hand : List ℕ) (melds : List Meld) (c0 c1 c2 c3 k0 k1 k2 k3 : List �
     pairs_split : count_by is_pair (part 0 is.blocks) + count_by is_pair (part 9 is.blocks) + count_by is_pair (part 18 is.blocks) + count_by is_pair (part 27 is.blocks) ≡ 1
     pairs_split = pairs_by_suit is.blocks is.of_kinds ∙ is.has_pair
 
-    choice0 : IsChoice true k0 (count_by is_set (part 0 is.blocks)) (count_by is_pair (part 0 is.blocks)) (part 0 is.blocks)
-    choice0 = suit_choice hand melds wanted sets is four true 0 9 c0 k0 (inl refl) (inl refl) (omega arith) (omega arith) (inl refl) suit0
+    part_0 : PartOf true 0 9 hand wanted c0 k0 a (part 0 is.blocks)
+    part_0 = suit_part hand melds wanted sets is four true 0 9 c0 k0 (inl refl) (inl refl) (omega arith) (omega arith) (inl refl) suit0 a row0 (omega (arith, sets_split)) (omega (arith, pairs_split))
 
-    lack0 : lack c0 (part 0 is.blocks) ≡ spread (λ k. slice_index wanted k - slice_index hand k) 0 9
-    lack0 = suit_lack hand melds wanted sets is four true 0 9 c0 k0 (inl refl) (inl refl) (omega arith) (omega arith) (inl refl) suit0
+    part_1 : PartOf true 9 9 hand wanted c1 k1 b (part 9 is.blocks)
+    part_1 = suit_part hand melds wanted sets is four true 9 9 c1 k1 (inr (inl refl)) (inl refl) (omega arith) (omega arith) (inl refl) suit1 b row1 (omega (arith, sets_split)) (omega (arith, pairs_split))
 
-    entry0 : (l : ℕ) × (a (count_by is_set (part 0 is.blocks)) (count_by is_pair (part 0 is.blocks)) ≡ Some l) × (l ≤ lack c0 (part 0 is.blocks))
-    entry0 = row_below true c0 k0 a row0 (count_by is_set (part 0 is.blocks)) (count_by is_pair (part 0 is.blocks)) (omega (arith, sets_split)) (omega (arith, pairs_split)) (part 0 is.blocks) choice0
+    part_2 : PartOf true 18 9 hand wanted c2 k2 c (part 18 is.blocks)
+    part_2 = suit_part hand melds wanted sets is four true 18 9 c2 k2 (inr (inr (inl refl))) (inl refl) (omega arith) (omega arith) (inl refl) suit2 c row2 (omega (arith, sets_split)) (omega (arith, pairs_split))
 
-    choice1 : IsChoice true k1 (count_by is_set (part 9 is.blocks)) (count_by is_pair (part 9 is.blocks)) (part 9 is.blocks)
-    choice1 = suit_choice hand melds wanted sets is four true 9 9 c1 k1 (inr (inl refl)) (inl refl) (omega arith) (omega arith) (inl refl) suit1
+    part_3 : PartOf false 27 7 hand wanted c3 k3 d (part 27 is.blocks)
+    part_3 = suit_part hand melds wanted sets is four false 27 7 c3 k3 (inr (inr (inr refl))) (inr refl) (omega arith) (omega arith) (inr refl) suit3 d row3 (omega (arith, sets_split)) (omega (arith, pairs_split))
 
-    lack1 : lack c1 (part 9 is.blocks) ≡ spread (λ k. slice_index wanted k - slice_index hand k) 9 9
-    lack1 = suit_lack hand melds wanted sets is four true 9 9 c1 k1 (inr (inl refl)) (inl refl) (omega arith) (omega arith) (inl refl) suit1
-
-    entry1 : (l : ℕ) × (b (count_by is_set (part 9 is.blocks)) (count_by is_pair (part 9 is.blocks)) ≡ Some l) × (l ≤ lack c1 (part 9 is.blocks))
-    entry1 = row_below true c1 k1 b row1 (count_by is_set (part 9 is.blocks)) (count_by is_pair (part 9 is.blocks)) (omega (arith, sets_split)) (omega (arith, pairs_split)) (part 9 is.blocks) choice1
-
-    choice2 : IsChoice true k2 (count_by is_set (part 18 is.blocks)) (count_by is_pair (part 18 is.blocks)) (part 18 is.blocks)
-    choice2 = suit_choice hand melds wanted sets is four true 18 9 c2 k2 (inr (inr (inl refl))) (inl refl) (omega arith) (omega arith) (inl refl) suit2
-
-    lack2 : lack c2 (part 18 is.blocks) ≡ spread (λ k. slice_index wanted k - slice_index hand k) 18 9
-    lack2 = suit_lack hand melds wanted sets is four true 18 9 c2 k2 (inr (inr (inl refl))) (inl refl) (omega arith) (omega arith) (inl refl) suit2
-
-    entry2 : (l : ℕ) × (c (count_by is_set (part 18 is.blocks)) (count_by is_pair (part 18 is.blocks)) ≡ Some l) × (l ≤ lack c2 (part 18 is.blocks))
-    entry2 = row_below true c2 k2 c row2 (count_by is_set (part 18 is.blocks)) (count_by is_pair (part 18 is.blocks)) (omega (arith, sets_split)) (omega (arith, pairs_split)) (part 18 is.blocks) choice2
-
-    choice3 : IsChoice false k3 (count_by is_set (part 27 is.blocks)) (count_by is_pair (part 27 is.blocks)) (part 27 is.blocks)
-    choice3 = suit_choice hand melds wanted sets is four false 27 7 c3 k3 (inr (inr (inr refl))) (inr refl) (omega arith) (omega arith) (inr refl) suit3
-
-    lack3 : lack c3 (part 27 is.blocks) ≡ spread (λ k. slice_index wanted k - slice_index hand k) 27 7
-    lack3 = suit_lack hand melds wanted sets is four false 27 7 c3 k3 (inr (inr (inr refl))) (inr refl) (omega arith) (omega arith) (inr refl) suit3
-
-    entry3 : (l : ℕ) × (d (count_by is_set (part 27 is.blocks)) (count_by is_pair (part 27 is.blocks)) ≡ Some l) × (l ≤ lack c3 (part 27 is.blocks))
-    entry3 = row_below false c3 k3 d row3 (count_by is_set (part 27 is.blocks)) (count_by is_pair (part 27 is.blocks)) (omega (arith, sets_split)) (omega (arith, pairs_split)) (part 27 is.blocks) choice3
-
-    entries_of : (n : ℕ) → entry0.0 + entry1.0 + entry2.0 + entry3.0 ≡ n → EntriesSum a b c d sets n
+    entries_of : (n : ℕ) → part_0.entry + part_1.entry + part_2.entry + part_3.entry ≡ n → EntriesSum a b c d sets n
     entries_of n total = record {
       split = record {
         sets_0 = count_by is_set (part 0 is.blocks);
@@ -215,24 +206,27 @@ module _ (hand : List ℕ) (melds : List Meld) (c0 c1 c2 c3 k0 k1 k2 k3 : List �
       };
       has_sets = sets_split;
       has_pair = pairs_split;
-      lack_0 = entry0.0;
-      lack_1 = entry1.0;
-      lack_2 = entry2.0;
-      lack_3 = entry3.0;
-      entry_0 = entry0.1;
-      entry_1 = entry1.1;
-      entry_2 = entry2.1;
-      entry_3 = entry3.1;
+      lack_0 = part_0.entry;
+      lack_1 = part_1.entry;
+      lack_2 = part_2.entry;
+      lack_3 = part_3.entry;
+      entry_0 = part_0.is_entry;
+      entry_1 = part_1.is_entry;
+      entry_2 = part_2.is_entry;
+      entry_3 = part_3.is_entry;
       total = total;
     }
 
-    sum_below : entry0.0 + entry1.0 + entry2.0 + entry3.0 ≤ lacking hand wanted
-    sum_below = omega (arith, lacking_by_suit hand wanted, lack0, lack1, lack2, lack3, entry0.2, entry1.2, entry2.2, entry3.2)
+    all_lacks : lacking hand wanted ≡ lack c0 (part 0 is.blocks) + lack c1 (part 9 is.blocks) + lack c2 (part 18 is.blocks) + lack c3 (part 27 is.blocks)
+    all_lacks = omega (arith, lacking_by_suit hand wanted, part_0.lacks, part_1.lacks, part_2.lacks, part_3.lacks)
+
+    sum_below : part_0.entry + part_1.entry + part_2.entry + part_3.entry ≤ lacking hand wanted
+    sum_below = omega (arith, all_lacks, part_0.below, part_1.below, part_2.below, part_3.below)
 
     -- where the multiset lacks least, so does each suit's part of it
     module _ (n x : ℕ) (inside : x < 34) (least : IsLeastJoin a b c d sets (Some n)) (lacks : lacking hand wanted ≡ n) (lacks_kind : slice_index hand x < slice_index wanted x) where
-      sum_least : n ≤ entry0.0 + entry1.0 + entry2.0 + entry3.0
-      sum_least = least.1 (entry0.0 + entry1.0 + entry2.0 + entry3.0) (entries_of (entry0.0 + entry1.0 + entry2.0 + entry3.0) refl)
+      sum_least : n ≤ part_0.entry + part_1.entry + part_2.entry + part_3.entry
+      sum_least = least.1 (part_0.entry + part_1.entry + part_2.entry + part_3.entry) (entries_of (part_0.entry + part_1.entry + part_2.entry + part_3.entry) refl)
 
       part_lacks : (base : ℕ) → IsBase base → (counts : List ℕ) → base ≤ x → x - base < 9 → slice_index counts (x - base) ≡ slice_index hand (base + (x - base)) → slice_index counts (x - base) < total (part base is.blocks) (x - base)
       part_lacks base is_base counts low high same =
@@ -240,77 +234,28 @@ module _ (hand : List ℕ) (melds : List Meld) (c0 c1 c2 c3 k0 k1 k2 k3 : List �
           let t = tiles_part base (x - base) is.blocks is_base high is.of_kinds in
           omega (arith, t, same, is.adds_up x inside, lacks_kind, ap (total is.blocks) place, ap (slice_index hand) place)
 
-      in_suit0 : 0 ≤ x → x < 0 + 9 → EntryLacks a b c d c0 c1 c2 c3 k0 k1 k2 k3 sets n x
-      unfolding entries_of entry0
-      in_suit0 low high =
-          let it : SuitLacks true 0 c0 k0 (count_by is_set (part 0 is.blocks)) (count_by is_pair (part 0 is.blocks)) entry0.0 x =
-          record {
-            rank = x - 0;
-            is_rank = omega arith;
-            is_kind = omega arith;
-            choice = record {
-              blocks = part 0 is.blocks;
-              is_choice = choice0;
-              lacks = omega (arith, lacking_by_suit hand wanted, lack0, lack1, lack2, lack3, entry0.2, entry1.2, entry2.2, entry3.2, sum_least, lacks);
-              lacks_rank = part_lacks 0 (inl refl) c0 low (omega arith) (suit0.counts_at (x - 0) (omega arith));
-            };
-          } in
-          record { entries = entries_of n (omega (arith, sum_least, sum_below, lacks)); lacks_kind = inl it }
-
-      in_suit1 : 9 ≤ x → x < 9 + 9 → EntryLacks a b c d c0 c1 c2 c3 k0 k1 k2 k3 sets n x
-      unfolding entries_of entry1
-      in_suit1 low high =
-          let it : SuitLacks true 9 c1 k1 (count_by is_set (part 9 is.blocks)) (count_by is_pair (part 9 is.blocks)) entry1.0 x =
-          record {
-            rank = x - 9;
-            is_rank = omega arith;
-            is_kind = omega arith;
-            choice = record {
-              blocks = part 9 is.blocks;
-              is_choice = choice1;
-              lacks = omega (arith, lacking_by_suit hand wanted, lack0, lack1, lack2, lack3, entry0.2, entry1.2, entry2.2, entry3.2, sum_least, lacks);
-              lacks_rank = part_lacks 9 (inr (inl refl)) c1 low (omega arith) (suit1.counts_at (x - 9) (omega arith));
-            };
-          } in
-          record { entries = entries_of n (omega (arith, sum_least, sum_below, lacks)); lacks_kind = inr (inl it) }
-
-      in_suit2 : 18 ≤ x → x < 18 + 9 → EntryLacks a b c d c0 c1 c2 c3 k0 k1 k2 k3 sets n x
-      unfolding entries_of entry2
-      in_suit2 low high =
-          let it : SuitLacks true 18 c2 k2 (count_by is_set (part 18 is.blocks)) (count_by is_pair (part 18 is.blocks)) entry2.0 x =
-          record {
-            rank = x - 18;
-            is_rank = omega arith;
-            is_kind = omega arith;
-            choice = record {
-              blocks = part 18 is.blocks;
-              is_choice = choice2;
-              lacks = omega (arith, lacking_by_suit hand wanted, lack0, lack1, lack2, lack3, entry0.2, entry1.2, entry2.2, entry3.2, sum_least, lacks);
-              lacks_rank = part_lacks 18 (inr (inr (inl refl))) c2 low (omega arith) (suit2.counts_at (x - 18) (omega arith));
-            };
-          } in
-          record { entries = entries_of n (omega (arith, sum_least, sum_below, lacks)); lacks_kind = inr (inr (inl it)) }
-
-      in_suit3 : 27 ≤ x → x < 27 + 7 → EntryLacks a b c d c0 c1 c2 c3 k0 k1 k2 k3 sets n x
-      unfolding entries_of entry3
-      in_suit3 low high =
-          let it : SuitLacks false 27 c3 k3 (count_by is_set (part 27 is.blocks)) (count_by is_pair (part 27 is.blocks)) entry3.0 x =
-          record {
-            rank = x - 27;
-            is_rank = omega arith;
-            is_kind = omega arith;
-            choice = record {
-              blocks = part 27 is.blocks;
-              is_choice = choice3;
-              lacks = omega (arith, lacking_by_suit hand wanted, lack0, lack1, lack2, lack3, entry0.2, entry1.2, entry2.2, entry3.2, sum_least, lacks);
-              lacks_rank = part_lacks 27 (inr (inr (inr refl))) c3 low (omega arith) (suit3.counts_at (x - 27) (omega arith));
-            };
-          } in
-          record { entries = entries_of n (omega (arith, sum_least, sum_below, lacks)); lacks_kind = inr (inr (inr it)) }
+      in_suit : (runs : Bool) (base width : ℕ) (counts caps : List ℕ) (row : ℕ → ℕ → Option ℕ) (own : PartOf runs base width hand wanted counts caps row (part base is.blocks)) → lack counts (part base is.blocks) ≡ own.entry → IsBase base → IsSuitOf base width hand melds counts caps →
+          width ≤ 9 → base ≤ x → x < base + width → SuitLacks runs base counts caps (count_by is_set (part base is.blocks)) (count_by is_pair (part base is.blocks)) own.entry x
+      in_suit runs base width counts caps row own exact is_base suit nine low high = record {
+        rank = x - base;
+        is_rank = omega arith;
+        is_kind = omega arith;
+        choice = record { blocks = part base is.blocks; is_choice = own.choice; lacks = exact; lacks_rank = part_lacks base is_base counts low (omega arith) (suit.counts_at (x - base) (omega arith)) };
+      }
 
       entry_lacks : EntryLacks a b c d c0 c1 c2 c3 k0 k1 k2 k3 sets n x
+      unfolding entries_of
       entry_lacks =
-          ⊎_elim (λ low. in_suit0 (omega arith) (omega arith)) (λ past0. ⊎_elim (λ low. in_suit1 (omega arith) (omega arith)) (λ past1. ⊎_elim (λ low. in_suit2 (omega arith) (omega arith)) (λ past2. in_suit3 (omega arith) (omega arith)) (cases_lt x 27)) (cases_lt x 18)) (cases_lt x 9)
+          let exact = sums_meet part_0.entry part_1.entry part_2.entry part_3.entry (lack c0 (part 0 is.blocks)) (lack c1 (part 9 is.blocks)) (lack c2 (part 18 is.blocks)) (lack c3 (part 27 is.blocks))
+          part_0.below part_1.below part_2.below part_3.below (omega (arith, all_lacks, sum_least, lacks)) in
+          record {
+            entries = entries_of n (omega (arith, sum_least, sum_below, lacks));
+            lacks_kind = ⊎_elim (λ low. inl (in_suit true 0 9 c0 k0 a part_0 exact.0 (inl refl) suit0 (omega arith) (omega arith) (omega arith)))
+                (λ past0. ⊎_elim (λ low. inr (inl (in_suit true 9 9 c1 k1 b part_1 exact.1 (inr (inl refl)) suit1 (omega arith) (omega arith) (omega arith))))
+                (λ past1. ⊎_elim (λ low. inr (inr (inl (in_suit true 18 9 c2 k2 c part_2 exact.2 (inr (inr (inl refl))) suit2 (omega arith) (omega arith) (omega arith)))))
+                (λ past2. inr (inr (inr (in_suit false 27 7 c3 k3 d part_3 exact.3 (inr (inr (inr refl))) suit3 (omega arith) (omega arith) (omega arith)))))
+                (cases_lt x 27)) (cases_lt x 18)) (cases_lt x 9);
+          }
 
   -- ---- four choices make a winning multiset
 
@@ -407,45 +352,28 @@ module _ (hand : List ℕ) (melds : List Meld) (c0 c1 c2 c3 k0 k1 k2 k3 : List �
           lacks = omega (arith, lacking_by_suit hand chosen_wanted, l0, l1, l2, l3, chosen0.lacks, chosen1.lacks, chosen2.lacks, chosen3.lacks, e.total);
         }
 
-    lacks_in0 : (x r : ℕ) → x ≡ 0 + r → r < 9 → slice_index c0 r < total chosen0.blocks r → StandardLacks hand melds sets n x
+    lacks_at : (base width : ℕ) (counts caps : List ℕ) → IsSuitOf base width hand melds counts caps → (bs : List Block) → ((r : ℕ) → r < width → slice_index chosen_wanted (base + r) ≡ total bs r) →
+        (x r : ℕ) → x ≡ base + r → r < width → slice_index counts r < total bs r → StandardLacks hand melds sets n x
     unfolding chosen
-    lacks_in0 x r e_x low more = record {
+    lacks_at base width counts caps suit bs here x r e_x low more = record {
       wanted = chosen.wanted;
       sets_and_pair = chosen.sets_and_pair;
       within_four = chosen.within_four;
       lacks = chosen.lacks;
-      lacks_kind = (let at = at_0 r low in omega (arith, at, suit0.counts_at r low, more, ap (slice_index hand) e_x, ap (slice_index chosen_wanted) e_x));
+      lacks_kind = (let at = here r low in omega (arith, at, suit.counts_at r low, more, ap (slice_index hand) e_x, ap (slice_index chosen_wanted) e_x));
     }
+
+    lacks_in0 : (x r : ℕ) → x ≡ 0 + r → r < 9 → slice_index c0 r < total chosen0.blocks r → StandardLacks hand melds sets n x
+    lacks_in0 = lacks_at 0 9 c0 k0 suit0 chosen0.blocks at_0
 
     lacks_in1 : (x r : ℕ) → x ≡ 9 + r → r < 9 → slice_index c1 r < total chosen1.blocks r → StandardLacks hand melds sets n x
-    unfolding chosen
-    lacks_in1 x r e_x low more = record {
-      wanted = chosen.wanted;
-      sets_and_pair = chosen.sets_and_pair;
-      within_four = chosen.within_four;
-      lacks = chosen.lacks;
-      lacks_kind = (let at = at_1 r low in omega (arith, at, suit1.counts_at r low, more, ap (slice_index hand) e_x, ap (slice_index chosen_wanted) e_x));
-    }
+    lacks_in1 = lacks_at 9 9 c1 k1 suit1 chosen1.blocks at_1
 
     lacks_in2 : (x r : ℕ) → x ≡ 18 + r → r < 9 → slice_index c2 r < total chosen2.blocks r → StandardLacks hand melds sets n x
-    unfolding chosen
-    lacks_in2 x r e_x low more = record {
-      wanted = chosen.wanted;
-      sets_and_pair = chosen.sets_and_pair;
-      within_four = chosen.within_four;
-      lacks = chosen.lacks;
-      lacks_kind = (let at = at_2 r low in omega (arith, at, suit2.counts_at r low, more, ap (slice_index hand) e_x, ap (slice_index chosen_wanted) e_x));
-    }
+    lacks_in2 = lacks_at 18 9 c2 k2 suit2 chosen2.blocks at_2
 
     lacks_in3 : (x r : ℕ) → x ≡ 27 + r → r < 7 → slice_index c3 r < total chosen3.blocks r → StandardLacks hand melds sets n x
-    unfolding chosen
-    lacks_in3 x r e_x low more = record {
-      wanted = chosen.wanted;
-      sets_and_pair = chosen.sets_and_pair;
-      within_four = chosen.within_four;
-      lacks = chosen.lacks;
-      lacks_kind = (let at = at_3 r low in omega (arith, at, suit3.counts_at r low, more, ap (slice_index hand) e_x, ap (slice_index chosen_wanted) e_x));
-    }
+    lacks_in3 = lacks_at 27 7 c3 k3 suit3 chosen3.blocks at_3
 
   -- the join of the rows is the least lack
   pub standard_least : (o : Option ℕ) → IsLeastJoin a b c d sets o → IsLeastStandard hand melds sets o

@@ -7,14 +7,15 @@ use Rattle.riichi_rows.specs.declared.joined.JoinedRows.{JoinedRows}
 use Rattle.riichi_rows.specs.declared.row.SuitRow.{SuitRow}
 use Rattle.riichi_rows.proofs.JoinOrders.{join_swapped, join_turned}
 use Rattle.riichi_shape.specs.Distance.{IsLeastStandard}
-use Rattle.riichi_shape.specs.Rows.{AreJoinsBeside, AreJoinsOf, AreRowsOf, IsMeldedFew, with_bamboos, with_characters, with_circles, with_honours}
+use Rattle.riichi_shape.specs.Rows.{AreFormsOf, AreJoinsBeside, AreJoinsOf, AreRowsOf, IsMeldedFew, with_bamboos, with_characters, with_circles, with_honours}
 use Rattle.riichi_shape.specs.Suits.{IsRowOf}
+use Rattle.riichi_shape.specs.declared.hand_forms.HandForms.{HandForms}
 use Rattle.riichi_shape.specs.declared.hand_joins.HandJoins.{HandJoins}
 use Rattle.riichi_shape.specs.declared.hand_rows.HandRows.{HandRows}
 use Rattle.riichi_shape.proofs.FourSuits.{standard_least}
 use Rattle.riichi_shape.proofs.KeptRows.{row_kept}
 
-pub least_by_rows : (hand : List ℕ) (melds : List Meld) (rows : HandRows) → AreRowsOf hand melds rows → IsMeldedFew melds → (sets : ℕ) → sets ≤ 4 → (least : Option ℕ) →
+least_by_rows : (hand : List ℕ) (melds : List Meld) (rows : HandRows) → AreRowsOf hand melds rows → IsMeldedFew melds → (sets : ℕ) → sets ≤ 4 → (least : Option ℕ) →
     IsLeastJoin (entries_of rows.characters) (entries_of rows.circles) (entries_of rows.bamboos) (entries_of rows.honours) sets least → IsLeastStandard hand melds sets least
 least_by_rows hand melds rows are few sets in_hand least join =
     standard_least hand melds
@@ -27,6 +28,11 @@ least_by_rows hand melds rows are few sets in_hand least join =
 -- the least joins of a row with a join of three rows
 abbrev pub JoinsWith : SuitRow → JoinedRows → ℕ → Option ℕ → Type 0
 JoinsWith row joined sets least = (b c d : SuitRow) → AreJoinedThree b c d joined → IsLeastJoin (entries_of row) (entries_of b) (entries_of c) (entries_of d) sets least
+
+pub least_by_forms : (hand : List ℕ) (melds : List Meld) (forms : HandForms) → AreFormsOf hand melds forms → IsMeldedFew melds → (sets : ℕ) → sets ≤ 4 → (least : Option ℕ) →
+    JoinsWith forms.rows.characters forms.joins.beside_characters sets least → IsLeastStandard hand melds sets least
+least_by_forms hand melds forms are few sets in_hand least join =
+    least_by_rows hand melds forms.rows are.are_rows few sets in_hand least (join forms.rows.circles forms.rows.bamboos forms.rows.honours are.are_joins.beside_characters)
 
 module _ (kind : ℕ) (hand : List ℕ) (melds : List Meld) (joins : HandJoins) (are : AreJoinsBeside kind hand melds joins) (few : IsMeldedFew melds) (sets : ℕ) (in_hand : sets ≤ 4) (row : SuitRow) (least : Option ℕ) where
   rows : HandRows

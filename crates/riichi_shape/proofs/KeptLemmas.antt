@@ -1,6 +1,6 @@
 -- The discards that are kept, and those that they tell.
 use Rattle.std.proofs.Common.{◌≡◌, ℕ, zero, suc, ◌+◌, ◌*◌, ◌^◌, ◌/◌, ◌%◌, ◌<◌, ◌≤◌, Bool, true, false, cond, Option, Some, None, List, [], ◌∷◌, map, get_or, length, max, refl, sym, ap, ◌∙◌, subst, arith}
-use Rattle.std.proofs.lemmas.Bool.Decides.{nat_tests}
+use Rattle.std.proofs.lemmas.Bool.{or_left, or_right, lt-ltb}
 use Rattle.std.proofs.lemmas.List.FromFn.{get_or-map-range_with_len, length-map-range_with_len}
 use Rattle.std.proofs.lemmas.Option.{slice_get-map}
 use Rattle.std.proofs.lemmas.Simd.{mask_l-lt}
@@ -32,10 +32,7 @@ unfolding kinds_in
 has_kind_in pairs kind low = marked_at (map (λ kind. nat_lt 0 (copies_in pairs kind)) every_kind) kind ∙ get_or-map-range_with_len (λ kind. nat_lt 0 (copies_in pairs kind)) 0 34 kind kind false low (omega arith)
 
 some_at : (h : Bool) (c : ℕ) → (h ≡ true → 0 < c) → nat_lt 0 (cond h c 0) ≡ h
-some_at true c some = positive c (some refl)
-  where
-    positive : (c : ℕ) → 0 < c → nat_lt 0 c ≡ true
-    positive c h = grind (arith, nat_tests)
+some_at true c some = lt-ltb 0 c (some refl)
 some_at false c some = refl
 
 copies_of : (copies : List ℕ) (set kind : ℕ) → kind < 34 → copies_in (pairs_of (copies_among copies set)) kind ≡ copies_at copies set kind
@@ -109,15 +106,7 @@ module _ (copies : List ℕ) where
 
     all_within : (order : List KeptDiscard) → ((kind : ℕ) → list_any (λ kept. has_kind (kinds_of kept) kind) order ≡ true → has_kind set kind ≡ true) → AllWithin order
     all_within [] any = tt
-    all_within (kept ∷ order) any = (λ kind low h. any kind (at_first (has_kind (kinds_of kept) kind) (list_any (λ kept. has_kind (kinds_of kept) kind) order) h), all_within order (λ kind h. any kind (at_later (has_kind (kinds_of kept) kind) (list_any (λ kept. has_kind (kinds_of kept) kind) order) h)))
-      where
-        at_first : (a b : Bool) → a ≡ true → (a || b) ≡ true
-        at_first true b e = refl
-        at_first false b e = cc
-
-        at_later : (a b : Bool) → b ≡ true → (a || b) ≡ true
-        at_later true b e = refl
-        at_later false b e = e
+    all_within (kept ∷ order) any = (λ kind low h. any kind (or_left (has_kind (kinds_of kept) kind) (list_any (λ kept. has_kind (kinds_of kept) kind) order) h), all_within order (λ kind h. any kind (or_right (has_kind (kinds_of kept) kind) (list_any (λ kept. has_kind (kinds_of kept) kind) order) h)))
 
     same_told : (kept : KeptDiscard) → Within kept → told (copies_among copies set) kept ≡ told copies kept
     same_told kept within = same_discard (ap pairs_of (among_same (copies_among copies set) copies (kinds_of kept) (kinds_of kept) each))

@@ -1,7 +1,7 @@
 -- Sets of kinds as numbers.
 use Rattle.std.proofs.Common.{◌≡◌, ℕ, zero, suc, ◌+◌, ◌-◌, ◌*◌, ◌^◌, ◌<◌, ◌≤◌, Bool, true, false, cond, List, [], ◌∷◌, map, drop, get_or, length, max, min, ltb, refl, sym, ap, ◌∙◌, ⊎_elim, arith, bit_and}
 use Rattle.std.proofs.lemmas.Bool.Decides.{nat_tests}
-use Rattle.std.proofs.lemmas.Bool.{cases_lt}
+use Rattle.std.proofs.lemmas.Bool.{cases_lt, lt-ltb, le-ltb}
 use Rattle.std.proofs.lemmas.List.{ext_get_or, length-drop, length-map}
 use Rattle.std.proofs.lemmas.List.FromFn.{get_or-map-range_with_len, length-map-range_with_len}
 use Rattle.std.proofs.lemmas.Nat.Bits.{bit_at-lt, bit_at_and, bit_at_cat_high, bit_at_cat_low, bit_at_ones, bit_at_or, same_from_bits_below}
@@ -122,12 +122,6 @@ in_seven n kind low = both_at n 127 kind ∙ ap (λ b. has_kind n kind && (b == 
     and_true true = refl
     and_true false = refl
 
-lower_than : (m n : ℕ) → m < n → ltb m n ≡ true
-lower_than m n h = grind (arith, nat_tests)
-
-not_lower : (m n : ℕ) → n ≤ m → ltb m n ≡ false
-not_lower m n h = grind (arith, nat_tests)
-
 module _ (suits : SuitsLacked) (m p s h n : ℕ) (m_low : m < 512) (p_low : p < 512) (s_low : s < 512) (is : n ≡ ((bit_and h 127 * 512 + s) * 512 + p) * 512 + m)
     (m_is : (rank : ℕ) → rank < 9 → has_kind m rank ≡ has_rank suits.characters rank) (p_is : (rank : ℕ) → rank < 9 → has_kind p rank ≡ has_rank suits.circles rank)
     (s_is : (rank : ℕ) → rank < 9 → has_kind s rank ≡ has_rank suits.bamboos rank) (h_is : (rank : ℕ) → rank < 9 → has_kind h rank ≡ has_rank suits.honours rank) where
@@ -151,10 +145,10 @@ module _ (suits : SuitsLacked) (m p s h n : ℕ) (m_low : m < 512) (p_low : p < 
 
   pub suits_at : (kind : ℕ) → kind < 34 → has_kind n kind ≡ suits_lack suits kind
   suits_at kind inside =
-      ⊎_elim (λ low. in_lower ((bit_and h 127 * 512 + s) * 512 + p) m n m_low is kind low ∙ m_is kind low ∙ tested kind true (ltb kind 18) (ltb kind 27) (lower_than kind 9 low) refl refl)
+      ⊎_elim (λ low. in_lower ((bit_and h 127 * 512 + s) * 512 + p) m n m_low is kind low ∙ m_is kind low ∙ tested kind true (ltb kind 18) (ltb kind 27) (lt-ltb kind 9 low) refl refl)
       (λ high. ⊎_elim (λ low. first kind high ∙ in_lower (bit_and h 127 * 512 + s) p ((bit_and h 127 * 512 + s) * 512 + p) p_low refl (kind - 9) (omega arith) ∙ p_is (kind - 9) (omega arith)
-      ∙ tested kind false true (ltb kind 27) (not_lower kind 9 high) (lower_than kind 18 low) refl)
+      ∙ tested kind false true (ltb kind 27) (le-ltb kind 9 high) (lt-ltb kind 18 low) refl)
       (λ high'. ⊎_elim (λ low. second kind high' ∙ in_lower (bit_and h 127) s (bit_and h 127 * 512 + s) s_low refl (kind - 18) (omega arith) ∙ s_is (kind - 18) (omega arith)
-      ∙ tested kind false false true (not_lower kind 9 high) (not_lower kind 18 high') (lower_than kind 27 low))
-      (λ high''. third kind high'' ∙ in_seven h (kind - 27) (omega arith) ∙ h_is (kind - 27) (omega arith) ∙ tested kind false false false (not_lower kind 9 high) (not_lower kind 18 high') (not_lower kind 27 high''))
+      ∙ tested kind false false true (le-ltb kind 9 high) (le-ltb kind 18 high') (lt-ltb kind 27 low))
+      (λ high''. third kind high'' ∙ in_seven h (kind - 27) (omega arith) ∙ h_is (kind - 27) (omega arith) ∙ tested kind false false false (le-ltb kind 9 high) (le-ltb kind 18 high') (le-ltb kind 27 high''))
       (cases_lt kind 27)) (cases_lt kind 18)) (cases_lt kind 9)

@@ -1,14 +1,16 @@
 -- Live copies as counts and as pairs.
 use Rattle.std.proofs.Common.{◌≡◌, ℕ, zero, suc, ◌+◌, ◌<◌, ◌≤◌, Bool, true, false, cond, List, [], ◌∷◌, map, length, take, get_or, eqb, ltb, refl, sym, ap, ◌∙◌, inl, subst, arith}
+use Rattle.std.proofs.lemmas.Bool.{ltb-true}
+use Rattle.std.proofs.lemmas.List.FromFn.{get_or-map-range_with_len, length-map-range_with_len}
 use Rattle.std.proofs.lemmas.Bool.Decides.{nat_tests}
 use Rattle.std.proofs.lemmas.List.{ext_get_or, take_all}
 use Rattle.std.proofs.lemmas.List.Sums.{sum_by-cons}
 use Rattle.std.specs.List.{filter, range_with_len, sum}
 use Rattle.std.specs.Prelude.{slice_index, sum_by, nat_lt, ◌==◌}
 use Rattle.riichi_tiles.specs.Melds.{every_kind}
-use Rattle.riichi_rows.proofs.Spread.{spread, spread_none, spread_shift, spread_with}
+use Rattle.riichi_rows.proofs.Spread.{same_spread, spread, spread_none, spread_shift, spread_with}
 use Rattle.riichi_shape.specs.LiveCopies.{AreLive, copies_from, copies_in, live_in, pairs_of}
-use Rattle.riichi_shape.proofs.Members.{Among, from_filter, from_map, length_map_range, map_range_at}
+use Rattle.riichi_shape.proofs.Members.{Among, from_filter, from_map}
 use Rattle.riichi_shape.proofs.PairLemmas.{spread_total, sum_is_total}
 
 -- ---- a sum over the chosen of successive numbers
@@ -38,40 +40,26 @@ copies_told copies kind low =
 some_live : (h : ℕ) → cond (ltb 0 h) h 0 ≡ h
 some_live h = grind (arith, nat_tests)
 
-same_length : (f : ℕ → ℕ) (m n : ℕ) → m ≡ n → spread f 0 m ≡ spread f 0 n
-same_length f m n e = ap (λ n. spread f 0 n) e
-
 pub live_told : (copies : List ℕ) → length copies ≡ 34 → live_in (pairs_of copies) ≡ sum copies
 unfolding pairs_of
 live_told copies long =
     sum_filtered (λ k. (k, slice_index copies k)) (λ k. nat_lt 0 (slice_index copies k)) (λ pair. pair.1) 0 34
     ∙ spread_shift (λ k. cond (ltb 0 (slice_index copies k)) (slice_index copies k) 0) (λ k. get_or copies k 0) 0 0 34 (λ k low. some_live (slice_index copies (0 + k)))
-    ∙ same_length (λ k. get_or copies k 0) 34 (length copies) (sym long) ∙ spread_total (λ n. n) copies ∙ sym (sum_is_total (λ n. n) copies)
+    ∙ same_spread (λ k. get_or copies k 0) 0 0 34 (length copies) refl (sym long) ∙ spread_total (λ n. n) copies ∙ sym (sum_is_total (λ n. n) copies)
 
 pub are_live : (copies : List ℕ) → length copies ≡ 34 → ((kind : ℕ) → slice_index copies kind ≤ 4) → AreLive copies
 unfolding copies_from
 are_live copies long few = record {
   counts = record { each_kind = long; at_most_four = few };
-  told = ext_get_or 0 copies (map (copies_in (pairs_of copies)) every_kind) (long ∙ sym (length_map_range (copies_in (pairs_of copies)) 0 34))
-      (λ k low. (let inside : k < 34 = omega arith in sym (map_range_at (copies_in (pairs_of copies)) 0 34 k inside ∙ ap (copies_in (pairs_of copies)) (same k) ∙ copies_told copies k inside)));
+  told = ext_get_or 0 copies (map (copies_in (pairs_of copies)) every_kind) (long ∙ sym (length-map-range_with_len (copies_in (pairs_of copies)) 0 34))
+      (λ k low. (let inside : k < 34 = omega arith in sym (get_or-map-range_with_len (copies_in (pairs_of copies)) 0 34 k k 0 inside (omega arith) ∙ copies_told copies k inside)));
 }
-  where
-    same : (k : ℕ) → 0 + k ≡ k
-    same k = omega arith
 
 pub told_at : (copies : List ℕ) (pairs : List (ℕ × ℕ)) (place kind : ℕ) → pairs_of copies ≡ pairs → place ≡ kind → kind < 34 → get_or copies place 0 ≡ copies_in pairs kind
 told_at copies pairs place kind view is low = ap (λ k. get_or copies k 0) is ∙ sym (copies_told copies kind low) ∙ ap (λ ps. copies_in ps kind) view
 
 pub live_is : (copies : List ℕ) (pairs : List (ℕ × ℕ)) (live place : ℕ) → pairs_of copies ≡ pairs → length copies ≡ 34 → live ≡ sum (take place copies) → length copies ≤ place → live ≡ live_in pairs
 live_is copies pairs live place view long is all = is ∙ ap sum (take_all place copies all) ∙ sym (live_told copies long) ∙ ap live_in view
-
--- ---- whether copies are live
-
-pub is_live : (h : ℕ) → 0 < h → ltb 0 h ≡ true
-is_live h some = grind (arith, nat_tests)
-
-pub not_live : (h : ℕ) → h ≤ 0 → ltb 0 h ≡ false
-not_live h none = grind (arith, nat_tests)
 
 -- without live copies there is no pair
 pub empty_is : (copies : List ℕ) (pairs : List (ℕ × ℕ)) → pairs_of copies ≡ pairs → live_in pairs ≡ 0 → pairs ≡ []
@@ -81,7 +69,4 @@ empty_is copies (pair ∷ pairs) e none =
     let there = subst (λ (ps : List (ℕ × ℕ)). Among pair ps) (sym e) (inl refl) in
     let r = from_map (λ kind. (kind, slice_index copies kind)) pair (filter (λ kind. nat_lt 0 (slice_index copies kind)) every_kind) there in
     let t = from_filter (λ kind. nat_lt 0 (slice_index copies kind)) r.0 every_kind r.1 in
-    absurd (omega (arith, above (slice_index copies r.0) t.1, ap (λ p. p.1) r.2, sum_by-cons (λ p. p.1) pair pairs, none))
-  where
-    above : (h : ℕ) → ltb 0 h ≡ true → 0 < h
-    above h e = grind (arith, nat_tests)
+    absurd (omega (arith, ltb-true 0 (slice_index copies r.0) t.1, ap (λ p. p.1) r.2, sum_by-cons (λ p. p.1) pair pairs, none))

@@ -1,9 +1,9 @@
 -- What stands among the elements of a list that is made of others.
-use Rattle.std.proofs.Common.{◌≡◌, ℕ, zero, suc, ◌+◌, ◌<◌, ◌≤◌, min, Bool, true, false, cond, ◌⊎◌, inl, inr, List, [], ◌∷◌, ◌++◌, map, length, get_or, slice_get, None, refl, sym, ap, ◌∙◌, ⊎_elim, subst, arith}
-use Rattle.std.proofs.lemmas.Bool.{cases_lt, false≢true}
+use Rattle.std.proofs.Common.{◌≡◌, ℕ, zero, suc, ◌+◌, ◌<◌, ◌≤◌, Bool, true, false, cond, ◌⊎◌, inl, inr, List, [], ◌∷◌, ◌++◌, map, length, get_or, refl, sym, ap, ◌∙◌, ⊎_elim, subst, arith}
+use Rattle.std.proofs.lemmas.Bool.{cases_lt, false≢true, and_parts, and_from}
 use Rattle.std.specs.List.{filter, flat_map, list_all, range_with_len}
-use Rattle.std.specs.Prelude.{◌&&◌}
 use Rattle.riichi_shape.specs.EveryWinning.{lists_of, least_with, least}
+use Rattle.riichi_rows.proofs.Joins.{min_is}
 
 -- x is one of the elements
 abbrev pub Among : {A : Type 0} → A → List A → Type 0
@@ -65,23 +65,15 @@ pub from_range : (k a n : ℕ) → Among k (range_with_len a n) → (a ≤ k) ×
 from_range k a zero h = absurd h
 from_range k a (suc n) h = ⊎_elim (λ here. (omega (arith, here), omega (arith, here))) (λ later. (let r = from_range k (a + 1) n later in (omega (arith, r.0), omega (arith, r.1)))) h
 
-both : (a b : Bool) → (a && b) ≡ true → (a ≡ true) × (b ≡ true)
-both true b e = (refl, e)
-both false b e = absurd (false≢true e)
-
-and_true : (a b : Bool) → a ≡ true → b ≡ true → (a && b) ≡ true
-and_true true b e h = h
-and_true false b e h = e
-
 pub all_among : {A : Type 0} (p : A → Bool) (x : A) (xs : List A) → list_all p xs ≡ true → Among x xs → p x ≡ true
 all_among p x [] all h = absurd h
 all_among p x (y ∷ xs) all h =
-    let t = both (p y) (list_all p xs) all in
+    let t = and_parts (p y) (list_all p xs) all in
     ⊎_elim (λ here. ap p here ∙ t.0) (λ later. all_among p x xs t.1 later) h
 
 pub all_of : {A : Type 0} (p : A → Bool) (xs : List A) → ((x : A) → Among x xs → p x ≡ true) → list_all p xs ≡ true
 all_of p [] each = refl
-all_of p (x ∷ xs) each = and_true (p x) (list_all p xs) (each x (inl refl)) (all_of p xs (λ y h. each y (inr h)))
+all_of p (x ∷ xs) each = and_from (p x) (list_all p xs) (each x (inl refl)) (all_of p xs (λ y h. each y (inr h)))
 
 -- ---- lists of things
 
@@ -115,9 +107,6 @@ from_lists {A} things (suc n) ys h =
 
 -- ---- the least
 
-min_is : (a b : ℕ) → (min a b ≡ a) ⊎ (min a b ≡ b)
-min_is a b = grind arith
-
 least_with_below : (first : ℕ) (rest : List ℕ) (m : ℕ) → Among m (first ∷ rest) → least_with first rest ≤ m
 unfolding least_with
 least_with_below first [] m h = ⊎_elim (λ e. omega (arith, e)) (λ none. absurd none) h
@@ -136,28 +125,7 @@ least_is (first ∷ rest) m h = (least_with_below first rest m h, least_with_amo
 
 -- ---- the values at successive numbers
 
-pub map_range_at : (f : ℕ → ℕ) (a n k : ℕ) → k < n → get_or (map f (range_with_len a n)) k 0 ≡ f (a + k)
-map_range_at f a zero k h = absurd (omega arith)
-map_range_at f a (suc n) zero h = ap f (same a)
-  where
-    same : (a : ℕ) → a ≡ a + 0
-    same a = omega arith
-map_range_at f a (suc n) (suc k) h = map_range_at f (a + 1) n k (omega arith) ∙ ap f (same a k)
-  where
-    same : (a k : ℕ) → a + 1 + k ≡ a + suc k
-    same a k = omega arith
-
-pub length_map_range : (f : ℕ → ℕ) (a n : ℕ) → length (map f (range_with_len a n)) ≡ n
-length_map_range f a zero = refl
-length_map_range f a (suc n) = ap suc (length_map_range f (a + 1) n)
-
 pub among_get_or : (xs : List ℕ) (k : ℕ) → k < length xs → Among (get_or xs k 0) xs
 among_get_or [] k h = absurd (omega arith)
 among_get_or (x ∷ xs) zero h = inl refl
 among_get_or (x ∷ xs) (suc k) h = inr (among_get_or xs k (omega arith))
-
--- an element is at each place that is below the length
-pub some_there : {X : Type 0} (xs : List X) (i : ℕ) → i < length xs → slice_get xs i ≡ None → ⊥
-some_there [] i low e = absurd (omega arith)
-some_there (x ∷ xs) zero low e = cc
-some_there (x ∷ xs) (suc i) low e = some_there xs i (omega arith) e

@@ -1,5 +1,6 @@
 -- One more tile of a kind brings a hand nearer exactly where some least winning multiset lacks it.
 use Rattle.std.proofs.Common.{◌≡◌, ℕ, ◌+◌, ◌-◌, ◌<◌, ◌≤◌, min, Bool, true, false, cond, inl, inr, List, length, ltb, sym, ap, ◌∙◌, ⊎_elim, subst, Option, Some, None, arith, get_or-set_same, get_or-set_other}
+use Rattle.std.proofs.lemmas.Bool.{or_left, or_right, lt-ltb, ltb-true, or_cases}
 use Rattle.std.proofs.lemmas.Bool.Decides.{nat_tests}
 use Rattle.std.specs.Prelude.{slice_index, unwrap_or, nat_lt, ◌&&◌}
 use Rattle.riichi_tiles.specs.Melds.{tiles}
@@ -14,9 +15,8 @@ use Rattle.riichi_shape.specs.Winning.{IsSetsAndPair}
 use Rattle.riichi_shape.specs.declared.lacked_kinds.LackedKinds.{LackedKinds}
 use Rattle.riichi_shape.proofs.Distances.{exists, never_none, whole_distance}
 use Rattle.riichi_shape.proofs.OneMore.{accepted, by_forms}
-use Rattle.riichi_shape.proofs.OrphanLemmas.{or_true}
-use Rattle.riichi_shape.proofs.RemovalLemmas.{bool_same, ltb_of, of_ltb}
-use Rattle.riichi_shape.proofs.SpecialLemmas.{or_left, or_right, special_none_less}
+use Rattle.riichi_shape.proofs.RemovalLemmas.{bool_same}
+use Rattle.riichi_shape.proofs.SpecialLemmas.{special_none_less}
 use Rattle.riichi_shape.proofs.Uniqueness.{distance_from}
 
 module _ (hand : List ℕ) (melds : List Meld) (at_most_four : length melds ≤ 4) (of_a_kind : (kind : ℕ) → kind < 34 → tiles melds kind ≤ 4) where
@@ -49,8 +49,8 @@ module _ (hand : List ℕ) (melds : List Meld) (at_most_four : length melds ≤ 
       let law = accepted hand (with_one hand kind) melds (distance_of hand melds) (distance_of (with_one hand kind) melds) kind inside one_more before after in
       let at = (subst (λ (m : ℕ). AreLackedKinds hand melds m lacked) n_is are).at kind inside in
       bool_same (lacks_kind lacked kind (slice_index hand kind)) (nat_lt (distance_of (with_one hand kind) melds) (distance_of hand melds))
-      (λ e. ltb_of (distance_of (with_one hand kind) melds) (distance_of hand melds) (law.1 (at.0 e)))
-      (λ e. at.1 (law.0 (of_ltb (distance_of (with_one hand kind) melds) (distance_of hand melds) e)))
+      (λ e. lt-ltb (distance_of (with_one hand kind) melds) (distance_of hand melds) (law.1 (at.0 e)))
+      (λ e. at.1 (law.0 (ltb-true (distance_of (with_one hand kind) melds) (distance_of hand melds) e)))
 
   live_alone : (copies live : ℕ) (nearer : Bool) → copies ≡ cond nearer live 0 → copies ≡ cond (ltb 0 live && nearer) live 0
   live_alone copies live true e = grind (arith, nat_tests)
@@ -72,7 +72,7 @@ lacked_are hand melds n lacked suits special = record {
       let law = by_forms hand melds n kind in
       let suit_bit = suits_lack lacked.suits kind in
       let other_bit = special_lacks lacked.special kind (slice_index hand kind) in (
-        λ e. law.1 (⊎_elim (λ by_suit. inl (s.0 by_suit)) (λ by_other. inr (o.0 by_other)) (or_true suit_bit other_bit e)),
+        λ e. law.1 (⊎_elim (λ by_suit. inl (s.0 by_suit)) (λ by_other. inr (o.0 by_other)) (or_cases suit_bit other_bit e)),
         λ w. ⊎_elim (λ standard. or_left suit_bit other_bit (s.1 standard)) (λ other. or_right suit_bit other_bit (o.1 other)) (law.0 w),
       ));
 }

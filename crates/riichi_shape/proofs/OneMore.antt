@@ -1,19 +1,15 @@
 -- One more tile of a kind: the distance falls where a winning multiset with the least lack lacks that kind.
-use Rattle.std.proofs.Common.{ℕ, ◌+◌, ◌-◌, ◌<◌, inl, inr, List, sym, ap, ◌∙◌, ⊎_elim, arith}
+use Rattle.std.proofs.Common.{ℕ, ◌<◌, inl, inr, List, ⊎_elim, arith}
 use Rattle.std.specs.Prelude.{slice_index}
 use Rattle.riichi_rows.specs.Lacked.{IsOneMore}
-use Rattle.riichi_rows.proofs.Spread.{Falls, falls, sum_range}
+use Rattle.riichi_rows.proofs.Spread.{Falls, sums_fall}
 use Rattle.riichi_shape.specs.Lacked.{WinningLacks, AcceptanceLaw, FormsLaw}
 use Rattle.riichi_shape.specs.Winning.{lacking}
 
 -- ---- a whole hand
 
 pub hand_falls : (hand more wanted : List ℕ) (x : ℕ) → x < 34 → IsOneMore x hand more → Falls (slice_index hand) (slice_index wanted) x (lacking hand wanted) (lacking more wanted)
-hand_falls hand more wanted x inside one =
-    let f = falls (slice_index hand) (slice_index more) (slice_index wanted) x one.here one.elsewhere 34 inside in
-    let e = sum_range (λ k. slice_index wanted k - slice_index hand k) 0 34 in
-    let e' = sum_range (λ k. slice_index wanted k - slice_index more k) 0 34 in
-    ⊎_elim (λ lacks. inl (lacks.0, e ∙ lacks.1 ∙ ap (λ n. n + 1) (sym e'))) (λ not. inr (not.0, e ∙ not.1 ∙ sym e')) f
+hand_falls hand more wanted x inside one = sums_fall (slice_index hand) (slice_index more) (slice_index wanted) x one.here one.elsewhere 34 inside
 
 pub accepted : AcceptanceLaw
 accepted hand more melds n m x inside one before after = (lower, raise)

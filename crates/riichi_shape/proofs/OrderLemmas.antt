@@ -1,5 +1,6 @@
 -- The discards of a hand stand in their order.
 use Rattle.std.proofs.Common.{◌≡◌, ℕ, zero, suc, ◌+◌, ◌<◌, ◌≤◌, Bool, true, false, cond, ◌⊎◌, inl, inr, List, [], ◌∷◌, map, leb, refl, ⊎_elim, arith}
+use Rattle.std.proofs.lemmas.Bool.{leb-false, leb-true}
 use Rattle.std.proofs.lemmas.Bool.Decides.{nat_tests}
 use Rattle.std.specs.List.{filter, range_with_len}
 use Rattle.std.specs.Prelude.{nat_le}
@@ -24,10 +25,7 @@ after discard next (other ∷ rest) few kind all lesser =
       where
         as_many : (d o n : ℕ) → leb d o ≡ true → o ≡ n → n ≤ d → o ≡ d
         as_many d o n e same few = grind (arith, nat_tests)
-    by_test false e same = inl (fewer (live_with discard) (live_with other) e)
-      where
-        fewer : (d o : ℕ) → leb d o ≡ false → o < d
-        fewer d o e = grind (arith, nat_tests)
+    by_test false e same = inl (leb-false (live_with discard) (live_with other) e)
 
 first_before : (discard next : Discard) → nat_le (live_with next) (live_with discard) ≡ true → discard.kind < next.kind → StandsBefore discard next
 first_before discard next e kind = by_live (live_with discard) (live_with next) e
@@ -37,9 +35,6 @@ first_before discard next e kind = by_live (live_with discard) (live_with next) 
       where
         either : (d n : ℕ) → leb n d ≡ true → (n < d) ⊎ (n ≡ d)
         either d n e = grind (arith, nat_tests)
-
-more_live : (d n : ℕ) → leb n d ≡ false → d < n
-more_live d n e = grind (arith, nat_tests)
 
 -- what stands before all others stands before one more put among them
 all_inserted : (first discard : Discard) (rest : List Discard) → StandsBefore first discard → StandsBeforeAll first rest → StandsBeforeAll first (inserted discard rest)
@@ -57,11 +52,8 @@ ordered_inserted discard [] lesser are = (tt, tt)
 ordered_inserted discard (next ∷ rest) lesser are = by_test (nat_le (live_with next) (live_with discard)) refl (ordered_inserted discard rest lesser.1 are.1)
   where
     by_test : (t : Bool) → nat_le (live_with next) (live_with discard) ≡ t → AreOrdered (inserted discard rest) → AreOrdered (cond t (discard ∷ next ∷ rest) (next ∷ inserted discard rest))
-    by_test true e later = ((first_before discard next e lesser.0, after discard next rest (few (live_with discard) (live_with next) e) lesser.0 are.0 lesser.1), are)
-      where
-        few : (d n : ℕ) → leb n d ≡ true → n ≤ d
-        few d n e = grind (arith, nat_tests)
-    by_test false e later = (all_inserted next discard rest (inl (more_live (live_with discard) (live_with next) e)) are.0, later)
+    by_test true e later = ((first_before discard next e lesser.0, after discard next rest (leb-true (live_with next) (live_with discard) e) lesser.0 are.0 lesser.1), are)
+    by_test false e later = (all_inserted next discard rest (inl (leb-false (live_with next) (live_with discard) e)) are.0, later)
 
 lesser_inserted : (first discard : Discard) (rest : List Discard) → first.kind < discard.kind → IsOfLesserKind first rest → IsOfLesserKind first (inserted discard rest)
 unfolding inserted_by
@@ -76,7 +68,7 @@ module _ (hand : List ℕ) (melds : List Meld) (seen : List ℕ) where
   abbrev chosen : ℕ → ℕ → List Discard
   chosen a n = in_order (map (discard_of hand melds seen) (filter (is_discard hand melds) (range_with_len a n)))
 
-  chosen_step : (t : Bool) (kind : ℕ) (kinds : List ℕ) → in_order (map (discard_of hand melds seen) (cond t (kind ∷ kinds) kinds)) ≡ cond t (inserted (discard_of hand melds seen kind) (in_order (map (discard_of hand melds seen) kinds))) (in_order (map (discard_of hand melds seen) kinds))
+  pub chosen_step : (t : Bool) (kind : ℕ) (kinds : List ℕ) → in_order (map (discard_of hand melds seen) (cond t (kind ∷ kinds) kinds)) ≡ cond t (inserted (discard_of hand melds seen kind) (in_order (map (discard_of hand melds seen) kinds))) (in_order (map (discard_of hand melds seen) kinds))
   unfolding in_order
   chosen_step true kind kinds = refl
   chosen_step false kind kinds = refl

@@ -1,7 +1,7 @@
 -- Thirteen orphans: one tile for each kind that is missing, and one where none is held twice.
 use Rattle.std.proofs.Common.{◌≡◌, ℕ, ◌+◌, ◌-◌, ◌<◌, ◌≤◌, Bool, true, false, cond, ◌⊎◌, inl, inr, List, [], ◌∷◌, ◌++◌, ◌%◌, ◌^◌, replicate, length, map, leb, eqb, refl, sym, ap, ◌∙◌, ⊎_elim, arith}
 use Rattle.std.proofs.Common as width
-use Rattle.std.proofs.lemmas.Bool.{cases_lt}
+use Rattle.std.proofs.lemmas.Bool.{cases_lt, or_cases, or_right, eqb-true, eq-eqb}
 use Rattle.std.proofs.lemmas.List.{length-map}
 use Rattle.std.proofs.lemmas.Simd.{mask_l-mod, ones-mask_l, tops_compared, zip2_splat_left}
 use Rattle.std.specs.Int.RustNames.{count_ones}
@@ -12,7 +12,7 @@ use Rattle.std.specs.Prelude.{count_by, slice_index, nat_le, ◌==◌, ◌||◌}
 use Rattle.riichi_shape.specs.Distance.{OrphansReached}
 use Rattle.riichi_shape.specs.Orphans.{IsThirteenOrphans, orphan_kinds, is_listed_orphan, orphan_tiles}
 use Rattle.riichi_shape.specs.Winning.{lacking}
-use Rattle.riichi_rows.proofs.Spread.{spread, sum_range, spread_shift, table, table_at, at_same_number, spread_with, eqb_is, is_eqb}
+use Rattle.riichi_rows.proofs.Spread.{spread, sum_range, spread_shift, table, table_at, at_same_number, spread_with}
 use Rattle.riichi_shape.proofs.PairLemmas.{total_of, sum_is_total}
 
 abbrev pub missing_one : ℕ → ℕ
@@ -26,10 +26,6 @@ orphan_lack : (t k h : ℕ) (here : Bool) → (eqb k t ≡ true → here ≡ tru
 orphan_lack t k h here same = grind (arith, nat_tests)
 
 -- ---- the kind held twice
-
-pub or_true : (a b : Bool) → (a || b) ≡ true → (a ≡ true) ⊎ (b ≡ true)
-or_true true b e = inl refl
-or_true false b e = inr e
 
 -- counts a kind held twice
 abbrev two : ℕ → ℕ
@@ -46,7 +42,7 @@ none_doubled : (h : ℕ → ℕ) (ks : List ℕ) (t : ℕ) → total_of two (map
 unfolding total_of
 none_doubled h [] t none here = absurd (grind arith)
 none_doubled h (k ∷ ks) t none here =
-    ⊎_elim (λ first. ap (λ k. two (h k)) (eqb_is t k first) ∙ omega (arith, none)) (λ later. none_doubled h ks t (omega (arith, none)) later) (or_true (eqb t k) (list_any (eqb t) ks) here)
+    ⊎_elim (λ first. ap (λ k. two (h k)) (eqb-true t k first) ∙ omega (arith, none)) (λ later. none_doubled h ks t (omega (arith, none)) later) (or_cases (eqb t k) (list_any (eqb t) ks) here)
 
 record Doubled (h : ℕ → ℕ) (ks : List ℕ) : Type 0 where
   pub kind : ℕ
@@ -57,18 +53,14 @@ some_doubled : (h : ℕ → ℕ) (ks : List ℕ) → 0 < total_of two (map h ks)
 unfolding total_of
 some_doubled h [] some = absurd (omega (arith, some))
 some_doubled h (k ∷ ks) some =
-    ⊎_elim (λ first. record { kind = k; is_one = ap (λ b. b || list_any (eqb k) ks) (is_eqb k k refl); twice = first })
+    ⊎_elim (λ first. record { kind = k; is_one = ap (λ b. b || list_any (eqb k) ks) (eq-eqb k k refl); twice = first })
     (λ later. (let d = some_doubled h ks (omega (arith, some, later)) in record { kind = d.kind; is_one = or_right (eqb d.kind k) (list_any (eqb d.kind) ks) d.is_one; twice = d.twice }))
     (cases_lt 0 (two (h k)))
-  where
-    or_right : (a b : Bool) → b ≡ true → (a || b) ≡ true
-    or_right true b e = refl
-    or_right false b e = e
 
 below : (ks : List ℕ) (t : ℕ) → total_of beyond ks ≡ 0 → list_any (eqb t) ks ≡ true → t < 34
 unfolding total_of
 below [] t all here = absurd (grind arith)
-below (k ∷ ks) t all here = ⊎_elim (λ first. small k t (eqb_is t k first) (omega (arith, all))) (λ later. below ks t (omega (arith, all)) later) (or_true (eqb t k) (list_any (eqb t) ks) here)
+below (k ∷ ks) t all here = ⊎_elim (λ first. small k t (eqb-true t k first) (omega (arith, all))) (λ later. below ks t (omega (arith, all)) later) (or_cases (eqb t k) (list_any (eqb t) ks) here)
   where
     small : (k t : ℕ) → t ≡ k → beyond k ≡ 0 → t < 34
     small k t e low = grind (arith, nat_tests)
@@ -104,7 +96,7 @@ module _ (hand : List ℕ) where
       let whole = sum_range (λ k. slice_index wanted k - slice_index hand k) 0 34 in
       let same = spread_shift (λ k. slice_index wanted k - slice_index hand k) (λ k. orphan_tiles t k - slice_index hand k) 0 0 34 (λ r h. ap (λ w. w - slice_index hand (0 + r)) (at (0 + r) (omega arith))) in
       let split = spread_with (λ k. orphan_tiles t k - slice_index hand k) lack_of_one (λ k. extra (slice_index hand k)) t
-      (λ k. orphan_lack t k (slice_index hand k) (is_listed_orphan k) (λ e. ap is_listed_orphan (eqb_is k t e) ∙ is)) 0 34 (omega arith) (omega (arith, orphan_below t is)) in
+      (λ k. orphan_lack t k (slice_index hand k) (is_listed_orphan k) (λ e. ap is_listed_orphan (eqb-true k t e) ∙ is)) 0 34 (omega arith) (omega (arith, orphan_below t is)) in
       whole ∙ same ∙ split ∙ ap (λ n. n + extra (slice_index hand t)) missing_is
 
   abbrev pub orphans_wanted : ℕ → List ℕ

@@ -1,6 +1,6 @@
 -- The kinds that the least thirteen orphans lack.
 use Rattle.std.proofs.Common.{◌≡◌, ℕ, ◌+◌, ◌<◌, ◌≤◌, Bool, true, false, cond, IsTrue, ◌⊎◌, inl, inr, List, map, eqb, refl, sym, ap, ◌∙◌, ⊎_elim, subst, arith}
-use Rattle.std.proofs.lemmas.Bool.{cases_lt, false≢true}
+use Rattle.std.proofs.lemmas.Bool.{cases_lt, false≢true, and_parts, and_from}
 use Rattle.std.proofs.lemmas.Bool.Decides.{nat_tests}
 use Rattle.std.specs.Prelude.{count_by, nat_le, slice_index, ◌==◌, ◌&&◌}
 use Rattle.riichi_tiles.specs.Melds.{tiles}
@@ -14,7 +14,7 @@ use Rattle.riichi_shape.specs.declared.nearest_form.NearestForm.{NearestForm}
 use Rattle.riichi_shape.proofs.Distances.{orphan_few}
 use Rattle.riichi_shape.proofs.OrphanLemmas.{lack_is, orphans_at, orphans_wanted, missing_one, extra, bound_doubled, reached_doubled, bound_single, reached_single, orphan_doubled, orphan_single}
 use Rattle.riichi_shape.proofs.PairLemmas.{total_of}
-use Rattle.riichi_shape.proofs.SpecialLemmas.{both_of, lacks_back, lacks_there, of_both}
+use Rattle.riichi_shape.proofs.SpecialLemmas.{lacks_back, lacks_there}
 
 -- what a hand with h tiles of x says, where the orphans with the kind t twice have more
 some_missing : (t x h : ℕ) (here : Bool) → h < cond here (cond (eqb x t) 2 1) 0 → (here ≡ true) × ((h ≡ 0) ⊎ ((h ≡ 1) × (x ≡ t)))
@@ -138,13 +138,13 @@ module _ (hand held : List ℕ) (held_are : held ≡ map (slice_index hand) orph
     module _ (melds : List Meld) (no_melds : AreNoMelds melds) (kind : ℕ) (inside : kind < 34) where
       counted_there : (lacks_held form.lacked (slice_index hand kind) && is_listed_orphan kind) ≡ true → FormLacks IsThirteenOrphans hand melds form.lack kind
       counted_there e =
-          let both = both_of (lacks_held form.lacked (slice_index hand kind)) (is_listed_orphan kind) e in
+          let both = and_parts (lacks_held form.lacked (slice_index hand kind)) (is_listed_orphan kind) e in
           orphans_back hand melds form.lack kind inside no_melds reached bound (both.1, ⊎_elim (λ none. inl none.0) (λ one. inr (one.0, single_none one.1)) (lacks_there (slice_index hand kind) form.lacked both.0))
 
       counted_back : FormLacks IsThirteenOrphans hand melds form.lack kind → (lacks_held form.lacked (slice_index hand kind) && is_listed_orphan kind) ≡ true
       counted_back w =
           let h = orphans_there hand melds form.lack kind inside no_melds reached bound w in
-          of_both (lacks_held form.lacked (slice_index hand kind)) (is_listed_orphan kind) (lacks_back (slice_index hand kind) form.lacked (⊎_elim (λ none. inl (none, missing_is)) (λ one. inr (one.0, none_single one.1)) h.1)) h.0
+          and_from (lacks_held form.lacked (slice_index hand kind)) (is_listed_orphan kind) (lacks_back (slice_index hand kind) form.lacked (⊎_elim (λ none. inl (none, missing_is)) (λ one. inr (one.0, none_single one.1)) h.1)) h.0
 
     nearest_are : AreNearestOrphans hand form
     nearest_are = record { bound = bound; reached = reached; lacked = λ melds no_melds kind inside. (counted_there melds no_melds kind inside, counted_back melds no_melds kind inside) }

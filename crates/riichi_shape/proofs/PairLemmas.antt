@@ -8,7 +8,7 @@ use Rattle.riichi_shape.specs.Distance.{PairsReached}
 use Rattle.riichi_shape.specs.Pairs.{IsSevenPairs}
 use Rattle.riichi_shape.specs.Winning.{lacking}
 use Rattle.riichi_tiles.specs.Melds.{every_kind}
-use Rattle.riichi_rows.proofs.Spread.{spread, spread_sum, sum_range, spread_shift, table, table_at, at_same_number}
+use Rattle.riichi_rows.proofs.Spread.{same_spread, spread, spread_sum, sum_range, spread_shift, table, table_at, at_same_number}
 
 abbrev pub two : ℕ → ℕ
 two h = cond (leb 2 h) 1 0
@@ -173,9 +173,6 @@ spread_total f (x ∷ xs) =
     moved : (r : ℕ) → f (get_or (x ∷ xs) (0 + 1 + r) 0) ≡ f (get_or xs (0 + r) 0)
     moved r = ap (λ k. f (get_or (x ∷ xs) k 0)) (number r) ∙ ap (λ k. f (get_or xs k 0)) (back r)
 
-same_count : (f : ℕ → ℕ) (m n : ℕ) → m ≡ n → spread f 0 m ≡ spread f 0 n
-same_count f m n e = ap (λ n. spread f 0 n) e
-
 pub length_table : (f : ℕ → ℕ) (a n : ℕ) → length (table f a n) ≡ n
 unfolding table
 length_table f a zero = refl
@@ -223,9 +220,9 @@ module _ (hand : List ℕ) (twos ones r : ℕ) (twos_are : twos ≡ spread (λ k
         wanted = w.wanted;
         seven_pairs = record {
           two_or_none = λ k low. w.each k;
-          fourteen = sum_range (slice_index w.wanted) 0 34 ∙ same_count (slice_index w.wanted) 34 (length w.wanted) (sym long ∙ sym w.long) ∙ spread_total (λ x. x) w.wanted ∙ omega (arith, w.tiles, are.seven);
+          fourteen = sum_range (slice_index w.wanted) 0 34 ∙ same_spread (slice_index w.wanted) 0 0 34 (length w.wanted) refl (sym long ∙ sym w.long) ∙ spread_total (λ x. x) w.wanted ∙ omega (arith, w.tiles, are.seven);
         };
-        lacks = sum_range (λ k. slice_index w.wanted k - slice_index hand k) 0 34 ∙ same_held (slice_index w.wanted) ∙ same_count (λ k. slice_index w.wanted k - slice_index (counts_held hand) k) 34 (length (counts_held hand)) (sym long) ∙ lack_is (counts_held hand) w.wanted w.long ∙ omega (arith, w.lacks, are.least);
+        lacks = sum_range (λ k. slice_index w.wanted k - slice_index hand k) 0 34 ∙ same_held (slice_index w.wanted) ∙ same_spread (λ k. slice_index w.wanted k - slice_index (counts_held hand) k) 0 0 34 (length (counts_held hand)) refl (sym long) ∙ lack_is (counts_held hand) w.wanted w.long ∙ omega (arith, w.lacks, are.least);
       }
 
   pub seven_wanted : (p s z : ℕ) (are : AreSeven p s z) (w : Picked (counts_held hand) p s z) → (seven_picked p s z are w).wanted ≡ w.wanted
@@ -244,7 +241,7 @@ module _ (hand : List ℕ) (twos ones r : ℕ) (twos_are : twos ≡ spread (λ k
 -- the counts that pass a test, by kind
 pub counted_kinds : (p : ℕ → Bool) (hand : List ℕ) → length hand ≡ 34 → count_by p hand ≡ count_by (λ kind. p (slice_index hand kind)) every_kind
 counted_kinds p hand long =
-    sum_is_total (λ n. cond (p n) 1 0) hand ∙ sym (spread_total (λ n. cond (p n) 1 0) hand) ∙ same_count (λ k. cond (p (slice_index hand k)) 1 0) (length hand) 34 long
+    sum_is_total (λ n. cond (p n) 1 0) hand ∙ sym (spread_total (λ n. cond (p n) 1 0) hand) ∙ same_spread (λ k. cond (p (slice_index hand k)) 1 0) 0 0 (length hand) 34 refl long
     ∙ sym (sum_range (λ k. cond (p (slice_index hand k)) 1 0) 0 34)
 
 two_or_one : (h : ℕ) → cond (leb 1 h) 1 0 ≡ two h + one h

@@ -13,7 +13,7 @@ use Rattle.riichi_shape.specs.Special.{AreNearestPairs, AreNoMelds, lacks_held}
 use Rattle.riichi_shape.specs.Winning.{lacking}
 use Rattle.riichi_shape.specs.declared.nearest_form.NearestForm.{NearestForm}
 use Rattle.riichi_shape.proofs.Distances.{each_below}
-use Rattle.riichi_shape.proofs.SpecialLemmas.{lacks_back, lacks_there}
+use Rattle.riichi_shape.proofs.SpecialLemmas.{lacks_back, lacks_there, pair_few}
 use Rattle.riichi_shape.proofs.PairLemmas.{AreSeven, Picked, chosen, count_ones, count_twos, counts_held, held_is, length_table, nil, of_two, one, pairs_bound, pairs_reached, picked, seven_least, seven_picked, seven_wanted, skipped, taken, total_of, total_table, two}
 
 -- ---- seven pairs with a kind among them
@@ -146,13 +146,10 @@ module _ (hand : List ℕ) (melds : List Meld) (n x : ℕ) (inside : x < 34) (no
   lacked_by w two_here few = record {
     wanted = w.wanted;
     is_form = w.seven_pairs;
-    within_four = record { at = λ k low. within (slice_index w.wanted k) (tiles melds k) (w.seven_pairs.two_or_none k low) (no_melds k low) };
+    within_four = record { at = λ k low. pair_few (slice_index w.wanted k) (tiles melds k) (w.seven_pairs.two_or_none k low) (no_melds k low) };
     lacks = w.lacks ∙ sym n_is;
     lacks_kind = omega (arith, two_here, few);
   }
-    where
-      within : (w m : ℕ) → (w ≡ 0) ⊎ (w ≡ 2) → m ≡ 0 → w + m ≤ 4
-      within w m is none = ⊎_elim (λ e. omega (arith, e, none)) (λ e. omega (arith, e, none)) is
 
   lacked_among : PickedWith (counts_held hand) x p s (7 - p - s) → slice_index hand x ≤ 1 → FormLacks IsSevenPairs hand melds n x
   lacked_among w few =

@@ -1,6 +1,6 @@
 -- Thirteen tiles, and the fourteen of a winning multiset.
 use Rattle.std.proofs.Common.{◌≡◌, ◌≢◌, ℕ, zero, suc, ◌+◌, ◌-◌, ◌*◌, ◌<◌, ◌≤◌, Bool, true, false, cond, inl, inr, List, [], ◌∷◌, length, eqb, get_or-set_other, get_or-set_same, refl, sym, ap, ◌∙◌, ⊎_elim, arith}
-use Rattle.std.proofs.lemmas.Bool.{cases_lt, false≢true}
+use Rattle.std.proofs.lemmas.Bool.{cases_lt, false≢true, eqb-true, eq-eqb}
 use Rattle.std.proofs.lemmas.Bool.Decides.{nat_tests}
 use Rattle.std.proofs.lemmas.List.Elements.{All-head, All-tail}
 use Rattle.std.specs.List.{sum}
@@ -11,7 +11,7 @@ use Rattle.riichi_tiles.specs.declared.block.Block.{Block}
 use Rattle.riichi_tiles.specs.declared.block.Block.TheVariants.{Run, Triplet, Pair}
 use Rattle.riichi_tiles.specs.declared.meld.Meld.{Meld}
 use Rattle.riichi_hand.specs.Hand.{size}
-use Rattle.riichi_rows.proofs.Spread.{eqb_is, is_eqb, spread, spread_none, spread_shift, spread_sum, spread_with, sum_range}
+use Rattle.riichi_rows.proofs.Spread.{spread, spread_none, spread_shift, spread_sum, spread_with, sum_range}
 use Rattle.riichi_shape.specs.Accepted.{with_one}
 use Rattle.riichi_shape.specs.Distance.{IsDistance}
 use Rattle.riichi_shape.specs.Orphans.{IsThirteenOrphans}
@@ -151,7 +151,7 @@ winning_same melds wanted same are is = record {
 -- ---- a hand of thirteen
 
 apart : (k place : ℕ) → eqb k place ≡ false → k ≢ place
-apart k place e same = false≢true (sym e ∙ is_eqb k place same)
+apart k place e same = false≢true (sym e ∙ eq-eqb k place same)
 
 one_more_at : (hand : List ℕ) (kind : ℕ) → kind < length hand → slice_index (with_one hand kind) kind ≡ slice_index hand kind + 1
 one_more_at hand kind low = rw get_or-set_same refl
@@ -193,14 +193,14 @@ module _ (hand : List ℕ) (melds : List Meld) (n : ℕ) (long : length hand ≡
       at k low = by_test (eqb k p.place) refl
         where
           by_test : (t : Bool) → eqb k p.place ≡ t → slice_index (with_one hand p.place) k ≡ slice_index is.wanted k
-          by_test true e = let here = eqb_is k p.place e in ap (slice_index (with_one hand p.place)) here ∙ omega (arith, one_more_at hand p.place (omega (arith, p.high)), p.one, left_at p.place p.high) ∙ sym (ap (slice_index is.wanted) here)
+          by_test true e = let here = eqb-true k p.place e in ap (slice_index (with_one hand p.place)) here ∙ omega (arith, one_more_at hand p.place (omega (arith, p.high)), p.one, left_at p.place p.high) ∙ sym (ap (slice_index is.wanted) here)
           by_test false e = omega (arith, one_more_past hand p.place k (apart k p.place e), p.others k (omega arith) (omega arith) (apart k p.place e), left_at k low)
 
   completes : IsReady hand melds → n ≡ 1
   completes r = omega (arith, some_lack, is.none_less (with_one hand r.kind) r.is_winning, lacks_one)
     where
       lacks_at : (k : ℕ) (t : Bool) → eqb k r.kind ≡ t → slice_index (with_one hand r.kind) k - slice_index hand k ≡ cond t 1 0
-      lacks_at k true e = let here = eqb_is k r.kind e in omega (arith, ap (slice_index (with_one hand r.kind)) here, ap (slice_index hand) here, one_more_at hand r.kind (omega (arith, r.is_kind)))
+      lacks_at k true e = let here = eqb-true k r.kind e in omega (arith, ap (slice_index (with_one hand r.kind)) here, ap (slice_index hand) here, one_more_at hand r.kind (omega (arith, r.is_kind)))
       lacks_at k false e = omega (arith, one_more_past hand r.kind k (apart k r.kind e))
 
       lacks_one : lacking hand (with_one hand r.kind) ≡ 1

@@ -1,7 +1,6 @@
 -- The kinds whose removal leaves the least distance.
-use Rattle.std.proofs.Common.{◌≡◌, ℕ, suc, ◌+◌, ◌-◌, ◌<◌, ◌≤◌, Bool, true, false, cond, ◌⊎◌, inl, inr, List, [], ◌∷◌, map, length, slice_set, below_more, length-set, get_or-set_same, get_or-set_other, leb, ltb, refl, sym, ap, ◌∙◌, ⊎_elim, arith}
-use Rattle.std.proofs.lemmas.Bool.{cases_lt}
-use Rattle.std.proofs.lemmas.Bool.Decides.{nat_tests}
+use Rattle.std.proofs.Common.{◌≡◌, ℕ, suc, ◌+◌, ◌-◌, ◌<◌, ◌≤◌, Bool, true, false, cond, ◌⊎◌, inl, inr, List, [], map, length, slice_set, below_more, length-set, get_or-set_same, get_or-set_other, refl, sym, ap, ◌∙◌, ⊎_elim, arith}
+use Rattle.std.proofs.lemmas.Bool.{cases_lt, eq-eqb, eqb-true, le-leb, leb-true, lt-ltb, ltb-true, and_from, le-ltb, ne_eqb}
 use Rattle.std.specs.List.{filter, range_with_len, sum}
 use Rattle.std.specs.Prelude.{slice_index, nat_le, ◌==◌, ◌&&◌}
 use Rattle.riichi_tiles.specs.Melds.{every_kind}
@@ -11,30 +10,13 @@ use Rattle.riichi_shape.specs.declared.discard.Discard.{Discard}
 use Rattle.riichi_shape.specs.Discards.{AreDistancesWithout, IsLeastOf, discard_of, discards_of, distance_without, in_order, inserted, is_best, is_discard, is_held}
 use Rattle.riichi_shape.proofs.PairLemmas.{spread_total, sum_is_total}
 use Rattle.riichi_shape.proofs.Members.{Among, all_among, all_of, among_filter, among_range, from_filter, from_range}
+use Rattle.riichi_shape.proofs.OrderLemmas.{chosen_step}
 
 pub bool_same : (a b : Bool) → (a ≡ true → b ≡ true) → (b ≡ true → a ≡ true) → a ≡ b
 bool_same true true there back = refl
 bool_same true false there back = sym (there refl)
 bool_same false true there back = back refl
 bool_same false false there back = refl
-
-eqb_of : (m n : ℕ) → m ≡ n → (m == n) ≡ true
-eqb_of m n e = grind (arith, nat_tests)
-
-of_eqb : (m n : ℕ) → (m == n) ≡ true → m ≡ n
-of_eqb m n e = grind (arith, nat_tests)
-
-leb_of : (m n : ℕ) → m ≤ n → leb m n ≡ true
-leb_of m n h = grind (arith, nat_tests)
-
-of_leb : (m n : ℕ) → leb m n ≡ true → m ≤ n
-of_leb m n e = grind (arith, nat_tests)
-
-pub ltb_of : (m n : ℕ) → m < n → ltb m n ≡ true
-ltb_of m n h = grind (arith, nat_tests)
-
-pub of_ltb : (m n : ℕ) → ltb m n ≡ true → m < n
-of_ltb m n e = grind (arith, nat_tests)
 
 module _ (hand : List ℕ) (melds : List Meld) (distances : List ℕ) (least : ℕ) (are : AreDistancesWithout hand melds distances) (is : IsLeastOf distances least) (kind : ℕ) (inside : kind < 34) (held : 0 < slice_index hand kind) where
   abbrev no_less : ℕ → Bool
@@ -47,16 +29,16 @@ module _ (hand : List ℕ) (melds : List Meld) (distances : List ℕ) (least : �
       each other h =
           let r = from_filter (is_held hand) other every_kind h in
           let within = (from_range other 0 34 r.0).1 in
-          let there = of_ltb 0 (slice_index hand other) r.1 in
-          leb_of (distance_without hand melds kind) (distance_without hand melds other) (omega (arith, are.held kind inside held, are.held other within there, is.bound other within, of_eqb (slice_index distances kind) least e))
+          let there = ltb-true 0 (slice_index hand other) r.1 in
+          le-leb (distance_without hand melds kind) (distance_without hand melds other) (omega (arith, are.held kind inside held, are.held other within there, is.bound other within, eqb-true (slice_index distances kind) least e))
 
   back : is_best hand melds kind ≡ true → (slice_index distances kind == least) ≡ true
-  back all = eqb_of (slice_index distances kind) least (⊎_elim at_held at_other (cases_lt 0 (slice_index hand is.place)))
+  back all = eq-eqb (slice_index distances kind) least (⊎_elim at_held at_other (cases_lt 0 (slice_index hand is.place)))
     where
       at_held : 0 < slice_index hand is.place → slice_index distances kind ≡ least
       at_held h =
-          let t = all_among no_less is.place (filter (is_held hand) every_kind) all (among_filter (is_held hand) is.place every_kind (among_range is.place 0 34 (omega arith) (omega (arith, is.is_kind))) (ltb_of 0 (slice_index hand is.place) h)) in
-          omega (arith, of_leb (distance_without hand melds kind) (distance_without hand melds is.place) t, are.held kind inside held, are.held is.place is.is_kind h, is.reached, is.bound kind inside)
+          let t = all_among no_less is.place (filter (is_held hand) every_kind) all (among_filter (is_held hand) is.place every_kind (among_range is.place 0 34 (omega arith) (omega (arith, is.is_kind))) (lt-ltb 0 (slice_index hand is.place) h)) in
+          omega (arith, leb-true (distance_without hand melds kind) (distance_without hand melds is.place) t, are.held kind inside held, are.held is.place is.is_kind h, is.reached, is.bound kind inside)
 
       at_other : slice_index hand is.place ≤ 0 → slice_index distances kind ≡ least
       at_other h = absurd (omega (arith, are.others is.place is.is_kind (omega (arith, h)), is.reached, is.bound kind inside, are.few kind inside held))
@@ -78,14 +60,9 @@ unfolding discards_from in_order
 discards_none hand melds seen a = refl
 
 module _ (hand : List ℕ) (melds : List Meld) (seen : List ℕ) where
-  chosen_next : (t : Bool) (kind : ℕ) (kinds : List ℕ) → in_order (map (discard_of hand melds seen) (cond t (kind ∷ kinds) kinds)) ≡ cond t (inserted (discard_of hand melds seen kind) (in_order (map (discard_of hand melds seen) kinds))) (in_order (map (discard_of hand melds seen) kinds))
-  unfolding in_order
-  chosen_next true kind kinds = refl
-  chosen_next false kind kinds = refl
-
   discards_next : (kind n : ℕ) → discards_from hand melds seen kind (suc n) ≡ cond (is_discard hand melds kind) (inserted (discard_of hand melds seen kind) (discards_from hand melds seen (kind + 1) n)) (discards_from hand melds seen (kind + 1) n)
   unfolding discards_from
-  discards_next kind n = chosen_next (is_discard hand melds kind) kind (filter (is_discard hand melds) (range_with_len (kind + 1) n))
+  discards_next kind n = chosen_step hand melds seen (is_discard hand melds kind) kind (filter (is_discard hand melds) (range_with_len (kind + 1) n))
 
 -- ---- one kind less, from the greatest down
 
@@ -142,11 +119,7 @@ module _ (hand : List ℕ) (melds : List Meld) (seen : List ℕ) (number : ℕ) 
         there = omega (arith, held, ap (slice_index hand) kind_is)
 
         chosen : is_discard hand melds (number - 1) ≡ true
-        chosen = both (is_held hand (number - 1)) (is_best hand melds (number - 1)) (ltb_of 0 (slice_index hand (number - 1)) there) (sym (best_is hand melds distances least are is (number - 1) (omega arith) there) ∙ eqb_of (slice_index distances (number - 1)) least equal)
-          where
-            both : (a b : Bool) → a ≡ true → b ≡ true → (a && b) ≡ true
-            both true b e h = h
-            both false b e h = e
+        chosen = and_from (is_held hand (number - 1)) (is_best hand melds (number - 1)) (lt-ltb 0 (slice_index hand (number - 1)) there) (sym (best_is hand melds distances least are is (number - 1) (omega arith) there) ∙ eq-eqb (slice_index distances (number - 1)) least equal)
 
     left_list : (is_discard hand melds (number - 1) ≡ false) → list ≡ discards_from hand melds seen (number - 1) (34 - (number - 1))
     left_list chosen = so_far ∙ sym (discards_at ∙ ap (λ t. cond t (inserted (discard_of hand melds seen (number - 1)) (discards_from hand melds seen number (34 - number))) (discards_from hand melds seen number (34 - number))) chosen)
@@ -155,18 +128,12 @@ module _ (hand : List ℕ) (melds : List Meld) (seen : List ℕ) (number : ℕ) 
     either_false true b h = ⊎_elim (λ e. cc) (λ e. e) h
     either_false false b h = refl
 
-    not_held : (h : ℕ) → h ≤ 0 → ltb 0 h ≡ false
-    not_held h none = grind (arith, nat_tests)
-
-    not_equal : (m n : ℕ) → (m ≡ n → ⊥) → (m == n) ≡ false
-    not_equal m n ne = grind (arith, nat_tests)
-
     pub left_unheld : slice_index hand (number - 1) ≤ 0 → list ≡ discards_from hand melds seen (number - 1) (34 - (number - 1))
-    left_unheld none = left_list (either_false (is_held hand (number - 1)) (is_best hand melds (number - 1)) (inl (not_held (slice_index hand (number - 1)) none)))
+    left_unheld none = left_list (either_false (is_held hand (number - 1)) (is_best hand melds (number - 1)) (inl (le-ltb 0 (slice_index hand (number - 1)) none)))
 
     pub left_worse : 0 < slice_index hand (number - 1) → (slice_index distances (number - 1) ≡ least → ⊥) → list ≡ discards_from hand melds seen (number - 1) (34 - (number - 1))
     left_worse held worse =
-        left_list (either_false (is_held hand (number - 1)) (is_best hand melds (number - 1)) (inr (sym (best_is hand melds distances least are is (number - 1) (omega arith) held) ∙ not_equal (slice_index distances (number - 1)) least worse)))
+        left_list (either_false (is_held hand (number - 1)) (is_best hand melds (number - 1)) (inr (sym (best_is hand melds distances least are is (number - 1) (omega arith) held) ∙ ne_eqb (slice_index distances (number - 1)) least worse)))
 
   pub put_few : (size : ℕ) → size ≤ spread (slice_index hand) number (34 - number) → 0 < slice_index hand (number - 1) → size + 1 ≤ spread (slice_index hand) (number - 1) (34 - (number - 1))
   put_few size few held = omega (arith, few, held, spread_at)

@@ -1,5 +1,6 @@
 -- What is known of the parts of a shape.
-use Rattle.std.proofs.Common.{◌≡◌, ℕ, ◌<◌, ◌≤◌, ℤ, Bool, true, false, List, [], ◌∷◌, None, ltb, refl, ap, ◌∙◌, ⊎_elim, arith}
+use Rattle.std.proofs.Common.{◌≡◌, ℕ, ◌<◌, ◌≤◌, ℤ, Bool, true, false, List, [], ◌∷◌, None, refl, ap, ◌∙◌, ⊎_elim, arith}
+use Rattle.std.proofs.lemmas.Bool.{or_parts, ltb-false}
 use Rattle.std.proofs.lemmas.Bool.Decides.{nat_tests}
 use Rattle.std.specs.List.{list_any, sum}
 use Rattle.std.specs.Prelude.{not, nat_lt, ◌==◌, ◌||◌}
@@ -26,14 +27,7 @@ no_faults false b e = cc
 
 pub none_of : {A : Type 0} (p : A → Bool) (xs : List A) (x : A) → list_any p xs ≡ false → Among x xs → p x ≡ false
 none_of p [] x none h = absurd h
-none_of p (y ∷ xs) x none h = let both = neither (p y) (list_any p xs) none in ⊎_elim (λ e. ap p e ∙ both.0) (λ later. none_of p xs x both.1 later) h
-  where
-    neither : (a b : Bool) → (a || b) ≡ false → (a ≡ false) × (b ≡ false)
-    neither true b e = cc
-    neither false b e = (refl, e)
-
-not_above : (m n : ℕ) → ltb m n ≡ false → n ≤ m
-not_above m n e = grind (arith, nat_tests)
+none_of p (y ∷ xs) x none h = let both = or_parts (p y) (list_any p xs) none in ⊎_elim (λ e. ap p e ∙ both.0) (λ later. none_of p xs x both.1 later) h
 
 either_size : (n : ℕ) → ((n == 13) || (n == 14)) ≡ true → n ≤ 14
 either_size n e = grind (arith, nat_tests)
@@ -41,7 +35,7 @@ either_size n e = grind (arith, nat_tests)
 module _ (parts : ShapeParts) (is : IsShape parts) where
   pub copies_few : (kind : ℕ) → kind < 34 → copies_with parts kind ≤ 4
   copies_few kind low =
-      not_above 4 (copies_with parts kind) (none_of (λ kind. nat_lt 4 (copies_with parts kind)) every_kind kind (no_faults (is_thirteen_or_more parts.tiles parts.melds) (has_five_seen parts) is).1 (among_range kind 0 34 (omega arith) (omega arith)))
+      ltb-false 4 (copies_with parts kind) (none_of (λ kind. nat_lt 4 (copies_with parts kind)) every_kind kind (no_faults (is_thirteen_or_more parts.tiles parts.melds) (has_five_seen parts) is).1 (among_range kind 0 34 (omega arith) (omega arith)))
 
   pub tiles_few : sum parts.tiles ≤ 14
   tiles_few = omega (arith, either_size (size parts.tiles parts.melds) (no_faults (is_thirteen_or_more parts.tiles parts.melds) (has_five_seen parts) is).0)

@@ -1,8 +1,7 @@
 -- What a hand lacks of the forms that stand beside no meld.
 use Rattle.std.proofs.Common.{◌≡◌, ℕ, ◌+◌, ◌<◌, ◌≤◌, Bool, true, false, cond, ◌⊎◌, inl, inr, List, length, refl, sym, ap, ◌∙◌, ⊎_elim, subst, arith}
-use Rattle.std.proofs.lemmas.Bool.{cases_lt, false≢true}
-use Rattle.std.proofs.lemmas.Bool.Decides.{nat_tests}
-use Rattle.std.specs.Prelude.{slice_index, ◌==◌, ◌&&◌, ◌||◌}
+use Rattle.std.proofs.lemmas.Bool.{cases_lt, false≢true, or_left, or_right, and_parts, and_from, eqb-true, eq-eqb, or_cases}
+use Rattle.std.specs.Prelude.{slice_index, ◌==◌, ◌&&◌}
 use Rattle.riichi_tiles.specs.Melds.{tiles}
 use Rattle.riichi_tiles.specs.declared.meld.Meld.{Meld}
 use Rattle.riichi_shape.specs.Distance.{IsDistance}
@@ -17,74 +16,46 @@ use Rattle.riichi_shape.specs.declared.special.SpecialForms.{SpecialForms}
 use Rattle.riichi_shape.specs.declared.special.SpecialLacked.{SpecialLacked}
 use Rattle.riichi_shape.proofs.Distances.{each_below, orphan_few}
 use Rattle.riichi_shape.proofs.Exists.{melds_few}
-use Rattle.riichi_shape.proofs.OrphanLemmas.{or_true}
-
-pub or_left : (a b : Bool) → a ≡ true → (a || b) ≡ true
-or_left true b e = refl
-or_left false b e = absurd (false≢true e)
-
-pub or_right : (a b : Bool) → b ≡ true → (a || b) ≡ true
-or_right true b e = refl
-or_right false b e = e
-
-pub both_of : (a b : Bool) → (a && b) ≡ true → (a ≡ true) × (b ≡ true)
-both_of true b e = (refl, e)
-both_of false b e = absurd (false≢true e)
-
-pub of_both : (a b : Bool) → a ≡ true → b ≡ true → (a && b) ≡ true
-of_both true b e h = h
-of_both false b e h = e
 
 -- ---- kinds by how many are held
 
 pub lacks_there : (held : ℕ) (lacked : LackedHeld) → lacks_held lacked held ≡ true → ((held ≡ 0) × (lacked.missing ≡ true)) ⊎ ((held ≡ 1) × (lacked.single ≡ true))
 lacks_there held lacked e =
-    ⊎_elim (λ none. (let b = both_of (held == 0) lacked.missing none in inl (is_number held 0 b.0, b.1))) (λ one. (let b = both_of (held == 1) lacked.single one in inr (is_number held 1 b.0, b.1)))
-    (or_true (held == 0 && lacked.missing) (held == 1 && lacked.single) e)
-  where
-    is_number : (m n : ℕ) → (m == n) ≡ true → m ≡ n
-    is_number m n e = grind (arith, nat_tests)
+    ⊎_elim (λ none. (let b = and_parts (held == 0) lacked.missing none in inl (eqb-true held 0 b.0, b.1))) (λ one. (let b = and_parts (held == 1) lacked.single one in inr (eqb-true held 1 b.0, b.1)))
+    (or_cases (held == 0 && lacked.missing) (held == 1 && lacked.single) e)
 
 pub lacks_back : (held : ℕ) (lacked : LackedHeld) → ((held ≡ 0) × (lacked.missing ≡ true)) ⊎ ((held ≡ 1) × (lacked.single ≡ true)) → lacks_held lacked held ≡ true
 lacks_back held lacked h =
-    ⊎_elim (λ none. or_left (held == 0 && lacked.missing) (held == 1 && lacked.single) (of_both (held == 0) lacked.missing (number_is held 0 none.0) none.1))
-    (λ one. or_right (held == 0 && lacked.missing) (held == 1 && lacked.single) (of_both (held == 1) lacked.single (number_is held 1 one.0) one.1)) h
-  where
-    number_is : (m n : ℕ) → m ≡ n → (m == n) ≡ true
-    number_is m n e = grind (arith, nat_tests)
+    ⊎_elim (λ none. or_left (held == 0 && lacked.missing) (held == 1 && lacked.single) (and_from (held == 0) lacked.missing (eq-eqb held 0 none.0) none.1))
+    (λ one. or_right (held == 0 && lacked.missing) (held == 1 && lacked.single) (and_from (held == 1) lacked.single (eq-eqb held 1 one.0) one.1)) h
 
 -- a form counts only where it lacks just n tiles
 at_least : (form : NearestForm) (n held : ℕ) → lacks_held (lacked_at form n) held ≡ true → (form.lack ≡ n) × (lacks_held form.lacked held ≡ true)
 at_least form n held e = by_test (form.lack == n) refl e
   where
-    same : (m n : ℕ) → (m == n) ≡ true → m ≡ n
-    same m n e = grind (arith, nat_tests)
-
     by_test : (t : Bool) → (form.lack == n) ≡ t → lacks_held (cond t form.lacked (record { missing = false; single = false })) held ≡ true → (form.lack ≡ n) × (lacks_held form.lacked held ≡ true)
-    by_test true t e = (same form.lack n t, e)
+    by_test true t e = (eqb-true form.lack n t, e)
     by_test false t e = absurd (none_held (lacks_there held (record { missing = false; single = false }) e))
       where
         none_held : ((held ≡ 0) × (false ≡ true)) ⊎ ((held ≡ 1) × (false ≡ true)) → ⊥
         none_held h = ⊎_elim (λ none. false≢true none.1) (λ one. false≢true one.1) h
 
 at_just : (form : NearestForm) (n : ℕ) → form.lack ≡ n → form.lacked ≡ lacked_at form n
-at_just form n e = ap (λ t. cond t form.lacked (record { missing = false; single = false })) (sym (is form.lack n e))
-  where
-    is : (m n : ℕ) → m ≡ n → (m == n) ≡ true
-    is m n e = grind (arith, nat_tests)
+at_just form n e = ap (λ t. cond t form.lacked (record { missing = false; single = false })) (sym (eq-eqb form.lack n e))
 
 -- ---- without melds
 
 pub no_tiles : (melds : List Meld) → length melds ≡ 0 → AreNoMelds melds
 no_tiles melds none kind low = omega (arith, each_below (tiles melds) 0 34 kind (omega arith) (omega (arith, low)), melds_few melds 0 34, none)
 
+-- none or two of a kind that is not melded are within four
+pub pair_few : (w m : ℕ) → (w ≡ 0) ⊎ (w ≡ 2) → m ≡ 0 → w + m ≤ 4
+pair_few w m h none = ⊎_elim (λ e. omega (arith, e, none)) (λ e. omega (arith, e, none)) h
+
 -- no special form lacks less than the distance
 pub special_none_less : (hand : List ℕ) (melds : List Meld) (n : ℕ) → IsDistance hand melds n → SpecialLacks hand melds n
 special_none_less hand melds n is = record { bound = λ wanted form. ⊎_elim (by_pairs wanted) (by_orphans wanted) form }
   where
-    pair_few : (w m : ℕ) → (w ≡ 0) ⊎ (w ≡ 2) → m ≡ 0 → w + m ≤ 4
-    pair_few w m h none = ⊎_elim (λ e. omega (arith, e, none)) (λ e. omega (arith, e, none)) h
-
     by_pairs : (wanted : List ℕ) → (length melds ≡ 0) × IsSevenPairs wanted → n ≤ lacking hand wanted
     by_pairs wanted form =
         is.none_less wanted (record { form = inr (inl form); within_four = record { at = λ k low. pair_few (slice_index wanted k) (tiles melds k) (form.1.two_or_none k low) (no_tiles melds form.0 k low) } })
@@ -123,9 +94,9 @@ module _ (hand : List ℕ) (melds : List Meld) (forms : SpecialForms) (are : Are
 
     orphans_there : (lacks_held (lacked_at forms.orphans n) held && is_listed_orphan kind) ≡ true → (length melds ≡ 0) × FormLacks IsThirteenOrphans hand melds n kind
     orphans_there e =
-        let both = both_of (lacks_held (lacked_at forms.orphans n) held) (is_listed_orphan kind) e in
+        let both = and_parts (lacks_held (lacked_at forms.orphans n) held) (is_listed_orphan kind) e in
         let just = at_least forms.orphans n held both.0 in
-        let there = of_both (lacks_held forms.orphans.lacked held) (is_listed_orphan kind) just.1 both.1 in
+        let there = and_from (lacks_held forms.orphans.lacked held) (is_listed_orphan kind) just.1 both.1 in
         ⊎_elim (λ some. absurd (omega (arith, are.no_orphans some, just.0, low)))
         (λ none. (let no : length melds ≡ 0 = omega (arith, none) in (no, subst (λ (m : ℕ). FormLacks IsThirteenOrphans hand melds m kind) just.0 (((are.orphans no).lacked melds (no_tiles melds no) kind inside).0 there))))
         (cases_lt 0 (length melds))
@@ -143,7 +114,7 @@ module _ (hand : List ℕ) (melds : List Meld) (forms : SpecialForms) (are : Are
         let pair_bit = lacks_held lacked.pairs held in
         let orphan_bit = lacks_held lacked.orphans held && is_listed_orphan kind in (
           λ e. ⊎_elim (λ p. inl (pairs_there kind inside (subst (λ (l : LackedHeld). lacks_held l held ≡ true) pairs_are p)))
-              (λ o. inr (orphans_there kind inside (subst (λ (l : LackedHeld). (lacks_held l held && is_listed_orphan kind) ≡ true) orphans_are o))) (or_true pair_bit orphan_bit e),
+              (λ o. inr (orphans_there kind inside (subst (λ (l : LackedHeld). (lacks_held l held && is_listed_orphan kind) ≡ true) orphans_are o))) (or_cases pair_bit orphan_bit e),
           λ w. ⊎_elim (λ p. or_left pair_bit orphan_bit (subst (λ (l : LackedHeld). lacks_held l held ≡ true) (sym pairs_are) (pairs_back kind inside p)))
               (λ o. or_right pair_bit orphan_bit (subst (λ (l : LackedHeld). (lacks_held l held && is_listed_orphan kind) ≡ true) (sym orphans_are) (orphans_back kind inside o))) w,
         ));

@@ -1,10 +1,11 @@
 -- The distance is one number: the least lack over the list of every winning multiset.
-use Rattle.std.proofs.Common.{◌≡◌, ℕ, zero, suc, ◌+◌, ◌-◌, ◌<◌, ◌≤◌, ◌%◌, Bool, true, false, inl, inr, List, [], ◌∷◌, ◌++◌, map, length, eqb, leb, ltb, refl, sym, ap, ◌∙◌, ⊎_elim, subst, arith}
-use Rattle.std.proofs.lemmas.Bool.{false≢true, lt-ltb, ltb-true}
+use Rattle.std.proofs.Common.{◌≡◌, ℕ, zero, suc, ◌+◌, ◌-◌, ◌<◌, ◌%◌, true, inl, inr, List, [], ◌∷◌, ◌++◌, map, length, eqb, ltb, refl, sym, ap, ◌∙◌, ⊎_elim, subst, arith}
+use Rattle.std.proofs.lemmas.List.FromFn.{get_or-map-range_with_len, length-map-range_with_len}
+use Rattle.std.proofs.lemmas.Bool.{false≢true, lt-ltb, ltb-true, or_left, or_right, le-leb, leb-true, or_cases, eqb-true, eq-eqb, and_from, and_parts}
 use Rattle.std.proofs.lemmas.Bool.Decides.{nat_tests}
 use Rattle.std.proofs.lemmas.List.Elements.{All-nil, All-cons, All-head, All-tail}
 use Rattle.std.specs.List.{filter, list_any}
-use Rattle.std.specs.Prelude.{All, slice_index, sum_by, nat_le, ◌==◌, ◌&&◌, ◌||◌}
+use Rattle.std.specs.Prelude.{All, slice_index, sum_by, nat_le, ◌==◌}
 use Rattle.riichi_tiles.specs.Kinds.{IsRunLow}
 use Rattle.riichi_tiles.specs.Blocks.{IsSet, total}
 use Rattle.riichi_tiles.specs.Melds.{every_kind, tiles}
@@ -12,14 +13,13 @@ use Rattle.riichi_tiles.specs.Kinds.{begins_run}
 use Rattle.riichi_tiles.specs.declared.block.Block.{Block}
 use Rattle.riichi_tiles.specs.declared.block.Block.TheVariants.{Run, Triplet, Pair}
 use Rattle.riichi_tiles.specs.declared.meld.Meld.{Meld}
-use Rattle.riichi_rows.proofs.Spread.{sum_range, spread_shift, eqb_is, is_eqb}
+use Rattle.riichi_rows.proofs.Spread.{sum_range, spread_shift}
 use Rattle.riichi_shape.specs.Distance.{IsDistance}
 use Rattle.riichi_shape.specs.EveryWinning.{lists_of, every_set, counts_of, every_sets_and_pair, every_seven_pairs, every_orphans, every_special, is_within_four, every_winning, least, distance_of}
 use Rattle.riichi_shape.specs.Orphans.{IsThirteenOrphans, orphan_kinds, orphan_tiles}
 use Rattle.riichi_shape.specs.Pairs.{IsSevenPairs}
 use Rattle.riichi_shape.specs.Winning.{HasWinningForm, IsSetsAndPair, IsWinning, WithinFour, lacking}
-use Rattle.riichi_shape.proofs.OrphanLemmas.{or_true}
-use Rattle.riichi_shape.proofs.Members.{Among, all_among, all_of, among_either, among_filter, among_flat_map, among_get_or, among_left, among_lists, among_map, among_range, among_right, from_filter, from_flat_map, from_lists, from_map, from_range, least_is, length_map_range, map_range_at}
+use Rattle.riichi_shape.proofs.Members.{Among, all_among, all_of, among_either, among_filter, among_flat_map, among_get_or, among_left, among_lists, among_map, among_range, among_right, from_filter, from_flat_map, from_lists, from_map, from_range, least_is}
 
 -- two multisets with the same tiles
 pub record SameTiles (w v : List ℕ) : Type 0 where
@@ -40,18 +40,10 @@ lacking_same hand w v same =
 -- ---- sets
 
 begins_at : (low : ℕ) → IsRunLow low → begins_run low ≡ true
-begins_at low is = both (ltb low 27) (ltb (low % 9) 7) (lt-ltb low 27 is.0) (lt-ltb (low % 9) 7 is.1)
-  where
-    both : (a b : Bool) → a ≡ true → b ≡ true → (a && b) ≡ true
-    both true b e h = h
-    both false b e h = e
+begins_at low is = and_from (ltb low 27) (ltb (low % 9) 7) (lt-ltb low 27 is.0) (lt-ltb (low % 9) 7 is.1)
 
 run_low : (low : ℕ) → begins_run low ≡ true → IsRunLow low
-run_low low e = let t = both (ltb low 27) (ltb (low % 9) 7) e in (ltb-true low 27 t.0, ltb-true (low % 9) 7 t.1)
-  where
-    both : (a b : Bool) → (a && b) ≡ true → (a ≡ true) × (b ≡ true)
-    both true b e = (refl, e)
-    both false b e = absurd (false≢true e)
+run_low low e = let t = and_parts (ltb low 27) (ltb (low % 9) 7) e in (ltb-true low 27 t.0, ltb-true (low % 9) 7 t.1)
 
 among_sets : (b : Block) → IsSet b → Among b every_set
 unfolding every_set
@@ -79,10 +71,7 @@ all_sets (b ∷ bs) each = All-cons IsSet b bs (from_sets b (each b (inl refl)))
 
 counts_at : (bs : List Block) (k : ℕ) → k < 34 → slice_index (counts_of bs) k ≡ total bs k
 unfolding counts_of
-counts_at bs k h = map_range_at (total bs) 0 34 k h ∙ ap (λ n. total bs n) (same k)
-  where
-    same : (k : ℕ) → 0 + k ≡ k
-    same k = omega arith
+counts_at bs k h = get_or-map-range_with_len (total bs) 0 34 k k 0 h (omega arith)
 
 listed_sets : (sets : ℕ) (wanted : List ℕ) → IsSetsAndPair sets wanted → Listed (every_sets_and_pair sets) wanted
 unfolding every_sets_and_pair
@@ -123,17 +112,14 @@ all_same : (w v : List ℕ) → SameTiles w v → tiles_of_all w ≡ tiles_of_al
 all_same w v same = sum_range (slice_index w) 0 34 ∙ spread_shift (slice_index w) (slice_index v) 0 0 34 (λ k low. same.at (0 + k) (omega arith)) ∙ sym (sum_range (slice_index v) 0 34)
 
 copied : (wanted : List ℕ) → SameTiles (map (slice_index wanted) every_kind) wanted
-copied wanted = record { at = λ kind low. map_range_at (slice_index wanted) 0 34 kind low ∙ ap (slice_index wanted) (same kind) }
-  where
-    same : (k : ℕ) → 0 + k ≡ k
-    same k = omega arith
+copied wanted = record { at = λ kind low. get_or-map-range_with_len (slice_index wanted) 0 34 kind kind 0 low (omega arith) }
 
 listed_pairs : (wanted : List ℕ) → IsSevenPairs wanted → Listed every_seven_pairs wanted
 unfolding every_seven_pairs
 listed_pairs wanted is = record {
   listed = map (slice_index wanted) every_kind;
   among = among_filter (λ w. tiles_of_all w == 14) (map (slice_index wanted) every_kind) (lists_of (0 ∷ 2 ∷ []) 34)
-      (among_lists (0 ∷ 2 ∷ []) 34 (map (slice_index wanted) every_kind) (length_map_range (slice_index wanted) 0 34) each)
+      (among_lists (0 ∷ 2 ∷ []) 34 (map (slice_index wanted) every_kind) (length-map-range_with_len (slice_index wanted) 0 34) each)
       (is_fourteen (tiles_of_all (map (slice_index wanted) every_kind)) (all_same (map (slice_index wanted) every_kind) wanted (copied wanted) ∙ is.fourteen));
   same = copied wanted;
 }
@@ -157,31 +143,20 @@ pairs_listed wanted h =
 
 among_any : (k : ℕ) (ks : List ℕ) → list_any (eqb k) ks ≡ true → Among k ks
 among_any k [] e = absurd (false≢true e)
-among_any k (x ∷ ks) e = ⊎_elim (λ t. inl (eqb_is k x t)) (λ later. inr (among_any k ks later)) (or_true (eqb k x) (list_any (eqb k) ks) e)
-
-or_left : (a b : Bool) → a ≡ true → (a || b) ≡ true
-or_left true b e = refl
-or_left false b e = absurd (false≢true e)
-
-or_right : (a b : Bool) → b ≡ true → (a || b) ≡ true
-or_right true b e = refl
-or_right false b e = e
+among_any k (x ∷ ks) e = ⊎_elim (λ t. inl (eqb-true k x t)) (λ later. inr (among_any k ks later)) (or_cases (eqb k x) (list_any (eqb k) ks) e)
 
 any_among : (k : ℕ) (ks : List ℕ) → Among k ks → list_any (eqb k) ks ≡ true
 any_among k [] h = absurd h
 any_among k (x ∷ ks) h =
-    ⊎_elim (λ e. or_left (eqb k x) (list_any (eqb k) ks) (is_eqb k x e)) (λ later. or_right (eqb k x) (list_any (eqb k) ks) (any_among k ks later)) h
+    ⊎_elim (λ e. or_left (eqb k x) (list_any (eqb k) ks) (eq-eqb k x e)) (λ later. or_right (eqb k x) (list_any (eqb k) ks) (any_among k ks later)) h
 
 listed_orphans : (wanted : List ℕ) → IsThirteenOrphans wanted → Listed every_orphans wanted
 unfolding every_orphans
 listed_orphans wanted is = record {
   listed = map (orphan_tiles is.doubled) every_kind;
   among = among_map (λ doubled. map (orphan_tiles doubled) every_kind) is.doubled orphan_kinds (among_any is.doubled orphan_kinds is.doubles_orphan);
-  same = record { at = λ kind low. map_range_at (orphan_tiles is.doubled) 0 34 kind low ∙ ap (orphan_tiles is.doubled) (same kind) ∙ sym (is.at kind low) };
+  same = record { at = λ kind low. get_or-map-range_with_len (orphan_tiles is.doubled) 0 34 kind kind 0 low (omega arith) ∙ sym (is.at kind low) };
 }
-  where
-    same : (k : ℕ) → 0 + k ≡ k
-    same k = omega arith
 
 orphans_listed : (wanted : List ℕ) → Among wanted every_orphans → IsThirteenOrphans wanted
 unfolding every_orphans
@@ -190,11 +165,8 @@ orphans_listed wanted h =
     record {
       doubled = r.0;
       doubles_orphan = any_among r.0 orphan_kinds r.1;
-      at = λ kind low. ap (λ w. slice_index w kind) r.2 ∙ map_range_at (orphan_tiles r.0) 0 34 kind low ∙ ap (orphan_tiles r.0) (same kind);
+      at = λ kind low. ap (λ w. slice_index w kind) r.2 ∙ get_or-map-range_with_len (orphan_tiles r.0) 0 34 kind kind 0 low (omega arith);
     }
-  where
-    same : (k : ℕ) → 0 + k ≡ k
-    same k = omega arith
 
 -- ---- all forms
 
@@ -227,22 +199,16 @@ form_listed : (melds : ℕ) (wanted : List ℕ) → Among wanted (every_sets_and
 form_listed melds wanted h =
     ⊎_elim (λ sets. inl (sets_listed (4 - melds) wanted sets)) (λ special. special_listed melds wanted special) (among_either wanted (every_sets_and_pair (4 - melds)) (every_special melds) h)
 
-leb_of : (a b : ℕ) → a ≤ b → leb a b ≡ true
-leb_of a b h = grind (arith, nat_tests)
-
-of_leb : (a b : ℕ) → leb a b ≡ true → a ≤ b
-of_leb a b e = grind (arith, nat_tests)
-
 four_of : (melds : List Meld) (wanted listed : List ℕ) → SameTiles listed wanted → WithinFour melds wanted → is_within_four melds listed ≡ true
 unfolding is_within_four
 four_of melds wanted listed same four =
     all_of (λ kind. nat_le (slice_index listed kind + tiles melds kind) 4) every_kind
-    (λ kind h. (let inside = (from_range kind 0 34 h).1 in leb_of (slice_index listed kind + tiles melds kind) 4 (omega (arith, four.at kind inside, same.at kind inside))))
+    (λ kind h. (let inside = (from_range kind 0 34 h).1 in le-leb (slice_index listed kind + tiles melds kind) 4 (omega (arith, four.at kind inside, same.at kind inside))))
 
 of_four : (melds : List Meld) (wanted : List ℕ) → is_within_four melds wanted ≡ true → WithinFour melds wanted
 unfolding is_within_four
 of_four melds wanted e = record {
-  at = λ kind low. of_leb (slice_index wanted kind + tiles melds kind) 4 (all_among (λ kind. nat_le (slice_index wanted kind + tiles melds kind) 4) kind every_kind e (among_range kind 0 34 (omega arith) (omega arith)));
+  at = λ kind low. leb-true (slice_index wanted kind + tiles melds kind) 4 (all_among (λ kind. nat_le (slice_index wanted kind + tiles melds kind) 4) kind every_kind e (among_range kind 0 34 (omega arith) (omega arith)));
 }
 
 pub listed_winning : (melds : List Meld) (wanted : List ℕ) → IsWinning melds wanted → Listed (every_winning melds) wanted

@@ -1,5 +1,5 @@
 -- The text of the accepted kinds and of the discards.
-use Rattle.std.proofs.Common.{◌≡◌, ℕ, zero, suc, ◌+◌, ◌≤◌, Bool, true, false, cond, List, [], ◌∷◌, ◌++◌, map, length, take, length-set, ◌%◌, Some, ltb, refl, sym, ap, ◌∙◌, arith}
+use Rattle.std.proofs.Common.{◌≡◌, ℕ, zero, suc, ◌+◌, ◌≤◌, Bool, true, false, cond, List, [], ◌∷◌, ◌++◌, map, length, take, length-set, ◌%◌, ltb, refl, sym, ap, ◌∙◌, arith}
 use Rattle.std.proofs.lemmas.List.{append-nil, flat_map_more}
 use Rattle.std.specs.Str.{IsAscii}
 use Rattle.std.proofs.lemmas.Str.Ascii.{IsAscii-cons, IsAscii-nil}
@@ -9,13 +9,12 @@ use Rattle.std.proofs.lemmas.List.{take-set-le}
 use Rattle.std.specs.Result.{IsOk, MatchResult}
 use Rattle.std.proofs.Common.{Result, Ok, Err}
 use Rattle.std.specs.List.{filter, flat_map, range_with_len}
-use Rattle.std.specs.Prelude.{nat_lt, slice_get, slice_index, slice_set}
+use Rattle.std.specs.Prelude.{nat_lt, slice_index, slice_set}
 use Rattle.riichi_tiles.specs.Melds.{every_kind}
 use Rattle.riichi_shape.specs.LiveCopies.{pairs_of}
 use Rattle.riichi_text.specs.Tiles.{letter_of}
 use Rattle.riichi_text.proofs.Letters.{letter_below}
-use Rattle.riichi_shape_text.specs.Text.{discard_text, kinds_text, pair_text}
-use Rattle.riichi_shape.specs.declared.discard.Discard.{Discard}
+use Rattle.riichi_shape_text.specs.Text.{pair_text}
 
 -- the pairs of the kinds below a number
 unfoldable pub pairs_below : List ℕ → ℕ → List (ℕ × ℕ)
@@ -68,30 +67,6 @@ text_with copies n = by_test (ltb 0 (slice_index copies n)) (pairs_more copies n
         flat_map pair_text (pairs_below copies n) ++ cond t (pair_text (n, slice_index copies n)) [] ≡ flat_map pair_text (pairs_below copies (n + 1))
     by_test true e = flat_map_more pair_text [] (pairs_below copies n) (n, slice_index copies n) ∙ sym (ap (λ ps. flat_map pair_text ps) e)
     by_test false e = append-nil (flat_map pair_text (pairs_below copies n)) ∙ sym (ap (λ ps. flat_map pair_text ps) (e ∙ append-nil (pairs_below copies n)))
-
--- ---- no kind
-
-pub kinds_some : (pairs : List (ℕ × ℕ)) → (pairs ≡ [] → ⊥) → kinds_text pairs ≡ flat_map pair_text pairs
-kinds_some [] some = absurd (some refl)
-kinds_some (pair ∷ pairs) some = refl
-
--- ---- discards
-
-taken : {X : Type 0} (xs : List X) (i : ℕ) (x : X) → slice_get xs i ≡ Some x → take (suc i) xs ≡ take i xs ++ x ∷ []
-taken [] i x e = cc
-taken (y ∷ xs) zero x e = same y x e xs
-  where
-    same : {X : Type 0} (y x : X) → Some y ≡ Some x → (xs : List X) → take (suc zero) (y ∷ xs) ≡ x ∷ []
-    same y x e xs = cc
-taken (y ∷ xs) (suc i) x e = ap (λ ys. y ∷ ys) (taken xs i x e)
-
-pub discard_more : (discards : List Discard) (before : List ℕ) (i : ℕ) (discard : Discard) → slice_get discards i ≡ Some discard →
-    (before ++ flat_map discard_text (take i discards)) ++ discard_text discard ≡ before ++ flat_map discard_text (take (i + 1) discards)
-discard_more discards before i discard e =
-    flat_map_more discard_text before (take i discards) discard ∙ sym (ap (λ ds. before ++ flat_map discard_text ds) (ap (λ n. take n discards) (next i) ∙ taken discards i discard e))
-  where
-    next : (n : ℕ) → n + 1 ≡ suc n
-    next n = omega arith
 
 -- ---- the text is ASCII
 

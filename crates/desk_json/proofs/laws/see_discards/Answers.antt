@@ -1,6 +1,6 @@
 use Rattle.std.proofs.Common.{sym, ◌∙◌, subst, arith}
 use Rattle.std.proofs.lemmas.List.{take_all}
-use Rattle.riichi_shape.proofs.Members.{some_there}
+use Rattle.riichi_text.proofs.Pieces.{some_there}
 use Rattle.desk_json.specs.Whole.{Each, IsWholeDiscard}
 use Rattle.desk_json.proofs.Seen.{each_more}
 use Rattle.desk_json.proofs.laws.see_discards.Goals as goal

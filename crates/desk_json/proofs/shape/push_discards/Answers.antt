@@ -1,5 +1,5 @@
 use Rattle.std.proofs.Common.{◌++◌, length, sym, ap, ◌∙◌, arith}
-use Rattle.riichi_shape.proofs.Members.{some_there}
+use Rattle.riichi_text.proofs.Pieces.{some_there}
 use Rattle.std.specs.Prelude.{nat_lt}
 use Rattle.desk_json.specs.Parts.{comma_if, discard_text}
 use Rattle.desk_json.proofs.Chosen.{discard_more}

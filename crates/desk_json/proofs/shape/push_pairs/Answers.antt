@@ -1,6 +1,6 @@
 use Rattle.std.proofs.Common.{◌++◌, length, ap, ◌∙◌, arith}
+use Rattle.std.proofs.lemmas.Bool.{lt-ltb, le-ltb}
 use Rattle.std.specs.Prelude.{slice_index, nat_lt}
-use Rattle.riichi_shape.proofs.LiveLemmas.{is_live, not_live}
 use Rattle.desk_json.specs.Parts.{comma_if, joined, live_text}
 use Rattle.desk_json.proofs.Chosen.{start, with_one, without_one, at_end, all_pairs}
 use Rattle.desk_json.proofs.shape.push_pairs.Goals as goal
@@ -18,7 +18,7 @@ loop-number-preserved c =
       | then-live-gt0 w ↦ record {
         in_range = omega arith;
         written = with_one (λ kind. live_text (kind, slice_index copies kind)) (λ kind. nat_lt 0 (slice_index copies kind)) number c.args.text.now.bytes c.loop-number.text.bytes c.if-live-gt0.text.bytes
-            c.loop-number.later c.if-live-gt0.later (is_live (slice_index copies number) w.if-live-gt0.true) so_far.written
+            c.loop-number.later c.if-live-gt0.later (lt-ltb 0 (slice_index copies number) w.if-live-gt0.true) so_far.written
             (ap (λ t. t.bytes) w.text-is ∙ w.push_pair.ensures.bytes
             ∙ ap (λ k. (c.loop-number.text.bytes ++ comma_if c.loop-number.later) ++ live_text (k, slice_index copies number)) w.at.ensures) w.later-is;
         few = omega (arith, ap (λ t. length t.bytes) w.text-is, w.push_pair.ensures.len, so_far.few);
@@ -26,7 +26,7 @@ loop-number-preserved c =
       | else-live-gt0 w ↦ record {
         in_range = omega arith;
         written = without_one (λ kind. live_text (kind, slice_index copies kind)) (λ kind. nat_lt 0 (slice_index copies kind)) number c.args.text.now.bytes c.loop-number.text.bytes
-            c.if-live-gt0.text.bytes c.loop-number.later c.if-live-gt0.later (not_live (slice_index copies number) w.if-live-gt0.false) so_far.written (ap (λ t. t.bytes) w.text-is) w.later-is;
+            c.if-live-gt0.text.bytes c.loop-number.later c.if-live-gt0.later (le-ltb 0 (slice_index copies number) w.if-live-gt0.false) so_far.written (ap (λ t. t.bytes) w.text-is) w.later-is;
         few = omega (arith, ap (λ t. length t.bytes) w.text-is, so_far.few);
       }
     ]

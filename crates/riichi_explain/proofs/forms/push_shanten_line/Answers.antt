@@ -1,6 +1,6 @@
 use Rattle.std.proofs.Common.{[], ◌∷◌, codes}
 use Rattle.riichi_explain.specs.Forms.{form_text, other_text, shanten_line}
-use Rattle.riichi_waits.proofs.Pieces.{pushed-five}
+use Rattle.riichi_text.proofs.Pieces.{pushed-five}
 use Rattle.riichi_explain.proofs.forms.push_shanten_line.Goals as goal
 
 pub returns-clause-bytes : goal.returns-clause-bytes

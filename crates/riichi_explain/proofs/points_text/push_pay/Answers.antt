@@ -1,6 +1,6 @@
 use Rattle.std.proofs.Common.{codes}
 use Rattle.riichi_explain.specs.Text.{payer_name, added_text, each_text, pay_text}
-use Rattle.riichi_waits.proofs.Pieces.{pushed-three}
+use Rattle.riichi_text.proofs.Pieces.{pushed-three}
 use Rattle.riichi_explain.proofs.points_text.push_pay.Goals as goal
 
 pub returns-clause-bytes : goal.returns-clause-bytes

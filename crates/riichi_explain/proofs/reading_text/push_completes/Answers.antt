@@ -1,7 +1,7 @@
 use Rattle.std.proofs.Common.{codes}
 use Rattle.riichi_text.specs.Tiles.{block_text, kind_text}
 use Rattle.riichi_explain.specs.Text.{completes_text}
-use Rattle.riichi_waits.proofs.Pieces.{pushed-four}
+use Rattle.riichi_text.proofs.Pieces.{pushed-four}
 use Rattle.riichi_explain.proofs.reading_text.push_completes.Goals as goal
 
 pub returns-clause-bytes : goal.returns-clause-bytes

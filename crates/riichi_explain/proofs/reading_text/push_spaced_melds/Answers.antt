@@ -1,6 +1,6 @@
 use Rattle.std.proofs.Common.{◌++◌, length, sym, ap, ◌∙◌, arith}
 use Rattle.riichi_explain.specs.Text.{spaced_meld}
-use Rattle.riichi_explain.proofs.TextLemmas.{flat_map-get, some_there}
+use Rattle.riichi_text.proofs.Pieces.{flat_map-get, some_there}
 use Rattle.riichi_explain.proofs.reading_text.push_spaced_melds.Goals as goal
 use Rattle.riichi_explain.proofs.reading_text.push_spaced_melds.Goals.{in-Some, in_default}
 

@@ -1,6 +1,6 @@
 use Rattle.std.proofs.Common.{codes, decimal}
 use Rattle.riichi_explain.specs.Text.{rounded_to}
-use Rattle.riichi_waits.proofs.Pieces.{pushed-two}
+use Rattle.riichi_text.proofs.Pieces.{pushed-two}
 use Rattle.riichi_explain.proofs.rows_text.push_rounded_to.Goals as goal
 
 pub returns-clause-bytes : goal.returns-clause-bytes

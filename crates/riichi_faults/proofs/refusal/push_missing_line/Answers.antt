@@ -1,6 +1,6 @@
 use Rattle.std.proofs.Common.{ℕ, List, ◌++◌, ap, ◌∙◌, codes}
 use Rattle.riichi_faults.specs.Refusal.{missing_key, missing_line}
-use Rattle.riichi_faults.proofs.TextLemmas.{pushed-three}
+use Rattle.riichi_text.proofs.Pieces.{pushed-three}
 use Rattle.riichi_faults.proofs.refusal.push_missing_line.Goals as goal
 
 pub returns : goal.returns

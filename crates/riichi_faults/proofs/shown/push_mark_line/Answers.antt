@@ -1,6 +1,6 @@
 use Rattle.std.proofs.Common.{replicate, codes}
 use Rattle.riichi_faults.specs.Shown.{mark_line}
-use Rattle.riichi_faults.proofs.TextLemmas.{pushed-five}
+use Rattle.riichi_text.proofs.Pieces.{pushed-five}
 use Rattle.riichi_faults.proofs.shown.push_mark_line.Goals as goal
 
 pub returns : goal.returns

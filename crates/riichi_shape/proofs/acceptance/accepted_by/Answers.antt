@@ -1,5 +1,5 @@
 use Rattle.std.proofs.Common.{◌≡◌, ℕ, ◌<◌, Bool, true, false, cond, ltb, refl, sym, ap, ◌∙◌, arith}
-use Rattle.std.proofs.lemmas.Bool.{and_parts}
+use Rattle.std.proofs.lemmas.Bool.{and_parts, ltb-true}
 use Rattle.std.proofs.lemmas.Bool.Decides.{nat_tests}
 use Rattle.std.specs.Prelude.{◌&&◌, nat_lt, slice_index}
 use Rattle.riichi_shape.specs.EveryWinning.{distance_of}
@@ -8,7 +8,6 @@ use Rattle.riichi_shape.specs.LackedKinds.{lacks_kind}
 use Rattle.riichi_shape.proofs.AcceptedLemmas.{accepted_pairs}
 use Rattle.riichi_shape.proofs.KindLemmas.{among_at, both_at, live_at, marked_at}
 use Rattle.riichi_shape.proofs.Nearer.{accepted_at}
-use Rattle.riichi_shape.proofs.RemovalLemmas.{of_ltb}
 use Rattle.riichi_shape.proofs.acceptance.accepted_by.Goals as goal
 
 lacked_and_live : (a : Bool) (l : ℕ) → cond (a && nat_lt 0 l) l 0 ≡ cond a l 0
@@ -36,5 +35,5 @@ returns-clause-accepted c = λ melds seen lacked are.
 
 pub returns-clause-live : goal.returns-clause-live
 returns-clause-live c = λ kind low there.
-    of_ltb 0 (slice_index c.args.live.now.copies kind)
+    ltb-true 0 (slice_index c.args.live.now.copies kind)
     ((and_parts (lacks_kind c.args.lacked.now kind (slice_index c.args.hand.now kind)) (nat_lt 0 (slice_index c.args.live.now.copies kind)) (sym (has_at c kind low) ∙ there)).1)

@@ -3,17 +3,15 @@ use Rattle.riichi_shape.specs.Distance.{IsLeastStandard}
 use Rattle.riichi_shape.specs.Forms.{IsPairsDistance, IsOrphansDistance, without_meld, min_with}
 use Rattle.riichi_shape.proofs.Distances.{never_none, least_beside}
 use Rattle.riichi_shape.proofs.FormLemmas.{pairs_distance, orphans_distance, least_form}
-use Rattle.riichi_shape.proofs.KeptJoins.{least_by_rows}
+use Rattle.riichi_shape.proofs.KeptJoins.{least_by_forms}
 use Rattle.riichi_shape.proofs.forms.form_distances.Goals as goal
 
 pub unreachable-requires : goal.unreachable-requires
 unreachable-requires c =
     let hand = c.args.hand.now in
     let melds = c.args.melds.now in
-    let are = c.new-forms.ensures.forms in
-    let rows = c.new-forms.result.rows in
     let sets = 4 - c.count-melded.result in
-    let least = least_by_rows hand melds rows are.are_rows c.requires sets (omega arith) c.with.result (c.with.ensures rows.circles rows.bamboos rows.honours are.are_joins.beside_characters) in
+    let least = least_by_forms hand melds c.new-forms.result c.new-forms.ensures.forms c.requires sets (omega arith) c.with.result c.with.ensures in
     let none = subst (λ (o : Option ℕ). IsLeastStandard hand melds sets o) c.in_default.is least in
     never_none hand melds c.count-melded.ensures.melds.at_most_four c.requires (least_beside hand melds c.count-melded.result None c.count-melded.ensures.value none)
 
@@ -21,10 +19,8 @@ pub returns-clause-sets_and_pair : goal.returns-clause-sets_and_pair
 returns-clause-sets_and_pair c =
     let hand = c.args.hand.now in
     let melds = c.args.melds.now in
-    let are = c.new-forms.ensures.forms in
-    let rows = c.new-forms.result.rows in
     let sets = 4 - c.count-melded.result in
-    let least = least_by_rows hand melds rows are.are_rows c.requires sets (omega arith) c.with.result (c.with.ensures rows.circles rows.bamboos rows.honours are.are_joins.beside_characters) in
+    let least = least_by_forms hand melds c.new-forms.result c.new-forms.ensures.forms c.requires sets (omega arith) c.with.result c.with.ensures in
     let some = subst (λ (o : Option ℕ). IsLeastStandard hand melds sets o) c.in-Some.is least in
     least_beside hand melds c.count-melded.result (Some c.in-Some.sets_and_pair) c.count-melded.ensures.value some
 

@@ -1,6 +1,6 @@
 use Rattle.std.proofs.Common.{codes}
 use Rattle.riichi_waits.specs.Waits.{word_if, other_words}
-use Rattle.riichi_waits.proofs.Pieces.{pushed-three}
+use Rattle.riichi_text.proofs.Pieces.{pushed-three}
 use Rattle.riichi_waits.proofs.waits_text.push_other_words.Goals as goal
 
 pub returns-clause-bytes : goal.returns-clause-bytes

@@ -1,9 +1,9 @@
-use Rattle.std.proofs.Common.{◌≡◌, ◌+◌, ◌^◌, ℕ, ◌<◌, Bool, ap, ◌∙◌}
+use Rattle.std.proofs.Common.{◌^◌, ℕ, Bool}
 use Rattle.std.specs.Prelude.{bit_and, nat_lt}
-use Rattle.riichi_rows.specs.Lanes.{capped, lacks_with, lane, mark, opposite}
+use Rattle.riichi_rows.specs.Lanes.{lacks_with, lane, mark}
 use Rattle.riichi_rows.proofs.LackedRanks.{is_lowered, lowered}
 use Rattle.riichi_rows.proofs.Lacking.{lacked_rank}
-use Rattle.riichi_rows.proofs.Opposite.{taken_is, through}
+use Rattle.riichi_rows.proofs.Opposite.{opposite_sums, taken_is, through}
 use Rattle.riichi_rows.proofs.joined.JoinedRows.lacked_by.Goals as goal
 
 pub returns : goal.returns
@@ -16,7 +16,7 @@ returns c =
     let few = c.requires.sets in
     let below = c.requires.least in
     let sums = c.add_lanes-sums.result.lacks in
-    let sum : (s p : ℕ) → s < 8 → p < 2 → lane sums s p ≡ capped (lacks s p + opposite sets others s p) = λ s p hs hp. c.add_lanes-sums.ensures s p hs hp ∙ ap (λ n. capped (lacks s p + n)) (c.opposite.ensures s p hs hp) in
+    let sum = opposite_sums lacks others c.opposite.result.lacks sums sets c.add_lanes-sums.ensures c.opposite.ensures in
     let fewer : ℕ → ℕ → Bool = λ s p. nat_lt (lane row.first.lacks s p) (lacks s p) in
     let first = taken_is lacks others sums sets least few below fewer fewer sum (λ s p hs hp low. (λ h. h, λ h. h)) in
     lacked_rank row c.args.self.now sets least below _

@@ -1,7 +1,7 @@
-use Rattle.std.proofs.Common.{◌≡◌, ◌+◌, ◌<◌, ℕ, ap, ◌∙◌}
-use Rattle.riichi_rows.specs.Lanes.{capped, lane, opposite}
+use Rattle.std.proofs.Common.{◌+◌}
+use Rattle.riichi_rows.specs.Lanes.{lane}
 use Rattle.riichi_rows.proofs.OneChanged.{LeastTaken, taken_some, taken_none}
-use Rattle.riichi_rows.proofs.Opposite.{taken_least}
+use Rattle.riichi_rows.proofs.Opposite.{opposite_sums, taken_least}
 use Rattle.riichi_rows.proofs.joined.JoinedRows.with.Goals as goal
 
 pub returns-then-least-lt-NONE : goal.returns-then-least-lt-NONE
@@ -9,7 +9,7 @@ returns-then-least-lt-NONE c = λ x y z are.
     (let row = lane c.args.row.now.entries.lacks in
     let others = lane c.args.self.now.sums.lacks in
     let sets = c.args.sets in
-    let sum : (s p : ℕ) → s < 8 → p < 2 → lane c.add_lanes-sums.result.lacks s p ≡ capped (row s p + opposite sets others s p) = λ s p hs hp. c.add_lanes-sums.ensures s p hs hp ∙ ap (λ n. capped (row s p + n)) (c.opposite.ensures s p hs hp) in
+    let sum = opposite_sums row others c.opposite.result.lacks c.add_lanes-sums.result.lacks sets c.add_lanes-sums.ensures c.opposite.ensures in
     let whole : LeastTaken row others sets c.least-least.result (sets + 1) = taken_least row others c.add_lanes-sums.result.lacks sets c.least-least.result c.requires sum c.least-least.ensures.bound c.least-least.ensures.reached in
     taken_some row (lane x.entries.lacks) (lane y.entries.lacks) (lane z.entries.lacks) are.last_two others are.two_least are.least
     sets c.least-least.result c.requires whole c.args.row.now.small x.small y.small z.small c.if-least-lt-NONE.true)
@@ -19,7 +19,7 @@ returns-else-least-lt-NONE c = λ x y z are.
     (let row = lane c.args.row.now.entries.lacks in
     let others = lane c.args.self.now.sums.lacks in
     let sets = c.args.sets in
-    let sum : (s p : ℕ) → s < 8 → p < 2 → lane c.add_lanes-sums.result.lacks s p ≡ capped (row s p + opposite sets others s p) = λ s p hs hp. c.add_lanes-sums.ensures s p hs hp ∙ ap (λ n. capped (row s p + n)) (c.opposite.ensures s p hs hp) in
+    let sum = opposite_sums row others c.opposite.result.lacks c.add_lanes-sums.result.lacks sets c.add_lanes-sums.ensures c.opposite.ensures in
     let whole : LeastTaken row others sets c.least-least.result (sets + 1) = taken_least row others c.add_lanes-sums.result.lacks sets c.least-least.result c.requires sum c.least-least.ensures.bound c.least-least.ensures.reached in
     taken_none row (lane x.entries.lacks) (lane y.entries.lacks) (lane z.entries.lacks) are.last_two others are.two_least are.least
     sets c.least-least.result c.requires whole c.args.row.now.small x.small y.small z.small c.if-least-lt-NONE.false)

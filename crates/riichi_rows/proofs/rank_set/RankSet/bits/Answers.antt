@@ -1,4 +1,4 @@
-use Rattle.std.proofs.Common.{◌≡◌, ◌+◌, ◌*◌, Bool, true, false, cond, ap, sym, ◌∙◌}
+use Rattle.std.proofs.Common.{◌≡◌, ◌+◌, ◌*◌, cond, ap, sym, ◌∙◌}
 use Rattle.riichi_rows.proofs.RankBits.{bits_are}
 use Rattle.riichi_rows.proofs.rank_set.RankSet.bits.Goals as goal
 use Rattle.riichi_rows.proofs.rank_set.RankSet.bits.Goals.{then-self, else-self}

@@ -1,6 +1,6 @@
 use Rattle.std.proofs.Common.{◌-◌, arith}
 use Rattle.riichi_shape.proofs.Distances.{least_beside}
-use Rattle.riichi_shape.proofs.KeptJoins.{least_by_rows}
+use Rattle.riichi_shape.proofs.KeptJoins.{least_by_forms}
 use Rattle.riichi_shape.proofs.Nearer.{distance_by, distance_few}
 use Rattle.riichi_shape.proofs.Uniqueness.{distance_is}
 use Rattle.riichi_shape.proofs.hand_forms.HandForms.distance.Goals as goal
@@ -8,9 +8,7 @@ use Rattle.riichi_shape.proofs.hand_forms.HandForms.distance.Goals as goal
 pub returns-clause-least : goal.returns-clause-least
 returns-clause-least c = λ hand are.
     (let melds = c.args.melds.now in
-    let rows = c.args.self.now.rows in
-    let sets = 4 - c.count.result in
-    let least = least_by_rows hand melds rows are.are_rows c.requires sets (omega arith) c.with-standard.result (c.with-standard.ensures rows.circles rows.bamboos rows.honours are.are_joins.beside_characters) in
+    let least = least_by_forms hand melds c.args.self.now are c.requires (4 - c.count.result) (omega arith) c.with-standard.result c.with-standard.ensures in
     distance_by hand melds c.count.ensures.melds.at_most_four c.requires c.with-standard.result (least_beside hand melds c.count.result c.with-standard.result c.count.ensures.value least)
     c.distance.result c.min.result (c.distance.ensures hand melds are.special) (omega (arith, c.min.ensures, c.unwrap_or.ensures)))
 
