@@ -1,6 +1,6 @@
 -- The first word of a text as an entry: the name of a key, the first `=`, the text of the value.
 use Rattle.std.proofs.Common.{◌≡◌, ℕ, ◌+◌, ◌-◌, ◌<◌, ◌≤◌, ◌⊎◌, inl, inr, List, [], ◌∷◌, ◌++◌, Bool, true, false, Option, Some, None, nat_eq, nat_le, length, take, drop, refl, sym, ◌∙◌, ap, subst, arith, append_assoc, length-append, length-drop, length-take}
-use Rattle.std.specs.Prelude.{if◌then◌else◌, slice_index}
+use Rattle.std.specs.Prelude.{slice_index}
 use Rattle.std.specs.List.{list_all}
 use Rattle.std.specs.Str.{bytes_eq}
 use Rattle.std.proofs.lemmas.Bool.{cases_Bool, cases_lt, and_parts, and_from, eqb-true, leb-true}
@@ -63,6 +63,7 @@ name_ends job text len is begins =
 
     size : (name rest : List ℕ) (n : ℕ) {m : ℕ} → n ≡ length name → m ≡ length (name ++ 61 ∷ rest) → n < m
     size name rest n e f = omega (arith, length-append name (61 ∷ rest))
+
     at_end : (name rest : List ℕ) → slice_index (name ++ 61 ∷ rest) (length name) ≡ 61
     at_end [] rest = refl
     at_end (b ∷ bytes) rest = at_end bytes rest

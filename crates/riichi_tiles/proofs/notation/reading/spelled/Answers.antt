@@ -1,7 +1,6 @@
-use Rattle.std.proofs.Common.{◌≡◌, ◌≤◌, ◌<◌, ap, ◌∙◌, List, length, slice_index, replicate, refl, zero, suc, ℕ, subst, arith}
-use Rattle.std.proofs.lemmas.Bool.Decides.{nat_tests}
+use Rattle.std.proofs.Common.{◌≡◌, ap, ◌∙◌, List, length, slice_index, replicate, refl, zero, suc, ℕ, arith}
 use Rattle.riichi_tiles.specs.Tiles.{IsCounts}
-use Rattle.riichi_tiles.proofs.LastGroups.{SpellsFrom, spells_nothing, spells_group, spells_all}
+use Rattle.riichi_tiles.proofs.LastGroups.{spells_nothing, spells_group}
 use Rattle.riichi_tiles.proofs.notation.reading.spelled.Goals as goal
 
 -- nothing is held of any kind
