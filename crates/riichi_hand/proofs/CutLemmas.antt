@@ -1,5 +1,6 @@
 -- The first mark of a text.
-use Rattle.std.proofs.Common.{◌≡◌, ℕ, Option, List, [], ◌∷◌, ◌++◌, Bool, true, false, nat_eq, Some, None, refl, ap, ◌∙◌}
+use Rattle.std.proofs.Common.{◌≡◌, ◌<◌, ◌+◌, ◌-◌, ℕ, Option, List, [], ◌∷◌, ◌++◌, Bool, true, false, nat_eq, Some, None, refl, sym, ap, ◌∙◌, length, take, drop, get_or, arith, drop-cons, length-drop, add-one}
+use Rattle.std.proofs.lemmas.List.{take-append-drop, take_all}
 use Rattle.std.specs.Prelude.{not, ◌&&◌, if◌then◌else◌}
 use Rattle.riichi_tiles.specs.Melds.{in_front, cut_at}
 use Rattle.riichi_hand.specs.Words.{items_of}
@@ -19,6 +20,13 @@ cut_at-front mark byte (first ∷ bytes) rest is all = let h = plain_is mark fir
 pub cut_at-none : (mark : ℕ) (text : List ℕ) → list_all (plain mark) text ≡ true → cut_at mark text ≡ None
 cut_at-none mark [] all = refl
 cut_at-none mark (byte ∷ bytes) all = let h = plain_is mark byte (list_all (plain mark) bytes) all in rw h.0 (ap (in_front byte) (cut_at-none mark bytes h.1))
+
+-- a text around its byte at a place
+pub around : (text : List ℕ) (place : ℕ) → place < length text → text ≡ take place text ++ get_or text place 0 ∷ take (length text - (place + 1)) (drop (place + 1) text)
+around text place within =
+    let rest : drop place text ≡ get_or text place 0 ∷ drop (place + 1) text = rw add-one (drop-cons text place 0 within) in
+    let all : take (length text - (place + 1)) (drop (place + 1) text) ≡ drop (place + 1) text = take_all (length text - (place + 1)) (drop (place + 1) text) (omega (arith, length-drop (place + 1) text)) in
+    rw (all, ← rest) (sym (take-append-drop place text))
 
 -- The items of a text are what stands before its first comma and the items of the rest.
 abbrev items_of_cut : List ℕ → Option (List ℕ × List ℕ) → List (List ℕ)

@@ -1,6 +1,7 @@
 pub mod CopyLemmas
 pub mod WordLemmas
 pub mod CutLemmas
+pub mod EntryLemmas
 pub mod FlagLemmas
 pub mod MeldLemmas
 pub mod FieldLemmas

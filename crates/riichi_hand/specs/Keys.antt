@@ -13,12 +13,16 @@ use Rattle.riichi_hand.specs.Values.{named, by_of, wind_of, riichi_of, number_of
 abbrev pub job_named : List ℕ → Option JobName
 job_named word = named ((codes "win", Win) ∷ (codes "waits", Waits) ∷ (codes "shape", Shape) ∷ []) word
 
-abbrev pub key_named : List ℕ → Option Key
-key_named word = named (
+-- the names of the keys
+abbrev pub key_names : List (List ℕ × Key)
+key_names =
     (codes "on", On) ∷ (codes "by", By) ∷ (codes "seat", Seat) ∷ (codes "round", Round)
     ∷ (codes "open", Open) ∷ (codes "riichi", Riichi) ∷ (codes "flags", Flags)
     ∷ (codes "dora", Dora) ∷ (codes "ura", Ura) ∷ (codes "counters", Counters) ∷ (codes "sticks", Sticks)
-    ∷ (codes "seen", Seen) ∷ []) word
+    ∷ (codes "seen", Seen) ∷ []
+
+abbrev pub key_named : List ℕ → Option Key
+key_named word = named key_names word
 
 -- the keys that must be there
 abbrev pub needed : JobName → List Key

@@ -1,6 +1,7 @@
 //! Record lines: a word for the job, a word for the hand, and words of keys and values.
 mod bytes;
 mod cuts;
+mod entry;
 mod fields;
 mod flags;
 mod job_name;

@@ -44,6 +44,8 @@ pub use kind_set::KindSet;
 pub use meld::Meld;
 pub use melded::meld_tiles;
 pub use melds::Melds;
-pub use notation::{NotationCode, NotationFault, is_digit, read_counts, write_counts, write_kinds};
+pub use notation::{
+    NotationCode, NotationFault, is_digit, read_counts, read_into, write_counts, write_kinds,
+};
 pub use reds::{Reds, reds_of};
 pub use suit::Suit;

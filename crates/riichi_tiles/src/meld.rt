@@ -6,7 +6,7 @@ ghost use Rattle.riichi_tiles.specs.declared.meld.Meld.{Meld};
 use crate::counts::Counts;
 use crate::kind::Kind;
 use crate::melded::add_meld;
-use crate::notation::read_counts;
+use crate::notation::read_into;
 
 /// A set that a player called from a discard, or a kong that was declared.
 #[derive(Clone, Copy, Debug, PartialEq, Eq)]
@@ -41,8 +41,9 @@ impl Meld {
         ensures proper { IfSome result (λ meld. is_meld meld ≡ true) }
     {
         let (name, tiles) = read_name(text)?;
-        match read_counts(tiles) {
-            Ok(counts) => find_meld(name, &counts),
+        let mut counts = Counts::new();
+        match read_into(&mut counts, tiles) {
+            Ok(()) => find_meld(name, &counts),
             Err(_) => None,
         }
     }

@@ -1,14 +1,14 @@
 //! What the words after the hand say.
-ghost use Rattle.std.specs.Prelude.{◌≡◌, ◌||◌, is_some, None, Some, MatchOption};
+ghost use Rattle.std.specs.Prelude.{◌≡◌, ◌||◌, is_some};
 ghost use Rattle.riichi_hand.specs.Keys.{value_of};
 ghost use Rattle.riichi_hand.specs.Faults.{IsStep};
 ghost use Rattle.riichi_hand.specs.Lines.{entry_faults};
 ghost use Rattle.riichi_hand.specs.Parts.{parts_in};
-ghost use Rattle.riichi_hand.specs.Entries.{keyed_of, first_or, is_again};
+ghost use Rattle.riichi_hand.specs.Entries.{first_or, is_again};
 
-use super::cuts::{next_word, split_at_mark};
+use super::cuts::without_spaces;
+use super::entry::Entry;
 use super::flags::read_flags;
-use super::job_name::JobName;
 use super::key::Key;
 use super::values::{read_by, read_number, read_riichi, read_wind};
 use super::words::Words;
@@ -67,15 +67,15 @@ impl<'a> Fields<'a> {
         ensures { let parts = parts_in words.now in
             IsStep result (entry_faults parts) (λ _. Holds self.new parts.entries) }
     {
-        let mut rest = words.entries;
-        while let Some((word, after)) = next_word(rest) {
-            let Some((key, text)) = keyed(words.job, word) else {
+        let mut rest = without_spaces(words.entries);
+        while !rest.is_empty() {
+            let Some(entry) = Entry::first(words.job, rest) else {
                 return Err(LineFault::Line(LineCode::H4));
             };
-            if !self.put(key, text) {
+            if !self.put(entry.key, entry.value) {
                 return Err(LineFault::Line(LineCode::H4));
             }
-            rest = after;
+            rest = without_spaces(entry.after);
         }
         if self.has_doubled_key {
             return Err(LineFault::Line(LineCode::H5));
@@ -104,20 +104,6 @@ impl<'a> Fields<'a> {
             Key::Sticks => keep(&mut self.sticks, read_number(text), doubled),
             Key::Seen => keep(&mut self.seen, Some(text), doubled),
         }
-    }
-}
-
-/// The key and the text of its value, of a word with `=` and a key that the job can have.
-fn keyed(job: JobName, word: &[u8]) -> Option<(Key, &[u8])>
-    ensures { MatchOption result (keyed_of job word.now ≡ None)
-        (λ keyed. keyed_of job word.now ≡ Some (keyed.0, keyed.1.now)) }
-{
-    let (name, text) = split_at_mark(word, b'=')?;
-    let key = Key::read(name)?;
-    if job.has_key(key) {
-        Some((key, text))
-    } else {
-        None
     }
 }
 

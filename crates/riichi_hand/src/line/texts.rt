@@ -11,7 +11,7 @@ use super::fields::Fields;
 use super::open::read_melds;
 use super::words::Words;
 use crate::fault::{LineCode, LineFault, TextName};
-use riichi_tiles::{Counts, Melds, read_counts};
+use riichi_tiles::{Counts, Melds, read_into};
 
 /// What the notation texts and the melds of a line spell.
 #[derive(Clone, Copy)]
@@ -61,17 +61,16 @@ impl Texts {
         Ok(())
     }
 }
-/// Puts the tiles of a notation text, or tells its fault.
+
+/// Puts the tiles of a notation text where none were, or tells its fault.
 fn read_text(counts: &mut Counts, name: TextName, text: &[u8]) -> Result<(), LineFault>
+    requires none { counts.old ≡ replicate 34 0 }
     ensures { MatchResult result
         (λ _. (text_fault name (Some text.now) ≡ None) × (counts.new ≡ counts_of text.now))
         (λ fault. text_fault name (Some text.now) ≡ Some fault) }
 {
-    match read_counts(text) {
-        Ok(told) => {
-            *counts = told;
-            Ok(())
-        }
+    match read_into(counts, text) {
+        Ok(()) => Ok(()),
         Err(fault) => Err(LineFault::Notation(name, fault)),
     }
 }

@@ -1,16 +1,9 @@
-use Rattle.std.proofs.Common.{◌≡◌, ◌<◌, ◌+◌, ◌-◌, ◌∙◌, List, ℕ, ◌∷◌, ◌++◌, Some, true, sym, ap, length, take, drop, get_or, arith, drop-cons, length-drop, length-take, add-one, eq-eqb}
+use Rattle.std.proofs.Common.{◌≡◌, ◌<◌, ◌+◌, ◌-◌, ◌∙◌, List, ℕ, Some, true, ap, length, take, drop, get_or, arith, length-drop, length-take, eq-eqb}
 use Rattle.std.specs.List.{list_all}
-use Rattle.std.proofs.lemmas.List.{take-append-drop, take_all}
+use Rattle.std.proofs.lemmas.List.{take_all}
 use Rattle.riichi_tiles.specs.Melds.{cut_at}
-use Rattle.riichi_hand.proofs.CutLemmas.{plain, cut_at-front, cut_at-none}
+use Rattle.riichi_hand.proofs.CutLemmas.{plain, around, cut_at-front, cut_at-none}
 use Rattle.riichi_hand.proofs.line.cuts.split_at_mark.Goals as goal
-
--- a text around its byte at a place
-around : (text : List ℕ) (place : ℕ) → place < length text → text ≡ take place text ++ get_or text place 0 ∷ take (length text - (place + 1)) (drop (place + 1) text)
-around text place within =
-    let rest : drop place text ≡ get_or text place 0 ∷ drop (place + 1) text = rw add-one (drop-cons text place 0 within) in
-    let all : take (length text - (place + 1)) (drop (place + 1) text) ≡ drop (place + 1) text = take_all (length text - (place + 1)) (drop (place + 1) text) (omega (arith, length-drop (place + 1) text)) in
-    rw (all, ← rest) (sym (take-append-drop place text))
 
 cut_there : (mark place : ℕ) (text : List ℕ) → place < length text → get_or text place 0 ≡ mark → list_all (plain mark) (take place text) ≡ true
     → cut_at mark text ≡ Some (take place text, take (length text - (place + 1)) (drop (place + 1) text))

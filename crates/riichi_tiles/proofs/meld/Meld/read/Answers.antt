@@ -12,15 +12,15 @@ each_found text (Some meld) each = each meld refl
 pub returns-in-Ok-clause-spelled : goal.returns-in-Ok-clause-spelled
 returns-in-Ok-clause-spelled c =
     each_found c.args.text.now c.find_meld.result (λ meld is.
-    found_spells c.args.text.now c.in_ok-name.name c.in_ok-name.tiles.now c.in-Ok.counts meld c.in_ok-name.ensures c.in-Ok.ensures.ok (sym c.find_meld.ensures.value ∙ is))
+    found_spells c.args.text.now c.in_ok-name.name c.in_ok-name.tiles.now c.read_into.new.counts meld c.in_ok-name.ensures c.in-Ok.ensures.ok (sym c.find_meld.ensures.value ∙ is))
 
 pub returns-in-Ok-clause-only : goal.returns-in-Ok-clause-only
 returns-in-Ok-clause-only c = λ meld spells.
     c.find_meld.ensures.value
-    ∙ sym (meld_of_read c.args.text.now c.in_ok-name.name c.in_ok-name.tiles.now c.in-Ok.counts c.in_ok-name.ensures (sym c.read_counts.ensures.value ∙ c.in-Ok.is))
+    ∙ sym (meld_of_read c.args.text.now c.in_ok-name.name c.in_ok-name.tiles.now c.read_into.new.counts c.in_ok-name.ensures c.in-Ok.ensures.value)
     ∙ meld_of_spelled c.args.text.now meld spells
 
 pub returns-in-Err-clause-only : goal.returns-in-Err-clause-only
 returns-in-Err-clause-only c = λ meld spells.
-    sym (meld_of_refused c.args.text.now c.in_ok-name.name c.in_ok-name.tiles.now c.in-Err.field-0 c.in_ok-name.ensures (sym c.read_counts.ensures.value ∙ c.in-Err.is))
+    sym (meld_of_refused c.args.text.now c.in_ok-name.name c.in_ok-name.tiles.now c.in-Err.field-0 c.in_ok-name.ensures c.in-Err.ensures.value)
     ∙ meld_of_spelled c.args.text.now meld spells

@@ -1,5 +1,5 @@
-use Rattle.std.proofs.Common.{arith, sym, ◌∙◌, ◌≡◌, ◌-◌, true, slice_index}
-use Rattle.riichi_tiles.specs.Notation.{is_digit, suit_has, kind_of}
+use Rattle.std.proofs.Common.{arith, sym, ◌∙◌, ◌≡◌, ◌-◌, slice_index}
+use Rattle.riichi_tiles.specs.Notation.{kind_of}
 use Rattle.riichi_tiles.proofs.LastGroups.{no_digits, digit_before, group_before}
 use Rattle.riichi_tiles.proofs.notation.reading.group_before.Goals as goal
 
@@ -11,11 +11,10 @@ loop-start-preserved c =
     let text = c.args.text.now in
     let before = c.loop-start.start - 1 in
     let letter = slice_index text (c.args.end - 1) in
-    let digit : is_digit (slice_index text before) ≡ true = sym c.is_digit.ensures ∙ c.if-is_digit.true in
-    let has : suit_has letter (slice_index text before) ≡ true = c.in_ok-kind.ensures.0 in
-    let kind_is : c.in_ok-kind.kind ≡ kind_of letter (slice_index text before) = c.in_ok-kind.ensures.1 in
+    let of_suit = c.digits_of-least.ensures (slice_index text before) (omega arith) (omega arith) in
+    let kind_is : c.kind_at-kind.result ≡ kind_of letter (slice_index text before) = c.kind_at-kind.ensures in
     digit_before c.args.counts.now c.loop-start.counts c.add.new.self text before c.loop-start.start (c.args.end - 1)
-    c.loop-start.invariant (omega arith) (omega arith) digit has (omega (arith, kind_is)) (rw (← kind_is) c.add.ensures.value) c.add.ensures.counts
+    c.loop-start.invariant (omega arith) (omega arith) of_suit.0 of_suit.1 (omega (arith, kind_is)) (rw (← kind_is) c.add.ensures.value) c.add.ensures.counts
 
 pub returns-else-start-end : goal.returns-else-start-end
 returns-else-start-end c =
