@@ -1,8 +1,7 @@
 -- What all tiles are asked part by part.
-use Rattle.std.specs.Prelude.{ℕ, ◌≡◌, ◌<◌, Bool, false, ◌||◌, ◌==◌, nat_lt, List, slice_index, slice_index_or}
+use Rattle.std.specs.Prelude.{ℕ, Bool, ◌||◌, ◌==◌, nat_lt, List, slice_index}
 use Rattle.std.specs.List.{list_all, list_any, range_with_len}
-use Rattle.riichi_blocks.specs.Held.{every, some}
-use Rattle.riichi_blocks.specs.Kinds.{is_simple, is_orphan, is_terminal, is_honour, is_green_tile, is_of_suit}
+use Rattle.riichi_blocks.specs.Kinds.{is_green_tile}
 
 -- at least one tile is of so many kinds from the first on
 abbrev pub some_in : List ℕ → ℕ → ℕ → Bool

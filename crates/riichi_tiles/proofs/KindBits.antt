@@ -6,7 +6,7 @@ use Rattle.std.proofs.Math.Nat.{pow-suc}
 use Rattle.std.proofs.Math.Seq.{drop-cons}
 use Rattle.std.proofs.Math.ListN.{drop_of_length-le}
 use Rattle.std.proofs.lemmas.Nat.{shr-shr, mod-pow-add}
-use Rattle.std.proofs.lemmas.Nat.Bits.{bit_at-trailing_zeros, bit_at_above, bit_at-zero, bit_at-lt}
+use Rattle.std.proofs.lemmas.Nat.Bits.{bit_at-trailing_zeros, bit_at_above, bit_at-zero}
 use Rattle.std.proofs.lemmas.Bool.{cases_lt}
 use Rattle.std.proofs.lemmas.Bool.Decides.{nat_tests}
 use Rattle.std.proofs.lemmas.List.{map-append, length-map}
@@ -91,6 +91,7 @@ none-above n k other e h = not-one (bit_at n other) (bit-above n k other h ∙ a
 pub record IsFirst (n k first : ℕ) : Type 0 where
   pub end : k + first ≤ 34
   pub none : (other : ℕ) → k ≤ other → other < k + first → is_held n other ≡ false
+  pub held : is_held n (k + first) ≡ true
 
 pub first-above : (n k : ℕ) → n < 2 ^ 34 → 0 < n / 2 ^ k → n / 2 ^ k < 2 ^ 64 → IsFirst n k (trailing_zeros w64 (n / 2 ^ k))
 first-above n k small some fits =
@@ -104,6 +105,7 @@ first-above n k small some fits =
         | inl lt ↦ omega (arith, lt)
         | inr past ↦ let no = bit_at_above n 34 (k + first) small past in absurd (omega (arith, is, no))
       ];
+      held = ap (λ m. nat_eq m 1) is;
       none = λ other a b. not-one (bit_at n other) (bit-above n k other a ∙ low.2 (other - k) (omega (arith, a, b)));
     }
 

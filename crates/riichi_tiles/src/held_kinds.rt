@@ -1,5 +1,5 @@
 //! Which kinds are held, so that some of them are told at once.
-ghost use Rattle.std.specs.Prelude.{◌≡◌, ◌-◌, ◌*◌, ◌<◌, ◌≤◌, ◌^◌, ℕ, false, length, map, nat_lt, take, if◌then◌else◌};
+ghost use Rattle.std.specs.Prelude.{◌≡◌, ◌-◌, ◌*◌, ◌<◌, ◌≤◌, ◌^◌, ℕ, true, false, length, map, nat_lt, take, if◌then◌else◌};
 ghost use lib.Lanes.{mask_l};
 ghost use Rattle.std.specs.List.{list_any, range_with_len};
 ghost use Rattle.riichi_tiles.specs.HeldKinds as spec;
@@ -44,6 +44,7 @@ impl HeldKinds {
         ensures end { result ≤ 34 }
         ensures none { (other : ℕ) → kind ≤ other → other < result
             → spec.is_held self other ≡ false }
+        ensures held { result < 34 → spec.is_held self result ≡ true }
     {
         let above = self.bits >> kind;
         if above == 0 {

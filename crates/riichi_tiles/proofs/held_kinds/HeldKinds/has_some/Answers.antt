@@ -1,4 +1,4 @@
-use Rattle.std.proofs.Common.{◌≡◌, ◌-◌, ◌/◌, ◌%◌, ◌^◌, ◌∙◌, not, nat_eq, sym, ap, arith}
+use Rattle.std.proofs.Common.{◌-◌, ◌/◌, ◌%◌, ◌^◌, ◌∙◌, not, nat_eq, sym, ap, arith}
 use Rattle.std.specs.List.{list_any, range_with_len}
 use Rattle.std.proofs.lemmas.Nat.{one_shl}
 use Rattle.riichi_tiles.specs.HeldKinds.{is_held}
