@@ -1,19 +1,14 @@
 -- What holds of each suit, from whether some tile is of it.
-use Rattle.std.proofs.Common.{◌≡◌, ◌∙◌, ℕ, zero, suc, ◌<◌, Bool, true, false, not, ◌&&◌, ◌||◌, nat_eq, nat_lt, List, [], ◌∷◌, ◌++◌, get_or, refl, sym, ap, arith}
+use Rattle.std.proofs.Common.{◌≡◌, ◌∙◌, ℕ, zero, suc, Bool, true, false, not, ◌&&◌, ◌||◌, nat_eq, nat_lt, List, [], ◌∷◌, ◌++◌, refl, sym, ap, arith}
 use Rattle.std.specs.Prelude.{slice_index}
 use Rattle.std.specs.List.{list_all, list_any, range_with_len}
 use Rattle.std.proofs.lemmas.List.Folds.{list_any-append}
 use Rattle.std.proofs.lemmas.Bool.Decides.{nat_tests}
+use Rattle.riichi_tiles.specs.HeldKinds.{is_held, AreHeldOf}
 use Rattle.riichi_tiles.specs.Melds.{every_kind}
 use Rattle.riichi_blocks.specs.Held.{every, some}
 use Rattle.riichi_blocks.specs.Kinds.{is_green_tile, is_honour, is_of_suit, is_orphan, is_simple, is_terminal}
 use Rattle.riichi_blocks.specs.Told.{green_from_bamboos, some_in}
-
-pub of-three : (is_so : ℕ → Bool) (first second third : Bool) → first ≡ is_so 0 → second ≡ is_so 1 → third ≡ is_so 2 → (suit : ℕ) → suit < 3 → get_or (first ∷ second ∷ third ∷ []) suit false ≡ is_so suit
-of-three is_so first second third a b c zero h = a
-of-three is_so first second third a b c (suc zero) h = b
-of-three is_so first second third a b c (suc (suc zero)) h = c
-of-three is_so first second third a b c (suc (suc (suc suit))) h = absurd (omega (arith, h))
 
 zero-test : (n : ℕ) → nat_eq n 0 ≡ not (nat_lt 0 n)
 zero-test zero = refl
@@ -32,6 +27,12 @@ one false n rest = ap (λ a. a && not rest) (zero-test n) ∙ neither (nat_lt 0 
 
 pub none-of : {a b c x y z : Bool} → a ≡ x → b ≡ y → c ≡ z → not (a || (b || c)) ≡ not (x || (y || z))
 none-of {a} {b} {c} {x} {y} {z} e f g = ap (λ first. not (first || (b || c))) e ∙ ap (λ second. not (x || (second || c))) f ∙ ap (λ third. not (x || (y || third))) g
+
+-- some of these kinds are held
+pub some-told : (tiles : List ℕ) (held : ℕ) → AreHeldOf tiles held → (kinds : List ℕ) → list_any (is_held held) kinds ≡ list_any (λ kind. nat_lt 0 (slice_index tiles kind)) kinds
+some-told tiles held h [] = refl
+some-told tiles held h (kind ∷ kinds) =
+    ap (λ b. b || list_any (is_held held) kinds) (h.each kind) ∙ ap (λ b. nat_lt 0 (slice_index tiles kind) || b) (some-told tiles held h kinds)
 
 -- every tile is so where none is not so
 every-none : (is_so : ℕ → Bool) (tiles kinds : List ℕ) → list_all (λ kind. is_so kind || nat_eq (slice_index tiles kind) 0) kinds ≡ not (list_any (λ kind. not (is_so kind) && nat_lt 0 (slice_index tiles kind)) kinds)
@@ -81,15 +82,6 @@ some-simple tiles = sym (three tiles (range_with_len 1 7) (range_with_len 10 7) 
 
 pub some-terminal : (tiles : List ℕ) → (some_in tiles 0 1 || (some_in tiles 8 2 || (some_in tiles 17 2 || (some_in tiles 26 1 || false)))) ≡ some is_terminal tiles
 some-terminal tiles = sym (five tiles (range_with_len 0 1) (range_with_len 8 2) (range_with_len 17 2) (range_with_len 26 1) [])
-
-pub some-character : (tiles : List ℕ) → (some_in tiles 0 1 || (some_in tiles 1 7 || some_in tiles 8 1)) ≡ some_in tiles 0 9
-some-character tiles = sym (three tiles (range_with_len 0 1) (range_with_len 1 7) (range_with_len 8 1))
-
-pub some-circle : (tiles : List ℕ) → (some_in tiles 9 1 || (some_in tiles 10 7 || some_in tiles 17 1)) ≡ some_in tiles 9 9
-some-circle tiles = sym (three tiles (range_with_len 9 1) (range_with_len 10 7) (range_with_len 17 1))
-
-pub some-bamboo : (tiles : List ℕ) → (some_in tiles 18 1 || (some_in tiles 19 7 || some_in tiles 26 1)) ≡ some_in tiles 18 9
-some-bamboo tiles = sym (three tiles (range_with_len 18 1) (range_with_len 19 7) (range_with_len 26 1))
 
 abbrev simples : List ℕ
 simples = range_with_len 1 7 ++ (range_with_len 10 7 ++ range_with_len 19 7)

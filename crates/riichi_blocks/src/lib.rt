@@ -17,9 +17,9 @@
 
 mod block_kinds;
 mod blocks;
+mod green;
 mod hand_block;
 mod held;
-mod held_kinds;
 mod joining;
 mod kinds;
 mod pairs;

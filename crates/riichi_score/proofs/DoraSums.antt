@@ -1,5 +1,5 @@
 -- At most ten indicators, each of at most four copies.
-use Rattle.std.proofs.Common.{◌≡◌, ℕ, zero, suc, ◌+◌, ◌*◌, ◌<◌, ◌≤◌, List, [], ◌∷◌, ◌++◌, ◌-◌, length, refl, sym, ap, ◌∙◌, subst, get_or, take, arith, add-one, inl, inr}
+use Rattle.std.proofs.Common.{◌≡◌, ℕ, zero, suc, ◌+◌, ◌*◌, ◌<◌, ◌≤◌, false, List, [], ◌∷◌, ◌++◌, ◌-◌, min, length, refl, sym, ap, ◌∙◌, subst, get_or, take, arith, add-one, inl, inr}
 use Rattle.std.specs.List.{sum, sum_by, range_with_len}
 use Rattle.std.proofs.lemmas.List.{map-id, get_or_past, take_all}
 use Rattle.std.proofs.lemmas.Bool.{cases_lt}
@@ -7,6 +7,7 @@ use Rattle.std.proofs.lemmas.List.Sums.{sum_by-take-le, sum_by_push, sum_by_more
 use Rattle.std.proofs.lemmas.List.FromFn.{map-range_with_len_more}
 use Rattle.std.proofs.lemmas.Bool.Decides.{nat_tests}
 use Rattle.riichi_tiles.specs.Dora.{indicated}
+use Rattle.riichi_tiles.specs.HeldKinds.{is_held, AreHeldOf}
 use Rattle.riichi_hand.specs.declared.win.WinParts.{WinParts}
 use Rattle.riichi_hand.specs.Win.{IsWin, copies_won}
 use Rattle.riichi_score.specs.Dora.{indicators, kind_dora}
@@ -124,6 +125,43 @@ IsShown-more win n told left lt h = record {
 -- a kind without indicators has no dora
 none_of_kind : (shown copies : ℕ) → shown ≡ 0 → shown * copies ≡ 0
 none_of_kind shown copies e = ap (λ n. n * copies) e ∙ (let zero-times : 0 * copies ≡ 0 = omega arith in zero-times)
+
+-- some kinds without indicators
+pass : (win : WinParts) (n more told left : ℕ) → n + more ≤ 34 → ((kind : ℕ) → n ≤ kind → kind < n + more → indicators win kind ≡ 0) → IsShown win n told left → IsShown win (n + more) told left
+pass win n zero told left within none h =
+    let same : n ≡ n + 0 = omega arith in
+    subst (λ (m : ℕ). IsShown win m told left) same h
+pass win n (suc more) told left within none h =
+    let kind = n + more in
+    let next : kind + 1 ≡ n + suc more = omega arith in
+    let before = pass win n more told left (omega (arith, within)) (λ k a b. none k a (omega (arith, b))) h in
+    let no = none kind (omega arith) (omega arith) in
+    let nothing : kind_dora win kind ≡ 0 = none_of_kind (indicators win kind) (copies_won win (indicated kind)) no in
+    record {
+      within = within;
+      told_is = omega (arith, before.told_is, ap (total win) next, kinds_more (kind_dora win) kind, nothing);
+      left_is = omega (arith, before.left_is, no, held_more win.dora kind, held_more win.ura kind, ap (held win.dora) next, ap (held win.ura) next);
+    }
+
+pub IsShown-pass : (win : WinParts) (from to told left : ℕ) → from ≤ to → to ≤ 34 → ((kind : ℕ) → from ≤ kind → kind < to → indicators win kind ≡ 0) → IsShown win from told left → IsShown win to told left
+IsShown-pass win from to told left before within none h =
+    let there : from + (to - from) ≡ to = omega (arith, before) in
+    subst (λ (m : ℕ). IsShown win m told left) there (pass win from (to - from) told left (omega (arith, there, within)) (λ kind a b. none kind a (omega (arith, b, there))) h)
+
+no-tile : (counts : List ℕ) (held kind : ℕ) → AreHeldOf counts held → is_held held kind ≡ false → get_or counts kind 0 ≡ 0
+no-tile counts held kind h none = let e = sym none ∙ h.each kind in grind (arith, nat_tests)
+
+-- the kinds before the first indicators of either sort have none
+pub none-before : (win : WinParts) (shown hidden from first second kind : ℕ) → AreHeldOf win.dora shown → AreHeldOf win.ura hidden → ((other : ℕ) → from ≤ other → other < first → is_held shown other ≡ false) → ((other : ℕ) → from ≤ other → other < second → is_held hidden other ≡ false) → from ≤ kind → kind < first → kind < second → indicators win kind ≡ 0
+none-before win shown hidden from first second kind d u a b past before before' =
+    omega (arith, no-tile win.dora shown kind d (a kind past before), no-tile win.ura hidden kind u (b kind past before'))
+
+-- the next kind that has indicators
+pub IsShown-next : (win : WinParts) (dora ura : List ℕ) (shown hidden from first second next told left : ℕ) → dora ≡ win.dora → ura ≡ win.ura → AreHeldOf dora shown → AreHeldOf ura hidden → from ≤ first → first ≤ 34 → ((other : ℕ) → from ≤ other → other < first → is_held shown other ≡ false) → from ≤ second → ((other : ℕ) → from ≤ other → other < second → is_held hidden other ≡ false) → next ≡ min first second → IsShown win from told left → IsShown win next told left
+IsShown-next win dora ura shown hidden from first second next told left e f d u a within none b none' is h =
+    let shown_are = subst (λ (l : List ℕ). AreHeldOf l shown) e d in
+    let hidden_are = subst (λ (l : List ℕ). AreHeldOf l hidden) f u in
+    IsShown-pass win from next told left (omega (arith, a, b, is)) (omega (arith, within, is)) (λ kind past before. none-before win shown hidden from first second kind shown_are hidden_are none none' past (omega (arith, before, is)) (omega (arith, before, is))) h
 
 -- nothing is left to tell
 stays : (win : WinParts) (n more : ℕ) → held win.dora n + held win.ura n ≡ sum win.dora + sum win.ura → total win (n + more) ≡ total win n

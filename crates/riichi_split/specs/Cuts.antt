@@ -1,8 +1,9 @@
 -- How the search cuts tiles into sets, kind by kind from the lowest. No public clause cites this.
-use Rattle.std.specs.Prelude.{◌^◌, min, ℕ, zero, suc, ◌+◌, ◌-◌, ◌*◌, ◌/◌, ◌%◌, Bool, ◌&&◌, not, Option, Some, None, List, [], ◌∷◌, ◌++◌, if◌then◌else◌, nat_lt, ◌==◌, replicate, slice_index, slice_set, option_and_then, ◌≡◌, ◌≤◌, length, nat_le, All, AllPairs, Contains, ◌≢◌}
+use Rattle.std.specs.Prelude.{◌^◌, min, ℕ, zero, suc, ◌+◌, ◌-◌, ◌*◌, ◌/◌, ◌%◌, Bool, false, ◌&&◌, not, Option, Some, None, List, [], ◌∷◌, ◌++◌, if◌then◌else◌, nat_lt, ◌==◌, replicate, slice_index, slice_set, option_and_then, ◌≡◌, ◌≤◌, length, nat_le, All, AllPairs, Contains, ◌≢◌}
 use Rattle.riichi_tiles.specs.declared.block.Block.{Block}
 use Rattle.riichi_tiles.specs.declared.block.Block.TheVariants.{Run, Triplet}
 use Rattle.riichi_tiles.specs.Kinds.{begins_run}
+use Rattle.riichi_tiles.specs.HeldKinds.{is_held}
 use Rattle.riichi_split.specs.Readings.{IsSplit}
 use Rattle.riichi_split.specs.declared.cutting.Choice.{Choice}
 use Rattle.riichi_split.specs.declared.split.Split.{Split}
@@ -83,15 +84,14 @@ doubts (held ∷ counts) = doubts counts + (if nat_le 3 held && may_have_runs co
 abbrev pub choices_beside : List ℕ → ℕ
 choices_beside counts = 2 ^ min 4 (doubts counts)
 
--- no kind from `end` on is held
-pub record IsEnd (counts : List ℕ) (end : ℕ) : Type 0 where
-  pub within : end ≤ 34
-  pub none : (kind : ℕ) → end ≤ kind → slice_index counts kind ≡ 0
+-- no kind is held but those told
+pub record HoldsAtMost (counts : List ℕ) (held : ℕ) : Type 0 where
+  pub none : (kind : ℕ) → is_held held kind ≡ false → slice_index counts kind ≡ 0
 
 -- what the fields of `Splits` keep
-pub record IsReady (counts : List ℕ) (end wanted choices choices_left first pairs_left third : ℕ) : Type 0 where
+pub record IsReady (counts : List ℕ) (held wanted choices choices_left first pairs_left third : ℕ) : Type 0 where
   pub each_kind : length counts ≡ 34
-  pub end_is : IsEnd counts end
+  pub held_are : HoldsAtMost counts held
   pub at_most_four : wanted ≤ 4
   pub choices_few : choices ≤ 16
   pub left_few : choices_left ≤ 16

@@ -1,5 +1,5 @@
 -- The kinds that a hand waits for.
-use Rattle.std.specs.Prelude.{ℕ, ◌+◌, ◌<◌, Bool, ◌&&◌, List, ◌++◌, length, map, if◌then◌else◌, nat_lt, slice_index, slice_set, codes}
+use Rattle.std.specs.Prelude.{ℕ, ◌<◌, Bool, ◌&&◌, List, ◌++◌, length, map, if◌then◌else◌, nat_lt, codes}
 use Rattle.std.specs.List.{list_any}
 use Rattle.riichi_tiles.specs.Melds.{every_kind}
 pub use Rattle.riichi_tiles.specs.OneTile.{with_one}

@@ -1,10 +1,10 @@
 //! One way to cut tiles into sets, by a number that makes the choices.
 ghost use Rattle.std.specs.Prelude.{◌≡◌, ℕ, ◌+◌, ◌<◌, ◌≤◌, ◌++◌, drop, length, replicate, slice_index};
 ghost use Rattle.riichi_tiles.specs.Kinds.{begins_run};
-ghost use Rattle.riichi_split.specs.Cuts.{may_have_runs, begins, choice_of, begun, cut_from, IsEnd};
+ghost use Rattle.riichi_split.specs.Cuts.{may_have_runs, begins, choice_of, begun, cut_from, HoldsAtMost};
 
 use crate::sets::Sets;
-use riichi_tiles::{Block, Kind};
+use riichi_tiles::{Block, HeldKinds, Kind};
 
 /// What begins at a kind: a triplet or none, and some runs. `choices` are those for the kinds above.
 #[derive(Clone, Copy)]
@@ -92,31 +92,16 @@ fn begin(sets: &mut Sets, kind: Kind, choice: Choice)
     }
 }
 
-/// The first kind from one on that is held, or `end`.
-fn next_held(counts: &[u8; 34], from: usize, end: usize) -> usize
-    requires within { from ≤ end }
-    requires kinds { end ≤ 34 }
-    ensures from { from ≤ result }
-    ensures end { result ≤ end }
-    ensures none { (kind : ℕ) → from ≤ kind → kind < result → slice_index counts.now kind ≡ 0 }
-{
-    let mut kind = from;
-    while kind < end && counts[kind] == 0 {
-        kind += 1;
-    }
-    kind
-}
-
-/// The sets that use up the counts, as the choices say. No kind from `end` on is held.
-pub(crate) fn cut(counts: &[u8; 34], end: usize, wanted: usize, choices: usize) -> Option<Sets>
+/// The sets that use up the counts, as the choices say. No kind is held but those told.
+pub(crate) fn cut(counts: &[u8; 34], held: HeldKinds, wanted: usize, choices: usize) -> Option<Sets>
     requires wanted { wanted ≤ 4 }
-    requires end { IsEnd counts.now end }
+    requires held { HoldsAtMost counts.now held }
     ensures { result ≡ cut_from 0 counts.now 0 0 wanted choices }
 {
     let mut sets = Sets::new();
     let (mut one, mut two, mut left, mut choices) = (0, 0, wanted, choices);
-    let mut index = next_held(counts, 0, end);
-    while index < end {
+    let mut index = held.first_from(0);
+    while index < 34 {
         let choice = choose(counts, index, one + two, left, choices)?;
         begin(&mut sets, Kind::at(index as u8), choice);
         two = one;
@@ -125,7 +110,7 @@ pub(crate) fn cut(counts: &[u8; 34], end: usize, wanted: usize, choices: usize) 
         choices = choice.choices;
         index += 1;
         if one == 0 && two == 0 {
-            index = next_held(counts, index, end);
+            index = held.first_from(index);
         }
     }
     if one == 0 && two == 0 && left == 0 && choices == 0 {

@@ -1,12 +1,12 @@
 ghost use Rattle.std.specs.Prelude.{◌≡◌, ◌≢◌, ℕ, ◌+◌, ◌%◌, ◌<◌, ◌≤◌, MatchOption, ◌&&◌, nat_le, [], ◌∷◌, ◌++◌, drop, length, slice_index};
 ghost use Rattle.std.specs.Iterator.{YieldsFirst, item_count};
-ghost use Rattle.riichi_split.specs.Cuts.{may_have_runs, sets_beside, from_choices, from_pairs, choices_beside, third_of_pair, IsEnd};
+ghost use Rattle.riichi_split.specs.Cuts.{may_have_runs, sets_beside, from_choices, from_pairs, choices_beside, third_of_pair, HoldsAtMost};
 
 use crate::cutting::cut;
 use crate::sets::Sets;
 use crate::split::Split;
 use crate::suit::Rests;
-use riichi_tiles::{Counts, Kind};
+use riichi_tiles::{Counts, HeldKinds, Kind};
 use std::iter::FusedIterator;
 use std::marker::Model;
 
@@ -14,8 +14,8 @@ use std::marker::Model;
 #[derive(Drop)]
 pub(crate) struct Splits {
     counts: [u8; 34],
-    // No kind from `end` on is held.
-    end: usize,
+    // No other kind is held.
+    held: HeldKinds,
     wanted: usize,
     // So many numbers make the choices beside any pair.
     choices: usize,
@@ -40,7 +40,7 @@ impl Model for Splits {
 
     ghost view = { splits_left };
 
-    ghost invariant = { λ s. IsReady s.counts s.end s.wanted s.choices s.choices_left s.first s.pairs_left s.third };
+    ghost invariant = { λ s. IsReady s.counts s.held s.wanted s.choices s.choices_left s.first s.pairs_left s.third };
 }
 
 impl Splits {
@@ -57,7 +57,7 @@ impl Splits {
         let suit = rests.suit_of_pair();
         Splits {
             counts,
-            end: end_of(&counts),
+            held: held_in(&counts),
             wanted: 4 - melds,
             choices: choices_of(&counts),
             pair: Kind::at(0),
@@ -80,7 +80,7 @@ impl Iterator for Splits {
         loop {
             let sets = next_sets(
                 &self.counts,
-                self.end,
+                self.held,
                 self.wanted,
                 self.pair,
                 &mut self.choices_left,
@@ -99,15 +99,11 @@ impl Iterator for Splits {
 
 impl FusedIterator for Splits {}
 
-/// One past the highest kind that is held.
-fn end_of(counts: &[u8; 34]) -> usize
-    ensures { IsEnd counts.now result }
+/// The kinds that are held.
+fn held_in(counts: &[u8; 34]) -> HeldKinds
+    ensures { HoldsAtMost counts.now result }
 {
-    let mut end = 34;
-    while end > 0 && counts[end - 1] == 0 {
-        end -= 1;
-    }
-    end
+    HeldKinds::of(counts)
 }
 
 fn is_in_doubt(counts: &[u8; 34], kind: usize) -> bool
@@ -155,13 +151,13 @@ fn choices_with(counts: &[u8; 34], pair: Kind, choices: usize) -> usize
 /// The sets that some choices leave beside a pair.
 fn sets_beside(
     counts: &[u8; 34],
-    end: usize,
+    held: HeldKinds,
     wanted: usize,
     pair: Kind,
     choices: usize,
 ) -> Option<Sets>
     requires wanted { wanted ≤ 4 }
-    requires end { IsEnd counts.now end }
+    requires held { HoldsAtMost counts.now held }
     ensures { result ≡ sets_beside counts.now wanted pair choices }
 {
     let pair = pair.index();
@@ -170,19 +166,19 @@ fn sets_beside(
     }
     let mut rest = *counts;
     rest[pair] -= 2;
-    cut(&rest, end, wanted, choices)
+    cut(&rest, held, wanted, choices)
 }
 
 /// The next sets beside a pair, of the choices below a number.
 fn next_sets(
     counts: &[u8; 34],
-    end: usize,
+    held: HeldKinds,
     wanted: usize,
     pair: Kind,
     choices: &mut usize,
 ) -> Option<Sets>
     requires wanted { wanted ≤ 4 }
-    requires end { IsEnd counts.now end }
+    requires held { HoldsAtMost counts.now held }
     ensures fewer { choices.new ≤ choices.old }
     ensures sets { MatchOption result
         ((from_choices counts.now wanted pair choices.old ≡ []) × (choices.new ≡ 0))
@@ -191,7 +187,7 @@ fn next_sets(
 {
     while *choices > 0 {
         *choices -= 1;
-        let sets = sets_beside(counts, end, wanted, pair, *choices);
+        let sets = sets_beside(counts, held, wanted, pair, *choices);
         if sets.is_some() {
             return sets;
         }

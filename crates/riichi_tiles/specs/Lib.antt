@@ -9,3 +9,4 @@ pub mod Melds
 pub mod Dora
 pub mod Reds
 pub mod Blocks
+pub mod HeldKinds

@@ -1,10 +1,11 @@
 //! Tiles of riichi mahjong, and the text in which they are written.
 //!
-//! A [`Kind`] is one of the 34 kinds of tile, and belongs to a [`Suit`]; [`BySuit`] has something for each suit. [`Counts`] says how many of each are held, at most four; a [`KindSet`] is a set
-//! of kinds, as the waits of a hand. A [`Meld`] is a set that was called or declared, [`Melds`] the melds of one hand, at most
-//! four; a [`Block`] is a run, a triplet or a pair within the concealed tiles. Each tells how many tiles of a kind it has, so
-//! that hands are added up kind by kind. [`Reds`] counts the red fives of a suit, and [`dora_of`] tells what an indicator
-//! makes dora.
+//! A [`Kind`] is one of the 34 kinds of tile, and belongs to a [`Suit`]; [`BySuit`] has something for each suit.
+//! [`Counts`] says how many of each are held, at most four; a [`KindSet`] is a set of kinds, as the waits of a hand, and
+//! [`HeldKinds`] are those of which a hand has tiles. A [`Meld`] is a set that was called or declared, [`Melds`] the
+//! melds of one hand, at most four; a [`Block`] is a run, a triplet or a pair within the concealed tiles. Each tells how
+//! many tiles of a kind it has, so that hands are added up kind by kind. [`Reds`] counts the red fives of a suit, and
+//! [`dora_of`] tells what an indicator makes dora.
 //!
 //! [`read_counts`] reads the notation of tiles, as `123m44z`, and answers the first of its faults; [`write_counts`] and
 //! [`write_kinds`] write it. [`Meld::read`] reads a meld, as `chi:340m`, and [`reds_of`] the red fives of a text, where they
@@ -26,6 +27,7 @@ mod block;
 mod by_suit;
 mod counts;
 mod dora;
+mod held_kinds;
 mod kind;
 mod kind_set;
 mod meld;
@@ -39,6 +41,7 @@ pub use block::Block;
 pub use by_suit::BySuit;
 pub use counts::Counts;
 pub use dora::dora_of;
+pub use held_kinds::HeldKinds;
 pub use kind::Kind;
 pub use kind_set::KindSet;
 pub use meld::Meld;

@@ -69,6 +69,9 @@ fn row(word: &'static str, concealed: u8, melded: u8) -> YakuRow
     }
 }
 
+/// All of them at one place of memory, so that one is read without a copy of all.
+static IN_ORDER: [Yaku; 41] = Yaku::ALL;
+
 impl Yaku {
     /// All of them, in the order of the table.
     pub const ALL: [Yaku; 41] = [
@@ -127,7 +130,7 @@ impl Yaku {
         requires { number < 41 }
         ensures { spec.number result ≡ number }
     {
-        Yaku::ALL[number as usize]
+        IN_ORDER[number as usize]
     }
 
     /// The printed word.

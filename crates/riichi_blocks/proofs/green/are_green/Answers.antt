@@ -1,7 +1,7 @@
 use Rattle.std.proofs.Common.{◌&&◌, not, sym, ap, ◌∙◌}
 use Rattle.riichi_blocks.proofs.Told.{all-green}
 use Rattle.riichi_blocks.specs.Told.{green_from_bamboos}
-use Rattle.riichi_blocks.proofs.held_kinds.are_green.Goals as goal
+use Rattle.riichi_blocks.proofs.green.are_green.Goals as goal
 
 pub returns-then-others : goal.returns-then-others
 returns-then-others c = sym (ap (λ b. not b && green_from_bamboos c.args.tiles.now) c.if-others.true) ∙ all-green c.args.tiles.now c.args.others c.requires
