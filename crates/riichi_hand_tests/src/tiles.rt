@@ -27,6 +27,32 @@ fn tells_the_first_fault_of_a_text(rt: HostRuntime) {
 }
 
 #[test]
+fn reads_into_empty_counts(rt: HostRuntime) {
+    let (code, place) = (NotationCode::N5, 3);
+    let mut none = Counts::new();
+    same(
+        &rt,
+        read_into(&mut none, b"11m8z"),
+        Err(NotationFault { code, place }),
+    );
+    same(&rt, none.total(), 0);
+    let mut counts = Counts::new();
+    holds(&rt, read_into(&mut counts, b"19m7z").is_ok());
+    same(&rt, write_counts(&counts).as_str(), "19m7z");
+}
+
+#[test]
+fn tells_which_kinds_are_held(rt: HostRuntime) -> Result<(), Fail> {
+    let counts = read_counts(b"119m7z").ok().ok_or("a text of tiles")?;
+    let held = HeldKinds::of(&counts.to_array());
+    same(&rt, (held.first_from(0), held.first_from(1)), (0, 8));
+    same(&rt, (held.first_from(9), held.first_from(34)), (33, 34));
+    holds(&rt, held.has_some(0, 1) && !held.has_some(1, 8));
+    holds(&rt, held.has_some(27, 34) && !held.has_some(34, 34));
+    Ok(())
+}
+
+#[test]
 fn writes_what_it_reads(rt: HostRuntime) -> Result<(), Fail> {
     let rows: [(&[u8], &str, u8); 6] = [
         (b"1112345678999m", "1112345678999m", 13),
