@@ -43,7 +43,7 @@ case $1 in
     exit "$(sed -n 's/^run=ended status=\([0-9]*\).*/\1/p' "$kit/tried" | grep . || echo 6)"
     ;;
   all)
-    for crate in crates/*/; do
+    for crate in ../*/; do
       crate=$(basename "$crate")
       [ -f "$kit/slow" ] && sleep 20
       echo "== $crate"
