@@ -1,9 +1,9 @@
 # Rows of ./sources, ./desk and ./prove, read by ./test after tests/program.sh, whose words it uses. They run in a copy
-# of the tree, with a stand-in for the program, and one for the kit that writes down how it was called.
+# of the tree, with a stand-in for the program, and one for the kit.
 
 scripts=$room/scripts tree=$room/scripts/tree kit=$room/scripts/kit
-mkdir -p "$tree/crates" "$kit" "$scripts/home"
-cp sources desk prove crates.txt "$tree"
+mkdir -p "$tree/crates" "$kit/bin" "$scripts/home"
+cp -r sources desk prove crates.txt packaging "$tree"
 for crate in crates/*; do
   mkdir "$tree/$crate"
   for part in src specs proofs; do [ -d "$crate/$part" ] && cp -r "$crate/$part" "$tree/$crate"; done
@@ -27,14 +27,13 @@ by_hand() {
   (cd "$1" && shift && HOME=$scripts/home XDG_CACHE_HOME=$scripts/home/cache PATH=$kit:$PATH "$@" 2>&1; echo "status $?")
 }
 
-# the kit's stand-in: `rt try` says its words and what kit/tried says; a check proves each crate but that of kit/wrong
+# the kit's stand-in: `rt try` says its words and what kit/tried says
 cat > "$kit/rt" << 'END'
 #!/usr/bin/env bash
 kit=$(dirname "$0")
-echo "$(basename "$PWD"): rt $*" >> "$kit/calls"
 case $1 in
   version) echo 'kit-0 logic 0123' ;;
-  doc) echo /nowhere/START-HERE.md ;;
+  doc) echo "$kit/START-HERE.md" ;;
   try)
     cat > "$kit/given"
     for word in "$@"; do case $word in table-*=*) cat "${word#*=}" >> "$kit/given" ;; esac; done
@@ -42,22 +41,74 @@ case $1 in
     cat "$kit/tried" >&2
     exit "$(sed -n 's/^run=ended status=\([0-9]*\).*/\1/p' "$kit/tried" | grep . || echo 6)"
     ;;
-  all)
-    for crate in ../*/; do
-      crate=$(basename "$crate")
-      [ -f "$kit/slow" ] && sleep 20
-      echo "== $crate"
-      [ "$crate" = "$(cat "$kit/wrong" 2> /dev/null)" ] && echo 'fn f: not proved' && wrong=$crate
-    done
-    echo '== summary'
-    [ -z "${wrong-}" ] || { echo "$wrong: failed (1)"; exit 1; }
+  run)
+    mkdir -p out && printf '#!/bin/sh\necho "program:${*:+ $*}"\n' > out/riichi_desk && chmod +x out/riichi_desk
+    echo 'crate riichi_desk: modules loaded=1 checked=1'
     ;;
-  lib)
-    printf 'crate riichi_tiles: modules loaded=1 checked=1\ncrate %s: modules loaded=1 checked=1\n' "$(basename "$PWD")"
-    mkdir -p out && echo archive > "out/lib$(basename "$PWD").a"
-    ;;
-  run) mkdir -p out && printf '#!/bin/sh\necho "program:${*:+ $*}"\n' > out/riichi_desk && chmod +x out/riichi_desk ;;
 esac
+END
+# and as a module, by which packaging/prove-crates proves each crate but that of kit/wrong; all but two are slow where kit/slow is
+cat > "$kit/bin/rt" << 'END'
+import os
+import time
+import types
+
+KIT = os.path.dirname(os.path.dirname(os.path.realpath(__file__)))
+
+
+def share_work(_):
+    pass
+
+
+def lock(_):
+    pass
+
+
+def guarded():
+    pass
+
+
+def stop_on_links(_):
+    pass
+
+
+class Crate:
+    def __init__(self, line, known):
+        name, uses = line.split(":")
+        self.name, *kind = name.split()
+        self.folder, self.is_static = f"crates/{self.name}", kind == ["staticlib"]
+        self.deps = [known[it] for it in uses.split() if it in known]
+
+    def below(self):
+        return {crate for it in self.deps for crate in [*it.below(), it]}
+
+    def count(self, _):
+        return 1
+
+    def build_rlib(self, _, anew):
+        wrong = f"{KIT}/wrong"
+        if os.path.isfile(f"{KIT}/slow") and self.name not in ("riichi_tiles", "riichi_text"):
+            time.sleep(20)
+        is_wrong = os.path.isfile(wrong) and open(wrong).read().strip() == self.name
+        print("fn f: not proved" if is_wrong else "fn f: proved", file=self.out)
+        return int(is_wrong)
+
+    def build_static(self, _):
+        with open(f"{self.folder}/out/lib{self.name}.a", "w") as it:
+            it.write("archive")
+        return 0
+
+
+def crates_below(top):
+    known = {}
+    for line in open(f"{top}/crates.txt"):
+        if not line.startswith("#"):
+            crate = Crate(line, known)
+            known[crate.name] = crate
+    return list(known.values())
+
+
+rtlib = types.SimpleNamespace(**globals())
 END
 chmod +x "$kit/rt"
 
@@ -121,7 +172,7 @@ told 'an unpacked release' $'program: c\nstatus 0' "$(by_hand "$scripts/copy" ./
 told 'its program is in bin' "$(cat "$scripts/copy/riichi_desk-9-linux-x86_64/riichi_desk")" "$(cat "$scripts/copy/bin/riichi_desk")"
 
 # before ./prove: files of any name and pipes, what is typed, too many answers, sources that don't run, no kit
-rm -r "$tree/bin" "$scripts/copy" && : > "$kit/calls"
+rm -r "$tree/bin" "$scripts/copy"
 printf 'hand one\n' > "$scripts/a=b c.lines"
 told 'a file of any name and a pipe' "$unproved
 tried: score --workers 4 table-0 table-1

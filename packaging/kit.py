@@ -1,0 +1,19 @@
+"""The kit's command rt as a module: it knows the crates of a tree, and the words by which rattle checks and builds one."""
+
+import importlib.machinery
+import importlib.util
+import os
+import shutil
+import subprocess
+import sys
+
+
+def load():
+    """The module; its `rtlib` has the crates."""
+    if not shutil.which("rt"):
+        sys.exit("the command rt of the Rattle kit isn't here")
+    page = subprocess.run(["rt", "doc"], check=True, capture_output=True, text=True).stdout.strip()
+    loader = importlib.machinery.SourceFileLoader("rt_of_the_kit", f"{os.path.dirname(page)}/bin/rt")
+    module = importlib.util.module_from_spec(importlib.util.spec_from_loader(loader.name, loader))
+    loader.exec_module(module)
+    return module
