@@ -232,9 +232,17 @@ row 2 '' 'riichi_desk: fault B1' score "$room/many"
 told 'a score without memory' $'riichi_desk: fault F3\nstatus 4' "$(ulimit -v 60000; "$program" score "$room/many" 2>&1; echo "status $?")"
 told 'a score without a thread' $'riichi_desk: fault B4\nstatus 4' "$(ulimit -v 30000; "$program" score --workers 4 "$room/first" 2>&1; echo "status $?")"
 told 'a full disk at the end of a score' $'riichi_desk: fault F2\nstatus 3' "$("$program" score "$room/first" 2>&1 > /dev/full; echo "status $?")"
-# each table of a score is answered as `line` answers its file, whatever the workers
+# each table of a score is answered as `line` answers its file, whatever the workers; one of them has 57,400 lines
+for ((i = 0; i < 350; i++)); do cat examples/rules.lines; done > "$room/long"
+{
+  echo 'table 0'
+  cat examples/club-night.answers
+  echo 'table 1'
+  for ((i = 0; i < 350; i++)); do cat examples/rules.answers; done
+  echo 'table 2'
+  cat examples/rules-two.answers
+} > "$room/wanted"
 for workers in 1 4 16; do
-  { echo 'table 0'; cat examples/rules.answers; echo 'table 1'; cat examples/club-night.answers; echo 'table 2'; cat examples/rules-two.answers; } > "$room/wanted"
-  "$program" score --workers $workers examples/rules.lines examples/club-night.lines examples/rules-two.lines > "$room/answers" 2> "$room/said"
+  "$program" score --workers $workers examples/club-night.lines "$room/long" examples/rules-two.lines > "$room/answers" 2> "$room/said"
   told "score of the examples by $workers workers" "$(sha256sum < "$room/wanted")" "$(sha256sum < "$room/answers")"
 done

@@ -9,7 +9,8 @@ use Rattle.std.proofs.lemmas.Bool.{cases_lt, cases_eq, eqb-true, eq-eqb, ne_eqb,
 use Rattle.desk_core.proofs.Lists.{option_map-Some, append-cond, slice_get-map}
 use Rattle.desk_core.proofs.Due.{due, due-same, due-more, due-below, due-after_answer, due-after_withdrawal, due-front}
 use Rattle.desk_core.proofs.Next.{IsNext, IsNext-next_ticket, IsNext-is}
-use Rattle.desk_core.proofs.Histories.{or-false, submitted-push, given-push, given_same, withdrawn-push, withdrawn_same, length-submitted-push, HasArrived-push, HasArrived-within, slice_get-submitted-push}
+use Rattle.std.proofs.Math.Bool.{or-false}
+use Rattle.desk_core.proofs.Histories.{submitted-push, given-push, given_same, withdrawn-push, withdrawn_same, length-submitted-push, HasArrived-push, HasArrived-within, slice_get-submitted-push}
 use Rattle.desk_core.specs.Value.{value_of}
 use Rattle.desk_core.specs.LaneState.{is_among}
 use Rattle.desk_core.specs.History.{Turn, table_of, turns_of, submitted, HasArrived, given, answer_in, withdrawn, withdrawn_in, is_given, is_withdrawn, is_done, next_ticket, CanWithdraw, ReplyOf, DeskReplyOf, IsLegalAfter, IsLegal, GivenInOrder}

@@ -7,6 +7,7 @@ use Rattle.std.proofs.lemmas.List.Elements.{filter_map-append}
 use Rattle.std.proofs.lemmas.List.Folds.{list_any-append}
 use Rattle.std.proofs.lemmas.Option.{slice_get_within}
 use Rattle.std.proofs.lemmas.Bool.{cases_lt}
+use Rattle.std.proofs.Math.Bool.{or-false}
 use Rattle.std.proofs.Math.Seq.{take-append_seam}
 use Rattle.desk_core.proofs.Lists.{filter_map-take_while-push, slice_get-append_left, slice_get-push}
 use Rattle.desk_core.specs.Ticketed.{Ticketed}
@@ -25,10 +26,6 @@ close_submits_nothing (Withdraw ticket) replied closes = cc
 pub submitted-push : (turns : List Turn) (turn : Turn) → submitted (turns ++ turn ∷ []) ≡ submitted turns ++ (if is_closed turns then [] else cons_option (submitted_job turn.0 turn.1) [])
 submitted-push turns turn =
     filter_map-take_while-push (λ t. submitted_job t.0 t.1) (λ t. is_close t.0) turns turn (close_submits_nothing turn.0 turn.1)
-
-pub or-false : (b : Bool) → (b || false) ≡ b
-or-false true = refl
-or-false false = refl
 
 pub is_closed-push : (turns : List Turn) (turn : Turn) → is_closed (turns ++ turn ∷ []) ≡ (is_closed turns || is_close turn.0)
 is_closed-push turns turn =

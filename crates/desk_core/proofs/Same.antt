@@ -1,6 +1,6 @@
 -- Two jobs are one where `==` says so: the derived test of each record is that of its fields.
 use Rattle.std.proofs.Common.{◌≡◌, ℕ, Bool, true, List, refl, ap, rules}
-use Rattle.std.proofs.lemmas.Bool.{and_parts}
+use Rattle.std.proofs.lemmas.Bool.{and_parts, eqb-true}
 use Rattle.std.specs.Prelude.{nat_eq}
 use Rattle.std.specs.Bool.{Decides, beq}
 use Rattle.std.specs.Cmp.{unsigned_Decides, booleans_Decides}
@@ -77,9 +77,6 @@ same_shape a b h =
     let same : parts_of a.tiles a.melds a.seen ≡ b =
     rw (same_counts a.tiles b.tiles tiles.0, (same_melds a.melds b.melds).0 both.0, same_counts a.seen b.seen both.1) refl in same
 
-same_numbers : (a b : ℕ) → nat_eq a b ≡ true → a ≡ b
-same_numbers a b h = (unsigned_Decides a b).0 h
-
 same_parts : (a b : WinParts) → parts.eq a b ≡ true → a ≡ b
 same_parts a b h =
     let by_rules = and_parts (rules_are.eq a.rules b.rules) _ h in
@@ -116,16 +113,16 @@ same_parts a b h =
       same_rules a.rules b.rules by_rules.0,
       same_counts a.concealed b.concealed by_concealed.0,
       (same_melds a.melds b.melds).0 by_melds.0,
-      same_numbers a.winning b.winning by_winning.0,
+      eqb-true a.winning b.winning by_winning.0,
       same_by a.by b.by by_by.0,
       same_wind a.seat b.seat by_seat.0,
       same_wind a.round b.round by_round.0,
-      same_numbers a.riichi b.riichi by_riichi.0,
+      eqb-true a.riichi b.riichi by_riichi.0,
       same_flags a.flags b.flags by_flags.0,
       same_counts a.dora b.dora by_dora.0,
       same_counts a.ura b.ura by_ura.0,
-      same_numbers a.counters b.counters by_counters.0,
-      same_numbers a.sticks b.sticks by_sticks.0,
+      eqb-true a.counters b.counters by_counters.0,
+      eqb-true a.sticks b.sticks by_sticks.0,
       same_reds a.reds b.reds by_sticks.1,
     ) refl in same
 

@@ -5,8 +5,9 @@ use Rattle.std.specs.List.{list_any}
 use Rattle.std.proofs.lemmas.List.{map-append, length-map, drop-append-le}
 use Rattle.std.proofs.lemmas.Option.{slice_get_within}
 use Rattle.std.proofs.lemmas.Bool.{cases_lt, cases_eq, eq-eqb, ne_eqb, lt-ltb, false≢true, or_right, or_from, or_parts}
+use Rattle.std.proofs.Math.Bool.{or-false, or-true}
 use Rattle.desk_core.proofs.Lists.{slice_get-append_left, slice_get-push, slice_get-drop, slice_get-map, slice_get-set_same, slice_get-set_other, map-set_same, drop-suc, drop-drop, map-drop, if-same, set-slice_get}
-use Rattle.desk_core.proofs.Histories.{or-false, submitted-push, is_closed-push, HasArrived-push, HasArrived-push_cases, HasArrived-within, HasArrived-from_BringsIn, BringsIn, given_same, withdrawn_same}
+use Rattle.desk_core.proofs.Histories.{submitted-push, is_closed-push, HasArrived-push, HasArrived-push_cases, HasArrived-within, HasArrived-from_BringsIn, BringsIn, given_same, withdrawn_same}
 use Rattle.desk_core.proofs.Next.{IsNext, IsNext-next_ticket, IsNext-is}
 use Rattle.desk_core.proofs.Facts.{IsSound, IsSound-IsLegal, next-within, next-same, not_given, arrived_before, next_stays, is_given-more, is_withdrawn-more, turns_of-push, IsLegal-push}
 use Rattle.desk_core.specs.Value.{value_of}
@@ -113,10 +114,6 @@ submit_after_close lane job closed = λ turns sound left.
     let jobs : submitted (turns ++ turn ∷ []) ≡ submitted turns = submitted-push turns turn ∙ (rw was (append-nil (submitted turns))) in
     let still : lane.closed ≡ is_closed (turns ++ turn ∷ []) = closed ∙ sym (is_closed-push turns turn ∙ (rw was refl)) in
     (was, IsLeftBy-kept turns turn lane lane.closed sound left (record { no_answer = refl; no_withdrawal = refl }) jobs (submit_brings_nothing turns lane.table job _) still)
-
-or-true : (b : Bool) → (b || true) ≡ true
-or-true true = refl
-or-true false = refl
 
 -- a submission that adds no job leaves the lane as it is
 submit_refused : (lane : LaneState) (job : Job) (replied : Reply) (turns : List Turn) → IsSound turns → IsLeftBy turns lane → submitted_job (Submit lane.table job) replied ≡ None → IsQuiet (Submit lane.table job, replied) → IsLeftBy (turns ++ (Submit lane.table job, replied) ∷ []) lane

@@ -8,7 +8,7 @@ use Rattle.std.specs.Prelude.{slice_index, slice_get, nat_lt, IsTrue, ◌↔◌}
 use Rattle.std.proofs.lemmas.Option.{get_or_from_slice_get, slice_get_within}
 use Rattle.riichi_shape.specs.LiveCopies.{pairs_of}
 use Rattle.riichi_shape.specs.declared.discard.Discard.{Discard}
-use Rattle.desk_json.specs.Parts.{comma_if, joined, live_text, discard_text}
+use Rattle.desk_json.specs.Parts.{comma_if, listed, live_text, discard_text}
 use Rattle.desk_json.proofs.Lists.{is_begun, begun_one_more, joined_more}
 
 unfoldable pub texts_below : (ℕ → List ℕ) → (ℕ → Bool) → ℕ → List (List ℕ)
@@ -16,7 +16,7 @@ texts_below text test n = map text (filter test (range_with_len 0 n))
 
 -- what stands behind a text after the numbers below n, and whether that is more than nothing
 pub record IsWrittenTo (text : ℕ → List ℕ) (test : ℕ → Bool) (n : ℕ) (before now : List ℕ) (later : Bool) : Type 0 where
-  pub bytes : now ≡ before ++ joined (texts_below text test n)
+  pub bytes : now ≡ before ++ listed (texts_below text test n)
   pub begun : later ≡ is_begun (texts_below text test n)
 
 range_last : (a n : ℕ) → range_with_len a (suc n) ≡ range_with_len a n ++ (a + n) ∷ []
@@ -58,8 +58,8 @@ with_one text test n before now then later later' passes so_far e is =
     let more : texts_below text test (n + 1) ≡ texts ++ text n ∷ [] = texts_last text test n ∙ ap (λ b. texts ++ map text (cond b (n ∷ []) [])) passes in
     record {
       bytes = e ∙ ap (λ l. (now ++ comma_if l) ++ text n) so_far.begun ∙ ap (λ t. (t ++ comma_if (is_begun texts)) ++ text n) so_far.bytes
-          ∙ regroup before (joined texts) (comma_if (is_begun texts)) (text n)
-          ∙ ap (λ t. before ++ t) (sym (joined_more texts (text n)) ∙ ap joined (sym more));
+          ∙ regroup before (listed texts) (comma_if (is_begun texts)) (text n)
+          ∙ ap (λ t. before ++ t) (sym (joined_more texts (text n)) ∙ ap listed (sym more));
       begun = is ∙ begun_one_more texts (text n) ∙ ap is_begun (sym more);
     }
 
@@ -70,16 +70,16 @@ without_one text test n before now then later later' fails so_far e is =
     let texts = texts_below text test n in
     let same : texts_below text test (n + 1) ≡ texts = texts_last text test n ∙ ap (λ b. texts ++ map text (cond b (n ∷ []) [])) fails ∙ append-nil texts in
     record {
-      bytes = e ∙ so_far.bytes ∙ ap (λ ts. before ++ joined ts) (sym same);
+      bytes = e ∙ so_far.bytes ∙ ap (λ ts. before ++ listed ts) (sym same);
       begun = is ∙ so_far.begun ∙ ap is_begun (sym same);
     }
 
 -- the texts of all numbers below an end
 pub at_end : (text : ℕ → List ℕ) (test : ℕ → Bool) (n end : ℕ) (before now : List ℕ) (later : Bool) → IsWrittenTo text test n before now later → n ≤ end → end ≤ n
-    → now ≡ before ++ joined (texts_below text test end)
+    → now ≡ before ++ listed (texts_below text test end)
 at_end text test n end before now later so_far most least =
     let same : n ≡ end = omega arith in
-    so_far.bytes ∙ ap (λ m. before ++ joined (texts_below text test m)) same
+    so_far.bytes ∙ ap (λ m. before ++ listed (texts_below text test m)) same
 
 pub unmarked : (mark told : Bool) → (IsTrue told ↔ (mark ≡ true)) → told ≡ false → mark ≡ false
 unmarked true told both e = absurd (apart (both.1 refl) e)
@@ -95,13 +95,13 @@ begun_map text [] = refl
 begun_map text (x ∷ xs) = refl
 
 -- after one more of its elements
-pub listed_more : {X : Type 0} (text : X → List ℕ) (before now then : List ℕ) (done : List X) (x : X) (later : Bool) → now ≡ before ++ joined (map text done) → later ≡ is_begun done
-    → then ≡ (now ++ comma_if later) ++ text x → then ≡ before ++ joined (map text (done ++ x ∷ []))
+pub listed_more : {X : Type 0} (text : X → List ℕ) (before now then : List ℕ) (done : List X) (x : X) (later : Bool) → now ≡ before ++ listed (map text done) → later ≡ is_begun done
+    → then ≡ (now ++ comma_if later) ++ text x → then ≡ before ++ listed (map text (done ++ x ∷ []))
 listed_more text before now then done x later so_far begun e =
     let texts : List (List ℕ) = map text done in
     e ∙ ap (λ l. (now ++ comma_if l) ++ text x) (begun ∙ begun_map text done) ∙ ap (λ t. (t ++ comma_if (is_begun texts)) ++ text x) so_far
-    ∙ regroup before (joined texts) (comma_if (is_begun texts)) (text x)
-    ∙ ap (λ t. before ++ t) (sym (joined_more texts (text x)) ∙ ap joined (sym (map-append text done (x ∷ []))))
+    ∙ regroup before (listed texts) (comma_if (is_begun texts)) (text x)
+    ∙ ap (λ t. before ++ t) (sym (joined_more texts (text x)) ∙ ap listed (sym (map-append text done (x ∷ []))))
 
 -- ---- pairs and discards
 
@@ -119,12 +119,12 @@ begun_taken f (x ∷ xs) zero low = refl
 begun_taken f (x ∷ xs) (suc i) low = lt-ltb 0 (suc i) (omega arith)
 
 pub discard_more : (discards : List Discard) (before : List ℕ) (i : ℕ) (discard : Discard) → slice_get discards i ≡ Some discard
-    → ((before ++ joined (map discard_text (take i discards))) ++ comma_if (nat_lt 0 i)) ++ discard_text discard ≡ before ++ joined (map discard_text (take (i + 1) discards))
+    → ((before ++ listed (map discard_text (take i discards))) ++ comma_if (nat_lt 0 i)) ++ discard_text discard ≡ before ++ listed (map discard_text (take (i + 1) discards))
 discard_more discards before i discard e =
     let low : i < length discards = slice_get_within discards i discard e in
     let texts : List (List ℕ) = map discard_text (take i discards) in
     let more : map discard_text (take (i + 1) discards) ≡ texts ++ discard_text discard ∷ [] =
     map_more discard_text discards i discard low ∙ ap (λ d. texts ++ discard_text d ∷ []) (get_or_from_slice_get discards i discard discard e) in
-    ap (λ l. ((before ++ joined texts) ++ comma_if l) ++ discard_text discard) (begun_taken discard_text discards i low)
-    ∙ regroup before (joined texts) (comma_if (is_begun texts)) (discard_text discard)
-    ∙ ap (λ t. before ++ t) (sym (joined_more texts (discard_text discard)) ∙ ap joined (sym more))
+    ap (λ l. ((before ++ listed texts) ++ comma_if l) ++ discard_text discard) (begun_taken discard_text discards i low)
+    ∙ regroup before (listed texts) (comma_if (is_begun texts)) (discard_text discard)
+    ∙ ap (λ t. before ++ t) (sym (joined_more texts (discard_text discard)) ∙ ap listed (sym more))

@@ -5,7 +5,7 @@ use Rattle.std.specs.Prelude.{codes}
 use Rattle.std.specs.List.{flat_map}
 use Rattle.json.specs.Json.{Json}
 use Rattle.desk_json.specs.Trees.{items_of}
-use Rattle.desk_json.specs.Parts.{comma_if, joined}
+use Rattle.desk_json.specs.Parts.{comma_if, listed}
 use Rattle.desk_json.proofs.Written.{written, items_written}
 
 -- whether something stands before the next
@@ -17,7 +17,7 @@ pub begun_one_more : {X : Type 0} (xs : List X) (x : X) → true ≡ is_begun (x
 begun_one_more [] x = refl
 begun_one_more (y ∷ xs) x = refl
 
-pub joined_more : (texts : List (List ℕ)) (next : List ℕ) → joined (texts ++ next ∷ []) ≡ joined texts ++ (comma_if (is_begun texts) ++ next)
+pub joined_more : (texts : List (List ℕ)) (next : List ℕ) → listed (texts ++ next ∷ []) ≡ listed texts ++ (comma_if (is_begun texts) ++ next)
 joined_more [] next = append-nil next
 joined_more (text ∷ texts) next = sym (flat_map_more (λ t. codes "," ++ t) text texts next)
 
@@ -31,7 +31,7 @@ items_later tree text each (x ∷ xs) =
     ∙ sym (append_assoc (codes "," ++ text x) (flat_map (λ next. codes "," ++ next) (map text xs)) (codes "]"))
 
 pub items_joined : {X : Type 0} (tree : X → Json) (text : X → List ℕ) → ((x : X) → written (tree x) ≡ text x) → (xs : List X)
-    → items_written false (items_of tree xs) ≡ joined (map text xs) ++ codes "]"
+    → items_written false (items_of tree xs) ≡ listed (map text xs) ++ codes "]"
 unfolding written
 items_joined tree text each [] = refl
 items_joined tree text each (x ∷ xs) =

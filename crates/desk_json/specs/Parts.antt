@@ -1,5 +1,5 @@
 -- The pieces that the texts of the answers are written from.
-use Rattle.std.specs.Prelude.{ℕ, ◌==◌, Bool, List, [], ◌∷◌, ◌++◌, if◌then◌else◌, codes, decimal, map, flat_map}
+use Rattle.std.specs.Prelude.{ℕ, ◌==◌, Bool, List, [], ◌∷◌, ◌++◌, if◌then◌else◌, codes, decimal, map}
 use Rattle.std.specs.Fmt.{signed_decimal}
 use Rattle.riichi_hand.specs.FaultTexts.{line_code_text, notation_code_text, name_text}
 use Rattle.riichi_hand.specs.declared.fault.LineFault.{LineFault}
@@ -13,6 +13,7 @@ use Rattle.riichi_score.specs.declared.score.Score.{Score}
 use Rattle.riichi_score.specs.declared.answer.WinAnswer.{WinAnswer}
 use Rattle.riichi_score.specs.declared.answer.WinAnswer.TheVariants.{Won, NoYaku, NoWin}
 use Rattle.riichi_shape.specs.LiveCopies.{live_in}
+use Rattle.riichi_text.specs.Lists.{joined}
 use Rattle.riichi_text.specs.Tiles.{kind_text}
 use Rattle.riichi_shape.specs.declared.accepts.Accepts.{Accepts}
 use Rattle.riichi_shape.specs.declared.accepts.Accepts.TheVariants.{Thirteen, Fourteen}
@@ -26,9 +27,8 @@ abbrev pub comma_if : Bool → List ℕ
 comma_if later = if later then codes "," else []
 
 -- texts with commas between them
-abbrev pub joined : List (List ℕ) → List ℕ
-joined [] = []
-joined (text ∷ texts) = text ++ flat_map (λ next. codes "," ++ next) texts
+abbrev pub listed : List (List ℕ) → List ℕ
+listed texts = joined (codes ",") texts
 
 -- ---- wins
 
@@ -36,7 +36,7 @@ unfoldable pub yaku_text : Yaku → List ℕ
 yaku_text yaku = codes "{\"number\":" ++ decimal (number yaku) ++ codes ",\"word\":\"" ++ word yaku ++ codes "\"}"
 
 abbrev pub yaku_list_text : ℕ → List ℕ
-yaku_list_text set = joined (map yaku_text (yaku_in set))
+yaku_list_text set = listed (map yaku_text (yaku_in set))
 
 abbrev pub limit_text : ℕ → List ℕ
 limit_text base =
@@ -80,7 +80,7 @@ abbrev pub quoted_kind : ℕ → List ℕ
 quoted_kind kind = codes "\"" ++ kind_text kind ++ codes "\""
 
 abbrev pub kinds_text : List Bool → List ℕ
-kinds_text marks = joined (map quoted_kind (kinds_in marks))
+kinds_text marks = listed (map quoted_kind (kinds_in marks))
 
 unfoldable pub waits_text : List Bool → List ℕ
 waits_text marks = codes "{\"answer\":\"waits\",\"kinds\":[" ++ kinds_text marks ++ codes "]}"
@@ -91,7 +91,7 @@ unfoldable pub live_text : ℕ × ℕ → List ℕ
 live_text pair = codes "{\"kind\":\"" ++ kind_text pair.0 ++ codes "\",\"live\":" ++ decimal pair.1 ++ codes "}"
 
 abbrev pub pairs_text : List (ℕ × ℕ) → List ℕ
-pairs_text pairs = joined (map live_text pairs)
+pairs_text pairs = listed (map live_text pairs)
 
 -- with the brace that ends its object
 unfoldable pub accepted_text : List (ℕ × ℕ) → List ℕ
@@ -101,7 +101,7 @@ unfoldable pub discard_text : Discard → List ℕ
 discard_text discard = codes "{\"discard\":\"" ++ kind_text discard.kind ++ codes "\"," ++ accepted_text discard.accepted
 
 abbrev pub discards_text : List Discard → List ℕ
-discards_text discards = joined (map discard_text discards)
+discards_text discards = listed (map discard_text discards)
 
 unfoldable pub accepts_text : Accepts → List ℕ
 accepts_text (Thirteen accepted) = accepted_text accepted

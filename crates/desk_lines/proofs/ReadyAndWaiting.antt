@@ -1,6 +1,6 @@
 -- A hand is ready exactly where it waits.
 use Rattle.std.proofs.Common.{◌≡◌, ◌≢◌, ℕ, pos, ◌+◌, ◌≤ℤ◌, ◌<◌, ◌≤◌, ◌↔◌, inl, inr, Bool, true, false, None, List, [], ◌∷◌, length, map, get_or-set_other, refl, sym, subst, ap, ◌∙◌, arith}
-use Rattle.std.proofs.lemmas.Bool.{cases_eq}
+use Rattle.std.proofs.lemmas.Bool.{cases_eq, eqb-true, ltb-false, or_parts}
 use Rattle.std.proofs.lemmas.Bool.Decides.{nat_tests}
 use Rattle.std.proofs.lemmas.Grind.{get_or-set_at}
 use Rattle.std.proofs.lemmas.Int.{ints}
@@ -24,8 +24,9 @@ use Rattle.riichi_shape.specs.Ready.{IsReady}
 use Rattle.riichi_shape.specs.Winning.{IsWinning, lacking}
 use Rattle.riichi_shape.proofs.Distances.{never_none}
 use Rattle.riichi_shape.proofs.Members.{Among, among_map, from_map, least_is}
-use Rattle.riichi_shape.proofs.ReadyLemmas.{ready_is}
-use Rattle.riichi_shape.proofs.Uniqueness.{listed_winning, winning_listed, lacking_same}
+use Rattle.riichi_shape.proofs.ReadyLemmas.{one_more_at, one_more_past, ready_is}
+use Rattle.riichi_shape.proofs.ShapeFacts.{no_faults}
+use Rattle.riichi_shape.proofs.Uniqueness.{distance_from, listed_winning, winning_listed}
 use Rattle.desk_lines.specs.Ready.{HasWait}
 use Rattle.desk_lines.proofs.WinningShapes.{form_iff}
 
@@ -40,64 +41,26 @@ some_winning hand melds within few = by_list (every_winning melds) refl
         (λ wanted sets four. subst (λ (all : List (List ℕ)). Among (listed_winning melds wanted (record { form = inl sets; within_four = four })).listed all) none (listed_winning melds wanted (record { form = inl sets; within_four = four })).among))
     by_list (first ∷ rest) some = (first, winning_listed melds first (subst (λ (all : List (List ℕ)). Among first all) (sym some) (inl refl)))
 
-is_distance : (hand : List ℕ) (melds : List Meld) (some : List ℕ) → IsWinning melds some → IsDistance hand melds (distance_of hand melds)
-unfolding distance_of
-is_distance hand melds some is = record {
-  wanted = reached.0;
-  is_winning = winning_listed melds reached.0 reached.1;
-  reached = sym reached.2;
-  none_less = λ other won. (let l = listed_winning melds other won in omega (arith, (below l.listed l.among).0, lacking_same hand l.listed other l.same));
-}
-  where
-    below : (listed : List ℕ) → Among listed (every_winning melds) → (least (map (lacking hand) (every_winning melds)) ≤ lacking hand listed) × Among (least (map (lacking hand) (every_winning melds))) (map (lacking hand) (every_winning melds))
-    below listed among = least_is (map (lacking hand) (every_winning melds)) (lacking hand listed) (among_map (lacking hand) listed (every_winning melds) among)
-
-    reached : (wanted : List ℕ) × Among wanted (every_winning melds) × (least (map (lacking hand) (every_winning melds)) ≡ lacking hand wanted)
-    reached = let l = listed_winning melds some is in from_map (lacking hand) (least (map (lacking hand) (every_winning melds))) (every_winning melds) (below l.listed l.among).1
-
 -- ---- what is known of a hand
-
-no_faults : (thirteen five : Bool) → first_fault (coded H8 (not thirteen) ∷ coded H9 five ∷ []) ≡ None → (thirteen ≡ true) × (five ≡ false)
-no_faults true false none = (refl, refl)
-no_faults true true none = cc
-no_faults false five none = cc
-
-neither : (a b : Bool) → (a || b) ≡ false → (a ≡ false) × (b ≡ false)
-neither true b none = cc
-neither false b none = (refl, none)
 
 none_of : (p : ℕ → Bool) (xs : List ℕ) (x : ℕ) → list_any p xs ≡ false → IsIn x xs → p x ≡ false
 none_of p [] x none here = absurd here
-none_of p (y ∷ xs) x none (inl first) = ap p (sym first) ∙ (neither (p y) (list_any p xs) none).0
-none_of p (y ∷ xs) x none (inr later) = none_of p xs x (neither (p y) (list_any p xs) none).1 later
-
-not_above : (m n : ℕ) → nat_lt m n ≡ false → n ≤ m
-not_above m n none = grind (arith, nat_tests)
-
-is_size : (n : ℕ) → (n == 13) ≡ true → n ≡ 13
-is_size n test = grind (arith, nat_tests)
-
--- ---- one tile more
-
-one_more : (counts : List ℕ) (kind : ℕ) → kind < length counts → slice_index (with_one counts kind) kind ≡ slice_index counts kind + 1
-one_more counts kind low = get_or-set_at counts kind kind (slice_index counts kind + 1) 0 refl low
-
-others_stay : (counts : List ℕ) (kind other : ℕ) → other ≢ kind → slice_index (with_one counts kind) other ≡ slice_index counts other
-others_stay counts kind other apart = get_or-set_other counts kind other (slice_index counts kind + 1) 0 apart
+none_of p (y ∷ xs) x none (inl first) = ap p (sym first) ∙ (or_parts (p y) (list_any p xs) none).0
+none_of p (y ∷ xs) x none (inr later) = none_of p xs x (or_parts (p y) (list_any p xs) none).1 later
 
 module _ (hand : HandParts) (counts : IsCounts hand.concealed) (is : IsHand hand) where
   tests : (is_thirteen hand.concealed hand.melds ≡ true) × (has_five_copies hand.concealed hand.melds ≡ false)
   tests = no_faults (is_thirteen hand.concealed hand.melds) (has_five_copies hand.concealed hand.melds) is
 
   thirteen : size hand.concealed hand.melds ≡ 13
-  thirteen = is_size (size hand.concealed hand.melds) tests.0
+  thirteen = eqb-true (size hand.concealed hand.melds) 13 tests.0
 
   few : length hand.melds ≤ 4
   few = few_melds hand is
 
   at_most_four : (kind : ℕ) → kind < 34 → copies_held hand.concealed hand.melds kind ≤ 4
   at_most_four kind low =
-      not_above 4 (copies_held hand.concealed hand.melds kind) (none_of (λ kind. nat_lt 4 (copies_held hand.concealed hand.melds kind)) every_kind kind tests.1 (in-range 34 0 kind (omega arith) (omega (arith, low))))
+      ltb-false 4 (copies_held hand.concealed hand.melds kind) (none_of (λ kind. nat_lt 4 (copies_held hand.concealed hand.melds kind)) every_kind kind tests.1 (in-range 34 0 kind (omega arith) (omega (arith, low))))
 
   pub melded : (kind : ℕ) → kind < 34 → tiles hand.melds kind ≤ 4
   melded kind low = omega (arith, at_most_four kind low)
@@ -106,7 +69,7 @@ module _ (hand : HandParts) (counts : IsCounts hand.concealed) (is : IsHand hand
   completed_is_long kind = simp length-set counts.each_kind
 
   one_more_of : (kind : ℕ) → kind < 34 → slice_index (with_one hand.concealed kind) kind ≡ slice_index hand.concealed kind + 1
-  one_more_of kind low = one_more hand.concealed kind (omega (arith, counts.each_kind, low))
+  one_more_of kind low = one_more_at hand.concealed kind (omega (arith, counts.each_kind, low))
 
   waits : IsReady hand.concealed hand.melds → HasWait hand
   waits ready = (
@@ -123,7 +86,7 @@ module _ (hand : HandParts) (counts : IsCounts hand.concealed) (is : IsHand hand
   within_four kind low left other inside =
       elim (cases_eq other kind) [
         | inl same ↦ rw same (omega (arith, one_more_of kind low, left))
-        | inr apart ↦ omega (arith, others_stay hand.concealed kind other apart, at_most_four other inside)
+        | inr apart ↦ omega (arith, one_more_past hand.concealed kind other apart, at_most_four other inside)
       ]
 
   is_ready : HasWait hand → IsReady hand.concealed hand.melds
@@ -142,7 +105,7 @@ module _ (hand : HandParts) (counts : IsCounts hand.concealed) (is : IsHand hand
   lacks : (0 < distance_of hand.concealed hand.melds) × ((distance_of hand.concealed hand.melds ≡ 1) ↔ IsReady hand.concealed hand.melds)
   lacks =
       let some = some_winning hand.concealed hand.melds melded few in
-      ready_is hand.concealed hand.melds (distance_of hand.concealed hand.melds) counts.each_kind thirteen (is_distance hand.concealed hand.melds some.0 some.1)
+      ready_is hand.concealed hand.melds (distance_of hand.concealed hand.melds) counts.each_kind thirteen (distance_from hand.concealed hand.melds some.0 some.1)
 
   pub ready_iff : (shanten_of hand.concealed hand.melds ≡ pos 0) ↔ HasWait hand
   ready_iff = (λ zero. waits (lacks.1.0 (omega (arith, ints, zero))), λ wait. let one = lacks.1.1 (is_ready wait) in omega (arith, ints, one))

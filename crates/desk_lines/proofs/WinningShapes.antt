@@ -8,6 +8,7 @@ use Rattle.std.proofs.lemmas.List.Elements.{All-from_recursion, recursion_from_A
 use Rattle.std.proofs.lemmas.List.Sums.{sum_by-cons}
 use Rattle.std.specs.List.{AllByRecursion, count_by, range_with_len, sum}
 use Rattle.std.specs.Prelude.{nat_lt, slice_index, sum_by, ◌==◌}
+use Rattle.riichi_split.proofs.EveryReading.{pair-past, total-past}
 use Rattle.riichi_tiles.specs.Blocks.{IsSet, copies, total}
 use Rattle.riichi_tiles.specs.Melds.{every_kind}
 use Rattle.riichi_tiles.specs.declared.block.Block.{Block}
@@ -23,15 +24,6 @@ use Rattle.desk_lines.proofs.InOrder.{in_order}
 
 -- ---- sets and a pair
 
-sets_past : (sets : List Block) (kind : ℕ) → AllByRecursion IsSet sets → 34 ≤ kind → total sets kind ≡ 0
-sets_past [] kind each past = refl
-sets_past (Run low ∷ sets) kind each past = let rest = sets_past sets kind each.1 past in grind (arith, nat_tests)
-sets_past (Triplet held ∷ sets) kind each past = let rest = sets_past sets kind each.1 past in grind (arith, nat_tests)
-sets_past (Pair held ∷ sets) kind each past = absurd each.0
-
-pair_past : (pair kind : ℕ) → pair < 34 → 34 ≤ kind → copies (Pair pair) kind ≡ 0
-pair_past pair kind low past = grind (arith, nat_tests)
-
 split_of : (counts : List ℕ) (melds : ℕ) → length counts ≡ 34 → melds ≤ 4 → IsSetsAndPair (4 - melds) counts → HasSplit counts melds
 split_of counts melds long few is =
     let sets = in_order is.blocks (recursion_from_All IsSet is.blocks is.are_sets) in (
@@ -44,7 +36,7 @@ split_of counts melds long few is =
         pair_is_kind = is.is_kind;
         add_up = λ kind. elim (cases_lt kind 34) [
           | inl low ↦ omega (arith, sets.same_tiles kind, is.adds_up kind low)
-          | inr past ↦ omega (arith, sets_past sets.ordered kind sets.each_a_set past, pair_past is.pair kind is.is_kind past, get_or_past counts kind 0 (omega (arith, long, past)))
+          | inr past ↦ omega (arith, total-past sets.ordered kind sets.each_a_set past, pair-past is.pair kind is.is_kind past, get_or_past counts kind 0 (omega (arith, long, past)))
         ];
       },
     )

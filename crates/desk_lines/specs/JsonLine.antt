@@ -1,22 +1,19 @@
 -- The answer to one line as JSON, and the answers to the lines of a stream.
-use Rattle.std.specs.Prelude.{◌≡◌, ℕ, ◌<◌, List, Bool, Option, None, Some, Result, Ok, Err, length, codes, nat_eq}
+use Rattle.std.specs.Prelude.{◌≡◌, ℕ, ◌<◌, List, Bool, Option, Result, length, codes, nat_eq}
 use Rattle.std.specs.List.{starts_with}
 use Rattle.std.proofs.Common.{sym, ap, ◌∙◌}
 use Rattle.riichi_hand.specs.declared.win.Rules.{Rules}
 use Rattle.riichi_hand.specs.declared.fault.LineFault.{LineFault}
 use Rattle.riichi_hand.specs.declared.job.Job.{Job}
 use Rattle.riichi_hand.specs.Lines.{outcome_of}
-use Rattle.desk_core.specs.Value.{value_of}
 use Rattle.desk_json.specs.Text.{answer_text, fault_text}
+use Rattle.desk_lines.specs.LineAnswer.{outcome_told}
 use Rattle.desk_lines.specs.LineAnswers.{answers_by}
 use Rattle.desk_lines.specs.LongLines.{long_outcome}
 use Rattle.desk_lines.specs.Telling.{text_of}
 
--- a line that is no record has no answer; a job is answered by its value, a fault is told
 abbrev pub outcome_json : Result (Option Job) LineFault → Option (List ℕ)
-outcome_json (Ok None) = None
-outcome_json (Ok (Some job)) = Some (answer_text (value_of job))
-outcome_json (Err fault) = Some (fault_text fault)
+outcome_json outcome = outcome_told answer_text fault_text outcome
 
 unfoldable pub json_of : Rules → List ℕ → Option (List ℕ)
 json_of rules line = outcome_json (outcome_of rules line)

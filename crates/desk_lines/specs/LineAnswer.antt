@@ -5,14 +5,18 @@ use Rattle.riichi_hand.specs.declared.fault.LineFault.{LineFault}
 use Rattle.riichi_hand.specs.declared.job.Job.{Job}
 use Rattle.riichi_hand.specs.FaultTexts.{fault_text}
 use Rattle.riichi_hand.specs.Lines.{outcome_of}
+use Rattle.desk_core.specs.declared.answer.Answer.{Answer}
 use Rattle.desk_core.specs.AnswerText.{answer_text}
 use Rattle.desk_core.specs.Value.{value_of}
 
--- a line that is no record has no answer; a job is answered by its value, a fault is told
+-- A line that is no record has no answer; a job is answered by its value, a fault is told: by these texts of an answer and of a fault.
+abbrev pub outcome_told : (Answer → List ℕ) → (LineFault → List ℕ) → Result (Option Job) LineFault → Option (List ℕ)
+outcome_told text_of told (Ok None) = None
+outcome_told text_of told (Ok (Some job)) = Some (text_of (value_of job))
+outcome_told text_of told (Err fault) = Some (told fault)
+
 abbrev pub outcome_text : Result (Option Job) LineFault → Option (List ℕ)
-outcome_text (Ok None) = None
-outcome_text (Ok (Some job)) = Some (answer_text (value_of job))
-outcome_text (Err fault) = Some (fault_text fault)
+outcome_text outcome = outcome_told answer_text fault_text outcome
 
 unfoldable pub answer_of : Rules → List ℕ → Option (List ℕ)
 answer_of rules line = outcome_text (outcome_of rules line)

@@ -1,52 +1,70 @@
 //! Collects what the lines of a table ask.
-ghost use Rattle.std.specs.Prelude.{◌≡◌, ◌≤◌, ℕ, length, List, [], ◌∷◌, ◌++◌, Some, OnOk, IfOk, IsErrOf};
+ghost use Rattle.std.specs.Prelude.{◌≡◌, ◌+◌, ℕ, length, List, [], ◌∷◌, ◌++◌, Some, OnOk, IfOk, IsErrOf};
 ghost use Rattle.std.specs.List.{flat_map};
 ghost use Rattle.riichi_hand.specs.Lines.{outcome_of};
+ghost use Rattle.riichi_hand.specs.declared.win.Rules.{Rules};
+ghost use Rattle.riichi_hand.specs.declared.win.Rules.TheVariants.{One};
 ghost use Rattle.desk_lines.specs.Lines.{lines};
-ghost use Rattle.desk_lines.specs.LineAnswers.{report_on};
-ghost use Rattle.desk_lines.specs.Asked.{jobs_in, asked_in, jobs_of, asked_of, outcome_by};
+ghost use Rattle.desk_lines.specs.LineAnswers.{answers, report_on};
+ghost use Rattle.desk_lines.specs.Asked.{jobs_in, jobs_of, outcome_by, refusals_in, texts_in};
 ghost use Rattle.desk_lines.specs.Profile.{rules_by};
+ghost use Rattle.desk_lines.specs.Sheets.{sheets_told, told_on};
 ghost use Rattle.desk_lines.specs.Streams.{GivesAll, FailsOrGoesOn, IsReadWithin};
+ghost use Rattle.desk_lines.specs.Tables.{table_line};
 
-use super::asked::Asked;
 use super::desk::Desk;
 use super::fault::DeskFault;
 use super::line_kind::LineKind;
 use super::outbox::Outbox;
-use super::profile::{GivenRules, record_rules};
+use super::profile::record_rules;
 use super::reading::tell_lines;
 use super::report::DeskReport;
 use super::responding::RECORD_ROOM;
+use super::sheet::Sheet;
+use super::sheets::Sheets;
 use super::teller::Teller;
 use desk_streams::{BytesOut, Source};
-use riichi_hand::{Job, Rules, read_line};
+use riichi_hand::{Rules, read_line};
 use std::alloc::{AllocError, Global};
 use std::marker::{Brand, PhantomData};
 
 /// What the text of a table asks.
 #[derive(Drop)]
 pub struct Collected {
-    /// The jobs of its lines, in order.
-    pub jobs: Vec<Job>,
-    /// What each answer line is made of, in order.
-    pub asked: Vec<Asked>,
+    /// Its answer lines, behind the line with its number, in order.
+    pub sheets: Vec<Sheet>,
     /// How many of the answer lines begin with `refused`, and how many don't.
     pub report: DeskReport,
 }
 
+/// A type that stands for a table: the profile of a text that sets none, and the number of the table.
+pub(crate) trait GivenTable {
+    ghost given: { Rules };
+
+    ghost number: { ℕ };
+}
+
+impl GivenTable for Brand {
+    ghost given = { One };
+
+    ghost number = { 0 };
+}
+
 /// Reads a reader to its end and collects what its lines ask: their jobs, and the faults of those that are
-/// refused. The first line may set the profile of the text, which else is the given one.
+/// refused, behind the number of the table. The first line may set the profile of the text, which else is the
+/// given one.
 pub fn collect_text<R: Source>(
     alloc: Global,
     rules: Rules,
+    number: usize,
     reader: &mut R,
 ) -> Result<Collected, DeskFault>
     // The reader was read to its end.
     ensures ok { IfOk result (λ collected. (text : List ℕ)
         × GivesAll ⟦<R as Source>⟧ reader.old reader.new text
-        × (collected.jobs.items ≡ jobs_of rules (lines text))
-        × (collected.asked.items ≡ asked_of rules (lines text))
-        × (collected.report ≡ report_on rules (lines text))) }
+        × (sheets_told collected.sheets.items ≡ table_line number ++ answers rules text)
+        × (collected.report ≡ report_on rules (lines text))
+        × (collected.report.answered ≡ length (jobs_of rules (lines text)))) }
 
     // A read failed, or there were too many. Else memory was wanted.
     ensures read_failed { IsErrOf result DeskFault.Read
@@ -54,21 +72,22 @@ pub fn collect_text<R: Source>(
     ensures no_write { IsErrOf result DeskFault.Write → ⊥ }
     ensures reads { IsReadWithin ⟦<R as Source>⟧ reader.old reader.new }
 {
-    collect_given::<Brand, R>(alloc, rules, reader)
+    collect_given::<Brand, R>(alloc, rules, number, reader)
 }
 
-/// The same, where `P` stands for the given profile.
-fn collect_given<P: GivenRules, R: Source>(
+/// The same, where `P` stands for the table.
+fn collect_given<P: GivenTable, R: Source>(
     alloc: Global,
     rules: Rules,
+    number: usize,
     reader: &mut R,
 ) -> Result<Collected, DeskFault>
-    requires { rules ≡ P.given }
+    requires { (rules ≡ P.given) × (number ≡ P.number) }
     ensures ok { IfOk result (λ collected. (text : List ℕ)
         × GivesAll ⟦<R as Source>⟧ reader.old reader.new text
-        × (collected.jobs.items ≡ jobs_of rules (lines text))
-        × (collected.asked.items ≡ asked_of rules (lines text))
-        × (collected.report ≡ report_on rules (lines text))) }
+        × (sheets_told collected.sheets.items ≡ table_line number ++ answers rules text)
+        × (collected.report ≡ report_on rules (lines text))
+        × (collected.report.answered ≡ length (jobs_of rules (lines text)))) }
 
     ensures read_failed { IsErrOf result DeskFault.Read
         → FailsOrGoesOn ⟦<R as Source>⟧ reader.old reader.new }
@@ -76,70 +95,84 @@ fn collect_given<P: GivenRules, R: Source>(
     ensures reads { IsReadWithin ⟦<R as Source>⟧ reader.old reader.new }
 {
     let mut nowhere: BytesOut<0> = BytesOut::new(1, None);
-    let desk: Desk<Collector<P>, RECORD_ROOM> = Desk::new(Collector::new(alloc, rules));
+    let Ok(collector) = Collector::<P>::new(alloc, rules, number) else {
+        return Err(DeskFault::Memory);
+    };
+    let desk: Desk<Collector<P>, RECORD_ROOM> = Desk::new(collector);
     let told = tell_lines(desk, reader, &mut nowhere)?;
-    Ok(told.into_teller().collected())
+    match told.into_teller().collected() {
+        Ok(collected) => Ok(collected),
+        Err(_) => Err(DeskFault::Memory),
+    }
 }
 
-/// What the lines of a table asked so far. `P` stands for the given profile.
+/// What the lines of a table asked so far. `P` stands for the table.
 #[derive(Drop)]
 pub(crate) struct Collector<P> {
-    profile: PhantomData<P>,
+    table: PhantomData<P>,
     /// The profile of a text that sets none.
     given: Rules,
+    /// The number of the table.
+    number: usize,
     /// The profile of the table's text, or none before its first line.
     rules: Option<Rules>,
-    jobs: Vec<Job>,
-    asked: Vec<Asked>,
-
-    /// Each job is asked for by a line.
-    ghost fewer: { length jobs.items ≤ length asked.items },
+    sheets: Sheets,
+    report: DeskReport,
 }
 
-impl<P: GivenRules> Collector<P> {
+impl<P: GivenTable> Collector<P> {
     ghost use Rattle.desk_lines.specs.Collector.{Collects};
 
-    pub(crate) fn new(alloc: Global, given: Rules) -> Collector<P>
-        ensures given { result.given ≡ given }
-        ensures none { Collects [] result }
+    pub(crate) fn new(
+        alloc: Global,
+        given: Rules,
+        number: usize,
+    ) -> Result<Collector<P>, AllocError>
+        ensures given { IfOk result (λ new. (new.given ≡ given) × (new.number ≡ number)) }
+        ensures none { IfOk result (λ new. Collects [] new) }
     {
-        Collector {
-            profile: PhantomData,
+        let mut sheets = Sheets::new(alloc);
+        sheets.add_table(number)?;
+        Ok(Collector {
+            table: PhantomData,
             given,
+            number,
             rules: None,
-            jobs: Vec::new(alloc),
-            asked: Vec::new(alloc),
-        }
+            sheets,
+            report: DeskReport {
+                answered: 0,
+                refused: 0,
+            },
+        })
     }
 
     /// What was asked in all.
-    fn collected(self) -> Collected
-        ensures { (lines : List (List ℕ)) → Collects lines self
-            → (result.jobs.items ≡ jobs_of self.given lines) × (result.asked.items ≡ asked_of self.given lines) × (result.report ≡ report_on self.given lines) }
+    fn collected(self) -> Result<Collected, AllocError>
+        ensures { IfOk result (λ collected.
+            (sheets_told collected.sheets.items ≡ told_on self.sheets)
+            × (collected.report ≡ self.report)) }
     {
-        let Collector { jobs, asked, .. } = self;
-        let report = DeskReport {
-            answered: jobs.len() as u64,
-            refused: (asked.len() - jobs.len()) as u64,
-        };
-        Collected {
-            jobs,
-            asked,
+        let Collector { sheets, report, .. } = self;
+        Ok(Collected {
+            sheets: sheets.into_all()?,
             report,
-        }
+        })
     }
 
     /// Takes the next line.
     fn take_line(&mut self, line: &[u8]) -> Result<(), AllocError>
-        ensures given { self.new.given ≡ self.old.given }
+        ensures given { (self.new.given ≡ self.old.given) × (self.new.number ≡ self.old.number) }
         ensures rules { OnOk result (self.new.rules
             ≡ Some (rules_by self.old.given self.old.rules line.now)) }
-        ensures jobs { OnOk result (self.new.jobs.items
-            ≡ self.old.jobs.items
-            ++ flat_map jobs_in (outcome_by self.old.given self.old.rules line.now)) }
-        ensures asked { OnOk result (self.new.asked.items
-            ≡ self.old.asked.items
-            ++ flat_map asked_in (outcome_by self.old.given self.old.rules line.now)) }
+        ensures told { OnOk result (told_on self.new.sheets
+            ≡ told_on self.old.sheets
+            ++ texts_in (outcome_by self.old.given self.old.rules line.now)) }
+        ensures answered { OnOk result (self.new.report.answered
+            ≡ self.old.report.answered
+            + length (flat_map jobs_in (outcome_by self.old.given self.old.rules line.now))) }
+        ensures refused { OnOk result (self.new.report.refused
+            ≡ self.old.report.refused
+            + length (flat_map refusals_in (outcome_by self.old.given self.old.rules line.now))) }
     {
         match record_rules(self.given, &mut self.rules, line) {
             Some(rules) => self.take_record(rules, line),
@@ -149,26 +182,37 @@ impl<P: GivenRules> Collector<P> {
 
     /// Takes a line that is no profile.
     fn take_record(&mut self, rules: Rules, line: &[u8]) -> Result<(), AllocError>
-        ensures given { self.new.given ≡ self.old.given }
+        ensures given { (self.new.given ≡ self.old.given) × (self.new.number ≡ self.old.number) }
         ensures rules { self.new.rules ≡ self.old.rules }
-        ensures jobs { OnOk result (self.new.jobs.items
-            ≡ self.old.jobs.items ++ jobs_in (outcome_of rules line.now)) }
-        ensures asked { OnOk result (self.new.asked.items
-            ≡ self.old.asked.items ++ asked_in (outcome_of rules line.now)) }
+        ensures told { OnOk result (told_on self.new.sheets
+            ≡ told_on self.old.sheets ++ texts_in (outcome_of rules line.now ∷ [])) }
+        ensures answered { OnOk result (self.new.report.answered
+            ≡ self.old.report.answered + length (jobs_in (outcome_of rules line.now))) }
+        ensures refused { OnOk result (self.new.report.refused
+            ≡ self.old.report.refused + length (refusals_in (outcome_of rules line.now))) }
     {
         match read_line(rules, line) {
-            Ok(None) => {}
+            Ok(None) => Ok(()),
             Ok(Some(job)) => {
-                self.asked.push(Asked::NextJob)?;
-                self.jobs.push(job)?;
+                self.report.answered = one_more(self.report.answered)?;
+                self.sheets.add_job(job)
             }
-            Err(fault) => self.asked.push(Asked::Refusal(fault))?,
+            Err(fault) => {
+                self.report.refused = one_more(self.report.refused)?;
+                self.sheets.add_refusal(fault)
+            }
         }
-        Ok(())
     }
 }
 
-impl<P: GivenRules> Teller for Collector<P> {
+/// One more line. A count of more lines than a `u64` holds finds no memory.
+fn one_more(lines: u64) -> Result<u64, AllocError>
+    ensures { IfOk result (λ more. more ≡ lines + 1) }
+{
+    lines.checked_add(1).ok_or(AllocError)
+}
+
+impl<P: GivenTable> Teller for Collector<P> {
     ghost use Rattle.desk_lines.specs.Collector.{CollectsUntold};
     ghost use Rattle.desk_lines.specs.Telling.{is_refusal};
 
@@ -176,7 +220,8 @@ impl<P: GivenRules> Teller for Collector<P> {
 
     ghost most = { 4096 };
 
-    ghost tells = { λ collector lines told. (collector.given ≡ P.given) × CollectsUntold collector lines told };
+    ghost tells = { λ collector lines told. ((collector.given ≡ P.given) × (collector.number ≡ P.number))
+        × CollectsUntold collector lines told };
 
     ghost wants_memory = { λ _ _. Unit {0} };
 

@@ -4,7 +4,9 @@
 //! writes the answers into a `desk_streams::Sink`. It tells in a [`DeskReport`] how many were answered and
 //! how many refused, or in a [`DeskFault`] why it gave up. [`json_text`] answers the same lines by objects of
 //! JSON, [`explain_text`] with the reasons. [`replay_text`] does so with the commands of a
-//! script, over a desk of 64 tables. `waits_answer` answers one hand, as the command `waits` prints it.
+//! script, over a desk of 64 tables. [`collect_text`] takes a text apart into [`Sheet`]s of answer lines that are
+//! not made yet, [`texts_of`] makes them once their jobs have answers, and [`write_texts`] writes them.
+//! `waits_answer` answers one hand, as the command `waits` prints it.
 //! `is_ready` tells whether a hand is ready, and [`laws`] that its shanten and its waits agree on that.
 //!
 //! Inside, `tell_lines` reads a stream to its end. `Desk` cuts the bytes into lines and keeps the front of
@@ -41,7 +43,9 @@ mod report;
 mod responder;
 mod responding;
 mod scripts;
-mod tables;
+mod sheet;
+mod sheet_texts;
+mod sheets;
 mod teller;
 mod text;
 mod told;
@@ -56,6 +60,7 @@ pub use ready::is_ready;
 pub use replay::replay_text;
 pub use report::DeskReport;
 pub use riichi_hand::Rules;
-pub use tables::write_tables;
+pub use sheet::Sheet;
+pub use sheet_texts::{texts_of, write_texts};
 pub use text::desk_text;
 pub use waits::{WaitsLine, waits_answer};

@@ -357,11 +357,12 @@ fn stops_at_each_failing_write(rt: HostRuntime) {
     same(&rt, writer.bytes(), b"waits 123".as_slice());
 }
 
-/// What a text asks: the answers to its jobs, and the fault of a line in its place between them.
+/// What a text asks, behind the number of its table: the answers to its jobs, and the fault of a line in its place
+/// between them.
 #[test]
 fn a_text_taken_apart(rt: HostRuntime) -> Result<(), Fail> {
     let mut reader = BytesIn::new(TEXT, 1, None);
-    let Ok(collected) = collect_text(rt.alloc(), Rules::One, &mut reader) else {
+    let Ok(mut collected) = collect_text(rt.alloc(), Rules::One, 7, &mut reader) else {
         holds_in(&rt, &"not collected", false);
         return Ok(());
     };
@@ -370,34 +371,63 @@ fn a_text_taken_apart(rt: HostRuntime) -> Result<(), Fail> {
         refused: 1,
     };
     holds(&rt, collected.report == report);
-    same(&rt, collected.jobs.len(), 2);
+    same(&rt, collected.sheets.len(), 1);
+    let Some(sheet) = collected.sheets.pop() else {
+        return Ok(());
+    };
+    let (asked, jobs) = sheet.into_parts();
+    same(&rt, jobs.len(), 2);
     let fault = NotationFault {
         code: NotationCode::N5,
         place: 0,
     };
-    let asked = [
+    let expected = [
+        Asked::Table(7),
         Asked::NextJob,
         Asked::Refusal(LineFault::Notation(TextName::Hand, fault)),
         Asked::NextJob,
     ];
-    holds(&rt, collected.asked.as_slice() == asked.as_slice());
+    holds(&rt, asked.as_slice() == expected.as_slice());
+    Ok(())
+}
+
+/// A sheet has 4,096 lines: the number of the table and 4,095 answers; two more answers need another.
+#[test]
+fn a_sheet_that_is_full(rt: HostRuntime) -> Result<(), Fail> {
+    let alloc = rt.alloc();
+    let mut text = String::new(alloc);
+    for _ in 0..4097 {
+        text.push_str("waits 8z\n")?;
+    }
+    let mut reader = BytesIn::new(text.as_bytes(), 1000, None);
+    let Ok(mut collected) = collect_text(alloc, Rules::One, 0, &mut reader) else {
+        holds_in(&rt, &"not collected", false);
+        return Ok(());
+    };
+    same(&rt, collected.sheets.len(), 2);
+    for lines in [2, 4096] {
+        if let Some(sheet) = collected.sheets.pop() {
+            same(&rt, sheet.into_parts().0.len(), lines);
+        }
+    }
     Ok(())
 }
 
 /// A table that asks for one refusal, and one that asks for nothing.
 #[test]
-fn tables_without_answers(rt: HostRuntime) -> Result<(), Fail> {
+fn lists_without_answers(rt: HostRuntime) -> Result<(), Fail> {
     let alloc = rt.alloc();
     let mut first = Vec::new(alloc);
+    first.push(Asked::Table(0))?;
     first.push(Asked::Refusal(LineFault::Line(LineCode::H8)))?;
-    let mut tables = Vec::new(alloc);
-    tables.push(first)?;
-    tables.push(Vec::new(alloc))?;
+    let mut second = Vec::new(alloc);
+    second.push(Asked::Table(1))?;
+    let mut lists = Vec::new(alloc);
+    lists.push(first)?;
+    lists.push(second)?;
+    let texts = texts_of(alloc, lists.as_slice(), &[])?;
     let mut writer: BytesOut<64> = BytesOut::new(7, None);
-    holds(
-        &rt,
-        write_tables(tables.as_slice(), &[], &mut writer) == Ok(()),
-    );
+    holds(&rt, write_texts(texts.as_slice(), &mut writer) == Ok(()));
     same(
         &rt,
         writer.bytes(),

@@ -1,22 +1,17 @@
--- One more reader, and what all of them are answered.
-use Rattle.std.proofs.Common.{◌≡◌, ℕ, ◌<◌, ◌≤◌, inl, inr, suc, List, [], ◌∷◌, ◌++◌, map, length, get_or, Vec, Global, refl, sym, ◌∙◌, ap, arith}
-use Rattle.std.proofs.lemmas.List.{length-map, get_or-map}
-use Rattle.std.proofs.lemmas.Simd.{map-map}
-use Rattle.std.proofs.lemmas.Bool.{cases_lt}
-use Rattle.std.specs.Prelude.{All, vec_len}
+-- One more reader, and what its text is answered.
+use Rattle.std.proofs.Common.{◌≡◌, ℕ, ◌+◌, suc, List, [], ◌∷◌, ◌++◌, map, length, refl, sym, ◌∙◌, ap, append_assoc, arith}
+use Rattle.std.proofs.lemmas.List.{append-nil, length-map, map-append}
+use Rattle.std.proofs.lemmas.List.Elements.{All-append, All-cons, All-head, All-tail}
+use Rattle.std.proofs.lemmas.List.Sums.{sum_by_push}
+use Rattle.std.specs.Prelude.{All}
 use Rattle.desk_streams.specs.declared.source.Source.{Ghosts as OfSource}
-use Rattle.riichi_hand.specs.declared.job.Job.{Job}
-use Rattle.desk_core.specs.declared.answer.Answer.{Answer}
-use Rattle.desk_run.specs.Played.{values}
-use Rattle.desk_lines.specs.declared.asked.Asked.{Asked}
-use Rattle.desk_lines.specs.Lines.{lines}
-use Rattle.desk_lines.specs.LineAnswers.{answers}
 use Rattle.riichi_hand.specs.declared.win.Rules.{Rules}
-use Rattle.desk_lines.specs.Asked.{jobs_of, asked_of}
-use Rattle.desk_lines.specs.Tables.{tables_text, told_tables}
+use Rattle.desk_lines.specs.declared.report.DeskReport.{DeskReport}
+use Rattle.desk_lines.specs.LineAnswers.{answers, report_on}
+use Rattle.desk_lines.specs.Lines.{lines}
 use Rattle.desk_lines.specs.Streams.{GivesAll, IsReadWithin}
-use Rattle.desk_lines.proofs.AskedLemmas.{told-answers}
-use Rattle.desk_score.specs.Score.{score_of, AllGive}
+use Rattle.desk_lines.specs.Tables.{table_line, tables_from}
+use Rattle.desk_score.specs.Score.{score_of, score_report, AllGive}
 
 module _ {R : Type 0} (source : OfSource R) where
   pub AllGive-last : (readers : List R) (texts : List (List ℕ)) (reader ended : R) (text : List ℕ) → AllGive source readers texts → GivesAll source reader ended text → IsReadWithin source reader ended
@@ -26,61 +21,44 @@ module _ {R : Type 0} (source : OfSource R) where
   AllGive-last (first ∷ readers) [] reader ended text all given within = absurd all
   AllGive-last (first ∷ readers) (its ∷ texts) reader ended text all given within = (all.0, AllGive-last readers texts reader ended text all.1 given within)
 
-  pub AllGive-length : (readers : List R) (texts : List (List ℕ)) → AllGive source readers texts → length readers ≡ length texts
-  AllGive-length [] [] all = refl
-  AllGive-length [] (text ∷ texts) all = absurd all
-  AllGive-length (reader ∷ readers) [] all = absurd all
-  AllGive-length (reader ∷ readers) (text ∷ texts) all = ap suc (AllGive-length readers texts all.1)
+-- the answers of one more table
+tables_from-last : (number : ℕ) (tables : List (List ℕ)) (told : List ℕ) → tables_from number (tables ++ told ∷ []) ≡ tables_from number tables ++ (table_line (length tables + number) ++ told)
+tables_from-last number [] told = append-nil (table_line number ++ told) ∙ ap (λ n. table_line n ++ told) (omega arith)
+tables_from-last number (first ∷ tables) told =
+    let before = table_line number ++ first in
+    let place : length tables + suc number ≡ suc (length tables) + number = omega arith in
+    ap (λ rest. before ++ rest) (tables_from-last (suc number) tables told)
+    ∙ sym (append_assoc before (tables_from (suc number) tables) (table_line (length tables + suc number) ++ told))
+    ∙ ap (λ n. (before ++ tables_from (suc number) tables) ++ (table_line n ++ told)) place
 
-abbrev text_jobs : Rules → List ℕ → List Job
-text_jobs given text = jobs_of given (lines text)
+pub score_of-last : (rules : Rules) (texts : List (List ℕ)) (text : List ℕ) → score_of rules (texts ++ text ∷ []) ≡ score_of rules texts ++ (table_line (length texts) ++ answers rules text)
+score_of-last rules texts text =
+    let place : length (map (answers rules) texts) + 0 ≡ length texts = (let many = length-map texts (answers rules) in omega arith) in
+    ap (tables_from 0) (map-append (answers rules) texts (text ∷ [])) ∙ tables_from-last 0 (map (answers rules) texts) (answers rules text)
+    ∙ ap (λ n. score_of rules texts ++ (table_line n ++ answers rules text)) place
 
-abbrev text_asked : Rules → List ℕ → List Asked
-text_asked given text = asked_of given (lines text)
+-- what holds of all holds of those before the last one, and of the last one
+module _ {X : Type 0} (P : X → Type 0) where
+  pub All-front : (xs : List X) (x : X) → All P (xs ++ x ∷ []) → All P xs
+  All-front [] x all = All-tail P x [] all
+  All-front (first ∷ xs) x all = All-cons P first xs (All-head P first (xs ++ x ∷ []) all) (All-front xs x (All-tail P first (xs ++ x ∷ []) all))
 
--- the values of the jobs, told in their places, are the answers to the texts
-told_tables-answers : (rules : Rules) (texts : List (List ℕ)) → told_tables (map (text_asked rules) texts) (map (λ text. values (text_jobs rules text)) texts) ≡ map (answers rules) texts
-told_tables-answers rules [] = refl
-told_tables-answers rules (text ∷ texts) =
-    ap (λ first. first ∷ told_tables (map (text_asked rules) texts) (map (λ t. values (text_jobs rules t)) texts)) (told-answers rules (lines text))
-    ∙ ap (λ rest. answers rules text ∷ rest) (told_tables-answers rules texts)
+  pub All-at_last : (xs : List X) (x : X) → All P (xs ++ x ∷ []) → P x
+  All-at_last [] x all = All-head P x [] all
+  All-at_last (first ∷ xs) x all = All-at_last xs x (All-tail P first (xs ++ x ∷ []) all)
 
-pub score_of-told : (rules : Rules) (asked : List (Vec Asked Global)) (jobs : List (Vec Job Global)) (given : List (Vec Answer Global)) (texts : List (List ℕ))
-    → map (λ list. list.items) asked ≡ map (text_asked rules) texts → map (λ list. list.items) jobs ≡ map (text_jobs rules) texts → map (λ list. list.items) given ≡ map (λ list. values list.items) jobs
-    → tables_text (told_tables (map (λ list. list.items) asked) (map (λ list. list.items) given)) ≡ score_of rules texts
-score_of-told rules asked jobs given texts same_asked same_jobs are =
-    let same_given : map (λ (list : Vec Answer Global). list.items) given ≡ map (λ text. values (text_jobs rules text)) texts =
-    are ∙ sym (map-map values (λ (list : Vec Job Global). list.items) jobs) ∙ ap (map values) same_jobs ∙ map-map values (text_jobs rules) texts in
-    ap (λ a. tables_text (told_tables a (map (λ (list : Vec Answer Global). list.items) given))) same_asked
-    ∙ ap (λ b. tables_text (told_tables (map (text_asked rules) texts) b)) same_given ∙ ap tables_text (told_tables-answers rules texts)
+  pub All-and_last : (xs : List X) (x : X) → All P xs → P x → All P (xs ++ x ∷ [])
+  All-and_last xs x all last = All-append P xs (x ∷ []) all (All-cons P x [] last (λ k d within. absurd (omega arith)))
 
--- as many jobs of a table as of its text
-one_table : (rules : Rules) (jobs : List (Vec Job Global)) (texts : List (List ℕ)) → map (λ list. list.items) jobs ≡ map (text_jobs rules) texts
-    → (k : ℕ) (list : Vec Job Global) (text : List ℕ) → k < length jobs → k < length texts → vec_len (get_or jobs k list) ≡ length (text_jobs rules (get_or texts k text))
-one_table rules jobs texts same k list text here there =
-    (get_or jobs k list).ok.0 ∙ ap length (sym (get_or-map (λ (l : Vec Job Global). l.items) jobs k list [] here) ∙ ap (λ all. get_or all k []) same ∙ get_or-map (text_jobs rules) texts k text [] there)
+-- what is counted of one more text
+pub score_report-last : (rules : Rules) (texts : List (List ℕ)) (text : List ℕ) (before sum : DeskReport) → before ≡ score_report rules texts
+    → sum.answered ≡ before.answered + (report_on rules (lines text)).answered → sum.refused ≡ before.refused + (report_on rules (lines text)).refused → sum ≡ score_report rules (texts ++ text ∷ [])
+score_report-last rules texts text before sum is answered refused =
+    let now = score_report rules (texts ++ text ∷ []) in
+    let answered_so : sum.answered ≡ now.answered = answered ∙ ap (λ (r : DeskReport). r.answered + (report_on rules (lines text)).answered) is ∙ sym (sum_by_push (λ t. (report_on rules (lines t)).answered) texts text) in
+    let refused_so : sum.refused ≡ now.refused = refused ∙ ap (λ (r : DeskReport). r.refused + (report_on rules (lines text)).refused) is ∙ sym (sum_by_push (λ t. (report_on rules (lines t)).refused) texts text) in
+    ap (λ (n : ℕ). let told : DeskReport = record { answered = n; refused = sum.refused } in told) answered_so ∙ ap (λ (n : ℕ). let told : DeskReport = record { answered = now.answered; refused = n } in told) refused_so
 
-pub as_many : (rules : Rules) (jobs : List (Vec Job Global)) (texts : List (List ℕ)) → map (λ list. list.items) jobs ≡ map (text_jobs rules) texts → length jobs ≡ length texts
-as_many rules jobs texts same = sym (length-map jobs (λ (l : Vec Job Global). l.items)) ∙ ap length same ∙ length-map texts (text_jobs rules)
-
-pub within-jobs : (rules : Rules) (most : ℕ) (jobs : List (Vec Job Global)) (texts : List (List ℕ)) → map (λ list. list.items) jobs ≡ map (text_jobs rules) texts
-    → All (λ text. length (text_jobs rules text) ≤ most) texts → All (λ list. vec_len list ≤ most) jobs
-within-jobs rules most jobs texts same within k list here =
-    let many = as_many rules jobs texts same in
-    let there : k < length texts = omega arith in
-    let number = one_table rules jobs texts same k list [] here there in
-    let few = within k [] there in
-    omega arith
-
--- where it can't be that a table has more jobs, no text has more
-pub within-texts : (rules : Rules) (most : ℕ) (jobs : List (Vec Job Global)) (texts : List (List ℕ)) → map (λ list. list.items) jobs ≡ map (text_jobs rules) texts
-    → ((All (λ list. vec_len list ≤ most) jobs → ⊥) → ⊥) → All (λ text. length (text_jobs rules text) ≤ most) texts
-within-texts rules most [] texts same never k text there = absurd (let many = as_many rules [] texts same in omega arith)
-within-texts rules most (first ∷ jobs) texts same never k text there =
-    let many = as_many rules (first ∷ jobs) texts same in
-    let here : k < length (first ∷ jobs) = omega arith in
-    let number = one_table rules (first ∷ jobs) texts same k first text here there in
-    elim (cases_lt most (length (text_jobs rules (get_or texts k text)))) as (λ _. length (text_jobs rules (get_or texts k text)) ≤ most) [
-      | inl more ↦ absurd (never (λ all. let few = all k first here in let no : ⊥ = omega arith in no))
-      | inr few ↦ few
-    ]
+pub none_left : {X : Type 0} (xs : List X) → length xs ≡ 0 → xs ≡ []
+none_left [] none = refl
+none_left (x ∷ xs) none = absurd (omega arith)

@@ -5,14 +5,18 @@
 //! `desk_lines::DeskReport` how many lines were answered and how many refused, or in a [`ScoreFault`] why
 //! it gave up.
 //!
-//! Inside, `Tables` is what the readers ask: `desk_lines::collect_text` takes each text apart into its jobs
-//! and its refused lines, and `desk_lines::write_tables` puts the answers back into their places.
+//! Inside, `Tables` is what the readers ask: `desk_lines::collect_text` takes each text apart into sheets of
+//! answer lines. `Rounds` has the sheets judged, 8 at a time, and makes a round's texts while the next is judged;
+//! all is written at the end.
 //!
 //! ```text
 //! let report = score_text(&rt, rt.alloc(), readers, 4, &mut writer)?;
 //! ```
 #![tactic(auto)]
 
+mod judging;
+mod round;
+mod rounds;
 mod score;
 mod score_fault;
 mod tables;

@@ -4,10 +4,10 @@ ghost use Rattle.desk_run.specs.Parts.{IsInRange};
 ghost use Rattle.desk_lines.specs.Streams.{WritesAll, StopsWriting};
 ghost use Rattle.desk_score.specs.Score.{score_of, score_report, AreWithinLimit, AllGive, StopsReading};
 
+use crate::rounds::texts_by;
 use crate::score_fault::ScoreFault;
 use crate::tables::Tables;
-use desk_lines::{DeskReport, write_tables};
-use desk_run::run_tables;
+use desk_lines::{DeskReport, write_texts};
 use desk_streams::{Sink, Source};
 use riichi_hand::Rules;
 use std::alloc::Global;
@@ -19,9 +19,6 @@ const MOST_READERS: usize = 64;
 
 /// The most workers.
 const MOST_WORKERS: u32 = 16;
-
-/// How many jobs of a table are on the board at once.
-const PLACES: u32 = 8;
 
 /// Reads 1 to 64 readers to their ends, has 1 to 16 workers judge all their jobs in threads of their own,
 /// and writes for each reader, numbered from 0, the line `table` with its number and then what `desk_text`
@@ -65,13 +62,17 @@ pub fn score_text<H: Threads + Wait + Sync, R: Source + Drop, W: Sink>(
         return Err(ScoreFault::Range);
     }
     let tables = Tables::read(alloc, rules, readers)?;
-    let answers = run_tables(rt, alloc, tables.jobs.as_slice(), workers, PLACES)?;
-    write_tables(tables.asked.as_slice(), answers.as_slice(), writer)?;
-    Ok(tables.report)
+    if !tables.within_limit {
+        return Err(ScoreFault::Range);
+    }
+    let Tables { sheets, report, .. } = tables;
+    let texts = texts_by(rt, alloc, sheets, workers)?;
+    write_texts(texts.as_slice(), writer)?;
+    Ok(report)
 }
 
 fn in_range(readers: usize, workers: u32) -> bool
-    ensures { IsTrue result ↔ IsInRange readers workers PLACES }
+    ensures { IsTrue result ↔ IsInRange readers workers 8 }
 {
     (1..=MOST_READERS).contains(&readers) && (1..=MOST_WORKERS).contains(&workers)
 }

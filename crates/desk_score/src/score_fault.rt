@@ -1,6 +1,7 @@
 //! Why a score over several readers was given up.
 use desk_lines::DeskFault;
 use desk_run::RunFault;
+use std::alloc::AllocError;
 use thiserror::Error;
 
 /// Why a score over several readers was given up.
@@ -93,5 +94,16 @@ impl From<RunFault> for ScoreFault {
             RunFault::Memory => ScoreFault::Memory,
             RunFault::Thread => ScoreFault::Thread,
         }
+    }
+}
+
+impl From<AllocError> for ScoreFault {
+    ghost use Rattle.std.specs.Prelude.{◌≡◌};
+    ghost use Rattle.desk_score.specs.declared.score_fault.ScoreFault.TheVariants.{Memory};
+
+    ghost from_gives = { λ _ given. given ≡ Memory };
+
+    fn from(_refused: AllocError) -> ScoreFault {
+        ScoreFault::Memory
     }
 }

@@ -1,23 +1,30 @@
 //! What the tables ask, read to the end before anything is answered.
-ghost use Rattle.std.specs.Prelude.{◌≡◌, ℕ, List, [], ◌∷◌, ◌++◌, ◌+◌, OnOk, IfOk, IfErr, IfSome, IsErrOf};
+ghost use Rattle.std.specs.Prelude.{◌≡◌, ◌↔◌, ◌≤◌, ℕ, List, [], ◌∷◌, ◌++◌, ◌+◌, length, IsTrue, OnOk, IfOk, IfErr, IsErrOf};
 ghost use Rattle.riichi_hand.specs.declared.win.Rules.{Rules};
 ghost use Rattle.desk_lines.specs.Lines.{lines};
-ghost use Rattle.desk_lines.specs.Asked.{jobs_of, asked_of};
-ghost use Rattle.desk_lines.specs.LineAnswers.{report_on};
+ghost use Rattle.desk_lines.specs.Asked.{jobs_of};
+ghost use Rattle.desk_lines.specs.LineAnswers.{answers, report_on};
+ghost use Rattle.desk_lines.specs.Sheets.{sheets_told};
+ghost use Rattle.desk_lines.specs.Tables.{table_line};
 ghost use Rattle.desk_score.specs.Score.{AllGive, StopsReading};
 ghost use Rattle.desk_score.specs.Tables.{AreRead};
 
 use crate::score_fault::ScoreFault;
-use desk_lines::{Asked, Collected, DeskReport, collect_text};
+use desk_core::LIMIT;
+use desk_lines::{Collected, DeskReport, Sheet, collect_text};
 use desk_streams::Source;
-use riichi_hand::{Job, Rules};
+use riichi_hand::Rules;
 use std::alloc::Global;
 
 /// What the tables ask, in their order.
 #[derive(Drop)]
 pub(crate) struct Tables {
-    pub(crate) jobs: Vec<Vec<Job>>,
-    pub(crate) asked: Vec<Vec<Asked>>,
+    /// Their answer lines, behind the line with the number of each.
+    pub(crate) sheets: Vec<Sheet>,
+    /// How many tables there are.
+    count: usize,
+    /// Whether no table has more jobs than it may submit.
+    pub(crate) within_limit: bool,
     /// How many of the answer lines begin with `refused`, and how many don't.
     pub(crate) report: DeskReport,
 }
@@ -27,8 +34,9 @@ impl Tables {
         ensures { (given : Rules) → AreRead given [] result }
     {
         Tables {
-            jobs: Vec::new(alloc),
-            asked: Vec::new(alloc),
+            sheets: Vec::new(alloc),
+            count: 0,
+            within_limit: true,
             report: DeskReport {
                 answered: 0,
                 refused: 0,
@@ -52,38 +60,60 @@ impl Tables {
     {
         let mut tables = Tables::new(alloc);
         for mut reader in readers {
-            let collected = collect_text(alloc, rules, &mut reader)?;
+            let collected = collect_text(alloc, rules, tables.count, &mut reader)?;
             tables.add(collected)?;
         }
         Ok(tables)
     }
 
-    /// Adds what the next table asks. A count of more lines than a `u64` holds finds no memory.
+    /// Adds what the next table asks. A count that its type doesn't hold finds no memory.
     fn add(&mut self, collected: Collected) -> Result<(), ScoreFault>
         ensures ok { OnOk result ((given : Rules) (texts : List (List ℕ)) (text : List ℕ)
             → AreRead given texts self.old
-            → collected.jobs.items ≡ jobs_of given (lines text) → collected.asked.items ≡ asked_of given (lines text) → collected.report ≡ report_on given (lines text)
+            → sheets_told collected.sheets.items ≡ table_line (length texts) ++ answers given text
+            → collected.report ≡ report_on given (lines text)
+            → collected.report.answered ≡ length (jobs_of given (lines text))
             → AreRead given (texts ++ text ∷ []) self.new) }
         ensures err { IfErr result (λ fault. fault ≡ ScoreFault.Memory) }
     {
-        let Collected {
-            jobs,
-            asked,
-            report,
-        } = collected;
-        self.report = sum_of(self.report, report).ok_or(ScoreFault::Memory)?;
-        self.jobs.push(jobs).map_err(|_| ScoreFault::Memory)?;
-        self.asked.push(asked).map_err(|_| ScoreFault::Memory)
+        let Collected { mut sheets, report } = collected;
+        self.report = sum_of(self.report, report)?;
+        self.count = one_more(self.count)?;
+        self.within_limit = are_within_limit(self.within_limit, report.answered);
+        self.sheets.append(&mut sheets)?;
+        Ok(())
     }
 }
 
-/// Two counts together; none where a `u64` can't hold them.
-fn sum_of(one: DeskReport, other: DeskReport) -> Option<DeskReport>
-    ensures { IfSome result (λ sum. (sum.answered ≡ one.answered + other.answered)
-        × (sum.refused ≡ one.refused + other.refused)) }
+/// Whether no table has more jobs than it may submit, where so many are those of the last one.
+fn are_within_limit(others: bool, jobs: u64) -> bool
+    ensures { IsTrue result ↔ (IsTrue others × (jobs ≤ 1000000)) }
 {
-    Some(DeskReport {
-        answered: one.answered.checked_add(other.answered)?,
-        refused: one.refused.checked_add(other.refused)?,
-    })
+    others && jobs <= u64::from(LIMIT)
+}
+
+/// Two counts together. Where a `u64` doesn't hold them there is no memory.
+fn sum_of(one: DeskReport, other: DeskReport) -> Result<DeskReport, ScoreFault>
+    ensures ok { IfOk result (λ sum. (sum.answered ≡ one.answered + other.answered)
+        × (sum.refused ≡ one.refused + other.refused)) }
+    ensures err { IfErr result (λ fault. fault ≡ ScoreFault.Memory) }
+{
+    match (
+        one.answered.checked_add(other.answered),
+        one.refused.checked_add(other.refused),
+    ) {
+        (Some(answered), Some(refused)) => Ok(DeskReport { answered, refused }),
+        _ => Err(ScoreFault::Memory),
+    }
+}
+
+/// One table more. Where a `usize` doesn't hold their number there is no memory.
+fn one_more(tables: usize) -> Result<usize, ScoreFault>
+    ensures ok { IfOk result (λ more. more ≡ tables + 1) }
+    ensures err { IfErr result (λ fault. fault ≡ ScoreFault.Memory) }
+{
+    match tables.checked_add(1) {
+        Some(more) => Ok(more),
+        None => Err(ScoreFault::Memory),
+    }
 }

@@ -1,5 +1,5 @@
 -- The lines of an explanation begin with two spaces, and each ends with its line feed.
-use Rattle.std.proofs.Common.{◌≡◌, ℕ, ◌+◌, ◌-◌, ◌*◌, List, [], ◌∷◌, ◌++◌, Bool, true, false, cond, nat_eq, nat_lt, length, take, Option, Some, None, Result, Ok, Err, refl, ap, ◌∙◌, arith}
+use Rattle.std.proofs.Common.{◌≡◌, ℕ, ◌+◌, ◌-◌, ◌*◌, List, [], ◌∷◌, ◌++◌, Bool, true, false, cond, nat_eq, nat_lt, length, map, take, Option, Some, None, Result, Ok, Err, refl, ap, ◌∙◌, arith}
 use Rattle.std.specs.Prelude.{codes, decimal, slice_index}
 use Rattle.std.specs.List.{flat_map}
 use Rattle.riichi_tiles.specs.declared.block.Block.{Block}
@@ -39,10 +39,11 @@ use Rattle.riichi_waits.specs.Waits as waits
 use Rattle.riichi_waits.specs.Waits.{kind_waits}
 use Rattle.riichi_waits.specs.declared.waits.KindWait.{KindWait}
 use Rattle.riichi_waits.specs.declared.waits.WaitSorts.{WaitSorts}
+use Rattle.riichi_text.specs.Lists.{joined}
 use Rattle.riichi_text.specs.Tiles.{kind_text, letter_of, digit_of, run_text, two_text, three_text, four_text, block_text, meld_text}
 use Rattle.riichi_explain.proofs.RefusalLines.{refusal_lines-lines}
 use Rattle.riichi_text.proofs.Letters.{letter_high}
-use Rattle.riichi_explain.proofs.PlainTexts.{plain, after, after3, after4, after5, byte-plain, flat_map-plain, decimal-plain, kind_text-plain, tiles_text-plain, word-plain, are_indented, pass, lines-append, flat_map-lines}
+use Rattle.riichi_explain.proofs.PlainTexts.{plain, after, after3, after4, after5, byte-plain, flat_map-plain, joined-plain, decimal-plain, kind_text-plain, tiles_text-plain, word-plain, are_indented, pass, lines-append, flat_map-lines}
 
 -- ---- tiles
 
@@ -138,15 +139,6 @@ han_text-plain : (row : HanRow) → plain (text.han_text row) ≡ true
 unfolding text.han_text
 han_text-plain row = after (text.han_part_text row.part) (text.han_number row.part row.han) (han_part_text-plain row.part) (han_number-plain row.part row.han)
 
-next_han-plain : (row : HanRow) → plain (text.next_han row) ≡ true
-unfolding text.next_han
-next_han-plain row = han_text-plain row
-
-han_list-plain : (rows : List HanRow) → plain (text.han_list rows) ≡ true
-unfolding text.han_list
-han_list-plain [] = refl
-han_list-plain (row ∷ rows) = after (text.han_text row) (flat_map text.next_han rows) (han_text-plain row) (flat_map-plain text.next_han rows next_han-plain)
-
 han_sum-plain : (yakuman : Bool) (rows sum : ℕ) → plain (text.han_sum yakuman rows sum) ≡ true
 unfolding text.han_sum
 han_sum-plain true rows sum = refl
@@ -156,10 +148,10 @@ han_line-lines : (yakuman : Bool) (number : ℕ) (rows : List HanRow) → are_in
 unfolding text.han_line text.han_label
 han_line-lines true number rows =
     let sum = text.han_sum true (length rows) number in
-    pass (text.han_list rows ++ sum) text.line_feed (after (text.han_list rows) sum (han_list-plain rows) (han_sum-plain true (length rows) number))
+    pass (joined (codes ", ") (map text.han_text rows) ++ sum) text.line_feed (after (joined (codes ", ") (map text.han_text rows)) sum (joined-plain (codes ", ") text.han_text rows refl han_text-plain) (han_sum-plain true (length rows) number))
 han_line-lines false number rows =
     let sum = text.han_sum false (length rows) number in
-    pass (text.han_list rows ++ sum) text.line_feed (after (text.han_list rows) sum (han_list-plain rows) (han_sum-plain false (length rows) number))
+    pass (joined (codes ", ") (map text.han_text rows) ++ sum) text.line_feed (after (joined (codes ", ") (map text.han_text rows)) sum (joined-plain (codes ", ") text.han_text rows refl han_text-plain) (han_sum-plain false (length rows) number))
 
 triplet_words-plain : (kind : ℕ) (concealed : Bool) → plain (text.triplet_words kind concealed) ≡ true
 unfolding text.triplet_words text.shown_text
@@ -191,15 +183,6 @@ fu_text-plain : (row : FuRow) → plain (text.fu_text row) ≡ true
 unfolding text.fu_text
 fu_text-plain row = after3 (decimal row.fu) (codes " ") (text.fu_part_text row.part) (decimal-plain row.fu) refl (fu_part_text-plain row.part)
 
-next_fu-plain : (row : FuRow) → plain (text.next_fu row) ≡ true
-unfolding text.next_fu
-next_fu-plain row = fu_text-plain row
-
-fu_list-plain : (rows : List FuRow) → plain (text.fu_list rows) ≡ true
-unfolding text.fu_list
-fu_list-plain [] = refl
-fu_list-plain (row ∷ rows) = after (text.fu_text row) (flat_map text.next_fu rows) (fu_text-plain row) (flat_map-plain text.next_fu rows next_fu-plain)
-
 rounded_text-plain : (sum fu : ℕ) → plain (text.rounded_text sum fu) ≡ true
 unfolding text.rounded_text text.rounded_to
 rounded_text-plain sum fu = elim (nat_eq sum fu) as (λ test. plain (cond test [] (codes ", rounded to " ++ decimal fu)) ≡ true) [ true ↦ refl | false ↦ decimal-plain fu ]
@@ -209,7 +192,8 @@ unfolding text.fu_line
 fu_line-lines rows number =
     let sum = text.sum_text (length rows) (fu_total rows) in
     let rounded = text.rounded_text (fu_total rows) number in
-    pass (text.fu_list rows ++ sum ++ rounded) text.line_feed (after3 (text.fu_list rows) sum rounded (fu_list-plain rows) (sum_text-plain (length rows) (fu_total rows)) (rounded_text-plain (fu_total rows) number))
+    let parts = joined (codes ", ") (map text.fu_text rows) in
+    pass (parts ++ sum ++ rounded) text.line_feed (after3 parts sum rounded (joined-plain (codes ", ") text.fu_text rows refl fu_text-plain) (sum_text-plain (length rows) (fu_total rows)) (rounded_text-plain (fu_total rows) number))
 
 fu_line_if-lines : (yakuman : Bool) (rows : List FuRow) (number : ℕ) → are_indented (text.fu_line_if yakuman rows number) ≡ true
 unfolding text.fu_line_if
@@ -274,18 +258,9 @@ pay_text-plain row =
     let added = text.added_text (codes " for counters = ") row.points row.counters in
     after3 (text.payer_name row.payer) added (text.each_text row.payer) (payer_name-plain row.payer) (added_text-plain (codes " for counters = ") row.points row.counters refl) (each_text-plain row.payer)
 
-next_pay-plain : (row : PayRow) → plain (text.next_pay row) ≡ true
-unfolding text.next_pay
-next_pay-plain row = pay_text-plain row
-
-pay_list-plain : (rows : List PayRow) → plain (text.pay_list rows) ≡ true
-unfolding text.pay_list
-pay_list-plain [] = refl
-pay_list-plain (row ∷ rows) = after (text.pay_text row) (flat_map text.next_pay rows) (pay_text-plain row) (flat_map-plain text.next_pay rows next_pay-plain)
-
 pay_line-lines : (rows : List PayRow) → are_indented (text.pay_line rows) ≡ true
 unfolding text.pay_line
-pay_line-lines rows = pass (text.pay_list rows) text.line_feed (pay_list-plain rows)
+pay_line-lines rows = pass (joined (codes ", ") (map text.pay_text rows)) text.line_feed (joined-plain (codes ", ") text.pay_text rows refl pay_text-plain)
 
 gain_line-lines : (gain sticks : ℕ) → are_indented (text.gain_line gain sticks) ≡ true
 unfolding text.gain_line
@@ -368,16 +343,11 @@ unfolding waits.wait_text
 wait_text-plain row =
     after3 (waits.left_text row.kind row.left) (waits.run_words row.sorts) (waits.other_words row.sorts) (left_text-plain row.kind row.left) (run_words-plain row.sorts) (other_words-plain row.sorts)
 
-next_wait-plain : (row : KindWait) → plain (waits.next_wait row) ≡ true
-unfolding waits.next_wait
-next_wait-plain row = wait_text-plain row
-
 waits_line-lines : (rows : List KindWait) → are_indented (waits.waits_line rows) ≡ true
 unfolding waits.waits_line
 waits_line-lines [] = refl
 waits_line-lines (row ∷ rows) =
-    let others = flat_map waits.next_wait rows in
-    pass (waits.wait_text row ++ others) (10 ∷ []) (after (waits.wait_text row) others (wait_text-plain row) (flat_map-plain waits.next_wait rows next_wait-plain))
+    pass (joined (codes "; ") (map waits.wait_text (row ∷ rows))) (10 ∷ []) (joined-plain (codes "; ") waits.wait_text (row ∷ rows) refl wait_text-plain)
 
 -- ---- every explanation
 

@@ -1,5 +1,5 @@
 -- Texts without a line feed, and lines that begin with two spaces.
-use Rattle.std.proofs.Common.{◌≡◌, ℕ, zero, suc, ◌+◌, ◌<◌, ◌%◌, ◌/◌, List, [], ◌∷◌, ◌++◌, Bool, true, false, cond, nat_eq, nat_lt, replicate, refl, ap, ◌∙◌, arith}
+use Rattle.std.proofs.Common.{◌≡◌, ℕ, zero, suc, ◌+◌, ◌<◌, ◌%◌, ◌/◌, List, [], ◌∷◌, ◌++◌, Bool, true, false, cond, nat_eq, nat_lt, map, replicate, refl, ap, ◌∙◌, arith}
 use Rattle.std.specs.Prelude.{not, ◌&&◌, decimal}
 use Rattle.std.specs.Fmt.{digits, digits_onto, digit_glyph}
 use Rattle.std.specs.List.{list_all, flat_map}
@@ -7,6 +7,7 @@ use Rattle.std.proofs.lemmas.Bool.{ne_eqb}
 use Rattle.std.proofs.lemmas.List.Folds.{list_all-append}
 use Rattle.riichi_tiles.specs.Printing.{tiles_text, group}
 use Rattle.riichi_tiles.specs.Printing as printing
+use Rattle.riichi_text.specs.Lists.{joined}
 use Rattle.riichi_text.specs.Tiles.{kind_text, letter_of}
 use Rattle.riichi_text.proofs.Letters.{letter_high}
 use Rattle.riichi_yaku.specs.declared.table.Yaku.{Yaku}
@@ -34,6 +35,15 @@ byte-plain byte rest big p = rw (ne_eqb byte 10 (λ same. omega (arith, same, bi
 pub flat_map-plain : {X : Type 0} (f : X → List ℕ) (xs : List X) → ((x : X) → plain (f x) ≡ true) → plain (flat_map f xs) ≡ true
 flat_map-plain f [] p = refl
 flat_map-plain f (x ∷ xs) p = after (f x) (flat_map f xs) (p x) (flat_map-plain f xs p)
+
+-- a list of plain texts
+pub joined-plain : {X : Type 0} (separator : List ℕ) (text : X → List ℕ) (xs : List X) → plain separator ≡ true → ((x : X) → plain (text x) ≡ true) → plain (joined separator (map text xs)) ≡ true
+joined-plain separator text [] p q = refl
+joined-plain separator text (x ∷ xs) p q = after (text x) (flat_map (λ next. separator ++ next) (map text xs)) (q x) (later xs)
+  where
+    later : (ys : List _) → plain (flat_map (λ next. separator ++ next) (map text ys)) ≡ true
+    later [] = refl
+    later (y ∷ ys) = after (separator ++ text y) (flat_map (λ next. separator ++ next) (map text ys)) (after separator (text y) p (q y)) (later ys)
 
 pub and_both : (a b : Bool) → (a && b) ≡ true → (a ≡ true) × (b ≡ true)
 and_both true b p = (refl, p)

@@ -1,5 +1,5 @@
 -- The text of a win's explanation: lines that begin with two spaces.
-use Rattle.std.specs.Prelude.{ℕ, ◌+◌, ◌-◌, ◌*◌, ◌==◌, nat_lt, Bool, List, [], ◌∷◌, ◌++◌, length, slice_index, codes, decimal, if◌then◌else◌}
+use Rattle.std.specs.Prelude.{ℕ, ◌+◌, ◌-◌, ◌*◌, ◌==◌, nat_lt, Bool, List, [], ◌∷◌, ◌++◌, length, map, slice_index, codes, decimal, if◌then◌else◌}
 use Rattle.std.specs.List.{flat_map}
 use Rattle.riichi_tiles.specs.Printing.{tiles_text}
 use Rattle.riichi_tiles.specs.declared.block.Block.{Block}
@@ -27,6 +27,7 @@ use Rattle.riichi_explain.specs.declared.payers.PayRow.{PayRow}
 use Rattle.riichi_explain.specs.declared.win.WonHand.{WonHand}
 use Rattle.riichi_explain.specs.Base.{limit_points}
 use Rattle.riichi_explain.specs.Fu.{fu_total}
+use Rattle.riichi_text.specs.Lists.{joined}
 use Rattle.riichi_text.specs.Tiles.{kind_text, block_text, meld_text, two_text, three_text, four_text}
 
 -- a line ends with a line feed
@@ -85,13 +86,6 @@ han_number han.RedFives han = codes " " ++ decimal han
 unfoldable pub han_text : HanRow → List ℕ
 han_text row = han_part_text row.part ++ han_number row.part row.han
 
-unfoldable pub next_han : HanRow → List ℕ
-next_han row = codes ", " ++ han_text row
-
-unfoldable pub han_list : List HanRow → List ℕ
-han_list [] = []
-han_list (row ∷ rows) = han_text row ++ flat_map next_han rows
-
 unfoldable pub han_label : Bool → List ℕ
 han_label yakuman = if yakuman then codes "  yakuman " else codes "  han     "
 
@@ -100,7 +94,7 @@ han_sum yakuman rows han = if yakuman then [] else sum_text rows han
 
 unfoldable pub han_line : Bool → ℕ → List HanRow → List ℕ
 han_line yakuman han rows =
-    han_label yakuman ++ han_list rows ++ han_sum yakuman (length rows) han ++ line_feed
+    han_label yakuman ++ joined (codes ", ") (map han_text rows) ++ han_sum yakuman (length rows) han ++ line_feed
 
 unfoldable pub shown_text : Bool → List ℕ
 shown_text concealed = if concealed then codes "concealed " else codes "open "
@@ -129,13 +123,6 @@ fu_part_text fu.SevenPairs = codes "seven pairs"
 unfoldable pub fu_text : FuRow → List ℕ
 fu_text row = decimal row.fu ++ codes " " ++ fu_part_text row.part
 
-unfoldable pub next_fu : FuRow → List ℕ
-next_fu row = codes ", " ++ fu_text row
-
-unfoldable pub fu_list : List FuRow → List ℕ
-fu_list [] = []
-fu_list (row ∷ rows) = fu_text row ++ flat_map next_fu rows
-
 unfoldable pub rounded_to : ℕ → List ℕ
 rounded_to fu = codes ", rounded to " ++ decimal fu
 
@@ -144,7 +131,7 @@ rounded_text sum fu = if sum == fu then [] else rounded_to fu
 
 unfoldable pub fu_line : List FuRow → ℕ → List ℕ
 fu_line rows fu =
-    codes "  fu      " ++ fu_list rows ++ sum_text (length rows) (fu_total rows) ++ rounded_text (fu_total rows) fu ++ line_feed
+    codes "  fu      " ++ joined (codes ", ") (map fu_text rows) ++ sum_text (length rows) (fu_total rows) ++ rounded_text (fu_total rows) fu ++ line_feed
 
 -- ---- base points
 
@@ -198,15 +185,8 @@ added_text what points more = if more == 0 then decimal points else sum_of_two w
 unfoldable pub pay_text : PayRow → List ℕ
 pay_text row = payer_name row.payer ++ added_text (codes " for counters = ") row.points row.counters ++ each_text row.payer
 
-unfoldable pub next_pay : PayRow → List ℕ
-next_pay row = codes ", " ++ pay_text row
-
-unfoldable pub pay_list : List PayRow → List ℕ
-pay_list [] = []
-pay_list (row ∷ rows) = pay_text row ++ flat_map next_pay rows
-
 unfoldable pub pay_line : List PayRow → List ℕ
-pay_line rows = codes "  pays    " ++ pay_list rows ++ line_feed
+pay_line rows = codes "  pays    " ++ joined (codes ", ") (map pay_text rows) ++ line_feed
 
 -- what is paid, and the riichi sticks
 unfoldable pub gain_line : ℕ → ℕ → List ℕ

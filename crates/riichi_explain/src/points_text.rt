@@ -1,6 +1,5 @@
 //! The lines of the base points, of who pays, and of the gain.
 ghost use Rattle.std.specs.Prelude.{◌≡◌, ◌+◌, ◌≤◌, ◌++◌, length};
-ghost use Rattle.std.specs.List.{flat_map};
 ghost use Rattle.arrayvec.specs.ArrayString.{array_string_len};
 ghost use Rattle.riichi_explain.specs.Base.{limit_points};
 ghost use Rattle.riichi_explain.specs.Text as spec;
@@ -8,7 +7,7 @@ ghost use Rattle.riichi_explain.specs.Text as spec;
 use crate::base::{BaseRule, Limit};
 use crate::payers::{PayRow, Payer};
 use arrayvec::ArrayString;
-use riichi_text::push_number;
+use riichi_text::{ListItem, push_list, push_number};
 
 /// Writes the line of the base points.
 #[tactic(auto, unfolding(crate::specs::Text::base_line))]
@@ -118,53 +117,23 @@ pub(crate) fn push_pay_line(text: &mut ArrayString<3072>, rows: &[PayRow])
     ensures len { array_string_len text.new ≤ array_string_len text.old + 210 }
 {
     text.push_str("  pays    ");
-    push_pay_list(text, rows);
+    push_list(text, ", ", rows);
     text.push_str("\n");
 }
 
-#[tactic(auto, unfolding(crate::specs::Text::pay_list))]
-fn push_pay_list(text: &mut ArrayString<3072>, rows: &[PayRow])
-    requires few { length rows.now ≤ 2 }
-    requires room { array_string_len text.old + 190 ≤ 3072 }
-    ensures bytes { text.new.bytes ≡ text.old.bytes ++ spec.pay_list rows.now }
-    ensures len { array_string_len text.new ≤ array_string_len text.old + 190 }
-{
-    if let [first, rest @ ..] = rows {
-        push_pay(text, first);
-        push_more_pay(text, rest);
+impl ListItem<3072> for PayRow {
+    ghost use Rattle.riichi_explain.specs.Text.{pay_text};
+
+    ghost item_text = { pay_text };
+
+    ghost most = { 91 };
+
+    #[tactic(auto, unfolding(crate::specs::Text::pay_text))]
+    fn push(&self, text: &mut ArrayString<3072>) {
+        push_payer(text, self.payer);
+        push_added(text, " for counters = ", self.points, self.counters);
+        push_each(text, self.payer);
     }
-}
-
-fn push_more_pay(text: &mut ArrayString<3072>, rows: &[PayRow])
-    requires few { length rows.now ≤ 1 }
-    requires room { array_string_len text.old + 95 ≤ 3072 }
-    ensures bytes { text.new.bytes ≡ text.old.bytes ++ flat_map spec.next_pay rows.now }
-    ensures len { array_string_len text.new ≤ array_string_len text.old + 95 }
-{
-    for row in rows {
-        push_next_pay(text, row);
-    }
-}
-
-#[tactic(auto, unfolding(crate::specs::Text::next_pay))]
-fn push_next_pay(text: &mut ArrayString<3072>, row: &PayRow)
-    requires { array_string_len text.old + 95 ≤ 3072 }
-    ensures bytes { text.new.bytes ≡ text.old.bytes ++ spec.next_pay row.now }
-    ensures len { array_string_len text.new ≤ array_string_len text.old + 95 }
-{
-    text.push_str(", ");
-    push_pay(text, row);
-}
-
-#[tactic(auto, unfolding(crate::specs::Text::pay_text))]
-fn push_pay(text: &mut ArrayString<3072>, row: &PayRow)
-    requires { array_string_len text.old + 91 ≤ 3072 }
-    ensures bytes { text.new.bytes ≡ text.old.bytes ++ spec.pay_text row.now }
-    ensures len { array_string_len text.new ≤ array_string_len text.old + 91 }
-{
-    push_payer(text, row.payer);
-    push_added(text, " for counters = ", row.points, row.counters);
-    push_each(text, row.payer);
 }
 
 #[tactic(auto, unfolding(crate::specs::Text::payer_name))]

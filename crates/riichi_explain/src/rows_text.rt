@@ -1,6 +1,5 @@
 //! The lines of the rows of han and of fu.
 ghost use Rattle.std.specs.Prelude.{◌≡◌, ◌+◌, ◌≤◌, ◌++◌, length};
-ghost use Rattle.std.specs.List.{flat_map};
 ghost use Rattle.arrayvec.specs.ArrayString.{array_string_len};
 ghost use Rattle.riichi_yaku.specs.Table.{word};
 ghost use Rattle.riichi_explain.specs.Text as spec;
@@ -9,7 +8,7 @@ ghost use Rattle.riichi_text.specs.Tiles.{two_text};
 use crate::fu::{FuPart, FuRow, fu_total};
 use crate::han::{HanPart, HanRow};
 use arrayvec::ArrayString;
-use riichi_text::{push_four, push_number, push_three, push_two};
+use riichi_text::{ListItem, push_four, push_list, push_number, push_three, push_two};
 use riichi_tiles::Kind;
 use riichi_yaku::Yaku;
 
@@ -22,7 +21,7 @@ pub(crate) fn push_han_line(text: &mut ArrayString<3072>, yakuman: bool, han: u8
     ensures len { array_string_len text.new ≤ array_string_len text.old + 1400 }
 {
     push_han_label(text, yakuman);
-    push_han_list(text, rows);
+    push_list(text, ", ", rows);
     push_han_sum(text, yakuman, rows.len(), han);
     text.push_str("\n");
 }
@@ -64,48 +63,18 @@ fn push_sum_of(text: &mut ArrayString<3072>, rows: usize, sum: u32)
     }
 }
 
-#[tactic(auto, unfolding(crate::specs::Text::han_list))]
-fn push_han_list(text: &mut ArrayString<3072>, rows: &[HanRow])
-    requires few { length rows.now ≤ 43 }
-    requires room { array_string_len text.old + 1376 ≤ 3072 }
-    ensures bytes { text.new.bytes ≡ text.old.bytes ++ spec.han_list rows.now }
-    ensures len { array_string_len text.new ≤ array_string_len text.old + 1376 }
-{
-    if let [first, rest @ ..] = rows {
-        push_han(text, first);
-        push_more_han(text, rest);
+impl ListItem<3072> for HanRow {
+    ghost use Rattle.riichi_explain.specs.Text.{han_text};
+
+    ghost item_text = { han_text };
+
+    ghost most = { 30 };
+
+    #[tactic(auto, unfolding(crate::specs::Text::han_text))]
+    fn push(&self, text: &mut ArrayString<3072>) {
+        push_han_part(text, &self.part);
+        push_han_number(text, &self.part, self.han);
     }
-}
-
-fn push_more_han(text: &mut ArrayString<3072>, rows: &[HanRow])
-    requires few { length rows.now ≤ 42 }
-    requires room { array_string_len text.old + 1344 ≤ 3072 }
-    ensures bytes { text.new.bytes ≡ text.old.bytes ++ flat_map spec.next_han rows.now }
-    ensures len { array_string_len text.new ≤ array_string_len text.old + 1344 }
-{
-    for row in rows {
-        push_next_han(text, row);
-    }
-}
-
-#[tactic(auto, unfolding(crate::specs::Text::next_han))]
-fn push_next_han(text: &mut ArrayString<3072>, row: &HanRow)
-    requires { array_string_len text.old + 32 ≤ 3072 }
-    ensures bytes { text.new.bytes ≡ text.old.bytes ++ spec.next_han row.now }
-    ensures len { array_string_len text.new ≤ array_string_len text.old + 32 }
-{
-    text.push_str(", ");
-    push_han(text, row);
-}
-
-#[tactic(auto, unfolding(crate::specs::Text::han_text))]
-fn push_han(text: &mut ArrayString<3072>, row: &HanRow)
-    requires { array_string_len text.old + 30 ≤ 3072 }
-    ensures bytes { text.new.bytes ≡ text.old.bytes ++ spec.han_text row.now }
-    ensures len { array_string_len text.new ≤ array_string_len text.old + 30 }
-{
-    push_han_part(text, &row.part);
-    push_han_number(text, &row.part, row.han);
 }
 
 #[tactic(auto, unfolding(crate::specs::Text::han_part_text))]
@@ -156,7 +125,7 @@ pub(crate) fn push_fu_line(text: &mut ArrayString<3072>, rows: &[FuRow], fu: u8)
 {
     let sum = fu_total(rows);
     text.push_str("  fu      ");
-    push_fu_list(text, rows);
+    push_list(text, ", ", rows);
     push_sum_of(text, rows.len(), sum);
     push_rounded(text, sum, fu);
     text.push_str("\n");
@@ -183,49 +152,19 @@ fn push_rounded_to(text: &mut ArrayString<3072>, fu: u8)
     push_number(text, fu);
 }
 
-#[tactic(auto, unfolding(crate::specs::Text::fu_list))]
-fn push_fu_list(text: &mut ArrayString<3072>, rows: &[FuRow])
-    requires few { length rows.now ≤ 24 }
-    requires room { array_string_len text.old + 888 ≤ 3072 }
-    ensures bytes { text.new.bytes ≡ text.old.bytes ++ spec.fu_list rows.now }
-    ensures len { array_string_len text.new ≤ array_string_len text.old + 888 }
-{
-    if let [first, rest @ ..] = rows {
-        push_fu(text, first);
-        push_more_fu(text, rest);
+impl ListItem<3072> for FuRow {
+    ghost use Rattle.riichi_explain.specs.Text.{fu_text};
+
+    ghost item_text = { fu_text };
+
+    ghost most = { 35 };
+
+    #[tactic(auto, unfolding(crate::specs::Text::fu_text))]
+    fn push(&self, text: &mut ArrayString<3072>) {
+        push_number(text, self.fu);
+        text.push_str(" ");
+        push_fu_part(text, &self.part);
     }
-}
-
-fn push_more_fu(text: &mut ArrayString<3072>, rows: &[FuRow])
-    requires few { length rows.now ≤ 23 }
-    requires room { array_string_len text.old + 851 ≤ 3072 }
-    ensures bytes { text.new.bytes ≡ text.old.bytes ++ flat_map spec.next_fu rows.now }
-    ensures len { array_string_len text.new ≤ array_string_len text.old + 851 }
-{
-    for row in rows {
-        push_next_fu(text, row);
-    }
-}
-
-#[tactic(auto, unfolding(crate::specs::Text::next_fu))]
-fn push_next_fu(text: &mut ArrayString<3072>, row: &FuRow)
-    requires { array_string_len text.old + 37 ≤ 3072 }
-    ensures bytes { text.new.bytes ≡ text.old.bytes ++ spec.next_fu row.now }
-    ensures len { array_string_len text.new ≤ array_string_len text.old + 37 }
-{
-    text.push_str(", ");
-    push_fu(text, row);
-}
-
-#[tactic(auto, unfolding(crate::specs::Text::fu_text))]
-fn push_fu(text: &mut ArrayString<3072>, row: &FuRow)
-    requires { array_string_len text.old + 35 ≤ 3072 }
-    ensures bytes { text.new.bytes ≡ text.old.bytes ++ spec.fu_text row.now }
-    ensures len { array_string_len text.new ≤ array_string_len text.old + 35 }
-{
-    push_number(text, row.fu);
-    text.push_str(" ");
-    push_fu_part(text, &row.part);
 }
 
 #[tactic(auto, unfolding(crate::specs::Text::fu_part_text))]

@@ -3,18 +3,18 @@ use Rattle.std.proofs.Common.{◌≡◌, ℕ, ◌+◌, ◌-◌, ◌<◌, ◌≤�
 use Rattle.std.specs.Prelude.{slice_index}
 use Rattle.std.specs.List.{list_all}
 use Rattle.std.specs.Str.{bytes_eq}
-use Rattle.std.proofs.lemmas.Bool.{cases_Bool, cases_lt, and_parts, and_from, eqb-true, leb-true}
+use Rattle.std.proofs.lemmas.Bool.{cases_Bool, cases_lt, and_parts, and_from, leb-true}
 use Rattle.std.proofs.lemmas.List.{get_or_append_left, take-append-drop, drop_all}
 use Rattle.std.proofs.lemmas.List.Folds.{list_all-append}
 use Rattle.std.proofs.lemmas.Slice.Eq.{bytes_eq-Decides}
-use Rattle.riichi_tiles.specs.Melds.{cut_at, in_front}
+use Rattle.riichi_tiles.specs.Melds.{cut_at}
+use Rattle.riichi_tiles.proofs.CutLemmas.{plain, around, cut_at-front, Joins, cut_joins}
 use Rattle.riichi_hand.specs.declared.line.job_name.JobName.{JobName}
 use Rattle.riichi_hand.specs.declared.line.key.Key.{Key}
 use Rattle.riichi_hand.specs.Values.{named}
 use Rattle.riichi_hand.specs.Keys.{key_names, key_named, has_key}
 use Rattle.riichi_hand.specs.Words.{is_word, words_of, begins_with_space}
 use Rattle.riichi_hand.specs.Entries.{keyed_by, keyed_cut, keyed_of}
-use Rattle.riichi_hand.proofs.CutLemmas.{plain, around, cut_at-front}
 use Rattle.riichi_hand.proofs.WordLemmas.{words_of-word}
 
 -- What holds of each word of a table holds of one that is named there.
@@ -74,27 +74,9 @@ name_ends job text len is begins =
 
 -- A word with a key begins so.
 
-Joins : List ℕ → Option (List ℕ × List ℕ) → Type 0
-Joins text None = Unit {0}
-Joins text (Some cut) = text ≡ cut.0 ++ 61 ∷ cut.1
-
-front_joins : (byte : ℕ) (text : List ℕ) (cut : Option (List ℕ × List ℕ)) → Joins text cut → Joins (byte ∷ text) (in_front byte cut)
-unfolding Joins
-front_joins byte text None joins = tt
-front_joins byte text (Some cut) joins = ap (λ t. byte ∷ t) joins
-
-cut_joins : (text : List ℕ) → Joins text (cut_at 61 text)
-unfolding Joins
-cut_joins [] = tt
-cut_joins (byte ∷ text) =
-    elim (cases_Bool (nat_eq byte 61)) [
-      | inl mark ↦ rw mark (ap (λ b. b ∷ text) (eqb-true byte 61 mark))
-      | inr other ↦ rw other (front_joins byte text (cut_at 61 text) (cut_joins text))
-    ]
-
 keyed_begins : (job : JobName) (word after : List ℕ) (keyed : Key × List ℕ) → keyed_of job word ≡ Some keyed → BeginsAsEntry job (word ++ after)
 unfolding Joins
-keyed_begins job word after keyed is = from_cut (cut_at 61 word) (cut_joins word) is
+keyed_begins job word after keyed is = from_cut (cut_at 61 word) (cut_joins 61 word) is
   where
     from_has : (cut : List ℕ × List ℕ) (key : Key) → word ≡ cut.0 ++ 61 ∷ cut.1 → key_named cut.0 ≡ Some key → keyed_by job (Some key) cut.1 ≡ Some keyed → BeginsAsEntry job (word ++ after)
     from_has cut key joins named_as e =
@@ -114,7 +96,7 @@ keyed_begins job word after keyed is = from_cut (cut_at 61 word) (cut_joins word
     from_key cut None joins e h = let bad : None ≡ Some keyed = h in absurd (cc)
     from_key cut (Some key) joins e h = from_has cut key joins e h
 
-    from_cut : (cut : Option (List ℕ × List ℕ)) → Joins word cut → keyed_cut job cut ≡ Some keyed → BeginsAsEntry job (word ++ after)
+    from_cut : (cut : Option (List ℕ × List ℕ)) → Joins 61 word cut → keyed_cut job cut ≡ Some keyed → BeginsAsEntry job (word ++ after)
     from_cut None joins h = let bad : None ≡ Some keyed = h in absurd (cc)
     from_cut (Some cut) joins h = from_key cut (key_named cut.0) joins refl h
 

@@ -3,6 +3,7 @@ use Rattle.std.proofs.Common.{◌≡◌, ℕ, List, [], ◌∷◌, ◌++◌, Boo
 use mathlib.Core.Path.{fun_ext}
 use Rattle.std.specs.Prelude.{◌||◌, not, is_some}
 use Rattle.std.specs.List.{list_any, cons_option}
+use Rattle.std.proofs.Math.Bool.{or-false, or-true}
 use Rattle.std.proofs.lemmas.Bool.{lt-ltb}
 use Rattle.std.proofs.lemmas.List.Elements.{filter_map-append}
 use Rattle.std.proofs.lemmas.List.Folds.{list_any-append}
@@ -15,14 +16,6 @@ use Rattle.riichi_hand.specs.Entries.{keyed_of, value_in, values_of, is_bad, is_
 abbrev as_list : {X : Type 0} → Option X → List X
 as_list None = []
 as_list (Some value) = value ∷ []
-
-or-false : (b : Bool) → (b || false) ≡ b
-or-false true = refl
-or-false false = refl
-
-or-true : (b : Bool) → (b || true) ≡ true
-or-true true = refl
-or-true false = refl
 
 -- The values of one more word.
 

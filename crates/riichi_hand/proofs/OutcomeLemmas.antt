@@ -2,20 +2,27 @@
 use Rattle.std.proofs.Common.{◌≡◌, ◌≤◌, ℕ, List, [], ◌∷◌, ◌++◌, false, Option, Some, None, Result, Ok, Err, refl, sym, ap, ◌∙◌}
 use Rattle.std.specs.Prelude.{length, option_map, is_some, not, if◌then◌else◌}
 use Rattle.std.proofs.lemmas.Bool.{le-ltb}
+use Rattle.riichi_tiles.specs.Notation.{notation_fault}
+use Rattle.riichi_tiles.specs.declared.notation.NotationFault.{NotationFault}
+use Rattle.riichi_hand.specs.declared.fault.LineCode.{LineCode}
 use Rattle.riichi_hand.specs.declared.fault.LineFault.{LineFault}
+use Rattle.riichi_hand.specs.declared.fault.LineFault.TheVariants.{Line, Notation}
+use Rattle.riichi_hand.specs.declared.fault.TextName.{TextName}
+use Rattle.riichi_hand.specs.declared.fault.TextName.TheVariants as text
+use Rattle.riichi_hand.specs.declared.line.key.Key.TheVariants.{On, Dora, Ura, Seen, Open}
 use Rattle.riichi_hand.specs.declared.win.Rules.{Rules}
 use Rattle.riichi_hand.specs.declared.win.Rules.TheVariants.{One, Two}
 use Rattle.riichi_hand.specs.declared.win.WinParts.{WinParts}
 use Rattle.riichi_hand.specs.declared.job.Job.{Job}
 use Rattle.riichi_hand.specs.declared.job.Job.TheVariants as jobs
-use Rattle.riichi_hand.specs.declared.fault.LineCode.TheVariants.{H8}
+use Rattle.riichi_hand.specs.declared.fault.LineCode.TheVariants.{H7, H8}
 use Rattle.riichi_hand.specs.Faults.{coded, first_fault, fault_or, IsStep}
 use Rattle.riichi_hand.specs.Win.{is_two, no_reds, kept_under, win_faults, win_of}
 use Rattle.riichi_hand.specs.Words.{words_of}
-use Rattle.riichi_hand.specs.Parts.{LineParts, parts_of}
-use Rattle.riichi_hand.specs.Texts.{texts_of}
+use Rattle.riichi_hand.specs.Parts.{LineParts, parts_of, value}
+use Rattle.riichi_hand.specs.Texts.{texts_of, text_fault, melds_in}
 use Rattle.riichi_hand.specs.Jobs.{job_of}
-use Rattle.riichi_hand.specs.Lines.{is_no_record, faults_of, faults_of_win, outcome_of}
+use Rattle.riichi_hand.specs.Lines.{is_no_record, text_faults, faults_of, faults_of_win, outcome_of}
 
 pub first_fault-later : (faults later : List (Option LineFault)) → first_fault faults ≡ None → first_fault (faults ++ later) ≡ first_fault later
 first_fault-later [] later none = refl
@@ -26,6 +33,29 @@ pub first_fault-here : (faults later : List (Option LineFault)) (fault : LineFau
 first_fault-here [] later fault some = absurd (cc)
 first_fault-here (None ∷ faults) later fault some = first_fault-here faults later fault some
 first_fault-here (Some first ∷ faults) later fault some = some
+
+-- where the first of some faults is one of a line, it is no fault of the text before them
+after_notation : (code : LineCode) (name : TextName) (fault : Option NotationFault) (faults : List (Option LineFault)) → first_fault (option_map (Notation name) fault ∷ faults) ≡ Some (Line code)
+    → first_fault faults ≡ Some (Line code)
+after_notation code name None faults is = is
+after_notation code name (Some fault) faults is = absurd (cc)
+
+after_text : (code : LineCode) (name : TextName) (text : Option (List ℕ)) (faults : List (Option LineFault)) → first_fault (text_fault name text ∷ faults) ≡ Some (Line code)
+    → first_fault faults ≡ Some (Line code)
+after_text code name None faults is = is
+after_text code name (Some text) faults is = after_notation code name (notation_fault text) faults is
+
+-- nor is it one of the texts of the line, behind which the melds are spelled
+pub after_texts : (code : LineCode) (parts : LineParts) (faults : List (Option LineFault)) → first_fault (text_faults parts ++ faults) ≡ Some (Line code)
+    → first_fault (coded H7 (not (is_some (melds_in (value Open parts)))) ∷ faults) ≡ Some (Line code)
+after_texts code parts faults is =
+    let melds = coded H7 (not (is_some (melds_in (value Open parts)))) ∷ faults in
+    let seen = text_fault text.Seen (value Seen parts) ∷ melds in
+    let ura = text_fault text.Ura (value Ura parts) ∷ seen in
+    let dora = text_fault text.Dora (value Dora parts) ∷ ura in
+    let on = text_fault text.On (value On parts) ∷ dora in
+    after_text code text.Seen (value Seen parts) melds (after_text code text.Ura (value Ura parts) seen
+    (after_text code text.Dora (value Dora parts) ura (after_text code text.On (value On parts) dora (after_text code text.Hand (Some parts.hand) on is))))
 
 step_at : {X : Type 0} (Is : X → Type 0) (first : Option LineFault) (faults : List (Option LineFault)) (x : X) → first_fault faults ≡ first → Is x → IsStep (fault_or first x) faults Is
 step_at Is None faults x none is = (none, is)

@@ -4,18 +4,15 @@ use Rattle.std.specs.Prelude.{◌&&◌, nat_le, length, not, is_some, option_map
 use Rattle.std.specs.Str.{bytes_eq}
 use Rattle.std.specs.List.{cons_option, filter_map}
 use Rattle.std.proofs.lemmas.Bool.{cases_Bool, and_parts, leb-true, le-ltb}
-use Rattle.riichi_tiles.specs.Notation.{is_digit, notation_fault}
-use Rattle.riichi_tiles.specs.declared.notation.NotationFault.{NotationFault}
+use Rattle.riichi_tiles.specs.Notation.{is_digit}
 use Rattle.riichi_hand.specs.declared.fault.LineCode.TheVariants.{H1, H2, H3, H4, H5, H6, H7, H8, H9, H10, H11, H12, H13, H14, H15, H16}
 use Rattle.riichi_hand.specs.declared.fault.LineFault.{LineFault}
-use Rattle.riichi_hand.specs.declared.fault.LineFault.TheVariants.{Line, Notation}
-use Rattle.riichi_hand.specs.declared.fault.TextName.{TextName}
-use Rattle.riichi_hand.specs.declared.fault.TextName.TheVariants as text
+use Rattle.riichi_hand.specs.declared.fault.LineFault.TheVariants.{Line}
 use Rattle.riichi_hand.specs.declared.line.needed.WinKeys.{WinKeys}
 use Rattle.riichi_hand.specs.declared.line.job_name.JobName.{JobName}
 use Rattle.riichi_hand.specs.declared.line.job_name.JobName.TheVariants.{Win, Waits, Shape}
 use Rattle.riichi_hand.specs.declared.line.key.Key.{Key}
-use Rattle.riichi_hand.specs.declared.line.key.Key.TheVariants.{On, Open, Riichi, Dora, Ura, Counters, Sticks, Seen}
+use Rattle.riichi_hand.specs.declared.line.key.Key.TheVariants.{Open, Riichi, Counters, Sticks}
 use Rattle.riichi_hand.specs.declared.line.texts.Texts.{Texts}
 use Rattle.riichi_hand.specs.declared.win.Rules.{Rules}
 use Rattle.riichi_hand.specs.declared.win.WinParts.{WinParts}
@@ -26,10 +23,10 @@ use Rattle.riichi_hand.specs.Entries.{keyed_of, value_in, first_of, entries_of}
 use Rattle.riichi_hand.specs.Win.{is_out_of_range}
 use Rattle.riichi_hand.specs.Words.{words_of}
 use Rattle.riichi_hand.specs.Parts.{LineParts, line_parts, parts_of, job_in, hand_in, value}
-use Rattle.riichi_hand.specs.Texts.{texts_of, text_fault, melds_in, only_kind}
+use Rattle.riichi_hand.specs.Texts.{texts_of, melds_in, only_kind}
 use Rattle.riichi_hand.specs.Jobs.{and_then, win_keys, win_parts, win_of_line, job_of}
 use Rattle.riichi_hand.specs.Lines.{text_faults, faults_of_win, job_faults, faults_of, outcome_of, is_no_record, has_bad_word}
-use Rattle.riichi_hand.proofs.OutcomeLemmas.{first_of_err}
+use Rattle.riichi_hand.proofs.OutcomeLemmas.{after_texts, first_of_err}
 
 riichi_small : (text : List ℕ) (n : ℕ) → riichi_of text ≡ Some n → n ≤ 2
 riichi_small text n is =
@@ -108,27 +105,9 @@ front false false false false true f faults is = absurd (cc)
 front false false false false false true faults is = absurd (cc)
 front false false false false false false faults is = inr is
 
-after_notation : (name : TextName) (fault : Option NotationFault) (faults : List (Option LineFault)) → first_fault (option_map (Notation name) fault ∷ faults) ≡ Some (Line H4) → first_fault faults ≡ Some (Line H4)
-after_notation name None faults is = is
-after_notation name (Some fault) faults is = absurd (cc)
-
-after_text : (name : TextName) (text : Option (List ℕ)) (faults : List (Option LineFault)) → first_fault (text_fault name text ∷ faults) ≡ Some (Line H4) → first_fault faults ≡ Some (Line H4)
-after_text name None faults is = is
-after_text name (Some text) faults is = after_notation name (notation_fault text) faults is
-
 after_melds : (bad : Bool) (faults : List (Option LineFault)) → first_fault (coded H7 bad ∷ faults) ≡ Some (Line H4) → first_fault faults ≡ Some (Line H4)
 after_melds true faults is = absurd (cc)
 after_melds false faults is = is
-
-after_texts : (parts : LineParts) (faults : List (Option LineFault)) → first_fault (text_faults parts ++ faults) ≡ Some (Line H4) → first_fault faults ≡ Some (Line H4)
-after_texts parts faults is =
-    let melds = coded H7 (not (is_some (melds_in (value Open parts)))) ∷ faults in
-    let seen = text_fault text.Seen (value Seen parts) ∷ melds in
-    let ura = text_fault text.Ura (value Ura parts) ∷ seen in
-    let dora = text_fault text.Dora (value Dora parts) ∷ ura in
-    let on = text_fault text.On (value On parts) ∷ dora in
-    after_melds (not (is_some (melds_in (value Open parts)))) faults (after_text text.Seen (value Seen parts) melds (after_text text.Ura (value Ura parts) seen
-    (after_text text.Dora (value Dora parts) ura (after_text text.On (value On parts) dora (after_text text.Hand (Some parts.hand) on is)))))
 
 size_or_copies : (a b : Bool) → first_fault (coded H8 a ∷ coded H9 b ∷ []) ≡ Some (Line H4) → ⊥
 size_or_copies true b is = cc
@@ -185,7 +164,8 @@ bad_word rules line is =
             let first = first_of_err (first_fault (faults_of rules line parts)) (job_of rules parts (texts_of parts) parts.job) (Line H4) (sym e) in
             elim (front _ _ _ _ _ _ (text_faults parts ++ job_faults rules parts (texts_of parts) parts.job) first) [
               | inl bad ↦ bad
-              | inr later ↦ absurd (job_not rules job hand (drop 2 words) (texts_of parts) parts.job (after_texts parts (job_faults rules parts (texts_of parts) parts.job) later))
+              | inr later ↦ let jobs = job_faults rules parts (texts_of parts) parts.job in
+                  absurd (job_not rules job hand (drop 2 words) (texts_of parts) parts.job (after_melds (not (is_some (melds_in (value Open parts)))) jobs (after_texts H4 parts jobs later)))
             ]
       ]
     ]

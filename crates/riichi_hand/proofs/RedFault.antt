@@ -2,27 +2,23 @@
 use Rattle.std.proofs.Common.{◌≡◌, ℕ, List, [], ◌∷◌, ◌++◌, Bool, true, false, Option, Some, None, Ok, Err, nat_lt, refl, sym, inl, inr}
 use Rattle.std.specs.Prelude.{◌&&◌, length, not, is_some, option_map}
 use Rattle.std.proofs.lemmas.Bool.{cases_Bool}
-use Rattle.riichi_tiles.specs.Notation.{notation_fault}
-use Rattle.riichi_tiles.specs.declared.notation.NotationFault.{NotationFault}
 use Rattle.riichi_hand.specs.declared.fault.LineCode.TheVariants.{H1, H2, H3, H4, H5, H6, H7, H8, H9, H10, H11, H12, H13, H14, H15, H16}
 use Rattle.riichi_hand.specs.declared.fault.LineFault.{LineFault}
-use Rattle.riichi_hand.specs.declared.fault.LineFault.TheVariants.{Line, Notation}
-use Rattle.riichi_hand.specs.declared.fault.TextName.{TextName}
-use Rattle.riichi_hand.specs.declared.fault.TextName.TheVariants as text
+use Rattle.riichi_hand.specs.declared.fault.LineFault.TheVariants.{Line}
 use Rattle.riichi_hand.specs.declared.line.needed.WinKeys.{WinKeys}
 use Rattle.riichi_hand.specs.declared.line.job_name.JobName.{JobName}
 use Rattle.riichi_hand.specs.declared.line.job_name.JobName.TheVariants.{Win, Waits, Shape}
-use Rattle.riichi_hand.specs.declared.line.key.Key.TheVariants.{On, Dora, Ura, Seen, Open}
+use Rattle.riichi_hand.specs.declared.line.key.Key.TheVariants.{Open}
 use Rattle.riichi_hand.specs.declared.win.Rules.{Rules}
 use Rattle.riichi_hand.specs.declared.win.WinParts.{WinParts}
 use Rattle.riichi_hand.specs.Faults.{coded, first_fault, fault_or}
 use Rattle.riichi_hand.specs.Win.{is_two, has_too_many_reds, win_faults}
 use Rattle.riichi_hand.specs.Words.{words_of}
 use Rattle.riichi_hand.specs.Parts.{LineParts, parts_of, value}
-use Rattle.riichi_hand.specs.Texts.{texts_of, text_fault, melds_in, only_kind}
+use Rattle.riichi_hand.specs.Texts.{texts_of, melds_in, only_kind}
 use Rattle.riichi_hand.specs.Jobs.{and_then, win_keys, win_parts, job_of}
 use Rattle.riichi_hand.specs.Lines.{text_faults, faults_of_win, job_faults, faults_of, outcome_of, is_no_record}
-use Rattle.riichi_hand.proofs.OutcomeLemmas.{first_of_err}
+use Rattle.riichi_hand.proofs.OutcomeLemmas.{after_texts, first_of_err}
 use Rattle.riichi_hand.proofs.RedLemmas.{line_has_room}
 
 -- H16 as the first of several faults.
@@ -36,14 +32,6 @@ front false false false true e f faults is = absurd (cc)
 front false false false false true f faults is = absurd (cc)
 front false false false false false true faults is = absurd (cc)
 front false false false false false false faults is = is
-
-after_notation : (name : TextName) (fault : Option NotationFault) (faults : List (Option LineFault)) → first_fault (option_map (Notation name) fault ∷ faults) ≡ Some (Line H16) → first_fault faults ≡ Some (Line H16)
-after_notation name None faults is = is
-after_notation name (Some fault) faults is = absurd (cc)
-
-after_text : (name : TextName) (text : Option (List ℕ)) (faults : List (Option LineFault)) → first_fault (text_fault name text ∷ faults) ≡ Some (Line H16) → first_fault faults ≡ Some (Line H16)
-after_text name None faults is = is
-after_text name (Some text) faults is = after_notation name (notation_fault text) faults is
 
 -- and then the melds are spelled
 after_melds : (spelled : Bool) (faults : List (Option LineFault)) → first_fault (coded H7 (not spelled) ∷ faults) ≡ Some (Line H16) → (spelled ≡ true) × (first_fault faults ≡ Some (Line H16))
@@ -87,18 +75,6 @@ job_not rules parts Win some is = win_told rules parts (only_kind (texts_of part
 job_not rules parts Waits some is = size_or_copies _ _ is
 job_not rules parts Shape some is = size_or_copies _ _ is
 
-after_texts : (rules : Rules) (parts : LineParts) → first_fault (text_faults parts ++ job_faults rules parts (texts_of parts) parts.job) ≡ Some (Line H16) → ⊥
-after_texts rules parts is =
-    let jobs = job_faults rules parts (texts_of parts) parts.job in
-    let melds = coded H7 (not (is_some (melds_in (value Open parts)))) ∷ jobs in
-    let seen = text_fault text.Seen (value Seen parts) ∷ melds in
-    let ura = text_fault text.Ura (value Ura parts) ∷ seen in
-    let dora = text_fault text.Dora (value Dora parts) ∷ ura in
-    let on = text_fault text.On (value On parts) ∷ dora in
-    let later = after_melds (is_some (melds_in (value Open parts))) jobs (after_text text.Seen (value Seen parts) melds (after_text text.Ura (value Ura parts) seen
-    (after_text text.Dora (value Dora parts) ura (after_text text.On (value On parts) dora (after_text text.Hand (Some parts.hand) on is))))) in
-    job_not rules parts parts.job later.0 later.1
-
 -- no line is refused with H16
 pub no_reds_over : (rules : Rules) (line : List ℕ) → outcome_of rules line ≡ Err (Line H16) → ⊥
 unfolding outcome_of
@@ -111,6 +87,8 @@ no_reds_over rules line is =
         | inr some ↦
             (let e : fault_or (first_fault (faults_of rules line parts)) (job_of rules parts (texts_of parts) parts.job) ≡ Err (Line H16) = rw (short, some) at is in
             let first = first_of_err (first_fault (faults_of rules line parts)) (job_of rules parts (texts_of parts) parts.job) (Line H16) (sym e) in
-            after_texts rules parts (front _ _ _ _ _ _ (text_faults parts ++ job_faults rules parts (texts_of parts) parts.job) first))
+            let jobs = job_faults rules parts (texts_of parts) parts.job in
+            let later = after_melds (is_some (melds_in (value Open parts))) jobs (after_texts H16 parts jobs (front _ _ _ _ _ _ (text_faults parts ++ jobs) first)) in
+            job_not rules parts parts.job later.0 later.1)
       ]
     ]

@@ -4,7 +4,7 @@ use Rattle.std.proofs.lemmas.Bool.{cases_lt, and_parts}
 use Rattle.std.proofs.lemmas.List.{take-append-drop, drop_all}
 use Rattle.std.specs.Prelude.{filter}
 use Rattle.std.specs.List.{list_all, slice_split, onto_first, position_or_len}
-use Rattle.riichi_hand.proofs.CutLemmas.{plain, plain_is}
+use Rattle.riichi_tiles.proofs.CutLemmas.{plain, plain_is}
 use Rattle.riichi_hand.specs.Words.{is_word, words_of, is_space, without_spaces, begins_with_space}
 
 -- what stands between the spaces

@@ -1,7 +1,6 @@
 -- A rank of which the open runs take what the hand has: each tile beside them is lacking.
 use Rattle.std.proofs.Common.{◌≡◌, ℕ, zero, suc, ◌+◌, ◌-◌, ◌<◌, ◌≤◌, min, true, List, ◌∷◌, refl, sym, ap, ap₂, ◌∙◌, arith}
-use Rattle.std.specs.Prelude.{if◌then◌else◌, nat_lt, bit_and}
-use lib.Bits.{and_zero_r}
+use Rattle.std.specs.Prelude.{if◌then◌else◌, nat_lt}
 use Rattle.std.proofs.lemmas.Bool.Decides.{nat_tests}
 use Rattle.riichi_rows.specs.Columns.{AreLeast}
 use Rattle.riichi_rows.specs.Lanes.{HasRoom, IsFew, capped}
@@ -94,6 +93,3 @@ one_less_lacking n low = grind (arith, nat_tests)
 
 pub same_room : (v u : ℕ) → v ≡ u → HasRoom u → HasRoom v
 same_room v u same room low = (let is = room (omega (arith, same, low)) in omega (arith, same, is))
-
-pub no_shared_bit : (bit : ℕ) → bit_and bit 0 ≡ 0
-no_shared_bit bit = and_zero_r bit

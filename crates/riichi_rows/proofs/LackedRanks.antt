@@ -1,8 +1,8 @@
 -- Marks that are gathered bit by bit, and those of the entries that take part.
-use Rattle.std.proofs.Common.{◌≡◌, ℕ, ◌<◌, Bool, true, false, sym, ap, ◌∙◌, ⊎_elim, inl, inr, arith}
+use Rattle.std.proofs.Common.{◌≡◌, ℕ, ◌<◌, Bool, false, sym, ap, ◌∙◌, ⊎_elim, inl, inr, arith}
 use Rattle.std.specs.Prelude.{◌⊎◌, ◌||◌, IsTrue, nat_lt, bit_and, bit_or}
 use Rattle.std.specs.Int.Bits.{and_zero_l}
-use Rattle.std.proofs.lemmas.Bool.{cases_lt, false≢true}
+use Rattle.std.proofs.lemmas.Bool.{cases_lt, false≢true, lt-ltb}
 use Rattle.std.proofs.lemmas.Bool.Decides.{nat_tests}
 use Rattle.riichi_rows.specs.Lanes.{lack_with}
 use Rattle.riichi_rows.proofs.MarkLemmas.{either_alone, or_keeps}
@@ -13,9 +13,6 @@ has_bit marks bit = nat_lt 0 (bit_and marks bit)
 zero_or_some : (n : ℕ) → (n ≡ 0) ⊎ (0 < n)
 zero_or_some n = ⊎_elim (λ some. inr some) (λ none. inl (omega arith)) (cases_lt 0 n)
 
-some_is : (n : ℕ) → 0 < n → nat_lt 0 n ≡ true
-some_is n h = grind (arith, nat_tests)
-
 none_is : (n : ℕ) → n ≡ 0 → nat_lt 0 n ≡ false
 none_is n h = grind (arith, nat_tests)
 
@@ -24,7 +21,7 @@ pub bit_of_both : (x y bit : ℕ) → has_bit (bit_or x y) bit ≡ (has_bit x bi
 bit_of_both x y bit =
     ⊎_elim
     (λ none. (let alone = either_alone bit x y none in let first = none_is _ none in let whole : has_bit (bit_or x y) bit ≡ has_bit y bit = ap (nat_lt 0) alone in whole ∙ sym (ap (λ (b : Bool). b || has_bit y bit) first)))
-    (λ some. (let kept = or_keeps bit x y in some_is _ (omega (arith, some, kept)) ∙ sym (ap (λ (b : Bool). b || has_bit y bit) (some_is _ some))))
+    (λ some. (let kept = or_keeps bit x y in lt-ltb 0 _ (omega (arith, some, kept)) ∙ sym (ap (λ (b : Bool). b || has_bit y bit) (lt-ltb 0 _ some))))
     (zero_or_some (bit_and x bit))
 
 -- a mark that is below none and above nothing lowers the lack

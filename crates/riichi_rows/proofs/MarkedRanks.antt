@@ -119,9 +119,6 @@ drop_short caps k long = (let e = length-drop k caps in omega (arith, long, e))
 same_or_not : (a b : ℕ) → (a ≡ b) ⊎ (a ≢ b)
 same_or_not a b = ⊎_elim (λ low. inr (λ e. omega (arith, e, low))) (λ high. ⊎_elim (λ low. inr (λ e. omega (arith, e, low))) (λ other. inl (omega arith)) (cases_lt b a)) (cases_lt a b)
 
-and_zero : (n : ℕ) → bit_and n 0 ≡ 0
-and_zero n = and_zero_r n
-
 -- L are the tables from the rank after k on, N those from k on, by the bit of one more tile
 module _ (counts caps : List ℕ) (long : length counts ≡ 9) (caps_long : length caps ≡ 9) (k : ℕ) (some : 0 < k) (inside : k < 9) (bit : ℕ) (is_bit : bit ≡ 2 ^ (k - 1)) (L N : List ℕ → List ℕ → ℕ → Type 0)
     (others : (other : ℕ) (cs ks : List ℕ) → bit_and bit other ≡ 0 → L cs ks other → N (get_or counts k 0 ∷ cs) (get_or caps k 0 ∷ ks) other)
@@ -135,7 +132,7 @@ module _ (counts caps : List ℕ) (long : length counts ≡ 9) (caps_long : leng
   at_rank cs other is apart least = subst (λ (ys : List ℕ). N ys (drop k caps) other) (sym is) (subst (λ (zs : List ℕ). N (get_or counts k 0 ∷ drop (k + 1) cs) zs other) (sym caps_here) (others other _ _ apart least))
 
   pub plain_next : N (drop k counts) (drop k caps) 0
-  plain_next = at_rank counts 0 (in_front counts k (omega (arith, long, inside))) (and_zero bit) plain
+  plain_next = at_rank counts 0 (in_front counts k (omega (arith, long, inside))) (and_zero_r bit) plain
 
   own_next : (r : ℕ) → r < 8 → suc r ≡ k → N (drop k (one_more counts (suc r))) (drop k caps) (2 ^ r)
   own_next r low same =

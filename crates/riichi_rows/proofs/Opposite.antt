@@ -4,7 +4,7 @@ use Rattle.std.proofs.Common as width
 use Rattle.std.specs.Prelude.{◌↔◌, ◌||◌, IsTrue, if◌then◌else◌, nat_lt, nat_le}
 use Rattle.std.specs.Int.Bits.{and_zero_l}
 use Rattle.std.specs.List.{range_with_len}
-use Rattle.std.proofs.lemmas.Bool.{cases_lt, false≢true, eq-eqb}
+use Rattle.std.proofs.lemmas.Bool.{cases_lt, false≢true, eq-eqb, lt-ltb, ltb-true}
 use Rattle.std.proofs.lemmas.Bool.Decides.{nat_tests}
 use Rattle.std.proofs.lemmas.List.{get_or_append_left, get_or_default, get_or_at, get_or_past, get_or-map, length-map}
 use Rattle.std.proofs.lemmas.List.FromFn.{get_or-map-range_with_len, length-map-range_with_len}
@@ -274,12 +274,6 @@ module _ (sums : List ℕ) (least : ℕ) (ls : length sums ≡ 16) where
     mask_within : mask_l lower % 2 ^ 64 ≡ mask_l lower
     mask_within = mask_l-mod lower 64 (omega (arith, length_lower))
 
-    some_is : (n : ℕ) → 0 < n → nat_lt 0 n ≡ true
-    some_is n h = grind (arith, nat_tests)
-
-    is_some : (n : ℕ) → nat_lt 0 n ≡ true → 0 < n
-    is_some n h = grind (arith, nat_tests)
-
     abbrev passes : ℕ → ℕ → Bool
     passes s p = nat_lt (lane fewer s p) (lane lacks s p)
 
@@ -288,10 +282,10 @@ module _ (sums : List ℕ) (least : ℕ) (ls : length sums ≡ 16) where
 
     pub any_fewer_is : IsTrue (nat_lt 0 (mask_l lower % 2 ^ 64)) ↔ SomeLane sums least (λ s p. nat_lt (lane fewer s p) (lane lacks s p))
     any_fewer_is = (
-      λ h. to_lane sums least passes at (λ s. refl) (λ s. refl) (fewer_in (mask_some lower (is_some (mask_l lower) (ap (nat_lt 0) (sym mask_within) ∙ h)))),
+      λ h. to_lane sums least passes at (λ s. refl) (λ s. refl) (fewer_in (mask_some lower (ltb-true 0 (mask_l lower) (ap (nat_lt 0) (sym mask_within) ∙ h)))),
       λ t. (let there = of_lane sums least passes at (λ s. refl) (λ s. refl) t in
           let inside = there.inside in
-          ap (nat_lt 0) mask_within ∙ some_is (mask_l lower) (some_mask lower there.place (omega (arith, inside, length_lower)) (fewer_set there))),
+          ap (nat_lt 0) mask_within ∙ lt-ltb 0 (mask_l lower) (some_mask lower there.place (omega (arith, inside, length_lower)) (fewer_set there))),
     )
 
   -- ---- the marks of all of them

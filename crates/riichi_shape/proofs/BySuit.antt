@@ -18,11 +18,25 @@ start (Run k) = k
 start (Triplet k) = k
 start (Pair k) = k
 
+-- the block at the kind that this one is moved to
+abbrev moved : (ℕ → ℕ) → Block → Block
+moved to (Run k) = Run (to k)
+moved to (Triplet k) = Triplet (to k)
+moved to (Pair k) = Pair (to k)
+
+set_moved : (to : ℕ → ℕ) (b : Block) → set_of (moved to b) ≡ set_of b
+set_moved to (Run k) = refl
+set_moved to (Triplet k) = refl
+set_moved to (Pair k) = refl
+
+pair_moved : (to : ℕ → ℕ) (b : Block) → has_pair (moved to b) ≡ has_pair b
+pair_moved to (Run k) = refl
+pair_moved to (Triplet k) = refl
+pair_moved to (Pair k) = refl
+
 -- the block at ranks from the suit's first kind on
 abbrev lower : ℕ → Block → Block
-lower base (Run k) = Run (k - base)
-lower base (Triplet k) = Triplet (k - base)
-lower base (Pair k) = Pair (k - base)
+lower base b = moved (λ k. k - base) b
 
 abbrev kept : ℕ → Block → Bool
 kept base b = leb base (start b) && ltb (start b) (base + 9)
@@ -123,23 +137,13 @@ module _ (f : Block → ℕ) (same : (base : ℕ) (b : Block) → f (lower base 
   pub block_sum-by_suit : (bs : List Block) → All IsOfKinds bs → block_sum f (part 0 bs) + block_sum f (part 9 bs) + block_sum f (part 18 bs) + block_sum f (part 27 bs) ≡ block_sum f bs
   block_sum-by_suit bs all = omega (arith, part_is 0 bs, part_is 9 bs, part_is 18 bs, part_is 27 bs, totals bs all)
 
-set_lower : (base : ℕ) (b : Block) → set_of (lower base b) ≡ set_of b
-set_lower base (Run k) = refl
-set_lower base (Triplet k) = refl
-set_lower base (Pair k) = refl
-
-pair_lower : (base : ℕ) (b : Block) → has_pair (lower base b) ≡ has_pair b
-pair_lower base (Run k) = refl
-pair_lower base (Triplet k) = refl
-pair_lower base (Pair k) = refl
-
 pub sets_by_suit : (bs : List Block) → All IsOfKinds bs → count_by is_set (part 0 bs) + count_by is_set (part 9 bs) + count_by is_set (part 18 bs) + count_by is_set (part 27 bs) ≡ count_by is_set bs
 sets_by_suit bs all =
-    omega (arith, block_sum-by_suit set_of set_lower bs all, sum_by_is_sum set_of (part 0 bs), sum_by_is_sum set_of (part 9 bs), sum_by_is_sum set_of (part 18 bs), sum_by_is_sum set_of (part 27 bs), sum_by_is_sum set_of bs)
+    omega (arith, block_sum-by_suit set_of (λ base. set_moved (λ k. k - base)) bs all, sum_by_is_sum set_of (part 0 bs), sum_by_is_sum set_of (part 9 bs), sum_by_is_sum set_of (part 18 bs), sum_by_is_sum set_of (part 27 bs), sum_by_is_sum set_of bs)
 
 pub pairs_by_suit : (bs : List Block) → All IsOfKinds bs → count_by is_pair (part 0 bs) + count_by is_pair (part 9 bs) + count_by is_pair (part 18 bs) + count_by is_pair (part 27 bs) ≡ count_by is_pair bs
 pairs_by_suit bs all =
-    omega (arith, block_sum-by_suit has_pair pair_lower bs all, sum_by_is_sum has_pair (part 0 bs), sum_by_is_sum has_pair (part 9 bs), sum_by_is_sum has_pair (part 18 bs), sum_by_is_sum has_pair (part 27 bs), sum_by_is_sum has_pair bs)
+    omega (arith, block_sum-by_suit has_pair (λ base. pair_moved (λ k. k - base)) bs all, sum_by_is_sum has_pair (part 0 bs), sum_by_is_sum has_pair (part 9 bs), sum_by_is_sum has_pair (part 18 bs), sum_by_is_sum has_pair (part 27 bs), sum_by_is_sum has_pair bs)
 
 -- the part lies in its suit
 kept_bounds : (base k : ℕ) → leb base k && ltb k (base + 9) ≡ true → (base ≤ k) × (k < base + 9)
@@ -170,9 +174,7 @@ part_in_suit runs base (b ∷ bs) is_base suit all =
 -- ---- from the suits to all kinds
 
 abbrev raise : ℕ → Block → Block
-raise base (Run q) = Run (base + q)
-raise base (Triplet q) = Triplet (base + q)
-raise base (Pair q) = Pair (base + q)
+raise base b = moved (λ q. base + q) b
 
 pub raised : ℕ → List Block → List Block
 raised base [] = []
@@ -204,21 +206,11 @@ tiles_outside runs base k bs h all =
     tiles_is_sum k (raised base bs) ∙ block_sum-raised (tiles_of k) base bs
     ∙ block_sum-same_of (IsInSuit runs) (λ b. tiles_of k (raise base b)) no_block (λ b inside. block_outside runs base k b h inside) bs all ∙ block_sum-none bs
 
-set_raise : (base : ℕ) (b : Block) → set_of (raise base b) ≡ set_of b
-set_raise base (Run k) = refl
-set_raise base (Triplet k) = refl
-set_raise base (Pair k) = refl
-
-pair_raise : (base : ℕ) (b : Block) → has_pair (raise base b) ≡ has_pair b
-pair_raise base (Run k) = refl
-pair_raise base (Triplet k) = refl
-pair_raise base (Pair k) = refl
-
 pub sets_raised : (base : ℕ) (bs : List Block) → count_by is_set (raised base bs) ≡ count_by is_set bs
-sets_raised base bs = sum_by_is_sum set_of (raised base bs) ∙ block_sum-raised set_of base bs ∙ block_sum-same (λ b. set_of (raise base b)) set_of (set_raise base) bs ∙ sym (sum_by_is_sum set_of bs)
+sets_raised base bs = sum_by_is_sum set_of (raised base bs) ∙ block_sum-raised set_of base bs ∙ block_sum-same (λ b. set_of (raise base b)) set_of (set_moved (λ q. base + q)) bs ∙ sym (sum_by_is_sum set_of bs)
 
 pub pairs_raised : (base : ℕ) (bs : List Block) → count_by is_pair (raised base bs) ≡ count_by is_pair bs
-pairs_raised base bs = sum_by_is_sum has_pair (raised base bs) ∙ block_sum-raised has_pair base bs ∙ block_sum-same (λ b. has_pair (raise base b)) has_pair (pair_raise base) bs ∙ sym (sum_by_is_sum has_pair bs)
+pairs_raised base bs = sum_by_is_sum has_pair (raised base bs) ∙ block_sum-raised has_pair base bs ∙ block_sum-same (λ b. has_pair (raise base b)) has_pair (pair_moved (λ q. base + q)) bs ∙ sym (sum_by_is_sum has_pair bs)
 
 -- a suit with runs
 pub raised_kinds : (base : ℕ) (bs : List Block) → (base ≡ 0) ⊎ (base ≡ 9) ⊎ (base ≡ 18) → All (IsInSuit true) bs → All IsOfKinds (raised base bs)

@@ -3,6 +3,7 @@ use Rattle.std.proofs.Common.{◌≡◌, ℕ, zero, suc, ◌<◌, Bool, true, fa
 use Rattle.std.proofs.lemmas.Bool.{and_parts, and_from, ltb-true, lt-ltb, leb-true, le-leb}
 use Rattle.std.specs.List.{filter}
 use Rattle.std.specs.Prelude.{nat_le, slice_index}
+use Rattle.riichi_tiles.specs.Tiles.{has_tile}
 use Rattle.riichi_hand.specs.Hand.{is_thirteen}
 use Rattle.riichi_hand.specs.HandParts.{ShapeParts}
 use Rattle.riichi_tiles.specs.Melds.{every_kind}
@@ -10,7 +11,7 @@ use Rattle.riichi_tiles.specs.declared.meld.Meld.{Meld}
 use Rattle.riichi_shape.specs.Accepted.{accepted_of}
 use Rattle.riichi_shape.specs.Answer.{accepts_of, shape_of}
 use Rattle.riichi_shape.specs.Choosing.{DiscardsLaw, HasDiscards, LeavesLeast}
-use Rattle.riichi_shape.specs.Discards.{discard_of, discards_of, distance_without, in_order, inserted, inserted_by, is_best, is_discard, is_held, live_with}
+use Rattle.riichi_shape.specs.Discards.{discard_of, discards_of, distance_without, in_order, inserted, inserted_by, is_best, is_discard, live_with}
 use Rattle.riichi_shape.specs.declared.accepts.Accepts.TheVariants.{Thirteen, Fourteen}
 use Rattle.riichi_shape.specs.declared.discard.Discard.{Discard}
 use Rattle.riichi_shape.specs.declared.shape_answer.ShapeAnswer.{ShapeAnswer}
@@ -68,20 +69,20 @@ module _ (hand : List ℕ) (melds : List Meld) where
 
   leaves_least : (kind : ℕ) → kind < 34 → is_discard hand melds kind ≡ true → LeavesLeast hand melds kind
   leaves_least kind low is =
-      let tests = and_parts (is_held hand kind) (is_best hand melds kind) is in record {
+      let tests = and_parts (has_tile hand kind) (is_best hand melds kind) is in record {
         is_kind = low;
         held = ltb-true 0 (slice_index hand kind) tests.0;
         none_less = λ other small held.
             leb-true (distance_without hand melds kind) (distance_without hand melds other)
-            (all_among (leaves_no_more kind) other (filter (is_held hand) every_kind) tests.1
-            (among_filter (is_held hand) other every_kind (among_range other 0 34 (omega arith) (omega (arith, small))) (lt-ltb 0 (slice_index hand other) held)));
+            (all_among (leaves_no_more kind) other (filter (has_tile hand) every_kind) tests.1
+            (among_filter (has_tile hand) other every_kind (among_range other 0 34 (omega arith) (omega (arith, small))) (lt-ltb 0 (slice_index hand other) held)));
       }
 
   is_chosen : (kind : ℕ) → LeavesLeast hand melds kind → is_discard hand melds kind ≡ true
   is_chosen kind least =
-      and_from (is_held hand kind) (is_best hand melds kind) (lt-ltb 0 (slice_index hand kind) least.held)
-      (all_of (leaves_no_more kind) (filter (is_held hand) every_kind) (λ other h.
-      (let kept = from_filter (is_held hand) other every_kind h in
+      and_from (has_tile hand kind) (is_best hand melds kind) (lt-ltb 0 (slice_index hand kind) least.held)
+      (all_of (leaves_no_more kind) (filter (has_tile hand) every_kind) (λ other h.
+      (let kept = from_filter (has_tile hand) other every_kind h in
       let within = from_range other 0 34 kept.0 in
       le-leb (distance_without hand melds kind) (distance_without hand melds other) (least.none_less other (omega (arith, within.1)) (ltb-true 0 (slice_index hand other) kept.1)))))
 

@@ -1,5 +1,5 @@
 -- The least of the three forms' distances is the distance.
-use Rattle.std.proofs.Common.{◌≡◌, ℕ, ◌-◌, ◌<◌, ◌≤◌, min, List, length, Bool, true, false, cond, eqb, Some, None, refl, sym, ◌∙◌, subst, inl, inr, ⊎_elim, arith}
+use Rattle.std.proofs.Common.{◌≡◌, ℕ, ◌-◌, ◌<◌, ◌≤◌, min, List, length, Bool, true, false, cond, eqb, Option, Some, None, refl, sym, ◌∙◌, subst, inl, inr, ⊎_elim, arith}
 use Rattle.std.proofs.lemmas.Bool.Decides.{nat_tests}
 use Rattle.riichi_rows.proofs.Joins.{min_is}
 use Rattle.riichi_tiles.specs.Melds.{tiles}
@@ -31,23 +31,18 @@ no_melds n e = grind (arith, nat_tests)
 some_melds : (n : ℕ) → false ≡ eqb n 0 → 0 < n
 some_melds n e = grind (arith, nat_tests)
 
-pairs_cases : (hand : List ℕ) (melds : List Meld) (forms : SpecialForms) (none : Bool) → none ≡ eqb (length melds) 0 → AreSpecialForms hand melds forms → IsPairsDistance hand melds (cond none (Some forms.pairs.lack) None)
-pairs_cases hand melds forms true e are =
-    let none = no_melds (length melds) e in
-    (none, (are.pairs none).reached, (are.pairs none).bound)
-pairs_cases hand melds forms false e are = some_melds (length melds) e
+-- a form that stands beside no meld
+form_cases : (Is : Option ℕ → Type 0) (melded lack : ℕ) (none : Bool) → none ≡ eqb melded 0 → (melded ≡ 0 → Is (Some lack)) → (0 < melded → Is None) → Is (cond none (Some lack) None)
+form_cases Is melded lack true e alone beside = alone (no_melds melded e)
+form_cases Is melded lack false e alone beside = beside (some_melds melded e)
 
 pub pairs_distance : (hand : List ℕ) (melds : List Meld) (forms : SpecialForms) → AreSpecialForms hand melds forms → IsPairsDistance hand melds (without_meld (length melds) forms.pairs.lack)
-pairs_distance hand melds forms are = pairs_cases hand melds forms (eqb (length melds) 0) refl are
-
-orphans_cases : (hand : List ℕ) (melds : List Meld) (forms : SpecialForms) (none : Bool) → none ≡ eqb (length melds) 0 → AreSpecialForms hand melds forms → IsOrphansDistance hand melds (cond none (Some forms.orphans.lack) None)
-orphans_cases hand melds forms true e are =
-    let none = no_melds (length melds) e in
-    (none, (are.orphans none).reached, (are.orphans none).bound)
-orphans_cases hand melds forms false e are = some_melds (length melds) e
+pairs_distance hand melds forms are =
+    form_cases (IsPairsDistance hand melds) (length melds) forms.pairs.lack (eqb (length melds) 0) refl (λ none. (none, (are.pairs none).reached, (are.pairs none).bound)) (λ some. some)
 
 pub orphans_distance : (hand : List ℕ) (melds : List Meld) (forms : SpecialForms) → AreSpecialForms hand melds forms → IsOrphansDistance hand melds (without_meld (length melds) forms.orphans.lack)
-orphans_distance hand melds forms are = orphans_cases hand melds forms (eqb (length melds) 0) refl are
+orphans_distance hand melds forms are =
+    form_cases (IsOrphansDistance hand melds) (length melds) forms.orphans.lack (eqb (length melds) 0) refl (λ none. (none, (are.orphans none).reached, (are.orphans none).bound)) (λ some. some)
 
 -- beside a meld the other forms are farther than any distance
 least_cases : (n p o melded : ℕ) (none : Bool) → none ≡ eqb melded 0 → n ≤ 14 → (0 < melded → p ≡ 255) → (0 < melded → o ≡ 255) → min_with (min_with n (cond none (Some p) None)) (cond none (Some o) None) ≡ min n (min p o)

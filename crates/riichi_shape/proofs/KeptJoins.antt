@@ -11,11 +11,11 @@ use Rattle.riichi_shape.specs.Rows.{AreFormsOf, AreJoinsBeside, AreJoinsOf, AreR
 use Rattle.riichi_shape.specs.Suits.{IsRowOf}
 use Rattle.riichi_shape.specs.declared.hand_forms.HandForms.{HandForms}
 use Rattle.riichi_shape.specs.declared.hand_joins.HandJoins.{HandJoins}
-use Rattle.riichi_shape.specs.declared.hand_rows.HandRows.{HandRows}
+use Rattle.riichi_tiles.specs.declared.by_suit.BySuit.{BySuit}
 use Rattle.riichi_shape.proofs.FourSuits.{standard_least}
 use Rattle.riichi_shape.proofs.KeptRows.{row_kept}
 
-least_by_rows : (hand : List ℕ) (melds : List Meld) (rows : HandRows) → AreRowsOf hand melds rows → IsMeldedFew melds → (sets : ℕ) → sets ≤ 4 → (least : Option ℕ) →
+least_by_rows : (hand : List ℕ) (melds : List Meld) (rows : BySuit SuitRow) → AreRowsOf hand melds rows → IsMeldedFew melds → (sets : ℕ) → sets ≤ 4 → (least : Option ℕ) →
     IsLeastJoin (entries_of rows.characters) (entries_of rows.circles) (entries_of rows.bamboos) (entries_of rows.honours) sets least → IsLeastStandard hand melds sets least
 least_by_rows hand melds rows are few sets in_hand least join =
     standard_least hand melds
@@ -35,7 +35,7 @@ least_by_forms hand melds forms are few sets in_hand least join =
     least_by_rows hand melds forms.rows are.are_rows few sets in_hand least (join forms.rows.circles forms.rows.bamboos forms.rows.honours are.are_joins.beside_characters)
 
 module _ (kind : ℕ) (hand : List ℕ) (melds : List Meld) (joins : HandJoins) (are : AreJoinsBeside kind hand melds joins) (few : IsMeldedFew melds) (sets : ℕ) (in_hand : sets ≤ 4) (row : SuitRow) (least : Option ℕ) where
-  rows : HandRows
+  rows : BySuit SuitRow
   rows = are.joins_before.rows
 
   kept : (base width : ℕ) (old : SuitRow) → ((k : ℕ) → base ≤ k → k < base + width → k ≢ kind) → IsRowOf are.before melds base width old → IsRowOf hand melds base width old
@@ -99,7 +99,7 @@ module _ (kind : ℕ) (hand : List ℕ) (melds : List Meld) (joins : HandJoins) 
 
 -- ---- the joins of rows of which one has changed
 
-module _ (before after : HandRows) (joins : HandJoins) (are : AreJoinsOf before joins) where
+module _ (before after : BySuit SuitRow) (joins : HandJoins) (are : AreJoinsOf before joins) where
   pub same_but_characters : after.circles ≡ before.circles → after.bamboos ≡ before.bamboos → after.honours ≡ before.honours → AreJoinsOf (with_characters after before.characters) joins
   same_but_characters e e' e'' = rw (e, e', e'') are
 

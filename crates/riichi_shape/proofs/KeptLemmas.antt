@@ -11,7 +11,8 @@ use Rattle.std.specs.Simd.Lanes.{mask_l}
 use Rattle.riichi_tiles.specs.Melds.{every_kind}
 use Rattle.riichi_shape.specs.Discards.{inserted, inserted_by, live_with}
 use Rattle.riichi_shape.specs.KeptDiscards.{AreKept, AreTold, IsKept, all_copies, kept_of, kinds_in, kinds_of, most_copies, told}
-use Rattle.riichi_shape.specs.KindBits.{copies_among, copies_at, has_kind}
+use Rattle.riichi_tiles.specs.HeldKinds.{is_held}
+use Rattle.riichi_shape.specs.KindBits.{copies_among, copies_at}
 use Rattle.riichi_shape.specs.LiveCopies.{copies_in, pairs_of}
 use Rattle.riichi_shape.specs.declared.discard.Discard.{Discard}
 use Rattle.riichi_shape.specs.declared.kept_discard.KeptDiscard.{KeptDiscard}
@@ -27,7 +28,7 @@ kinds_low pairs =
     subst (λ n. mask_l (map (λ kind. nat_lt 0 (copies_in pairs kind)) every_kind) < 2 ^ n) (length-map-range_with_len (λ kind. nat_lt 0 (copies_in pairs kind)) 0 34)
     (mask_l-lt (map (λ kind. nat_lt 0 (copies_in pairs kind)) every_kind))
 
-has_kind_in : (pairs : List (ℕ × ℕ)) (kind : ℕ) → kind < 34 → has_kind (kinds_in pairs) kind ≡ nat_lt 0 (copies_in pairs kind)
+has_kind_in : (pairs : List (ℕ × ℕ)) (kind : ℕ) → kind < 34 → is_held (kinds_in pairs) kind ≡ nat_lt 0 (copies_in pairs kind)
 unfolding kinds_in
 has_kind_in pairs kind low = marked_at (map (λ kind. nat_lt 0 (copies_in pairs kind)) every_kind) kind ∙ get_or-map-range_with_len (λ kind. nat_lt 0 (copies_in pairs kind)) 0 34 kind kind false low (omega arith)
 
@@ -38,10 +39,10 @@ some_at false c some = refl
 copies_of : (copies : List ℕ) (set kind : ℕ) → kind < 34 → copies_in (pairs_of (copies_among copies set)) kind ≡ copies_at copies set kind
 copies_of copies set kind low = copies_told (copies_among copies set) kind low ∙ among_at copies set kind low
 
-kinds_back : (copies : List ℕ) (set : ℕ) → set < 2 ^ 34 → ((kind : ℕ) → kind < 34 → has_kind set kind ≡ true → 0 < slice_index copies kind) → kinds_in (pairs_of (copies_among copies set)) ≡ set
+kinds_back : (copies : List ℕ) (set : ℕ) → set < 2 ^ 34 → ((kind : ℕ) → kind < 34 → is_held set kind ≡ true → 0 < slice_index copies kind) → kinds_in (pairs_of (copies_among copies set)) ≡ set
 kinds_back copies set low some =
     same_kinds (kinds_in (pairs_of (copies_among copies set))) set (kinds_low (pairs_of (copies_among copies set))) low
-    (λ kind inside. has_kind_in (pairs_of (copies_among copies set)) kind inside ∙ ap (nat_lt 0) (copies_of copies set kind inside) ∙ some_at (has_kind set kind) (slice_index copies kind) (some kind inside))
+    (λ kind inside. has_kind_in (pairs_of (copies_among copies set)) kind inside ∙ ap (nat_lt 0) (copies_of copies set kind inside) ∙ some_at (is_held set kind) (slice_index copies kind) (some kind inside))
 
 all_long : (discards : List Discard) → length (all_copies discards) ≡ 34
 unfolding all_copies
@@ -87,26 +88,26 @@ module _ (copies : List ℕ) where
   greater false true c = omega arith
   greater false false c = refl
 
-  most_told : (order : List KeptDiscard) (kind : ℕ) → kind < 34 → most_copies (map (told copies) order) kind ≡ cond (list_any (λ kept. has_kind (kinds_of kept) kind) order) (slice_index copies kind) 0
+  most_told : (order : List KeptDiscard) (kind : ℕ) → kind < 34 → most_copies (map (told copies) order) kind ≡ cond (list_any (λ kept. is_held (kinds_of kept) kind) order) (slice_index copies kind) 0
   unfolding most_copies
   most_told [] kind low = refl
   most_told (kept ∷ order) kind low =
       ap (λ n. max n (most_copies (map (told copies) order) kind)) (copies_of copies (kinds_of kept) kind low)
       ∙ ap (max (copies_at copies (kinds_of kept) kind)) (most_told order kind low)
-      ∙ greater (has_kind (kinds_of kept) kind) (list_any (λ kept. has_kind (kinds_of kept) kind) order) (slice_index copies kind)
+      ∙ greater (is_held (kinds_of kept) kind) (list_any (λ kept. is_held (kinds_of kept) kind) order) (slice_index copies kind)
 
   -- the copies that are shown of the kinds of a set in which each discard's kinds are
   module _ (set : ℕ) where
     abbrev Within : KeptDiscard → Type 0
-    Within kept = (kind : ℕ) → kind < 34 → has_kind (kinds_of kept) kind ≡ true → has_kind set kind ≡ true
+    Within kept = (kind : ℕ) → kind < 34 → is_held (kinds_of kept) kind ≡ true → is_held set kind ≡ true
 
     abbrev AllWithin : List KeptDiscard → Type 0
     AllWithin [] = Unit {0}
     AllWithin (kept ∷ order) = Within kept × AllWithin order
 
-    all_within : (order : List KeptDiscard) → ((kind : ℕ) → list_any (λ kept. has_kind (kinds_of kept) kind) order ≡ true → has_kind set kind ≡ true) → AllWithin order
+    all_within : (order : List KeptDiscard) → ((kind : ℕ) → list_any (λ kept. is_held (kinds_of kept) kind) order ≡ true → is_held set kind ≡ true) → AllWithin order
     all_within [] any = tt
-    all_within (kept ∷ order) any = (λ kind low h. any kind (or_left (has_kind (kinds_of kept) kind) (list_any (λ kept. has_kind (kinds_of kept) kind) order) h), all_within order (λ kind h. any kind (or_right (has_kind (kinds_of kept) kind) (list_any (λ kept. has_kind (kinds_of kept) kind) order) h)))
+    all_within (kept ∷ order) any = (λ kind low h. any kind (or_left (is_held (kinds_of kept) kind) (list_any (λ kept. is_held (kinds_of kept) kind) order) h), all_within order (λ kind h. any kind (or_right (is_held (kinds_of kept) kind) (list_any (λ kept. is_held (kinds_of kept) kind) order) h)))
 
     same_told : (kept : KeptDiscard) → Within kept → told (copies_among copies set) kept ≡ told copies kept
     same_told kept within = same_discard (ap pairs_of (among_same (copies_among copies set) copies (kinds_of kept) (kinds_of kept) each))
@@ -120,13 +121,13 @@ module _ (copies : List ℕ) where
         shown false t c there = refl
 
         each : (kind : ℕ) → kind < 34 → copies_at (copies_among copies set) (kinds_of kept) kind ≡ copies_at copies (kinds_of kept) kind
-        each kind low = ap (λ c. cond (has_kind (kinds_of kept) kind) c 0) (among_at copies set kind low) ∙ shown (has_kind (kinds_of kept) kind) (has_kind set kind) (slice_index copies kind) (within kind low)
+        each kind low = ap (λ c. cond (is_held (kinds_of kept) kind) c 0) (among_at copies set kind low) ∙ shown (is_held (kinds_of kept) kind) (is_held set kind) (slice_index copies kind) (within kind low)
 
     all_same : (order : List KeptDiscard) → AllWithin order → map (told (copies_among copies set)) order ≡ map (told copies) order
     all_same [] all = refl
     all_same (kept ∷ order) all = ap (λ d. d ∷ map (told (copies_among copies set)) order) (same_told kept all.0) ∙ ap (λ ds. told copies kept ∷ ds) (all_same order all.1)
 
-    module _ (order : List KeptDiscard) (set_is : (kind : ℕ) → has_kind set kind ≡ list_any (λ kept. has_kind (kinds_of kept) kind) order) where
+    module _ (order : List KeptDiscard) (set_is : (kind : ℕ) → is_held set kind ≡ list_any (λ kept. is_held (kinds_of kept) kind) order) where
       pub shown_same : map (told (copies_among copies set)) order ≡ map (told copies) order
       shown_same = all_same order (all_within order (λ kind h. set_is kind ∙ h))
 

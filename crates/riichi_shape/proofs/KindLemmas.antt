@@ -15,8 +15,10 @@ use Rattle.std.specs.Simd.Lanes.{mask_l}
 use Rattle.riichi_rows.specs.Marks.{has_rank}
 use Rattle.riichi_shape.specs.LackedKinds.{suits_lack}
 use Rattle.riichi_shape.proofs.AcceptedLemmas.{some_few}
-use Rattle.riichi_shape.specs.declared.suits_lacked.SuitsLacked.{SuitsLacked}
-use Rattle.riichi_shape.specs.KindBits.{copies_among, copies_at, has_kind}
+use Rattle.riichi_tiles.specs.declared.by_suit.BySuit.{BySuit}
+use Rattle.riichi_rows.specs.declared.rank_set.RankSet.{RankSet}
+use Rattle.riichi_tiles.specs.HeldKinds.{is_held}
+use Rattle.riichi_shape.specs.KindBits.{copies_among, copies_at}
 
 -- ---- a bit of two sets, and of marks
 
@@ -24,7 +26,7 @@ is_bit : (b : Bool) → (cond b 1 0 == 1) ≡ b
 is_bit true = refl
 is_bit false = refl
 
-pub marked_at : (marks : List Bool) (kind : ℕ) → has_kind (mask_l marks) kind ≡ get_or marks kind false
+pub marked_at : (marks : List Bool) (kind : ℕ) → is_held (mask_l marks) kind ≡ get_or marks kind false
 marked_at marks kind = ap (λ n. n == 1) (bit_mask_l marks kind) ∙ is_bit (get_or marks kind false)
 
 both_bits : (a b : ℕ) → a < 2 → b < 2 → (min a b == 1) ≡ ((a == 1) && (b == 1))
@@ -34,7 +36,7 @@ both_bits (suc zero) (suc zero) low low' = refl
 both_bits (suc zero) (suc (suc b)) low low' = absurd (omega arith)
 both_bits (suc (suc a)) b low low' = absurd (omega arith)
 
-pub both_at : (a b kind : ℕ) → has_kind (bit_and a b) kind ≡ (has_kind a kind && has_kind b kind)
+pub both_at : (a b kind : ℕ) → is_held (bit_and a b) kind ≡ (is_held a kind && is_held b kind)
 both_at a b kind = ap (λ n. n == 1) (bit_at_and a b kind) ∙ both_bits (bit_at a kind) (bit_at b kind) (bit_at-lt a kind) (bit_at-lt b kind)
 
 either_bits : (a b : ℕ) → a < 2 → b < 2 → (max a b == 1) ≡ ((a == 1) || (b == 1))
@@ -46,7 +48,7 @@ either_bits zero (suc (suc b)) low low' = absurd (omega arith)
 either_bits (suc zero) (suc (suc b)) low low' = absurd (omega arith)
 either_bits (suc (suc a)) b low low' = absurd (omega arith)
 
-pub either_at : (a b kind : ℕ) → has_kind (bit_or a b) kind ≡ (has_kind a kind || has_kind b kind)
+pub either_at : (a b kind : ℕ) → is_held (bit_or a b) kind ≡ (is_held a kind || is_held b kind)
 either_at a b kind = ap (λ n. n == 1) (bit_at_or a b kind) ∙ either_bits (bit_at a kind) (bit_at b kind) (bit_at-lt a kind) (bit_at-lt b kind)
 
 -- ---- marks as bits, from the last kind on
@@ -95,11 +97,11 @@ pub among_same : (copies others : List ℕ) (set other : ℕ) → ((kind : ℕ) 
 among_same copies others set other each = are_among (copies_among copies set) others other (among_long copies set) (λ kind low. among_at copies set kind low ∙ each kind low)
 
 pub few_among : (copies : List ℕ) (set : ℕ) → ((kind : ℕ) → slice_index copies kind ≤ 4) → (kind : ℕ) → slice_index (copies_among copies set) kind ≤ 4
-few_among copies set few = some_few (copies_among copies set) copies (has_kind set) (among_long copies set) few (among_at copies set)
+few_among copies set few = some_few (copies_among copies set) copies (is_held set) (among_long copies set) few (among_at copies set)
 
 -- ---- two sets with the same kinds
 
-pub same_kinds : (a b : ℕ) → a < 2 ^ 34 → b < 2 ^ 34 → ((kind : ℕ) → kind < 34 → has_kind a kind ≡ has_kind b kind) → a ≡ b
+pub same_kinds : (a b : ℕ) → a < 2 ^ 34 → b < 2 ^ 34 → ((kind : ℕ) → kind < 34 → is_held a kind ≡ is_held b kind) → a ≡ b
 same_kinds a b low low' each = same_from_bits_below 34 a b low low' (λ kind inside. same_bit (bit_at a kind) (bit_at b kind) (bit_at-lt a kind) (bit_at-lt b kind) (each kind inside))
   where
     same_bit : (m n : ℕ) → m < 2 → n < 2 → (m == 1) ≡ (n == 1) → m ≡ n
@@ -108,42 +110,42 @@ same_kinds a b low low' each = same_from_bits_below 34 a b low low' (λ kind ins
 -- ---- the sets of four suits as one
 
 module _ (upper lower n : ℕ) (below : lower < 512) (is : n ≡ upper * 512 + lower) where
-  pub in_lower : (kind : ℕ) → kind < 9 → has_kind n kind ≡ has_kind lower kind
-  in_lower kind low = ap (λ m. has_kind m kind) is ∙ ap (λ b. b == 1) (bit_at_cat_low upper 9 lower kind low)
+  pub in_lower : (kind : ℕ) → kind < 9 → is_held n kind ≡ is_held lower kind
+  in_lower kind low = ap (λ m. is_held m kind) is ∙ ap (λ b. b == 1) (bit_at_cat_low upper 9 lower kind low)
 
-  pub in_upper : (kind : ℕ) → 9 ≤ kind → has_kind n kind ≡ has_kind upper (kind - 9)
-  in_upper kind high = ap (λ m. has_kind m kind) is ∙ ap (λ b. b == 1) (bit_at_cat_high upper 9 lower kind below high)
+  pub in_upper : (kind : ℕ) → 9 ≤ kind → is_held n kind ≡ is_held upper (kind - 9)
+  in_upper kind high = ap (λ m. is_held m kind) is ∙ ap (λ b. b == 1) (bit_at_cat_high upper 9 lower kind below high)
 
 -- seven of nine bits
-in_seven : (n kind : ℕ) → kind < 7 → has_kind (bit_and n 127) kind ≡ has_kind n kind
-in_seven n kind low = both_at n 127 kind ∙ ap (λ b. has_kind n kind && (b == 1)) (bit_at_ones 7 kind low) ∙ and_true (has_kind n kind)
+in_seven : (n kind : ℕ) → kind < 7 → is_held (bit_and n 127) kind ≡ is_held n kind
+in_seven n kind low = both_at n 127 kind ∙ ap (λ b. is_held n kind && (b == 1)) (bit_at_ones 7 kind low) ∙ and_true (is_held n kind)
   where
     and_true : (b : Bool) → (b && true) ≡ b
     and_true true = refl
     and_true false = refl
 
-module _ (suits : SuitsLacked) (m p s h n : ℕ) (m_low : m < 512) (p_low : p < 512) (s_low : s < 512) (is : n ≡ ((bit_and h 127 * 512 + s) * 512 + p) * 512 + m)
-    (m_is : (rank : ℕ) → rank < 9 → has_kind m rank ≡ has_rank suits.characters rank) (p_is : (rank : ℕ) → rank < 9 → has_kind p rank ≡ has_rank suits.circles rank)
-    (s_is : (rank : ℕ) → rank < 9 → has_kind s rank ≡ has_rank suits.bamboos rank) (h_is : (rank : ℕ) → rank < 9 → has_kind h rank ≡ has_rank suits.honours rank) where
+module _ (suits : BySuit RankSet) (m p s h n : ℕ) (m_low : m < 512) (p_low : p < 512) (s_low : s < 512) (is : n ≡ ((bit_and h 127 * 512 + s) * 512 + p) * 512 + m)
+    (m_is : (rank : ℕ) → rank < 9 → is_held m rank ≡ has_rank suits.characters rank) (p_is : (rank : ℕ) → rank < 9 → is_held p rank ≡ has_rank suits.circles rank)
+    (s_is : (rank : ℕ) → rank < 9 → is_held s rank ≡ has_rank suits.bamboos rank) (h_is : (rank : ℕ) → rank < 9 → is_held h rank ≡ has_rank suits.honours rank) where
   abbrev by_suit : Bool → Bool → Bool → ℕ → Bool
   by_suit a b c kind = cond a (has_rank suits.characters kind) (cond b (has_rank suits.circles (kind - 9)) (cond c (has_rank suits.bamboos (kind - 18)) (has_rank suits.honours (kind - 27))))
 
-  at_place : (rank other : ℕ) (set : ℕ) → rank ≡ other → has_kind set rank ≡ has_kind set other
-  at_place rank other set e = ap (has_kind set) e
+  at_place : (rank other : ℕ) (set : ℕ) → rank ≡ other → is_held set rank ≡ is_held set other
+  at_place rank other set e = ap (is_held set) e
 
-  first : (kind : ℕ) → 9 ≤ kind → has_kind n kind ≡ has_kind ((bit_and h 127 * 512 + s) * 512 + p) (kind - 9)
+  first : (kind : ℕ) → 9 ≤ kind → is_held n kind ≡ is_held ((bit_and h 127 * 512 + s) * 512 + p) (kind - 9)
   first kind high = in_upper ((bit_and h 127 * 512 + s) * 512 + p) m n m_low is kind high
 
-  second : (kind : ℕ) → 18 ≤ kind → has_kind n kind ≡ has_kind (bit_and h 127 * 512 + s) (kind - 18)
+  second : (kind : ℕ) → 18 ≤ kind → is_held n kind ≡ is_held (bit_and h 127 * 512 + s) (kind - 18)
   second kind high = first kind (omega arith) ∙ in_upper (bit_and h 127 * 512 + s) p ((bit_and h 127 * 512 + s) * 512 + p) p_low refl (kind - 9) (omega arith) ∙ at_place (kind - 9 - 9) (kind - 18) (bit_and h 127 * 512 + s) (omega arith)
 
-  third : (kind : ℕ) → 27 ≤ kind → has_kind n kind ≡ has_kind (bit_and h 127) (kind - 27)
+  third : (kind : ℕ) → 27 ≤ kind → is_held n kind ≡ is_held (bit_and h 127) (kind - 27)
   third kind high = second kind (omega arith) ∙ in_upper (bit_and h 127) s (bit_and h 127 * 512 + s) s_low refl (kind - 18) (omega arith) ∙ at_place (kind - 18 - 9) (kind - 27) (bit_and h 127) (omega arith)
 
   tested : (kind : ℕ) (a b c : Bool) → ltb kind 9 ≡ a → ltb kind 18 ≡ b → ltb kind 27 ≡ c → by_suit a b c kind ≡ suits_lack suits kind
   tested kind a b c e e' e'' = sym (ap (λ a. by_suit a (ltb kind 18) (ltb kind 27) kind) e ∙ ap (λ b. by_suit a b (ltb kind 27) kind) e' ∙ ap (λ c. by_suit a b c kind) e'')
 
-  pub suits_at : (kind : ℕ) → kind < 34 → has_kind n kind ≡ suits_lack suits kind
+  pub suits_at : (kind : ℕ) → kind < 34 → is_held n kind ≡ suits_lack suits kind
   suits_at kind inside =
       ⊎_elim (λ low. in_lower ((bit_and h 127 * 512 + s) * 512 + p) m n m_low is kind low ∙ m_is kind low ∙ tested kind true (ltb kind 18) (ltb kind 27) (lt-ltb kind 9 low) refl refl)
       (λ high. ⊎_elim (λ low. first kind high ∙ in_lower (bit_and h 127 * 512 + s) p ((bit_and h 127 * 512 + s) * 512 + p) p_low refl (kind - 9) (omega arith) ∙ p_is (kind - 9) (omega arith)

@@ -16,8 +16,8 @@ use Rattle.riichi_shape.specs.Lacked.{EntryLacks, StandardLacks, SuitLacks}
 use Rattle.riichi_shape.specs.LackedKinds.{AreSuitsLacked, NoneStandardLess}
 use Rattle.riichi_shape.specs.Rows.{AreJoinsOf, AreRowsOf, IsMeldedFew}
 use Rattle.riichi_shape.specs.declared.hand_joins.HandJoins.{HandJoins}
-use Rattle.riichi_shape.specs.declared.hand_rows.HandRows.{HandRows}
-use Rattle.riichi_shape.specs.declared.suits_lacked.SuitsLacked.{SuitsLacked}
+use Rattle.riichi_tiles.specs.declared.by_suit.BySuit.{BySuit}
+use Rattle.riichi_rows.specs.declared.rank_set.RankSet.{RankSet}
 use Rattle.riichi_shape.proofs.FourSuits.{lacks_by_entries, sums_bound}
 use Rattle.riichi_rows.proofs.Opposite.{through}
 
@@ -108,7 +108,7 @@ turn f = (f.1, f.0)
 
 -- ---- the rows of a hand
 
-module _ (hand : List ℕ) (melds : List Meld) (rows : HandRows) (are : AreRowsOf hand melds rows) (melds_few : IsMeldedFew melds) (sets n : ℕ) (few : sets ≤ 4) (low : n < 255) (none_less : NoneStandardLess hand melds sets n) (joins : HandJoins) (are_joins : AreJoinsOf rows joins) where
+module _ (hand : List ℕ) (melds : List Meld) (rows : BySuit SuitRow) (are : AreRowsOf hand melds rows) (melds_few : IsMeldedFew melds) (sets n : ℕ) (few : sets ≤ 4) (low : n < 255) (none_less : NoneStandardLess hand melds sets n) (joins : HandJoins) (are_joins : AreJoinsOf rows joins) where
   abbrev a : SuitRow
   a = rows.characters
 
@@ -218,7 +218,7 @@ module _ (hand : List ℕ) (melds : List Meld) (rows : HandRows) (are : AreRowsO
 
   -- ---- all kinds
 
-  module _ (suits : SuitsLacked)
+  module _ (suits : BySuit RankSet)
       (by_characters : (rank : ℕ) → rank < 9 → IsTrue (has_rank suits.characters rank) ↔ MarkedBeside a joins.beside_characters sets n rank) (by_circles : (rank : ℕ) → rank < 9 → IsTrue (has_rank suits.circles rank) ↔ MarkedBeside b joins.beside_circles sets n rank)
       (by_bamboos : (rank : ℕ) → rank < 9 → IsTrue (has_rank suits.bamboos rank) ↔ MarkedBeside c joins.beside_bamboos sets n rank) (by_honours : (rank : ℕ) → rank < 9 → IsTrue (has_rank suits.honours rank) ↔ MarkedBeside d joins.beside_honours sets n rank) where
     kind_lacked : (kind : ℕ) → kind < 34 → (t u v : Bool) → ltb kind 9 ≡ t → ltb kind 18 ≡ u → ltb kind 27 ≡ v →

@@ -37,7 +37,7 @@ copies_told copies kind low =
     ∙ spread_with (λ k. cond (ltb 0 (slice_index copies k)) (cond (eqb k kind) (slice_index copies k) 0) 0) (λ k. 0) (slice_index copies) kind (λ k. one_kind (slice_index copies k) k kind) 0 34 (omega arith) (omega arith)
     ∙ ap (λ n. n + slice_index copies kind) (spread_none (λ k. 0) 0 34 (λ k l h. refl)) ∙ omega arith
 
-some_live : (h : ℕ) → cond (ltb 0 h) h 0 ≡ h
+pub some_live : (h : ℕ) → cond (ltb 0 h) h 0 ≡ h
 some_live h = grind (arith, nat_tests)
 
 pub live_told : (copies : List ℕ) → length copies ≡ 34 → live_in (pairs_of copies) ≡ sum copies

@@ -1,7 +1,7 @@
 -- One more tile of a kind brings a hand nearer exactly where some least winning multiset lacks it.
 use Rattle.std.proofs.Common.{◌≡◌, ℕ, ◌+◌, ◌-◌, ◌<◌, ◌≤◌, min, Bool, true, false, cond, inl, inr, List, length, ltb, sym, ap, ◌∙◌, ⊎_elim, subst, Option, Some, None, arith, get_or-set_same, get_or-set_other}
-use Rattle.std.proofs.lemmas.Bool.{or_left, or_right, lt-ltb, ltb-true, or_cases}
-use Rattle.std.proofs.lemmas.Bool.Decides.{nat_tests}
+use Rattle.std.proofs.lemmas.Bool.{or_left, or_right, or_cases}
+use Rattle.std.proofs.lemmas.Bool.Decides.{nat_tests, same_from_decides, Decides-ltb}
 use Rattle.std.specs.Prelude.{slice_index, unwrap_or, nat_lt, ◌&&◌}
 use Rattle.riichi_tiles.specs.Melds.{tiles}
 use Rattle.riichi_tiles.specs.declared.meld.Meld.{Meld}
@@ -15,7 +15,6 @@ use Rattle.riichi_shape.specs.Winning.{IsSetsAndPair}
 use Rattle.riichi_shape.specs.declared.lacked_kinds.LackedKinds.{LackedKinds}
 use Rattle.riichi_shape.proofs.Distances.{exists, never_none, whole_distance}
 use Rattle.riichi_shape.proofs.OneMore.{accepted, by_forms}
-use Rattle.riichi_shape.proofs.RemovalLemmas.{bool_same}
 use Rattle.riichi_shape.proofs.SpecialLemmas.{special_none_less}
 use Rattle.riichi_shape.proofs.Uniqueness.{distance_from}
 
@@ -48,9 +47,8 @@ module _ (hand : List ℕ) (melds : List Meld) (at_most_four : length melds ≤ 
       let after = distance_reached (with_one hand kind) melds at_most_four of_a_kind in
       let law = accepted hand (with_one hand kind) melds (distance_of hand melds) (distance_of (with_one hand kind) melds) kind inside one_more before after in
       let at = (subst (λ (m : ℕ). AreLackedKinds hand melds m lacked) n_is are).at kind inside in
-      bool_same (lacks_kind lacked kind (slice_index hand kind)) (nat_lt (distance_of (with_one hand kind) melds) (distance_of hand melds))
-      (λ e. lt-ltb (distance_of (with_one hand kind) melds) (distance_of hand melds) (law.1 (at.0 e)))
-      (λ e. at.1 (law.0 (ltb-true (distance_of (with_one hand kind) melds) (distance_of hand melds) e)))
+      same_from_decides (lacks_kind lacked kind (slice_index hand kind)) (nat_lt (distance_of (with_one hand kind) melds) (distance_of hand melds))
+      (λ e. law.1 (at.0 e), λ less. at.1 (law.0 less)) (Decides-ltb (distance_of (with_one hand kind) melds) (distance_of hand melds))
 
   live_alone : (copies live : ℕ) (nearer : Bool) → copies ≡ cond nearer live 0 → copies ≡ cond (ltb 0 live && nearer) live 0
   live_alone copies live true e = grind (arith, nat_tests)

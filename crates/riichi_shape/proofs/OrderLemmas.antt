@@ -2,7 +2,7 @@
 use Rattle.std.proofs.Common.{◌≡◌, ℕ, zero, suc, ◌+◌, ◌<◌, ◌≤◌, Bool, true, false, cond, ◌⊎◌, inl, inr, List, [], ◌∷◌, map, leb, refl, ⊎_elim, arith}
 use Rattle.std.proofs.lemmas.Bool.{leb-false, leb-true}
 use Rattle.std.proofs.lemmas.Bool.Decides.{nat_tests}
-use Rattle.std.specs.List.{filter, range_with_len}
+use Rattle.std.specs.List.{AllByRecursion, filter, range_with_len}
 use Rattle.std.specs.Prelude.{nat_le}
 use Rattle.riichi_tiles.specs.declared.meld.Meld.{Meld}
 use Rattle.riichi_shape.specs.Discards.{discard_of, discards_of, in_order, inserted, inserted_by, is_discard, live_with}
@@ -11,8 +11,7 @@ use Rattle.riichi_shape.specs.declared.discard.Discard.{Discard}
 
 -- a discard of a lesser kind than each of these
 abbrev IsOfLesserKind : Discard → List Discard → Type 0
-IsOfLesserKind discard [] = Unit {0}
-IsOfLesserKind discard (next ∷ rest) = (discard.kind < next.kind) × IsOfLesserKind discard rest
+IsOfLesserKind discard rest = AllByRecursion (λ next. discard.kind < next.kind) rest
 
 -- more live copies than the first are more than all
 after : (discard next : Discard) (rest : List Discard) → live_with next ≤ live_with discard → discard.kind < next.kind → StandsBeforeAll next rest → IsOfLesserKind discard rest → StandsBeforeAll discard rest
@@ -36,14 +35,14 @@ first_before discard next e kind = by_live (live_with discard) (live_with next) 
         either : (d n : ℕ) → leb n d ≡ true → (n < d) ⊎ (n ≡ d)
         either d n e = grind (arith, nat_tests)
 
--- what stands before all others stands before one more put among them
-all_inserted : (first discard : Discard) (rest : List Discard) → StandsBefore first discard → StandsBeforeAll first rest → StandsBeforeAll first (inserted discard rest)
+-- what holds of each of some discards and of one more holds of each once this is put among them
+all_inserted : (Is : Discard → Type 0) (discard : Discard) (rest : List Discard) → Is discard → AllByRecursion Is rest → AllByRecursion Is (inserted discard rest)
 unfolding inserted_by
-all_inserted first discard [] before all = (before, tt)
-all_inserted first discard (next ∷ rest) before all = by_test (nat_le (live_with next) (live_with discard)) (all_inserted first discard rest before all.1)
+all_inserted Is discard [] is all = (is, tt)
+all_inserted Is discard (next ∷ rest) is all = by_test (nat_le (live_with next) (live_with discard)) (all_inserted Is discard rest is all.1)
   where
-    by_test : (t : Bool) → StandsBeforeAll first (inserted discard rest) → StandsBeforeAll first (cond t (discard ∷ next ∷ rest) (next ∷ inserted discard rest))
-    by_test true later = (before, all)
+    by_test : (t : Bool) → AllByRecursion Is (inserted discard rest) → AllByRecursion Is (cond t (discard ∷ next ∷ rest) (next ∷ inserted discard rest))
+    by_test true later = (is, all)
     by_test false later = (all.0, later)
 
 ordered_inserted : (discard : Discard) (rest : List Discard) → IsOfLesserKind discard rest → AreOrdered rest → AreOrdered (inserted discard rest)
@@ -53,16 +52,7 @@ ordered_inserted discard (next ∷ rest) lesser are = by_test (nat_le (live_with
   where
     by_test : (t : Bool) → nat_le (live_with next) (live_with discard) ≡ t → AreOrdered (inserted discard rest) → AreOrdered (cond t (discard ∷ next ∷ rest) (next ∷ inserted discard rest))
     by_test true e later = ((first_before discard next e lesser.0, after discard next rest (leb-true (live_with next) (live_with discard) e) lesser.0 are.0 lesser.1), are)
-    by_test false e later = (all_inserted next discard rest (inl (leb-false (live_with next) (live_with discard) e)) are.0, later)
-
-lesser_inserted : (first discard : Discard) (rest : List Discard) → first.kind < discard.kind → IsOfLesserKind first rest → IsOfLesserKind first (inserted discard rest)
-unfolding inserted_by
-lesser_inserted first discard [] kind lesser = (kind, tt)
-lesser_inserted first discard (next ∷ rest) kind lesser = by_test (nat_le (live_with next) (live_with discard)) (lesser_inserted first discard rest kind lesser.1)
-  where
-    by_test : (t : Bool) → IsOfLesserKind first (inserted discard rest) → IsOfLesserKind first (cond t (discard ∷ next ∷ rest) (next ∷ inserted discard rest))
-    by_test true later = (kind, lesser)
-    by_test false later = (lesser.0, later)
+    by_test false e later = (all_inserted (StandsBefore next) discard rest (inl (leb-false (live_with next) (live_with discard) e)) are.0, later)
 
 module _ (hand : List ℕ) (melds : List Meld) (seen : List ℕ) where
   abbrev chosen : ℕ → ℕ → List Discard
@@ -79,7 +69,7 @@ module _ (hand : List ℕ) (melds : List Meld) (seen : List ℕ) where
   lesser_chosen first a (suc n) low = rw (chosen_step (is_discard hand melds a) a (filter (is_discard hand melds) (range_with_len (a + 1) n))) (by_test (is_discard hand melds a) (lesser_chosen first (a + 1) n (omega arith)))
     where
       by_test : (t : Bool) → IsOfLesserKind first (chosen (a + 1) n) → IsOfLesserKind first (cond t (inserted (discard_of hand melds seen a) (chosen (a + 1) n)) (chosen (a + 1) n))
-      by_test true rest = lesser_inserted first (discard_of hand melds seen a) (chosen (a + 1) n) low rest
+      by_test true rest = all_inserted (λ next. first.kind < next.kind) (discard_of hand melds seen a) (chosen (a + 1) n) low rest
       by_test false rest = rest
 
   ordered_chosen : (a n : ℕ) → AreOrdered (chosen a n)

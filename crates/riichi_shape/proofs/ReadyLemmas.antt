@@ -153,10 +153,10 @@ winning_same melds wanted same are is = record {
 apart : (k place : ℕ) → eqb k place ≡ false → k ≢ place
 apart k place e same = false≢true (sym e ∙ eq-eqb k place same)
 
-one_more_at : (hand : List ℕ) (kind : ℕ) → kind < length hand → slice_index (with_one hand kind) kind ≡ slice_index hand kind + 1
+pub one_more_at : (hand : List ℕ) (kind : ℕ) → kind < length hand → slice_index (with_one hand kind) kind ≡ slice_index hand kind + 1
 one_more_at hand kind low = rw get_or-set_same refl
 
-one_more_past : (hand : List ℕ) (kind other : ℕ) → other ≢ kind → slice_index (with_one hand kind) other ≡ slice_index hand other
+pub one_more_past : (hand : List ℕ) (kind other : ℕ) → other ≢ kind → slice_index (with_one hand kind) other ≡ slice_index hand other
 one_more_past hand kind other ne = rw get_or-set_other refl
 
 module _ (hand : List ℕ) (melds : List Meld) (n : ℕ) (long : length hand ≡ 34) (thirteen : size hand melds ≡ 13) (is : IsDistance hand melds n) where

@@ -3,31 +3,27 @@ use Rattle.std.proofs.Common.{◌≡◌, ℕ, suc, ◌+◌, ◌-◌, ◌<◌, �
 use Rattle.std.proofs.lemmas.Bool.{cases_lt, eq-eqb, eqb-true, le-leb, leb-true, lt-ltb, ltb-true, and_from, le-ltb, ne_eqb}
 use Rattle.std.specs.List.{filter, range_with_len, sum}
 use Rattle.std.specs.Prelude.{slice_index, nat_le, ◌==◌, ◌&&◌}
+use Rattle.std.proofs.lemmas.Bool.Decides.{same_from_decides}
+use Rattle.riichi_tiles.specs.Tiles.{has_tile}
 use Rattle.riichi_tiles.specs.Melds.{every_kind}
 use Rattle.riichi_tiles.specs.declared.meld.Meld.{Meld}
 use Rattle.riichi_rows.proofs.Spread.{spread, spread_add}
 use Rattle.riichi_shape.specs.declared.discard.Discard.{Discard}
-use Rattle.riichi_shape.specs.Discards.{AreDistancesWithout, IsLeastOf, discard_of, discards_of, distance_without, in_order, inserted, is_best, is_discard, is_held}
+use Rattle.riichi_shape.specs.Discards.{AreDistancesWithout, IsLeastOf, discard_of, discards_of, distance_without, in_order, inserted, is_best, is_discard}
 use Rattle.riichi_shape.proofs.PairLemmas.{spread_total, sum_is_total}
 use Rattle.riichi_shape.proofs.Members.{Among, all_among, all_of, among_filter, among_range, from_filter, from_range}
 use Rattle.riichi_shape.proofs.OrderLemmas.{chosen_step}
-
-pub bool_same : (a b : Bool) → (a ≡ true → b ≡ true) → (b ≡ true → a ≡ true) → a ≡ b
-bool_same true true there back = refl
-bool_same true false there back = sym (there refl)
-bool_same false true there back = back refl
-bool_same false false there back = refl
 
 module _ (hand : List ℕ) (melds : List Meld) (distances : List ℕ) (least : ℕ) (are : AreDistancesWithout hand melds distances) (is : IsLeastOf distances least) (kind : ℕ) (inside : kind < 34) (held : 0 < slice_index hand kind) where
   abbrev no_less : ℕ → Bool
   no_less other = nat_le (distance_without hand melds kind) (distance_without hand melds other)
 
   there : (slice_index distances kind == least) ≡ true → is_best hand melds kind ≡ true
-  there e = all_of no_less (filter (is_held hand) every_kind) each
+  there e = all_of no_less (filter (has_tile hand) every_kind) each
     where
-      each : (other : ℕ) → Among other (filter (is_held hand) every_kind) → no_less other ≡ true
+      each : (other : ℕ) → Among other (filter (has_tile hand) every_kind) → no_less other ≡ true
       each other h =
-          let r = from_filter (is_held hand) other every_kind h in
+          let r = from_filter (has_tile hand) other every_kind h in
           let within = (from_range other 0 34 r.0).1 in
           let there = ltb-true 0 (slice_index hand other) r.1 in
           le-leb (distance_without hand melds kind) (distance_without hand melds other) (omega (arith, are.held kind inside held, are.held other within there, is.bound other within, eqb-true (slice_index distances kind) least e))
@@ -37,14 +33,14 @@ module _ (hand : List ℕ) (melds : List Meld) (distances : List ℕ) (least : �
     where
       at_held : 0 < slice_index hand is.place → slice_index distances kind ≡ least
       at_held h =
-          let t = all_among no_less is.place (filter (is_held hand) every_kind) all (among_filter (is_held hand) is.place every_kind (among_range is.place 0 34 (omega arith) (omega (arith, is.is_kind))) (lt-ltb 0 (slice_index hand is.place) h)) in
+          let t = all_among no_less is.place (filter (has_tile hand) every_kind) all (among_filter (has_tile hand) is.place every_kind (among_range is.place 0 34 (omega arith) (omega (arith, is.is_kind))) (lt-ltb 0 (slice_index hand is.place) h)) in
           omega (arith, leb-true (distance_without hand melds kind) (distance_without hand melds is.place) t, are.held kind inside held, are.held is.place is.is_kind h, is.reached, is.bound kind inside)
 
       at_other : slice_index hand is.place ≤ 0 → slice_index distances kind ≡ least
       at_other h = absurd (omega (arith, are.others is.place is.is_kind (omega (arith, h)), is.reached, is.bound kind inside, are.few kind inside held))
 
   pub best_is : (slice_index distances kind == least) ≡ is_best hand melds kind
-  best_is = bool_same (slice_index distances kind == least) (is_best hand melds kind) there back
+  best_is = same_from_decides (slice_index distances kind == least) (is_best hand melds kind) (there, back) (λ e. e, λ e. e)
 
 -- ---- the discards of the kinds from one on
 
@@ -119,7 +115,7 @@ module _ (hand : List ℕ) (melds : List Meld) (seen : List ℕ) (number : ℕ) 
         there = omega (arith, held, ap (slice_index hand) kind_is)
 
         chosen : is_discard hand melds (number - 1) ≡ true
-        chosen = and_from (is_held hand (number - 1)) (is_best hand melds (number - 1)) (lt-ltb 0 (slice_index hand (number - 1)) there) (sym (best_is hand melds distances least are is (number - 1) (omega arith) there) ∙ eq-eqb (slice_index distances (number - 1)) least equal)
+        chosen = and_from (has_tile hand (number - 1)) (is_best hand melds (number - 1)) (lt-ltb 0 (slice_index hand (number - 1)) there) (sym (best_is hand melds distances least are is (number - 1) (omega arith) there) ∙ eq-eqb (slice_index distances (number - 1)) least equal)
 
     left_list : (is_discard hand melds (number - 1) ≡ false) → list ≡ discards_from hand melds seen (number - 1) (34 - (number - 1))
     left_list chosen = so_far ∙ sym (discards_at ∙ ap (λ t. cond t (inserted (discard_of hand melds seen (number - 1)) (discards_from hand melds seen number (34 - number))) (discards_from hand melds seen number (34 - number))) chosen)
@@ -129,11 +125,11 @@ module _ (hand : List ℕ) (melds : List Meld) (seen : List ℕ) (number : ℕ) 
     either_false false b h = refl
 
     pub left_unheld : slice_index hand (number - 1) ≤ 0 → list ≡ discards_from hand melds seen (number - 1) (34 - (number - 1))
-    left_unheld none = left_list (either_false (is_held hand (number - 1)) (is_best hand melds (number - 1)) (inl (le-ltb 0 (slice_index hand (number - 1)) none)))
+    left_unheld none = left_list (either_false (has_tile hand (number - 1)) (is_best hand melds (number - 1)) (inl (le-ltb 0 (slice_index hand (number - 1)) none)))
 
     pub left_worse : 0 < slice_index hand (number - 1) → (slice_index distances (number - 1) ≡ least → ⊥) → list ≡ discards_from hand melds seen (number - 1) (34 - (number - 1))
     left_worse held worse =
-        left_list (either_false (is_held hand (number - 1)) (is_best hand melds (number - 1)) (inr (sym (best_is hand melds distances least are is (number - 1) (omega arith) held) ∙ ne_eqb (slice_index distances (number - 1)) least worse)))
+        left_list (either_false (has_tile hand (number - 1)) (is_best hand melds (number - 1)) (inr (sym (best_is hand melds distances least are is (number - 1) (omega arith) held) ∙ ne_eqb (slice_index distances (number - 1)) least worse)))
 
   pub put_few : (size : ℕ) → size ≤ spread (slice_index hand) number (34 - number) → 0 < slice_index hand (number - 1) → size + 1 ≤ spread (slice_index hand) (number - 1) (34 - (number - 1))
   put_few size few held = omega (arith, few, held, spread_at)

@@ -20,7 +20,7 @@ use Rattle.riichi_shape.specs.declared.discard.Discard.{Discard}
 use Rattle.riichi_shape.specs.declared.shape_answer.ShapeAnswer.{ShapeAnswer}
 use Rattle.riichi_shape.proofs.Members.{Among, among_range}
 
-no_faults : (a b : Bool) → first_fault (coded H8 (not a) ∷ coded H9 b ∷ []) ≡ None → (a ≡ true) × (b ≡ false)
+pub no_faults : (a b : Bool) → first_fault (coded H8 (not a) ∷ coded H9 b ∷ []) ≡ None → (a ≡ true) × (b ≡ false)
 no_faults true false e = (refl, refl)
 no_faults true true e = cc
 no_faults false b e = cc

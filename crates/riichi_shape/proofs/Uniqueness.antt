@@ -1,12 +1,13 @@
 -- The distance is one number: the least lack over the list of every winning multiset.
-use Rattle.std.proofs.Common.{◌≡◌, ℕ, zero, suc, ◌+◌, ◌-◌, ◌<◌, ◌%◌, true, inl, inr, List, [], ◌∷◌, ◌++◌, map, length, eqb, ltb, refl, sym, ap, ◌∙◌, ⊎_elim, subst, arith}
+use Rattle.std.proofs.Common.{◌≡◌, ℕ, zero, suc, ◌+◌, ◌-◌, ◌<◌, true, inl, inr, List, [], ◌∷◌, ◌++◌, map, length, eqb, refl, sym, ap, ◌∙◌, ⊎_elim, subst, arith, Bool, false, cond}
 use Rattle.std.proofs.lemmas.List.FromFn.{get_or-map-range_with_len, length-map-range_with_len}
-use Rattle.std.proofs.lemmas.Bool.{false≢true, lt-ltb, ltb-true, or_left, or_right, le-leb, leb-true, or_cases, eqb-true, eq-eqb, and_from, and_parts}
+use Rattle.std.proofs.lemmas.Bool.{false≢true, or_left, or_right, le-leb, leb-true, or_cases, eqb-true, eq-eqb}
 use Rattle.std.proofs.lemmas.Bool.Decides.{nat_tests}
 use Rattle.std.proofs.lemmas.List.Elements.{All-nil, All-cons, All-head, All-tail}
 use Rattle.std.specs.List.{filter, list_any}
 use Rattle.std.specs.Prelude.{All, slice_index, sum_by, nat_le, ◌==◌}
-use Rattle.riichi_tiles.specs.Kinds.{IsRunLow}
+use Rattle.riichi_tiles.specs.Sets.{every_set, sets_at}
+use Rattle.riichi_tiles.proofs.Suits.{begins_at, run_low}
 use Rattle.riichi_tiles.specs.Blocks.{IsSet, total}
 use Rattle.riichi_tiles.specs.Melds.{every_kind, tiles}
 use Rattle.riichi_tiles.specs.Kinds.{begins_run}
@@ -15,7 +16,7 @@ use Rattle.riichi_tiles.specs.declared.block.Block.TheVariants.{Run, Triplet, Pa
 use Rattle.riichi_tiles.specs.declared.meld.Meld.{Meld}
 use Rattle.riichi_rows.proofs.Spread.{sum_range, spread_shift}
 use Rattle.riichi_shape.specs.Distance.{IsDistance}
-use Rattle.riichi_shape.specs.EveryWinning.{lists_of, every_set, counts_of, every_sets_and_pair, every_seven_pairs, every_orphans, every_special, is_within_four, every_winning, least, distance_of}
+use Rattle.riichi_shape.specs.EveryWinning.{lists_of, counts_of, every_sets_and_pair, every_seven_pairs, every_orphans, every_special, is_within_four, every_winning, least, distance_of}
 use Rattle.riichi_shape.specs.Orphans.{IsThirteenOrphans, orphan_kinds, orphan_tiles}
 use Rattle.riichi_shape.specs.Pairs.{IsSevenPairs}
 use Rattle.riichi_shape.specs.Winning.{HasWinningForm, IsSetsAndPair, IsWinning, WithinFour, lacking}
@@ -39,26 +40,23 @@ lacking_same hand w v same =
 
 -- ---- sets
 
-begins_at : (low : ℕ) → IsRunLow low → begins_run low ≡ true
-begins_at low is = and_from (ltb low 27) (ltb (low % 9) 7) (lt-ltb low 27 is.0) (lt-ltb (low % 9) 7 is.1)
-
-run_low : (low : ℕ) → begins_run low ≡ true → IsRunLow low
-run_low low e = let t = and_parts (ltb low 27) (ltb (low % 9) 7) e in (ltb-true low 27 t.0, ltb-true (low % 9) 7 t.1)
-
 among_sets : (b : Block) → IsSet b → Among b every_set
 unfolding every_set
-among_sets (Run low) is =
-    among_right (Run low) (map Triplet every_kind) (map Run (filter begins_run every_kind))
-    (among_map Run low (filter begins_run every_kind) (among_filter begins_run low every_kind (among_range low 0 34 (omega arith) (omega (arith, is.0))) (begins_at low is)))
-among_sets (Triplet held) is = among_left (Triplet held) (map Triplet every_kind) (map Run (filter begins_run every_kind)) (among_map Triplet held every_kind (among_range held 0 34 (omega arith) (omega arith)))
+among_sets (Run low) is = among_flat_map sets_at low (Run low) every_kind (among_range low 0 34 (omega arith) (omega (arith, is.0))) (rw (begins_at low is) (inr (inl refl)))
+among_sets (Triplet held) is = among_flat_map sets_at held (Triplet held) every_kind (among_range held 0 34 (omega arith) (omega arith)) (inl refl)
 among_sets (Pair held) is = absurd is
 
 from_sets : (b : Block) → Among b every_set → IsSet b
 unfolding every_set
 from_sets b h =
-    ⊎_elim (λ triplets. (let r = from_map Triplet b every_kind triplets in subst (λ (v : Block). IsSet v) (sym r.2) (from_range r.0 0 34 r.1).1))
-    (λ runs. (let r = from_map Run b (filter begins_run every_kind) runs in subst (λ (v : Block). IsSet v) (sym r.2) (run_low r.0 (from_filter begins_run r.0 every_kind r.1).1)))
-    (among_either b (map Triplet every_kind) (map Run (filter begins_run every_kind)) h)
+    let at = from_flat_map sets_at b every_kind h in
+    let kind = at.0 in
+    ⊎_elim (λ triplet. subst (λ (v : Block). IsSet v) (sym triplet) (from_range kind 0 34 at.1).1) (run (begins_run kind) kind refl) at.2
+  where
+    run : (test : Bool) (kind : ℕ) → begins_run kind ≡ test → Among b (cond test (Run kind ∷ []) []) → IsSet b
+    run true kind begins (inl is) = subst (λ (v : Block). IsSet v) (sym is) (run_low kind begins)
+    run true kind begins (inr none) = absurd none
+    run false kind begins none = absurd none
 
 each_set : (bs : List Block) → All IsSet bs → (b : Block) → Among b bs → Among b every_set
 each_set [] all b h = absurd h

@@ -1,6 +1,7 @@
 -- Which tile to discard from a hand of fourteen, and what it then accepts.
-use Rattle.std.specs.Prelude.{◌≡◌, ℕ, ◌<◌, ◌≤◌, ◌&&◌, Bool, nat_le, nat_lt, if◌then◌else◌, List, [], ◌∷◌, map, filter, slice_index}
+use Rattle.std.specs.Prelude.{◌≡◌, ℕ, ◌<◌, ◌≤◌, ◌&&◌, Bool, nat_le, if◌then◌else◌, List, [], ◌∷◌, map, filter, slice_index}
 use Rattle.std.specs.List.{list_all}
+use Rattle.riichi_tiles.specs.Tiles.{has_tile}
 use Rattle.riichi_tiles.specs.Melds.{every_kind}
 use Rattle.riichi_tiles.specs.declared.meld.Meld.{Meld}
 use Rattle.riichi_shape.specs.Accepted.{accepted_of, with_one, without_one}
@@ -12,13 +13,9 @@ use Rattle.riichi_shape.specs.declared.discard.Discard.{Discard}
 abbrev pub distance_without : List ℕ → List Meld → ℕ → ℕ
 distance_without hand melds kind = distance_of (without_one hand kind) melds
 
--- a kind of the hand
-abbrev pub is_held : List ℕ → ℕ → Bool
-is_held hand kind = nat_lt 0 (slice_index hand kind)
-
 -- no other removal leaves a lesser distance
 abbrev pub is_best : List ℕ → List Meld → ℕ → Bool
-is_best hand melds kind = list_all (λ other. nat_le (distance_without hand melds kind) (distance_without hand melds other)) (filter (is_held hand) every_kind)
+is_best hand melds kind = list_all (λ other. nat_le (distance_without hand melds kind) (distance_without hand melds other)) (filter (has_tile hand) every_kind)
 
 -- for each kind of the hand the distance without it, and 255 for another
 pub record AreDistancesWithout (hand : List ℕ) (melds : List Meld) (distances : List ℕ) : Type 0 where
@@ -55,7 +52,7 @@ in_order [] = []
 in_order (discard ∷ rest) = inserted discard (in_order rest)
 
 abbrev pub is_discard : List ℕ → List Meld → ℕ → Bool
-is_discard hand melds kind = is_held hand kind && is_best hand melds kind
+is_discard hand melds kind = has_tile hand kind && is_best hand melds kind
 
 -- the discards of a hand
 unfoldable pub discards_of : List ℕ → List Meld → List ℕ → List Discard

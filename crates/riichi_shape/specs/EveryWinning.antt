@@ -3,9 +3,9 @@ use Rattle.std.specs.Prelude.{ℕ, zero, suc, ◌+◌, ◌-◌, ◌==◌, Bool, 
 use Rattle.std.specs.List.{flat_map, list_all}
 use Rattle.riichi_tiles.specs.Blocks.{total}
 use Rattle.riichi_tiles.specs.Melds.{every_kind, tiles}
-use Rattle.riichi_tiles.specs.Kinds.{begins_run}
+use Rattle.riichi_tiles.specs.Sets.{every_set}
 use Rattle.riichi_tiles.specs.declared.block.Block.{Block}
-use Rattle.riichi_tiles.specs.declared.block.Block.TheVariants.{Run, Triplet, Pair}
+use Rattle.riichi_tiles.specs.declared.block.Block.TheVariants.{Pair}
 use Rattle.riichi_tiles.specs.declared.meld.Meld.{Meld}
 use Rattle.riichi_shape.specs.Orphans.{orphan_kinds, orphan_tiles}
 use Rattle.riichi_shape.specs.Winning.{lacking}
@@ -14,10 +14,6 @@ use Rattle.riichi_shape.specs.Winning.{lacking}
 unfoldable pub lists_of : {A : Type 0} → List A → ℕ → List (List A)
 lists_of things zero = [] ∷ []
 lists_of things (suc n) = flat_map (λ first. map (λ rest. first ∷ rest) (lists_of things n)) things
-
--- every triplet and every run
-unfoldable pub every_set : List Block
-every_set = map Triplet every_kind ++ map Run (filter begins_run every_kind)
 
 -- the multiset of some blocks
 unfoldable pub counts_of : List Block → List ℕ

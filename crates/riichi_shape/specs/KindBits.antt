@@ -1,23 +1,19 @@
--- Sets of kinds as numbers: bit n of a set is for the kind n.
-use Rattle.std.specs.Int.{bit_at}
-use Rattle.std.specs.Prelude.{ℕ, ◌≡◌, ◌==◌, ◌<◌, Bool, true, if◌then◌else◌, List, map, slice_index}
+-- What sets of kinds are told of, and the copies of their kinds.
+use Rattle.std.specs.Prelude.{ℕ, ◌≡◌, ◌<◌, Bool, true, if◌then◌else◌, List, map, slice_index}
+use Rattle.riichi_tiles.specs.HeldKinds.{is_held}
 use Rattle.riichi_tiles.specs.Melds.{every_kind}
-
--- the kind is in the set
-abbrev pub has_kind : ℕ → ℕ → Bool
-has_kind set kind = bit_at set kind == 1
 
 -- of the 34 kinds just those that pass the test are in the set
 abbrev pub AreKindsOf : ℕ → (ℕ → Bool) → Type 0
-AreKindsOf set test = (kind : ℕ) → kind < 34 → has_kind set kind ≡ test kind
+AreKindsOf set test = (kind : ℕ) → kind < 34 → is_held set kind ≡ test kind
 
 -- each kind of the set has copies
 abbrev pub HaveCopies : List ℕ → ℕ → Type 0
-HaveCopies copies set = (kind : ℕ) → kind < 34 → has_kind set kind ≡ true → 0 < slice_index copies kind
+HaveCopies copies set = (kind : ℕ) → kind < 34 → is_held set kind ≡ true → 0 < slice_index copies kind
 
 -- of the copies of each kind those of the kinds of a set
 abbrev pub copies_at : List ℕ → ℕ → ℕ → ℕ
-copies_at copies set kind = if has_kind set kind then slice_index copies kind else 0
+copies_at copies set kind = if is_held set kind then slice_index copies kind else 0
 
 unfoldable pub copies_among : List ℕ → ℕ → List ℕ
 copies_among copies set = map (copies_at copies set) every_kind

@@ -2,6 +2,8 @@
 use Rattle.std.specs.Prelude.{ℕ, ◌-◌, ◌<◌, ◌≤◌, ◌↔◌, ◌||◌, Bool, IsTrue, if◌then◌else◌, nat_lt, List, length, slice_index}
 use Rattle.riichi_rows.specs.Marks.{has_rank}
 use Rattle.riichi_tiles.specs.Melds.{tiles}
+use Rattle.riichi_rows.specs.declared.rank_set.RankSet.{RankSet}
+use Rattle.riichi_tiles.specs.declared.by_suit.BySuit.{BySuit}
 use Rattle.riichi_tiles.specs.declared.meld.Meld.{Meld}
 use Rattle.riichi_shape.specs.Accepted.{AreAccepted, AreLiveCopies}
 use Rattle.riichi_shape.specs.EveryWinning.{distance_of}
@@ -9,10 +11,9 @@ use Rattle.riichi_shape.specs.Lacked.{StandardLacks, WinningLacks}
 use Rattle.riichi_shape.specs.Special.{special_lacks}
 use Rattle.riichi_shape.specs.Winning.{IsSetsAndPair, WithinFour, lacking}
 use Rattle.riichi_shape.specs.declared.lacked_kinds.LackedKinds.{LackedKinds}
-use Rattle.riichi_shape.specs.declared.suits_lacked.SuitsLacked.{SuitsLacked}
 
 -- a kind is lacked where its rank is lacked in its suit
-abbrev pub suits_lack : SuitsLacked → ℕ → Bool
+abbrev pub suits_lack : BySuit RankSet → ℕ → Bool
 suits_lack suits kind =
     if nat_lt kind 9 then has_rank suits.characters kind
     else (if nat_lt kind 18 then has_rank suits.circles (kind - 9)
@@ -28,7 +29,7 @@ abbrev pub NoneStandardLess : List ℕ → List Meld → ℕ → ℕ → Type 0
 NoneStandardLess hand melds sets n = (wanted : List ℕ) → IsSetsAndPair sets wanted → WithinFour melds wanted → n ≤ lacking hand wanted
 
 -- just the kinds that some sets and a pair lack which lack n tiles
-pub record AreSuitsLacked (hand : List ℕ) (melds : List Meld) (sets n : ℕ) (suits : SuitsLacked) : Type 0 where
+pub record AreSuitsLacked (hand : List ℕ) (melds : List Meld) (sets n : ℕ) (suits : BySuit RankSet) : Type 0 where
   pub at : (kind : ℕ) → kind < 34 → IsTrue (suits_lack suits kind) ↔ StandardLacks hand melds sets n kind
 
 -- just the kinds that some winning multiset lacks which lacks n tiles

@@ -1,5 +1,6 @@
 -- The order of the discards of a hand.
 use Rattle.std.specs.Prelude.{◌≡◌, ℕ, ◌<◌, ◌⊎◌, List, [], ◌∷◌}
+use Rattle.std.specs.List.{AllByRecursion}
 use Rattle.riichi_tiles.specs.declared.meld.Meld.{Meld}
 use Rattle.riichi_shape.specs.Discards.{discards_of, live_with}
 use Rattle.riichi_shape.specs.declared.discard.Discard.{Discard}
@@ -10,8 +11,7 @@ StandsBefore discard next = (live_with next < live_with discard) ⊎ ((live_with
 
 -- a discard stands before each of these
 abbrev pub StandsBeforeAll : Discard → List Discard → Type 0
-StandsBeforeAll discard [] = Unit {0}
-StandsBeforeAll discard (next ∷ rest) = StandsBefore discard next × StandsBeforeAll discard rest
+StandsBeforeAll discard rest = AllByRecursion (StandsBefore discard) rest
 
 -- each stands before all later ones
 abbrev pub AreOrdered : List Discard → Type 0

@@ -1,28 +1,28 @@
 -- The four rows of a hand, and what is kept of them while a tile changes.
 use Rattle.std.specs.Prelude.{◌≡◌, ◌≢◌, ℕ, ◌<◌, ◌≤◌, ◌⊎◌, List, slice_index}
 use Rattle.riichi_tiles.specs.Melds.{tiles}
+use Rattle.riichi_tiles.specs.declared.by_suit.BySuit.{BySuit}
 use Rattle.riichi_tiles.specs.declared.meld.Meld.{Meld}
 use Rattle.riichi_rows.specs.Join.{IsLeastSum}
 use Rattle.riichi_rows.specs.Lanes.{lane}
 use Rattle.riichi_rows.specs.Row.{AreJoinedThree}
 use Rattle.riichi_rows.specs.declared.joined.JoinedRows.{JoinedRows}
+use Rattle.riichi_rows.specs.declared.removed.SuitRows.{SuitRows}
 use Rattle.riichi_rows.specs.declared.row.SuitRow.{SuitRow}
 use Rattle.riichi_shape.specs.Special.{AreSpecialForms}
 use Rattle.riichi_shape.specs.Suits.{AreSuitRowsOf, IsRowOf}
 use Rattle.riichi_shape.specs.declared.hand_forms.HandForms.{HandForms}
 use Rattle.riichi_shape.specs.declared.hand_joins.HandJoins.{HandJoins}
-use Rattle.riichi_shape.specs.declared.hand_rows.HandRows.{HandRows}
-use Rattle.riichi_shape.specs.declared.hand_suits.HandSuits.{HandSuits}
 
 -- each is the marked row of its suit of the hand
-pub record AreRowsOf (hand : List ℕ) (melds : List Meld) (rows : HandRows) : Type 0 where
+pub record AreRowsOf (hand : List ℕ) (melds : List Meld) (rows : BySuit SuitRow) : Type 0 where
   pub characters : IsRowOf hand melds 0 9 rows.characters
   pub circles : IsRowOf hand melds 9 9 rows.circles
   pub bamboos : IsRowOf hand melds 18 9 rows.bamboos
   pub honours : IsRowOf hand melds 27 7 rows.honours
 
 -- each is the rows of its suit of the hand, with all tiles and without one
-pub record AreSuitsOf (hand : List ℕ) (melds : List Meld) (suits : HandSuits) : Type 0 where
+pub record AreSuitsOf (hand : List ℕ) (melds : List Meld) (suits : BySuit SuitRows) : Type 0 where
   pub characters : AreSuitRowsOf hand melds 0 9 suits.characters
   pub circles : AreSuitRowsOf hand melds 9 9 suits.circles
   pub bamboos : AreSuitRowsOf hand melds 18 9 suits.bamboos
@@ -44,23 +44,23 @@ abbrev pub IsMeldedFew : List Meld → Type 0
 IsMeldedFew melds = (kind : ℕ) → kind < 34 → tiles melds kind ≤ 4
 
 -- two hands that have the same rows but in the suit of a kind
-pub record AreSameBeside (kind : ℕ) (before after : HandRows) : Type 0 where
+pub record AreSameBeside (kind : ℕ) (before after : BySuit SuitRow) : Type 0 where
   pub characters : 9 ≤ kind → after.characters ≡ before.characters
   pub circles : (kind < 9) ⊎ (18 ≤ kind) → after.circles ≡ before.circles
   pub bamboos : (kind < 18) ⊎ (27 ≤ kind) → after.bamboos ≡ before.bamboos
   pub honours : kind < 27 → after.honours ≡ before.honours
 
 -- the same rows but one
-abbrev pub with_characters : HandRows → SuitRow → HandRows
+abbrev pub with_characters : BySuit SuitRow → SuitRow → BySuit SuitRow
 with_characters rows row = record { characters = row; circles = rows.circles; bamboos = rows.bamboos; honours = rows.honours }
 
-abbrev pub with_circles : HandRows → SuitRow → HandRows
+abbrev pub with_circles : BySuit SuitRow → SuitRow → BySuit SuitRow
 with_circles rows row = record { characters = rows.characters; circles = row; bamboos = rows.bamboos; honours = rows.honours }
 
-abbrev pub with_bamboos : HandRows → SuitRow → HandRows
+abbrev pub with_bamboos : BySuit SuitRow → SuitRow → BySuit SuitRow
 with_bamboos rows row = record { characters = rows.characters; circles = rows.circles; bamboos = row; honours = rows.honours }
 
-abbrev pub with_honours : HandRows → SuitRow → HandRows
+abbrev pub with_honours : BySuit SuitRow → SuitRow → BySuit SuitRow
 with_honours rows row = record { characters = rows.characters; circles = rows.circles; bamboos = rows.bamboos; honours = row }
 
 -- the least sums of the rows of two suits
@@ -68,7 +68,7 @@ abbrev pub AreJoinedTwo : SuitRow → SuitRow → JoinedRows → Type 0
 AreJoinedTwo a b joined = IsLeastSum (lane a.entries.lacks) (lane b.entries.lacks) (lane joined.sums.lacks)
 
 -- the joins of two suits, and beside each suit that of the rows of the other three
-pub record AreJoinsOf (rows : HandRows) (joins : HandJoins) : Type 0 where
+pub record AreJoinsOf (rows : BySuit SuitRow) (joins : HandJoins) : Type 0 where
   pub low : AreJoinedTwo rows.characters rows.circles joins.low
   pub high : AreJoinedTwo rows.bamboos rows.honours joins.high
   pub beside_characters : AreJoinedThree rows.circles rows.bamboos rows.honours joins.beside_characters
@@ -78,7 +78,7 @@ pub record AreJoinsOf (rows : HandRows) (joins : HandJoins) : Type 0 where
 
 -- the joins of the rows of a hand
 pub record AreJoinsOfHand (hand : List ℕ) (melds : List Meld) (joins : HandJoins) : Type 0 where
-  pub rows : HandRows
+  pub rows : BySuit SuitRow
   pub are_rows : AreRowsOf hand melds rows
   pub are_joins : AreJoinsOf rows joins
 

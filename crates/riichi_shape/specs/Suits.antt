@@ -4,9 +4,10 @@ use Rattle.riichi_rows.specs.Marks.{IsMarkedRow}
 use Rattle.riichi_rows.specs.declared.removed.SuitRows.{SuitRows}
 use Rattle.riichi_rows.specs.declared.row.SuitRow.{SuitRow}
 use Rattle.riichi_tiles.specs.Melds.{tiles}
+use Rattle.riichi_tiles.specs.declared.by_suit.BySuit.{BySuit}
 use Rattle.riichi_tiles.specs.declared.meld.Meld.{Meld}
 use Rattle.riichi_shape.specs.Accepted.{without_one}
-use Rattle.riichi_shape.specs.declared.hand_caps.HandCaps.{HandCaps}
+use Rattle.riichi_shape.specs.declared.suit_caps.SuitCaps.{SuitCaps}
 
 -- the counts and caps of the suit that begins at the kind base and has so many ranks
 pub record IsSuitOf (base width : ℕ) (hand : List ℕ) (melds : List Meld) (counts caps : List ℕ) : Type 0 where
@@ -20,7 +21,7 @@ pub record AreCapsOf (base width : ℕ) (melds : List Meld) (caps : List ℕ) : 
   pub none_past : (rank : ℕ) → width ≤ rank → slice_index caps rank ≡ 0
 
 -- the caps of the four suits
-pub record AreHandCaps (melds : List Meld) (caps : HandCaps) : Type 0 where
+pub record AreHandCaps (melds : List Meld) (caps : BySuit SuitCaps) : Type 0 where
   pub characters : AreCapsOf 0 9 melds caps.characters.left
   pub circles : AreCapsOf 9 9 melds caps.circles.left
   pub bamboos : AreCapsOf 18 9 melds caps.bamboos.left

@@ -3,7 +3,7 @@ ghost use Rattle.std.specs.List.{list_any, position};
 ghost use Rattle.std.specs.Prelude.{ℕ, ◌≡◌, ◌-◌, ◌<◌, ◌≤◌, ◌^◌, ◌∷◌, ◌++◌, [], All, length, slice_get, take, drop};
 ghost use Rattle.riichi_shape.specs.Discards.{inserted_by};
 ghost use Rattle.riichi_shape.specs.KeptDiscards.{gives_way, kinds_of};
-ghost use Rattle.riichi_shape.specs.KindBits.{has_kind};
+ghost use Rattle.riichi_tiles.specs.HeldKinds.{is_held};
 
 use crate::kept_discard::KeptDiscard;
 use crate::kind_bits::KindBits;
@@ -76,7 +76,7 @@ impl DiscardOrder {
     pub(crate) fn accepted(&self) -> KindBits
         requires { All (λ kept. kinds_of kept < 2 ^ 34) self.now }
         ensures { (kind : ℕ)
-            → has_kind result kind ≡ list_any (λ kept. has_kind (kinds_of kept) kind) self.now }
+            → is_held result kind ≡ list_any (λ kept. is_held (kinds_of kept) kind) self.now }
     {
         let mut kinds = KindBits::new(0);
         for place in 0..self.count as usize {

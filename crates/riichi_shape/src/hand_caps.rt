@@ -4,17 +4,11 @@ ghost use Rattle.riichi_tiles.specs.Melds.{tiles};
 ghost use Rattle.riichi_shape.specs.Suits.{AreHandCaps};
 
 use crate::suit_caps::SuitCaps;
-use riichi_tiles::{Melds, meld_tiles};
+use riichi_tiles::{BySuit, Melds, meld_tiles};
 
 /// How many of each kind a winning multiset may hold beside the melds, suit by suit. It is told
 /// once a hand: the melds stay as they are while tiles are added and removed.
-#[derive(Clone, Copy)]
-pub(crate) struct HandCaps {
-    pub(crate) characters: SuitCaps,
-    pub(crate) circles: SuitCaps,
-    pub(crate) bamboos: SuitCaps,
-    pub(crate) honours: SuitCaps,
-}
+pub(crate) type HandCaps = BySuit<SuitCaps>;
 
 /// The caps of a suit beside so many melded tiles of each kind.
 fn suit_caps(melded: &[u8; 34], first: u8, ranks: u8) -> SuitCaps
@@ -32,17 +26,16 @@ fn suit_caps(melded: &[u8; 34], first: u8, ranks: u8) -> SuitCaps
     SuitCaps { left }
 }
 
-impl HandCaps {
-    pub(crate) fn new(melds: &Melds) -> HandCaps
-        requires { (k : ℕ) → k < 34 → tiles melds.now k ≤ 4 }
-        ensures { AreHandCaps melds.now result }
-    {
-        let melded = meld_tiles(melds);
-        HandCaps {
-            characters: suit_caps(&melded, 0, 9),
-            circles: suit_caps(&melded, 9, 9),
-            bamboos: suit_caps(&melded, 18, 9),
-            honours: suit_caps(&melded, 27, 7),
-        }
+/// What these melds leave.
+pub(crate) fn hand_caps_of(melds: &Melds) -> HandCaps
+    requires { (k : ℕ) → k < 34 → tiles melds.now k ≤ 4 }
+    ensures { AreHandCaps melds.now result }
+{
+    let melded = meld_tiles(melds);
+    BySuit {
+        characters: suit_caps(&melded, 0, 9),
+        circles: suit_caps(&melded, 9, 9),
+        bamboos: suit_caps(&melded, 18, 9),
+        honours: suit_caps(&melded, 27, 7),
     }
 }

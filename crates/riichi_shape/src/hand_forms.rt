@@ -8,7 +8,7 @@ ghost use Rattle.riichi_shape.specs.LackedKinds.{AreLackedOf};
 ghost use Rattle.riichi_shape.specs.Rows.{AreFormsOf, AreRowsOf, IsRowAt};
 
 use crate::hand_joins::HandJoins;
-use crate::hand_rows::HandRows;
+use crate::hand_rows::{HandRows, hand_rows_of, with_row};
 use crate::lacked_kinds::LackedKinds;
 use crate::special::SpecialForms;
 use riichi_rows::{RowSource, SuitRow};
@@ -30,7 +30,7 @@ impl HandForms {
         ensures forms { AreFormsOf hand.now melds.now result }
         ensures stays { source.new ≡ source.old }
     {
-        let rows = HandRows::new(source, hand, melds);
+        let rows = hand_rows_of(source, hand, melds);
         HandForms::of_rows(rows, hand, melds)
     }
 
@@ -96,7 +96,7 @@ impl HandForms {
         ensures { AreLackedOf (without_one hand.now kind) melds.now result }
     {
         let sets = 4 - melds.count() as u8;
-        let rows = self.rows.with_row(kind, row);
+        let rows = with_row(&self.rows, kind, row);
         LackedKinds {
             suits: self.joins.with_row(kind, &rows).lacked(&rows, sets, least),
             special: self.special.lacked_without(hand, melds, kind, least),

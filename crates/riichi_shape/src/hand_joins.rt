@@ -5,12 +5,12 @@ ghost use Rattle.riichi_shape.specs.Distance.{IsLeastStandard};
 ghost use Rattle.riichi_shape.specs.LackedKinds.{AreSuitsLacked, NoneStandardLess};
 ghost use Rattle.riichi_rows.specs.declared.row.SuitRow.{SuitRow};
 ghost use Rattle.riichi_shape.specs.Rows.{AreJoinsBeside, AreJoinsOf, AreRowsOf, AreSameBeside, IsMeldedFew, IsRowAt, with_bamboos, with_characters, with_circles, with_honours};
-ghost use Rattle.riichi_shape.specs.declared.hand_rows.HandRows.{HandRows};
+ghost use Rattle.riichi_tiles.specs.declared.by_suit.BySuit.{BySuit};
 
 use crate::hand_rows::HandRows;
 use crate::suits_lacked::SuitsLacked;
 use riichi_rows::{JoinedRows, SuitRow, join_two};
-use riichi_tiles::Kind;
+use riichi_tiles::{BySuit, Kind};
 
 /// Beside each suit the rows of the other three, joined. They are kept while a tile of the suit is
 /// added or removed. Of the others just those are joined anew that the suit is in.
@@ -45,7 +45,7 @@ impl HandJoins {
 
     /// The joins of these rows, where the rows that were joined differ in the suit of a kind alone.
     pub(crate) fn with_row(&self, kind: Kind, rows: &HandRows) -> HandJoins
-        ensures { (before : HandRows) → AreJoinsOf before self.now
+        ensures { (before : BySuit SuitRow) → AreJoinsOf before self.now
             → AreSameBeside kind before rows.now → AreJoinsOf rows.now result }
     {
         let number = kind.index();
@@ -125,7 +125,7 @@ impl HandJoins {
             → AreJoinsOf rows.now self.now → IsMeldedFew melds
             → NoneStandardLess hand melds sets least → AreSuitsLacked hand melds sets least result }
     {
-        SuitsLacked {
+        BySuit {
             characters: self
                 .beside_characters
                 .lacked_by(&rows.characters, sets, least),

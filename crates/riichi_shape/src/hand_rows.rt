@@ -4,64 +4,56 @@ ghost use Rattle.riichi_tiles.specs.Melds.{tiles};
 ghost use Rattle.riichi_shape.specs.Rows.{AreRowsOf, AreSameBeside, DifferAt, IsRowAt};
 ghost use Rattle.riichi_tiles.specs.declared.meld.Meld.{Meld};
 
-use crate::hand_caps::HandCaps;
+use crate::hand_caps::hand_caps_of;
 use crate::suit_of_hand::suit_row_of;
 use riichi_rows::{RowSource, SuitRow};
-use riichi_tiles::{Counts, Kind, Melds};
+use riichi_tiles::{BySuit, Counts, Kind, Melds};
 
 /// The row of each suit. They are kept while tiles are added and removed: a tile changes one.
-#[derive(Clone, Copy)]
-pub(crate) struct HandRows {
-    pub(crate) characters: SuitRow,
-    pub(crate) circles: SuitRow,
-    pub(crate) bamboos: SuitRow,
-    pub(crate) honours: SuitRow,
+pub(crate) type HandRows = BySuit<SuitRow>;
+
+/// The rows of a hand.
+pub(crate) fn hand_rows_of<R: RowSource>(source: &mut R, hand: &Counts, melds: &Melds) -> HandRows
+    requires { (k : ℕ) → k < 34 → tiles melds.now k ≤ 4 }
+    ensures rows { AreRowsOf hand.now melds.now result }
+    ensures stays { source.new ≡ source.old }
+{
+    let caps = hand_caps_of(melds);
+    BySuit {
+        characters: suit_row_of(source, hand, &caps.characters, 0, 9),
+        circles: suit_row_of(source, hand, &caps.circles, 9, 9),
+        bamboos: suit_row_of(source, hand, &caps.bamboos, 18, 9),
+        honours: suit_row_of(source, hand, &caps.honours, 27, 7),
+    }
 }
 
-impl HandRows {
-    /// The rows of a hand.
-    pub(crate) fn new<R: RowSource>(source: &mut R, hand: &Counts, melds: &Melds) -> HandRows
-        requires { (k : ℕ) → k < 34 → tiles melds.now k ≤ 4 }
-        ensures rows { AreRowsOf hand.now melds.now result }
-        ensures stays { source.new ≡ source.old }
-    {
-        let caps = HandCaps::new(melds);
-        HandRows {
-            characters: suit_row_of(source, hand, &caps.characters, 0, 9),
-            circles: suit_row_of(source, hand, &caps.circles, 9, 9),
-            bamboos: suit_row_of(source, hand, &caps.bamboos, 18, 9),
-            honours: suit_row_of(source, hand, &caps.honours, 27, 7),
+/// The rows of a hand that has changed at one kind, with this row of the suit of that kind.
+pub(crate) fn with_row(rows: &HandRows, kind: Kind, row: &SuitRow) -> HandRows
+    ensures others { AreSameBeside kind rows.now result }
+    ensures rows { (before hand : List ℕ) (melds : List Meld) → AreRowsOf before melds rows.now
+        → DifferAt kind before hand → IsRowAt hand melds kind row.now
+        → AreRowsOf hand melds result }
+{
+    let number = kind.index();
+    if number < 9 {
+        BySuit {
+            characters: *row,
+            ..*rows
         }
-    }
-
-    /// The rows of a hand that has changed at one kind, with this row of the suit of that kind.
-    pub(crate) fn with_row(&self, kind: Kind, row: &SuitRow) -> HandRows
-        ensures others { AreSameBeside kind self.now result }
-        ensures rows { (before hand : List ℕ) (melds : List Meld) → AreRowsOf before melds self.now
-            → DifferAt kind before hand → IsRowAt hand melds kind row.now
-            → AreRowsOf hand melds result }
-    {
-        let number = kind.index();
-        if number < 9 {
-            HandRows {
-                characters: *row,
-                ..*self
-            }
-        } else if number < 18 {
-            HandRows {
-                circles: *row,
-                ..*self
-            }
-        } else if number < 27 {
-            HandRows {
-                bamboos: *row,
-                ..*self
-            }
-        } else {
-            HandRows {
-                honours: *row,
-                ..*self
-            }
+    } else if number < 18 {
+        BySuit {
+            circles: *row,
+            ..*rows
+        }
+    } else if number < 27 {
+        BySuit {
+            bamboos: *row,
+            ..*rows
+        }
+    } else {
+        BySuit {
+            honours: *row,
+            ..*rows
         }
     }
 }

@@ -5,65 +5,57 @@ ghost use Rattle.riichi_tiles.specs.declared.meld.Meld.{Meld};
 ghost use Rattle.riichi_shape.specs.Accepted.{without_one};
 ghost use Rattle.riichi_shape.specs.Rows.{AreRowsOf, AreSuitsOf, IsRowAt};
 
-use crate::hand_caps::HandCaps;
+use crate::hand_caps::hand_caps_of;
 use crate::hand_rows::HandRows;
 use crate::suit_of_hand::suit_rows_of;
 use riichi_rows::{RowSource, SuitRow, SuitRows};
-use riichi_tiles::{Counts, Kind, Melds};
+use riichi_tiles::{BySuit, Counts, Kind, Melds};
 
 /// The row of each suit, and the rows without one of its tiles: all that a hand of fourteen tiles
 /// asks for.
-#[derive(Clone, Copy)]
-pub(crate) struct HandSuits {
-    pub(crate) characters: SuitRows,
-    pub(crate) circles: SuitRows,
-    pub(crate) bamboos: SuitRows,
-    pub(crate) honours: SuitRows,
+pub(crate) type HandSuits = BySuit<SuitRows>;
+
+/// The rows of a hand, and of the hand without each of its tiles.
+pub(crate) fn hand_suits_of<R: RowSource>(source: &mut R, hand: &Counts, melds: &Melds) -> HandSuits
+    requires { (k : ℕ) → k < 34 → tiles melds.now k ≤ 4 }
+    ensures suits { AreSuitsOf hand.now melds.now result }
+    ensures stays { source.new ≡ source.old }
+{
+    let caps = hand_caps_of(melds);
+    BySuit {
+        characters: suit_rows_of(source, hand, &caps.characters, 0, 9),
+        circles: suit_rows_of(source, hand, &caps.circles, 9, 9),
+        bamboos: suit_rows_of(source, hand, &caps.bamboos, 18, 9),
+        honours: suit_rows_of(source, hand, &caps.honours, 27, 7),
+    }
 }
 
-impl HandSuits {
-    /// The rows of a hand, and of the hand without each of its tiles.
-    pub(crate) fn new<R: RowSource>(source: &mut R, hand: &Counts, melds: &Melds) -> HandSuits
-        requires { (k : ℕ) → k < 34 → tiles melds.now k ≤ 4 }
-        ensures suits { AreSuitsOf hand.now melds.now result }
-        ensures stays { source.new ≡ source.old }
-    {
-        let caps = HandCaps::new(melds);
-        HandSuits {
-            characters: suit_rows_of(source, hand, &caps.characters, 0, 9),
-            circles: suit_rows_of(source, hand, &caps.circles, 9, 9),
-            bamboos: suit_rows_of(source, hand, &caps.bamboos, 18, 9),
-            honours: suit_rows_of(source, hand, &caps.honours, 27, 7),
-        }
+/// The rows of the whole hand.
+pub(crate) fn whole_rows(suits: &HandSuits) -> HandRows
+    ensures { (hand : List ℕ) (melds : List Meld) → AreSuitsOf hand melds suits.now
+        → AreRowsOf hand melds result }
+{
+    BySuit {
+        characters: suits.characters.whole,
+        circles: suits.circles.whole,
+        bamboos: suits.bamboos.whole,
+        honours: suits.honours.whole,
     }
+}
 
-    /// The rows of the whole hand.
-    pub(crate) fn rows(&self) -> HandRows
-        ensures { (hand : List ℕ) (melds : List Meld) → AreSuitsOf hand melds self.now
-            → AreRowsOf hand melds result }
-    {
-        HandRows {
-            characters: self.characters.whole,
-            circles: self.circles.whole,
-            bamboos: self.bamboos.whole,
-            honours: self.honours.whole,
-        }
-    }
-
-    /// The row that the suit of a kind has without one tile of that kind.
-    pub(crate) fn without(&self, kind: Kind) -> SuitRow
-        ensures { (hand : List ℕ) (melds : List Meld) → AreSuitsOf hand melds self.now
-            → 0 < slice_index hand kind → IsRowAt (without_one hand kind) melds kind result }
-    {
-        let number = kind.index();
-        if number < 9 {
-            self.characters.without[number]
-        } else if number < 18 {
-            self.circles.without[number - 9]
-        } else if number < 27 {
-            self.bamboos.without[number - 18]
-        } else {
-            self.honours.without[number - 27]
-        }
+/// The row that the suit of a kind has without one tile of that kind.
+pub(crate) fn row_without(suits: &HandSuits, kind: Kind) -> SuitRow
+    ensures { (hand : List ℕ) (melds : List Meld) → AreSuitsOf hand melds suits.now
+        → 0 < slice_index hand kind → IsRowAt (without_one hand kind) melds kind result }
+{
+    let number = kind.index();
+    if number < 9 {
+        suits.characters.without[number]
+    } else if number < 18 {
+        suits.circles.without[number - 9]
+    } else if number < 27 {
+        suits.bamboos.without[number - 18]
+    } else {
+        suits.honours.without[number - 27]
     }
 }

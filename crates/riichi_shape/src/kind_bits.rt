@@ -2,7 +2,8 @@
 ghost use Rattle.std.specs.Int.RustNames.{bit_or};
 ghost use Rattle.std.specs.Prelude.{ℕ, ◌≡◌, ◌<◌, ◌^◌, bit_and};
 ghost use Rattle.std.specs.Simd.Lanes.{mask_l};
-ghost use Rattle.riichi_shape.specs.KindBits.{copies_among, has_kind};
+ghost use Rattle.riichi_tiles.specs.HeldKinds.{is_held};
+ghost use Rattle.riichi_shape.specs.KindBits.{copies_among};
 
 use std::marker::Model;
 
@@ -55,7 +56,7 @@ impl KindBits {
     /// Whether a kind is in the set.
     pub(crate) fn contains(self, kind: usize) -> bool
         requires { kind < 34 }
-        ensures { result ≡ has_kind self kind }
+        ensures { result ≡ is_held self kind }
     {
         (self.bits >> kind) & 1 == 1
     }

@@ -5,7 +5,7 @@ ghost use Rattle.riichi_shape.specs.LackedKinds.{lacks_kind};
 
 use crate::kind_bits::KindBits;
 use crate::special::SpecialLacked;
-use crate::suits_lacked::SuitsLacked;
+use crate::suits_lacked::{SuitsLacked, kinds_lacked};
 
 /// The kinds that some least winning multiset lacks, form by form: one more tile of just these
 /// kinds brings the hand nearer.
@@ -20,7 +20,7 @@ impl LackedKinds {
     pub(crate) fn kinds(&self, held: &[u8; 34]) -> KindBits
         ensures { AreKindsOf result (λ kind. lacks_kind self.now kind (slice_index held.now kind)) }
     {
-        let kinds = self.suits.kinds();
+        let kinds = kinds_lacked(&self.suits);
         if self.special.is_empty() {
             kinds
         } else {

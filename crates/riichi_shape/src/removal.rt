@@ -13,7 +13,7 @@ use crate::discard_list::DiscardList;
 use crate::discard_order::DiscardOrder;
 use crate::distance::distance_with;
 use crate::hand_forms::HandForms;
-use crate::hand_suits::HandSuits;
+use crate::hand_suits::{HandSuits, row_without};
 use crate::kept_discard::KeptDiscard;
 use crate::live_copies::LiveCopies;
 use riichi_rows::SuitRow;
@@ -42,7 +42,7 @@ fn distance_without(
         &forms.joins,
         floor,
         kind,
-        &suits.without(kind),
+        &row_without(suits, kind),
         &rest,
         melds,
     )
@@ -125,7 +125,7 @@ pub(crate) fn discards_by(
     for number in (0..34u8).rev() {
         let kind = Kind::at(number);
         if hand.get(kind) > 0 && distances[number as usize] == least {
-            let row = suits.without(kind);
+            let row = row_without(suits, kind);
             order.insert(discard_of(forms, least, hand, melds, &live, kind, &row));
         }
     }

@@ -4,24 +4,17 @@ ghost use Rattle.riichi_shape.specs.LackedKinds.{suits_lack};
 
 use crate::kind_bits::KindBits;
 use riichi_rows::RankSet;
+use riichi_tiles::BySuit;
 
 /// Of each suit the ranks that some least choice of sets and a pair lacks.
-#[derive(Clone, Copy)]
-pub(crate) struct SuitsLacked {
-    pub(crate) characters: RankSet,
-    pub(crate) circles: RankSet,
-    pub(crate) bamboos: RankSet,
-    pub(crate) honours: RankSet,
-}
+pub(crate) type SuitsLacked = BySuit<RankSet>;
 
-impl SuitsLacked {
-    /// The kinds that are lacked.
-    pub(crate) fn kinds(&self) -> KindBits
-        ensures { AreKindsOf result (suits_lack self.now) }
-    {
-        let honours = self.honours.bits() & 127;
-        let from_bamboos = honours * 512 + self.bamboos.bits();
-        let from_circles = from_bamboos * 512 + self.circles.bits();
-        KindBits::new(from_circles * 512 + self.characters.bits())
-    }
+/// The kinds that are lacked.
+pub(crate) fn kinds_lacked(suits: &SuitsLacked) -> KindBits
+    ensures { AreKindsOf result (suits_lack suits.now) }
+{
+    let honours = suits.honours.bits() & 127;
+    let from_bamboos = honours * 512 + suits.bamboos.bits();
+    let from_circles = from_bamboos * 512 + suits.circles.bits();
+    KindBits::new(from_circles * 512 + suits.characters.bits())
 }

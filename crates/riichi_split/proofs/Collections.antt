@@ -2,13 +2,15 @@
 use Rattle.std.proofs.Common.{subst, ◌≡◌, ℕ, zero, suc, ◌<◌, Bool, true, false, List, [], ◌∷◌, length, flat_map, inl, inr, ◌⊎◌, refl, sym, ap, ◌∙◌, arith, leb, map}
 use Rattle.std.specs.List.{AllByRecursion}
 use Rattle.std.proofs.lemmas.Bool.Decides.{nat_tests}
+use Rattle.riichi_tiles.specs.Sets.{sets_at, every_set}
+use Rattle.riichi_tiles.proofs.Suits.{begins_at, run_low}
 use Rattle.riichi_tiles.specs.Melds.{every_kind}
 use Rattle.riichi_tiles.specs.Kinds.{IsRunLow}
 use Rattle.riichi_tiles.specs.Blocks.{IsSet, IsOrderedFrom, place_of}
 use Rattle.riichi_tiles.specs.declared.block.Block.{Block}
 use Rattle.riichi_tiles.specs.declared.block.Block.TheVariants.{Run, Triplet, Pair}
 use Rattle.riichi_tiles.specs.Kinds.{begins_run}
-use Rattle.riichi_split.specs.ReadingsOf.{sets_at, every_set, when, collections}
+use Rattle.riichi_split.specs.ReadingsOf.{when, collections}
 use Rattle.riichi_split.proofs.Lists.{IsIn, Differ, in-map, in-map-inv, Differ-map, in-flat_map, in-flat_map-inv, Differ-flat_map, in-range, in-range-inv, Differ-range}
 
 module _ {X : Type 0} where
@@ -52,8 +54,7 @@ Differ-every_set = Differ-flat_map sets_at every_kind Differ-sets_at same-kind (
 in-every_set : (set : Block) → IsSet set → IsIn set every_set
 unfolding every_set
 in-every_set (Run low) s =
-    let t : begins_run low ≡ true = grind (arith, nat_tests, s.0, s.1) in
-    in-flat_map sets_at low (Run low) every_kind (in-range 34 0 low (omega arith) (omega (arith, s.0))) (inr (in-when (begins_run low) (Run low) (Run low ∷ []) t (inl refl)))
+    in-flat_map sets_at low (Run low) every_kind (in-range 34 0 low (omega arith) (omega (arith, s.0))) (inr (in-when (begins_run low) (Run low) (Run low ∷ []) (begins_at low s) (inl refl)))
 in-every_set (Triplet kind) s = in-flat_map sets_at kind (Triplet kind) every_kind (in-range 34 0 kind (omega arith) (omega (arith, s))) (inl refl)
 in-every_set (Pair kind) s = absurd s
 
@@ -61,9 +62,6 @@ set-triplet : (k : ℕ) (set : Block) → k < 34 → set ≡ Triplet k → IsSet
 set-triplet k (Run low) l e = absurd (cc)
 set-triplet k (Triplet kind) l e = let f : kind ≡ k = cc in omega arith
 set-triplet k (Pair kind) l e = absurd (cc)
-
-run-low : (k : ℕ) → begins_run k ≡ true → IsRunLow k
-run-low k t = (grind (arith, nat_tests), grind (arith, nat_tests))
 
 set-run : (k : ℕ) (set : Block) → IsRunLow k → set ≡ Run k → IsSet set
 set-run k (Run low) l e = let f : low ≡ k = cc in rw f l
@@ -77,7 +75,7 @@ every_set-inv set h =
     let r = in-range-inv 34 0 i.0 i.1 in
     elim (in-sets_at i.0 set i.2) [
       | inl e ↦ set-triplet i.0 set (omega (arith, r.1)) e
-      | inr e ↦ set-run i.0 set (run-low i.0 e.1) e.0
+      | inr e ↦ set-run i.0 set (run_low i.0 e.1) e.0
     ]
 
 -- ---- collections

@@ -21,13 +21,13 @@ use Rattle.riichi_split.proofs.AllReadings.{AreStandard, the_readings}
 
 -- ---- what adds up
 
-total-past : (sets : List Block) (k : ℕ) → AllByRecursion IsSet sets → 34 ≤ k → total sets k ≡ 0
+pub total-past : (sets : List Block) (k : ℕ) → AllByRecursion IsSet sets → 34 ≤ k → total sets k ≡ 0
 total-past [] k s l = refl
 total-past (Run a ∷ sets) k s l = let i = total-past sets k s.1 l in grind (arith, nat_tests)
 total-past (Triplet a ∷ sets) k s l = let i = total-past sets k s.1 l in grind (arith, nat_tests)
 total-past (Pair a ∷ sets) k s l = absurd s.0
 
-pair-past : (p k : ℕ) → p < 34 → 34 ≤ k → copies (Pair p) k ≡ 0
+pub pair-past : (p k : ℕ) → p < 34 → 34 ≤ k → copies (Pair p) k ≡ 0
 pair-past p k l h = grind (arith, nat_tests)
 
 same-number : (a b : ℕ) → eqb a b ≡ true → a ≡ b

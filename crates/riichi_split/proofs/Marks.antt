@@ -1,5 +1,5 @@
 -- The marks of the kinds that a hand waits for.
-use Rattle.std.proofs.Common.{not, None, ◌≡◌, ℕ, zero, suc, ◌+◌, ◌*◌, ◌<◌, ◌≤◌, ◌↔◌, ◌⊎◌, subst, Bool, true, false, List, [], ◌∷◌, length, get_or, refl, sym, ◌∙◌, arith, ltb, IsTrue, inl, inr}
+use Rattle.std.proofs.Common.{not, None, Ok, ap, ◌≡◌, ℕ, zero, suc, ◌+◌, ◌*◌, ◌<◌, ◌≤◌, ◌↔◌, ◌⊎◌, subst, Bool, true, false, List, [], ◌∷◌, length, get_or, refl, sym, ◌∙◌, arith, ltb, IsTrue, inl, inr}
 use Rattle.std.specs.List.{list_any}
 use Rattle.std.specs.Prelude.{◌&&◌}
 use Rattle.std.proofs.lemmas.Bool.{cases_lt}
@@ -8,6 +8,8 @@ use Rattle.std.proofs.lemmas.List.{length-set, get_or_past, ext_get_or}
 use Rattle.std.proofs.lemmas.Grind.{get_or-set_at}
 use Rattle.std.proofs.lemmas.List.FromFn.{length-map-range_with_len, get_or-map-range_with_len}
 use Rattle.riichi_tiles.specs.Tiles.{IsMarked, IsCounts}
+use Rattle.riichi_tiles.specs.Notation.{notation_fault, reading_of}
+use Rattle.riichi_tiles.specs.Printing.{digits, tiles_text, once, ones}
 use Rattle.riichi_hand.specs.HandParts.{HandParts}
 use Rattle.riichi_hand.specs.declared.fault.LineCode.TheVariants.{H8, H9}
 use Rattle.riichi_hand.specs.Faults.{coded, first_fault}
@@ -59,7 +61,7 @@ is_wait-iff hand kind l counts few =
 
 -- ---- all kinds
 
-mark_of : (hand : HandParts) (kind : ℕ) → kind < 34 → get_or (waits_of hand) kind false ≡ is_wait hand kind
+pub mark_of : (hand : HandParts) (kind : ℕ) → kind < 34 → get_or (waits_of hand) kind false ≡ is_wait hand kind
 unfolding waits_of
 mark_of hand kind l = get_or-map-range_with_len (is_wait hand) 0 34 kind kind false l (omega arith)
 
@@ -155,17 +157,38 @@ any-none (true ∷ marks) e kind t = absurd (cc)
 any-none (false ∷ marks) e zero t = absurd (cc)
 any-none (false ∷ marks) e (suc kind) t = any-none marks e kind t
 
-pub empty-none : (marks : List Bool) (empty : Bool) → (IsTrue empty ↔ ((kind : ℕ) → IsMarked marks kind → ⊥)) → empty ≡ true → list_any (λ mark. mark) marks ≡ false
-empty-none marks empty i e = none-any marks (i.0 e)
-
 not-false : (b : Bool) → (b ≡ false → ⊥) → b ≡ true
 not-false true h = refl
 not-false false h = absurd (h refl)
 
-pub some-any : (marks : List Bool) (empty : Bool) → (IsTrue empty ↔ ((kind : ℕ) → IsMarked marks kind → ⊥)) → empty ≡ false → list_any (λ mark. mark) marks ≡ true
-some-any marks empty i e = not-false (list_any (λ mark. mark) marks) (λ f. let t : empty ≡ true = i.1 (any-none marks f) in absurd (cc))
+-- ---- the text of no kinds is empty, and no other
 
--- ---- a hand has at most four melds
+not-true : (b : Bool) → (b ≡ true → ⊥) → b ≡ false
+not-true true h = absurd (h refl)
+not-true false h = refl
+
+no-digits : (copies : ℕ → ℕ) (first n : ℕ) → ((kind : ℕ) → copies kind ≡ 0) → digits copies first n ≡ []
+unfolding digits
+no-digits copies first zero none = refl
+no-digits copies first (suc n) none = rw (no-digits copies first n none, none (first + n)) refl
+
+no-text : (marks : List Bool) → list_any (λ mark. mark) marks ≡ false → tiles_text (once marks) ≡ []
+unfolding tiles_text
+no-text marks none =
+    let zeros : (kind : ℕ) → once marks kind ≡ 0 = λ kind. rw (not-true (get_or marks kind false) (any-none marks none kind)) refl in
+    rw (no-digits (once marks) 0 9 zeros, no-digits (once marks) 9 9 zeros, no-digits (once marks) 18 9 zeros, no-digits (once marks) 27 7 zeros) refl
+
+no-bytes : (text : List ℕ) → length text ≡ 0 → text ≡ []
+no-bytes [] none = refl
+no-bytes (byte ∷ text) none = absurd (omega (arith, none))
+
+pub empty-none : (marks : List Bool) (text : List ℕ) → length text ≡ 0 → ((kind : ℕ) → IsMarked marks kind → reading_of text ≡ Ok (ones marks)) → list_any (λ mark. mark) marks ≡ false
+unfolding notation_fault
+empty-none marks text empty reads =
+    none-any marks (λ kind m. let read : reading_of [] ≡ Ok (ones marks) = subst (λ (t : List ℕ). reading_of t ≡ Ok (ones marks)) (no-bytes text empty) (reads kind m) in cc)
+
+pub some-any : (marks : List Bool) → (length (tiles_text (once marks)) ≡ 0 → ⊥) → list_any (λ mark. mark) marks ≡ true
+some-any marks some = not-false (list_any (λ mark. mark) marks) (λ none. some (ap length (no-text marks none)))
 
 thirteen : (b d : Bool) → first_fault (coded H8 (not b) ∷ coded H9 d ∷ []) ≡ None → b ≡ true
 thirteen true d e = refl

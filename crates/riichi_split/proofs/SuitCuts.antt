@@ -59,6 +59,13 @@ sum-with-pair tiles n s =
     omega (arith, i.1, e, s.two)
 
 -- how many pairs there are beside sets
+-- without tiles there are no sets
+pub no-tiles : (runs : Bool) (held : List ℕ) → sum held ≡ 0 → AreCut runs 0 0 held
+no-tiles runs [] none = refl
+no-tiles runs (h ∷ above) none =
+    let sums = sum_by-cons (λ x. x) h above in
+    (0, 0, omega (arith, none, sums), λ some. absurd (omega arith), no-tiles runs above (omega (arith, none, sums)))
+
 pub pairs-none : (tiles : OneSuit) → length tiles.held ≡ 9 → AreSets tiles → HasPairs tiles 0
 pairs-none tiles nine sets = record {
   nine_ranks = nine;

@@ -4,20 +4,13 @@ use Rattle.std.specs.List.{list_all, list_any, flat_map, count_by}
 use Rattle.riichi_tiles.specs.Melds.{every_kind}
 use Rattle.riichi_tiles.specs.Blocks.{total, place_of}
 use Rattle.riichi_tiles.specs.declared.block.Block.{Block}
-use Rattle.riichi_tiles.specs.declared.block.Block.TheVariants.{Run, Triplet, Pair}
+use Rattle.riichi_tiles.specs.declared.block.Block.TheVariants.{Pair}
 use Rattle.riichi_split.specs.declared.reading.Reading.{Reading}
 use Rattle.riichi_split.specs.declared.reading.Reading.TheVariants.{Standard, SevenPairs, Orphans}
-use Rattle.riichi_tiles.specs.Kinds.{begins_run, is_orphan}
+use Rattle.riichi_tiles.specs.Kinds.{is_orphan}
+use Rattle.riichi_tiles.specs.Sets.{every_set}
 use Rattle.riichi_split.specs.Readings.{orphan_copies}
 use Rattle.riichi_split.specs.Dones.{dones, flagged}
-
--- the sets whose lowest tile is of this kind
-abbrev pub sets_at : ℕ → List Block
-sets_at kind = Triplet kind ∷ (if begins_run kind then Run kind ∷ [] else [])
-
--- all triplets and runs, in their order
-unfoldable pub every_set : List Block
-every_set = flat_map sets_at every_kind
 
 abbrev pub when : {X : Type 0} → Bool → List X → List X
 when holds xs = if holds then xs else []

@@ -46,17 +46,17 @@ impl Readings {
         ensures { AreTheReadings counts.now (length melds.now) winning result }
     {
         let melds = melds.count();
-        let tiles = counts.to_array();
+        let tiles = counts.as_array();
         Readings {
             winning,
-            seven_pairs: are_seven_pairs(&tiles, melds),
-            orphans: are_thirteen_orphans(&tiles, melds),
+            seven_pairs: are_seven_pairs(tiles, melds),
+            orphans: are_thirteen_orphans(tiles, melds),
             split: Split {
                 sets: Sets::new(),
                 pair: Kind::at(0),
             },
             place: 1,
-            splits: Splits::new(counts, melds, Rests::of(&counts.to_array())),
+            splits: Splits::new(counts, melds, Rests::of(tiles)),
         }
     }
 }

@@ -24,7 +24,7 @@ fn mark_pair_wait(tiles: &Counts, marks: &mut KindSet)
     requires { length marks.old ≡ 34 }
     ensures { spec.Adds (spec.CompletesPairs tiles.now) 34 marks.old marks.new }
 {
-    let single = single_of(&tiles.to_array());
+    let single = single_of(tiles.as_array());
     if single < 34 && completes_pairs(tiles, Kind::at(single)) {
         marks.insert(Kind::at(single));
     }
@@ -35,14 +35,14 @@ fn mark_orphan_waits(tiles: &Counts, marks: &mut KindSet)
     requires { length marks.old ≡ 34 }
     ensures { spec.Adds (spec.CompletesOrphans tiles.now) 34 marks.old marks.new }
 {
-    let counts = tiles.to_array();
-    if !are_orphans_alone(&counts) {
+    let counts = tiles.as_array();
+    if !are_orphans_alone(counts) {
         return;
     }
-    let lacking = next_lacking(&counts);
+    let lacking = next_lacking(counts);
     if lacking < 34 {
         mark_lacking(tiles, Kind::at(lacking), marks);
-    } else if are_orphans_once(&counts) {
+    } else if are_orphans_once(counts) {
         mark_orphans(marks);
     }
 }
@@ -143,7 +143,7 @@ fn completes_pairs(tiles: &Counts, kind: Kind) -> bool
     }
     let mut completed = *tiles;
     completed.add(kind);
-    are_seven_pairs(&completed.to_array(), 0)
+    are_seven_pairs(completed.as_array(), 0)
 }
 
 /// Whether one more of a kind makes the orphans.
@@ -155,5 +155,5 @@ fn completes_orphans(tiles: &Counts, kind: Kind) -> bool
     }
     let mut completed = *tiles;
     completed.add(kind);
-    are_thirteen_orphans(&completed.to_array(), 0)
+    are_thirteen_orphans(completed.as_array(), 0)
 }

@@ -53,18 +53,18 @@ impl Splits {
         requires rests { AreRestsOf counts.now rests }
         ensures { AreTheSplits counts.now melds result }
     {
-        let counts = counts.to_array();
+        let tiles = counts.as_array();
         let suit = rests.suit_of_pair();
         Splits {
-            counts,
-            held: held_in(&counts),
+            counts: *tiles,
+            held: held_in(tiles),
             wanted: 4 - melds,
-            choices: choices_of(&counts),
+            choices: choices_of(tiles),
             pair: Kind::at(0),
             choices_left: 0,
             first: suit.first,
             pairs_left: suit.kinds,
-            third: third_of_pair(&counts),
+            third: third_of_pair(tiles),
         }
     }
 }
@@ -114,7 +114,7 @@ fn is_in_doubt(counts: &[u8; 34], kind: usize) -> bool
     let own = counts[kind] >= 3;
     let next = counts[kind + 1] >= 3;
     let third = counts[kind + 2] >= 3;
-    own && next && third
+    own & next & third
 }
 
 /// How many numbers can make the choices beside a pair: a bit for each kind that has three tiles, as

@@ -75,6 +75,7 @@ impl Suits {
     }
 
     /// Marks the kinds of a suit that complete the hand.
+    #[inline(always)]
     fn mark(&self, suit: Suit, marks: &mut KindSet)
         requires counted { spec.AreCounted self.now.tiles self.now.pairs }
         requires below { spec.MarksBelow (spec.Completes self.now.tiles) (first_of suit) marks.old }
@@ -86,6 +87,18 @@ impl Suits {
         if others > 1 {
             return;
         }
+        self.mark_ranks(suit, others, marks);
+    }
+
+    /// The same, where it is told how many pairs the other suits are.
+    #[inline(never)]
+    fn mark_ranks(&self, suit: Suit, others: usize, marks: &mut KindSet)
+        requires counted { spec.AreCounted self.now.tiles self.now.pairs }
+        requires others { others + of_suit self.now.pairs suit ≡ spec.total_of self.now.pairs }
+        requires below { spec.MarksBelow (spec.Completes self.now.tiles) (first_of suit) marks.old }
+        ensures { spec.MarksBelow (spec.Completes self.now.tiles)
+            (first_of suit + kinds_of suit) marks.new }
+    {
         let third = self.tiles.lent(suit).third();
         for rank in 0..suit.kinds() {
             if self.is_completed_by(suit, rank, others, third) {

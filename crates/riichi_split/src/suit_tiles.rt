@@ -179,12 +179,16 @@ impl SuitTiles {
     }
 
     /// How many pairs the tiles are beside sets: none or one, and two where they are neither. Sets have
-    /// tiles that leave nothing over by three, and a pair leaves two.
+    /// tiles that leave nothing over by three, and a pair leaves two. A suit without tiles is no sets.
     pub(crate) fn pairs(&self) -> usize
         ensures pairs { spec.HasPairs self.now result }
         ensures few { result ≤ 2 }
     {
-        match self.total() % 3 {
+        let total = self.total();
+        if total == 0 {
+            return 0;
+        }
+        match total % 3 {
             0 => if self.are_sets() { 0 } else { 2 },
             2 => if self.are_sets_and_pair() { 1 } else { 2 },
             _ => 2,

@@ -17,7 +17,7 @@ pub fn waits(hand: &HandRecord) -> KindSet
 {
     let tiles = hand.concealed();
     let melds = hand.melds();
-    let mut waits = standard_waits(&tiles.to_array(), melds.count());
+    let mut waits = standard_waits(tiles.as_array(), melds.count());
     if melds.count() > 0 {
         return with_tiles_left(&waits, &tiles, &melds);
     }
@@ -48,10 +48,11 @@ pub fn waits_text(waits: KindSet) -> ArrayString<48>
 {
     let mut text = ArrayString::new();
     text.push_str("waits ");
-    if waits.is_empty() {
+    let kinds = write_kinds(waits);
+    if kinds.is_empty() {
         text.push_str("-");
     } else {
-        text.push_str(write_kinds(waits).as_str());
+        text.push_str(kinds.as_str());
     }
     text
 }

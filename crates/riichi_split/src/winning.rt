@@ -19,10 +19,10 @@ pub fn is_win(counts: &Counts, melds: u8) -> bool
 fn has_shape(counts: &Counts, melds: usize) -> bool
     ensures { IsTrue result ↔ HasShape counts.now melds }
 {
-    let tiles = counts.to_array();
+    let tiles = counts.as_array();
     are_sets_and_pair(counts, melds)
-        || are_seven_pairs(&tiles, melds)
-        || are_thirteen_orphans(&tiles, melds)
+        || are_seven_pairs(tiles, melds)
+        || are_thirteen_orphans(tiles, melds)
 }
 
 fn are_sets_and_pair(counts: &Counts, melds: usize) -> bool
@@ -31,5 +31,5 @@ fn are_sets_and_pair(counts: &Counts, melds: usize) -> bool
     if melds > 4 || counts.total() as usize + 3 * melds != 14 {
         return false;
     }
-    has_split(&counts.to_array(), melds)
+    has_split(counts.as_array(), melds)
 }

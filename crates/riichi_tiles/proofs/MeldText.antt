@@ -8,12 +8,13 @@ use Rattle.std.proofs.lemmas.List.{get_or_past}
 use Rattle.std.proofs.lemmas.Slice.Eq.{bytes_eq-Decides}
 use Rattle.riichi_tiles.specs.Tiles.{IsCounts}
 use Rattle.riichi_tiles.specs.Notation.{Spells, reading_of}
-use Rattle.riichi_tiles.specs.Melds.{every_kind, tiles_of, is_meld, every_name, word_of, name_of, SpellsMeld, in_front, cut_at, named, melded, has_just, reads_as, meld_in, named_before, cut_named, meld_after, meld_of}
+use Rattle.riichi_tiles.specs.Melds.{every_kind, tiles_of, is_meld, every_name, word_of, name_of, SpellsMeld, cut_at, named, melded, has_just, reads_as, meld_in, named_before, cut_named, meld_after, meld_of}
 use Rattle.riichi_tiles.specs.declared.meld.Meld.{Meld}
 use Rattle.riichi_tiles.specs.declared.meld.Meld.TheVariants.{Chi, Pon, Kan, Ankan}
 use Rattle.riichi_tiles.specs.declared.meld.MeldName.{MeldName}
 use Rattle.riichi_tiles.specs.declared.meld.MeldName.TheVariants as names
 use Rattle.riichi_tiles.specs.declared.notation.NotationFault.{NotationFault}
+use Rattle.riichi_tiles.proofs.CutLemmas.{Joins, cut_joins}
 use Rattle.riichi_tiles.proofs.FirstFault.{reading_of_spelled}
 
 -- The word and the colon.
@@ -23,24 +24,6 @@ cut_word names.Chi rest = refl
 cut_word names.Pon rest = refl
 cut_word names.Kan rest = refl
 cut_word names.Ankan rest = refl
-
-Joins : List ℕ → Option (List ℕ × List ℕ) → Type 0
-Joins text None = Unit {0}
-Joins text (Some cut) = text ≡ cut.0 ++ 58 ∷ cut.1
-
-front_joins : (byte : ℕ) (text : List ℕ) (cut : Option (List ℕ × List ℕ)) → Joins text cut → Joins (byte ∷ text) (in_front byte cut)
-unfolding Joins
-front_joins byte text None joins = tt
-front_joins byte text (Some cut) joins = ap (λ t. byte ∷ t) joins
-
-cut_joins : (text : List ℕ) → Joins text (cut_at 58 text)
-unfolding Joins
-cut_joins [] = tt
-cut_joins (byte ∷ text) =
-    elim (cases_Bool (nat_eq byte 58)) [
-      | inl mark ↦ rw mark (ap (λ b. b ∷ text) (eqb-true byte 58 mark))
-      | inr other ↦ rw other (front_joins byte text (cut_at 58 text) (cut_joins text))
-    ]
 
 pub find_passes : {X : Type 0} (p : X → Bool) (xs : List X) (x : X) → find p xs ≡ Some x → p x ≡ true
 find_passes p [] x is = let bad : None ≡ Some x = is in absurd (cc)
@@ -61,7 +44,7 @@ CutText : List ℕ → Option (MeldName × List ℕ) → Type 0
 CutText text None = Unit {0}
 CutText text (Some cut) = text ≡ word_of cut.0 ++ 58 ∷ cut.1
 
-cut_text : (text : List ℕ) (cut : Option (List ℕ × List ℕ)) → Joins text cut → CutText text (cut_named cut)
+cut_text : (text : List ℕ) (cut : Option (List ℕ × List ℕ)) → Joins 58 text cut → CutText text (cut_named cut)
 unfolding Joins CutText
 cut_text text None joins = tt
 cut_text text (Some cut) joins = go (named cut.0) refl
@@ -74,7 +57,7 @@ pub text_of_cut : (text : List ℕ) (name : MeldName) (rest : List ℕ) → cut_
 unfolding CutText
 text_of_cut text name rest is =
     let P : Option (MeldName × List ℕ) → Type 0 = CutText text in
-    subst P is (cut_text text (cut_at 58 text) (cut_joins text))
+    subst P is (cut_text text (cut_at 58 text) (cut_joins 58 text))
 
 -- The tiles.
 

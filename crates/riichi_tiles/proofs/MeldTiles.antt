@@ -1,5 +1,5 @@
 -- The tiles of melds: those of one meld more.
-use Rattle.std.proofs.Common.{◌≡◌, ℕ, zero, suc, ◌+◌, ◌<◌, ◌≤◌, List, [], ◌∷◌, Bool, true, false, Some, None, nat_eq, take, length, get_or, replicate, refl, ap, ◌∙◌, arith, lit≤}
+use Rattle.std.proofs.Common.{◌≡◌, ℕ, zero, suc, ◌+◌, ◌<◌, ◌≤◌, List, [], ◌∷◌, Bool, true, false, Some, None, nat_eq, take, length, ap, ◌∙◌, arith, lit≤}
 use Rattle.std.specs.Prelude.{◌&&◌, if◌then◌else◌, nat_le, slice_get}
 use Rattle.std.specs.List.{list_all}
 use Rattle.std.proofs.lemmas.List.Folds.{list_all_more}
@@ -20,11 +20,6 @@ tiles_of-most (Chi low) kind = elim (nat_le low kind && nat_le kind (low + 2)) a
 tiles_of-most (Pon held) kind = elim (nat_eq held kind) as (λ b. (if b then 3 else 0) ≤ 4) [ true ↦ lit≤ tt | false ↦ lit≤ tt ]
 tiles_of-most (Kan held) kind = elim (nat_eq held kind) as (λ b. (if b then 4 else 0) ≤ 4) [ true ↦ lit≤ tt | false ↦ lit≤ tt ]
 tiles_of-most (Ankan held) kind = elim (nat_eq held kind) as (λ b. (if b then 4 else 0) ≤ 4) [ true ↦ lit≤ tt | false ↦ lit≤ tt ]
-
-pub zeros : (n kind : ℕ) → ◌≡◌ {A = ℕ} (get_or (replicate n 0) kind 0) 0
-zeros zero kind = refl
-zeros (suc n) zero = refl
-zeros (suc n) (suc kind) = zeros n kind
 
 pub within_melds : (melds : List Meld) (place : ℕ) → place < length melds → None ≡ slice_get melds place → ⊥
 within_melds [] place within none = omega (arith, within)

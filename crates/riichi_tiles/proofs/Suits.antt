@@ -1,11 +1,11 @@
 -- Laws of the suits, each said once for any suit.
-use Rattle.std.proofs.Common.{◌≡◌, ◌≢◌, ℕ, ◌+◌, ◌<◌, ◌⊎◌, inl, inr, refl, sym, subst, arith}
+use Rattle.std.proofs.Common.{◌≡◌, ◌≢◌, ℕ, ◌+◌, ◌<◌, ◌⊎◌, inl, inr, true, refl, sym, subst, arith}
 use Rattle.std.proofs.lemmas.Bool.{cases_lt}
 use Rattle.std.proofs.lemmas.Bool.Decides.{nat_tests}
 use Rattle.riichi_tiles.specs.declared.suit.Suit.{Suit}
 use Rattle.riichi_tiles.specs.declared.suit.Suit.TheVariants.{Characters, Circles, Bamboos, Honours}
 use Rattle.riichi_tiles.specs.declared.by_suit.BySuit.{BySuit}
-use Rattle.riichi_tiles.specs.Kinds.{IsOfSuit, first_of, suit_of}
+use Rattle.riichi_tiles.specs.Kinds.{IsOfSuit, IsRunLow, begins_run, first_of, suit_of}
 use Rattle.riichi_tiles.specs.Suits.{of_suit, with_suit}
 
 -- a kind is of one suit
@@ -72,3 +72,10 @@ of_suit-with_other by Circles Circles value ne = absurd (ne refl)
 of_suit-with_other by Bamboos Bamboos value ne = absurd (ne refl)
 of_suit-with_other by Honours Honours value ne = absurd (ne refl)
 of_suit-with_other by suit other value ne = refl
+
+-- a run begins at a kind just where the test says so
+pub begins_at : (low : ℕ) → IsRunLow low → begins_run low ≡ true
+begins_at low is = let seven = is.0 in let nine = is.1 in grind (arith, nat_tests)
+
+pub run_low : (low : ℕ) → begins_run low ≡ true → IsRunLow low
+run_low low begins = (grind (arith, nat_tests), grind (arith, nat_tests))

@@ -6,6 +6,7 @@ pub mod Notation
 pub mod Printing
 pub mod Groups
 pub mod Melds
+pub mod Sets
 pub mod Dora
 pub mod Reds
 pub mod Blocks

@@ -9,7 +9,7 @@
 //!
 //! [`read_counts`] reads the notation of tiles, as `123m44z`, and answers the first of its faults; [`write_counts`] and
 //! [`write_kinds`] write it. [`Meld::read`] reads a meld, as `chi:340m`, and [`reds_of`] the red fives of a text, where they
-//! stand as `0`. The notation itself is told in docs/NOTATION.md.
+//! stand as `0`; [`split_at_mark`] cuts a text where a meld's name ends. The notation itself is told in docs/NOTATION.md.
 //!
 //! All of these are plain values: each can be copied and compared. No call takes memory, and the readers take any bytes.
 //!
@@ -26,6 +26,7 @@
 mod block;
 mod by_suit;
 mod counts;
+mod cuts;
 mod dora;
 mod held_kinds;
 mod kind;
@@ -40,6 +41,7 @@ mod suit;
 pub use block::Block;
 pub use by_suit::BySuit;
 pub use counts::Counts;
+pub use cuts::split_at_mark;
 pub use dora::dora_of;
 pub use held_kinds::HeldKinds;
 pub use kind::Kind;

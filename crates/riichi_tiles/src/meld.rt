@@ -4,6 +4,7 @@ ghost use Rattle.riichi_tiles.specs.Melds.{tiles_of, is_open, is_kong, is_meld, 
 ghost use Rattle.riichi_tiles.specs.declared.meld.Meld.{Meld};
 
 use crate::counts::Counts;
+use crate::cuts::split_at_mark;
 use crate::kind::Kind;
 use crate::melded::add_meld;
 use crate::notation::read_into;
@@ -141,22 +142,9 @@ fn read_name(text: &[u8]) -> Option<(MeldName, &[u8])>
     ensures { MatchOption result (cut_named (cut_at 58 text.now)
         ≡ None) (λ cut. cut_named (cut_at 58 text.now) ≡ Some (cut.0, cut.1.now)) }
 {
-    let (word, tiles) = split_at_colon(text)?;
+    let (word, tiles) = split_at_mark(text, b':')?;
     let name = name_of(word)?;
     Some((name, tiles))
-}
-
-/// What stands before and after the first colon.
-fn split_at_colon(text: &[u8]) -> Option<(&[u8], &[u8])>
-    ensures { MatchOption result (cut_at 58 text.now ≡ None) (λ cut. cut_at 58 text.now
-        ≡ Some (cut.0.now, cut.1.now)) }
-{
-    for (place, byte) in text.iter().enumerate() {
-        if *byte == b':' {
-            return Some((&text[..place], &text[place + 1..]));
-        }
-    }
-    None
 }
 
 fn name_of(word: &[u8]) -> Option<MeldName>

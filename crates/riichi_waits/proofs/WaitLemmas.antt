@@ -1,10 +1,9 @@
 -- The sorts of wait of readings, one reading after another.
-use Rattle.std.proofs.Common.{◌≡◌, ◌≤◌, ◌<◌, ℕ, List, [], ◌∷◌, Bool, true, false, cond, nat_lt, get_or, length, refl, sym, ap, ◌∙◌, arith}
-use Rattle.std.specs.Prelude.{◌||◌, ◌↔◌, IsTrue}
-use Rattle.std.proofs.lemmas.Bool.Decides.{nat_tests}
-use Rattle.std.proofs.lemmas.List.FromFn.{get_or-map-range_with_len}
+use Rattle.std.proofs.Common.{◌≡◌, ◌≤◌, ◌<◌, ℕ, List, [], ◌∷◌, Bool, true, false, cond, nat_lt, get_or, length, sym, ap, ◌∙◌, arith}
+use Rattle.std.specs.Prelude.{◌↔◌, IsTrue}
+use Rattle.std.proofs.lemmas.Bool.Decides.{nat_tests, same_from_decides}
 use Rattle.std.specs.List.{list_any}
-use Rattle.std.proofs.Math.Bool.{or_assoc}
+use Rattle.std.proofs.Math.Bool.{or-false, or_assoc}
 use Rattle.riichi_split.specs.declared.reading.Reading.{Reading}
 use Rattle.riichi_split.specs.Readings.{IsReading, AreTheReadings}
 use Rattle.riichi_split.specs.ReadingsOf.{readings_of}
@@ -14,6 +13,7 @@ use Rattle.riichi_hand.specs.HandParts.{HandParts}
 use Rattle.riichi_split.specs.Waits.{waits_of, is_wait, with_one}
 use Rattle.riichi_split.proofs.Lists.{IsIn, and-left, in-All, in-Contains, any-in, any-from}
 use Rattle.riichi_split.proofs.EveryReading.{every_reading}
+use Rattle.riichi_split.proofs.Marks.{mark_of}
 use Rattle.riichi_waits.specs.declared.waits.WaitSorts.{WaitSorts}
 use Rattle.riichi_waits.specs.Waits.{sorts_by, sorts_in, both_sorts, kind_wait, waits_at}
 
@@ -36,26 +36,16 @@ both-more w sorts reading rest =
     (sym (or_assoc sorts.two_sided one.two_sided others.two_sided)) (sym (or_assoc sorts.closed one.closed others.closed)) (sym (or_assoc sorts.edge one.edge others.edge))
     (sym (or_assoc sorts.pair one.pair others.pair)) (sym (or_assoc sorts.two_pairs one.two_pairs others.two_pairs)) (sym (or_assoc sorts.orphans one.orphans others.orphans))
 
-or-none : (b : Bool) → (b || false) ≡ b
-or-none true = refl
-or-none false = refl
-
 pub both-none : (w : ℕ) (sorts : WaitSorts) → both_sorts sorts (sorts_in w []) ≡ sorts
 both-none w sorts =
-    made-same _ _ _ _ _ _ _ _ _ _ _ _ (or-none sorts.two_sided) (or-none sorts.closed) (or-none sorts.edge) (or-none sorts.pair) (or-none sorts.two_pairs) (or-none sorts.orphans)
+    made-same _ _ _ _ _ _ _ _ _ _ _ _ (or-false sorts.two_sided) (or-false sorts.closed) (or-false sorts.edge) (or-false sorts.pair) (or-false sorts.two_pairs) (or-false sorts.orphans)
 
 -- ---- the same readings in another order
 
-same-test : (a b : Bool) → (a ≡ true → b ≡ true) → (b ≡ true → a ≡ true) → a ≡ b
-same-test true b f g = sym (f refl)
-same-test false true f g = g refl
-same-test false false f g = refl
-
 any-same : (p : Reading → Bool) (xs ys : List Reading) → ((r : Reading) → IsIn r xs → IsIn r ys) → ((r : Reading) → IsIn r ys → IsIn r xs) → list_any p xs ≡ list_any p ys
 any-same p xs ys f g =
-    same-test (list_any p xs) (list_any p ys)
-    (λ e. let i = any-in p xs e in any-from p ys i.0 (f i.0 i.1) i.2)
-    (λ e. let i = any-in p ys e in any-from p xs i.0 (g i.0 i.1) i.2)
+    same_from_decides (list_any p xs) (list_any p ys)
+    (λ e. let i = any-in p xs e in any-from p ys i.0 (f i.0 i.1) i.2, λ e. let i = any-in p ys e in any-from p xs i.0 (g i.0 i.1) i.2) (λ e. e, λ e. e)
 
 sorts_in-same : (w : ℕ) (xs ys : List Reading) → ((r : Reading) → IsIn r xs → IsIn r ys) → ((r : Reading) → IsIn r ys → IsIn r xs) → sorts_in w xs ≡ sorts_in w ys
 sorts_in-same w xs ys f g =
@@ -72,15 +62,11 @@ sorts-of_all c melds w all long few are =
 
 -- ---- the kinds
 
-mark_of : (hand : HandParts) (kind : ℕ) → kind < 34 → get_or (waits_of hand) kind false ≡ is_wait hand kind
-unfolding waits_of
-mark_of hand kind low = get_or-map-range_with_len (is_wait hand) 0 34 kind kind false low (omega arith)
-
 -- a mark of the waits tells whether the hand waits for the kind
 pub is_wait-marked : (hand : HandParts) (kinds : List Bool) (kind : ℕ) (held : Bool) → kind < 34 → kinds ≡ waits_of hand → IsTrue held ↔ IsMarked kinds kind → held ≡ is_wait hand kind
 is_wait-marked hand kinds kind held low same member =
     let marked : get_or kinds kind false ≡ is_wait hand kind = ap (λ (marks : List Bool). get_or marks kind false) same ∙ mark_of hand kind low in
-    same-test held (is_wait hand kind) (λ e. sym marked ∙ member.0 e) (λ e. member.1 (marked ∙ e))
+    same_from_decides held (is_wait hand kind) (λ e. sym marked ∙ member.0 e, λ e. member.1 (marked ∙ e)) (λ e. e, λ e. e)
 
 pub copies-below : (hand : HandParts) (kind : ℕ) → is_wait hand kind ≡ true → copies_held hand.concealed hand.melds kind < 4
 copies-below hand kind e = below (copies_held hand.concealed hand.melds kind) (and-left (nat_lt (copies_held hand.concealed hand.melds kind) 4) (nat_lt 0 (length (readings_of (with_one hand.concealed kind) (length hand.melds) kind))) e)

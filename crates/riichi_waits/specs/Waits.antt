@@ -1,5 +1,5 @@
 -- Why a hand waits for a kind: how many of it are left, and which sorts of wait its readings make.
-use Rattle.std.specs.Prelude.{ℕ, ◌-◌, Bool, true, false, ◌||◌, List, [], ◌∷◌, ◌++◌, length, codes, decimal, if◌then◌else◌}
+use Rattle.std.specs.Prelude.{ℕ, ◌-◌, Bool, true, false, ◌||◌, List, [], ◌∷◌, ◌++◌, length, map, codes, decimal, if◌then◌else◌}
 use Rattle.std.specs.List.{list_any, flat_map}
 use Rattle.riichi_tiles.specs.Melds.{every_kind}
 use Rattle.riichi_tiles.specs.declared.block.Block.{Block}
@@ -11,6 +11,7 @@ use Rattle.riichi_split.specs.declared.reading.Reading.TheVariants.{Standard, Se
 use Rattle.riichi_split.specs.ReadingsOf.{readings_of}
 use Rattle.riichi_split.specs.Waits.{with_one, is_wait}
 use Rattle.riichi_blocks.specs.Waits.{is_closed_wait, is_edge_wait, is_two_sided}
+use Rattle.riichi_text.specs.Lists.{joined}
 use Rattle.riichi_text.specs.Tiles.{kind_text}
 use Rattle.riichi_waits.specs.declared.waits.WaitSorts.{WaitSorts}
 use Rattle.riichi_waits.specs.declared.waits.KindWait.{KindWait}
@@ -95,9 +96,6 @@ left_text kind left = kind_text kind ++ codes " " ++ decimal left ++ codes " lef
 unfoldable pub wait_text : KindWait → List ℕ
 wait_text row = left_text row.kind row.left ++ run_words row.sorts ++ other_words row.sorts
 
-unfoldable pub next_wait : KindWait → List ℕ
-next_wait row = codes "; " ++ wait_text row
-
 unfoldable pub waits_line : List KindWait → List ℕ
 waits_line [] = codes "  no tile that is left completes the hand\n"
-waits_line (row ∷ rows) = codes "  " ++ wait_text row ++ flat_map next_wait rows ++ codes "\n"
+waits_line (row ∷ rows) = codes "  " ++ joined (codes "; ") (map wait_text (row ∷ rows)) ++ codes "\n"

@@ -1,12 +1,11 @@
 //! The line of the kinds that a hand waits for.
 ghost use Rattle.std.specs.Prelude.{◌≡◌, ◌+◌, ◌≤◌, ◌++◌, length};
-ghost use Rattle.std.specs.List.{flat_map};
 ghost use Rattle.arrayvec.specs.ArrayString.{array_string_len};
 ghost use Rattle.riichi_waits.specs.Waits as spec;
 
 use crate::waits::{KindWait, WaitSorts};
 use arrayvec::ArrayString;
-use riichi_text::{push_kind, push_number};
+use riichi_text::{ListItem, push_kind, push_list, push_number};
 use riichi_tiles::Kind;
 
 /// Writes the line of the kinds that a hand waits for: of each how many are left, and the sorts of wait. Where there are
@@ -17,46 +16,28 @@ pub fn push_waits_line(text: &mut ArrayString<3072>, rows: &[KindWait])
     requires room { array_string_len text.old + 2930 ≤ 3072 }
     ensures { text.new.bytes ≡ text.old.bytes ++ spec.waits_line rows.now }
 {
-    if let [first, rest @ ..] = rows {
-        text.push_str("  ");
-        push_wait(text, first);
-        push_more_waits(text, rest);
-        text.push_str("\n");
-    } else {
+    if rows.is_empty() {
         text.push_str("  no tile that is left completes the hand\n");
+    } else {
+        text.push_str("  ");
+        push_list(text, "; ", rows);
+        text.push_str("\n");
     }
 }
 
-fn push_more_waits(text: &mut ArrayString<3072>, rows: &[KindWait])
-    requires few { length rows.now ≤ 33 }
-    requires room { array_string_len text.old + 2640 ≤ 3072 }
-    ensures bytes { text.new.bytes ≡ text.old.bytes ++ flat_map spec.next_wait rows.now }
-    ensures len { array_string_len text.new ≤ array_string_len text.old + 2640 }
-{
-    for row in rows {
-        push_next_wait(text, row);
+impl ListItem<3072> for KindWait {
+    ghost use Rattle.riichi_waits.specs.Waits.{wait_text};
+
+    ghost item_text = { wait_text };
+
+    ghost most = { 78 };
+
+    #[tactic(auto, unfolding(crate::specs::Waits::wait_text))]
+    fn push(&self, text: &mut ArrayString<3072>) {
+        push_left(text, self.kind, self.left);
+        push_run_words(text, &self.sorts);
+        push_other_words(text, &self.sorts);
     }
-}
-
-#[tactic(auto, unfolding(crate::specs::Waits::next_wait))]
-fn push_next_wait(text: &mut ArrayString<3072>, row: &KindWait)
-    requires { array_string_len text.old + 80 ≤ 3072 }
-    ensures bytes { text.new.bytes ≡ text.old.bytes ++ spec.next_wait row.now }
-    ensures len { array_string_len text.new ≤ array_string_len text.old + 80 }
-{
-    text.push_str("; ");
-    push_wait(text, row);
-}
-
-#[tactic(auto, unfolding(crate::specs::Waits::wait_text))]
-fn push_wait(text: &mut ArrayString<3072>, row: &KindWait)
-    requires { array_string_len text.old + 78 ≤ 3072 }
-    ensures bytes { text.new.bytes ≡ text.old.bytes ++ spec.wait_text row.now }
-    ensures len { array_string_len text.new ≤ array_string_len text.old + 78 }
-{
-    push_left(text, row.kind, row.left);
-    push_run_words(text, &row.sorts);
-    push_other_words(text, &row.sorts);
 }
 
 #[tactic(auto, unfolding(crate::specs::Waits::left_text))]

@@ -1,5 +1,5 @@
-//! The words of a line, and texts cut at a mark.
-ghost use Rattle.std.specs.Prelude.{◌≡◌, ◌<◌, ◌≤◌, ◌==◌, [], ◌∷◌, ◌++◌, false, true, length, IfSome, MatchOption, None, Some, is_some, not, take, drop};
+//! The words of a line, and the marks of a text.
+ghost use Rattle.std.specs.Prelude.{◌≡◌, ◌<◌, ◌≤◌, ◌==◌, [], ◌∷◌, ◌++◌, false, true, length, IfSome, MatchOption, is_some, not, take, drop};
 ghost use Rattle.std.specs.List.{list_all, position_or_len};
 ghost use Rattle.riichi_tiles.specs.Melds.{cut_at};
 ghost use Rattle.riichi_hand.specs.Words.{words_of, is_space, without_spaces, begins_with_space, BeginsWithSpaces};
@@ -54,19 +54,6 @@ pub fn word_len(text: &[u8]) -> usize
         len += 1;
     }
     len
-}
-
-/// What stands before and after the first mark.
-pub(crate) fn split_at_mark(text: &[u8], mark: u8) -> Option<(&[u8], &[u8])>
-    ensures { MatchOption result (cut_at mark text.now ≡ None)
-        (λ cut. (cut_at mark text.now ≡ Some (cut.0.now, cut.1.now)) × (length cut.1.now < length text.now)) }
-{
-    for (place, byte) in text.iter().enumerate() {
-        if *byte == mark {
-            return Some((&text[..place], &text[place + 1..]));
-        }
-    }
-    None
 }
 
 /// Whether a mark stands in a text.

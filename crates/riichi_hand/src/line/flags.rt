@@ -2,8 +2,8 @@
 ghost use Rattle.std.specs.Prelude.{◌≡◌, ◌∷◌, ◌++◌, [], true, None, Some, List, ℕ, if◌then◌else◌};
 ghost use Rattle.riichi_hand.specs.Values.{flags_of, flags_of_items, flags_in, are_flags};
 
-use super::cuts::split_at_mark;
 use crate::win::Flags;
+use riichi_tiles::split_at_mark;
 
 /// The flags that a text joins by commas, none twice.
 pub(crate) fn read_flags(value: &[u8]) -> Option<Flags>

@@ -1,38 +1,38 @@
 //! The value of the key `open`.
-ghost use Rattle.std.specs.Prelude.{◌≡◌, ◌∷◌, ◌++◌, [], Some, List, ℕ};
+ghost use Rattle.std.specs.Prelude.{◌≡◌, ◌∷◌, ◌++◌, [], None, Some, List, ℕ, if◌then◌else◌};
 ghost use Rattle.riichi_hand.specs.Values.{melds_of, melds_of_items};
 
-use super::cuts::split_at_mark;
-use riichi_tiles::{Meld, Melds};
+use riichi_tiles::{Meld, Melds, split_at_mark};
 
 /// The most melds that a hand has.
 const MOST_MELDS: usize = 4;
 
-/// The melds that a text joins by commas, one to four.
-pub(crate) fn read_melds(value: &[u8]) -> Option<Melds>
-    ensures { result ≡ melds_of value.now }
+/// Puts the melds that a text joins by commas, one to four, where none were. Answers whether they are melds.
+pub(crate) fn read_melds(melds: &mut Melds, value: &[u8]) -> bool
+    requires none { melds.old ≡ [] }
+    ensures { (if result then Some melds.new else None) ≡ melds_of value.now }
 {
-    let mut melds = Melds::new();
     let mut rest = value;
-    loop {
-        let Some((item, after)) = split_at_mark(rest, b',') else {
-            return with_meld(melds, rest);
-        };
-        melds = with_meld(melds, item)?;
+    while let Some((item, after)) = split_at_mark(rest, b',') {
+        if !add_meld(melds, item) {
+            return false;
+        }
         rest = after;
     }
+    add_meld(melds, rest)
 }
 
-/// The melds of items and of one more.
-fn with_meld(melds: Melds, item: &[u8]) -> Option<Melds>
-    ensures { (items : List (List ℕ)) → Some melds ≡ melds_of_items items
-        → result ≡ melds_of_items (items ++ item.now ∷ []) }
+/// Adds the meld of one more item, after those of other items. Answers whether the items are melds.
+fn add_meld(melds: &mut Melds, item: &[u8]) -> bool
+    ensures { (items : List (List ℕ)) → Some melds.old ≡ melds_of_items items
+        → (if result then Some melds.new else None) ≡ melds_of_items (items ++ item.now ∷ []) }
 {
-    let meld = Meld::read(item)?;
+    let Some(meld) = Meld::read(item) else {
+        return false;
+    };
     if melds.count() == MOST_MELDS {
-        return None;
+        return false;
     }
-    let mut melds = melds;
     melds.push(meld);
-    Some(melds)
+    true
 }

@@ -27,6 +27,9 @@ pub fn read_line(rules: Rules, line: &[u8]) -> Result<Option<Job>, LineFault>
     ensures bad_word { result ≡ Err (Line H4) → has_bad_word line.now ≡ true }
     ensures no_reds_over { result ≢ Err (Line H16) }
 {
+    // Rooms that are made at once are cleared once.
+    let mut fields = Fields::new();
+    let mut texts = Texts::new();
     if line.len() > MOST_LINE {
         return Err(LineFault::Line(LineCode::H1));
     }
@@ -34,10 +37,8 @@ pub fn read_line(rules: Rules, line: &[u8]) -> Result<Option<Job>, LineFault>
         return Ok(None);
     }
     let words = Words::read(line)?; // H1 to H3
-    let mut fields = Fields::new();
     fields.fill(&words)?; // H4 and H5
     let needed = Needed::read(&words, &fields)?; // H6
-    let mut texts = Texts::new();
     texts.spell(&words, &fields)?; // N1 to N6, then H7
     let job = make_job(rules, needed, &words, &fields, &texts)?; // H8 to H15
     Ok(Some(job))

@@ -1,5 +1,5 @@
 //! The notation texts and the melds of a line.
-ghost use Rattle.std.specs.Prelude.{◌≡◌, None, Some, MatchResult, option_map, replicate};
+ghost use Rattle.std.specs.Prelude.{◌≡◌, [], None, Some, MatchResult, option_map, replicate, if◌then◌else◌};
 ghost use Rattle.riichi_tiles.specs.Notation.{counts_of};
 ghost use Rattle.riichi_hand.specs.Faults.{IsStep};
 ghost use Rattle.riichi_hand.specs.Lines.{text_faults};
@@ -54,10 +54,9 @@ impl Texts {
         read_optional(&mut self.dora, TextName::Dora, fields.dora)?;
         read_optional(&mut self.ura, TextName::Ura, fields.ura)?;
         read_optional(&mut self.seen, TextName::Seen, fields.seen)?;
-        let Some(melds) = read_open(fields.melds) else {
+        if !read_open(&mut self.melds, fields.melds) {
             return Err(LineFault::Line(LineCode::H7));
-        };
-        self.melds = melds;
+        }
         Ok(())
     }
 }
@@ -76,6 +75,7 @@ fn read_text(counts: &mut Counts, name: TextName, text: &[u8]) -> Result<(), Lin
 }
 
 /// Leaves no tiles where the text is missing.
+#[inline(always)]
 fn read_optional(counts: &mut Counts, name: TextName, text: Option<&[u8]>) -> Result<(), LineFault>
     requires { counts.old ≡ replicate 34 0 }
     ensures { let text = option_map (λ text. text.now) text.entry in MatchResult result
@@ -88,12 +88,14 @@ fn read_optional(counts: &mut Counts, name: TextName, text: Option<&[u8]>) -> Re
     }
 }
 
-/// No melds where the value is missing.
-fn read_open(value: Option<&[u8]>) -> Option<Melds>
-    ensures { result ≡ melds_in (option_map (λ value. value.now) value.entry) }
+/// Puts the melds of a value where none were, and leaves none where it is missing. Answers whether they are melds.
+fn read_open(melds: &mut Melds, value: Option<&[u8]>) -> bool
+    requires none { melds.old ≡ [] }
+    ensures { (if result then Some melds.new else None)
+        ≡ melds_in (option_map (λ value. value.now) value.entry) }
 {
     match value {
-        None => Some(Melds::new()),
-        Some(value) => read_melds(value),
+        None => true,
+        Some(value) => read_melds(melds, value),
     }
 }

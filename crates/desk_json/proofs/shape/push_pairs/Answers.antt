@@ -1,7 +1,7 @@
 use Rattle.std.proofs.Common.{◌++◌, length, ap, ◌∙◌, arith}
 use Rattle.std.proofs.lemmas.Bool.{lt-ltb, le-ltb}
 use Rattle.std.specs.Prelude.{slice_index, nat_lt}
-use Rattle.desk_json.specs.Parts.{comma_if, joined, live_text}
+use Rattle.desk_json.specs.Parts.{comma_if, listed, live_text}
 use Rattle.desk_json.proofs.Chosen.{start, with_one, without_one, at_end, all_pairs}
 use Rattle.desk_json.proofs.shape.push_pairs.Goals as goal
 use Rattle.desk_json.proofs.shape.push_pairs.Goals.{then-live-gt0, else-live-gt0}
@@ -36,4 +36,4 @@ returns-clause-bytes c =
     let copies = c.args.copies.now in
     at_end (λ kind. live_text (kind, slice_index copies kind)) (λ kind. nat_lt 0 (slice_index copies kind)) c.loop-number.number 34 c.args.text.now.bytes c.loop-number.text.bytes c.loop-number.later
     c.loop-number.invariant.written (omega arith) (omega arith)
-    ∙ ap (λ ts. c.args.text.now.bytes ++ joined ts) (all_pairs copies)
+    ∙ ap (λ ts. c.args.text.now.bytes ++ listed ts) (all_pairs copies)

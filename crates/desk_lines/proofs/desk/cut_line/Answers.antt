@@ -1,15 +1,9 @@
 use Rattle.std.proofs.Common.{◌≡◌, ◌<◌, ◌+◌, ◌-◌, ◌∙◌, List, ℕ, ◌∷◌, ◌++◌, sym, ap, length, take, drop, get_or, arith, drop-cons, length-drop, add-one}
 use Rattle.std.proofs.lemmas.Bool.{eqb-true}
 use Rattle.std.proofs.lemmas.List.{take-append-drop, take_all}
+use Rattle.riichi_tiles.proofs.CutLemmas.{around}
 use Rattle.desk_lines.proofs.LineLemmas.{plain-before}
 use Rattle.desk_lines.proofs.desk.cut_line.Goals as goal
-
--- a text around its byte at a place
-around : (text : List ℕ) (place : ℕ) → place < length text → text ≡ take place text ++ get_or text place 0 ∷ take (length text - (place + 1)) (drop (place + 1) text)
-around text place within =
-    let rest : drop place text ≡ get_or text place 0 ∷ drop (place + 1) text = rw add-one (drop-cons text place 0 within) in
-    let all : take (length text - (place + 1)) (drop (place + 1) text) ≡ drop (place + 1) text = take_all (length text - (place + 1)) (drop (place + 1) text) (omega (arith, length-drop (place + 1) text)) in
-    rw (all, ← rest) (sym (take-append-drop place text))
 
 pub returns-in-None : goal.returns-in-None
 returns-in-None c =

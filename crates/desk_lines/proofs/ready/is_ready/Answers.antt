@@ -1,6 +1,6 @@
 use Rattle.std.proofs.Common.{◌≡◌, ◌↔◌, ℕ, ℤ, pos, true, IsTrue, nat_eq, of_z, to_z, FitsSigned, sym, ap, ◌∙◌, arith}
 use Rattle.std.proofs.Common as width
-use Rattle.std.proofs.lemmas.Bool.Decides.{nat_tests}
+use Rattle.std.proofs.lemmas.Bool.{eqb-true}
 use Rattle.std.proofs.lemmas.Int.{to_z-of_z}
 use Rattle.riichi_tiles.specs.Tiles.{IsCounts}
 use Rattle.riichi_shape.specs.EveryWinning.{shanten_of}
@@ -12,13 +12,9 @@ shanten-requires c = λ kind low.
     let counts : IsCounts c.args.hand.now.concealed = rw (← c.concealed-tiles.ensures.value) c.total.ensures.counts in
     rw c.melds-melds.ensures.value (melded c.args.hand.now counts c.concealed-tiles.ensures.hand kind low)
 
--- the test of a byte is that of the number that it stands for
-same_number : (a b : ℕ) → nat_eq a b ≡ true → a ≡ b
-same_number a b same = grind (arith, nat_tests)
-
 is_zero : (z : ℤ) → FitsSigned width.w8 z → IsTrue (nat_eq (of_z width.w8 z) 0) ↔ (z ≡ pos 0)
 is_zero z fits = (
-  λ test. sym (to_z-of_z width.w8 z fits) ∙ ap (to_z width.w8) (same_number (of_z width.w8 z) 0 test),
+  λ test. sym (to_z-of_z width.w8 z fits) ∙ ap (to_z width.w8) (eqb-true (of_z width.w8 z) 0 test),
   λ zero. ap (λ z. nat_eq (of_z width.w8 z) 0) zero,
 )
 

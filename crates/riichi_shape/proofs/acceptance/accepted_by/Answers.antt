@@ -1,28 +1,26 @@
-use Rattle.std.proofs.Common.{◌≡◌, ℕ, ◌<◌, Bool, true, false, cond, ltb, refl, sym, ap, ◌∙◌, arith}
+use Rattle.std.proofs.Common.{◌≡◌, ℕ, ◌<◌, Bool, true, false, cond, refl, sym, ap, ◌∙◌}
 use Rattle.std.proofs.lemmas.Bool.{and_parts, ltb-true}
-use Rattle.std.proofs.lemmas.Bool.Decides.{nat_tests}
 use Rattle.std.specs.Prelude.{◌&&◌, nat_lt, slice_index}
 use Rattle.riichi_shape.specs.EveryWinning.{distance_of}
-use Rattle.riichi_shape.specs.KindBits.{copies_among, has_kind}
+use Rattle.riichi_tiles.specs.HeldKinds.{is_held}
+use Rattle.riichi_shape.specs.KindBits.{copies_among}
 use Rattle.riichi_shape.specs.LackedKinds.{lacks_kind}
 use Rattle.riichi_shape.proofs.AcceptedLemmas.{accepted_pairs}
 use Rattle.riichi_shape.proofs.KindLemmas.{among_at, both_at, live_at, marked_at}
+use Rattle.riichi_shape.proofs.LiveLemmas.{some_live}
 use Rattle.riichi_shape.proofs.Nearer.{accepted_at}
 use Rattle.riichi_shape.proofs.acceptance.accepted_by.Goals as goal
 
 lacked_and_live : (a : Bool) (l : ℕ) → cond (a && nat_lt 0 l) l 0 ≡ cond a l 0
 lacked_and_live true l = some_live l
-  where
-    some_live : (l : ℕ) → cond (ltb 0 l) l 0 ≡ l
-    some_live l = grind (arith, nat_tests)
 lacked_and_live false l = refl
 
 module _ (c : goal.After-both) where
-  has_at : (k : ℕ) → k < 34 → has_kind c.both.result k ≡ (lacks_kind c.args.lacked.now k (slice_index c.args.hand.now k) && nat_lt 0 (slice_index c.args.live.now.copies k))
+  has_at : (k : ℕ) → k < 34 → is_held c.both.result k ≡ (lacks_kind c.args.lacked.now k (slice_index c.args.hand.now k) && nat_lt 0 (slice_index c.args.live.now.copies k))
   has_at k low =
-      ap (λ s. has_kind s k) c.both.ensures ∙ both_at c.kinds.result c.args.live.now.kinds k
-      ∙ ap (λ t. t && has_kind c.args.live.now.kinds k) (c.kinds.ensures k low ∙ ap (λ held. lacks_kind c.args.lacked.now k (slice_index held k)) c.to_array.ensures.value)
-      ∙ ap (λ t. lacks_kind c.args.lacked.now k (slice_index c.args.hand.now k) && t) (ap (λ s. has_kind s k) c.args.live.now.live ∙ marked_at _ k ∙ live_at c.args.live.now.copies k)
+      ap (λ s. is_held s k) c.both.ensures ∙ both_at c.kinds.result c.args.live.now.kinds k
+      ∙ ap (λ t. t && is_held c.args.live.now.kinds k) (c.kinds.ensures k low ∙ ap (λ held. lacks_kind c.args.lacked.now k (slice_index held k)) c.to_array.ensures.value)
+      ∙ ap (λ t. lacks_kind c.args.lacked.now k (slice_index c.args.hand.now k) && t) (ap (λ s. is_held s k) c.args.live.now.live ∙ marked_at _ k ∙ live_at c.args.live.now.copies k)
 
 pub returns-clause-accepted : goal.returns-clause-accepted
 returns-clause-accepted c = λ melds seen lacked are.

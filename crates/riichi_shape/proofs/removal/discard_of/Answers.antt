@@ -1,7 +1,8 @@
 use Rattle.std.proofs.Common.{◌≡◌, ◌-◌, subst, sym, ap, ◌∙◌, List, ℕ, length, length-set}
 use Rattle.std.specs.Prelude.{slice_index}
 use Rattle.riichi_shape.specs.Accepted.{accepted_of, with_one}
-use Rattle.riichi_shape.specs.KindBits.{copies_among, has_kind}
+use Rattle.riichi_tiles.specs.HeldKinds.{is_held}
+use Rattle.riichi_shape.specs.KindBits.{copies_among}
 use Rattle.riichi_shape.specs.LackedKinds.{AreLackedOf}
 use Rattle.riichi_shape.specs.LiveCopies.{live_in, pairs_of}
 use Rattle.riichi_shape.specs.declared.discard.Discard.{Discard}
@@ -27,6 +28,6 @@ pub returns-clause-kept : goal.returns-clause-kept
 returns-clause-kept c = record {
   numbers_below = c.new.ensures.numbers;
   honours_below = c.new.ensures.honours;
-  some_live = λ kind low there. c.accepted_by-accepted.ensures.live kind low (ap (λ s. has_kind s kind) (sym c.new.ensures.accepted) ∙ there);
+  some_live = λ kind low there. c.accepted_by-accepted.ensures.live kind low (ap (λ s. is_held s kind) (sym c.new.ensures.accepted) ∙ there);
   live_is = c.new.ensures.live ∙ c.among.ensures ∙ ap (λ s. live_in (pairs_of (copies_among c.args.live.now.copies s))) (sym c.new.ensures.accepted);
 }

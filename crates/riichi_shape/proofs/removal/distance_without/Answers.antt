@@ -20,4 +20,4 @@ distance_with-requires-clause-floor c =
 
 pub distance_with-requires-clause-row : goal.distance_with-requires-clause-row
 distance_with-requires-clause-row c =
-    subst (λ (rest : List ℕ). IsRowAt rest c.args.melds.now c.args.kind c.without.result) (sym c.remove.ensures.value) (c.without.ensures c.args.hand.now c.args.melds.now c.requires.suits c.requires.held)
+    subst (λ (rest : List ℕ). IsRowAt rest c.args.melds.now c.args.kind c.row_without.result) (sym c.remove.ensures.value) (c.row_without.ensures c.args.hand.now c.args.melds.now c.requires.suits c.requires.held)

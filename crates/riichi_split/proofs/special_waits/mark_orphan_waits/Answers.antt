@@ -5,6 +5,6 @@ use Rattle.riichi_split.proofs.special_waits.mark_orphan_waits.Goals as goal
 
 pub returns-then-not-are_orphans_alone : goal.returns-then-not-are_orphans_alone
 returns-then-not-are_orphans_alone c = adds-none (CompletesOrphans c.args.tiles.now) 34 c.args.marks.now (λ kind l o.
-    let t : c.are_orphans_alone.result ≡ true = c.are_orphans_alone.ensures kind l (rw (c.to_array-counts.ensures.value) o) in
+    let t : c.are_orphans_alone.result ≡ true = c.are_orphans_alone.ensures kind l (rw (c.as_array-counts.ensures.value) o) in
     let f : c.are_orphans_alone.result ≡ false = c.if-not-are_orphans_alone.true in
     absurd (cc))

@@ -1,11 +1,12 @@
 use Rattle.std.proofs.Common.{◌∙◌, ◌+◌, ap, sym, arith, add-one, take, get_or}
 use Rattle.riichi_tiles.specs.Melds.{tiles, tiles_of}
-use Rattle.riichi_tiles.proofs.MeldTiles.{tiles_more, tiles_of-most, zeros, within_melds, is_meld-get}
+use Rattle.riichi_tiles.proofs.Reading.{zero_at}
+use Rattle.riichi_tiles.proofs.MeldTiles.{tiles_more, tiles_of-most, within_melds, is_meld-get}
 use Rattle.riichi_tiles.proofs.melded.meld_tiles.Goals.{in-Some, in_default}
 use Rattle.riichi_tiles.proofs.melded.meld_tiles.Goals as goal
 
 pub loop-place-init : goal.loop-place-init
-loop-place-init c = (zeros 34, λ kind. omega (arith, zeros 34 kind))
+loop-place-init c = (zero_at 34, λ kind. omega (arith, zero_at 34 kind))
 
 pub add_meld-requires-clause-proper : goal.add_meld-requires-clause-proper
 add_meld-requires-clause-proper c = is_meld-get c.args.melds.now c.loop-place.place c.in-Some.meld c.count-place-end.ensures.melds.each_proper c.in-Some.ensures

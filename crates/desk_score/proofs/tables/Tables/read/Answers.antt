@@ -1,4 +1,4 @@
-use Rattle.std.proofs.Common.{◌≡◌, ◌∙◌, List, [], ◌∷◌, ◌++◌, Err, length, refl, ap, sym, subst, append_assoc, arith}
+use Rattle.std.proofs.Common.{◌≡◌, ◌∙◌, ℕ, List, [], ◌∷◌, ◌++◌, Err, ap, sym, subst, append_assoc, arith}
 use Rattle.std.proofs.lemmas.List.{append-nil}
 use Rattle.std.proofs.lemmas.Result.{err_from_is_err_and}
 use Rattle.std.specs.Vec.Iter.{into_iter_items}
@@ -6,8 +6,10 @@ use Rattle.desk_lines.specs.declared.fault.DeskFault.{DeskFault}
 use Rattle.desk_lines.specs.declared.fault.DeskFault.TheVariants as desk
 use Rattle.desk_score.specs.declared.score_fault.ScoreFault.TheVariants.{Read}
 use Rattle.desk_score.specs.Faults.{desk_fault}
+use Rattle.desk_lines.specs.LineAnswers.{answers}
+use Rattle.desk_lines.specs.Tables.{table_line}
 use Rattle.desk_score.specs.Score.{AllGive}
-use Rattle.desk_score.proofs.ScoreLemmas.{AllGive-last}
+use Rattle.desk_score.proofs.ScoreLemmas.{AllGive-last, none_left}
 use Rattle.desk_score.proofs.tables.Tables.read.Goals as goal
 
 -- only a failed read is told as one
@@ -15,10 +17,6 @@ was_read : (fault : DeskFault) → desk_fault fault ≡ Read → fault ≡ desk.
 was_read desk.Read is = cc
 was_read desk.Write is = absurd (let no : ⊥ = cc in no)
 was_read desk.Memory is = absurd (let no : ⊥ = cc in no)
-
-none_left : {X : Type 0} (xs : List X) → length xs ≡ 0 → xs ≡ []
-none_left [] none = refl
-none_left (x ∷ xs) none = absurd (omega arith)
 
 pub loop-reader-init : goal.loop-reader-init
 loop-reader-init g c = ([], record { given = tt; read = c.new-tables.ensures c.args.rules; parts = sym c.into_iter-reader-iterator.ensures.into_iter_gives.0 })
@@ -30,7 +28,7 @@ loop-reader-preserved g c =
       kept.0 ++ gave.0 ∷ [],
       record {
         given = AllGive-last g.R.Source c.loop-reader.yielded kept.0 c.in-Some.reader c.collect_text.new.reader gave.0 kept.1.given gave.1 c.collect_text.ensures.reads;
-        read = c.in_ok-add.ensures.ok c.args.rules kept.0 gave.0 kept.1.read gave.2 gave.3 gave.4;
+        read = c.in_ok-add.ensures.ok c.args.rules kept.0 gave.0 kept.1.read (gave.2 ∙ ap (λ (n : ℕ). table_line n ++ answers c.args.rules gave.0) kept.1.read.count) gave.3 gave.4;
         parts = kept.1.parts ∙ ap (λ rest. c.loop-reader.yielded ++ rest) c.in-Some.ensures.steps.0 ∙ sym (append_assoc c.loop-reader.yielded (c.in-Some.reader ∷ []) (into_iter_items c.next.new.self));
       },
     )

@@ -5,14 +5,14 @@ use Rattle.std.proofs.lemmas.Nat.Bits.{bit_at-zero}
 use Rattle.std.specs.List.{list_any}
 use Rattle.std.specs.Prelude.{◌==◌, ◌||◌}
 use Rattle.riichi_shape.specs.KeptDiscards.{kinds_of}
-use Rattle.riichi_shape.specs.KindBits.{has_kind}
+use Rattle.riichi_tiles.specs.HeldKinds.{is_held}
 use Rattle.riichi_shape.specs.declared.kept_discard.KeptDiscard.{KeptDiscard}
 use Rattle.riichi_shape.proofs.DiscardLemmas.{seen_are}
 use Rattle.riichi_shape.proofs.KindLemmas.{either_at}
 use Rattle.riichi_shape.proofs.discard_order.DiscardOrder.accepted.Goals as goal
 
 pub loop-place-init : goal.loop-place-init
-loop-place-init c = λ kind. ap (λ s. has_kind s kind) c.new-kinds.ensures ∙ ap (λ b. b == 1) (bit_at-zero kind)
+loop-place-init c = λ kind. ap (λ s. is_held s kind) c.new-kinds.ensures ∙ ap (λ b. b == 1) (bit_at-zero kind)
 
 pub accepted-requires : goal.accepted-requires
 accepted-requires c =
@@ -26,11 +26,11 @@ loop-place-preserved c = λ kind.
     (let places = c.self.inside.places in
     let place = c.loop-place.place in
     let other = c.index-self-place.result in
-    ap (λ s. has_kind s kind) c.either-kinds.ensures ∙ either_at c.loop-place.kinds c.accepted.result kind ∙ ap (λ t. t || has_kind c.accepted.result kind) (c.loop-place.invariant kind)
-    ∙ ap (λ s. list_any (λ kept. has_kind (kinds_of kept) kind) (take place places) || has_kind s kind) c.accepted.ensures
-    ∙ sym (list_any_more (λ kept. has_kind (kinds_of kept) kind) places place other (omega (arith, c.self.invariant.long, c.self.invariant.few, c.loop-place-test.true))))
+    ap (λ s. is_held s kind) c.either-kinds.ensures ∙ either_at c.loop-place.kinds c.accepted.result kind ∙ ap (λ t. t || is_held c.accepted.result kind) (c.loop-place.invariant kind)
+    ∙ ap (λ s. list_any (λ kept. is_held (kinds_of kept) kind) (take place places) || is_held s kind) c.accepted.ensures
+    ∙ sym (list_any_more (λ kept. is_held (kinds_of kept) kind) places place other (omega (arith, c.self.invariant.long, c.self.invariant.few, c.loop-place-test.true))))
 
 pub returns : goal.returns
 returns c = λ kind.
     (let at_end : c.loop-place.place ≡ c.self.inside.count = omega arith in
-    c.loop-place.invariant kind ∙ ap (λ n. list_any (λ kept. has_kind (kinds_of kept) kind) (take n c.self.inside.places)) at_end ∙ ap (list_any (λ kept. has_kind (kinds_of kept) kind)) c.self.view_is)
+    c.loop-place.invariant kind ∙ ap (λ n. list_any (λ kept. is_held (kinds_of kept) kind) (take n c.self.inside.places)) at_end ∙ ap (list_any (λ kept. is_held (kinds_of kept) kind)) c.self.view_is)

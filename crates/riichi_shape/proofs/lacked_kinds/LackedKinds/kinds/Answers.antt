@@ -1,6 +1,6 @@
 use Rattle.std.proofs.Common.{◌≡◌, Bool, true, false, ap, ◌∙◌, sym}
 use Rattle.std.specs.Prelude.{slice_index, ◌||◌}
-use Rattle.riichi_shape.specs.KindBits.{has_kind}
+use Rattle.riichi_tiles.specs.HeldKinds.{is_held}
 use Rattle.riichi_shape.specs.LackedKinds.{suits_lack}
 use Rattle.riichi_shape.specs.Special.{special_lacks}
 use Rattle.riichi_shape.proofs.KindLemmas.{either_at}
@@ -12,9 +12,9 @@ alone false b none = sym none
 
 pub returns-then-is_empty : goal.returns-then-is_empty
 returns-then-is_empty c = λ kind low.
-    c.kinds-kinds.ensures kind low ∙ alone (suits_lack c.args.self.now.suits kind) (special_lacks c.args.self.now.special kind (slice_index c.args.held.now kind)) (c.is_empty.ensures c.if-is_empty.true kind (slice_index c.args.held.now kind))
+    c.kinds_lacked-kinds.ensures kind low ∙ alone (suits_lack c.args.self.now.suits kind) (special_lacks c.args.self.now.special kind (slice_index c.args.held.now kind)) (c.is_empty.ensures c.if-is_empty.true kind (slice_index c.args.held.now kind))
 
 pub returns-else-is_empty : goal.returns-else-is_empty
 returns-else-is_empty c = λ kind low.
-    ap (λ s. has_kind s kind) c.either.ensures ∙ either_at c.kinds-kinds.result c.kinds.result kind ∙ ap (λ t. t || has_kind c.kinds.result kind) (c.kinds-kinds.ensures kind low)
+    ap (λ s. is_held s kind) c.either.ensures ∙ either_at c.kinds_lacked-kinds.result c.kinds.result kind ∙ ap (λ t. t || is_held c.kinds.result kind) (c.kinds_lacked-kinds.ensures kind low)
     ∙ ap (λ t. suits_lack c.args.self.now.suits kind || t) (c.kinds.ensures kind low)

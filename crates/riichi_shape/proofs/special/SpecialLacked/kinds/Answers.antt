@@ -1,5 +1,5 @@
 use Rattle.std.proofs.Common.{ap, ◌∙◌, below_more, false, length-set, get_or, get_or-set_same, get_or-set_other, arith}
-use Rattle.riichi_shape.specs.KindBits.{has_kind}
+use Rattle.riichi_tiles.specs.HeldKinds.{is_held}
 use Rattle.riichi_shape.specs.Special.{special_lacks}
 use Rattle.riichi_shape.proofs.KindLemmas.{marked_at}
 use Rattle.riichi_shape.proofs.special.SpecialLacked.kinds.Goals as goal
@@ -17,4 +17,4 @@ loop-number-preserved c =
     }
 
 pub returns : goal.returns
-returns c = λ kind low. ap (λ s. has_kind s kind) c.marked.ensures ∙ marked_at c.loop-number.marks kind ∙ c.loop-number.invariant.marked kind (omega arith)
+returns c = λ kind low. ap (λ s. is_held s kind) c.marked.ensures ∙ marked_at c.loop-number.marks kind ∙ c.loop-number.invariant.marked kind (omega arith)

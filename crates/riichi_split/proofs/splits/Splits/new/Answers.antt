@@ -7,6 +7,6 @@ use Rattle.riichi_split.proofs.splits.Splits.new.Goals as goal
 pub returns : goal.returns
 returns c =
     let four : 4 - c.args.melds + c.args.melds ≡ 4 = omega arith in
-    let counts : IsCounts c.to_array-counts.result = rw c.to_array-counts.ensures.value c.to_array-counts.ensures.counts in
-    let rests : AreRestsOf c.to_array-counts.result c.args.rests = rw c.to_array-counts.ensures.value c.requires.rests in
-    rw (c.choices_of.ensures.value, ← c.to_array-counts.ensures.value) (the_splits c.to_array-counts.result (4 - c.args.melds) c.args.melds c.at.result c.suit_of_pair-suit.result.first c.suit_of_pair-suit.result.kinds counts four c.suit_of_pair-suit.ensures.within (λ melds sets pair split. c.suit_of_pair-suit.ensures.pair c.to_array-counts.result melds sets pair rests split))
+    let counts : IsCounts c.as_array-tiles.result.now = rw c.as_array-tiles.ensures.value c.as_array-tiles.ensures.counts in
+    let rests : AreRestsOf c.as_array-tiles.result.now c.args.rests = rw c.as_array-tiles.ensures.value c.requires.rests in
+    rw (c.choices_of.ensures.value, ← c.as_array-tiles.ensures.value) (the_splits c.as_array-tiles.result.now (4 - c.args.melds) c.args.melds c.at.result c.suit_of_pair-suit.result.first c.suit_of_pair-suit.result.kinds counts four c.suit_of_pair-suit.ensures.within (λ melds sets pair split. c.suit_of_pair-suit.ensures.pair c.as_array-tiles.result.now melds sets pair rests split))

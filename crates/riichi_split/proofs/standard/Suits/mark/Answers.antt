@@ -1,31 +1,12 @@
-use Rattle.std.proofs.Common.{◌≡◌, ℕ, ◌+◌, ◌-◌, List, Bool, true, set, sym, ap, subst, ◌∙◌, false, arith}
+use Rattle.std.proofs.Common.{◌+◌, ◌-◌, arith}
 use Rattle.riichi_tiles.specs.Kinds.{first_of, kinds_of}
-use Rattle.riichi_split.specs.SuitTiles.{Completes, MarksBelow}
-use Rattle.riichi_split.proofs.KindMarks.{marks-yes, marks-no, marks-pass}
-use Rattle.riichi_split.proofs.PairTotals.{a-kind, at-most, passed}
+use Rattle.riichi_split.specs.SuitTiles.{Completes}
+use Rattle.riichi_split.proofs.KindMarks.{marks-pass}
+use Rattle.riichi_split.proofs.PairTotals.{at-most, passed}
 use Rattle.riichi_split.proofs.standard.Suits.mark.Goals as goal
-use Rattle.riichi_split.proofs.standard.Suits.mark.Goals.{then-is_completed_by, else-is_completed_by}
 
 pub returns-then-others-gt1 : goal.returns-then-others-gt1
 returns-then-others-gt1 c =
     marks-pass (Completes c.args.self.now.tiles) (first_of c.args.suit) (first_of c.args.suit + kinds_of c.args.suit) c.args.marks.now (omega arith)
     (λ kind low high w. passed c.args.self.now.tiles c.args.self.now.pairs c.args.suit (c.total_pairs.result - c.get.result) kind c.requires.counted
     (omega (arith, c.total_pairs.ensures.total, c.get.ensures, at-most c.args.self.now.pairs c.args.suit)) (omega arith) low high w) c.requires.below
-
-pub loop-rank-preserved : goal.loop-rank-preserved
-loop-rank-preserved c =
-    let P = Completes c.args.self.now.tiles in
-    let kind = first_of c.args.suit + c.loop-rank.rank in
-    let M : List Bool → Type 0 = λ marks. MarksBelow P (kind + 1) marks in
-    let N : ℕ → Type 0 = λ n. MarksBelow P n c.if-is_completed_by.marks in
-    let more : kind + 1 ≡ first_of c.args.suit + (c.loop-rank.rank + 1) = omega arith in
-    let small = a-kind c.args.suit c.loop-rank.rank (omega (arith, c.kinds-rank-end.ensures.value)) in
-    subst N more (elim c.if-is_completed_by.branch [
-      | then-is_completed_by w ↦
-          let at = w.at.ensures ∙ ap (λ n. n + c.loop-rank.rank) w.first.ensures in
-          subst M (sym (w.marks-is ∙ w.insert.ensures ∙ ap (λ k. set c.loop-rank.marks k true) at))
-          (marks-yes P kind c.loop-rank.marks small (c.is_completed_by.ensures.0 w.if-is_completed_by.true) c.loop-rank.invariant)
-      | else-is_completed_by w ↦
-          subst M (sym w.marks-is)
-          (marks-no P kind c.loop-rank.marks (λ h. let t : c.is_completed_by.result ≡ true = c.is_completed_by.ensures.1 h in let f : c.is_completed_by.result ≡ false = w.if-is_completed_by.false in absurd (cc)) c.loop-rank.invariant)
-    ])

@@ -1,0 +1,27 @@
+-- What stands on sheets of answer lines.
+use Rattle.std.specs.Prelude.{ℕ, List, [], ◌∷◌, ◌++◌, map}
+use Rattle.std.specs.List.{flat_map}
+use Rattle.desk_core.specs.Value.{value_of}
+use Rattle.desk_core.specs.declared.answer.Answer.{Answer}
+use Rattle.desk_lines.specs.declared.asked.Asked.{Asked}
+use Rattle.desk_lines.specs.declared.sheet.Sheet.{Sheet}
+use Rattle.desk_lines.specs.declared.sheets.Sheets.{Sheets}
+use Rattle.desk_lines.specs.Asked.{told}
+use Rattle.desk_lines.specs.Tables.{first_answers, other_answers}
+
+-- the text of a sheet: its lines, with the values of its jobs
+abbrev pub sheet_told : Sheet → List ℕ
+sheet_told sheet = told sheet.asked.items (map value_of sheet.jobs.items)
+
+-- the text of several sheets
+abbrev pub sheets_told : List Sheet → List ℕ
+sheets_told sheets = flat_map sheet_told sheets
+
+-- the text of the sheets of a table so far
+abbrev pub told_on : Sheets → List ℕ
+told_on sheets = sheets_told sheets.full.items ++ sheet_told sheets.last
+
+-- the text of several lists of answer lines, each with its list of answers
+abbrev pub lists_told : List (List Asked) → List (List Answer) → List ℕ
+lists_told [] answers = []
+lists_told (asked ∷ lists) answers = told asked (first_answers answers) ++ lists_told lists (other_answers answers)
