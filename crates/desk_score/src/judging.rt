@@ -14,8 +14,17 @@ use std::alloc::{AllocError, Global};
 use std::sync::Wait;
 use std::thread::{Threads, join};
 
-/// How many jobs of a sheet, which is a table of the board, are on the board at once.
-const PLACES: u32 = 2;
+/// How many places of the board each of so many sheets has, each of them a table: 16 together, or nearly.
+fn places_of(sheets: usize) -> u32
+    ensures { (1 ≤ result) × (result ≤ 32) }
+{
+    match sheets {
+        0..=1 => 16,
+        2 => 8,
+        3..=4 => 4,
+        _ => 2,
+    }
+}
 
 /// A round that was judged: the answers to its jobs.
 #[derive(Drop)]
@@ -63,6 +72,7 @@ pub(crate) fn judge<H: Threads + Wait + Sync>(
 {
     let Round { asked, jobs } = round;
     let jobs = jobs.as_slice();
+    let places = places_of(jobs.len());
     let (texts, answers) = join(
         rt,
         move || -> Result<Vec<Vec<u8>>, AllocError>
@@ -70,10 +80,10 @@ pub(crate) fn judge<H: Threads + Wait + Sync>(
                 ≡ judged_told before) }
         { before.texts(alloc) },
         || -> Result<Vec<Vec<Answer>>, RunFault>
-            requires { IsRunnable jobs.now workers 2 }
+            requires { IsRunnable jobs.now workers places }
             ensures range { result ≢ Err RunFault.Range }
             ensures values { IfOk result (λ answers. AreValues jobs.entry.now answers.items) }
-        { run_tables(rt, alloc, jobs, workers, PLACES) },
+        { run_tables(rt, alloc, jobs, workers, places) },
     );
     let texts = texts?;
     let answers = answers?;
