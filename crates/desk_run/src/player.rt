@@ -185,7 +185,8 @@ impl<'b> Player<'b> {
         false
     }
 
-    /// Offers what there is a place for, fetches what is done, and takes what has come.
+    /// Offers what there is a place for, fetches what is done, and takes what has come: an answer comes with a piece that is
+    /// fetched, and once all are there, the end does.
     pub(crate) fn turn(&mut self) -> Result<Turn, AllocError>
         ensures jobs { self.new.jobs ≡ self.old.jobs }
         ensures finished { IfOk result (λ turn. turn ≡ Turn.Finished
@@ -193,7 +194,8 @@ impl<'b> Player<'b> {
     {
         let offered = self.offer_all()?;
         let fetched = self.collect();
-        if self.take_all() {
+        let may_take = fetched || self.answers.len() == self.jobs.len();
+        if may_take && self.take_all() {
             return Ok(Turn::Finished);
         }
         Ok(if offered || fetched {
