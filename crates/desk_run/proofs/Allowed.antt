@@ -12,7 +12,7 @@ use Rattle.atomic_table.proofs.Lists.{at_set, set_again, at_snoc, exchanged}
 use Rattle.desk_run.specs.Counts.{total, one_if, same_ticket, times}
 use Rattle.desk_run.specs.Views.{entering, has_number, is_at, holds_at, finished_of, numbered, holders, finishes, new_table, new_worker, with_state, offering, table_lost, holding, worker_lost, having_finished, looking}
 use Rattle.desk_run.specs.Rule.{count_of, HeldWith, Standing, fresh, vacant, ready, taken, done, Seated, Orderly}
-use Rattle.desk_run.specs.Plays.{SeatState, Claims, Fetches, table_of, worker_of, stop_of, entered_table, entered_worker, entered_stop, took_up, offered, saw_ready, claimed, finished, saw_done, fetched, stopped, looked}
+use Rattle.desk_run.specs.Plays.{SeatState, Claims, Fetches, table_of, worker_of, stop_of, entered_table, entered_worker, entered_stop, took_up, offered, claimed, finished, fetched, stopped, looked}
 use Rattle.desk_core.specs.declared.ticket.Ticket.{Ticket}
 use Rattle.riichi_hand.specs.declared.job.Job.{Job}
 use Rattle.desk_core.specs.Ticketed.{Ticketed}
@@ -109,46 +109,6 @@ fetches size id k v carried state said at s o wide me _ = let t = at_state size 
       tt,
       lost_table size s o id i p v me,
       λ r e. ((λ hit. absurd (miss hit)), λ _. ap (λ (j : ℕ). let n : SeatState = (Table (table_lost v (v.base + j)), carried) in n) (same_place v.base r k e)),
-    ))
-
-pub sees_done : (size : BoardSize) (id k : ℕ) (v : TableView) (carried : List (ℕ × Content))
-    → Allows (Orderly size) (count_of size) id (Table v, carried) (2 + (v.base + k)) (λ n. n)
-    (saw_done (step (count_of size) (2 + (v.base + k)) 0 0 none) (Table v, carried))
-sees_done size id k v carried s o wide me _ = let p : ℕ = v.base + k in let i : ℕ = 2 + p in
-    dite (ℕ_discrete (get_or s.words i 0) 3)
-    (λ hit. (
-      Table v,
-      keeps,
-      tt,
-      unmoved size s o id i (Table v) (Table v) me (λ n. refl) (o.seats id (Table v) me) (λ q. (refl, refl)) (λ x. refl),
-      λ r e. ((λ _. refl), λ miss. absurd (miss hit)),
-    ))
-    (λ miss. (
-      Table (table_lost v p),
-      keeps,
-      tt,
-      lost_table size s o id i p v me,
-      λ r e. ((λ hit. absurd (miss hit)), λ _. ap (λ (j : ℕ). let n : SeatState = (Table (table_lost v (v.base + j)), carried) in n) (same_place v.base r k e)),
-    ))
-
-pub sees_ready : (size : BoardSize) (id p : ℕ) (v : WorkerView) (carried : List (ℕ × Content)) → v.held ≡ None
-    → Allows (Orderly size) (count_of size) id (Worker v, carried) (2 + p) (λ n. n)
-    (saw_ready (step (count_of size) (2 + p) 0 0 none) (Worker v, carried))
-sees_ready size id p v carried free s o wide me _ = let i : ℕ = 2 + p in
-    dite (ℕ_discrete (get_or s.words i 0) 1)
-    (λ hit. (
-      Worker v,
-      keeps,
-      tt,
-      unmoved size s o id i (Worker v) (Worker v) me (λ n. refl) (o.seats id (Worker v) me) (λ q. (ap (is_at q) free, ap (is_at q) free)) (λ x. refl),
-      λ r e. ((λ _. refl), λ miss. absurd (miss hit)),
-    ))
-    (λ miss. (
-      Worker (worker_lost v p),
-      keeps,
-      tt,
-      lost_worker size s o id p v me free,
-      λ r e. ((λ hit. absurd (miss hit)), λ _. ap (λ (q : ℕ). let n : SeatState = (Worker (worker_lost v q), carried) in n) (two_more p r e)),
     ))
 
 pub claims : (size : BoardSize) (id p : ℕ) (v : WorkerView) (carried : List (ℕ × Content)) (said : Option Content) → v.held ≡ None → p < count_of size
@@ -387,23 +347,11 @@ module _ (key size : BoardSize) (slots id word : ℕ) (m : SeatState) (keyed : k
       along_me (λ a n i y. Allows (Orderly a) n id y i (λ _. 1) (λ _. offered (step n i 1 0 none) y 1)) key size slots (count_of size) word (2 + (v.base + k)) m (Table v, (v.base + k, Offer x job) ∷ more) keyed sized at is
       (offers size id k v x job more state mine next)
 
-  pub may_see_done : (k : ℕ) → m.0 ≡ Table (table_of m.0) → word ≡ 2 + ((table_of m.0).base + k)
-      → Allows (Orderly key) slots id m word (λ n. n) (saw_done (step slots word 0 0 none) m)
-  may_see_done k is at = let v : TableView = table_of m.0 in
-      along_me (λ a n i y. Allows (Orderly a) n id y i (λ z. z) (saw_done (step n i 0 0 none) y)) key size slots (count_of size) word (2 + (v.base + k)) m (Table v, m.1) keyed sized at (λ i. (is i, m.1))
-      (sees_done size id k v m.1)
-
   pub may_fetch : (k : ℕ) (state : PlaceState) → m.0 ≡ Table (table_of m.0) → word ≡ 2 + ((table_of m.0).base + k) → get_elem? (table_of m.0).states k ≡ some state
       → Allows (Orderly key) slots id m word (λ n. either (eqb n 3) 0 n) (fetched (step slots word 3 0 none) m)
   may_fetch k state is at has = let v : TableView = table_of m.0 in
       along_me (λ a n i y. Allows (Orderly a) n id y i (λ z. either (eqb z 3) 0 z) (fetched (step n i 3 0 none) y)) key size slots (count_of size) word (2 + (v.base + k)) m (Table v, m.1) keyed sized at (λ i. (is i, m.1))
       (fetches size id k v m.1 state none has)
-
-  pub may_see_ready : (p : ℕ) → m.0 ≡ Worker (worker_of m.0) → word ≡ 2 + p → (worker_of m.0).held ≡ None
-      → Allows (Orderly key) slots id m word (λ n. n) (saw_ready (step slots word 0 0 none) m)
-  may_see_ready p is at free = let v : WorkerView = worker_of m.0 in
-      along_me (λ a n i y. Allows (Orderly a) n id y i (λ z. z) (saw_ready (step n i 0 0 none) y)) key size slots (count_of size) word (2 + p) m (Worker v, m.1) keyed sized at (λ i. (is i, m.1))
-      (sees_ready size id p v m.1 free)
 
   pub may_claim : (p : ℕ) → m.0 ≡ Worker (worker_of m.0) → word ≡ 2 + p → (worker_of m.0).held ≡ None → p < slots
       → Allows (Orderly key) slots id m word (λ n. either (eqb n 1) 2 n) (claimed (step slots word 1 2 none) m)

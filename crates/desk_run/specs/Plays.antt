@@ -72,10 +72,6 @@ offered st m r n = (k : ℕ) (x : Ticket) (job : Job) → let v = table_of m.0 i
 abbrev pub Claims : SeatState → ℕ → SeatState → Type 0
 Claims m p n = (x : Ticket) × (job : Job) × (n ≡ (Worker (holding (worker_of m.0) p x job), (p, Offer x job) ∷ m.1))
 
--- a worker saw its place: one that isn't ready is noted as lost, and one that is ready changes nothing
-abbrev pub saw_ready : Play
-saw_ready st m r n = (p : ℕ) → st.word ≡ 2 + p → (r ≡ 1 → n ≡ m) × (r ≢ 1 → n ≡ (Worker (worker_lost (worker_of m.0) p), m.1))
-
 abbrev pub claimed : Play
 claimed st m r n = (p : ℕ) → st.word ≡ 2 + p → (r ≡ st.first → Claims m p n) × (r ≢ st.first → n ≡ (Worker (worker_lost (worker_of m.0) p), m.1))
 
@@ -89,10 +85,6 @@ Fetches m k n = (piece : Ticketed) × (get_elem? (table_of m.0).states k ≡ gho
 -- the same, where the table's place k is this place of the board
 abbrev pub FetchesAt : SeatState → ℕ → ℕ → SeatState → Type 0
 FetchesAt m place k n = Fetches m k n × (place ≡ (table_of m.0).base + k)
-
--- a table saw one of its places: one that isn't done is noted as lost, and one that is done changes nothing
-abbrev pub saw_done : Play
-saw_done st m r n = (k : ℕ) → let v = table_of m.0 in st.word ≡ 2 + (v.base + k) → (r ≡ 3 → n ≡ m) × (r ≢ 3 → n ≡ (Table (table_lost v (v.base + k)), m.1))
 
 abbrev pub fetched : Play
 fetched st m r n = (k : ℕ) → let v = table_of m.0 in st.word ≡ 2 + (v.base + k) → (r ≡ st.first → Fetches m k n) × (r ≢ st.first → n ≡ (Table (table_lost v (v.base + k)), m.1))

@@ -1,7 +1,7 @@
 //! The rule of the board, and the names of its steps.
 ghost use Rattle.desk_run.specs.Rule.{Orderly};
 ghost use Rattle.desk_run.specs.Views.{entering};
-ghost use Rattle.desk_run.specs.Plays.{entered_table, entered_worker, entered_stop, took_up, offered, saw_ready, claimed, finished, saw_done, fetched, stopped, looked};
+ghost use Rattle.desk_run.specs.Plays.{entered_table, entered_worker, entered_stop, took_up, offered, claimed, finished, fetched, stopped, looked};
 
 use crate::content::Content;
 use crate::size::BoardSize;
@@ -56,12 +56,6 @@ impl Play<Content, View> for Submit {
     ghost then = { offered };
 }
 
-pub struct SeeReady;
-
-impl Play<Content, View> for SeeReady {
-    ghost then = { saw_ready };
-}
-
 pub struct Claim;
 
 impl Play<Content, View> for Claim {
@@ -72,12 +66,6 @@ pub struct Finish;
 
 impl Play<Content, View> for Finish {
     ghost then = { finished };
-}
-
-pub struct SeeDone;
-
-impl Play<Content, View> for SeeDone {
-    ghost then = { saw_done };
 }
 
 pub struct Fetch;

@@ -15,8 +15,7 @@ ghost use Rattle.desk_run.specs.declared.content.Content.TheVariants.{Empty, Off
 use crate::board::Board;
 use crate::content::Content;
 use crate::rule::{
-    Another, Claim, EnterStop, EnterTable, EnterWorker, Fetch, Finish, Halt, Look, SeeDone, SeeReady,
-    Submit, TakeUp,
+    Another, Claim, EnterStop, EnterTable, EnterWorker, Fetch, Finish, Halt, Look, Submit, TakeUp,
 };
 use crate::view::View;
 use desk_core::{Piece, Ticket};
@@ -69,19 +68,6 @@ impl Board {
         shared.store::<Submit>(seat, FIRST + place, READY);
     }
 
-    /// Whether the place is done. A look takes the word from no other thread, as an exchange would.
-    fn is_done(&self, seat: &mut Seat, place: usize, _offset: usize) -> bool
-        requires id { (seat.old.table_id ≡ board_id self.now)
-            × (place < (board_id self.now).slots) }
-        requires table { IsTable seat.old.me × (place ≡ (table_of seat.old.me.0).base + _offset) }
-        ensures id { seat.new.table_id ≡ seat.old.table_id }
-        ensures done { result ≡ true → seat.new.me ≡ seat.old.me }
-        ensures lost { result ≡ false
-            → seat.new.me ≡ (Table (table_lost (table_of seat.old.me.0) place), seat.old.me.1) }
-    {
-        self.table.shared.load::<SeeDone>(seat, FIRST + place) == DONE
-    }
-
     /// Whether the place was done. Its piece is then with the seat, in front.
     pub(crate) fn fetch(&self, seat: &mut Seat, place: usize, _offset: usize) -> bool
         requires id { (seat.old.table_id ≡ board_id self.now)
@@ -94,9 +80,6 @@ impl Board {
         ensures lost { result ≡ false
             → seat.new.me ≡ (Table (table_lost (table_of seat.old.me.0) place), seat.old.me.1) }
     {
-        if !self.is_done(seat, place, _offset) {
-            return false;
-        }
         self.table
             .shared
             .compare_exchange::<Fetch>(seat, FIRST + place, DONE, IDLE)
@@ -135,20 +118,6 @@ impl Board {
         self.table.shared.store::<TakeUp>(seat, FIRST + place, IDLE);
     }
 
-    /// Whether the place is ready; another worker may claim it yet. A look takes the word from no other
-    /// thread, as an exchange would.
-    fn is_ready(&self, seat: &mut Seat, place: usize) -> bool
-        requires id { (seat.old.table_id ≡ board_id self.now)
-            × (place < (board_id self.now).slots) }
-        requires free { IsWorker seat.old.me × ((worker_of seat.old.me.0).held ≡ None) }
-        ensures id { seat.new.table_id ≡ seat.old.table_id }
-        ensures ready { result ≡ true → seat.new.me ≡ seat.old.me }
-        ensures lost { result ≡ false
-            → seat.new.me ≡ (Worker (worker_lost (worker_of seat.old.me.0) place), seat.old.me.1) }
-    {
-        self.table.shared.load::<SeeReady>(seat, FIRST + place) == READY
-    }
-
     /// Whether the place was ready. Its offer is then with the seat, in front.
     pub(crate) fn claim(&self, seat: &mut Seat, place: usize) -> bool
         requires id { (seat.old.table_id ≡ board_id self.now)
@@ -159,9 +128,6 @@ impl Board {
         ensures lost { result ≡ false
             → seat.new.me ≡ (Worker (worker_lost (worker_of seat.old.me.0) place), seat.old.me.1) }
     {
-        if !self.is_ready(seat, place) {
-            return false;
-        }
         self.table
             .shared
             .compare_exchange::<Claim>(seat, FIRST + place, READY, TAKEN)
