@@ -16,7 +16,7 @@ use Rattle.desk_core.proofs.Desks.{IsDeskRun-no_table, IsDeskRun-step, IsNewDesk
 use Rattle.desk_core.proofs.Unique.{desk_reply_unique}
 use Rattle.desk_core.specs.Value.{value_of}
 use Rattle.desk_core.specs.Ticketed.{Ticketed}
-use Rattle.desk_core.specs.LaneState.{LaneState, new_lane, with_job, is_among, PassesWithdrawn, CanTakeBack, TakesBack, IsNewDesk}
+use Rattle.desk_core.specs.LaneState.{LaneState, new_lane, with_job, is_among, PassesWithdrawn, CanTakeBack, IsNewDesk}
 use Rattle.desk_core.specs.History.{Turn, table_of, turns_of, ReplyOf, DeskReplyOf, IsLegal, IsLegalAfter}
 use Rattle.desk_core.specs.Step.{IsLeftBy}
 use Rattle.desk_core.specs.Desk.{DeskStandsFor}

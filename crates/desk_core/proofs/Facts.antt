@@ -1,20 +1,19 @@
 -- What holds of the turns of each table of a legal history.
-use Rattle.std.proofs.Common.{◌≡◌, ℕ, suc, ◌+◌, ◌<◌, ◌≤◌, ◌⊎◌, Bool, true, false, cond, ltb, eqb, List, [], ◌∷◌, ◌++◌, length, take, map, Some, None, Option, refl, sym, ap, ◌∙◌, subst, inl, inr, ⊎_elim, arith, length-append, append_assoc, append-nil}
+use Rattle.std.proofs.Common.{◌≡◌, ℕ, ◌+◌, ◌<◌, ◌≤◌, ◌⊎◌, Bool, true, false, cond, ltb, eqb, List, [], ◌∷◌, ◌++◌, length, map, Some, None, refl, sym, ap, ◌∙◌, subst, inl, inr, ⊎_elim, arith, append_assoc, append-nil}
 use Rattle.std.specs.Prelude.{slice_get, if◌then◌else◌, option_map, ◌||◌, ◌≢◌}
 use Rattle.std.specs.List.{list_any}
 use Rattle.std.proofs.lemmas.List.{map-append, length-map}
 use Rattle.std.proofs.lemmas.List.Elements.{filter-append}
 use Rattle.std.proofs.lemmas.List.Folds.{list_any-append}
-use Rattle.std.proofs.lemmas.Bool.{cases_lt, cases_eq, eqb-true, eq-eqb, ne_eqb, lt-ltb, false≢true, or_cases, or_from, or_parts}
-use Rattle.desk_core.proofs.Lists.{option_map-Some, append-cond, slice_get-map}
-use Rattle.desk_core.proofs.Due.{due, due-same, due-more, due-below, due-after_answer, due-after_withdrawal, due-front}
+use Rattle.std.proofs.lemmas.Bool.{cases_lt, eqb-true, eq-eqb, ne_eqb, lt-ltb, false≢true, or_cases, or_from, or_parts}
+use Rattle.desk_core.proofs.Lists.{append-cond, slice_get-map}
+use Rattle.desk_core.proofs.Due.{due, due-more, due-below, due-after_answer, due-after_withdrawal, due-front}
 use Rattle.desk_core.proofs.Next.{IsNext, IsNext-next_ticket, IsNext-is}
 use Rattle.std.proofs.Math.Bool.{or-false}
 use Rattle.desk_core.proofs.Histories.{submitted-push, given-push, given_same, withdrawn-push, withdrawn_same, length-submitted-push, HasArrived-push, HasArrived-within, slice_get-submitted-push}
 use Rattle.desk_core.specs.Value.{value_of}
 use Rattle.desk_core.specs.LaneState.{is_among}
 use Rattle.desk_core.specs.History.{Turn, table_of, turns_of, submitted, HasArrived, given, answer_in, withdrawn, withdrawn_in, is_given, is_withdrawn, is_done, next_ticket, CanWithdraw, ReplyOf, DeskReplyOf, IsLegalAfter, IsLegal, GivenInOrder}
-use Rattle.riichi_hand.specs.declared.job.Job.{Job}
 use Rattle.desk_core.specs.declared.answer.Answer.{Answer}
 use Rattle.desk_core.specs.declared.event.Event.{Event}
 use Rattle.desk_core.specs.declared.event.Event.TheVariants.{Submit, Arrive, Close, Take, Withdraw}

@@ -1,12 +1,12 @@
 -- How the withdrawn jobs at the front of a window are passed.
-use Rattle.std.proofs.Common.{◌≡◌, ℕ, ◌+◌, ◌<◌, ◌≤◌, ◌⊎◌, Bool, true, false, cond, List, [], ◌∷◌, ◌++◌, length, drop, refl, sym, ap, ◌∙◌, subst, ⊎_elim, inl, inr, arith, length-drop}
+use Rattle.std.proofs.Common.{◌≡◌, ℕ, ◌+◌, ◌<◌, ◌≤◌, ◌⊎◌, Bool, true, false, cond, List, [], ◌∷◌, length, drop, refl, sym, ap, ◌∙◌, subst, ⊎_elim, arith, length-drop}
 use Rattle.std.specs.Prelude.{◌||◌, ◌==◌}
 use Rattle.std.specs.List.{list_any}
 use Rattle.std.specs.Ordering.{nat_cmp, eq_by_cmp}
 use Rattle.std.specs.Cmp.{unsigned_tied}
 use Rattle.std.proofs.lemmas.Bool.{cases_lt, cases_eq, ne_eqb}
 use Rattle.desk_core.proofs.Lists.{drop-drop}
-use Rattle.desk_core.specs.LaneState.{LaneState, is_among, PassesWithdrawn}
+use Rattle.desk_core.specs.LaneState.{LaneState, is_among}
 
 -- some withdrawn jobs at the front are passed, and maybe not all
 pub record HasPassed (old new : LaneState) : Type 0 where
@@ -14,11 +14,6 @@ pub record HasPassed (old new : LaneState) : Type 0 where
   pub within : count ≤ length old.window
   pub each : (i : ℕ) → i < count → is_among old.withdrawn (old.next + i) ≡ true
   pub new_is : new ≡ record old { next = old.next + count; window = drop count old.window }
-
-pub HasPassed-none : (lane : LaneState) → HasPassed lane lane
-HasPassed-none lane =
-    let same : lane.next ≡ lane.next + 0 = omega arith in
-    record { count = 0; within = omega arith; each = λ i below. absurd (omega arith); new_is = ap (λ n. record lane { next = n }) same }
 
 pub HasPassed-one : (old mid : LaneState) → HasPassed old mid → 0 < length mid.window → is_among mid.withdrawn mid.next ≡ true → HasPassed old (record mid { next = mid.next + 1; window = drop 1 mid.window })
 HasPassed-one old mid passed more gone =
@@ -36,17 +31,6 @@ HasPassed-one old mid passed more gone =
           ap (λ (l : LaneState). record l { next = l.next + 1; window = drop 1 l.window }) passed.new_is
           ∙ ap (λ m. record old { next = m; window = drop 1 (drop n old.window) }) number
           ∙ ap (λ w. record old { next = old.next + (n + 1); window = w }) (drop-drop 1 n old.window);
-    }
-
-pub PassesWithdrawn-end : (old new : LaneState) → HasPassed old new → (new.window ≡ []) ⊎ (is_among new.withdrawn new.next ≡ false) → PassesWithdrawn old new
-PassesWithdrawn-end old new passed ends =
-    let withdrawn_is : new.withdrawn ≡ old.withdrawn = ap (λ (l : LaneState). l.withdrawn) passed.new_is in
-    record {
-      count = passed.count;
-      within = passed.within;
-      each = passed.each;
-      ends = ⊎_elim (λ none. inl none) (λ stays. inr (ap (λ w. is_among w new.next) (sym withdrawn_is) ∙ stays)) ends;
-      new_is = passed.new_is;
     }
 
 -- the numbers of an ordered set

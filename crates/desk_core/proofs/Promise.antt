@@ -1,13 +1,12 @@
 -- The promise of a whole run.
-use Rattle.std.proofs.Common.{◌≡◌, ℕ, suc, ◌+◌, ◌<◌, ◌≤◌, ◌⊎◌, false, List, [], ◌∷◌, ◌++◌, length, take, drop, map, Some, refl, sym, ap, ◌∙◌, subst, ⊎_elim, arith, not, filter, length-append, length-drop, append_assoc, append-nil}
+use Rattle.std.proofs.Common.{◌≡◌, ℕ, suc, ◌+◌, ◌<◌, ◌⊎◌, List, [], ◌∷◌, ◌++◌, length, take, drop, map, Some, refl, sym, ap, ◌∙◌, ⊎_elim, arith, not, filter, length-append, length-drop, append_assoc, append-nil}
 use Rattle.std.specs.Prelude.{slice_get, option_map}
 use Rattle.std.specs.List.{enumerate_from}
 use Rattle.std.proofs.lemmas.Bool.{cases_lt}
-use Rattle.std.proofs.lemmas.List.{length-map}
-use Rattle.desk_core.proofs.Lists.{drop_past, drop-get, slice_get-push}
+use Rattle.desk_core.proofs.Lists.{drop-get}
 use Rattle.desk_core.proofs.Due.{due-all}
 use Rattle.desk_core.proofs.Histories.{HasArrived-push, withdrawn_same}
-use Rattle.desk_core.proofs.Facts.{IsSound, IsSound-IsLegal, IsSound-push, IsSound-nil, in_order, next-within, next_stays, given_more, length-values, AreOwnReplies, AreOwnReplies-IsLegal, AreOwnReplies-split}
+use Rattle.desk_core.proofs.Facts.{IsSound, IsSound-IsLegal, IsSound-push, IsSound-nil, in_order, next_stays, given_more, length-values, AreOwnReplies, AreOwnReplies-IsLegal, AreOwnReplies-split}
 use Rattle.desk_core.proofs.Steps.{take_submits_nothing}
 use Rattle.desk_core.specs.Value.{value_of}
 use Rattle.desk_core.specs.LaneState.{is_among}

@@ -14,9 +14,5 @@ pub eight : (t a b c d e f g h : List ℕ)
     → (((((((t ++ a) ++ b) ++ c) ++ d) ++ e) ++ f) ++ g) ++ h ≡ t ++ (((((((a ++ b) ++ c) ++ d) ++ e) ++ f) ++ g) ++ h)
 eight t a b c d e f g h = simp append_assoc
 
--- two of which the last was itself of two
-pub with_last : (t a b c d : List ℕ) → ((t ++ a) ++ b) ++ (c ++ d) ≡ t ++ (((a ++ b) ++ c) ++ d)
-with_last t a b c d = simp append_assoc
-
 pub four : (t a b c d : List ℕ) → (((t ++ a) ++ b) ++ c) ++ d ≡ t ++ (((a ++ b) ++ c) ++ d)
 four t a b c d = simp append_assoc

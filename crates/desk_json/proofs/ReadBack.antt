@@ -1,5 +1,5 @@
 -- A reader gets the tree of an answer back from its text.
-use Rattle.std.proofs.Common.{◌≡◌, ℕ, ◌<◌, ◌≤◌, Bool, true, false, cond, List, [], ◌∷◌, Some, sym, ap, ◌∙◌, arith}
+use Rattle.std.proofs.Common.{◌≡◌, ℕ, ◌≤◌, Bool, true, false, cond, List, [], ◌∷◌, Some, sym, ap, ◌∙◌, arith}
 use Rattle.std.specs.Prelude.{codes, ◌==◌}
 use Rattle.json.specs.Json.{Json, null, string, document}
 use Rattle.json.specs.Tree.{depth, items_depth, members_depth, HasNumbers, ItemsHaveNumbers, MembersHaveNumbers}
@@ -20,7 +20,7 @@ use Rattle.riichi_yaku.proofs.Sets.{below_41}
 use Rattle.desk_core.specs.declared.answer.Answer.{Answer}
 use Rattle.desk_core.specs.declared.answer.Answer.TheVariants as answer
 use Rattle.desk_json.specs.Text.{text_of, answer_text}
-use Rattle.desk_json.specs.Trees.{Named, items_of, members_of, kind_tree, yaku_tree, limit_tree, payment_tree, score_tree, win_tree, kinds_in, waits_tree, live_tree, accepted_members, discard_tree, accepts_members, shape_tree, answer_tree}
+use Rattle.desk_json.specs.Trees.{items_of, members_of, kind_tree, yaku_tree, limit_tree, payment_tree, score_tree, win_tree, kinds_in, waits_tree, live_tree, accepted_members, discard_tree, accepts_members, shape_tree, answer_tree}
 use Rattle.desk_json.specs.Whole.{Each, IsWholePayment, IsWholeScore, IsWholePair, IsWholeList, IsWholeDiscard, AreWhole, IsWholeWin, IsWhole}
 use Rattle.desk_json.proofs.Same.{each_of_all, same_answers}
 
@@ -120,10 +120,6 @@ numbers (answer.Shape shape) h = (tt, (IsNumber-signed_decimal shape.shanten h.s
 items_shallow : {X : Type 0} (tree : X → Json) (d : ℕ) → ((x : X) → depth (tree x) ≤ d) → (xs : List X) → items_depth (items_of tree xs) ≤ d
 items_shallow tree d each [] = omega arith
 items_shallow tree d each (x ∷ xs) = omega (arith, each x, items_shallow tree d each xs)
-
-members_shallow : (named : List Named) (d : ℕ) → Each (λ one. depth one.1 ≤ d) named → members_depth (members_of named) ≤ d
-members_shallow [] d h = omega arith
-members_shallow (one ∷ named) d h = omega (arith, h.0, members_shallow named d h.1)
 
 below : (d : ℕ) → 0 ≤ d
 below d = omega arith

@@ -23,7 +23,7 @@ use Rattle.riichi_shape.specs.declared.shape_answer.ShapeAnswer.{ShapeAnswer}
 use Rattle.riichi_yaku.specs.declared.table.Yaku.{Yaku}
 use Rattle.riichi_yaku.specs.declared.table.Yaku.TheVariants.{Riichi}
 use Rattle.riichi_yaku.specs.Table.{every_yaku, number}
-use Rattle.riichi_yaku.specs.YakuSets.{contains, yaku_in}
+use Rattle.riichi_yaku.specs.YakuSets.{yaku_in}
 use Rattle.riichi_yaku.proofs.Sets.{in_table, below_41}
 use Rattle.desk_core.specs.declared.answer.Answer.{Answer}
 use Rattle.desk_core.specs.declared.answer.Answer.TheVariants as answer

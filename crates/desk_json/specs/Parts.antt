@@ -1,5 +1,5 @@
 -- The pieces that the texts of the answers are written from.
-use Rattle.std.specs.Prelude.{ℕ, ◌==◌, Bool, List, [], ◌∷◌, ◌++◌, if◌then◌else◌, codes, decimal, map}
+use Rattle.std.specs.Prelude.{ℕ, ◌==◌, Bool, List, [], ◌++◌, if◌then◌else◌, codes, decimal, map}
 use Rattle.std.specs.Fmt.{signed_decimal}
 use Rattle.riichi_hand.specs.FaultTexts.{line_code_text, notation_code_text, name_text}
 use Rattle.riichi_hand.specs.declared.fault.LineFault.{LineFault}

@@ -119,9 +119,6 @@ text_of-more by given lines more =
     let others = answers_by-append by given lines more in
     (text_of others.0, ap text_of others.1 ∙ text_of-append (answers_by by given lines) others.0)
 
-pub answers_to-append : (given : Rules) (lines more : List (List ℕ)) → (others : List ℕ) × (answers_to given (lines ++ more) ≡ answers_to given lines ++ others)
-answers_to-append given lines more = text_of-more answer_of given lines more
-
 -- the text of the answers to the first lines begins that of all
 pub front_told : {W : Type 0} (by : Rules → List ℕ → Option (List ℕ)) (sink : OfSink W) (start new : W) (given : Rules) (lines first others answers : List (List ℕ)) → lines ≡ first ++ others
     → AnswerRecords (IsBy by) given first answers → StopsWriting sink start new (text_of answers) → StopsWriting sink start new (text_of (answers_by by given lines))

@@ -1,29 +1,24 @@
 -- A hand is ready exactly where it waits.
-use Rattle.std.proofs.Common.{◌≡◌, ◌≢◌, ℕ, pos, ◌+◌, ◌≤ℤ◌, ◌<◌, ◌≤◌, ◌↔◌, inl, inr, Bool, true, false, None, List, [], ◌∷◌, length, map, get_or-set_other, refl, sym, subst, ap, ◌∙◌, arith}
+use Rattle.std.proofs.Common.{◌≡◌, ℕ, pos, ◌+◌, ◌≤ℤ◌, ◌<◌, ◌≤◌, ◌↔◌, inl, inr, Bool, true, false, List, [], ◌∷◌, length, refl, sym, subst, ap, ◌∙◌, arith}
 use Rattle.std.proofs.lemmas.Bool.{cases_eq, eqb-true, ltb-false, or_parts}
-use Rattle.std.proofs.lemmas.Bool.Decides.{nat_tests}
-use Rattle.std.proofs.lemmas.Grind.{get_or-set_at}
 use Rattle.std.proofs.lemmas.Int.{ints}
 use Rattle.std.proofs.lemmas.List.{length-set}
 use Rattle.std.specs.List.{list_any}
-use Rattle.std.specs.Prelude.{not, nat_lt, slice_index, ◌==◌, ◌||◌}
+use Rattle.std.specs.Prelude.{nat_lt, slice_index}
 use Rattle.riichi_tiles.specs.Tiles.{IsCounts}
 use Rattle.riichi_tiles.specs.Melds.{every_kind, tiles}
 use Rattle.riichi_tiles.specs.declared.meld.Meld.{Meld}
 use Rattle.riichi_hand.specs.HandParts.{HandParts}
 use Rattle.riichi_hand.specs.Hand.{copies_held, has_five_copies, is_thirteen, size, IsHand}
-use Rattle.riichi_hand.specs.Faults.{coded, first_fault}
-use Rattle.riichi_hand.specs.declared.fault.LineCode.TheVariants.{H8, H9}
 use Rattle.riichi_split.specs.Waits.{with_one}
 use Rattle.riichi_split.proofs.AnyTile.{reading-iff}
 use Rattle.riichi_split.proofs.Lists.{IsIn, in-range}
 use Rattle.riichi_split.proofs.Marks.{few_melds}
-use Rattle.riichi_shape.specs.Distance.{IsDistance}
-use Rattle.riichi_shape.specs.EveryWinning.{distance_of, every_winning, least, shanten_of}
+use Rattle.riichi_shape.specs.EveryWinning.{distance_of, every_winning, shanten_of}
 use Rattle.riichi_shape.specs.Ready.{IsReady}
-use Rattle.riichi_shape.specs.Winning.{IsWinning, lacking}
+use Rattle.riichi_shape.specs.Winning.{IsWinning}
 use Rattle.riichi_shape.proofs.Distances.{never_none}
-use Rattle.riichi_shape.proofs.Members.{Among, among_map, from_map, least_is}
+use Rattle.riichi_shape.proofs.Members.{Among}
 use Rattle.riichi_shape.proofs.ReadyLemmas.{one_more_at, one_more_past, ready_is}
 use Rattle.riichi_shape.proofs.ShapeFacts.{no_faults}
 use Rattle.riichi_shape.proofs.Uniqueness.{distance_from, listed_winning, winning_listed}

@@ -28,19 +28,6 @@ module _ {W T : Type 0} (sink : OfSink W) (teller : OfTeller T) where
         ∙ ap (λ all. all ++ with_line_feed answered.answer) stands.text ∙ sym (text_of-more stands.answers answered.answer);
   }
 
-  -- the outbox was written
-  pub Stands-flush : (start : W) (lines : List (List ℕ)) (old new : Told T) (writer after : W) → Stands sink teller start lines old writer
-      → WritesAll sink writer after old.outbox.bytes.items → new.teller ≡ old.teller → new.report ≡ old.report → new.outbox.bytes.items ≡ []
-      → Stands sink teller start lines new after
-  Stands-flush start lines old new writer after stands writes same report empty = record {
-    answers = stands.answers;
-    tells = subst (λ (t : T). teller.tells t lines stands.answers) (sym same) stands.tells;
-    report = report ∙ stands.report;
-    sent = stands.sent ++ old.outbox.bytes.items;
-    writes = WritesAll-trans sink start writer after stands.sent old.outbox.bytes.items stands.writes writes;
-    text = ap (λ rest. (stands.sent ++ old.outbox.bytes.items) ++ rest) empty ∙ append-nil (stands.sent ++ old.outbox.bytes.items) ∙ stands.text;
-  }
-
   -- all was written
   pub Stands-written : (start : W) (lines : List (List ℕ)) (told : Told T) (writer : W) (stands : Stands sink teller start lines told writer) → told.outbox.bytes.items ≡ []
       → WritesAll sink start writer (text_of stands.answers)

@@ -1,21 +1,19 @@
 -- Tiles are a winning multiset exactly where they have the shape of a reading: the first asks for sets in any order, the
 -- second for sets in order, and each says in its own way what seven pairs and thirteen orphans are.
-use Rattle.std.proofs.Common.{◌≡◌, ℕ, suc, ◌+◌, ◌-◌, ◌*◌, ◌<◌, ◌≤◌, ◌↔◌, ◌⊎◌, inl, inr, Bool, true, false, cond, List, [], ◌∷◌, length, get_or, eqb, refl, sym, ap, ◌∙◌, arith}
+use Rattle.std.proofs.Common.{◌≡◌, ℕ, suc, ◌+◌, ◌-◌, ◌*◌, ◌<◌, ◌≤◌, ◌↔◌, ◌⊎◌, inl, inr, true, cond, List, [], ◌∷◌, length, get_or, eqb, refl, sym, ap, ◌∙◌, arith}
 use Rattle.std.proofs.lemmas.Bool.{cases_lt}
 use Rattle.std.proofs.lemmas.Bool.Decides.{nat_tests}
 use Rattle.std.proofs.lemmas.List.{get_or_past}
 use Rattle.std.proofs.lemmas.List.Elements.{All-from_recursion, recursion_from_All}
 use Rattle.std.proofs.lemmas.List.Sums.{sum_by-cons}
-use Rattle.std.specs.List.{AllByRecursion, count_by, range_with_len, sum}
+use Rattle.std.specs.List.{count_by, range_with_len, sum}
 use Rattle.std.specs.Prelude.{nat_lt, slice_index, sum_by, ◌==◌}
 use Rattle.riichi_split.proofs.EveryReading.{pair-past, total-past}
-use Rattle.riichi_tiles.specs.Blocks.{IsSet, copies, total}
+use Rattle.riichi_tiles.specs.Blocks.{IsSet, total}
 use Rattle.riichi_tiles.specs.Melds.{every_kind}
-use Rattle.riichi_tiles.specs.declared.block.Block.{Block}
-use Rattle.riichi_tiles.specs.declared.block.Block.TheVariants.{Run, Triplet, Pair}
 use Rattle.riichi_split.specs.Readings as reading
 use Rattle.riichi_split.specs.Winning.{HasSplit, HasShape}
-use Rattle.riichi_split.proofs.Lists.{all-in, any-in, in-range}
+use Rattle.riichi_split.proofs.Lists.{all-in, any-in}
 use Rattle.riichi_shape.specs.Orphans as orphans
 use Rattle.riichi_shape.specs.Pairs as pairs
 use Rattle.riichi_shape.proofs.ListedOrphans.{listed_is}

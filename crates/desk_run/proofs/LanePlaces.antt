@@ -195,11 +195,6 @@ at_drop {A} zero l i = let e : i ≡ 0 + i = omega arith in ap (λ (j : ℕ). ge
 at_drop {A} (suc n) [] i = refl
 at_drop {A} (suc n) (x ∷ xs) i = let e : suc (n + i) ≡ suc n + i = omega arith in at_drop n xs i ∙ ap (λ (j : ℕ). get_elem? (x ∷ xs) j) e
 
--- the number of tickets given out stays when withdrawn jobs at the front are passed
-pub passed_offers : (lane new : LaneState) → PassesWithdrawn lane new → (new.table ≡ lane.table) × (offered new ≡ offered lane)
-passed_offers lane new p = let n : ℕ = lane.next in let w : List (Job × Bool) = lane.window in let within = p.within in
-    (ap (λ (z : LaneState). z.table) p.new_is, ap offered p.new_is ∙ (let e : (n + p.count) + length (drop p.count w) ≡ n + length w = omega (arith, length-drop p.count w) in e))
-
 passed : (lane new : LaneState) (states : List PlaceState) (vacant : List ℕ) → PassesWithdrawn lane new → Agrees lane states vacant → Agrees new states vacant
 passed lane new states vacant p b = let c : ℕ = p.count in let n : ℕ = lane.next in let w : List (Job × Bool) = lane.window in let within = p.within in
     subst (λ (l : LaneState). Agrees l states vacant) (sym p.new_is) (record {
@@ -229,9 +224,6 @@ taken_back_as lane new states vacant seq t b = let before : (i : ℕ) → is_amo
       pending = λ k x a e still. b.pending k x a e (before x.seq still);
       listed = λ i a e still. b.listed i a e (before (lane.next + i) still);
     })
-
-pub taken_back_offers : (lane new : LaneState) (seq : ℕ) → TakesBack lane seq new → (new.table ≡ lane.table) × (offered new ≡ offered lane)
-taken_back_offers lane new seq t = passed_offers (record lane { withdrawn = t.numbers }) new t.passes
 
 pub submitted_as : (lane new : LaneState) (k : ℕ) (states : List PlaceState) (ks ls : List ℕ) (x : Ticket) (job : Job) → Agrees lane states ks → ks ≡ ls ++ k ∷ [] → x ≡ ticket lane.table (offered lane) → new ≡ with_job lane job
     → Agrees new (set states k (Out x job)) ls
@@ -264,12 +256,6 @@ withdrawn_as lane new states vacant seq (Ok true) b done not err = taken_back_as
 withdrawn_as lane new states vacant seq (Ok false) b done not err = subst (λ (l : LaneState). Agrees l states vacant) (sym (not refl)) b
 withdrawn_as lane new states vacant seq (Err refused) b done not err = subst (λ (l : LaneState). Agrees l states vacant) (sym err) b
 
-pub withdrawn_offers : {E : Type 0} (lane new : LaneState) (seq : ℕ) (result : Result Bool E)
-    → (result ≡ Ok true → TakesBack lane seq new) → (result ≡ Ok false → new ≡ lane) → OnErr result (new ≡ lane) → (new.table ≡ lane.table) × (offered new ≡ offered lane)
-withdrawn_offers lane new seq (Ok true) done not err = taken_back_offers lane new seq (done refl)
-withdrawn_offers lane new seq (Ok false) done not err = let e = not refl in (ap (λ (z : LaneState). z.table) e, ap offered e)
-withdrawn_offers lane new seq (Err refused) done not err = (ap (λ (z : LaneState). z.table) err, ap offered err)
-
 -- the piece that the lane waits for
 pending_awaited : (lane : LaneState) (piece : Ticketed) → is_withdrawn lane piece.ticket.seq ≡ false → IsPending lane piece.ticket piece.job → Awaits lane piece
 pending_awaited lane piece live p = let q = place_of lane piece.ticket piece.job p in (p.0, live, (q.0, q.1, at_some lane.window q.0 (piece.job, false) q.2))
@@ -297,26 +283,9 @@ given_as lane new states ks (taken.Answer seq answer) b g = passed (record lane 
 given_as lane new states ks taken.Waiting b g = subst (λ (l : LaneState). Agrees l states ks) (sym g.1) b
 given_as lane new states ks taken.Finished b g = subst (λ (l : LaneState). Agrees l states ks) (sym g.2) b
 
-pub closed_as : (lane new : LaneState) (states : List PlaceState) (ks : List ℕ) → Agrees lane states ks → new ≡ record lane { closed = true } → Agrees new states ks
-closed_as lane new states ks b e = subst (λ (l : LaneState). Agrees l states ks) (sym e) (record {
-  vacant_are = b.vacant_are;
-  once = b.once;
-  counted = b.counted;
-  own = b.own;
-  pending = b.pending;
-  listed = b.listed;
-})
-
 -- the place that became vacant last
 pub last_vacant : (lane : LaneState) (k : ℕ) (states : List PlaceState) (ks ls : List ℕ) → Agrees lane states ks → ks ≡ ls ++ k ∷ [] → get_elem? states k ≡ some Vacant
 last_vacant lane k states ks ls b e = b.vacant_are (length ls) k (subst (λ (l : List ℕ). get_elem? l (length ls) ≡ some k) (sym e) (at_last ls k (length ls) refl))
 
 pub has_room : (lane : LaneState) (k : ℕ) (states : List PlaceState) (ks : List ℕ) (x : Ticket) (job : Job) → Agrees lane states ks → get_elem? states k ≡ some (Out x job) → length ks < length states
 has_room lane k states ks x job b e = let a = b.counted in let c = term_le one_out states k (Out x job) e in omega arith
-
--- no place is vacant exactly where as many are out as there are
-pub all_out : (lane : LaneState) (states : List PlaceState) (ks : List ℕ) → Agrees lane states ks → length ks ≡ 0 → outs states ≡ length states
-all_out lane states ks b e = let c = b.counted in omega arith
-
-pub not_all_out : (lane : LaneState) (states : List PlaceState) (ks ls : List ℕ) (k : ℕ) → Agrees lane states ks → ks ≡ ls ++ k ∷ [] → outs states ≢ length states
-not_all_out lane states ks ls k b e same = let c = b.counted in let l : length ks ≡ length (ls ++ k ∷ []) = ap (λ (z : List ℕ). length z) e in let m = length-append ls (k ∷ []) in omega arith

@@ -1,5 +1,5 @@
 -- Sums over lists that change at one place, and numbers of places.
-use Rattle.std.proofs.Common.{◌≡◌, ℕ, zero, suc, ◌+◌, ◌*◌, ◌<◌, ◌≤◌, ◌≢◌, Bool, true, false, List, [], ◌∷◌, ◌++◌, map, set, sym, refl, ap, ◌∙◌, arith, suc-mul, mul-le-mul_right, cond, eqb, eq-eqb, ne_eqb, eqb-true, ◌⊎◌, inl, inr, replicate, get_or, Some}
+use Rattle.std.proofs.Common.{◌≡◌, ℕ, zero, suc, ◌+◌, ◌*◌, ◌<◌, ◌≤◌, ◌≢◌, Bool, true, false, List, [], ◌∷◌, ◌++◌, map, set, sym, refl, ap, arith, suc-mul, mul-le-mul_right, cond, eqb, eq-eqb, ne_eqb, eqb-true, ◌⊎◌, inl, inr, replicate, get_or, Some}
 use mathlib.Core.Logic.{dite}
 use native.Mathlib.Decide.{dec_le}
 use mathlib.Core.Option.{some, some-injective, some-ne-none}
@@ -111,12 +111,3 @@ pub empties : (n i : ℕ) → i < n → get_elem? (map some (replicate n Empty))
 empties zero i h = absurd (omega arith)
 empties (suc n) zero h = refl
 empties (suc n) (suc i) h = empties n i (omega arith)
-
-pub at_is : {A : Type 0} (l : List A) (i : ℕ) (a d : A) → get_elem? l i ≡ some a → get_or l i d ≡ a
-at_is [] i a d e = absurd (some-ne-none a (sym e))
-at_is (x ∷ xs) zero a d e = some-injective x a e
-at_is (x ∷ xs) (suc i) a d e = at_is xs i a d e
-
-pub replicate-push : {A : Type 0} (n : ℕ) (a : A) → replicate n a ++ a ∷ [] ≡ replicate (n + 1) a
-replicate-push {A} zero a = refl
-replicate-push {A} (suc n) a = let e : suc n + 1 ≡ suc (n + 1) = omega arith in ap (λ (l : List A). a ∷ l) (replicate-push n a) ∙ sym (ap (λ (m : ℕ). replicate m a) e)

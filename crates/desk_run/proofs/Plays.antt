@@ -1,11 +1,11 @@
 -- What each step of a table leaves of its play.
-use Rattle.std.proofs.Common.{◌≡◌, ℕ, zero, suc, ◌+◌, ◌<◌, ◌≤◌, Bool, true, false, List, [], ◌∷◌, ◌++◌, length, map, take, drop, set, get_or, sym, refl, ap, ◌∙◌, subst, arith, length-append, append_assoc, append-nil}
+use Rattle.std.proofs.Common.{◌≡◌, ℕ, zero, suc, ◌+◌, ◌<◌, ◌≤◌, Bool, true, false, List, [], ◌∷◌, ◌++◌, length, map, take, drop, set, get_or, sym, refl, ap, ◌∙◌, subst, arith, length-append, append_assoc}
 use Rattle.std.proofs.lemmas.Bool.{false≢true}
-use Rattle.std.proofs.lemmas.List.{length-map, map-append}
+use Rattle.std.proofs.lemmas.List.{length-map}
 use mathlib.Core.Option.{some, some-injective}
 use lib.ListN.{get_elem?}
 use Rattle.desk_core.specs.Value.{value_of}
-use Rattle.desk_core.specs.LaneState.{LaneState, new_lane, with_job, is_among, TakesInPiece, PassesWithdrawn}
+use Rattle.desk_core.specs.LaneState.{LaneState, is_among, TakesInPiece, PassesWithdrawn}
 use Rattle.desk_core.specs.GivesFirst.{GivesFirst}
 use Rattle.desk_core.specs.Ticketed.{Ticketed}
 use Rattle.desk_core.specs.declared.answer.Answer.{Answer}
@@ -21,13 +21,7 @@ use Rattle.desk_run.specs.LanePlaces.{is_withdrawn}
 use Rattle.desk_run.specs.Sitting.{Receives, AreFetched, Collects}
 use Rattle.desk_run.specs.declared.place_state.PlaceState.{PlaceState}
 use Rattle.desk_run.specs.declared.place_state.PlaceState.TheVariants.{Vacant}
-use Rattle.atomic_table.specs.Seated.{TableId}
-use Rattle.atomic_table.proofs.Lists.{set_else}
-use Rattle.desk_run.specs.Parts.{IsNewTable, AreNewTables}
-use Rattle.desk_run.specs.SeatStates.{TableState}
 use Rattle.desk_run.proofs.LanePlaces.{some_at}
-use Rattle.std.specs.Global.{Vec}
-use Rattle.desk_run.specs.Runs.{AreValues}
 
 pub take-next : {A : Type 0} (n : ℕ) (list : List A) (a : A) → n < length list → a ≡ get_or list n a → take (n + 1) list ≡ take n list ++ a ∷ []
 take-next zero [] a h e = absurd (omega arith)
@@ -39,36 +33,6 @@ take-next (suc n) (x ∷ xs) a h e = let same : suc n + 1 ≡ suc (n + 1) = omeg
 pub take-whole : {A : Type 0} (list : List A) → take (length list) list ≡ list
 take-whole [] = refl
 take-whole (x ∷ xs) = ap (λ l. x ∷ l) (take-whole xs)
-
-pub played_new : (lane : LaneState) (t : ℕ) (jobs : List Job) (answers : List Answer) → lane ≡ new_lane t → answers ≡ [] → IsPlayed lane jobs 0 answers
-played_new lane t jobs answers new none = record {
-  given = ap (λ (l : List Answer). l ++ values (jobs_of lane.window)) none ∙ ap (λ (l : LaneState). values (jobs_of l.window)) new;
-  within = omega arith;
-  none_withdrawn = ap (λ (l : LaneState). l.withdrawn) new;
-  all = λ closed. absurd (false≢true (sym (ap (λ (l : LaneState). l.closed) new) ∙ closed));
-}
-
-pub played_offered : (lane new : LaneState) (jobs : List Job) (n : ℕ) (answers : List Answer) (job : Job) → n < length jobs → job ≡ get_or jobs n job → lane.closed ≡ false → new ≡ with_job lane job
-    → IsPlayed lane jobs n answers → IsPlayed new jobs (n + 1) answers
-played_offered lane new jobs n answers job near at not_closed same b = subst (λ (l : LaneState). IsPlayed l jobs (n + 1) answers) (sym same) (record {
-  given = ap (λ (l : List Job). answers ++ values l) (map-append (λ (entry : Job × Bool). entry.0) lane.window ((job, false) ∷ []))
-      ∙ ap (λ (l : List Answer). answers ++ l) (map-append value_of (jobs_of lane.window) (job ∷ []))
-      ∙ sym (append_assoc answers (values (jobs_of lane.window)) (value_of job ∷ []))
-      ∙ ap (λ (l : List Answer). l ++ value_of job ∷ []) b.given
-      ∙ sym (map-append value_of (take n jobs) (job ∷ []))
-      ∙ ap values (sym (take-next n jobs job near at));
-  within = omega arith;
-  none_withdrawn = b.none_withdrawn;
-  all = λ closed. absurd (false≢true (sym not_closed ∙ closed));
-})
-
-pub played_closed : (lane new : LaneState) (jobs : List Job) (n : ℕ) (answers : List Answer) → n ≡ length jobs → new ≡ record lane { closed = true } → IsPlayed lane jobs n answers → IsPlayed new jobs n answers
-played_closed lane new jobs n answers done same b = subst (λ (l : LaneState). IsPlayed l jobs n answers) (sym same) (record {
-  given = b.given;
-  within = b.within;
-  none_withdrawn = b.none_withdrawn;
-  all = λ _. done;
-})
 
 pub played_same : (lane new : LaneState) (jobs : List Job) (n : ℕ) (answers : List Answer) → new ≡ lane → IsPlayed lane jobs n answers → IsPlayed new jobs n answers
 played_same lane new jobs n answers same b = subst (λ (l : LaneState). IsPlayed l jobs n answers) (sym same) b
@@ -131,30 +95,3 @@ room_for lane new jobs n seq answers answer g b =
     let first : answers ++ value_of g.0 ∷ values (jobs_of g.1) ≡ values (take n jobs) = ap (λ (l : List (Job × Bool)). answers ++ values (jobs_of l)) (sym g.2) ∙ b.given in
     let long : length (answers ++ value_of g.0 ∷ values (jobs_of g.1)) ≡ length (values (take n jobs)) = ap (λ (l : List Answer). length l) first in
     let a = length-append answers (value_of g.0 ∷ values (jobs_of g.1)) in let m = length-map (take n jobs) value_of in let l = length-taken n jobs b.within in let w = b.within in omega arith
-
--- a closed table with an empty window has them all
-pub played_out : (lane : LaneState) (jobs : List Job) (n : ℕ) (answers : List Answer) → lane.window ≡ [] → lane.closed ≡ true → IsPlayed lane jobs n answers → answers ≡ values jobs
-played_out lane jobs n answers none closed b =
-    sym (append-nil answers) ∙ ap (λ (l : List (Job × Bool)). answers ++ values (jobs_of l)) (sym none) ∙ b.given
-    ∙ ap (λ (m : ℕ). values (take m jobs)) (b.all closed) ∙ ap values (take-whole jobs)
-
--- the tables from this number on are new
-abbrev pub AreNewFrom : ℕ → TableId → ℕ → List TableState → Type 0
-AreNewFrom n id places tables = (i : ℕ) (t : TableState) → n ≤ i → get_elem? tables i ≡ some t → IsNewTable id places i t
-
-pub all_new : (id : TableId) (places : ℕ) (tables : List TableState) → AreNewTables id places tables → AreNewFrom 0 id places tables
-all_new id places tables new i t h at = new i t at
-
-pub fewer_new : (n : ℕ) (id : TableId) (places : ℕ) (tables more : List TableState) (t : TableState) → AreNewFrom n id places tables → more ≡ set tables n t → AreNewFrom (n + 1) id places more
-fewer_new n id places tables more t new e i u h at = new i u (omega arith) (sym (set_else tables n i t (λ same. omega arith)) ∙ (ap (λ (l : List TableState). get_elem? l i) (sym e) ∙ at))
-
--- one table more was played
-pub values_more : (jobs : List (Vec Job)) (answers more : List (Vec Answer)) (n : ℕ) (list : Vec Job) (given : Vec Answer) → n < length jobs → list ≡ get_or jobs n list → given.items ≡ values list.items → more ≡ answers ++ given ∷ []
-    → AreValues (take n jobs) answers → AreValues (take (n + 1) jobs) more
-values_more jobs answers more n list given near at is e b =
-    ap (map (λ (v : Vec Answer). v.items)) e
-    ∙ map-append (λ (v : Vec Answer). v.items) answers (given ∷ [])
-    ∙ ap (λ l. l ++ given.items ∷ []) b
-    ∙ ap (λ a. map (λ (v : Vec Job). values v.items) (take n jobs) ++ a ∷ []) is
-    ∙ sym (map-append (λ (v : Vec Job). values v.items) (take n jobs) (list ∷ []))
-    ∙ ap (map (λ (v : Vec Job). values v.items)) (sym (take-next n jobs list near at))

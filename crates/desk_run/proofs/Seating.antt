@@ -1,18 +1,16 @@
 -- What a table's seat has after each of its steps.
-use Rattle.std.proofs.Common.{◌≡◌, ℕ, zero, suc, ◌+◌, ◌<◌, ◌≤◌, Bool, false, List, [], ◌∷◌, ◌++◌, length, set, get_or, sym, refl, ap, ◌∙◌, subst, arith, length-append, get_or-set_other, get_or-set_same, ◌*◌, replicate, suc-mul, mul-le-mul_right}
+use Rattle.std.proofs.Common.{◌≡◌, ℕ, zero, suc, ◌+◌, ◌<◌, ◌≤◌, false, List, [], ◌∷◌, ◌++◌, length, set, get_or, sym, refl, ap, ◌∙◌, subst, arith, length-append, get_or-set_other, get_or-set_same, ◌*◌, replicate, suc-mul, mul-le-mul_right}
 use Rattle.std.proofs.lemmas.List.{append-nil}
 use mathlib.Core.Option.{some}
 use lib.ListN.{get_elem?}
 use Rattle.atomic_table.specs.Table.{rest}
 use Rattle.desk_core.specs.LaneState.{LaneState, with_job, new_lane}
-use Rattle.desk_core.specs.GivesFirst.{GivesFirst}
-use Rattle.desk_core.specs.declared.taken.Taken.{Taken}
 use Rattle.desk_core.specs.declared.taken.Taken.TheVariants as taken
 use Rattle.desk_run.specs.LanePlaces.{offered}
 use Rattle.desk_run.specs.Plays.{SeatState, table_of}
 use Rattle.atomic_table.specs.Seated.{TableId}
 use Rattle.desk_run.specs.Sitting.{Sits, IsTableSeat, carried_by, Receives, AreFetched, Collects, out_places, place_if_out}
-use Rattle.desk_run.proofs.LanePlaces.{received_offers, passed_offers}
+use Rattle.desk_run.proofs.LanePlaces.{received_offers}
 use Rattle.desk_run.specs.Views.{new_table, with_state, offering}
 use Rattle.desk_core.specs.declared.ticket.Ticket.{Ticket}
 use Rattle.riichi_hand.specs.declared.job.Job.{Job}
@@ -83,14 +81,6 @@ sits_with m base lane new states more ks ls s q o l e = record {
   carried = s.carried ∙ sym (ap (carried_by base) e);
 }
 
-pub given_offers : (lane new : LaneState) (answer : Taken) → GivesFirst lane answer new → (new.table ≡ lane.table) × (offered new ≡ offered lane)
-given_offers lane new (taken.Answer seq answer) g = let n : ℕ = lane.next in let rest : List (Job × Bool) = g.1 in
-    let l : length lane.window ≡ suc (length rest) = ap (λ (z : List (Job × Bool)). length z) g.2 in
-    let p = passed_offers (record lane { next = n + 1; window = rest }) new g.5 in
-    (p.0, p.1 ∙ (let e : (n + 1) + length rest ≡ n + length lane.window = omega arith in e))
-given_offers lane new taken.Waiting g = (ap (λ (z : LaneState). z.table) g.1, ap offered g.1)
-given_offers lane new taken.Finished g = (ap (λ (z : LaneState). z.table) g.2, ap offered g.2)
-
 pub one_collected : (lane new : LaneState) (k : ℕ) (old more : List PlaceState) (piece : Ticketed) → get_elem? old k ≡ some (Out piece.ticket piece.job) → Receives lane piece new
     → more ≡ set old k Vacant → Collects 1 lane old new more
 one_collected lane new k old more piece out received l = (piece ∷ [], refl, (k, new, out, received, (refl, l)))
@@ -101,9 +91,6 @@ fetched-append (p ∷ ps) qs a b c x y z f g = (f.0, f.1, f.2, f.3, fetched-appe
 
 pub collects_more : (n : ℕ) (a b c : LaneState) (x y z : List PlaceState) → Collects n a x b y → Collects 1 b y c z → Collects (n + 1) a x c z
 collects_more n a b c x y z f g = let l = f.1 in let m = g.1 in (f.0 ++ g.0, omega (arith, length-append f.0 g.0), fetched-append f.0 g.0 a b c x y z f.2 g.2)
-
-pub none_collected : (a : LaneState) (x : List PlaceState) → Collects 0 a x a x
-none_collected a x = ([], refl, (refl, refl))
 
 unchanged_below : (base : ℕ) (states : List PlaceState) (k n : ℕ) (state : PlaceState) → n ≤ k → out_places base (set states k state) n ≡ out_places base states n
 unchanged_below base states k zero state h = refl

@@ -1,5 +1,5 @@
 -- The words of a line of a script.
-use Rattle.std.specs.Prelude.{ℕ, ◌==◌, List, [], ◌∷◌, length, take, drop, Bool, false, ◌&&◌, ◌||◌, nat_le, if◌then◌else◌}
+use Rattle.std.specs.Prelude.{ℕ, ◌==◌, List, [], ◌∷◌, length, take, drop, Bool, false, ◌&&◌, ◌||◌, nat_le}
 use Rattle.std.specs.List.{list_all, position_or_len}
 use Rattle.riichi_hand.specs.Words.{is_space, without_spaces}
 

@@ -4,7 +4,6 @@ use Rattle.std.specs.List.{slice_get, list_all}
 use Rattle.std.proofs.lemmas.List.Folds.{list_all_at}
 use Rattle.std.proofs.lemmas.List.{take_more}
 use Rattle.std.proofs.lemmas.Option.{slice_get_within, get_or_from_slice_get}
-use Rattle.std.proofs.lemmas.Bool.Decides.{nat_tests}
 use Rattle.std.proofs.lemmas.List.{get_or-set_other}
 use Rattle.std.proofs.lemmas.Grind.{get_or-set_at}
 use Rattle.std.proofs.lemmas.Bool.{true≢false}
@@ -29,10 +28,6 @@ get_or-more counts place kind more h =
           let none : cond {A = ℕ} (nat_eq place kind) more 0 ≡ 0 = ap (λ b. cond b more 0) f.0 in
           omega (arith, get_or-set_other counts place kind (get_or counts place 0 + more) 0 (λ e. f.1 (sym e)), none)
     ]
-
--- the tiles of a run, one after another
-pub tiles-run : (low kind : ℕ) → cond {A = ℕ} (nat_le low kind && nat_le kind (low + 2)) 1 0 ≡ cond (nat_eq low kind) 1 0 + cond (nat_eq (low + 1) kind) 1 0 + cond (nat_eq (low + 2) kind) 1 0
-tiles-run low kind = grind (arith, nat_tests)
 
 -- one meld more
 pub tiles-push : (melds : List Meld) (meld : Meld) (kind : ℕ) → tiles (melds ++ meld ∷ []) kind ≡ tiles melds kind + tiles_of meld kind
@@ -68,9 +63,6 @@ of-meld-most (Ankan held) kind = at-most (nat_eq held kind) 4 4 (omega arith)
 pub record AreAdded (old now : List ℕ) (melds : List Meld) (place : ℕ) : Type 0 where
   pub added : (kind : ℕ) → get_or now kind 0 ≡ get_or old kind 0 + tiles (take place melds) kind
   pub most : (kind : ℕ) → get_or now kind 0 ≤ 5 + 4 * place
-
-pub AreAdded-none : (old : List ℕ) (melds : List Meld) → ((kind : ℕ) → get_or old kind 0 ≤ 5) → AreAdded old old melds 0
-AreAdded-none old melds few = record { added = λ kind. omega arith; most = λ kind. omega (arith, few kind) }
 
 pub AreAdded-more : (old now next : List ℕ) (melds : List Meld) (place : ℕ) (meld : Meld) → slice_get melds place ≡ Some meld → ((kind : ℕ) → get_or next kind 0 ≡ get_or now kind 0 + tiles_of meld kind) → AreAdded old now melds place → AreAdded old next melds (place + 1)
 AreAdded-more old now next melds place meld is each w =

@@ -9,7 +9,7 @@ use Rattle.std.proofs.lemmas.Grind.{get_or-set_at}
 use Rattle.std.proofs.lemmas.Bool.{lt-ltb}
 use Rattle.std.proofs.lemmas.Bool.Decides.{eqb_tells}
 use Rattle.riichi_blocks.specs.declared.hand_block.HandBlock.{HandBlock}
-use Rattle.riichi_blocks.specs.declared.hand_block.HandBlock.TheVariants.{Run, Triplet, Kong, Pair}
+use Rattle.riichi_blocks.specs.declared.hand_block.HandBlock.TheVariants.{Run, Triplet, Kong}
 use Rattle.riichi_blocks.specs.HandBlocks.{is_run, is_run_from, is_triplet, is_triplet_of, is_concealed_triplet, is_kong}
 use Rattle.riichi_blocks.specs.Tally.{IsTally}
 use Rattle.riichi_blocks.proofs.Additions.{get_or-more}
@@ -115,20 +115,5 @@ IsTally-kong blocks from of r t c k held one shut room within e w =
       runs_are = omega (arith, count-push is_run blocks block, w.runs_are);
       triplets_are = omega (arith, count-push is_triplet blocks block, w.triplets_are);
       concealed_are = omega (arith, count-push is_concealed_triplet blocks block, w.concealed_are, e);
-      kongs_are = omega (arith, count-push is_kong blocks block, w.kongs_are);
-    }
-
-pub IsTally-pair : (blocks : List HandBlock) (from : List ℕ) (of : List Bool) (r t c k held : ℕ) → length blocks < 9 → IsTally blocks from of r t c k → IsTally (blocks ++ Pair held ∷ []) from of r t c k
-IsTally-pair blocks from of r t c k held room w =
-    let block : HandBlock = Pair held in
-    record {
-      at_most_nine = omega (arith, room, length-append blocks (block ∷ []));
-      every_run = w.every_run;
-      every_triplet = w.every_triplet;
-      runs_from_are = λ kind h. omega (arith, count-push (is_run_from kind) blocks block, w.runs_from_are kind h);
-      triplets_of_are = λ kind h. w.triplets_of_are kind h ∙ unmarked blocks kind block refl;
-      runs_are = omega (arith, count-push is_run blocks block, w.runs_are);
-      triplets_are = omega (arith, count-push is_triplet blocks block, w.triplets_are);
-      concealed_are = omega (arith, count-push is_concealed_triplet blocks block, w.concealed_are);
       kongs_are = omega (arith, count-push is_kong blocks block, w.kongs_are);
     }

@@ -3,7 +3,7 @@ use Rattle.std.proofs.Common.{◌≡◌, ℕ, List, [], ◌∷◌, ◌++◌, Boo
 use mathlib.Core.Path.{fun_ext}
 use Rattle.std.specs.Prelude.{◌||◌, not, is_some}
 use Rattle.std.specs.List.{list_any, cons_option}
-use Rattle.std.proofs.Math.Bool.{or-false, or-true}
+use Rattle.std.proofs.Math.Bool.{or-false}
 use Rattle.std.proofs.lemmas.Bool.{lt-ltb}
 use Rattle.std.proofs.lemmas.List.Elements.{filter_map-append}
 use Rattle.std.proofs.lemmas.List.Folds.{list_any-append}
@@ -92,7 +92,3 @@ entries_of-last job words word keyed is =
     ∙ ap (λ (k : Option (Key × List ℕ)). first_or (first_of (values_of job words key)) (value_in key k)) is in
     let values = fun_ext each in
     λ i. record { has_bad_word = bad i; has_doubled_key = doubled i; value = values i }
-
--- One bad word is enough.
-pub bad-here : (p : List ℕ → Bool) (words : List (List ℕ)) (word : List ℕ) (after : List (List ℕ)) → p word ≡ true → list_any p (words ++ word ∷ after) ≡ true
-bad-here p words word after bad = list_any-append p words (word ∷ after) ∙ rw bad (or-true (list_any p words))

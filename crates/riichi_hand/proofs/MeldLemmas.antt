@@ -33,11 +33,6 @@ length-filter_map (item ∷ items) each =
     let p = and_parts (is_spelled item) (list_all is_spelled items) each in
     some_length item (filter_map meld_of items) p.0 ∙ ap suc (length-filter_map items p.1)
 
--- no meld
-pub melds_of_items-other : (items : List (List ℕ)) (item : List ℕ) → meld_of item ≡ None → None ≡ melds_of_items (items ++ item ∷ [])
-melds_of_items-other items item none =
-    rw (list_all-append is_spelled items (item ∷ []), none) (elim (list_all is_spelled items) as (λ each. None ≡ (if (each && false) && nat_le (length (items ++ item ∷ [])) 4 then Some (filter_map meld_of (items ++ item ∷ [])) else None)) [ true ↦ refl | false ↦ refl ])
-
 -- a fifth item
 pub melds_of_items-fifth : (items : List (List ℕ)) (item : List ℕ) → length items ≡ 4 → None ≡ melds_of_items (items ++ item ∷ [])
 melds_of_items-fifth items item four =

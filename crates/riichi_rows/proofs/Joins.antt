@@ -1,5 +1,5 @@
 -- The least sum of two rows, entry by entry of the first.
-use Rattle.std.proofs.Common.{◌≡◌, ℕ, zero, suc, ◌+◌, ◌-◌, ◌<◌, ◌≤◌, min, Bool, true, false, cond, ◌⊎◌, inl, inr, refl, sym, ap, ◌∙◌, ⊎_elim, subst, ltb, Option, Some, None, arith}
+use Rattle.std.proofs.Common.{◌≡◌, ℕ, zero, suc, ◌+◌, ◌-◌, ◌<◌, ◌≤◌, min, Bool, true, false, cond, ◌⊎◌, refl, sym, ap, ◌∙◌, ⊎_elim, subst, ltb, Option, Some, None, arith}
 use Rattle.std.proofs.lemmas.Bool.{cases_lt, ltb-true, lt-ltb}
 use Rattle.riichi_rows.specs.Lanes.{capped, with_set, with_pair}
 use Rattle.riichi_rows.specs.Join.{IsLeastSum, SumReached, EntriesSum, IsLeastJoin}
@@ -35,11 +35,6 @@ moved_more g moved next n is same = record { at = later; before = earlier }
 pub min_is : (a b : ℕ) → (min a b ≡ a) ⊎ (min a b ≡ b)
 min_is a b = grind arith
 
-cases_below : (s n : ℕ) → (s < n) ⊎ ((k : ℕ) × (s ≡ n + k))
-cases_below s n = ⊎_elim (λ h. inl h) (λ h. inr (s - n, omega arith)) (cases_lt s n)
-
-module _ (f g h moved next : ℕ → ℕ → ℕ) (n x y : ℕ) (few : n ≤ 4) (is : IsMoved g moved n) (so_far : LeastSoFar f g h n) (x_is : x ≡ f n 0) (y_is : y ≡ f n 1)
-    (same : (s p : ℕ) → s < 5 → p < 2 → next s p ≡ min (min (h s p) (capped (moved s p + x))) (capped (with_pair moved s p + y))) where
   more_bound : (s p s' p' : ℕ) → s < n + 1 → s + s' ≤ 4 → p + p' ≤ 1 → next (s + s') (p + p') ≤ f s p + g s' p'
   more_bound s p s' p' hs ss pp = ⊎_elim (λ lower. old lower) (λ here. new p p' pp here) (cases_lt s n)
     where

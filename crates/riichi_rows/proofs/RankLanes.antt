@@ -1,5 +1,5 @@
 -- From the lanes of one rank in the code to the least lacks.
-use Rattle.std.proofs.Common.{◌≡◌, ℕ, zero, suc, ◌+◌, ◌<◌, ◌≤◌, min, true, false, List, ◌∷◌, refl, sym, ap, ◌∙◌, ⊎_elim, arith}
+use Rattle.std.proofs.Common.{◌≡◌, ℕ, zero, suc, ◌+◌, ◌<◌, ◌≤◌, min, true, false, List, ◌∷◌, sym, ap, ◌∙◌, ⊎_elim, arith}
 use Rattle.std.proofs.lemmas.Bool.{false≢true}
 use Rattle.std.proofs.lemmas.Bool.Decides.{nat_tests}
 use Rattle.riichi_rows.specs.Columns.{AreLeast, LeastFrom, MayRun}
@@ -67,14 +67,6 @@ pub cost_above : (have limit n : ℕ) → limit < n → cost have limit n ≡ 25
 cost_above have limit n h = grind (arith, nat_tests)
 
 -- ---- with a set or a pair more, by place
-
-pub with_set_same : (f h : ℕ → ℕ → ℕ) → ((s p : ℕ) → s < 5 → p < 2 → f s p ≡ h s p) → (s p : ℕ) → s < 5 → p < 2 → with_set f s p ≡ with_set h s p
-with_set_same f h same zero p hs hp = refl
-with_set_same f h same (suc s) p hs hp = same s p (omega arith) hp
-
-pub with_pair_same : (f h : ℕ → ℕ → ℕ) → ((s p : ℕ) → s < 5 → p < 2 → f s p ≡ h s p) → (s p : ℕ) → s < 5 → p < 2 → with_pair f s p ≡ with_pair h s p
-with_pair_same f h same s zero hs hp = refl
-with_pair_same f h same s (suc p) hs hp = same s p hs (omega arith)
 
 -- ---- the values by the runs begun at the rank
 

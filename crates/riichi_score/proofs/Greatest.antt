@@ -108,9 +108,6 @@ pub record IsSoFar (w : WinParts) (all before left : List Reading) (a : WinAnswe
   pub parts : all ≡ before ++ left
   pub best : IsBestOf (λ r. IsIn r before) w a
 
-pub so_far-none : (w : WinParts) (all : List Reading) → IsSoFar w all [] all NoWin
-so_far-none w all = record { parts = refl; best = λ r h. h }
-
 pub so_far-more : (w : WinParts) (all before left rest : List Reading) (r : Reading) (a : WinAnswer) (o : Option Score) → IsSoFar w all before left a → left ≡ r ∷ rest → o ≡ score_of r w → IsSoFar w all (before ++ r ∷ []) rest (better a o)
 so_far-more w all before left rest r a o h e f = record {
   parts = h.parts ∙ ap (λ x. before ++ x) e ∙ sym (append_assoc before (r ∷ []) rest);

@@ -1,5 +1,5 @@
 -- Thirteen orphans: one tile for each kind that is missing, and one where none is held twice.
-use Rattle.std.proofs.Common.{◌≡◌, ℕ, ◌+◌, ◌-◌, ◌<◌, ◌≤◌, Bool, true, false, cond, ◌⊎◌, inl, inr, List, [], ◌∷◌, ◌++◌, ◌%◌, ◌^◌, replicate, length, map, leb, eqb, refl, sym, ap, ◌∙◌, ⊎_elim, arith}
+use Rattle.std.proofs.Common.{◌≡◌, ℕ, ◌+◌, ◌-◌, ◌<◌, ◌≤◌, Bool, true, false, cond, ◌⊎◌, List, [], ◌∷◌, ◌++◌, ◌%◌, ◌^◌, replicate, length, map, leb, eqb, refl, sym, ap, ◌∙◌, ⊎_elim, arith}
 use Rattle.std.proofs.Common as width
 use Rattle.std.proofs.lemmas.Bool.{cases_lt, or_cases, or_right, eqb-true, eq-eqb}
 use Rattle.std.proofs.lemmas.List.{length-map}

@@ -60,9 +60,6 @@ standard_tiles sets wanted is =
     let apart = spread_sum (copies (Pair is.pair)) (total is.blocks) (total (Pair is.pair ∷ is.blocks)) (λ k. refl) 0 34 in
     omega (arith, told, apart, point_sum is.pair 2 is.is_kind, sets_tiles is.blocks is.are_sets, is.has_sets)
 
-nothing_held : (n : ℕ) → n - slice_index [] 0 ≡ n
-nothing_held n = omega arith
-
 orphans_tiles : (wanted : List ℕ) → IsThirteenOrphans wanted → spread (slice_index wanted) 0 34 ≡ 14
 unfolding total_of
 orphans_tiles wanted is =

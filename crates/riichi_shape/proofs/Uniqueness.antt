@@ -4,7 +4,7 @@ use Rattle.std.proofs.lemmas.List.FromFn.{get_or-map-range_with_len, length-map-
 use Rattle.std.proofs.lemmas.Bool.{false≢true, or_left, or_right, le-leb, leb-true, or_cases, eqb-true, eq-eqb}
 use Rattle.std.proofs.lemmas.Bool.Decides.{nat_tests}
 use Rattle.std.proofs.lemmas.List.Elements.{All-nil, All-cons, All-head, All-tail}
-use Rattle.std.specs.List.{filter, list_any}
+use Rattle.std.specs.List.{list_any}
 use Rattle.std.specs.Prelude.{All, slice_index, sum_by, nat_le, ◌==◌}
 use Rattle.riichi_tiles.specs.Sets.{every_set, sets_at}
 use Rattle.riichi_tiles.proofs.Suits.{begins_at, run_low}

@@ -1,11 +1,11 @@
 -- Which kinds may complete seven pairs or the orphans.
-use Rattle.std.proofs.Common.{◌≡◌, ◌≢◌, ℕ, ◌+◌, ◌<◌, ◌≤◌, ◌↔◌, ◌⊎◌, Bool, true, false, IsTrue, inl, inr, List, length, get_or, set, refl, sym, ◌∙◌, subst, arith}
+use Rattle.std.proofs.Common.{◌≡◌, ◌≢◌, ℕ, ◌+◌, ◌<◌, ◌≤◌, ◌⊎◌, Bool, true, false, IsTrue, inl, inr, List, length, get_or, set, refl, sym, ◌∙◌, subst, arith}
 use Rattle.std.proofs.lemmas.Bool.{cases_lt, cases_eq}
 use Rattle.std.proofs.lemmas.Bool.Decides.{nat_tests}
 use Rattle.std.proofs.lemmas.List.{length-set, get_or-set_other}
 use Rattle.std.proofs.lemmas.Grind.{get_or-set_at}
 use Rattle.riichi_tiles.specs.Kinds.{is_orphan}
-use Rattle.riichi_split.specs.Readings.{IsSevenPairs, IsOrphans, HasEachOrphan, orphan_copies}
+use Rattle.riichi_split.specs.Readings.{IsSevenPairs, IsOrphans, orphan_copies}
 use Rattle.riichi_split.specs.Waits.{with_one}
 use Rattle.riichi_split.specs.SpecialWaits.{IsSpecialWait, CompletesPairs, CompletesOrphans, Adds, AddsSpecial}
 use Rattle.riichi_split.proofs.Suits.{one-at, only}
@@ -28,14 +28,6 @@ none-completed c kind small h s =
       | inl z ↦ elim h [ inl a ↦ grind (arith, nat_tests, o, z, a) | inr b ↦ grind (arith, nat_tests, o, z, b) ]
       | inr t ↦ elim h [ inl a ↦ grind (arith, nat_tests, o, t, a) | inr b ↦ grind (arith, nat_tests, o, t, b) ]
     ]
-
--- who holds another kind than terminals and honours has no orphans
-pub orphans-alone : (c : List ℕ) (kind other : ℕ) → kind < length c → other < 34 → 0 < get_or c other 0 → is_orphan other ≡ false → IsOrphans (with_one c kind) 0 → ⊥
-orphans-alone c kind other small l held not h =
-    let e = h.twice.3 other l in
-    let o = one-at c kind other small in
-    let z : orphan_copies h.twice.0 other ≡ 0 = rw not refl in
-    grind (arith, nat_tests, e, o, z)
 
 held-orphan : (twice kind : ℕ) → IsTrue (is_orphan kind) → 0 < orphan_copies twice kind
 held-orphan twice kind o = grind (arith, nat_tests, o)
@@ -61,63 +53,11 @@ fifth-completes-none c kind long four w =
 pub lacked-is : (c : List ℕ) (kind lacked : ℕ) → lacked < 34 → IsTrue (is_orphan lacked) → get_or c lacked 0 ≡ 0 → IsOrphans (with_one c kind) 0 → kind ≡ lacked
 lacked-is c kind lacked l o z h = elim (cases_eq lacked kind) [ inl e ↦ sym e | inr n ↦ absurd (lacked-completed c kind lacked l o z n h) ]
 
-twice-is : (twice kind : ℕ) → 2 ≤ orphan_copies twice kind → kind ≡ twice
-twice-is twice kind two = grind (arith, nat_tests, two)
-
-once-is : (twice kind : ℕ) → kind ≢ twice → kind < 34 → orphan_copies twice kind ≡ orphan_copies 34 kind
-once-is twice kind n l = grind (arith, nat_tests, n, l)
-
-some-orphan : (twice kind : ℕ) → 0 < orphan_copies twice kind → IsTrue (is_orphan kind)
-some-orphan twice kind some = grind (arith, nat_tests, some)
-
-orphan-twice : (kind : ℕ) → kind < 34 → IsTrue (is_orphan kind) → (orphan_copies kind kind ≡ 2) × (orphan_copies 34 kind ≡ 1)
-orphan-twice kind l o = (grind (arith, nat_tests, l, o), grind (arith, nat_tests, l, o))
-
 here : (c : List ℕ) (kind : ℕ) → kind < length c → get_or (with_one c kind) kind 0 ≡ get_or c kind 0 + 1
 here c kind l = get_or-set_at c kind kind (get_or c kind 0 + 1) 0 refl l
 
 there : (c : List ℕ) (kind k : ℕ) → k ≢ kind → get_or (with_one c kind) k 0 ≡ get_or c k 0
 there c kind k n = get_or-set_other c kind k (get_or c kind 0 + 1) 0 n
-
--- each terminal and honour is there once, and no other kind
-abbrev AreOnce : List ℕ → Type 0
-AreOnce c = (k : ℕ) → k < 34 → get_or c k 0 ≡ orphan_copies 34 k
-
--- where none is lacking, orphans are completed from one of each
-pub once-before : (c : List ℕ) (kind : ℕ) → length c ≡ 34 → kind < 34 → HasEachOrphan c → IsOrphans (with_one c kind) 0 → AreOnce c × IsTrue (is_orphan kind)
-once-before c kind long l each h =
-    let twice = h.twice.0 in
-    let at = here c kind (omega (arith, long, l)) in
-    let is = h.twice.3 kind l in
-    let orphan = some-orphan twice kind (omega (arith, at, is)) in
-    let held = each kind l orphan in
-    let same = twice-is twice kind (omega (arith, at, is, held)) in (
-      λ k small. elim (cases_eq k kind) [
-        | inl e ↦
-            let P : ℕ → Type 0 = λ n. get_or c n 0 ≡ orphan_copies 34 n in
-            let Q : ℕ → Type 0 = λ n. orphan_copies n kind ≡ 2 in
-            let two = subst Q same (orphan-twice kind l orphan).0 in
-            subst P (sym e) (omega (arith, at, is, two, (orphan-twice kind l orphan).1))
-        | inr n ↦ sym (there c kind k n) ∙ h.twice.3 k small ∙ once-is twice k (λ e. n (e ∙ sym same)) small
-      ],
-      orphan,
-    )
-
-pub once-completes : (c : List ℕ) (kind : ℕ) → length c ≡ 34 → kind < 34 → IsTrue (is_orphan kind) → AreOnce c → IsOrphans (with_one c kind) 0
-once-completes c kind long l orphan once = record {
-  no_meld = refl;
-  twice = (
-    kind,
-    orphan,
-    l,
-    λ k small. elim (cases_eq k kind) [
-      | inl e ↦
-          let P : ℕ → Type 0 = λ n. get_or (with_one c kind) n 0 ≡ orphan_copies kind n in
-          subst P (sym e) (omega (arith, here c kind (omega (arith, long, l)), once kind l, orphan-twice kind l orphan))
-      | inr n ↦ there c kind k n ∙ once k small ∙ sym (once-is kind k n small)
-    ],
-  );
-}
 
 -- ---- marks
 
@@ -154,23 +94,11 @@ adds-to P number end old marks order none a = record {
   );
 }
 
-pub adds-no : (P : ℕ → Type 0) (number : ℕ) (old marks : List Bool) → (P number → ⊥) → Adds P number old marks → Adds P (number + 1) old marks
-adds-no P number old marks fails a = adds-to P number (number + 1) old marks (omega arith) (λ kind low high p. fails (let e : kind ≡ number = omega (arith, low, high) in subst P e p)) a
-
 -- just one kind is so
 pub adds-one : (P : ℕ → Type 0) (only : ℕ) (marks : List Bool) → length marks ≡ 34 → only < 34 → P only → ((kind : ℕ) → kind < 34 → P kind → kind ≡ only) → Adds P 34 marks (set marks only true)
 adds-one P only marks long small w one =
     adds-to P (only + 1) 34 marks (set marks only true) (omega (arith, small)) (λ kind low high p. omega (arith, low, one kind high p))
     (adds-yes P only marks marks (omega (arith, long, small)) w (adds-none P only marks (λ kind low p. omega (arith, low, one kind (omega (arith, low, small)) p))))
-
-pub adds-same : (P Q : ℕ → Type 0) (old marks : List Bool) → ((kind : ℕ) → kind < 34 → P kind ↔ Q kind) → Adds P 34 old marks → Adds Q 34 old marks
-adds-same P Q old marks same a = record {
-  each_kind = a.each_kind;
-  each = λ kind. let i = a.each kind in (
-    λ m. elim (i.0 m) [ inl b ↦ inl b | inr s ↦ inr (s.0, (same kind s.0).0 s.1) ],
-    λ h. i.1 (elim h [ inl b ↦ inl b | inr s ↦ inr (s.0, (same kind s.0).1 s.1) ]),
-  );
-}
 
 pub adds-both : (c : List ℕ) (old middle marks : List Bool) → Adds (CompletesPairs c) 34 old middle → Adds (CompletesOrphans c) 34 middle marks → AddsSpecial c 34 old marks
 adds-both c old middle marks pairs orphans = record {

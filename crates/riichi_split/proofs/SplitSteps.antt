@@ -2,9 +2,8 @@
 use Rattle.std.proofs.Common.{inl, inr, min, ◌^◌, length-drop, ◌≤◌, ◌&&◌, leb, length, drop, add-one, ◌+◌, is_some, MatchOption, ◌≡◌, ℕ, suc, ◌-◌, ◌<◌, Bool, true, false, cond, Option, Some, None, List, [], ◌∷◌, ◌++◌, get_or, slice_set, refl, sym, ap, ◌∙◌, arith, ltb, zero}
 use Rattle.std.proofs.lemmas.Bool.Decides.{nat_tests}
 use Rattle.std.proofs.Math.Seq.{drop-cons}
-use Rattle.std.proofs.Math.ListN.{drop_of_length-le}
 use Rattle.riichi_tiles.specs.declared.block.Block.{Block}
-use Rattle.riichi_split.proofs.Sound.{doubts-cons, doubts-nil, few_choices}
+use Rattle.riichi_split.proofs.Sound.{doubts-cons, few_choices}
 use Rattle.std.proofs.lemmas.Bool.{cases_lt}
 use Rattle.riichi_split.specs.Cuts.{doubts, may_have_runs, sets_beside, split_of, from_choices, from_pairs, cut_from}
 
@@ -70,9 +69,6 @@ short-doubts (a ∷ (b ∷ (d ∷ c))) l = absurd (omega arith)
 -- from the last two kinds on none is in doubt
 pub doubts-last : (c : List ℕ) (k : ℕ) → length c ≤ k + 2 → doubts (drop k c) ≡ 0
 doubts-last c k l = short-doubts (drop k c) (omega (arith, length-drop k c))
-
-pub doubts-end : (c : List ℕ) (k : ℕ) → length c ≤ k → doubts (drop k c) ≡ 0
-doubts-end c k l = ap doubts (drop_of_length-le c l) ∙ doubts-nil
 
 -- ---- the choices beside a pair
 

@@ -5,7 +5,7 @@ use Rattle.std.proofs.lemmas.Bool.Decides.{nat_tests}
 use Rattle.std.proofs.lemmas.Bool.{cases_lt}
 use Rattle.std.proofs.lemmas.List.FromFn.{fill_by_all}
 use Rattle.std.proofs.Math.Seq.{drop-cons}
-use Rattle.std.proofs.lemmas.List.{drop_all, length-set}
+use Rattle.std.proofs.lemmas.List.{length-set}
 use Rattle.std.proofs.lemmas.List.Sums.{sum_by-set, sum_by-cons}
 use Rattle.riichi_split.specs.SuitTiles.{OneSuit, AreCut, AreSets, AreSetsAndPair, HasPairs, HasPairOf, third_of, with_tile, without_pair}
 
@@ -202,22 +202,3 @@ cut-more runs held rank one two h begun l e enough b may i =
       one_few = omega (arith, b);
       two_few = i.one_few;
     }
-
-pub too-few : (runs : Bool) (held : List ℕ) (rank one two h : ℕ) → rank < length held → h ≡ get_or held rank 0 → h < one + two → IsCutTo runs held rank one two → AreCut runs 0 0 held → ⊥
-too-few runs held rank one two h l e few i s =
-    let P : List ℕ → Type 0 = λ xs. AreCut runs one two xs in
-    let t = step-to runs one two h (drop (rank + 1) held) (subst P (next-rank held rank h l e) (i.rest s)) in
-    omega (arith, t.enough)
-
-pub no-run-here : (held : List ℕ) (rank one two h : ℕ) → rank < length held → h ≡ get_or held rank 0 → 0 < (h - (one + two)) % 3 → IsCutTo false held rank one two → AreCut false 0 0 held → ⊥
-no-run-here held rank one two h l e some i s =
-    let P : List ℕ → Type 0 = λ xs. AreCut false one two xs in
-    let t = step-to false one two h (drop (rank + 1) held) (subst P (next-rank held rank h l e) (i.rest s)) in
-    let f : false ≡ true = t.may some in
-    absurd (cc)
-
-pub at-end : (runs : Bool) (held : List ℕ) (rank one two : ℕ) → length held ≤ rank → IsCutTo runs held rank one two → (one + two ≡ 0) ↔ AreCut runs 0 0 held
-at-end runs held rank one two l i =
-    let n : drop rank held ≡ [] = drop_all rank held l in
-    let P : List ℕ → Type 0 = λ xs. AreCut runs one two xs in
-    (λ z. i.whole (subst P (sym n) z), λ s. subst P n (i.rest s))

@@ -5,7 +5,7 @@ use Rattle.std.proofs.lemmas.Bool.{cases_eq, ne_eqb}
 use Rattle.std.proofs.lemmas.List.Sums.{sum_by-cons, sum_by-append}
 use Rattle.std.proofs.Math.Seq.{drop-cons, drop-length}
 use Rattle.riichi_tiles.specs.Tiles.{IsCounts}
-use Rattle.riichi_tiles.specs.Notation.{is_digit, is_suit, suit_has, kind_of, Group, IsGroup, text_of, kinds_of, Spells}
+use Rattle.riichi_tiles.specs.Notation.{is_digit, is_suit, suit_has, kind_of, Group, IsGroup, text_of, kinds_of}
 use Rattle.riichi_tiles.specs.Groups.{AddsGroupBefore}
 
 -- the digits from `start` up to the letter at `place`, each one that its suit has, are added
@@ -108,18 +108,3 @@ spells_group text counts new start end spells adds =
       are_counts = adds.are_counts;
       within = omega (arith, adds.begins, spells.within);
     }
-
-pub spells_all : (text counts : List ℕ) → SpellsFrom text counts 0 → 0 < length text → Spells text counts
-spells_all text counts spells some =
-    record {
-      groups = spells.groups;
-      some = any spells.groups spells.text_is;
-      each_group = spells.each_group;
-      text_is = spells.text_is;
-      counted = spells.counted;
-      are_counts = spells.are_counts;
-    }
-  where
-    any : (groups : List Group) → text ≡ flat_map text_of groups → 0 < length groups
-    any [] e = let none : length text ≡ 0 = ap length e in absurd (omega arith)
-    any (g ∷ groups) e = omega arith

@@ -1,6 +1,6 @@
-use Rattle.std.proofs.Common.{◌≡◌, ◌<◌, ◌+◌, ◌-◌, ◌∙◌, List, ℕ, ◌∷◌, ◌++◌, sym, ap, length, take, drop, get_or, arith, drop-cons, length-drop, add-one}
+use Rattle.std.proofs.Common.{◌≡◌, ◌<◌, ◌+◌, ◌-◌, ◌∙◌, ℕ, ◌∷◌, ◌++◌, ap, length, take, drop, get_or, arith}
 use Rattle.std.proofs.lemmas.Bool.{eqb-true}
-use Rattle.std.proofs.lemmas.List.{take-append-drop, take_all}
+use Rattle.std.proofs.lemmas.List.{take_all}
 use Rattle.riichi_tiles.proofs.CutLemmas.{around}
 use Rattle.desk_lines.proofs.LineLemmas.{plain-before}
 use Rattle.desk_lines.proofs.desk.cut_line.Goals as goal

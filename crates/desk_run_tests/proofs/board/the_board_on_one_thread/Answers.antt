@@ -1,4 +1,4 @@
-use Rattle.std.proofs.Common.{◌≡◌, ap, ◌∙◌}
+use Rattle.std.proofs.Common.{ap, ◌∙◌}
 use Rattle.desk_run.specs.SeatStates.{TableState, WorkerState}
 use Rattle.desk_run.proofs.Parting.{last_table, last_worker}
 use Rattle.desk_run_tests.proofs.board.the_board_on_one_thread.Goals as goal

@@ -1,4 +1,4 @@
-use Rattle.std.proofs.Common.{◌≡◌, pos, ◌+ℤ◌, ◌-ℤ◌, to_z, of_z, rules, arith}
+use Rattle.std.proofs.Common.{◌≡◌, pos, ◌+ℤ◌, to_z, of_z, rules, arith}
 use Rattle.std.proofs.Common as width
 use Rattle.std.proofs.lemmas.Int.{ints}
 use Rattle.riichi_shape.proofs.distance.shanten.Goals as goal
