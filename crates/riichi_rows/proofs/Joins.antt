@@ -35,6 +35,8 @@ moved_more g moved next n is same = record { at = later; before = earlier }
 pub min_is : (a b : ℕ) → (min a b ≡ a) ⊎ (min a b ≡ b)
 min_is a b = grind arith
 
+module _ (f g h moved next : ℕ → ℕ → ℕ) (n x y : ℕ) (few : n ≤ 4) (is : IsMoved g moved n) (so_far : LeastSoFar f g h n) (x_is : x ≡ f n 0) (y_is : y ≡ f n 1)
+    (same : (s p : ℕ) → s < 5 → p < 2 → next s p ≡ min (min (h s p) (capped (moved s p + x))) (capped (with_pair moved s p + y))) where
   more_bound : (s p s' p' : ℕ) → s < n + 1 → s + s' ≤ 4 → p + p' ≤ 1 → next (s + s') (p + p') ≤ f s p + g s' p'
   more_bound s p s' p' hs ss pp = ⊎_elim (λ lower. old lower) (λ here. new p p' pp here) (cases_lt s n)
     where

@@ -66,8 +66,6 @@ sum_lesser x y c = omega arith
 pub cost_above : (have limit n : ℕ) → limit < n → cost have limit n ≡ 255
 cost_above have limit n h = grind (arith, nat_tests)
 
--- ---- with a set or a pair more, by place
-
 -- ---- the values by the runs begun at the rank
 
 abbrev values : Begun → ℕ → ℕ → ℕ → ℕ

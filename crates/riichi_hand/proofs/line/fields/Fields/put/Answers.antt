@@ -1,19 +1,14 @@
-use Rattle.std.proofs.Common.{◌≡◌, ◌∙◌, List, ℕ, Option, Some, None, ap, refl}
+use Rattle.std.proofs.Common.{◌≡◌, ◌∙◌, List, ℕ, Bool, Option, Some, None, ap}
 use Rattle.std.specs.Prelude.{◌||◌, option_map, is_some}
-use Rattle.riichi_hand.specs.declared.line.key.Key.TheVariants.{On, Open, Dora, Ura, Seen}
 use Rattle.riichi_hand.specs.Entries.{first_or}
 use Rattle.riichi_hand.proofs.line.fields.Fields.put.Goals as goal
 
--- The first of two texts, by their bytes.
-
-first_text : {X : Type 0} (bytes : X → List ℕ) (held : Option X) (text : X) (value : Option (List ℕ)) → option_map bytes held ≡ value
-    → option_map bytes (first_or held (Some text)) ≡ first_or value (Some (bytes text))
-first_text bytes None text value is = rw (← is) refl
-first_text bytes (Some first) text value is = rw (← is) refl
-
-has_text : {X : Type 0} (bytes : X → List ℕ) (held : Option X) (value : Option (List ℕ)) → option_map bytes held ≡ value → is_some held ≡ is_some value
-has_text bytes None value is = rw (← is) refl
-has_text bytes (Some first) value is = rw (← is) refl
+-- A text is kept by its bytes, and where one was held before, its key is doubled.
+kept : {X : Type 0} (bytes : X → List ℕ) (held : Option X) (text : X) {new : Option X} {value : Option (List ℕ)} {was before now : Bool}
+    → new ≡ first_or held (Some text) → now ≡ (is_some held || was) → option_map bytes held ≡ value → was ≡ before
+    → (now ≡ (is_some value || before)) × (option_map bytes new ≡ first_or value (Some (bytes text)))
+kept bytes None text first doubled is same = (rw (← is) (doubled ∙ same), rw (← is) (ap (option_map bytes) first))
+kept bytes (Some held) text first doubled is same = (rw (← is) doubled, rw (← is) (ap (option_map bytes) first))
 
 pub returns-in-On-clause-answer : goal.returns-in-On-clause-answer
 returns-in-On-clause-answer c = rw c.in-On.is c.keep.ensures.answer
@@ -21,9 +16,8 @@ returns-in-On-clause-answer c = rw c.in-On.is c.keep.ensures.answer
 pub returns-in-On-clause-holds : goal.returns-in-On-clause-holds
 returns-in-On-clause-holds c =
     rw c.in-On.is (λ entries h.
-    let doubled = c.keep.ensures.doubled ∙ ap (λ again. again || c.args.self.now.has_doubled_key) (has_text (λ text. text.now) c.args.self.now.on _ h.on) ∙ ap (λ doubled. is_some (entries.value On) || doubled) h.doubled in
-    let text = ap (option_map (λ text. text.now)) c.keep.ensures.first ∙ first_text (λ text. text.now) c.args.self.now.on _ _ h.on in
-    record { doubled = doubled; on = text; by = h.by; seat = h.seat; round = h.round; melds = h.melds; riichi = h.riichi; flags = h.flags; dora = h.dora; ura = h.ura; counters = h.counters; sticks = h.sticks; seen = h.seen })
+    let text = kept (λ text. text.now) _ _ c.keep.ensures.first c.keep.ensures.doubled h.on h.doubled in
+    record { doubled = text.0; on = text.1; by = h.by; seat = h.seat; round = h.round; melds = h.melds; riichi = h.riichi; flags = h.flags; dora = h.dora; ura = h.ura; counters = h.counters; sticks = h.sticks; seen = h.seen })
 
 pub returns-in-By-clause-answer : goal.returns-in-By-clause-answer
 returns-in-By-clause-answer c = rw c.in-By.is (cc)
@@ -52,9 +46,8 @@ returns-in-Open-clause-answer c = rw c.in-Open.is c.keep-in-Open.ensures.answer
 pub returns-in-Open-clause-holds : goal.returns-in-Open-clause-holds
 returns-in-Open-clause-holds c =
     rw c.in-Open.is (λ entries h.
-    let doubled = c.keep-in-Open.ensures.doubled ∙ ap (λ again. again || c.args.self.now.has_doubled_key) (has_text (λ text. text.now) c.args.self.now.melds _ h.melds) ∙ ap (λ doubled. is_some (entries.value Open) || doubled) h.doubled in
-    let text = ap (option_map (λ text. text.now)) c.keep-in-Open.ensures.first ∙ first_text (λ text. text.now) c.args.self.now.melds _ _ h.melds in
-    record { doubled = doubled; on = h.on; by = h.by; seat = h.seat; round = h.round; melds = text; riichi = h.riichi; flags = h.flags; dora = h.dora; ura = h.ura; counters = h.counters; sticks = h.sticks; seen = h.seen })
+    let text = kept (λ text. text.now) _ _ c.keep-in-Open.ensures.first c.keep-in-Open.ensures.doubled h.melds h.doubled in
+    record { doubled = text.0; on = h.on; by = h.by; seat = h.seat; round = h.round; melds = text.1; riichi = h.riichi; flags = h.flags; dora = h.dora; ura = h.ura; counters = h.counters; sticks = h.sticks; seen = h.seen })
 
 pub returns-in-Riichi-clause-answer : goal.returns-in-Riichi-clause-answer
 returns-in-Riichi-clause-answer c = rw c.in-Riichi.is (cc)
@@ -76,9 +69,8 @@ returns-in-Dora-clause-answer c = rw c.in-Dora.is c.keep-in-Dora.ensures.answer
 pub returns-in-Dora-clause-holds : goal.returns-in-Dora-clause-holds
 returns-in-Dora-clause-holds c =
     rw c.in-Dora.is (λ entries h.
-    let doubled = c.keep-in-Dora.ensures.doubled ∙ ap (λ again. again || c.args.self.now.has_doubled_key) (has_text (λ text. text.now) c.args.self.now.dora _ h.dora) ∙ ap (λ doubled. is_some (entries.value Dora) || doubled) h.doubled in
-    let text = ap (option_map (λ text. text.now)) c.keep-in-Dora.ensures.first ∙ first_text (λ text. text.now) c.args.self.now.dora _ _ h.dora in
-    record { doubled = doubled; on = h.on; by = h.by; seat = h.seat; round = h.round; melds = h.melds; riichi = h.riichi; flags = h.flags; dora = text; ura = h.ura; counters = h.counters; sticks = h.sticks; seen = h.seen })
+    let text = kept (λ text. text.now) _ _ c.keep-in-Dora.ensures.first c.keep-in-Dora.ensures.doubled h.dora h.doubled in
+    record { doubled = text.0; on = h.on; by = h.by; seat = h.seat; round = h.round; melds = h.melds; riichi = h.riichi; flags = h.flags; dora = text.1; ura = h.ura; counters = h.counters; sticks = h.sticks; seen = h.seen })
 
 pub returns-in-Ura-clause-answer : goal.returns-in-Ura-clause-answer
 returns-in-Ura-clause-answer c = rw c.in-Ura.is c.keep-in-Ura.ensures.answer
@@ -86,9 +78,8 @@ returns-in-Ura-clause-answer c = rw c.in-Ura.is c.keep-in-Ura.ensures.answer
 pub returns-in-Ura-clause-holds : goal.returns-in-Ura-clause-holds
 returns-in-Ura-clause-holds c =
     rw c.in-Ura.is (λ entries h.
-    let doubled = c.keep-in-Ura.ensures.doubled ∙ ap (λ again. again || c.args.self.now.has_doubled_key) (has_text (λ text. text.now) c.args.self.now.ura _ h.ura) ∙ ap (λ doubled. is_some (entries.value Ura) || doubled) h.doubled in
-    let text = ap (option_map (λ text. text.now)) c.keep-in-Ura.ensures.first ∙ first_text (λ text. text.now) c.args.self.now.ura _ _ h.ura in
-    record { doubled = doubled; on = h.on; by = h.by; seat = h.seat; round = h.round; melds = h.melds; riichi = h.riichi; flags = h.flags; dora = h.dora; ura = text; counters = h.counters; sticks = h.sticks; seen = h.seen })
+    let text = kept (λ text. text.now) _ _ c.keep-in-Ura.ensures.first c.keep-in-Ura.ensures.doubled h.ura h.doubled in
+    record { doubled = text.0; on = h.on; by = h.by; seat = h.seat; round = h.round; melds = h.melds; riichi = h.riichi; flags = h.flags; dora = h.dora; ura = text.1; counters = h.counters; sticks = h.sticks; seen = h.seen })
 
 pub returns-in-Counters-clause-answer : goal.returns-in-Counters-clause-answer
 returns-in-Counters-clause-answer c = rw c.in-Counters.is (cc)
@@ -110,6 +101,5 @@ returns-in-Seen-clause-answer c = rw c.in-Seen.is c.keep-in-Seen.ensures.answer
 pub returns-in-Seen-clause-holds : goal.returns-in-Seen-clause-holds
 returns-in-Seen-clause-holds c =
     rw c.in-Seen.is (λ entries h.
-    let doubled = c.keep-in-Seen.ensures.doubled ∙ ap (λ again. again || c.args.self.now.has_doubled_key) (has_text (λ text. text.now) c.args.self.now.seen _ h.seen) ∙ ap (λ doubled. is_some (entries.value Seen) || doubled) h.doubled in
-    let text = ap (option_map (λ text. text.now)) c.keep-in-Seen.ensures.first ∙ first_text (λ text. text.now) c.args.self.now.seen _ _ h.seen in
-    record { doubled = doubled; on = h.on; by = h.by; seat = h.seat; round = h.round; melds = h.melds; riichi = h.riichi; flags = h.flags; dora = h.dora; ura = h.ura; counters = h.counters; sticks = h.sticks; seen = text })
+    let text = kept (λ text. text.now) _ _ c.keep-in-Seen.ensures.first c.keep-in-Seen.ensures.doubled h.seen h.doubled in
+    record { doubled = text.0; on = h.on; by = h.by; seat = h.seat; round = h.round; melds = h.melds; riichi = h.riichi; flags = h.flags; dora = h.dora; ura = h.ura; counters = h.counters; sticks = h.sticks; seen = text.1 })
