@@ -1,5 +1,5 @@
 //! How long a line may be, and of which bytes.
-ghost use Rattle.std.specs.Prelude.{◌≡◌, ◌+◌, ◌<◌, ◌≤◌, ℕ, IsTrue, false, length, slice_index};
+ghost use Rattle.std.specs.Prelude.{◌≡◌, ◌+◌, ◌<◌, ◌≤◌, false, length, take, drop};
 ghost use Rattle.std.specs.List.{list_any};
 ghost use Rattle.riichi_hand.specs.Lines.{is_other_byte};
 
@@ -15,8 +15,8 @@ const BLOCK: usize = 16;
 pub fn has_other_byte(line: &[u8]) -> bool
     ensures { result ≡ list_any is_other_byte line.now }
 {
-    if line.len() >= BLOCK && is_plain_by_blocks(line) {
-        return false;
+    if line.len() >= BLOCK {
+        return blocks_have_other_byte(line);
     }
     let mut found = false;
     for byte in line {
@@ -25,32 +25,31 @@ pub fn has_other_byte(line: &[u8]) -> bool
     found
 }
 
-/// Whether each byte is printable, told by blocks. The last block may overlap the one before.
-fn is_plain_by_blocks(line: &[u8]) -> bool
+/// `has_other_byte` of a line of a block or more. The last block may overlap the one before.
+fn blocks_have_other_byte(line: &[u8]) -> bool
     requires { BLOCK ≤ length line.now }
-    ensures { IsTrue result → list_any is_other_byte line.now ≡ false }
+    ensures { result ≡ list_any is_other_byte line.now }
 {
     let last = line.len() - BLOCK;
     let mut place = 0;
     while place < last {
-        if !is_plain_block(line, place) {
-            return false;
+        if block_has_other_byte(line, place) {
+            return true;
         }
         place += BLOCK;
     }
-    is_plain_block(line, last)
+    block_has_other_byte(line, last)
 }
 
 #[inline(always)]
-fn is_plain_block(line: &[u8], place: usize) -> bool
+fn block_has_other_byte(line: &[u8], place: usize) -> bool
     requires { place + BLOCK ≤ length line.now }
-    ensures { IsTrue result → (other : ℕ) → place ≤ other → other < place + BLOCK
-        → is_other_byte (slice_index line.now other) ≡ false }
+    ensures { result ≡ list_any is_other_byte (take BLOCK (drop place line.now)) }
 {
     let block = u8x16::from_slice(&line[place..]);
     let below = block.simd_lt(u8x16::splat(0x20));
     let above = block.simd_gt(u8x16::splat(0x7e));
-    (below | above).to_bitmask() == 0
+    (below | above).to_bitmask() != 0
 }
 
 /// Whether a byte is no printable ASCII: it is outside 0x20 to 0x7E.
