@@ -1,12 +1,12 @@
 -- More of a kind, and the tiles of melds.
-use Rattle.std.proofs.Common.{◌≡◌, ℕ, ◌+◌, ◌*◌, ◌<◌, ◌≤◌, inl, inr, cond, ◌∙◌, Bool, true, false, ◌&&◌, nat_eq, nat_le, List, [], ◌∷◌, ◌++◌, Some, refl, length, set, get_or, take, sym, ap, arith}
+use Rattle.std.proofs.Common.{◌≡◌, ℕ, ◌+◌, ◌*◌, ◌<◌, ◌≤◌, inl, inr, cond, ◌∙◌, Bool, true, false, ◌&&◌, nat_eq, nat_le, List, [], ◌∷◌, ◌++◌, Some, length, set, get_or, take, sym, ap, arith}
 use Rattle.std.specs.List.{slice_get, list_all}
 use Rattle.std.proofs.lemmas.List.Folds.{list_all_at}
 use Rattle.std.proofs.lemmas.List.{take_more}
 use Rattle.std.proofs.lemmas.Option.{slice_get_within, get_or_from_slice_get}
 use Rattle.std.proofs.lemmas.List.{get_or-set_other}
 use Rattle.std.proofs.lemmas.Grind.{get_or-set_at}
-use Rattle.std.proofs.lemmas.Bool.{true≢false}
+use Rattle.std.proofs.lemmas.Bool.{true≢false, true_from_ne_false}
 use Rattle.std.proofs.lemmas.Bool.Decides.{eqb_tells}
 use Rattle.riichi_tiles.specs.declared.meld.Meld.{Meld}
 use Rattle.riichi_tiles.specs.declared.meld.Meld.TheVariants.{Chi, Pon, Kan, Ankan}
@@ -39,15 +39,11 @@ take-one_more melds place meld is =
     let within = slice_get_within melds place meld is in
     take_more melds place meld within ∙ ap (λ m. take place melds ++ m ∷ []) (get_or_from_slice_get melds place meld meld is)
 
-by-test : (b : Bool) → (b ≡ false → ⊥) → b ≡ true
-by-test true h = refl
-by-test false h = absurd (h refl)
-
 -- each of the melds is a proper one
 pub proper-at : (melds : List Meld) (place : ℕ) (meld : Meld) → slice_get melds place ≡ Some meld → list_all is_meld melds ≡ true → is_meld meld ≡ true
 proper-at melds place meld is all =
     ap is_meld (sym (get_or_from_slice_get melds place meld meld is))
-    ∙ by-test (is_meld (get_or melds place meld)) (λ no. true≢false (sym all ∙ list_all_at is_meld melds place meld (slice_get_within melds place meld is) no))
+    ∙ true_from_ne_false (is_meld (get_or melds place meld)) (λ no. true≢false (sym all ∙ list_all_at is_meld melds place meld (slice_get_within melds place meld is) no))
 
 at-most : (b : Bool) (n m : ℕ) → n ≤ m → cond b n 0 ≤ m
 at-most true n m h = h

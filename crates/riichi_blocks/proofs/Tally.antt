@@ -2,6 +2,7 @@
 use Rattle.std.proofs.Common.{◌≡◌, ℕ, ◌+◌, ◌<◌, inl, inr, cond, Bool, true, false, ◌||◌, length-append, length-set, ◌∙◌, nat_eq, nat_lt, List, [], ◌∷◌, ◌++◌, refl, length, set, get_or, replicate, sym, ap, arith}
 use Rattle.std.specs.Prelude.{count_by}
 use Rattle.std.specs.List.{list_any}
+use Rattle.std.proofs.Math.Bool.{or-false, or-true}
 use Rattle.std.proofs.lemmas.List.{get_or-set_other, get_or-replicate}
 use Rattle.std.proofs.lemmas.List.Sums.{sum_by-append}
 use Rattle.std.proofs.lemmas.List.Folds.{list_any-append}
@@ -13,14 +14,6 @@ use Rattle.riichi_blocks.specs.declared.hand_block.HandBlock.TheVariants.{Run, T
 use Rattle.riichi_blocks.specs.HandBlocks.{is_run, is_run_from, is_triplet, is_triplet_of, is_concealed_triplet, is_kong}
 use Rattle.riichi_blocks.specs.Tally.{IsTally}
 use Rattle.riichi_blocks.proofs.Additions.{get_or-more}
-
-or-false : (b : Bool) → (b || false) ≡ b
-or-false true = refl
-or-false false = refl
-
-or-true : (b : Bool) → (b || true) ≡ true
-or-true true = refl
-or-true false = refl
 
 count-push : (p : HandBlock → Bool) (blocks : List HandBlock) (block : HandBlock) → count_by p (blocks ++ block ∷ []) ≡ count_by p blocks + cond (p block) 1 0
 count-push p blocks block =
@@ -41,24 +34,13 @@ counted-any p (block ∷ blocks) =
     let e = sum_by-append (λ (b : HandBlock). cond {A = ℕ} (p b) 1 0) (block ∷ []) blocks in
     one-more (p block) (count_by p (block ∷ blocks)) (count_by p blocks) (list_any p blocks) (omega (arith, e)) (counted-any p blocks)
 
--- the mark of one kind more
-marked : (blocks : List HandBlock) (marks : List Bool) (held kind : ℕ) (block : HandBlock) → held < length marks → is_triplet_of kind block ≡ nat_eq held kind → get_or marks kind false ≡ list_any (is_triplet_of kind) blocks → get_or (set marks held true) kind false ≡ list_any (is_triplet_of kind) (blocks ++ block ∷ [])
-marked blocks marks held kind block within is was =
-    let any = any-push (is_triplet_of kind) blocks block in
+-- one mark more
+marked : (marks : List Bool) (held kind : ℕ) → held < length marks → get_or (set marks held true) kind false ≡ (get_or marks kind false || nat_eq held kind)
+marked marks held kind within =
     elim (eqb_tells held kind) [
-      | inl t ↦
-          get_or-set_at marks held kind true false (sym t.1) within
-          ∙ sym (any ∙ ap (λ b. list_any (is_triplet_of kind) blocks || b) (is ∙ t.0) ∙ or-true (list_any (is_triplet_of kind) blocks))
-      | inr f ↦
-          get_or-set_other marks held kind true false (λ e. f.1 (sym e))
-          ∙ was
-          ∙ sym (any ∙ ap (λ b. list_any (is_triplet_of kind) blocks || b) (is ∙ f.0) ∙ or-false (list_any (is_triplet_of kind) blocks))
+      | inl t ↦ get_or-set_at marks held kind true false (sym t.1) within ∙ sym (ap (λ b. get_or marks kind false || b) t.0 ∙ or-true (get_or marks kind false))
+      | inr f ↦ get_or-set_other marks held kind true false (λ e. f.1 (sym e)) ∙ sym (ap (λ b. get_or marks kind false || b) f.0 ∙ or-false (get_or marks kind false))
     ]
-
--- the mark of a kind stays where the block is no triplet
-unmarked : (blocks : List HandBlock) (kind : ℕ) (block : HandBlock) → is_triplet_of kind block ≡ false → list_any (is_triplet_of kind) blocks ≡ list_any (is_triplet_of kind) (blocks ++ block ∷ [])
-unmarked blocks kind block is =
-    sym (any-push (is_triplet_of kind) blocks block ∙ ap (λ b. list_any (is_triplet_of kind) blocks || b) is ∙ or-false (list_any (is_triplet_of kind) blocks))
 
 pub IsTally-none : IsTally [] (replicate 34 0) (replicate 34 false) 0 0 0 0
 IsTally-none = record {
@@ -73,47 +55,34 @@ IsTally-none = record {
   kongs_are = refl;
 }
 
+-- one block more
+IsTally-more : (blocks : List HandBlock) (block : HandBlock) (from from' : List ℕ) (of of' : List Bool) (r r' t t' c c' k k' : ℕ) → length blocks < 9 → length from' ≡ length from → length of' ≡ length of →
+    ((kind : ℕ) → get_or from' kind 0 ≡ get_or from kind 0 + cond (is_run_from kind block) 1 0) → ((kind : ℕ) → get_or of' kind false ≡ (get_or of kind false || is_triplet_of kind block)) →
+    r' ≡ r + cond (is_run block) 1 0 → t' ≡ t + cond (is_triplet block) 1 0 → c' ≡ c + cond (is_concealed_triplet block) 1 0 → k' ≡ k + cond (is_kong block) 1 0 →
+    IsTally blocks from of r t c k → IsTally (blocks ++ block ∷ []) from' of' r' t' c' k'
+IsTally-more blocks block from from' of of' r r' t t' c c' k k' room long long' runs_from triplets_of runs triplets concealed kongs w = record {
+  at_most_nine = omega (arith, room, length-append blocks (block ∷ []));
+  every_run = long ∙ w.every_run;
+  every_triplet = long' ∙ w.every_triplet;
+  runs_from_are = λ kind h. omega (arith, runs_from kind, count-push (is_run_from kind) blocks block, w.runs_from_are kind h);
+  triplets_of_are = λ kind h. triplets_of kind ∙ ap (λ b. b || is_triplet_of kind block) (w.triplets_of_are kind h) ∙ sym (any-push (is_triplet_of kind) blocks block);
+  runs_are = omega (arith, runs, count-push is_run blocks block, w.runs_are);
+  triplets_are = omega (arith, triplets, count-push is_triplet blocks block, w.triplets_are);
+  concealed_are = omega (arith, concealed, count-push is_concealed_triplet blocks block, w.concealed_are);
+  kongs_are = omega (arith, kongs, count-push is_kong blocks block, w.kongs_are);
+}
+
 pub IsTally-run : (blocks : List HandBlock) (from : List ℕ) (of : List Bool) (r t c k low : ℕ) → length blocks < 9 → low < 34 → IsTally blocks from of r t c k → IsTally (blocks ++ Run low ∷ []) (set from low (get_or from low 0 + 1)) of (r + 1) t c k
 IsTally-run blocks from of r t c k low room within w =
-    let block : HandBlock = Run low in
-    record {
-      at_most_nine = omega (arith, room, length-append blocks (block ∷ []));
-      every_run = length-set from low (get_or from low 0 + 1) ∙ w.every_run;
-      every_triplet = w.every_triplet;
-      runs_from_are = λ kind h. omega (arith, get_or-more from low kind 1 (omega (arith, within, w.every_run)), count-push (is_run_from kind) blocks block, w.runs_from_are kind h);
-      triplets_of_are = λ kind h. w.triplets_of_are kind h ∙ unmarked blocks kind block refl;
-      runs_are = omega (arith, count-push is_run blocks block, w.runs_are);
-      triplets_are = omega (arith, count-push is_triplet blocks block, w.triplets_are);
-      concealed_are = omega (arith, count-push is_concealed_triplet blocks block, w.concealed_are);
-      kongs_are = omega (arith, count-push is_kong blocks block, w.kongs_are);
-    }
+    IsTally-more blocks (Run low) from (set from low (get_or from low 0 + 1)) of of r (r + 1) t t c c k k room (length-set from low (get_or from low 0 + 1)) refl
+    (λ kind. get_or-more from low kind 1 (omega (arith, within, w.every_run))) (λ kind. sym (or-false (get_or of kind false))) (omega arith) (omega arith) (omega arith) (omega arith) w
 
 pub IsTally-triplet : (blocks : List HandBlock) (from : List ℕ) (of : List Bool) (r t c k held one : ℕ) (shut : Bool) → length blocks < 9 → held < 34 → one ≡ cond shut 1 0 → IsTally blocks from of r t c k → IsTally (blocks ++ Triplet held shut ∷ []) from (set of held true) r (t + 1) (c + one) k
 IsTally-triplet blocks from of r t c k held one shut room within e w =
-    let block : HandBlock = Triplet held shut in
-    record {
-      at_most_nine = omega (arith, room, length-append blocks (block ∷ []));
-      every_run = w.every_run;
-      every_triplet = length-set of held true ∙ w.every_triplet;
-      runs_from_are = λ kind h. omega (arith, count-push (is_run_from kind) blocks block, w.runs_from_are kind h);
-      triplets_of_are = λ kind h. marked blocks of held kind block (omega (arith, within, w.every_triplet)) refl (w.triplets_of_are kind h);
-      runs_are = omega (arith, count-push is_run blocks block, w.runs_are);
-      triplets_are = omega (arith, count-push is_triplet blocks block, w.triplets_are);
-      concealed_are = omega (arith, count-push is_concealed_triplet blocks block, w.concealed_are, e);
-      kongs_are = omega (arith, count-push is_kong blocks block, w.kongs_are);
-    }
+    IsTally-more blocks (Triplet held shut) from from of (set of held true) r r t (t + 1) c (c + one) k k room refl (length-set of held true)
+    (λ kind. omega arith) (λ kind. marked of held kind (omega (arith, within, w.every_triplet))) (omega arith) (omega arith) (omega (arith, e)) (omega arith) w
 
 pub IsTally-kong : (blocks : List HandBlock) (from : List ℕ) (of : List Bool) (r t c k held one : ℕ) (shut : Bool) → length blocks < 9 → held < 34 → one ≡ cond shut 1 0 → IsTally blocks from of r t c k → IsTally (blocks ++ Kong held shut ∷ []) from (set of held true) r (t + 1) (c + one) (k + 1)
 IsTally-kong blocks from of r t c k held one shut room within e w =
-    let block : HandBlock = Kong held shut in
-    record {
-      at_most_nine = omega (arith, room, length-append blocks (block ∷ []));
-      every_run = w.every_run;
-      every_triplet = length-set of held true ∙ w.every_triplet;
-      runs_from_are = λ kind h. omega (arith, count-push (is_run_from kind) blocks block, w.runs_from_are kind h);
-      triplets_of_are = λ kind h. marked blocks of held kind block (omega (arith, within, w.every_triplet)) refl (w.triplets_of_are kind h);
-      runs_are = omega (arith, count-push is_run blocks block, w.runs_are);
-      triplets_are = omega (arith, count-push is_triplet blocks block, w.triplets_are);
-      concealed_are = omega (arith, count-push is_concealed_triplet blocks block, w.concealed_are, e);
-      kongs_are = omega (arith, count-push is_kong blocks block, w.kongs_are);
-    }
+    IsTally-more blocks (Kong held shut) from from of (set of held true) r r t (t + 1) c (c + one) k (k + 1) room refl (length-set of held true)
+    (λ kind. omega arith) (λ kind. marked of held kind (omega (arith, within, w.every_triplet))) (omega arith) (omega arith) (omega (arith, e)) (omega arith) w

@@ -1,5 +1,5 @@
 -- What holds of each suit, from whether some tile is of it.
-use Rattle.std.proofs.Common.{◌≡◌, ◌∙◌, ℕ, zero, suc, Bool, true, false, not, ◌&&◌, ◌||◌, nat_eq, nat_lt, List, [], ◌∷◌, ◌++◌, refl, sym, ap, arith}
+use Rattle.std.proofs.Common.{◌≡◌, ◌∙◌, ◌<◌, ℕ, zero, suc, Bool, true, false, not, ◌&&◌, ◌||◌, nat_eq, nat_lt, List, [], ◌∷◌, ◌++◌, refl, sym, ap, arith}
 use Rattle.std.specs.Prelude.{slice_index}
 use Rattle.std.specs.List.{list_all, list_any, range_with_len}
 use Rattle.std.proofs.lemmas.List.Folds.{list_any-append}
@@ -50,15 +50,6 @@ three tiles first second third =
 pub all-honours : (tiles : List ℕ) → not (some_in tiles 0 9 || (some_in tiles 9 9 || some_in tiles 18 9)) ≡ every is_honour tiles
 all-honours tiles = sym (every-none is_honour tiles every_kind ∙ ap not (three tiles (range_with_len 0 9) (range_with_len 9 9) (range_with_len 18 9)))
 
-pub all-characters : (tiles : List ℕ) → not (some_in tiles 9 9 || (some_in tiles 18 9 || some_in tiles 27 7)) ≡ every (is_of_suit 0) tiles
-all-characters tiles = sym (every-none (is_of_suit 0) tiles every_kind ∙ ap not (three tiles (range_with_len 9 9) (range_with_len 18 9) (range_with_len 27 7)))
-
-pub all-circles : (tiles : List ℕ) → not (some_in tiles 0 9 || (some_in tiles 18 9 || some_in tiles 27 7)) ≡ every (is_of_suit 1) tiles
-all-circles tiles = sym (every-none (is_of_suit 1) tiles every_kind ∙ ap not (three tiles (range_with_len 0 9) (range_with_len 18 9) (range_with_len 27 7)))
-
-pub all-bamboos : (tiles : List ℕ) → not (some_in tiles 0 9 || (some_in tiles 9 9 || some_in tiles 27 7)) ≡ every (is_of_suit 2) tiles
-all-bamboos tiles = sym (every-none (is_of_suit 2) tiles every_kind ∙ ap not (three tiles (range_with_len 0 9) (range_with_len 9 9) (range_with_len 27 7)))
-
 pub characters-or-honours : (tiles : List ℕ) → not (some_in tiles 9 9 || (some_in tiles 18 9 || false)) ≡ every (λ kind. is_of_suit 0 kind || is_honour kind) tiles
 characters-or-honours tiles = sym (every-none (λ kind. is_of_suit 0 kind || is_honour kind) tiles every_kind ∙ ap not (three tiles (range_with_len 9 9) (range_with_len 18 9) []))
 
@@ -67,6 +58,19 @@ circles-or-honours tiles = sym (every-none (λ kind. is_of_suit 1 kind || is_hon
 
 pub bamboos-or-honours : (tiles : List ℕ) → not (some_in tiles 0 9 || (some_in tiles 9 9 || false)) ≡ every (λ kind. is_of_suit 2 kind || is_honour kind) tiles
 bamboos-or-honours tiles = sym (every-none (λ kind. is_of_suit 2 kind || is_honour kind) tiles every_kind ∙ ap not (three tiles (range_with_len 0 9) (range_with_len 9 9) []))
+
+apart-step : (suit kind n : ℕ) (some both alone : Bool) → suit < 3 → (not some && both) ≡ alone →
+    (not ((is_honour kind && nat_lt 0 n) || some) && (((is_of_suit suit kind || is_honour kind) || nat_eq n 0) && both)) ≡ ((is_of_suit suit kind || nat_eq n 0) && alone)
+apart-step suit kind n some both alone few e = grind (arith, nat_tests)
+
+-- no tile is an honour, and each is of a suit or an honour: each is of the suit
+apart : (tiles : List ℕ) (suit : ℕ) (kinds : List ℕ) → suit < 3 →
+    (not (list_any (λ kind. is_honour kind && nat_lt 0 (slice_index tiles kind)) kinds) && list_all (λ kind. (is_of_suit suit kind || is_honour kind) || nat_eq (slice_index tiles kind) 0) kinds) ≡ list_all (λ kind. is_of_suit suit kind || nat_eq (slice_index tiles kind) 0) kinds
+apart tiles suit [] few = refl
+apart tiles suit (kind ∷ kinds) few = apart-step suit kind (slice_index tiles kind) _ _ _ few (apart tiles suit kinds few)
+
+pub of-suit-alone : (tiles : List ℕ) (suit : ℕ) → suit < 3 → (not (some is_honour tiles) && every (λ kind. is_of_suit suit kind || is_honour kind) tiles) ≡ every (is_of_suit suit) tiles
+of-suit-alone tiles suit few = apart tiles suit every_kind few
 
 -- kinds in five parts
 five : (tiles first second third fourth fifth : List ℕ) → list_any (λ kind. nat_lt 0 (slice_index tiles kind)) (first ++ (second ++ (third ++ (fourth ++ fifth)))) ≡ (list_any (λ kind. nat_lt 0 (slice_index tiles kind)) first || (list_any (λ kind. nat_lt 0 (slice_index tiles kind)) second || (list_any (λ kind. nat_lt 0 (slice_index tiles kind)) third || (list_any (λ kind. nat_lt 0 (slice_index tiles kind)) fourth || list_any (λ kind. nat_lt 0 (slice_index tiles kind)) fifth))))

@@ -14,9 +14,8 @@ use Rattle.riichi_blocks.specs.declared.hand_block.HandBlock.{HandBlock}
 use Rattle.riichi_blocks.specs.declared.hand_block.HandBlock.TheVariants.{Run, Triplet, Kong, Pair}
 
 abbrev pub is_this_triplet : ℕ → Block → Bool
-is_this_triplet kind (block.Run low) = false
 is_this_triplet kind (block.Triplet held) = held == kind
-is_this_triplet kind (block.Pair held) = false
+is_this_triplet kind other = false
 
 -- a triplet in hand is concealed unless the winning tile completes it by ron
 abbrev pub of_set : By → Block → Block → HandBlock
@@ -33,61 +32,48 @@ of_meld (Ankan kind) = Kong kind true
 -- the sets in hand, the pair and the melds of a standard reading; seven pairs and thirteen orphans have no blocks
 abbrev pub blocks_of : Reading → WinParts → List HandBlock
 blocks_of (Standard sets pair done) parts = map (of_set parts.by done) sets ++ Pair pair ∷ map of_meld parts.melds
-blocks_of SevenPairs parts = []
-blocks_of Orphans parts = []
+blocks_of other parts = []
 
 abbrev pub is_standard : Reading → Bool
 is_standard (Standard sets pair done) = true
-is_standard SevenPairs = false
-is_standard Orphans = false
+is_standard other = false
 
 abbrev pub is_seven_pairs : Reading → Bool
-is_seven_pairs (Standard sets pair done) = false
 is_seven_pairs SevenPairs = true
-is_seven_pairs Orphans = false
+is_seven_pairs other = false
 
 abbrev pub is_orphans : Reading → Bool
-is_orphans (Standard sets pair done) = false
-is_orphans SevenPairs = false
 is_orphans Orphans = true
+is_orphans other = false
 
 -- ---- words on a block; a triplet is a triplet or a kong
 
 abbrev pub is_run : HandBlock → Bool
 is_run (Run low) = true
-is_run (Triplet kind concealed) = false
-is_run (Kong kind concealed) = false
-is_run (Pair kind) = false
+is_run other = false
 
 abbrev pub is_run_from : ℕ → HandBlock → Bool
 is_run_from low (Run held) = held == low
-is_run_from low (Triplet held concealed) = false
-is_run_from low (Kong held concealed) = false
-is_run_from low (Pair held) = false
+is_run_from low other = false
 
 abbrev pub is_triplet : HandBlock → Bool
-is_triplet (Run low) = false
 is_triplet (Triplet kind concealed) = true
 is_triplet (Kong kind concealed) = true
-is_triplet (Pair kind) = false
+is_triplet other = false
 
 abbrev pub is_triplet_of : ℕ → HandBlock → Bool
-is_triplet_of kind (Run low) = false
 is_triplet_of kind (Triplet held concealed) = held == kind
 is_triplet_of kind (Kong held concealed) = held == kind
-is_triplet_of kind (Pair held) = false
+is_triplet_of kind other = false
 
 abbrev pub is_concealed_triplet : HandBlock → Bool
-is_concealed_triplet (Run low) = false
 is_concealed_triplet (Triplet kind concealed) = concealed
 is_concealed_triplet (Kong kind concealed) = concealed
-is_concealed_triplet (Pair kind) = false
+is_concealed_triplet other = false
 
 abbrev pub is_kong : HandBlock → Bool
-is_kong (Run low) = false
-is_kong (Triplet kind concealed) = false
 is_kong (Kong kind concealed) = true
-is_kong (Pair kind) = false
+is_kong other = false
 
 -- ---- words on the blocks
 
@@ -100,6 +86,4 @@ has_triplet blocks kind = list_any (is_triplet_of kind) blocks
 -- how many blocks are the run that this one is; none where it is no run
 abbrev pub runs_equal_to : List HandBlock → HandBlock → ℕ
 runs_equal_to blocks (Run low) = count_by (is_run_from low) blocks
-runs_equal_to blocks (Triplet kind concealed) = 0
-runs_equal_to blocks (Kong kind concealed) = 0
-runs_equal_to blocks (Pair kind) = 0
+runs_equal_to blocks other = 0

@@ -3,7 +3,7 @@ use Rattle.std.specs.Prelude.{ℕ, ◌+◌, Bool, false, ◌==◌, nat_le, if◌
 use Rattle.riichi_hand.specs.declared.win.WinParts.{WinParts}
 use Rattle.riichi_hand.specs.Win.{wind_kind}
 use Rattle.riichi_blocks.specs.declared.hand_block.HandBlock.{HandBlock}
-use Rattle.riichi_blocks.specs.declared.hand_block.HandBlock.TheVariants.{Run, Triplet, Kong, Pair}
+use Rattle.riichi_blocks.specs.declared.hand_block.HandBlock.TheVariants.{Pair}
 use Rattle.riichi_blocks.specs.Kinds.{white}
 
 -- The fu of a pair of this kind: of dragons 2, of the seat wind 2, of the prevalent wind 2; both winds 4.
@@ -15,7 +15,5 @@ pair_fu parts kind =
 
 -- a pair that earns no fu
 abbrev pub is_plain_pair : WinParts → HandBlock → Bool
-is_plain_pair parts (Run low) = false
-is_plain_pair parts (Triplet kind concealed) = false
-is_plain_pair parts (Kong kind concealed) = false
 is_plain_pair parts (Pair kind) = pair_fu parts kind == 0
+is_plain_pair parts other = false

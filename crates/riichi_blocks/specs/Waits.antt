@@ -3,7 +3,7 @@ use Rattle.std.specs.Prelude.{ℕ, ◌+◌, ◌%◌, Bool, false, not, ◌&&◌,
 use Rattle.riichi_tiles.specs.declared.block.Block.{Block}
 use Rattle.riichi_tiles.specs.declared.block.Block.TheVariants.{Run, Triplet, Pair}
 use Rattle.riichi_split.specs.declared.reading.Reading.{Reading}
-use Rattle.riichi_split.specs.declared.reading.Reading.TheVariants.{Standard, SevenPairs, Orphans}
+use Rattle.riichi_split.specs.declared.reading.Reading.TheVariants.{Standard}
 
 -- the winning tile is the middle of the run
 abbrev pub is_closed_wait : ℕ → ℕ → Bool
@@ -16,13 +16,11 @@ is_edge_wait low winning = winning == low + 2 && low % 9 == 0 || winning == low 
 -- a run completed in any other way
 abbrev pub is_two_sided : ℕ → Block → Bool
 is_two_sided winning (Run low) = not (is_closed_wait low winning || is_edge_wait low winning)
-is_two_sided winning (Triplet kind) = false
-is_two_sided winning (Pair kind) = false
+is_two_sided winning other = false
 
 abbrev pub has_two_sided_wait : Reading → ℕ → Bool
 has_two_sided_wait (Standard sets pair done) winning = is_two_sided winning done
-has_two_sided_wait SevenPairs winning = false
-has_two_sided_wait Orphans winning = false
+has_two_sided_wait other winning = false
 
 -- The fu of the wait: an edge wait, a closed wait or a pair wait 2.
 abbrev pub wait_fu : ℕ → Block → ℕ

@@ -102,21 +102,7 @@ impl AllTiles {
         requires { suit < 3 }
         ensures { result ≡ spec.every (kinds.is_of_suit suit) self.now }
     {
-        if suit == 0 {
-            none_of(self.has_circles(), self.has_bamboos(), self.has_honours())
-        } else if suit == 1 {
-            none_of(
-                self.has_characters(),
-                self.has_bamboos(),
-                self.has_honours(),
-            )
-        } else {
-            none_of(
-                self.has_characters(),
-                self.has_circles(),
-                self.has_honours(),
-            )
-        }
+        !self.has_honours() & self.are_of_suit_or_honours(suit)
     }
 
     /// Whether every tile is of this suit or an honour.
