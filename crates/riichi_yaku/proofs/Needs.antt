@@ -1,16 +1,18 @@
 -- What blocks a condition needs, so that most hands are told by a glance.
-use Rattle.std.proofs.Common.{◌≡◌, ◌≢◌, ℕ, ◌+◌, ◌<◌, ◌≤◌, Bool, true, false, ◌&&◌, ◌||◌, cond, nat_eq, nat_lt, List, [], ◌∷◌, refl, ap, ◌∙◌, arith}
+use Rattle.std.proofs.Common.{◌≡◌, ◌≢◌, ℕ, ◌+◌, ◌<◌, ◌≤◌, Bool, true, false, ◌&&◌, ◌||◌, cond, nat_eq, nat_lt, get_or, List, [], ◌∷◌, refl, ◌∙◌, arith}
 use Rattle.std.specs.Prelude.{count_by}
 use Rattle.std.specs.List.{list_any}
+use Rattle.std.proofs.lemmas.List.Folds.{list_any_none}
 use Rattle.std.proofs.lemmas.List.Sums.{sum_by-cons}
 use Rattle.std.proofs.lemmas.Bool.Decides.{nat_tests}
 use Rattle.riichi_blocks.specs.declared.hand_block.HandBlock.{HandBlock}
 use Rattle.riichi_blocks.specs.declared.hand_block.HandBlock.TheVariants.{Run, Triplet, Kong, Pair}
-use Rattle.riichi_blocks.specs.HandBlocks.{is_run, is_run_from, is_triplet, is_triplet_of, has_run, has_triplet}
+use Rattle.riichi_blocks.specs.HandBlocks.{is_run, is_run_from, is_triplet, is_triplet_of, has_triplet}
+use Rattle.riichi_blocks.specs.Kinds.{is_wind, is_dragon}
 use Rattle.riichi_blocks.proofs.Tally.{counted-any}
 use Rattle.riichi_yaku.specs.Runs.{has_run_in_each_suit}
 use Rattle.riichi_yaku.specs.Triplets.{has_triplet_in_each_suit}
-use Rattle.riichi_yaku.specs.Honours.{is_last_wind, is_last_dragon}
+use Rattle.riichi_yaku.specs.Honours.{is_last_of, is_last_wind, is_last_dragon}
 
 -- ---- three blocks of three kinds
 
@@ -22,15 +24,12 @@ one-of-three a b c held ab ac bc = grind (arith, nat_tests, ab, ac, bc)
 
 a-run : (a b c : ℕ) → a ≢ b → a ≢ c → b ≢ c → (block : HandBlock) → IsThree is_run_from is_run a b c block
 a-run a b c ab ac bc (Run low) = one-of-three a b c low ab ac bc
-a-run a b c ab ac bc (Triplet kind concealed) = omega arith
-a-run a b c ab ac bc (Kong kind concealed) = omega arith
-a-run a b c ab ac bc (Pair kind) = omega arith
+a-run a b c ab ac bc other = omega arith
 
 a-triplet : (a b c : ℕ) → a ≢ b → a ≢ c → b ≢ c → (block : HandBlock) → IsThree is_triplet_of is_triplet a b c block
-a-triplet a b c ab ac bc (Run low) = omega arith
 a-triplet a b c ab ac bc (Triplet kind concealed) = one-of-three a b c kind ab ac bc
 a-triplet a b c ab ac bc (Kong kind concealed) = one-of-three a b c kind ab ac bc
-a-triplet a b c ab ac bc (Pair kind) = omega arith
+a-triplet a b c ab ac bc other = omega arith
 
 next : (p : HandBlock → Bool) (block : HandBlock) (blocks : List HandBlock) → count_by p (block ∷ blocks) ≡ cond {A = ℕ} (p block) 1 0 + count_by p blocks
 next p block blocks = sum_by-cons (λ (b : HandBlock). cond {A = ℕ} (p b) 1 0) block blocks
@@ -49,59 +48,35 @@ not-all true true false h = refl
 not-all true false z h = refl
 not-all false y z h = refl
 
-no-runs-of : (blocks : List HandBlock) (rank : ℕ) → count_by is_run blocks < 3 → has_run_in_each_suit blocks rank ≡ false
-no-runs-of blocks rank few = not-all (has_run blocks (0 + rank)) (has_run blocks (9 + rank)) (has_run blocks (18 + rank)) (λ x y z.
-    omega (
-      arith,
-      few,
-      some (is_run_from (0 + rank)) blocks x,
-      some (is_run_from (9 + rank)) blocks y,
-      some (is_run_from (18 + rank)) blocks z,
-      three is_run_from is_run (0 + rank) (9 + rank) (18 + rank) (a-run (0 + rank) (9 + rank) (18 + rank) (omega arith) (omega arith) (omega arith)) blocks,
-    ))
-
-no-triplets-of : (blocks : List HandBlock) (rank : ℕ) → count_by is_triplet blocks < 3 → has_triplet_in_each_suit blocks rank ≡ false
-no-triplets-of blocks rank few = not-all (has_triplet blocks (0 + rank)) (has_triplet blocks (9 + rank)) (has_triplet blocks (18 + rank)) (λ x y z.
-    omega (
-      arith,
-      few,
-      some (is_triplet_of (0 + rank)) blocks x,
-      some (is_triplet_of (9 + rank)) blocks y,
-      some (is_triplet_of (18 + rank)) blocks z,
-      three is_triplet_of is_triplet (0 + rank) (9 + rank) (18 + rank) (a-triplet (0 + rank) (9 + rank) (18 + rank) (omega arith) (omega arith) (omega arith)) blocks,
-    ))
+-- fewer than three blocks aren't of one rank in each suit
+no-three : (of_kind : ℕ → HandBlock → Bool) (is_so : HandBlock → Bool) → ((a b c : ℕ) → a ≢ b → a ≢ c → b ≢ c → (block : HandBlock) → IsThree of_kind is_so a b c block) → (blocks : List HandBlock) (rank : ℕ) → count_by is_so blocks < 3 →
+    (list_any (of_kind (0 + rank)) blocks && (list_any (of_kind (9 + rank)) blocks && (list_any (of_kind (18 + rank)) blocks && true))) ≡ false
+no-three of_kind is_so one blocks rank few = not-all (list_any (of_kind (0 + rank)) blocks) (list_any (of_kind (9 + rank)) blocks) (list_any (of_kind (18 + rank)) blocks) (λ x y z.
+    let all = three of_kind is_so (0 + rank) (9 + rank) (18 + rank) (one (0 + rank) (9 + rank) (18 + rank) (omega arith) (omega arith) (omega arith)) blocks in
+    omega (arith, few, some (of_kind (0 + rank)) blocks x, some (of_kind (9 + rank)) blocks y, some (of_kind (18 + rank)) blocks z, all))
 
 none : {X : Type 0} (p : X → Bool) (xs : List X) → ((x : X) → p x ≡ false) → list_any p xs ≡ false
-none p [] h = refl
-none p (x ∷ xs) h = ap (λ b. b || list_any p xs) (h x) ∙ none p xs h
+none p xs h = list_any_none p xs (λ k d l. h (get_or xs k d))
 
 -- runs of a rank in three suits are three runs, and triplets three triplets
 pub few-runs : (blocks : List HandBlock) (ranks : List ℕ) → count_by is_run blocks < 3 → list_any (has_run_in_each_suit blocks) ranks ≡ false
-few-runs blocks ranks few = none (has_run_in_each_suit blocks) ranks (λ rank. no-runs-of blocks rank few)
+few-runs blocks ranks few = none (has_run_in_each_suit blocks) ranks (λ rank. no-three is_run_from is_run a-run blocks rank few)
 
 pub few-triplets : (blocks : List HandBlock) (ranks : List ℕ) → count_by is_triplet blocks < 3 → list_any (has_triplet_in_each_suit blocks) ranks ≡ false
-few-triplets blocks ranks few = none (has_triplet_in_each_suit blocks) ranks (λ rank. no-triplets-of blocks rank few)
+few-triplets blocks ranks few = none (has_triplet_in_each_suit blocks) ranks (λ rank. no-three is_triplet_of is_triplet a-triplet blocks rank few)
 
 -- ---- a triplet of one of two honours
 
 not-both : (is_so rest : Bool) (first second kind : ℕ) → first ≢ second → (is_so && ((nat_eq first kind || false) && ((nat_eq second kind || false) && rest))) ≡ false
 not-both is_so rest first second kind differ = grind (arith, nat_tests, differ)
 
-no-last-wind : (blocks : List HandBlock) → has_triplet blocks 27 ≡ false → has_triplet blocks 28 ≡ false → (block : HandBlock) → is_last_wind blocks block ≡ false
-no-last-wind blocks east south (Run low) = refl
-no-last-wind blocks east south (Triplet kind concealed) = refl
-no-last-wind blocks east south (Kong kind concealed) = refl
-no-last-wind blocks east south (Pair kind) = rw (east, south) (not-both _ _ 27 28 kind (omega arith))
-
-no-last-dragon : (blocks : List HandBlock) → has_triplet blocks 31 ≡ false → has_triplet blocks 32 ≡ false → (block : HandBlock) → is_last_dragon blocks block ≡ false
-no-last-dragon blocks white green (Run low) = refl
-no-last-dragon blocks white green (Triplet kind concealed) = refl
-no-last-dragon blocks white green (Kong kind concealed) = refl
-no-last-dragon blocks white green (Pair kind) = rw (white, green) (not-both _ _ 31 32 kind (omega arith))
+no-last : (is_so : ℕ → Bool) (first second : ℕ) (rest : List ℕ) (blocks : List HandBlock) → first ≢ second → has_triplet blocks first ≡ false → has_triplet blocks second ≡ false → (block : HandBlock) → is_last_of is_so (first ∷ second ∷ rest) blocks block ≡ false
+no-last is_so first second rest blocks differ f s (Pair kind) = rw (f, s) (not-both _ _ first second kind differ)
+no-last is_so first second rest blocks differ f s other = refl
 
 -- the pair of the last wind leaves a triplet of East or South, that of the last dragon one of White or Green
 pub neither-wind : (blocks : List HandBlock) → has_triplet blocks 27 ≡ false → has_triplet blocks 28 ≡ false → list_any (is_last_wind blocks) blocks ≡ false
-neither-wind blocks east south = none (is_last_wind blocks) blocks (no-last-wind blocks east south)
+neither-wind blocks east south = none (is_last_wind blocks) blocks (no-last is_wind 27 28 (29 ∷ 30 ∷ []) blocks (omega arith) east south)
 
 pub neither-dragon : (blocks : List HandBlock) → has_triplet blocks 31 ≡ false → has_triplet blocks 32 ≡ false → list_any (is_last_dragon blocks) blocks ≡ false
-neither-dragon blocks white green = none (is_last_dragon blocks) blocks (no-last-dragon blocks white green)
+neither-dragon blocks white green = none (is_last_dragon blocks) blocks (no-last is_dragon 31 32 (33 ∷ []) blocks (omega arith) white green)

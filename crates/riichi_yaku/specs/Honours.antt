@@ -4,7 +4,7 @@ use Rattle.std.specs.List.{list_any, list_all}
 use Rattle.riichi_hand.specs.declared.win.WinParts.{WinParts}
 use Rattle.riichi_hand.specs.Win.{wind_kind}
 use Rattle.riichi_blocks.specs.declared.hand_block.HandBlock.{HandBlock}
-use Rattle.riichi_blocks.specs.declared.hand_block.HandBlock.TheVariants.{Run, Triplet, Kong, Pair}
+use Rattle.riichi_blocks.specs.declared.hand_block.HandBlock.TheVariants.{Pair}
 use Rattle.riichi_blocks.specs.HandBlocks.{has_triplet}
 use Rattle.riichi_blocks.specs.Kinds.{white, green, red, winds, dragons, is_wind, is_dragon}
 
@@ -36,19 +36,16 @@ has_triplets blocks kinds = list_all (has_triplet blocks) kinds
 abbrev pub has_other_triplets : List HandBlock → List ℕ → ℕ → Bool
 has_other_triplets blocks kinds last = list_all (λ kind. kind == last || has_triplet blocks kind) kinds
 
--- a pair of dragons, and triplets of the others
-abbrev pub is_last_dragon : List HandBlock → HandBlock → Bool
-is_last_dragon blocks (Run low) = false
-is_last_dragon blocks (Triplet kind concealed) = false
-is_last_dragon blocks (Kong kind concealed) = false
-is_last_dragon blocks (Pair kind) = is_dragon kind && has_other_triplets blocks dragons kind
+-- a pair of one of these kinds, and triplets of the others
+abbrev pub is_last_of : (ℕ → Bool) → List ℕ → List HandBlock → HandBlock → Bool
+is_last_of is_so kinds blocks (Pair kind) = is_so kind && has_other_triplets blocks kinds kind
+is_last_of is_so kinds blocks other = false
 
--- a pair of winds, and triplets of the others
+abbrev pub is_last_dragon : List HandBlock → HandBlock → Bool
+is_last_dragon = is_last_of is_dragon dragons
+
 abbrev pub is_last_wind : List HandBlock → HandBlock → Bool
-is_last_wind blocks (Run low) = false
-is_last_wind blocks (Triplet kind concealed) = false
-is_last_wind blocks (Kong kind concealed) = false
-is_last_wind blocks (Pair kind) = is_wind kind && has_other_triplets blocks winds kind
+is_last_wind = is_last_of is_wind winds
 
 -- 23: triplets of two dragons, a pair of the third
 abbrev pub is_little_three_dragons : List HandBlock → Bool
