@@ -1,7 +1,8 @@
 -- The sorts of wait of readings, one reading after another.
-use Rattle.std.proofs.Common.{◌≡◌, ◌≤◌, ◌<◌, ℕ, List, [], ◌∷◌, Bool, true, false, cond, nat_lt, get_or, length, sym, ap, ◌∙◌, arith}
+use Rattle.std.proofs.Common.{◌≡◌, ◌≤◌, ◌<◌, ℕ, List, [], ◌∷◌, Bool, true, false, cond, get_or, length, sym, ap, ◌∙◌}
 use Rattle.std.specs.Prelude.{◌↔◌, IsTrue}
-use Rattle.std.proofs.lemmas.Bool.Decides.{nat_tests, same_from_decides}
+use Rattle.std.proofs.lemmas.Bool.{and_parts, ltb-true}
+use Rattle.std.proofs.lemmas.Bool.Decides.{same_from_decides}
 use Rattle.std.specs.List.{list_any}
 use Rattle.std.proofs.Math.Bool.{or-false, or_assoc}
 use Rattle.riichi_split.specs.declared.reading.Reading.{Reading}
@@ -10,8 +11,8 @@ use Rattle.riichi_split.specs.ReadingsOf.{readings_of}
 use Rattle.riichi_tiles.specs.Tiles.{IsMarked}
 use Rattle.riichi_hand.specs.Hand.{copies_held}
 use Rattle.riichi_hand.specs.HandParts.{HandParts}
-use Rattle.riichi_split.specs.Waits.{waits_of, is_wait, with_one}
-use Rattle.riichi_split.proofs.Lists.{IsIn, and-left, in-All, in-Contains, any-in, any-from}
+use Rattle.riichi_split.specs.Waits.{waits_of, is_wait}
+use Rattle.riichi_split.proofs.Lists.{IsIn, in-All, in-Contains, any-in, any-from}
 use Rattle.riichi_split.proofs.EveryReading.{every_reading}
 use Rattle.riichi_split.proofs.Marks.{mark_of}
 use Rattle.riichi_waits.specs.declared.waits.WaitSorts.{WaitSorts}
@@ -69,15 +70,9 @@ is_wait-marked hand kinds kind held low same member =
     same_from_decides held (is_wait hand kind) (λ e. sym marked ∙ member.0 e, λ e. member.1 (marked ∙ e)) (λ e. e, λ e. e)
 
 pub copies-below : (hand : HandParts) (kind : ℕ) → is_wait hand kind ≡ true → copies_held hand.concealed hand.melds kind < 4
-copies-below hand kind e = below (copies_held hand.concealed hand.melds kind) (and-left (nat_lt (copies_held hand.concealed hand.melds kind) 4) (nat_lt 0 (length (readings_of (with_one hand.concealed kind) (length hand.melds) kind))) e)
-  where
-    below : (copies : ℕ) → nat_lt copies 4 ≡ true → copies < 4
-    below copies test = grind (arith, nat_tests)
+copies-below hand kind e = ltb-true (copies_held hand.concealed hand.melds kind) 4 (and_parts _ _ e).0
 
-pub waits_at-wait : (hand : HandParts) (kind : ℕ) → is_wait hand kind ≡ true → waits_at hand kind ≡ kind_wait hand kind ∷ []
+-- the rows of a kind, by whether it is marked
+pub waits_at-told : (hand : HandParts) (kinds : List Bool) (kind : ℕ) (held : Bool) → kind < 34 → kinds ≡ waits_of hand → IsTrue held ↔ IsMarked kinds kind → waits_at hand kind ≡ cond held (kind_wait hand kind ∷ []) []
 unfolding waits_at
-waits_at-wait hand kind e = ap (λ (waits : Bool). cond waits (kind_wait hand kind ∷ []) []) e
-
-pub waits_at-other : (hand : HandParts) (kind : ℕ) → is_wait hand kind ≡ false → waits_at hand kind ≡ []
-unfolding waits_at
-waits_at-other hand kind e = ap (λ (waits : Bool). cond waits (kind_wait hand kind ∷ []) []) e
+waits_at-told hand kinds kind held low same member = ap (λ (waits : Bool). cond waits (kind_wait hand kind ∷ []) []) (sym (is_wait-marked hand kinds kind held low same member))
