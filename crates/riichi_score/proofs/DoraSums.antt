@@ -1,10 +1,10 @@
 -- At most ten indicators, each of at most four copies.
-use Rattle.std.proofs.Common.{◌≡◌, ℕ, zero, suc, ◌+◌, ◌*◌, ◌<◌, ◌≤◌, false, List, [], ◌∷◌, ◌++◌, ◌-◌, min, length, refl, sym, ap, ◌∙◌, subst, get_or, take, arith, add-one, inl, inr}
+use Rattle.std.proofs.Common.{◌≡◌, ℕ, zero, suc, ◌+◌, ◌*◌, ◌<◌, ◌≤◌, false, List, ◌-◌, min, length, refl, sym, ap, ◌∙◌, subst, get_or, take, arith, add-one, inl, inr}
 use Rattle.std.specs.List.{sum, sum_by, range_with_len}
 use Rattle.std.proofs.lemmas.List.{map-id, get_or_past, take_all}
 use Rattle.std.proofs.lemmas.Bool.{cases_lt}
-use Rattle.std.proofs.lemmas.List.Sums.{sum_by-take-le, sum_by_push, sum_by_more}
-use Rattle.std.proofs.lemmas.List.FromFn.{map-range_with_len_more}
+use Rattle.std.proofs.lemmas.List.Sums.{sum_by-take-le, sum_by_more}
+use Rattle.std.proofs.lemmas.List.FromFn.{sum_by-map-range_with_len_more}
 use Rattle.std.proofs.lemmas.Bool.Decides.{nat_tests}
 use Rattle.riichi_tiles.specs.Dora.{indicated}
 use Rattle.riichi_tiles.specs.HeldKinds.{is_held, AreHeldOf}
@@ -13,15 +13,9 @@ use Rattle.riichi_hand.specs.Win.{IsWin, copies_won}
 use Rattle.riichi_score.specs.Dora.{indicators, kind_dora}
 use Rattle.riichi_score.proofs.Wins.{ten_indicators, four_copies}
 
-range_more : (n : ℕ) → range_with_len 0 (n + 1) ≡ range_with_len 0 n ++ n ∷ []
-range_more n =
-    let one = map-range_with_len_more (λ (k : ℕ). k) 0 n n (omega arith) in
-    let same = λ (m : ℕ). map-id (range_with_len 0 m) in
-    sym (same (n + 1)) ∙ one ∙ ap (λ x. x ++ n ∷ []) (same n)
-
 -- one number more
 pub kinds_more : (f : ℕ → ℕ) (n : ℕ) → sum_by f (range_with_len 0 (n + 1)) ≡ sum_by f (range_with_len 0 n) + f n
-kinds_more f n = ap (λ x. sum_by f x) (range_more n) ∙ sum_by_push f (range_with_len 0 n) n
+kinds_more f n = simp map-id at (sum_by-map-range_with_len_more f (λ (k : ℕ). k) 0 n n (omega arith))
 
 abbrev held : List ℕ → ℕ → ℕ
 held counts n = sum_by (λ kind. get_or counts kind 0) (range_with_len 0 n)

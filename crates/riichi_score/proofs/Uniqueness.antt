@@ -40,14 +40,9 @@ score-told : (r : Reading) (w : WinParts) (s : Score) → score_of r w ≡ Some 
 unfolding score_of
 score-told r w s e = scored-told (yaku_of r w) (fu_of r w) w (eqb (yaku_of r w) 0) (is_yakuman (yaku_of r w)) s refl refl e
 
-level : (x y : ℕ) (a b : Bool) → cond (ltb y x) true (cond (ltb x y) false a) ≡ false → cond (ltb x y) true (cond (ltb y x) false b) ≡ false → x ≡ y
-level x y a b h i = grind (arith, nat_tests)
-
-level-first : (x y : ℕ) (a b : Bool) → cond (ltb y x) true (cond (ltb x y) false a) ≡ false → cond (ltb x y) true (cond (ltb y x) false b) ≡ false → a ≡ false
-level-first x y a b h i = grind (arith, nat_tests)
-
-level-second : (x y : ℕ) (a b : Bool) → cond (ltb y x) true (cond (ltb x y) false a) ≡ false → cond (ltb x y) true (cond (ltb y x) false b) ≡ false → b ≡ false
-level-second x y a b h i = grind (arith, nat_tests)
+-- where neither list is above the other their first numbers are the same, and neither rest is above the other
+level : (x y : ℕ) (a b : Bool) → cond (ltb y x) true (cond (ltb x y) false a) ≡ false → cond (ltb x y) true (cond (ltb y x) false b) ≡ false → (x ≡ y) × (a ≡ false) × (b ≡ false)
+level x y a b h i = (grind (arith, nat_tests), grind (arith, nat_tests), grind (arith, nat_tests))
 
 -- of two lists of one length, neither above the other, each number is the same
 same_rank : (xs ys : List ℕ) → length xs ≡ length ys → is_above xs ys ≡ false → is_above ys xs ≡ false → xs ≡ ys
@@ -55,10 +50,9 @@ same_rank [] [] l h i = refl
 same_rank [] (y ∷ ys) l h i = absurd (omega arith)
 same_rank (x ∷ xs) [] l h i = absurd (omega arith)
 same_rank (x ∷ xs) (y ∷ ys) l h i =
-    let e : x ≡ y = level x y (is_above xs ys) (is_above ys xs) h i in
-    let a = level-first x y (is_above xs ys) (is_above ys xs) h i in
-    let b = level-second x y (is_above xs ys) (is_above ys xs) h i in
-    let f : xs ≡ ys = same_rank xs ys (omega arith) a b in
+    let first = level x y (is_above xs ys) (is_above ys xs) h i in
+    let e = first.0 in
+    let f = same_rank xs ys (omega arith) first.1 first.2 in
     cc
 
 same_score : (w : WinParts) (s t : Score) → s ≡ told w s.base s.han s.fu s.yaku → t ≡ told w t.base t.han t.fu t.yaku → rank s ≡ rank t → s ≡ t

@@ -1,5 +1,6 @@
 -- What the type of a win record says of its parts.
 use Rattle.std.proofs.Common.{◌≡◌, ℕ, ◌+◌, ◌*◌, ◌<◌, ◌≤◌, Bool, true, false, not, ◌||◌, Option, None, List, ◌∷◌, length, drop, refl, ltb, arith, get_or, ◌∙◌, ap, sym, eqb, cond}
+use Rattle.std.proofs.lemmas.Bool.{ltb-false, false_from_ne_true, true≢false}
 use Rattle.std.proofs.lemmas.Bool.Decides.{nat_tests}
 use Rattle.std.proofs.lemmas.List.Folds.{list_any_at}
 use Rattle.std.proofs.lemmas.List.FromFn.{get_or-range_with_len, length-range_with_len}
@@ -40,10 +41,6 @@ thirteen held melds b c h = grind (arith, nat_tests)
 pub four_melds : (win : WinParts) → IsWin win → length win.melds ≤ 4
 four_melds win h = thirteen (sum win.concealed) (length win.melds) (ltb 5 (sum win.dora)) (ltb 5 (sum win.ura)) (is_clear win h).size
 
-four : (b : Bool) (n : ℕ) → b ≡ ltb 4 n → (b ≡ true → true ≡ false) → n ≤ 4
-four true n e f = absurd (let c = f refl in cc)
-four false n e f = grind (arith, nat_tests)
-
 -- a test that no kind passes fails at each
 fails_at : (test : ℕ → Bool) (kind : ℕ) → list_any test (range_with_len 0 34) ≡ false → kind < 34 → test kind ≡ true → true ≡ false
 fails_at test kind none lt passed =
@@ -53,8 +50,7 @@ fails_at test kind none lt passed =
 -- no kind has more than four copies
 pub four_copies : (win : WinParts) (kind : ℕ) → IsWin win → kind < 34 → copies_in win kind ≤ 4
 four_copies win kind h lt =
-    four (ltb 4 (copies_in win kind)) (copies_in win kind) refl
-    (fails_at (λ k. ltb 4 (copies_in win k)) kind (is_clear win h).copies lt)
+    ltb-false 4 (copies_in win kind) (false_from_ne_true (ltb 4 (copies_in win kind)) (λ more. true≢false (fails_at (λ k. ltb 4 (copies_in win k)) kind (is_clear win h).copies lt more)))
 
 self_counts : (concealed melds kind dora ura : ℕ) → concealed + melds + cond (eqb kind kind) 1 0 + dora + ura ≤ 4 → concealed < 4
 self_counts concealed melds kind dora ura h = grind (arith, nat_tests)

@@ -1,20 +1,15 @@
-use Rattle.std.proofs.Common.{List, sym, subst, ◌∙◌}
+use Rattle.std.proofs.Common.{sym, subst, ◌∙◌}
 use Rattle.riichi_tiles.specs.Tiles.{IsCounts}
-use Rattle.riichi_split.specs.declared.reading.Reading.{Reading}
-use Rattle.riichi_score.proofs.Greatest.{AreReadingsOf, AreReadingsOf-from, so_far-more, next_has_four_sets, best-end, best_of-IsBest}
-use Rattle.riichi_score.proofs.Uniqueness.{same_best}
-use Rattle.riichi_score.proofs.Wins.{four_melds}
+use Rattle.riichi_score.proofs.Greatest.{AreReadingsOf-from, so_far-more, next_has_four_sets, best-end}
 use Rattle.riichi_score.specs.Best as spec
 use Rattle.riichi_score.specs.Worths.{answer_of, score_if}
-use Rattle.riichi_score.specs.declared.answer.WinAnswer.{WinAnswer}
 use Rattle.riichi_score.proofs.answer.best.Goals as goal
 
 pub worth_of-requires-clause-sets : goal.worth_of-requires-clause-sets
 worth_of-requires-clause-sets c =
     let w = c.args.win.now in
     let l = c.loop-reading in
-    let readings = AreReadingsOf-from w c.hand_of-hand.result c.melds.result c.winning.result c.new-reading-items.result c.hand_of-hand.ensures.value c.melds.ensures c.winning.ensures c.new-reading-items.ensures in
-    let all = subst (λ (x : List Reading). AreReadingsOf w x) (sym c.into_iter-reading-iterator.ensures.into_iter_gives) readings in
+    let all = AreReadingsOf-from w c.hand_of-hand.result c.melds.result c.winning.result c.new-reading-items.result c.into_iter-reading-iterator.result c.hand_of-hand.ensures.value c.melds.ensures c.winning.ensures c.into_iter-reading-iterator.ensures.into_iter_gives c.new-reading-items.ensures in
     next_has_four_sets w c.into_iter-reading-iterator.result l.yielded l.reading-iterator c.next.new.self c.in-Some.reading (answer_of l.best w) all l.invariant.0 c.in-Some.ensures.steps
 
 pub loop-reading-preserved : goal.loop-reading-preserved
@@ -28,9 +23,6 @@ pub returns : goal.returns
 returns c =
     let w = c.args.win.now in
     let l = c.loop-reading in
-    let readings = AreReadingsOf-from w c.hand_of-hand.result c.melds.result c.winning.result c.new-reading-items.result c.hand_of-hand.ensures.value c.melds.ensures c.winning.ensures c.new-reading-items.ensures in
-    let all = subst (λ (x : List Reading). AreReadingsOf w x) (sym c.into_iter-reading-iterator.ensures.into_iter_gives) readings in
-    let greatest = best-end w c.into_iter-reading-iterator.result l.yielded l.reading-iterator (answer_of l.best w) all l.invariant.0 c.in-None.ensures.steps.0 in
-    let counts = subst IsCounts c.hand_of-hand.ensures.value c.hand_of-hand.ensures.counts in
-    let best = same_best w (answer_of l.best w) (spec.best_of w) greatest (best_of-IsBest w counts (four_melds w c.hand_of-hand.ensures.win)) in
-    record { value = c.answer.ensures ∙ best; greatest = subst (λ (x : WinAnswer). spec.IsBest w x) (sym c.answer.ensures) greatest }
+    let all = AreReadingsOf-from w c.hand_of-hand.result c.melds.result c.winning.result c.new-reading-items.result c.into_iter-reading-iterator.result c.hand_of-hand.ensures.value c.melds.ensures c.winning.ensures c.into_iter-reading-iterator.ensures.into_iter_gives c.new-reading-items.ensures in
+    let best = best-end w c.into_iter-reading-iterator.result l.yielded l.reading-iterator (answer_of l.best w) (subst IsCounts c.hand_of-hand.ensures.value c.hand_of-hand.ensures.counts) c.hand_of-hand.ensures.win all l.invariant.0 c.in-None.ensures.steps.0 in
+    record { value = c.answer.ensures ∙ best.0; greatest = subst (spec.IsBest w) (sym c.answer.ensures) best.1 }
