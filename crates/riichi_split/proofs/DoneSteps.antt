@@ -1,22 +1,15 @@
 -- One step along the blocks that the winning tile completes.
 use Rattle.std.proofs.Common.{◌≡◌, ℕ, zero, suc, ◌+◌, ◌≤◌, Bool, true, false, cond, ◌&&◌, ◌||◌, not, Option, Some, None, is_some, MatchOption, List, [], ◌∷◌, ◌++◌, length, drop, refl, sym, ap, ◌∙◌, arith, ltb, add-one}
 use Rattle.std.specs.List.{slice_get}
+use Rattle.std.proofs.Math.Bool.{or-false, or_assoc}
 use Rattle.riichi_tiles.specs.declared.block.Block.{Block}
 use Rattle.riichi_tiles.specs.declared.block.Block.TheVariants.{Pair}
 use Rattle.riichi_tiles.specs.Blocks.{copies}
 use Rattle.riichi_split.specs.Dones.{same_block, is_among, dones, done_first, done_unless_again}
 
-or-false : (b : Bool) → (b || false) ≡ b
-or-false true = refl
-or-false false = refl
-
-or-assoc : (a b c : Bool) → (a || (b || c)) ≡ ((a || b) || c)
-or-assoc true b c = refl
-or-assoc false b c = refl
-
 is_among-push : (b y : Block) (xs : List Block) → is_among b (xs ++ y ∷ []) ≡ (is_among b xs || same_block b y)
 is_among-push b y [] = or-false (same_block b y)
-is_among-push b y (x ∷ xs) = ap (λ t. same_block b x || t) (is_among-push b y xs) ∙ or-assoc (same_block b x) (is_among b xs) (same_block b y)
+is_among-push b y (x ∷ xs) = ap (λ t. same_block b x || t) (is_among-push b y xs) ∙ sym (or_assoc (same_block b x) (is_among b xs) (same_block b y))
 
 done_first-suc : (w pair place : ℕ) (sets : List Block) (b : Block) → slice_get sets place ≡ Some b → done_first w (drop place (sets ++ Pair pair ∷ [])) ≡ done_unless_again (is_among b (drop (suc place) sets) || same_block b (Pair pair)) b w
 done_first-suc w pair place [] b e = absurd (cc)

@@ -1,22 +1,18 @@
 -- The blocks that the winning tile completes, each once.
 use Rattle.std.proofs.Common.{◌≡◌, ℕ, ◌<◌, Bool, true, false, cond, ◌&&◌, ◌||◌, not, ◌⊎◌, inl, inr, List, [], ◌∷◌, refl, sym, ap, ◌∙◌, subst, arith, ltb}
+use Rattle.std.proofs.lemmas.Bool.{or_cases, or_right}
 use Rattle.std.proofs.lemmas.Bool.Decides.{nat_tests}
 use Rattle.riichi_tiles.specs.declared.block.Block.{Block}
 use Rattle.riichi_tiles.specs.declared.block.Block.TheVariants.{Run, Triplet, Pair}
 use Rattle.riichi_tiles.specs.Blocks.{copies}
 use Rattle.riichi_split.specs.Dones.{same_block, is_among, dones}
-use Rattle.riichi_split.proofs.Lists.{or-cases, or-right, IsIn, Differ}
+use Rattle.riichi_split.proofs.Lists.{IsIn, Differ}
 
 pub same-block : (a b : Block) → same_block a b ≡ true → a ≡ b
 same-block (Run a) (Run b) e = ap Run (grind (arith, nat_tests))
-same-block (Run a) (Triplet b) e = absurd (cc)
-same-block (Run a) (Pair b) e = absurd (cc)
-same-block (Triplet a) (Run b) e = absurd (cc)
 same-block (Triplet a) (Triplet b) e = ap Triplet (grind (arith, nat_tests))
-same-block (Triplet a) (Pair b) e = absurd (cc)
-same-block (Pair a) (Run b) e = absurd (cc)
-same-block (Pair a) (Triplet b) e = absurd (cc)
 same-block (Pair a) (Pair b) e = ap Pair (grind (arith, nat_tests))
+same-block a b e = absurd (cc)
 
 pub same_block-self : (a : Block) → same_block a a ≡ true
 same_block-self (Run a) = grind (arith, nat_tests)
@@ -25,12 +21,12 @@ same_block-self (Pair a) = grind (arith, nat_tests)
 
 in-is_among : (b : Block) (xs : List Block) → is_among b xs ≡ true → IsIn b xs
 in-is_among b [] e = absurd (cc)
-in-is_among b (x ∷ xs) e = elim (or-cases (same_block b x) (is_among b xs) e) [ inl s ↦ inl (sym (same-block b x s)) | inr r ↦ inr (in-is_among b xs r) ]
+in-is_among b (x ∷ xs) e = elim (or_cases (same_block b x) (is_among b xs) e) [ inl s ↦ inl (sym (same-block b x s)) | inr r ↦ inr (in-is_among b xs r) ]
 
 is_among-in : (b : Block) (xs : List Block) → IsIn b xs → is_among b xs ≡ true
 is_among-in b [] h = absurd h
 is_among-in b (x ∷ xs) (inl e) = let s = same_block-self b in let f : same_block b x ≡ true = ap (same_block b) e ∙ s in ap (λ t. t || is_among b xs) f
-is_among-in b (x ∷ xs) (inr h) = or-right (same_block b x) (is_among b xs) (is_among-in b xs h)
+is_among-in b (x ∷ xs) (inr h) = or_right (same_block b x) (is_among b xs) (is_among-in b xs h)
 
 -- one step of `dones`, by its test
 keep-cases : (w : ℕ) (b d : Block) (bs : List Block) (s t : Bool) → s ≡ ltb 0 (copies b w) → t ≡ is_among b bs → IsIn d (cond (s && not t) (b ∷ dones w bs) (dones w bs)) → ((b ≡ d) × (0 < copies b w)) ⊎ IsIn d (dones w bs)

@@ -1,7 +1,7 @@
 -- `readings_of` has each reading of the definition once, and nothing else.
 use Rattle.std.proofs.Common.{◌≡◌, ℕ, zero, suc, ◌-◌, ◌<◌, ◌≤◌, ◌↔◌, true, List, [], ◌∷◌, ◌++◌, length, get_or, flat_map, map, inl, inr, ◌⊎◌, refl, sym, ◌∙◌, subst, arith, eqb, IsTrue, ◌&&◌, ◌||◌}
 use Rattle.std.specs.List.{AllByRecursion, list_all, list_any, count_by}
-use Rattle.std.proofs.lemmas.Bool.{and_from, cases_lt}
+use Rattle.std.proofs.lemmas.Bool.{and_from, and_parts, cases_lt, eqb-true, eq-eqb}
 use Rattle.std.proofs.lemmas.Bool.Decides.{nat_tests}
 use Rattle.std.proofs.lemmas.List.{get_or_past}
 use Rattle.riichi_tiles.specs.Melds.{every_kind}
@@ -14,7 +14,7 @@ use Rattle.riichi_tiles.specs.Kinds.{is_orphan}
 use Rattle.riichi_split.specs.Readings.{IsSplit, IsDone, IsReading, AreTheReadings, IsSevenPairs, IsOrphans, orphan_copies}
 use Rattle.riichi_split.specs.Dones.{dones}
 use Rattle.riichi_split.specs.ReadingsOf.{adds_up, standard_with, standard_of, are_seven_pairs, are_orphans_with, are_orphans, collections, readings_of}
-use Rattle.riichi_split.proofs.Lists.{IsIn, Differ, and-left, and-right, all-in, all-from, any-in, any-from, in-map, in-map-inv, Differ-map, in-flat_map, in-flat_map-inv, Differ-flat_map, in-range, in-range-inv, Differ-range, Contains-in, in-Contains}
+use Rattle.riichi_split.proofs.Lists.{IsIn, Differ, all-in, all-from, any-in, any-from, in-map, in-map-inv, Differ-map, in-flat_map, in-flat_map-inv, Differ-flat_map, in-range, in-range-inv, Differ-range, Contains-in, in-Contains}
 use Rattle.riichi_split.proofs.Collections.{in-when, in-when-inv, Differ-when, in-collections, collections-inv, Differ-collections}
 use Rattle.riichi_split.proofs.Dones.{dones-inv, in-dones, Differ-dones}
 use Rattle.riichi_split.proofs.AllReadings.{AreStandard, the_readings}
@@ -30,21 +30,22 @@ total-past (Pair a ∷ sets) k s l = absurd s.0
 pub pair-past : (p k : ℕ) → p < 34 → 34 ≤ k → copies (Pair p) k ≡ 0
 pair-past p k l h = grind (arith, nat_tests)
 
-same-number : (a b : ℕ) → eqb a b ≡ true → a ≡ b
-same-number a b e = grind (arith, nat_tests)
+-- two functions are the same at each kind just where the test says so
+same-kinds : (f g : ℕ → ℕ) → list_all (λ k. eqb (f k) (g k)) every_kind ≡ true → (k : ℕ) → k < 34 → f k ≡ g k
+same-kinds f g t k l = eqb-true (f k) (g k) (all-in (λ n. eqb (f n) (g n)) every_kind t k (in-range 34 0 k (omega arith) (omega arith)))
 
-number-same : (a b : ℕ) → a ≡ b → eqb a b ≡ true
-number-same a b e = grind (arith, nat_tests)
+kinds-same : (f g : ℕ → ℕ) → ((k : ℕ) → k < 34 → f k ≡ g k) → list_all (λ k. eqb (f k) (g k)) every_kind ≡ true
+kinds-same f g h = all-from (λ n. eqb (f n) (g n)) every_kind (λ k i. eq-eqb (f k) (g k) (h k (omega (arith, (in-range-inv 34 0 k i).1))))
 
 add_up-from : (c : List ℕ) (sets : List Block) (p : ℕ) → length c ≡ 34 → AllByRecursion IsSet sets → p < 34 → adds_up c sets p ≡ true → (k : ℕ) → total (Pair p ∷ sets) k ≡ get_or c k 0
 add_up-from c sets p l s h t k =
     elim (cases_lt k 34) [
-      | inl i ↦ same-number (total (Pair p ∷ sets) k) (get_or c k 0) (all-in (λ n. eqb (total (Pair p ∷ sets) n) (get_or c n 0)) every_kind t k (in-range 34 0 k (omega arith) (omega arith)))
+      | inl i ↦ same-kinds (total (Pair p ∷ sets)) (λ n. get_or c n 0) t k i
       | inr g ↦ let a = total-past sets k s g in let b = pair-past p k h g in let d = get_or_past c k 0 (omega arith) in omega (arith, a, b, d)
     ]
 
 adds_up-from : (c : List ℕ) (sets : List Block) (p : ℕ) → ((k : ℕ) → total (Pair p ∷ sets) k ≡ get_or c k 0) → adds_up c sets p ≡ true
-adds_up-from c sets p h = all-from (λ n. eqb (total (Pair p ∷ sets) n) (get_or c n 0)) every_kind (λ k i. number-same (total (Pair p ∷ sets) k) (get_or c k 0) (h k))
+adds_up-from c sets p h = kinds-same (total (Pair p ∷ sets)) (λ n. get_or c n 0) (λ k l. h k)
 
 -- ---- sets and a pair
 
@@ -120,8 +121,8 @@ are-standard c melds w l m = record {
 
 twos-from : (c : List ℕ) → list_all (λ n. eqb n 0 || eqb n 2) c ≡ true → (k : ℕ) → (get_or c k 0 ≡ 0) ⊎ (get_or c k 0 ≡ 2)
 twos-from [] t k = inl refl
-twos-from (n ∷ ns) t zero = grind (arith, nat_tests, and-left (eqb n 0 || eqb n 2) (list_all (λ m. eqb m 0 || eqb m 2) ns) t)
-twos-from (n ∷ ns) t (suc k) = twos-from ns (and-right (eqb n 0 || eqb n 2) (list_all (λ m. eqb m 0 || eqb m 2) ns) t) k
+twos-from (n ∷ ns) t zero = grind (arith, nat_tests, (and_parts (eqb n 0 || eqb n 2) (list_all (λ m. eqb m 0 || eqb m 2) ns) t).0)
+twos-from (n ∷ ns) t (suc k) = twos-from ns (and_parts (eqb n 0 || eqb n 2) (list_all (λ m. eqb m 0 || eqb m 2) ns) t).1 k
 
 two-or-none : (n : ℕ) → (n ≡ 0) ⊎ (n ≡ 2) → (eqb n 0 || eqb n 2) ≡ true
 two-or-none n (inl e) = grind (arith, nat_tests)
@@ -135,34 +136,19 @@ seven-iff : (c : List ℕ) (melds : ℕ) → IsTrue (are_seven_pairs c melds) �
 seven-iff c melds =
     let twos = list_all (λ n. eqb n 0 || eqb n 2) c in
     let seven = eqb (count_by (λ n. eqb n 2) c) 7 in (
-      λ t. record {
-        no_meld = same-number melds 0 (and-left (eqb melds 0) (twos && seven) t);
-        twos = twos-from c (and-left twos seven (and-right (eqb melds 0) (twos && seven) t));
-        seven = same-number (count_by (λ n. eqb n 2) c) 7 (and-right twos seven (and-right (eqb melds 0) (twos && seven) t));
-      },
-      λ h. and_from (eqb melds 0) (twos && seven) (number-same melds 0 h.no_meld) (and_from twos seven (from-twos c h.twos) (number-same (count_by (λ n. eqb n 2) c) 7 h.seven)),
+      λ t. let p = and_parts (eqb melds 0) (twos && seven) t in let q = and_parts twos seven p.1 in
+          record { no_meld = eqb-true melds 0 p.0; twos = twos-from c q.0; seven = eqb-true (count_by (λ n. eqb n 2) c) 7 q.1 },
+      λ h. and_from (eqb melds 0) (twos && seven) (eq-eqb melds 0 h.no_meld) (and_from twos seven (from-twos c h.twos) (eq-eqb (count_by (λ n. eqb n 2) c) 7 h.seven)),
     )
-
-orphans-with : (c : List ℕ) (d : ℕ) → are_orphans_with c d ≡ true → IsTrue (is_orphan d) × ((k : ℕ) → k < 34 → get_or c k 0 ≡ orphan_copies d k)
-orphans-with c d t =
-    let all = list_all (λ k. eqb (get_or c k 0) (orphan_copies d k)) every_kind in
-    (and-left (is_orphan d) all t, λ k l. same-number (get_or c k 0) (orphan_copies d k) (all-in (λ n. eqb (get_or c n 0) (orphan_copies d n)) every_kind (and-right (is_orphan d) all t) k (in-range 34 0 k (omega arith) (omega arith))))
-
-with-orphans : (c : List ℕ) (d : ℕ) → IsTrue (is_orphan d) → ((k : ℕ) → k < 34 → get_or c k 0 ≡ orphan_copies d k) → are_orphans_with c d ≡ true
-with-orphans c d o h =
-    and_from (is_orphan d) (list_all (λ k. eqb (get_or c k 0) (orphan_copies d k)) every_kind) o
-    (all-from (λ n. eqb (get_or c n 0) (orphan_copies d n)) every_kind (λ k i. number-same (get_or c k 0) (orphan_copies d k) (h k (omega (arith, (in-range-inv 34 0 k i).1)))))
 
 orphans-iff : (c : List ℕ) (melds : ℕ) → IsTrue (are_orphans c melds) ↔ IsOrphans c melds
 orphans-iff c melds =
+    let all = λ (d : ℕ). list_all (λ k. eqb (get_or c k 0) (orphan_copies d k)) every_kind in
     let some = list_any (are_orphans_with c) every_kind in (
-      λ t. let i = any-in (are_orphans_with c) every_kind (and-right (eqb melds 0) some t) in
-          let o = orphans-with c i.0 i.2 in
-          record {
-            no_meld = same-number melds 0 (and-left (eqb melds 0) some t);
-            twice = (i.0, o.0, omega (arith, (in-range-inv 34 0 i.0 i.1).1), o.1);
-          },
-      λ h. and_from (eqb melds 0) some (number-same melds 0 h.no_meld) (any-from (are_orphans_with c) every_kind h.twice.0 (in-range 34 0 h.twice.0 (omega arith) (omega (arith, h.twice.2))) (with-orphans c h.twice.0 h.twice.1 h.twice.3)),
+      λ t. let p = and_parts (eqb melds 0) some t in let i = any-in (are_orphans_with c) every_kind p.1 in let o = and_parts (is_orphan i.0) (all i.0) i.2 in
+          record { no_meld = eqb-true melds 0 p.0; twice = (i.0, o.0, omega (arith, (in-range-inv 34 0 i.0 i.1).1), same-kinds (λ k. get_or c k 0) (orphan_copies i.0) o.1) },
+      λ h. let d = h.twice.0 in and_from (eqb melds 0) some (eq-eqb melds 0 h.no_meld)
+          (any-from (are_orphans_with c) every_kind d (in-range 34 0 d (omega arith) (omega (arith, h.twice.2))) (and_from (is_orphan d) (all d) h.twice.1 (kinds-same (λ k. get_or c k 0) (orphan_copies d) h.twice.3))),
     )
 
 pub every_reading : (c : List ℕ) (melds w : ℕ) → length c ≡ 34 → melds ≤ 4 → AreTheReadings c melds w (readings_of c melds w)

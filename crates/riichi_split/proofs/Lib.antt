@@ -1,5 +1,6 @@
 pub mod Placed
-pub mod Suits
+pub mod KindSums
+pub mod Rests
 pub mod SuitCuts
 pub mod Thirds
 pub mod Lists

@@ -1,27 +1,7 @@
 -- Membership and difference by recursion on a list, and what std's words say of them.
-use Rattle.std.proofs.Common.{◌∙◌, ◌≤◌, ◌+◌, Bool, true, false, ◌&&◌, ◌||◌, flat_map, ◌≡◌, ◌≢◌, ℕ, zero, suc, ◌<◌, ◌⊎◌, inl, inr, List, [], ◌∷◌, ◌++◌, length, get_or, map, refl, sym, ap, subst, arith, All, Contains}
+use Rattle.std.proofs.Common.{◌∙◌, ◌≤◌, ◌+◌, Bool, true, flat_map, ◌≡◌, ◌≢◌, ℕ, zero, suc, ◌<◌, ◌⊎◌, inl, inr, List, [], ◌∷◌, ◌++◌, length, get_or, map, refl, sym, ap, subst, arith, All, Contains}
 use Rattle.std.specs.List.{AllPairs, list_all, list_any, range_with_len}
-use Rattle.std.proofs.lemmas.Bool.{and_from, cases_eq}
-
-pub and-left : (a b : Bool) → (a && b) ≡ true → a ≡ true
-and-left true b h = refl
-and-left false b h = absurd (cc)
-
-pub and-right : (a b : Bool) → (a && b) ≡ true → b ≡ true
-and-right true b h = h
-and-right false b h = absurd (cc)
-
-pub or-cases : (a b : Bool) → (a || b) ≡ true → (a ≡ true) ⊎ (b ≡ true)
-or-cases true b e = inl refl
-or-cases false b e = inr e
-
-pub or-left : (a b : Bool) → a ≡ true → (a || b) ≡ true
-or-left true b e = refl
-or-left false b e = absurd (cc)
-
-pub or-right : (a b : Bool) → b ≡ true → (a || b) ≡ true
-or-right true b e = refl
-or-right false b e = e
+use Rattle.std.proofs.lemmas.Bool.{and_from, and_parts, or_cases, or_left, or_right, cases_eq}
 
 module _ {X : Type 0} where
   -- x is an element
@@ -132,8 +112,8 @@ module _ {X Y : Type 0} (f : X → Y) where
 module _ {X : Type 0} (p : X → Bool) where
   pub all-in : (xs : List X) → list_all p xs ≡ true → (x : X) → IsIn x xs → p x ≡ true
   all-in [] h x i = absurd i
-  all-in (y ∷ ys) h x (inl e) = ap p (sym e) ∙ and-left (p y) (list_all p ys) h
-  all-in (y ∷ ys) h x (inr i) = all-in ys (and-right (p y) (list_all p ys) h) x i
+  all-in (y ∷ ys) h x (inl e) = ap p (sym e) ∙ (and_parts (p y) (list_all p ys) h).0
+  all-in (y ∷ ys) h x (inr i) = all-in ys (and_parts (p y) (list_all p ys) h).1 x i
 
   pub all-from : (xs : List X) → ((x : X) → IsIn x xs → p x ≡ true) → list_all p xs ≡ true
   all-from [] h = refl
@@ -141,12 +121,12 @@ module _ {X : Type 0} (p : X → Bool) where
 
   pub any-in : (xs : List X) → list_any p xs ≡ true → (x : X) × IsIn x xs × (p x ≡ true)
   any-in [] h = absurd (cc)
-  any-in (y ∷ ys) h = elim (or-cases (p y) (list_any p ys) h) [ inl e ↦ (y, inl refl, e) | inr r ↦ let i = any-in ys r in (i.0, inr i.1, i.2) ]
+  any-in (y ∷ ys) h = elim (or_cases (p y) (list_any p ys) h) [ inl e ↦ (y, inl refl, e) | inr r ↦ let i = any-in ys r in (i.0, inr i.1, i.2) ]
 
   pub any-from : (xs : List X) (x : X) → IsIn x xs → p x ≡ true → list_any p xs ≡ true
   any-from [] x i e = absurd i
-  any-from (y ∷ ys) x (inl i) e = or-left (p y) (list_any p ys) (ap p i ∙ e)
-  any-from (y ∷ ys) x (inr i) e = or-right (p y) (list_any p ys) (any-from ys x i e)
+  any-from (y ∷ ys) x (inl i) e = or_left (p y) (list_any p ys) (ap p i ∙ e)
+  any-from (y ∷ ys) x (inr i) e = or_right (p y) (list_any p ys) (any-from ys x i e)
 
 -- ---- the numbers of a range
 

@@ -1,9 +1,8 @@
 -- The marks of the kinds that a hand waits for.
 use Rattle.std.proofs.Common.{not, None, Ok, ap, ◌≡◌, ℕ, zero, suc, ◌+◌, ◌*◌, ◌<◌, ◌≤◌, ◌↔◌, ◌⊎◌, subst, Bool, true, false, List, [], ◌∷◌, length, get_or, refl, sym, ◌∙◌, arith, ltb, IsTrue, inl, inr}
 use Rattle.std.specs.List.{list_any}
-use Rattle.std.specs.Prelude.{◌&&◌}
-use Rattle.std.proofs.lemmas.Bool.{cases_lt}
-use Rattle.std.proofs.lemmas.Bool.Decides.{nat_tests}
+use Rattle.std.proofs.lemmas.Bool.{cases_lt, and_parts, and_from, ltb-true, lt-ltb, true_from_ne_false}
+use Rattle.std.proofs.lemmas.Bool.Decides.{nat_tests, same_from_decides}
 use Rattle.std.proofs.lemmas.List.{length-set, get_or_past, ext_get_or}
 use Rattle.std.proofs.lemmas.Grind.{get_or-set_at}
 use Rattle.std.proofs.lemmas.List.FromFn.{length-map-range_with_len, get_or-map-range_with_len}
@@ -23,17 +22,10 @@ use Rattle.riichi_split.specs.Winning.{HasReading, HasShape, HasSplit}
 use Rattle.riichi_split.proofs.SpecialKinds.{fifth-completes-none}
 use Rattle.riichi_split.specs.Waits.{with_one, IsWait, is_wait, waits_of}
 use Rattle.riichi_split.specs.ReadingsOf.{readings_of}
-use Rattle.riichi_split.proofs.Lists.{and-left, and-right}
 use Rattle.riichi_split.proofs.AnyTile.{some-reading, reading-iff}
 use Rattle.riichi_split.proofs.EveryReading.{every_reading}
 
 -- ---- one kind
-
-same-test : (a b : Bool) (P : Type 0) → (IsTrue a ↔ P) → (IsTrue b ↔ P) → a ≡ b
-same-test true true P f g = refl
-same-test false false P f g = refl
-same-test true false P f g = absurd (let h : false ≡ true = g.1 (f.0 refl) in cc)
-same-test false true P f g = absurd (let h : false ≡ true = f.1 (g.0 refl) in cc)
 
 length-with_one : (counts : List ℕ) (kind : ℕ) → length (with_one counts kind) ≡ length counts
 length-with_one counts kind = simp length-set
@@ -46,17 +38,13 @@ reading-test hand kind counts few =
     some-reading (with_one hand.concealed kind) (length hand.melds) kind (readings_of (with_one hand.concealed kind) (length hand.melds) kind)
     (every_reading (with_one hand.concealed kind) (length hand.melds) kind (length-with_one hand.concealed kind ∙ counts.each_kind) few)
 
-first-true : (a b : Bool) → a ≡ true → b ≡ (a && b)
-first-true true b e = refl
-first-true false b e = absurd (cc)
-
 is_wait-iff : (hand : HandParts) (kind : ℕ) → kind < 34 → IsCounts hand.concealed → length hand.melds ≤ 4 → (is_wait hand kind ≡ true) ↔ IsWait hand kind
 is_wait-iff hand kind l counts few =
     let some = ltb 0 (length (readings_of (with_one hand.concealed kind) (length hand.melds) kind)) in
     let held = ltb (copies_held hand.concealed hand.melds kind) 4 in
     let test = reading-test hand kind counts few in (
-      λ t. record { of_a_kind = l; some_left = let h : held ≡ true = and-left held some t in grind (arith, nat_tests); completes = test.0 (and-right held some t) },
-      λ w. let h : held ≡ true = let s = w.some_left in grind (arith, nat_tests) in sym (first-true held some h) ∙ test.1 w.completes,
+      λ t. let p = and_parts held some t in record { of_a_kind = l; some_left = ltb-true (copies_held hand.concealed hand.melds kind) 4 p.0; completes = test.0 p.1 },
+      λ w. and_from held some (lt-ltb (copies_held hand.concealed hand.melds kind) 4 w.some_left) (test.1 w.completes),
     )
 
 -- ---- all kinds
@@ -80,7 +68,7 @@ marked-iff hand kind counts few =
 
 -- marks of just the waits
 pub all_marked : (hand : HandParts) (marks : List Bool) → IsCounts hand.concealed → length hand.melds ≤ 4 → length marks ≡ 34 → ((kind : ℕ) → IsMarked marks kind ↔ IsWait hand kind) → marks ≡ waits_of hand
-all_marked hand marks counts few long each = ext_get_or false marks (waits_of hand) (long ∙ sym (length-waits_of hand)) (λ kind l. same-test (get_or marks kind false) (get_or (waits_of hand) kind false) (IsWait hand kind) (each kind) (marked-iff hand kind counts few))
+all_marked hand marks counts few long each = ext_get_or false marks (waits_of hand) (long ∙ sym (length-waits_of hand)) (λ kind l. same_from_decides (get_or marks kind false) (get_or (waits_of hand) kind false) (each kind) (marked-iff hand kind counts few))
 
 -- ---- the three shapes
 
@@ -151,21 +139,13 @@ none-any [] h = refl
 none-any (true ∷ marks) h = absurd (h 0 refl)
 none-any (false ∷ marks) h = none-any marks (λ kind e. h (suc kind) e)
 
-any-none : (marks : List Bool) → list_any (λ mark. mark) marks ≡ false → (kind : ℕ) → get_or marks kind false ≡ true → ⊥
-any-none [] e kind t = absurd (cc)
-any-none (true ∷ marks) e kind t = absurd (cc)
-any-none (false ∷ marks) e zero t = absurd (cc)
-any-none (false ∷ marks) e (suc kind) t = any-none marks e kind t
-
-not-false : (b : Bool) → (b ≡ false → ⊥) → b ≡ true
-not-false true h = refl
-not-false false h = absurd (h refl)
+none-at : (marks : List Bool) → list_any (λ mark. mark) marks ≡ false → (kind : ℕ) → get_or marks kind false ≡ false
+none-at [] e kind = refl
+none-at (true ∷ marks) e kind = absurd (cc)
+none-at (false ∷ marks) e zero = refl
+none-at (false ∷ marks) e (suc kind) = none-at marks e kind
 
 -- ---- the text of no kinds is empty, and no other
-
-not-true : (b : Bool) → (b ≡ true → ⊥) → b ≡ false
-not-true true h = absurd (h refl)
-not-true false h = refl
 
 no-digits : (copies : ℕ → ℕ) (first n : ℕ) → ((kind : ℕ) → copies kind ≡ 0) → digits copies first n ≡ []
 unfolding digits
@@ -175,7 +155,7 @@ no-digits copies first (suc n) none = rw (no-digits copies first n none, none (f
 no-text : (marks : List Bool) → list_any (λ mark. mark) marks ≡ false → tiles_text (once marks) ≡ []
 unfolding tiles_text
 no-text marks none =
-    let zeros : (kind : ℕ) → once marks kind ≡ 0 = λ kind. rw (not-true (get_or marks kind false) (any-none marks none kind)) refl in
+    let zeros : (kind : ℕ) → once marks kind ≡ 0 = λ kind. rw (none-at marks none kind) refl in
     rw (no-digits (once marks) 0 9 zeros, no-digits (once marks) 9 9 zeros, no-digits (once marks) 18 9 zeros, no-digits (once marks) 27 7 zeros) refl
 
 no-bytes : (text : List ℕ) → length text ≡ 0 → text ≡ []
@@ -188,7 +168,7 @@ empty-none marks text empty reads =
     none-any marks (λ kind m. let read : reading_of [] ≡ Ok (ones marks) = subst (λ (t : List ℕ). reading_of t ≡ Ok (ones marks)) (no-bytes text empty) (reads kind m) in cc)
 
 pub some-any : (marks : List Bool) → (length (tiles_text (once marks)) ≡ 0 → ⊥) → list_any (λ mark. mark) marks ≡ true
-some-any marks some = not-false (list_any (λ mark. mark) marks) (λ none. some (ap length (no-text marks none)))
+some-any marks some = true_from_ne_false (list_any (λ mark. mark) marks) (λ none. some (ap length (no-text marks none)))
 
 thirteen : (b d : Bool) → first_fault (coded H8 (not b) ∷ coded H9 d ∷ []) ≡ None → b ≡ true
 thirteen true d e = refl

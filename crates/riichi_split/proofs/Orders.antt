@@ -1,10 +1,10 @@
 -- Each collection of sets has one ordered list: sort it; two such lists are one.
 use Rattle.std.proofs.Common.{◌≡◌, ℕ, ◌+◌, ◌<◌, ◌≤◌, Bool, true, false, cond, List, [], ◌∷◌, refl, sym, ap, ◌∙◌, arith, leb}
 use Rattle.std.specs.List.{AllByRecursion}
-use Rattle.std.proofs.lemmas.Bool.Decides.{nat_tests}
+use Rattle.std.proofs.lemmas.Bool.{cond_both, leb-true, leb-false}
 use Rattle.riichi_tiles.specs.declared.block.Block.{Block}
 use Rattle.riichi_tiles.specs.declared.block.Block.TheVariants.{Run, Triplet, Pair}
-use Rattle.riichi_tiles.specs.Blocks.{IsSet, IsOrderedFrom, place_of, total}
+use Rattle.riichi_tiles.specs.Blocks.{IsSet, IsOrderedFrom, place_of, copies, total}
 use Rattle.riichi_split.specs.Dones.{same_block}
 use Rattle.riichi_split.specs.Laws.{times, AreOneCollection, EachCollectionHasOneOrder}
 use Rattle.riichi_split.proofs.Dones.{same-block, same_block-self}
@@ -19,62 +19,46 @@ pub sorted : List Block → List Block
 sorted [] = []
 sorted (b ∷ bs) = put b (sorted bs)
 
-times-swap : (t : Bool) (y b x : Block) (xs rest : List Block) → times y rest ≡ times y (b ∷ xs) → times y (cond t (b ∷ x ∷ xs) (x ∷ rest)) ≡ times y (b ∷ x ∷ xs)
-times-swap true y b x xs rest e = refl
-times-swap false y b x xs rest e = omega (arith, e)
+-- what adds up over the blocks stays the same
+module _ (sum : List Block → ℕ) (own : Block → ℕ) (adds : (b : Block) (bs : List Block) → sum (b ∷ bs) ≡ own b + sum bs) where
+  sum-put : (b : Block) (xs : List Block) → sum (put b xs) ≡ own b + sum xs
+  unfolding put
+  sum-put b [] = adds b []
+  sum-put b (x ∷ xs) = cond_both (leb (place_of b) (place_of x)) (b ∷ x ∷ xs) (x ∷ put b xs) (λ ys. sum ys ≡ own b + sum (x ∷ xs))
+      (λ t. adds b (x ∷ xs)) (λ t. omega (arith, adds x (put b xs), sum-put b xs, adds x xs))
 
-times-put : (y b : Block) (xs : List Block) → times y (put b xs) ≡ times y (b ∷ xs)
-unfolding put
-times-put y b [] = refl
-times-put y b (x ∷ xs) = times-swap (leb (place_of b) (place_of x)) y b x xs (put b xs) (times-put y b xs)
+  sum-sorted : (bs : List Block) → sum (sorted bs) ≡ sum bs
+  unfolding sorted
+  sum-sorted [] = refl
+  sum-sorted (b ∷ bs) = omega (arith, sum-put b (sorted bs), sum-sorted bs, adds b bs)
 
 times-sorted : (y : Block) (bs : List Block) → times y bs ≡ times y (sorted bs)
-unfolding sorted
-times-sorted y [] = refl
-times-sorted y (b ∷ bs) = let i = times-sorted y bs in let j = times-put y b (sorted bs) in omega (arith, i, j)
+times-sorted y bs = sym (sum-sorted (times y) (λ b. cond (same_block y b) 1 0) (λ b bs. refl) bs)
 
-sets-swap : (t : Bool) (b x : Block) (xs rest : List Block) → IsSet b → IsSet x → AllByRecursion IsSet xs → AllByRecursion IsSet rest → AllByRecursion IsSet (cond t (b ∷ x ∷ xs) (x ∷ rest))
-sets-swap true b x xs rest s r a z = (s, (r, a))
-sets-swap false b x xs rest s r a z = (r, z)
+-- sorted sets have the same tiles
+pub total-sorted : (k : ℕ) (bs : List Block) → total (sorted bs) k ≡ total bs k
+total-sorted k bs = sum-sorted (λ bs. total bs k) (λ b. copies b k) (λ b bs. refl) bs
 
 sets-put : (b : Block) (xs : List Block) → IsSet b → AllByRecursion IsSet xs → AllByRecursion IsSet (put b xs)
 unfolding put
 sets-put b [] s a = (s, tt)
-sets-put b (x ∷ xs) s a = sets-swap (leb (place_of b) (place_of x)) b x xs (put b xs) s a.0 a.1 (sets-put b xs s a.1)
+sets-put b (x ∷ xs) s a = cond_both (leb (place_of b) (place_of x)) (b ∷ x ∷ xs) (x ∷ put b xs) (AllByRecursion IsSet) (λ t. (s, a)) (λ t. (a.0, sets-put b xs s a.1))
 
 pub sets-sorted : (bs : List Block) → AllByRecursion IsSet bs → AllByRecursion IsSet (sorted bs)
 unfolding sorted
 sets-sorted [] a = tt
 sets-sorted (b ∷ bs) a = sets-put b (sorted bs) a.0 (sets-sorted bs a.1)
 
-order-swap : (t : Bool) (p : ℕ) (b x : Block) (xs rest : List Block) → t ≡ leb (place_of b) (place_of x) → p ≤ place_of b → p ≤ place_of x → IsOrderedFrom (place_of x) xs → (place_of x ≤ place_of b → IsOrderedFrom (place_of x) rest) → IsOrderedFrom p (cond t (b ∷ x ∷ xs) (x ∷ rest))
-order-swap true p b x xs rest e l m o r = (l, (grind (arith, nat_tests), o))
-order-swap false p b x xs rest e l m o r = (m, r (grind (arith, nat_tests)))
-
 order-put : (p : ℕ) (b : Block) (xs : List Block) → p ≤ place_of b → IsOrderedFrom p xs → IsOrderedFrom p (put b xs)
 unfolding put
 order-put p b [] l o = (l, tt)
-order-put p b (x ∷ xs) l o = order-swap (leb (place_of b) (place_of x)) p b x xs (put b xs) refl l o.0 o.1 (λ m. order-put (place_of x) b xs m o.1)
+order-put p b (x ∷ xs) l o = cond_both (leb (place_of b) (place_of x)) (b ∷ x ∷ xs) (x ∷ put b xs) (IsOrderedFrom p)
+    (λ t. (l, (leb-true (place_of b) (place_of x) t, o.1))) (λ t. (o.0, order-put (place_of x) b xs (omega (arith, leb-false (place_of b) (place_of x) t)) o.1))
 
 pub order-sorted : (bs : List Block) → IsOrderedFrom 0 (sorted bs)
 unfolding sorted
 order-sorted [] = tt
 order-sorted (b ∷ bs) = order-put 0 b (sorted bs) (omega arith) (order-sorted bs)
-
-total-swap : (t : Bool) (k : ℕ) (b x : Block) (xs rest : List Block) → total rest k ≡ total (b ∷ xs) k → total (cond t (b ∷ x ∷ xs) (x ∷ rest)) k ≡ total (b ∷ x ∷ xs) k
-total-swap true k b x xs rest e = refl
-total-swap false k b x xs rest e = omega (arith, e)
-
-total-put : (k : ℕ) (b : Block) (xs : List Block) → total (put b xs) k ≡ total (b ∷ xs) k
-unfolding put
-total-put k b [] = refl
-total-put k b (x ∷ xs) = total-swap (leb (place_of b) (place_of x)) k b x xs (put b xs) (total-put k b xs)
-
--- sorted sets have the same tiles
-pub total-sorted : (k : ℕ) (bs : List Block) → total (sorted bs) k ≡ total bs k
-unfolding sorted
-total-sorted k [] = refl
-total-sorted k (b ∷ bs) = let i = total-sorted k bs in let j = total-put k b (sorted bs) in omega (arith, i, j)
 
 -- ---- two ordered lists of one collection
 

@@ -1,10 +1,10 @@
 -- Four suits are won just where they are one pair beside sets.
-use Rattle.std.proofs.Common.{◌≡◌, ◌≢◌, ℕ, ◌+◌, ◌-◌, ◌≤◌, ◌<◌, ◌↔◌, ◌⊎◌, inl, inr, Bool, IsTrue, length, get_or, refl, sym, ap, ◌∙◌, subst, arith}
+use Rattle.std.proofs.Common.{◌≡◌, ◌≢◌, ℕ, ◌+◌, ◌-◌, ◌≤◌, ◌<◌, ◌↔◌, ◌⊎◌, inl, inr, Bool, IsTrue, length, get_or, sym, ap, ◌∙◌, subst, arith}
 use Rattle.std.proofs.lemmas.Bool.{cases_lt, cases_eq}
 use Rattle.riichi_tiles.specs.declared.suit.Suit.{Suit}
 use Rattle.riichi_tiles.specs.declared.suit.Suit.TheVariants.{Characters, Circles, Bamboos, Honours}
 use Rattle.riichi_tiles.specs.declared.by_suit.BySuit.{BySuit}
-use Rattle.riichi_tiles.specs.Kinds.{IsOfSuit, first_of, kinds_of, suit_of, rank_of}
+use Rattle.riichi_tiles.specs.Kinds.{first_of, kinds_of, suit_of, rank_of}
 use Rattle.riichi_tiles.specs.Suits.{of_suit, with_suit}
 use Rattle.riichi_tiles.proofs.Suits.{only_suit, within, cases_suit, of_suit-with_same, of_suit-with_other}
 use Rattle.std.proofs.lemmas.List.{length-set}
@@ -13,29 +13,12 @@ use Rattle.riichi_split.specs.SuitTiles.{OneSuit, AreSets, AreSetsAndPair, AreWo
 
 -- ---- a total of one
 
-one-of : (by : BySuit ℕ) (pair : Suit) → of_suit by pair ≡ 1 → ((suit : Suit) → suit ≢ pair → of_suit by suit ≡ 0) → total_of by ≡ 1
-one-of by Characters e none = omega (arith, e, none Circles (λ e. cc), none Bamboos (λ e. cc), none Honours (λ e. cc))
-one-of by Circles e none = omega (arith, e, none Characters (λ e. cc), none Bamboos (λ e. cc), none Honours (λ e. cc))
-one-of by Bamboos e none = omega (arith, e, none Characters (λ e. cc), none Circles (λ e. cc), none Honours (λ e. cc))
-one-of by Honours e none = omega (arith, e, none Characters (λ e. cc), none Circles (λ e. cc), none Bamboos (λ e. cc))
-
-others-none : (by : BySuit ℕ) (pair suit : Suit) → total_of by ≡ 1 → of_suit by pair ≡ 1 → suit ≢ pair → of_suit by suit ≡ 0
-others-none by Characters Characters t e ne = absurd (ne refl)
-others-none by Characters Circles t e ne = omega (arith, t, e)
-others-none by Characters Bamboos t e ne = omega (arith, t, e)
-others-none by Characters Honours t e ne = omega (arith, t, e)
-others-none by Circles Characters t e ne = omega (arith, t, e)
-others-none by Circles Circles t e ne = absurd (ne refl)
-others-none by Circles Bamboos t e ne = omega (arith, t, e)
-others-none by Circles Honours t e ne = omega (arith, t, e)
-others-none by Bamboos Characters t e ne = omega (arith, t, e)
-others-none by Bamboos Circles t e ne = omega (arith, t, e)
-others-none by Bamboos Bamboos t e ne = absurd (ne refl)
-others-none by Bamboos Honours t e ne = omega (arith, t, e)
-others-none by Honours Characters t e ne = omega (arith, t, e)
-others-none by Honours Circles t e ne = omega (arith, t, e)
-others-none by Honours Bamboos t e ne = omega (arith, t, e)
-others-none by Honours Honours t e ne = absurd (ne refl)
+-- the numbers of the suits add up to that of one suit where the others have none
+pub one-of : (number : Suit → ℕ) (pair : Suit) (value : ℕ) → number pair ≡ value → ((suit : Suit) → suit ≢ pair → number suit ≡ 0) → number Characters + number Circles + number Bamboos + number Honours ≡ value
+one-of number Characters value e none = omega (arith, e, none Circles (λ e. cc), none Bamboos (λ e. cc), none Honours (λ e. cc))
+one-of number Circles value e none = omega (arith, e, none Characters (λ e. cc), none Bamboos (λ e. cc), none Honours (λ e. cc))
+one-of number Bamboos value e none = omega (arith, e, none Characters (λ e. cc), none Circles (λ e. cc), none Honours (λ e. cc))
+one-of number Honours value e none = omega (arith, e, none Characters (λ e. cc), none Circles (λ e. cc), none Bamboos (λ e. cc))
 
 the-one : (by : BySuit ℕ) → total_of by ≡ 1 → (pair : Suit) × (of_suit by pair ≡ 1)
 the-one by t = elim (cases_eq by.characters 1) [
@@ -48,15 +31,14 @@ the-one by t = elim (cases_eq by.characters 1) [
 
 total-with : (by : BySuit ℕ) (suit : Suit) (value : ℕ) → total_of (with_suit by suit value) + of_suit by suit ≡ total_of by + value
 total-with by Characters value = omega arith
-total-with by Circles value = omega arith
-total-with by Bamboos value = omega arith
-total-with by Honours value = omega arith
+total-with by other value = omega arith
 
 pub at-most : (by : BySuit ℕ) (suit : Suit) → of_suit by suit ≤ total_of by
 at-most by Characters = omega arith
-at-most by Circles = omega arith
-at-most by Bamboos = omega arith
-at-most by Honours = omega arith
+at-most by other = omega arith
+
+others-none : (by : BySuit ℕ) (pair suit : Suit) → total_of by ≡ 1 → of_suit by pair ≡ 1 → suit ≢ pair → of_suit by suit ≡ 0
+others-none by pair suit t e ne = omega (arith, t, e, total-with by pair 0, at-most (with_suit by pair 0) suit, of_suit-with_other by pair suit 0 ne)
 
 -- ---- suits
 
@@ -70,7 +52,7 @@ won-each tiles pairs counted = (
     has_pair = (counted p.0).one.0 p.1;
     others = λ suit ne. (counted suit).none.0 (others-none pairs p.0 suit t p.1 ne);
   },
-  λ w. one-of pairs w.pair ((counted w.pair).one.1 w.has_pair) (λ suit ne. (counted suit).none.1 (w.others suit ne)),
+  λ w. one-of (of_suit pairs) w.pair 1 ((counted w.pair).one.1 w.has_pair) (λ suit ne. (counted suit).none.1 (w.others suit ne)),
 )
 
 pub won-iff : (tiles : BySuit OneSuit) (pairs : BySuit ℕ) → AreCounted tiles pairs → (total_of pairs ≡ 1) ↔ AreWon tiles
@@ -93,91 +75,77 @@ won-with tiles pairs suit more n others counted has e =
 
 -- ---- one more tile of a rank
 
--- the pairs of the other suits, and of this one with the tile
-pub completed-iff : (tiles : BySuit OneSuit) (pairs : BySuit ℕ) (suit : Suit) (rank others n : ℕ) → AreCounted tiles pairs → rank < kinds_of suit → get_or (of_suit tiles suit).held rank 0 < 4 → others + of_suit pairs suit ≡ total_of pairs → HasPairs (with_tile (of_suit tiles suit) rank) n → (others + n ≡ 1) ↔ Completes tiles (first_of suit + rank)
-completed-iff tiles pairs suit rank others n counted small left e has =
-    let kind = first_of suit + rank in
-    let is : IsOfSuit suit kind = record { low = omega arith; high = omega arith } in
-    let own = only_suit suit kind is in
-    let at : rank_of kind ≡ rank = ap (λ s. kind - first_of s) own ∙ omega arith in
-    let w = won-with tiles pairs suit (with_tile (of_suit tiles suit) rank) n others counted has e in
-    let same : with_kind tiles kind ≡ with_suit tiles suit (with_tile (of_suit tiles suit) rank) =
-    ap (λ s. with_suit tiles s (with_tile (of_suit tiles s) (rank_of kind))) own ∙ ap (λ r. with_suit tiles suit (with_tile (of_suit tiles suit) r)) at in
-    let room : get_or (of_suit tiles (suit_of kind)).held (rank_of kind) 0 ≡ get_or (of_suit tiles suit).held rank 0 =
-    ap (λ s. get_or (of_suit tiles s).held (rank_of kind) 0) own ∙ ap (λ r. get_or (of_suit tiles suit).held r 0) at in (
-      λ s. record { of_a_kind = within suit kind is; some_left = omega (arith, room, left); wins = subst AreWon (sym same) (w.0 s) },
-      λ c. w.1 (subst AreWon same c.wins),
-    )
+placed : (suit : Suit) (rank : ℕ) → rank < kinds_of suit → (suit_of (first_of suit + rank) ≡ suit) × (rank_of (first_of suit + rank) ≡ rank)
+placed suit rank small =
+    let own = only_suit suit (first_of suit + rank) (record { low = omega arith; high = omega arith }) in
+    (own, ap (λ s. first_of suit + rank - first_of s) own ∙ omega arith)
 
--- what is asked of a rank of a suit, beside so many pairs of the other suits
-pub record IsAsked (tiles : BySuit OneSuit) (pairs : BySuit ℕ) (suit : Suit) (rank others : ℕ) (own : OneSuit) : Type 0 where
-  pub counted : AreCounted tiles pairs
-  pub small : rank < kinds_of suit
-  pub is : own ≡ of_suit tiles suit
-  pub nine : length own.held ≡ 9
-  pub left : get_or own.held rank 0 < 4
-  pub beside : others + of_suit pairs suit ≡ total_of pairs
+held-there : (tiles : BySuit OneSuit) (suit : Suit) (rank : ℕ) → rank < kinds_of suit → get_or (of_suit tiles (suit_of (first_of suit + rank))).held (rank_of (first_of suit + rank)) 0 ≡ get_or (of_suit tiles suit).held rank 0
+held-there tiles suit rank small =
+    let at = placed suit rank small in
+    ap (λ s. get_or (of_suit tiles s).held (rank_of (first_of suit + rank)) 0) at.0 ∙ ap (λ r. get_or (of_suit tiles suit).held r 0) at.1
 
-asked-iff : (tiles : BySuit OneSuit) (pairs : BySuit ℕ) (suit : Suit) (rank others n : ℕ) (own : OneSuit) → IsAsked tiles pairs suit rank others own → HasPairs (with_tile own rank) n → (others + n ≡ 1) ↔ Completes tiles (first_of suit + rank)
-asked-iff tiles pairs suit rank others n own a has =
-    let L : OneSuit → Type 0 = λ t. get_or t.held rank 0 < 4 in
-    let H : OneSuit → Type 0 = λ t. HasPairs (with_tile t rank) n in
-    completed-iff tiles pairs suit rank others n a.counted a.small (subst L a.is a.left) a.beside (subst H a.is has)
-
-nine-with : (own : OneSuit) (rank : ℕ) → length own.held ≡ 9 → length (with_tile own rank).held ≡ 9
-nine-with own rank nine = length-set own.held rank (get_or own.held rank 0 + 1) ∙ nine
-
--- the suit with the tile, in the hand with it
-changed : (tiles : BySuit OneSuit) (suit : Suit) (rank : ℕ) → rank < kinds_of suit → of_suit (with_kind tiles (first_of suit + rank)) suit ≡ with_tile (of_suit tiles suit) rank
-changed tiles suit rank small =
-    let kind = first_of suit + rank in
-    let own = only_suit suit kind (record { low = omega arith; high = omega arith }) in
-    let at : rank_of kind ≡ rank = ap (λ s. kind - first_of s) own ∙ omega arith in
-    ap (λ s. of_suit (with_suit tiles s (with_tile (of_suit tiles s) (rank_of kind))) suit) own ∙ of_suit-with_same tiles suit (with_tile (of_suit tiles suit) (rank_of kind)) ∙ ap (λ r. with_tile (of_suit tiles suit) r) at
-
--- it has the pair, or another suit has it
-asked-cases : (tiles : BySuit OneSuit) (pairs : BySuit ℕ) (suit : Suit) (rank others : ℕ) (own : OneSuit) → IsAsked tiles pairs suit rank others own → Completes tiles (first_of suit + rank) → (AreSetsAndPair (with_tile own rank) × (others ≡ 0)) ⊎ (AreSets (with_tile own rank) × (others ≡ 1))
-asked-cases tiles pairs suit rank others own a c =
-    let e : of_suit (with_kind tiles (first_of suit + rank)) suit ≡ with_tile own rank = changed tiles suit rank a.small ∙ ap (λ t. with_tile t rank) (sym a.is) in
-    elim (cases_suit suit c.wins.pair) [
-      | inl same ↦
-          let P : Suit → Type 0 = λ s. AreSetsAndPair (of_suit (with_kind tiles (first_of suit + rank)) s) in
-          let pair = subst AreSetsAndPair e (subst P (sym same) c.wins.has_pair) in
-          let i = asked-iff tiles pairs suit rank others 1 own a (pairs-one (with_tile own rank) (nine-with own rank a.nine) pair) in
-          inl (pair, omega (arith, i.1 c))
-      | inr ne ↦
-          let sets = subst AreSets e (c.wins.others suit ne) in
-          let i = asked-iff tiles pairs suit rank others 0 own a (pairs-none (with_tile own rank) (nine-with own rank a.nine) sets) in
-          inr (sets, omega (arith, i.1 c))
-    ]
-
-pub by-pair : (tiles : BySuit OneSuit) (pairs : BySuit ℕ) (suit : Suit) (rank : ℕ) (own : OneSuit) (holds : Bool) → IsAsked tiles pairs suit rank 0 own → IsTrue holds ↔ AreSetsAndPair (with_tile own rank) → IsTrue holds ↔ Completes tiles (first_of suit + rank)
-by-pair tiles pairs suit rank own holds a h = (
-  λ t. (asked-iff tiles pairs suit rank 0 1 own a (pairs-one (with_tile own rank) (nine-with own rank a.nine) (h.0 t))).0 (omega arith),
-  λ c. elim (asked-cases tiles pairs suit rank 0 own a c) [ inl p ↦ h.1 p.0 | inr s ↦ absurd (omega (arith, s.1)) ],
-)
-
-pub by-sets : (tiles : BySuit OneSuit) (pairs : BySuit ℕ) (suit : Suit) (rank : ℕ) (own : OneSuit) (holds : Bool) → IsAsked tiles pairs suit rank 1 own → IsTrue holds ↔ AreSets (with_tile own rank) → IsTrue holds ↔ Completes tiles (first_of suit + rank)
-by-sets tiles pairs suit rank own holds a h = (
-  λ t. (asked-iff tiles pairs suit rank 1 0 own a (pairs-none (with_tile own rank) (nine-with own rank a.nine) (h.0 t))).0 (omega arith),
-  λ c. elim (asked-cases tiles pairs suit rank 1 own a c) [ inl p ↦ absurd (omega (arith, p.1)) | inr s ↦ h.1 s.0 ],
-)
-
-pub by-none : (tiles : BySuit OneSuit) (pairs : BySuit ℕ) (suit : Suit) (rank others : ℕ) (own : OneSuit) → IsAsked tiles pairs suit rank others own → (others ≡ 0 → ⊥) → (others ≡ 1 → ⊥) → Completes tiles (first_of suit + rank) → ⊥
-by-none tiles pairs suit rank others own a zero one c = elim (asked-cases tiles pairs suit rank others own a c) [ inl p ↦ zero p.1 | inr s ↦ one s.1 ]
+with-there : (tiles : BySuit OneSuit) (suit : Suit) (rank : ℕ) → rank < kinds_of suit → with_kind tiles (first_of suit + rank) ≡ with_suit tiles suit (with_tile (of_suit tiles suit) rank)
+with-there tiles suit rank small =
+    let at = placed suit rank small in
+    ap (λ s. with_suit tiles s (with_tile (of_suit tiles s) (rank_of (first_of suit + rank)))) at.0 ∙ ap (λ r. with_suit tiles suit (with_tile (of_suit tiles suit) r)) at.1
 
 pub a-kind : (suit : Suit) (rank : ℕ) → rank < kinds_of suit → first_of suit + rank < 34
 a-kind suit rank small = within suit (first_of suit + rank) (record { low = omega arith; high = omega arith })
 
+-- what is asked of a rank of a suit, beside so many pairs of the other suits
+pub record IsAsked (tiles : BySuit OneSuit) (pairs : BySuit ℕ) (suit : Suit) (rank others : ℕ) : Type 0 where
+  pub counted : AreCounted tiles pairs
+  pub small : rank < kinds_of suit
+  pub left : get_or (of_suit tiles suit).held rank 0 < 4
+  pub beside : others + of_suit pairs suit ≡ total_of pairs
+
+-- the pairs of the other suits, and of this one with the tile
+completed-iff : (tiles : BySuit OneSuit) (pairs : BySuit ℕ) (suit : Suit) (rank others n : ℕ) → IsAsked tiles pairs suit rank others → HasPairs (with_tile (of_suit tiles suit) rank) n → (others + n ≡ 1) ↔ Completes tiles (first_of suit + rank)
+completed-iff tiles pairs suit rank others n a has =
+    let w = won-with tiles pairs suit (with_tile (of_suit tiles suit) rank) n others a.counted has a.beside in
+    let same = with-there tiles suit rank a.small in (
+      λ s. record { of_a_kind = a-kind suit rank a.small; some_left = omega (arith, held-there tiles suit rank a.small, a.left); wins = subst AreWon (sym same) (w.0 s) },
+      λ c. w.1 (subst AreWon same c.wins),
+    )
+
+nine-with : (tiles : BySuit OneSuit) (pairs : BySuit ℕ) (suit : Suit) (rank : ℕ) → AreCounted tiles pairs → length (with_tile (of_suit tiles suit) rank).held ≡ 9
+nine-with tiles pairs suit rank counted = let own = of_suit tiles suit in length-set own.held rank (get_or own.held rank 0 + 1) ∙ (counted.each suit).nine_ranks
+
+-- the suit has the pair, or another suit has it
+asked-cases : (tiles : BySuit OneSuit) (pairs : BySuit ℕ) (suit : Suit) (rank others : ℕ) → IsAsked tiles pairs suit rank others → Completes tiles (first_of suit + rank) → (AreSetsAndPair (with_tile (of_suit tiles suit) rank) × (others ≡ 0)) ⊎ (AreSets (with_tile (of_suit tiles suit) rank) × (others ≡ 1))
+asked-cases tiles pairs suit rank others a c =
+    let more = with_tile (of_suit tiles suit) rank in
+    let nine = nine-with tiles pairs suit rank a.counted in
+    let e : of_suit (with_kind tiles (first_of suit + rank)) suit ≡ more = ap (λ t. of_suit t suit) (with-there tiles suit rank a.small) ∙ of_suit-with_same tiles suit more in
+    elim (cases_suit suit c.wins.pair) [
+      | inl same ↦
+          let P : Suit → Type 0 = λ s. AreSetsAndPair (of_suit (with_kind tiles (first_of suit + rank)) s) in
+          let pair = subst AreSetsAndPair e (subst P (sym same) c.wins.has_pair) in
+          inl (pair, omega (arith, (completed-iff tiles pairs suit rank others 1 a (pairs-one more nine pair)).1 c))
+      | inr ne ↦
+          let sets = subst AreSets e (c.wins.others suit ne) in
+          inr (sets, omega (arith, (completed-iff tiles pairs suit rank others 0 a (pairs-none more nine sets)).1 c))
+    ]
+
+pub by-pair : (tiles : BySuit OneSuit) (pairs : BySuit ℕ) (suit : Suit) (rank : ℕ) (holds : Bool) → IsAsked tiles pairs suit rank 0 → IsTrue holds ↔ AreSetsAndPair (with_tile (of_suit tiles suit) rank) → IsTrue holds ↔ Completes tiles (first_of suit + rank)
+by-pair tiles pairs suit rank holds a h = (
+  λ t. (completed-iff tiles pairs suit rank 0 1 a (pairs-one (with_tile (of_suit tiles suit) rank) (nine-with tiles pairs suit rank a.counted) (h.0 t))).0 (omega arith),
+  λ c. elim (asked-cases tiles pairs suit rank 0 a c) [ inl p ↦ h.1 p.0 | inr s ↦ absurd (omega (arith, s.1)) ],
+)
+
+pub by-sets : (tiles : BySuit OneSuit) (pairs : BySuit ℕ) (suit : Suit) (rank : ℕ) (holds : Bool) → IsAsked tiles pairs suit rank 1 → IsTrue holds ↔ AreSets (with_tile (of_suit tiles suit) rank) → IsTrue holds ↔ Completes tiles (first_of suit + rank)
+by-sets tiles pairs suit rank holds a h = (
+  λ t. (completed-iff tiles pairs suit rank 1 0 a (pairs-none (with_tile (of_suit tiles suit) rank) (nine-with tiles pairs suit rank a.counted) (h.0 t))).0 (omega arith),
+  λ c. elim (asked-cases tiles pairs suit rank 1 a c) [ inl p ↦ absurd (omega (arith, p.1)) | inr s ↦ h.1 s.0 ],
+)
+
+pub by-none : (tiles : BySuit OneSuit) (pairs : BySuit ℕ) (suit : Suit) (rank others : ℕ) → IsAsked tiles pairs suit rank others → (others ≡ 0 → ⊥) → (others ≡ 1 → ⊥) → Completes tiles (first_of suit + rank) → ⊥
+by-none tiles pairs suit rank others a zero one c = elim (asked-cases tiles pairs suit rank others a c) [ inl p ↦ zero p.1 | inr s ↦ one s.1 ]
+
 -- a fifth copy completes nothing
 pub full-iff : (tiles : BySuit OneSuit) (suit : Suit) (rank : ℕ) → rank < kinds_of suit → 4 ≤ get_or (of_suit tiles suit).held rank 0 → Completes tiles (first_of suit + rank) → ⊥
-full-iff tiles suit rank small full c =
-    let kind = first_of suit + rank in
-    let own = only_suit suit kind (record { low = omega arith; high = omega arith }) in
-    let at : rank_of kind ≡ rank = ap (λ s. kind - first_of s) own ∙ omega arith in
-    let room : get_or (of_suit tiles (suit_of kind)).held (rank_of kind) 0 ≡ get_or (of_suit tiles suit).held rank 0 =
-    ap (λ s. get_or (of_suit tiles s).held (rank_of kind) 0) own ∙ ap (λ r. get_or (of_suit tiles suit).held r 0) at in
-    omega (arith, room, full, c.some_left)
+full-iff tiles suit rank small full c = omega (arith, held-there tiles suit rank small, full, c.some_left)
 
 -- where the other suits are more than one pair no tile of the suit completes the hand
 pub passed : (tiles : BySuit OneSuit) (pairs : BySuit ℕ) (suit : Suit) (others kind : ℕ) → AreCounted tiles pairs → others + of_suit pairs suit ≡ total_of pairs → 1 < others → first_of suit ≤ kind → kind < first_of suit + kinds_of suit → Completes tiles kind → ⊥
@@ -185,9 +153,8 @@ passed tiles pairs suit others kind counted beside many low high c =
     let rank = kind - first_of suit in
     let small : rank < kinds_of suit = omega arith in
     let P : ℕ → Type 0 = λ k. Completes tiles k in
-    let at : kind ≡ first_of suit + rank = omega arith in
-    let d = subst P at c in
+    let d = subst P (let at : kind ≡ first_of suit + rank = omega arith in at) c in
     elim (cases_lt (get_or (of_suit tiles suit).held rank 0) 4) [
-      | inl left ↦ by-none tiles pairs suit rank others (of_suit tiles suit) (record { counted = counted; small = small; is = refl; nine = (counted.each suit).nine_ranks; left = left; beside = beside }) (λ e. omega (arith, e, many)) (λ e. omega (arith, e, many)) d
+      | inl left ↦ by-none tiles pairs suit rank others (record { counted = counted; small = small; left = left; beside = beside }) (λ e. omega (arith, e, many)) (λ e. omega (arith, e, many)) d
       | inr full ↦ full-iff tiles suit rank small full d
     ]

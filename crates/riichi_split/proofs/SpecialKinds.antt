@@ -8,13 +8,13 @@ use Rattle.riichi_tiles.specs.Kinds.{is_orphan}
 use Rattle.riichi_split.specs.Readings.{IsSevenPairs, IsOrphans, orphan_copies}
 use Rattle.riichi_split.specs.Waits.{with_one}
 use Rattle.riichi_split.specs.SpecialWaits.{IsSpecialWait, CompletesPairs, CompletesOrphans, Adds, AddsSpecial}
-use Rattle.riichi_split.proofs.Suits.{one-at, only}
+use Rattle.riichi_split.proofs.KindSums.{get_or-more}
 
 -- a kind that is neither none nor two is the one that is completed
 pub single-completed : (c : List ℕ) (kind single : ℕ) → kind < length c → get_or c single 0 ≢ 0 → get_or c single 0 ≢ 2 → IsSevenPairs (with_one c kind) 0 → kind ≡ single
 single-completed c kind single small none two s = elim (cases_eq single kind) [
   | inl e ↦ sym e
-  | inr n ↦ let o = one-at c kind single small in elim (s.twos single) [
+  | inr n ↦ let o = get_or-more c kind single 1 small in elim (s.twos single) [
     | inl z ↦ absurd (none (grind (arith, nat_tests, o, z)))
     | inr t ↦ absurd (two (grind (arith, nat_tests, o, t)))
   ]
@@ -23,7 +23,7 @@ single-completed c kind single small none two s = elim (cases_eq single kind) [
 -- where each is none or two, none is completed
 pub none-completed : (c : List ℕ) (kind : ℕ) → kind < length c → (get_or c kind 0 ≡ 0) ⊎ (get_or c kind 0 ≡ 2) → IsSevenPairs (with_one c kind) 0 → ⊥
 none-completed c kind small h s =
-    let o = one-at c kind kind small in
+    let o = get_or-more c kind kind 1 small in
     elim (s.twos kind) [
       | inl z ↦ elim h [ inl a ↦ grind (arith, nat_tests, o, z, a) | inr b ↦ grind (arith, nat_tests, o, z, b) ]
       | inr t ↦ elim h [ inl a ↦ grind (arith, nat_tests, o, t, a) | inr b ↦ grind (arith, nat_tests, o, t, b) ]
@@ -52,12 +52,6 @@ fifth-completes-none c kind long four w =
 -- the kind that is completed is the one that is lacking
 pub lacked-is : (c : List ℕ) (kind lacked : ℕ) → lacked < 34 → IsTrue (is_orphan lacked) → get_or c lacked 0 ≡ 0 → IsOrphans (with_one c kind) 0 → kind ≡ lacked
 lacked-is c kind lacked l o z h = elim (cases_eq lacked kind) [ inl e ↦ sym e | inr n ↦ absurd (lacked-completed c kind lacked l o z n h) ]
-
-here : (c : List ℕ) (kind : ℕ) → kind < length c → get_or (with_one c kind) kind 0 ≡ get_or c kind 0 + 1
-here c kind l = get_or-set_at c kind kind (get_or c kind 0 + 1) 0 refl l
-
-there : (c : List ℕ) (kind k : ℕ) → k ≢ kind → get_or (with_one c kind) k 0 ≡ get_or c k 0
-there c kind k n = get_or-set_other c kind k (get_or c kind 0 + 1) 0 n
 
 -- ---- marks
 

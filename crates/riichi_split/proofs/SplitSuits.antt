@@ -10,18 +10,19 @@ use Rattle.std.proofs.lemmas.Grind.{get_or-set_at}
 use Rattle.riichi_tiles.specs.declared.block.Block.{Block}
 use Rattle.riichi_tiles.specs.declared.block.Block.TheVariants.{Run, Triplet, Pair}
 use Rattle.riichi_tiles.specs.declared.suit.Suit.{Suit}
-use Rattle.riichi_tiles.specs.declared.suit.Suit.TheVariants.{Characters, Circles, Bamboos, Honours}
+use Rattle.riichi_tiles.specs.declared.suit.Suit.TheVariants.{Characters}
 use Rattle.riichi_tiles.specs.declared.by_suit.BySuit.{BySuit}
-use Rattle.riichi_tiles.specs.Kinds.{first_of, suit_of, rank_of}
+use Rattle.riichi_tiles.specs.Kinds.{IsOfSuit, first_of, suit_of, rank_of}
 use Rattle.riichi_tiles.specs.Suits.{of_suit, with_suit}
 use Rattle.riichi_tiles.specs.Blocks.{copies, total, IsSet}
 use Rattle.riichi_tiles.proofs.Suits.{only_suit, some_suit, own_suit, nine_at_most, cases_suit, of_nine, of_suit-with_same, of_suit-with_other}
 use Rattle.riichi_split.specs.SuitTiles.{OneSuit, AreCut, AreSets, AreSetsAndPair, AreWon, Completes, has_runs, nine_from, tiles_of_suit, suits_of, with_tile, with_kind}
 use Rattle.riichi_split.specs.Cuts.{suit_total}
 use Rattle.riichi_split.specs.Waits.{with_one}
+use Rattle.riichi_split.specs.Readings.{IsSplit}
 use Rattle.riichi_split.specs.Winning.{HasSplit}
 use Rattle.riichi_split.proofs.Orders.{sorted, sets-sorted, order-sorted, total-sorted}
-use Rattle.riichi_split.proofs.Suits.{suit_total-suc, suit_total-zero, suit_total-same, suit_total-add, total-only, total-run, none-total, one-at, inside}
+use Rattle.riichi_split.proofs.KindSums.{suit_total-suc, suit_total-zero, sum-none, sum-run, sum-triplet, sum-split, total-sum, one-kind}
 use Rattle.riichi_split.proofs.SuitBlocks.{cut-of, sets-of}
 
 -- ---- nine ranks
@@ -29,7 +30,7 @@ use Rattle.riichi_split.proofs.SuitBlocks.{cut-of, sets-of}
 pub nine-at : (f : ℕ → ℕ) (first rank : ℕ) → rank < 9 → get_or (nine_from f first) rank 0 ≡ f (first + rank)
 nine-at f first rank h = get_or-map-range_with_len f first 9 rank (first + rank) 0 h refl
 
-nine-length : (f : ℕ → ℕ) (first : ℕ) → length (nine_from f first) ≡ 9
+pub nine-length : (f : ℕ → ℕ) (first : ℕ) → length (nine_from f first) ≡ 9
 nine-length f first = length-map-range_with_len f first 9
 
 nine-same : (f g : ℕ → ℕ) (first : ℕ) → ((i : ℕ) → i < 9 → f (first + i) ≡ g (first + i)) → nine_from f first ≡ nine_from g first
@@ -78,17 +79,12 @@ is-beside c suit rank small below =
 
 -- ---- the suits of a hand
 
-in-suits : (c : List ℕ) (P : OneSuit → Type 0) (suit : Suit) → P (tiles_of_suit c suit) → P (of_suit (suits_of c) suit)
-in-suits c P Characters h = h
-in-suits c P Circles h = h
-in-suits c P Bamboos h = h
-in-suits c P Honours h = h
-
-suit-is : (c : List ℕ) (suit : Suit) → of_suit (suits_of c) suit ≡ tiles_of_suit c suit
+pub suit-is : (c : List ℕ) (suit : Suit) → of_suit (suits_of c) suit ≡ tiles_of_suit c suit
 suit-is c Characters = refl
-suit-is c Circles = refl
-suit-is c Bamboos = refl
-suit-is c Honours = refl
+suit-is c other = refl
+
+in-suits : (c : List ℕ) (P : OneSuit → Type 0) (suit : Suit) → P (tiles_of_suit c suit) → P (of_suit (suits_of c) suit)
+in-suits c P suit h = subst P (sym (suit-is c suit)) h
 
 -- each suit of a hand is cut, without the pair
 abbrev AllCut : List ℕ → ℕ → Type 0
@@ -106,33 +102,35 @@ won-suits c suit rank small two b cut = record {
   others = λ other ne. in-suits c AreSets other (let P : List ℕ → Type 0 = λ xs. AreCut (has_runs other) 0 0 xs in subst P (b.there other ne) (cut other));
 }
 
-pub won-from-split : (c : List ℕ) (melds : ℕ) → HasSplit c melds → AreWon (suits_of c)
-won-from-split c melds h =
-    let p = h.1 in
-    let s = h.2 in
+pub won-by : (c : List ℕ) (melds : ℕ) (sets : List Block) (p : ℕ) → IsSplit c melds sets p → (won : AreWon (suits_of c)) × IsOfSuit won.pair p
+unfolding won-suits
+won-by c melds sets p s =
     let place = some_suit p s.pair_is_kind in
     let suit = place.0 in
     let rank = p - first_of suit in
     let at : first_of suit + rank ≡ p = omega (arith, place.1.low) in
     let small : rank < 9 = omega (arith, place.1.low, nine_at_most suit p place.1) in
     let C : ℕ → Type 0 = λ k. AllCut c k in
-    let cut : C (first_of suit + rank) = subst C (sym at) (cut-of h.0 s.each_a_set (beside c p) (λ k. let a = s.add_up k in omega (arith, a))) in
+    let cut : C (first_of suit + rank) = subst C (sym at) (cut-of sets s.each_a_set (beside c p) (λ k. let a = s.add_up k in omega (arith, a))) in
     let b = is-beside c suit rank small (omega (arith, at, s.pair_is_kind)) in
     let T : ℕ → Type 0 = λ k. 2 ≤ get_or c k 0 in
     let two : 2 ≤ get_or c p 0 = let a = s.add_up p in let e : cond {A = ℕ} (eqb p p) 2 0 ≡ 2 = grind (arith, nat_tests) in omega (arith, a, e) in
-    won-suits c suit rank small (subst T (sym at) two) b cut
+    (won-suits c suit rank small (subst T (sym at) two) b cut, place.1)
+
+pub won-from-split : (c : List ℕ) (melds : ℕ) → HasSplit c melds → AreWon (suits_of c)
+won-from-split c melds h = (won-by c melds h.0 h.1 h.2).0
 
 -- ---- how many sets there are
 
 -- a set has three tiles
 three : (set : Block) → IsSet set → suit_total (copies set) 0 34 ≡ 3
-three (Run low) s = let t = total-run low 0 34 in grind (arith, nat_tests, t, s.0)
-three (Triplet kind) s = let t = total-only 3 kind 0 34 in grind (arith, nat_tests, t, s)
+three (Run low) s = omega (arith, sum-run (λ f. suit_total f 0 34) (total-sum 34) low, one-kind low (omega (arith, s.0)), one-kind (low + 1) (omega (arith, s.0)), one-kind (low + 2) (omega (arith, s.0)))
+three (Triplet kind) s = omega (arith, sum-triplet (λ f. suit_total f 0 34) (total-sum 34) kind, one-kind kind s)
 three (Pair kind) s = absurd s
 
 tiles-of-sets : (sets : List Block) → AllByRecursion IsSet sets → suit_total (total sets) 0 34 ≡ 3 * length sets
-tiles-of-sets [] s = none-total 0 34
-tiles-of-sets (set ∷ sets) s = omega (arith, suit_total-add (copies set) (total sets) 0 34, three set s.0, tiles-of-sets sets s.1)
+tiles-of-sets [] s = sum-none (λ f. suit_total f 0 34) (total-sum 34)
+tiles-of-sets (set ∷ sets) s = omega (arith, (total-sum 34).add (copies set) (total sets), three set s.0, tiles-of-sets sets s.1)
 
 sum-to : (c : List ℕ) (n : ℕ) → n ≤ length c → suit_total (λ k. get_or c k 0) 0 n ≡ sum (take n c)
 sum-to c zero l = suit_total-zero (λ k. get_or c k 0) 0
@@ -144,25 +142,12 @@ sum-to c (suc n) l =
 sum-is : (c : List ℕ) → length c ≡ 34 → suit_total (λ k. get_or c k 0) 0 34 ≡ sum c
 sum-is c long = sum-to c 34 (omega (arith, long)) ∙ ap sum (take_all 34 c (omega (arith, long)))
 
-many : (c : List ℕ) (melds p : ℕ) (sets : List Block) → length c ≡ 34 → sum c + 3 * melds ≡ 14 → p < 34 → AllByRecursion IsSet sets → ((k : ℕ) → copies (Pair p) k + total sets k ≡ get_or c k 0) → length sets + melds ≡ 4
-many c melds p sets long sum-c kind s adds =
-    let a = suit_total-same (λ k. copies (Pair p) k + total sets k) (λ k. get_or c k 0) 0 34 adds in
-    let b = suit_total-add (copies (Pair p)) (total sets) 0 34 in
-    let t = total-only 2 p 0 34 in
-    let i : cond {A = ℕ} (inside 0 34 p) 2 0 ≡ 2 = grind (arith, nat_tests) in
-    omega (arith, a, b, t, i, tiles-of-sets sets s, sum-is c long)
+tiles-of-split : (c : List ℕ) (sets : List Block) (p : ℕ) → length c ≡ 34 → p < 34 → AllByRecursion IsSet sets → ((k : ℕ) → total (Pair p ∷ sets) k ≡ get_or c k 0) → sum c ≡ 2 + 3 * length sets
+tiles-of-split c sets p long kind s adds = omega (arith, sum-split (λ f. suit_total f 0 34) (total-sum 34) c sets p adds, one-kind p kind, tiles-of-sets sets s, sum-is c long)
 
 -- a split has four sets and a pair
 pub split-size : (c : List ℕ) (melds : ℕ) → length c ≡ 34 → HasSplit c melds → sum c + 3 * melds ≡ 14
-split-size c melds long h =
-    let p = h.1 in
-    let s = h.2 in
-    let kind = s.pair_is_kind in
-    let a = suit_total-same (λ k. copies (Pair p) k + total h.0 k) (λ k. get_or c k 0) 0 34 s.add_up in
-    let b = suit_total-add (copies (Pair p)) (total h.0) 0 34 in
-    let t = total-only 2 p 0 34 in
-    let i : cond {A = ℕ} (inside 0 34 p) 2 0 ≡ 2 = grind (arith, nat_tests) in
-    omega (arith, a, b, t, i, tiles-of-sets h.0 s.each_a_set, sum-is c long, s.four)
+split-size c melds long h = let s = h.2 in omega (arith, tiles-of-split c h.0 h.1 long s.pair_is_kind s.each_a_set s.add_up, s.four)
 
 -- ---- from the suits to a split
 
@@ -186,7 +171,7 @@ split-from c melds p long sum-c kind two cut =
       sorted m.0,
       p,
       record {
-        four = many c melds p (sorted m.0) long sum-c kind each adds;
+        four = omega (arith, sum-c, tiles-of-split c (sorted m.0) p long kind each adds);
         each_a_set = each;
         in_order = order-sorted m.0;
         pair_is_kind = kind;
@@ -223,12 +208,6 @@ same-won a b same w = record {
   others = λ suit ne. subst AreSets (same suit) (w.others suit ne);
 }
 
-one-more-here : (c : List ℕ) (kind k : ℕ) → kind < length c → k ≡ kind → get_or (with_one c kind) k 0 ≡ get_or c k 0 + 1
-one-more-here c kind k l e = let o = one-at c kind k l in grind (arith, nat_tests, o)
-
-one-more-there : (c : List ℕ) (kind k : ℕ) → kind < length c → k ≢ kind → get_or (with_one c kind) k 0 ≡ get_or c k 0
-one-more-there c kind k l ne = let o = one-at c kind k l in grind (arith, nat_tests, o)
-
 same-tiles : (h k : List ℕ) (runs : Bool) → h ≡ k → ◌≡◌ {A = OneSuit} (record { held = h; has_runs = runs }) (record { held = k; has_runs = runs })
 same-tiles h k runs e = cc
 
@@ -241,15 +220,15 @@ more-here c kind small long =
     let at : first_of suit + rank_of kind ≡ kind = omega (arith, is.low) in
     let short : rank_of kind < 9 = omega (arith, is.low, nine_at_most suit kind is) in
     let here : g (first_of suit + rank_of kind) ≡ get_or (nine_from f (first_of suit)) (rank_of kind) 0 + 1 =
-    one-more-here c kind (first_of suit + rank_of kind) (omega (arith, long)) at ∙ ap (λ n. n + 1) (sym (nine-at f (first_of suit) (rank_of kind) short)) in
+    get_or-set_at c kind (first_of suit + rank_of kind) (get_or c kind 0 + 1) 0 at (omega (arith, long)) ∙ ap (λ k. get_or c k 0 + 1) (sym at) ∙ ap (λ n. n + 1) (sym (nine-at f (first_of suit) (rank_of kind) short)) in
     same-tiles (nine_from g (first_of suit)) (set (nine_from f (first_of suit)) (rank_of kind) (get_or (nine_from f (first_of suit)) (rank_of kind) 0 + 1)) (has_runs suit)
     (nine-changed f g (first_of suit) (rank_of kind) (get_or (nine_from f (first_of suit)) (rank_of kind) 0 + 1) short here
-    (λ i n. one-more-there c kind (first_of suit + i) (omega (arith, long)) (λ e. n (omega (arith, e, at)))))
+    (λ i n. get_or-set_other c kind (first_of suit + i) (get_or c kind 0 + 1) 0 (λ e. n (omega (arith, e, at)))))
 
 more-there : (c : List ℕ) (kind : ℕ) (suit : Suit) → kind < 34 → length c ≡ 34 → suit ≢ suit_of kind → tiles_of_suit (with_one c kind) suit ≡ tiles_of_suit c suit
 more-there c kind suit small long ne =
     same-tiles (nine_from (λ k. get_or (with_one c kind) k 0) (first_of suit)) (nine_from (λ k. get_or c k 0) (first_of suit)) (has_runs suit)
-    (other-suits (λ k. get_or c k 0) (λ k. get_or (with_one c kind) k 0) kind suit small ne (λ k n. one-more-there c kind k (omega (arith, long)) n))
+    (other-suits (λ k. get_or c k 0) (λ k. get_or (with_one c kind) k 0) kind suit small ne (λ k n. get_or-set_other c kind k (get_or c kind 0 + 1) 0 n))
 
 more-suits : (c : List ℕ) (kind : ℕ) → kind < 34 → length c ≡ 34 → (suit : Suit) → of_suit (suits_of (with_one c kind)) suit ≡ of_suit (with_kind (suits_of c) kind) suit
 more-suits c kind small long suit =

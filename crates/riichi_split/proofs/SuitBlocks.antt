@@ -1,5 +1,5 @@
 -- A hand is cut into sets just where each of its suits is.
-use Rattle.std.proofs.Common.{leb, ltb, eqb, ◌&&◌, ◌≡◌, ℕ, zero, suc, ◌+◌, ◌*◌, ◌<◌, ◌≤◌, Bool, true, false, IsTrue, cond, inl, inr, List, [], ◌∷◌, ◌++◌, replicate, map, refl, sym, ap, ◌∙◌, arith}
+use Rattle.std.proofs.Common.{leb, ltb, eqb, ◌&&◌, ◌≡◌, ℕ, zero, suc, ◌+◌, ◌*◌, ◌%◌, ◌<◌, ◌≤◌, Bool, IsTrue, cond, inl, inr, List, [], ◌∷◌, ◌++◌, replicate, map, refl, sym, ap, ◌∙◌, arith}
 use Rattle.std.specs.List.{AllByRecursion, range_with_len}
 use Rattle.std.proofs.lemmas.Bool.{cases_lt, cases_eq}
 use Rattle.std.proofs.lemmas.Bool.Decides.{nat_tests}
@@ -67,24 +67,23 @@ cut-from bs s f is runs first may (suc n) k one two l z e g =
     (triplets bs k, runs-to bs (k + 2), omega (arith, t, i), may k l, cut-from bs s f is runs first may n (k + 1) (runs-to bs (k + 2)) one (omega arith) (λ end p. z end (omega arith)) (ap (runs-to bs) (omega arith)) e)
 
 -- no run goes on from one suit into the next
-border : (bs : List Block) → AllByRecursion IsSet bs → (q : ℕ) → (runs-to bs (9 * q + 1) ≡ 0) × (runs-to bs (9 * q) ≡ 0)
-border bs s q = (no-run bs s (9 * q + 1) (λ low e r. absurd (omega (arith, r.1))), no-run bs s (9 * q) (λ low e r. absurd (omega (arith, r.1))))
+border : (bs : List Block) → AllByRecursion IsSet bs → (k : ℕ) → k % 9 ≡ 0 → (runs-to bs (k + 1) ≡ 0) × (runs-to bs k ≡ 0)
+border bs s k nine = (no-run bs s (k + 1) (λ low e r. absurd (omega (arith, nine, e, r.1))), no-run bs s k (λ low e r. absurd (omega (arith, nine, e, r.1))))
 
-past-border : (bs : List Block) → AllByRecursion IsSet bs → (q end : ℕ) → end ≡ 9 * q → runs-to bs (end + 1) + runs-to bs end ≡ 0
-past-border bs s q end e =
-    let b = border bs s q in
-    let f : runs-to bs (end + 1) ≡ runs-to bs (9 * q + 1) = ap (runs-to bs) (omega arith) in
-    let g : runs-to bs end ≡ runs-to bs (9 * q) = ap (runs-to bs) e in
-    omega (arith, b.0, b.1)
+first-of-nine : (suit : Suit) → first_of suit % 9 ≡ 0
+first-of-nine Characters = refl
+first-of-nine other = refl
 
-no-honours-run : (bs : List Block) → AllByRecursion IsSet bs → (k : ℕ) → 27 ≤ k → 0 < runs-to bs (k + 2) → ⊥
-no-honours-run bs s k l h = let r = run-low bs s (k + 2) h in omega (arith, r.1, r.2.0)
+runs-begin : (bs : List Block) → AllByRecursion IsSet bs → (suit : Suit) (k : ℕ) → first_of suit ≤ k → 0 < runs-to bs (k + 2) → IsTrue (has_runs suit)
+runs-begin bs s Honours k l h = let r = run-low bs s (k + 2) h in absurd (omega (arith, l, r.1, r.2.0))
+runs-begin bs s other k l h = refl
 
 pub cut-of : (bs : List Block) → AllByRecursion IsSet bs → (f : ℕ → ℕ) → ((k : ℕ) → f k ≡ total bs k) → (suit : Suit) → AreCut (has_runs suit) 0 0 (nine_from f (first_of suit))
-cut-of bs s f is Characters = let b = border bs s 0 in cut-from bs s f is true 0 (λ k l h. refl) 9 0 0 0 (omega arith) (λ end e. past-border bs s 1 end (omega arith)) (sym b.0) (sym b.1)
-cut-of bs s f is Circles = let b = border bs s 1 in cut-from bs s f is true 9 (λ k l h. refl) 9 9 0 0 (omega arith) (λ end e. past-border bs s 2 end (omega arith)) (sym b.0) (sym b.1)
-cut-of bs s f is Bamboos = let b = border bs s 2 in cut-from bs s f is true 18 (λ k l h. refl) 9 18 0 0 (omega arith) (λ end e. past-border bs s 3 end (omega arith)) (sym b.0) (sym b.1)
-cut-of bs s f is Honours = let b = border bs s 3 in cut-from bs s f is false 27 (λ k l h. absurd (no-honours-run bs s k l h)) 9 27 0 0 (omega arith) (λ end e. past-border bs s 4 end (omega arith)) (sym b.0) (sym b.1)
+cut-of bs s f is suit =
+    let nine = first-of-nine suit in
+    let b = border bs s (first_of suit) nine in
+    cut-from bs s f is (has_runs suit) (first_of suit) (runs-begin bs s suit) 9 (first_of suit) 0 0 (omega arith)
+    (λ end e. let last = border bs s end (omega (arith, nine, e)) in omega (arith, last.0, last.1)) (sym b.0) (sym b.1)
 
 -- ---- and where each suit is cut, there are such sets
 
@@ -152,16 +151,13 @@ made f runs first end kinds low (suc n) k one two l e s =
       },
     )
 
-numbered : (q : ℕ) → q < 3 → MayBegin true (9 * q) (9 * q + 9)
+may-begin : (suit : Suit) → MayBegin (has_runs suit) (first_of suit) (first_of suit + 9)
 unfolding MayBegin
-numbered q small k n l e two t = (omega arith, omega arith)
+may-begin Honours k n l e two t = absurd (cc)
+may-begin other k n l e two t = (omega arith, omega arith)
 
 made-of : (f : ℕ → ℕ) → ((k : ℕ) → 0 < f k → k < 34) → (suit : Suit) → AreCut (has_runs suit) 0 0 (nine_from f (first_of suit)) → (bs : List Block) × IsMade f 9 (first_of suit) 0 0 bs
-unfolding MayBegin
-made-of f kinds Characters s = made f true 0 9 kinds (numbered 0 (omega arith)) 9 0 0 0 (omega arith) refl s
-made-of f kinds Circles s = made f true 9 18 kinds (numbered 1 (omega arith)) 9 9 0 0 (omega arith) refl s
-made-of f kinds Bamboos s = made f true 18 27 kinds (numbered 2 (omega arith)) 9 18 0 0 (omega arith) refl s
-made-of f kinds Honours s = made f false 27 36 kinds (λ k n l e two t. absurd (cc)) 9 27 0 0 (omega arith) refl s
+made-of f kinds suit s = made f (has_runs suit) (first_of suit) (first_of suit + 9) kinds (may-begin suit) 9 (first_of suit) 0 0 (omega arith) refl s
 
 sets-append : (xs ys : List Block) → AllByRecursion IsSet xs → AllByRecursion IsSet ys → AllByRecursion IsSet (xs ++ ys)
 sets-append [] ys s t = t

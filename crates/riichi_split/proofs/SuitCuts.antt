@@ -88,8 +88,8 @@ pairs-neither tiles nine sets pair = record {
 }
 
 -- the sum of the numbers
-third-nine : (runs : Bool) (g : ℕ → ℕ) → AreCut runs 0 0 (map g (range_with_len 0 9)) → (g 1 + g 4 + g 7 + 2 * (g 2 + g 5 + g 8)) % 3 ≡ 0
-third-nine runs g s =
+third-of-cut : (runs : Bool) (g : ℕ → ℕ) → AreCut runs 0 0 (map g (range_with_len 0 9)) → (g 1 + g 4 + g 7 + 2 * (g 2 + g 5 + g 8)) % 3 ≡ 0
+third-of-cut runs g s =
     let b = s.4 in let d = b.4 in let e = d.4 in let f = e.4 in let h = f.4 in let i = h.4 in let j = i.4 in let k = j.4 in
     omega (arith, b.2, d.2, e.2, f.2, h.2, i.2, j.2, k.2, k.4)
 
@@ -97,22 +97,23 @@ pub third-of-sets : (tiles : OneSuit) → length tiles.held ≡ 9 → AreSets ti
 third-of-sets tiles n s =
     let e = fill_by_all (λ i. get_or tiles.held i 0) tiles.held 9 0 n (λ k l. refl) in
     let P : List ℕ → Type 0 = λ xs. AreCut tiles.has_runs 0 0 xs in
-    third-nine tiles.has_runs (λ i. get_or tiles.held i 0) (subst P e s)
+    third-of-cut tiles.has_runs (λ i. get_or tiles.held i 0) (subst P e s)
 
 -- ---- the rank of a pair
 
--- where the numbers beside a pair leave nothing over, twice what all numbers leave is what the pair's leaves
-third-beside : (g : ℕ → ℕ) (rank : ℕ) → rank < 9 → 2 ≤ g rank → third_of (set (map g (range_with_len 0 9)) rank (g rank - 2)) ≡ 0 → 2 * third_of (map g (range_with_len 0 9)) % 3 ≡ rank % 3
-third-beside g zero small two e = omega (arith, two, e)
-third-beside g (suc zero) small two e = omega (arith, two, e)
-third-beside g (suc (suc zero)) small two e = omega (arith, two, e)
-third-beside g (suc (suc (suc zero))) small two e = omega (arith, two, e)
-third-beside g (suc (suc (suc (suc zero)))) small two e = omega (arith, two, e)
-third-beside g (suc (suc (suc (suc (suc zero))))) small two e = omega (arith, two, e)
-third-beside g (suc (suc (suc (suc (suc (suc zero)))))) small two e = omega (arith, two, e)
-third-beside g (suc (suc (suc (suc (suc (suc (suc zero))))))) small two e = omega (arith, two, e)
-third-beside g (suc (suc (suc (suc (suc (suc (suc (suc zero)))))))) small two e = omega (arith, two, e)
-third-beside g (suc (suc (suc (suc (suc (suc (suc (suc (suc more))))))))) small two e = absurd (omega (arith, small))
+-- what the numbers leave over with one more tile of a rank; and where those beside a pair leave nothing, twice what all leave is what the pair's leaves
+third-nine : (g : ℕ → ℕ) (rank : ℕ) → rank < 9 → (third_of (set (map g (range_with_len 0 9)) rank (g rank + 1)) ≡ (third_of (map g (range_with_len 0 9)) + rank) % 3)
+    × (2 ≤ g rank → third_of (set (map g (range_with_len 0 9)) rank (g rank - 2)) ≡ 0 → 2 * third_of (map g (range_with_len 0 9)) % 3 ≡ rank % 3)
+third-nine g zero small = (omega arith, λ two e. omega (arith, two, e))
+third-nine g (suc zero) small = (omega arith, λ two e. omega (arith, two, e))
+third-nine g (suc (suc zero)) small = (omega arith, λ two e. omega (arith, two, e))
+third-nine g (suc (suc (suc zero))) small = (omega arith, λ two e. omega (arith, two, e))
+third-nine g (suc (suc (suc (suc zero)))) small = (omega arith, λ two e. omega (arith, two, e))
+third-nine g (suc (suc (suc (suc (suc zero))))) small = (omega arith, λ two e. omega (arith, two, e))
+third-nine g (suc (suc (suc (suc (suc (suc zero)))))) small = (omega arith, λ two e. omega (arith, two, e))
+third-nine g (suc (suc (suc (suc (suc (suc (suc zero))))))) small = (omega arith, λ two e. omega (arith, two, e))
+third-nine g (suc (suc (suc (suc (suc (suc (suc (suc zero)))))))) small = (omega arith, λ two e. omega (arith, two, e))
+third-nine g (suc (suc (suc (suc (suc (suc (suc (suc (suc more))))))))) small = absurd (omega (arith, small))
 
 pub third-of-rank : (tiles : OneSuit) (pair : AreSetsAndPair tiles) → length tiles.held ≡ 9 → 2 * third_of tiles.held % 3 ≡ pair.rank % 3
 third-of-rank tiles pair nine =
@@ -120,7 +121,7 @@ third-of-rank tiles pair nine =
     let e = fill_by_all g tiles.held 9 0 nine (λ k l. refl) in
     let sets = third-of-sets (without_pair tiles pair.rank) (length-set tiles.held pair.rank (g pair.rank - 2) ∙ nine) pair.sets in
     let P : List ℕ → Type 0 = λ xs. third_of (set xs pair.rank (g pair.rank - 2)) ≡ 0 in
-    third-beside g pair.rank pair.of_nine pair.two (subst P e sets)
+    (third-nine g pair.rank pair.of_nine).1 pair.two (subst P e sets)
 
 pub pair-of : (tiles : OneSuit) (rank : ℕ) → rank < 9 → HasPairOf tiles rank → AreSetsAndPair tiles
 pair-of tiles rank small h = record { rank = rank; of_nine = small; two = h.0; sets = h.1 }
@@ -141,25 +142,13 @@ one-of-three tiles first nine is pair =
 
 -- ---- one more tile
 
-third-more-nine : (g : ℕ → ℕ) (rank : ℕ) → rank < 9 → third_of (set (map g (range_with_len 0 9)) rank (g rank + 1)) ≡ (third_of (map g (range_with_len 0 9)) + rank) % 3
-third-more-nine g zero small = omega arith
-third-more-nine g (suc zero) small = omega arith
-third-more-nine g (suc (suc zero)) small = omega arith
-third-more-nine g (suc (suc (suc zero))) small = omega arith
-third-more-nine g (suc (suc (suc (suc zero)))) small = omega arith
-third-more-nine g (suc (suc (suc (suc (suc zero))))) small = omega arith
-third-more-nine g (suc (suc (suc (suc (suc (suc zero)))))) small = omega arith
-third-more-nine g (suc (suc (suc (suc (suc (suc (suc zero))))))) small = omega arith
-third-more-nine g (suc (suc (suc (suc (suc (suc (suc (suc zero)))))))) small = omega arith
-third-more-nine g (suc (suc (suc (suc (suc (suc (suc (suc (suc more))))))))) small = absurd (omega (arith, small))
-
 -- what the sum leaves over with one more tile of a rank
 pub third-more : (tiles : OneSuit) (rank : ℕ) → length tiles.held ≡ 9 → rank < 9 → third_of (with_tile tiles rank).held ≡ (third_of tiles.held + rank) % 3
 third-more tiles rank nine small =
     let g = λ (i : ℕ). get_or tiles.held i 0 in
     let e = fill_by_all g tiles.held 9 0 nine (λ k l. refl) in
     let P : List ℕ → Type 0 = λ xs. third_of (set xs rank (g rank + 1)) ≡ (third_of xs + rank) % 3 in
-    subst P (sym e) (third-more-nine g rank small)
+    subst P (sym e) (third-nine g rank small).0
 
 -- ---- triplets alone
 

@@ -1,11 +1,12 @@
 -- The numbers of a set's tiles add up to a multiple of three, so the sum of all numbers tells the pair's kind by three.
-use Rattle.std.proofs.Common.{◌≡◌, ◌≤◌, ℕ, sym, zero, suc, ◌+◌, ◌-◌, ◌*◌, ◌%◌, ◌<◌, cond, add-one, Option, Some, None, List, [], ◌∷◌, ◌++◌, length, length-set, get_or, set, refl, ap, ◌∙◌, arith, eqb, ltb}
+use Rattle.std.proofs.Common.{◌≡◌, ◌≤◌, ℕ, sym, zero, suc, ◌+◌, ◌-◌, ◌*◌, ◌%◌, ◌<◌, cond, add-one, Option, Some, None, List, [], ◌∷◌, ◌++◌, length, length-set, get_or, set, refl, ap, ◌∙◌, arith, ltb}
 use Rattle.std.specs.List.{AllByRecursion}
 use Rattle.std.proofs.lemmas.Bool.Decides.{nat_tests}
 use Rattle.riichi_tiles.specs.declared.block.Block.{Block}
 use Rattle.riichi_tiles.specs.declared.block.Block.TheVariants.{Run, Triplet, Pair}
 use Rattle.riichi_tiles.specs.Blocks.{copies, total, IsSet}
 use Rattle.riichi_split.specs.Cuts.{thirds, third_of_pair, sets_beside, split_of, from_choices, from_pairs}
+use Rattle.riichi_split.proofs.KindSums.{IsSum, one, sum-none, sum-run, sum-triplet, sum-split}
 use Rattle.riichi_split.proofs.Sound.{IsCut-from, same-total}
 use Rattle.riichi_split.proofs.AllSplits.{beside-inv, uncarried, without}
 use Rattle.riichi_split.proofs.SplitSteps.{from_pairs-step}
@@ -23,19 +24,13 @@ unfolding thirds
 same f g zero h = refl
 same f g (suc n) h = omega (arith, same f g n h, h (3 * n + 1), h (3 * n + 2))
 
-sum : (f g : ℕ → ℕ) (n : ℕ) → thirds (λ k. f k + g k) n ≡ thirds f n + thirds g n
+add : (f g : ℕ → ℕ) (n : ℕ) → thirds (λ k. f k + g k) n ≡ thirds f n + thirds g n
 unfolding thirds
-sum f g zero = refl
-sum f g (suc n) = omega (arith, sum f g n)
+add f g zero = refl
+add f g (suc n) = omega (arith, add f g n)
 
-none : (n : ℕ) → thirds (λ k. 0) n ≡ 0
-unfolding thirds
-none zero = refl
-none (suc n) = omega (arith, none n)
-
--- one tile of a kind
-abbrev one : ℕ → ℕ → ℕ
-one kind k = cond (eqb k kind) 1 0
+thirds-sum : IsSum (λ f. thirds f 11)
+thirds-sum = record { same = λ f g. same f g 11; add = λ f g. add f g 11 }
 
 one-more : (kind n : ℕ) → cond (ltb kind (3 * n)) (kind % 3) 0 + (one kind (3 * n + 1) + 2 * one kind (3 * n + 2)) ≡ cond (ltb kind (3 * suc n)) (kind % 3) 0
 one-more kind n = grind (arith, nat_tests)
@@ -48,50 +43,22 @@ one-below kind (suc n) = ap (λ x. x + (one kind (3 * n + 1) + 2 * one kind (3 *
 of-one : (kind : ℕ) → kind < 34 → thirds (one kind) 11 ≡ kind % 3
 of-one kind h = let e = one-below kind 11 in grind (arith, nat_tests)
 
-run-is : (low k : ℕ) → copies (Run low) k ≡ one low k + (one (low + 1) k + one (low + 2) k)
-run-is low k = grind (arith, nat_tests)
-
-triplet-is : (kind k : ℕ) → copies (Triplet kind) k ≡ one kind k + (one kind k + one kind k)
-triplet-is kind k = grind (arith, nat_tests)
-
-pair-is : (kind k : ℕ) → copies (Pair kind) k ≡ one kind k + one kind k
-pair-is kind k = grind (arith, nat_tests)
-
-of-pair : (p : ℕ) → p < 34 → thirds (copies (Pair p)) 11 ≡ p % 3 + p % 3
-of-pair p h =
-    let e = same (copies (Pair p)) (λ k. one p k + one p k) 11 (pair-is p) in
-    omega (arith, e, sum (one p) (one p) 11, of-one p h)
-
 of-set : (block : Block) → IsSet block → (q : ℕ) × (thirds (copies block) 11 ≡ 3 * q)
 of-set (Run low) s =
-    let e = same (copies (Run low)) (λ k. one low k + (one (low + 1) k + one (low + 2) k)) 11 (run-is low) in
-    let f = sum (one low) (λ k. one (low + 1) k + one (low + 2) k) 11 in
-    let g = sum (one (low + 1)) (one (low + 2)) 11 in
-    let a = of-one low (omega (arith, s.0)) in
-    let b = of-one (low + 1) (omega (arith, s.0)) in
-    let d = of-one (low + 2) (omega (arith, s.0)) in
-    (1, omega (arith, e, f, g, a, b, d))
-of-set (Triplet kind) s =
-    let e = same (copies (Triplet kind)) (λ k. one kind k + (one kind k + one kind k)) 11 (triplet-is kind) in
-    let f = sum (one kind) (λ k. one kind k + one kind k) 11 in
-    let g = sum (one kind) (one kind) 11 in
-    (kind % 3, omega (arith, e, f, g, of-one kind s))
+    (1, omega (arith, sum-run (λ f. thirds f 11) thirds-sum low, of-one low (omega (arith, s.0)), of-one (low + 1) (omega (arith, s.0)), of-one (low + 2) (omega (arith, s.0))))
+of-set (Triplet kind) s = (kind % 3, omega (arith, sum-triplet (λ f. thirds f 11) thirds-sum kind, of-one kind s))
 of-set (Pair kind) s = absurd s
 
 of-sets : (blocks : List Block) → AllByRecursion IsSet blocks → (q : ℕ) × (thirds (total blocks) 11 ≡ 3 * q)
-of-sets [] s = (0, none 11)
+of-sets [] s = (0, sum-none (λ f. thirds f 11) thirds-sum)
 of-sets (block ∷ blocks) s =
     let a = of-set block s.0 in
     let b = of-sets blocks s.1 in
-    (a.0 + b.0, omega (arith, sum (copies block) (total blocks) 11, a.1, b.1))
+    (a.0 + b.0, omega (arith, add (copies block) (total blocks) 11, a.1, b.1))
 
 -- the pair beside sets
-of-all : (c : List ℕ) (blocks : List Block) (p : ℕ) → p < 34 → AllByRecursion IsSet blocks → ((k : ℕ) → copies (Pair p) k + total blocks k ≡ get_or c k 0) → p % 3 ≡ third_of_pair c
-of-all c blocks p h s add_up =
-    let e = same (λ k. copies (Pair p) k + total blocks k) (λ k. get_or c k 0) 11 add_up in
-    let f = sum (copies (Pair p)) (total blocks) 11 in
-    let q = of-sets blocks s in
-    omega (arith, e, f, q.1, of-pair p h)
+of-all : (c : List ℕ) (blocks : List Block) (p : ℕ) → p < 34 → AllByRecursion IsSet blocks → ((k : ℕ) → total (Pair p ∷ blocks) k ≡ get_or c k 0) → p % 3 ≡ third_of_pair c
+of-all c blocks p h s add_up = let q = of-sets blocks s in omega (arith, sum-split (λ f. thirds f 11) thirds-sum c blocks p add_up, q.1, of-one p h)
 
 beside : (c : List ℕ) (wanted p x : ℕ) (bs : List Block) → length c ≡ 34 → p < 34 → sets_beside c wanted p x ≡ Some bs → p % 3 ≡ third_of_pair c
 beside c wanted p x bs long h e =

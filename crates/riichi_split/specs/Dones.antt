@@ -10,14 +10,9 @@ use Rattle.riichi_split.specs.declared.reading.Reading.TheVariants.{Standard}
 -- the blocks are equal
 abbrev pub same_block : Block → Block → Bool
 same_block (Run low) (Run other) = low == other
-same_block (Run low) (Triplet other) = false
-same_block (Run low) (Pair other) = false
-same_block (Triplet kind) (Run other) = false
 same_block (Triplet kind) (Triplet other) = kind == other
-same_block (Triplet kind) (Pair other) = false
-same_block (Pair kind) (Run other) = false
-same_block (Pair kind) (Triplet other) = false
 same_block (Pair kind) (Pair other) = kind == other
+same_block block other = false
 
 abbrev pub is_among : Block → List Block → Bool
 is_among block [] = false

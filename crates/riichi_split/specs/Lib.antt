@@ -4,7 +4,6 @@ pub mod Winning
 pub mod Waits
 pub mod Sets
 pub mod Cuts
-pub mod Rests
 pub mod Dones
 pub mod SplitsLeft
 pub mod Left

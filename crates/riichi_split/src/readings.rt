@@ -7,7 +7,6 @@ use crate::sets::Sets;
 use crate::special::{are_seven_pairs, are_thirteen_orphans};
 use crate::split::Split;
 use crate::splits::Splits;
-use crate::suit::Rests;
 use riichi_tiles::{Counts, Kind, Melds};
 use std::iter::FusedIterator;
 use std::marker::Model;
@@ -56,7 +55,7 @@ impl Readings {
                 pair: Kind::at(0),
             },
             place: 1,
-            splits: Splits::new(counts, melds, Rests::of(tiles)),
+            splits: Splits::new(counts, melds),
         }
     }
 }

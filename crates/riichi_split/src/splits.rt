@@ -5,7 +5,7 @@ ghost use Rattle.riichi_split.specs.Cuts.{may_have_runs, sets_beside, from_choic
 use crate::cutting::cut;
 use crate::sets::Sets;
 use crate::split::Split;
-use crate::suit::Rests;
+use crate::suit::suit_of_pair;
 use riichi_tiles::{Counts, HeldKinds, Kind};
 use std::iter::FusedIterator;
 use std::marker::Model;
@@ -45,16 +45,14 @@ impl Model for Splits {
 
 impl Splits {
     ghost use Rattle.riichi_split.specs.Cuts.{AreTheSplits};
-    ghost use Rattle.riichi_split.specs.Rests.{AreRestsOf};
 
-    /// The splits of the tiles beside so many melds, with what they leave over in each suit.
-    pub(crate) fn new(counts: &Counts, melds: usize, rests: Rests) -> Splits
-        requires melds { melds ≤ 4 }
-        requires rests { AreRestsOf counts.now rests }
+    /// The splits of the tiles beside so many melds.
+    pub(crate) fn new(counts: &Counts, melds: usize) -> Splits
+        requires { melds ≤ 4 }
         ensures { AreTheSplits counts.now melds result }
     {
         let tiles = counts.as_array();
-        let suit = rests.suit_of_pair();
+        let suit = suit_of_pair(tiles);
         Splits {
             counts: *tiles,
             held: held_in(tiles),

@@ -11,64 +11,35 @@ pub(crate) struct Suit {
     pub(crate) kinds: usize,
 }
 
-/// How many tiles of each suit are left over beside sets of three.
-#[derive(Clone, Copy)]
-pub(crate) struct Rests {
-    pub(crate) characters: usize,
-    pub(crate) circles: usize,
-    pub(crate) bamboos: usize,
-    pub(crate) honours: usize,
-
-    ghost small: { (characters < 3) × (circles < 3) × (bamboos < 3) × (honours < 3) },
-}
-
-impl Rests {
-    ghost use Rattle.riichi_split.specs.Rests.{AreRestsOf};
-
-    pub(crate) fn of(counts: &[u8; 34]) -> Rests
-        ensures { AreRestsOf counts.now result }
-    {
-        Rests {
-            characters: rest_of(counts, 0, 9),
-            circles: rest_of(counts, 9, 9),
-            bamboos: rest_of(counts, 18, 9),
-            honours: rest_of(counts, 27, 7),
+/// The suit that has the pair of each split, or none of its kinds where there is no split.
+pub(crate) fn suit_of_pair(counts: &[u8; 34]) -> Suit
+    ensures pair { (melds : ℕ) (sets : List Block) (pair : ℕ) → IsSplit counts.now melds sets pair
+        → (result.first ≤ pair) × (pair < result.first + result.kinds) }
+    ensures within { result.first + result.kinds ≤ 34 }
+{
+    let characters = rest_of(counts, 0, 9);
+    let circles = rest_of(counts, 9, 9);
+    let bamboos = rest_of(counts, 18, 9);
+    let honours = rest_of(counts, 27, 7);
+    let none = Suit { first: 0, kinds: 0 };
+    if characters + circles + bamboos + honours != 2 {
+        none
+    } else if characters == 2 {
+        Suit { first: 0, kinds: 9 }
+    } else if circles == 2 {
+        Suit { first: 9, kinds: 9 }
+    } else if bamboos == 2 {
+        Suit {
+            first: 18,
+            kinds: 9,
         }
-    }
-
-    /// The suit that has the pair of each split, or none of its kinds where there is no split.
-    pub(crate) fn suit_of_pair(self) -> Suit
-        ensures pair { (counts : List ℕ) (melds : ℕ) (sets : List Block) (pair : ℕ)
-            → AreRestsOf counts self → IsSplit counts melds sets pair
-            → (result.first ≤ pair) × (pair < result.first + result.kinds) }
-        ensures within { result.first + result.kinds ≤ 34 }
-    {
-        let Rests {
-            characters,
-            circles,
-            bamboos,
-            honours,
-        } = self;
-        let none = Suit { first: 0, kinds: 0 };
-        if characters + circles + bamboos + honours != 2 {
-            none
-        } else if characters == 2 {
-            Suit { first: 0, kinds: 9 }
-        } else if circles == 2 {
-            Suit { first: 9, kinds: 9 }
-        } else if bamboos == 2 {
-            Suit {
-                first: 18,
-                kinds: 9,
-            }
-        } else if honours == 2 {
-            Suit {
-                first: 27,
-                kinds: 7,
-            }
-        } else {
-            none
+    } else if honours == 2 {
+        Suit {
+            first: 27,
+            kinds: 7,
         }
+    } else {
+        none
     }
 }
 

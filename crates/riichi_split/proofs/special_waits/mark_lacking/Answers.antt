@@ -1,4 +1,5 @@
-use Rattle.std.proofs.Common.{◌≡◌, true, false, sym, subst, List, Bool, rules}
+use Rattle.std.proofs.Common.{sym, subst, List, Bool, rules}
+use Rattle.std.proofs.lemmas.Bool.{iff_false}
 use Rattle.riichi_split.specs.SpecialWaits.{CompletesOrphans, Adds}
 use Rattle.riichi_split.proofs.SpecialKinds.{adds-none, adds-one, lacked-is}
 use Rattle.riichi_split.proofs.special_waits.mark_lacking.Goals as goal
@@ -12,7 +13,4 @@ returns-then-completes_orphans c =
 
 pub returns-else-completes_orphans : goal.returns-else-completes_orphans
 returns-else-completes_orphans c = adds-none (CompletesOrphans c.args.tiles.now) 34 c.args.marks.now (λ kind l o.
-    let only : kind ≡ c.args.lacking = lacked-is c.args.tiles.now kind c.args.lacking (search rules) c.requires.orphan c.requires.none o in
-    let t : c.completes_orphans.result ≡ true = c.completes_orphans.ensures.1 (subst (CompletesOrphans c.args.tiles.now) only o) in
-    let f : c.completes_orphans.result ≡ false = c.if-completes_orphans.false in
-    absurd (cc))
+    iff_false c.completes_orphans.ensures c.if-completes_orphans.false (subst (CompletesOrphans c.args.tiles.now) (lacked-is c.args.tiles.now kind c.args.lacking (search rules) c.requires.orphan c.requires.none o) o))

@@ -1,10 +1,8 @@
-use Rattle.std.proofs.Common.{◌≡◌, true, false}
+use Rattle.std.proofs.lemmas.Bool.{both_ways}
 use Rattle.riichi_split.specs.SpecialWaits.{CompletesOrphans}
 use Rattle.riichi_split.proofs.SpecialKinds.{adds-none}
 use Rattle.riichi_split.proofs.special_waits.mark_orphan_waits.Goals as goal
 
 pub returns-then-not-are_orphans_alone : goal.returns-then-not-are_orphans_alone
 returns-then-not-are_orphans_alone c = adds-none (CompletesOrphans c.args.tiles.now) 34 c.args.marks.now (λ kind l o.
-    let t : c.are_orphans_alone.result ≡ true = c.are_orphans_alone.ensures kind l (rw (c.as_array-counts.ensures.value) o) in
-    let f : c.are_orphans_alone.result ≡ false = c.if-not-are_orphans_alone.true in
-    absurd (cc))
+    both_ways c.are_orphans_alone.result c.if-not-are_orphans_alone.true (c.are_orphans_alone.ensures kind l (rw (c.as_array-counts.ensures.value) o)))

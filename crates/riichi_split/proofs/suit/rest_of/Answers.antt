@@ -1,5 +1,5 @@
 use Rattle.std.proofs.Common.{rules, ◌+◌, ap, sym, arith, get_or, add-one, ◌∙◌}
-use Rattle.riichi_split.proofs.Suits.{suit_total-zero, suit_total-suc}
+use Rattle.riichi_split.proofs.KindSums.{suit_total-zero, suit_total-suc}
 use Rattle.riichi_split.proofs.suit.rest_of.Goals as goal
 
 pub loop-kind-init : goal.loop-kind-init

@@ -1,6 +1,5 @@
 use Rattle.std.proofs.Common.{arith, ◌≡◌, ◌+◌, ◌-◌}
 use Rattle.riichi_tiles.specs.Tiles.{IsCounts}
-use Rattle.riichi_split.specs.Rests.{AreRestsOf}
 use Rattle.riichi_split.proofs.AllSplits.{the_splits}
 use Rattle.riichi_split.proofs.splits.Splits.new.Goals as goal
 
@@ -8,5 +7,4 @@ pub returns : goal.returns
 returns c =
     let four : 4 - c.args.melds + c.args.melds ≡ 4 = omega arith in
     let counts : IsCounts c.as_array-tiles.result.now = rw c.as_array-tiles.ensures.value c.as_array-tiles.ensures.counts in
-    let rests : AreRestsOf c.as_array-tiles.result.now c.args.rests = rw c.as_array-tiles.ensures.value c.requires.rests in
-    rw (c.choices_of.ensures.value, ← c.as_array-tiles.ensures.value) (the_splits c.as_array-tiles.result.now (4 - c.args.melds) c.args.melds c.at.result c.suit_of_pair-suit.result.first c.suit_of_pair-suit.result.kinds counts four c.suit_of_pair-suit.ensures.within (λ melds sets pair split. c.suit_of_pair-suit.ensures.pair c.as_array-tiles.result.now melds sets pair rests split))
+    rw (c.choices_of.ensures.value, ← c.as_array-tiles.ensures.value) (the_splits c.as_array-tiles.result.now (4 - c.args.melds) c.args.melds c.at.result c.suit_of_pair-suit.result.first c.suit_of_pair-suit.result.kinds counts four c.suit_of_pair-suit.ensures.within c.suit_of_pair-suit.ensures.pair)

@@ -1,4 +1,5 @@
-use Rattle.std.proofs.Common.{◌≡◌, ℕ, ◌+◌, List, Bool, true, set, sym, ap, subst, ◌∙◌, false, arith}
+use Rattle.std.proofs.Common.{◌≡◌, ℕ, ◌+◌, List, Bool, true, set, sym, ap, subst, ◌∙◌, arith}
+use Rattle.std.proofs.lemmas.Bool.{iff_false}
 use Rattle.riichi_tiles.specs.Kinds.{first_of}
 use Rattle.riichi_split.specs.SuitTiles.{Completes, MarksBelow}
 use Rattle.riichi_split.proofs.KindMarks.{marks-yes, marks-no}
@@ -21,5 +22,5 @@ loop-rank-preserved c =
           (marks-yes P kind c.loop-rank.marks small (c.is_completed_by.ensures.0 w.if-is_completed_by.true) c.loop-rank.invariant)
       | else-is_completed_by w ↦
           subst M (sym w.marks-is)
-          (marks-no P kind c.loop-rank.marks (λ h. let t : c.is_completed_by.result ≡ true = c.is_completed_by.ensures.1 h in let f : c.is_completed_by.result ≡ false = w.if-is_completed_by.false in absurd (cc)) c.loop-rank.invariant)
+          (marks-no P kind c.loop-rank.marks (iff_false c.is_completed_by.ensures w.if-is_completed_by.false) c.loop-rank.invariant)
     ])

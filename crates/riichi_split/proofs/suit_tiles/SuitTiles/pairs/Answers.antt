@@ -1,4 +1,5 @@
-use Rattle.std.proofs.Common.{◌≡◌, ◌∙◌, sym, false, true, arith}
+use Rattle.std.proofs.Common.{◌∙◌, sym, arith}
+use Rattle.std.proofs.lemmas.Bool.{iff_false}
 use Rattle.riichi_split.proofs.SuitCuts.{no-tiles, pairs-none, pairs-one, pairs-neither, sum-of-sets, sum-with-pair}
 use Rattle.riichi_split.proofs.suit_tiles.SuitTiles.pairs.Goals as goal
 
@@ -13,7 +14,7 @@ returns-then-are_sets-clause-pairs c = pairs-none c.args.self.now c.total-total.
 pub returns-else-are_sets-clause-pairs : goal.returns-else-are_sets-clause-pairs
 returns-else-are_sets-clause-pairs c =
     pairs-neither c.args.self.now c.total-total.ensures.nine
-    (λ s. let t : c.are_sets.result ≡ true = c.are_sets.ensures.1 s in let f : c.are_sets.result ≡ false = c.if-are_sets.false in absurd (cc))
+    (iff_false c.are_sets.ensures c.if-are_sets.false)
     (λ p. absurd (omega (arith, sum-with-pair c.args.self.now c.total-total.ensures.nine p, c.total-total.ensures.value, c.in-0.is)))
 
 pub returns-then-are_sets_and_pair-clause-pairs : goal.returns-then-are_sets_and_pair-clause-pairs
@@ -23,7 +24,7 @@ pub returns-else-are_sets_and_pair-clause-pairs : goal.returns-else-are_sets_and
 returns-else-are_sets_and_pair-clause-pairs c =
     pairs-neither c.args.self.now c.total-total.ensures.nine
     (λ s. absurd (omega (arith, sum-of-sets c.args.self.now s, c.total-total.ensures.value, c.in-2.is)))
-    (λ p. let t : c.are_sets_and_pair.result ≡ true = c.are_sets_and_pair.ensures.1 p in let f : c.are_sets_and_pair.result ≡ false = c.if-are_sets_and_pair.false in absurd (cc))
+    (iff_false c.are_sets_and_pair.ensures c.if-are_sets_and_pair.false)
 
 pub returns-in_default-clause-pairs : goal.returns-in_default-clause-pairs
 returns-in_default-clause-pairs c =
