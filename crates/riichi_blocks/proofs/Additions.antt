@@ -1,33 +1,18 @@
 -- More of a kind, and the tiles of melds.
-use Rattle.std.proofs.Common.{◌≡◌, ℕ, ◌+◌, ◌*◌, ◌<◌, ◌≤◌, inl, inr, cond, ◌∙◌, Bool, true, false, ◌&&◌, nat_eq, nat_le, List, [], ◌∷◌, ◌++◌, Some, length, set, get_or, take, sym, ap, arith}
+use Rattle.std.proofs.Common.{◌≡◌, ℕ, ◌+◌, ◌*◌, ◌<◌, ◌≤◌, cond, ◌∙◌, Bool, true, false, ◌&&◌, nat_eq, nat_le, List, [], ◌∷◌, ◌++◌, Some, length, set, get_or, take, sym, ap, arith}
 use Rattle.std.specs.List.{slice_get, list_all}
 use Rattle.std.proofs.lemmas.List.Folds.{list_all_at}
 use Rattle.std.proofs.lemmas.List.{take_more}
 use Rattle.std.proofs.lemmas.Option.{slice_get_within, get_or_from_slice_get}
-use Rattle.std.proofs.lemmas.List.{get_or-set_other}
-use Rattle.std.proofs.lemmas.Grind.{get_or-set_at}
 use Rattle.std.proofs.lemmas.Bool.{true≢false, true_from_ne_false}
-use Rattle.std.proofs.lemmas.Bool.Decides.{eqb_tells}
 use Rattle.riichi_tiles.specs.declared.meld.Meld.{Meld}
 use Rattle.riichi_tiles.specs.declared.meld.Meld.TheVariants.{Chi, Pon, Kan, Ankan}
 use Rattle.riichi_tiles.specs.Melds.{is_meld, tiles, tiles_of}
 use Rattle.riichi_hand.specs.declared.win.WinParts.{WinParts}
 use Rattle.riichi_hand.specs.Win.{copies_won}
+use Rattle.riichi_split.proofs.KindSums.{get_or-more}
 use Rattle.riichi_blocks.specs.Held.{all_tiles}
 use Rattle.std.proofs.lemmas.List.FromFn.{fill_by_all}
-
--- so many more at a place
-pub get_or-more : (counts : List ℕ) (place kind more : ℕ) → place < length counts → get_or (set counts place (get_or counts place 0 + more)) kind 0 ≡ get_or counts kind 0 + cond (nat_eq place kind) more 0
-get_or-more counts place kind more h =
-    elim (eqb_tells place kind) [
-      | inl t ↦
-          let one : cond {A = ℕ} (nat_eq place kind) more 0 ≡ more = ap (λ b. cond b more 0) t.0 in
-          let same : get_or counts kind 0 ≡ get_or counts place 0 = ap (λ k. get_or counts k 0) (sym t.1) in
-          omega (arith, get_or-set_at counts place kind (get_or counts place 0 + more) 0 (sym t.1) h, one, same)
-      | inr f ↦
-          let none : cond {A = ℕ} (nat_eq place kind) more 0 ≡ 0 = ap (λ b. cond b more 0) f.0 in
-          omega (arith, get_or-set_other counts place kind (get_or counts place 0 + more) 0 (λ e. f.1 (sym e)), none)
-    ]
 
 -- one meld more
 pub tiles-push : (melds : List Meld) (meld : Meld) (kind : ℕ) → tiles (melds ++ meld ∷ []) kind ≡ tiles melds kind + tiles_of meld kind
