@@ -23,12 +23,6 @@ pub record IsPeeled (k t r : ℕ) (bs rest : List Block) : Type 0 where
   pub sets : AllByRecursion IsSet rest
   pub may : 0 < r → IsRunLow k
 
-run-front : (a k : ℕ) (bs ys : List Block) → a ≡ k → bs ≡ ys → Run a ∷ bs ≡ Run k ∷ ys
-run-front a k bs ys e f = cc
-
-triplet-front : (a k : ℕ) (bs ys : List Block) → a ≡ k → bs ≡ ys → Triplet a ∷ bs ≡ Triplet k ∷ ys
-triplet-front a k bs ys e f = cc
-
 peel-runs : (bs : List Block) (k : ℕ) → AllByRecursion IsSet bs → IsOrderedFrom (2 * k + 1) bs → (r : ℕ) × (rest : List Block) × IsPeeled k 0 r bs rest
 peel-runs [] k s o = (0, [], record { parts = refl; order = tt; sets = tt; may = λ h. absurd (omega arith) })
 peel-runs (Triplet a ∷ bs) k s o = (0, Triplet a ∷ bs, record { parts = refl; order = (omega (arith, o.0), o.1); sets = s; may = λ h. absurd (omega arith) })
@@ -41,7 +35,7 @@ peel-runs (Run a ∷ bs) k s o =
           let P : ℕ → Type 0 = λ x. IsOrderedFrom (2 * x + 1) bs in
           let Q : ℕ → Type 0 = λ x. IsRunLow x in
           let i = peel-runs bs k s.1 (subst P e o.1) in
-          (suc i.0, i.1, record { parts = run-front a k _ _ e i.2.parts; order = i.2.order; sets = i.2.sets; may = λ _. subst Q e s.0 })
+          (suc i.0, i.1, record { parts = cc (e, i.2.parts); order = i.2.order; sets = i.2.sets; may = λ _. subst Q e s.0 })
     ]
 
 peel : (bs : List Block) (k : ℕ) → AllByRecursion IsSet bs → IsOrderedFrom (2 * k) bs → (t : ℕ) × (r : ℕ) × (rest : List Block) × IsPeeled k t r bs rest
@@ -55,7 +49,7 @@ peel (Triplet a ∷ bs) k s o =
           let e : a ≡ k = omega (arith, o.0) in
           let P : ℕ → Type 0 = λ x. IsOrderedFrom (2 * x) bs in
           let i = peel bs k s.1 (subst P e o.1) in
-          (suc i.0, i.1, i.2, record { parts = triplet-front a k _ _ e i.3.parts; order = i.3.order; sets = i.3.sets; may = i.3.may })
+          (suc i.0, i.1, i.2, record { parts = cc (e, i.3.parts); order = i.3.order; sets = i.3.sets; may = i.3.may })
     ]
 
 -- ---- completeness

@@ -87,16 +87,8 @@ IsPartWay-skip counts wanted all k sets one two left choices in_range small none
     let c : Choice = record { triplets = 0; runs = 0; choices = choices } in
     let is : choice_of k (get_or counts k 0) (may_have_runs (drop (k + 1) counts)) (one + two) left choices ≡ Some c = grind (arith, nat_tests) in
     let more = IsPartWay-more counts wanted all k sets one two left choices c in_range small h is in
-    let front : sets ++ begun k c ≡ sets = append-nil sets in
     let same : left - (0 + 0) ≡ left = omega arith in
-    record {
-      room = h.room;
-      few = h.few;
-      rest = more.rest ∙ ap (λ s. joined s (cut_from (k + 1) (drop (k + 1) counts) 0 one (left - (0 + 0)) choices)) front
-          ∙ ap (λ a. joined sets (cut_from (k + 1) (drop (k + 1) counts) a one (left - (0 + 0)) choices)) (sym e)
-          ∙ ap (λ b. joined sets (cut_from (k + 1) (drop (k + 1) counts) one b (left - (0 + 0)) choices)) (e ∙ sym f)
-          ∙ ap (λ d. joined sets (cut_from (k + 1) (drop (k + 1) counts) one two d choices)) same;
-    }
+    record { room = h.room; few = h.few; rest = rw (e, f) (rw (append-nil sets, same, e) at more.rest) }
 
 pub IsPartWay-none : (counts : List ℕ) (wanted all : ℕ) → IsPartWay counts wanted all 0 [] 0 0 wanted all
 IsPartWay-none counts wanted all =
@@ -104,24 +96,19 @@ IsPartWay-none counts wanted all =
     record { room = omega arith; few = (omega arith, omega arith); rest = sym (joined-none o) }
 
 -- some kinds without tiles, where nothing is carried
-pass : (counts : List ℕ) (wanted all from : ℕ) (more : ℕ) (sets : List Block) (left choices : ℕ) → from + more ≤ length counts → wanted ≤ 4 → ((kind : ℕ) → from ≤ kind → kind < from + more → get_or counts kind 0 ≡ 0) → IsPartWay counts wanted all from sets 0 0 left choices → IsPartWay counts wanted all (from + more) sets 0 0 left choices
-pass counts wanted all from zero sets left choices in_range small none h =
-    let same : from ≡ from + 0 = omega arith in
-    subst (λ (k : ℕ). IsPartWay counts wanted all k sets 0 0 left choices) same h
-pass counts wanted all from (suc more) sets left choices in_range small none h =
-    let before = pass counts wanted all from more sets left choices (omega arith) small (λ kind a b. none kind a (omega arith)) h in
-    let one = IsPartWay-skip counts wanted all (from + more) sets 0 0 left choices (omega arith) small (none (from + more) (omega arith) (omega arith)) refl refl before in
-    let next : from + more + 1 ≡ from + suc more = omega arith in
-    subst (λ (k : ℕ). IsPartWay counts wanted all k sets 0 0 left choices) next one
+pass : (counts : List ℕ) (wanted all from more : ℕ) (sets : List Block) (one two left choices : ℕ) → from + more ≤ length counts → wanted ≤ 4 → one ≡ 0 → two ≡ 0 → ((kind : ℕ) → from ≤ kind → kind < from + more → get_or counts kind 0 ≡ 0) → IsPartWay counts wanted all from sets one two left choices → IsPartWay counts wanted all (from + more) sets one two left choices
+pass counts wanted all from zero sets one two left choices in_range small e f none h =
+    subst (λ (k : ℕ). IsPartWay counts wanted all k sets one two left choices) (let same : from ≡ from + 0 = omega arith in same) h
+pass counts wanted all from (suc more) sets one two left choices in_range small e f none h =
+    let before = pass counts wanted all from more sets one two left choices (omega arith) small e f (λ kind a b. none kind a (omega arith)) h in
+    subst (λ (k : ℕ). IsPartWay counts wanted all k sets one two left choices) (let next : from + more + 1 ≡ from + suc more = omega arith in next)
+    (IsPartWay-skip counts wanted all (from + more) sets one two left choices (omega arith) small (none (from + more) (omega arith) (omega arith)) e f before)
 
 pub IsPartWay-pass : (counts : List ℕ) (wanted all from to : ℕ) (sets : List Block) (one two left choices : ℕ) → from ≤ to → to ≤ length counts → wanted ≤ 4 → one ≡ 0 → two ≡ 0 → ((kind : ℕ) → from ≤ kind → kind < to → get_or counts kind 0 ≡ 0) → IsPartWay counts wanted all from sets one two left choices → IsPartWay counts wanted all to sets one two left choices
 IsPartWay-pass counts wanted all from to sets one two left choices before in_range small e f none h =
     let there : from + (to - from) ≡ to = omega arith in
-    let begun' : IsPartWay counts wanted all from sets 0 0 left choices = subst (λ (b : ℕ). IsPartWay counts wanted all from sets 0 b left choices) f (subst (λ (a : ℕ). IsPartWay counts wanted all from sets a two left choices) e h) in
-    let passed = pass counts wanted all from (to - from) sets left choices (omega arith) small (λ kind a b. none kind a (omega arith)) begun' in
     subst (λ (k : ℕ). IsPartWay counts wanted all k sets one two left choices) there
-    (subst (λ (a : ℕ). IsPartWay counts wanted all (from + (to - from)) sets a two left choices) (sym e)
-    (subst (λ (b : ℕ). IsPartWay counts wanted all (from + (to - from)) sets 0 b left choices) (sym f) passed))
+    (pass counts wanted all from (to - from) sets one two left choices (omega arith) small e f (λ kind a b. none kind a (omega arith)) h)
 
 no-choice : (k : ℕ) (in_doubt : Bool) (below left choices : ℕ) → 0 < below → choice_of k 0 in_doubt below left choices ≡ None
 no-choice k in_doubt below left choices h = grind (arith, nat_tests)

@@ -1,7 +1,7 @@
 -- What `cut_from` gives is a list of ordered sets which uses up the counts, and each such list is given, for one number of choices.
-use Rattle.std.proofs.Common.{leb, ◌&&◌, ◌^◌, ◌≡◌, ℕ, zero, suc, ◌+◌, ◌-◌, ◌*◌, ◌<◌, ◌≤◌, Bool, true, false, cond, inl, inr, Option, Some, None, List, [], ◌∷◌, ◌++◌, length, get_or, replicate, refl, sym, ap, ◌∙◌, subst, arith, ltb, eqb, length-append, option_and_then}
+use Rattle.std.proofs.Common.{leb, ◌&&◌, ◌^◌, ◌≡◌, ℕ, zero, suc, ◌+◌, ◌-◌, ◌*◌, ◌<◌, ◌≤◌, Bool, true, false, cond, inl, inr, Option, Some, None, List, [], ◌∷◌, ◌++◌, length, get_or, replicate, refl, sym, ap, ◌∙◌, subst, arith, ltb, eqb, length-append, append_assoc, option_and_then}
 use Rattle.std.specs.List.{AllByRecursion}
-use Rattle.std.proofs.lemmas.Bool.{cases_lt}
+use Rattle.std.proofs.lemmas.Bool.{cases_lt, eqb-true}
 use Rattle.std.proofs.lemmas.Bool.Decides.{nat_tests}
 use Rattle.std.proofs.lemmas.List.{length-replicate}
 use Rattle.std.proofs.Math.Pow.{pow_mono}
@@ -9,7 +9,6 @@ use Rattle.std.proofs.Math.Nat.{two-pow-succ}
 use Rattle.riichi_tiles.specs.declared.block.Block.{Block}
 use Rattle.riichi_tiles.specs.declared.block.Block.TheVariants.{Run, Triplet, Pair}
 use Rattle.riichi_split.specs.declared.cutting.Choice.{Choice}
-use Rattle.riichi_tiles.specs.Kinds.{IsRunLow}
 use Rattle.riichi_tiles.specs.Blocks.{copies, total, IsSet, IsOrderedFrom}
 use Rattle.riichi_split.specs.Cuts.{choice_of, may_have_runs, begun, joined, cut_from, doubts}
 use Rattle.riichi_split.proofs.Cuts.{IsChoice, IsChoice-from, cut_from-cons, cut_from-nil, after}
@@ -31,13 +30,9 @@ pub total-append : (xs ys : List Block) (k : ℕ) → total (xs ++ ys) k ≡ tot
 total-append [] ys k = omega arith
 total-append (x ∷ xs) ys k = omega (arith, total-append xs ys k)
 
-total-triplets : (t k j : ℕ) → total (replicate t (Triplet k)) (k + j) ≡ t * copies (Triplet k) (k + j)
-total-triplets zero k j = omega arith
-total-triplets (suc t) k j = grind (arith, total-triplets t k j)
-
-total-runs : (r k j : ℕ) → total (replicate r (Run k)) (k + j) ≡ r * copies (Run k) (k + j)
-total-runs zero k j = omega arith
-total-runs (suc r) k j = grind (arith, total-runs r k j)
+total-replicate : (n kind : ℕ) (b : Block) → total (replicate n b) kind ≡ n * copies b kind
+total-replicate zero kind b = omega arith
+total-replicate (suc n) kind b = grind (arith, total-replicate n kind b)
 
 -- blocks listed from the next kind on have no tile of kind k
 pub none_below : (bs : List Block) (p k : ℕ) → AllByRecursion IsSet bs → IsOrderedFrom p bs → 2 * k + 2 ≤ p → total bs k ≡ 0
@@ -56,8 +51,8 @@ pub begun-total : (k j : ℕ) (c : Choice) (bs : List Block) → total (begun k 
 begun-total k j c bs =
     let e = total-append (begun k c) bs (k + j) in
     let f = total-append (replicate c.triplets (Triplet k)) (replicate c.runs (Run k)) (k + j) in
-    let t = total-triplets c.triplets k j ∙ ap (λ n. c.triplets * n) (copies-triplet k j) in
-    let r = total-runs c.runs k j ∙ ap (λ n. c.runs * n) (copies-run k j) in
+    let t = total-replicate c.triplets (k + j) (Triplet k) ∙ ap (λ n. c.triplets * n) (copies-triplet k j) in
+    let r = total-replicate c.runs (k + j) (Run k) ∙ ap (λ n. c.runs * n) (copies-run k j) in
     omega arith
 
 pub same-total : (bs : List Block) (i j : ℕ) → i ≡ j → total bs i ≡ total bs j
@@ -86,13 +81,9 @@ begun-order : (t r k : ℕ) (bs : List Block) → IsOrderedFrom (2 * k + 2) bs �
 begun-order zero r k bs o = order-weaker (replicate r (Run k) ++ bs) (2 * k + 1) (2 * k) (omega arith) (runs-order r k bs o)
 begun-order (suc t) r k bs o = (omega arith, begun-order t r k bs o)
 
-pub runs-sets : (r k : ℕ) (bs : List Block) → (0 < r → IsRunLow k) → AllByRecursion IsSet bs → AllByRecursion IsSet (replicate r (Run k) ++ bs)
-runs-sets zero k bs m s = s
-runs-sets (suc r) k bs m s = (m (omega arith), runs-sets r k bs (λ h. m (omega arith)) s)
-
-begun-sets : (t r k : ℕ) (bs : List Block) → k < 34 → (0 < r → IsRunLow k) → AllByRecursion IsSet bs → AllByRecursion IsSet ((replicate t (Triplet k) ++ replicate r (Run k)) ++ bs)
-begun-sets zero r k bs h m s = runs-sets r k bs m s
-begun-sets (suc t) r k bs h m s = (h, begun-sets t r k bs h m s)
+pub sets-replicate : (n : ℕ) (b : Block) (bs : List Block) → (0 < n → IsSet b) → AllByRecursion IsSet bs → AllByRecursion IsSet (replicate n b ++ bs)
+sets-replicate zero b bs m s = s
+sets-replicate (suc n) b bs m s = (m (omega arith), sets-replicate n b bs (λ h. m (omega arith)) s)
 
 -- ---- soundness
 
@@ -100,40 +91,56 @@ joined-inv : (front bs : List Block) (o : Option (List Block)) → joined front 
 joined-inv front bs None e = absurd (cc)
 joined-inv front bs (Some rest) e = (rest, refl, cc)
 
+-- the choice at the first kind, and the sets of the kinds above it
+record IsOpened (n : ℕ) (ns : List ℕ) (k one two left choices : ℕ) (bs : List Block) : Type 0 where
+  choice : Choice
+  rest : List Block
+  ok : IsChoice k n (may_have_runs ns) (one + two) left choices choice
+  cut : cut_from (k + 1) ns choice.runs one (left - (choice.triplets + choice.runs)) choice.choices ≡ Some rest
+  parts : bs ≡ begun k choice ++ rest
+
+chosen : (n : ℕ) (ns : List ℕ) (k one two left choices : ℕ) (bs : List Block) (o : Option Choice) → choice_of k n (may_have_runs ns) (one + two) left choices ≡ o → option_and_then (after k ns one left) o ≡ Some bs → IsOpened n ns k one two left choices bs
+chosen n ns k one two left choices bs None e f = absurd (cc)
+chosen n ns k one two left choices bs (Some c) e f =
+    let j = joined-inv (begun k c) bs (cut_from (k + 1) ns c.runs one (left - (c.triplets + c.runs)) c.choices) f in
+    record { choice = c; rest = j.0; ok = IsChoice-from k n (may_have_runs ns) (one + two) left choices c e; cut = j.1; parts = j.2 }
+
+opened : (n : ℕ) (ns : List ℕ) (k one two left choices : ℕ) (bs : List Block) → cut_from k (n ∷ ns) one two left choices ≡ Some bs → IsOpened n ns k one two left choices bs
+opened n ns k one two left choices bs e = chosen n ns k one two left choices bs _ refl (sym (cut_from-cons k n ns one two left choices _ refl) ∙ e)
+
+-- past the last kind nothing is left
+ended : (b : Bool) (bs : List Block) → cond b (Some []) None ≡ Some bs → (b ≡ true) × (bs ≡ [])
+ended true bs e = (refl, cc)
+ended false bs e = absurd (cc)
+
+at-end : (k one two left choices : ℕ) (bs : List Block) → cut_from k [] one two left choices ≡ Some bs → (one + two + left + choices ≡ 0) × (bs ≡ [])
+at-end k one two left choices bs e =
+    let z = ended (eqb (one + two + left + choices) 0) bs (sym (cut_from-nil k one two left choices) ∙ e) in
+    (eqb-true (one + two + left + choices) 0 z.0, z.1)
+
 nothing-carried : (one two j : ℕ) → one + two ≡ 0 → get_or {A = ℕ} [] j 0 ≡ carried one two j + 0
 nothing-carried one two zero h = omega arith
 nothing-carried one two (suc zero) h = omega arith
 nothing-carried one two (suc (suc j)) h = refl
 
-end-cut : (k one two left choices : ℕ) (b : Bool) (bs : List Block) → b ≡ eqb (one + two + left + choices) 0 → cond b (Some []) None ≡ Some bs → IsCut k [] one two left bs
-end-cut k one two left choices true bs t e =
-    let z : one + two + left + choices ≡ 0 = grind (arith, nat_tests) in
-    let n : [] ≡ bs = cc in
-    let P : List Block → Type 0 = λ x. IsCut k [] one two left x in
-    subst P n (record { many = omega arith; sets = tt; order = tt; adds = λ j. nothing-carried one two j (omega arith) })
-end-cut k one two left choices false bs t e = absurd (cc)
-
-pub cut-more : (k n : ℕ) (ns : List ℕ) (one two left choices : ℕ) (c : Choice) (rest : List Block) → k < 34 → IsChoice k n (may_have_runs ns) (one + two) left choices c → IsCut (k + 1) ns c.runs one (left - (c.triplets + c.runs)) rest → IsCut k (n ∷ ns) one two left (begun k c ++ rest)
+cut-more : (k n : ℕ) (ns : List ℕ) (one two left choices : ℕ) (c : Choice) (rest : List Block) → k < 34 → IsChoice k n (may_have_runs ns) (one + two) left choices c → IsCut (k + 1) ns c.runs one (left - (c.triplets + c.runs)) rest → IsCut k (n ∷ ns) one two left (begun k c ++ rest)
 cut-more k n ns one two left choices c rest l ok h =
     let o : IsOrderedFrom (2 * k + 2) rest = order-weaker rest (2 * (k + 1)) (2 * k + 2) (omega arith) h.order in
     record {
       many = simp (length-append, length-replicate) (omega (arith, ok.room, h.many));
-      sets = begun-sets c.triplets c.runs k rest l ok.may h.sets;
+      sets = rw append_assoc (sets-replicate c.triplets (Triplet k) (replicate c.runs (Run k) ++ rest) (λ some. l) (sets-replicate c.runs (Run k) rest ok.may h.sets));
       order = begun-order c.triplets c.runs k rest o;
       adds = adds-more k n ns one two left choices c rest ok (none_below rest (2 * k + 2) k h.sets o (omega arith)) h.adds;
     }
 
-cut-from-chosen : (n : ℕ) (ns : List ℕ) (k one two left choices : ℕ) (bs : List Block) → k < 34 → ((c : Choice) (rest : List Block) → cut_from (k + 1) ns c.runs one (left - (c.triplets + c.runs)) c.choices ≡ Some rest → IsCut (k + 1) ns c.runs one (left - (c.triplets + c.runs)) rest) → (o : Option Choice) → choice_of k n (may_have_runs ns) (one + two) left choices ≡ o → option_and_then (after k ns one left) o ≡ Some bs → IsCut k (n ∷ ns) one two left bs
-cut-from-chosen n ns k one two left choices bs l ih None o e = absurd (cc)
-cut-from-chosen n ns k one two left choices bs l ih (Some c) o e =
-    let j = joined-inv (begun k c) bs (cut_from (k + 1) ns c.runs one (left - (c.triplets + c.runs)) c.choices) e in
-    let P : List Block → Type 0 = λ x. IsCut k (n ∷ ns) one two left x in
-    subst P (sym j.2) (cut-more k n ns one two left choices c j.0 l (IsChoice-from k n (may_have_runs ns) (one + two) left choices c o) (ih c j.0 j.1))
-
 pub IsCut-from : (ns : List ℕ) (k one two left choices : ℕ) (bs : List Block) → k + length ns ≡ 34 → cut_from k ns one two left choices ≡ Some bs → IsCut k ns one two left bs
-IsCut-from [] k one two left choices bs l e = end-cut k one two left choices _ bs refl (sym (cut_from-nil k one two left choices) ∙ e)
+IsCut-from [] k one two left choices bs l e =
+    let z = at-end k one two left choices bs e in
+    subst (IsCut k [] one two left) (sym z.1) (record { many = omega (arith, z.0); sets = tt; order = tt; adds = λ j. nothing-carried one two j (omega (arith, z.0)) })
 IsCut-from (n ∷ ns) k one two left choices bs l e =
-    cut-from-chosen n ns k one two left choices bs (omega arith) (λ c rest f. IsCut-from ns (k + 1) c.runs one (left - (c.triplets + c.runs)) c.choices rest (omega arith) f) _ refl (sym (cut_from-cons k n ns one two left choices _ refl) ∙ e)
+    let o = opened n ns k one two left choices bs e in
+    let c = o.choice in
+    subst (IsCut k (n ∷ ns) one two left) (sym o.parts) (cut-more k n ns one two left choices c o.rest (omega arith) o.ok (IsCut-from ns (k + 1) c.runs one (left - (c.triplets + c.runs)) c.choices o.rest (omega arith) o.cut))
 
 -- ---- one number of choices
 
@@ -154,69 +161,43 @@ begun-same (suc zero) r (suc zero) s k xs ys p q h e = (refl, omega arith, repli
 begun-same (suc (suc t)) r (suc u) s k xs ys p q h e = absurd (omega arith)
 begun-same (suc zero) r (suc (suc u)) s k xs ys p q h e = absurd (omega arith)
 
-same-end : (k one two left choices others : ℕ) (b d : Bool) (bs : List Block) → b ≡ eqb (one + two + left + choices) 0 → d ≡ eqb (one + two + left + others) 0 → cond b (Some []) None ≡ Some bs → cond d (Some []) None ≡ Some bs → choices ≡ others
-same-end k one two left choices others true true bs t u e f =
-    let z : one + two + left + choices ≡ 0 = grind (arith, nat_tests) in
-    let y : one + two + left + others ≡ 0 = grind (arith, nat_tests) in
-    omega arith
-same-end k one two left choices others false d bs t u e f = absurd (cc)
-same-end k one two left choices others true false bs t u e f = absurd (cc)
-
-same-number : (n below choices others : ℕ) (c d : Choice) (in_doubt : Bool) → c.triplets ≡ d.triplets → c.choices ≡ d.choices → (n < below + 3 → c.choices ≡ choices) → (n < below + 3 → d.choices ≡ others) → (below + 3 ≤ n → in_doubt ≡ false → (c.triplets ≡ 1) × (c.choices ≡ choices)) → (below + 3 ≤ n → in_doubt ≡ false → (d.triplets ≡ 1) × (d.choices ≡ others)) → (below + 3 ≤ n → in_doubt ≡ true → choices ≡ c.triplets + 2 * c.choices) → (below + 3 ≤ n → in_doubt ≡ true → others ≡ d.triplets + 2 * d.choices) → choices ≡ others
-same-number n below choices others c d true s q xi yi xc yc xb yb =
-    elim (cases_lt n (below + 3)) [
-      | inl h ↦ omega (arith, xi h, yi h, q)
-      | inr h ↦ omega (arith, xb (omega arith) refl, yb (omega arith) refl, q, s)
-    ]
-same-number n below choices others c d false s q xi yi xc yc xb yb =
-    elim (cases_lt n (below + 3)) [
-      | inl h ↦ omega (arith, xi h, yi h, q)
-      | inr h ↦ let x = xc (omega arith) refl in let y = yc (omega arith) refl in omega (arith, x.1, y.1, q)
-    ]
-
-same-after : (n : ℕ) (ns : List ℕ) (k one two left choices others : ℕ) (bs : List Block) → ((r m x y : ℕ) (rest : List Block) → cut_from (k + 1) ns r one m x ≡ Some rest → cut_from (k + 1) ns r one m y ≡ Some rest → x ≡ y) → (o p : Option Choice) → choice_of k n (may_have_runs ns) (one + two) left choices ≡ o → choice_of k n (may_have_runs ns) (one + two) left others ≡ p → option_and_then (after k ns one left) o ≡ Some bs → option_and_then (after k ns one left) p ≡ Some bs → choices ≡ others
-same-after n ns k one two left choices others bs ih None p a b e f = absurd (cc)
-same-after n ns k one two left choices others bs ih (Some c) None a b e f = absurd (cc)
-same-after n ns k one two left choices others bs ih (Some c) (Some d) a b e f =
-    let i = joined-inv (begun k c) bs (cut_from (k + 1) ns c.runs one (left - (c.triplets + c.runs)) c.choices) e in
-    let j = joined-inv (begun k d) bs (cut_from (k + 1) ns d.runs one (left - (d.triplets + d.runs)) d.choices) f in
-    let x = IsChoice-from k n (may_have_runs ns) (one + two) left choices c a in
-    let y = IsChoice-from k n (may_have_runs ns) (one + two) left others d b in
-    let s = begun-same c.triplets c.runs d.triplets d.runs k i.0 j.0 x.single y.single (omega (arith, x.uses, y.uses)) (sym i.2 ∙ j.2) in
-    let g : cut_from (k + 1) ns c.runs one (left - (c.triplets + c.runs)) d.choices ≡ Some i.0 =
-    ap (λ r. cut_from (k + 1) ns r one (left - (c.triplets + c.runs)) d.choices) s.1 ∙ ap (λ m. cut_from (k + 1) ns d.runs one m d.choices) (omega (arith, s.0, s.1)) ∙ j.1 ∙ ap Some (sym s.2) in
-    let q = ih c.runs (left - (c.triplets + c.runs)) c.choices d.choices i.0 i.1 g in
-    same-number n (one + two) choices others c d (may_have_runs ns) s.0 q x.idle y.idle x.certain y.certain x.bit y.bit
+same-number : (k n below left choices others : ℕ) (in_doubt : Bool) (c d : Choice) → IsChoice k n in_doubt below left choices c → IsChoice k n in_doubt below left others d → c.triplets ≡ d.triplets → c.choices ≡ d.choices → choices ≡ others
+same-number k n below left choices others true c d x y s q = elim (cases_lt n (below + 3)) [
+  | inl h ↦ omega (arith, x.idle h, y.idle h, q)
+  | inr h ↦ omega (arith, x.bit h refl, y.bit h refl, q, s)
+]
+same-number k n below left choices others false c d x y s q = elim (cases_lt n (below + 3)) [
+  | inl h ↦ omega (arith, x.idle h, y.idle h, q)
+  | inr h ↦ omega (arith, (x.certain h refl).1, (y.certain h refl).1, q)
+]
 
 pub same_choices : (ns : List ℕ) (k one two left choices others : ℕ) (bs : List Block) → cut_from k ns one two left choices ≡ Some bs → cut_from k ns one two left others ≡ Some bs → choices ≡ others
-same_choices [] k one two left choices others bs e f =
-    same-end k one two left choices others _ _ bs refl refl (sym (cut_from-nil k one two left choices) ∙ e) (sym (cut_from-nil k one two left others) ∙ f)
+same_choices [] k one two left choices others bs e f = omega (arith, (at-end k one two left choices bs e).0, (at-end k one two left others bs f).0)
 same_choices (n ∷ ns) k one two left choices others bs e f =
-    same-after n ns k one two left choices others bs (λ r m x y rest. same_choices ns (k + 1) r one m x y rest) _ _ refl refl (sym (cut_from-cons k n ns one two left choices _ refl) ∙ e) (sym (cut_from-cons k n ns one two left others _ refl) ∙ f)
+    let x = opened n ns k one two left choices bs e in
+    let y = opened n ns k one two left others bs f in
+    let c = x.choice in
+    let d = y.choice in
+    let s = begun-same c.triplets c.runs d.triplets d.runs k x.rest y.rest x.ok.single y.ok.single (omega (arith, x.ok.uses, y.ok.uses)) (sym x.parts ∙ y.parts) in
+    let g : cut_from (k + 1) ns c.runs one (left - (c.triplets + c.runs)) d.choices ≡ Some x.rest =
+    ap (λ r. cut_from (k + 1) ns r one (left - (c.triplets + c.runs)) d.choices) s.1 ∙ ap (λ m. cut_from (k + 1) ns d.runs one m d.choices) (omega (arith, s.0, s.1)) ∙ y.cut ∙ ap Some (sym s.2) in
+    same-number k n (one + two) left choices others (may_have_runs ns) c d x.ok y.ok s.0 (same_choices ns (k + 1) c.runs one (left - (c.triplets + c.runs)) c.choices d.choices x.rest x.cut g)
 
 -- ---- how many choices
 
-few-end : (k one two left choices : ℕ) (b : Bool) (bs : List Block) → b ≡ eqb (one + two + left + choices) 0 → cond b (Some []) None ≡ Some bs → choices < 1
-few-end k one two left choices true bs t e = let z : one + two + left + choices ≡ 0 = grind (arith, nat_tests) in omega arith
-few-end k one two left choices false bs t e = absurd (cc)
-
-few-step : (n m below t rest choices : ℕ) (in_doubt : Bool) → t ≤ 1 → rest < 2 ^ m → (n < below + 3 → rest ≡ choices) → (below + 3 ≤ n → in_doubt ≡ false → (t ≡ 1) × (rest ≡ choices)) → (below + 3 ≤ n → in_doubt ≡ true → choices ≡ t + 2 * rest) → choices < 2 ^ (m + cond (leb 3 n && in_doubt) 1 0)
-few-step n m below t rest choices false single h idle certain bit =
+few-step : (k n m below left choices : ℕ) (in_doubt : Bool) (c : Choice) → IsChoice k n in_doubt below left choices c → c.choices < 2 ^ m → choices < 2 ^ (m + cond (leb 3 n && in_doubt) 1 0)
+few-step k n m below left choices false c ok h =
     let up : 2 ^ m ≤ 2 ^ (m + cond (leb 3 n && false) 1 0) = pow_mono (omega arith) in
-    elim (cases_lt n (below + 3)) [
-      | inl l ↦ omega (arith, idle l)
-      | inr g ↦ let c = certain (omega arith) refl in omega (arith, c.1)
-    ]
-few-step n m below t rest choices true single h idle certain bit =
-    let two : 2 ^ suc m ≡ 2 ^ m + 2 ^ m = two-pow-succ m in
+    elim (cases_lt n (below + 3)) [ inl l ↦ omega (arith, ok.idle l) | inr g ↦ omega (arith, (ok.certain g refl).1) ]
+few-step k n m below left choices true c ok h =
     elim (cases_lt n (below + 3)) [
       | inl l ↦
           let up : 2 ^ m ≤ 2 ^ (m + cond (leb 3 n && true) 1 0) = pow_mono (omega arith) in
-          omega (arith, idle l)
+          omega (arith, ok.idle l)
       | inr g ↦
           let e : m + cond (leb 3 n && true) 1 0 ≡ suc m = grind (arith, nat_tests) in
           let up : 2 ^ suc m ≤ 2 ^ (m + cond (leb 3 n && true) 1 0) = pow_mono (omega arith) in
-          omega (arith, bit (omega arith) refl)
+          omega (arith, ok.bit g refl, ok.single, two-pow-succ m)
     ]
 
 pub doubts-cons : (n : ℕ) (ns : List ℕ) → doubts (n ∷ ns) ≡ doubts ns + cond (leb 3 n && may_have_runs ns) 1 0
@@ -227,15 +208,10 @@ pub doubts-nil : doubts [] ≡ 0
 unfolding doubts
 doubts-nil = refl
 
-few-chosen : (n : ℕ) (ns : List ℕ) (k one two left choices : ℕ) (bs : List Block) → ((c : Choice) (rest : List Block) → cut_from (k + 1) ns c.runs one (left - (c.triplets + c.runs)) c.choices ≡ Some rest → c.choices < 2 ^ doubts ns) → (o : Option Choice) → choice_of k n (may_have_runs ns) (one + two) left choices ≡ o → option_and_then (after k ns one left) o ≡ Some bs → choices < 2 ^ doubts (n ∷ ns)
-few-chosen n ns k one two left choices bs ih None o e = absurd (cc)
-few-chosen n ns k one two left choices bs ih (Some c) o e =
-    let j = joined-inv (begun k c) bs (cut_from (k + 1) ns c.runs one (left - (c.triplets + c.runs)) c.choices) e in
-    let i = IsChoice-from k n (may_have_runs ns) (one + two) left choices c o in
-    rw (doubts-cons n ns) (few-step n (doubts ns) (one + two) c.triplets c.choices choices (may_have_runs ns) i.single (ih c j.0 j.1) i.idle i.certain i.bit)
-
 -- no more choices are made than there are kinds in doubt
 pub few_choices : (ns : List ℕ) (k one two left choices : ℕ) (bs : List Block) → cut_from k ns one two left choices ≡ Some bs → choices < 2 ^ doubts ns
-few_choices [] k one two left choices bs e = rw doubts-nil (few-end k one two left choices _ bs refl (sym (cut_from-nil k one two left choices) ∙ e))
+few_choices [] k one two left choices bs e = rw doubts-nil (omega (arith, (at-end k one two left choices bs e).0))
 few_choices (n ∷ ns) k one two left choices bs e =
-    few-chosen n ns k one two left choices bs (λ c rest f. few_choices ns (k + 1) c.runs one (left - (c.triplets + c.runs)) c.choices rest f) _ refl (sym (cut_from-cons k n ns one two left choices _ refl) ∙ e)
+    let o = opened n ns k one two left choices bs e in
+    let c = o.choice in
+    rw (doubts-cons n ns) (few-step k n (doubts ns) (one + two) left choices (may_have_runs ns) c o.ok (few_choices ns (k + 1) c.runs one (left - (c.triplets + c.runs)) c.choices o.rest o.cut))

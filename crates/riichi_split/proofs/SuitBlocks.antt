@@ -10,7 +10,7 @@ use Rattle.riichi_tiles.specs.declared.suit.Suit.TheVariants.{Characters, Circle
 use Rattle.riichi_tiles.specs.Kinds.{IsRunLow, first_of}
 use Rattle.riichi_tiles.specs.Blocks.{copies, total, IsSet}
 use Rattle.riichi_split.specs.SuitTiles.{AreCut, has_runs, nine_from}
-use Rattle.riichi_split.proofs.Sound.{total-append, runs-sets}
+use Rattle.riichi_split.proofs.Sound.{total-append, sets-replicate}
 
 -- ---- sets cut each suit
 
@@ -106,10 +106,6 @@ more-runs : (r k : ℕ) (bs : List Block) (kind : ℕ) → total (replicate r (R
 more-runs zero k bs kind = grind (arith, nat_tests)
 more-runs (suc r) k bs kind = let i = more-runs r k bs kind in grind (arith, nat_tests)
 
-triplets-sets : (t k : ℕ) (bs : List Block) → (0 < t → k < 34) → AllByRecursion IsSet bs → AllByRecursion IsSet (replicate t (Triplet k) ++ bs)
-triplets-sets zero k bs l s = s
-triplets-sets (suc t) k bs l s = (l (omega arith), triplets-sets t k bs (λ h. l (omega arith)) s)
-
 made-nil : (one two k kind held : ℕ) → one + two ≡ 0 → 0 + carried k one two kind ≡ within k 0 kind held
 unfolding carried within
 made-nil one two k kind held e = grind (arith, nat_tests)
@@ -146,7 +142,7 @@ made f runs first end kinds low (suc n) k one two l e s =
     let is : f k ≡ one + two + 3 * s.0 + s.1 = s.2 in (
       replicate s.0 (Triplet k) ++ front,
       record {
-        sets = triplets-sets s.0 k front (λ h. kinds k (omega (arith, is))) (runs-sets s.1 k i.0 (λ h. low k n l e (long runs f n (k + 1) s.1 one s.4 h) (s.3 h)) i.1.sets);
+        sets = sets-replicate s.0 (Triplet k) front (λ h. kinds k (omega (arith, is))) (sets-replicate s.1 (Run k) i.0 (λ h. low k n l e (long runs f n (k + 1) s.1 one s.4 h) (s.3 h)) i.1.sets);
         adds = λ kind. made-step k n one two s.0 s.1 kind (f kind) _ _ (total i.0 kind) (more-triplets s.0 k front kind) (more-runs s.1 k i.0 kind) (i.1.adds kind) (λ same. ap f same ∙ is);
       },
     )
