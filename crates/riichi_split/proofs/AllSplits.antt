@@ -11,8 +11,9 @@ use Rattle.riichi_tiles.specs.declared.block.Block.{Block}
 use Rattle.riichi_tiles.specs.Blocks.{total}
 use Rattle.riichi_split.specs.declared.split.Split.{Split}
 use Rattle.riichi_split.specs.Readings.{IsSplit}
-use Rattle.riichi_split.specs.Cuts.{AreTheSplits, cut_from, sets_beside, split_of, from_choices, from_pairs, doubts}
-use Rattle.riichi_split.proofs.Lists.{IsIn, Differ, in-left, in-right, in-cases, Differ-append, Contains-in, All-in, AllPairs-differ}
+use Rattle.riichi_split.specs.Cuts.{AreTheSplits, cut_from, sets_beside, split_of, from_choices, from_pairs, falling, doubts}
+use Rattle.riichi_split.proofs.Falling.{in-falling, falling-inv, Differ-falling}
+use Rattle.riichi_split.proofs.Lists.{IsIn, Differ, Contains-in, All-in, AllPairs-differ}
 use Rattle.riichi_split.proofs.Sound.{carried, IsCut, IsCut-from, same_choices, few_choices, same-total}
 use Rattle.riichi_split.proofs.Complete.{found-by, IsFound}
 
@@ -125,39 +126,25 @@ Differ-split_of p (Some sets) = (λ h. h, tt)
 
 from_choices-inv : (c : List ℕ) (wanted p n : ℕ) (s : Split) → IsIn s (from_choices c wanted p n) → (p ≡ s.pair) × ((x : ℕ) × (x < n) × (sets_beside c wanted p x ≡ Some s.sets))
 unfolding from_choices
-from_choices-inv c wanted p zero s h = absurd h
-from_choices-inv c wanted p (suc n) s h =
-    elim (in-cases s (split_of p (sets_beside c wanted p n)) (from_choices c wanted p n) h) [
-      | inl a ↦ let i = split_of-inv p (sets_beside c wanted p n) s a in (i.1, (n, omega arith, i.0))
-      | inr b ↦ let i = from_choices-inv c wanted p n s b in (i.0, (i.1.0, omega (arith, i.1.1), i.1.2))
-    ]
-
-in-from_choices : (c : List ℕ) (wanted p n x : ℕ) (s : Split) → x < n → sets_beside c wanted p x ≡ Some s.sets → p ≡ s.pair → IsIn s (from_choices c wanted p n)
-unfolding from_choices
-in-from_choices c wanted p zero x s l e q = absurd (omega arith)
-in-from_choices c wanted p (suc n) x s l e q =
-    elim (cases_eq x n) [
-      | inl i ↦ in-left s (split_of p (sets_beside c wanted p n)) (from_choices c wanted p n) (in-split_of p (sets_beside c wanted p n) s (ap (sets_beside c wanted p) (sym i) ∙ e) q)
-      | inr u ↦ in-right s (split_of p (sets_beside c wanted p n)) (from_choices c wanted p n) (in-from_choices c wanted p n x s (omega arith) e q)
-    ]
+from_choices-inv c wanted p n s h =
+    let i = falling-inv (λ x. split_of p (sets_beside c wanted p x)) s n h in
+    let j = split_of-inv p (sets_beside c wanted p i.0) s i.2 in
+    (j.1, (i.0, i.1, j.0))
 
 from_pairs-inv : (c : List ℕ) (wanted m first n : ℕ) (s : Split) → IsIn s (from_pairs c wanted m first n) → (s.pair < first + n) × ((x : ℕ) × (x < m) × (sets_beside c wanted s.pair x ≡ Some s.sets))
 unfolding from_pairs
-from_pairs-inv c wanted m first zero s h = absurd h
-from_pairs-inv c wanted m first (suc n) s h =
-    elim (in-cases s (from_choices c wanted (first + n) m) (from_pairs c wanted m first n) h) [
-      | inl a ↦ let i = from_choices-inv c wanted (first + n) m s a in (omega (arith, i.0), (i.1.0, i.1.1, ap (λ z. sets_beside c wanted z i.1.0) (sym i.0) ∙ i.1.2))
-      | inr b ↦ let i = from_pairs-inv c wanted m first n s b in (omega (arith, i.0), i.1)
-    ]
+from_pairs-inv c wanted m first n s h =
+    let i = falling-inv (λ k. from_choices c wanted (first + k) m) s n h in
+    let j = from_choices-inv c wanted (first + i.0) m s i.2 in
+    (omega (arith, j.0, i.1), (j.1.0, j.1.1, ap (λ z. sets_beside c wanted z j.1.0) (sym j.0) ∙ j.1.2))
 
 in-from_pairs : (c : List ℕ) (wanted m first n x : ℕ) (s : Split) → first ≤ s.pair → s.pair < first + n → x < m → sets_beside c wanted s.pair x ≡ Some s.sets → IsIn s (from_pairs c wanted m first n)
-unfolding from_pairs
-in-from_pairs c wanted m first zero x s k l h e = absurd (omega arith)
-in-from_pairs c wanted m first (suc n) x s k l h e =
-    elim (cases_eq (first + n) s.pair) [
-      | inl i ↦ in-left s (from_choices c wanted (first + n) m) (from_pairs c wanted m first n) (in-from_choices c wanted (first + n) m x s h (ap (λ z. sets_beside c wanted z x) i ∙ e) i)
-      | inr u ↦ in-right s (from_choices c wanted (first + n) m) (from_pairs c wanted m first n) (in-from_pairs c wanted m first n x s k (omega arith) h e)
-    ]
+unfolding from_choices from_pairs
+in-from_pairs c wanted m first n x s k l h e =
+    let at : first + (s.pair - first) ≡ s.pair = omega arith in
+    in-falling (λ k. from_choices c wanted (first + k) m) s (s.pair - first) n (omega arith)
+    (in-falling (λ y. split_of (first + (s.pair - first)) (sets_beside c wanted (first + (s.pair - first)) y)) s x m h
+    (in-split_of (first + (s.pair - first)) (sets_beside c wanted (first + (s.pair - first)) x) s (ap (λ z. sets_beside c wanted z x) at ∙ e) at))
 
 -- two choices that leave one split are one
 same-number : (c : List ℕ) (wanted p x y : ℕ) (bs : List Block) → sets_beside c wanted p x ≡ Some bs → sets_beside c wanted p y ≡ Some bs → x ≡ y
@@ -168,27 +155,18 @@ same-number c wanted p x y bs e f =
 
 Differ-from_choices : (c : List ℕ) (wanted p n : ℕ) → Differ (from_choices c wanted p n)
 unfolding from_choices
-Differ-from_choices c wanted p zero = tt
-Differ-from_choices c wanted p (suc n) =
-    Differ-append (split_of p (sets_beside c wanted p n)) (from_choices c wanted p n) (Differ-split_of p (sets_beside c wanted p n)) (Differ-from_choices c wanted p n)
-    (λ s a b.
-    let i = split_of-inv p (sets_beside c wanted p n) s a in
-    let j = from_choices-inv c wanted p n s b in
-    let e = same-number c wanted p n j.1.0 s.sets i.0 j.1.2 in
-    absurd (omega (arith, e, j.1.1)))
+Differ-from_choices c wanted p n =
+    Differ-falling (λ x. split_of p (sets_beside c wanted p x)) n (λ x. Differ-split_of p (sets_beside c wanted p x))
+    (λ x y s a b. same-number c wanted p x y s.sets (split_of-inv p (sets_beside c wanted p x) s a).0 (split_of-inv p (sets_beside c wanted p y) s b).0)
 
 Differ-from_pairs : (c : List ℕ) (wanted m first n : ℕ) → Differ (from_pairs c wanted m first n)
 unfolding from_pairs
-Differ-from_pairs c wanted m first zero = tt
-Differ-from_pairs c wanted m first (suc n) =
-    Differ-append (from_choices c wanted (first + n) m) (from_pairs c wanted m first n) (Differ-from_choices c wanted (first + n) m) (Differ-from_pairs c wanted m first n)
-    (λ s a b.
-    let i = from_choices-inv c wanted (first + n) m s a in
-    let j = from_pairs-inv c wanted m first n s b in
-    absurd (omega (arith, i.0, j.0)))
+Differ-from_pairs c wanted m first n =
+    Differ-falling (λ k. from_choices c wanted (first + k) m) n (λ k. Differ-from_choices c wanted (first + k) m)
+    (λ a b s h g. omega (arith, (from_choices-inv c wanted (first + a) m s h).0, (from_choices-inv c wanted (first + b) m s g).0))
 
 no_choices : (c : List ℕ) (wanted p : ℕ) (splits : List Split) → from_choices c wanted p 0 ++ splits ≡ splits
-unfolding from_choices
+unfolding from_choices falling
 no_choices c wanted p splits = refl
 
 -- the pair of each split is one of these kinds

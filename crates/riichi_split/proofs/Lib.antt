@@ -4,6 +4,7 @@ pub mod Rests
 pub mod SuitCuts
 pub mod Thirds
 pub mod Lists
+pub mod Falling
 pub mod Cuts
 pub mod Sound
 pub mod Complete

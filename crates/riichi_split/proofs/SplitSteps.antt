@@ -1,33 +1,33 @@
 -- One step along the choices, and along the pairs.
-use Rattle.std.proofs.Common.{inl, inr, min, ◌^◌, length-drop, ◌≤◌, ◌&&◌, leb, length, drop, add-one, ◌+◌, is_some, MatchOption, ◌≡◌, ℕ, suc, ◌-◌, ◌<◌, Bool, true, false, cond, Option, Some, None, List, [], ◌∷◌, ◌++◌, get_or, slice_set, refl, sym, ap, ◌∙◌, arith, ltb, zero}
+use Rattle.std.proofs.Common.{inl, inr, min, ◌^◌, length-drop, ◌≤◌, ◌&&◌, leb, length, drop, add-one, ◌+◌, is_some, MatchOption, ◌≡◌, ℕ, ◌-◌, ◌<◌, Bool, true, false, cond, Option, Some, None, List, [], ◌∷◌, ◌++◌, get_or, slice_set, refl, sym, ap, ◌∙◌, arith, ltb}
 use Rattle.std.proofs.lemmas.Bool.Decides.{nat_tests}
 use Rattle.std.proofs.Math.Seq.{drop-cons}
 use Rattle.riichi_tiles.specs.declared.block.Block.{Block}
 use Rattle.riichi_split.proofs.Sound.{doubts-cons, few_choices}
-use Rattle.std.proofs.lemmas.Bool.{cases_lt}
+use Rattle.std.proofs.lemmas.Bool.{cases_lt, lt-ltb}
+use Rattle.riichi_split.proofs.Falling.{falling-step, falling-none, falling-passed}
 use Rattle.riichi_split.specs.Cuts.{doubts, may_have_runs, sets_beside, split_of, from_choices, from_pairs, cut_from}
 
-choices-suc : (c : List ℕ) (wanted p x n : ℕ) (o : Option (List Block)) → n ≡ suc x → o ≡ sets_beside c wanted p x → from_choices c wanted p n ≡ split_of p o ++ from_choices c wanted p x
-unfolding from_choices
-choices-suc c wanted p x n o e h = ap (from_choices c wanted p) e ∙ ap (λ z. split_of p z ++ from_choices c wanted p x) (sym h)
-
 pub from_choices-step : (c : List ℕ) (wanted p n : ℕ) (o : Option (List Block)) → 0 < n → o ≡ sets_beside c wanted p (n - 1) → from_choices c wanted p n ≡ split_of p o ++ from_choices c wanted p (n - 1)
-from_choices-step c wanted p n o l e = choices-suc c wanted p (n - 1) n o (omega arith) e
+unfolding from_choices
+from_choices-step c wanted p n o l e =
+    falling-step (λ x. split_of p (sets_beside c wanted p x)) n l ∙ ap (λ z. split_of p z ++ from_choices c wanted p (n - 1)) (sym e)
 
 pub from_choices-none : (c : List ℕ) (wanted p n : ℕ) → n ≡ 0 → from_choices c wanted p n ≡ []
 unfolding from_choices
-from_choices-none c wanted p n e = ap (from_choices c wanted p) e
+from_choices-none c wanted p n e = falling-none (λ x. split_of p (sets_beside c wanted p x)) n e
 
-pairs-suc : (c : List ℕ) (wanted m first x n : ℕ) → n ≡ suc x → from_pairs c wanted m first n ≡ from_choices c wanted (first + x) m ++ from_pairs c wanted m first x
-unfolding from_pairs
-pairs-suc c wanted m first x n e = ap (from_pairs c wanted m first) e
+pub from_choices-passed : (c : List ℕ) (wanted p fewer n : ℕ) → fewer ≤ n → ((x : ℕ) → fewer ≤ x → x < n → split_of p (sets_beside c wanted p x) ≡ []) → from_choices c wanted p n ≡ from_choices c wanted p fewer
+unfolding from_choices
+from_choices-passed c wanted p fewer n l none = falling-passed (λ x. split_of p (sets_beside c wanted p x)) fewer n l none
 
 pub from_pairs-step : (c : List ℕ) (wanted m first n : ℕ) → 0 < n → from_pairs c wanted m first n ≡ from_choices c wanted (first + (n - 1)) m ++ from_pairs c wanted m first (n - 1)
-from_pairs-step c wanted m first n l = pairs-suc c wanted m first (n - 1) n (omega arith)
+unfolding from_pairs
+from_pairs-step c wanted m first n l = falling-step (λ k. from_choices c wanted (first + k) m) n l
 
 pub from_pairs-none : (c : List ℕ) (wanted m first n : ℕ) → n ≡ 0 → from_pairs c wanted m first n ≡ []
 unfolding from_pairs
-from_pairs-none c wanted m first n e = ap (from_pairs c wanted m first) e
+from_pairs-none c wanted m first n e = falling-none (λ k. from_choices c wanted (first + k) m) n e
 
 beside-none : (b : Bool) (p : ℕ) (o : Option (List Block)) → b ≡ true → split_of p (cond b None o) ≡ []
 beside-none true p o e = refl
@@ -35,11 +35,8 @@ beside-none false p o e = absurd (cc)
 
 -- a kind with fewer than two tiles is no pair
 pub no_pair : (c : List ℕ) (wanted p n : ℕ) → get_or c p 0 < 2 → from_choices c wanted p n ≡ []
-unfolding from_choices
-no_pair c wanted p zero h = refl
-no_pair c wanted p (suc n) h =
-    let t : ltb (get_or c p 0) 2 ≡ true = grind (arith, nat_tests) in
-    ap (λ z. z ++ from_choices c wanted p n) (beside-none (ltb (get_or c p 0) 2) p (cut_from 0 (slice_set c p (get_or c p 0 - 2)) 0 0 wanted n) t) ∙ no_pair c wanted p n h
+no_pair c wanted p n h =
+    from_choices-passed c wanted p 0 n (omega arith) (λ x a b. beside-none (ltb (get_or c p 0) 2) p (cut_from 0 (slice_set c p (get_or c p 0 - 2)) 0 0 wanted x) (lt-ltb (get_or c p 0) 2 h)) ∙ from_choices-none c wanted p 0 refl
 
 pub sets-found : (c : List ℕ) (wanted p n m : ℕ) (o : Option (List Block)) → 0 < n → o ≡ sets_beside c wanted p (n - 1) → is_some o ≡ true → from_choices c wanted p n ≡ from_choices c wanted p m → MatchOption o ((from_choices c wanted p m ≡ []) × (n - 1 ≡ 0)) (λ sets. from_choices c wanted p m ≡ record { sets = sets; pair = p } ∷ from_choices c wanted p (n - 1))
 sets-found c wanted p n m None l e s h = absurd (cc)
@@ -84,15 +81,6 @@ no-sets c wanted p x (Some bs) e many =
     let few = few_choices rest 0 0 0 wanted x bs (beside-some (ltb (get_or c p 0) 2) (cut_from 0 rest 0 0 wanted x) bs e) in
     absurd (omega (arith, few, many))
 
-passed : (c : List ℕ) (wanted p fewer more : ℕ) → ((x : ℕ) → fewer ≤ x → x < fewer + more → sets_beside c wanted p x ≡ None) → from_choices c wanted p (fewer + more) ≡ from_choices c wanted p fewer
-passed c wanted p fewer zero none = ap (from_choices c wanted p) (let same : fewer + 0 ≡ fewer = omega arith in same)
-passed c wanted p fewer (suc more) none =
-    let before : fewer + suc more - 1 ≡ fewer + more = omega arith in
-    let no = none (fewer + more) (omega arith) (omega arith) in
-    from_choices-step c wanted p (fewer + suc more) None (omega arith) (sym (ap (sets_beside c wanted p) before ∙ no))
-    ∙ ap (from_choices c wanted p) before
-    ∙ passed c wanted p fewer more (λ x a b. none x a (omega arith))
-
 enough : (d n choices x : ℕ) → choices ≤ 16 → n ≡ min (2 ^ min 4 d) choices → n ≤ x → x < choices → 2 ^ d ≤ x
 enough d n choices x small e least below =
     elim (cases_lt 4 d) [
@@ -109,7 +97,4 @@ enough d n choices x small e least below =
 pub choices-with : (c : List ℕ) (wanted p n choices : ℕ) → choices ≤ 16 → n ≡ min (2 ^ min 4 (doubts (slice_set c p (get_or c p 0 - 2)))) choices → from_choices c wanted p n ≡ from_choices c wanted p choices
 choices-with c wanted p n choices small e =
     let d = doubts (slice_set c p (get_or c p 0 - 2)) in
-    let fewer : n ≤ choices = omega (arith, e) in
-    let whole : n + (choices - n) ≡ choices = omega (arith, fewer) in
-    sym (passed c wanted p n (choices - n) (λ x a b. no-sets c wanted p x (sets_beside c wanted p x) refl (enough d n choices x small e a (omega (arith, b, whole)))))
-    ∙ ap (from_choices c wanted p) whole
+    sym (from_choices-passed c wanted p n choices (omega (arith, e)) (λ x a b. ap (split_of p) (no-sets c wanted p x (sets_beside c wanted p x) refl (enough d n choices x small e a b))))

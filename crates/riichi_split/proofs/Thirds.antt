@@ -1,5 +1,5 @@
 -- The numbers of a set's tiles add up to a multiple of three, so the sum of all numbers tells the pair's kind by three.
-use Rattle.std.proofs.Common.{◌≡◌, ◌≤◌, ℕ, sym, zero, suc, ◌+◌, ◌-◌, ◌*◌, ◌%◌, ◌<◌, cond, add-one, Option, Some, None, List, [], ◌∷◌, ◌++◌, length, length-set, get_or, set, refl, ap, ◌∙◌, arith, ltb}
+use Rattle.std.proofs.Common.{◌≡◌, ◌≤◌, ℕ, zero, suc, ◌+◌, ◌-◌, ◌*◌, ◌%◌, ◌<◌, cond, add-one, Option, Some, None, List, [], ◌∷◌, length, length-set, get_or, set, refl, ap, ◌∙◌, arith, ltb}
 use Rattle.std.specs.List.{AllByRecursion}
 use Rattle.std.proofs.lemmas.Bool.Decides.{nat_tests}
 use Rattle.riichi_tiles.specs.declared.block.Block.{Block}
@@ -9,7 +9,8 @@ use Rattle.riichi_split.specs.Cuts.{thirds, third_of_pair, sets_beside, split_of
 use Rattle.riichi_split.proofs.KindSums.{IsSum, one, sum-none, sum-run, sum-triplet, sum-split}
 use Rattle.riichi_split.proofs.Sound.{IsCut-from, same-total}
 use Rattle.riichi_split.proofs.AllSplits.{beside-inv, uncarried, without}
-use Rattle.riichi_split.proofs.SplitSteps.{from_pairs-step}
+use Rattle.riichi_split.proofs.Falling.{falling-passed}
+use Rattle.riichi_split.proofs.SplitSteps.{from_choices-none, from_choices-passed}
 
 pub thirds-zero : (f : ℕ → ℕ) → thirds f 0 ≡ 0
 unfolding thirds
@@ -72,10 +73,8 @@ not-beside c wanted p x (Some bs) long h wrong e = absurd (wrong (beside c wante
 
 -- a kind that leaves over another number is no pair
 pub wrong_pair : (c : List ℕ) (wanted p n : ℕ) → length c ≡ 34 → p < 34 → (p % 3 ≡ third_of_pair c → ⊥) → from_choices c wanted p n ≡ []
-unfolding from_choices
-wrong_pair c wanted p zero long h wrong = refl
-wrong_pair c wanted p (suc n) long h wrong =
-    ap (λ z. z ++ from_choices c wanted p n) (not-beside c wanted p n (sets_beside c wanted p n) long h wrong refl) ∙ wrong_pair c wanted p n long h wrong
+wrong_pair c wanted p n long h wrong =
+    from_choices-passed c wanted p 0 n (omega arith) (λ x a b. not-beside c wanted p x (sets_beside c wanted p x) long h wrong refl) ∙ from_choices-none c wanted p 0 refl
 
 pub thirds-more : (c : List ℕ) (n sum a b : ℕ) → sum ≡ thirds (λ k. get_or c k 0) n → a ≡ get_or c (3 * n + 1) 0 → b ≡ get_or c (3 * n + 2) 0 → sum + (a + 2 * b) ≡ thirds (λ k. get_or c k 0) (n + 1)
 thirds-more c n sum a b e f g =
@@ -83,19 +82,7 @@ thirds-more c n sum a b e f g =
     omega (arith, s, thirds-suc (λ k. get_or c k 0) n, e, f, g)
 
 -- kinds that leave over another number make no pairs
-pub from_pairs-skip : (c : List ℕ) (wanted m first left more : ℕ) → length c ≡ 34 → first + (left + more) ≤ 34 → ((kind : ℕ) → left ≤ kind → kind < left + more → (first + kind) % 3 ≡ third_of_pair c → ⊥) → from_pairs c wanted m first (left + more) ≡ from_pairs c wanted m first left
-from_pairs-skip c wanted m first left zero long h wrong = ap (from_pairs c wanted m first) (let same : left + 0 ≡ left = omega arith in same)
-from_pairs-skip c wanted m first left (suc more) long h wrong =
-    let last = left + more in
-    let one : left + suc more ≡ suc last = omega arith in
-    let before : left + suc more - 1 ≡ last = omega arith in
-    let none : from_choices c wanted (first + last) m ≡ [] = wrong_pair c wanted (first + last) m long (omega arith) (wrong last (omega arith) (omega arith)) in
-    from_pairs-step c wanted m first (left + suc more) (omega arith)
-    ∙ ap (λ n. from_choices c wanted (first + n) m ++ from_pairs c wanted m first n) before
-    ∙ ap (λ z. z ++ from_pairs c wanted m first last) none
-    ∙ from_pairs-skip c wanted m first left more long (omega arith) (λ kind a b. wrong kind a (omega arith))
-
 pub from_pairs-passed : (c : List ℕ) (wanted m first left kinds : ℕ) → length c ≡ 34 → left ≤ kinds → first + kinds ≤ 34 → ((kind : ℕ) → left ≤ kind → kind < kinds → (first + kind) % 3 ≡ third_of_pair c → ⊥) → from_pairs c wanted m first kinds ≡ from_pairs c wanted m first left
+unfolding from_pairs
 from_pairs-passed c wanted m first left kinds long fewer h wrong =
-    let whole : left + (kinds - left) ≡ kinds = omega arith in
-    ap (from_pairs c wanted m first) (sym whole) ∙ from_pairs-skip c wanted m first left (kinds - left) long (omega arith) (λ kind a b. wrong kind a (omega arith))
+    falling-passed (λ k. from_choices c wanted (first + k) m) left kinds fewer (λ kind a b. wrong_pair c wanted (first + kind) m long (omega arith) (wrong kind a b))

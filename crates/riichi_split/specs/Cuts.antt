@@ -51,15 +51,18 @@ abbrev pub split_of : ℕ → Option (List Block) → List Split
 split_of pair None = []
 split_of pair (Some sets) = record { sets = sets; pair = pair } ∷ []
 
+-- what each number below one gives, the greatest number first
+unfoldable pub falling : {X : Type 0} → (ℕ → List X) → ℕ → List X
+falling of_number zero = []
+falling of_number (suc number) = of_number number ++ falling of_number number
+
 -- the splits with a pair, by the choices below a number
 unfoldable pub from_choices : List ℕ → ℕ → ℕ → ℕ → List Split
-from_choices counts wanted pair zero = []
-from_choices counts wanted pair (suc choices) = split_of pair (sets_beside counts wanted pair choices) ++ from_choices counts wanted pair choices
+from_choices counts wanted pair choices = falling (λ number. split_of pair (sets_beside counts wanted pair number)) choices
 
 -- the splits with a pair of one of so many kinds, from a kind on
 unfoldable pub from_pairs : List ℕ → ℕ → ℕ → ℕ → ℕ → List Split
-from_pairs counts wanted choices first zero = []
-from_pairs counts wanted choices first (suc more) = from_choices counts wanted (first + more) choices ++ from_pairs counts wanted choices first more
+from_pairs counts wanted choices first kinds = falling (λ kind. from_choices counts wanted (first + kind) choices) kinds
 
 -- the tiles of so many kinds, from a kind on
 unfoldable pub suit_total : (ℕ → ℕ) → ℕ → ℕ → ℕ
