@@ -1,57 +1,60 @@
 -- Marks of kinds, set one by one from the lowest on.
-use Rattle.std.proofs.Common.{◌≡◌, ℕ, zero, suc, ◌+◌, ◌<◌, ◌≤◌, ◌↔◌, inl, inr, List, Bool, true, false, get_or, replicate, set, refl, sym, ◌∙◌, subst, arith}
+use Rattle.std.proofs.Common.{◌≡◌, ℕ, zero, suc, ◌+◌, ◌<◌, ◌≤◌, ◌↔◌, inl, inr, List, Bool, true, false, length, replicate, set, refl, sym, ◌∙◌, subst, arith}
 use Rattle.std.proofs.lemmas.Bool.{cases_lt, cases_eq}
 use Rattle.std.proofs.lemmas.List.{length-set, get_or-set_other}
 use Rattle.std.proofs.lemmas.Grind.{get_or-set_at}
 use Rattle.riichi_tiles.specs.Tiles.{IsMarked}
-use Rattle.riichi_split.specs.SuitTiles.{MarksBelow}
+use Rattle.riichi_split.specs.Marks.{Adds, MarksBelow}
 
-none-marked : (n k : ℕ) → get_or (replicate n false) k false ≡ false
-none-marked zero k = refl
-none-marked (suc n) zero = refl
-none-marked (suc n) (suc k) = none-marked n k
-
-pub marks-none : (P : ℕ → Type 0) (marks : List Bool) → marks ≡ replicate 34 false → MarksBelow P 0 marks
-marks-none P marks e = let Q : List Bool → Type 0 = λ m. MarksBelow P 0 m in subst Q (sym e) (record {
+pub adds-none : (P : ℕ → Type 0) (number : ℕ) (marks : List Bool) → ((kind : ℕ) → kind < number → P kind → ⊥) → Adds P number marks marks
+adds-none P number marks none = record {
   each_kind = refl;
-  below = λ kind l. absurd (omega arith);
-  above = λ kind l. none-marked 34 kind;
-})
-
-pub marks-yes : (P : ℕ → Type 0) (number : ℕ) (marks : List Bool) → number < 34 → P number → MarksBelow P number marks → MarksBelow P (number + 1) (set marks number true)
-marks-yes P number marks l w m = record {
-  each_kind = length-set marks number true ∙ m.each_kind;
-  below = λ kind k. elim (cases_eq kind number) [
-    | inl e ↦ (λ t. subst P (sym e) w, λ s. get_or-set_at marks number kind true false e (omega (arith, m.each_kind)))
-    | inr n ↦ let o = get_or-set_other marks number kind true false n in let b = m.below kind (omega (arith, k, n)) in (λ t. b.0 (sym o ∙ t), λ s. o ∙ b.1 s)
-  ];
-  above = λ kind k. get_or-set_other marks number kind true false (omega arith) ∙ m.above kind (omega arith);
+  each = λ kind. (λ m. inl m, λ h. elim h [ inl m ↦ m | inr s ↦ absurd (none kind s.0 s.1) ]);
 }
 
-pub marks-no : (P : ℕ → Type 0) (number : ℕ) (marks : List Bool) → (P number → ⊥) → MarksBelow P number marks → MarksBelow P (number + 1) marks
-marks-no P number marks fails m = record {
-  each_kind = m.each_kind;
-  below = λ kind k. elim (cases_eq kind number) [
-    | inl e ↦ (λ t. absurd (let f = m.above kind (omega arith) in cc), λ s. absurd (fails (subst P e s)))
-    | inr n ↦ m.below kind (omega (arith, k, n))
+pub adds-yes : (P : ℕ → Type 0) (number : ℕ) (old marks : List Bool) → number < length marks → P number → Adds P number old marks → Adds P (number + 1) old (set marks number true)
+adds-yes P number old marks l w a = record {
+  each_kind = length-set marks number true ∙ a.each_kind;
+  each = λ kind. elim (cases_eq kind number) [
+    | inl e ↦ (λ m. inr (omega arith, subst P (sym e) w), λ h. get_or-set_at marks number kind true false e l)
+    | inr n ↦
+        let o = get_or-set_other marks number kind true false n in
+        let i = a.each kind in (
+          λ m. elim (i.0 (sym o ∙ m)) [ inl b ↦ inl b | inr s ↦ inr (omega (arith, s.0), s.1) ],
+          λ h. o ∙ i.1 (elim h [ inl b ↦ inl b | inr s ↦ inr (omega (arith, s.0, n), s.1) ]),
+        )
   ];
-  above = λ kind k. m.above kind (omega arith);
 }
+
+-- no further kind is so
+pub adds-to : (P : ℕ → Type 0) (number end : ℕ) (old marks : List Bool) → number ≤ end → ((kind : ℕ) → number ≤ kind → kind < end → P kind → ⊥) → Adds P number old marks → Adds P end old marks
+adds-to P number end old marks order none a = record {
+  each_kind = a.each_kind;
+  each = λ kind. let i = a.each kind in (
+    λ m. elim (i.0 m) [ inl b ↦ inl b | inr s ↦ inr (omega (arith, s.0, order), s.1) ],
+    λ h. i.1 (elim h [
+      | inl b ↦ inl b
+      | inr s ↦ elim (cases_lt kind number) [ inl l ↦ inr (l, s.1) | inr g ↦ absurd (none kind g s.0 s.1) ]
+    ]),
+  );
+}
+
+-- just one kind is so
+pub adds-one : (P : ℕ → Type 0) (only : ℕ) (marks : List Bool) → length marks ≡ 34 → only < 34 → P only → ((kind : ℕ) → kind < 34 → P kind → kind ≡ only) → Adds P 34 marks (set marks only true)
+adds-one P only marks long small w one =
+    adds-to P (only + 1) 34 marks (set marks only true) (omega (arith, small)) (λ kind low high p. omega (arith, low, one kind high p))
+    (adds-yes P only marks marks (omega (arith, long, small)) w (adds-none P only marks (λ kind low p. omega (arith, low, one kind (omega (arith, low, small)) p))))
+
+-- ---- where no kind was marked
+
+pub none-marked : (n k : ℕ) → IsMarked (replicate n false) k → ⊥
+none-marked zero k m = absurd (cc)
+none-marked (suc n) zero m = absurd (cc)
+none-marked (suc n) (suc k) m = none-marked n k m
 
 -- of all kinds, where it holds of kinds alone
 pub marked-all : (P : ℕ → Type 0) (marks : List Bool) → ((kind : ℕ) → P kind → kind < 34) → MarksBelow P 34 marks → (kind : ℕ) → IsMarked marks kind ↔ P kind
-marked-all P marks kinds m kind = elim (cases_lt kind 34) [
-  | inl l ↦ m.below kind l
-  | inr past ↦ (λ t. absurd (let f = m.above kind past in cc), λ p. absurd (omega (arith, kinds kind p, past)))
-]
-
--- further kinds of which it does not hold
-pub marks-pass : (P : ℕ → Type 0) (number next : ℕ) (marks : List Bool) → number ≤ next → ((kind : ℕ) → number ≤ kind → kind < next → P kind → ⊥) → MarksBelow P number marks → MarksBelow P next marks
-marks-pass P number next marks l none m = record {
-  each_kind = m.each_kind;
-  below = λ kind k. elim (cases_lt kind number) [
-    | inl low ↦ m.below kind low
-    | inr high ↦ (λ t. absurd (let f = m.above kind high in cc), λ p. absurd (none kind high k p))
-  ];
-  above = λ kind k. m.above kind (omega arith);
-}
+marked-all P marks kinds m kind = let i = m.each kind in (
+  λ t. elim (i.0 t) [ inl was ↦ absurd (none-marked 34 kind was) | inr so ↦ so.1 ],
+  λ p. i.1 (inr (kinds kind p, p)),
+)

@@ -9,4 +9,5 @@ pub mod SplitsLeft
 pub mod Left
 pub mod Laws
 pub mod SuitTiles
+pub mod Marks
 pub mod SpecialWaits

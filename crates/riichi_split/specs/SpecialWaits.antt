@@ -1,7 +1,7 @@
 -- The kinds that complete seven pairs or the orphans.
-use Rattle.std.specs.Prelude.{◌≡◌, ◌↔◌, ◌⊎◌, ℕ, ◌<◌, List, Bool, length}
-use Rattle.riichi_tiles.specs.Tiles.{IsMarked}
+use Rattle.std.specs.Prelude.{◌⊎◌, ℕ, ◌<◌, List, Bool}
 use Rattle.riichi_split.specs.Readings.{IsSevenPairs, IsOrphans}
+pub use Rattle.riichi_split.specs.Marks.{Adds}
 use Rattle.riichi_split.specs.Waits.{with_one}
 
 -- one more of the kind makes seven pairs, where no meld stands
@@ -15,11 +15,6 @@ CompletesOrphans counts kind = IsOrphans (with_one counts kind) 0
 -- one more of the kind makes one of these shapes
 abbrev pub IsSpecialWait : List ℕ → ℕ → Type 0
 IsSpecialWait counts kind = (kind < 34) × (IsSevenPairs (with_one counts kind) 0 ⊎ IsOrphans (with_one counts kind) 0)
-
--- the kinds below a number that are so are marked beside those that were
-pub record Adds (IsSo : ℕ → Type 0) (number : ℕ) (old new : List Bool) : Type 0 where
-  pub each_kind : length new ≡ length old
-  pub each : (kind : ℕ) → IsMarked new kind ↔ (IsMarked old kind ⊎ ((kind < number) × IsSo kind))
 
 -- those that complete one of these shapes
 abbrev pub AddsSpecial : List ℕ → ℕ → List Bool → List Bool → Type 0

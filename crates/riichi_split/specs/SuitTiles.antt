@@ -1,11 +1,12 @@
 -- The tiles of one suit, and of all four: triplets, runs and a pair.
-use Rattle.std.specs.Prelude.{◌≡◌, ◌≢◌, ◌↔◌, ℕ, ◌+◌, ◌-◌, ◌*◌, ◌%◌, ◌<◌, ◌≤◌, Bool, true, false, IsTrue, List, [], ◌∷◌, length, map, slice_index, slice_index_or, slice_set}
+use Rattle.std.specs.Prelude.{◌≡◌, ◌≢◌, ◌↔◌, ℕ, ◌+◌, ◌-◌, ◌*◌, ◌%◌, ◌<◌, ◌≤◌, Bool, true, false, IsTrue, List, [], ◌∷◌, length, map, slice_index, slice_set}
 use Rattle.std.specs.List.{range_with_len}
 use Rattle.riichi_tiles.specs.declared.suit.Suit.{Suit}
 use Rattle.riichi_tiles.specs.declared.suit.Suit.TheVariants.{Characters, Circles, Bamboos, Honours}
 use Rattle.riichi_tiles.specs.declared.by_suit.BySuit.{BySuit}
 use Rattle.riichi_tiles.specs.Kinds.{first_of, suit_of, rank_of}
 use Rattle.riichi_tiles.specs.Suits.{of_suit, with_suit}
+pub use Rattle.riichi_split.specs.Marks.{MarksBelow}
 
 -- how many tiles there are of each rank, and whether they make runs
 pub record OneSuit : Type 0 where
@@ -98,9 +99,3 @@ pub record Completes (suits : BySuit OneSuit) (kind : ℕ) : Type 0 where
   pub of_a_kind : kind < 34
   pub some_left : slice_index (of_suit suits (suit_of kind)).held (rank_of kind) < 4
   pub wins : AreWon (with_kind suits kind)
-
--- of the kinds below a number just those are marked that have it, and no others
-pub record MarksBelow (P : ℕ → Type 0) (number : ℕ) (marks : List Bool) : Type 0 where
-  pub each_kind : length marks ≡ 34
-  pub below : (kind : ℕ) → kind < number → (slice_index_or marks kind false ≡ true) ↔ P kind
-  pub above : (kind : ℕ) → number ≤ kind → slice_index_or marks kind false ≡ false

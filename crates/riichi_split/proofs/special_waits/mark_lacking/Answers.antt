@@ -1,7 +1,8 @@
 use Rattle.std.proofs.Common.{sym, subst, List, Bool, rules}
 use Rattle.std.proofs.lemmas.Bool.{iff_false}
 use Rattle.riichi_split.specs.SpecialWaits.{CompletesOrphans, Adds}
-use Rattle.riichi_split.proofs.SpecialKinds.{adds-none, adds-one, lacked-is}
+use Rattle.riichi_split.proofs.SpecialKinds.{lacked-is}
+use Rattle.riichi_split.proofs.KindMarks.{adds-none, adds-one}
 use Rattle.riichi_split.proofs.special_waits.mark_lacking.Goals as goal
 
 pub returns-then-completes_orphans : goal.returns-then-completes_orphans

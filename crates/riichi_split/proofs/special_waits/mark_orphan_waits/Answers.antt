@@ -1,6 +1,6 @@
 use Rattle.std.proofs.lemmas.Bool.{both_ways}
 use Rattle.riichi_split.specs.SpecialWaits.{CompletesOrphans}
-use Rattle.riichi_split.proofs.SpecialKinds.{adds-none}
+use Rattle.riichi_split.proofs.KindMarks.{adds-none}
 use Rattle.riichi_split.proofs.special_waits.mark_orphan_waits.Goals as goal
 
 pub returns-then-not-are_orphans_alone : goal.returns-then-not-are_orphans_alone

@@ -1,12 +1,12 @@
-use Rattle.std.proofs.Common.{rules, sym, subst}
+use Rattle.std.proofs.Common.{rules, replicate, false, sym, subst, arith}
 use Rattle.riichi_tiles.specs.declared.by_suit.BySuit.{BySuit}
 use Rattle.riichi_split.specs.SuitTiles.{OneSuit, Completes}
-use Rattle.riichi_split.proofs.KindMarks.{marks-none, marked-all}
+use Rattle.riichi_split.proofs.KindMarks.{adds-none, marked-all}
 use Rattle.riichi_split.proofs.SplitSuits.{completes-iff}
 use Rattle.riichi_split.proofs.standard.standard_waits.Goals as goal
 
 pub mark-requires-clause-below : goal.mark-requires-clause-below
-mark-requires-clause-below c = marks-none (Completes c.of-suits.result.tiles) c.new-marks.result c.new-marks.ensures
+mark-requires-clause-below c = rw c.new-marks.ensures (adds-none (Completes c.of-suits.result.tiles) 0 (replicate 34 false) (λ kind l p. omega (arith, l)))
 
 pub returns-clause-each : goal.returns-clause-each
 returns-clause-each c = λ kind.

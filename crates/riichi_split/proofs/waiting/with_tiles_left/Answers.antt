@@ -1,10 +1,6 @@
-use Rattle.std.proofs.Common.{ℕ, ◌<◌}
-use Rattle.riichi_tiles.specs.Tiles.{IsMarked}
-use Rattle.riichi_hand.specs.Hand.{copies_held}
-use Rattle.riichi_split.proofs.KindMarks.{marks-none}
+use Rattle.std.proofs.Common.{refl, arith}
+use Rattle.riichi_split.proofs.KindMarks.{none-marked}
 use Rattle.riichi_split.proofs.waiting.with_tiles_left.Goals as goal
 
 pub loop-number-init : goal.loop-number-init
-loop-number-init c =
-    let P : ℕ → Type 0 = λ kind. IsMarked c.args.kinds.now kind × (copies_held c.args.tiles.now c.args.melds.now kind < 4) in
-    marks-none P c.new-left.result c.new-left.ensures
+loop-number-init c = rw c.new-left.ensures (record { long = refl; below = λ kind low. absurd (omega (arith, low)); above = λ kind low marked. none-marked 34 kind marked })

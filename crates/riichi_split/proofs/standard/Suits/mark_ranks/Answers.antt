@@ -1,11 +1,16 @@
-use Rattle.std.proofs.Common.{◌≡◌, ℕ, ◌+◌, List, Bool, true, set, sym, ap, subst, ◌∙◌, arith}
+use Rattle.std.proofs.Common.{◌≡◌, ℕ, ◌+◌, List, Bool, true, false, replicate, set, sym, ap, subst, ◌∙◌, arith}
 use Rattle.std.proofs.lemmas.Bool.{iff_false}
-use Rattle.riichi_tiles.specs.Kinds.{first_of}
+use Rattle.riichi_tiles.specs.Kinds.{first_of, kinds_of}
 use Rattle.riichi_split.specs.SuitTiles.{Completes, MarksBelow}
-use Rattle.riichi_split.proofs.KindMarks.{marks-yes, marks-no}
+use Rattle.riichi_split.proofs.KindMarks.{adds-yes, adds-to}
 use Rattle.riichi_split.proofs.PairTotals.{a-kind}
 use Rattle.riichi_split.proofs.standard.Suits.mark_ranks.Goals as goal
 use Rattle.riichi_split.proofs.standard.Suits.mark_ranks.Goals.{then-is_completed_by, else-is_completed_by}
+
+pub loop-rank-init : goal.loop-rank-init
+loop-rank-init c =
+    let N : ℕ → Type 0 = λ n. MarksBelow (Completes c.args.self.now.tiles) n c.args.marks.now in
+    subst N (let same : first_of c.args.suit ≡ first_of c.args.suit + 0 = omega arith in same) c.requires.below
 
 pub loop-rank-preserved : goal.loop-rank-preserved
 loop-rank-preserved c =
@@ -19,8 +24,13 @@ loop-rank-preserved c =
       | then-is_completed_by w ↦
           let at = w.at.ensures ∙ ap (λ n. n + c.loop-rank.rank) w.first.ensures in
           subst M (sym (w.marks-is ∙ w.insert.ensures ∙ ap (λ k. set c.loop-rank.marks k true) at))
-          (marks-yes P kind c.loop-rank.marks small (c.is_completed_by.ensures.0 w.if-is_completed_by.true) c.loop-rank.invariant)
+          (adds-yes P kind (replicate 34 false) c.loop-rank.marks (omega (arith, small, c.loop-rank.invariant.each_kind)) (c.is_completed_by.ensures.0 w.if-is_completed_by.true) c.loop-rank.invariant)
       | else-is_completed_by w ↦
           subst M (sym w.marks-is)
-          (marks-no P kind c.loop-rank.marks (iff_false c.is_completed_by.ensures w.if-is_completed_by.false) c.loop-rank.invariant)
+          (adds-to P kind (kind + 1) (replicate 34 false) c.loop-rank.marks (omega arith) (λ k low high p. iff_false c.is_completed_by.ensures w.if-is_completed_by.false (subst P (let same : k ≡ kind = omega arith in same) p)) c.loop-rank.invariant)
     ])
+
+pub returns : goal.returns
+returns c =
+    let N : ℕ → Type 0 = λ n. MarksBelow (Completes c.args.self.now.tiles) n c.loop-rank.marks in
+    subst N (let end : first_of c.args.suit + c.loop-rank.rank ≡ first_of c.args.suit + kinds_of c.args.suit = omega (arith, c.kinds-rank-end.ensures.value) in end) c.loop-rank.invariant

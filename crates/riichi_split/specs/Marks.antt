@@ -1,0 +1,12 @@
+-- Marks of kinds.
+use Rattle.std.specs.Prelude.{◌≡◌, ◌↔◌, ◌⊎◌, ℕ, ◌<◌, List, Bool, false, length, replicate}
+use Rattle.riichi_tiles.specs.Tiles.{IsMarked}
+
+-- the kinds below a number that are so are marked beside those that were
+pub record Adds (IsSo : ℕ → Type 0) (number : ℕ) (old new : List Bool) : Type 0 where
+  pub each_kind : length new ≡ length old
+  pub each : (kind : ℕ) → IsMarked new kind ↔ (IsMarked old kind ⊎ ((kind < number) × IsSo kind))
+
+-- just the kinds below a number that are so are marked
+abbrev pub MarksBelow : (ℕ → Type 0) → ℕ → List Bool → Type 0
+MarksBelow IsSo number marks = Adds IsSo number (replicate 34 false) marks
