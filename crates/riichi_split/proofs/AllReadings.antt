@@ -45,10 +45,10 @@ one_split w s t r a b =
     read_with-sets s t i.0 j.0 (i.2 ∙ sym j.2)
 
 -- the list has each reading of sets and a pair once, and nothing else
-pub record AreStandard (c : List ℕ) (melds w : ℕ) (standard : List Reading) : Type 0 where
-  pub sound : (r : Reading) → IsIn r standard → IsReading c melds w r × ((sets : List Block) × (p : ℕ) × (d : Block) × (r ≡ Standard sets p d))
-  pub complete : (sets : List Block) (p : ℕ) (d : Block) → IsSplit c melds sets p → IsDone w sets p d → IsIn (Standard sets p d) standard
-  pub once : Differ standard
+record AreStandard (c : List ℕ) (melds w : ℕ) (standard : List Reading) : Type 0 where
+  sound : (r : Reading) → IsIn r standard → IsReading c melds w r × ((sets : List Block) × (p : ℕ) × (d : Block) × (r ≡ Standard sets p d))
+  complete : (sets : List Block) (p : ℕ) (d : Block) → IsSplit c melds sets p → IsDone w sets p d → IsIn (Standard sets p d) standard
+  once : Differ standard
 
 standard-inv : (c : List ℕ) (melds w : ℕ) (splits : List Split) (r : Reading) → AreTheSplits c melds splits → IsIn r (flat_map (readings_with w) splits) → IsReading c melds w r × ((sets : List Block) × (p : ℕ) × (d : Block) × (r ≡ Standard sets p d))
 standard-inv c melds w splits r are h =
@@ -63,7 +63,7 @@ in-standard c melds w splits sets p d are s h =
     let split : Split = record { sets = sets; pair = p } in
     in-flat_map (readings_with w) split (Standard sets p d) splits (in-Contains split splits (are.complete split s)) (in-map (read_with split) d (dones w (blocks_of split)) (in-dones w d (blocks_of split) (in-Contains d (blocks_of split) h.is_there) h.has_winning))
 
-pub splits-standard : (c : List ℕ) (melds w : ℕ) (splits : List Split) → AreTheSplits c melds splits → AreStandard c melds w (flat_map (readings_with w) splits)
+splits-standard : (c : List ℕ) (melds w : ℕ) (splits : List Split) → AreTheSplits c melds splits → AreStandard c melds w (flat_map (readings_with w) splits)
 splits-standard c melds w splits are = record {
   sound = λ r h. standard-inv c melds w splits r are h;
   complete = λ sets p d s h. in-standard c melds w splits sets p d are s h;
@@ -96,8 +96,8 @@ complete-all c melds w standard seven orphans (Standard sets p d) are s o h =
 complete-all c melds w standard seven orphans SevenPairs are s o h = in-left _ _ _ (in-flagged seven SevenPairs (s.1 h))
 complete-all c melds w standard seven orphans Orphans are s o h = in-right _ (flagged seven SevenPairs) _ (in-left _ _ _ (in-flagged orphans Orphans (o.1 h)))
 
-pub the_readings : (c : List ℕ) (melds w : ℕ) (standard : List Reading) (seven orphans : Bool) → AreStandard c melds w standard → (IsTrue seven ↔ IsSevenPairs c melds) → (IsTrue orphans ↔ IsOrphans c melds) → AreTheReadings c melds w (all_of standard seven orphans)
-the_readings c melds w standard seven orphans are s o = record {
+pub the_readings : (c : List ℕ) (melds w : ℕ) (splits : List Split) (seven orphans : Bool) → AreTheSplits c melds splits → (IsTrue seven ↔ IsSevenPairs c melds) → (IsTrue orphans ↔ IsOrphans c melds) → AreTheReadings c melds w (all_of (flat_map (readings_with w) splits) seven orphans)
+the_readings c melds w splits seven orphans the_splits s o = let standard = flat_map (readings_with w) splits in let are = splits-standard c melds w splits the_splits in record {
   sound = All-in (IsReading c melds w) (all_of standard seven orphans) (λ r h. sound-all c melds w standard seven orphans r are s o h);
   complete = λ r h. Contains-in r (all_of standard seven orphans) (complete-all c melds w standard seven orphans r are s o h);
   once = AllPairs-differ (all_of standard seven orphans)

@@ -1,5 +1,5 @@
 -- `readings_of` has each reading of the definition once, and nothing else.
-use Rattle.std.proofs.Common.{◌≡◌, ℕ, zero, suc, ◌-◌, ◌<◌, ◌≤◌, ◌↔◌, true, List, [], ◌∷◌, ◌++◌, length, get_or, flat_map, map, inl, inr, ◌⊎◌, refl, sym, ◌∙◌, subst, arith, eqb, IsTrue, ◌&&◌, ◌||◌}
+use Rattle.std.proofs.Common.{◌≡◌, ℕ, zero, suc, ◌-◌, ◌<◌, ◌≤◌, ◌↔◌, true, List, [], ◌∷◌, length, get_or, flat_map, inl, inr, ◌⊎◌, refl, sym, ap, ◌∙◌, subst, arith, eqb, IsTrue, ◌&&◌, ◌||◌}
 use Rattle.std.specs.List.{AllByRecursion, list_all, list_any, count_by}
 use Rattle.std.proofs.lemmas.Bool.{and_from, and_parts, cases_lt, eqb-true, eq-eqb}
 use Rattle.std.proofs.lemmas.Bool.Decides.{nat_tests}
@@ -8,16 +8,14 @@ use Rattle.riichi_tiles.specs.Melds.{every_kind}
 use Rattle.riichi_tiles.specs.Blocks.{copies, total, IsSet}
 use Rattle.riichi_tiles.specs.declared.block.Block.{Block}
 use Rattle.riichi_tiles.specs.declared.block.Block.TheVariants.{Run, Triplet, Pair}
-use Rattle.riichi_split.specs.declared.reading.Reading.{Reading}
-use Rattle.riichi_split.specs.declared.reading.Reading.TheVariants.{Standard}
+use Rattle.riichi_split.specs.declared.split.Split.{Split}
 use Rattle.riichi_tiles.specs.Kinds.{is_orphan}
-use Rattle.riichi_split.specs.Readings.{IsSplit, IsDone, IsReading, AreTheReadings, IsSevenPairs, IsOrphans, orphan_copies}
-use Rattle.riichi_split.specs.Dones.{dones}
-use Rattle.riichi_split.specs.ReadingsOf.{adds_up, standard_with, standard_of, are_seven_pairs, are_orphans_with, are_orphans, collections, readings_of}
-use Rattle.riichi_split.proofs.Lists.{IsIn, Differ, all-in, all-from, any-in, any-from, in-map, in-map-inv, Differ-map, in-flat_map, in-flat_map-inv, Differ-flat_map, in-range, in-range-inv, Differ-range, Contains-in, in-Contains}
+use Rattle.riichi_split.specs.Readings.{IsSplit, AreTheReadings, IsSevenPairs, IsOrphans, orphan_copies}
+use Rattle.riichi_split.specs.Cuts.{AreTheSplits}
+use Rattle.riichi_split.specs.ReadingsOf.{adds_up, split_with, splits_of, are_seven_pairs, are_orphans_with, are_orphans, collections, readings_of}
+use Rattle.riichi_split.proofs.Lists.{IsIn, all-in, all-from, any-in, any-from, in-flat_map, in-flat_map-inv, Differ-flat_map, in-range, in-range-inv, Differ-range, Contains-in, All-in, AllPairs-differ}
 use Rattle.riichi_split.proofs.Collections.{in-when, in-when-inv, Differ-when, in-collections, collections-inv, Differ-collections}
-use Rattle.riichi_split.proofs.Dones.{dones-inv, in-dones, Differ-dones}
-use Rattle.riichi_split.proofs.AllReadings.{AreStandard, the_readings}
+use Rattle.riichi_split.proofs.AllReadings.{the_readings}
 
 -- ---- what adds up
 
@@ -49,72 +47,45 @@ adds_up-from c sets p h = kinds-same (total (Pair p ∷ sets)) (λ n. get_or c n
 
 -- ---- sets and a pair
 
-with-inv : (c : List ℕ) (w : ℕ) (sets : List Block) (p : ℕ) (r : Reading) → IsIn r (standard_with c w sets p) → (adds_up c sets p ≡ true) × ((d : Block) × IsIn d (dones w (sets ++ Pair p ∷ [])) × (Standard sets p d ≡ r))
-with-inv c w sets p r h =
-    let i = in-when-inv (adds_up c sets p) r (map (λ d. Standard sets p d) (dones w (sets ++ Pair p ∷ []))) h in
-    let m = in-map-inv (λ d. Standard sets p d) r (dones w (sets ++ Pair p ∷ [])) i.1 in
-    (i.0, (m.0, m.1, m.2))
+split_with-inv : (c : List ℕ) (sets : List Block) (p : ℕ) (s : Split) → IsIn s (split_with c sets p) → (adds_up c sets p ≡ true) × (sets ≡ s.sets) × (p ≡ s.pair)
+split_with-inv c sets p s h =
+    let i = in-when-inv (adds_up c sets p) s (record { sets = sets; pair = p } ∷ []) h in
+    elim i.1 [ inl e ↦ (i.0, ap (λ (z : Split). z.sets) e, ap (λ (z : Split). z.pair) e) | inr z ↦ absurd z ]
 
-pairs-inv : (c : List ℕ) (w : ℕ) (sets : List Block) (r : Reading) → IsIn r (flat_map (standard_with c w sets) every_kind) → (p : ℕ) × (p < 34) × IsIn r (standard_with c w sets p)
-pairs-inv c w sets r h =
-    let i = in-flat_map-inv (standard_with c w sets) r every_kind h in
-    (i.0, omega (arith, (in-range-inv 34 0 i.0 i.1).1), i.2)
+pairs-inv : (c : List ℕ) (sets : List Block) (s : Split) → IsIn s (flat_map (split_with c sets) every_kind) → (sets ≡ s.sets) × (s.pair < 34) × (adds_up c sets s.pair ≡ true)
+pairs-inv c sets s h =
+    let i = in-flat_map-inv (split_with c sets) s every_kind h in
+    let j = split_with-inv c sets i.0 s i.2 in
+    (j.1, omega (arith, (in-range-inv 34 0 i.0 i.1).1, j.2), ap (λ p. adds_up c sets p) (sym j.2) ∙ j.0)
 
-same-reading : (s t : List Block) (p q : ℕ) (d e : Block) → Standard s p d ≡ Standard t q e → (s ≡ t) × (p ≡ q) × (d ≡ e)
-same-reading s t p q d e h = (cc, cc, cc)
-
-same-pair : (c : List ℕ) (w : ℕ) (sets : List Block) (p q : ℕ) (r : Reading) → IsIn r (standard_with c w sets p) → IsIn r (standard_with c w sets q) → p ≡ q
-same-pair c w sets p q r h g =
-    let x = (with-inv c w sets p r h).1 in
-    let y = (with-inv c w sets q r g).1 in
-    (same-reading sets sets p q x.0 y.0 (x.2 ∙ sym y.2)).1
-
-same-sets : (c : List ℕ) (w : ℕ) (s t : List Block) (r : Reading) → IsIn r (flat_map (standard_with c w s) every_kind) → IsIn r (flat_map (standard_with c w t) every_kind) → s ≡ t
-same-sets c w s t r h g =
-    let a = pairs-inv c w s r h in
-    let b = pairs-inv c w t r g in
-    let x = (with-inv c w s a.0 r a.2).1 in
-    let y = (with-inv c w t b.0 r b.2).1 in
-    (same-reading s t a.0 b.0 x.0 y.0 (x.2 ∙ sym y.2)).0
-
-Differ-with : (c : List ℕ) (w : ℕ) (sets : List Block) (p : ℕ) → Differ (standard_with c w sets p)
-Differ-with c w sets p =
-    Differ-when (adds_up c sets p) (map (λ d. Standard sets p d) (dones w (sets ++ Pair p ∷ [])))
-    (Differ-map (λ d. Standard sets p d) (dones w (sets ++ Pair p ∷ [])) (λ a b e. (same-reading sets sets p p a b e).2) (Differ-dones w (sets ++ Pair p ∷ [])))
-
-sound-standard : (c : List ℕ) (melds w : ℕ) (r : Reading) → length c ≡ 34 → melds ≤ 4 → IsIn r (standard_of c melds w) → IsReading c melds w r × ((sets : List Block) × (p : ℕ) × (d : Block) × (r ≡ Standard sets p d))
-sound-standard c melds w r l m h =
-    let i = in-flat_map-inv (λ s. flat_map (standard_with c w s) every_kind) r (collections 0 (4 - melds)) h in
+sound-split : (c : List ℕ) (melds : ℕ) (s : Split) → length c ≡ 34 → melds ≤ 4 → IsIn s (splits_of c melds) → IsSplit c melds s.sets s.pair
+sound-split c melds s l m h =
+    let i = in-flat_map-inv (λ sets. flat_map (split_with c sets) every_kind) s (collections 0 (4 - melds)) h in
     let k = collections-inv (4 - melds) 0 i.0 i.1 in
-    let q = pairs-inv c w i.0 r i.2 in
-    let a = with-inv c w i.0 q.0 r q.2 in
-    let d = dones-inv w a.1.0 (i.0 ++ Pair q.0 ∷ []) a.1.1 in
-    let P : Reading → Type 0 = λ z. IsReading c melds w z in
-    let split : IsSplit c melds i.0 q.0 = record {
+    let q = pairs-inv c i.0 s i.2 in
+    subst (λ (sets : List Block). IsSplit c melds sets s.pair) q.0 (record {
       four = omega (arith, k.many);
       each_a_set = k.each_a_set;
       in_order = k.in_order;
       pair_is_kind = q.1;
-      add_up = add_up-from c i.0 q.0 l k.each_a_set q.1 a.0;
-    } in
-    (subst P a.1.2 (split, record { is_there = Contains-in a.1.0 (i.0 ++ Pair q.0 ∷ []) d.0; has_winning = d.1 }), (i.0, q.0, a.1.0, sym a.1.2))
+      add_up = add_up-from c i.0 s.pair l k.each_a_set q.1 q.2;
+    })
 
-complete-standard : (c : List ℕ) (melds w : ℕ) (sets : List Block) (p : ℕ) (d : Block) → IsSplit c melds sets p → IsDone w sets p d → IsIn (Standard sets p d) (standard_of c melds w)
-complete-standard c melds w sets p d s h =
-    let many : length sets ≡ 4 - melds = omega (arith, s.four) in
-    let P : ℕ → Type 0 = λ n. IsIn sets (collections 0 n) in
-    in-flat_map (λ x. flat_map (standard_with c w x) every_kind) sets (Standard sets p d) (collections 0 (4 - melds)) (subst P many (in-collections sets 0 s.each_a_set s.in_order))
-    (in-flat_map (standard_with c w sets) p (Standard sets p d) every_kind (in-range 34 0 p (omega arith) (omega (arith, s.pair_is_kind)))
-    (in-when (adds_up c sets p) (Standard sets p d) (map (λ z. Standard sets p z) (dones w (sets ++ Pair p ∷ []))) (adds_up-from c sets p s.add_up)
-    (in-map (λ z. Standard sets p z) d (dones w (sets ++ Pair p ∷ [])) (in-dones w d (sets ++ Pair p ∷ []) (in-Contains d (sets ++ Pair p ∷ []) h.is_there) h.has_winning))))
+complete-split : (c : List ℕ) (melds : ℕ) (s : Split) → IsSplit c melds s.sets s.pair → IsIn s (splits_of c melds)
+complete-split c melds s is =
+    let many : length s.sets ≡ 4 - melds = omega (arith, is.four) in
+    in-flat_map (λ sets. flat_map (split_with c sets) every_kind) s.sets s (collections 0 (4 - melds)) (subst (λ (n : ℕ). IsIn s.sets (collections 0 n)) many (in-collections s.sets 0 is.each_a_set is.in_order))
+    (in-flat_map (split_with c s.sets) s.pair s every_kind (in-range 34 0 s.pair (omega arith) (omega (arith, is.pair_is_kind)))
+    (in-when (adds_up c s.sets s.pair) s (record { sets = s.sets; pair = s.pair } ∷ []) (adds_up-from c s.sets s.pair is.add_up) (inl refl)))
 
-are-standard : (c : List ℕ) (melds w : ℕ) → length c ≡ 34 → melds ≤ 4 → AreStandard c melds w (standard_of c melds w)
-are-standard c melds w l m = record {
-  sound = λ r h. sound-standard c melds w r l m h;
-  complete = complete-standard c melds w;
-  once = Differ-flat_map (λ s. flat_map (standard_with c w s) every_kind) (collections 0 (4 - melds))
-      (λ s. Differ-flat_map (standard_with c w s) every_kind (Differ-with c w s) (same-pair c w s) (Differ-range 34 0))
-      (same-sets c w) (Differ-collections (4 - melds) 0);
+every_split : (c : List ℕ) (melds : ℕ) → length c ≡ 34 → melds ≤ 4 → AreTheSplits c melds (splits_of c melds)
+every_split c melds l m = record {
+  sound = All-in (λ s. IsSplit c melds s.sets s.pair) (splits_of c melds) (λ s h. sound-split c melds s l m h);
+  complete = λ s is. Contains-in s (splits_of c melds) (complete-split c melds s is);
+  once = AllPairs-differ (splits_of c melds) (Differ-flat_map (λ sets. flat_map (split_with c sets) every_kind) (collections 0 (4 - melds))
+      (λ sets. Differ-flat_map (split_with c sets) every_kind (λ p. Differ-when (adds_up c sets p) (record { sets = sets; pair = p } ∷ []) (λ h. h, tt))
+      (λ p q s a b. (split_with-inv c sets p s a).2 ∙ sym (split_with-inv c sets q s b).2) (Differ-range 34 0))
+      (λ x y s a b. (pairs-inv c x s a).0 ∙ sym (pairs-inv c y s b).0) (Differ-collections (4 - melds) 0));
 }
 
 -- ---- seven pairs and orphans
@@ -153,4 +124,4 @@ orphans-iff c melds =
 
 pub every_reading : (c : List ℕ) (melds w : ℕ) → length c ≡ 34 → melds ≤ 4 → AreTheReadings c melds w (readings_of c melds w)
 unfolding readings_of
-every_reading c melds w l m = the_readings c melds w (standard_of c melds w) (are_seven_pairs c melds) (are_orphans c melds) (are-standard c melds w l m) (seven-iff c melds) (orphans-iff c melds)
+every_reading c melds w l m = the_readings c melds w (splits_of c melds) (are_seven_pairs c melds) (are_orphans c melds) (every_split c melds l m) (seven-iff c melds) (orphans-iff c melds)

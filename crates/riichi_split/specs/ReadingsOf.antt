@@ -6,11 +6,12 @@ use Rattle.riichi_tiles.specs.Blocks.{total, place_of}
 use Rattle.riichi_tiles.specs.declared.block.Block.{Block}
 use Rattle.riichi_tiles.specs.declared.block.Block.TheVariants.{Pair}
 use Rattle.riichi_split.specs.declared.reading.Reading.{Reading}
-use Rattle.riichi_split.specs.declared.reading.Reading.TheVariants.{Standard, SevenPairs, Orphans}
+use Rattle.riichi_split.specs.declared.reading.Reading.TheVariants.{SevenPairs, Orphans}
 use Rattle.riichi_tiles.specs.Kinds.{is_orphan}
 use Rattle.riichi_tiles.specs.Sets.{every_set}
 use Rattle.riichi_split.specs.Readings.{orphan_copies}
-use Rattle.riichi_split.specs.Dones.{dones, flagged}
+use Rattle.riichi_split.specs.declared.split.Split.{Split}
+use Rattle.riichi_split.specs.Dones.{readings_with, flagged}
 
 abbrev pub when : {X : Type 0} → Bool → List X → List X
 when holds xs = if holds then xs else []
@@ -24,13 +25,17 @@ collections place (suc more) = flat_map (λ set. when (nat_le place (place_of se
 abbrev pub adds_up : List ℕ → List Block → ℕ → Bool
 adds_up counts sets pair = list_all (λ kind. total (Pair pair ∷ sets) kind == slice_index counts kind) every_kind
 
--- the readings with these sets and this pair: one for each different block that the winning tile completes
-abbrev pub standard_with : List ℕ → ℕ → List Block → ℕ → List Reading
-standard_with counts winning sets pair = when (adds_up counts sets pair) (map (λ done. Standard sets pair done) (dones winning (sets ++ Pair pair ∷ [])))
+-- these sets and this pair, where they add up to the tiles
+abbrev pub split_with : List ℕ → List Block → ℕ → List Split
+split_with counts sets pair = when (adds_up counts sets pair) (record { sets = sets; pair = pair } ∷ [])
 
 -- those of four sets and a pair, the melds among the sets
+abbrev pub splits_of : List ℕ → ℕ → List Split
+splits_of counts melds = flat_map (λ sets. flat_map (split_with counts sets) every_kind) (collections 0 (4 - melds))
+
+-- their readings: one for each different block that the winning tile completes
 abbrev pub standard_of : List ℕ → ℕ → ℕ → List Reading
-standard_of counts melds winning = flat_map (λ sets. flat_map (standard_with counts winning sets) every_kind) (collections 0 (4 - melds))
+standard_of counts melds winning = flat_map (readings_with winning) (splits_of counts melds)
 
 abbrev pub are_seven_pairs : List ℕ → ℕ → Bool
 are_seven_pairs counts melds = (melds == 0) && (list_all (λ held. held == 0 || held == 2) counts && (count_by (λ held. held == 2) counts == 7))
