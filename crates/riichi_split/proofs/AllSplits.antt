@@ -2,7 +2,7 @@
 use Rattle.std.proofs.Common.{◌≡◌, ℕ, zero, suc, ◌+◌, ◌-◌, ◌^◌, ◌<◌, ◌≤◌, Bool, true, false, cond, inl, inr, Option, Some, None, List, [], ◌∷◌, ◌++◌, length, get_or, set, min, refl, sym, ap, ◌∙◌, arith, ltb, eqb}
 use Rattle.std.specs.List.{AllByRecursion}
 use Rattle.std.proofs.Math.Pow.{pow_mono}
-use Rattle.std.proofs.lemmas.Bool.{cases_eq, cases_lt}
+use Rattle.std.proofs.lemmas.Bool.{cases_eq, cases_lt, cond-false, le-ltb}
 use Rattle.std.proofs.lemmas.Bool.Decides.{nat_tests}
 use Rattle.std.proofs.lemmas.List.{length-set, get_or-set_other}
 use Rattle.std.proofs.lemmas.Grind.{get_or-set_at}
@@ -48,14 +48,9 @@ IsSplit-from c wanted melds p x bs counts w l e =
       add_up = λ k. let a = cut.adds k in let u = uncarried k in let t = same-total bs (0 + k) k (omega arith) in let v = without c p k (omega (arith, counts.each_kind)) s.0 in omega arith;
     }
 
-pick-second : (b : Bool) (o : Option (List Block)) → b ≡ false → cond b None o ≡ o
-pick-second true o e = absurd (cc)
-pick-second false o e = refl
-
 beside-is : (c : List ℕ) (wanted p x : ℕ) (bs : List Block) → 2 ≤ get_or c p 0 → cut_from 0 (set c p (get_or c p 0 - 2)) 0 0 wanted x ≡ Some bs → sets_beside c wanted p x ≡ Some bs
 beside-is c wanted p x bs h e =
-    let t : ltb (get_or c p 0) 2 ≡ false = grind (arith, nat_tests) in
-    pick-second (ltb (get_or c p 0) 2) (cut_from 0 (set c p (get_or c p 0 - 2)) 0 0 wanted x) t ∙ e
+    cond-false (ltb (get_or c p 0) 2) None (cut_from 0 (set c p (get_or c p 0 - 2)) 0 0 wanted x) (le-ltb (get_or c p 0) 2 h) ∙ e
 
 small-by : (c : List ℕ) → ((k : ℕ) → get_or c k 0 ≤ 4) → AllByRecursion (λ n. n ≤ 4) c
 small-by [] h = tt

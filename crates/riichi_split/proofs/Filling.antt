@@ -1,5 +1,5 @@
 -- The nine counts of a suit, filled rank by rank.
-use Rattle.std.proofs.Common.{◌≡◌, ℕ, zero, suc, ◌+◌, ◌<◌, ◌≤◌, inl, inr, Bool, List, length, get_or, replicate, set, refl, sym, ap, ◌∙◌, arith}
+use Rattle.std.proofs.Common.{◌≡◌, ℕ, ◌+◌, ◌<◌, ◌≤◌, inl, inr, Bool, List, length, get_or, replicate, set, refl, sym, ap, ◌∙◌, arith}
 use Rattle.std.proofs.lemmas.Bool.{cases_lt, cases_eq}
 use Rattle.std.proofs.lemmas.List.{length-set, get_or-set_other, get_or_past, ext_get_or}
 use Rattle.std.proofs.lemmas.List.FromFn.{length-map-range_with_len, get_or-map-range_with_len}
@@ -7,6 +7,7 @@ use Rattle.std.proofs.lemmas.Grind.{get_or-set_at}
 use Rattle.riichi_tiles.specs.declared.suit.Suit.{Suit}
 use Rattle.riichi_tiles.specs.declared.suit.Suit.TheVariants.{Characters, Circles, Bamboos, Honours}
 use Rattle.riichi_tiles.specs.Kinds.{first_of, kinds_of}
+use Rattle.riichi_split.proofs.Lists.{replicate-at}
 use Rattle.riichi_split.specs.SuitTiles.{OneSuit, nine_from, has_runs, tiles_of_suit}
 
 -- the ranks below one have the suit's counts, and the others none
@@ -15,13 +16,8 @@ pub record IsFilledTo (counts : List ℕ) (suit : Suit) (held : List ℕ) (rank 
   pub below : (k : ℕ) → k < rank → get_or held k 0 ≡ get_or counts (first_of suit + k) 0
   pub above : (k : ℕ) → rank ≤ k → get_or held k 0 ≡ 0
 
-none-held : (n k : ℕ) → ◌≡◌ {A = ℕ} (get_or (replicate n 0) k 0) 0
-none-held zero k = refl
-none-held (suc n) zero = refl
-none-held (suc n) (suc k) = none-held n k
-
 pub filled-none : (counts : List ℕ) (suit : Suit) → IsFilledTo counts suit (replicate 9 0) 0
-filled-none counts suit = record { nine = refl; below = λ k l. absurd (omega arith); above = λ k l. none-held 9 k }
+filled-none counts suit = record { nine = refl; below = λ k l. absurd (omega arith); above = λ k l. replicate-at 9 k 0 }
 
 pub filled-more : (counts : List ℕ) (suit : Suit) (held : List ℕ) (rank v : ℕ) → rank < 9 → v ≡ get_or counts (first_of suit + rank) 0 → IsFilledTo counts suit held rank → IsFilledTo counts suit (set held rank v) (rank + 1)
 filled-more counts suit held rank v l e i = record {

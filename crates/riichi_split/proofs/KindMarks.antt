@@ -1,9 +1,10 @@
 -- Marks of kinds, set one by one from the lowest on.
-use Rattle.std.proofs.Common.{◌≡◌, ℕ, zero, suc, ◌+◌, ◌<◌, ◌≤◌, ◌↔◌, inl, inr, List, Bool, true, false, length, replicate, set, refl, sym, ◌∙◌, subst, arith}
-use Rattle.std.proofs.lemmas.Bool.{cases_lt, cases_eq}
+use Rattle.std.proofs.Common.{◌≡◌, ℕ, ◌+◌, ◌<◌, ◌≤◌, ◌↔◌, inl, inr, List, Bool, true, false, length, replicate, set, refl, sym, ◌∙◌, subst, arith}
+use Rattle.std.proofs.lemmas.Bool.{cases_lt, cases_eq, both_ways}
 use Rattle.std.proofs.lemmas.List.{length-set, get_or-set_other}
 use Rattle.std.proofs.lemmas.Grind.{get_or-set_at}
 use Rattle.riichi_tiles.specs.Tiles.{IsMarked}
+use Rattle.riichi_split.proofs.Lists.{replicate-at}
 use Rattle.riichi_split.specs.Marks.{Adds, MarksBelow}
 
 pub adds-none : (P : ℕ → Type 0) (number : ℕ) (marks : List Bool) → ((kind : ℕ) → kind < number → P kind → ⊥) → Adds P number marks marks
@@ -48,9 +49,7 @@ adds-one P only marks long small w one =
 -- ---- where no kind was marked
 
 pub none-marked : (n k : ℕ) → IsMarked (replicate n false) k → ⊥
-none-marked zero k m = absurd (cc)
-none-marked (suc n) zero m = absurd (cc)
-none-marked (suc n) (suc k) m = none-marked n k m
+none-marked n k m = both_ways _ (replicate-at n k false) m
 
 -- of all kinds, where it holds of kinds alone
 pub marked-all : (P : ℕ → Type 0) (marks : List Bool) → ((kind : ℕ) → P kind → kind < 34) → MarksBelow P 34 marks → (kind : ℕ) → IsMarked marks kind ↔ P kind

@@ -1,5 +1,5 @@
 -- Membership and difference by recursion on a list, and what std's words say of them.
-use Rattle.std.proofs.Common.{◌∙◌, ◌≤◌, ◌+◌, Bool, true, flat_map, ◌≡◌, ◌≢◌, ℕ, zero, suc, ◌<◌, ◌⊎◌, inl, inr, List, [], ◌∷◌, ◌++◌, length, get_or, map, refl, sym, ap, subst, arith, All, Contains}
+use Rattle.std.proofs.Common.{◌∙◌, ◌≤◌, ◌+◌, Bool, true, flat_map, ◌≡◌, ◌≢◌, ℕ, zero, suc, ◌<◌, ◌⊎◌, inl, inr, List, [], ◌∷◌, ◌++◌, length, get_or, map, replicate, refl, sym, ap, subst, arith, All, Contains}
 use Rattle.std.specs.List.{AllPairs, list_all, list_any, range_with_len}
 use Rattle.std.proofs.lemmas.Bool.{and_from, and_parts, or_cases, or_left, or_right, cases_eq}
 
@@ -127,6 +127,12 @@ module _ {X : Type 0} (p : X → Bool) where
   any-from [] x i e = absurd i
   any-from (y ∷ ys) x (inl i) e = or_left (p y) (list_any p ys) (ap p i ∙ e)
   any-from (y ∷ ys) x (inr i) e = or_right (p y) (list_any p ys) (any-from ys x i e)
+
+-- a list of one and the same element
+pub replicate-at : {X : Type 0} (n k : ℕ) (x : X) → get_or (replicate n x) k x ≡ x
+replicate-at zero k x = refl
+replicate-at (suc n) zero x = refl
+replicate-at (suc n) (suc k) x = replicate-at n k x
 
 -- ---- the numbers of a range
 

@@ -1,5 +1,5 @@
 -- One set more, in its place.
-use Rattle.std.proofs.Common.{◌≡◌, ℕ, ◌+◌, ◌<◌, List, [], ◌∷◌, ◌++◌, length, take, slice_set, refl, sym, ◌∙◌, ap, arith}
+use Rattle.std.proofs.Common.{◌≡◌, ℕ, ◌+◌, ◌<◌, List, [], ◌∷◌, ◌++◌, length, length-append, take, slice_set, refl, sym, ◌∙◌, ap, arith}
 use Rattle.riichi_tiles.specs.declared.block.Block.{Block}
 use Rattle.riichi_split.specs.Sets.{placed, AreSets}
 
@@ -17,10 +17,6 @@ take-placed (a ∷ b ∷ []) block room = refl
 take-placed (a ∷ b ∷ c ∷ []) block room = refl
 take-placed (a ∷ b ∷ c ∷ d ∷ sets) block room = absurd (omega (arith, room))
 
-length-last : (sets : List Block) (block : Block) → length (sets ++ block ∷ []) ≡ length sets + 1
-length-last [] block = refl
-length-last (a ∷ sets) block = omega (arith, length-last sets block)
-
 pub AreSets-push : (blocks : List Block) (count : ℕ) (block : Block) → AreSets blocks count → length (take count blocks) < 4 → AreSets (slice_set blocks count block) (count + 1)
 AreSets-push blocks count block are room =
     let sets = take count blocks in
@@ -28,6 +24,6 @@ AreSets-push blocks count block are room =
     let taken : take (count + 1) (slice_set blocks count block) ≡ sets ++ block ∷ [] = ap (take (count + 1)) set_is ∙ ap (λ n. take (n + 1) (placed (sets ++ block ∷ []))) are.counted ∙ take-placed sets block room in
     record {
       places = set_is ∙ ap placed (sym taken);
-      counted = ap (λ n. n + 1) are.counted ∙ sym (length-last sets block) ∙ ap length (sym taken);
+      counted = ap (λ n. n + 1) are.counted ∙ sym (length-append sets (block ∷ [])) ∙ ap length (sym taken);
       at_most_four = omega (arith, are.counted, room);
     }

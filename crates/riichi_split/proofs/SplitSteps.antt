@@ -1,10 +1,11 @@
 -- One step along the choices, and along the pairs.
-use Rattle.std.proofs.Common.{inl, inr, min, ◌^◌, length-drop, ◌≤◌, ◌&&◌, leb, length, drop, add-one, ◌+◌, is_some, MatchOption, ◌≡◌, ℕ, ◌-◌, ◌<◌, Bool, true, false, cond, Option, Some, None, List, [], ◌∷◌, ◌++◌, get_or, slice_set, refl, sym, ap, ◌∙◌, arith, ltb}
+use Rattle.std.proofs.Common.{inl, inr, min, ◌^◌, length-drop, ◌≤◌, ◌&&◌, leb, length, drop, add-one, ◌+◌, is_some, MatchOption, ◌≡◌, ℕ, ◌-◌, ◌<◌, true, false, cond, Option, Some, None, List, [], ◌∷◌, ◌++◌, get_or, slice_set, refl, sym, ap, ◌∙◌, arith, ltb}
 use Rattle.std.proofs.lemmas.Bool.Decides.{nat_tests}
 use Rattle.std.proofs.Math.Seq.{drop-cons}
 use Rattle.riichi_tiles.specs.declared.block.Block.{Block}
 use Rattle.riichi_split.proofs.Sound.{doubts-cons, few_choices}
-use Rattle.std.proofs.lemmas.Bool.{cases_lt, lt-ltb}
+use Rattle.riichi_split.proofs.AllSplits.{beside-inv}
+use Rattle.std.proofs.lemmas.Bool.{cases_lt, lt-ltb, cond-true}
 use Rattle.riichi_split.proofs.Falling.{falling-step, falling-none, falling-passed}
 use Rattle.riichi_split.specs.Cuts.{doubts, may_have_runs, sets_beside, split_of, from_choices, from_pairs, cut_from}
 
@@ -29,14 +30,10 @@ pub from_pairs-none : (c : List ℕ) (wanted m first n : ℕ) → n ≡ 0 → fr
 unfolding from_pairs
 from_pairs-none c wanted m first n e = falling-none (λ k. from_choices c wanted (first + k) m) n e
 
-beside-none : (b : Bool) (p : ℕ) (o : Option (List Block)) → b ≡ true → split_of p (cond b None o) ≡ []
-beside-none true p o e = refl
-beside-none false p o e = absurd (cc)
-
 -- a kind with fewer than two tiles is no pair
 pub no_pair : (c : List ℕ) (wanted p n : ℕ) → get_or c p 0 < 2 → from_choices c wanted p n ≡ []
 no_pair c wanted p n h =
-    from_choices-passed c wanted p 0 n (omega arith) (λ x a b. beside-none (ltb (get_or c p 0) 2) p (cut_from 0 (slice_set c p (get_or c p 0 - 2)) 0 0 wanted x) (lt-ltb (get_or c p 0) 2 h)) ∙ from_choices-none c wanted p 0 refl
+    from_choices-passed c wanted p 0 n (omega arith) (λ x a b. ap (split_of p) (cond-true (ltb (get_or c p 0) 2) None (cut_from 0 (slice_set c p (get_or c p 0 - 2)) 0 0 wanted x) (lt-ltb (get_or c p 0) 2 h))) ∙ from_choices-none c wanted p 0 refl
 
 pub sets-found : (c : List ℕ) (wanted p n m : ℕ) (o : Option (List Block)) → 0 < n → o ≡ sets_beside c wanted p (n - 1) → is_some o ≡ true → from_choices c wanted p n ≡ from_choices c wanted p m → MatchOption o ((from_choices c wanted p m ≡ []) × (n - 1 ≡ 0)) (λ sets. from_choices c wanted p m ≡ record { sets = sets; pair = p } ∷ from_choices c wanted p (n - 1))
 sets-found c wanted p n m None l e s h = absurd (cc)
@@ -69,16 +66,12 @@ doubts-last c k l = short-doubts (drop k c) (omega (arith, length-drop k c))
 
 -- ---- the choices beside a pair
 
-beside-some : (b : Bool) (o : Option (List Block)) (bs : List Block) → cond b None o ≡ Some bs → o ≡ Some bs
-beside-some true o bs e = absurd (cc)
-beside-some false o bs e = e
-
 -- a number too great for the kinds in doubt makes no sets
 no-sets : (c : List ℕ) (wanted p x : ℕ) (o : Option (List Block)) → sets_beside c wanted p x ≡ o → 2 ^ doubts (slice_set c p (get_or c p 0 - 2)) ≤ x → o ≡ None
 no-sets c wanted p x None e many = refl
 no-sets c wanted p x (Some bs) e many =
     let rest = slice_set c p (get_or c p 0 - 2) in
-    let few = few_choices rest 0 0 0 wanted x bs (beside-some (ltb (get_or c p 0) 2) (cut_from 0 rest 0 0 wanted x) bs e) in
+    let few = few_choices rest 0 0 0 wanted x bs (beside-inv c wanted p x bs _ refl e).1 in
     absurd (omega (arith, few, many))
 
 enough : (d n choices x : ℕ) → choices ≤ 16 → n ≡ min (2 ^ min 4 d) choices → n ≤ x → x < choices → 2 ^ d ≤ x
