@@ -25,9 +25,6 @@ one : (b : Bool) (n : ℕ) (rest : Bool) → ((b || nat_eq n 0) && not rest) ≡
 one true n rest = refl
 one false n rest = ap (λ a. a && not rest) (zero-test n) ∙ neither (nat_lt 0 n) rest
 
-pub none-of : {a b c x y z : Bool} → a ≡ x → b ≡ y → c ≡ z → not (a || (b || c)) ≡ not (x || (y || z))
-none-of {a} {b} {c} {x} {y} {z} e f g = ap (λ first. not (first || (b || c))) e ∙ ap (λ second. not (x || (second || c))) f ∙ ap (λ third. not (x || (y || third))) g
-
 -- some of these kinds are held
 pub some-told : (tiles : List ℕ) (held : ℕ) → AreHeldOf tiles held → (kinds : List ℕ) → list_any (is_held held) kinds ≡ list_any (λ kind. nat_lt 0 (slice_index tiles kind)) kinds
 some-told tiles held h [] = refl
@@ -77,9 +74,6 @@ five : (tiles first second third fourth fifth : List ℕ) → list_any (λ kind.
 five tiles first second third fourth fifth =
     three tiles first second (third ++ (fourth ++ fifth))
     ∙ ap (λ b. list_any (λ kind. nat_lt 0 (slice_index tiles kind)) first || (list_any (λ kind. nat_lt 0 (slice_index tiles kind)) second || b)) (three tiles third fourth fifth)
-
-pub some-of : {a b c x y z : Bool} → a ≡ x → b ≡ y → c ≡ z → (a || (b || c)) ≡ (x || (y || z))
-some-of {a} {b} {c} {x} {y} {z} e f g = ap (λ first. first || (b || c)) e ∙ ap (λ second. x || (second || c)) f ∙ ap (λ third. x || (y || third)) g
 
 pub some-simple : (tiles : List ℕ) → (some_in tiles 1 7 || (some_in tiles 10 7 || some_in tiles 19 7)) ≡ some is_simple tiles
 some-simple tiles = sym (three tiles (range_with_len 1 7) (range_with_len 10 7) (range_with_len 19 7))

@@ -1,21 +1,15 @@
-use Rattle.std.proofs.Common.{◌≡◌, ◌∙◌, ap, sym, ◌||◌, refl, false, arith}
-use Rattle.riichi_blocks.specs.Held.{every}
-use Rattle.riichi_blocks.specs.Kinds.{is_of_suit, is_honour}
-use Rattle.riichi_blocks.proofs.Told.{none-of, characters-or-honours, circles-or-honours, bamboos-or-honours}
+use Rattle.std.proofs.Common.{◌≡◌, arith}
+use Rattle.riichi_blocks.proofs.Told.{characters-or-honours, circles-or-honours, bamboos-or-honours}
 use Rattle.riichi_blocks.proofs.tiles.AllTiles.are_of_suit_or_honours.Goals as goal
 
 pub returns-then-suit-eq0 : goal.returns-then-suit-eq0
-returns-then-suit-eq0 c =
-    c.none_of.ensures ∙ none-of {c = false} c.has_circles.ensures c.has_bamboos.ensures refl ∙ characters-or-honours c.args.self.now
-    ∙ ap (λ suit. every (λ kind. is_of_suit suit kind || is_honour kind) c.args.self.now) (sym c.if-suit-eq0.true)
+returns-then-suit-eq0 c = rw (c.none_of.ensures, c.has_circles.ensures, c.has_bamboos.ensures, c.if-suit-eq0.true) (characters-or-honours c.args.self.now)
 
 pub returns-then-suit-eq1 : goal.returns-then-suit-eq1
 returns-then-suit-eq1 c =
-    c.none_of-then-suit-eq1.ensures ∙ none-of {c = false} c.has_characters.ensures c.has_bamboos-then-suit-eq1.ensures refl ∙ circles-or-honours c.args.self.now
-    ∙ ap (λ suit. every (λ kind. is_of_suit suit kind || is_honour kind) c.args.self.now) (sym c.if-suit-eq1.true)
+    rw (c.none_of-then-suit-eq1.ensures, c.has_characters.ensures, c.has_bamboos-then-suit-eq1.ensures, c.if-suit-eq1.true) (circles-or-honours c.args.self.now)
 
 pub returns-else-suit-eq1 : goal.returns-else-suit-eq1
 returns-else-suit-eq1 c =
-    let two : 2 ≡ c.args.suit = omega arith in
-    c.none_of-else-suit-eq1.ensures ∙ none-of {c = false} c.has_characters-else-suit-eq1.ensures c.has_circles-else-suit-eq1.ensures refl ∙ bamboos-or-honours c.args.self.now
-    ∙ ap (λ suit. every (λ kind. is_of_suit suit kind || is_honour kind) c.args.self.now) two
+    let two : c.args.suit ≡ 2 = omega arith in
+    rw (c.none_of-else-suit-eq1.ensures, c.has_characters-else-suit-eq1.ensures, c.has_circles-else-suit-eq1.ensures, two) (bamboos-or-honours c.args.self.now)

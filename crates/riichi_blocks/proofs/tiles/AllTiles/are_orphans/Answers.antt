@@ -1,6 +1,5 @@
-use Rattle.std.proofs.Common.{◌∙◌, refl, false}
-use Rattle.riichi_blocks.proofs.Told.{none-of, all-orphans}
+use Rattle.riichi_blocks.proofs.Told.{all-orphans}
 use Rattle.riichi_blocks.proofs.tiles.AllTiles.are_orphans.Goals as goal
 
 pub returns : goal.returns
-returns c = c.none_of.ensures ∙ none-of {b = false} {c = false} c.has_simples.ensures refl refl ∙ all-orphans c.args.self.now
+returns c = rw (c.none_of.ensures, c.has_simples.ensures) (all-orphans c.args.self.now)
