@@ -38,7 +38,7 @@ fn push_kinds(text: &mut ArrayString<3072>, list: &LiveList)
 }
 
 #[tactic(auto, unfolding(crate::specs::Text::list_text))]
-fn push_list(text: &mut ArrayString<3072>, list: &LiveList)
+fn push_accepted(text: &mut ArrayString<3072>, list: &LiveList)
     requires { array_string_len text.old + 194 ≤ 3072 }
     ensures bytes { text.new.bytes ≡ text.old.bytes ++ spec.list_text list.now }
     ensures len { array_string_len text.new ≤ array_string_len text.old + 194 }
@@ -57,7 +57,7 @@ fn push_discard(text: &mut ArrayString<3072>, discard: &Discard)
 {
     text.push_str(" discard ");
     push_kind(text, discard.kind);
-    push_list(text, &discard.accepted);
+    push_accepted(text, &discard.accepted);
 }
 
 fn push_discards(text: &mut ArrayString<3072>, discards: &DiscardList)
@@ -77,7 +77,7 @@ fn push_accepts(text: &mut ArrayString<3072>, accepts: &Accepts)
     ensures { text.new.bytes ≡ text.old.bytes ++ spec.accepts_text accepts.now }
 {
     match accepts {
-        Accepts::Thirteen(accepted) => push_list(text, accepted),
+        Accepts::Thirteen(accepted) => push_accepted(text, accepted),
         Accepts::Fourteen(discards) => push_discards(text, discards),
     }
 }

@@ -9,6 +9,6 @@ regroup a b c d = simp append_assoc
 pub returns-clause-bytes : goal.returns-clause-bytes
 unfolding discard_text
 returns-clause-bytes c =
-    c.push_list.ensures.bytes
+    c.push_accepted.ensures.bytes
     ∙ ap (λ t. t ++ list_text c.args.discard.now.accepted) (c.push_kind.ensures.bytes ∙ ap (λ t. t ++ kind_text c.args.discard.now.kind) c.push_str.ensures.bytes)
     ∙ regroup c.args.text.now.bytes _ (kind_text c.args.discard.now.kind) (list_text c.args.discard.now.accepted)
