@@ -1,6 +1,6 @@
 -- The least sum of two rows, entry by entry of the first.
 use Rattle.std.proofs.Common.{◌≡◌, ℕ, zero, suc, ◌+◌, ◌-◌, ◌<◌, ◌≤◌, min, Bool, true, false, cond, ◌⊎◌, refl, sym, ap, ◌∙◌, ⊎_elim, subst, ltb, Option, Some, None, arith}
-use Rattle.std.proofs.lemmas.Bool.{cases_lt, ltb-true, lt-ltb}
+use Rattle.std.proofs.lemmas.Bool.{cases_lt, ltb-true, ltb-false, lt-ltb}
 use Rattle.riichi_rows.specs.Lanes.{capped, with_set, with_pair}
 use Rattle.riichi_rows.specs.Join.{IsLeastSum, SumReached, EntriesSum, IsLeastJoin}
 use Rattle.riichi_rows.specs.Suit.{entry_of}
@@ -150,23 +150,24 @@ module _ (a b c d : ℕ → ℕ → ℕ) (sets n : ℕ) where
         let m3 = small_d e.split.sets_3 e.split.pairs_3 (omega (arith, e.has_sets)) (omega (arith, e.has_pair)) e3.1 in
         (omega (arith, e0.0, e1.0, e2.0, e3.0, e.total), omega (arith, m0, m1, m2, m3, e0.0, e1.0, e2.0, e3.0, e.total))
 
+-- a lane that no sum is below, and that is reached unless it stands for none
+pub entry_join : (a b c d : ℕ → ℕ → Option ℕ) (sets n : ℕ) → ((m : ℕ) → EntriesSum a b c d sets m → (n ≤ m) × (m ≤ 144)) → (n < 255 → EntriesSum a b c d sets n) → IsLeastJoin a b c d sets (entry_of n)
+entry_join a b c d sets n bound reached = by_test (ltb n 255) refl
+  where
+    by_test : (t : Bool) → ltb n 255 ≡ t → IsLeastJoin a b c d sets (cond t (Some n) None)
+    by_test true low = (reached (ltb-true n 255 low), λ m e. (bound m e).0)
+    by_test false high = λ m e. (let below = bound m e in omega (arith, ltb-false n 255 high, below.0, below.1))
+
 module _ (a b c d left right all : ℕ → ℕ → ℕ) (left_least : IsLeastSum a b left) (right_least : IsLeastSum c d right) (all_least : IsLeastSum left right all) (sets : ℕ) (few : sets ≤ 4)
     (small_a : IsSmall a) (small_b : IsSmall b) (small_c : IsSmall c) (small_d : IsSmall d) where
   join_bound : (n : ℕ) → EntriesSum (entries a) (entries b) (entries c) (entries d) sets n → (all sets 1 ≤ n) × (n ≤ 144)
   join_bound n e =
-      let s0 = e.split.sets_0 in
-      let s1 = e.split.sets_1 in
-      let s2 = e.split.sets_2 in
-      let s3 = e.split.sets_3 in
-      let p0 = e.split.pairs_0 in
-      let p1 = e.split.pairs_1 in
-      let p2 = e.split.pairs_2 in
-      let p3 = e.split.pairs_3 in
+      let x = e.split in
       let sum = entries_total a b c d sets n e few small_a small_b small_c small_d in
-      let l = left_least.bound s0 p0 s1 p1 (omega (arith, e.has_sets)) (omega (arith, e.has_pair)) in
-      let r = right_least.bound s2 p2 s3 p3 (omega (arith, e.has_sets)) (omega (arith, e.has_pair)) in
-      let t = all_least.bound (s0 + s1) (p0 + p1) (s2 + s3) (p2 + p3) (omega (arith, e.has_sets)) (omega (arith, e.has_pair)) in
-      let place = at_same all sets (s0 + s1 + (s2 + s3)) 1 (p0 + p1 + (p2 + p3)) (omega (arith, e.has_sets)) (omega (arith, e.has_pair)) in
+      let l = left_least.bound x.sets_0 x.pairs_0 x.sets_1 x.pairs_1 (omega (arith, e.has_sets)) (omega (arith, e.has_pair)) in
+      let r = right_least.bound x.sets_2 x.pairs_2 x.sets_3 x.pairs_3 (omega (arith, e.has_sets)) (omega (arith, e.has_pair)) in
+      let t = all_least.bound (x.sets_0 + x.sets_1) (x.pairs_0 + x.pairs_1) (x.sets_2 + x.sets_3) (x.pairs_2 + x.pairs_3) (omega (arith, e.has_sets)) (omega (arith, e.has_pair)) in
+      let place = at_same all sets (x.sets_0 + x.sets_1 + (x.sets_2 + x.sets_3)) 1 (x.pairs_0 + x.pairs_1 + (x.pairs_2 + x.pairs_3)) (omega (arith, e.has_sets)) (omega (arith, e.has_pair)) in
       (omega (arith, place, t, l, r, sum.0), sum.1)
 
   join_reached : all sets 1 < 255 → EntriesSum (entries a) (entries b) (entries c) (entries d) sets (all sets 1)
@@ -177,11 +178,5 @@ module _ (a b c d left right all : ℕ → ℕ → ℕ) (left_least : IsLeastSum
       four_entries a b c d sets (all sets 1) l.left_sets l.right_sets r.left_sets r.right_sets l.left_pairs l.right_pairs r.left_pairs r.right_pairs
       (omega (arith, t.sets, l.sets, r.sets)) (omega (arith, t.pairs, l.pairs, r.pairs)) (omega (arith, t.value, l.value, r.value)) low
 
-  pub join_some : (n : ℕ) → n < 255 → n ≡ all sets 1 → IsLeastJoin (entries a) (entries b) (entries c) (entries d) sets (Some n)
-  join_some n low same = (
-    subst (λ (v : ℕ). EntriesSum (entries a) (entries b) (entries c) (entries d) sets v) (sym same) (join_reached (omega (arith, low, same))),
-    λ m e. omega (arith, same, (join_bound m e).0),
-  )
-
-  pub join_none : (n : ℕ) → 255 ≤ n → n ≡ all sets 1 → IsLeastJoin (entries a) (entries b) (entries c) (entries d) sets None
-  join_none n high same = λ m e. (let bound = join_bound m e in omega (arith, high, same, bound.0, bound.1))
+  pub join_entry : (n : ℕ) → n ≡ all sets 1 → IsLeastJoin (entries a) (entries b) (entries c) (entries d) sets (entry_of n)
+  join_entry n same = subst (λ (v : ℕ). IsLeastJoin (entries a) (entries b) (entries c) (entries d) sets (entry_of v)) (sym same) (entry_join (entries a) (entries b) (entries c) (entries d) sets (all sets 1) join_bound join_reached)

@@ -3,7 +3,6 @@ pub mod Blocks
 pub mod CostLemmas
 pub mod JoinOrders
 pub mod Joins
-pub mod Lacking
 pub mod KeptTables
 pub mod LackedRanks
 pub mod LaneLemmas

@@ -1,93 +1,41 @@
 -- What the operations on marked lanes give at one lane.
-use Rattle.std.proofs.Common.{◌≡◌, ℕ, zero, suc, ◌+◌, ◌-◌, ◌<◌, ◌≤◌, ◌/◌, min, Bool, false, cond, List, [], ◌∷◌, ◌++◌, map, length, get_or, replicate, leb, nat_lt, bit_and, bit_or, sym, ap, ap₂, ◌∙◌, subst, ⊎_elim, eq-zero-or-pos, arith}
-use Rattle.std.proofs.Common as width
+use Rattle.std.proofs.Common.{◌≡◌, ℕ, zero, suc, ◌+◌, ◌-◌, ◌<◌, ◌≤◌, ◌/◌, min, Bool, cond, List, length, get_or, leb, nat_lt, bit_and, bit_or, refl, sym, ap, ap₂, ◌∙◌, subst, ⊎_elim, eq-zero-or-pos, arith}
 use Rattle.std.proofs.lemmas.Bool.{cases_order, le-leb, lt-leb}
 use Rattle.std.proofs.lemmas.Bool.Decides.{nat_tests}
 use Rattle.std.proofs.lemmas.Nat.{and_or_apart, and_or_self, or_comm, or_shr}
-use Rattle.std.proofs.lemmas.List.{get_or_append_left, get_or_at}
-use Rattle.std.proofs.lemmas.Simd.{get_or-zip2, get_or-replicate, length-replicate, tops_compared, length-sel_l, get_or-sel_l, length-zip2}
+use Rattle.std.proofs.lemmas.Simd.{get_or-zip2, get_or-replicate, length-replicate, length-zip2}
 use Rattle.std.specs.Prelude.{if◌then◌else◌, ◌&&◌}
 use lib.Arith.{bin_ind}
 use lib.Bits.{and_step, or_step, and_zero_r, or_zero_r}
-use lib.Lanes.{zip2, sel_l, top}
+use lib.Lanes.{zip2, sel_l}
 use Rattle.riichi_rows.specs.Open.{IsMarkOf}
 use Rattle.riichi_rows.specs.Lanes.{lane, HasLanes, with_set, with_pair, capped, Agree, HasRoom, mark, lack_with, lacks_with}
+use Rattle.riichi_rows.proofs.LaneLemmas.{by_place, chosen_at, length_chosen, no_set, pair_moved, pair_order, picked, set_more, set_order, sixteen, tested}
 
 abbrev pub Sound : List ℕ → List ℕ → Type 0
 Sound lacks marks = (s p : ℕ) → s < 5 → p < 2 → lane lacks s p ≡ 0 → mark marks s p ≡ 0
 
 -- ---- marks that move
 
-abbrev zeros : List ℕ
-zeros = 0 ∷ 0 ∷ 0 ∷ 0 ∷ 0 ∷ 0 ∷ 0 ∷ 0 ∷ 0 ∷ 0 ∷ 0 ∷ 0 ∷ 0 ∷ 0 ∷ 0 ∷ 0 ∷ []
-
-abbrev moved : List ℕ → List ℕ → List ℕ
-moved ms ks = map (λ k. get_or (ms ++ zeros) k 0) ks
-
-front : (ms ys : List ℕ) (k : ℕ) → length ms ≡ 16 → k < 16 → get_or (ms ++ ys) k 0 ≡ get_or ms k 0
-front ms ys k long h = get_or_append_left ms ys 0 k (omega arith)
-
-seam : (ms ys : List ℕ) → length ms ≡ 16 → get_or (ms ++ 0 ∷ ys) 16 0 ≡ 0
-seam ms ys long = get_or_at ms 0 ys 0 16 long
-
-abbrev set_order : List ℕ
-set_order = 16 ∷ 0 ∷ 1 ∷ 2 ∷ 3 ∷ 4 ∷ 5 ∷ 6 ∷ 16 ∷ 8 ∷ 9 ∷ 10 ∷ 11 ∷ 12 ∷ 13 ∷ 14 ∷ []
-
-abbrev pair_order : List ℕ
-pair_order = 16 ∷ 16 ∷ 16 ∷ 16 ∷ 16 ∷ 16 ∷ 16 ∷ 16 ∷ 0 ∷ 1 ∷ 2 ∷ 3 ∷ 4 ∷ 5 ∷ 6 ∷ 7 ∷ []
-
-no_set : (ms : List ℕ) → length ms ≡ 16 → (p : ℕ) → p < 2 → mark (moved ms set_order) zero p ≡ 0
-no_set ms long zero hp = seam ms _ long
-no_set ms long (suc zero) hp = seam ms _ long
-no_set ms long (suc (suc p)) hp = absurd (omega arith)
-
-set_more : (ms : List ℕ) → length ms ≡ 16 → (s p : ℕ) → suc s < 5 → p < 2 → mark (moved ms set_order) (suc s) p ≡ mark ms s p
-set_more ms long zero zero hs hp = front ms zeros 0 long (omega arith)
-set_more ms long zero (suc zero) hs hp = front ms zeros 8 long (omega arith)
-set_more ms long (suc zero) zero hs hp = front ms zeros 1 long (omega arith)
-set_more ms long (suc zero) (suc zero) hs hp = front ms zeros 9 long (omega arith)
-set_more ms long (suc (suc zero)) zero hs hp = front ms zeros 2 long (omega arith)
-set_more ms long (suc (suc zero)) (suc zero) hs hp = front ms zeros 10 long (omega arith)
-set_more ms long (suc (suc (suc zero))) zero hs hp = front ms zeros 3 long (omega arith)
-set_more ms long (suc (suc (suc zero))) (suc zero) hs hp = front ms zeros 11 long (omega arith)
-set_more ms long (suc (suc (suc (suc s)))) p hs hp = absurd (omega arith)
-set_more ms long s (suc (suc p)) hs hp = absurd (omega arith)
-
-no_pair : (ms : List ℕ) → length ms ≡ 16 → (s : ℕ) → s < 5 → mark (moved ms pair_order) s zero ≡ 0
-no_pair ms long zero hs = seam ms _ long
-no_pair ms long (suc zero) hs = seam ms _ long
-no_pair ms long (suc (suc zero)) hs = seam ms _ long
-no_pair ms long (suc (suc (suc zero))) hs = seam ms _ long
-no_pair ms long (suc (suc (suc (suc zero)))) hs = seam ms _ long
-no_pair ms long (suc (suc (suc (suc (suc s))))) hs = absurd (omega arith)
-
-pair_more : (ms : List ℕ) → length ms ≡ 16 → (s : ℕ) → s < 5 → mark (moved ms pair_order) s (suc zero) ≡ mark ms s zero
-pair_more ms long zero hs = front ms zeros 0 long (omega arith)
-pair_more ms long (suc zero) hs = front ms zeros 1 long (omega arith)
-pair_more ms long (suc (suc zero)) hs = front ms zeros 2 long (omega arith)
-pair_more ms long (suc (suc (suc zero))) hs = front ms zeros 3 long (omega arith)
-pair_more ms long (suc (suc (suc (suc zero)))) hs = front ms zeros 4 long (omega arith)
-pair_more ms long (suc (suc (suc (suc (suc s))))) hs = absurd (omega arith)
-
 module _ (lacks result ms : List ℕ) (long : length ms ≡ 16) where
   module _ (has : HasLanes result (with_set (lane lacks))) where
-    pub set_marked : (bit : ℕ) → Agree (lacks_with bit result (moved ms set_order)) (with_set (lacks_with bit lacks ms))
-    set_marked bit zero p hs hp = ap₂ (lack_with bit) (has zero p hs hp) (no_set ms long p hp)
-    set_marked bit (suc s) p hs hp = ap₂ (lack_with bit) (has (suc s) p hs hp) (set_more ms long s p hs hp)
+    pub set_marked : (bit : ℕ) → Agree (lacks_with bit result (picked 0 ms set_order)) (with_set (lacks_with bit lacks ms))
+    set_marked bit zero p hs hp = ap₂ (lack_with bit) (has zero p hs hp) (no_set 0 ms long p)
+    set_marked bit (suc s) p hs hp = ap₂ (lack_with bit) (has (suc s) p hs hp) (set_more 0 ms long s p hs)
 
-    pub set_sound : Sound lacks ms → Sound result (moved ms set_order)
-    set_sound sound zero p hs hp none = no_set ms long p hp
-    set_sound sound (suc s) p hs hp none = set_more ms long s p hs hp ∙ sound s p (omega arith) hp (sym (has (suc s) p hs hp) ∙ none)
+    pub set_sound : Sound lacks ms → Sound result (picked 0 ms set_order)
+    set_sound sound zero p hs hp none = no_set 0 ms long p
+    set_sound sound (suc s) p hs hp none = set_more 0 ms long s p hs ∙ sound s p (omega arith) hp (sym (has (suc s) p hs hp) ∙ none)
 
   module _ (has : HasLanes result (with_pair (lane lacks))) where
-    pub pair_marked : (bit : ℕ) → Agree (lacks_with bit result (moved ms pair_order)) (with_pair (lacks_with bit lacks ms))
-    pair_marked bit s zero hs hp = ap₂ (lack_with bit) (has s zero hs hp) (no_pair ms long s hs)
-    pair_marked bit s (suc zero) hs hp = ap₂ (lack_with bit) (has s (suc zero) hs hp) (pair_more ms long s hs)
+    pub pair_marked : (bit : ℕ) → Agree (lacks_with bit result (picked 0 ms pair_order)) (with_pair (lacks_with bit lacks ms))
+    pair_marked bit s zero hs hp = ap₂ (lack_with bit) (has s zero hs hp) (pair_moved 0 ms long s hs).0
+    pair_marked bit s (suc zero) hs hp = ap₂ (lack_with bit) (has s (suc zero) hs hp) (pair_moved 0 ms long s hs).1
     pair_marked bit s (suc (suc p)) hs hp = absurd (omega arith)
 
-    pub pair_sound : Sound lacks ms → Sound result (moved ms pair_order)
-    pair_sound sound s zero hs hp none = no_pair ms long s hs
-    pair_sound sound s (suc zero) hs hp none = pair_more ms long s hs ∙ sound s zero hs (omega arith) (sym (has s (suc zero) hs hp) ∙ none)
+    pub pair_sound : Sound lacks ms → Sound result (picked 0 ms pair_order)
+    pair_sound sound s zero hs hp none = (pair_moved 0 ms long s hs).0
+    pair_sound sound s (suc zero) hs hp none = (pair_moved 0 ms long s hs).1 ∙ sound s zero hs (omega arith) (sym (has s (suc zero) hs hp) ∙ none)
     pair_sound sound s (suc (suc p)) hs hp none = absurd (omega arith)
 
 -- ---- bits of two marks together
@@ -158,27 +106,21 @@ chosen_none a b x y first second none =
     ⊎_elim (λ same. subst (λ (n : ℕ). chosen a n x y ≡ 0) same (chosen_both a x y ∙ ap₂ bit_or (first (omega arith)) (second (omega arith))))
     (λ apart. ⊎_elim (λ less. chosen_first a b x y less ∙ first (omega arith)) (λ less. chosen_second a b x y less ∙ second (omega arith)) apart) (cases_order a b)
 
+-- the marks that stand beside the lesser of two lacks
 abbrev kept : List ℕ → List ℕ → List ℕ → List ℕ
-kept xs ys ms = sel_l (map (top 7) (zip2 (λ a b. cond (leb a b) 255 0) xs ys)) ms zeros
-
-kept_is : (xs ys ms : List ℕ) → kept xs ys ms ≡ sel_l (zip2 leb xs ys) ms zeros
-kept_is xs ys ms = ap (λ ts. sel_l ts ms zeros) (tops_compared width.w8 leb xs ys)
+kept xs ys ms = sel_l (tested leb xs ys) ms (sixteen 0)
 
 abbrev both_kept : List ℕ → List ℕ → List ℕ → List ℕ → List ℕ
 both_kept xs ys ms ns = zip2 bit_or (kept xs ys ms) (kept ys xs ns)
 
 module _ (xs ys ms : List ℕ) (lx : length xs ≡ 16) (ly : length ys ≡ 16) (lm : length ms ≡ 16) where
-  tests : length (zip2 leb xs ys) ≡ 16
-  tests = length-zip2 leb xs ys (omega arith) ∙ lx
-
   length_kept : length (kept xs ys ms) ≡ 16
-  length_kept = ap length (kept_is xs ys ms) ∙ length-sel_l (zip2 leb xs ys) ms zeros (tests ∙ sym lm) tests ∙ tests
+  length_kept = length_chosen leb xs ys lx ly ms (sixteen 0) lm refl
 
   kept_at : (k : ℕ) → k < 16 → get_or (kept xs ys ms) k 0 ≡ cond (leb (get_or xs k 255) (get_or ys k 255)) (get_or ms k 0) 0
   kept_at k h =
-      let picked = get_or-sel_l (zip2 leb xs ys) ms zeros k 0 (omega (arith, tests, h)) (omega arith) h in
-      let test = get_or-zip2 leb xs ys k 255 255 false (omega arith) (omega arith) in
-      ap (λ ts. get_or ts k 0) (kept_is xs ys ms) ∙ picked ∙ ap₂ (λ (t : Bool) (m : ℕ). cond t (get_or ms k 0) m) test (get_or-replicate 16 k 0 0 h)
+      chosen_at leb xs ys lx ly ms (sixteen 0) lm refl k 0 h
+      ∙ ap (λ (m : ℕ). cond (leb (get_or xs k 255) (get_or ys k 255)) (get_or ms k 0) m) (get_or-replicate 16 k 0 0 h)
 
 module _ (xs ys ms ns : List ℕ) (lx : length xs ≡ 16) (ly : length ys ≡ 16) (lm : length ms ≡ 16) (ln : length ns ≡ 16) where
   pub length_both_kept : length (both_kept xs ys ms ns) ≡ 16
@@ -186,23 +128,19 @@ module _ (xs ys ms ns : List ℕ) (lx : length xs ≡ 16) (ly : length ys ≡ 16
 
   both_at : (k : ℕ) → k < 16 → get_or (both_kept xs ys ms ns) k 0 ≡ chosen (get_or xs k 255) (get_or ys k 255) (get_or ms k 0) (get_or ns k 0)
   both_at k h =
-      let first = length_kept xs ys ms lx ly lm in
-      let second = length_kept ys xs ns ly lx ln in
-      get_or-zip2 bit_or (kept xs ys ms) (kept ys xs ns) k 0 0 0 (omega (arith, first, h)) (omega (arith, second, h))
+      get_or-zip2 bit_or (kept xs ys ms) (kept ys xs ns) k 0 0 0 (omega (arith, length_kept xs ys ms lx ly lm, h)) (omega (arith, length_kept ys xs ns ly lx ln, h))
       ∙ ap₂ bit_or (kept_at xs ys ms lx ly lm k h) (kept_at ys xs ns ly lx ln k h)
 
-  both_lane : (s p : ℕ) → s < 5 → p < 2 → mark (both_kept xs ys ms ns) s p ≡ chosen (lane xs s p) (lane ys s p) (mark ms s p) (mark ns s p)
-  both_lane s zero hs hp = both_at s (omega arith)
-  both_lane s (suc zero) hs hp = both_at (8 + s) (omega arith)
-  both_lane s (suc (suc p)) hs hp = absurd (omega arith)
+  both_lane : (s p : ℕ) → s < 5 → mark (both_kept xs ys ms ns) s p ≡ chosen (lane xs s p) (lane ys s p) (mark ms s p) (mark ns s p)
+  both_lane s p hs = by_place (λ at. at 0 (both_kept xs ys ms ns) ≡ chosen (at 255 xs) (at 255 ys) (at 0 ms) (at 0 ns)) both_at s p (omega arith)
 
   module _ (result : List ℕ) (has : HasLanes result (λ s p. min (lane xs s p) (lane ys s p))) where
     pub or_marked : (bit : ℕ) → Agree (lacks_with bit result (both_kept xs ys ms ns)) (λ s p. min (lacks_with bit xs ms s p) (lacks_with bit ys ns s p))
-    or_marked bit s p hs hp = ap₂ (lack_with bit) (has s p hs hp) (both_lane s p hs hp) ∙ better bit (mark ms s p) (mark ns s p) (lane xs s p) (lane ys s p)
+    or_marked bit s p hs hp = ap₂ (lack_with bit) (has s p hs hp) (both_lane s p hs) ∙ better bit (mark ms s p) (mark ns s p) (lane xs s p) (lane ys s p)
 
     pub or_sound : Sound xs ms → Sound ys ns → Sound result (both_kept xs ys ms ns)
     or_sound first second s p hs hp none =
-        both_lane s p hs hp ∙ chosen_none (lane xs s p) (lane ys s p) (mark ms s p) (mark ns s p) (first s p hs hp) (second s p hs hp) (sym (has s p hs hp) ∙ none)
+        both_lane s p hs ∙ chosen_none (lane xs s p) (lane ys s p) (mark ms s p) (mark ns s p) (first s p hs hp) (second s p hs hp) (sym (has s p hs hp) ∙ none)
 
 -- ---- more tiles lacking
 
@@ -219,27 +157,25 @@ own_seen : (a t k n : ℕ) → (0 < t → 0 < n) → (t ≡ 0 → n ≡ k) → (
 own_seen a t k n some none few_tiles few is_same = grind (arith, nat_tests)
 
 abbrev marked_all : List ℕ → ℕ → List ℕ
-marked_all ms m = zip2 bit_or ms (replicate 16 m)
+marked_all ms m = zip2 bit_or ms (sixteen m)
 
 module _ (ms : List ℕ) (m : ℕ) (long : length ms ≡ 16) where
   pub length_marked_all : length (marked_all ms m) ≡ 16
-  length_marked_all = length-zip2 bit_or ms (replicate 16 m) (long ∙ sym (length-replicate 16 m)) ∙ long
+  length_marked_all = length-zip2 bit_or ms (sixteen m) (long ∙ sym (length-replicate 16 m)) ∙ long
 
   marked_at : (k : ℕ) → k < 16 → get_or (marked_all ms m) k 0 ≡ bit_or (get_or ms k 0) m
   marked_at k h =
-      let all : length (replicate 16 m) ≡ 16 = length-replicate 16 m in
-      get_or-zip2 bit_or ms (replicate 16 m) k 0 0 0 (omega arith) (omega arith) ∙ ap (bit_or (get_or ms k 0)) (get_or-replicate 16 k m 0 h)
+      let all : length (sixteen m) ≡ 16 = length-replicate 16 m in
+      get_or-zip2 bit_or ms (sixteen m) k 0 0 0 (omega arith) (omega arith) ∙ ap (bit_or (get_or ms k 0)) (get_or-replicate 16 k m 0 h)
 
-  marked_lane : (s p : ℕ) → s < 5 → p < 2 → mark (marked_all ms m) s p ≡ bit_or (mark ms s p) m
-  marked_lane s zero hs hp = marked_at s (omega arith)
-  marked_lane s (suc zero) hs hp = marked_at (8 + s) (omega arith)
-  marked_lane s (suc (suc p)) hs hp = absurd (omega arith)
+  marked_lane : (s p : ℕ) → s < 5 → mark (marked_all ms m) s p ≡ bit_or (mark ms s p) m
+  marked_lane s p hs = by_place (λ at. at 0 (marked_all ms m) ≡ bit_or (at 0 ms) m) marked_at s p (omega arith)
 
   module _ (lacks result : List ℕ) (bit tiles : ℕ) (is : IsMarkOf bit tiles m) (sound : Sound lacks ms) (has : HasLanes result (λ s p. capped (lane lacks s p + tiles))) where
     pub more_sound : Sound result (marked_all ms m)
     more_sound s p hs hp none =
         let sum = sym (has s p hs hp) ∙ none in
-        marked_lane s p hs hp ∙ ap₂ bit_or (sound s p hs hp (omega (arith, sum))) (is.1 (omega (arith, sum)))
+        marked_lane s p hs ∙ ap₂ bit_or (sound s p hs hp (omega (arith, sum))) (is.1 (omega (arith, sum)))
 
     shares_none : (other : ℕ) → bit_and bit other ≡ 0 → bit_and m other ≡ 0
     shares_none other apart =
@@ -247,7 +183,7 @@ module _ (ms : List ℕ) (m : ℕ) (long : length ms ≡ 16) where
 
     module _ (s p : ℕ) (hs : s < 5) (hp : p < 2) where
       here : (asked : ℕ) → lacks_with asked result (marked_all ms m) s p ≡ lack_with asked (capped (lane lacks s p + tiles)) (bit_or (mark ms s p) m)
-      here asked = ap₂ (lack_with asked) (has s p hs hp) (marked_lane s p hs hp)
+      here asked = ap₂ (lack_with asked) (has s p hs hp) (marked_lane s p hs)
 
       few_as_it_is : HasRoom (lacks_with 0 lacks ms s p) → HasRoom (lane lacks s p)
       few_as_it_is few = subst HasRoom (as_it_is (lane lacks s p) (mark ms s p)) few

@@ -8,17 +8,16 @@ use Rattle.std.proofs.lemmas.Bool.Decides.{nat_tests}
 use Rattle.std.proofs.lemmas.List.{drop_all, length-drop, drop-set, drop-set-add, drop-set-lt, get_or-drop, get_or-set_other, length-set}
 use Rattle.std.proofs.lemmas.Nat.{pow_apart}
 use Rattle.riichi_rows.specs.Columns.{AreLeast, Column, Fits, lack_from, LeastFrom}
-use Rattle.riichi_rows.specs.Lanes.{Agree, IsFew, lack_with, lane, mark, nothing}
+use Rattle.riichi_rows.specs.Lanes.{Agree, lack_with, lane, mark}
 use Rattle.riichi_rows.specs.Open.{AreFew, Begun, FewBegun, FewOpen, LeastBegun, LeastOpen, SameBegun, SameOpen}
 use Rattle.riichi_rows.specs.Open as table
-use Rattle.riichi_rows.specs.Ranks.{AreBegunRanks, AreRanks, AreRanksWithoutRuns, one_more}
+use Rattle.riichi_rows.specs.Ranks.{AreRanks, AreRanksWithoutRuns, HoldsFrom, LeastAlone, OpenLeast, one_more}
 use Rattle.riichi_rows.specs.Seen.{begun_seen, open_seen, seen}
 use Rattle.riichi_rows.specs.Without.{one_less}
 use Rattle.riichi_rows.specs.declared.marked_lanes.MarkedLanes.{MarkedLanes}
 use Rattle.riichi_rows.specs.declared.open.Begun as code
 use Rattle.riichi_rows.specs.declared.open.Open as open_code
 use Rattle.riichi_rows.proofs.MarkLemmas.{as_it_is}
-use Rattle.riichi_rows.proofs.Steps.{nothing_least}
 
 -- ---- what is reached is little
 
@@ -36,15 +35,14 @@ lack_little runs (have ∷ counts) (cap ∷ caps) a b (x ∷ xs) few fits =
     omega (arith, rest, here, in_cap)
 
 module _ (runs : Bool) (counts caps : List ℕ) (few : AreCaps caps) (short : length caps ≤ 9) where
-  from_few : (a b s p v : ℕ) → LeastFrom runs counts caps a b s p v → IsFew v
-  from_few a b s p v least low =
+  -- a lack that is reached is small
+  pub reached_small : (a b s p v : ℕ) → LeastFrom runs counts caps a b s p v → v < 255 → v ≤ 36
+  reached_small a b s p v least low =
       let found = least.reached low in
-      let little = lack_little runs counts caps a b found.columns few found.fits in
-      let is = found.lacks in
-      omega (arith, little, is, short)
+      omega (arith, lack_little runs counts caps a b found.columns few found.fits, found.lacks, short)
 
   pub are_few : (a b : ℕ) (f : ℕ → ℕ → ℕ) → AreLeast runs counts caps a b f → AreFew f
-  are_few a b f least s p hs hp = from_few a b s p (f s p) (least.at s p hs hp)
+  are_few a b f least s p hs hp low = omega (arith, reached_small a b s p (f s p) (least.at s p hs hp) low)
 
 pub few_begun : (counts caps : List ℕ) → AreCaps caps → length caps ≤ 9 → (a : ℕ) (x : Begun) → LeastBegun counts caps a x → FewBegun x
 few_begun counts caps few short a x least = record {
@@ -119,20 +117,15 @@ drop_short caps k long = (let e = length-drop k caps in omega (arith, long, e))
 same_or_not : (a b : ℕ) → (a ≡ b) ⊎ (a ≢ b)
 same_or_not a b = ⊎_elim (λ low. inr (λ e. omega (arith, e, low))) (λ high. ⊎_elim (λ low. inr (λ e. omega (arith, e, low))) (λ other. inl (omega arith)) (cases_lt b a)) (cases_lt a b)
 
--- L are the tables from the rank after k on, N those from k on, by the bit of one more tile
+-- L holds from the rank after k on, N from k on
 module _ (counts caps : List ℕ) (long : length counts ≡ 9) (caps_long : length caps ≡ 9) (k : ℕ) (some : 0 < k) (inside : k < 9) (bit : ℕ) (is_bit : bit ≡ 2 ^ (k - 1)) (L N : List ℕ → List ℕ → ℕ → Type 0)
     (others : (other : ℕ) (cs ks : List ℕ) → bit_and bit other ≡ 0 → L cs ks other → N (get_or counts k 0 ∷ cs) (get_or caps k 0 ∷ ks) other)
-    (own : (cs ks : List ℕ) → L cs ks bit → L cs ks 0 → N ((get_or counts k 0 + 1) ∷ cs) (get_or caps k 0 ∷ ks) bit)
-    (plain : L (drop (k + 1) counts) (drop (k + 1) caps) 0)
-    (marks : (r : ℕ) → r < 8 → L (drop (k + 1) (one_more counts (suc r))) (drop (k + 1) caps) (2 ^ r)) where
+    (own : (cs ks : List ℕ) → L cs ks bit → L cs ks 0 → N ((get_or counts k 0 + 1) ∷ cs) (get_or caps k 0 ∷ ks) bit) (are : HoldsFrom L (k + 1) counts caps) where
   caps_here : drop k caps ≡ get_or caps k 0 ∷ drop (k + 1) caps
   caps_here = in_front caps k (omega (arith, caps_long, inside))
 
   at_rank : (cs : List ℕ) (other : ℕ) → drop k cs ≡ get_or counts k 0 ∷ drop (k + 1) cs → bit_and bit other ≡ 0 → L (drop (k + 1) cs) (drop (k + 1) caps) other → N (drop k cs) (drop k caps) other
   at_rank cs other is apart least = subst (λ (ys : List ℕ). N ys (drop k caps) other) (sym is) (subst (λ (zs : List ℕ). N (get_or counts k 0 ∷ drop (k + 1) cs) zs other) (sym caps_here) (others other _ _ apart least))
-
-  pub plain_next : N (drop k counts) (drop k caps) 0
-  plain_next = at_rank counts 0 (in_front counts k (omega (arith, long, inside))) (and_zero_r bit) plain
 
   own_next : (r : ℕ) → r < 8 → suc r ≡ k → N (drop k (one_more counts (suc r))) (drop k caps) (2 ^ r)
   own_next r low same =
@@ -141,8 +134,8 @@ module _ (counts caps : List ℕ) (long : length counts ≡ 9) (caps_long : leng
       let later : drop (k + 1) (one_more counts (suc r)) ≡ drop (k + 1) counts = drop-set-lt (k + 1) counts (suc r) (slice_index counts (suc r) + 1) (omega (arith, same)) in
       let here : drop k (one_more counts (suc r)) ≡ more ∷ drop (k + 1) counts =
       subst (λ (n : ℕ). drop n (one_more counts (suc r)) ≡ (get_or counts n 0 + 1) ∷ drop (n + 1) counts) same (drop-set counts (suc r) (slice_index counts (suc r) + 1) (omega (arith, long, low))) in
-      let marked : L (drop (k + 1) counts) (drop (k + 1) caps) bit = subst (λ (n : ℕ). L (drop (k + 1) counts) (drop (k + 1) caps) n) (sym at_bit) (subst (λ (ys : List ℕ). L ys (drop (k + 1) caps) (2 ^ r)) later (marks r low)) in
-      let least : N (more ∷ drop (k + 1) counts) (get_or caps k 0 ∷ drop (k + 1) caps) bit = own _ _ marked plain in
+      let marked : L (drop (k + 1) counts) (drop (k + 1) caps) bit = subst (λ (n : ℕ). L (drop (k + 1) counts) (drop (k + 1) caps) n) (sym at_bit) (subst (λ (ys : List ℕ). L ys (drop (k + 1) caps) (2 ^ r)) later (are.marks r low)) in
+      let least : N (more ∷ drop (k + 1) counts) (get_or caps k 0 ∷ drop (k + 1) caps) bit = own _ _ marked are.plain in
       subst (λ (n : ℕ). N (drop k (one_more counts (suc r))) (drop k caps) n) at_bit
       (subst (λ (ys : List ℕ). N ys (drop k caps) bit) (sym here) (subst (λ (zs : List ℕ). N (more ∷ drop (k + 1) counts) zs bit) (sym caps_here) least))
 
@@ -153,10 +146,13 @@ module _ (counts caps : List ℕ) (long : length counts ≡ 9) (caps_long : leng
       let held : get_or cs k 0 ≡ get_or counts k 0 = get_or-set_other counts (suc r) k (slice_index counts (suc r) + 1) 0 (λ e. differ (sym e)) in
       let here : drop k cs ≡ get_or counts k 0 ∷ drop (k + 1) cs = in_front cs k (omega (arith, long_too, inside)) ∙ ap (λ (n : ℕ). n ∷ drop (k + 1) cs) held in
       let apart : bit_and bit (2 ^ r) ≡ 0 = ap (λ (n : ℕ). bit_and n (2 ^ r)) is_bit ∙ pow_apart (k - 1) r (λ e. differ (omega (arith, e, some))) in
-      at_rank cs (2 ^ r) here apart (marks r low)
+      at_rank cs (2 ^ r) here apart (are.marks r low)
 
-  pub marks_next : (r : ℕ) → r < 8 → N (drop k (one_more counts (suc r))) (drop k caps) (2 ^ r)
-  marks_next r low = ⊎_elim (λ same. own_next r low same) (λ differ. other_next r low differ) (same_or_not (suc r) k)
+  pub next_from : HoldsFrom N k counts caps
+  next_from = record {
+    plain = at_rank counts 0 (in_front counts k (omega (arith, long, inside))) (and_zero_r bit) are.plain;
+    marks = λ r low. ⊎_elim (λ same. own_next r low same) (λ differ. other_next r low differ) (same_or_not (suc r) k);
+  }
 
 -- ---- for the tables of the code
 
@@ -171,73 +167,37 @@ module _ (counts caps : List ℕ) (long : length counts ≡ 9) (caps_long : leng
   short : length (drop (k + 1) caps) ≤ 9
   short = drop_short caps (k + 1) caps_long
 
-  pub next_open : (later next : open_code.Open) →
-      ((other : ℕ) (cs ks : List ℕ) → bit_and bit other ≡ 0 → FewOpen (open_seen 0 later) → LeastOpen cs ks (open_seen other later) → LeastOpen (get_or counts k 0 ∷ cs) (get_or caps k 0 ∷ ks) (open_seen other next)) →
-      ((cs ks : List ℕ) → 0 < bit → FewOpen (open_seen 0 later) → SameOpen (open_seen bit later) (open_seen 0 later) → LeastOpen cs ks (open_seen 0 later) → LeastOpen ((get_or counts k 0 + 1) ∷ cs) (get_or caps k 0 ∷ ks) (open_seen bit next)) →
-      AreRanks (k + 1) counts caps later → AreRanks k counts caps next
-  next_open later next others own are =
-      let little = few_open _ _ (caps_from caps (k + 1) few caps_long) short (open_seen 0 later) are.plain in
-      let L : List ℕ → List ℕ → ℕ → Type 0 = λ cs ks b. LeastOpen cs ks (open_seen b later) in
-      let N : List ℕ → List ℕ → ℕ → Type 0 = λ cs ks b. LeastOpen cs ks (open_seen b next) in
-      let at_others : (other : ℕ) (cs ks : List ℕ) → bit_and bit other ≡ 0 → L cs ks other → N (get_or counts k 0 ∷ cs) (get_or caps k 0 ∷ ks) other = λ other cs ks apart least. others other cs ks apart little least in
-      let at_own : (cs ks : List ℕ) → L cs ks bit → L cs ks 0 → N ((get_or counts k 0 + 1) ∷ cs) (get_or caps k 0 ∷ ks) bit = λ cs ks marked plain. own cs ks has_bit little (same_open cs ks bit later marked plain) plain in
-      record {
-        plain = plain_next counts caps long caps_long k some inside bit is_bit L N at_others at_own are.plain are.marks;
-        marks = marks_next counts caps long caps_long k some inside bit is_bit L N at_others at_own are.plain are.marks;
-      }
+  pub next_open : (later : open_code.Open) (N : List ℕ → List ℕ → ℕ → Type 0) →
+      ((other : ℕ) (cs ks : List ℕ) → bit_and bit other ≡ 0 → FewOpen (open_seen 0 later) → OpenLeast later cs ks other → N (get_or counts k 0 ∷ cs) (get_or caps k 0 ∷ ks) other) →
+      ((cs ks : List ℕ) → 0 < bit → FewOpen (open_seen 0 later) → SameOpen (open_seen bit later) (open_seen 0 later) → OpenLeast later cs ks 0 → N ((get_or counts k 0 + 1) ∷ cs) (get_or caps k 0 ∷ ks) bit) →
+      (n : ℕ) → n ≡ k + 1 → AreRanks n counts caps later → HoldsFrom N k counts caps
+  next_open later N others own n next are =
+      let there : AreRanks (k + 1) counts caps later = subst (λ (m : ℕ). AreRanks m counts caps later) next are in
+      let little = few_open _ _ (caps_from caps (k + 1) few caps_long) short (open_seen 0 later) there.plain in
+      next_from counts caps long caps_long k some inside bit is_bit (OpenLeast later) N (λ other cs ks apart least. others other cs ks apart little least)
+      (λ cs ks marked plain. own cs ks has_bit little (same_open cs ks bit later marked plain) plain) there
 
-  pub next_begun : (later : open_code.Open) (next : code.Begun) →
-      ((other : ℕ) (cs ks : List ℕ) → bit_and bit other ≡ 0 → FewOpen (open_seen 0 later) → LeastOpen cs ks (open_seen other later) → LeastBegun (get_or counts k 0 ∷ cs) (get_or caps k 0 ∷ ks) 0 (begun_seen other next)) →
-      ((cs ks : List ℕ) → 0 < bit → FewOpen (open_seen 0 later) → SameOpen (open_seen bit later) (open_seen 0 later) → LeastOpen cs ks (open_seen 0 later) → LeastBegun ((get_or counts k 0 + 1) ∷ cs) (get_or caps k 0 ∷ ks) 0 (begun_seen bit next)) →
-      AreRanks (k + 1) counts caps later → AreBegunRanks k counts caps next
-  next_begun later next others own are =
-      let little = few_open _ _ (caps_from caps (k + 1) few caps_long) short (open_seen 0 later) are.plain in
-      let L : List ℕ → List ℕ → ℕ → Type 0 = λ cs ks b. LeastOpen cs ks (open_seen b later) in
-      let N : List ℕ → List ℕ → ℕ → Type 0 = λ cs ks b. LeastBegun cs ks 0 (begun_seen b next) in
-      let at_others : (other : ℕ) (cs ks : List ℕ) → bit_and bit other ≡ 0 → L cs ks other → N (get_or counts k 0 ∷ cs) (get_or caps k 0 ∷ ks) other = λ other cs ks apart least. others other cs ks apart little least in
-      let at_own : (cs ks : List ℕ) → L cs ks bit → L cs ks 0 → N ((get_or counts k 0 + 1) ∷ cs) (get_or caps k 0 ∷ ks) bit = λ cs ks marked plain. own cs ks has_bit little (same_open cs ks bit later marked plain) plain in
-      record {
-        plain = plain_next counts caps long caps_long k some inside bit is_bit L N at_others at_own are.plain are.marks;
-        marks = marks_next counts caps long caps_long k some inside bit is_bit L N at_others at_own are.plain are.marks;
-      }
-
-  pub next_alone : (later next : MarkedLanes) →
-      ((other : ℕ) (cs ks : List ℕ) → bit_and bit other ≡ 0 → AreFew (seen 0 later) → AreLeast false cs ks 0 0 (seen other later) → AreLeast false (get_or counts k 0 ∷ cs) (get_or caps k 0 ∷ ks) 0 0 (seen other next)) →
-      ((cs ks : List ℕ) → 0 < bit → AreFew (seen 0 later) → Agree (seen bit later) (seen 0 later) → AreLeast false cs ks 0 0 (seen 0 later) → AreLeast false ((get_or counts k 0 + 1) ∷ cs) (get_or caps k 0 ∷ ks) 0 0 (seen bit next)) →
-      AreRanksWithoutRuns (k + 1) counts caps later → AreRanksWithoutRuns k counts caps next
-  next_alone later next others own are =
-      let little = are_few false _ _ (caps_from caps (k + 1) few caps_long) short 0 0 (seen 0 later) are.plain in
-      let L : List ℕ → List ℕ → ℕ → Type 0 = λ cs ks b. AreLeast false cs ks 0 0 (seen b later) in
-      let N : List ℕ → List ℕ → ℕ → Type 0 = λ cs ks b. AreLeast false cs ks 0 0 (seen b next) in
-      let at_others : (other : ℕ) (cs ks : List ℕ) → bit_and bit other ≡ 0 → L cs ks other → N (get_or counts k 0 ∷ cs) (get_or caps k 0 ∷ ks) other = λ other cs ks apart least. others other cs ks apart little least in
-      let at_own : (cs ks : List ℕ) → L cs ks bit → L cs ks 0 → N ((get_or counts k 0 + 1) ∷ cs) (get_or caps k 0 ∷ ks) bit = λ cs ks marked plain. own cs ks has_bit little (same_seen false cs ks 0 0 bit later marked plain) plain in
-      record {
-        plain = plain_next counts caps long caps_long k some inside bit is_bit L N at_others at_own are.plain are.marks;
-        marks = marks_next counts caps long caps_long k some inside bit is_bit L N at_others at_own are.plain are.marks;
-      }
+  pub next_alone : (later : MarkedLanes) (N : List ℕ → List ℕ → ℕ → Type 0) →
+      ((other : ℕ) (cs ks : List ℕ) → bit_and bit other ≡ 0 → AreFew (seen 0 later) → LeastAlone later cs ks other → N (get_or counts k 0 ∷ cs) (get_or caps k 0 ∷ ks) other) →
+      ((cs ks : List ℕ) → 0 < bit → AreFew (seen 0 later) → Agree (seen bit later) (seen 0 later) → LeastAlone later cs ks 0 → N ((get_or counts k 0 + 1) ∷ cs) (get_or caps k 0 ∷ ks) bit) →
+      (n : ℕ) → n ≡ k + 1 → AreRanksWithoutRuns n counts caps later → HoldsFrom N k counts caps
+  next_alone later N others own n next are =
+      let there : AreRanksWithoutRuns (k + 1) counts caps later = subst (λ (m : ℕ). AreRanksWithoutRuns m counts caps later) next are in
+      let little = are_few false _ _ (caps_from caps (k + 1) few caps_long) short 0 0 (seen 0 later) there.plain in
+      next_from counts caps long caps_long k some inside bit is_bit (LeastAlone later) N (λ other cs ks apart least. others other cs ks apart little least)
+      (λ cs ks marked plain. own cs ks has_bit little (same_seen false cs ks 0 0 bit later marked plain) plain) there
 
 -- after the last rank
-module _ (counts caps : List ℕ) (long : length counts ≡ 9) (caps_long : length caps ≡ 9) where
-  no_counts : drop 9 counts ≡ []
-  no_counts = drop_all 9 counts (omega (arith, long))
-
-  no_caps : drop 9 caps ≡ []
-  no_caps = drop_all 9 caps (omega (arith, caps_long))
-
-  no_more : (r : ℕ) → drop 9 (one_more counts r) ≡ []
-  no_more r = (let e = length-set counts r (slice_index counts r + 1) in drop_all 9 (one_more counts r) (omega (arith, long, e)))
-
-  pub nothing_left : (x : open_code.Open) → ((bit : ℕ) → LeastOpen [] [] (open_seen bit x)) → AreRanks 9 counts caps x
-  nothing_left x least = record {
-    plain = subst (λ (ys : List ℕ). LeastOpen ys (drop 9 caps) (open_seen 0 x)) (sym no_counts) (subst (λ (zs : List ℕ). LeastOpen [] zs (open_seen 0 x)) (sym no_caps) (least 0));
-    marks = λ r low. subst (λ (ys : List ℕ). LeastOpen ys (drop 9 caps) (open_seen (2 ^ r) x)) (sym (no_more (suc r))) (subst (λ (zs : List ℕ). LeastOpen [] zs (open_seen (2 ^ r) x)) (sym no_caps) (least (2 ^ r)));
-  }
-
-  pub nothing_alone : (x : MarkedLanes) → ((bit : ℕ) → Agree (seen bit x) nothing) → AreRanksWithoutRuns 9 counts caps x
-  nothing_alone x least = record {
-    plain = subst (λ (ys : List ℕ). AreLeast false ys (drop 9 caps) 0 0 (seen 0 x)) (sym no_counts) (subst (λ (zs : List ℕ). AreLeast false [] zs 0 0 (seen 0 x)) (sym no_caps) (nothing_least false (seen 0 x) (least 0)));
-    marks = λ r low. subst (λ (ys : List ℕ). AreLeast false ys (drop 9 caps) 0 0 (seen (2 ^ r) x)) (sym (no_more (suc r))) (subst (λ (zs : List ℕ). AreLeast false [] zs 0 0 (seen (2 ^ r) x)) (sym no_caps) (nothing_least false (seen (2 ^ r) x) (least (2 ^ r))));
-  }
+pub nothing_left : (counts caps : List ℕ) → length counts ≡ 9 → length caps ≡ 9 → (L : List ℕ → List ℕ → ℕ → Type 0) → ((bit : ℕ) → L [] [] bit) → HoldsFrom L 9 counts caps
+nothing_left counts caps long caps_long L least = record {
+  plain = ended counts 0 long;
+  marks = λ r low. ended (one_more counts (suc r)) (2 ^ r) (length-set counts (suc r) (slice_index counts (suc r) + 1) ∙ long);
+}
+  where
+    ended : (cs : List ℕ) (bit : ℕ) → length cs ≡ 9 → L (drop 9 cs) (drop 9 caps) bit
+    ended cs bit nine =
+        subst (λ (ys : List ℕ). L ys (drop 9 caps) bit) (sym (drop_all 9 cs (omega (arith, nine))))
+        (subst (λ (zs : List ℕ). L [] zs bit) (sym (drop_all 9 caps (omega (arith, caps_long)))) (least bit))
 
 -- ---- with one tile fewer of a rank
 
@@ -267,8 +227,8 @@ module _ (counts : List ℕ) (rank from : ℕ) (below : rank < from) where
   drop_changed r = ⊎_elim (λ low. drop_before r low) (λ high. drop_after r (r - from) (omega (arith, high))) (cases_lt r from)
 
   -- the tables after a rank stay
-  pub same_after : (caps : List ℕ) (later : open_code.Open) → AreRanks from counts caps later → AreRanks from (one_less counts rank) caps later
-  same_after caps later are = record {
-    plain = subst (λ (ys : List ℕ). LeastOpen ys (drop from caps) (open_seen 0 later)) (sym drop_one_less) are.plain;
-    marks = λ r low. subst (λ (ys : List ℕ). LeastOpen ys (drop from caps) (open_seen (2 ^ r) later)) (sym (drop_changed (suc r))) (are.marks r low);
+  pub same_after : (L : List ℕ → List ℕ → ℕ → Type 0) (caps : List ℕ) → HoldsFrom L from counts caps → HoldsFrom L from (one_less counts rank) caps
+  same_after L caps are = record {
+    plain = subst (λ (ys : List ℕ). L ys (drop from caps) 0) (sym drop_one_less) are.plain;
+    marks = λ r low. subst (λ (ys : List ℕ). L ys (drop from caps) (2 ^ r)) (sym (drop_changed (suc r))) (are.marks r low);
   }

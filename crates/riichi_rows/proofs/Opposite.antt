@@ -1,22 +1,24 @@
 -- The lanes that make up so many sets and one pair with each, and what is gathered from the lanes of one sum.
-use Rattle.std.proofs.Common.{◌≡◌, ℕ, zero, suc, ◌+◌, ◌-◌, ◌<◌, ◌≤◌, ◌%◌, ◌^◌, ◌⊎◌, inl, inr, min, Bool, true, false, cond, List, [], ◌∷◌, ◌++◌, map, length, get_or, replicate, ltb, eqb, bit_and, bit_or, refl, sym, ap, ap₂, ◌∙◌, subst, ⊎_elim, arith}
-use Rattle.std.proofs.Common as width
+use Rattle.std.proofs.Common.{◌≡◌, ℕ, zero, suc, ◌+◌, ◌-◌, ◌<◌, ◌≤◌, ◌%◌, ◌^◌, ◌⊎◌, inl, inr, min, Bool, true, false, cond, List, [], ◌∷◌, ◌++◌, map, length, get_or, ltb, eqb, bit_and, bit_or, refl, sym, ap, ap₂, ◌∙◌, subst, ⊎_elim, arith}
 use Rattle.std.specs.Prelude.{◌↔◌, ◌||◌, IsTrue, if◌then◌else◌, nat_lt, nat_le}
 use Rattle.std.specs.Int.Bits.{and_zero_l}
 use Rattle.std.specs.List.{range_with_len}
 use Rattle.std.proofs.lemmas.Bool.{cases_lt, false≢true, eq-eqb, lt-ltb, ltb-true}
 use Rattle.std.proofs.lemmas.Bool.Decides.{nat_tests}
-use Rattle.std.proofs.lemmas.List.{get_or_append_left, get_or_default, get_or_at, get_or_past, get_or-map, length-map}
+use Rattle.std.proofs.lemmas.List.{get_or_past, get_or-map, length-map}
 use Rattle.std.proofs.lemmas.List.FromFn.{get_or-map-range_with_len, length-map-range_with_len}
-use Rattle.std.proofs.lemmas.Simd.{get_or-zip2, get_or-replicate, length-replicate, tops_compared, length-sel_l, get_or-sel_l, length-zip2, mask_l-mod}
-use lib.Lanes.{zip2, sel_l, top, mask_l, fold_l}
-use Rattle.riichi_rows.specs.Lanes.{LaneOf, SomeLane, capped, lane, mark, opposite}
+use Rattle.std.proofs.lemmas.Simd.{get_or-zip2, get_or-replicate, length-replicate, length-zip2, mask_l-mod}
+use lib.Lanes.{zip2, sel_l, mask_l, fold_l}
+use Rattle.riichi_rows.specs.Lanes.{LaneOf, SomeLane, at_place, capped, lane, mark, opposite}
 use Rattle.riichi_rows.proofs.LackedRanks.{bit_of_both, has_bit}
 use Rattle.riichi_rows.specs.Join.{SumReached}
-use Rattle.riichi_rows.proofs.Joins.{min_is}
-use Rattle.riichi_rows.proofs.Lacking.{TakenBefore}
+use Rattle.riichi_rows.specs.Marks.{has_rank, MarkedBeside, is_marked}
+use Rattle.riichi_rows.specs.declared.joined.JoinedRows.{JoinedRows}
+use Rattle.riichi_rows.specs.declared.rank_set.RankSet.{RankSet}
+use Rattle.riichi_rows.specs.declared.row.SuitRow.{SuitRow}
+use Rattle.riichi_rows.proofs.Joins.{entry_is, entry_some, min_is}
 use Rattle.riichi_rows.proofs.OneChanged.{LeastTaken}
-use Rattle.riichi_rows.proofs.LaneLemmas.{lesser, nones, picked, sixteen, length_lesser, lesser_at}
+use Rattle.riichi_rows.proofs.LaneLemmas.{by_place, chosen_at, front, length_chosen, length_lesser, length_tested, lesser, lesser_at, picked, seam, sixteen, tested, tested_at}
 
 -- ---- the lanes that stand opposite
 
@@ -33,17 +35,17 @@ place_within sets i few = grind (arith, nat_tests)
 nothing_past : (xs : List ℕ) → length xs ≡ 16 → get_or xs 16 255 ≡ 255
 nothing_past xs long = get_or_past xs 16 255 (omega arith)
 
-taken_at : (xs : List ℕ) → length xs ≡ 16 → (k : ℕ) → k ≤ 16 → get_or (xs ++ nones) k 0 ≡ get_or xs k 255
+taken_at : (xs : List ℕ) → length xs ≡ 16 → (k : ℕ) → k ≤ 16 → get_or (xs ++ sixteen 255) k 0 ≡ get_or xs k 255
 taken_at xs long k within =
-    ⊎_elim (λ low. get_or_append_left xs nones 0 k (omega arith) ∙ get_or_default xs k 0 255 (omega arith))
-    (λ high. (let last : k ≡ 16 = omega arith in subst (λ (n : ℕ). get_or (xs ++ nones) n 0 ≡ get_or xs n 255) (sym last) (get_or_at xs 255 _ 0 16 long ∙ sym (nothing_past xs long))))
+    ⊎_elim (λ low. front 255 xs long k low)
+    (λ high. (let last : k ≡ 16 = omega arith in subst (λ (n : ℕ). get_or (xs ++ sixteen 255) n 0 ≡ get_or xs n 255) (sym last) (seam 255 xs long ∙ sym (nothing_past xs long))))
     (cases_lt k 16)
 
-turned_at : (xs : List ℕ) → length xs ≡ 16 → (sets i : ℕ) → sets ≤ 4 → i < 16 → get_or (picked xs (places sets)) i 255 ≡ get_or xs (place sets i) 255
+turned_at : (xs : List ℕ) → length xs ≡ 16 → (sets i : ℕ) → sets ≤ 4 → i < 16 → get_or (picked 255 xs (places sets)) i 255 ≡ get_or xs (place sets i) 255
 turned_at xs long sets i few inside =
     let all : length (places sets) ≡ 16 = length-map-range_with_len (place sets) 0 16 in
-    get_or-map (λ k. get_or (xs ++ nones) k 0) (places sets) i 16 255 (omega arith)
-    ∙ ap (λ k. get_or (xs ++ nones) k 0) (get_or-map-range_with_len (place sets) 0 16 i i 16 inside (omega arith))
+    get_or-map (λ k. get_or (xs ++ sixteen 255) k 0) (places sets) i 16 255 (omega arith)
+    ∙ ap (λ k. get_or (xs ++ sixteen 255) k 0) (get_or-map-range_with_len (place sets) 0 16 i i 16 inside (omega arith))
     ∙ taken_at xs long (place sets i) (place_within sets i few)
 
 opposite_is : (sets : ℕ) (f : ℕ → ℕ → ℕ) (s p : ℕ) → s ≤ sets → opposite sets f s p ≡ f (sets - s) (1 - p)
@@ -65,7 +67,7 @@ module _ (xs : List ℕ) (long : length xs ≡ 16) (sets : ℕ) (few : sets ≤ 
   no_place_paired : (s : ℕ) → s < 8 → sets < s → place sets (8 + s) ≡ 16
   no_place_paired s low past = grind (arith, nat_tests)
 
-  pub opposite_lanes : (s p : ℕ) → s < 8 → p < 2 → lane (picked xs (places sets)) s p ≡ opposite sets (lane xs) s p
+  pub opposite_lanes : (s p : ℕ) → s < 8 → p < 2 → lane (picked 255 xs (places sets)) s p ≡ opposite sets (lane xs) s p
   opposite_lanes s zero hs hp =
       turned_at xs long sets s few (omega arith)
       ∙ ⊎_elim (λ past. ap (λ k. get_or xs k 255) (no_place_plain s hs past) ∙ nothing_past xs long ∙ sym (opposite_none sets (lane xs) s 0 past))
@@ -101,9 +103,7 @@ module _ (xs ys : List ℕ) (lx : length xs ≡ 16) (ly : length ys ≡ 16) wher
       get_or-zip2 (λ a b. (a + b) % 2 ^ 8) xs (lesser ys (map (λ a. 255 - a) xs)) k 255 255 255 (omega arith) (omega arith) ∙ capped_sum (get_or xs k 255) (get_or ys k 255) _ fits kept
 
   pub summed_lanes : ((k : ℕ) → k < 16 → get_or xs k 255 ≤ 255) → (s p : ℕ) → s < 8 → p < 2 → lane (summed xs ys) s p ≡ capped (lane xs s p + lane ys s p)
-  summed_lanes fits s zero hs hp = summed_at s (omega arith) (fits s (omega arith))
-  summed_lanes fits s (suc zero) hs hp = summed_at (8 + s) (omega arith) (fits (8 + s) (omega arith))
-  summed_lanes fits s (suc (suc p)) hs hp = absurd (omega arith)
+  summed_lanes fits s p hs hp = by_place (λ at. at 255 (summed xs ys) ≡ capped (at 255 xs + at 255 ys)) (λ k h. summed_at k h (fits k h)) s p hs
 
 -- ---- lanes by their places
 
@@ -113,11 +113,18 @@ record AtPlace (lanes : List ℕ) (value : ℕ) (at : ℕ → Bool) : Type 0 whe
   pub has_value : get_or lanes place 255 ≡ value
   pub test : IsTrue (at place)
 
-module _ (lanes : List ℕ) (value : ℕ) (passes : ℕ → ℕ → Bool) (at : ℕ → Bool) (plain : (s : ℕ) → passes s 0 ≡ at s) (paired : (s : ℕ) → passes s 1 ≡ at (8 + s)) where
-  to_lane : AtPlace lanes value at → SomeLane lanes value passes
+-- of a test that reads lists of sixteen at one place
+module _ (lanes : List ℕ) (value : ℕ) (test : (ℕ → List ℕ → ℕ) → Bool) where
+  abbrev test_at : ℕ → Bool
+  test_at k = test (λ other xs. get_or xs k other)
+
+  abbrev test_lane : ℕ → ℕ → Bool
+  test_lane s p = test (λ other xs. at_place other xs s p)
+
+  to_lane : AtPlace lanes value test_at → SomeLane lanes value test_lane
   to_lane t =
       ⊎_elim
-      (λ low. record { sets = t.place; pairs = 0; few_sets = low; few_pairs = omega arith; has_value = t.has_value; test = plain t.place ∙ t.test })
+      (λ low. record { sets = t.place; pairs = 0; few_sets = low; few_pairs = omega arith; has_value = t.has_value; test = t.test })
       (λ high.
       (let inside = t.inside in
       let same : 8 + (t.place - 8) ≡ t.place = omega (arith, high) in
@@ -127,17 +134,16 @@ module _ (lanes : List ℕ) (value : ℕ) (passes : ℕ → ℕ → Bool) (at : 
         few_sets = omega (arith, inside, high);
         few_pairs = omega arith;
         has_value = ap (λ k. get_or lanes k 255) same ∙ t.has_value;
-        test = paired (t.place - 8) ∙ ap at same ∙ t.test;
+        test = ap test_at same ∙ t.test;
       }))
       (cases_lt t.place 8)
 
-  place_of : (s p : ℕ) → s < 8 → p < 2 → lane lanes s p ≡ value → IsTrue (passes s p) → AtPlace lanes value at
-  place_of s zero hs hp e h = record { place = s; inside = omega arith; has_value = e; test = sym (plain s) ∙ h }
-  place_of s (suc zero) hs hp e h = record { place = 8 + s; inside = omega arith; has_value = e; test = sym (paired s) ∙ h }
-  place_of s (suc (suc p)) hs hp e h = absurd (omega arith)
-
-  of_lane : SomeLane lanes value passes → AtPlace lanes value at
-  of_lane t = place_of t.sets t.pairs t.few_sets t.few_pairs t.has_value t.test
+  of_lane : SomeLane lanes value test_lane → AtPlace lanes value test_at
+  of_lane t = place_of t.sets t.pairs t.few_sets t.has_value t.test
+    where
+      place_of : (s p : ℕ) → s < 8 → lane lanes s p ≡ value → IsTrue (test_lane s p) → AtPlace lanes value test_at
+      place_of s zero hs e h = record { place = s; inside = omega arith; has_value = e; test = h }
+      place_of s (suc p) hs e h = record { place = 8 + s; inside = omega arith; has_value = e; test = h }
 
 -- ---- a mask that has some bit
 
@@ -198,38 +204,17 @@ some_bits bit (x ∷ xs) a (suc k) h is = some_bits bit xs (bit_or a x) k (omega
 -- ---- the lanes of one sum
 
 abbrev pub same : List ℕ → ℕ → List Bool
-same xs n = map (top 7) (zip2 (λ a b. cond (eqb a b) 255 0) xs (sixteen n))
-
-same_is : (xs : List ℕ) (n : ℕ) → same xs n ≡ zip2 eqb xs (sixteen n)
-same_is xs n = tops_compared width.w8 eqb xs (sixteen n)
-
-abbrev pub zeros : List ℕ
-zeros = 0 ∷ 0 ∷ 0 ∷ 0 ∷ 0 ∷ 0 ∷ 0 ∷ 0 ∷ 0 ∷ 0 ∷ 0 ∷ 0 ∷ 0 ∷ 0 ∷ 0 ∷ 0 ∷ []
+same xs n = tested eqb xs (sixteen n)
 
 module _ (sums : List ℕ) (least : ℕ) (ls : length sums ≡ 16) where
-  tests : length (zip2 eqb sums (sixteen least)) ≡ 16
-  tests = length-zip2 eqb sums (sixteen least) (ls ∙ sym (length-replicate 16 least)) ∙ ls
-
-  test_at : (k : ℕ) → k < 16 → get_or (zip2 eqb sums (sixteen least)) k false ≡ eqb (get_or sums k 255) least
-  test_at k h =
-      let all : length (sixteen least) ≡ 16 = length-replicate 16 least in
-      get_or-zip2 eqb sums (sixteen least) k 255 255 false (omega arith) (omega arith) ∙ ap (eqb (get_or sums k 255)) (get_or-replicate 16 k least 255 h)
-
   module _ (xs ys : List ℕ) (lx : length xs ≡ 16) (ly : length ys ≡ 16) where
-    abbrev chosen : List ℕ
-    chosen = sel_l (same sums least) xs ys
+    length_among : length (sel_l (same sums least) xs ys) ≡ 16
+    length_among = length_chosen eqb sums (sixteen least) ls (length-replicate 16 least) xs ys lx ly
 
-    chosen_is : chosen ≡ sel_l (zip2 eqb sums (sixteen least)) xs ys
-    chosen_is = ap (λ ms. sel_l ms xs ys) (same_is sums least)
-
-    length_chosen : length chosen ≡ 16
-    length_chosen = ap length chosen_is ∙ length-sel_l (zip2 eqb sums (sixteen least)) xs ys (tests ∙ sym lx) (tests ∙ sym ly) ∙ tests
-
-    chosen_at : (k d : ℕ) → k < 16 → get_or chosen k d ≡ cond (eqb (get_or sums k 255) least) (get_or xs k d) (get_or ys k d)
-    chosen_at k d h =
-        ap (λ (zs : List ℕ). get_or zs k d) chosen_is
-        ∙ get_or-sel_l (zip2 eqb sums (sixteen least)) xs ys k d (omega (arith, tests, h)) (omega arith) (omega arith)
-        ∙ ap (λ b. cond b (get_or xs k d) (get_or ys k d)) (test_at k h)
+    among_at : (k d : ℕ) → k < 16 → get_or (sel_l (same sums least) xs ys) k d ≡ cond (eqb (get_or sums k 255) least) (get_or xs k d) (get_or ys k d)
+    among_at k d h =
+        chosen_at eqb sums (sixteen least) ls (length-replicate 16 least) xs ys lx ly k d h
+        ∙ ap (λ (n : ℕ). cond (eqb (get_or sums k 255) n) (get_or xs k d) (get_or ys k d)) (get_or-replicate 16 k least 255 h)
 
   -- ---- whether some of them lacks fewer
 
@@ -238,22 +223,14 @@ module _ (sums : List ℕ) (least : ℕ) (ls : length sums ≡ 16) where
     with_more = sel_l (same sums least) fewer lacks
 
     abbrev lower : List Bool
-    lower = map (top 7) (zip2 (λ a b. cond (ltb a b) 255 0) with_more lacks)
-
-    lower_is : lower ≡ zip2 ltb with_more lacks
-    lower_is = tops_compared width.w8 ltb with_more lacks
-
-    more_long : length with_more ≡ 16
-    more_long = length_chosen fewer lacks lf ll
+    lower = tested ltb with_more lacks
 
     length_lower : length lower ≡ 16
-    length_lower = ap length lower_is ∙ length-zip2 ltb with_more lacks (more_long ∙ sym ll) ∙ more_long
+    length_lower = length_tested ltb with_more lacks (length_among fewer lacks lf ll) ll
 
     lower_at : (k : ℕ) → k < 16 → get_or lower k false ≡ ltb (cond (eqb (get_or sums k 255) least) (get_or fewer k 255) (get_or lacks k 255)) (get_or lacks k 255)
     lower_at k h =
-        ap (λ (ms : List Bool). get_or ms k false) lower_is
-        ∙ get_or-zip2 ltb with_more lacks k 255 255 false (omega (arith, more_long, h)) (omega arith)
-        ∙ ap (λ n. ltb n (get_or lacks k 255)) (chosen_at fewer lacks lf ll k 255 h)
+        tested_at ltb with_more lacks (length_among fewer lacks lf ll) ll k h ∙ ap (λ n. ltb n (get_or lacks k 255)) (among_at fewer lacks lf ll k 255 h)
 
     both_tests : (a e f l : ℕ) → ltb (cond (eqb a e) f l) l ≡ true → (a ≡ e) × (nat_lt f l ≡ true)
     both_tests a e f l h = (grind (arith, nat_tests), grind (arith, nat_tests))
@@ -261,29 +238,26 @@ module _ (sums : List ℕ) (least : ℕ) (ls : length sums ≡ 16) where
     of_both : (a e f l : ℕ) → a ≡ e → nat_lt f l ≡ true → ltb (cond (eqb a e) f l) l ≡ true
     of_both a e f l same h = grind (arith, nat_tests)
 
-    fewer_in : IsSet lower → AtPlace sums least (λ k. nat_lt (get_or fewer k 255) (get_or lacks k 255))
+    abbrev is_fewer : (ℕ → List ℕ → ℕ) → Bool
+    is_fewer at = nat_lt (at 255 fewer) (at 255 lacks)
+
+    fewer_in : IsSet lower → AtPlace sums least (test_at sums least is_fewer)
     fewer_in t =
         let inside = t.inside in
         let here : t.place < 16 = omega (arith, inside, length_lower) in
         let both = both_tests (get_or sums t.place 255) least (get_or fewer t.place 255) (get_or lacks t.place 255) (sym (lower_at t.place here) ∙ t.is) in
         record { place = t.place; inside = here; has_value = both.0; test = both.1 }
 
-    fewer_set : (t : AtPlace sums least (λ k. nat_lt (get_or fewer k 255) (get_or lacks k 255))) → get_or lower t.place false ≡ true
+    fewer_set : (t : AtPlace sums least (test_at sums least is_fewer)) → get_or lower t.place false ≡ true
     fewer_set t = lower_at t.place t.inside ∙ of_both (get_or sums t.place 255) least (get_or fewer t.place 255) (get_or lacks t.place 255) t.has_value t.test
 
     mask_within : mask_l lower % 2 ^ 64 ≡ mask_l lower
     mask_within = mask_l-mod lower 64 (omega (arith, length_lower))
 
-    abbrev passes : ℕ → ℕ → Bool
-    passes s p = nat_lt (lane fewer s p) (lane lacks s p)
-
-    abbrev at : ℕ → Bool
-    at k = nat_lt (get_or fewer k 255) (get_or lacks k 255)
-
     pub any_fewer_is : IsTrue (nat_lt 0 (mask_l lower % 2 ^ 64)) ↔ SomeLane sums least (λ s p. nat_lt (lane fewer s p) (lane lacks s p))
     any_fewer_is = (
-      λ h. to_lane sums least passes at (λ s. refl) (λ s. refl) (fewer_in (mask_some lower (ltb-true 0 (mask_l lower) (ap (nat_lt 0) (sym mask_within) ∙ h)))),
-      λ t. (let there = of_lane sums least passes at (λ s. refl) (λ s. refl) t in
+      λ h. to_lane sums least is_fewer (fewer_in (mask_some lower (ltb-true 0 (mask_l lower) (ap (nat_lt 0) (sym mask_within) ∙ h)))),
+      λ t. (let there = of_lane sums least is_fewer t in
           let inside = there.inside in
           ap (nat_lt 0) mask_within ∙ lt-ltb 0 (mask_l lower) (some_mask lower there.place (omega (arith, inside, length_lower)) (fewer_set there))),
     )
@@ -292,46 +266,49 @@ module _ (sums : List ℕ) (least : ℕ) (ls : length sums ≡ 16) where
 
   module _ (marks : List ℕ) (lm : length marks ≡ 16) (bit : ℕ) where
     abbrev kept : List ℕ
-    kept = sel_l (same sums least) marks zeros
+    kept = sel_l (same sums least) marks (sixteen 0)
+
+    abbrev has_mark : (ℕ → List ℕ → ℕ) → Bool
+    has_mark at = has_bit (at 0 marks) bit
 
     no_bit : IsTrue (has_bit 0 bit) → ⊥
     no_bit h = grind (arith, nat_tests, and_zero_l bit)
 
-    mark_here : (k : ℕ) → (b : Bool) → eqb (get_or sums k 255) least ≡ b → k < 16 → IsTrue (has_bit (cond b (get_or marks k 0) (get_or zeros k 0)) bit) → (get_or sums k 255 ≡ least) × IsTrue (has_bit (get_or marks k 0) bit)
+    mark_here : (k : ℕ) → (b : Bool) → eqb (get_or sums k 255) least ≡ b → k < 16 → IsTrue (has_bit (cond b (get_or marks k 0) (get_or (sixteen 0) k 0)) bit) → (get_or sums k 255 ≡ least) × IsTrue (has_bit (get_or marks k 0) bit)
     mark_here k true e inside h = (grind (arith, nat_tests), h)
     mark_here k false e inside h = absurd (no_bit (ap (λ n. has_bit n bit) (sym (get_or-replicate 16 k 0 0 inside)) ∙ h))
 
-    marks_in : HasBit kept bit → AtPlace sums least (λ k. nat_lt 0 (bit_and (get_or marks k 0) bit))
+    marks_in : HasBit kept bit → AtPlace sums least (test_at sums least has_mark)
     marks_in t =
         let inside = t.inside in
-        let here : t.place < 16 = omega (arith, inside, length_chosen marks zeros lm refl) in
-        let both = mark_here t.place (eqb (get_or sums t.place 255) least) refl here (ap (λ n. has_bit n bit) (sym (chosen_at marks zeros lm refl t.place 0 here)) ∙ t.is) in
+        let here : t.place < 16 = omega (arith, inside, length_among marks (sixteen 0) lm refl) in
+        let both = mark_here t.place (eqb (get_or sums t.place 255) least) refl here (ap (λ n. has_bit n bit) (sym (among_at marks (sixteen 0) lm refl t.place 0 here)) ∙ t.is) in
         record { place = t.place; inside = here; has_value = both.0; test = both.1 }
 
-    marks_kept : (t : AtPlace sums least (λ k. nat_lt 0 (bit_and (get_or marks k 0) bit))) → IsTrue (has_bit (get_or kept t.place 0) bit)
+    marks_kept : (t : AtPlace sums least (test_at sums least has_mark)) → IsTrue (has_bit (get_or kept t.place 0) bit)
     marks_kept t =
-        ap (λ n. has_bit n bit) (chosen_at marks zeros lm refl t.place 0 t.inside ∙ ap (λ (b : Bool). cond b (get_or marks t.place 0) (get_or zeros t.place 0)) (eq-eqb (get_or sums t.place 255) least t.has_value)) ∙ t.test
-
-    abbrev bit_passes : ℕ → ℕ → Bool
-    bit_passes s p = nat_lt 0 (bit_and (mark marks s p) bit)
-
-    abbrev bit_at : ℕ → Bool
-    bit_at k = nat_lt 0 (bit_and (get_or marks k 0) bit)
+        ap (λ n. has_bit n bit) (among_at marks (sixteen 0) lm refl t.place 0 t.inside ∙ ap (λ (b : Bool). cond b (get_or marks t.place 0) (get_or (sixteen 0) t.place 0)) (eq-eqb (get_or sums t.place 255) least t.has_value)) ∙ t.test
 
     pub marks_at_is : IsTrue (nat_lt 0 (bit_and (fold_l bit_or 0 kept) bit)) ↔ SomeLane sums least (λ s p. nat_lt 0 (bit_and (mark marks s p) bit))
     marks_at_is = (
-      λ h. to_lane sums least bit_passes bit_at (λ s. refl) (λ s. refl) (marks_in (⊎_elim (λ none. absurd (no_bit none)) (λ some. some) (bits_some bit kept 0 h))),
-      λ t. (let there = of_lane sums least bit_passes bit_at (λ s. refl) (λ s. refl) t in
+      λ h. to_lane sums least has_mark (marks_in (⊎_elim (λ none. absurd (no_bit none)) (λ some. some) (bits_some bit kept 0 h))),
+      λ t. (let there = of_lane sums least has_mark t in
           let inside = there.inside in
-          some_bits bit kept 0 there.place (omega (arith, inside, length_chosen marks zeros lm refl)) (marks_kept there)),
+          some_bits bit kept 0 there.place (omega (arith, inside, length_among marks (sixteen 0) lm refl)) (marks_kept there)),
     )
 
 -- ---- the lanes of one sum are the entries that take part
 
-module _ (f g : ℕ → ℕ → ℕ) (sums : List ℕ) (sets least : ℕ) (few : sets ≤ 4) (below : least < 255) (passes marked : ℕ → ℕ → Bool)
-    (sum : (s p : ℕ) → s < 8 → p < 2 → lane sums s p ≡ capped (f s p + opposite sets g s p))
-    (is_mark : (s p : ℕ) → s < 5 → p < 2 → f s p < 255 → IsTrue (passes s p) ↔ IsTrue (marked s p)) where
-  own : (s p : ℕ) → s < 8 → p < 2 → lane sums s p ≡ least → IsTrue (passes s p) → (sets < s) ⊎ (s ≤ sets) → TakenBefore f g marked sets least (sets + 1)
+module _ (row : SuitRow) (others : JoinedRows) (sums : List ℕ) (sets least rank : ℕ) (few : sets ≤ 4) (below : least < 255) (passes : ℕ → ℕ → Bool)
+    (sum : (s p : ℕ) → s < 8 → p < 2 → lane sums s p ≡ capped (lane row.entries.lacks s p + opposite sets (lane others.sums.lacks) s p))
+    (is_mark : (s p : ℕ) → s < 5 → p < 2 → lane row.entries.lacks s p < 255 → IsTrue (passes s p) ↔ IsTrue (is_marked row s p rank)) where
+  abbrev f : ℕ → ℕ → ℕ
+  f = lane row.entries.lacks
+
+  abbrev g : ℕ → ℕ → ℕ
+  g = lane others.sums.lacks
+
+  own : (s p : ℕ) → s < 8 → p < 2 → lane sums s p ≡ least → IsTrue (passes s p) → (sets < s) ⊎ (s ≤ sets) → MarkedBeside row others sets least rank
   own s p hs hp e h side =
       ⊎_elim
       (λ past. absurd (let whole = sum s p hs hp in let none = opposite_none sets g s p past in omega (arith, whole, none, e, below)))
@@ -339,41 +316,48 @@ module _ (f g : ℕ → ℕ → ℕ) (sums : List ℕ) (sets least : ℕ) (few :
       (let whole = sum s p hs hp in
       let there = opposite_is sets g s p within in
       let total : f s p + g (sets - s) (1 - p) ≡ least = omega (arith, whole, there, e, below) in
+      let low : f s p < 255 = omega (arith, total, below) in
       record {
         own_sets = s;
         own_pairs = p;
         other_sets = sets - s;
         other_pairs = 1 - p;
-        before = omega (arith, within);
+        lack = f s p;
         all_sets = omega (arith, within);
         one_pair = omega (arith, hp);
+        entry = entry_some (f s p) low;
         total = total;
-        mark = (is_mark s p (omega (arith, within, few)) hp (omega (arith, total, below))).0 h;
+        marked = (is_mark s p (omega (arith, within, few)) hp low).0 h;
       }))
       side
 
-  found : (t : TakenBefore f g marked sets least (sets + 1)) → SomeLane sums least passes
-  found t =
-      let before = t.before in
-      let all = t.all_sets in
-      let one = t.one_pair in
-      let total = t.total in
-      let hs : t.own_sets < 8 = omega (arith, before, few) in
-      let hp : t.own_pairs < 2 = omega (arith, one) in
-      let there : g (sets - t.own_sets) (1 - t.own_pairs) ≡ g t.other_sets t.other_pairs = ap₂ g (omega (arith, all)) (omega (arith, one)) in
-      let others = opposite_is sets g t.own_sets t.own_pairs (omega (arith, before)) in
-      let whole = sum t.own_sets t.own_pairs hs hp in
+  found : MarkedBeside row others sets least rank → SomeLane sums least passes
+  found m =
+      let all = m.all_sets in
+      let one = m.one_pair in
+      let total = m.total in
+      let is = (entry_is (f m.own_sets m.own_pairs) m.lack m.entry).0 in
+      let hs : m.own_sets < 8 = omega (arith, all, few) in
+      let hp : m.own_pairs < 2 = omega (arith, one) in
+      let there : g (sets - m.own_sets) (1 - m.own_pairs) ≡ g m.other_sets m.other_pairs = ap₂ g (omega (arith, all)) (omega (arith, one)) in
+      let beside = opposite_is sets g m.own_sets m.own_pairs (omega (arith, all)) in
+      let whole = sum m.own_sets m.own_pairs hs hp in
       record {
-        sets = t.own_sets;
-        pairs = t.own_pairs;
+        sets = m.own_sets;
+        pairs = m.own_pairs;
         few_sets = hs;
         few_pairs = hp;
-        has_value = omega (arith, whole, others, there, total, below);
-        test = (is_mark t.own_sets t.own_pairs (omega (arith, before, few)) hp (omega (arith, total, below))).1 t.mark;
+        has_value = omega (arith, whole, beside, there, is, total, below);
+        test = (is_mark m.own_sets m.own_pairs (omega (arith, all, few)) hp (omega (arith, is, total, below))).1 m.marked;
       }
 
-  pub taken_is : SomeLane sums least passes ↔ TakenBefore f g marked sets least (sets + 1)
+  pub taken_is : SomeLane sums least passes ↔ MarkedBeside row others sets least rank
   taken_is = (λ t. own t.sets t.pairs t.few_sets t.few_pairs t.has_value t.test (cases_lt sets t.sets), found)
+
+pub lacked_rank : (row : SuitRow) (others : JoinedRows) (sets least : ℕ) (set : RankSet) → IsTrue set.first ↔ MarkedBeside row others sets least 0 →
+    ((r : ℕ) → r < 8 → IsTrue (nat_lt 0 (bit_and set.later (2 ^ r))) ↔ MarkedBeside row others sets least (suc r)) → (rank : ℕ) → rank < 9 → IsTrue (has_rank set rank) ↔ MarkedBeside row others sets least rank
+lacked_rank row others sets least set first later zero inside = first
+lacked_rank row others sets least set first later (suc r) inside = later r (omega arith)
 
 pub through : {A B C : Type 0} → A ↔ B → B ↔ C → A ↔ C
 through x y = (λ a. y.0 (x.0 a), λ z. x.1 (y.1 z))
@@ -425,10 +409,10 @@ module _ (f g : ℕ → ℕ → ℕ) (sums : List ℕ) (sets n : ℕ) (few : set
   sum_at : (s p : ℕ) → s ≤ sets → p < 2 → lane sums s p ≡ capped (f s p + g (sets - s) (1 - p))
   sum_at s p within hp = sum s p (omega (arith, within, few)) hp ∙ ap (λ m. capped (f s p + m)) (opposite_is sets g s p within)
 
-  least_in : (s p s' p' : ℕ) → s < sets + 1 → s + s' ≡ sets → p + p' ≡ 1 → n ≤ f s p + g s' p'
-  least_in s p s' p' low all one =
+  least_in : (s p s' p' : ℕ) → s + s' ≡ sets → p + p' ≡ 1 → n ≤ f s p + g s' p'
+  least_in s p s' p' all one =
       let there : g (sets - s) (1 - p) ≡ g s' p' = ap₂ g (omega (arith, all)) (omega (arith, one)) in
-      omega (arith, bound s p (omega (arith, low, few)) (omega (arith, one)), sum_at s p (omega (arith, low)) (omega (arith, one)), there)
+      omega (arith, bound s p (omega (arith, all, few)) (omega (arith, one)), sum_at s p (omega (arith, all)) (omega (arith, one)), there)
 
   sum_reached : (s p : ℕ) → s < 5 → p < 2 → lane sums s p ≡ n → n < 255 → (sets < s) ⊎ (s ≤ sets) → SumReached f g sets 1 n
   sum_reached s p hs hp e low side =
@@ -439,9 +423,8 @@ module _ (f g : ℕ → ℕ → ℕ) (sums : List ℕ) (sets n : ℕ) (few : set
       record { left_sets = s; left_pairs = p; right_sets = sets - s; right_pairs = 1 - p; sets = omega (arith, within); pairs = omega (arith, hp); value = omega (arith, whole, e, low) }))
       side
 
-  pub taken_least : LeastTaken f g sets n (sets + 1)
+  pub taken_least : LeastTaken f g sets n
   taken_least = record {
     bound = least_in;
     reached = λ low. sum_reached at.sets at.pairs at.few_sets at.few_pairs at.has_value low (cases_lt sets at.sets);
-    few = (let e = at.has_value in let whole = sum at.sets at.pairs (let low = at.few_sets in omega (arith, low)) at.few_pairs in omega (arith, e, whole));
   }

@@ -18,47 +18,19 @@ right_below a b v h = omega arith
 both_above : (v a b : ℕ) → v ≤ a → v ≤ b → v ≤ min a b
 both_above v a b h k = omega arith
 
-four_above : (v a b c d : ℕ) → v ≤ a → v ≤ b → v ≤ c → v ≤ d → v ≤ min (min (min a b) c) d
-four_above v a b c d ha hb hc hd = both_above v _ _ (both_above v _ _ (both_above v _ _ ha hb) hc) hd
-
-three_above : (v a b c : ℕ) → v ≤ a → v ≤ b → v ≤ c → v ≤ min (min a b) c
-three_above v a b c ha hb hc = both_above v _ _ (both_above v _ _ ha hb) hc
-
 pub less_same : (a b : ℕ) → a ≤ b → b ≤ a → a ≡ b
 less_same a b h k = omega arith
 
+itself : (a : ℕ) → a ≤ a
+itself a = omega arith
+
 -- by the tiles taken on the left, by the runs begun on the right
 module _ (z0 z2 z3 o0 o2 o3 v0 v2 v3 : ℕ) (few : z0 ≤ 255) (none : v3 ≡ 255) where
-  by_tiles : ℕ
-  by_tiles = min (min (min (min z0 o0) (min z2 v0)) (min z3 o2)) (min o3 v2)
-
-  by_runs : ℕ
-  by_runs = min (min (min (min z0 z3) z2) (min (min o0 o3) o2)) (min (min v0 v3) v2)
-
-  at_z0 : by_tiles ≤ z0
-  unfolding by_tiles
-  at_z0 = left_below _ _ _ (left_below _ _ _ (left_below _ _ _ (left_below _ _ _ (omega arith))))
-
-  tiles_below : by_tiles ≤ by_runs
-  unfolding by_tiles by_runs
-  tiles_below =
-      three_above _ _ _ _
-      (three_above _ _ _ _ at_z0 (left_below _ _ _ (right_below _ _ _ (left_below _ _ _ (omega arith)))) (left_below _ _ _ (left_below _ _ _ (right_below _ _ _ (left_below _ _ _ (omega arith))))))
-      (three_above _ _ _ _ (left_below _ _ _ (left_below _ _ _ (left_below _ _ _ (right_below _ _ _ (omega arith))))) (right_below _ _ _ (left_below _ _ _ (omega arith))) (left_below _ _ _ (right_below _ _ _ (right_below _ _ _ (omega arith)))))
-      (three_above _ _ _ _ (left_below _ _ _ (left_below _ _ _ (right_below _ _ _ (right_below _ _ _ (omega arith))))) (omega (arith, at_z0, few, none)) (right_below _ _ _ (right_below _ _ _ (omega arith))))
-
-  runs_below : by_runs ≤ by_tiles
-  unfolding by_tiles by_runs
-  runs_below =
-      four_above _ _ _ _ _
-      (both_above _ _ _ (left_below _ _ _ (left_below _ _ _ (left_below _ _ _ (left_below _ _ _ (omega arith))))) (left_below _ _ _ (right_below _ _ _ (left_below _ _ _ (left_below _ _ _ (omega arith))))))
-      (both_above _ _ _ (left_below _ _ _ (left_below _ _ _ (right_below _ _ _ (omega arith)))) (right_below _ _ _ (left_below _ _ _ (left_below _ _ _ (omega arith)))))
-      (both_above _ _ _ (left_below _ _ _ (left_below _ _ _ (left_below _ _ _ (right_below _ _ _ (omega arith))))) (left_below _ _ _ (right_below _ _ _ (right_below _ _ _ (omega arith)))))
-      (both_above _ _ _ (left_below _ _ _ (right_below _ _ _ (left_below _ _ _ (right_below _ _ _ (omega arith))))) (right_below _ _ _ (right_below _ _ _ (omega arith))))
-
   same_least : min (min (min (min z0 o0) (min z2 v0)) (min z3 o2)) (min o3 v2) ≡ min (min (min (min z0 z3) z2) (min (min o0 o3) o2)) (min (min v0 v3) v2)
-  unfolding by_tiles by_runs
-  same_least = less_same _ _ tiles_below runs_below
+  same_least =
+      let by_tiles : ℕ = min (min (min (min z0 o0) (min z2 v0)) (min z3 o2)) (min o3 v2) in
+      let beyond : by_tiles ≤ v3 = omega arith in
+      less_same _ _ (search (beyond, both_above, left_below, right_below, itself) depth 9 fits 20000) (search (both_above, left_below, right_below, itself) depth 9 fits 20000)
 
 sum_lesser : (x y c : ℕ) → capped (min x y + c) ≡ min (capped (x + c)) (capped (y + c))
 sum_lesser x y c = omega arith
@@ -112,17 +84,18 @@ rank_with_runs counts caps a b w have limit sum few later x is least c0 c1 c2 c3
   where
     value : (s p : ℕ) → s < 5 → p < 2 → result s p ≡ row_value true (values later) w have limit s p
     value s p hs hp =
-        let none = zr s p hs hp in
-        let single = or s p hs hp in
-        let double = tw s p hs hp in
-        let triple = th s p hs hp in
-        let most = fr s p hs hp in
-        let first = q1 s p hs hp in
-        let second = q2 s p hs hp in
-        let third = q3 s p hs hp in
-        let last = rs s p hs hp in
-        let all = regrouped have limit few later x is w c0 c1 c2 c3 c4 e0 e1 e2 e3 e4 s p hs hp in
-        cc
+        cc (
+          zr s p hs hp,
+          or s p hs hp,
+          tw s p hs hp,
+          th s p hs hp,
+          fr s p hs hp,
+          q1 s p hs hp,
+          q2 s p hs hp,
+          q3 s p hs hp,
+          rs s p hs hp,
+          regrouped have limit few later x is w c0 c1 c2 c3 c4 e0 e1 e2 e3 e4 s p hs hp,
+        )
 
     at_lane : (s p : ℕ) → s < 5 → p < 2 → LeastFrom true (have ∷ counts) (limit ∷ caps) a b s p (result s p)
     at_lane s p hs hp =
@@ -136,15 +109,7 @@ module _ (have limit : ℕ) (later more pairs : ℕ → ℕ → ℕ) (c0 c2 c3 :
     (is_plain : Agree plain (λ s p. capped (later s p + c0))) (is_triplet : Agree triplet (λ s p. capped (more s p + c3))) (is_pair : Agree pair (λ s p. capped (pairs s p + c2)))
     (is_better : Agree better (λ s p. min (plain s p) (triplet s p))) (is : Agree result (λ s p. min (better s p) (pair s p))) where
   value_alone : (s p : ℕ) → s < 5 → p < 2 → result s p ≡ row_value false (λ u. later) 0 have limit s p
-  value_alone s p hs hp =
-      let none = is_plain s p hs hp in
-      let triple = is_triplet s p hs hp in
-      let double = is_pair s p hs hp in
-      let set = is_more s p hs hp in
-      let two = is_pairs s p hs hp in
-      let first = is_better s p hs hp in
-      let last = is s p hs hp in
-      cc
+  value_alone s p hs hp = cc (is_plain s p hs hp, is_triplet s p hs hp, is_pair s p hs hp, is_more s p hs hp, is_pairs s p hs hp, is_better s p hs hp, is s p hs hp)
 
   pub rank_without_runs : (counts caps : List ℕ) → limit ≤ 4 → AreLeast false counts caps 0 0 later → AreLeast false (have ∷ counts) (limit ∷ caps) 0 0 result
   rank_without_runs counts caps few least = record { at = λ s p hs hp. step false counts caps 0 0 have limit (λ u. later) few (record { at = at_none }) s p (result s p) hs hp (value_alone s p hs hp) }

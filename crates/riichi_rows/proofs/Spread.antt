@@ -1,5 +1,5 @@
 -- Sums over successive numbers, and lists of a function's values.
-use Rattle.std.proofs.Common.{◌≡◌, ◌≢◌, ℕ, zero, suc, ◌+◌, ◌-◌, ◌<◌, ◌≤◌, cond, false, ◌⊎◌, inl, inr, List, [], ◌∷◌, eqb, get_or, refl, ap, ◌∙◌, ⊎_elim, arith, sym}
+use Rattle.std.proofs.Common.{◌≡◌, ◌≢◌, ℕ, zero, suc, ◌+◌, ◌-◌, ◌*◌, ◌<◌, ◌≤◌, cond, false, ◌⊎◌, inl, inr, List, [], ◌∷◌, eqb, get_or, refl, ap, ◌∙◌, ⊎_elim, arith, sym}
 use Rattle.std.proofs.lemmas.Bool.{cases_lt, eq-eqb}
 use Rattle.std.proofs.lemmas.Bool.Decides.{nat_tests}
 use Rattle.std.proofs.lemmas.List.Sums.{sum_by-cons}
@@ -48,6 +48,11 @@ pub spread_none : (f : ℕ → ℕ) (a n : ℕ) → ((k : ℕ) → a ≤ k → k
 unfolding spread
 spread_none f a zero none = refl
 spread_none f a (suc n) none = omega (arith, none a (omega arith) (omega arith), spread_none f (a + 1) n (λ k low high. none k (omega arith) (omega arith)))
+
+pub spread_few : (f : ℕ → ℕ) (a n : ℕ) → ((k : ℕ) → a ≤ k → k < a + n → f k ≤ 4) → spread f a n ≤ 4 * n
+unfolding spread
+spread_few f a zero few = omega arith
+spread_few f a (suc n) few = omega (arith, few a (omega arith) (omega arith), spread_few f (a + 1) n (λ k low high. few k (omega arith) (omega arith)))
 
 pub spread_sum : (f g h : ℕ → ℕ) → ((k : ℕ) → h k ≡ f k + g k) → (a n : ℕ) → spread h a n ≡ spread f a n + spread g a n
 unfolding spread

@@ -4,12 +4,11 @@ use Rattle.std.specs.Prelude.{slice_index}
 use Rattle.std.proofs.lemmas.List.{drop-set, get_or-set_other, length-set}
 use Rattle.riichi_rows.specs.Columns.{AreLeast, LeastFrom}
 use Rattle.riichi_rows.specs.Lanes.{lane, mark}
-use Rattle.riichi_rows.specs.Ranks.{AreSuitLanes, one_more}
+use Rattle.riichi_rows.specs.Ranks.{AreSuitLanes, HoldsFrom, one_more}
 use Rattle.riichi_rows.specs.Seen.{seen}
 use Rattle.riichi_rows.specs.declared.marked_lanes.MarkedLanes.{MarkedLanes}
-use Rattle.riichi_rows.proofs.Blocks.{reached_small}
 use Rattle.riichi_rows.proofs.MarkLemmas.{as_it_is}
-use Rattle.riichi_rows.proofs.MarkedRanks.{in_front}
+use Rattle.riichi_rows.proofs.MarkedRanks.{in_front, reached_small}
 
 pub least_as_it_is : (runs : Bool) (counts caps : List ℕ) (x : MarkedLanes) → AreLeast runs counts caps 0 0 (seen 0 x) → AreLeast runs counts caps 0 0 (lane x.lacks.lacks)
 least_as_it_is runs counts caps x least = record { at = λ s p hs hp. subst (λ (v : ℕ). LeastFrom runs counts caps 0 0 s p v) (as_it_is (lane x.lacks.lacks s p) (mark x.marks s p)) (least.at s p hs hp) }
@@ -22,14 +21,14 @@ module _ (runs : Bool) (counts caps : List ℕ) (long : length counts ≡ 9) (ca
       (subst (λ (ks : List ℕ). AreLeast runs (get_or counts 0 0 ∷ drop 1 counts) ks 0 0 (seen 0 x)) (sym (in_front caps 0 (omega (arith, caps_long)))) least)
 
   pub small_lanes : (s p : ℕ) → s < 5 → p < 2 → lane x.lacks.lacks s p < 255 → lane x.lacks.lacks s p ≤ 36
-  small_lanes s p hs hp low = reached_small runs counts caps long caps_long few s p _ ((least_as_it_is runs counts caps x of_suit).at s p hs hp) low
+  small_lanes s p hs hp low =
+      reached_small runs counts caps (λ r inside. few r (omega (arith, caps_long, inside))) (omega (arith, caps_long)) 0 0 s p _ ((least_as_it_is runs counts caps x of_suit).at s p hs hp) low
 
 -- L are the tables from the second rank on
 module _ (runs : Bool) (counts caps : List ℕ) (long : length counts ≡ 9) (caps_long : length caps ≡ 9) (L : List ℕ → List ℕ → ℕ → Type 0) (all first : MarkedLanes) (have : ℕ)
     (whole : (other : ℕ) (cs ks : List ℕ) → L cs ks other → AreLeast runs (get_or counts 0 0 ∷ cs) (get_or caps 0 0 ∷ ks) 0 0 (seen other all))
     (with_first : (cs ks : List ℕ) → L cs ks 0 → AreLeast runs (have ∷ cs) (get_or caps 0 0 ∷ ks) 0 0 (seen 0 first))
-    (plain : L (drop 1 counts) (drop 1 caps) 0)
-    (marks : (r : ℕ) → r < 8 → L (drop 1 (one_more counts (suc r))) (drop 1 caps) (2 ^ r))
+    (are : HoldsFrom L 1 counts caps)
     (room : get_or counts 0 0 < 4 → have ≡ get_or counts 0 0 + 1)
     (full : 4 ≤ get_or counts 0 0 → have ≡ get_or counts 0 0) where
   of_caps : (cs : List ℕ) (values : ℕ → ℕ → ℕ) → AreLeast runs cs (get_or caps 0 0 ∷ drop 1 caps) 0 0 values → AreLeast runs cs caps 0 0 values
@@ -43,10 +42,10 @@ module _ (runs : Bool) (counts caps : List ℕ) (long : length counts ≡ 9) (ca
       let cs : List ℕ = one_more counts (suc r) in
       let long_too : length cs ≡ 9 = length-set counts (suc r) (slice_index counts (suc r) + 1) ∙ long in
       let held : get_or cs 0 0 ≡ get_or counts 0 0 = get_or-set_other counts (suc r) 0 (slice_index counts (suc r) + 1) 0 (λ e. omega (arith, e)) in
-      of_all cs (2 ^ r) (in_front cs 0 (omega (arith, long_too)) ∙ ap (λ (n : ℕ). n ∷ drop 1 cs) held) (marks r low)
+      of_all cs (2 ^ r) (in_front cs 0 (omega (arith, long_too)) ∙ ap (λ (n : ℕ). n ∷ drop 1 cs) held) (are.marks r low)
 
   of_first : AreLeast runs (have ∷ drop 1 counts) caps 0 0 (lane first.lacks.lacks)
-  of_first = least_as_it_is runs _ caps first (of_caps _ _ (with_first _ _ plain))
+  of_first = least_as_it_is runs _ caps first (of_caps _ _ (with_first _ _ are.plain))
 
   of_room : get_or counts 0 0 < 4 → AreLeast runs (one_more counts 0) caps 0 0 (lane first.lacks.lacks)
   of_room low =
@@ -58,4 +57,4 @@ module _ (runs : Bool) (counts caps : List ℕ) (long : length counts ≡ 9) (ca
   of_full high = subst (λ (ys : List ℕ). AreLeast runs ys caps 0 0 (lane first.lacks.lacks)) (ap (λ (n : ℕ). n ∷ drop 1 counts) (full high) ∙ sym (in_front counts 0 (omega (arith, long)))) of_first
 
   pub whole_suit : (small : (s p : ℕ) → s < 5 → p < 2 → lane all.lacks.lacks s p < 255 → lane all.lacks.lacks s p ≤ 36) → AreSuitLanes runs counts caps (record { all = all; first = first.lacks; small = small })
-  whole_suit small = record { plain = of_all counts 0 (in_front counts 0 (omega (arith, long))) plain; marks = of_marks; few = of_room; many = of_full }
+  whole_suit small = record { plain = of_all counts 0 (in_front counts 0 (omega (arith, long))) are.plain; marks = of_marks; few = of_room; many = of_full }

@@ -13,20 +13,32 @@ use Rattle.riichi_rows.specs.declared.suit_lanes.SuitLanes.{SuitLanes}
 abbrev pub one_more : List ℕ → ℕ → List ℕ
 one_more counts rank = slice_set counts rank (slice_index counts rank + 1)
 
--- from a rank on the tables are least, for the counts as they are and with one more tile of each rank but the first, by its bit
-pub record AreRanks (from : ℕ) (counts caps : List ℕ) (later : Open) : Type 0 where
-  pub plain : LeastOpen (drop from counts) (drop from caps) (open_seen 0 later)
-  pub marks : (r : ℕ) → r < 8 → LeastOpen (drop from (one_more counts (suc r))) (drop from caps) (open_seen (2 ^ r) later)
+-- from a rank on L holds of the counts and caps, for the counts as they are and with one more tile of each rank but the first, by its bit
+pub record HoldsFrom (L : List ℕ → List ℕ → ℕ → Type 0) (from : ℕ) (counts caps : List ℕ) : Type 0 where
+  pub plain : L (drop from counts) (drop from caps) 0
+  pub marks : (r : ℕ) → r < 8 → L (drop from (one_more counts (suc r))) (drop from caps) (2 ^ r)
+
+-- the tables are least, with one more tile of the rank of a bit
+abbrev pub OpenLeast : Open → List ℕ → List ℕ → ℕ → Type 0
+OpenLeast later counts caps bit = LeastOpen counts caps (open_seen bit later)
 
 -- the same where no run begins one rank before
-pub record AreBegunRanks (from : ℕ) (counts caps : List ℕ) (later : Begun) : Type 0 where
-  pub plain : LeastBegun (drop from counts) (drop from caps) 0 (begun_seen 0 later)
-  pub marks : (r : ℕ) → r < 8 → LeastBegun (drop from (one_more counts (suc r))) (drop from caps) 0 (begun_seen (2 ^ r) later)
+abbrev pub BegunLeast : Begun → List ℕ → List ℕ → ℕ → Type 0
+BegunLeast later counts caps bit = LeastBegun counts caps 0 (begun_seen bit later)
 
 -- the same without runs
-pub record AreRanksWithoutRuns (from : ℕ) (counts caps : List ℕ) (later : MarkedLanes) : Type 0 where
-  pub plain : AreLeast false (drop from counts) (drop from caps) 0 0 (seen 0 later)
-  pub marks : (r : ℕ) → r < 8 → AreLeast false (drop from (one_more counts (suc r))) (drop from caps) 0 0 (seen (2 ^ r) later)
+abbrev pub LeastAlone : MarkedLanes → List ℕ → List ℕ → ℕ → Type 0
+LeastAlone later counts caps bit = AreLeast false counts caps 0 0 (seen bit later)
+
+-- each of them from a rank on
+abbrev pub AreRanks : ℕ → List ℕ → List ℕ → Open → Type 0
+AreRanks from counts caps later = HoldsFrom (OpenLeast later) from counts caps
+
+abbrev pub AreBegunRanks : ℕ → List ℕ → List ℕ → Begun → Type 0
+AreBegunRanks from counts caps later = HoldsFrom (BegunLeast later) from counts caps
+
+abbrev pub AreRanksWithoutRuns : ℕ → List ℕ → List ℕ → MarkedLanes → Type 0
+AreRanksWithoutRuns from counts caps later = HoldsFrom (LeastAlone later) from counts caps
 
 -- the tables of the whole suit; four tiles of the first rank are as many as any choice holds
 pub record AreSuitLanes (runs : Bool) (counts caps : List ℕ) (lanes : SuitLanes) : Type 0 where

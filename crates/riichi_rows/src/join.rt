@@ -4,8 +4,8 @@ ghost use Rattle.riichi_rows.specs.Join.{IsLeastSum};
 ghost use Rattle.riichi_rows.specs.Lanes.{lane};
 ghost use Rattle.riichi_rows.specs.Row.{IsLeastJoinOf};
 
-use crate::lanes::{Lanes, NONE};
-use crate::row::SuitRow;
+use crate::lanes::Lanes;
+use crate::row::{SuitRow, entry};
 
 /// The least sums of an entry of each.
 pub(crate) fn join_lanes(left: Lanes, right: Lanes) -> Lanes
@@ -32,6 +32,5 @@ pub fn join_rows(rows: &[SuitRow; 4], sets: u8) -> Option<u8>
     let first = join_lanes(characters.entries, circles.entries);
     let second = join_lanes(bamboos.entries, honours.entries);
     let lacks = join_lanes(first, second).lacks.to_array();
-    let lack = lacks[8 + sets as usize];
-    if lack < NONE { Some(lack) } else { None }
+    entry(lacks[8 + sets as usize])
 }

@@ -6,8 +6,8 @@ ghost use Rattle.riichi_rows.specs.Row.{entries_of, AreJoinedThree};
 ghost use Rattle.riichi_rows.specs.declared.row.SuitRow.{SuitRow};
 
 use crate::join::join_lanes;
-use crate::lanes::{Lanes, NONE, add_lanes};
-use crate::row::SuitRow;
+use crate::lanes::{Lanes, add_lanes};
+use crate::row::{SuitRow, entry};
 
 /// The least sums of the rows of some suits, by sets and pairs.
 #[derive(Clone, Copy)]
@@ -45,7 +45,6 @@ impl JoinedRows {
             (entries_of d) sets result }
     {
         let sums = add_lanes(row.entries.lacks, self.sums.opposite(sets).lacks);
-        let least = sums.least();
-        if least < NONE { Some(least) } else { None }
+        entry(sums.least())
     }
 }

@@ -44,7 +44,7 @@ fn last_two(counts: &[u8; 9], caps: &[u8; 9]) -> Open
 fn last_two_of(next_to_last: u8, last: u8) -> Open
     ensures { (counts caps : List ℕ) → length counts ≡ 9 → length caps ≡ 9
         → ((r : ℕ) → r < 9 → slice_index caps r ≤ 4) → slice_index counts 7 ≡ next_to_last
-        → slice_index counts 8 ≡ last → slice_index caps 7 ≡ 4 → slice_index caps 8 ≡ 4
+        → slice_index counts 8 ≡ last → 4 ≤ slice_index caps 7 → 4 ≤ slice_index caps 8
         → AreRanks 7 counts caps result }
 {
     let after = Open::closed().before(last, 4, bit_of(8));

@@ -1,6 +1,7 @@
 //! The row of one suit.
 ghost use Rattle.std.specs.Prelude.{ℕ, ◌≡◌, ◌<◌, ◌≤◌, if◌then◌else◌, length};
 ghost use Rattle.riichi_rows.specs.Lanes.{lane, mark};
+ghost use Rattle.riichi_rows.specs.Suit.{entry_of};
 
 use crate::lanes::{Lanes, NONE};
 use std::simd::prelude::*;
@@ -18,6 +19,14 @@ pub struct SuitRow {
     ghost small: { (s p : ℕ) → s < 5 → p < 2 → lane entries.lacks s p < 255 → lane entries.lacks s p ≤ 36 },
 }
 
+/// The entry that a lane stands for.
+#[inline(always)]
+pub(crate) fn entry(lack: u8) -> Option<u8>
+    ensures { result ≡ entry_of lack }
+{
+    if lack < NONE { Some(lack) } else { None }
+}
+
 impl SuitRow {
     ghost use Rattle.riichi_rows.specs.Row.{entries_of};
 
@@ -32,6 +41,6 @@ impl SuitRow {
         } else {
             lanes[sets as usize]
         };
-        if lack < NONE { Some(lack) } else { None }
+        entry(lack)
     }
 }

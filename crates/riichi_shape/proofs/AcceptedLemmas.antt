@@ -59,6 +59,9 @@ pub some_few : (copies live : List ℕ) (lacks : ℕ → Bool) → length copies
 some_few copies live lacks long few each k =
     ⊎_elim (λ low. (let some = chosen_few (lacks k) (get_or live k 0) (few k) in omega (arith, each k low, some))) (λ past. (let none = get_or_past copies k 0 (omega (arith, long, past)) in omega (arith, none))) (cases_lt k 34)
 
+pub held_inside : (hand : List ℕ) (kind : ℕ) → length hand ≡ 34 → 0 < slice_index hand kind → kind < 34
+held_inside hand kind long held = ⊎_elim (λ low. low) (λ past. absurd (omega (arith, held, get_or_past hand kind 0 (omega (arith, long, past))))) (cases_lt kind 34)
+
 -- a tile that is discarded is seen, so no more copies are live and no fewer
 pub live_same : (hand rest : List ℕ) (melds : List Meld) (seen copies : List ℕ) (kind : ℕ) → 0 < slice_index hand kind → length hand ≡ 34 → rest ≡ without_one hand kind → AreLiveCopies hand melds seen copies → AreLiveCopies rest melds (with_one seen kind) copies
 live_same hand rest melds seen copies kind held long e are = rw e (record {
@@ -67,9 +70,6 @@ live_same hand rest melds seen copies kind held long e are = rw e (record {
   at = λ k low. are.at k low ∙ same_live k;
 })
   where
-    inside : kind < 34
-    inside = ⊎_elim (λ low. low) (λ past. absurd (let none = get_or_past hand kind 0 (omega (arith, long, past)) in omega (arith, none, held))) (cases_lt kind 34)
-
     same_live : (k : ℕ) → live_of hand melds seen k ≡ live_of (without_one hand kind) melds (with_one seen kind) k
     same_live k = ⊎_elim (λ low. other (λ same. omega (arith, same, low))) (λ not_low. ⊎_elim (λ high. other (λ same. omega (arith, same, high))) (λ not_high. here (omega arith)) (cases_lt kind k)) (cases_lt k kind)
       where
@@ -81,6 +81,6 @@ live_same hand rest melds seen copies kind held long e are = rw e (record {
 
         here : k ≡ kind → live_of hand melds seen k ≡ live_of (without_one hand kind) melds (with_one seen kind) k
         here same =
-            let less = get_or-set_same hand kind (slice_index hand kind - 1) 0 (omega (arith, long, inside)) in
-            let more = get_or-set_same seen kind (slice_index seen kind + 1) 0 (omega (arith, are.seen_long, inside)) in
+            let less = get_or-set_same hand kind (slice_index hand kind - 1) 0 (omega (arith, long, held_inside hand kind long held)) in
+            let more = get_or-set_same seen kind (slice_index seen kind + 1) 0 (omega (arith, are.seen_long, held_inside hand kind long held)) in
             omega (arith, held, less, more, ap (slice_index hand) same, ap (slice_index seen) same, ap (slice_index (without_one hand kind)) same, ap (slice_index (with_one seen kind)) same)

@@ -3,14 +3,15 @@ use Rattle.std.proofs.Common.{◌≡◌, ℕ, inl, inr, ◌+◌, ◌-◌, ◌<�
 use Rattle.std.proofs.lemmas.Bool.{cases_lt, false≢true}
 use Rattle.std.proofs.lemmas.Bool.Decides.{nat_tests}
 use Rattle.std.proofs.lemmas.List.Elements.{All-nil, All-cons, All-head, All-tail}
-use Rattle.std.specs.Prelude.{All, ◌&&◌, count_by}
+use Rattle.std.proofs.lemmas.List.Sums.{sum_by-cons}
+use Rattle.std.specs.Prelude.{All, ◌&&◌, count_by, sum_by}
 use Rattle.riichi_tiles.specs.Kinds.{IsRunLow}
 use Rattle.riichi_tiles.specs.Blocks.{total}
 use Rattle.riichi_tiles.specs.declared.block.Block.{Block}
 use Rattle.riichi_rows.specs.Suit.{is_set, is_pair, IsInSuit}
 use Rattle.riichi_tiles.specs.declared.block.Block.TheVariants.{Run, Triplet, Pair}
 use Rattle.riichi_shape.proofs.Counted.{IsOfKinds}
-use Rattle.riichi_rows.proofs.Blocks.{no_block, block_sum-none, block_sum, block_sum-same, block_sum-cons, block_sum-nil, sum_by_is_sum, tiles_of, tiles_is_sum, set_of, has_pair}
+use Rattle.riichi_rows.proofs.Blocks.{no_block, sum_by-none, sum_by-same, tiles_of, tiles_is_sum, set_of, has_pair}
 
 -- the lowest kind of a block
 abbrev start : Block → ℕ
@@ -24,15 +25,10 @@ moved to (Run k) = Run (to k)
 moved to (Triplet k) = Triplet (to k)
 moved to (Pair k) = Pair (to k)
 
-set_moved : (to : ℕ → ℕ) (b : Block) → set_of (moved to b) ≡ set_of b
-set_moved to (Run k) = refl
-set_moved to (Triplet k) = refl
-set_moved to (Pair k) = refl
-
-pair_moved : (to : ℕ → ℕ) (b : Block) → has_pair (moved to b) ≡ has_pair b
-pair_moved to (Run k) = refl
-pair_moved to (Triplet k) = refl
-pair_moved to (Pair k) = refl
+sort_stays : (to : ℕ → ℕ) (b : Block) → (set_of (moved to b) ≡ set_of b) × (has_pair (moved to b) ≡ has_pair b)
+sort_stays to (Run k) = (refl, refl)
+sort_stays to (Triplet k) = (refl, refl)
+sort_stays to (Pair k) = (refl, refl)
 
 -- the block at ranks from the suit's first kind on
 abbrev lower : ℕ → Block → Block
@@ -75,25 +71,25 @@ tiles_moved base r (Run k) is_base h kind = let where_ = apart base k is_base ki
 tiles_moved base r (Triplet k) is_base h kind = grind (arith, nat_tests)
 tiles_moved base r (Pair k) is_base h kind = grind (arith, nat_tests)
 
-block_sum-cond : (f : Block → ℕ) (t : Bool) (x : Block) (xs : List Block) → block_sum f (cond t (x ∷ xs) xs) ≡ cond t (f x) 0 + block_sum f xs
-block_sum-cond f true x xs = block_sum-cons f x xs
-block_sum-cond f false x xs = omega arith
+sum_by-cond : (f : Block → ℕ) (t : Bool) (x : Block) (xs : List Block) → sum_by f (cond t (x ∷ xs) xs) ≡ cond t (f x) 0 + sum_by f xs
+sum_by-cond f true x xs = sum_by-cons f x xs
+sum_by-cond f false x xs = omega arith
 
-block_sum-part : (f : Block → ℕ) (base : ℕ) (bs : List Block) → block_sum f (part base bs) ≡ block_sum (λ b. cond (kept base b) (f (lower base b)) 0) bs
+sum_by-part : (f : Block → ℕ) (base : ℕ) (bs : List Block) → sum_by f (part base bs) ≡ sum_by (λ b. cond (kept base b) (f (lower base b)) 0) bs
 unfolding part
-block_sum-part f base [] = block_sum-nil f ∙ sym (block_sum-nil (λ b. cond (kept base b) (f (lower base b)) 0))
-block_sum-part f base (b ∷ bs) =
-    block_sum-cond f (kept base b) (lower base b) (part base bs) ∙ ap (λ n. cond (kept base b) (f (lower base b)) 0 + n) (block_sum-part f base bs) ∙ sym (block_sum-cons (λ b. cond (kept base b) (f (lower base b)) 0) b bs)
+sum_by-part f base [] = refl
+sum_by-part f base (b ∷ bs) =
+    sum_by-cond f (kept base b) (lower base b) (part base bs) ∙ ap (λ n. cond (kept base b) (f (lower base b)) 0 + n) (sum_by-part f base bs) ∙ sym (sum_by-cons (λ b. cond (kept base b) (f (lower base b)) 0) b bs)
 
-block_sum-same_of : (P : Block → Type 0) (f g : Block → ℕ) → ((b : Block) → P b → f b ≡ g b) → (bs : List Block) → All P bs → block_sum f bs ≡ block_sum g bs
-block_sum-same_of P f g same [] all = block_sum-nil f ∙ sym (block_sum-nil g)
-block_sum-same_of P f g same (b ∷ bs) all =
-    omega (arith, block_sum-cons f b bs, block_sum-cons g b bs, same b (All-head P b bs all), block_sum-same_of P f g same bs (All-tail P b bs all))
+sum_by-same_of : (P : Block → Type 0) (f g : Block → ℕ) → ((b : Block) → P b → f b ≡ g b) → (bs : List Block) → All P bs → sum_by f bs ≡ sum_by g bs
+sum_by-same_of P f g same [] all = refl
+sum_by-same_of P f g same (b ∷ bs) all =
+    omega (arith, sum_by-cons f b bs, sum_by-cons g b bs, same b (All-head P b bs all), sum_by-same_of P f g same bs (All-tail P b bs all))
 
 pub tiles_part : (base r : ℕ) (bs : List Block) → IsBase base → r < 9 → All IsOfKinds bs → total (part base bs) r ≡ total bs (base + r)
 tiles_part base r bs is_base h all =
-    tiles_is_sum r (part base bs) ∙ block_sum-part (tiles_of r) base bs
-    ∙ block_sum-same_of IsOfKinds (λ b. cond (kept base b) (tiles_of r (lower base b)) 0) (tiles_of (base + r)) (λ b kind. tiles_moved base r b is_base h kind) bs all
+    tiles_is_sum r (part base bs) ∙ sum_by-part (tiles_of r) base bs
+    ∙ sum_by-same_of IsOfKinds (λ b. cond (kept base b) (tiles_of r (lower base b)) 0) (tiles_of (base + r)) (λ b kind. tiles_moved base r b is_base h kind) bs all
     ∙ sym (tiles_is_sum (base + r) bs)
 
 -- a count of blocks, over the four suits
@@ -116,34 +112,32 @@ module _ (f : Block → ℕ) (same : (base : ℕ) (b : Block) → f (lower base 
   block_split : (b : Block) → IsOfKinds b → here 0 b + here 9 b + here 18 b + here 27 b ≡ f b
   block_split b kind = omega (arith, here_is 0 b, here_is 9 b, here_is 18 b, here_is 27 b, one_suit (start b) (f b) (start_below b kind))
 
-  totals : (bs : List Block) → All IsOfKinds bs → block_sum (here 0) bs + block_sum (here 9) bs + block_sum (here 18) bs + block_sum (here 27) bs ≡ block_sum f bs
-  totals [] all = omega (arith, block_sum-nil (here 0), block_sum-nil (here 9), block_sum-nil (here 18), block_sum-nil (here 27), block_sum-nil f)
+  totals : (bs : List Block) → All IsOfKinds bs → sum_by (here 0) bs + sum_by (here 9) bs + sum_by (here 18) bs + sum_by (here 27) bs ≡ sum_by f bs
+  totals [] all = refl
   totals (b ∷ bs) all =
       omega (
         arith,
-        block_sum-cons (here 0) b bs,
-        block_sum-cons (here 9) b bs,
-        block_sum-cons (here 18) b bs,
-        block_sum-cons (here 27) b bs,
-        block_sum-cons f b bs,
+        sum_by-cons (here 0) b bs,
+        sum_by-cons (here 9) b bs,
+        sum_by-cons (here 18) b bs,
+        sum_by-cons (here 27) b bs,
+        sum_by-cons f b bs,
         block_split b (All-head IsOfKinds b bs all),
         totals bs (All-tail IsOfKinds b bs all),
       )
 
-  part_is : (base : ℕ) (bs : List Block) → block_sum f (part base bs) ≡ block_sum (here base) bs
+  part_is : (base : ℕ) (bs : List Block) → sum_by f (part base bs) ≡ sum_by (here base) bs
   unfolding here
-  part_is base bs = block_sum-part f base bs
+  part_is base bs = sum_by-part f base bs
 
-  pub block_sum-by_suit : (bs : List Block) → All IsOfKinds bs → block_sum f (part 0 bs) + block_sum f (part 9 bs) + block_sum f (part 18 bs) + block_sum f (part 27 bs) ≡ block_sum f bs
-  block_sum-by_suit bs all = omega (arith, part_is 0 bs, part_is 9 bs, part_is 18 bs, part_is 27 bs, totals bs all)
+  counts_by_suit : (bs : List Block) → All IsOfKinds bs → sum_by f (part 0 bs) + sum_by f (part 9 bs) + sum_by f (part 18 bs) + sum_by f (part 27 bs) ≡ sum_by f bs
+  counts_by_suit bs all = omega (arith, part_is 0 bs, part_is 9 bs, part_is 18 bs, part_is 27 bs, totals bs all)
 
 pub sets_by_suit : (bs : List Block) → All IsOfKinds bs → count_by is_set (part 0 bs) + count_by is_set (part 9 bs) + count_by is_set (part 18 bs) + count_by is_set (part 27 bs) ≡ count_by is_set bs
-sets_by_suit bs all =
-    omega (arith, block_sum-by_suit set_of (λ base. set_moved (λ k. k - base)) bs all, sum_by_is_sum set_of (part 0 bs), sum_by_is_sum set_of (part 9 bs), sum_by_is_sum set_of (part 18 bs), sum_by_is_sum set_of (part 27 bs), sum_by_is_sum set_of bs)
+sets_by_suit = counts_by_suit set_of (λ base b. (sort_stays (λ k. k - base) b).0)
 
 pub pairs_by_suit : (bs : List Block) → All IsOfKinds bs → count_by is_pair (part 0 bs) + count_by is_pair (part 9 bs) + count_by is_pair (part 18 bs) + count_by is_pair (part 27 bs) ≡ count_by is_pair bs
-pairs_by_suit bs all =
-    omega (arith, block_sum-by_suit has_pair (λ base. pair_moved (λ k. k - base)) bs all, sum_by_is_sum has_pair (part 0 bs), sum_by_is_sum has_pair (part 9 bs), sum_by_is_sum has_pair (part 18 bs), sum_by_is_sum has_pair (part 27 bs), sum_by_is_sum has_pair bs)
+pairs_by_suit = counts_by_suit has_pair (λ base b. (sort_stays (λ k. k - base) b).1)
 
 -- the part lies in its suit
 kept_bounds : (base k : ℕ) → leb base k && ltb k (base + 9) ≡ true → (base ≤ k) × (k < base + 9)
@@ -180,10 +174,10 @@ pub raised : ℕ → List Block → List Block
 raised base [] = []
 raised base (b ∷ bs) = raise base b ∷ raised base bs
 
-block_sum-raised : (f : Block → ℕ) (base : ℕ) (bs : List Block) → block_sum f (raised base bs) ≡ block_sum (λ b. f (raise base b)) bs
+sum_by-raised : (f : Block → ℕ) (base : ℕ) (bs : List Block) → sum_by f (raised base bs) ≡ sum_by (λ b. f (raise base b)) bs
 unfolding raised
-block_sum-raised f base [] = block_sum-nil f ∙ sym (block_sum-nil (λ b. f (raise base b)))
-block_sum-raised f base (b ∷ bs) = block_sum-cons f (raise base b) (raised base bs) ∙ ap (λ n. f (raise base b) + n) (block_sum-raised f base bs) ∙ sym (block_sum-cons (λ b. f (raise base b)) b bs)
+sum_by-raised f base [] = refl
+sum_by-raised f base (b ∷ bs) = sum_by-cons f (raise base b) (raised base bs) ∙ ap (λ n. f (raise base b) + n) (sum_by-raised f base bs) ∙ sym (sum_by-cons (λ b. f (raise base b)) b bs)
 
 block_within : (runs : Bool) (base r : ℕ) (b : Block) → r < 9 → IsInSuit runs b → tiles_of (base + r) (raise base b) ≡ tiles_of r b
 block_within runs base r (Run q) h inside = grind (arith, nat_tests)
@@ -197,20 +191,20 @@ block_outside runs base k (Pair q) h inside = grind (arith, nat_tests)
 
 pub tiles_within : (runs : Bool) (base r : ℕ) (bs : List Block) → r < 9 → All (IsInSuit runs) bs → total (raised base bs) (base + r) ≡ total bs r
 tiles_within runs base r bs h all =
-    tiles_is_sum (base + r) (raised base bs) ∙ block_sum-raised (tiles_of (base + r)) base bs
-    ∙ block_sum-same_of (IsInSuit runs) (λ b. tiles_of (base + r) (raise base b)) (tiles_of r) (λ b inside. block_within runs base r b h inside) bs all
+    tiles_is_sum (base + r) (raised base bs) ∙ sum_by-raised (tiles_of (base + r)) base bs
+    ∙ sum_by-same_of (IsInSuit runs) (λ b. tiles_of (base + r) (raise base b)) (tiles_of r) (λ b inside. block_within runs base r b h inside) bs all
     ∙ sym (tiles_is_sum r bs)
 
 pub tiles_outside : (runs : Bool) (base k : ℕ) (bs : List Block) → (k < base) ⊎ (base + 9 ≤ k) → All (IsInSuit runs) bs → total (raised base bs) k ≡ 0
 tiles_outside runs base k bs h all =
-    tiles_is_sum k (raised base bs) ∙ block_sum-raised (tiles_of k) base bs
-    ∙ block_sum-same_of (IsInSuit runs) (λ b. tiles_of k (raise base b)) no_block (λ b inside. block_outside runs base k b h inside) bs all ∙ block_sum-none bs
+    tiles_is_sum k (raised base bs) ∙ sum_by-raised (tiles_of k) base bs
+    ∙ sum_by-same_of (IsInSuit runs) (λ b. tiles_of k (raise base b)) no_block (λ b inside. block_outside runs base k b h inside) bs all ∙ sum_by-none bs
 
 pub sets_raised : (base : ℕ) (bs : List Block) → count_by is_set (raised base bs) ≡ count_by is_set bs
-sets_raised base bs = sum_by_is_sum set_of (raised base bs) ∙ block_sum-raised set_of base bs ∙ block_sum-same (λ b. set_of (raise base b)) set_of (set_moved (λ q. base + q)) bs ∙ sym (sum_by_is_sum set_of bs)
+sets_raised base bs = sum_by-raised set_of base bs ∙ sum_by-same (λ b. set_of (raise base b)) set_of (λ b. (sort_stays (λ q. base + q) b).0) bs
 
 pub pairs_raised : (base : ℕ) (bs : List Block) → count_by is_pair (raised base bs) ≡ count_by is_pair bs
-pairs_raised base bs = sum_by_is_sum has_pair (raised base bs) ∙ block_sum-raised has_pair base bs ∙ block_sum-same (λ b. has_pair (raise base b)) has_pair (pair_moved (λ q. base + q)) bs ∙ sym (sum_by_is_sum has_pair bs)
+pairs_raised base bs = sum_by-raised has_pair base bs ∙ sum_by-same (λ b. has_pair (raise base b)) has_pair (λ b. (sort_stays (λ q. base + q) b).1) bs
 
 -- a suit with runs
 pub raised_kinds : (base : ℕ) (bs : List Block) → (base ≡ 0) ⊎ (base ≡ 9) ⊎ (base ≡ 18) → All (IsInSuit true) bs → All IsOfKinds (raised base bs)
@@ -230,12 +224,12 @@ raised_kinds base (b ∷ bs) is_base all = All-cons IsOfKinds (raise base b) (ra
     of_kinds (Pair q) inside = grind arith
 
 -- the honours, of which the last two ranks hold nothing
-pub raised_honours : (bs : List Block) → block_sum (tiles_of 7) bs ≡ 0 → block_sum (tiles_of 8) bs ≡ 0 → All (IsInSuit false) bs → All IsOfKinds (raised 27 bs)
+pub raised_honours : (bs : List Block) → sum_by (tiles_of 7) bs ≡ 0 → sum_by (tiles_of 8) bs ≡ 0 → All (IsInSuit false) bs → All IsOfKinds (raised 27 bs)
 unfolding raised
 raised_honours [] no_7 no_8 all = All-nil IsOfKinds
 raised_honours (b ∷ bs) no_7 no_8 all =
-    All-cons IsOfKinds (raise 27 b) (raised 27 bs) (of_kinds b (omega (arith, no_7, block_sum-cons (tiles_of 7) b bs)) (omega (arith, no_8, block_sum-cons (tiles_of 8) b bs)) (All-head (IsInSuit false) b bs all))
-    (raised_honours bs (omega (arith, no_7, block_sum-cons (tiles_of 7) b bs)) (omega (arith, no_8, block_sum-cons (tiles_of 8) b bs)) (All-tail (IsInSuit false) b bs all))
+    All-cons IsOfKinds (raise 27 b) (raised 27 bs) (of_kinds b (omega (arith, no_7, sum_by-cons (tiles_of 7) b bs)) (omega (arith, no_8, sum_by-cons (tiles_of 8) b bs)) (All-head (IsInSuit false) b bs all))
+    (raised_honours bs (omega (arith, no_7, sum_by-cons (tiles_of 7) b bs)) (omega (arith, no_8, sum_by-cons (tiles_of 8) b bs)) (All-tail (IsInSuit false) b bs all))
   where
     of_kinds : (b : Block) → tiles_of 7 b ≡ 0 → tiles_of 8 b ≡ 0 → IsInSuit false b → IsOfKinds (raise 27 b)
     of_kinds (Run q) e7 e8 inside = absurd (false≢true inside.0)

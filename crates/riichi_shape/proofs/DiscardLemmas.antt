@@ -116,10 +116,10 @@ module _ (places now : List KeptDiscard) (discards : List KeptDiscard) (discard 
   now_free = now_is ∙ ap (λ ps. take place ps ++ discard ∷ take n (drop place ps)) are_free ∙ ap (λ k. take k (then_free discards (suc free)) ++ discard ∷ take n (drop k (then_free discards (suc free)))) place_is
       ∙ put_where discard discards free n (omega (arith, n_is, place_is))
 
-  pub now_told : (count : ℕ) → count ≡ length discards + 1 → take count now ≡ put_in discard discards
+  now_told : (count : ℕ) → count ≡ length discards + 1 → take count now ≡ put_in discard discards
   now_told count is = ap (take count) now_free ∙ ap (λ k. take k (then_free (put_in discard discards) free)) (is ∙ sym (put_length discard discards)) ∙ take-append_seam (put_in discard discards) (replicate free no_discard)
 
-  pub now_first : (count : ℕ) → count ≡ length discards + 1 → AreFirst count now
+  now_first : (count : ℕ) → count ≡ length discards + 1 → AreFirst count now
   now_first count is = record {
     long = omega (arith, ap length now_free, length_then_free (put_in discard discards) free, put_length discard discards);
     few = omega (arith, is);
@@ -133,10 +133,26 @@ module _ (places now : List KeptDiscard) (discards : List KeptDiscard) (discard 
 pub seen_are : (count : ℕ) (places seen : List KeptDiscard) → AreFirst count places → take count places ≡ seen → (length seen ≡ count) × (places ≡ placed seen)
 seen_are count places seen first view = (omega (arith, ap length view, length-take-le count places (omega (arith, first.few, first.long))), first.free ∙ ap placed view)
 
-pub place_of : (count : ℕ) (places seen : List KeptDiscard) (live place : ℕ) (found_at : Option ℕ) → AreFirst count places → take count places ≡ seen → found_at ≡ position (gives_way live) (take count places) → place ≡ unwrap_or found_at count → place ≡ first_place live seen
-place_of count places seen live place found_at first view at_is place_is =
-    place_is ∙ ap (λ o. unwrap_or o count) at_is ∙ ap (λ ks. unwrap_or (position (gives_way live) ks) count) view
-    ∙ ap (unwrap_or (position (gives_way live) seen)) (sym ((seen_are count places seen first view).0)) ∙ found live seen
+module _ (count : ℕ) (places seen : List KeptDiscard) (live place : ℕ) (found_at : Option ℕ) (first : AreFirst count places) (view : take count places ≡ seen)
+    (at_is : found_at ≡ position (gives_way live) (take count places)) (place_is : place ≡ unwrap_or found_at count) where
+  place_of : place ≡ first_place live seen
+  place_of =
+      place_is ∙ ap (λ o. unwrap_or o count) at_is ∙ ap (λ ks. unwrap_or (position (gives_way live) ks) count) view
+      ∙ ap (unwrap_or (position (gives_way live) seen)) (sym ((seen_are count places seen first view).0)) ∙ found live seen
+
+  pub place_within : place ≤ count
+  place_within = omega (arith, place_of, first_within live seen, (seen_are count places seen first view).0)
+
+  -- with a discard put at the place that was found
+  pub put_first : (discard : KeptDiscard) (now : List KeptDiscard) → live ≡ discard.live → length seen < 14 → now ≡ take place places ++ discard ∷ take (length places - 1 - place) (drop place places) → AreFirst (count + 1) now × (take (count + 1) now ≡ put_in discard seen)
+  put_first discard now live_is room now_is =
+      let are = seen_are count places seen first view in
+      let at = place_of ∙ ap (λ l. first_place l seen) live_is in
+      let rest : length places - 1 - place ≡ 13 - place = omega (arith, first.long) in
+      let more : count + 1 ≡ length seen + 1 = omega (arith, are.0) in (
+        now_first places now seen discard place (length places - 1 - place) room are.1 at now_is rest (count + 1) more,
+        now_told places now seen discard place (length places - 1 - place) room are.1 at now_is rest (count + 1) more,
+      )
 
 -- ---- a part of a slice turned by one
 

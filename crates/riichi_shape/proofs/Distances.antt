@@ -6,8 +6,9 @@ use Rattle.riichi_tiles.specs.Melds.{tiles}
 use Rattle.riichi_tiles.specs.declared.meld.Meld.{Meld}
 use Rattle.riichi_rows.proofs.Joins.{min_is}
 use Rattle.riichi_rows.proofs.Spread.{spread, sum_range}
-use Rattle.riichi_shape.specs.Distance.{IsDistance, IsLeastStandard, OrphansReached, PairsReached}
-use Rattle.riichi_shape.specs.Orphans.{orphan_tiles, is_listed_orphan}
+use Rattle.riichi_shape.specs.Distance.{IsDistance, IsLeastStandard}
+use Rattle.riichi_shape.specs.Orphans.{IsThirteenOrphans, orphan_tiles, is_listed_orphan}
+use Rattle.riichi_shape.specs.Pairs.{IsSevenPairs}
 use Rattle.riichi_shape.specs.Special.{IsSpecialDistance, SpecialLacks}
 use Rattle.riichi_shape.specs.Winning.{IsWinning, lacking}
 use Rattle.riichi_shape.proofs.Exists.{StandardExists, standard_exists, melds_few}
@@ -27,6 +28,27 @@ orphan_few t k = at_most_two (is_listed_orphan k) (eqb k t)
     at_most_two true true = omega arith
     at_most_two true false = omega arith
     at_most_two false c = omega arith
+
+-- ---- without melds
+
+pub no_tiles : (melds : List Meld) → length melds ≡ 0 → (kind : ℕ) → kind < 34 → tiles melds kind ≡ 0
+no_tiles melds none kind low = omega (arith, each_below (tiles melds) 0 34 kind (omega arith) (omega (arith, low)), melds_few melds 0 34, none)
+
+-- none or two of a kind that is not melded are within four
+pub pair_few : (w m : ℕ) → (w ≡ 0) ⊎ (w ≡ 2) → m ≡ 0 → w + m ≤ 4
+pair_few w m h none = ⊎_elim (λ e. omega (arith, e, none)) (λ e. omega (arith, e, none)) h
+
+pub pairs_winning : (melds : List Meld) → length melds ≡ 0 → (wanted : List ℕ) → IsSevenPairs wanted → IsWinning melds wanted
+pairs_winning melds none wanted is = record {
+  form = inr (inl (none, is));
+  within_four = record { at = λ k low. pair_few (slice_index wanted k) (tiles melds k) (is.two_or_none k low) (no_tiles melds none k low) };
+}
+
+pub orphans_winning : (melds : List Meld) → length melds ≡ 0 → (wanted : List ℕ) → IsThirteenOrphans wanted → IsWinning melds wanted
+orphans_winning melds none wanted is = record {
+  form = inr (inr (none, is));
+  within_four = record { at = λ k low. (let few = orphan_few is.doubled k in omega (arith, few, is.at k low, no_tiles melds none k low)) };
+}
 
 pub least_beside : (hand : List ℕ) (melds : List Meld) (melded : ℕ) (o : Option ℕ) → melded ≡ length melds → IsLeastStandard hand melds (4 - melded) o → IsLeastStandard hand melds (4 - length melds) o
 least_beside hand melds melded o e least = subst (λ (n : ℕ). IsLeastStandard hand melds (4 - n) o) e least
@@ -60,38 +82,15 @@ module _ (hand : List ℕ) (melds : List Meld) (at_most_four : length melds ≤ 
     low_distance floor special under = by_standard n floor special refl under
 
     module _ (q r : ℕ) (special : IsSpecialDistance hand melds q) (r_is : r ≡ min n q) where
-      module _ (none : length melds ≡ 0) where
-        no_melds : (k : ℕ) → k < 34 → tiles melds k ≡ 0
-        no_melds k low = omega (arith, each_below (tiles melds) 0 34 k (omega arith) (omega arith), melds_few melds 0 34, none)
-
-        two_or_none_few : (w : ℕ) → (w ≡ 0) ⊎ (w ≡ 2) → w ≤ 2
-        two_or_none_few w h = ⊎_elim (λ e. omega (arith, e)) (λ e. omega (arith, e)) h
-
-        by_pairs : PairsReached hand q → r ≡ q → IsDistance hand melds r
-        by_pairs reached e = record {
-          wanted = reached.wanted;
-          is_winning = record {
-            form = inr (inl (none, reached.seven_pairs));
-            within_four = record { at = λ k low. omega (arith, no_melds k low, two_or_none_few (slice_index reached.wanted k) (reached.seven_pairs.two_or_none k low)) };
-          };
-          reached = reached.lacks ∙ sym e;
-          none_less = none_below r q special.none_less (omega (arith, r_is)) (omega (arith, r_is));
-        }
-
-        by_orphans : OrphansReached hand q → r ≡ q → IsDistance hand melds r
-        by_orphans reached e = record {
-          wanted = reached.wanted;
-          is_winning = record {
-            form = inr (inr (none, reached.thirteen_orphans));
-            within_four = record { at = λ k low. (let few = orphan_few reached.thirteen_orphans.doubled k in omega (arith, no_melds k low, reached.thirteen_orphans.at k low, few)) };
-          };
-          reached = reached.lacks ∙ sym e;
-          none_less = none_below r q special.none_less (omega (arith, r_is)) (omega (arith, r_is));
-        }
+      by_form : (wanted : List ℕ) → IsWinning melds wanted → lacking hand wanted ≡ q → r ≡ q → IsDistance hand melds r
+      by_form wanted is lacks e = record { wanted = wanted; is_winning = is; reached = lacks ∙ sym e; none_less = none_below r q special.none_less (omega (arith, r_is)) (omega (arith, r_is)) }
 
       by_special : r ≡ q → IsDistance hand melds r
       by_special e = ⊎_elim (λ some. absurd (let far = special.beside some in let few = standard_few in omega (arith, far, few, r_is, e)))
-          (λ none. (let no : length melds ≡ 0 = omega (arith, none) in ⊎_elim (λ pairs. by_pairs no pairs e) (λ orphans. by_orphans no orphans e) (special.reached no))) (cases_lt 0 (length melds))
+          (λ none.
+          (let no : length melds ≡ 0 = omega (arith, none) in
+          ⊎_elim (λ pairs. by_form pairs.wanted (pairs_winning melds no pairs.wanted pairs.seven_pairs) pairs.lacks e)
+          (λ orphans. by_form orphans.wanted (orphans_winning melds no orphans.wanted orphans.thirteen_orphans) orphans.lacks e) (special.reached no))) (cases_lt 0 (length melds))
 
       pub whole_distance : IsDistance hand melds r
       whole_distance = ⊎_elim (λ standard. by_standard r q special.none_less (r_is ∙ standard) (omega (arith, r_is))) (λ least_special. by_special (r_is ∙ least_special)) (min_is n q)

@@ -3,6 +3,7 @@ use Rattle.std.proofs.Common.{◌≡◌, Bool, true, false, cond, eqb, length, r
 use Rattle.std.proofs.lemmas.Bool.{cases_lt}
 use Rattle.std.proofs.lemmas.Bool.Decides.{nat_tests}
 use Rattle.std.proofs.lemmas.List.Elements.{All-nil, All-cons}
+use Rattle.std.proofs.lemmas.List.Sums.{sum_by-cons}
 use Rattle.std.specs.Prelude.{All, slice_index, sum_by}
 use Rattle.std.specs.List.{range_with_len}
 use Rattle.riichi_tiles.specs.Melds.{tiles, tiles_of as tiles_of_meld}
@@ -12,28 +13,28 @@ use Rattle.riichi_tiles.specs.declared.meld.Meld.{Meld}
 use Rattle.riichi_tiles.specs.declared.block.Block.TheVariants.{Triplet, Pair}
 use Rattle.riichi_shape.specs.Winning.{IsSetsAndPair, WithinFour, lacking}
 use Rattle.riichi_shape.proofs.Counted.{IsOfKinds, uncounted}
-use Rattle.riichi_rows.proofs.Blocks.{block_sum, block_sum-cons, block_sum-nil, sum_by_is_sum, tiles_of, tiles_is_sum, set_of, has_pair}
+use Rattle.riichi_rows.proofs.Blocks.{tiles_of, tiles_is_sum, set_of, has_pair}
 use Rattle.riichi_rows.proofs.Spread.{spread, spread_sum, sum_range, spread_shift, spread_none, table, table_at, at_same_number}
 
 -- triplets and pairs of kinds from a on, that fit beside the melds m
 record Free (m h : ℕ → ℕ) (a n t p : ℕ) : Type 0 where
   pub blocks : List Block
   pub of_kinds : All IsOfKinds blocks
-  pub has_sets : block_sum set_of blocks ≡ t
-  pub has_pairs : block_sum has_pair blocks ≡ p
-  pub none_before : (k : ℕ) → k < a → block_sum (tiles_of k) blocks ≡ 0
-  pub within : (k : ℕ) → k < a + n → block_sum (tiles_of k) blocks + m k ≤ 4
-  pub lacks : spread (λ k. block_sum (tiles_of k) blocks - h k) a n ≤ 3 * t + 2 * p
+  pub has_sets : sum_by set_of blocks ≡ t
+  pub has_pairs : sum_by has_pair blocks ≡ p
+  pub none_before : (k : ℕ) → k < a → sum_by (tiles_of k) blocks ≡ 0
+  pub within : (k : ℕ) → k < a + n → sum_by (tiles_of k) blocks + m k ≤ 4
+  pub lacks : spread (λ k. sum_by (tiles_of k) blocks - h k) a n ≤ 3 * t + 2 * p
 
 no_blocks : (m h : ℕ → ℕ) (a n : ℕ) → ((k : ℕ) → k < a + n → m k ≤ 4) → Free m h a n 0 0
 no_blocks m h a n few = record {
   blocks = [];
   of_kinds = All-nil IsOfKinds;
-  has_sets = block_sum-nil set_of;
-  has_pairs = block_sum-nil has_pair;
-  none_before = λ k low. block_sum-nil (tiles_of k);
-  within = λ k low. omega (arith, block_sum-nil (tiles_of k), few k low);
-  lacks = omega (arith, spread_none (λ k. block_sum (tiles_of k) [] - h k) a n (λ k low high. omega (arith, block_sum-nil (tiles_of k))));
+  has_sets = refl;
+  has_pairs = refl;
+  none_before = λ k low. refl;
+  within = λ k low. omega (arith, few k low);
+  lacks = omega (arith, spread_none (λ k. 0 - h k) a n (λ k low high. omega arith));
 }
 
 -- a kind that is left out
@@ -54,23 +55,23 @@ with_block : (m h : ℕ → ℕ) (a n t p t' p' : ℕ) (b : Block) → set_of b 
     Free m h (a + 1) n t p → Free m h a (suc n) t' p'
 unfolding spread
 with_block m h a n t p t' p' b more_sets more_pairs kind here elsewhere fits rest =
-    let after = spread_shift (λ k. block_sum (tiles_of k) (b ∷ rest.blocks) - h k) (λ k. block_sum (tiles_of k) rest.blocks - h k) (a + 1) (a + 1) n
+    let after = spread_shift (λ k. sum_by (tiles_of k) (b ∷ rest.blocks) - h k) (λ k. sum_by (tiles_of k) rest.blocks - h k) (a + 1) (a + 1) n
     (λ r low. ap (λ w. w - h (a + 1 + r)) (same (a + 1 + r) (inr (omega arith)))) in
     record {
       blocks = b ∷ rest.blocks;
       of_kinds = All-cons IsOfKinds b rest.blocks kind rest.of_kinds;
-      has_sets = block_sum-cons set_of b rest.blocks ∙ ap (λ n. set_of b + n) rest.has_sets ∙ more_sets;
-      has_pairs = block_sum-cons has_pair b rest.blocks ∙ ap (λ n. has_pair b + n) rest.has_pairs ∙ more_pairs;
+      has_sets = sum_by-cons set_of b rest.blocks ∙ ap (λ n. set_of b + n) rest.has_sets ∙ more_sets;
+      has_pairs = sum_by-cons has_pair b rest.blocks ∙ ap (λ n. has_pair b + n) rest.has_pairs ∙ more_pairs;
       none_before = λ k low. same k (inl low) ∙ rest.none_before k (omega arith);
       within = λ k low. ⊎_elim (λ below. omega (arith, same k (inl below), rest.within k (omega arith))) (λ not_below. ⊎_elim (λ above. omega (arith, same k (inr above), rest.within k (omega arith))) (λ not_above. at_place k (omega arith)) (cases_lt a k)) (cases_lt k a);
-      lacks = omega (arith, after, block_sum-cons (tiles_of a) b rest.blocks, here, rest.none_before a (omega arith), rest.lacks, more_sets, more_pairs);
+      lacks = omega (arith, after, sum_by-cons (tiles_of a) b rest.blocks, here, rest.none_before a (omega arith), rest.lacks, more_sets, more_pairs);
     }
   where
-    same : (k : ℕ) → (k < a) ⊎ (a < k) → block_sum (tiles_of k) (b ∷ rest.blocks) ≡ block_sum (tiles_of k) rest.blocks
-    same k other = omega (arith, block_sum-cons (tiles_of k) b rest.blocks, elsewhere k other)
+    same : (k : ℕ) → (k < a) ⊎ (a < k) → sum_by (tiles_of k) (b ∷ rest.blocks) ≡ sum_by (tiles_of k) rest.blocks
+    same k other = omega (arith, sum_by-cons (tiles_of k) b rest.blocks, elsewhere k other)
 
-    at_place : (k : ℕ) → k ≡ a → block_sum (tiles_of k) (b ∷ rest.blocks) + m k ≤ 4
-    at_place k e = omega (arith, ap (λ k. block_sum (tiles_of k) (b ∷ rest.blocks)) e, ap m e, block_sum-cons (tiles_of a) b rest.blocks, rest.none_before a (omega arith), fits)
+    at_place : (k : ℕ) → k ≡ a → sum_by (tiles_of k) (b ∷ rest.blocks) + m k ≤ 4
+    at_place k e = omega (arith, ap (λ k. sum_by (tiles_of k) (b ∷ rest.blocks)) e, ap m e, sum_by-cons (tiles_of a) b rest.blocks, rest.none_before a (omega arith), fits)
 
 triplet_here : (a : ℕ) → tiles_of a (Triplet a) ≡ 3
 triplet_here a = grind (arith, nat_tests)
@@ -152,18 +153,18 @@ pub standard_exists : (hand : List ℕ) (melds : List Meld) (sets : ℕ) → set
 standard_exists hand melds sets few within all =
     let f = free_blocks (tiles melds) (slice_index hand) 0 34 sets 1 (λ k low. within k (omega arith)) (omega arith) (omega (arith, sum_range (tiles melds) 0 34)) in
     record {
-      wanted = table (λ k. block_sum (tiles_of k) f.blocks) 0 34;
-      sets_and_pair = uncounted sets (table (λ k. block_sum (tiles_of k) f.blocks) 0 34) (record {
+      wanted = table (λ k. sum_by (tiles_of k) f.blocks) 0 34;
+      sets_and_pair = uncounted sets (table (λ k. sum_by (tiles_of k) f.blocks) 0 34) (record {
         blocks = f.blocks;
         of_kinds = f.of_kinds;
-        has_sets = sum_by_is_sum set_of f.blocks ∙ f.has_sets;
-        has_pair = sum_by_is_sum has_pair f.blocks ∙ f.has_pairs;
+        has_sets = f.has_sets;
+        has_pair = f.has_pairs;
         adds_up = λ k low. at_kind f.blocks k low ∙ sym (tiles_is_sum k f.blocks);
       });
       within_four = record { at = λ k low. omega (arith, at_kind f.blocks k low, f.within k (omega arith)) };
-      lacks = (let same = spread_shift (λ k. slice_index (table (λ k. block_sum (tiles_of k) f.blocks) 0 34) k - slice_index hand k) (λ k. block_sum (tiles_of k) f.blocks - slice_index hand k) 0 0 34 (λ r low. ap (λ w. w - slice_index hand (0 + r)) (at_kind f.blocks (0 + r) (omega arith))) in
-          omega (arith, sum_range (λ k. slice_index (table (λ k. block_sum (tiles_of k) f.blocks) 0 34) k - slice_index hand k) 0 34, same, f.lacks));
+      lacks = (let same = spread_shift (λ k. slice_index (table (λ k. sum_by (tiles_of k) f.blocks) 0 34) k - slice_index hand k) (λ k. sum_by (tiles_of k) f.blocks - slice_index hand k) 0 0 34 (λ r low. ap (λ w. w - slice_index hand (0 + r)) (at_kind f.blocks (0 + r) (omega arith))) in
+          omega (arith, sum_range (λ k. slice_index (table (λ k. sum_by (tiles_of k) f.blocks) 0 34) k - slice_index hand k) 0 34, same, f.lacks));
     }
   where
-    at_kind : (bs : List Block) (k : ℕ) → k < 34 → slice_index (table (λ k. block_sum (tiles_of k) bs) 0 34) k ≡ block_sum (tiles_of k) bs
-    at_kind bs k low = table_at (λ k. block_sum (tiles_of k) bs) 0 34 k low ∙ at_same_number (λ k. block_sum (tiles_of k) bs) (0 + k) k (omega arith)
+    at_kind : (bs : List Block) (k : ℕ) → k < 34 → slice_index (table (λ k. sum_by (tiles_of k) bs) 0 34) k ≡ sum_by (tiles_of k) bs
+    at_kind bs k low = table_at (λ k. sum_by (tiles_of k) bs) 0 34 k low ∙ at_same_number (λ k. sum_by (tiles_of k) bs) (0 + k) k (omega arith)

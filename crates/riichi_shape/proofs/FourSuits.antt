@@ -3,8 +3,8 @@ use Rattle.std.proofs.Common.{◌≡◌, ℕ, ◌+◌, ◌-◌, ◌<◌, ◌≤�
 use Rattle.std.proofs.lemmas.Bool.{cases_lt}
 use Rattle.std.proofs.lemmas.Bool.Decides.{nat_tests}
 use Rattle.std.proofs.lemmas.List.Elements.{All-head, All-tail, All-append}
-use Rattle.std.proofs.lemmas.List.Sums.{sum_by-append}
-use Rattle.std.specs.Prelude.{All, slice_index, count_by, ◌↔◌}
+use Rattle.std.proofs.lemmas.List.Sums.{sum_by-append, sum_by-cons}
+use Rattle.std.specs.Prelude.{All, slice_index, count_by, sum_by, ◌↔◌}
 use Rattle.riichi_rows.specs.Lacked.{ChoiceLacks}
 use Rattle.riichi_shape.specs.Lacked.{SuitLacks, EntryLacks, StandardLacks}
 use Rattle.riichi_rows.specs.Join.{EntriesSum, IsLeastJoin}
@@ -18,7 +18,7 @@ use Rattle.riichi_shape.specs.Distance.{StandardReached, IsLeastStandard}
 use Rattle.riichi_shape.specs.Suits.{IsSuitOf}
 use Rattle.riichi_shape.specs.Winning.{IsSetsAndPair, WithinFour, lacking}
 use Rattle.riichi_shape.proofs.Counted.{AreCounted, IsOfKinds, counted, uncounted}
-use Rattle.riichi_rows.proofs.Blocks.{block_sum, block_sum-cons, block_sum-nil, tiles_of, tiles_is_sum, total-append, set_of, has_pair}
+use Rattle.riichi_rows.proofs.Blocks.{tiles_of, tiles_is_sum, total-append, set_of, has_pair}
 use Rattle.riichi_rows.proofs.Spread.{same_spread, spread, sum_range, spread_add, at_same_number, spread_shift, spread_none, table, table_at}
 use Rattle.riichi_shape.proofs.BySuit.{part, IsBase, tiles_part, sets_by_suit, pairs_by_suit, part_in_suit, raised, tiles_within, tiles_outside, sets_raised, pairs_raised, raised_kinds, raised_honours}
 
@@ -32,9 +32,9 @@ tiles_beyond k bs h all = tiles_is_sum k bs ∙ none bs all
     block (Triplet q) kind = grind (arith, nat_tests)
     block (Pair q) kind = grind (arith, nat_tests)
 
-    none : (bs : List Block) → All IsOfKinds bs → block_sum (tiles_of k) bs ≡ 0
-    none [] all = block_sum-nil (tiles_of k)
-    none (b ∷ bs) all = omega (arith, block_sum-cons (tiles_of k) b bs, block b (All-head IsOfKinds b bs all), none bs (All-tail IsOfKinds b bs all))
+    none : (bs : List Block) → All IsOfKinds bs → sum_by (tiles_of k) bs ≡ 0
+    none [] all = refl
+    none (b ∷ bs) all = omega (arith, sum_by-cons (tiles_of k) b bs, block b (All-head IsOfKinds b bs all), none bs (All-tail IsOfKinds b bs all))
 
 -- the lack of one suit, as a part of the whole
 module _ (hand : List ℕ) (melds : List Meld) (wanted : List ℕ) (base width : ℕ) (counts caps : List ℕ) (suit : IsSuitOf base width hand melds counts caps) (nine : width ≤ 9) (blocks : List Block)
@@ -134,19 +134,13 @@ module _ (b0 b1 b2 b3 : List Block) (in0 : All (IsInSuit true) b0) (in1 : All (I
       ∙ ap (λ n. total (raised 0 b0) k + n) (total-append k (raised 9 b1) (raised 18 b2 ++ raised 27 b3)
       ∙ ap (λ n. total (raised 9 b1) k + n) (total-append k (raised 18 b2) (raised 27 b3)))
 
-  sets_together : count_by is_set together ≡ count_by is_set b0 + count_by is_set b1 + count_by is_set b2 + count_by is_set b3
-  sets_together =
-      let e0 = sum_by-append set_of (raised 0 b0) (raised 9 b1 ++ (raised 18 b2 ++ raised 27 b3)) in
-      let e1 = sum_by-append set_of (raised 9 b1) (raised 18 b2 ++ raised 27 b3) in
-      let e2 = sum_by-append set_of (raised 18 b2) (raised 27 b3) in
-      omega (arith, e0, e1, e2, sets_raised 0 b0, sets_raised 9 b1, sets_raised 18 b2, sets_raised 27 b3)
-
-  pairs_together : count_by is_pair together ≡ count_by is_pair b0 + count_by is_pair b1 + count_by is_pair b2 + count_by is_pair b3
-  pairs_together =
-      let e0 = sum_by-append has_pair (raised 0 b0) (raised 9 b1 ++ (raised 18 b2 ++ raised 27 b3)) in
-      let e1 = sum_by-append has_pair (raised 9 b1) (raised 18 b2 ++ raised 27 b3) in
-      let e2 = sum_by-append has_pair (raised 18 b2) (raised 27 b3) in
-      omega (arith, e0, e1, e2, pairs_raised 0 b0, pairs_raised 9 b1, pairs_raised 18 b2, pairs_raised 27 b3)
+  -- of what is counted alike in each suit
+  count_together : (f : Block → ℕ) → ((base : ℕ) (bs : List Block) → sum_by f (raised base bs) ≡ sum_by f bs) → sum_by f together ≡ sum_by f b0 + sum_by f b1 + sum_by f b2 + sum_by f b3
+  count_together f alike =
+      let e0 = sum_by-append f (raised 0 b0) (raised 9 b1 ++ (raised 18 b2 ++ raised 27 b3)) in
+      let e1 = sum_by-append f (raised 9 b1) (raised 18 b2 ++ raised 27 b3) in
+      let e2 = sum_by-append f (raised 18 b2) (raised 27 b3) in
+      omega (arith, e0, e1, e2, alike 0 b0, alike 9 b1, alike 18 b2, alike 27 b3)
 
   tiles_0 : (r : ℕ) → r < 9 → total together (0 + r) ≡ total b0 r
   tiles_0 r h = omega (arith, tiles_together (0 + r), tiles_within true 0 r b0 h in0, tiles_outside true 9 (0 + r) b1 (inl (omega arith)) in1, tiles_outside true 18 (0 + r) b2 (inl (omega arith)) in2, tiles_outside false 27 (0 + r) b3 (inl (omega arith)) in3)
@@ -319,8 +313,8 @@ module _ (hand : List ℕ) (melds : List Meld) (c0 c1 c2 c3 k0 k1 k2 k3 : List �
     chosen_sets_and_pair = uncounted sets chosen_wanted (record {
       blocks = chosen_blocks;
       of_kinds = kinds_together chosen0.blocks chosen1.blocks chosen2.blocks chosen3.blocks in0 in1 in2 in3 no_7 no_8;
-      has_sets = omega (arith, sets_together chosen0.blocks chosen1.blocks chosen2.blocks chosen3.blocks in0 in1 in2 in3, chosen0.is_choice.has_sets, chosen1.is_choice.has_sets, chosen2.is_choice.has_sets, chosen3.is_choice.has_sets, e.has_sets);
-      has_pair = omega (arith, pairs_together chosen0.blocks chosen1.blocks chosen2.blocks chosen3.blocks in0 in1 in2 in3, chosen0.is_choice.has_pairs, chosen1.is_choice.has_pairs, chosen2.is_choice.has_pairs, chosen3.is_choice.has_pairs, e.has_pair);
+      has_sets = omega (arith, count_together chosen0.blocks chosen1.blocks chosen2.blocks chosen3.blocks in0 in1 in2 in3 set_of sets_raised, chosen0.is_choice.has_sets, chosen1.is_choice.has_sets, chosen2.is_choice.has_sets, chosen3.is_choice.has_sets, e.has_sets);
+      has_pair = omega (arith, count_together chosen0.blocks chosen1.blocks chosen2.blocks chosen3.blocks in0 in1 in2 in3 has_pair pairs_raised, chosen0.is_choice.has_pairs, chosen1.is_choice.has_pairs, chosen2.is_choice.has_pairs, chosen3.is_choice.has_pairs, e.has_pair);
       adds_up = wanted_is;
     })
 
@@ -363,18 +357,6 @@ module _ (hand : List ℕ) (melds : List Meld) (c0 c1 c2 c3 k0 k1 k2 k3 : List �
       lacks_kind = (let at = here r low in omega (arith, at, suit.counts_at r low, more, ap (slice_index hand) e_x, ap (slice_index chosen_wanted) e_x));
     }
 
-    lacks_in0 : (x r : ℕ) → x ≡ 0 + r → r < 9 → slice_index c0 r < total chosen0.blocks r → StandardLacks hand melds sets n x
-    lacks_in0 = lacks_at 0 9 c0 k0 suit0 chosen0.blocks at_0
-
-    lacks_in1 : (x r : ℕ) → x ≡ 9 + r → r < 9 → slice_index c1 r < total chosen1.blocks r → StandardLacks hand melds sets n x
-    lacks_in1 = lacks_at 9 9 c1 k1 suit1 chosen1.blocks at_1
-
-    lacks_in2 : (x r : ℕ) → x ≡ 18 + r → r < 9 → slice_index c2 r < total chosen2.blocks r → StandardLacks hand melds sets n x
-    lacks_in2 = lacks_at 18 9 c2 k2 suit2 chosen2.blocks at_2
-
-    lacks_in3 : (x r : ℕ) → x ≡ 27 + r → r < 7 → slice_index c3 r < total chosen3.blocks r → StandardLacks hand melds sets n x
-    lacks_in3 = lacks_at 27 7 c3 k3 suit3 chosen3.blocks at_3
-
   -- the join of the rows is the least lack
   pub standard_least : (o : Option ℕ) → IsLeastJoin a b c d sets o → IsLeastStandard hand melds sets o
   standard_least (Some n) join = (
@@ -394,22 +376,22 @@ module _ (hand : List ℕ) (melds : List Meld) (c0 c1 c2 c3 k0 k1 k2 k3 : List �
           let reach1 = reached1 n e in
           let reach2 = reached2 n e in
           let reach3 = reached3 n e in
-          ⊎_elim (λ s. lacks_in0 n e (reach s.choice) reach1 reach2 reach3 x s.rank s.is_kind s.is_rank s.choice.lacks_rank)
-          (λ others. ⊎_elim (λ s. lacks_in1 n e reach0 (reach s.choice) reach2 reach3 x s.rank s.is_kind s.is_rank s.choice.lacks_rank)
-          (λ others. ⊎_elim (λ s. lacks_in2 n e reach0 reach1 (reach s.choice) reach3 x s.rank s.is_kind s.is_rank s.choice.lacks_rank)
-          (λ s. lacks_in3 n e reach0 reach1 reach2 (reach s.choice) x s.rank s.is_kind (omega (arith, s.is_kind)) s.choice.lacks_rank) others) others) k.lacks_kind
+          ⊎_elim (λ s. (let own = reach s.choice in lacks_at n e own reach1 reach2 reach3 0 9 c0 k0 suit0 own.blocks (at_0 n e own reach1 reach2 reach3) x s.rank s.is_kind s.is_rank s.choice.lacks_rank))
+          (λ others. ⊎_elim (λ s. (let own = reach s.choice in lacks_at n e reach0 own reach2 reach3 9 9 c1 k1 suit1 own.blocks (at_1 n e reach0 own reach2 reach3) x s.rank s.is_kind s.is_rank s.choice.lacks_rank))
+          (λ others. ⊎_elim (λ s. (let own = reach s.choice in lacks_at n e reach0 reach1 own reach3 18 9 c2 k2 suit2 own.blocks (at_2 n e reach0 reach1 own reach3) x s.rank s.is_kind s.is_rank s.choice.lacks_rank))
+          (λ s. (let own = reach s.choice in lacks_at n e reach0 reach1 reach2 own 27 7 c3 k3 suit3 own.blocks (at_3 n e reach0 reach1 reach2 own) x s.rank s.is_kind (omega (arith, s.is_kind)) s.choice.lacks_rank)) others) others) k.lacks_kind
         where
           reach : {runs : Bool} {counts caps : List ℕ} {s p l r : ℕ} → ChoiceLacks runs counts caps s p l r → LackReached runs counts caps s p l
           reach c = record { blocks = c.blocks; is_choice = c.is_choice; lacks = c.lacks }
 
   -- where no sets and a pair lack fewer than n, no four entries sum to less
   module _ (n : ℕ) (none_less : (wanted : List ℕ) → IsSetsAndPair sets wanted → WithinFour melds wanted → n ≤ lacking hand wanted) where
-    pub sums_bound : (m : ℕ) → EntriesSum a b c d sets m → n ≤ m
+    sums_bound : (m : ℕ) → EntriesSum a b c d sets m → n ≤ m
     sums_bound m e =
         let w = chosen m e (reached0 m e) (reached1 m e) (reached2 m e) (reached3 m e) in
         omega (arith, none_less w.wanted w.sets_and_pair w.within_four, w.lacks)
 
-    pub lacks_by_entries : (x : ℕ) → x < 34 → StandardLacks hand melds sets n x ↔ EntryLacks a b c d c0 c1 c2 c3 k0 k1 k2 k3 sets n x
+    lacks_by_entries : (x : ℕ) → x < 34 → StandardLacks hand melds sets n x ↔ EntryLacks a b c d c0 c1 c2 c3 k0 k1 k2 k3 sets n x
     lacks_by_entries x inside = (
       λ w. (join_lacks n (join_of w.wanted (counted sets w.wanted w.sets_and_pair) w.within_four w.lacks) x inside).0 w,
       λ k. (join_lacks n (k.entries, sums_bound) x inside).1 k,
@@ -420,3 +402,6 @@ module _ (hand : List ℕ) (melds : List Meld) (c0 c1 c2 c3 k0 k1 k2 k3 : List �
             let below = sum_below wanted is four in
             let least = sums_bound _ (entries_of wanted is four _ refl) in
             (entries_of wanted is four n (omega (arith, below, least, lacks)), sums_bound)
+
+    pub entries_laws : ((m : ℕ) → EntriesSum a b c d sets m → n ≤ m) × ((x : ℕ) → x < 34 → StandardLacks hand melds sets n x ↔ EntryLacks a b c d c0 c1 c2 c3 k0 k1 k2 k3 sets n x)
+    entries_laws = (sums_bound, lacks_by_entries)

@@ -20,6 +20,9 @@ use Rattle.riichi_shape.proofs.DiscardLemmas.{put_in}
 use Rattle.riichi_shape.proofs.KindLemmas.{among_at, among_same, are_among, few_among, marked_at, same_kinds}
 use Rattle.riichi_shape.proofs.LiveLemmas.{copies_told}
 
+pub same_discard : {number kind : ℕ} {list other : List (ℕ × ℕ)} → number ≡ kind → list ≡ other → ◌≡◌ {A = Discard} (record { kind = number; accepted = list }) (record { kind = kind; accepted = other })
+same_discard e e' = cc
+
 -- ---- the set of a discard, out of the kinds that it is told with
 
 kinds_low : (pairs : List (ℕ × ℕ)) → kinds_in pairs < 2 ^ 34
@@ -83,10 +86,7 @@ module _ (copies : List ℕ) where
   -- ---- all copies that are told
 
   greater : (a b : Bool) (c : ℕ) → max (cond a c 0) (cond b c 0) ≡ cond (a || b) c 0
-  greater true true c = omega arith
-  greater true false c = omega arith
-  greater false true c = omega arith
-  greater false false c = refl
+  greater a b c = grind arith
 
   most_told : (order : List KeptDiscard) (kind : ℕ) → kind < 34 → most_copies (map (told copies) order) kind ≡ cond (list_any (λ kept. is_held (kinds_of kept) kind) order) (slice_index copies kind) 0
   unfolding most_copies
@@ -110,11 +110,8 @@ module _ (copies : List ℕ) where
     all_within (kept ∷ order) any = (λ kind low h. any kind (or_left (is_held (kinds_of kept) kind) (list_any (λ kept. is_held (kinds_of kept) kind) order) h), all_within order (λ kind h. any kind (or_right (is_held (kinds_of kept) kind) (list_any (λ kept. is_held (kinds_of kept) kind) order) h)))
 
     same_told : (kept : KeptDiscard) → Within kept → told (copies_among copies set) kept ≡ told copies kept
-    same_told kept within = same_discard (ap pairs_of (among_same (copies_among copies set) copies (kinds_of kept) (kinds_of kept) each))
+    same_told kept within = same_discard refl (ap pairs_of (among_same (copies_among copies set) copies (kinds_of kept) (kinds_of kept) each))
       where
-        same_discard : {list other : List (ℕ × ℕ)} → list ≡ other → ◌≡◌ {A = Discard} (record { kind = kept.kind; accepted = list }) (record { kind = kept.kind; accepted = other })
-        same_discard e = cc
-
         shown : (h t : Bool) (c : ℕ) → (h ≡ true → t ≡ true) → cond h (cond t c 0) 0 ≡ cond h c 0
         shown true true c there = refl
         shown true false c there = let t = there refl in cc
@@ -162,9 +159,6 @@ none_told copies order place e = slice_get-map (told copies) order place ∙ ap 
 
 pub told_is : (copies taken : List ℕ) (kept : KeptDiscard) (kind set : ℕ) (list : List (ℕ × ℕ)) → kind ≡ kept.kind → list ≡ pairs_of taken → taken ≡ copies_among copies set → set ≡ kinds_of kept → ◌≡◌ {A = Discard} (record { kind = kind; accepted = list }) (told copies kept)
 told_is copies taken kept kind set list kind_is list_is taken_is set_is = same_discard kind_is (list_is ∙ ap pairs_of (taken_is ∙ ap (copies_among copies) set_is))
-  where
-    same_discard : {number other : ℕ} {list another : List (ℕ × ℕ)} → number ≡ other → list ≡ another → ◌≡◌ {A = Discard} (record { kind = number; accepted = list }) (record { kind = other; accepted = another })
-    same_discard e e' = cc
 
 -- ---- a discard put in its place
 

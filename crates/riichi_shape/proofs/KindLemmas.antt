@@ -30,23 +30,13 @@ pub marked_at : (marks : List Bool) (kind : ℕ) → is_held (mask_l marks) kind
 marked_at marks kind = ap (λ n. n == 1) (bit_mask_l marks kind) ∙ is_bit (get_or marks kind false)
 
 both_bits : (a b : ℕ) → a < 2 → b < 2 → (min a b == 1) ≡ ((a == 1) && (b == 1))
-both_bits zero b low low' = grind (arith, nat_tests)
-both_bits (suc zero) zero low low' = refl
-both_bits (suc zero) (suc zero) low low' = refl
-both_bits (suc zero) (suc (suc b)) low low' = absurd (omega arith)
-both_bits (suc (suc a)) b low low' = absurd (omega arith)
+both_bits a b low low' = grind (arith, nat_tests)
 
 pub both_at : (a b kind : ℕ) → is_held (bit_and a b) kind ≡ (is_held a kind && is_held b kind)
 both_at a b kind = ap (λ n. n == 1) (bit_at_and a b kind) ∙ both_bits (bit_at a kind) (bit_at b kind) (bit_at-lt a kind) (bit_at-lt b kind)
 
 either_bits : (a b : ℕ) → a < 2 → b < 2 → (max a b == 1) ≡ ((a == 1) || (b == 1))
-either_bits zero zero low low' = refl
-either_bits zero (suc zero) low low' = refl
-either_bits (suc zero) zero low low' = refl
-either_bits (suc zero) (suc zero) low low' = refl
-either_bits zero (suc (suc b)) low low' = absurd (omega arith)
-either_bits (suc zero) (suc (suc b)) low low' = absurd (omega arith)
-either_bits (suc (suc a)) b low low' = absurd (omega arith)
+either_bits a b low low' = grind (arith, nat_tests)
 
 pub either_at : (a b kind : ℕ) → is_held (bit_or a b) kind ≡ (is_held a kind || is_held b kind)
 either_at a b kind = ap (λ n. n == 1) (bit_at_or a b kind) ∙ either_bits (bit_at a kind) (bit_at b kind) (bit_at-lt a kind) (bit_at-lt b kind)

@@ -18,7 +18,7 @@ use Rattle.riichi_shape.specs.Rows.{AreJoinsOf, AreRowsOf, IsMeldedFew}
 use Rattle.riichi_shape.specs.declared.hand_joins.HandJoins.{HandJoins}
 use Rattle.riichi_tiles.specs.declared.by_suit.BySuit.{BySuit}
 use Rattle.riichi_rows.specs.declared.rank_set.RankSet.{RankSet}
-use Rattle.riichi_shape.proofs.FourSuits.{lacks_by_entries, sums_bound}
+use Rattle.riichi_shape.proofs.FourSuits.{entries_laws}
 use Rattle.riichi_rows.proofs.Opposite.{through}
 
 -- four entries that sum to n, the first of them marked at the rank
@@ -126,18 +126,9 @@ module _ (hand : List ℕ) (melds : List Meld) (rows : BySuit SuitRow) (are : Ar
       EntryLacks (entries_of a) (entries_of b) (entries_of c) (entries_of d)
       are.characters.counts are.circles.counts are.bamboos.counts are.honours.counts are.characters.caps are.circles.caps are.bamboos.caps are.honours.caps sets n kind
 
-  bound : (m : ℕ) → EntriesSum (entries_of a) (entries_of b) (entries_of c) (entries_of d) sets m → n ≤ m
-  bound =
-      sums_bound hand melds
-      are.characters.counts are.circles.counts are.bamboos.counts are.honours.counts are.characters.caps are.circles.caps are.bamboos.caps are.honours.caps
-      are.characters.suit are.circles.suit are.bamboos.suit are.honours.suit
-      (entries_of a) (entries_of b) (entries_of c) (entries_of d)
-      are.characters.is_row.least are.circles.is_row.least are.bamboos.is_row.least are.honours.is_row.least
-      sets few melds_few n none_less
-
-  by_entries : (kind : ℕ) → kind < 34 → StandardLacks hand melds sets n kind ↔ HandEntries kind
-  by_entries =
-      lacks_by_entries hand melds
+  laws : ((m : ℕ) → EntriesSum (entries_of a) (entries_of b) (entries_of c) (entries_of d) sets m → n ≤ m) × ((kind : ℕ) → kind < 34 → StandardLacks hand melds sets n kind ↔ HandEntries kind)
+  laws =
+      entries_laws hand melds
       are.characters.counts are.circles.counts are.bamboos.counts are.honours.counts are.characters.caps are.circles.caps are.bamboos.caps are.honours.caps
       are.characters.suit are.circles.suit are.bamboos.suit are.honours.suit
       (entries_of a) (entries_of b) (entries_of c) (entries_of d)
@@ -158,8 +149,8 @@ module _ (hand : List ℕ) (melds : List Meld) (rows : BySuit SuitRow) (are : Ar
 
     pub characters_lack : MarkedBeside a joins.beside_characters sets n rank ↔ StandardLacks hand melds sets n kind
     characters_lack =
-        through (row_lacks a b c d joins.beside_characters are_joins.beside_characters true 0 are.characters.counts are.characters.caps are.characters.is_row.marks sets rank n kind few low bound low_rank kind_is)
-        (through characters_first (turn (by_entries kind (omega arith))))
+        through (row_lacks a b c d joins.beside_characters are_joins.beside_characters true 0 are.characters.counts are.characters.caps are.characters.is_row.marks sets rank n kind few low laws.0 low_rank kind_is)
+        (through characters_first (turn (laws.1 kind (omega arith))))
 
   module _ (rank kind : ℕ) (low_rank : rank < 9) (kind_is : kind ≡ 9 + rank) where
     circles_first : FirstLacks b a c d true 9 are.circles.counts are.circles.caps sets n kind ↔ HandEntries kind
@@ -175,8 +166,8 @@ module _ (hand : List ℕ) (melds : List Meld) (rows : BySuit SuitRow) (are : Ar
     pub circles_lack : MarkedBeside b joins.beside_circles sets n rank ↔ StandardLacks hand melds sets n kind
     circles_lack =
         through (row_lacks b a c d joins.beside_circles are_joins.beside_circles true 9 are.circles.counts are.circles.caps are.circles.is_row.marks sets rank n kind few low
-        (λ m e. bound m (swapped (entries_of b) (entries_of a) (entries_of c) (entries_of d) sets m e)) low_rank kind_is)
-        (through circles_first (turn (by_entries kind (omega arith))))
+        (λ m e. laws.0 m (swapped (entries_of b) (entries_of a) (entries_of c) (entries_of d) sets m e)) low_rank kind_is)
+        (through circles_first (turn (laws.1 kind (omega arith))))
 
   module _ (rank kind : ℕ) (low_rank : rank < 9) (kind_is : kind ≡ 18 + rank) where
     bamboos_first : FirstLacks c d a b true 18 are.bamboos.counts are.bamboos.caps sets n kind ↔ HandEntries kind
@@ -192,8 +183,8 @@ module _ (hand : List ℕ) (melds : List Meld) (rows : BySuit SuitRow) (are : Ar
     pub bamboos_lack : MarkedBeside c joins.beside_bamboos sets n rank ↔ StandardLacks hand melds sets n kind
     bamboos_lack =
         through (row_lacks c d a b joins.beside_bamboos are_joins.beside_bamboos true 18 are.bamboos.counts are.bamboos.caps are.bamboos.is_row.marks sets rank n kind few low
-        (λ m e. bound m (turned (entries_of c) (entries_of d) (entries_of a) (entries_of b) sets m e)) low_rank kind_is)
-        (through bamboos_first (turn (by_entries kind (omega arith))))
+        (λ m e. laws.0 m (turned (entries_of c) (entries_of d) (entries_of a) (entries_of b) sets m e)) low_rank kind_is)
+        (through bamboos_first (turn (laws.1 kind (omega arith))))
 
   -- the honours first, and back
   abbrev honours_last : (m : ℕ) → EntriesSum (entries_of d) (entries_of c) (entries_of a) (entries_of b) sets m → EntriesSum (entries_of a) (entries_of b) (entries_of c) (entries_of d) sets m
@@ -213,8 +204,8 @@ module _ (hand : List ℕ) (melds : List Meld) (rows : BySuit SuitRow) (are : Ar
     pub honours_lack : MarkedBeside d joins.beside_honours sets n rank ↔ StandardLacks hand melds sets n kind
     honours_lack =
         through (row_lacks d c a b joins.beside_honours are_joins.beside_honours false 27 are.honours.counts are.honours.caps are.honours.is_row.marks sets rank n kind few low
-        (λ m e. bound m (honours_last m e)) (omega arith) kind_is)
-        (through honours_first (turn (by_entries kind (omega arith))))
+        (λ m e. laws.0 m (honours_last m e)) (omega arith) kind_is)
+        (through honours_first (turn (laws.1 kind (omega arith))))
 
   -- ---- all kinds
 

@@ -8,10 +8,10 @@ use Rattle.std.proofs.lemmas.List.Sums.{sum_by-cons}
 use Rattle.std.specs.List.{filter, range_with_len, sum}
 use Rattle.std.specs.Prelude.{slice_index, sum_by, nat_lt, ◌==◌}
 use Rattle.riichi_tiles.specs.Melds.{every_kind}
-use Rattle.riichi_rows.proofs.Spread.{same_spread, spread, spread_none, spread_shift, spread_with}
+use Rattle.riichi_rows.proofs.Spread.{spread, spread_none, spread_shift, spread_with}
 use Rattle.riichi_shape.specs.LiveCopies.{AreLive, copies_from, copies_in, live_in, pairs_of}
 use Rattle.riichi_shape.proofs.Members.{Among, from_filter, from_map}
-use Rattle.riichi_shape.proofs.PairLemmas.{spread_total, sum_is_total}
+use Rattle.riichi_shape.proofs.PairLemmas.{sum_spread}
 
 -- ---- a sum over the chosen of successive numbers
 
@@ -45,7 +45,7 @@ unfolding pairs_of
 live_told copies long =
     sum_filtered (λ k. (k, slice_index copies k)) (λ k. nat_lt 0 (slice_index copies k)) (λ pair. pair.1) 0 34
     ∙ spread_shift (λ k. cond (ltb 0 (slice_index copies k)) (slice_index copies k) 0) (λ k. get_or copies k 0) 0 0 34 (λ k low. some_live (slice_index copies (0 + k)))
-    ∙ same_spread (λ k. get_or copies k 0) 0 0 34 (length copies) refl (sym long) ∙ spread_total (λ n. n) copies ∙ sym (sum_is_total (λ n. n) copies)
+    ∙ sum_spread copies long
 
 pub are_live : (copies : List ℕ) → length copies ≡ 34 → ((kind : ℕ) → slice_index copies kind ≤ 4) → AreLive copies
 unfolding copies_from

@@ -1,11 +1,10 @@
 -- Without a tile the special forms lack no fewer.
 use Rattle.std.proofs.Common.{◌≡◌, ℕ, ◌+◌, ◌-◌, ◌<◌, List, length, length-set, slice_set, get_or-set_same, get_or-set_other, sym, ap, ◌∙◌, ⊎_elim, arith}
-use Rattle.std.proofs.lemmas.Bool.{cases_lt}
-use Rattle.std.proofs.lemmas.List.{get_or_past}
 use Rattle.std.specs.Prelude.{slice_index}
 use Rattle.riichi_tiles.specs.declared.meld.Meld.{Meld}
 use Rattle.riichi_rows.specs.Lacked.{IsOneMore}
 use Rattle.riichi_shape.specs.Special.{SpecialLacks}
+use Rattle.riichi_shape.proofs.AcceptedLemmas.{held_inside}
 use Rattle.riichi_shape.proofs.OneMore.{hand_falls}
 
 one_less : (more fewer : List ℕ) (kind n : ℕ) → kind < length more → fewer ≡ slice_set more kind n → n + 1 ≡ slice_index more kind → IsOneMore kind fewer more
@@ -26,4 +25,4 @@ special_without hand less melds kind floor long held e special = record {
     hand_long = sym (length-set hand kind (slice_index hand kind - 1)) ∙ ap length (sym e) ∙ long
 
     inside : kind < 34
-    inside = ⊎_elim (λ low. low) (λ past. absurd (let none = get_or_past hand kind 0 (omega (arith, hand_long, past)) in omega (arith, none, held))) (cases_lt kind 34)
+    inside = held_inside hand kind hand_long held

@@ -1,5 +1,5 @@
 -- The kinds that the least thirteen orphans lack.
-use Rattle.std.proofs.Common.{◌≡◌, ℕ, ◌+◌, ◌<◌, ◌≤◌, Bool, true, false, cond, IsTrue, ◌⊎◌, inl, inr, List, map, eqb, refl, sym, ap, ◌∙◌, ⊎_elim, subst, arith}
+use Rattle.std.proofs.Common.{◌≡◌, ℕ, ◌+◌, ◌-◌, ◌<◌, ◌≤◌, Bool, true, false, cond, IsTrue, ◌⊎◌, inl, inr, List, map, eqb, refl, sym, ap, ◌∙◌, ⊎_elim, subst, arith}
 use Rattle.std.proofs.lemmas.Bool.{cases_lt, false≢true, and_parts, and_from}
 use Rattle.std.proofs.lemmas.Bool.Decides.{nat_tests}
 use Rattle.std.specs.Prelude.{count_by, nat_le, slice_index, ◌==◌, ◌&&◌}
@@ -12,7 +12,7 @@ use Rattle.riichi_shape.specs.Special.{AreNearestOrphans, AreNoMelds, lacks_held
 use Rattle.riichi_shape.specs.Winning.{lacking}
 use Rattle.riichi_shape.specs.declared.nearest_form.NearestForm.{NearestForm}
 use Rattle.riichi_shape.proofs.Distances.{orphan_few}
-use Rattle.riichi_shape.proofs.OrphanLemmas.{lack_is, orphans_at, orphans_wanted, missing_one, extra, bound_doubled, reached_doubled, bound_single, reached_single, orphan_doubled, orphan_single}
+use Rattle.riichi_shape.proofs.OrphanLemmas.{lack_is, orphans_at, orphans_wanted, missing_one, extra, bound_doubled, reached_doubled, bound_single, reached_single, orphan_doubled, orphan_single, missing_count}
 use Rattle.riichi_shape.proofs.PairLemmas.{total_of}
 use Rattle.riichi_shape.proofs.SpecialLemmas.{lacks_back, lacks_there}
 
@@ -132,7 +132,13 @@ orphans_lacked hand melds n x inside no_melds reached bound = (orphans_there han
 
 -- ---- the nearest orphans, by counts
 
-module _ (hand held : List ℕ) (held_are : held ≡ map (slice_index hand) orphan_kinds) (missing doubled : ℕ) (missing_are : missing ≡ count_by (λ x. x == 0) held) (doubled_are : doubled ≡ count_by (λ x. nat_le 2 x) held) where
+module _ (hand held : List ℕ) (held_are : held ≡ map (slice_index hand) orphan_kinds) (kinds doubled : ℕ) (kinds_are : kinds ≡ count_by (λ x. nat_le 1 x) held) (doubled_are : doubled ≡ count_by (λ x. nat_le 2 x) held) where
+  abbrev not_held : ℕ
+  not_held = 13 - kinds
+
+  not_held_are : not_held ≡ count_by (λ x. x == 0) held
+  not_held_are = missing_count hand held kinds held_are kinds_are
+
   module _ (form : NearestForm) (reached : OrphansReached hand form.lack) (bound : (wanted : List ℕ) → IsThirteenOrphans wanted → form.lack ≤ lacking hand wanted) (missing_is : form.lacked.missing ≡ true)
       (single_none : form.lacked.single ≡ true → (k : ℕ) → IsTrue (is_listed_orphan k) → slice_index hand k ≤ 1) (none_single : ((k : ℕ) → IsTrue (is_listed_orphan k) → slice_index hand k ≤ 1) → form.lacked.single ≡ true) where
     module _ (melds : List Meld) (no_melds : AreNoMelds melds) (kind : ℕ) (inside : kind < 34) where
@@ -149,17 +155,17 @@ module _ (hand held : List ℕ) (held_are : held ≡ map (slice_index hand) orph
     nearest_are : AreNearestOrphans hand form
     nearest_are = record { bound = bound; reached = reached; lacked = λ melds no_melds kind inside. (counted_there melds no_melds kind inside, counted_back melds no_melds kind inside) }
 
-  pub nearest_doubled : (form : NearestForm) → 0 < doubled → form.lack ≡ missing → form.lacked.missing ≡ true → form.lacked.single ≡ false → AreNearestOrphans hand form
+  pub nearest_doubled : (form : NearestForm) → 0 < doubled → form.lack ≡ not_held → form.lacked.missing ≡ true → form.lacked.single ≡ false → AreNearestOrphans hand form
   nearest_doubled form some lack_is missing_is single_is =
-      let reached = subst (λ (n : ℕ). OrphansReached hand n) (sym lack_is) (reached_doubled hand held held_are missing doubled missing_are doubled_are some) in
-      nearest_are form reached (λ wanted is. (let b = bound_doubled hand held held_are missing doubled missing_are doubled_are wanted is in omega (arith, b, lack_is))) missing_is
+      let reached = subst (λ (n : ℕ). OrphansReached hand n) (sym lack_is) (reached_doubled hand held held_are not_held doubled not_held_are doubled_are some) in
+      nearest_are form reached (λ wanted is. (let b = bound_doubled hand held held_are not_held doubled not_held_are doubled_are wanted is in omega (arith, b, lack_is))) missing_is
       (λ e. absurd (false≢true (sym single_is ∙ e))) (λ few. absurd (contradict few))
     where
       contradict : ((k : ℕ) → IsTrue (is_listed_orphan k) → slice_index hand k ≤ 1) → ⊥
-      contradict few = let d = orphan_doubled hand held held_are missing doubled missing_are doubled_are some in omega (arith, few d.0 d.1, d.2)
+      contradict few = let d = orphan_doubled hand held held_are not_held doubled not_held_are doubled_are some in omega (arith, few d.0 d.1, d.2)
 
-  pub nearest_single : (form : NearestForm) → doubled ≤ 0 → form.lack ≡ missing + 1 → form.lacked.missing ≡ true → form.lacked.single ≡ true → AreNearestOrphans hand form
+  pub nearest_single : (form : NearestForm) → doubled ≤ 0 → form.lack ≡ not_held + 1 → form.lacked.missing ≡ true → form.lacked.single ≡ true → AreNearestOrphans hand form
   nearest_single form none lack_is missing_is single_is =
-      let reached = subst (λ (n : ℕ). OrphansReached hand n) (sym lack_is) (reached_single hand held held_are missing doubled missing_are doubled_are none) in
-      nearest_are form reached (λ wanted is. (let b = bound_single hand held held_are missing doubled missing_are doubled_are none wanted is in omega (arith, b, lack_is))) missing_is
-      (λ e. orphan_single hand held held_are missing doubled missing_are doubled_are none) (λ few. single_is)
+      let reached = subst (λ (n : ℕ). OrphansReached hand n) (sym lack_is) (reached_single hand held held_are not_held doubled not_held_are doubled_are none) in
+      nearest_are form reached (λ wanted is. (let b = bound_single hand held held_are not_held doubled not_held_are doubled_are none wanted is in omega (arith, b, lack_is))) missing_is
+      (λ e. orphan_single hand held held_are not_held doubled not_held_are doubled_are none) (λ few. single_is)

@@ -3,7 +3,7 @@ use Rattle.std.proofs.Common.{◌≡◌, ℕ, zero, suc, ◌+◌, ◌-◌, ◌*�
 use Rattle.std.proofs.lemmas.Bool.{cases_lt}
 use Rattle.std.proofs.lemmas.Bool.Decides.{nat_tests}
 use Rattle.std.proofs.lemmas.List.Sums.{sum_by-cons}
-use Rattle.std.specs.Prelude.{sum_by, count_by, nat_le, slice_index}
+use Rattle.std.specs.Prelude.{sum, sum_by, count_by, nat_le, slice_index}
 use Rattle.riichi_shape.specs.Distance.{PairsReached}
 use Rattle.riichi_shape.specs.Pairs.{IsSevenPairs}
 use Rattle.riichi_shape.specs.Winning.{lacking}
@@ -47,13 +47,7 @@ lack_is (h ∷ hs) (w ∷ ws) long =
     omega (arith, shifted, lack_is hs ws (omega arith))
   where
     moved : (r : ℕ) → get_or (w ∷ ws) (0 + 1 + r) 0 - get_or (h ∷ hs) (0 + 1 + r) 0 ≡ get_or ws (0 + r) 0 - get_or hs (0 + r) 0
-    moved r = ap (λ k. get_or (w ∷ ws) k 0 - get_or (h ∷ hs) k 0) (number r) ∙ ap (λ k. get_or ws k 0 - get_or hs k 0) (back r)
-      where
-        number : (r : ℕ) → 0 + 1 + r ≡ suc r
-        number r = omega arith
-
-        back : (r : ℕ) → r ≡ 0 + r
-        back r = omega arith
+    moved r = at_same_number (λ k. get_or (w ∷ ws) k 0 - get_or (h ∷ hs) k 0) (0 + 1 + r) (suc r) (omega arith) ∙ at_same_number (λ k. get_or ws k 0 - get_or hs k 0) r (0 + r) (omega arith)
 
 -- ---- no seven pairs lack less
 
@@ -164,14 +158,12 @@ spread_total f (x ∷ xs) =
     let shifted = spread_shift (λ k. f (get_or (x ∷ xs) k 0)) (λ k. f (get_or xs k 0)) (0 + 1) 0 (length xs) (λ r low. moved r) in
     omega (arith, shifted, spread_total f xs)
   where
-    number : (r : ℕ) → 0 + 1 + r ≡ suc r
-    number r = omega arith
-
-    back : (r : ℕ) → r ≡ 0 + r
-    back r = omega arith
-
     moved : (r : ℕ) → f (get_or (x ∷ xs) (0 + 1 + r) 0) ≡ f (get_or xs (0 + r) 0)
-    moved r = ap (λ k. f (get_or (x ∷ xs) k 0)) (number r) ∙ ap (λ k. f (get_or xs k 0)) (back r)
+    moved r = at_same_number (λ k. f (get_or (x ∷ xs) k 0)) (0 + 1 + r) (suc r) (omega arith) ∙ at_same_number (λ k. f (get_or xs k 0)) r (0 + r) (omega arith)
+
+-- all tiles of a hand
+pub sum_spread : (hand : List ℕ) → length hand ≡ 34 → spread (slice_index hand) 0 34 ≡ sum hand
+sum_spread hand long = ap (spread (slice_index hand) 0) (sym long) ∙ spread_total (λ n. n) hand ∙ sym (sum_is_total (λ n. n) hand)
 
 pub length_table : (f : ℕ → ℕ) (a n : ℕ) → length (table f a n) ≡ n
 unfolding table

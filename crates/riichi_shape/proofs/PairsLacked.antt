@@ -12,8 +12,8 @@ use Rattle.riichi_shape.specs.Pairs.{IsSevenPairs}
 use Rattle.riichi_shape.specs.Special.{AreNearestPairs, AreNoMelds, lacks_held}
 use Rattle.riichi_shape.specs.Winning.{lacking}
 use Rattle.riichi_shape.specs.declared.nearest_form.NearestForm.{NearestForm}
-use Rattle.riichi_shape.proofs.Distances.{each_below}
-use Rattle.riichi_shape.proofs.SpecialLemmas.{lacks_back, lacks_there, pair_few}
+use Rattle.riichi_shape.proofs.Distances.{each_below, pair_few}
+use Rattle.riichi_shape.proofs.SpecialLemmas.{lacks_back, lacks_there}
 use Rattle.riichi_shape.proofs.PairLemmas.{AreSeven, Picked, chosen, count_ones, count_twos, counts_held, held_is, length_table, nil, of_two, one, pairs_bound, pairs_reached, picked, seven_least, seven_picked, seven_wanted, skipped, taken, total_of, total_table, two}
 
 -- ---- seven pairs with a kind among them
@@ -34,53 +34,48 @@ taken_here : (h : ℕ) (hs : List ℕ) (p s z p' s' z' : ℕ) → Picked hs p s 
 unfolding taken
 taken_here h hs p s z p' s' z' w more lack = record { pick = taken h hs p s z p' s' z' w more lack; two_here = refl }
 
-of_one : (h : ℕ) → h ≡ 1 → (two h ≡ 0) × (one h ≡ 1) × (nil h ≡ 0)
+of_one : (h : ℕ) → h ≡ 1 → (one h ≡ 1) × (nil h ≡ 0)
 of_one h e = grind (arith, nat_tests)
 
-of_none : (h : ℕ) → h ≡ 0 → (two h ≡ 0) × (one h ≡ 0) × (nil h ≡ 1)
+of_none : (h : ℕ) → h ≡ 0 → (one h ≡ 0) × (nil h ≡ 1)
 of_none h e = grind (arith, nat_tests)
 
-some_single : (hs : List ℕ) (x : ℕ) → get_or hs x 0 ≡ 1 → 0 < total_of one hs
+-- one of those that are of the class of a kind
+some_here : (f : ℕ → ℕ) (hs : List ℕ) (x : ℕ) → x < length hs → f (get_or hs x 0) ≤ total_of f hs
 unfolding total_of
-some_single [] x e = absurd (omega (arith, e))
-some_single (h ∷ hs) zero e = omega (arith, of_one h e)
-some_single (h ∷ hs) (suc x) e = omega (arith, some_single hs x e)
+some_here f [] x inside = absurd (omega arith)
+some_here f (h ∷ hs) zero inside = omega arith
+some_here f (h ∷ hs) (suc x) inside = omega (arith, some_here f hs x (omega arith))
 
-some_not_held : (hs : List ℕ) (x : ℕ) → x < length hs → get_or hs x 0 ≡ 0 → 0 < total_of nil hs
+-- p kinds held twice, s held once and z not held, beside the kind x, which is none of the first
+with_kind : (hs : List ℕ) (x p s z : ℕ) → x < length hs → get_or hs x 0 ≤ 1 → p ≤ total_of two hs → s + one (get_or hs x 0) ≤ total_of one hs → z + nil (get_or hs x 0) ≤ total_of nil hs →
+    PickedWith hs x p (s + one (get_or hs x 0)) (z + nil (get_or hs x 0))
 unfolding total_of
-some_not_held [] x inside e = absurd (omega arith)
-some_not_held (h ∷ hs) zero inside e = omega (arith, of_none h e)
-some_not_held (h ∷ hs) (suc x) inside e = omega (arith, some_not_held hs x (omega arith) e)
+with_kind [] x p s z inside few hp hs' hz = absurd (omega arith)
+with_kind (zero ∷ hs) zero p s z inside few hp hs' hz = taken_here 0 hs p s z p (s + 0) (z + 1) (picked hs p s z (omega arith) (omega arith) (omega arith)) (omega arith) (omega arith)
+with_kind (suc zero ∷ hs) zero p s z inside few hp hs' hz = taken_here 1 hs p s z p (s + 1) (z + 0) (picked hs p s z (omega arith) (omega arith) (omega arith)) (omega arith) (omega arith)
+with_kind (suc (suc h) ∷ hs) zero p s z inside few hp hs' hz = absurd (omega arith)
+with_kind (zero ∷ hs) (suc x) p s zero inside few hp hs' hz =
+    skipped_with 0 hs x p (s + one (get_or hs x 0)) (0 + nil (get_or hs x 0)) (with_kind hs x p s 0 (omega arith) few (omega arith) (omega arith) (omega (arith, some_here nil hs x (omega arith))))
+with_kind (zero ∷ hs) (suc x) p s (suc z) inside few hp hs' hz =
+    taken_with 0 hs x p (s + one (get_or hs x 0)) (z + nil (get_or hs x 0)) p (s + one (get_or hs x 0)) (suc z + nil (get_or hs x 0)) (with_kind hs x p s z (omega arith) few (omega arith) (omega arith) (omega arith)) (omega arith) (omega arith)
+with_kind (suc zero ∷ hs) (suc x) p zero z inside few hp hs' hz =
+    skipped_with 1 hs x p (0 + one (get_or hs x 0)) (z + nil (get_or hs x 0)) (with_kind hs x p 0 z (omega arith) few (omega arith) (omega (arith, some_here one hs x (omega arith))) (omega arith))
+with_kind (suc zero ∷ hs) (suc x) p (suc s) z inside few hp hs' hz =
+    taken_with 1 hs x p (s + one (get_or hs x 0)) (z + nil (get_or hs x 0)) p (suc s + one (get_or hs x 0)) (z + nil (get_or hs x 0)) (with_kind hs x p s z (omega arith) few (omega arith) (omega arith) (omega arith)) (omega arith) (omega arith)
+with_kind (suc (suc h) ∷ hs) (suc x) zero s z inside few hp hs' hz =
+    skipped_with (suc (suc h)) hs x 0 (s + one (get_or hs x 0)) (z + nil (get_or hs x 0)) (with_kind hs x 0 s z (omega arith) few (omega arith) (omega (arith, of_two h)) (omega (arith, of_two h)))
+with_kind (suc (suc h) ∷ hs) (suc x) (suc p) s z inside few hp hs' hz =
+    taken_with (suc (suc h)) hs x p (s + one (get_or hs x 0)) (z + nil (get_or hs x 0)) (suc p) (s + one (get_or hs x 0)) (z + nil (get_or hs x 0))
+    (with_kind hs x p s z (omega arith) few (omega (arith, of_two h)) (omega (arith, of_two h)) (omega (arith, of_two h))) (omega arith) (omega arith)
 
-with_single : (hs : List ℕ) (x p s z : ℕ) → get_or hs x 0 ≡ 1 → p ≤ total_of two hs → suc s ≤ total_of one hs → z ≤ total_of nil hs → PickedWith hs x p (suc s) z
-unfolding total_of
-with_single [] x p s z e hp hs' hz = absurd (omega (arith, e))
-with_single (h ∷ hs) zero p s z e hp hs' hz = let c = of_one h e in taken_here h hs p s z p (suc s) z (picked hs p s z (omega (arith, c)) (omega (arith, c)) (omega (arith, c))) (omega arith) (omega (arith, e))
-with_single (zero ∷ hs) (suc x) p s zero e hp hs' hz = skipped_with 0 hs x p (suc s) 0 (with_single hs x p s 0 e (omega arith) (omega arith) (omega arith))
-with_single (zero ∷ hs) (suc x) p s (suc z) e hp hs' hz = taken_with 0 hs x p (suc s) z p (suc s) (suc z) (with_single hs x p s z e (omega arith) (omega arith) (omega arith)) (omega arith) (omega arith)
-with_single (suc zero ∷ hs) (suc x) p zero z e hp hs' hz = skipped_with 1 hs x p 1 z (with_single hs x p 0 z e (omega arith) (omega (arith, some_single hs x e)) (omega arith))
-with_single (suc zero ∷ hs) (suc x) p (suc s) z e hp hs' hz = taken_with 1 hs x p (suc s) z p (suc (suc s)) z (with_single hs x p s z e (omega arith) (omega arith) (omega arith)) (omega arith) (omega arith)
-with_single (suc (suc h) ∷ hs) (suc x) zero s z e hp hs' hz = skipped_with (suc (suc h)) hs x 0 (suc s) z (with_single hs x 0 s z e (omega arith) (omega (arith, of_two h)) (omega (arith, of_two h)))
-with_single (suc (suc h) ∷ hs) (suc x) (suc p) s z e hp hs' hz = taken_with (suc (suc h)) hs x p (suc s) z (suc p) (suc s) z (with_single hs x p s z e (omega (arith, of_two h)) (omega (arith, of_two h)) (omega (arith, of_two h))) (omega arith) (omega arith)
-
-with_not_held : (hs : List ℕ) (x p s z : ℕ) → x < length hs → get_or hs x 0 ≡ 0 → p ≤ total_of two hs → s ≤ total_of one hs → suc z ≤ total_of nil hs → PickedWith hs x p s (suc z)
-unfolding total_of
-with_not_held [] x p s z inside e hp hs' hz = absurd (omega arith)
-with_not_held (h ∷ hs) zero p s z inside e hp hs' hz = let c = of_none h e in taken_here h hs p s z p s (suc z) (picked hs p s z (omega (arith, c)) (omega (arith, c)) (omega (arith, c))) (omega arith) (omega (arith, e))
-with_not_held (zero ∷ hs) (suc x) p s zero inside e hp hs' hz = skipped_with 0 hs x p s 1 (with_not_held hs x p s 0 (omega arith) e (omega arith) (omega arith) (omega (arith, some_not_held hs x (omega arith) e)))
-with_not_held (zero ∷ hs) (suc x) p s (suc z) inside e hp hs' hz = taken_with 0 hs x p s (suc z) p s (suc (suc z)) (with_not_held hs x p s z (omega arith) e (omega arith) (omega arith) (omega arith)) (omega arith) (omega arith)
-with_not_held (suc zero ∷ hs) (suc x) p zero z inside e hp hs' hz = skipped_with 1 hs x p 0 (suc z) (with_not_held hs x p 0 z (omega arith) e (omega arith) (omega arith) (omega arith))
-with_not_held (suc zero ∷ hs) (suc x) p (suc s) z inside e hp hs' hz = taken_with 1 hs x p s (suc z) p (suc s) (suc z) (with_not_held hs x p s z (omega arith) e (omega arith) (omega arith) (omega arith)) (omega arith) (omega arith)
-with_not_held (suc (suc h) ∷ hs) (suc x) zero s z inside e hp hs' hz = skipped_with (suc (suc h)) hs x 0 s (suc z) (with_not_held hs x 0 s z (omega arith) e (omega arith) (omega (arith, of_two h)) (omega (arith, of_two h)))
-with_not_held (suc (suc h) ∷ hs) (suc x) (suc p) s z inside e hp hs' hz = taken_with (suc (suc h)) hs x p s (suc z) (suc p) s (suc z) (with_not_held hs x p s z (omega arith) e (omega (arith, of_two h)) (omega (arith, of_two h)) (omega (arith, of_two h))) (omega arith) (omega arith)
-
-single_among : (hs : List ℕ) (x p s z : ℕ) → get_or hs x 0 ≡ 1 → 0 < s → p ≤ total_of two hs → s ≤ total_of one hs → z ≤ total_of nil hs → PickedWith hs x p s z
-single_among hs x p zero z e some hp hs' hz = absurd (omega arith)
-single_among hs x p (suc s) z e some hp hs' hz = with_single hs x p s z e hp hs' hz
-
-not_held_among : (hs : List ℕ) (x p s z : ℕ) → x < length hs → get_or hs x 0 ≡ 0 → 0 < z → p ≤ total_of two hs → s ≤ total_of one hs → z ≤ total_of nil hs → PickedWith hs x p s z
-not_held_among hs x p s zero inside e some hp hs' hz = absurd (omega arith)
-not_held_among hs x p s (suc z) inside e some hp hs' hz = with_not_held hs x p s z inside e hp hs' hz
+-- seven of which x is one
+kind_among : (hs : List ℕ) (x p s z : ℕ) → x < length hs → get_or hs x 0 ≤ 1 → one (get_or hs x 0) ≤ s → nil (get_or hs x 0) ≤ z → p ≤ total_of two hs → s ≤ total_of one hs → z ≤ total_of nil hs → PickedWith hs x p s z
+kind_among hs x p s z inside few some none hp hs' hz =
+    rw (back s (one (get_or hs x 0)) some, back z (nil (get_or hs x 0)) none) (with_kind hs x p (s - one (get_or hs x 0)) (z - nil (get_or hs x 0)) inside few hp (omega arith) (omega arith))
+  where
+    back : (n m : ℕ) → m ≤ n → n ≡ n - m + m
+    back n m low = omega arith
 
 -- ---- the law
 
@@ -157,19 +152,23 @@ module _ (hand : List ℕ) (melds : List Meld) (n x : ℕ) (inside : x < 34) (no
       lacked_by (seven_picked hand twos ones least refl refl refl p s (7 - p - s) are w.pick) (ap (λ wanted. slice_index wanted x) seven ∙ w.two_here) few
 
   pub pairs_back : Lacked → FormLacks IsSevenPairs hand melds n x
-  pairs_back lacked = ⊎_elim (λ one_held. single one_held) (λ none. missing none.0 none.1) lacked.1
+  pairs_back lacked = ⊎_elim single (λ none. missing none.0 none.1) lacked.1
     where
+      within : x < length (counts_held hand)
+      within = omega (arith, inside, length_table (slice_index hand) 0 34)
+
+      among : get_or (counts_held hand) x 0 ≤ 1 → one (get_or (counts_held hand) x 0) ≤ s → nil (get_or (counts_held hand) x 0) ≤ 7 - p - s → FormLacks IsSevenPairs hand melds n x
+      among few taken missing = lacked_among (kind_among (counts_held hand) x p s (7 - p - s) within few taken missing are.few_twos are.few_ones are.few_none) (omega (arith, x_held, few))
+
       single : slice_index hand x ≡ 1 → FormLacks IsSevenPairs hand melds n x
       single one_held =
-          let some = some_single (counts_held hand) x (x_held ∙ one_held) in
-          let t = total_table one (slice_index hand) 0 34 in
-          let w = single_among (counts_held hand) x p s (7 - p - s) (x_held ∙ one_held) (omega (arith, some, t, lacked.0, paired_is)) are.few_twos are.few_ones are.few_none in
-          lacked_among w (omega (arith, one_held))
+          let c = of_one (get_or (counts_held hand) x 0) (x_held ∙ one_held) in
+          among (omega (arith, x_held, one_held)) (omega (arith, c, some_here one (counts_held hand) x within, total_table one (slice_index hand) 0 34, lacked.0, paired_is)) (omega (arith, c))
 
       missing : slice_index hand x ≡ 0 → kinds_paired hand + kinds_single hand < 7 → FormLacks IsSevenPairs hand melds n x
       missing none few =
-          let w = not_held_among (counts_held hand) x p s (7 - p - s) (omega (arith, inside, length_table (slice_index hand) 0 34)) (x_held ∙ none) (omega (arith, few, paired_is, single_is)) are.few_twos are.few_ones are.few_none in
-          lacked_among w (omega (arith, none))
+          let c = of_none (get_or (counts_held hand) x 0) (x_held ∙ none) in
+          among (omega (arith, x_held, none)) (omega (arith, c)) (omega (arith, c, few, paired_is, single_is))
 
 pub pairs_lacked : PairsLaw
 pairs_lacked hand melds n x inside no_melds reached bound = (pairs_there hand melds n x inside no_melds reached bound, pairs_back hand melds n x inside no_melds reached bound)

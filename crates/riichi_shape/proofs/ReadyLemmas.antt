@@ -19,7 +19,7 @@ use Rattle.riichi_shape.specs.Pairs.{IsSevenPairs}
 use Rattle.riichi_shape.specs.Ready.{IsReady, ReadyLaw}
 use Rattle.riichi_shape.specs.Winning.{IsSetsAndPair, IsWinning, lacking}
 use Rattle.riichi_shape.proofs.OrphanLemmas.{lack_is}
-use Rattle.riichi_shape.proofs.PairLemmas.{spread_total, sum_is_total, total_of}
+use Rattle.riichi_shape.proofs.PairLemmas.{sum_spread, total_of}
 use Rattle.riichi_shape.proofs.Uniqueness.{SameTiles}
 
 -- ---- how many tiles a winning multiset has
@@ -161,7 +161,7 @@ module _ (hand : List ℕ) (melds : List Meld) (n : ℕ) (long : length hand ≡
   few = omega arith
 
   held : spread (slice_index hand) 0 34 ≡ sum hand
-  held = ap (spread (slice_index hand) 0) (sym long) ∙ spread_total (λ n. n) hand ∙ sym (sum_is_total (λ n. n) hand)
+  held = sum_spread hand long
 
   -- a winning multiset lacks one more than what is left over of the hand
   lacks_more : (wanted : List ℕ) → IsWinning melds wanted → lacking hand wanted ≡ spread (λ k. slice_index hand k - slice_index wanted k) 0 34 + 1

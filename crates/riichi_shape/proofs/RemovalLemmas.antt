@@ -7,10 +7,10 @@ use Rattle.std.proofs.lemmas.Bool.Decides.{same_from_decides}
 use Rattle.riichi_tiles.specs.Tiles.{has_tile}
 use Rattle.riichi_tiles.specs.Melds.{every_kind}
 use Rattle.riichi_tiles.specs.declared.meld.Meld.{Meld}
-use Rattle.riichi_rows.proofs.Spread.{spread, spread_add}
+use Rattle.riichi_rows.proofs.Spread.{same_spread, spread, spread_add}
 use Rattle.riichi_shape.specs.declared.discard.Discard.{Discard}
 use Rattle.riichi_shape.specs.Discards.{AreDistancesWithout, IsLeastOf, discard_of, discards_of, distance_without, in_order, inserted, is_best, is_discard}
-use Rattle.riichi_shape.proofs.PairLemmas.{spread_total, sum_is_total}
+use Rattle.riichi_shape.proofs.PairLemmas.{sum_spread}
 use Rattle.riichi_shape.proofs.Members.{Among, all_among, all_of, among_filter, among_range, from_filter, from_range}
 use Rattle.riichi_shape.proofs.OrderLemmas.{chosen_step}
 
@@ -63,47 +63,28 @@ module _ (hand : List ℕ) (melds : List Meld) (seen : List ℕ) where
 -- ---- one kind less, from the greatest down
 
 module _ (hand : List ℕ) (melds : List Meld) (seen : List ℕ) (number : ℕ) (some : 0 < number) (most : number ≤ 34) where
+  one_more_left : 34 - (number - 1) ≡ suc (34 - number)
+  one_more_left = omega arith
+
+  next : number - 1 + 1 ≡ number
+  next = omega arith
+
   discards_at : discards_from hand melds seen (number - 1) (34 - (number - 1)) ≡ cond (is_discard hand melds (number - 1)) (inserted (discard_of hand melds seen (number - 1)) (discards_from hand melds seen number (34 - number))) (discards_from hand melds seen number (34 - number))
   discards_at =
-      ap (discards_from hand melds seen (number - 1)) count ∙ discards_next hand melds seen (number - 1) (34 - number)
+      ap (discards_from hand melds seen (number - 1)) one_more_left ∙ discards_next hand melds seen (number - 1) (34 - number)
       ∙ ap (λ k. cond (is_discard hand melds (number - 1)) (inserted (discard_of hand melds seen (number - 1)) (discards_from hand melds seen k (34 - number))) (discards_from hand melds seen k (34 - number))) next
-    where
-      count : 34 - (number - 1) ≡ suc (34 - number)
-      count = omega arith
-
-      next : number - 1 + 1 ≡ number
-      next = omega arith
 
   spread_at : spread (slice_index hand) (number - 1) (34 - (number - 1)) ≡ slice_index hand (number - 1) + spread (slice_index hand) number (34 - number)
   unfolding spread
-  spread_at =
-      ap (spread (slice_index hand) (number - 1)) count ∙ ap (λ k. slice_index hand (number - 1) + spread (slice_index hand) k (34 - number)) next
-    where
-      count : 34 - (number - 1) ≡ suc (34 - number)
-      count = omega arith
-
-      next : number - 1 + 1 ≡ number
-      next = omega arith
+  spread_at = ap (spread (slice_index hand) (number - 1)) one_more_left ∙ ap (λ k. slice_index hand (number - 1) + spread (slice_index hand) k (34 - number)) next
 
   pub still_room : (size : ℕ) → length hand ≡ 34 → sum hand ≤ 14 → 0 < slice_index hand (number - 1) → size ≤ spread (slice_index hand) number (34 - number) → size < 14
   still_room size long few held so_many =
       let whole = spread_add (slice_index hand) 0 (number - 1) (34 - (number - 1)) in
+      let all = sum_spread hand long in
+      let parts = same_spread (slice_index hand) 0 0 34 (number - 1 + (34 - (number - 1))) refl (omega arith) in
+      let here = same_spread (slice_index hand) (0 + (number - 1)) (number - 1) (34 - (number - 1)) (34 - (number - 1)) (omega arith) refl in
       omega (arith, whole, all, parts, here, spread_at, so_many, held, few)
-    where
-      all : spread (slice_index hand) 0 34 ≡ sum hand
-      all = ap (spread (slice_index hand) 0) (sym long) ∙ spread_total (λ n. n) hand ∙ sym (sum_is_total (λ n. n) hand)
-
-      parts : spread (slice_index hand) 0 34 ≡ spread (slice_index hand) 0 (number - 1 + (34 - (number - 1)))
-      parts = ap (spread (slice_index hand) 0) count
-        where
-          count : 34 ≡ number - 1 + (34 - (number - 1))
-          count = omega arith
-
-      here : spread (slice_index hand) (0 + (number - 1)) (34 - (number - 1)) ≡ spread (slice_index hand) (number - 1) (34 - (number - 1))
-      here = ap (λ k. spread (slice_index hand) k (34 - (number - 1))) first
-        where
-          first : 0 + (number - 1) ≡ number - 1
-          first = omega arith
 
   module _ (distances : List ℕ) (least : ℕ) (are : AreDistancesWithout hand melds distances) (is : IsLeastOf distances least) (list : List Discard) (so_far : list ≡ discards_from hand melds seen number (34 - number)) where
     pub put_list : (next : List Discard) (discard : Discard) (kind : ℕ) → kind ≡ number - 1 → discard ≡ discard_of hand melds seen kind → 0 < slice_index hand kind → slice_index distances (number - 1) ≡ least → next ≡ inserted discard list → next ≡ discards_from hand melds seen (number - 1) (34 - (number - 1))

@@ -16,13 +16,7 @@ loop-sets-preserved c =
     record {
       least = more (lane left) (lane c.args.right.lacks) (lane c.loop-sets.best.lacks) (lane c.loop-sets.moved.lacks) (lane c.or-best.result.lacks) n (get_or left n 0) (get_or left (8 + n) 0)
           (omega arith) c.loop-sets.invariant.moved c.loop-sets.invariant.least (get_or_default left n 0 255 (omega arith)) (get_or_default left (8 + n) 0 255 (omega arith))
-          (λ s p hs hp.
-          (let both = c.or-best.ensures s p hs hp in
-          let first = c.or.ensures s p hs hp in
-          let plain = c.lacking-plain.ensures s p hs hp in
-          let paired = c.lacking-paired.ensures s p hs hp in
-          let pair = c.with_pair.ensures s p hs hp in
-          cc));
+          (λ s p hs hp. cc (c.or-best.ensures s p hs hp, c.or.ensures s p hs hp, c.lacking-plain.ensures s p hs hp, c.lacking-paired.ensures s p hs hp, c.with_pair.ensures s p hs hp));
       moved = moved_more (lane c.args.right.lacks) (lane c.loop-sets.moved.lacks) _ n c.loop-sets.invariant.moved c.with_set-moved.ensures;
     }
 

@@ -1,5 +1,5 @@
-use Rattle.std.proofs.Common.{◌≡◌, ℕ, ◌+◌, ◌-◌, subst, arith}
-use Rattle.riichi_rows.specs.Ranks.{AreRanks}
+use Rattle.std.proofs.Common.{◌≡◌, ℕ, ◌-◌, subst, arith}
+use Rattle.riichi_rows.specs.Ranks.{AreRanks, OpenLeast}
 use Rattle.riichi_rows.proofs.MarkedRanks.{next_open}
 use Rattle.riichi_rows.proofs.ranks.later_ranks_from.Goals as goal
 
@@ -7,17 +7,12 @@ pub loop-here-init : goal.loop-here-init
 loop-here-init c = record { some = omega (arith, c.requires.some); inside = omega (arith, c.requires.rank); ranks = c.requires.after }
 
 pub loop-here-preserved : goal.loop-here-preserved
-loop-here-preserved c =
-    let counts = c.args.counts.now in
-    let caps = c.args.caps.now in
-    let here = c.loop-here.here in
-    let later : AreRanks (here - 1 + 1) counts caps c.loop-here.later = subst (λ (n : ℕ). AreRanks n counts caps c.loop-here.later) (omega arith) c.loop-here.invariant.ranks in
-    record {
-      some = omega arith;
-      inside = omega (arith, c.loop-here.invariant.inside);
-      ranks = next_open counts caps (omega arith) (omega arith) c.requires.caps (here - 1) (omega arith) (omega arith) _ c.bit_of.ensures c.loop-here.later c.go_before.new.self
-          c.go_before.ensures.others c.go_before.ensures.own later;
-    }
+loop-here-preserved c = record {
+  some = omega arith;
+  inside = omega (arith, c.loop-here.invariant.inside);
+  ranks = next_open c.args.counts.now c.args.caps.now (omega arith) (omega arith) c.requires.caps (c.loop-here.here - 1) (omega arith) (omega arith) _ c.bit_of.ensures c.loop-here.later (OpenLeast c.go_before.new.self)
+      c.go_before.ensures.others c.go_before.ensures.own c.loop-here.here (omega arith) c.loop-here.invariant.ranks;
+}
 
 pub returns : goal.returns
 returns c =

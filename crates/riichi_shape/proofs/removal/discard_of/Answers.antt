@@ -5,12 +5,9 @@ use Rattle.riichi_tiles.specs.HeldKinds.{is_held}
 use Rattle.riichi_shape.specs.KindBits.{copies_among}
 use Rattle.riichi_shape.specs.LackedKinds.{AreLackedOf}
 use Rattle.riichi_shape.specs.LiveCopies.{live_in, pairs_of}
-use Rattle.riichi_shape.specs.declared.discard.Discard.{Discard}
 use Rattle.riichi_shape.proofs.AcceptedLemmas.{live_same}
+use Rattle.riichi_shape.proofs.KeptLemmas.{same_discard}
 use Rattle.riichi_shape.proofs.removal.discard_of.Goals as goal
-
-same_discard : {number kind : ℕ} {list other : List (ℕ × ℕ)} → number ≡ kind → list ≡ other → ◌≡◌ {A = Discard} (record { kind = number; accepted = list }) (record { kind = kind; accepted = other })
-same_discard e e' = cc
 
 pub returns-clause-told : goal.returns-clause-told
 returns-clause-told c = λ seen are.

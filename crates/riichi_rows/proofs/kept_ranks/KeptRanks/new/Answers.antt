@@ -1,5 +1,5 @@
-use Rattle.std.proofs.Common.{◌≡◌, ℕ, ◌+◌, ◌-◌, length-set, subst, ◌∙◌, arith}
-use Rattle.riichi_rows.specs.Ranks.{AreRanks}
+use Rattle.std.proofs.Common.{ℕ, ◌+◌, ◌-◌, length-set, subst, ◌∙◌, arith}
+use Rattle.riichi_rows.specs.Ranks.{OpenLeast}
 use Rattle.riichi_rows.proofs.KeptTables.{keep, KeptFrom}
 use Rattle.riichi_rows.proofs.MarkedRanks.{next_open}
 use Rattle.riichi_rows.proofs.kept_ranks.KeptRanks.new.Goals as goal
@@ -11,12 +11,10 @@ loop-rank-preserved c =
     let rank = c.loop-rank.rank in
     let after = c.loop-rank.after in
     let so_far = c.loop-rank.invariant in
-    let one_back : rank ≡ rank - 1 + 1 = omega arith in
-    let later : AreRanks (rank - 1 + 1) counts caps c.loop-rank.later = subst (λ (n : ℕ). AreRanks n counts caps c.loop-rank.later) one_back so_far.ranks in
-    let kept : KeptFrom counts caps after (rank - 1 + 1) = subst (λ (n : ℕ). KeptFrom counts caps after n) one_back so_far.kept in
+    let kept : KeptFrom counts caps after (rank - 1 + 1) = subst (λ (n : ℕ). KeptFrom counts caps after n) (omega arith) so_far.kept in
     let ranks =
-    next_open counts caps (omega arith) (omega arith) c.requires (rank - 1) (omega arith) (omega (arith, so_far.inside)) _ c.bit_of.ensures c.loop-rank.later c.go_before.new.self
-    c.go_before.ensures.others c.go_before.ensures.own later in
+    next_open counts caps (omega arith) (omega arith) c.requires (rank - 1) (omega arith) (omega (arith, so_far.inside)) _ c.bit_of.ensures c.loop-rank.later (OpenLeast c.go_before.new.self)
+    c.go_before.ensures.others c.go_before.ensures.own rank (omega arith) so_far.ranks in
     record {
       some = omega arith;
       inside = omega (arith, so_far.inside);
