@@ -26,6 +26,7 @@ impl Lanes {
     }
 
     /// Nothing chosen, nothing lacking.
+    #[tactic(auto, using(crate::proofs::LaneLemmas::nothing_lanes))]
     pub fn nothing() -> Lanes
         ensures { HasLanes result.lacks nothing }
     {
@@ -39,6 +40,7 @@ impl Lanes {
     }
 
     /// The same choices with one set more.
+    #[tactic(auto, using(crate::proofs::LaneLemmas::set_lanes))]
     pub fn with_set(self) -> Lanes
         ensures { HasLanes result.lacks (with_set (lane self.lacks)) }
     {
@@ -51,6 +53,7 @@ impl Lanes {
     }
 
     /// The same choices with a pair, where they had none.
+    #[tactic(auto, using(crate::proofs::LaneLemmas::pair_lanes))]
     pub fn with_pair(self) -> Lanes
         ensures { HasLanes result.lacks (with_pair (lane self.lacks)) }
     {

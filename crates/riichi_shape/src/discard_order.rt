@@ -101,6 +101,7 @@ fn first_place(held: &[KeptDiscard], live: u8) -> Option<usize>
 }
 
 /// Puts a discard at a place, and moves the later ones on; the last place is lost.
+#[tactic(auto, using(crate::proofs::DiscardLemmas::put_turned))]
 fn put_at(places: &mut [KeptDiscard], place: usize, discard: KeptDiscard)
     requires { place < length places.old }
     ensures { places.new

@@ -60,6 +60,7 @@ impl KeptDiscard {
     }
 
     /// The discard, beside these live copies.
+    #[tactic(auto, using(crate::proofs::KeptLemmas::told_is, crate::proofs::KindLemmas::few_among))]
     pub(crate) fn told(&self, copies: &[u8; 34]) -> Discard
         requires kinds { kinds_of self.now < 2 ^ 34 }
         requires few { (kind : ℕ) → slice_index copies.now kind ≤ 4 }

@@ -80,6 +80,7 @@ impl KindBits {
     }
 
     /// Of the copies of each kind those of the kinds of the set.
+    #[tactic(auto, using(crate::proofs::KindLemmas::are_among))]
     pub(crate) fn among(self, copies: &[u8; 34]) -> [u8; 34]
         ensures { result ≡ copies_among copies.now self }
     {

@@ -41,6 +41,7 @@ pub fn ready()
 
 /// Each discard of a hand stands before those with fewer live copies in all, and among those with
 /// as many before those of greater kinds.
+#[tactic(auto, using(crate::proofs::OrderLemmas::ordered))]
 pub fn order()
     ensures { OrderLaw }
 {}

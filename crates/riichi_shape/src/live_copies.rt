@@ -18,6 +18,7 @@ pub(crate) struct LiveCopies {
 
 impl LiveCopies {
     /// Some kinds, each with its live copies.
+    #[tactic(auto, using(crate::proofs::KindLemmas::few_among))]
     pub(crate) fn list(&self, kinds: KindBits) -> LiveList
         ensures { result ≡ pairs_of (copies_among self.now.copies kinds) }
     {

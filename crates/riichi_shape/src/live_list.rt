@@ -27,6 +27,7 @@ impl Model for LiveList {
 
 impl LiveList {
     /// The list of these live copies.
+    #[tactic(auto, using(crate::proofs::LiveLemmas::are_live))]
     pub(crate) fn new(copies: [u8; 34]) -> LiveList
         requires { (kind : ℕ) → slice_index copies kind ≤ 4 }
         ensures { result ≡ pairs_of copies }
@@ -35,6 +36,7 @@ impl LiveList {
     }
 
     /// How many copies of a kind are live.
+    #[tactic(auto, using(crate::proofs::LiveLemmas::told_at))]
     pub fn get(&self, kind: Kind) -> u8
         ensures value { result ≡ copies_in self.now kind }
         ensures most { result ≤ 4 }

@@ -22,6 +22,7 @@ fn counts_from(counts: &[u8; 34], times: u8) -> u8
 }
 
 /// How many kinds are held so many times or more.
+#[tactic(auto, using(crate::proofs::PairLemmas::counted_kinds))]
 fn kinds_held(hand: &Counts, times: u8) -> usize
     ensures value { result
         ≡ count_by (λ kind. nat_le times (slice_index hand.now kind)) every_kind }

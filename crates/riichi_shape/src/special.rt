@@ -58,6 +58,7 @@ impl SpecialForms {
     }
 
     /// The kinds that they lack, where they lack just so many tiles, and none lacks fewer.
+    #[tactic(auto, using(crate::proofs::SpecialLemmas::special_lacked))]
     pub(crate) fn lacked_at(&self, least: u8) -> SpecialLacked
         requires { least < 255 }
         ensures { (hand : List ℕ) (melds : List Meld) → AreSpecialForms hand melds self.now
