@@ -157,20 +157,14 @@ IsShown-next win dora ura shown hidden from first second next told left e f d u 
     let hidden_are = subst (λ (l : List ℕ). AreHeldOf l hidden) f u in
     IsShown-pass win from next told left (omega (arith, a, b, is)) (omega (arith, within, is)) (λ kind past before. none-before win shown hidden from first second kind shown_are hidden_are none none' past (omega (arith, before, is)) (omega (arith, before, is))) h
 
--- nothing is left to tell
-stays : (win : WinParts) (n more : ℕ) → held win.dora n + held win.ura n ≡ sum win.dora + sum win.ura → total win (n + more) ≡ total win n
-stays win n zero all = ap (total win) (let same : n + 0 ≡ n = omega arith in same)
-stays win n (suc more) all =
-    let kind = n + more in
-    let next : kind + 1 ≡ n + suc more = omega arith in
-    let none : indicators win kind ≡ 0 = omega (arith, all, held_grows win.dora n more, held_grows win.ura n more, held_more win.dora kind, held_more win.ura kind, held_most win.dora (kind + 1), held_most win.ura (kind + 1)) in
-    let nothing : kind_dora win kind ≡ 0 = none_of_kind (indicators win kind) (copies_won win (indicated kind)) none in
-    omega (arith, ap (total win) next, kinds_more (kind_dora win) kind, nothing, stays win n more all)
-
+-- where no indicators are left the further kinds have none
 pub IsShown-end : (win : WinParts) (n told left : ℕ) → left ≡ 0 → IsShown win n told left → told ≡ total win 34
 IsShown-end win n told left none h =
-    let whole : n + (34 - n) ≡ 34 = omega (arith, h.within) in
-    h.told_is ∙ sym (stays win n (34 - n) (omega (arith, h.left_is, none))) ∙ ap (total win) whole
+    (IsShown-pass win n 34 told left h.within (omega arith) (λ kind past before.
+    let at : n + (kind - n) ≡ kind = omega arith in
+    let grows = held_grows win.dora n (kind - n) in
+    let grows' = held_grows win.ura n (kind - n) in
+    omega (arith, none, h.left_is, ap (held win.dora) at, ap (held win.ura) at, held_more win.dora kind, held_more win.ura kind, held_most win.dora (kind + 1), held_most win.ura (kind + 1))) h).told_is
 
 pub IsShown-begin : (win : WinParts) (left : ℕ) → left ≡ sum win.dora + sum win.ura → IsShown win 0 0 left
 IsShown-begin win left e = record { within = omega arith; told_is = refl; left_is = omega (arith, e) }
