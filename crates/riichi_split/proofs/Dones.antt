@@ -1,6 +1,6 @@
 -- The blocks that the winning tile completes, each once.
-use Rattle.std.proofs.Common.{◌≡◌, ℕ, ◌<◌, Bool, true, false, cond, ◌&&◌, ◌||◌, not, ◌⊎◌, inl, inr, List, [], ◌∷◌, refl, sym, ap, ◌∙◌, subst, arith, ltb}
-use Rattle.std.proofs.lemmas.Bool.{or_cases, or_right}
+use Rattle.std.proofs.Common.{◌≡◌, ℕ, ◌<◌, Bool, true, ◌&&◌, ◌||◌, not, inl, inr, List, [], ◌∷◌, sym, ap, ◌∙◌, subst, arith, ltb}
+use Rattle.std.proofs.lemmas.Bool.{or_cases, or_right, and_parts, and_cases, both_ways, not-true, not-false, ltb-true, lt-ltb, cond_both}
 use Rattle.std.proofs.lemmas.Bool.Decides.{nat_tests}
 use Rattle.riichi_tiles.specs.declared.block.Block.{Block}
 use Rattle.riichi_tiles.specs.declared.block.Block.TheVariants.{Run, Triplet, Pair}
@@ -28,43 +28,33 @@ is_among-in b [] h = absurd h
 is_among-in b (x ∷ xs) (inl e) = let s = same_block-self b in let f : same_block b x ≡ true = ap (same_block b) e ∙ s in ap (λ t. t || is_among b xs) f
 is_among-in b (x ∷ xs) (inr h) = or_right (same_block b x) (is_among b xs) (is_among-in b xs h)
 
--- one step of `dones`, by its test
-keep-cases : (w : ℕ) (b d : Block) (bs : List Block) (s t : Bool) → s ≡ ltb 0 (copies b w) → t ≡ is_among b bs → IsIn d (cond (s && not t) (b ∷ dones w bs) (dones w bs)) → ((b ≡ d) × (0 < copies b w)) ⊎ IsIn d (dones w bs)
-keep-cases w b d bs true true e f h = inr h
-keep-cases w b d bs false t e f h = inr h
-keep-cases w b d bs true false e f (inl h) = inl (h, grind (arith, nat_tests))
-keep-cases w b d bs true false e f (inr h) = inr h
+-- a block is one of the dones if the winning tile completes it and it does not come again
+abbrev is_last : ℕ → Block → List Block → Bool
+is_last w b bs = ltb 0 (copies b w) && not (is_among b bs)
 
 pub dones-inv : (w : ℕ) (d : Block) (bs : List Block) → IsIn d (dones w bs) → IsIn d bs × (0 < copies d w)
 dones-inv w d [] h = absurd h
 dones-inv w d (b ∷ bs) h =
-    elim (keep-cases w b d bs _ _ refl refl h) [
-      | inl q ↦ (inl q.0, let P : Block → Type 0 = λ x. 0 < copies x w in subst P q.0 q.1)
-      | inr i ↦ let r = dones-inv w d bs i in (inr r.0, r.1)
-    ]
-
-keep-later : (w : ℕ) (b d : Block) (bs : List Block) (t : Bool) → IsIn d (dones w bs) → IsIn d (cond t (b ∷ dones w bs) (dones w bs))
-keep-later w b d bs true h = inr h
-keep-later w b d bs false h = h
-
-keep-now : (w : ℕ) (b : Block) (bs : List Block) (s t : Bool) → s ≡ ltb 0 (copies b w) → t ≡ is_among b bs → 0 < copies b w → (IsIn b bs → IsIn b (dones w bs)) → IsIn b (cond (s && not t) (b ∷ dones w bs) (dones w bs))
-keep-now w b bs false t e f l ih = absurd (grind (arith, nat_tests))
-keep-now w b bs true true e f l ih = ih (in-is_among b bs (sym f))
-keep-now w b bs true false e f l ih = inl refl
+    cond_both (is_last w b bs) (b ∷ dones w bs) (dones w bs) (λ xs. IsIn d xs → IsIn d (b ∷ bs) × (0 < copies d w))
+    (λ t i. elim i [
+      | inl e ↦ (inl e, subst (λ (x : Block). 0 < copies x w) e (ltb-true 0 (copies b w) (and_parts (ltb 0 (copies b w)) (not (is_among b bs)) t).0))
+      | inr j ↦ let r = dones-inv w d bs j in (inr r.0, r.1)
+    ])
+    (λ f j. let r = dones-inv w d bs j in (inr r.0, r.1)) h
 
 pub in-dones : (w : ℕ) (d : Block) (bs : List Block) → IsIn d bs → 0 < copies d w → IsIn d (dones w bs)
 in-dones w d [] h l = absurd h
 in-dones w d (b ∷ bs) (inl e) l =
-    let P : Block → Type 0 = λ x. IsIn x (dones w (b ∷ bs)) in
-    let Q : Block → Type 0 = λ x. 0 < copies x w in
-    subst P e (keep-now w b bs _ _ refl refl (subst Q (sym e) l) (λ i. in-dones w b bs i (subst Q (sym e) l)))
-in-dones w d (b ∷ bs) (inr h) l = keep-later w b d bs (ltb 0 (copies b w) && not (is_among b bs)) (in-dones w d bs h l)
-
-keep-differ : (w : ℕ) (b : Block) (bs : List Block) (s t : Bool) → t ≡ is_among b bs → Differ (dones w bs) → Differ (cond (s && not t) (b ∷ dones w bs) (dones w bs))
-keep-differ w b bs true true f h = h
-keep-differ w b bs false t f h = h
-keep-differ w b bs true false f h = (λ i. let r = is_among-in b bs (dones-inv w b bs i).0 in absurd (cc), h)
+    cond_both (is_last w b bs) (b ∷ dones w bs) (dones w bs) (IsIn d) (λ t. inl e)
+    (λ f. elim (and_cases (ltb 0 (copies b w)) (not (is_among b bs)) f) [
+      | inl none ↦ absurd (both_ways (ltb 0 (copies b w)) none (lt-ltb 0 (copies b w) (subst (λ (x : Block). 0 < copies x w) (sym e) l)))
+      | inr again ↦ in-dones w d bs (subst (λ (x : Block). IsIn x bs) e (in-is_among b bs (not-false (is_among b bs) again))) l
+    ])
+in-dones w d (b ∷ bs) (inr h) l = let i = in-dones w d bs h l in cond_both (is_last w b bs) (b ∷ dones w bs) (dones w bs) (IsIn d) (λ t. inr i) (λ f. i)
 
 pub Differ-dones : (w : ℕ) (bs : List Block) → Differ (dones w bs)
 Differ-dones w [] = tt
-Differ-dones w (b ∷ bs) = keep-differ w b bs _ _ refl (Differ-dones w bs)
+Differ-dones w (b ∷ bs) =
+    let rest = Differ-dones w bs in
+    cond_both (is_last w b bs) (b ∷ dones w bs) (dones w bs) (λ xs. Differ xs)
+    (λ t. ((λ i. both_ways (is_among b bs) (not-true (is_among b bs) (and_parts (ltb 0 (copies b w)) (not (is_among b bs)) t).1) (is_among-in b bs (dones-inv w b bs i).0)), rest)) (λ f. rest)

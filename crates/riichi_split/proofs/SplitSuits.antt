@@ -60,9 +60,6 @@ beside c p k = get_or c k 0 - cond (eqb k p) 2 0
 beside-same : (c : List ℕ) (p k : ℕ) → k ≢ p → beside c p k ≡ get_or c k 0
 beside-same c p k ne = grind (arith, nat_tests)
 
-beside-here : (c : List ℕ) (p k : ℕ) → k ≡ p → beside c p k ≡ get_or c k 0 - 2
-beside-here c p k e = grind (arith, nat_tests)
-
 -- each suit of it, where the pair is of one
 record IsBeside (c : List ℕ) (suit : Suit) (rank : ℕ) : Type 0 where
   here : nine_from (beside c (first_of suit + rank)) (first_of suit) ≡ set (nine_from (λ k. get_or c k 0) (first_of suit)) rank (get_or (nine_from (λ k. get_or c k 0) (first_of suit)) rank 0 - 2)
@@ -73,7 +70,7 @@ is-beside c suit rank small below =
     let f = λ (k : ℕ). get_or c k 0 in
     let p = first_of suit + rank in
     let at = only_suit suit p (of_nine suit rank small below) in record {
-      here = nine-changed f (beside c p) (first_of suit) rank (get_or (nine_from f (first_of suit)) rank 0 - 2) small (beside-here c p p refl ∙ ap (λ n. n - 2) (sym (nine-at f (first_of suit) rank small))) (λ i n. beside-same c p (first_of suit + i) (λ e. n (omega (arith, e))));
+      here = nine-changed f (beside c p) (first_of suit) rank (get_or (nine_from f (first_of suit)) rank 0 - 2) small ((let own : beside c p p ≡ get_or c p 0 - 2 = grind (arith, nat_tests) in own) ∙ ap (λ n. n - 2) (sym (nine-at f (first_of suit) rank small))) (λ i n. beside-same c p (first_of suit + i) (λ e. n (omega (arith, e))));
       there = λ other ne. other-suits f (beside c p) p other below (λ e. ne (e ∙ at)) (λ k n. beside-same c p k n);
     }
 
