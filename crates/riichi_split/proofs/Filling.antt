@@ -47,8 +47,9 @@ filled-all counts suit held rank long all i =
       | inr h ↦ i.above k h ∙ sym (at ∙ get_or_past counts (first_of suit + k) 0 (omega (arith, long, past-last suit k small (omega arith))))
     ])
 
-pair-of : (h k : List ℕ) (r s : Bool) → h ≡ k → r ≡ s → ◌≡◌ {A = OneSuit} (record { held = h; has_runs = r }) (record { held = k; has_runs = s })
-pair-of h k r s e f = cc
+-- two suits with the same tiles
+pub same-suit : (h k : List ℕ) (r s : Bool) → h ≡ k → r ≡ s → ◌≡◌ {A = OneSuit} (record { held = h; has_runs = r }) (record { held = k; has_runs = s })
+same-suit h k r s e f = cc
 
 pub filled-suit : (counts : List ℕ) (suit : Suit) (held : List ℕ) (rank : ℕ) (runs : Bool) → length counts ≡ 34 → kinds_of suit ≤ rank → runs ≡ has_runs suit → IsFilledTo counts suit held rank → ◌≡◌ {A = OneSuit} (record { held = held; has_runs = runs }) (tiles_of_suit counts suit)
-filled-suit counts suit held rank runs long all is i = pair-of held (nine_from (λ k. get_or counts k 0) (first_of suit)) runs (has_runs suit) (filled-all counts suit held rank long all i) is
+filled-suit counts suit held rank runs long all is i = same-suit held (nine_from (λ k. get_or counts k 0) (first_of suit)) runs (has_runs suit) (filled-all counts suit held rank long all i) is

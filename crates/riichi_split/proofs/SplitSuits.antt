@@ -1,5 +1,5 @@
 -- Tiles have a split just where one suit is sets and a pair and the others are sets.
-use Rattle.std.proofs.Common.{Bool, eqb, cond, ◌≡◌, ◌≢◌, ℕ, zero, suc, ◌+◌, ◌-◌, ◌*◌, ◌<◌, ◌≤◌, ◌↔◌, inl, inr, List, [], ◌∷◌, length, get_or, take, set, refl, sym, ap, ◌∙◌, subst, add-one, arith}
+use Rattle.std.proofs.Common.{eqb, cond, ◌≡◌, ◌≢◌, ℕ, zero, suc, ◌+◌, ◌-◌, ◌*◌, ◌<◌, ◌≤◌, ◌↔◌, inl, inr, List, [], ◌∷◌, length, get_or, take, set, refl, sym, ap, ◌∙◌, subst, add-one, arith}
 use Rattle.std.specs.List.{AllByRecursion, sum}
 use Rattle.std.proofs.lemmas.Bool.{cases_lt, cases_eq}
 use Rattle.std.proofs.lemmas.Bool.Decides.{nat_tests}
@@ -23,6 +23,7 @@ use Rattle.riichi_split.specs.Readings.{IsSplit}
 use Rattle.riichi_split.specs.Winning.{HasSplit}
 use Rattle.riichi_split.proofs.Orders.{sorted, sets-sorted, order-sorted, total-sorted}
 use Rattle.riichi_split.proofs.KindSums.{suit_total-suc, suit_total-zero, sum-none, sum-run, sum-triplet, sum-split, total-sum, one-kind}
+use Rattle.riichi_split.proofs.Filling.{same-suit}
 use Rattle.riichi_split.proofs.SuitBlocks.{cut-of, sets-of}
 
 -- ---- nine ranks
@@ -160,22 +161,6 @@ kind-held c k n long h = elim (cases_lt k 34) [
   | inr past ↦ absurd (omega (arith, h, get_or_past c k 0 (omega (arith, long))))
 ]
 
-split-from : (c : List ℕ) (melds p : ℕ) → length c ≡ 34 → sum c + 3 * melds ≡ 14 → p < 34 → 2 ≤ get_or c p 0 → AllCut c p → HasSplit c melds
-split-from c melds p long sum-c kind two cut =
-    let m = sets-of (beside c p) (λ k h. kind-held c k 0 long (omega (arith, h))) cut in
-    let each = sets-sorted m.0 m.1.sets in
-    let adds : (k : ℕ) → copies (Pair p) k + total (sorted m.0) k ≡ get_or c k 0 = λ k. let a = m.1.adds k in let t = total-sorted k m.0 in omega (arith, a, t, pair-back c p k two) in (
-      sorted m.0,
-      p,
-      record {
-        four = omega (arith, sum-c, tiles-of-split c (sorted m.0) p long kind each adds);
-        each_a_set = each;
-        in_order = order-sorted m.0;
-        pair_is_kind = kind;
-        add_up = adds;
-      },
-    )
-
 pub split-from-won : (c : List ℕ) (melds : ℕ) → length c ≡ 34 → sum c + 3 * melds ≡ 14 → AreWon (suits_of c) → HasSplit c melds
 split-from-won c melds long sum-c w =
     let suit = w.pair in
@@ -194,7 +179,19 @@ split-from-won c melds long sum-c w =
           let P : List ℕ → Type 0 = λ xs. AreCut (has_runs other) 0 0 xs in
           subst P (sym (b.there other ne)) (subst AreSets (suit-is c other) (w.others other ne))
     ] in
-    split-from c melds p long sum-c kind two cut
+    let m = sets-of (beside c p) (λ k h. kind-held c k 0 long (omega (arith, h))) cut in
+    let each = sets-sorted m.0 m.1.sets in
+    let adds : (k : ℕ) → copies (Pair p) k + total (sorted m.0) k ≡ get_or c k 0 = λ k. let a = m.1.adds k in let t = total-sorted k m.0 in omega (arith, a, t, pair-back c p k two) in (
+      sorted m.0,
+      p,
+      record {
+        four = omega (arith, sum-c, tiles-of-split c (sorted m.0) p long kind each adds);
+        each_a_set = each;
+        in_order = order-sorted m.0;
+        pair_is_kind = kind;
+        add_up = adds;
+      },
+    )
 
 -- ---- one more tile
 
@@ -204,9 +201,6 @@ same-won a b same w = record {
   has_pair = subst AreSetsAndPair (same w.pair) w.has_pair;
   others = λ suit ne. subst AreSets (same suit) (w.others suit ne);
 }
-
-same-tiles : (h k : List ℕ) (runs : Bool) → h ≡ k → ◌≡◌ {A = OneSuit} (record { held = h; has_runs = runs }) (record { held = k; has_runs = runs })
-same-tiles h k runs e = cc
 
 more-here : (c : List ℕ) (kind : ℕ) → kind < 34 → length c ≡ 34 → tiles_of_suit (with_one c kind) (suit_of kind) ≡ with_tile (tiles_of_suit c (suit_of kind)) (rank_of kind)
 more-here c kind small long =
@@ -218,14 +212,14 @@ more-here c kind small long =
     let short : rank_of kind < 9 = omega (arith, is.low, nine_at_most suit kind is) in
     let here : g (first_of suit + rank_of kind) ≡ get_or (nine_from f (first_of suit)) (rank_of kind) 0 + 1 =
     get_or-set_at c kind (first_of suit + rank_of kind) (get_or c kind 0 + 1) 0 at (omega (arith, long)) ∙ ap (λ k. get_or c k 0 + 1) (sym at) ∙ ap (λ n. n + 1) (sym (nine-at f (first_of suit) (rank_of kind) short)) in
-    same-tiles (nine_from g (first_of suit)) (set (nine_from f (first_of suit)) (rank_of kind) (get_or (nine_from f (first_of suit)) (rank_of kind) 0 + 1)) (has_runs suit)
+    same-suit (nine_from g (first_of suit)) (set (nine_from f (first_of suit)) (rank_of kind) (get_or (nine_from f (first_of suit)) (rank_of kind) 0 + 1)) (has_runs suit) (has_runs suit)
     (nine-changed f g (first_of suit) (rank_of kind) (get_or (nine_from f (first_of suit)) (rank_of kind) 0 + 1) short here
-    (λ i n. get_or-set_other c kind (first_of suit + i) (get_or c kind 0 + 1) 0 (λ e. n (omega (arith, e, at)))))
+    (λ i n. get_or-set_other c kind (first_of suit + i) (get_or c kind 0 + 1) 0 (λ e. n (omega (arith, e, at))))) refl
 
 more-there : (c : List ℕ) (kind : ℕ) (suit : Suit) → kind < 34 → length c ≡ 34 → suit ≢ suit_of kind → tiles_of_suit (with_one c kind) suit ≡ tiles_of_suit c suit
 more-there c kind suit small long ne =
-    same-tiles (nine_from (λ k. get_or (with_one c kind) k 0) (first_of suit)) (nine_from (λ k. get_or c k 0) (first_of suit)) (has_runs suit)
-    (other-suits (λ k. get_or c k 0) (λ k. get_or (with_one c kind) k 0) kind suit small ne (λ k n. get_or-set_other c kind k (get_or c kind 0 + 1) 0 n))
+    same-suit (nine_from (λ k. get_or (with_one c kind) k 0) (first_of suit)) (nine_from (λ k. get_or c k 0) (first_of suit)) (has_runs suit) (has_runs suit)
+    (other-suits (λ k. get_or c k 0) (λ k. get_or (with_one c kind) k 0) kind suit small ne (λ k n. get_or-set_other c kind k (get_or c kind 0 + 1) 0 n)) refl
 
 more-suits : (c : List ℕ) (kind : ℕ) → kind < 34 → length c ≡ 34 → (suit : Suit) → of_suit (suits_of (with_one c kind)) suit ≡ of_suit (with_kind (suits_of c) kind) suit
 more-suits c kind small long suit =
