@@ -1,5 +1,5 @@
 -- All readings of a hand, the special shapes among them.
-use Rattle.std.proofs.Common.{◌≡◌, ℕ, ◌↔◌, Bool, true, false, ◌⊎◌, inl, inr, List, ◌++◌, refl, sym, ap, ◌∙◌, subst, IsTrue}
+use Rattle.std.proofs.Common.{◌≡◌, ℕ, ◌↔◌, Bool, ◌⊎◌, inl, inr, List, [], ◌∷◌, ◌++◌, refl, sym, ap, ◌∙◌, subst, IsTrue}
 use Rattle.std.specs.List.{flat_map}
 use Rattle.riichi_tiles.specs.declared.block.Block.{Block}
 use Rattle.riichi_split.specs.declared.split.Split.{Split}
@@ -9,20 +9,11 @@ use Rattle.riichi_split.specs.Readings.{IsSplit, IsDone, IsReading, AreTheReadin
 use Rattle.riichi_split.specs.Cuts.{AreTheSplits}
 use Rattle.riichi_split.specs.Dones.{flagged, dones, blocks_of, read_with, readings_with}
 use Rattle.riichi_split.proofs.Lists.{IsIn, Differ, in-left, in-right, in-cases, Differ-append, Contains-in, in-Contains, All-in, in-All, AllPairs-differ, differ-AllPairs, in-map, in-map-inv, Differ-map, in-flat_map, in-flat_map-inv, Differ-flat_map}
+use Rattle.riichi_split.proofs.Collections.{in-when, in-when-inv, Differ-when}
 use Rattle.riichi_split.proofs.Dones.{dones-inv, in-dones, Differ-dones}
 
 flagged-inv : (b : Bool) (x r : Reading) → IsIn r (flagged b x) → IsTrue b × (x ≡ r)
-flagged-inv true x r (inl e) = (refl, e)
-flagged-inv true x r (inr h) = absurd h
-flagged-inv false x r h = absurd h
-
-in-flagged : (b : Bool) (x : Reading) → IsTrue b → IsIn x (flagged b x)
-in-flagged true x t = inl refl
-in-flagged false x t = absurd (cc)
-
-Differ-flagged : (b : Bool) (x : Reading) → Differ (flagged b x)
-Differ-flagged true x = (λ h. h, tt)
-Differ-flagged false x = tt
+flagged-inv b x r h = let i = in-when-inv b r (x ∷ []) h in (i.0, elim i.1 [ inl e ↦ e | inr z ↦ absurd z ])
 
 -- ---- the readings of splits
 
@@ -93,16 +84,16 @@ sound-all c melds w standard seven orphans r are s o h =
 complete-all : (c : List ℕ) (melds w : ℕ) (standard : List Reading) (seven orphans : Bool) (r : Reading) → AreStandard c melds w standard → (IsTrue seven ↔ IsSevenPairs c melds) → (IsTrue orphans ↔ IsOrphans c melds) → IsReading c melds w r → IsIn r (all_of standard seven orphans)
 complete-all c melds w standard seven orphans (Standard sets p d) are s o h =
     in-right _ (flagged seven SevenPairs) _ (in-right _ (flagged orphans Orphans) _ (are.complete sets p d h.0 h.1))
-complete-all c melds w standard seven orphans SevenPairs are s o h = in-left _ _ _ (in-flagged seven SevenPairs (s.1 h))
-complete-all c melds w standard seven orphans Orphans are s o h = in-right _ (flagged seven SevenPairs) _ (in-left _ _ _ (in-flagged orphans Orphans (o.1 h)))
+complete-all c melds w standard seven orphans SevenPairs are s o h = in-left _ _ _ (in-when seven SevenPairs (SevenPairs ∷ []) (s.1 h) (inl refl))
+complete-all c melds w standard seven orphans Orphans are s o h = in-right _ (flagged seven SevenPairs) _ (in-left _ _ _ (in-when orphans Orphans (Orphans ∷ []) (o.1 h) (inl refl)))
 
 pub the_readings : (c : List ℕ) (melds w : ℕ) (splits : List Split) (seven orphans : Bool) → AreTheSplits c melds splits → (IsTrue seven ↔ IsSevenPairs c melds) → (IsTrue orphans ↔ IsOrphans c melds) → AreTheReadings c melds w (all_of (flat_map (readings_with w) splits) seven orphans)
 the_readings c melds w splits seven orphans the_splits s o = let standard = flat_map (readings_with w) splits in let are = splits-standard c melds w splits the_splits in record {
   sound = All-in (IsReading c melds w) (all_of standard seven orphans) (λ r h. sound-all c melds w standard seven orphans r are s o h);
   complete = λ r h. Contains-in r (all_of standard seven orphans) (complete-all c melds w standard seven orphans r are s o h);
   once = AllPairs-differ (all_of standard seven orphans)
-      (Differ-append (flagged seven SevenPairs) (flagged orphans Orphans ++ standard) (Differ-flagged seven SevenPairs)
-      (Differ-append (flagged orphans Orphans) standard (Differ-flagged orphans Orphans) are.once
+      (Differ-append (flagged seven SevenPairs) (flagged orphans Orphans ++ standard) (Differ-when seven (SevenPairs ∷ []) (λ h. h, tt))
+      (Differ-append (flagged orphans Orphans) standard (Differ-when orphans (Orphans ∷ []) (λ h. h, tt)) are.once
       (λ r a b. let x = (flagged-inv orphans Orphans r a).1 in let y = (are.sound r b).1.3 in absurd (cc)))
       (λ r a b. let x = (flagged-inv seven SevenPairs r a).1 in
       elim (in-cases r (flagged orphans Orphans) standard b) [
