@@ -3,7 +3,7 @@ use Rattle.std.proofs.Common.{not, None, Ok, ap, ◌≡◌, ℕ, zero, suc, ◌+
 use Rattle.std.specs.List.{list_any}
 use Rattle.std.proofs.lemmas.Bool.{cases_lt, and_parts, and_from, ltb-true, lt-ltb, true_from_ne_false}
 use Rattle.std.proofs.lemmas.Bool.Decides.{nat_tests, same_from_decides}
-use Rattle.std.proofs.lemmas.List.{length-set, get_or_past, ext_get_or}
+use Rattle.std.proofs.lemmas.List.{nil_from_length, length-set, get_or_past, ext_get_or}
 use Rattle.std.proofs.lemmas.Grind.{get_or-set_at}
 use Rattle.std.proofs.lemmas.List.FromFn.{length-map-range_with_len, get_or-map-range_with_len}
 use Rattle.riichi_tiles.specs.Tiles.{IsMarked, IsCounts}
@@ -80,10 +80,6 @@ wait-shape hand kind counts =
       λ h. record { of_a_kind = h.0; some_left = h.1; completes = (i h.0).0 h.2 },
     )
 
-no-tiles : (melds : List Meld) (kind : ℕ) → length melds ≡ 0 → tiles melds kind ≡ 0
-no-tiles [] kind e = refl
-no-tiles (meld ∷ melds) kind e = absurd (omega (arith, e))
-
 -- the kinds that complete sets and a pair
 abbrev pub AreStandard : HandParts → List Bool → Type 0
 AreStandard hand marks = (kind : ℕ) → IsMarked marks kind ↔ ((kind < 34) × (get_or hand.concealed kind 0 < 4) × HasSplit (with_one hand.concealed kind) (length hand.melds))
@@ -94,7 +90,7 @@ closed-waits hand old marks counts none standard adds kind =
     let s = wait-shape hand kind counts in
     let a = adds.each kind in
     let o = standard kind in
-    let t = no-tiles hand.melds kind none in
+    let t : tiles hand.melds kind ≡ 0 = ap (λ (melds : List Meld). tiles melds kind) (nil_from_length hand.melds none) in
     let S : ℕ → Type 0 = λ n. IsSevenPairs (with_one hand.concealed kind) n ⊎ IsOrphans (with_one hand.concealed kind) n in (
       λ m. elim (a.0 m) [
         | inl b ↦ let h = o.0 b in s.1 (h.0, omega (arith, h.1, t), inl h.2)
@@ -158,14 +154,10 @@ no-text marks none =
     let zeros : (kind : ℕ) → once marks kind ≡ 0 = λ kind. rw (none-at marks none kind) refl in
     rw (no-digits (once marks) 0 9 zeros, no-digits (once marks) 9 9 zeros, no-digits (once marks) 18 9 zeros, no-digits (once marks) 27 7 zeros) refl
 
-no-bytes : (text : List ℕ) → length text ≡ 0 → text ≡ []
-no-bytes [] none = refl
-no-bytes (byte ∷ text) none = absurd (omega (arith, none))
-
 pub empty-none : (marks : List Bool) (text : List ℕ) → length text ≡ 0 → ((kind : ℕ) → IsMarked marks kind → reading_of text ≡ Ok (ones marks)) → list_any (λ mark. mark) marks ≡ false
 unfolding notation_fault
 empty-none marks text empty reads =
-    none-any marks (λ kind m. let read : reading_of [] ≡ Ok (ones marks) = subst (λ (t : List ℕ). reading_of t ≡ Ok (ones marks)) (no-bytes text empty) (reads kind m) in cc)
+    none-any marks (λ kind m. let read : reading_of [] ≡ Ok (ones marks) = subst (λ (t : List ℕ). reading_of t ≡ Ok (ones marks)) (nil_from_length text empty) (reads kind m) in cc)
 
 pub some-any : (marks : List Bool) → (length (tiles_text (once marks)) ≡ 0 → ⊥) → list_any (λ mark. mark) marks ≡ true
 some-any marks some = true_from_ne_false (list_any (λ mark. mark) marks) (λ none. some (ap length (no-text marks none)))
