@@ -108,7 +108,11 @@ seven-iff c melds =
     let twos = list_all (λ n. eqb n 0 || eqb n 2) c in
     let seven = eqb (count_by (λ n. eqb n 2) c) 7 in (
       λ t. let p = and_parts (eqb melds 0) (twos && seven) t in let q = and_parts twos seven p.1 in
-          record { no_meld = eqb-true melds 0 p.0; twos = twos-from c q.0; seven = eqb-true (count_by (λ n. eqb n 2) c) 7 q.1 },
+          record {
+            no_meld = eqb-true melds 0 p.0;
+            twos = twos-from c q.0;
+            seven = eqb-true (count_by (λ n. eqb n 2) c) 7 q.1;
+          },
       λ h. and_from (eqb melds 0) (twos && seven) (eq-eqb melds 0 h.no_meld) (and_from twos seven (from-twos c h.twos) (eq-eqb (count_by (λ n. eqb n 2) c) 7 h.seven)),
     )
 
@@ -117,7 +121,10 @@ orphans-iff c melds =
     let all = λ (d : ℕ). list_all (λ k. eqb (get_or c k 0) (orphan_copies d k)) every_kind in
     let some = list_any (are_orphans_with c) every_kind in (
       λ t. let p = and_parts (eqb melds 0) some t in let i = any-in (are_orphans_with c) every_kind p.1 in let o = and_parts (is_orphan i.0) (all i.0) i.2 in
-          record { no_meld = eqb-true melds 0 p.0; twice = (i.0, o.0, omega (arith, (in-range-inv 34 0 i.0 i.1).1), same-kinds (λ k. get_or c k 0) (orphan_copies i.0) o.1) },
+          record {
+            no_meld = eqb-true melds 0 p.0;
+            twice = (i.0, o.0, omega (arith, (in-range-inv 34 0 i.0 i.1).1), same-kinds (λ k. get_or c k 0) (orphan_copies i.0) o.1);
+          },
       λ h. let d = h.twice.0 in and_from (eqb melds 0) some (eq-eqb melds 0 h.no_meld)
           (any-from (are_orphans_with c) every_kind d (in-range 34 0 d (omega arith) (omega (arith, h.twice.2))) (and_from (is_orphan d) (all d) h.twice.1 (kinds-same (λ k. get_or c k 0) (orphan_copies d) h.twice.3))),
     )
