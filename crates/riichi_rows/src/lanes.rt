@@ -9,6 +9,16 @@ use std::simd::prelude::*;
 /// No choice: more than any choice lacks, and kept by every addition.
 pub const NONE: u8 = 255;
 
+/// The places that lanes with one set more come from, where 16 is none.
+pub(crate) const ONE_SET_MORE: [usize; 16] = [
+    16, 0, 1, 2, 3, 4, 5, 6, 16, 8, 9, 10, 11, 12, 13, 14,
+];
+
+/// Those of lanes with a pair, where they had none.
+pub(crate) const WITH_A_PAIR: [usize; 16] = [
+    16, 16, 16, 16, 16, 16, 16, 16, 0, 1, 2, 3, 4, 5, 6, 7,
+];
+
 #[derive(Clone, Copy)]
 pub struct Lanes {
     pub lacks: u8x16,
@@ -45,10 +55,7 @@ impl Lanes {
         ensures { HasLanes result.lacks (with_set (lane self.lacks)) }
     {
         let none = u8x16::splat(NONE);
-        let lacks = self.lacks.shuffle(
-            none,
-            [16, 0, 1, 2, 3, 4, 5, 6, 16, 8, 9, 10, 11, 12, 13, 14],
-        );
+        let lacks = self.lacks.shuffle(none, ONE_SET_MORE);
         Lanes { lacks }
     }
 
@@ -58,10 +65,7 @@ impl Lanes {
         ensures { HasLanes result.lacks (with_pair (lane self.lacks)) }
     {
         let none = u8x16::splat(NONE);
-        let lacks = self.lacks.shuffle(
-            none,
-            [16, 16, 16, 16, 16, 16, 16, 16, 0, 1, 2, 3, 4, 5, 6, 7],
-        );
+        let lacks = self.lacks.shuffle(none, WITH_A_PAIR);
         Lanes { lacks }
     }
 

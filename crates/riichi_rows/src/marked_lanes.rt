@@ -5,7 +5,7 @@ ghost use Rattle.riichi_rows.specs.Open.{IsMarkOf};
 ghost use Rattle.riichi_rows.specs.Lanes.{Agree, HasRoom, none, nothing, with_set, with_pair, capped, lacks_with, lane, mark};
 
 use crate::cost::Cost;
-use crate::lanes::Lanes;
+use crate::lanes::{Lanes, ONE_SET_MORE, WITH_A_PAIR};
 use std::simd::prelude::*;
 
 /// A mark has a bit for each rank that it names. What stands beside no choice says nothing.
@@ -45,10 +45,7 @@ impl MarkedLanes {
             (lacks_with bit self.lacks.lacks self.marks)) }
     {
         let unmarked = u8x16::splat(0);
-        let marks = self.marks.shuffle(
-            unmarked,
-            [16, 0, 1, 2, 3, 4, 5, 6, 16, 8, 9, 10, 11, 12, 13, 14],
-        );
+        let marks = self.marks.shuffle(unmarked, ONE_SET_MORE);
         MarkedLanes {
             lacks: self.lacks.with_set(),
             marks,
@@ -62,10 +59,7 @@ impl MarkedLanes {
             (lacks_with bit self.lacks.lacks self.marks)) }
     {
         let unmarked = u8x16::splat(0);
-        let marks = self.marks.shuffle(
-            unmarked,
-            [16, 16, 16, 16, 16, 16, 16, 16, 0, 1, 2, 3, 4, 5, 6, 7],
-        );
+        let marks = self.marks.shuffle(unmarked, WITH_A_PAIR);
         MarkedLanes {
             lacks: self.lacks.with_pair(),
             marks,
