@@ -351,7 +351,7 @@ module _ (hand : List ℕ) (melds : List Meld) (c0 c1 c2 c3 k0 k1 k2 k3 : List �
     unfolding chosen
     lacks_at base width counts caps suit bs here x r e_x low more = record {
       wanted = chosen.wanted;
-      sets_and_pair = chosen.sets_and_pair;
+      is_form = chosen.sets_and_pair;
       within_four = chosen.within_four;
       lacks = chosen.lacks;
       lacks_kind = (let at = here r low in omega (arith, at, suit.counts_at r low, more, ap (slice_index hand) e_x, ap (slice_index chosen_wanted) e_x));
@@ -367,7 +367,7 @@ module _ (hand : List ℕ) (melds : List Meld) (c0 c1 c2 c3 k0 k1 k2 k3 : List �
 
   -- a kind is lacked by some least winning multiset exactly where a least choice of its suit lacks it, in some least join
   pub join_lacks : (n : ℕ) → IsLeastJoin a b c d sets (Some n) → (x : ℕ) → x < 34 → StandardLacks hand melds sets n x ↔ EntryLacks a b c d c0 c1 c2 c3 k0 k1 k2 k3 sets n x
-  join_lacks n join x inside = (λ w. entry_lacks w.wanted (counted sets w.wanted w.sets_and_pair) w.within_four n x inside join w.lacks w.lacks_kind, back)
+  join_lacks n join x inside = (λ w. entry_lacks w.wanted (counted sets w.wanted w.is_form) w.within_four n x inside join w.lacks w.lacks_kind, back)
     where
       back : EntryLacks a b c d c0 c1 c2 c3 k0 k1 k2 k3 sets n x → StandardLacks hand melds sets n x
       back k =
@@ -393,7 +393,7 @@ module _ (hand : List ℕ) (melds : List Meld) (c0 c1 c2 c3 k0 k1 k2 k3 : List �
 
     lacks_by_entries : (x : ℕ) → x < 34 → StandardLacks hand melds sets n x ↔ EntryLacks a b c d c0 c1 c2 c3 k0 k1 k2 k3 sets n x
     lacks_by_entries x inside = (
-      λ w. (join_lacks n (join_of w.wanted (counted sets w.wanted w.sets_and_pair) w.within_four w.lacks) x inside).0 w,
+      λ w. (join_lacks n (join_of w.wanted (counted sets w.wanted w.is_form) w.within_four w.lacks) x inside).0 w,
       λ k. (join_lacks n (k.entries, sums_bound) x inside).1 k,
     )
       where

@@ -1,10 +1,13 @@
 -- One more tile of a kind: the distance falls where a winning multiset with the least lack lacks that kind.
-use Rattle.std.proofs.Common.{ℕ, ◌<◌, inl, inr, List, ⊎_elim, arith}
+use Rattle.std.proofs.Common.{ℕ, ◌-◌, ◌<◌, inl, inr, List, length, ⊎_elim, arith}
 use Rattle.std.specs.Prelude.{slice_index}
 use Rattle.riichi_rows.specs.Lacked.{IsOneMore}
 use Rattle.riichi_rows.proofs.Spread.{Falls, sums_fall}
-use Rattle.riichi_shape.specs.Lacked.{WinningLacks, AcceptanceLaw, FormsLaw}
-use Rattle.riichi_shape.specs.Winning.{lacking}
+use Rattle.riichi_tiles.specs.declared.meld.Meld.{Meld}
+use Rattle.riichi_shape.specs.Lacked.{WinningLacks, AcceptanceLaw, FormLacks, FormsLaw}
+use Rattle.riichi_shape.specs.Orphans.{IsThirteenOrphans}
+use Rattle.riichi_shape.specs.Pairs.{IsSevenPairs}
+use Rattle.riichi_shape.specs.Winning.{HasWinningForm, IsSetsAndPair, lacking}
 
 -- ---- a whole hand
 
@@ -18,31 +21,29 @@ accepted hand more melds n m x inside one before after = (lower, raise)
     lower less =
         let bound = before.none_less after.wanted after.is_winning in
         let reached = after.reached in
-        ⊎_elim (λ lacks. record { wanted = after.wanted; is_winning = after.is_winning; lacks = (let e = lacks.1 in omega (arith, e, reached, bound, less)); lacks_kind = lacks.0 })
+        ⊎_elim (λ lacks. record { wanted = after.wanted; is_form = after.is_winning.form; within_four = after.is_winning.within_four; lacks = (let e = lacks.1 in omega (arith, e, reached, bound, less)); lacks_kind = lacks.0 })
         (λ not. absurd (let e = not.1 in omega (arith, e, reached, bound, less)))
         (hand_falls hand more after.wanted x inside one)
 
     raise : WinningLacks hand melds n x → m < n
     raise w =
-        let bound = after.none_less w.wanted w.is_winning in
+        let bound = after.none_less w.wanted (record { form = w.is_form; within_four = w.within_four }) in
         let reached = w.lacks in
         let kind = w.lacks_kind in
         ⊎_elim (λ lacks. (let e = lacks.1 in omega (arith, e, reached, bound))) (λ not. absurd (let e = not.0 in omega (arith, e, kind))) (hand_falls hand more w.wanted x inside one)
 
 -- ---- the three forms
 
+-- the same multiset as of another form
+as_form : (hand : List ℕ) (melds : List Meld) (n x : ℕ) (IsForm Other : List ℕ → Type 0) (f : FormLacks IsForm hand melds n x) → Other f.wanted → FormLacks Other hand melds n x
+as_form hand melds n x IsForm Other f form = record { wanted = f.wanted; is_form = form; within_four = f.within_four; lacks = f.lacks; lacks_kind = f.lacks_kind }
+
 pub by_forms : FormsLaw
-by_forms hand melds n x = (
-  λ w. ⊎_elim (λ standard. inl (record { wanted = w.wanted; sets_and_pair = standard; within_four = w.is_winning.within_four; lacks = w.lacks; lacks_kind = w.lacks_kind }))
-      (λ special. ⊎_elim
-      (λ pairs. inr (inl (pairs.0, record { wanted = w.wanted; is_form = pairs.1; within_four = w.is_winning.within_four; lacks = w.lacks; lacks_kind = w.lacks_kind })))
-      (λ orphans. inr (inr (orphans.0, record { wanted = w.wanted; is_form = orphans.1; within_four = w.is_winning.within_four; lacks = w.lacks; lacks_kind = w.lacks_kind })))
-      special)
-      w.is_winning.form,
-  λ some. ⊎_elim (λ s. record { wanted = s.wanted; is_winning = record { form = inl s.sets_and_pair; within_four = s.within_four }; lacks = s.lacks; lacks_kind = s.lacks_kind })
-      (λ special. ⊎_elim
-      (λ pairs. (let f = pairs.1 in record { wanted = f.wanted; is_winning = record { form = inr (inl (pairs.0, f.is_form)); within_four = f.within_four }; lacks = f.lacks; lacks_kind = f.lacks_kind }))
-      (λ orphans. (let f = orphans.1 in record { wanted = f.wanted; is_winning = record { form = inr (inr (orphans.0, f.is_form)); within_four = f.within_four }; lacks = f.lacks; lacks_kind = f.lacks_kind }))
-      special)
-      some,
-)
+by_forms hand melds n x =
+    let Any : List ℕ → Type 0 = HasWinningForm (length melds) in
+    let Sets : List ℕ → Type 0 = IsSetsAndPair (4 - length melds) in (
+      λ w. ⊎_elim (λ s. inl (as_form hand melds n x Any Sets w s))
+          (λ special. ⊎_elim (λ p. inr (inl (p.0, as_form hand melds n x Any IsSevenPairs w p.1))) (λ o. inr (inr (o.0, as_form hand melds n x Any IsThirteenOrphans w o.1))) special) w.is_form,
+      λ some. ⊎_elim (λ s. as_form hand melds n x Sets Any s (inl s.is_form))
+          (λ special. ⊎_elim (λ p. as_form hand melds n x IsSevenPairs Any p.1 (inr (inl (p.0, p.1.is_form)))) (λ o. as_form hand melds n x IsThirteenOrphans Any o.1 (inr (inr (o.0, o.1.is_form)))) special) some,
+    )

@@ -9,14 +9,19 @@ use Rattle.riichi_shape.specs.Distance.{IsDistance, OrphansReached, PairsReached
 use Rattle.riichi_shape.specs.Orphans.{IsThirteenOrphans, is_listed_orphan}
 use Rattle.riichi_shape.specs.Pairs.{IsSevenPairs}
 use Rattle.riichi_shape.specs.Suits.{IsSuitOf}
-use Rattle.riichi_shape.specs.Winning.{IsSetsAndPair, IsWinning, WithinFour, lacking}
+use Rattle.riichi_shape.specs.Winning.{HasWinningForm, IsSetsAndPair, WithinFour, lacking}
 
--- some winning multiset that lacks n tiles has more of the kind x than the hand
-pub record WinningLacks (hand : List ℕ) (melds : List Meld) (n x : ℕ) : Type 0 where
+-- some multiset of a form that lacks n tiles has more of the kind x than the hand
+pub record FormLacks (IsForm : List ℕ → Type 0) (hand : List ℕ) (melds : List Meld) (n x : ℕ) : Type 0 where
   pub wanted : List ℕ
-  pub is_winning : IsWinning melds wanted
+  pub is_form : IsForm wanted
+  pub within_four : WithinFour melds wanted
   pub lacks : lacking hand wanted ≡ n
   pub lacks_kind : slice_index hand x < slice_index wanted x
+
+-- of any winning form
+abbrev pub WinningLacks : List ℕ → List Meld → ℕ → ℕ → Type 0
+WinningLacks hand melds n x = FormLacks (HasWinningForm (length melds)) hand melds n x
 
 -- one more tile of the kind x lowers the distance exactly where some winning multiset with the least lack lacks x
 abbrev pub AcceptanceLaw : Type 0
@@ -24,13 +29,9 @@ AcceptanceLaw =
     (hand more : List ℕ) (melds : List Meld) (n m x : ℕ) → x < 34 → IsOneMore x hand more →
     IsDistance hand melds n → IsDistance more melds m → (m < n) ↔ WinningLacks hand melds n x
 
--- the same of one form, sets and a pair
-pub record StandardLacks (hand : List ℕ) (melds : List Meld) (sets n x : ℕ) : Type 0 where
-  pub wanted : List ℕ
-  pub sets_and_pair : IsSetsAndPair sets wanted
-  pub within_four : WithinFour melds wanted
-  pub lacks : lacking hand wanted ≡ n
-  pub lacks_kind : slice_index hand x < slice_index wanted x
+-- of so many sets and a pair
+abbrev pub StandardLacks : List ℕ → List Meld → ℕ → ℕ → ℕ → Type 0
+StandardLacks hand melds sets n x = FormLacks (IsSetsAndPair sets) hand melds n x
 
 -- the same of a kind x of the suit that begins at the kind base
 pub record SuitLacks (runs : Bool) (base : ℕ) (counts caps : List ℕ) (sets pairs n x : ℕ) : Type 0 where
@@ -57,14 +58,6 @@ JoinLaw =
     (a b c d : ℕ → ℕ → Option ℕ) → IsSuitRow true c0 k0 a → IsSuitRow true c1 k1 b → IsSuitRow true c2 k2 c → IsSuitRow false c3 k3 d →
     (sets n x : ℕ) → sets ≤ 4 → ((k : ℕ) → k < 34 → tiles melds k ≤ 4) → IsLeastJoin a b c d sets (Some n) → x < 34 →
     StandardLacks hand melds sets n x ↔ EntryLacks a b c d c0 c1 c2 c3 k0 k1 k2 k3 sets n x
-
--- seven pairs, or thirteen orphans, that lack n tiles and have more of the kind x than the hand
-pub record FormLacks (IsForm : List ℕ → Type 0) (hand : List ℕ) (melds : List Meld) (n x : ℕ) : Type 0 where
-  pub wanted : List ℕ
-  pub is_form : IsForm wanted
-  pub within_four : WithinFour melds wanted
-  pub lacks : lacking hand wanted ≡ n
-  pub lacks_kind : slice_index hand x < slice_index wanted x
 
 -- a kind is lacked at the least lack in one of the three forms, each of which is looked at alone
 abbrev pub FormsLaw : Type 0
