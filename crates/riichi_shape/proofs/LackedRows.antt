@@ -135,77 +135,67 @@ module _ (hand : List ℕ) (melds : List Meld) (rows : BySuit SuitRow) (are : Ar
       are.characters.is_row.least are.circles.is_row.least are.bamboos.is_row.least are.honours.is_row.least
       sets few melds_few n none_less
 
-  -- of each suit: its kind is lacked by its own row alone
+  -- of a suit whose entry stands first in another order of the four, and whose kind is lacked by its own row alone
+  suit_lack : (x y z w : SuitRow) (joined : JoinedRows) → AreJoinedThree y z w joined → (runs : Bool) (base : ℕ) (counts caps : List ℕ) → AreMarks runs counts caps x →
+      ((m : ℕ) → EntriesSum (entries_of x) (entries_of y) (entries_of z) (entries_of w) sets m → EntriesSum (entries_of a) (entries_of b) (entries_of c) (entries_of d) sets m) →
+      (rank kind : ℕ) → rank < 9 → kind ≡ base + rank → kind < 34 → FirstLacks x y z w runs base counts caps sets n kind ↔ HandEntries kind → MarkedBeside x joined sets n rank ↔ StandardLacks hand melds sets n kind
+  suit_lack x y z w joined beside runs base counts caps marks back rank kind low_rank kind_is inside first =
+      through (row_lacks x y z w joined beside runs base counts caps marks sets rank n kind few low (λ m e. laws.0 m (back m e)) low_rank kind_is) (through first (turn (laws.1 kind inside)))
 
   module _ (rank kind : ℕ) (low_rank : rank < 9) (kind_is : kind ≡ 0 + rank) where
-    characters_first : FirstLacks a b c d true 0 are.characters.counts are.characters.caps sets n kind ↔ HandEntries kind
-    characters_first = (
-      λ f. record { entries = f.entries; lacks_kind = inl f.lacks },
-      λ k. record {
-        entries = k.entries;
-        lacks = ⊎_elim (λ s. s) (λ o. absurd (⊎_elim (λ s. omega (arith, s.is_kind, kind_is, low_rank)) (λ o. ⊎_elim (λ s. omega (arith, s.is_kind, kind_is, low_rank)) (λ s. omega (arith, s.is_kind, kind_is, low_rank)) o) o)) k.lacks_kind;
-      },
-    )
-
     pub characters_lack : MarkedBeside a joins.beside_characters sets n rank ↔ StandardLacks hand melds sets n kind
     characters_lack =
-        through (row_lacks a b c d joins.beside_characters are_joins.beside_characters true 0 are.characters.counts are.characters.caps are.characters.is_row.marks sets rank n kind few low laws.0 low_rank kind_is)
-        (through characters_first (turn (laws.1 kind (omega arith))))
+        suit_lack a b c d joins.beside_characters are_joins.beside_characters true 0 are.characters.counts are.characters.caps are.characters.is_row.marks (λ m e. e)
+        rank kind low_rank kind_is (omega arith) (
+          λ f. record { entries = f.entries; lacks_kind = inl f.lacks },
+          λ k. record {
+            entries = k.entries;
+            lacks = ⊎_elim (λ s. s) (λ o. absurd (⊎_elim (λ s. omega (arith, s.is_kind, kind_is, low_rank)) (λ o. ⊎_elim (λ s. omega (arith, s.is_kind, kind_is, low_rank)) (λ s. omega (arith, s.is_kind, kind_is, low_rank)) o) o)) k.lacks_kind;
+          },
+        )
 
   module _ (rank kind : ℕ) (low_rank : rank < 9) (kind_is : kind ≡ 9 + rank) where
-    circles_first : FirstLacks b a c d true 9 are.circles.counts are.circles.caps sets n kind ↔ HandEntries kind
-    unfolding swapped
-    circles_first = (
-      λ f. record { entries = swapped (entries_of b) (entries_of a) (entries_of c) (entries_of d) sets n f.entries; lacks_kind = inr (inl f.lacks) },
-      λ k. record {
-        entries = swapped (entries_of a) (entries_of b) (entries_of c) (entries_of d) sets n k.entries;
-        lacks = ⊎_elim (λ s. absurd (omega (arith, s.is_kind, s.is_rank, kind_is))) (λ o. ⊎_elim (λ s. s) (λ o. absurd (⊎_elim (λ s. omega (arith, s.is_kind, kind_is, low_rank)) (λ s. omega (arith, s.is_kind, kind_is, low_rank)) o)) o) k.lacks_kind;
-      },
-    )
-
     pub circles_lack : MarkedBeside b joins.beside_circles sets n rank ↔ StandardLacks hand melds sets n kind
+    unfolding swapped
     circles_lack =
-        through (row_lacks b a c d joins.beside_circles are_joins.beside_circles true 9 are.circles.counts are.circles.caps are.circles.is_row.marks sets rank n kind few low
-        (λ m e. laws.0 m (swapped (entries_of b) (entries_of a) (entries_of c) (entries_of d) sets m e)) low_rank kind_is)
-        (through circles_first (turn (laws.1 kind (omega arith))))
+        suit_lack b a c d joins.beside_circles are_joins.beside_circles true 9 are.circles.counts are.circles.caps are.circles.is_row.marks (swapped (entries_of b) (entries_of a) (entries_of c) (entries_of d) sets)
+        rank kind low_rank kind_is (omega arith) (
+          λ f. record { entries = swapped (entries_of b) (entries_of a) (entries_of c) (entries_of d) sets n f.entries; lacks_kind = inr (inl f.lacks) },
+          λ k. record {
+            entries = swapped (entries_of a) (entries_of b) (entries_of c) (entries_of d) sets n k.entries;
+            lacks = ⊎_elim (λ s. absurd (omega (arith, s.is_kind, s.is_rank, kind_is))) (λ o. ⊎_elim (λ s. s) (λ o. absurd (⊎_elim (λ s. omega (arith, s.is_kind, kind_is, low_rank)) (λ s. omega (arith, s.is_kind, kind_is, low_rank)) o)) o) k.lacks_kind;
+          },
+        )
 
   module _ (rank kind : ℕ) (low_rank : rank < 9) (kind_is : kind ≡ 18 + rank) where
-    bamboos_first : FirstLacks c d a b true 18 are.bamboos.counts are.bamboos.caps sets n kind ↔ HandEntries kind
-    unfolding turned
-    bamboos_first = (
-      λ f. record { entries = turned (entries_of c) (entries_of d) (entries_of a) (entries_of b) sets n f.entries; lacks_kind = inr (inr (inl f.lacks)) },
-      λ k. record {
-        entries = turned (entries_of a) (entries_of b) (entries_of c) (entries_of d) sets n k.entries;
-        lacks = ⊎_elim (λ s. absurd (omega (arith, s.is_kind, s.is_rank, kind_is))) (λ o. ⊎_elim (λ s. absurd (omega (arith, s.is_kind, s.is_rank, kind_is))) (λ o. ⊎_elim (λ s. s) (λ s. absurd (omega (arith, s.is_kind, kind_is, low_rank))) o) o) k.lacks_kind;
-      },
-    )
-
     pub bamboos_lack : MarkedBeside c joins.beside_bamboos sets n rank ↔ StandardLacks hand melds sets n kind
+    unfolding turned
     bamboos_lack =
-        through (row_lacks c d a b joins.beside_bamboos are_joins.beside_bamboos true 18 are.bamboos.counts are.bamboos.caps are.bamboos.is_row.marks sets rank n kind few low
-        (λ m e. laws.0 m (turned (entries_of c) (entries_of d) (entries_of a) (entries_of b) sets m e)) low_rank kind_is)
-        (through bamboos_first (turn (laws.1 kind (omega arith))))
+        suit_lack c d a b joins.beside_bamboos are_joins.beside_bamboos true 18 are.bamboos.counts are.bamboos.caps are.bamboos.is_row.marks (turned (entries_of c) (entries_of d) (entries_of a) (entries_of b) sets)
+        rank kind low_rank kind_is (omega arith) (
+          λ f. record { entries = turned (entries_of c) (entries_of d) (entries_of a) (entries_of b) sets n f.entries; lacks_kind = inr (inr (inl f.lacks)) },
+          λ k. record {
+            entries = turned (entries_of a) (entries_of b) (entries_of c) (entries_of d) sets n k.entries;
+            lacks = ⊎_elim (λ s. absurd (omega (arith, s.is_kind, s.is_rank, kind_is))) (λ o. ⊎_elim (λ s. absurd (omega (arith, s.is_kind, s.is_rank, kind_is))) (λ o. ⊎_elim (λ s. s) (λ s. absurd (omega (arith, s.is_kind, kind_is, low_rank))) o) o) k.lacks_kind;
+          },
+        )
 
   -- the honours first, and back
   abbrev honours_last : (m : ℕ) → EntriesSum (entries_of d) (entries_of c) (entries_of a) (entries_of b) sets m → EntriesSum (entries_of a) (entries_of b) (entries_of c) (entries_of d) sets m
   honours_last m e = turned (entries_of c) (entries_of d) (entries_of a) (entries_of b) sets m (swapped (entries_of d) (entries_of c) (entries_of a) (entries_of b) sets m e)
 
   module _ (rank kind : ℕ) (low_rank : rank < 7) (kind_is : kind ≡ 27 + rank) where
-    honours_first : FirstLacks d c a b false 27 are.honours.counts are.honours.caps sets n kind ↔ HandEntries kind
-    unfolding swapped turned
-    honours_first = (
-      λ f. record { entries = honours_last n f.entries; lacks_kind = inr (inr (inr f.lacks)) },
-      λ k. record {
-        entries = swapped (entries_of c) (entries_of d) (entries_of a) (entries_of b) sets n (turned (entries_of a) (entries_of b) (entries_of c) (entries_of d) sets n k.entries);
-        lacks = ⊎_elim (λ s. absurd (omega (arith, s.is_kind, s.is_rank, kind_is))) (λ o. ⊎_elim (λ s. absurd (omega (arith, s.is_kind, s.is_rank, kind_is))) (λ o. ⊎_elim (λ s. absurd (omega (arith, s.is_kind, s.is_rank, kind_is))) (λ s. s) o) o) k.lacks_kind;
-      },
-    )
-
     pub honours_lack : MarkedBeside d joins.beside_honours sets n rank ↔ StandardLacks hand melds sets n kind
+    unfolding swapped turned
     honours_lack =
-        through (row_lacks d c a b joins.beside_honours are_joins.beside_honours false 27 are.honours.counts are.honours.caps are.honours.is_row.marks sets rank n kind few low
-        (λ m e. laws.0 m (honours_last m e)) (omega arith) kind_is)
-        (through honours_first (turn (laws.1 kind (omega arith))))
+        suit_lack d c a b joins.beside_honours are_joins.beside_honours false 27 are.honours.counts are.honours.caps are.honours.is_row.marks honours_last
+        rank kind (omega arith) kind_is (omega arith) (
+          λ f. record { entries = honours_last n f.entries; lacks_kind = inr (inr (inr f.lacks)) },
+          λ k. record {
+            entries = swapped (entries_of c) (entries_of d) (entries_of a) (entries_of b) sets n (turned (entries_of a) (entries_of b) (entries_of c) (entries_of d) sets n k.entries);
+            lacks = ⊎_elim (λ s. absurd (omega (arith, s.is_kind, s.is_rank, kind_is))) (λ o. ⊎_elim (λ s. absurd (omega (arith, s.is_kind, s.is_rank, kind_is))) (λ o. ⊎_elim (λ s. absurd (omega (arith, s.is_kind, s.is_rank, kind_is))) (λ s. s) o) o) k.lacks_kind;
+          },
+        )
 
   -- ---- all kinds
 
