@@ -3,12 +3,11 @@ use Rattle.std.proofs.Common.{◌≡◌, ℕ, zero, suc, ◌+◌, ◌-◌, ◌<�
 use Rattle.std.specs.Prelude.{slice_get, slice_set, ◌||◌, ◌≢◌}
 use Rattle.std.specs.List.{zip, AllByRecursion}
 use Rattle.std.proofs.lemmas.Bool.{cases_lt, cases_eq, lt-ltb, le-ltb, false≢true}
-use Rattle.std.proofs.lemmas.List.{length-set}
+use Rattle.std.proofs.lemmas.List.{length-set, drop_all}
 use Rattle.std.proofs.lemmas.List.Elements.{All-from_recursion}
 use Rattle.std.proofs.lemmas.Option.{slice_get_cases}
 use Rattle.riichi_hand.specs.contracts.job.JobPartialEq.TheImpl.{ghosts as job_eq}
 use Rattle.riichi_hand.specs.declared.job.Job.{Job}
-use Rattle.desk_core.proofs.Lists.{drop_past}
 use Rattle.desk_core.proofs.Same.{job_eq-Decides}
 use Rattle.desk_core.proofs.Facts.{IsSound, IsSound-IsLegal, IsLegalAfter-split}
 use Rattle.desk_core.proofs.Steps.{IsOwnStep, IsStep-from_own, count, submit_after_close, submit_over_limit, submit_without_memory, submit_accepted, arrive_unknown, arrive_withdrawn, arrive_given, arrive_again, arrive_other_job, arrive_accepted, with_piece, close_step, take_waiting, take_open, take_finished, take_answer, withdraw_refused, withdraw_without_memory, withdraw_done, CanTakeBack-from_turns}
@@ -112,7 +111,7 @@ pass_one lane n within each more false stays = record { new = passed_by lane n; 
 
 pass_from : (lane : LaneState) (more n : ℕ) → n + more ≡ length lane.window → AreGone lane n → Passed lane
 pass_from lane zero n whole each =
-    record { new = passed_by lane n; same_table = refl; passes = record { count = n; within = omega arith; each = each; ends = inl (drop_past n lane.window (omega arith)); new_is = refl } }
+    record { new = passed_by lane n; same_table = refl; passes = record { count = n; within = omega arith; each = each; ends = inl (drop_all n lane.window (omega arith)); new_is = refl } }
 pass_from lane (suc more) n whole each =
     pass_one lane n (omega arith) each (λ gone. pass_from lane more (suc n) (omega arith) gone) (is_among lane.withdrawn (lane.next + n)) refl
 
@@ -154,9 +153,8 @@ can_or_not lane seq = by_low (cases_lt seq lane.next)
 
 either_way : (a b : Bool) → (a || b) ≡ (b || a)
 either_way true true = refl
-either_way true false = refl
 either_way false true = refl
-either_way false false = refl
+either_way _ _ = refl
 
 withdraws : (lane : LaneState) (seq : ℕ) → LaneReply lane (Withdraw (record { table = lane.table; seq = seq }))
 withdraws lane seq = by_can (can_or_not lane seq)
@@ -266,14 +264,7 @@ desk_wants lanes history event stands legal = by_table (found_or_past lanes (tab
 
 wants_or_not : (replied : Reply) → (replied ≡ want) ⊎ (replied ≢ want)
 wants_or_not (reply.Refused fault.Memory) = inl refl
-wants_or_not (reply.Refused fault.Closed) = inr (λ e. cc)
-wants_or_not (reply.Refused fault.Limit) = inr (λ e. cc)
-wants_or_not reply.NoTable = inr (λ e. cc)
-wants_or_not (reply.Ticket ticket) = inr (λ e. cc)
-wants_or_not (reply.Arrived what) = inr (λ e. cc)
-wants_or_not (reply.Closed first) = inr (λ e. cc)
-wants_or_not (reply.Taken what) = inr (λ e. cc)
-wants_or_not (reply.Withdrawn what) = inr (λ e. cc)
+wants_or_not replied = inr (λ e. cc)
 
 -- the lanes after a legal turn
 desk_follows : (lanes : List LaneState) (history : List Turn) (event : Event) (replied : Reply) → DeskStandsFor lanes history → DeskReplyOf (length lanes) history (event, replied) → After lanes history (event, replied)

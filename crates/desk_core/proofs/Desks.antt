@@ -4,8 +4,8 @@ use Rattle.std.specs.List.{zip}
 use Rattle.std.specs.Prelude.{slice_get, slice_set, ◌≢◌}
 use Rattle.std.proofs.lemmas.Bool.{cases_lt, cases_eq, ne_eqb, le-ltb}
 use Rattle.std.proofs.lemmas.List.{length-set}
-use Rattle.std.proofs.lemmas.Option.{slice_get_within}
-use Rattle.desk_core.proofs.Lists.{slice_get-append_left, slice_get-push, slice_get-set_same, slice_get-set_other, zip-push}
+use Rattle.std.proofs.lemmas.Option.{same_Some, slice_get_within}
+use Rattle.desk_core.proofs.Lists.{slice_get-append_left, slice_get-push, slice_get-set_same, slice_get-set_other, zip-append}
 use Rattle.desk_core.proofs.Facts.{turns_of-push, IsLegal-push}
 use Rattle.desk_core.specs.LaneState.{LaneState, new_lane, IsNewDesk}
 use Rattle.desk_core.specs.History.{Turn, table_of, turns_of, DeskReplyOf}
@@ -14,7 +14,6 @@ use Rattle.desk_core.specs.Desk.{DeskStandsFor, IsDeskRun}
 use Rattle.desk_core.specs.declared.event.Event.{Event}
 use Rattle.desk_core.specs.declared.reply.Reply.{Reply}
 use Rattle.desk_core.specs.declared.reply.Reply.TheVariants as reply
-use Rattle.desk_core.proofs.Steps.{some_injective}
 
 turns_of-other : (table : ℕ) (history : List Turn) (turn : Turn) → table_of turn.0 ≢ table → turns_of table (history ++ turn ∷ []) ≡ turns_of table history
 turns_of-other table history turn differ = turns_of-push table history turn ∙ (rw (ne_eqb (table_of turn.0) table differ) refl)
@@ -50,7 +49,7 @@ IsDeskRun-step lanes table old new event replied there about same step = λ hist
       each = λ i lane at. rw count (
           ⊎_elim (λ here.
           let at' : slice_get (slice_set lanes table new) table ≡ Some lane = rw here at at in
-          let is : new ≡ lane = some_injective (sym (slice_get-set_same lanes table new within) ∙ at') in
+          let is : new ≡ lane = same_Some _ _ (sym (slice_get-set_same lanes table new within) ∙ at') in
           rw (← is) (same ∙ was.0 ∙ sym here, after))
           (λ other.
           let own = stands.each i lane (sym (slice_get-set_other lanes table i new (λ e. other (sym e))) ∙ at) in
@@ -75,7 +74,7 @@ IsNewDesk-push tables lanes desk =
           (λ past.
           let last : table ≡ length lanes = omega (arith, length-append lanes (new_lane tables ∷ [])) in
           let there' : slice_get (lanes ++ new_lane tables ∷ []) (length lanes) ≡ Some lane = rw last at there in
-          let is : new_lane tables ≡ lane = some_injective (sym (slice_get-push lanes (new_lane tables)) ∙ there') in
+          let is : new_lane tables ≡ lane = same_Some _ _ (sym (slice_get-push lanes (new_lane tables)) ∙ there') in
           sym is ∙ ap new_lane (sym (last ∙ desk.count)))
           (cases_lt table (length lanes));
     }
@@ -100,4 +99,4 @@ DeskStandsFor-new tables lanes desk =
 pub IsDeskRun-push : (old mid new : List LaneState) (events : List Event) (replies : List Reply) (event : Event) (replied : Reply) → length replies ≡ length events → IsDeskRun old (zip events replies) mid → IsDeskRun mid ((event, replied) ∷ []) new → IsDeskRun old (zip (events ++ event ∷ []) (replies ++ replied ∷ [])) new
 IsDeskRun-push old mid new events replies event replied count run step = λ history stands.
     let after : DeskStandsFor new ((history ++ zip events replies) ++ (event, replied) ∷ []) = step (history ++ zip events replies) (run history stands) in
-    rw (zip-push events replies event replied (sym count)) (rw append_assoc at after)
+    rw (zip-append events (event ∷ []) replies (replied ∷ []) count) (rw append_assoc at after)

@@ -1,9 +1,9 @@
 -- The values of the first jobs, without those whose number is gone, each with its number.
-use Rattle.std.proofs.Common.{◌≡◌, ℕ, zero, suc, ◌+◌, ◌-◌, ◌<◌, ◌≤◌, Bool, true, false, cond, not, eqb, List, [], ◌∷◌, ◌++◌, length, take, drop, Some, refl, sym, ap, ◌∙◌, ⊎_elim, arith, zero-add, append-nil}
+use Rattle.std.proofs.Common.{◌≡◌, ℕ, zero, suc, ◌+◌, ◌-◌, ◌<◌, ◌≤◌, Bool, true, false, cond, not, eqb, List, [], ◌∷◌, ◌++◌, length, take, drop, Some, refl, sym, ap, ◌∙◌, arith, zero-add, append-nil}
 use Rattle.std.specs.Prelude.{slice_get, filter, ◌||◌}
 use Rattle.std.specs.List.{enumerate_from, list_any}
 use Rattle.std.proofs.lemmas.List.Folds.{list_any-append}
-use Rattle.std.proofs.lemmas.List.{take-append-le, take-append-drop}
+use Rattle.std.proofs.lemmas.List.{take_all, take-append-le, take-append-drop}
 use Rattle.std.proofs.lemmas.List.FromFn.{length-enumerate_from}
 use Rattle.std.proofs.lemmas.List.Elements.{filter-append}
 use Rattle.std.proofs.lemmas.Bool.{ne_eqb}
@@ -24,10 +24,6 @@ pub some_there : {X : Type 0} (xs : List X) (n : ℕ) → n < length xs → (x :
 some_there [] n within = absurd (omega arith)
 some_there (x ∷ xs) zero within = (x, refl)
 some_there (x ∷ xs) (suc n) within = some_there xs n (omega arith)
-
--- the next one, where it is not gone
-pub due-answer : {X : Type 0} (gone : ℕ → Bool) (n : ℕ) (xs : List X) (x : X) → slice_get xs n ≡ Some x → gone n ≡ false → due gone (suc n) xs ≡ due gone n xs ++ (n, x) ∷ []
-due-answer gone n xs x there stays = due-suc gone n xs x there ∙ (rw stays refl)
 
 -- past numbers that are gone nothing is added
 pub due-pass : {X : Type 0} (gone : ℕ → Bool) (n more : ℕ) (xs : List X) → n + more ≤ length xs → ((i : ℕ) → n ≤ i → i < n + more → gone i ≡ true) → due gone (n + more) xs ≡ due gone n xs
@@ -79,7 +75,7 @@ due-after_answer gone n m xs x there stays later within all =
     let gap : m ≡ suc n + (m - suc n) = omega arith in
     ap (λ k. due gone k xs) gap
     ∙ due-pass gone (suc n) (m - suc n) xs (omega arith) (λ i low high. all i (omega arith) (omega arith))
-    ∙ due-answer gone n xs x there stays
+    ∙ due-suc gone n xs x there ∙ (rw stays refl)
 
 -- the same where more is gone from n on
 pub due-after_withdrawal : {X : Type 0} (before gone : ℕ → Bool) (n m : ℕ) (xs : List X) → ((i : ℕ) → i < n → before i ≡ gone i) → n ≤ m → m ≤ length xs → ((i : ℕ) → n ≤ i → i < m → gone i ≡ true) → due gone m xs ≡ due before n xs
@@ -101,10 +97,4 @@ due-front gone n xs =
 pub due-all : {X : Type 0} (gone : ℕ → Bool) (n : ℕ) (xs : List X) → length xs ≤ n → due gone n xs ≡ filter (λ numbered. not (gone numbered.0)) (enumerate_from 0 xs)
 due-all gone n xs past =
     let whole : length (enumerate_from 0 xs) ≤ n = omega (arith, length-enumerate_from 0 xs) in
-    ap (filter (λ numbered. not (gone numbered.0))) (take_past n (enumerate_from 0 xs) whole)
-  where
-    take_past : {Y : Type 0} (k : ℕ) (ys : List Y) → length ys ≤ k → take k ys ≡ ys
-    take_past zero [] within = refl
-    take_past zero (y ∷ ys) within = absurd (omega arith)
-    take_past (suc k) [] within = refl
-    take_past (suc k) (y ∷ ys) within = ap (λ zs. y ∷ zs) (take_past k ys (omega arith))
+    ap (filter (λ numbered. not (gone numbered.0))) (take_all n (enumerate_from 0 xs) whole)

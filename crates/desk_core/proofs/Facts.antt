@@ -5,12 +5,13 @@ use Rattle.std.specs.List.{list_any}
 use Rattle.std.proofs.lemmas.List.{map-append, length-map}
 use Rattle.std.proofs.lemmas.List.Elements.{filter-append}
 use Rattle.std.proofs.lemmas.List.Folds.{list_any-append}
-use Rattle.std.proofs.lemmas.Bool.{cases_lt, eqb-true, eq-eqb, ne_eqb, lt-ltb, false≢true, or_cases, or_from, or_parts}
-use Rattle.desk_core.proofs.Lists.{append-cond, slice_get-map}
+use Rattle.std.proofs.lemmas.Bool.{cases_lt, eqb-true, eq-eqb, ne_eqb, lt-ltb, false≢true, false_from_ne_true, or_cases, or_from, or_parts}
+use Rattle.std.proofs.lemmas.Option.{slice_get-map}
+use Rattle.desk_core.proofs.Lists.{append-cond}
 use Rattle.desk_core.proofs.Due.{due, due-more, due-below, due-after_answer, due-after_withdrawal, due-front}
 use Rattle.desk_core.proofs.Next.{IsNext, IsNext-next_ticket, IsNext-is}
 use Rattle.std.proofs.Math.Bool.{or-false}
-use Rattle.desk_core.proofs.Histories.{submitted-push, given-push, given_same, withdrawn-push, withdrawn_same, length-submitted-push, HasArrived-push, HasArrived-within, slice_get-submitted-push}
+use Rattle.desk_core.proofs.Histories.{IsQuiet, submitted-push, given-push, given_same, withdrawn-push, withdrawn_same, is_given-same, is_withdrawn-same, length-submitted-push, HasArrived-push, HasArrived-within, slice_get-submitted-push}
 use Rattle.desk_core.specs.Value.{value_of}
 use Rattle.desk_core.specs.LaneState.{is_among}
 use Rattle.desk_core.specs.History.{Turn, table_of, turns_of, submitted, HasArrived, given, answer_in, withdrawn, withdrawn_in, is_given, is_withdrawn, is_done, next_ticket, CanWithdraw, ReplyOf, DeskReplyOf, IsLegalAfter, IsLegal, GivenInOrder}
@@ -32,10 +33,6 @@ pub record IsSound (turns : List Turn) : Type 0 where
   pub values : given turns ≡ due_before turns (next_ticket turns)
   pub arrived : (i : ℕ) → is_given turns i ≡ true → HasArrived turns i
   pub known : (i : ℕ) → is_withdrawn turns i ≡ true → i < length (submitted turns)
-
-by_bool : {P : Type 0} (b : Bool) → (b ≡ true → P) → (b ≡ false → P) → P
-by_bool true if_true if_false = if_true refl
-by_bool false if_true if_false = if_false refl
 
 pub next-within : (turns : List Turn) → next_ticket turns ≤ length (submitted turns)
 next-within turns = (IsNext-next_ticket turns).within
@@ -72,18 +69,14 @@ in_order turns sound =
 
 -- turns that give and withdraw nothing more
 
-next-is : (turns : List Turn) (turn : Turn) → IsSound turns → answer_in turn.1 ≡ None → withdrawn_in turn.0 turn.1 ≡ None → IsNext (turns ++ turn ∷ []) (next_ticket turns)
-next-is turns turn sound none stays =
+next-is : (turns : List Turn) (turn : Turn) → IsSound turns → IsQuiet turn → IsNext (turns ++ turn ∷ []) (next_ticket turns)
+next-is turns turn sound quiet =
     let old = IsNext-next_ticket turns in
     let n = next_ticket turns in
-    let after : List Turn = turns ++ turn ∷ [] in
-    let same_given : given after ≡ given turns = given_same turns turn none in
-    let same_withdrawn : withdrawn after ≡ withdrawn turns = withdrawn_same turns turn stays in
-    let done : (i : ℕ) → is_done after i ≡ is_done turns i = λ i.
-    ap (λ g. list_any (λ (answer : ℕ × Answer). eqb answer.0 i) g || is_among (withdrawn after) i) same_given
-    ∙ ap (λ w. is_given turns i || is_among w i) same_withdrawn in
+    let done : (i : ℕ) → is_done (turns ++ turn ∷ []) i ≡ is_done turns i = λ i.
+    rw (is_given-same turns turn i quiet.0, is_withdrawn-same turns turn i quiet.1) refl in
     let unknown : length (submitted turns) ≤ n → is_withdrawn turns n ≡ false = λ past.
-    by_bool (is_withdrawn turns n) (λ gone. absurd (omega (arith, sound.known n gone))) (λ not_gone. not_gone) in
+    false_from_ne_true (is_withdrawn turns n) (λ gone. absurd (omega (arith, sound.known n gone))) in
     record {
       within = omega (arith, old.within, length-submitted-push turns turn);
       before = λ i below. done i ∙ old.before i below;
@@ -92,8 +85,8 @@ next-is turns turn sound none stays =
           (cases_lt n (length (submitted turns)));
     }
 
-pub next-same : (turns : List Turn) (turn : Turn) → IsSound turns → answer_in turn.1 ≡ None → withdrawn_in turn.0 turn.1 ≡ None → next_ticket (turns ++ turn ∷ []) ≡ next_ticket turns
-next-same turns turn sound none stays = sym (IsNext-is (turns ++ turn ∷ []) (next_ticket turns) (next-is turns turn sound none stays))
+pub next-same : (turns : List Turn) (turn : Turn) → IsSound turns → IsQuiet turn → next_ticket (turns ++ turn ∷ []) ≡ next_ticket turns
+next-same turns turn sound quiet = sym (IsNext-is (turns ++ turn ∷ []) (next_ticket turns) (next-is turns turn sound quiet))
 
 -- the jobs before a known ticket stay, so what is due of them stays
 due-push : (gone : ℕ → Bool) (turns : List Turn) (turn : Turn) (n : ℕ) → n ≤ length (submitted turns) → due gone n (map value_of (submitted (turns ++ turn ∷ []))) ≡ due gone n (map value_of (submitted turns))
@@ -101,22 +94,18 @@ due-push gone turns turn n within =
     rw (submitted-push turns turn, map-append)
     (due-more gone n (map value_of (submitted turns)) _ (omega (arith, within, length-values turns)))
 
-IsSound-push_same : (turns : List Turn) (turn : Turn) → IsSound turns → answer_in turn.1 ≡ None → withdrawn_in turn.0 turn.1 ≡ None → IsSound (turns ++ turn ∷ [])
-IsSound-push_same turns turn sound none stays =
+IsSound-push_same : (turns : List Turn) (turn : Turn) → IsSound turns → IsQuiet turn → IsSound (turns ++ turn ∷ [])
+IsSound-push_same turns turn sound quiet =
     let after : List Turn = turns ++ turn ∷ [] in
-    let same_given : given after ≡ given turns = given_same turns turn none in
-    let same_withdrawn : withdrawn after ≡ withdrawn turns = withdrawn_same turns turn stays in
-    let gone : is_withdrawn after ≡ is_withdrawn turns = ap is_among same_withdrawn in
+    let gone : is_withdrawn after ≡ is_withdrawn turns = ap is_among (withdrawn_same turns turn quiet.1) in
     record {
       values =
-          same_given ∙ sound.values
+          given_same turns turn quiet.0 ∙ sound.values
           ∙ sym (due-push (is_withdrawn turns) turns turn (next_ticket turns) (next-within turns))
-          ∙ ap (λ n. due (is_withdrawn turns) n (map value_of (submitted after))) (sym (next-same turns turn sound none stays))
+          ∙ ap (λ n. due (is_withdrawn turns) n (map value_of (submitted after))) (sym (next-same turns turn sound quiet))
           ∙ ap (λ g. due g (next_ticket after) (map value_of (submitted after))) (sym gone);
-      arrived = λ i given_one. HasArrived-push turns turn i (sound.arrived i (sym (ap (list_any (λ (answer : ℕ × Answer). eqb answer.0 i)) same_given) ∙ given_one));
-      known = λ i gone_one.
-          let before : i < length (submitted turns) = sound.known i (sym (ap (λ w. is_among w i) same_withdrawn) ∙ gone_one) in
-          omega (arith, before, length-submitted-push turns turn);
+      arrived = λ i given_one. HasArrived-push turns turn i (sound.arrived i (sym (is_given-same turns turn i quiet.0) ∙ given_one));
+      known = λ i gone_one. omega (arith, sound.known i (sym (is_withdrawn-same turns turn i quiet.1) ∙ gone_one), length-submitted-push turns turn);
     }
 
 -- a turn that gives the next answer
@@ -132,14 +121,11 @@ pub record IsNextAnswer (turns : List Turn) (turn : Turn) (seq : ℕ) (answer : 
 pub given_more : (turns : List Turn) (turn : Turn) (seq : ℕ) (answer : Answer) → answer_in turn.1 ≡ Some (seq, answer) → given (turns ++ turn ∷ []) ≡ given turns ++ (seq, answer) ∷ []
 given_more turns turn seq answer some = given-push turns turn ∙ (rw some refl)
 
-last_given : (seq i : ℕ) (answer : Answer) → list_any (λ (numbered : ℕ × Answer). eqb numbered.0 i) ((seq, answer) ∷ []) ≡ eqb seq i
-last_given seq i answer = or-false (eqb seq i)
-
 pub is_given-more : (turns : List Turn) (turn : Turn) (seq : ℕ) (answer : Answer) (i : ℕ) → answer_in turn.1 ≡ Some (seq, answer) → is_given (turns ++ turn ∷ []) i ≡ (is_given turns i || eqb seq i)
 is_given-more turns turn seq answer i some =
     ap (list_any (λ (numbered : ℕ × Answer). eqb numbered.0 i)) (given_more turns turn seq answer some)
     ∙ list_any-append (λ (numbered : ℕ × Answer). eqb numbered.0 i) (given turns) ((seq, answer) ∷ [])
-    ∙ ap (λ b. is_given turns i || b) (last_given seq i answer)
+    ∙ ap (λ b. is_given turns i || b) (or-false (eqb seq i))
 
 -- the numbers between the answered ticket and the next one were withdrawn
 gone_between : (turns : List Turn) (turn : Turn) (seq : ℕ) (answer : Answer) → IsSound turns → IsNextAnswer turns turn seq answer → (i : ℕ) → seq < i → i < next_ticket (turns ++ turn ∷ []) → is_withdrawn turns i ≡ true
@@ -149,7 +135,7 @@ gone_between turns turn seq answer sound is_next i low high =
     is_given-more turns turn seq answer i is_next.gives
     ∙ or_from (is_given turns i) (eqb seq i) (not_given turns i sound (omega (arith, is_next.next))) (ne_eqb seq i (λ e. absurd (omega arith))) in
     let gone : is_withdrawn after i ≡ true = withdrawn-done after i other ((IsNext-next_ticket after).before i high) in
-    sym (ap (λ w. is_among w i) (withdrawn_same turns turn is_next.stays)) ∙ gone
+    sym (is_withdrawn-same turns turn i is_next.stays) ∙ gone
 
 later_next : (turns : List Turn) (turn : Turn) (seq : ℕ) (answer : Answer) → IsSound turns → IsNextAnswer turns turn seq answer → seq < next_ticket (turns ++ turn ∷ [])
 later_next turns turn seq answer sound is_next =
@@ -164,7 +150,7 @@ later_next turns turn seq answer sound is_next =
     let was_given = or_parts (is_given turns m) (eqb seq m) (sym (is_given-more turns turn seq answer m is_next.gives) ∙ parts.0) in
     let other : seq ≢ m = λ same. false≢true (sym was_given.1 ∙ eq-eqb seq m same) in
     let below : m < next_ticket turns = omega (arith, past, is_next.next, other) in
-    let was_gone : is_withdrawn turns m ≡ false = sym (ap (λ w. is_among w m) (withdrawn_same turns turn is_next.stays)) ∙ parts.1 in
+    let was_gone : is_withdrawn turns m ≡ false = sym (is_withdrawn-same turns turn m is_next.stays) ∙ parts.1 in
     absurd (false≢true (sym (or_from (is_given turns m) (is_withdrawn turns m) was_given.0 was_gone) ∙ (IsNext-next_ticket turns).before m below)))
     (cases_lt seq m)
 
@@ -194,9 +180,7 @@ IsSound-push_next turns turn seq answer sound is_next =
           ⊎_elim (λ earlier. HasArrived-push turns turn i (sound.arrived i earlier))
           (λ now. HasArrived-push turns turn i (subst (HasArrived turns) (eqb-true seq i now) is_next.arrived))
           (or_cases (is_given turns i) (eqb seq i) (sym (is_given-more turns turn seq answer i is_next.gives) ∙ given_one));
-      known = λ i gone_one.
-          let before : i < length (submitted turns) = sound.known i (sym (ap (λ g. g i) gone) ∙ gone_one) in
-          omega (arith, before, length-submitted-push turns turn);
+      known = λ i gone_one. omega (arith, sound.known i (sym (ap (λ g. g i) gone) ∙ gone_one), length-submitted-push turns turn);
     }
 
 -- a turn that withdraws a ticket
@@ -207,15 +191,12 @@ pub record IsWithdrawal (turns : List Turn) (turn : Turn) (seq : ℕ) : Type 0 w
   pub none : answer_in turn.1 ≡ None
   pub can : CanWithdraw turns seq
 
-last_among : (seq i : ℕ) → is_among (seq ∷ []) i ≡ eqb i seq
-last_among seq i = or-false (eqb i seq)
-
 pub is_withdrawn-more : (turns : List Turn) (turn : Turn) (seq i : ℕ) → withdrawn_in turn.0 turn.1 ≡ Some seq → is_withdrawn (turns ++ turn ∷ []) i ≡ (is_withdrawn turns i || eqb i seq)
 is_withdrawn-more turns turn seq i gone =
     let more : withdrawn (turns ++ turn ∷ []) ≡ withdrawn turns ++ seq ∷ [] = withdrawn-push turns turn ∙ (rw gone refl) in
     ap (λ w. is_among w i) more
     ∙ list_any-append (λ n. eqb i n) (withdrawn turns) (seq ∷ [])
-    ∙ ap (λ b. is_withdrawn turns i || b) (last_among seq i)
+    ∙ ap (λ b. is_withdrawn turns i || b) (or-false (eqb i seq))
 
 -- the next ticket doesn't go back
 no_earlier : (turns : List Turn) (turn : Turn) (seq : ℕ) → IsWithdrawal turns turn seq → next_ticket turns ≤ next_ticket (turns ++ turn ∷ [])
@@ -225,7 +206,7 @@ no_earlier turns turn seq is =
     ⊎_elim (λ below.
     let open_one : is_done after m ≡ false = (IsNext-next_ticket after).stops (omega (arith, below, next-within turns, length-submitted-push turns turn)) in
     let parts = or_parts (is_given after m) (is_withdrawn after m) open_one in
-    let was_given : is_given turns m ≡ false = sym (ap (list_any (λ (answer : ℕ × Answer). eqb answer.0 m)) (given_same turns turn is.none)) ∙ parts.0 in
+    let was_given : is_given turns m ≡ false = sym (is_given-same turns turn m is.none) ∙ parts.0 in
     let was_gone = or_parts (is_withdrawn turns m) (eqb m seq) (sym (is_withdrawn-more turns turn seq m is.gone) ∙ parts.1) in
     absurd (false≢true (sym (or_from (is_given turns m) (is_withdrawn turns m) was_given was_gone.0) ∙ (IsNext-next_ticket turns).before m below)))
     (λ past. past) (cases_lt m (next_ticket turns))
@@ -234,7 +215,6 @@ IsSound-push_withdrawal : (turns : List Turn) (turn : Turn) (seq : ℕ) → IsSo
 IsSound-push_withdrawal turns turn seq sound is =
     let after : List Turn = turns ++ turn ∷ [] in
     let jobs = map value_of (submitted after) in
-    let same_given : given after ≡ given turns = given_same turns turn is.none in
     let more : (i : ℕ) → is_withdrawn after i ≡ (is_withdrawn turns i || eqb i seq) = λ i. is_withdrawn-more turns turn seq i is.gone in
     let not_done : next_ticket turns ≤ seq =
     ⊎_elim (λ below. absurd (false≢true (sym is.can.1 ∙ (IsNext-next_ticket turns).before seq below))) (λ past. past) (cases_lt seq (next_ticket turns)) in
@@ -242,15 +222,15 @@ IsSound-push_withdrawal turns turn seq sound is =
     let other : eqb i seq ≡ false = ne_eqb i seq (λ e. absurd (omega arith)) in
     sym (more i ∙ ap (λ b. is_withdrawn turns i || b) other ∙ or-false (is_withdrawn turns i)) in
     let gone : (i : ℕ) → next_ticket turns ≤ i → i < next_ticket after → is_withdrawn after i ≡ true = λ i low high.
-    let other : is_given after i ≡ false = ap (list_any (λ (answer : ℕ × Answer). eqb answer.0 i)) same_given ∙ not_given turns i sound low in
+    let other : is_given after i ≡ false = is_given-same turns turn i is.none ∙ not_given turns i sound low in
     withdrawn-done after i other ((IsNext-next_ticket after).before i high) in
     record {
       values =
-          same_given ∙ sound.values
+          given_same turns turn is.none ∙ sound.values
           ∙ sym (due-push (is_withdrawn turns) turns turn (next_ticket turns) (next-within turns))
           ∙ sym (due-after_withdrawal (is_withdrawn turns) (is_withdrawn after) (next_ticket turns) (next_ticket after) jobs same (no_earlier turns turn seq is)
           (omega (arith, next-within after, length-values after)) gone);
-      arrived = λ i given_one. HasArrived-push turns turn i (sound.arrived i (sym (ap (list_any (λ (answer : ℕ × Answer). eqb answer.0 i)) same_given) ∙ given_one));
+      arrived = λ i given_one. HasArrived-push turns turn i (sound.arrived i (sym (is_given-same turns turn i is.none) ∙ given_one));
       known = λ i gone_one.
           ⊎_elim (λ before. omega (arith, sound.known i before, length-submitted-push turns turn))
           (λ now. let here : i ≡ seq = eqb-true i seq now in omega (arith, here, is.can.0, length-submitted-push turns turn))
@@ -262,57 +242,31 @@ IsSound-push_withdrawal turns turn seq sound is =
 -- one that gives and withdraws nothing, one that gives the next answer, or a withdrawal
 abbrev TurnKind : List Turn → Turn → Type 0
 TurnKind turns turn =
-    ((answer_in turn.1 ≡ None) × (withdrawn_in turn.0 turn.1 ≡ None))
+    IsQuiet turn
     ⊎ (((seq : ℕ) × (answer : Answer) × IsNextAnswer turns turn seq answer) ⊎ ((seq : ℕ) × IsWithdrawal turns turn seq))
 
 turn_kind : (turns : List Turn) (event : Event) (replied : Reply) → ReplyOf turns event replied → TurnKind turns (event, replied)
 turn_kind turns (Take table) (reply.Taken (taken.Answer seq answer)) legal =
     inr (inl (seq, answer, record { gives = refl; stays = refl; next = legal.0; arrived = legal.1; answer_is = legal.2 }))
-turn_kind turns (Take table) (reply.Taken taken.Waiting) legal = inl (refl, refl)
-turn_kind turns (Take table) (reply.Taken taken.Finished) legal = inl (refl, refl)
-turn_kind turns (Take table) (reply.Withdrawn done) legal = absurd legal
-turn_kind turns (Take table) reply.NoTable legal = absurd legal
-turn_kind turns (Take table) (reply.Ticket ticket) legal = absurd legal
-turn_kind turns (Take table) (reply.Refused what) legal = absurd legal
-turn_kind turns (Take table) (reply.Arrived what) legal = absurd legal
-turn_kind turns (Take table) (reply.Closed first) legal = absurd legal
+turn_kind turns (Take table) (reply.Taken what) legal = inl (refl, refl)
+turn_kind turns (Take table) replied legal = absurd legal
 turn_kind turns (Withdraw ticket) (reply.Withdrawn true) legal = inr (inr (ticket.seq, record { gone = refl; none = refl; can = legal }))
 turn_kind turns (Withdraw ticket) (reply.Withdrawn false) legal = inl (refl, refl)
 turn_kind turns (Withdraw ticket) (reply.Refused fault.Memory) legal = inl (refl, refl)
-turn_kind turns (Withdraw ticket) (reply.Refused fault.Closed) legal = absurd legal
-turn_kind turns (Withdraw ticket) (reply.Refused fault.Limit) legal = absurd legal
-turn_kind turns (Withdraw ticket) reply.NoTable legal = absurd legal
-turn_kind turns (Withdraw ticket) (reply.Ticket other) legal = absurd legal
-turn_kind turns (Withdraw ticket) (reply.Arrived what) legal = absurd legal
-turn_kind turns (Withdraw ticket) (reply.Closed first) legal = absurd legal
-turn_kind turns (Withdraw ticket) (reply.Taken what) legal = absurd legal
-turn_kind turns (Submit table job) (reply.Taken what) legal = absurd legal
-turn_kind turns (Submit table job) (reply.Withdrawn done) legal = absurd legal
-turn_kind turns (Submit table job) (reply.Arrived what) legal = absurd legal
-turn_kind turns (Submit table job) (reply.Closed first) legal = absurd legal
-turn_kind turns (Submit table job) reply.NoTable legal = absurd legal
+turn_kind turns (Withdraw ticket) replied legal = absurd legal
 turn_kind turns (Submit table job) (reply.Ticket ticket) legal = inl (refl, refl)
 turn_kind turns (Submit table job) (reply.Refused what) legal = inl (refl, refl)
-turn_kind turns (Arrive piece) (reply.Taken what) legal = absurd legal
-turn_kind turns (Arrive piece) (reply.Withdrawn done) legal = absurd legal
+turn_kind turns (Submit table job) replied legal = absurd legal
 turn_kind turns (Arrive piece) (reply.Arrived what) legal = inl (refl, refl)
-turn_kind turns (Arrive piece) (reply.Closed first) legal = absurd legal
-turn_kind turns (Arrive piece) reply.NoTable legal = absurd legal
-turn_kind turns (Arrive piece) (reply.Ticket ticket) legal = absurd legal
-turn_kind turns (Arrive piece) (reply.Refused what) legal = absurd legal
+turn_kind turns (Arrive piece) replied legal = absurd legal
 turn_kind turns (Close table) (reply.Closed first) legal = inl (refl, refl)
-turn_kind turns (Close table) (reply.Taken what) legal = cc
-turn_kind turns (Close table) (reply.Withdrawn done) legal = cc
-turn_kind turns (Close table) (reply.Arrived what) legal = cc
-turn_kind turns (Close table) reply.NoTable legal = cc
-turn_kind turns (Close table) (reply.Ticket ticket) legal = cc
-turn_kind turns (Close table) (reply.Refused what) legal = cc
+turn_kind turns (Close table) replied legal = cc
 
 pub IsSound-push : (turns : List Turn) (event : Event) (replied : Reply) → IsSound turns → ReplyOf turns event replied → IsSound (turns ++ (event, replied) ∷ [])
 IsSound-push turns event replied sound legal = by_kind (turn_kind turns event replied legal)
   where
     by_kind : TurnKind turns (event, replied) → IsSound (turns ++ (event, replied) ∷ [])
-    by_kind (inl (none, stays)) = IsSound-push_same turns (event, replied) sound none stays
+    by_kind (inl quiet) = IsSound-push_same turns (event, replied) sound quiet
     by_kind (inr (inl (seq, answer, is_next))) = IsSound-push_next turns (event, replied) seq answer sound is_next
     by_kind (inr (inr (seq, is))) = IsSound-push_withdrawal turns (event, replied) seq sound is
 
@@ -329,26 +283,8 @@ own_reply tables table history turn within own legal =
     let replied : ReplyOf (turns_of (table_of turn.0) history) turn.0 turn.1 = rw in_range at legal in
     subst (λ t. ReplyOf (turns_of t history) turn.0 turn.1) same replied
 
-IsSound-turn : (tables table : ℕ) (history : List Turn) (turn : Turn) → table < tables → IsSound (turns_of table history) → DeskReplyOf tables history turn → IsSound (turns_of table (history ++ turn ∷ []))
-IsSound-turn tables table history turn within sound legal = rw turns_of-push (by_table (eqb (table_of turn.0) table) refl)
-  where
-    by_table : (b : Bool) → eqb (table_of turn.0) table ≡ b → IsSound (if b then turns_of table history ++ turn ∷ [] else turns_of table history)
-    by_table false other = sound
-    by_table true own = IsSound-push (turns_of table history) turn.0 turn.1 sound (own_reply tables table history turn within own legal)
-
-pub IsSound-from_legal : (tables table : ℕ) (history rest : List Turn) → table < tables → IsSound (turns_of table history) → IsLegalAfter tables history rest → IsSound (turns_of table (history ++ rest))
-IsSound-from_legal tables table history [] within sound legal = rw (append-nil history) sound
-IsSound-from_legal tables table history (turn ∷ rest) within sound legal =
-    let after : IsSound (turns_of table (history ++ turn ∷ [])) = IsSound-turn tables table history turn within sound legal.0 in
-    let all : IsSound (turns_of table ((history ++ turn ∷ []) ++ rest)) = IsSound-from_legal tables table (history ++ turn ∷ []) rest within after legal.1 in
-    rw (← append_assoc history (turn ∷ []) rest) all
-
 pub IsSound-nil : IsSound []
 IsSound-nil = record { values = refl; arrived = λ i none. cc; known = λ i none. cc }
-
--- each table of a legal history was given the values of its jobs in order
-pub IsSound-IsLegal : (tables table : ℕ) (history : List Turn) → table < tables → IsLegal tables history → IsSound (turns_of table history)
-IsSound-IsLegal tables table history within legal = IsSound-from_legal tables table [] history within IsSound-nil legal
 
 pub IsLegalAfter-append : (tables : ℕ) (history turns more : List Turn) → IsLegalAfter tables history turns → IsLegalAfter tables (history ++ turns) more → IsLegalAfter tables history (turns ++ more)
 IsLegalAfter-append tables history [] more legal rest = rw append-nil at rest
@@ -385,6 +321,15 @@ AreOwnReplies-from_legal tables table history (turn ∷ rest) within legal =
 -- each turn of a table in a legal history has the reply that is due after those of the table before it
 pub AreOwnReplies-IsLegal : (tables table : ℕ) (history : List Turn) → table < tables → IsLegal tables history → AreOwnReplies [] (turns_of table history)
 AreOwnReplies-IsLegal tables table history within legal = AreOwnReplies-from_legal tables table [] history within legal
+
+pub IsSound-replies : (before turns : List Turn) → IsSound before → AreOwnReplies before turns → IsSound (before ++ turns)
+IsSound-replies before [] sound legal = rw (append-nil before) sound
+IsSound-replies before (turn ∷ turns) sound legal =
+    rw (← append_assoc before (turn ∷ []) turns) (IsSound-replies (before ++ turn ∷ []) turns (IsSound-push before turn.0 turn.1 sound legal.0) legal.1)
+
+-- each table of a legal history was given the values of its jobs in order
+pub IsSound-IsLegal : (tables table : ℕ) (history : List Turn) → table < tables → IsLegal tables history → IsSound (turns_of table history)
+IsSound-IsLegal tables table history within legal = IsSound-replies [] (turns_of table history) IsSound-nil (AreOwnReplies-IsLegal tables table history within legal)
 
 -- the same of a table's turns
 pub AreOwnReplies-split : (before turns more : List Turn) → AreOwnReplies before (turns ++ more) → AreOwnReplies before turns × AreOwnReplies (before ++ turns) more

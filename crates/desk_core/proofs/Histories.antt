@@ -1,7 +1,7 @@
 -- What one more turn changes in what a table's turns say.
-use Rattle.std.proofs.Common.{◌≡◌, ℕ, ◌<◌, ◌≤◌, ◌⊎◌, true, false, List, [], ◌∷◌, ◌++◌, length, take, drop, Some, None, refl, sym, ap, ◌∙◌, subst, inl, inr, ⊎_elim, arith, length-append, append_assoc, append-nil}
+use Rattle.std.proofs.Common.{◌≡◌, ℕ, ◌<◌, ◌≤◌, ◌⊎◌, true, eqb, List, [], ◌∷◌, ◌++◌, length, take, drop, Some, None, refl, sym, ap, ◌∙◌, subst, inl, inr, ⊎_elim, arith, length-append, append_assoc, append-nil}
 use Rattle.std.specs.Prelude.{slice_get, if◌then◌else◌, ◌||◌}
-use Rattle.std.specs.List.{cons_option}
+use Rattle.std.specs.List.{cons_option, list_any}
 use Rattle.std.proofs.lemmas.List.{take-append-le, take-append-drop}
 use Rattle.std.proofs.lemmas.List.Elements.{filter_map-append}
 use Rattle.std.proofs.lemmas.List.Folds.{list_any-append}
@@ -10,18 +10,17 @@ use Rattle.std.proofs.lemmas.Bool.{cases_lt}
 use Rattle.std.proofs.Math.Bool.{or-false}
 use Rattle.std.proofs.Math.Seq.{take-append_seam}
 use Rattle.desk_core.proofs.Lists.{filter_map-take_while-push, slice_get-append_left, slice_get-push}
+use Rattle.desk_core.specs.LaneState.{is_among}
 use Rattle.desk_core.specs.Ticketed.{Ticketed}
-use Rattle.desk_core.specs.History.{Turn, is_close, is_closed, submitted, submitted_job, HasArrived, given, answer_in, withdrawn, withdrawn_in}
+use Rattle.desk_core.specs.declared.answer.Answer.{Answer}
+use Rattle.desk_core.specs.History.{Turn, is_close, is_closed, submitted, submitted_job, HasArrived, given, answer_in, withdrawn, withdrawn_in, is_given, is_withdrawn}
 use Rattle.desk_core.specs.declared.event.Event.{Event}
-use Rattle.desk_core.specs.declared.event.Event.TheVariants.{Submit, Arrive, Close, Take, Withdraw}
+use Rattle.desk_core.specs.declared.event.Event.TheVariants.{Arrive, Close}
 use Rattle.desk_core.specs.declared.reply.Reply.{Reply}
 
 close_submits_nothing : (event : Event) (replied : Reply) → is_close event ≡ true → submitted_job event replied ≡ None
 close_submits_nothing (Close table) replied closes = refl
-close_submits_nothing (Submit table job) replied closes = cc
-close_submits_nothing (Arrive piece) replied closes = cc
-close_submits_nothing (Take table) replied closes = cc
-close_submits_nothing (Withdraw ticket) replied closes = cc
+close_submits_nothing event replied closes = cc
 
 pub submitted-push : (turns : List Turn) (turn : Turn) → submitted (turns ++ turn ∷ []) ≡ submitted turns ++ (if is_closed turns then [] else cons_option (submitted_job turn.0 turn.1) [])
 submitted-push turns turn =
@@ -37,13 +36,21 @@ given-push turns turn = filter_map-append (λ t. answer_in t.1) turns (turn ∷ 
 pub withdrawn-push : (turns : List Turn) (turn : Turn) → withdrawn (turns ++ turn ∷ []) ≡ withdrawn turns ++ cons_option (withdrawn_in turn.0 turn.1) []
 withdrawn-push turns turn = filter_map-append (λ t. withdrawn_in t.0 t.1) turns (turn ∷ [])
 
--- a turn that gives nothing, and one that withdraws nothing
+-- a turn that gives and withdraws nothing
+abbrev pub IsQuiet : Turn → Type 0
+IsQuiet turn = (answer_in turn.1 ≡ None) × (withdrawn_in turn.0 turn.1 ≡ None)
 
 pub given_same : (turns : List Turn) (turn : Turn) → answer_in turn.1 ≡ None → given (turns ++ turn ∷ []) ≡ given turns
 given_same turns turn none = given-push turns turn ∙ (rw none (append-nil (given turns)))
 
 pub withdrawn_same : (turns : List Turn) (turn : Turn) → withdrawn_in turn.0 turn.1 ≡ None → withdrawn (turns ++ turn ∷ []) ≡ withdrawn turns
 withdrawn_same turns turn none = withdrawn-push turns turn ∙ (rw none (append-nil (withdrawn turns)))
+
+pub is_given-same : (turns : List Turn) (turn : Turn) (i : ℕ) → answer_in turn.1 ≡ None → is_given (turns ++ turn ∷ []) i ≡ is_given turns i
+is_given-same turns turn i none = ap (list_any (λ (answer : ℕ × Answer). eqb answer.0 i)) (given_same turns turn none)
+
+pub is_withdrawn-same : (turns : List Turn) (turn : Turn) (i : ℕ) → withdrawn_in turn.0 turn.1 ≡ None → is_withdrawn (turns ++ turn ∷ []) i ≡ is_withdrawn turns i
+is_withdrawn-same turns turn i none = ap (λ w. is_among w i) (withdrawn_same turns turn none)
 
 -- no later turn takes a job back
 

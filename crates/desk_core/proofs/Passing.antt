@@ -5,7 +5,7 @@ use Rattle.std.specs.List.{list_any}
 use Rattle.std.specs.Ordering.{nat_cmp, eq_by_cmp}
 use Rattle.std.specs.Cmp.{unsigned_tied}
 use Rattle.std.proofs.lemmas.Bool.{cases_lt, cases_eq, ne_eqb}
-use Rattle.desk_core.proofs.Lists.{drop-drop}
+use Rattle.std.proofs.lemmas.List.{drop-drop}
 use Rattle.desk_core.specs.LaneState.{LaneState, is_among}
 
 -- some withdrawn jobs at the front are passed, and maybe not all
@@ -50,9 +50,8 @@ among-added old new number updated i =
   where
     either_way : (a b : Bool) → cond a true b ≡ (b || a)
     either_way true true = refl
-    either_way true false = refl
     either_way false true = refl
-    either_way false false = refl
+    either_way _ _ = refl
 
     eqb-sym : (m n : ℕ) → (m == n) ≡ (n == m)
     eqb-sym m n = ⊎_elim (λ same. rw same refl) (λ differ. ne_eqb m n differ ∙ sym (ne_eqb n m (λ e. differ (sym e)))) (cases_eq m n)

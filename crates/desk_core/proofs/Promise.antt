@@ -1,13 +1,14 @@
 -- The promise of a whole run.
-use Rattle.std.proofs.Common.{◌≡◌, ℕ, suc, ◌+◌, ◌<◌, ◌⊎◌, List, [], ◌∷◌, ◌++◌, length, take, drop, map, Some, refl, sym, ap, ◌∙◌, ⊎_elim, arith, not, filter, length-append, length-drop, append_assoc, append-nil}
+use Rattle.std.proofs.Common.{◌≡◌, ℕ, suc, ◌+◌, ◌<◌, ◌⊎◌, List, [], ◌∷◌, ◌++◌, length, take, drop, map, Some, refl, sym, ap, ◌∙◌, ⊎_elim, arith, not, filter, length-append, length-drop}
 use Rattle.std.specs.Prelude.{slice_get, option_map}
 use Rattle.std.specs.List.{enumerate_from}
 use Rattle.std.proofs.lemmas.Bool.{cases_lt}
+use Rattle.std.proofs.lemmas.List.{nil_from_length}
 use Rattle.desk_core.proofs.Lists.{drop-get}
 use Rattle.desk_core.proofs.Due.{due-all}
 use Rattle.desk_core.proofs.Histories.{HasArrived-push, withdrawn_same}
-use Rattle.desk_core.proofs.Facts.{IsSound, IsSound-IsLegal, IsSound-push, IsSound-nil, in_order, next_stays, given_more, length-values, AreOwnReplies, AreOwnReplies-IsLegal, AreOwnReplies-split}
-use Rattle.desk_core.proofs.Steps.{take_submits_nothing}
+use Rattle.desk_core.proofs.Facts.{IsSound, IsSound-IsLegal, IsSound-replies, IsSound-push, IsSound-nil, in_order, next_stays, given_more, length-values, AreOwnReplies, AreOwnReplies-IsLegal, AreOwnReplies-split}
+use Rattle.desk_core.proofs.Steps.{submits_nothing}
 use Rattle.desk_core.specs.Value.{value_of}
 use Rattle.desk_core.specs.LaneState.{is_among}
 use Rattle.desk_core.specs.History.{Turn, turns_of, submitted, is_withdrawn, HasArrived, given, answer_in, answers_due, next_ticket, TakeReply, IsLegal}
@@ -25,14 +26,8 @@ answered answer = reply.Taken (taken.Answer answer.0 answer.1)
 answer-from_arrived : (turns : List Turn) (replied : Reply) → HasArrived turns (next_ticket turns) → TakeReply turns replied → (answer : Answer) × (replied ≡ answered (next_ticket turns, answer)) × (option_map value_of (slice_get (submitted turns) (next_ticket turns)) ≡ Some answer)
 answer-from_arrived turns (reply.Taken (taken.Answer seq answer)) has legal =
     (answer, ap (λ n. answered (n, answer)) legal.0, rw (← legal.0) legal.2)
-answer-from_arrived turns (reply.Taken taken.Finished) has legal = absurd (legal.0 has)
-answer-from_arrived turns (reply.Taken taken.Waiting) has legal = absurd (legal.0 has)
-answer-from_arrived turns reply.NoTable has legal = absurd legal
-answer-from_arrived turns (reply.Ticket ticket) has legal = absurd legal
-answer-from_arrived turns (reply.Refused fault) has legal = absurd legal
-answer-from_arrived turns (reply.Arrived what) has legal = absurd legal
-answer-from_arrived turns (reply.Closed first) has legal = absurd legal
-answer-from_arrived turns (reply.Withdrawn done) has legal = absurd legal
+answer-from_arrived turns (reply.Taken what) has legal = absurd (legal.0 has)
+answer-from_arrived turns replied has legal = absurd legal
 
 -- where answers are left, the next ticket was given out
 next_is_there : (turns : List Turn) → IsSound turns → 0 < length (answers_left turns) → next_ticket turns < length (submitted turns)
@@ -55,12 +50,7 @@ front_get (z ∷ xs) (y ∷ ys) x same = front_get xs ys x (tail_same same)
 
 takings_answer : (table : ℕ) (before : List Turn) (replies : List Reply) → IsSound before → AreOwnReplies before (takings table replies) → AllArrived before → length replies ≡ length (answers_left before) → replies ≡ map answered (answers_left before)
 takings_answer table before [] sound legal all count =
-    let none : answers_left before ≡ [] = nothing (answers_left before) count in
-    ap (map answered) (sym none)
-  where
-    nothing : {X : Type 0} (xs : List X) → 0 ≡ length xs → xs ≡ []
-    nothing [] same = refl
-    nothing (x ∷ xs) same = absurd (omega arith)
+    ap (map answered) (sym (nil_from_length (answers_left before) (sym count)))
 takings_answer table before (replied ∷ replies) sound legal all count =
     let turn : Turn = (Take table, replied) in
     let after : List Turn = before ++ turn ∷ [] in
@@ -69,7 +59,7 @@ takings_answer table before (replied ∷ replies) sound legal all count =
     let has : HasArrived before next = all next inside (next_stays before inside) in
     let found = answer-from_arrived before replied has legal.0 in
     let answer : Answer = found.0 in
-    let jobs : submitted after ≡ submitted before = take_submits_nothing before table replied in
+    let jobs : submitted after ≡ submitted before = submits_nothing before turn refl in
     let gone : is_withdrawn after ≡ is_withdrawn before = ap is_among (withdrawn_same before turn refl) in
     let due : answers_due after ≡ answers_due before =
     ap (λ g. filter (λ (n : ℕ × Answer). not (g n.0)) (enumerate_from 0 (map value_of (submitted after)))) gone
@@ -92,12 +82,6 @@ takings_answer table before (replied ∷ replies) sound legal all count =
     ap (λ r. r ∷ replies) found.1
     ∙ ap (λ rs. answered (next, answer) ∷ rs) (later ∙ ap (map answered) left)
     ∙ ap (map answered) (sym rest)
-
-IsSound-replies : (before turns : List Turn) → IsSound before → AreOwnReplies before turns → IsSound (before ++ turns)
-IsSound-replies before [] sound legal = rw (append-nil before) sound
-IsSound-replies before (turn ∷ turns) sound legal =
-    let after : IsSound ((before ++ turn ∷ []) ++ turns) = IsSound-replies (before ++ turn ∷ []) turns (IsSound-push before turn.0 turn.1 sound legal.0) legal.1 in
-    rw (← append_assoc before (turn ∷ []) turns) after
 
 pub KeepsItsPromise-IsLegal : (tables : ℕ) (history : List Turn) → IsLegal tables history → KeepsItsPromise tables history
 KeepsItsPromise-IsLegal tables history legal =

@@ -58,24 +58,24 @@ same_flags a b h =
     let r = and_parts _ _ i.1 in
     let c = and_parts _ _ r.1 in
     let l = and_parts _ _ c.1 in
-    let flags_of : Bool → Bool → Bool → Bool → Bool → Flags = λ v w x y z. record { ippatsu = v; rinshan = w; chankan = x; last = y; first = z } in
-    let same : flags_of a.ippatsu a.rinshan a.chankan a.last a.first ≡ b =
-    rw (same_bools a.ippatsu b.ippatsu i.0, same_bools a.rinshan b.rinshan r.0, same_bools a.chankan b.chankan c.0, same_bools a.last b.last l.0, same_bools a.first b.first l.1) refl in same
+    λ k. record {
+      ippatsu = same_bools a.ippatsu b.ippatsu i.0 k;
+      rinshan = same_bools a.rinshan b.rinshan r.0 k;
+      chankan = same_bools a.chankan b.chankan c.0 k;
+      last = same_bools a.last b.last l.0 k;
+      first = same_bools a.first b.first l.1 k;
+    }
 
 same_hand : (a b : HandParts) → hand.eq a b ≡ true → a ≡ b
 same_hand a b h =
     let both = and_parts (counts.eq a.concealed b.concealed) (melds.eq a.melds b.melds) h in
-    let parts_of : List ℕ → List Meld → HandParts = λ x y. record { concealed = x; melds = y } in
-    let same : parts_of a.concealed a.melds ≡ b =
-    rw (same_counts a.concealed b.concealed both.0, (same_melds a.melds b.melds).0 both.1) refl in same
+    λ k. record { concealed = same_counts a.concealed b.concealed both.0 k; melds = (same_melds a.melds b.melds).0 both.1 k }
 
 same_shape : (a b : ShapeParts) → shape.eq a b ≡ true → a ≡ b
 same_shape a b h =
     let tiles = and_parts (counts.eq a.tiles b.tiles) _ h in
     let both = and_parts (melds.eq a.melds b.melds) (counts.eq a.seen b.seen) tiles.1 in
-    let parts_of : List ℕ → List Meld → List ℕ → ShapeParts = λ x y z. record { tiles = x; melds = y; seen = z } in
-    let same : parts_of a.tiles a.melds a.seen ≡ b =
-    rw (same_counts a.tiles b.tiles tiles.0, (same_melds a.melds b.melds).0 both.0, same_counts a.seen b.seen both.1) refl in same
+    λ k. record { tiles = same_counts a.tiles b.tiles tiles.0 k; melds = (same_melds a.melds b.melds).0 both.0 k; seen = same_counts a.seen b.seen both.1 k }
 
 same_parts : (a b : WinParts) → parts.eq a b ≡ true → a ≡ b
 same_parts a b h =
@@ -92,50 +92,28 @@ same_parts a b h =
     let by_ura = and_parts (counts.eq a.ura b.ura) _ by_dora.1 in
     let by_counters = and_parts (nat_eq a.counters b.counters) _ by_ura.1 in
     let by_sticks = and_parts (nat_eq a.sticks b.sticks) (reds.eq a.reds b.reds) by_counters.1 in
-    let whole : WinParts = record {
-      rules = a.rules;
-      concealed = a.concealed;
-      melds = a.melds;
-      winning = a.winning;
-      by = a.by;
-      seat = a.seat;
-      round = a.round;
-      riichi = a.riichi;
-      flags = a.flags;
-      dora = a.dora;
-      ura = a.ura;
-      counters = a.counters;
-      sticks = a.sticks;
-      reds = a.reds;
-    } in
-    let same : whole ≡ b =
-    rw (
-      same_rules a.rules b.rules by_rules.0,
-      same_counts a.concealed b.concealed by_concealed.0,
-      (same_melds a.melds b.melds).0 by_melds.0,
-      eqb-true a.winning b.winning by_winning.0,
-      same_by a.by b.by by_by.0,
-      same_wind a.seat b.seat by_seat.0,
-      same_wind a.round b.round by_round.0,
-      eqb-true a.riichi b.riichi by_riichi.0,
-      same_flags a.flags b.flags by_flags.0,
-      same_counts a.dora b.dora by_dora.0,
-      same_counts a.ura b.ura by_ura.0,
-      eqb-true a.counters b.counters by_counters.0,
-      eqb-true a.sticks b.sticks by_sticks.0,
-      same_reds a.reds b.reds by_sticks.1,
-    ) refl in same
+    λ k. record {
+      rules = same_rules a.rules b.rules by_rules.0 k;
+      concealed = same_counts a.concealed b.concealed by_concealed.0 k;
+      melds = (same_melds a.melds b.melds).0 by_melds.0 k;
+      winning = eqb-true a.winning b.winning by_winning.0 k;
+      by = same_by a.by b.by by_by.0 k;
+      seat = same_wind a.seat b.seat by_seat.0 k;
+      round = same_wind a.round b.round by_round.0 k;
+      riichi = eqb-true a.riichi b.riichi by_riichi.0 k;
+      flags = same_flags a.flags b.flags by_flags.0 k;
+      dora = same_counts a.dora b.dora by_dora.0 k;
+      ura = same_counts a.ura b.ura by_ura.0 k;
+      counters = eqb-true a.counters b.counters by_counters.0 k;
+      sticks = eqb-true a.sticks b.sticks by_sticks.0 k;
+      reds = same_reds a.reds b.reds by_sticks.1 k;
+    }
 
 same_job : (a b : Job) → job.eq a b ≡ true → a ≡ b
 same_job (kind.Win a) (kind.Win b) h = ap kind.Win (same_parts a b h)
 same_job (kind.Waits a) (kind.Waits b) h = ap kind.Waits (same_hand a b h)
 same_job (kind.Shape a) (kind.Shape b) h = ap kind.Shape (same_shape a b h)
-same_job (kind.Win a) (kind.Waits b) h = cc
-same_job (kind.Win a) (kind.Shape b) h = cc
-same_job (kind.Waits a) (kind.Win b) h = cc
-same_job (kind.Waits a) (kind.Shape b) h = cc
-same_job (kind.Shape a) (kind.Win b) h = cc
-same_job (kind.Shape a) (kind.Waits b) h = cc
+same_job a b h = cc
 
 -- `==` of two jobs says whether they are one
 pub job_eq-Decides : (a b : Job) → Decides (job.eq a b) (a ≡ b)

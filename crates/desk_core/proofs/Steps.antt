@@ -1,25 +1,23 @@
 -- What each call of a lane leaves, after the turns of its table.
 use Rattle.std.proofs.Common.{◌≡◌, ℕ, suc, ◌+◌, ◌-◌, ◌<◌, ◌≤◌, ◌⊎◌, Bool, true, false, ltb, eqb, List, [], ◌∷◌, ◌++◌, length, drop, map, Some, None, refl, sym, ap, ◌∙◌, subst, inl, inr, ⊎_elim, arith, not, length-append, length-drop, append-nil, add-one}
 use Rattle.std.specs.Prelude.{slice_get, slice_set, option_map, ◌||◌, ◌≢◌, ◌↔◌}
-use Rattle.std.specs.List.{list_any}
-use Rattle.std.proofs.lemmas.List.{map-append, length-map, drop-append-le}
-use Rattle.std.proofs.lemmas.Option.{slice_get_within}
+use Rattle.std.proofs.lemmas.List.{map-append, length-map, drop-append-le, drop-drop, drop-map}
+use Rattle.std.proofs.lemmas.Option.{same_Some, slice_get_within, slice_get-map}
 use Rattle.std.proofs.lemmas.Bool.{cases_lt, cases_eq, eq-eqb, ne_eqb, lt-ltb, false≢true, or_right, or_from, or_parts}
 use Rattle.std.proofs.Math.Bool.{or-false, or-true}
-use Rattle.desk_core.proofs.Lists.{slice_get-append_left, slice_get-push, slice_get-drop, slice_get-map, slice_get-set_same, slice_get-set_other, map-set_same, drop-suc, drop-drop, map-drop, if-same, set-slice_get}
-use Rattle.desk_core.proofs.Histories.{submitted-push, is_closed-push, HasArrived-push, HasArrived-push_cases, HasArrived-within, HasArrived-from_BringsIn, BringsIn, given_same, withdrawn_same}
+use Rattle.desk_core.proofs.Lists.{slice_get-append_left, slice_get-push, slice_get-drop, slice_get-set_same, slice_get-set_other, map-set_same, drop-suc, if-same, set-slice_get}
+use Rattle.desk_core.proofs.Histories.{submitted-push, is_closed-push, HasArrived-push, HasArrived-push_cases, HasArrived-within, HasArrived-from_BringsIn, BringsIn, IsQuiet, is_given-same, is_withdrawn-same}
 use Rattle.desk_core.proofs.Next.{IsNext, IsNext-next_ticket, IsNext-is}
 use Rattle.desk_core.proofs.Facts.{IsSound, IsSound-IsLegal, next-within, next-same, not_given, arrived_before, next_stays, is_given-more, is_withdrawn-more, turns_of-push, IsLegal-push}
 use Rattle.desk_core.specs.Value.{value_of}
 use Rattle.desk_core.specs.Ticketed.{Ticketed}
 use Rattle.desk_core.specs.LaneState.{LaneState, is_among, with_job, PassesWithdrawn, CanTakeBack, TakesBack}
-use Rattle.desk_core.specs.History.{Turn, table_of, turns_of, is_close, is_closed, submitted, submitted_job, HasArrived, given, answer_in, withdrawn, withdrawn_in, is_given, is_withdrawn, is_done, next_ticket, CanWithdraw, ReplyOf, DeskReplyOf}
+use Rattle.desk_core.specs.History.{Turn, table_of, turns_of, is_close, is_closed, submitted, submitted_job, HasArrived, withdrawn, is_given, is_withdrawn, is_done, next_ticket, CanWithdraw, ReplyOf, DeskReplyOf}
 use Rattle.desk_core.specs.Step.{IsLeftBy, IsStep}
 use Rattle.desk_core.specs.Entry.{TakesIn}
 use Rattle.desk_core.specs.declared.arrived.Arrived.{Arrived}
 use Rattle.riichi_hand.specs.declared.job.Job.{Job}
 use Rattle.desk_core.specs.declared.ticket.Ticket.{Ticket}
-use Rattle.desk_core.specs.declared.answer.Answer.{Answer}
 use Rattle.desk_core.specs.declared.event.Event.{Event}
 use Rattle.desk_core.specs.declared.event.Event.TheVariants.{Submit, Arrive, Close, Take, Withdraw}
 use Rattle.desk_core.specs.declared.reply.Reply.{Reply}
@@ -63,17 +61,9 @@ job_at turns lane k job flag left there =
     ∙ slice_get-map (λ (e : Job × Bool). e.0) lane.window k
     ∙ ap (option_map (λ (e : Job × Bool). e.0)) there
 
--- a turn that gives and withdraws nothing
-pub record IsQuiet (turn : Turn) : Type 0 where
-  pub no_answer : answer_in turn.1 ≡ None
-  pub no_withdrawal : withdrawn_in turn.0 turn.1 ≡ None
-
 -- it brings in no piece of a ticket that was not withdrawn, but one that has arrived
 abbrev BringsNothing : List Turn → Turn → Type 0
 BringsNothing turns turn = (i : ℕ) → is_withdrawn turns i ≡ false → BringsIn turns turn i → HasArrived turns i
-
-withdrawn_stays : (turns : List Turn) (turn : Turn) (i : ℕ) → IsQuiet turn → is_withdrawn (turns ++ turn ∷ []) i ≡ is_withdrawn turns i
-withdrawn_stays turns turn i quiet = ap (λ w. is_among w i) (withdrawn_same turns turn quiet.no_withdrawal)
 
 -- what is known of an entry stays known where its ticket was not withdrawn
 arrived_on : (turns : List Turn) (turn : Turn) (lane : LaneState) (k : ℕ) (job : Job) (flag : Bool) → IsLeftBy turns lane → is_withdrawn turns (lane.next + k) ≡ false → BringsNothing turns turn → slice_get lane.window k ≡ Some (job, flag) → (flag ≡ true) ↔ HasArrived (turns ++ turn ∷ []) (lane.next + k)
@@ -85,53 +75,58 @@ arrived_on turns turn lane k job flag left stays old there =
 
 entry_stays : (turns : List Turn) (turn : Turn) (lane : LaneState) (k : ℕ) (job : Job) (flag : Bool) → IsLeftBy turns lane → IsQuiet turn → BringsNothing turns turn → slice_get lane.window k ≡ Some (job, flag) → is_withdrawn (turns ++ turn ∷ []) (lane.next + k) ≡ false → (flag ≡ true) ↔ HasArrived (turns ++ turn ∷ []) (lane.next + k)
 entry_stays turns turn lane k job flag left quiet old there stays =
-    arrived_on turns turn lane k job flag left (sym (withdrawn_stays turns turn (lane.next + k) quiet) ∙ stays) old there
+    arrived_on turns turn lane k job flag left (sym (is_withdrawn-same turns turn (lane.next + k) quiet.1) ∙ stays) old there
 
 -- a turn that gives and withdraws nothing, and brings in nothing new
 pub IsLeftBy-kept : (turns : List Turn) (turn : Turn) (lane : LaneState) (closed : Bool) → IsSound turns → IsLeftBy turns lane → IsQuiet turn → submitted (turns ++ turn ∷ []) ≡ submitted turns → BringsNothing turns turn → closed ≡ is_closed (turns ++ turn ∷ []) → IsLeftBy (turns ++ turn ∷ []) (record lane { closed = closed })
 IsLeftBy-kept turns turn lane closed sound left quiet jobs old close =
     record {
-      next = left.next ∙ sym (next-same turns turn sound quiet.no_answer quiet.no_withdrawal);
+      next = left.next ∙ sym (next-same turns turn sound quiet);
       jobs = left.jobs ∙ ap (drop lane.next) (sym jobs);
       arrived = λ k job flag there stays. entry_stays turns turn lane k job flag left quiet old there stays;
-      withdrawn = λ i. left.withdrawn i ∙ sym (withdrawn_stays turns turn i quiet);
+      withdrawn = λ i. left.withdrawn i ∙ sym (is_withdrawn-same turns turn i quiet.1);
       closed = close;
     }
 
-pub some_injective : {X : Type 0} {x y : X} → Some x ≡ Some y → x ≡ y
-some_injective e = cc
+pub submits_nothing : (turns : List Turn) (turn : Turn) → submitted_job turn.0 turn.1 ≡ None → submitted (turns ++ turn ∷ []) ≡ submitted turns
+submits_nothing turns turn none = submitted-push turns turn ∙ (rw (none, if-same) (append-nil (submitted turns)))
+
+still_closed : (turns : List Turn) (turn : Turn) (lane : LaneState) → IsLeftBy turns lane → is_close turn.0 ≡ false → lane.closed ≡ is_closed (turns ++ turn ∷ [])
+still_closed turns turn lane left not_close =
+    left.closed ∙ sym (is_closed-push turns turn ∙ (rw not_close (or-false (is_closed turns))))
+
+abbrev is_arrival : Event → Bool
+is_arrival (Arrive piece) = true
+is_arrival event = false
+
+brings_nothing : (turns : List Turn) (turn : Turn) → is_arrival turn.0 ≡ false → BringsNothing turns turn
+brings_nothing turns turn other i stays brought = absurd (false≢true (sym other ∙ ap (λ (t : Turn). is_arrival t.0) brought.turn_is))
+
+-- a turn that gives, withdraws, submits, closes and brings in nothing leaves the lane as it is
+abbrev IsIdle : Turn → Type 0
+IsIdle turn = IsQuiet turn × (submitted_job turn.0 turn.1 ≡ None) × (is_close turn.0 ≡ false) × (is_arrival turn.0 ≡ false)
+
+idle_kept : (lane : LaneState) (turn : Turn) (turns : List Turn) → IsSound turns → IsLeftBy turns lane → IsIdle turn → IsLeftBy (turns ++ turn ∷ []) lane
+idle_kept lane turn turns sound left idle =
+    IsLeftBy-kept turns turn lane lane.closed sound left idle.0 (submits_nothing turns turn idle.1) (brings_nothing turns turn idle.3) (still_closed turns turn lane left idle.2)
 
 -- submissions
-
-submit_brings_nothing : (turns : List Turn) (table : ℕ) (job : Job) (replied : Reply) → BringsNothing turns (Submit table job, replied)
-submit_brings_nothing turns table job replied i stays brought =
-    let event : Submit table job ≡ Arrive brought.piece = ap (λ (t : Turn). t.0) brought.turn_is in cc
 
 pub submit_after_close : (lane : LaneState) (job : Job) → lane.closed ≡ true → IsOwnStep lane (Submit lane.table job) (reply.Refused fault.Closed) lane
 submit_after_close lane job closed = λ turns sound left.
     let turn : Turn = (Submit lane.table job, reply.Refused fault.Closed) in
     let was : is_closed turns ≡ true = sym left.closed ∙ closed in
     let jobs : submitted (turns ++ turn ∷ []) ≡ submitted turns = submitted-push turns turn ∙ (rw was (append-nil (submitted turns))) in
-    let still : lane.closed ≡ is_closed (turns ++ turn ∷ []) = closed ∙ sym (is_closed-push turns turn ∙ (rw was refl)) in
-    (was, IsLeftBy-kept turns turn lane lane.closed sound left (record { no_answer = refl; no_withdrawal = refl }) jobs (submit_brings_nothing turns lane.table job _) still)
-
--- a submission that adds no job leaves the lane as it is
-submit_refused : (lane : LaneState) (job : Job) (replied : Reply) (turns : List Turn) → IsSound turns → IsLeftBy turns lane → submitted_job (Submit lane.table job) replied ≡ None → IsQuiet (Submit lane.table job, replied) → IsLeftBy (turns ++ (Submit lane.table job, replied) ∷ []) lane
-submit_refused lane job replied turns sound left none quiet =
-    let turn : Turn = (Submit lane.table job, replied) in
-    let jobs : submitted (turns ++ turn ∷ []) ≡ submitted turns =
-    submitted-push turns turn ∙ (rw (none, if-same) (append-nil (submitted turns))) in
-    let still : lane.closed ≡ is_closed (turns ++ turn ∷ []) = left.closed ∙ sym (is_closed-push turns turn ∙ or-false (is_closed turns)) in
-    IsLeftBy-kept turns turn lane lane.closed sound left quiet jobs (submit_brings_nothing turns lane.table job replied) still
+    (was, IsLeftBy-kept turns turn lane lane.closed sound left (refl, refl) jobs (brings_nothing turns turn refl) (still_closed turns turn lane left refl))
 
 pub submit_over_limit : (lane : LaneState) (job : Job) → lane.closed ≡ false → lane.next + length lane.window ≡ 1000000 → IsOwnStep lane (Submit lane.table job) (reply.Refused fault.Limit) lane
 submit_over_limit lane job is_open full = λ turns sound left.
-    ((sym left.closed ∙ is_open, omega (arith, count turns lane left)), submit_refused lane job (reply.Refused fault.Limit) turns sound left refl (record { no_answer = refl; no_withdrawal = refl }))
+    ((sym left.closed ∙ is_open, omega (arith, count turns lane left)), idle_kept lane (Submit lane.table job, reply.Refused fault.Limit) turns sound left ((refl, refl), refl, refl, refl))
 
 pub submit_without_memory : (lane : LaneState) (job : Job) → lane.closed ≡ false → lane.next + length lane.window ≢ 1000000 → IsOwnStep lane (Submit lane.table job) (reply.Refused fault.Memory) lane
 submit_without_memory lane job is_open room = λ turns sound left.
     let below : length (submitted turns) ≢ 1000000 = λ e. room (count turns lane left ∙ e) in
-    ((sym left.closed ∙ is_open, below), submit_refused lane job (reply.Refused fault.Memory) turns sound left refl (record { no_answer = refl; no_withdrawal = refl }))
+    ((sym left.closed ∙ is_open, below), idle_kept lane (Submit lane.table job, reply.Refused fault.Memory) turns sound left ((refl, refl), refl, refl, refl))
 
 submitted_arrived : (lane : LaneState) (job : Job) (turns : List Turn) (turn : Turn) → IsLeftBy turns lane → lane.next + length lane.window ≡ length (submitted turns) → IsQuiet turn → BringsNothing turns turn → (k : ℕ) (other : Job) (flag : Bool) → slice_get (lane.window ++ (job, false) ∷ []) k ≡ Some (other, flag) → is_withdrawn (turns ++ turn ∷ []) (lane.next + k) ≡ false → (flag ≡ true) ↔ HasArrived (turns ++ turn ∷ []) (lane.next + k)
 submitted_arrived lane job turns turn left total quiet old k other flag there stays =
@@ -141,9 +136,9 @@ submitted_arrived lane job turns turn left total quiet old k other flag there st
     (λ past.
     let last : k ≡ length lane.window = omega (arith, length-append lane.window ((job, false) ∷ [])) in
     let there' : slice_get (lane.window ++ (job, false) ∷ []) (length lane.window) ≡ Some (other, flag) = rw last at there in
-    let pair : (job, false) ≡ (other, flag) = some_injective (sym (slice_get-push lane.window (job, false)) ∙ there') in
+    let pair : (job, false) ≡ (other, flag) = same_Some _ _ (sym (slice_get-push lane.window (job, false)) ∙ there') in
     let is_false : false ≡ flag = ap (λ (e : Job × Bool). e.1) pair in
-    let stayed : is_withdrawn turns (lane.next + k) ≡ false = sym (withdrawn_stays turns turn (lane.next + k) quiet) ∙ stays in (
+    let stayed : is_withdrawn turns (lane.next + k) ≡ false = sym (is_withdrawn-same turns turn (lane.next + k) quiet.1) ∙ stays in (
       λ holds. absurd (false≢true (is_false ∙ holds)),
       λ now.
           let before : HasArrived turns (lane.next + k) = ⊎_elim (λ b. b) (λ brought. old (lane.next + k) stayed brought) (HasArrived-push_cases turns turn (lane.next + k) now) in
@@ -160,33 +155,23 @@ submit_accepted lane job is_open room = λ turns sound left.
     let was : is_closed turns ≡ false = sym left.closed ∙ is_open in
     let jobs : submitted (turns ++ turn ∷ []) ≡ submitted turns ++ job ∷ [] = submitted-push turns turn ∙ (rw was refl) in
     let inside : lane.next ≤ length (submitted turns) = omega arith in
-    let still : lane.closed ≡ is_closed (turns ++ turn ∷ []) = left.closed ∙ sym (is_closed-push turns turn ∙ or-false (is_closed turns)) in
-    let quiet : IsQuiet turn = record { no_answer = refl; no_withdrawal = refl } in
     let numbered : ℕ → Ticket = λ n. record { table = lane.table; seq = n } in
     let seq : ticket ≡ numbered (length (submitted turns)) = ap numbered total in (
       (was, below, seq),
       record {
-        next = left.next ∙ sym (next-same turns turn sound refl refl);
+        next = left.next ∙ sym (next-same turns turn sound (refl, refl));
         jobs =
             map-append (λ (e : Job × Bool). e.0) lane.window ((job, false) ∷ [])
             ∙ ap (λ xs. xs ++ job ∷ []) left.jobs
             ∙ sym (drop-append-le lane.next (submitted turns) (job ∷ []) inside)
             ∙ ap (drop lane.next) (sym jobs);
-        arrived = submitted_arrived lane job turns turn left total quiet (submit_brings_nothing turns lane.table job _);
-        withdrawn = λ i. left.withdrawn i ∙ sym (withdrawn_stays turns turn i quiet);
-        closed = still;
+        arrived = submitted_arrived lane job turns turn left total (refl, refl) (brings_nothing turns turn refl);
+        withdrawn = λ i. left.withdrawn i ∙ sym (is_withdrawn-same turns turn i refl);
+        closed = still_closed turns turn lane left refl;
       },
     )
 
 -- arrivals
-
-arrive_submits_nothing : (turns : List Turn) (piece : Ticketed) (replied : Reply) → submitted (turns ++ (Arrive piece, replied) ∷ []) ≡ submitted turns
-arrive_submits_nothing turns piece replied =
-    submitted-push turns (Arrive piece, replied) ∙ (rw if-same (append-nil (submitted turns)))
-
-still_closed : (turns : List Turn) (turn : Turn) (lane : LaneState) → IsLeftBy turns lane → is_close turn.0 ≡ false → lane.closed ≡ is_closed (turns ++ turn ∷ [])
-still_closed turns turn lane left not_close =
-    left.closed ∙ sym (is_closed-push turns turn ∙ (rw not_close (or-false (is_closed turns))))
 
 -- what a turn that is the arrival of a piece brings in
 brought_is : (turns : List Turn) (piece : Ticketed) (replied : Reply) (i : ℕ) → BringsIn turns (Arrive piece, replied) i → (piece.ticket.seq ≡ i) × (slice_get (submitted turns) i ≡ Some piece.job)
@@ -199,7 +184,7 @@ brought_is turns piece replied i brought =
 arrive_kept : (lane : LaneState) (piece : Ticketed) (what : Arrived) (turns : List Turn) → IsSound turns → IsLeftBy turns lane → (is_withdrawn turns piece.ticket.seq ≡ false → slice_get (submitted turns) piece.ticket.seq ≡ Some piece.job → HasArrived turns piece.ticket.seq) → IsLeftBy (turns ++ (Arrive piece, reply.Arrived what) ∷ []) lane
 arrive_kept lane piece what turns sound left old =
     let turn : Turn = (Arrive piece, reply.Arrived what) in
-    IsLeftBy-kept turns turn lane lane.closed sound left (record { no_answer = refl; no_withdrawal = refl }) (arrive_submits_nothing turns piece (reply.Arrived what))
+    IsLeftBy-kept turns turn lane lane.closed sound left (refl, refl) (submits_nothing turns turn refl)
     (λ i stays brought.
     let is = brought_is turns piece (reply.Arrived what) i brought in
     let there : slice_get (submitted turns) piece.ticket.seq ≡ Some piece.job = rw is.0 is.1 in
@@ -246,7 +231,7 @@ pub arrive_other_job : (lane : LaneState) (piece : Ticketed) (k : ℕ) (job : Jo
 arrive_other_job lane piece k job stays seq there other = λ turns sound left.
     let stayed : is_withdrawn turns piece.ticket.seq ≡ false = not_withdrawn turns lane piece.ticket.seq left stays in
     let wanted : slice_get (submitted turns) piece.ticket.seq ≡ Some job = rw (← seq) (job_at turns lane k job false left there) in
-    let differ : slice_get (submitted turns) piece.ticket.seq ≢ Some piece.job = λ e. other (some_injective (sym wanted ∙ e)) in (
+    let differ : slice_get (submitted turns) piece.ticket.seq ≢ Some piece.job = λ e. other (same_Some _ _ (sym wanted ∙ e)) in (
       inr (stayed, not_arrived lane turns k piece.ticket.seq job left seq stayed there, differ),
       arrive_kept lane piece arrived.Stranger turns sound left (λ same at. absurd (differ at)),
     )
@@ -258,11 +243,10 @@ with_piece lane k job = record lane { window = slice_set lane.window k (job, tru
 accepted_arrived : (lane : LaneState) (piece : Ticketed) (k : ℕ) (turns : List Turn) → IsLeftBy turns lane → lane.next + k ≡ piece.ticket.seq → slice_get lane.window k ≡ Some (piece.job, false) → slice_get (submitted turns) piece.ticket.seq ≡ Some piece.job → (j : ℕ) (job : Job) (flag : Bool) → slice_get (slice_set lane.window k (piece.job, true)) j ≡ Some (job, flag) → is_withdrawn (turns ++ (Arrive piece, reply.Arrived arrived.Accepted) ∷ []) (lane.next + j) ≡ false → (flag ≡ true) ↔ HasArrived (turns ++ (Arrive piece, reply.Arrived arrived.Accepted) ∷ []) (lane.next + j)
 accepted_arrived lane piece k turns left seq there wanted j job flag now stays =
     let turn : Turn = (Arrive piece, reply.Arrived arrived.Accepted) in
-    let quiet : IsQuiet turn = record { no_answer = refl; no_withdrawal = refl } in
     let inside : k < length lane.window = slice_get_within lane.window k _ there in
     ⊎_elim (λ here.
     let at : slice_get (slice_set lane.window k (piece.job, true)) k ≡ Some (job, flag) = rw here at now in
-    let pair : (piece.job, true) ≡ (job, flag) = some_injective (sym (slice_get-set_same lane.window k (piece.job, true) inside) ∙ at) in
+    let pair : (piece.job, true) ≡ (job, flag) = same_Some _ _ (sym (slice_get-set_same lane.window k (piece.job, true) inside) ∙ at) in
     let is_true : flag ≡ true = sym (ap (λ (e : Job × Bool). e.1) pair) in
     let number : piece.ticket.seq ≡ lane.next + j = omega arith in
     let brought : BringsIn turns turn (lane.next + j) = record {
@@ -274,7 +258,7 @@ accepted_arrived lane piece k turns left seq there wanted j job flag now stays =
     } in
     (λ holds. HasArrived-from_BringsIn turns turn (lane.next + j) brought, λ has. is_true))
     (λ other.
-    let stayed : is_withdrawn turns (lane.next + j) ≡ false = sym (withdrawn_stays turns turn (lane.next + j) quiet) ∙ stays in
+    let stayed : is_withdrawn turns (lane.next + j) ≡ false = sym (is_withdrawn-same turns turn (lane.next + j) refl) ∙ stays in
     let was = left.arrived j job flag (sym (slice_get-set_other lane.window k j (piece.job, true) (λ e. other (sym e))) ∙ now) stayed in (
       λ holds. HasArrived-push turns turn (lane.next + j) (was.0 holds),
       λ has. was.1 (⊎_elim (λ before. before)
@@ -289,18 +273,17 @@ accepted_arrived lane piece k turns left seq there wanted j job flag now stays =
 pub arrive_accepted : (lane : LaneState) (piece : Ticketed) (k : ℕ) → is_among lane.withdrawn piece.ticket.seq ≡ false → lane.next + k ≡ piece.ticket.seq → slice_get lane.window k ≡ Some (piece.job, false) → IsOwnStep lane (Arrive piece) (reply.Arrived arrived.Accepted) (with_piece lane k piece.job)
 arrive_accepted lane piece k stays seq there = λ turns sound left.
     let turn : Turn = (Arrive piece, reply.Arrived arrived.Accepted) in
-    let quiet : IsQuiet turn = record { no_answer = refl; no_withdrawal = refl } in
     let stayed : is_withdrawn turns piece.ticket.seq ≡ false = not_withdrawn turns lane piece.ticket.seq left stays in
     let wanted : slice_get (submitted turns) piece.ticket.seq ≡ Some piece.job = rw (← seq) (job_at turns lane k piece.job false left there) in (
       (stayed, not_arrived lane turns k piece.ticket.seq piece.job left seq stayed there, wanted),
       record {
-        next = left.next ∙ sym (next-same turns turn sound refl refl);
+        next = left.next ∙ sym (next-same turns turn sound (refl, refl));
         jobs =
             map-set_same (λ (e : Job × Bool). e.0) lane.window k (piece.job, true) (piece.job, false) there refl
             ∙ left.jobs
-            ∙ ap (drop lane.next) (sym (arrive_submits_nothing turns piece (reply.Arrived arrived.Accepted)));
+            ∙ ap (drop lane.next) (sym (submits_nothing turns turn refl));
         arrived = accepted_arrived lane piece k turns left seq there wanted;
-        withdrawn = λ i. left.withdrawn i ∙ sym (withdrawn_stays turns turn i quiet);
+        withdrawn = λ i. left.withdrawn i ∙ sym (is_withdrawn-same turns turn i refl);
         closed = still_closed turns turn lane left refl;
       },
     )
@@ -309,29 +292,13 @@ arrive_accepted lane piece k stays seq there = λ turns sound left.
 
 pub close_step : (lane : LaneState) → IsOwnStep lane (Close lane.table) (reply.Closed (not lane.closed)) (record lane { closed = true })
 close_step lane = λ turns sound left.
-    let turn : Turn = (Close lane.table, reply.Closed (not lane.closed)) in
-    let jobs : submitted (turns ++ turn ∷ []) ≡ submitted turns = submitted-push turns turn ∙ (rw if-same (append-nil (submitted turns))) in (
+    let turn : Turn = (Close lane.table, reply.Closed (not lane.closed)) in (
       ap (λ b. reply.Closed (not b)) left.closed,
-      IsLeftBy-kept turns turn lane true sound left (record { no_answer = refl; no_withdrawal = refl }) jobs
-          (λ i stays brought. let event : Close lane.table ≡ Arrive brought.piece = ap (λ (t : Turn). t.0) brought.turn_is in cc)
+      IsLeftBy-kept turns turn lane true sound left (refl, refl) (submits_nothing turns turn refl) (brings_nothing turns turn refl)
           (sym (is_closed-push turns turn ∙ or-true (is_closed turns))),
     )
 
 -- takings
-
-pub take_submits_nothing : (turns : List Turn) (table : ℕ) (replied : Reply) → submitted (turns ++ (Take table, replied) ∷ []) ≡ submitted turns
-take_submits_nothing turns table replied =
-    submitted-push turns (Take table, replied) ∙ (rw if-same (append-nil (submitted turns)))
-
-take_brings_nothing : (turns : List Turn) (table : ℕ) (replied : Reply) → BringsNothing turns (Take table, replied)
-take_brings_nothing turns table replied i stays brought =
-    let event : Take table ≡ Arrive brought.piece = ap (λ (t : Turn). t.0) brought.turn_is in cc
-
-take_kept : (lane : LaneState) (replied : Reply) (turns : List Turn) → IsSound turns → IsLeftBy turns lane → IsQuiet (Take lane.table, replied) → IsLeftBy (turns ++ (Take lane.table, replied) ∷ []) lane
-take_kept lane replied turns sound left quiet =
-    let turn : Turn = (Take lane.table, replied) in
-    IsLeftBy-kept turns turn lane lane.closed sound left quiet (take_submits_nothing turns lane.table replied)
-    (take_brings_nothing turns lane.table replied) (still_closed turns turn lane left refl)
 
 -- the first job of a window was not withdrawn
 front_stays : (lane : LaneState) (turns : List Turn) → IsLeftBy turns lane → 0 < length lane.window → is_withdrawn turns lane.next ≡ false
@@ -348,7 +315,7 @@ take_waiting lane job rest window = λ turns sound left.
         not_arrived lane turns 0 (next_ticket turns) job left next stays first,
         λ (closed, all). absurd (omega (arith, count turns lane left, all, left.next)),
       ),
-      take_kept lane (reply.Taken taken.Waiting) turns sound left (record { no_answer = refl; no_withdrawal = refl }),
+      idle_kept lane (Take lane.table, reply.Taken taken.Waiting) turns sound left ((refl, refl), refl, refl, refl),
     )
 
 none_left : (lane : LaneState) (turns : List Turn) → IsLeftBy turns lane → lane.window ≡ [] → next_ticket turns ≡ length (submitted turns)
@@ -361,7 +328,7 @@ take_open lane window is_open = λ turns sound left. (
     λ old. absurd (omega (arith, HasArrived-within turns (next_ticket turns) old, none_left lane turns left window)),
     λ (closed, all). false≢true (sym is_open ∙ (left.closed ∙ closed)),
   ),
-  take_kept lane (reply.Taken taken.Waiting) turns sound left (record { no_answer = refl; no_withdrawal = refl }),
+  idle_kept lane (Take lane.table, reply.Taken taken.Waiting) turns sound left ((refl, refl), refl, refl, refl),
 )
 
 pub take_finished : (lane : LaneState) → lane.window ≡ [] → lane.closed ≡ true → IsOwnStep lane (Take lane.table) (reply.Taken taken.Finished) lane
@@ -371,7 +338,7 @@ take_finished lane window closed = λ turns sound left. (
     sym left.closed ∙ closed,
     none_left lane turns left window,
   ),
-  take_kept lane (reply.Taken taken.Finished) turns sound left (record { no_answer = refl; no_withdrawal = refl }),
+  idle_kept lane (Take lane.table, reply.Taken taken.Finished) turns sound left ((refl, refl), refl, refl, refl),
 )
 
 -- what the turns left of a lane whose first jobs may be withdrawn ones
@@ -410,7 +377,7 @@ left_passed turns lane new left passes =
     ⊎_elim (λ none. inl (omega (arith, left.total, passes.within, length-drop n lane.window, ap length (sym window_is ∙ none)))) (λ stays. inr (subst (λ m. is_among lane.withdrawn m ≡ false) next_is stays)) passes.ends in
     rw passes.new_is (record {
       next = IsNext-is turns (lane.next + n) (passed_is_next turns lane n left passes.within passes.each ends);
-      jobs = map-drop (λ (e : Job × Bool). e.0) n lane.window ∙ ap (drop n) left.jobs ∙ drop-drop n lane.next (submitted turns);
+      jobs = sym (drop-map (λ (e : Job × Bool). e.0) n lane.window) ∙ ap (drop n) left.jobs ∙ drop-drop n lane.next (submitted turns);
       arrived = λ k job flag there stays.
           let same : lane.next + (n + k) ≡ lane.next + n + k = omega arith in
           let at : slice_get lane.window (n + k) ≡ Some (job, flag) = sym (slice_get-drop n lane.window k) ∙ there in
@@ -427,9 +394,9 @@ left_without_first : (lane : LaneState) (job : Job) (rest : List (Job × Bool)) 
 left_without_first lane job rest turns window sound left =
     let turn : Turn = (Take lane.table, reply.Taken (taken.Answer lane.next (value_of job))) in
     let after : List Turn = turns ++ turn ∷ [] in
-    let gone : (i : ℕ) → is_withdrawn after i ≡ is_withdrawn turns i = λ i. ap (λ w. is_among w i) (withdrawn_same turns turn refl) in
+    let gone : (i : ℕ) → is_withdrawn after i ≡ is_withdrawn turns i = λ i. is_withdrawn-same turns turn i refl in
     let now_given : (i : ℕ) → is_given after i ≡ (is_given turns i || eqb lane.next i) = λ i. is_given-more turns turn lane.next (value_of job) i refl in
-    let jobs : submitted after ≡ submitted turns = take_submits_nothing turns lane.table _ in
+    let jobs : submitted after ≡ submitted turns = submits_nothing turns turn refl in
     record {
       done = λ i below. ⊎_elim
           (λ early.
@@ -448,7 +415,7 @@ left_without_first lane job rest turns window sound left =
           let at : slice_get lane.window (suc k) ≡ Some (other, flag) = ap (λ xs. slice_get xs (suc k)) window ∙ there in
           let number : lane.next + suc k ≡ lane.next + 1 + k = omega arith in
           subst (λ m. (flag ≡ true) ↔ HasArrived after m) number
-          (arrived_on turns turn lane (suc k) other flag left (sym (gone (lane.next + suc k)) ∙ rw number stays) (take_brings_nothing turns lane.table _) at);
+          (arrived_on turns turn lane (suc k) other flag left (sym (gone (lane.next + suc k)) ∙ rw number stays) (brings_nothing turns turn refl) at);
       withdrawn = λ i. left.withdrawn i ∙ sym (gone i);
       closed = still_closed turns turn lane left refl;
     }
@@ -475,20 +442,6 @@ take_answer lane new job rest window passes = λ turns sound left.
 
 -- withdrawals
 
-withdraw_submits_nothing : (turns : List Turn) (ticket : Ticket) (replied : Reply) → submitted (turns ++ (Withdraw ticket, replied) ∷ []) ≡ submitted turns
-withdraw_submits_nothing turns ticket replied =
-    submitted-push turns (Withdraw ticket, replied) ∙ (rw if-same (append-nil (submitted turns)))
-
-withdraw_brings_nothing : (turns : List Turn) (ticket : Ticket) (replied : Reply) → BringsNothing turns (Withdraw ticket, replied)
-withdraw_brings_nothing turns ticket replied i stays brought =
-    let event : Withdraw ticket ≡ Arrive brought.piece = ap (λ (t : Turn). t.0) brought.turn_is in cc
-
-withdraw_kept : (lane : LaneState) (ticket : Ticket) (replied : Reply) (turns : List Turn) → IsSound turns → IsLeftBy turns lane → IsQuiet (Withdraw ticket, replied) → IsLeftBy (turns ++ (Withdraw ticket, replied) ∷ []) lane
-withdraw_kept lane ticket replied turns sound left quiet =
-    let turn : Turn = (Withdraw ticket, replied) in
-    IsLeftBy-kept turns turn lane lane.closed sound left quiet (withdraw_submits_nothing turns ticket replied)
-    (withdraw_brings_nothing turns ticket replied) (still_closed turns turn lane left refl)
-
 -- what the lane and the turns say of whether a ticket can be withdrawn
 CanWithdraw-from_lane : (lane : LaneState) (turns : List Turn) (seq : ℕ) → IsSound turns → IsLeftBy turns lane → CanTakeBack lane seq → CanWithdraw turns seq
 CanWithdraw-from_lane lane turns seq sound left can =
@@ -514,23 +467,22 @@ ticket_of lane seq = record { table = lane.table; seq = seq }
 pub withdraw_refused : (lane : LaneState) (seq : ℕ) → ¬ CanTakeBack lane seq → IsOwnStep lane (Withdraw (ticket_of lane seq)) (reply.Withdrawn false) lane
 withdraw_refused lane seq cannot = λ turns sound left. (
   λ can. cannot (CanTakeBack-from_turns lane turns seq left can),
-  withdraw_kept lane (ticket_of lane seq) (reply.Withdrawn false) turns sound left (record { no_answer = refl; no_withdrawal = refl }),
+  idle_kept lane (Withdraw (ticket_of lane seq), reply.Withdrawn false) turns sound left ((refl, refl), refl, refl, refl),
 )
 
 pub withdraw_without_memory : (lane : LaneState) (seq : ℕ) → CanTakeBack lane seq → IsOwnStep lane (Withdraw (ticket_of lane seq)) (reply.Refused fault.Memory) lane
 withdraw_without_memory lane seq can = λ turns sound left. (
   CanWithdraw-from_lane lane turns seq sound left can,
-  withdraw_kept lane (ticket_of lane seq) (reply.Refused fault.Memory) turns sound left (record { no_answer = refl; no_withdrawal = refl }),
+  idle_kept lane (Withdraw (ticket_of lane seq), reply.Refused fault.Memory) turns sound left ((refl, refl), refl, refl, refl),
 )
 
 left_taken_back : (lane : LaneState) (seq : ℕ) (numbers : List ℕ) (turns : List Turn) → ((i : ℕ) → is_among numbers i ≡ (is_among lane.withdrawn i || eqb i seq)) → IsSound turns → IsLeftBy turns lane → IsLeftUnpassed (turns ++ (Withdraw (ticket_of lane seq), reply.Withdrawn true) ∷ []) (record lane { withdrawn = numbers })
 left_taken_back lane seq numbers turns added sound left =
     let turn : Turn = (Withdraw (ticket_of lane seq), reply.Withdrawn true) in
     let after : List Turn = turns ++ turn ∷ [] in
-    let same : given after ≡ given turns = given_same turns turn refl in
-    let same_given : (i : ℕ) → is_given after i ≡ is_given turns i = λ i. ap (list_any (λ (answer : ℕ × Answer). eqb answer.0 i)) same in
+    let same_given : (i : ℕ) → is_given after i ≡ is_given turns i = λ i. is_given-same turns turn i refl in
     let gone : (i : ℕ) → is_withdrawn after i ≡ (is_withdrawn turns i || eqb i seq) = λ i. is_withdrawn-more turns turn seq i refl in
-    let jobs : submitted after ≡ submitted turns = withdraw_submits_nothing turns (ticket_of lane seq) _ in
+    let jobs : submitted after ≡ submitted turns = submits_nothing turns turn refl in
     record {
       done = λ i below.
           let was : is_done turns i ≡ true = (IsNext-next_ticket turns).before i (omega (arith, left.next)) in
@@ -540,7 +492,7 @@ left_taken_back lane seq numbers turns added sound left =
       jobs = left.jobs ∙ ap (drop lane.next) (sym jobs);
       arrived = λ k job flag there stays.
           let stayed : is_withdrawn turns (lane.next + k) ≡ false = (or_parts (is_withdrawn turns (lane.next + k)) (eqb (lane.next + k) seq) (sym (gone (lane.next + k)) ∙ stays)).0 in
-          arrived_on turns turn lane k job flag left stayed (withdraw_brings_nothing turns (ticket_of lane seq) _) there;
+          arrived_on turns turn lane k job flag left stayed (brings_nothing turns turn refl) there;
       withdrawn = λ i. added i ∙ ap (λ b. b || eqb i seq) (left.withdrawn i) ∙ sym (gone i);
       closed = still_closed turns turn lane left refl;
     }

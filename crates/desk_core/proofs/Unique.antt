@@ -1,5 +1,5 @@
 -- Without want of memory the replies are determined by the events.
-use Rattle.std.proofs.Common.{◌≡◌, ℕ, Bool, true, false, ltb, List, [], ◌∷◌, ◌++◌, length, Some, refl, sym, ap, ◌∙◌, subst, ⊎_elim, arith}
+use Rattle.std.proofs.Common.{◌≡◌, ℕ, Bool, true, false, ltb, List, [], ◌∷◌, ◌++◌, length, Some, refl, sym, ap, ◌∙◌, subst, inl, inr, arith}
 use Rattle.std.specs.Prelude.{slice_get, option_map, MatchBool}
 use Rattle.std.specs.List.{zip, AllByRecursion}
 use Rattle.std.proofs.lemmas.Bool.{false≢true}
@@ -27,49 +27,37 @@ submit_unique turns table a (reply.Refused fault.Memory) first second differ oth
 submit_unique turns table (reply.Refused fault.Closed) (reply.Refused fault.Closed) first second differ other = refl
 submit_unique turns table (reply.Refused fault.Closed) (reply.Refused fault.Limit) first second differ other = absurd (false≢true (sym second.0 ∙ first))
 submit_unique turns table (reply.Refused fault.Closed) (reply.Ticket ticket) first second differ other = absurd (false≢true (sym second.0 ∙ first))
+submit_unique turns table (reply.Refused fault.Closed) b first second differ other = absurd second
 submit_unique turns table (reply.Refused fault.Limit) (reply.Refused fault.Closed) first second differ other = absurd (false≢true (sym first.0 ∙ second))
 submit_unique turns table (reply.Refused fault.Limit) (reply.Refused fault.Limit) first second differ other = refl
 submit_unique turns table (reply.Refused fault.Limit) (reply.Ticket ticket) first second differ other = absurd (second.1 first.1)
+submit_unique turns table (reply.Refused fault.Limit) b first second differ other = absurd second
 submit_unique turns table (reply.Ticket ticket) (reply.Refused fault.Closed) first second differ other = absurd (false≢true (sym first.0 ∙ second))
 submit_unique turns table (reply.Ticket ticket) (reply.Refused fault.Limit) first second differ other = absurd (first.1 second.1)
 submit_unique turns table (reply.Ticket ticket) (reply.Ticket same) first second differ other = ap reply.Ticket (first.2 ∙ sym second.2)
-submit_unique turns table a reply.NoTable first second differ other = absurd second
-submit_unique turns table a (reply.Arrived what) first second differ other = absurd second
-submit_unique turns table a (reply.Closed what) first second differ other = absurd second
-submit_unique turns table a (reply.Taken what) first second differ other = absurd second
-submit_unique turns table a (reply.Withdrawn what) first second differ other = absurd second
-submit_unique turns table reply.NoTable b first second differ other = absurd first
-submit_unique turns table (reply.Arrived what) b first second differ other = absurd first
-submit_unique turns table (reply.Closed what) b first second differ other = absurd first
-submit_unique turns table (reply.Taken what) b first second differ other = absurd first
-submit_unique turns table (reply.Withdrawn what) b first second differ other = absurd first
+submit_unique turns table (reply.Ticket ticket) b first second differ other = absurd second
+submit_unique turns table a b first second differ other = absurd first
 
-stranger_doubled : (turns : List Turn) (piece : Ticketed) → ArriveReply turns piece (reply.Arrived arrived.Stranger) → ArriveReply turns piece (reply.Arrived arrived.Doubled) → ⊥
-stranger_doubled turns piece stranger doubled = ⊎_elim (λ past. absurd (omega (arith, HasArrived-within turns piece.ticket.seq doubled.1))) (λ other. other.1 doubled.1) stranger
-
-stranger_accepted : (turns : List Turn) (piece : Ticketed) → ArriveReply turns piece (reply.Arrived arrived.Stranger) → ArriveReply turns piece (reply.Arrived arrived.Accepted) → ⊥
-stranger_accepted turns piece stranger accepted = ⊎_elim (λ past. absurd (omega (arith, slice_get_within (submitted turns) piece.ticket.seq _ accepted.2))) (λ other. other.2 accepted.2) stranger
-
-stranger_withdrawn : (turns : List Turn) (piece : Ticketed) → ArriveReply turns piece (reply.Arrived arrived.Stranger) → ArriveReply turns piece (reply.Arrived arrived.Withdrawn) → ⊥
-stranger_withdrawn turns piece stranger gone = ⊎_elim (λ past. absurd (omega (arith, past, gone.0))) (λ other. false≢true (sym other.0 ∙ gone.1)) stranger
+-- a piece that is told a stranger is told nothing else
+stranger_alone : (turns : List Turn) (piece : Ticketed) (b : Arrived) → ArriveReply turns piece (reply.Arrived arrived.Stranger) → ArriveReply turns piece (reply.Arrived b) → arrived.Stranger ≡ b
+stranger_alone turns piece arrived.Stranger first second = refl
+stranger_alone turns piece arrived.Doubled (inl past) second = absurd (omega (arith, HasArrived-within turns piece.ticket.seq second.1))
+stranger_alone turns piece arrived.Doubled (inr other) second = absurd (other.1 second.1)
+stranger_alone turns piece arrived.Accepted (inl past) second = absurd (omega (arith, slice_get_within (submitted turns) piece.ticket.seq _ second.2))
+stranger_alone turns piece arrived.Accepted (inr other) second = absurd (other.2 second.2)
+stranger_alone turns piece arrived.Withdrawn (inl past) second = absurd (omega (arith, past, second.0))
+stranger_alone turns piece arrived.Withdrawn (inr other) second = absurd (false≢true (sym other.0 ∙ second.1))
 
 arrive_unique : (turns : List Turn) (piece : Ticketed) (a b : Arrived) → ArriveReply turns piece (reply.Arrived a) → ArriveReply turns piece (reply.Arrived b) → a ≡ b
-arrive_unique turns piece arrived.Stranger arrived.Stranger first second = refl
-arrive_unique turns piece arrived.Doubled arrived.Doubled first second = refl
-arrive_unique turns piece arrived.Accepted arrived.Accepted first second = refl
+arrive_unique turns piece arrived.Stranger b first second = stranger_alone turns piece b first second
+arrive_unique turns piece a arrived.Stranger first second = sym (stranger_alone turns piece a second first)
 arrive_unique turns piece arrived.Withdrawn arrived.Withdrawn first second = refl
-arrive_unique turns piece arrived.Stranger arrived.Doubled first second = absurd (stranger_doubled turns piece first second)
-arrive_unique turns piece arrived.Doubled arrived.Stranger first second = absurd (stranger_doubled turns piece second first)
-arrive_unique turns piece arrived.Stranger arrived.Accepted first second = absurd (stranger_accepted turns piece first second)
-arrive_unique turns piece arrived.Accepted arrived.Stranger first second = absurd (stranger_accepted turns piece second first)
-arrive_unique turns piece arrived.Stranger arrived.Withdrawn first second = absurd (stranger_withdrawn turns piece first second)
-arrive_unique turns piece arrived.Withdrawn arrived.Stranger first second = absurd (stranger_withdrawn turns piece second first)
+arrive_unique turns piece arrived.Withdrawn b first second = absurd (false≢true (sym second.0 ∙ first.1))
+arrive_unique turns piece a arrived.Withdrawn first second = absurd (false≢true (sym first.0 ∙ second.1))
+arrive_unique turns piece arrived.Doubled arrived.Doubled first second = refl
 arrive_unique turns piece arrived.Doubled arrived.Accepted first second = absurd (second.1 first.1)
 arrive_unique turns piece arrived.Accepted arrived.Doubled first second = absurd (first.1 second.1)
-arrive_unique turns piece arrived.Withdrawn arrived.Doubled first second = absurd (false≢true (sym second.0 ∙ first.1))
-arrive_unique turns piece arrived.Doubled arrived.Withdrawn first second = absurd (false≢true (sym first.0 ∙ second.1))
-arrive_unique turns piece arrived.Withdrawn arrived.Accepted first second = absurd (false≢true (sym second.0 ∙ first.1))
-arrive_unique turns piece arrived.Accepted arrived.Withdrawn first second = absurd (false≢true (sym first.0 ∙ second.1))
+arrive_unique turns piece arrived.Accepted arrived.Accepted first second = refl
 
 take_unique : (turns : List Turn) (a b : Taken) → TakeReply turns (reply.Taken a) → TakeReply turns (reply.Taken b) → a ≡ b
 take_unique turns (taken.Answer m x) (taken.Answer n y) first second =
@@ -77,45 +65,12 @@ take_unique turns (taken.Answer m x) (taken.Answer n y) first second =
     let some : Some x ≡ Some y = sym first.2 ∙ ap (λ k. option_map value_of (slice_get (submitted turns) k)) seq ∙ second.2 in
     let answer : x ≡ y = cc in
     ap (λ k. taken.Answer k x) seq ∙ ap (taken.Answer n) answer
-take_unique turns (taken.Answer m x) taken.Waiting first second = absurd (second.0 (subst (HasArrived turns) first.0 first.1))
-take_unique turns (taken.Answer m x) taken.Finished first second = absurd (second.0 (subst (HasArrived turns) first.0 first.1))
-take_unique turns taken.Waiting (taken.Answer n y) first second = absurd (first.0 (subst (HasArrived turns) second.0 second.1))
-take_unique turns taken.Finished (taken.Answer n y) first second = absurd (first.0 (subst (HasArrived turns) second.0 second.1))
+take_unique turns (taken.Answer m x) b first second = absurd (second.0 (subst (HasArrived turns) first.0 first.1))
+take_unique turns a (taken.Answer n y) first second = absurd (first.0 (subst (HasArrived turns) second.0 second.1))
 take_unique turns taken.Waiting taken.Waiting first second = refl
 take_unique turns taken.Finished taken.Finished first second = refl
 take_unique turns taken.Waiting taken.Finished first second = absurd (first.1 (second.1, second.2))
 take_unique turns taken.Finished taken.Waiting first second = absurd (second.1 (first.1, first.2))
-
--- a reply to a piece is of that kind, and likewise for the other events
-arrived_in : (turns : List Turn) (piece : Ticketed) (a : Reply) → ArriveReply turns piece a → (what : Arrived) × (a ≡ reply.Arrived what)
-arrived_in turns piece (reply.Arrived what) legal = (what, refl)
-arrived_in turns piece reply.NoTable legal = absurd legal
-arrived_in turns piece (reply.Ticket what) legal = absurd legal
-arrived_in turns piece (reply.Refused what) legal = absurd legal
-arrived_in turns piece (reply.Closed what) legal = absurd legal
-arrived_in turns piece (reply.Taken what) legal = absurd legal
-arrived_in turns piece (reply.Withdrawn what) legal = absurd legal
-
-taken_in : (turns : List Turn) (a : Reply) → TakeReply turns a → (what : Taken) × (a ≡ reply.Taken what)
-taken_in turns (reply.Taken what) legal = (what, refl)
-taken_in turns reply.NoTable legal = absurd legal
-taken_in turns (reply.Ticket what) legal = absurd legal
-taken_in turns (reply.Refused what) legal = absurd legal
-taken_in turns (reply.Arrived what) legal = absurd legal
-taken_in turns (reply.Closed what) legal = absurd legal
-taken_in turns (reply.Withdrawn what) legal = absurd legal
-
--- a withdrawal without want of memory
-withdrawal_in : (turns : List Turn) (seq : ℕ) (a : Reply) → WithdrawReply turns seq a → ¬ NoMemory a → (done : Bool) × (a ≡ reply.Withdrawn done)
-withdrawal_in turns seq (reply.Withdrawn done) legal differ = (done, refl)
-withdrawal_in turns seq (reply.Refused fault.Memory) legal differ = absurd (differ refl)
-withdrawal_in turns seq (reply.Refused fault.Closed) legal differ = absurd legal
-withdrawal_in turns seq (reply.Refused fault.Limit) legal differ = absurd legal
-withdrawal_in turns seq reply.NoTable legal differ = absurd legal
-withdrawal_in turns seq (reply.Ticket what) legal differ = absurd legal
-withdrawal_in turns seq (reply.Arrived what) legal differ = absurd legal
-withdrawal_in turns seq (reply.Closed what) legal differ = absurd legal
-withdrawal_in turns seq (reply.Taken what) legal differ = absurd legal
 
 withdraw_unique : (turns : List Turn) (seq : ℕ) (a b : Bool) → WithdrawReply turns seq (reply.Withdrawn a) → WithdrawReply turns seq (reply.Withdrawn b) → a ≡ b
 withdraw_unique turns seq true true first second = refl
@@ -125,19 +80,18 @@ withdraw_unique turns seq false true first second = absurd (first second)
 
 reply_unique : (turns : List Turn) (event : Event) (a b : Reply) → ReplyOf turns event a → ReplyOf turns event b → ¬ NoMemory a → ¬ NoMemory b → a ≡ b
 reply_unique turns (Submit table job) a b first second differ other = submit_unique turns table a b first second differ other
-reply_unique turns (Arrive piece) a b first second differ other =
-    let what = arrived_in turns piece a first in
-    let same = arrived_in turns piece b second in
-    what.1 ∙ ap reply.Arrived (arrive_unique turns piece what.0 same.0 (rw what.1 at first) (rw same.1 at second)) ∙ sym same.1
+reply_unique turns (Arrive piece) (reply.Arrived a) (reply.Arrived b) first second differ other = ap reply.Arrived (arrive_unique turns piece a b first second)
+reply_unique turns (Arrive piece) (reply.Arrived a) b first second differ other = absurd second
+reply_unique turns (Arrive piece) a b first second differ other = absurd first
 reply_unique turns (Close table) a b first second differ other = first ∙ sym second
-reply_unique turns (Take table) a b first second differ other =
-    let what = taken_in turns a first in
-    let same = taken_in turns b second in
-    what.1 ∙ ap reply.Taken (take_unique turns what.0 same.0 (rw what.1 at first) (rw same.1 at second)) ∙ sym same.1
-reply_unique turns (Withdraw ticket) a b first second differ other =
-    let what = withdrawal_in turns ticket.seq a first differ in
-    let same = withdrawal_in turns ticket.seq b second other in
-    what.1 ∙ ap reply.Withdrawn (withdraw_unique turns ticket.seq what.0 same.0 (rw what.1 at first) (rw same.1 at second)) ∙ sym same.1
+reply_unique turns (Take table) (reply.Taken a) (reply.Taken b) first second differ other = ap reply.Taken (take_unique turns a b first second)
+reply_unique turns (Take table) (reply.Taken a) b first second differ other = absurd second
+reply_unique turns (Take table) a b first second differ other = absurd first
+reply_unique turns (Withdraw ticket) (reply.Refused fault.Memory) b first second differ other = absurd (differ refl)
+reply_unique turns (Withdraw ticket) a (reply.Refused fault.Memory) first second differ other = absurd (other refl)
+reply_unique turns (Withdraw ticket) (reply.Withdrawn a) (reply.Withdrawn b) first second differ other = ap reply.Withdrawn (withdraw_unique turns ticket.seq a b first second)
+reply_unique turns (Withdraw ticket) (reply.Withdrawn a) b first second differ other = absurd second
+reply_unique turns (Withdraw ticket) a b first second differ other = absurd first
 
 pub desk_reply_unique : (tables : ℕ) (history : List Turn) (event : Event) (a b : Reply) → DeskReplyOf tables history (event, a) → DeskReplyOf tables history (event, b) → ¬ NoMemory a → ¬ NoMemory b → a ≡ b
 desk_reply_unique tables history event a b first second differ other = by_range (ltb (table_of event) tables) refl first second

@@ -1,5 +1,5 @@
 use Rattle.std.proofs.Common.{◌≡◌, ℕ, ◌+◌, ◌-◌, ◌<◌, ◌≤◌, List, map, length, Bool, Some, true, false, refl, sym, ap, ◌∙◌, arith}
-use Rattle.std.proofs.lemmas.Option.{same_Some, slice_get_within}
+use Rattle.std.proofs.lemmas.Option.{same_Some, slice_get_within, slice_get-map, slice_get_read}
 use Rattle.riichi_hand.specs.declared.job.Job.{Job}
 use Rattle.std.specs.Prelude.{slice_get, option_map}
 use Rattle.std.proofs.lemmas.Bool.{false≢true}
@@ -10,7 +10,7 @@ use Rattle.desk_core.specs.declared.arrived.Arrived.{Arrived}
 use Rattle.desk_core.specs.declared.arrived.Arrived.TheVariants as arrived
 use Rattle.desk_core.specs.declared.ticket.Ticket.{Ticket}
 use Rattle.desk_core.specs.declared.entry.Entry.{Entry}
-use Rattle.desk_core.proofs.Lists.{slice_get-map, slice_get-read, not_lt}
+use Rattle.desk_core.proofs.Lists.{not_lt}
 use Rattle.desk_core.specs.contracts.lane.Lane.{the_view}
 use Rattle.desk_core.proofs.Steps.{IsStep-from_own, arrive_withdrawn, arrive_given, arrive_unknown, arrive_in_window}
 use Rattle.desk_core.proofs.lane.Lane.arrive.Goals as goal
@@ -57,7 +57,7 @@ returns-clause-step c = λ own.
       | in-Some w ↦
           let within : k < length items = omega (arith, w.in-Some.ensures.variant.0 refl) in
           let there : slice_get (map seen items) k ≡ Some (seen w.in-Some.entry.now) =
-          slice_get-map seen items k ∙ ap (option_map seen) (slice_get-read items k w.in-Some.entry.now within w.in-Some.ensures.value) in
+          slice_get-map seen items k ∙ ap (option_map seen) (slice_get_read items (length items) k w.in-Some.entry.now refl within w.in-Some.ensures.value) in
           let step = IsStep-from_own lane _ _ _ about refl (arrive_in_window lane c.args.piece k (seen w.in-Some.entry.now) w.arrive.result (seen w.arrive.new.self) stays seq there w.arrive.ensures.outcome) in
           rw (w.self-inside-is, w.result-is, ← c.self.view_is, map-set) step
     ]
@@ -75,7 +75,7 @@ returns-clause-accepted c = λ accepted.
           let result : w.arrive.result ≡ arrived.Accepted = sym w.result-is ∙ accepted in
           let outcome : TakesIn (seen w.in-Some.entry.now) c.args.piece.job arrived.Accepted (seen w.arrive.new.self) = rw result at w.arrive.ensures.outcome in
           let there : slice_get (map seen items) k ≡ Some (c.args.piece.job, false) =
-          slice_get-map seen items k ∙ ap (option_map seen) (slice_get-read items k w.in-Some.entry.now within w.in-Some.ensures.value) ∙ ap Some outcome.0 in
+          slice_get-map seen items k ∙ ap (option_map seen) (slice_get_read items (length items) k w.in-Some.entry.now refl within w.in-Some.ensures.value) ∙ ap Some outcome.0 in
           rw (w.self-inside-is, ← c.self.view_is, map-set, outcome.1) (k, seq, there, refl)
     ]
 
@@ -111,7 +111,7 @@ returns-clause-awaited c = λ awaited.
       | in-Some w ↦
           let within : k < length items = omega (arith, w.in-Some.ensures.variant.0 refl) in
           let there : slice_get (map seen items) k ≡ Some (seen w.in-Some.entry.now) =
-          slice_get-map seen items k ∙ ap (option_map seen) (slice_get-read items k w.in-Some.entry.now within w.in-Some.ensures.value) in
+          slice_get-map seen items k ∙ ap (option_map seen) (slice_get_read items (length items) k w.in-Some.entry.now refl within w.in-Some.ensures.value) in
           w.result-is ∙ accepts (seen w.in-Some.entry.now) c.args.piece.job w.arrive.result (seen w.arrive.new.self) w.arrive.ensures.outcome
           (same_Some _ _ (sym there ∙ waits))
     ]

@@ -1,12 +1,11 @@
-use Rattle.std.proofs.Common.{◌≡◌, ◌<◌, List, length, drop, map, true, false, refl, sym, ap, ◌∙◌, subst, ⊎_elim, arith, deque_len}
+use Rattle.std.proofs.Common.{◌≡◌, ◌<◌, List, length, true, false, refl, sym, ap, ◌∙◌, subst, ⊎_elim, arith, deque_len}
 use Rattle.std.specs.Prelude.{◌==◌}
 use Rattle.std.proofs.lemmas.Bool.{cases_eq, false≢true}
-use Rattle.std.proofs.lemmas.List.{length-map}
+use Rattle.std.proofs.lemmas.List.{length-map, drop-map}
 use Rattle.desk_core.specs.contracts.lane.Lane.{the_view}
 use Rattle.desk_core.specs.Entry.{seen}
 use Rattle.desk_core.specs.LaneState.{LaneState, is_among}
 use Rattle.desk_core.specs.declared.entry.Entry.{Entry}
-use Rattle.desk_core.proofs.Lists.{map-drop}
 use Rattle.desk_core.proofs.Passing.{HasPassed, HasPassed-one}
 use Rattle.desk_core.proofs.lane.Lane.pass_withdrawn.Goals as goal
 
@@ -22,4 +21,4 @@ loop-self-preserved c =
     ⊎_elim (λ none. let is_none : (deque_len c.self.inside.window == 0) ≡ true = rw none refl in absurd (false≢true (sym some_left ∙ is_none)))
     (λ some. omega (arith, some)) (cases_eq (deque_len c.self.inside.window) 0) in
     let more : 0 < length mid.window = omega (arith, held, length-map items seen) in
-    rw (c.pop_front-passed.ensures.rest, map-drop) (HasPassed-one _ mid passed more gone)
+    rw (c.pop_front-passed.ensures.rest, ← drop-map) (HasPassed-one _ mid passed more gone)
