@@ -1,29 +1,16 @@
 -- The answers to some lines of a script go on with answers to any more lines.
-use Rattle.std.proofs.Common.{◌≡◌, ℕ, List, [], ◌∷◌, ◌++◌, length, refl, sym, subst, ap, ◌∙◌, arith, length-append}
+use Rattle.std.proofs.Common.{◌≡◌, ℕ, List, [], ◌++◌, length, sym, subst, ap, ◌∙◌, arith, length-append}
 use Rattle.std.specs.List.{zip, filter_map}
 use Rattle.std.proofs.lemmas.List.Elements.{filter_map-append}
 use Rattle.desk_core.proofs.Continued.{CanGoOn-legal}
 use Rattle.desk_core.specs.History.{Turn, IsLegal}
 use Rattle.desk_core.specs.declared.event.Event.{Event}
-use Rattle.desk_core.specs.declared.reply.Reply.{Reply}
-use Rattle.desk_script.specs.declared.told.Told.TheVariants as tell
 use Rattle.desk_script.specs.declared.asked.Asked.{Asked}
-use Rattle.desk_script.specs.declared.asked.Asked.TheVariants as ask
-use Rattle.desk_script.specs.Asked.{asked_by, names_by, names_from, asked_from, names_after, asked_on, event_in, events_of}
+use Rattle.desk_script.specs.Asked.{asked_from, names_after, asked_on, event_in, events_of}
 use Rattle.desk_script.specs.Texts.{told_text}
 use Rattle.desk_script.specs.Replay.{told_with, Replays}
-use Rattle.desk_script.proofs.Lists.{zip-append}
-
-asked_from-append : (names lines others : List (List ℕ)) → asked_from names (lines ++ others) ≡ asked_from names lines ++ asked_from (names_from names lines) others
-asked_from-append names [] others = refl
-asked_from-append names (line ∷ lines) others = ap (λ rest. asked_by names line ∷ rest) (asked_from-append (names_by names line) lines others)
-
-told_with-append : (asked others : List Asked) (replies more : List Reply) → length replies ≡ length (events_of asked) → told_with (asked ++ others) (replies ++ more) ≡ told_with asked replies ++ told_with others more
-told_with-append [] others [] more same = refl
-told_with-append [] others (reply ∷ replies) more same = absurd (omega arith)
-told_with-append (ask.Told told ∷ asked) others replies more same = ap (λ rest. told ∷ rest) (told_with-append asked others replies more same)
-told_with-append (ask.Event event ∷ asked) others [] more same = absurd (omega arith)
-told_with-append (ask.Event event ∷ asked) others (reply ∷ replies) more same = ap (λ rest. tell.Replied reply ∷ rest) (told_with-append asked others replies more (omega arith))
+use Rattle.desk_core.proofs.Lists.{zip-append}
+use Rattle.desk_script.proofs.Scripts.{asked_from-append, told_with-append}
 
 pub replay_goes_on : (lines others answers : List (List ℕ)) → Replays lines answers → (more : List (List ℕ)) × Replays (lines ++ others) (answers ++ more)
 replay_goes_on lines others answers one =

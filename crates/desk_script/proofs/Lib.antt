@@ -1,5 +1,4 @@
 pub mod Continued
-pub mod Lists
 pub mod Scripts
 pub mod Only
 pub mod NameLemmas

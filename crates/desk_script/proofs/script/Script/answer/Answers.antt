@@ -1,7 +1,8 @@
-use Rattle.std.proofs.Common.{refl, sym, subst, ◌∙◌}
+use Rattle.std.proofs.Common.{[], ◌∷◌, refl, sym, subst, ◌∙◌, append-nil}
+use Rattle.desk_script.specs.declared.asked.Asked.TheVariants as ask
 use Rattle.desk_script.specs.declared.told.Told.TheVariants.{Replied}
 use Rattle.desk_script.specs.Replay.{ScriptState, Tells}
-use Rattle.desk_script.proofs.Scripts.{Tells-told, Tells-event}
+use Rattle.desk_script.proofs.Scripts.{Tells-line}
 use Rattle.desk_script.proofs.script.Script.answer.Goals as goal
 
 pub returns-in-Told-clause-told : goal.returns-in-Told-clause-told
@@ -13,7 +14,8 @@ returns-in-Told-clause-told c =
       text_is = c.told_text.ensures;
       tells = λ lines before tells.
           let as_fields = subst (λ (s : ScriptState). Tells s lines before) (sym c.self.view_is) tells in
-          Tells-told old new lines before c.args.line.now c.in-Told.told as_fields (sym c.in-Told.is ∙ c.in_ok-told.ensures.asked) c.in_ok-told.ensures.names refl;
+          Tells-line old new lines before c.args.line.now (ask.Told c.in-Told.told) [] c.in-Told.told as_fields (sym c.in-Told.is ∙ c.in_ok-told.ensures.asked) c.in_ok-told.ensures.names refl refl
+          (λ history stands. rw (append-nil history) stands) refl;
     }
 
 pub returns-in-Event-clause-told : goal.returns-in-Event-clause-told
@@ -25,5 +27,6 @@ returns-in-Event-clause-told c =
       text_is = c.told_text-in-Event.ensures;
       tells = λ lines before tells.
           let as_fields = subst (λ (s : ScriptState). Tells s lines before) (sym c.self.view_is) tells in
-          Tells-event old new lines before c.args.line.now c.in-Event.event c.step.result as_fields (sym c.in-Event.is ∙ c.in_ok-told.ensures.asked) c.in_ok-told.ensures.names c.step.ensures.step c.step.ensures.tables;
+          Tells-line old new lines before c.args.line.now (ask.Event c.in-Event.event) (c.step.result ∷ []) (Replied c.step.result) as_fields (sym c.in-Event.is ∙ c.in_ok-told.ensures.asked) c.in_ok-told.ensures.names refl refl
+          c.step.ensures.step c.step.ensures.tables;
     }
