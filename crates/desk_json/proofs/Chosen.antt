@@ -1,8 +1,8 @@
 -- The texts of those numbers from 0 on that pass a test, written one after another.
 use Rattle.std.proofs.Common.{◌≡◌, ℕ, zero, suc, ◌+◌, ◌<◌, ◌≤◌, Bool, true, false, cond, Some, take, length, List, [], ◌∷◌, ◌++◌, map, refl, sym, ap, ◌∙◌, append_assoc, arith}
 use Rattle.std.proofs.lemmas.Bool.{lt-ltb}
-use Rattle.std.proofs.lemmas.List.{append-nil, map-append, map_more}
-use Rattle.std.proofs.lemmas.List.Elements.{filter-append}
+use Rattle.std.proofs.lemmas.List.{append-nil, map-append, map-id, map_more}
+use Rattle.std.proofs.lemmas.List.FromFn.{filter_of_map_range_with_len_more}
 use Rattle.std.specs.List.{filter, range_with_len}
 use Rattle.std.specs.Prelude.{slice_index, slice_get, nat_lt, IsTrue, ◌↔◌}
 use Rattle.std.proofs.lemmas.Option.{get_or_from_slice_get, slice_get_within}
@@ -19,29 +19,11 @@ pub record IsWrittenTo (text : ℕ → List ℕ) (test : ℕ → Bool) (n : ℕ)
   pub bytes : now ≡ before ++ listed (texts_below text test n)
   pub begun : later ≡ is_begun (texts_below text test n)
 
-range_last : (a n : ℕ) → range_with_len a (suc n) ≡ range_with_len a n ++ (a + n) ∷ []
-range_last a zero = ap (λ k. k ∷ []) (same a)
-  where
-    same : (a : ℕ) → a ≡ a + 0
-    same a = omega arith
-range_last a (suc n) = ap (λ ks. a ∷ ks) (range_last (a + 1) n ∙ ap (λ k. range_with_len (a + 1) n ++ k ∷ []) (same a n))
-  where
-    same : (a n : ℕ) → a + 1 + n ≡ a + suc n
-    same a n = omega arith
-
 texts_last : (text : ℕ → List ℕ) (test : ℕ → Bool) (n : ℕ) → texts_below text test (n + 1) ≡ texts_below text test n ++ map text (cond (test n) (n ∷ []) [])
 unfolding texts_below
 texts_last text test n =
-    ap (λ k. map text (filter test (range_with_len 0 k))) (next n)
-    ∙ ap (λ ks. map text (filter test ks)) (range_last 0 n ∙ ap (λ k. range_with_len 0 n ++ k ∷ []) (same n))
-    ∙ ap (map text) (filter-append test (range_with_len 0 n) (n ∷ []))
-    ∙ map-append text (filter test (range_with_len 0 n)) (cond (test n) (n ∷ []) [])
-  where
-    next : (n : ℕ) → n + 1 ≡ suc n
-    next n = omega arith
-
-    same : (n : ℕ) → 0 + n ≡ n
-    same n = omega arith
+    let more = filter_of_map_range_with_len_more test (λ k. k) 0 n n (omega arith) in
+    ap (map text) (simp map-id at more) ∙ map-append text (filter test (range_with_len 0 n)) (cond (test n) (n ∷ []) [])
 
 pub start : (text : ℕ → List ℕ) (test : ℕ → Bool) (before : List ℕ) → IsWrittenTo text test 0 before before false
 unfolding texts_below

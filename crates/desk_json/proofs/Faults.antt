@@ -3,12 +3,12 @@ use Rattle.std.proofs.Common.{◌≡◌, ℕ, List, [], ◌∷◌, ◌++◌, ref
 use Rattle.std.specs.Prelude.{codes}
 use Rattle.json.specs.Print.{escape, escape_byte}
 use Rattle.riichi_tiles.specs.declared.notation.NotationCode.{NotationCode}
-use Rattle.riichi_tiles.specs.declared.notation.NotationCode.TheVariants.{N1, N2, N3, N4, N5, N6}
+use Rattle.riichi_tiles.specs.declared.notation.NotationCode.TheVariants.{N1}
 use Rattle.riichi_hand.specs.FaultTexts.{line_code_text, notation_code_text, name_text}
 use Rattle.riichi_hand.specs.declared.fault.LineCode.{LineCode}
-use Rattle.riichi_hand.specs.declared.fault.LineCode.TheVariants.{H1, H2, H3, H4, H5, H6, H7, H8, H9, H10, H11, H12, H13, H14, H15, H16}
+use Rattle.riichi_hand.specs.declared.fault.LineCode.TheVariants.{H1}
 use Rattle.riichi_hand.specs.declared.fault.TextName.{TextName}
-use Rattle.riichi_hand.specs.declared.fault.TextName.TheVariants.{Hand, On, Dora, Ura, Seen}
+use Rattle.riichi_hand.specs.declared.fault.TextName.TheVariants.{Hand}
 use Rattle.riichi_hand.specs.declared.fault.LineFault.{LineFault}
 use Rattle.riichi_hand.specs.declared.fault.LineFault.TheVariants.{Line, Notation}
 use Rattle.desk_json.specs.Parts.{fault_parts}
@@ -19,38 +19,17 @@ use Rattle.desk_json.proofs.Written.{written, text_written}
 escape_code : (code : LineCode) → escape (line_code_text code) ≡ line_code_text code
 unfolding escape_byte
 escape_code H1 = refl
-escape_code H2 = refl
-escape_code H3 = refl
-escape_code H4 = refl
-escape_code H5 = refl
-escape_code H6 = refl
-escape_code H7 = refl
-escape_code H8 = refl
-escape_code H9 = refl
-escape_code H10 = refl
-escape_code H11 = refl
-escape_code H12 = refl
-escape_code H13 = refl
-escape_code H14 = refl
-escape_code H15 = refl
-escape_code H16 = refl
+escape_code _ = refl
 
 escape_notation : (code : NotationCode) → escape (notation_code_text code) ≡ notation_code_text code
 unfolding escape_byte
 escape_notation N1 = refl
-escape_notation N2 = refl
-escape_notation N3 = refl
-escape_notation N4 = refl
-escape_notation N5 = refl
-escape_notation N6 = refl
+escape_notation _ = refl
 
 escape_name : (name : TextName) → escape (name_text name) ≡ name_text name
 unfolding escape_byte
 escape_name Hand = refl
-escape_name On = refl
-escape_name Dora = refl
-escape_name Ura = refl
-escape_name Seen = refl
+escape_name _ = refl
 
 -- a fault of the line, with what is written for its code
 line_with : (written_code code : List ℕ) → written_code ≡ code

@@ -46,12 +46,8 @@ limit_written base = by_tests (base == 2000) (base == 3000) (base == 4000) (base
     by_tests : (a b c d e : Bool) →
         written (cond a (string (codes "mangan")) (cond b (string (codes "haneman")) (cond c (string (codes "baiman")) (cond d (string (codes "sanbaiman")) (cond e (string (codes "yakuman")) Json.null)))))
         ≡ cond a (codes "\"mangan\"") (cond b (codes "\"haneman\"") (cond c (codes "\"baiman\"") (cond d (codes "\"sanbaiman\"") (cond e (codes "\"yakuman\"") (codes "null")))))
-    by_tests true b c d e = refl
-    by_tests false true c d e = refl
-    by_tests false false true d e = refl
-    by_tests false false false true e = refl
-    by_tests false false false false true = refl
     by_tests false false false false false = refl
+    by_tests _ _ _ _ _ = refl
 
 payment_written : (payment : Payment) → written (payment_tree payment) ≡ payment_text payment
 unfolding written escape_byte payment_tree

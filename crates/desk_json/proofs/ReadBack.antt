@@ -1,6 +1,7 @@
 -- A reader gets the tree of an answer back from its text.
-use Rattle.std.proofs.Common.{◌≡◌, ℕ, ◌≤◌, Bool, true, false, cond, List, [], ◌∷◌, Some, sym, ap, ◌∙◌, arith}
+use Rattle.std.proofs.Common.{◌≡◌, ℕ, ◌≤◌, Bool, false, cond, List, [], ◌∷◌, Some, sym, ap, ◌∙◌, arith}
 use Rattle.std.specs.Prelude.{codes, ◌==◌}
+use Rattle.std.proofs.lemmas.Option.{same_Some}
 use Rattle.json.specs.Json.{Json, null, string, document}
 use Rattle.json.specs.Tree.{depth, items_depth, members_depth, HasNumbers, ItemsHaveNumbers, MembersHaveNumbers}
 use Rattle.json.proofs.Printed.Decimals.{IsNumber-decimal, IsNumber-signed_decimal}
@@ -9,7 +10,7 @@ use Rattle.riichi_score.specs.declared.payers.Payment.{Payment}
 use Rattle.riichi_score.specs.declared.payers.Payment.TheVariants.{Ron, Tsumo, DealerTsumo}
 use Rattle.riichi_score.specs.declared.score.Score.{Score}
 use Rattle.riichi_score.specs.declared.answer.WinAnswer.{WinAnswer}
-use Rattle.riichi_score.specs.declared.answer.WinAnswer.TheVariants.{Won, NoYaku, NoWin}
+use Rattle.riichi_score.specs.declared.answer.WinAnswer.TheVariants.{Won}
 use Rattle.riichi_shape.specs.declared.accepts.Accepts.{Accepts}
 use Rattle.riichi_shape.specs.declared.accepts.Accepts.TheVariants.{Thirteen, Fourteen}
 use Rattle.riichi_shape.specs.declared.discard.Discard.{Discard}
@@ -40,12 +41,8 @@ limit_numbers base = by_tests (base == 2000) (base == 3000) (base == 4000) (base
   where
     by_tests : (a b c d e : Bool) →
         HasNumbers (cond a (string (codes "mangan")) (cond b (string (codes "haneman")) (cond c (string (codes "baiman")) (cond d (string (codes "sanbaiman")) (cond e (string (codes "yakuman")) null)))))
-    by_tests true b c d e = tt
-    by_tests false true c d e = tt
-    by_tests false false true d e = tt
-    by_tests false false false true e = tt
-    by_tests false false false false true = tt
     by_tests false false false false false = tt
+    by_tests _ _ _ _ _ = tt
 
 payment_numbers : (payment : Payment) → IsWholePayment payment → HasNumbers (payment_tree payment)
 unfolding payment_tree
@@ -55,40 +52,19 @@ payment_numbers (DealerTsumo each) h = (IsNumber-decimal each (omega arith), tt)
 
 score_numbers : (score : Score) → IsWholeScore score → HasNumbers (score_tree score)
 unfolding score_tree
-score_numbers score h = (
-  tt,
-  (
-    tt,
-    (
-      IsNumber-decimal score.han (omega arith),
-      (
-        IsNumber-decimal score.fu (omega arith),
-        (
-          IsNumber-decimal score.dora (omega arith),
-          (
-            IsNumber-decimal score.base (omega arith),
-            (
-              limit_numbers score.base,
-              (
-                payment_numbers score.payment h.payment,
-                (
-                  IsNumber-decimal score.gain (omega arith),
-                  (items_numbers yaku_tree (λ yaku. Unit {0}) (λ yaku h. yaku_numbers yaku) (yaku_in score.yaku) (each_of_all (yaku_in score.yaku)), tt),
-                ),
-              ),
-            ),
-          ),
-        ),
-      ),
-    ),
-  ),
-)
+score_numbers score h =
+    let han = IsNumber-decimal score.han (omega arith) in
+    let fu = IsNumber-decimal score.fu (omega arith) in
+    let dora = IsNumber-decimal score.dora (omega arith) in
+    let base = IsNumber-decimal score.base (omega arith) in
+    let gain = IsNumber-decimal score.gain (omega arith) in
+    let yaku = items_numbers yaku_tree (λ yaku. Unit {0}) (λ yaku h. yaku_numbers yaku) (yaku_in score.yaku) (each_of_all (yaku_in score.yaku)) in
+    (tt, (tt, (han, (fu, (dora, (base, (limit_numbers score.base, (payment_numbers score.payment h.payment, (gain, (yaku, tt))))))))))
 
 win_numbers : (win : WinAnswer) → IsWholeWin win → HasNumbers (win_tree win)
 unfolding win_tree
 win_numbers (Won score) h = score_numbers score h
-win_numbers NoYaku h = (tt, tt)
-win_numbers NoWin h = (tt, tt)
+win_numbers other h = (tt, tt)
 
 kinds_numbers : (kinds : List ℕ) → ItemsHaveNumbers (items_of kind_tree kinds)
 kinds_numbers [] = tt
@@ -121,9 +97,6 @@ items_shallow : {X : Type 0} (tree : X → Json) (d : ℕ) → ((x : X) → dept
 items_shallow tree d each [] = omega arith
 items_shallow tree d each (x ∷ xs) = omega (arith, each x, items_shallow tree d each xs)
 
-below : (d : ℕ) → 0 ≤ d
-below d = omega arith
-
 yaku_shallow : (yaku : Yaku) → depth (yaku_tree yaku) ≤ 1
 unfolding yaku_tree
 yaku_shallow yaku = omega arith
@@ -134,18 +107,13 @@ limit_shallow base = by_tests (base == 2000) (base == 3000) (base == 4000) (base
   where
     by_tests : (a b c d e : Bool) →
         depth (cond a (string (codes "mangan")) (cond b (string (codes "haneman")) (cond c (string (codes "baiman")) (cond d (string (codes "sanbaiman")) (cond e (string (codes "yakuman")) null))))) ≤ 0
-    by_tests true b c d e = omega arith
-    by_tests false true c d e = omega arith
-    by_tests false false true d e = omega arith
-    by_tests false false false true e = omega arith
-    by_tests false false false false true = omega arith
     by_tests false false false false false = omega arith
+    by_tests _ _ _ _ _ = omega arith
 
 payment_shallow : (payment : Payment) → depth (payment_tree payment) ≤ 1
 unfolding payment_tree
 payment_shallow (Ron points) = omega arith
-payment_shallow (Tsumo other dealer) = omega arith
-payment_shallow (DealerTsumo each) = omega arith
+payment_shallow _ = omega arith
 
 score_shallow : (score : Score) → depth (score_tree score) ≤ 3
 unfolding score_tree
@@ -156,8 +124,7 @@ score_shallow score =
 win_shallow : (win : WinAnswer) → depth (win_tree win) ≤ 3
 unfolding win_tree
 win_shallow (Won score) = score_shallow score
-win_shallow NoYaku = omega arith
-win_shallow NoWin = omega arith
+win_shallow other = omega arith
 
 kind_shallow : (kind : ℕ) → depth (kind_tree kind) ≤ 0
 kind_shallow kind = omega arith
@@ -189,8 +156,5 @@ pub reads_back : (a : Answer) → IsWhole a → document (answer_text a) ≡ Som
 unfolding text_of
 reads_back a h = document-print (answer_tree a) (numbers a h) (omega (arith, shallow a))
 
-some_same : (x y : Json) → Some x ≡ Some y → x ≡ y
-some_same x y e = cc
-
 pub same_texts : (a b : Answer) → IsWhole a → IsWhole b → answer_text a ≡ answer_text b → a ≡ b
-same_texts a b h k e = same_answers a b h k (some_same (answer_tree a) (answer_tree b) (sym (reads_back a h) ∙ ap document e ∙ reads_back b k))
+same_texts a b h k e = same_answers a b h k (same_Some (answer_tree a) (answer_tree b) (sym (reads_back a h) ∙ ap document e ∙ reads_back b k))

@@ -1,5 +1,5 @@
 -- Equal trees are those of equal answers.
-use Rattle.std.proofs.Common.{◌≡◌, ℕ, zero, suc, ◌+◌, ◌<◌, ◌≤◌, ◌^◌, ◌%◌, ◌⊎◌, inl, inr, Bool, true, false, cond, List, [], ◌∷◌, length, map, get_or, refl, sym, ap, ◌∙◌, arith, decimal}
+use Rattle.std.proofs.Common.{◌≡◌, ℕ, zero, suc, ◌+◌, ◌<◌, ◌≤◌, ◌^◌, ◌%◌, ◌≢◌, ⊎_elim, Bool, true, false, cond, List, [], ◌∷◌, length, map, get_or, refl, sym, ap, ◌∙◌, arith, decimal}
 use Rattle.std.proofs.lemmas.Bool.Decides.{nat_tests}
 use Rattle.std.proofs.lemmas.Bool.{cases_lt}
 use Rattle.std.proofs.lemmas.Fmt.{decimal_injective, signed_decimal_injective}
@@ -60,11 +60,8 @@ chosen_values f test (x ∷ xs) = by_test (test (f x)) ∙ ap (λ ns. cond (test
 
 -- ---- the numbers that pass a test
 
-no_first : (x : ℕ) (xs : List ℕ) → [] ≡ x ∷ xs → ⊥
-no_first x xs e = cc
-
 first_above : (test : ℕ → Bool) (a b n x : ℕ) (xs : List ℕ) → a < b → filter test (range_with_len b n) ≡ x ∷ xs → a < x
-first_above test a b zero x xs low e = absurd (no_first x xs e)
+first_above test a b zero x xs low e = let none : [] ≡ x ∷ xs = e in absurd (let no : ⊥ = cc in no)
 first_above test a b (suc n) x xs low e = by_test (test b) (first_above test a (b + 1) n x xs (omega arith)) e
   where
     by_test : (t : Bool) → (filter test (range_with_len (b + 1) n) ≡ x ∷ xs → a < x)
@@ -72,23 +69,13 @@ first_above test a b (suc n) x xs low e = by_test (test b) (first_above test a (
     by_test true later e = let same : b ≡ x = cc in omega arith
     by_test false later e = later e
 
-here_or_past : (a i : ℕ) → a ≤ i → (a ≡ i) ⊎ (a + 1 ≤ i)
-here_or_past a i low = go (cases_lt a i)
-  where
-    go : (a < i) ⊎ (i ≤ a) → (a ≡ i) ⊎ (a + 1 ≤ i)
-    go (inl above) = inr (omega arith)
-    go (inr at) = inl (omega arith)
-
 same_tails : (a : ℕ) (xs ys : List ℕ) → a ∷ xs ≡ a ∷ ys → xs ≡ ys
 same_tails a xs ys e = cc
 
 -- at a, and from there on
 past : (p q : ℕ → Bool) (a i : ℕ) → a ≤ i → p a ≡ q a → (a + 1 ≤ i → p i ≡ q i) → p i ≡ q i
-past p q a i low here rest = go (here_or_past a i low)
-  where
-    go : (a ≡ i) ⊎ (a + 1 ≤ i) → p i ≡ q i
-    go (inl at) = sym (ap p at) ∙ here ∙ ap q at
-    go (inr above) = rest above
+past p q a i low here rest =
+    ⊎_elim (λ above. rest (omega arith)) (λ not_above. let at : a ≡ i = omega arith in sym (ap p at) ∙ here ∙ ap q at) (cases_lt a i)
 
 same_tests : (p q : ℕ → Bool) (a n : ℕ) → filter p (range_with_len a n) ≡ filter q (range_with_len a n) → (i : ℕ) → a ≤ i → i < a + n → p i ≡ q i
 same_tests p q a zero e i low high = absurd (omega arith)
@@ -169,19 +156,14 @@ second_letter json = 0
 same_payments : (p q : Payment) → IsWholePayment p → IsWholePayment q → payment_tree p ≡ payment_tree q → p ≡ q
 unfolding payment_tree second_letter
 same_payments (Ron m) (Ron n) h k e = let numbers : natural m ≡ natural n = cc in ap Ron (same_numbers m n (omega arith) (omega arith) numbers)
-same_payments (Ron m) (Tsumo o d) h k e = absurd (omega (arith, ap second_letter e))
-same_payments (Ron m) (DealerTsumo n) h k e = absurd (omega (arith, ap second_letter e))
-same_payments (Tsumo o d) (Ron n) h k e = absurd (omega (arith, ap second_letter e))
 same_payments (Tsumo o d) (Tsumo o' d') h k e =
     let dealers : natural d ≡ natural d' = cc in
     let others : natural o ≡ natural o' = cc in
     let one = same_numbers d d' (omega arith) (omega arith) dealers in
     let other = same_numbers o o' (omega arith) (omega arith) others in
     λ i. Tsumo (other i) (one i)
-same_payments (Tsumo o d) (DealerTsumo n) h k e = absurd (omega (arith, ap second_letter e))
-same_payments (DealerTsumo m) (Ron n) h k e = absurd (omega (arith, ap second_letter e))
-same_payments (DealerTsumo m) (Tsumo o d) h k e = absurd (omega (arith, ap second_letter e))
 same_payments (DealerTsumo m) (DealerTsumo n) h k e = let numbers : natural m ≡ natural n = cc in ap DealerTsumo (same_numbers m n (omega arith) (omega arith) numbers)
+same_payments p q h k e = absurd (omega (arith, ap second_letter e))
 
 same_scores : (a b : Score) → IsWholeScore a → IsWholeScore b → score_tree a ≡ score_tree b → a ≡ b
 unfolding score_tree
@@ -210,14 +192,9 @@ sort_letter json = 0
 same_wins : (a b : WinAnswer) → IsWholeWin a → IsWholeWin b → win_tree a ≡ win_tree b → a ≡ b
 unfolding win_tree score_tree sort_letter
 same_wins (Won a) (Won b) h k e = ap Won (same_scores a b h k e)
-same_wins (Won a) NoYaku h k e = absurd (omega (arith, ap sort_letter e))
-same_wins (Won a) NoWin h k e = absurd (omega (arith, ap sort_letter e))
-same_wins NoYaku (Won b) h k e = absurd (omega (arith, ap sort_letter e))
 same_wins NoYaku NoYaku h k e = refl
-same_wins NoYaku NoWin h k e = absurd (omega (arith, ap sort_letter e))
-same_wins NoWin (Won b) h k e = absurd (omega (arith, ap sort_letter e))
-same_wins NoWin NoYaku h k e = absurd (omega (arith, ap sort_letter e))
 same_wins NoWin NoWin h k e = refl
+same_wins a b h k e = absurd (omega (arith, ap sort_letter e))
 
 -- ---- waits
 
@@ -273,11 +250,10 @@ first_letter (member name value more) = get_or name 0 0
 same_accepts : (a b : Accepts) → AreWhole a → AreWhole b → members_of (accepts_members a) ≡ members_of (accepts_members b) → a ≡ b
 unfolding first_letter
 same_accepts (Thirteen xs) (Thirteen ys) h k e = ap Thirteen (same_accepted xs ys h k e)
-same_accepts (Thirteen xs) (Fourteen ys) h k e = absurd (omega (arith, ap first_letter e))
-same_accepts (Fourteen xs) (Thirteen ys) h k e = absurd (omega (arith, ap first_letter e))
 same_accepts (Fourteen xs) (Fourteen ys) h k e =
     let items : items_of discard_tree xs ≡ items_of discard_tree ys = cc in
     ap Fourteen (same_items discard_tree IsWholeDiscard same_discards xs ys h k items)
+same_accepts a b h k e = absurd (omega (arith, ap first_letter e))
 
 same_shapes : (a b : ShapeAnswer) → IsWholeShape a → IsWholeShape b → shape_tree a ≡ shape_tree b → a ≡ b
 unfolding shape_tree
@@ -290,30 +266,19 @@ same_shapes a b h k e =
 
 -- ---- answers
 
-no_waits : (win : WinAnswer) (marks : List Bool) → win_tree win ≡ waits_tree marks → ⊥
-unfolding win_tree score_tree waits_tree sort_letter
-no_waits (Won score) marks e = omega (arith, ap sort_letter e)
-no_waits NoYaku marks e = omega (arith, ap sort_letter e)
-no_waits NoWin marks e = omega (arith, ap sort_letter e)
-
-no_shape : (win : WinAnswer) (shape : ShapeAnswer) → win_tree win ≡ shape_tree shape → ⊥
-unfolding win_tree score_tree shape_tree sort_letter
-no_shape (Won score) shape e = omega (arith, ap sort_letter e)
-no_shape NoYaku shape e = omega (arith, ap sort_letter e)
-no_shape NoWin shape e = omega (arith, ap sort_letter e)
-
-waits_apart : (marks : List Bool) (shape : ShapeAnswer) → waits_tree marks ≡ shape_tree shape → ⊥
-unfolding waits_tree shape_tree sort_letter
-waits_apart marks shape e = omega (arith, ap sort_letter e)
+-- a win's sort has another letter than those of waits and shapes
+win_apart : (win : WinAnswer) → (sort_letter (win_tree win) ≢ 116) × (sort_letter (win_tree win) ≢ 112)
+unfolding win_tree score_tree sort_letter
+win_apart (Won score) = (λ e. omega (arith, e), λ e. omega (arith, e))
+win_apart other = (λ e. omega (arith, e), λ e. omega (arith, e))
 
 pub same_answers : (a b : Answer) → IsWhole a → IsWhole b → answer_tree a ≡ answer_tree b → a ≡ b
-unfolding answer_tree
+unfolding answer_tree waits_tree shape_tree sort_letter
 same_answers (answer.Win a) (answer.Win b) h k e = ap answer.Win (same_wins a b h k e)
-same_answers (answer.Win a) (answer.Waits b) h k e = absurd (no_waits a b e)
-same_answers (answer.Win a) (answer.Shape b) h k e = absurd (no_shape a b e)
-same_answers (answer.Waits a) (answer.Win b) h k e = absurd (no_waits b a (sym e))
+same_answers (answer.Win a) (answer.Waits b) h k e = absurd ((win_apart a).0 (ap sort_letter e))
+same_answers (answer.Win a) (answer.Shape b) h k e = absurd ((win_apart a).1 (ap sort_letter e))
+same_answers (answer.Waits a) (answer.Win b) h k e = absurd ((win_apart b).0 (sym (ap sort_letter e)))
+same_answers (answer.Shape a) (answer.Win b) h k e = absurd ((win_apart b).1 (sym (ap sort_letter e)))
 same_answers (answer.Waits a) (answer.Waits b) h k e = ap answer.Waits (same_waits a b h k e)
-same_answers (answer.Waits a) (answer.Shape b) h k e = absurd (waits_apart a b e)
-same_answers (answer.Shape a) (answer.Win b) h k e = absurd (no_shape b a (sym e))
-same_answers (answer.Shape a) (answer.Waits b) h k e = absurd (waits_apart b a (sym e))
 same_answers (answer.Shape a) (answer.Shape b) h k e = ap answer.Shape (same_shapes a b h k e)
+same_answers a b h k e = absurd (omega (arith, ap sort_letter e))

@@ -1,5 +1,6 @@
 -- What holds of each element of a list.
-use Rattle.std.proofs.Common.{◌≡◌, ℕ, zero, suc, ◌+◌, ◌≤◌, Bool, true, false, cond, List, [], ◌∷◌, map, take, Some, subst, arith}
+use Rattle.std.proofs.Common.{◌≡◌, ℕ, zero, suc, ◌+◌, ◌≤◌, Bool, true, false, cond, List, [], ◌∷◌, map, take, Some, sym, subst, add-one, arith}
+use Rattle.std.proofs.lemmas.Option.{same_Some}
 use Rattle.std.specs.List.{filter, range_with_len}
 use Rattle.std.specs.Prelude.{slice_get, slice_index, nat_lt}
 use Rattle.riichi_shape.specs.LiveCopies.{pairs_of}
@@ -21,14 +22,8 @@ all_pairs_whole copies few = pairs_whole copies (λ k. nat_lt 0 (slice_index cop
 
 each_front : {X : Type 0} (P : X → Type 0) (xs : List X) (i : ℕ) (x : X) → Each P (take i xs) → slice_get xs i ≡ Some x → P x → Each P (take (suc i) xs)
 each_front P [] i x h e p = tt
-each_front P (y ∷ ys) zero x h e p = (subst P (same y x e) p, tt)
-  where
-    same : {X : Type 0} (y x : X) → Some y ≡ Some x → x ≡ y
-    same y x e = cc
+each_front P (y ∷ ys) zero x h e p = (subst P (sym (same_Some y x e)) p, tt)
 each_front P (y ∷ ys) (suc i) x h e p = (h.0, each_front P ys i x h.1 e p)
 
 pub each_more : {X : Type 0} (P : X → Type 0) (xs : List X) (i : ℕ) (x : X) → Each P (take i xs) → slice_get xs i ≡ Some x → P x → Each P (take (i + 1) xs)
-each_more P xs i x h e p = subst (λ n. Each P (take n xs)) (next i) (each_front P xs i x h e p)
-  where
-    next : (n : ℕ) → suc n ≡ n + 1
-    next n = omega arith
+each_more P xs i x h e p = subst (λ n. Each P (take n xs)) (sym (add-one i)) (each_front P xs i x h e p)
