@@ -6,8 +6,8 @@ use Rattle.std.proofs.lemmas.List.Elements.{filter_map-append}
 use Rattle.std.specs.Prelude.{is_some, unwrap_or}
 use Rattle.riichi_hand.specs.declared.win.Rules.{Rules}
 use Rattle.desk_lines.specs.Profile.{profile_of, rules_of, record_lines, rules_by, record_rules}
-use Rattle.desk_lines.specs.LineAnswer.{answer_of, IsAnswer}
-use Rattle.desk_lines.specs.LineAnswers.{answers_by, answers_on, answers_to}
+use Rattle.desk_lines.specs.LineAnswer.{IsBy}
+use Rattle.desk_lines.specs.LineAnswers.{answers_by}
 use Rattle.desk_lines.specs.Telling.{text_of, answers_in, IsToldAs}
 use Rattle.desk_lines.specs.Records.{rules_after, AnswerKind, IsToldUnder, IsToldBy, AreTold, AnswerRecords, TellsRecords}
 use Rattle.desk_lines.specs.declared.records.Records.{Records}
@@ -15,7 +15,7 @@ use Rattle.desk_lines.specs.Streams.{StopsWriting}
 use Rattle.desk_streams.specs.declared.sink.Sink.{Ghosts as OfSink}
 use Rattle.desk_lines.proofs.TellingLemmas.{text_of-append}
 use Rattle.desk_lines.proofs.StreamLemmas.{StopsWriting-more}
-use Rattle.desk_lines.specs.LongLines.{long_profile}
+use Rattle.desk_lines.specs.LongLines.{AreAlike, long_profile}
 
 -- all but the first line are records
 pub record_lines-more : (line : List ℕ) (lines more : List (List ℕ)) → record_lines ((line ∷ lines) ++ more) ≡ record_lines (line ∷ lines) ++ more
@@ -56,10 +56,6 @@ AnswerRecords-last Answers given (first ∷ lines) line told answer are is =
     subst (λ (all : List (List ℕ)). AreTold Answers rules all (told ++ answers_in answer)) (sym (record_lines-more first lines (line ∷ [])))
     (AreTold-last Answers rules (record_lines (first ∷ lines)) line told answer are is)
 
--- lines that are too long are told alike
-abbrev AreAlike : AnswerKind → Type 0
-AreAlike Answers = (rules : Rules) (line other : List ℕ) (told : Option (List ℕ)) → 4096 < length line → 4096 < length other → Answers rules line told → Answers rules other told
-
 alike_under : (Answers : AnswerKind) → AreAlike Answers → (rules : Option Rules) (line next : List ℕ) (answer : Option (List ℕ)) → 4096 < length line → 4096 < length next
     → IsToldUnder Answers rules line answer → IsToldUnder Answers rules next answer
 alike_under Answers alike None line next answer long long_next is = is
@@ -89,10 +85,6 @@ TellsRecords-line Answers alike old new line next answer lines told as_this tell
     )
 
 -- ---- answers by a function
-
--- a line has the answer of this kind
-abbrev IsBy : (Rules → List ℕ → Option (List ℕ)) → AnswerKind
-IsBy by rules line told = told ≡ by rules line
 
 told_by : (by : Rules → List ℕ → Option (List ℕ)) (rules : Rules) (lines told : List (List ℕ)) → AreTold (IsBy by) rules lines told → told ≡ filter_map (by rules) lines
 told_by by rules [] told are = are
@@ -126,12 +118,3 @@ front_told by sink start new given lines first others answers parts are stops =
     let more = text_of-more by given first others in
     subst (λ (all : List ℕ). StopsWriting sink start new all) (ap (λ told. text_of told ++ more.0) (answers_told by given first answers are) ∙ sym more.1 ∙ ap (λ ls. text_of (answers_by by given ls)) (sym parts))
     (StopsWriting-more sink start new (text_of answers) more.0 stops)
-
--- ---- plain answers
-
-pub plain_answers : (given : Rules) (lines told : List (List ℕ)) → AnswerRecords IsAnswer given lines told → told ≡ answers_on given lines
-plain_answers given lines told are = answers_told answer_of given lines told are
-
-pub front_of_answers : {W : Type 0} (sink : OfSink W) (start new : W) (given : Rules) (lines first others answers : List (List ℕ)) → lines ≡ first ++ others
-    → AnswerRecords IsAnswer given first answers → StopsWriting sink start new (text_of answers) → StopsWriting sink start new (answers_to given lines)
-front_of_answers sink start new given lines first others answers parts are stops = front_told answer_of sink start new given lines first others answers parts are stops

@@ -1,5 +1,5 @@
 -- No answer has a line feed in it, or begins with two spaces.
-use Rattle.std.proofs.Common.{◌≡◌, ℕ, ℤ, pos, negsuc, suc, ◌+◌, ◌%◌, List, [], ◌∷◌, ◌++◌, Bool, true, false, cond, nat_eq, Option, Some, None, Result, Ok, Err, refl, sym, subst, ap, ◌∙◌, arith}
+use Rattle.std.proofs.Common.{◌≡◌, ℕ, ℤ, pos, negsuc, suc, ◌+◌, ◌%◌, List, [], ◌∷◌, ◌++◌, Bool, true, false, cond, nat_eq, Option, Some, None, Result, Ok, Err, refl, subst, arith}
 use Rattle.std.specs.Prelude.{codes, decimal}
 use Rattle.std.specs.Fmt.{signed_decimal}
 use Rattle.std.specs.List.{list_any}
@@ -129,10 +129,14 @@ answer_text-plain (answer.Win win) = win_text-plain win
 answer_text-plain (answer.Waits kinds) = waits-plain kinds
 answer_text-plain (answer.Shape shape) = shape_text-plain shape
 
+-- what holds of each answer and of each fault holds of what is said of an outcome
+of_said : (P : List ℕ → Type 0) → ((said : Answer) → P (answer_text said)) → ((fault : LineFault) → P (fault_text fault)) → (outcome : Outcome) (said : List ℕ) → outcome_text outcome ≡ Some said → P said
+of_said P answers faults (Ok None) said is = absurd (cc)
+of_said P answers faults (Ok (Some job)) said is = let same : answer_text (value_of job) ≡ said = cc in subst P same (answers (value_of job))
+of_said P answers faults (Err fault) said is = let same : fault_text fault ≡ said = cc in subst P same (faults fault)
+
 pub answer-plain : (outcome : Outcome) (said : List ℕ) → outcome_text outcome ≡ Some said → plain said ≡ true
-answer-plain (Ok None) said is = absurd (cc)
-answer-plain (Ok (Some job)) said is = let same : answer_text (value_of job) ≡ said = cc in ap plain (sym same) ∙ answer_text-plain (value_of job)
-answer-plain (Err fault) said is = let same : fault_text fault ≡ said = cc in ap plain (sym same) ∙ fault_text-plain fault
+answer-plain = of_said (λ text. plain text ≡ true) answer_text-plain fault_text-plain
 
 -- ---- how an answer begins
 
@@ -141,33 +145,17 @@ record Begins (text : List ℕ) : Type 0 where
   indented : is_indented text ≡ false
   goes_on : (more : List ℕ) → is_refusal (text ++ more) ≡ is_refusal text
 
-win-begins : (win : WinAnswer) → Begins (win_text win)
-unfolding win_text
-win-begins NoWin = record { indented = refl; goes_on = λ more. refl }
-win-begins NoYaku = record { indented = refl; goes_on = λ more. refl }
-win-begins (Won score) = record { indented = refl; goes_on = λ more. refl }
-
-shape-begins : (shape : ShapeAnswer) → Begins (shape_text shape)
-unfolding shape_text
-shape-begins shape = record { indented = refl; goes_on = λ more. refl }
-
 answer-begins : (said : Answer) → Begins (answer_text said)
-unfolding answer_text
-answer-begins (answer.Win win) = win-begins win
-answer-begins (answer.Waits kinds) = record { indented = refl; goes_on = λ more. refl }
-answer-begins (answer.Shape shape) = shape-begins shape
+unfolding answer_text win_text shape_text
+answer-begins (answer.Win NoWin) = record { indented = refl; goes_on = λ more. refl }
+answer-begins _ = record { indented = refl; goes_on = λ more. refl }
 
 fault-begins : (fault : LineFault) → Begins (fault_text fault)
 fault-begins (Line code) = record { indented = refl; goes_on = λ more. refl }
 fault-begins (Notation name fault) = record { indented = refl; goes_on = λ more. refl }
 
-outcome-begins : (outcome : Outcome) (said : List ℕ) → outcome_text outcome ≡ Some said → Begins said
-outcome-begins (Ok None) said is = absurd (cc)
-outcome-begins (Ok (Some job)) said is = let same : answer_text (value_of job) ≡ said = cc in subst Begins same (answer-begins (value_of job))
-outcome-begins (Err fault) said is = let same : fault_text fault ≡ said = cc in subst Begins same (fault-begins fault)
-
 pub answer-not_indented : (outcome : Outcome) (said : List ℕ) → outcome_text outcome ≡ Some said → is_indented said ≡ false
-answer-not_indented outcome said is = (outcome-begins outcome said is).indented
+answer-not_indented outcome said is = (of_said Begins answer-begins fault-begins outcome said is).indented
 
 pub is_refusal-more : (outcome : Outcome) (said more : List ℕ) → outcome_text outcome ≡ Some said → is_refusal (said ++ more) ≡ is_refusal said
-is_refusal-more outcome said more is = (outcome-begins outcome said is).goes_on more
+is_refusal-more outcome said more is = (of_said Begins answer-begins fault-begins outcome said is).goes_on more

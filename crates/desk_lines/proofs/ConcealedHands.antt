@@ -41,24 +41,7 @@ of_another counts other =
     ] in
     rw no_size refl
 
--- What the constructor of a record answers to the tiles and no melds.
-
-answered : {answer : Result HandParts LineFault} (counts : List ℕ) (melds : List Meld) → melds ≡ [] → answer ≡ hand_of (record { concealed = counts; melds = melds })
-    → answer ≡ hand_of (concealed_hand counts)
-answered counts melds none is = is ∙ ap (λ m. hand_of (record { concealed = counts; melds = m })) none
-
-pub ok_is : (hand : HandParts) (counts : List ℕ) (melds : List Meld) → melds ≡ [] → Ok hand ≡ hand_of (record { concealed = counts; melds = melds })
-    → hand_of (concealed_hand counts) ≡ Ok (concealed_hand counts) → hand ≡ concealed_hand counts
-ok_is hand counts melds none is hand_is = let e = answered counts melds none is ∙ hand_is in cc
-
-pub not_err : (hand : HandParts) (counts : List ℕ) (melds : List Meld) → melds ≡ [] → Ok hand ≡ hand_of (record { concealed = counts; melds = melds })
-    → hand_of (concealed_hand counts) ≡ Err (Line H8) → ⊥
-not_err hand counts melds none is fault_is = let e = answered counts melds none is ∙ fault_is in cc
-
-pub not_ok : (fault : LineFault) (counts : List ℕ) (melds : List Meld) → melds ≡ [] → Err fault ≡ hand_of (record { concealed = counts; melds = melds })
-    → hand_of (concealed_hand counts) ≡ Ok (concealed_hand counts) → ⊥
-not_ok fault counts melds none is hand_is = let e = answered counts melds none is ∙ hand_is in cc
-
-pub err_is : (fault : LineFault) (counts : List ℕ) (melds : List Meld) → melds ≡ [] → Err fault ≡ hand_of (record { concealed = counts; melds = melds })
-    → hand_of (concealed_hand counts) ≡ Err (Line H8) → fault ≡ Line H8
-err_is fault counts melds none is fault_is = let e = answered counts melds none is ∙ fault_is in cc
+-- what the constructor of a record answers to the tiles and no melds
+pub answered : {answer told : Result HandParts LineFault} (counts : List ℕ) (melds : List Meld) → melds ≡ [] → answer ≡ hand_of (record { concealed = counts; melds = melds })
+    → hand_of (concealed_hand counts) ≡ told → answer ≡ told
+answered counts melds none is told_is = is ∙ ap (λ m. hand_of (record { concealed = counts; melds = m })) none ∙ told_is

@@ -1,15 +1,13 @@
 -- What was explained, without the lines that begin with two spaces.
-use Rattle.std.proofs.Common.{◌≡◌, ◌⊎◌, inl, inr, ℕ, ◌+◌, List, [], ◌∷◌, ◌++◌, Bool, true, false, cond, nat_eq, filter, Option, Some, None, refl, sym, subst, ap, ◌∙◌, append_assoc}
-use Rattle.std.specs.Prelude.{not, ◌&&◌, count_by}
+use Rattle.std.proofs.Common.{◌≡◌, inl, inr, ℕ, ◌+◌, List, [], ◌∷◌, ◌++◌, Bool, true, false, cond, nat_eq, filter, map, Option, Some, None, refl, sym, subst, ap, ◌∙◌, append_assoc}
+use Rattle.std.specs.Prelude.{not, ◌&&◌}
 use Rattle.std.specs.List.{filter_map, cons_option}
-use Rattle.std.proofs.lemmas.Bool.{eqb-true}
-use Rattle.std.proofs.lemmas.List.Sums.{sum_by-cons}
+use Rattle.std.proofs.lemmas.Bool.{cases_Bool, eqb-true}
 use Rattle.riichi_hand.specs.declared.win.Rules.{Rules}
 use Rattle.riichi_hand.specs.Lines.{outcome_of}
 use Rattle.riichi_explain.specs.Explanation.{IsExplanation}
 use Rattle.riichi_explain.proofs.PlainTexts.{are_indented, within, and_both}
 use Rattle.riichi_explain.proofs.ExplainedLines.{outcome_text-lines}
-use Rattle.desk_lines.specs.declared.report.DeskReport.{DeskReport}
 use Rattle.desk_lines.specs.Explained.{IsToldWithWhy, IsExplained, is_indented, without_indented}
 use Rattle.desk_lines.specs.Lines.{Cut, cut_of, with_front, in_front, is_plain}
 use Rattle.desk_lines.specs.LineAnswer.{answer_of}
@@ -17,6 +15,7 @@ use Rattle.desk_lines.specs.LineAnswers.{answers_on, answers_to, report_on}
 use Rattle.desk_lines.specs.Profile.{rules_of, record_lines}
 use Rattle.desk_lines.specs.Records.{AreTold, AnswerRecords}
 use Rattle.desk_lines.specs.Telling.{text_of, is_refusal, answers_in, with_line_feed, report_by}
+use Rattle.desk_lines.proofs.TellingLemmas.{report_by-same}
 use Rattle.desk_lines.proofs.AnswerPlain.{answer-plain, answer-not_indented, is_refusal-more}
 
 -- ---- lines at the front of a text
@@ -68,7 +67,7 @@ mutual_left true (byte ∷ next ∷ text) rest p =
     let first : byte ≡ 32 = eqb-true byte 32 one.0 in
     let second : next ≡ 32 = eqb-true next 32 two.0 in
     rw (first, second) (ap kept_lines (front_ended 32 (with_front 32 (cut_of (text ++ rest))) (32 ∷ more.first) more.others (front_ended 32 (cut_of (text ++ rest)) more.first more.others more.ended_is)) ∙ more.kept)
-mutual_left false (byte ∷ text) rest p = elim (cases_bool (nat_eq byte 10)) as (λ _. CutWithin (byte ∷ text) rest) [
+mutual_left false (byte ∷ text) rest p = elim (cases_Bool (nat_eq byte 10)) as (λ _. CutWithin (byte ∷ text) rest) [
   | inl feed ↦
       let more : without_indented (text ++ rest) ≡ without_indented rest = mutual_left true text rest (subst (λ (s : Bool). within s text ≡ true) feed p) in record {
         first = [];
@@ -84,10 +83,6 @@ mutual_left false (byte ∷ text) rest p = elim (cases_bool (nat_eq byte 10)) as
         kept = more.kept;
       }
 ]
-  where
-    cases_bool : (b : Bool) → (b ≡ true) ⊎ (b ≡ false)
-    cases_bool true = inl refl
-    cases_bool false = inr refl
 
 pub without_indented-lines : (text rest : List ℕ) → are_indented text ≡ true → without_indented (text ++ rest) ≡ without_indented rest
 without_indented-lines text rest p = mutual_left true text rest p
@@ -155,26 +150,17 @@ told-refusal : (rules : Rules) (line : List ℕ) (answer told : List ℕ) → Is
 unfolding answer_of
 told-refusal rules line answer told is so = ap is_refusal is.text_is ∙ is_refusal-more (outcome_of rules line) answer is.more so
 
-counted-one : (test : List ℕ → Bool) (rules : Rules) (line : List ℕ) (outcome answer : Option (List ℕ)) (others answers : List (List ℕ)) → answer_of rules line ≡ outcome → IsToldWithWhy rules line outcome answer
-    → ((line answer text : List ℕ) → IsToldWithWhy rules line (Some answer) (Some text) → answer_of rules line ≡ Some answer → test text ≡ test answer)
-    → count_by test others ≡ count_by test answers → count_by test (answers_in answer ++ others) ≡ count_by test (cons_option outcome answers)
-counted-one test rules line None answer others answers so is same rest = ap (λ (a : Option (List ℕ)). count_by test (answers_in a ++ others)) is ∙ rest
-counted-one test rules line (Some said) None others answers so is same rest = absurd is
-counted-one test rules line (Some said) (Some text) others answers so is same rest =
-    sum_by-cons (λ a. cond (test a) 1 0) text others ∙ ap (λ (b : Bool). cond b 1 0 + count_by test others) (same line said text is so)
-    ∙ ap (λ (n : ℕ). cond (test said) 1 0 + n) rest ∙ sym (sum_by-cons (λ a. cond (test a) 1 0) said answers)
+one_refusal : (rules : Rules) (line : List ℕ) (outcome answer : Option (List ℕ)) (others answers : List (List ℕ)) → answer_of rules line ≡ outcome → IsToldWithWhy rules line outcome answer
+    → map is_refusal others ≡ map is_refusal answers → map is_refusal (answers_in answer ++ others) ≡ map is_refusal (cons_option outcome answers)
+one_refusal rules line None answer others answers so is rest = ap (λ (a : Option (List ℕ)). map is_refusal (answers_in a ++ others)) is ∙ rest
+one_refusal rules line (Some said) None others answers so is rest = absurd is
+one_refusal rules line (Some said) (Some text) others answers so is rest = λ i. told-refusal rules line said text is so i ∷ rest i
 
-counted : (test : List ℕ → Bool) (rules : Rules) (lines told : List (List ℕ)) → AreTold IsExplained rules lines told
-    → ((line answer text : List ℕ) → IsToldWithWhy rules line (Some answer) (Some text) → answer_of rules line ≡ Some answer → test text ≡ test answer)
-    → count_by test told ≡ count_by test (filter_map (answer_of rules) lines)
-counted test rules [] told are same = ap (count_by test) are
-counted test rules (line ∷ lines) told are same =
-    ap (count_by test) are.3 ∙ counted-one test rules line (answer_of rules line) are.0 are.1 (filter_map (answer_of rules) lines) refl are.2 same (counted test rules lines are.1 are.4 same)
+-- the explained answers that are refusals are those of the plain answers that are
+same_refusals : (rules : Rules) (lines told : List (List ℕ)) → AreTold IsExplained rules lines told → map is_refusal told ≡ map is_refusal (filter_map (answer_of rules) lines)
+same_refusals rules [] told are = ap (map is_refusal) are
+same_refusals rules (line ∷ lines) told are =
+    ap (map is_refusal) are.3 ∙ one_refusal rules line (answer_of rules line) are.0 are.1 (filter_map (answer_of rules) lines) refl are.2 (same_refusals rules lines are.1 are.4)
 
 pub explained-report : (given : Rules) (lines told : List (List ℕ)) → AnswerRecords IsExplained given lines told → report_by is_refusal told ≡ report_on given lines
-explained-report given lines told are =
-    let rules = rules_of given lines in
-    let refused = counted is_refusal rules (record_lines lines) told are (told-refusal rules) in
-    let answered = counted (λ text. not (is_refusal text)) rules (record_lines lines) told are (λ line answer text is so. ap not (told-refusal rules line answer text is so)) in
-    ap (λ (n : ℕ). let report : DeskReport = record { answered = n; refused = count_by is_refusal told } in report) answered
-    ∙ ap (λ (n : ℕ). let report : DeskReport = record { answered = count_by (λ text. not (is_refusal text)) (answers_on given lines); refused = n } in report) refused
+explained-report given lines told are = report_by-same is_refusal is_refusal told (answers_on given lines) (same_refusals (rules_of given lines) (record_lines lines) told are)

@@ -1,16 +1,12 @@
 -- One explained answer, as it is put behind others.
-use Rattle.std.proofs.Common.{◌≡◌, ℕ, List, [], ◌∷◌, ◌++◌, Bool, true, false, cond, Option, Some, None, Result, Ok, Err, refl, sym, subst, ap, ◌∙◌, append_assoc}
+use Rattle.std.proofs.Common.{◌≡◌, ℕ, List, [], ◌∷◌, ◌++◌, Bool, true, cond, Option, Some, None, Result, Ok, refl, sym, subst, ap, ◌∙◌, append_assoc}
 use Rattle.std.proofs.lemmas.List.{append-nil}
 use Rattle.riichi_hand.specs.declared.fault.LineFault.{LineFault}
 use Rattle.riichi_hand.specs.declared.job.Job.{Job}
 use Rattle.riichi_hand.specs.declared.win.Rules.{Rules}
-use Rattle.riichi_hand.specs.FaultTexts.{fault_text}
 use Rattle.riichi_hand.specs.Lines.{outcome_of}
-use Rattle.riichi_explain.specs.Explanation.{IsJobText, IsOutcomeText, IsExplanation}
-use Rattle.riichi_faults.specs.Refusal.{refusal_lines}
+use Rattle.riichi_explain.specs.Explanation.{IsOutcomeText, IsExplanation}
 use Rattle.riichi_explain.proofs.ExplainedLines.{outcome_text-lines}
-use Rattle.desk_core.specs.AnswerText.{answer_text}
-use Rattle.desk_core.specs.Value.{value_of}
 use Rattle.desk_lines.specs.declared.line_kind.LineKind.TheVariants.{NoRecord, Answered, Refused}
 use Rattle.desk_lines.specs.Explained.{IsAnswerWithWhy, IsToldWithWhy, IsExplained}
 use Rattle.desk_lines.specs.LineAnswer.{answer_of, outcome_text}
@@ -18,16 +14,12 @@ use Rattle.desk_lines.specs.Records.{Puts}
 use Rattle.desk_lines.specs.Telling.{is_refusal}
 use Rattle.desk_lines.proofs.AnswerPlain.{is_refusal-more}
 use Rattle.desk_lines.proofs.ExplainedLemmas.{last_feed}
-use Rattle.desk_lines.proofs.KindLemmas.{is_refusal-fault, is_refusal-job}
 
 abbrev Outcome : Type 0
 Outcome = Result (Option Job) LineFault
 
-abbrev MayTell : Rules → List ℕ → Option (List ℕ) → Type 0
-MayTell rules line told = IsExplained rules line told
-
 -- what may be told, by the outcome of the line
-may_be_told : (rules : Rules) (line : List ℕ) (outcome : Outcome) (told : Option (List ℕ)) → outcome_of rules line ≡ outcome → IsToldWithWhy rules line (outcome_text outcome) told → MayTell rules line told
+may_be_told : (rules : Rules) (line : List ℕ) (outcome : Outcome) (told : Option (List ℕ)) → outcome_of rules line ≡ outcome → IsToldWithWhy rules line (outcome_text outcome) told → IsExplained rules line told
 unfolding answer_of
 may_be_told rules line outcome told is with_why = subst (λ (o : Outcome). IsToldWithWhy rules line (outcome_text o) told) (sym is) with_why
 
@@ -52,26 +44,13 @@ puts-none rules line before after is same = record {
   put = same ∙ sym (append-nil before);
 }
 
-pub puts-job : (rules : Rules) (line before after why : List ℕ) (job : Job) → outcome_of rules line ≡ Ok (Some job) → IsJobText job why
-    → after ≡ before ++ ((answer_text (value_of job) ++ 10 ∷ []) ++ why) → Puts is_refusal (IsExplained rules line) Answered before after
-puts-job rules line before after why job is text put =
-    let answer = answer_text (value_of job) in
-    let with_why = answer_with_why rules line why answer (Ok (Some job)) is text in
-    let other : is_refusal (answer ++ with_why.0) ≡ false = is_refusal-more (Ok (Some job)) answer with_why.0 refl ∙ is_refusal-job job in record {
+pub puts-said : (rules : Rules) (line before after why answer : List ℕ) (outcome : Outcome) (refused : Bool) → outcome_of rules line ≡ outcome → outcome_text outcome ≡ Some answer → is_refusal answer ≡ refused
+    → IsOutcomeText line outcome why → after ≡ before ++ ((answer ++ 10 ∷ []) ++ why) → Puts is_refusal (IsExplained rules line) (cond refused Refused Answered) before after
+puts-said rules line before after why answer outcome refused is said tested text put =
+    let with_why = answer_with_why rules line why answer outcome is text in
+    let test : is_refusal (answer ++ with_why.0) ≡ refused = is_refusal-more outcome answer with_why.0 said ∙ tested in record {
       told = Some (answer ++ with_why.0);
-      may_be_told = may_be_told rules line (Ok (Some job)) (Some (answer ++ with_why.0)) is with_why.1;
-      kind_is = ap (λ (refused : Bool). cond refused Refused Answered) (sym other);
-      put = put ∙ ap (λ (all : List ℕ). before ++ all) (sym with_why.2);
-    }
-
-pub puts-refusal : (rules : Rules) (line before after : List ℕ) (fault : LineFault) → outcome_of rules line ≡ Err fault
-    → after ≡ before ++ ((fault_text fault ++ 10 ∷ []) ++ refusal_lines line fault) → Puts is_refusal (IsExplained rules line) Refused before after
-puts-refusal rules line before after fault is put =
-    let answer = fault_text fault in
-    let with_why = answer_with_why rules line (refusal_lines line fault) answer (Err fault) is refl in
-    let refused : is_refusal (answer ++ with_why.0) ≡ true = is_refusal-more (Err fault) answer with_why.0 refl ∙ is_refusal-fault fault in record {
-      told = Some (answer ++ with_why.0);
-      may_be_told = may_be_told rules line (Err fault) (Some (answer ++ with_why.0)) is with_why.1;
-      kind_is = ap (λ (r : Bool). cond r Refused Answered) (sym refused);
+      may_be_told = may_be_told rules line outcome (Some (answer ++ with_why.0)) is (subst (λ (o : Option (List ℕ)). IsToldWithWhy rules line o (Some (answer ++ with_why.0))) (sym said) with_why.1);
+      kind_is = ap (λ (r : Bool). cond r Refused Answered) (sym test);
       put = put ∙ ap (λ (all : List ℕ). before ++ all) (sym with_why.2);
     }

@@ -4,10 +4,8 @@ use Rattle.riichi_hand.specs.declared.job.Job.{Job}
 use Rattle.riichi_hand.specs.declared.fault.LineFault.{LineFault}
 use Rattle.riichi_hand.specs.declared.fault.LineFault.TheVariants.{Line, Notation}
 use Rattle.riichi_hand.specs.FaultTexts.{fault_text}
-use Rattle.riichi_score.specs.declared.answer.WinAnswer.{WinAnswer}
-use Rattle.riichi_score.specs.declared.answer.WinAnswer.TheVariants.{Won, NoYaku, NoWin}
+use Rattle.riichi_score.specs.declared.answer.WinAnswer.TheVariants.{NoWin}
 use Rattle.riichi_score.specs.Text.{text_of}
-use Rattle.riichi_shape.specs.declared.shape_answer.ShapeAnswer.{ShapeAnswer}
 use Rattle.riichi_shape_text.specs.Text.{text_of as shape_text}
 use Rattle.desk_core.specs.AnswerText.{answer_text}
 use Rattle.desk_core.specs.Value.{value_of}
@@ -19,21 +17,10 @@ pub is_refusal-fault : (fault : LineFault) → is_refusal (fault_text fault) ≡
 is_refusal-fault (Line code) = refl
 is_refusal-fault (Notation name fault) = refl
 
-is_refusal-win : (answer : WinAnswer) → is_refusal (text_of answer) ≡ false
-unfolding text_of
-is_refusal-win NoWin = refl
-is_refusal-win NoYaku = refl
-is_refusal-win (Won score) = refl
-
-is_refusal-shape : (answer : ShapeAnswer) → is_refusal (shape_text answer) ≡ false
-unfolding shape_text
-is_refusal-shape answer = refl
-
 is_refusal-answer : (answer : Answer) → is_refusal (answer_text answer) ≡ false
-unfolding answer_text
-is_refusal-answer (answer.Win win) = is_refusal-win win
-is_refusal-answer (answer.Waits kinds) = refl
-is_refusal-answer (answer.Shape shape) = is_refusal-shape shape
+unfolding answer_text text_of shape_text
+is_refusal-answer (answer.Win NoWin) = refl
+is_refusal-answer _ = refl
 
 pub is_refusal-job : (job : Job) → is_refusal (answer_text (value_of job)) ≡ false
 is_refusal-job job = is_refusal-answer (value_of job)

@@ -1,5 +1,5 @@
 -- What one more line asks, and how what was asked is told.
-use Rattle.std.proofs.Common.{◌≡◌, ℕ, ◌+◌, ◌<◌, inl, inr, List, [], ◌∷◌, ◌++◌, Bool, cond, flat_map, length, map, Option, Some, None, Result, Ok, Err, refl, sym, ◌∙◌, ap, append_assoc, arith}
+use Rattle.std.proofs.Common.{◌≡◌, ℕ, ◌+◌, ◌<◌, inl, inr, List, [], ◌∷◌, ◌++◌, Bool, true, false, cond, flat_map, length, map, Option, Some, None, Result, Ok, Err, refl, sym, ◌∙◌, ap, append_assoc, arith}
 use Rattle.std.proofs.lemmas.List.{length-append, map-append}
 use Rattle.std.proofs.lemmas.List.Elements.{filter_map-append}
 use Rattle.std.proofs.lemmas.List.Sums.{sum_by-cons}
@@ -22,7 +22,7 @@ use Rattle.desk_lines.specs.LineAnswer.{answer_of, outcome_text}
 use Rattle.desk_lines.specs.LineAnswers.{answers_to, report_on}
 use Rattle.desk_lines.specs.Telling.{text_of, is_refusal, IsToldAs}
 use Rattle.desk_lines.specs.Records.{rules_after}
-use Rattle.desk_lines.specs.Asked.{outcomes, jobs_in, refusals_in, jobs_of, refusals_of, texts_in, outcome_under, outcome_by}
+use Rattle.desk_lines.specs.Outcomes.{outcomes, jobs_in, refusals_in, jobs_of, refusals_of, texts_in, outcome_under, outcome_by}
 use Rattle.desk_lines.specs.Collector.{Collects}
 use Rattle.desk_lines.specs.LongLines.{long_outcome, long_profile}
 use Rattle.desk_lines.specs.Sheets.{told_on}
@@ -105,48 +105,28 @@ Collects-line old new line next lines as_this collects given number rules told a
 
 -- how many answer lines begin with `refused`, and how many don't
 
-abbrev is_other : List ℕ → Bool
-is_other answer = not (is_refusal answer)
+-- The texts whose being a refusal passes a test are as many as some things of the lines, where these are as many for each line.
+module _ {X : Type 0} (test : Bool → Bool) (things_in : Outcome → List X) (none : length (things_in (Ok None)) ≡ 0)
+    (of_job : (job : Job) → length (things_in (Ok (Some job))) ≡ cond (test false) 1 0) (of_fault : (fault : LineFault) → length (things_in (Err fault)) ≡ cond (test true) 1 0) where
+  abbrev count : List (List ℕ) → ℕ
+  count texts = count_by (λ text. test (is_refusal text)) texts
 
--- a test as a number
-abbrev weight : Bool → ℕ
-weight test = cond test 1 0
+  one_text : (text : List ℕ) (refused : Bool) (texts : List (List ℕ)) → is_refusal text ≡ refused → count (text ∷ texts) ≡ cond (test refused) 1 0 + count texts
+  one_text text refused texts is = sum_by-cons (λ t. cond (test (is_refusal t)) 1 0) text texts ∙ ap (λ r. cond (test r) 1 0 + count texts) is
 
-counted-cons : (test : List ℕ → Bool) (answer : List ℕ) (answers : List (List ℕ)) → count_by test (answer ∷ answers) ≡ weight (test answer) + count_by test answers
-counted-cons test answer answers = sum_by-cons (λ a. weight (test a)) answer answers
+  one_outcome : (outcome : Outcome) (texts : List (List ℕ)) → count (cons_option (outcome_text outcome) texts) ≡ length (things_in outcome) + count texts
+  one_outcome (Ok None) texts = omega (arith, none)
+  one_outcome (Ok (Some job)) texts = omega (arith, one_text (answer_text (value_of job)) false texts (is_refusal-job job), of_job job)
+  one_outcome (Err fault) texts = omega (arith, one_text (fault_text fault) true texts (is_refusal-fault fault), of_fault fault)
 
-answered_outcomes : (lines : List Outcome) → count_by is_other (filter_map outcome_text lines) ≡ length (flat_map jobs_in lines)
-answered_outcomes [] = refl
-answered_outcomes (Ok None ∷ lines) = answered_outcomes lines
-answered_outcomes (Ok (Some job) ∷ lines) =
-    let text = answer_text (value_of job) in
-    let first = counted-cons is_other text (filter_map outcome_text lines) in
-    let one : weight (is_other text) ≡ 1 = ap (λ refused. weight (not refused)) (is_refusal-job job) in
-    let rest = answered_outcomes lines in omega arith
-answered_outcomes (Err fault ∷ lines) =
-    let text = fault_text fault in
-    let first = counted-cons is_other text (filter_map outcome_text lines) in
-    let none : weight (is_other text) ≡ 0 = ap (λ refused. weight (not refused)) (is_refusal-fault fault) in
-    let rest = answered_outcomes lines in omega arith
-
-refused_outcomes : (lines : List Outcome) → count_by is_refusal (filter_map outcome_text lines) ≡ length (flat_map refusals_in lines)
-refused_outcomes [] = refl
-refused_outcomes (Ok None ∷ lines) = refused_outcomes lines
-refused_outcomes (Ok (Some job) ∷ lines) =
-    let text = answer_text (value_of job) in
-    let first = counted-cons is_refusal text (filter_map outcome_text lines) in
-    let none : weight (is_refusal text) ≡ 0 = ap weight (is_refusal-job job) in
-    let rest = refused_outcomes lines in omega arith
-refused_outcomes (Err fault ∷ lines) =
-    let text = fault_text fault in
-    let first = counted-cons is_refusal text (filter_map outcome_text lines) in
-    let one : weight (is_refusal text) ≡ 1 = ap weight (is_refusal-fault fault) in
-    let rest = refused_outcomes lines in omega arith
+  counted_outcomes : (lines : List Outcome) → count (filter_map outcome_text lines) ≡ length (flat_map things_in lines)
+  counted_outcomes [] = refl
+  counted_outcomes (outcome ∷ lines) =
+      omega (arith, one_outcome outcome (filter_map outcome_text lines), counted_outcomes lines, length-append (things_in outcome) (flat_map things_in lines))
 
 pub report-counted : (given : Rules) (lines : List (List ℕ)) (report : DeskReport) → report.answered ≡ length (jobs_of given lines) → report.refused ≡ length (refusals_of given lines) → report ≡ report_on given lines
 report-counted given lines report answered refused =
     let same = answers_in_outcomes (rules_of given lines) (record_lines lines) in
-    let answered_so : report.answered ≡ (report_on given lines).answered = answered ∙ sym (answered_outcomes (outcomes given lines)) ∙ ap (count_by is_other) same in
-    let refused_so : report.refused ≡ (report_on given lines).refused = refused ∙ sym (refused_outcomes (outcomes given lines)) ∙ ap (count_by is_refusal) same in
-    ap (λ (n : ℕ). let told : DeskReport = record { answered = n; refused = report.refused } in told) answered_so
-    ∙ ap (λ (n : ℕ). let told : DeskReport = record { answered = (report_on given lines).answered; refused = n } in told) refused_so
+    let others = answered ∙ sym (counted_outcomes not jobs_in refl (λ job. refl) (λ fault. refl) (outcomes given lines)) ∙ ap (count_by (λ text. not (is_refusal text))) same in
+    let refusals = refused ∙ sym (counted_outcomes (λ r. r) refusals_in refl (λ job. refl) (λ fault. refl) (outcomes given lines)) ∙ ap (count_by is_refusal) same in
+    λ i. record { answered = others i; refused = refusals i }

@@ -1,7 +1,7 @@
 -- One more read, and one more write.
 use Rattle.std.proofs.Common.{◌≡◌, ◌≢◌, ℕ, List, [], ◌∷◌, ◌++◌, Result, Ok, Err, refl, sym, subst, ◌∙◌, ap, append_assoc, arith}
 use Rattle.std.proofs.lemmas.List.{append-nil}
-use Rattle.std.specs.Prelude.{IfErr}
+use Rattle.std.specs.Prelude.{IfErr, IsErrAnd}
 use Rattle.std.specs.Io.KnownBytes.{Consumes}
 use Rattle.std.proofs.KnownBytes.{Appends-nil, Appends-trans, Consumes-trans}
 use Rattle.desk_streams.specs.declared.source.Source.{Ghosts as OfSource}
@@ -71,6 +71,11 @@ module _ {W : Type 0} (sink : OfSink W) where
 -- what holds of an error, at the error
 pub err_at : {T E : Type 0} (r : Result T E) (P : E → Type 0) → IfErr r P → (e : E) → r ≡ Err e → P e
 err_at {T = T} {E = E} r P holds e is = subst (λ (s : Result T E). IfErr s P) is holds
+
+-- the fault that is passed on is the one that is told
+pub passed_on : {T E : Type 0} (r : Result T E) (given fault : E) → IsErrAnd r (λ f. f ≡ given) → r ≡ Err fault → given ≡ fault
+passed_on (Ok value) given fault passed is = absurd passed
+passed_on (Err told) given fault passed is = let same : told ≡ fault = cc in sym passed ∙ same
 
 -- what holds where a write failed, at whatever error a writing has
 pub if_stopped : {W T : Type 0} (sink : OfSink W) (old new : W) (result : Result T DeskFault) (text : List ℕ) (P : DeskFault → Type 0) → Writes sink old new result text

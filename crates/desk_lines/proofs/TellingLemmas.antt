@@ -1,8 +1,9 @@
 -- One more answer, and the front of a line.
-use Rattle.std.proofs.Common.{◌≡◌, ℕ, ◌+◌, ◌≤◌, inl, inr, List, [], ◌∷◌, ◌++◌, Bool, true, false, cond, nat_eq, length, take, Option, Some, None, sym, ◌∙◌, ap, arith, zero-add, add-zero}
+use Rattle.std.proofs.Common.{◌≡◌, ℕ, ◌+◌, ◌≤◌, inl, inr, List, [], ◌∷◌, ◌++◌, Bool, true, false, cond, nat_eq, length, map, take, fold, Option, Some, None, sym, ◌∙◌, ap, arith, zero-add, add-zero}
 use Rattle.std.specs.Prelude.{not, count_by}
 use Rattle.std.proofs.lemmas.List.{append-nil, take_all, length-take}
 use Rattle.std.proofs.lemmas.Grind.{flat_map-append}
+use Rattle.std.proofs.lemmas.List.Folds.{fold-map}
 use Rattle.std.proofs.lemmas.List.Sums.{sum_by-append}
 use Rattle.std.proofs.lemmas.Bool.{cases_lt}
 use Rattle.desk_lines.specs.declared.report.DeskReport.{DeskReport}
@@ -36,6 +37,18 @@ report_by-more refuses answers (Some answer) =
     ap (λ (n : ℕ). let counted : DeskReport = record { answered = n; refused = count_by refuses (answers ++ answer ∷ []) } in counted) answered
     ∙ ap (λ (n : ℕ). let counted : DeskReport = record { answered = count_by (λ text. not (refuses text)) answers + cond (not (refuses answer)) 1 0; refused = n } in counted) refused
     ∙ counted_so (refuses answer) (report_by refuses answers)
+
+-- texts are counted as others that are refusals where they are
+counted-same : (test : Bool → Bool) (one other : List ℕ → Bool) (texts others : List (List ℕ)) → map one texts ≡ map other others → count_by (λ text. test (one text)) texts ≡ count_by (λ text. test (other text)) others
+counted-same test one other texts others same =
+    let count : ℕ → Bool → ℕ = λ n refused. n + cond (test refused) 1 0 in
+    sym (fold-map count one 0 texts) ∙ ap (fold count 0) same ∙ fold-map count other 0 others
+
+pub report_by-same : (one other : List ℕ → Bool) (texts others : List (List ℕ)) → map one texts ≡ map other others → report_by one texts ≡ report_by other others
+report_by-same one other texts others same =
+    let answered = counted-same not one other texts others same in
+    let refused = counted-same (λ refused. refused) one other texts others same in
+    λ i. record { answered = answered i; refused = refused i }
 
 without_return_short : (line : List ℕ) → length line ≤ length (without_return line) + 1
 without_return_short [] = omega arith

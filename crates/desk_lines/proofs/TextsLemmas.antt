@@ -3,37 +3,36 @@ use Rattle.std.proofs.Common.{◌≡◌, ℕ, ◌+◌, ◌<◌, suc, List, [], �
 use Rattle.std.proofs.lemmas.List.{append-nil}
 use Rattle.std.proofs.lemmas.Grind.{flat_map-append}
 use Rattle.desk_core.specs.declared.answer.Answer.{Answer}
-use Rattle.desk_lines.specs.declared.asked.Asked.{Asked}
-use Rattle.desk_lines.specs.declared.asked.Asked.TheVariants.{Table}
-use Rattle.desk_lines.specs.Asked.{line_told, answers_after, told}
+use Rattle.desk_lines.specs.declared.unmade_line.UnmadeLine.{UnmadeLine}
+use Rattle.desk_lines.specs.declared.unmade_line.UnmadeLine.TheVariants.{Table}
 use Rattle.desk_lines.specs.Sheets.{lists_told}
-use Rattle.desk_lines.specs.Tables.{first_answers, other_answers}
+use Rattle.desk_lines.specs.Tables.{line_told, answers_after, told, first_answers, other_answers}
 
 -- the line at a place, and those after it
-pub told-next : (lines : List Asked) (place : ℕ) (answers : List Answer) → place < length lines
+pub told-next : (lines : List UnmadeLine) (place : ℕ) (answers : List Answer) → place < length lines
     → told (drop place lines) answers ≡ line_told (get_or lines place (Table 0)) answers ++ told (drop (place + 1) lines) (answers_after (get_or lines place (Table 0)) answers)
 told-next lines place answers within = rw (add-one, drop-cons lines place (Table 0) within) refl
 
 -- the list at a place, and those after it
-module _ {V : Type 0} (asked : V → List Asked) where
+module _ {V : Type 0} (lines_of : V → List UnmadeLine) where
   lists-next : (lists : List V) (place : ℕ) (list : V) (answers : List (List Answer)) → place < length lists → list ≡ get_or lists place list
-      → lists_told (map asked (drop place lists)) answers ≡ told (asked list) (first_answers answers) ++ lists_told (map asked (drop (place + 1) lists)) (other_answers answers)
+      → lists_told (map lines_of (drop place lists)) answers ≡ told (lines_of list) (first_answers answers) ++ lists_told (map lines_of (drop (place + 1) lists)) (other_answers answers)
   lists-next lists place list answers within is =
-      ap (λ rest. lists_told (map asked rest) answers) (drop-cons lists place list within ∙ ap (λ first. first ∷ drop (suc place) lists) (sym is))
-      ∙ ap (λ next. told (asked list) (first_answers answers) ++ lists_told (map asked (drop next lists)) (other_answers answers)) (sym (add-one place))
+      ap (λ rest. lists_told (map lines_of rest) answers) (drop-cons lists place list within ∙ ap (λ first. first ∷ drop (suc place) lists) (sym is))
+      ∙ ap (λ next. told (lines_of list) (first_answers answers) ++ lists_told (map lines_of (drop next lists)) (other_answers answers)) (sym (add-one place))
 
   -- where the first lists were told, and one more
   pub lists-step : (all front : List ℕ) (lists : List V) (place : ℕ) (list : V) (answers others : List (List Answer)) → place < length lists → list ≡ get_or lists place list → others ≡ other_answers answers
-      → all ≡ front ++ lists_told (map asked (drop place lists)) answers
-      → all ≡ (front ++ told (asked list) (first_answers answers)) ++ lists_told (map asked (drop (place + 1) lists)) others
+      → all ≡ front ++ lists_told (map lines_of (drop place lists)) answers
+      → all ≡ (front ++ told (lines_of list) (first_answers answers)) ++ lists_told (map lines_of (drop (place + 1) lists)) others
   lists-step all front lists place list answers others within is rest parts =
-      let lines = told (asked list) (first_answers answers) in
-      let after = lists_told (map asked (drop (place + 1) lists)) (other_answers answers) in
+      let lines = told (lines_of list) (first_answers answers) in
+      let after = lists_told (map lines_of (drop (place + 1) lists)) (other_answers answers) in
       parts ∙ ap (λ t. front ++ t) (lists-next lists place list answers within is) ∙ sym (append_assoc front lines after)
-      ∙ ap (λ o. (front ++ lines) ++ lists_told (map asked (drop (place + 1) lists)) o) (sym rest)
+      ∙ ap (λ o. (front ++ lines) ++ lists_told (map lines_of (drop (place + 1) lists)) o) (sym rest)
 
 -- one more list, and its answers
-pub lists_told-last : (lists : List (List Asked)) (list : List Asked) (answers : List (List Answer)) (given : List Answer) → length lists ≡ length answers
+pub lists_told-last : (lists : List (List UnmadeLine)) (list : List UnmadeLine) (answers : List (List Answer)) (given : List Answer) → length lists ≡ length answers
     → lists_told (lists ++ list ∷ []) (answers ++ given ∷ []) ≡ lists_told lists answers ++ told list given
 lists_told-last [] list [] given as_many = append-nil (told list given)
 lists_told-last [] list (first ∷ answers) given as_many = absurd (omega arith)

@@ -9,7 +9,7 @@ use Rattle.desk_lines.specs.declared.fault.DeskFault.{DeskFault}
 use Rattle.desk_lines.specs.declared.fault.DeskFault.TheVariants.{Write, Memory}
 use Rattle.desk_lines.specs.Telling.{text_of, with_line_feed, report_by, report_with, answers_in, AnswersLine, IsToldAs}
 use Rattle.desk_lines.specs.Streams.{WritesAll, StopsWriting}
-use Rattle.desk_lines.specs.Told.{Stands, StopsTelling}
+use Rattle.desk_lines.specs.Told.{Stands, Stops, StopsTelling}
 use Rattle.desk_lines.proofs.TellingLemmas.{text_of-more, report_by-more}
 use Rattle.desk_lines.proofs.StreamLemmas.{WritesAll-trans, StopsWriting-after}
 
@@ -34,35 +34,33 @@ module _ {W T : Type 0} (sink : OfSink W) (teller : OfTeller T) where
   Stands-written start lines told writer stands empty =
       subst (λ (all : List ℕ). WritesAll sink start writer all) (sym (ap (λ rest. stands.sent ++ rest) empty ∙ append-nil stands.sent) ∙ stands.text) stands.writes
 
-  -- the outbox could not be written
-  pub Stands-stops : (start : W) (lines : List (List ℕ)) (old : Told T) (writer after : W) → Stands sink teller start lines old writer
-      → StopsWriting sink writer after old.outbox.bytes.items → StopsTelling sink teller start after Write lines
-  Stands-stops start lines old writer after stands stops = record {
+  -- all lines were answered, and the writing of the last answers stopped
+  given_up : (start after : W) (lines : List (List ℕ)) (told : Told T) (writer : W) (fault : DeskFault) (stands : Stands sink teller start lines told writer) → Stops sink start after fault (text_of stands.answers)
+      → (fault ≡ Memory → (line : List ℕ) × teller.wants_memory told.teller line) → StopsTelling sink teller start after fault lines
+  given_up start after lines told writer fault stands stops wanted = record {
     first = lines;
     others = [];
     parts = sym (append-nil lines);
-    last = old.teller;
+    last = told.teller;
     answers = stands.answers;
     tells = stands.tells;
-    stops = subst (λ (all : List ℕ). StopsWriting sink start after all) stands.text
-        (StopsWriting-after sink start writer after stands.sent old.outbox.bytes.items stands.writes stops);
-    wanted = λ is. cc;
+    stops = stops;
+    wanted = wanted;
   }
+
+  -- the outbox could not be written
+  pub Stands-stops : (start : W) (lines : List (List ℕ)) (old : Told T) (writer after : W) → Stands sink teller start lines old writer
+      → StopsWriting sink writer after old.outbox.bytes.items → StopsTelling sink teller start after Write lines
+  Stands-stops start lines old writer after stands stops =
+      given_up start after lines old writer Write stands (subst (λ (all : List ℕ). StopsWriting sink start after all) stands.text
+      (StopsWriting-after sink start writer after stands.sent old.outbox.bytes.items stands.writes stops)) (λ is. cc)
 
   -- memory was wanted, and the outbox was written
   pub Stands-no_memory : (start : W) (lines : List (List ℕ)) (old : Told T) (writer after : W) → Stands sink teller start lines old writer
       → WritesAll sink writer after old.outbox.bytes.items → (line : List ℕ) → teller.wants_memory old.teller line → StopsTelling sink teller start after Memory lines
-  Stands-no_memory start lines old writer after stands writes line wants = record {
-    first = lines;
-    others = [];
-    parts = sym (append-nil lines);
-    last = old.teller;
-    answers = stands.answers;
-    tells = stands.tells;
-    stops = subst (λ (all : List ℕ). WritesAll sink start after all) stands.text
-        (WritesAll-trans sink start writer after stands.sent old.outbox.bytes.items stands.writes writes);
-    wanted = λ is. (line, wants);
-  }
+  Stands-no_memory start lines old writer after stands writes line wants =
+      given_up start after lines old writer Memory stands (subst (λ (all : List ℕ). WritesAll sink start after all) stands.text
+      (WritesAll-trans sink start writer after stands.sent old.outbox.bytes.items stands.writes writes)) (λ is. (line, wants))
 
   -- more lines follow those that were given up
   pub StopsTelling-lines : (start new : W) (fault : DeskFault) (lines more : List (List ℕ)) → StopsTelling sink teller start new fault lines → StopsTelling sink teller start new fault (lines ++ more)

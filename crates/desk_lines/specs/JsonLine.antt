@@ -1,5 +1,5 @@
 -- The answer to one line as JSON, and the answers to the lines of a stream.
-use Rattle.std.specs.Prelude.{◌≡◌, ℕ, ◌<◌, List, Bool, Option, Result, length, codes, nat_eq}
+use Rattle.std.specs.Prelude.{ℕ, List, Bool, Option, Result, codes, nat_eq}
 use Rattle.std.specs.List.{starts_with}
 use Rattle.std.proofs.Common.{sym, ap, ◌∙◌}
 use Rattle.riichi_hand.specs.declared.win.Rules.{Rules}
@@ -7,23 +7,19 @@ use Rattle.riichi_hand.specs.declared.fault.LineFault.{LineFault}
 use Rattle.riichi_hand.specs.declared.job.Job.{Job}
 use Rattle.riichi_hand.specs.Lines.{outcome_of}
 use Rattle.desk_json.specs.Text.{answer_text, fault_text}
-use Rattle.desk_lines.specs.LineAnswer.{outcome_told}
+use Rattle.desk_lines.specs.LineAnswer.{outcome_told, IsBy}
 use Rattle.desk_lines.specs.LineAnswers.{answers_by}
-use Rattle.desk_lines.specs.LongLines.{long_outcome}
+use Rattle.desk_lines.specs.LongLines.{AreAlike, long_outcome}
 use Rattle.desk_lines.specs.Telling.{text_of}
 
 abbrev pub outcome_json : Result (Option Job) LineFault → Option (List ℕ)
 outcome_json outcome = outcome_told answer_text fault_text outcome
 
+-- the answer to a line as JSON
 unfoldable pub json_of : Rules → List ℕ → Option (List ℕ)
 json_of rules line = outcome_json (outcome_of rules line)
 
--- the answer to a line as JSON
-abbrev pub IsJson : Rules → List ℕ → Option (List ℕ) → Type 0
-IsJson rules line told = told ≡ json_of rules line
-
-pub json_alike : (rules : Rules) (line other : List ℕ) (told : Option (List ℕ)) → 4096 < length line → 4096 < length other
-    → IsJson rules line told → IsJson rules other told
+pub json_alike : AreAlike (IsBy json_of)
 unfolding json_of
 json_alike rules line other told long long_other is = is ∙ ap outcome_json (long_outcome rules line long ∙ sym (long_outcome rules other long_other))
 

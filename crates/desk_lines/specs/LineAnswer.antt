@@ -21,6 +21,6 @@ outcome_text outcome = outcome_told answer_text fault_text outcome
 unfoldable pub answer_of : Rules → List ℕ → Option (List ℕ)
 answer_of rules line = outcome_text (outcome_of rules line)
 
--- the plain answer to a line
-abbrev pub IsAnswer : Rules → List ℕ → Option (List ℕ) → Type 0
-IsAnswer rules line told = told ≡ answer_of rules line
+-- a line is told what a function says
+abbrev pub IsBy : (Rules → List ℕ → Option (List ℕ)) → Rules → List ℕ → Option (List ℕ) → Type 0
+IsBy answer rules line told = told ≡ answer rules line

@@ -18,9 +18,9 @@ use Rattle.riichi_explain.specs.Explanation.{IsOutcomeText, IsExplanation}
 use Rattle.riichi_faults.specs.Refusal.{long_refusals_alike}
 use Rattle.desk_lines.specs.Explained.{IsToldWithWhy, IsExplained}
 use Rattle.desk_lines.specs.Profile.{profile_of, profile_of_words}
-use Rattle.desk_lines.specs.LineAnswer.{answer_of, outcome_text, IsAnswer}
+use Rattle.desk_lines.specs.LineAnswer.{answer_of, outcome_text, IsBy}
 
-abbrev AreAlike : (Rules → List ℕ → Option (List ℕ) → Type 0) → Type 0
+abbrev pub AreAlike : (Rules → List ℕ → Option (List ℕ) → Type 0) → Type 0
 AreAlike May = (rules : Rules) (line other : List ℕ) (told : Option (List ℕ)) → 4096 < length line → 4096 < length other → May rules line told → May rules other told
 
 -- what a line of at most 4,096 bytes is
@@ -41,7 +41,7 @@ pub long_profile : (line : List ℕ) → 4096 < length line → profile_of line 
 unfolding profile_of
 long_profile line long = ap (λ (is_long : Bool). if is_long || list_any is_other_byte line then None else profile_of_words (words_of line)) (lt-ltb 4096 (length line) long)
 
-pub answers_alike : AreAlike IsAnswer
+pub answers_alike : AreAlike (IsBy answer_of)
 answers_alike rules line other told long long_other is = is ∙ long_answer rules line long ∙ sym (long_answer rules other long_other)
 
 -- ---- their explanations

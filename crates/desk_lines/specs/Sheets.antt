@@ -3,15 +3,14 @@ use Rattle.std.specs.Prelude.{ℕ, List, [], ◌∷◌, ◌++◌, map}
 use Rattle.std.specs.List.{flat_map}
 use Rattle.desk_core.specs.Value.{value_of}
 use Rattle.desk_core.specs.declared.answer.Answer.{Answer}
-use Rattle.desk_lines.specs.declared.asked.Asked.{Asked}
+use Rattle.desk_lines.specs.declared.unmade_line.UnmadeLine.{UnmadeLine}
 use Rattle.desk_lines.specs.declared.sheet.Sheet.{Sheet}
 use Rattle.desk_lines.specs.declared.sheets.Sheets.{Sheets}
-use Rattle.desk_lines.specs.Asked.{told}
-use Rattle.desk_lines.specs.Tables.{first_answers, other_answers}
+use Rattle.desk_lines.specs.Tables.{first_answers, other_answers, told}
 
 -- the text of a sheet: its lines, with the values of its jobs
 abbrev pub sheet_told : Sheet → List ℕ
-sheet_told sheet = told sheet.asked.items (map value_of sheet.jobs.items)
+sheet_told sheet = told sheet.lines.items (map value_of sheet.jobs.items)
 
 -- the text of several sheets
 abbrev pub sheets_told : List Sheet → List ℕ
@@ -22,6 +21,6 @@ abbrev pub told_on : Sheets → List ℕ
 told_on sheets = sheets_told sheets.full.items ++ sheet_told sheets.last
 
 -- the text of several lists of answer lines, each with its list of answers
-abbrev pub lists_told : List (List Asked) → List (List Answer) → List ℕ
+abbrev pub lists_told : List (List UnmadeLine) → List (List Answer) → List ℕ
 lists_told [] answers = []
-lists_told (asked ∷ lists) answers = told asked (first_answers answers) ++ lists_told lists (other_answers answers)
+lists_told (lines ∷ lists) answers = told lines (first_answers answers) ++ lists_told lists (other_answers answers)

@@ -1,6 +1,10 @@
 -- The answers of several tables, one after the other, and those of several lists of jobs.
 use Rattle.std.specs.Prelude.{ℕ, suc, List, [], ◌∷◌, ◌++◌, codes, decimal}
+use Rattle.riichi_hand.specs.FaultTexts.{fault_text}
+use Rattle.desk_core.specs.AnswerText.{answer_text}
 use Rattle.desk_core.specs.declared.answer.Answer.{Answer}
+use Rattle.desk_lines.specs.declared.unmade_line.UnmadeLine.{UnmadeLine}
+use Rattle.desk_lines.specs.declared.unmade_line.UnmadeLine.TheVariants.{Table, NextJob, Refusal}
 
 -- the line that stands before the answers of a table
 abbrev pub table_line : ℕ → List ℕ
@@ -23,3 +27,31 @@ first_answers (given ∷ answers) = given
 abbrev pub other_answers : List (List Answer) → List (List Answer)
 other_answers [] = []
 other_answers (given ∷ answers) = answers
+
+-- ---- lines that are not made yet
+
+-- the line that is told, where some answers are still to be told: of a job the first of them
+abbrev pub line_told : UnmadeLine → List Answer → List ℕ
+line_told (Table number) answers = table_line number
+line_told NextJob [] = []
+line_told NextJob (answer ∷ answers) = answer_text answer ++ 10 ∷ []
+line_told (Refusal fault) answers = fault_text fault ++ 10 ∷ []
+
+-- the answers that are to be told after it
+abbrev pub answers_after : UnmadeLine → List Answer → List Answer
+answers_after (Table number) answers = answers
+answers_after NextJob [] = []
+answers_after NextJob (answer ∷ answers) = answers
+answers_after (Refusal fault) answers = answers
+
+-- answer lines, each answer in the place of its job
+abbrev pub told : List UnmadeLine → List Answer → List ℕ
+told [] answers = []
+told (line ∷ lines) answers = line_told line answers ++ told lines (answers_after line answers)
+
+-- how many of the lines are answers to jobs
+abbrev pub count_jobs : List UnmadeLine → ℕ
+count_jobs [] = 0
+count_jobs (Table number ∷ lines) = count_jobs lines
+count_jobs (NextJob ∷ lines) = suc (count_jobs lines)
+count_jobs (Refusal fault ∷ lines) = count_jobs lines

@@ -24,11 +24,11 @@ use riichi_split::{waits, waits_text};
 pub(crate) struct Plain;
 
 impl Responder for Plain {
-    ghost use Rattle.desk_lines.specs.LineAnswer.{IsAnswer};
+    ghost use Rattle.desk_lines.specs.LineAnswer.{answer_of, IsBy};
     ghost use Rattle.desk_lines.specs.Telling.{is_refusal};
     ghost use Rattle.desk_lines.specs.LongLines.{answers_alike};
 
-    ghost may_tell = { IsAnswer };
+    ghost may_tell = { IsBy answer_of };
 
     ghost refuses = { is_refusal };
 

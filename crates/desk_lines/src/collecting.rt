@@ -1,16 +1,14 @@
 //! Collects what the lines of a table ask.
-ghost use Rattle.std.specs.Prelude.{◌≡◌, ◌+◌, ℕ, length, List, [], ◌∷◌, ◌++◌, Some, OnOk, IfOk, IsErrOf};
+ghost use Rattle.std.specs.Prelude.{◌≡◌, ◌+◌, ℕ, length, [], ◌∷◌, ◌++◌, Some, OnOk, IfOk, IsErrOf};
 ghost use Rattle.std.specs.List.{flat_map};
 ghost use Rattle.riichi_hand.specs.Lines.{outcome_of};
 ghost use Rattle.riichi_hand.specs.declared.win.Rules.{Rules};
 ghost use Rattle.riichi_hand.specs.declared.win.Rules.TheVariants.{One};
-ghost use Rattle.desk_lines.specs.Lines.{lines};
-ghost use Rattle.desk_lines.specs.LineAnswers.{answers, report_on};
-ghost use Rattle.desk_lines.specs.Asked.{jobs_in, jobs_of, outcome_by, refusals_in, texts_in};
+ghost use Rattle.desk_lines.specs.Collector.{IsCollected};
+ghost use Rattle.desk_lines.specs.Outcomes.{jobs_in, outcome_by, refusals_in, texts_in};
 ghost use Rattle.desk_lines.specs.Profile.{rules_by};
 ghost use Rattle.desk_lines.specs.Sheets.{sheets_told, told_on};
-ghost use Rattle.desk_lines.specs.Streams.{GivesAll, FailsOrGoesOn, IsReadWithin};
-ghost use Rattle.desk_lines.specs.Tables.{table_line};
+ghost use Rattle.desk_lines.specs.Streams.{FailsOrGoesOn, IsReadWithin};
 
 use super::desk::Desk;
 use super::fault::DeskFault;
@@ -60,11 +58,7 @@ pub fn collect_text<R: Source>(
     reader: &mut R,
 ) -> Result<Collected, DeskFault>
     // The reader was read to its end.
-    ensures ok { IfOk result (λ collected. (text : List ℕ)
-        × GivesAll ⟦<R as Source>⟧ reader.old reader.new text
-        × (sheets_told collected.sheets.items ≡ table_line number ++ answers rules text)
-        × (collected.report ≡ report_on rules (lines text))
-        × (collected.report.answered ≡ length (jobs_of rules (lines text)))) }
+    ensures ok { IfOk result (IsCollected ⟦<R as Source>⟧ reader.old reader.new rules number) }
 
     // A read failed, or there were too many. Else memory was wanted.
     ensures read_failed { IsErrOf result DeskFault.Read
@@ -83,11 +77,7 @@ fn collect_given<P: GivenTable, R: Source>(
     reader: &mut R,
 ) -> Result<Collected, DeskFault>
     requires { (rules ≡ P.given) × (number ≡ P.number) }
-    ensures ok { IfOk result (λ collected. (text : List ℕ)
-        × GivesAll ⟦<R as Source>⟧ reader.old reader.new text
-        × (sheets_told collected.sheets.items ≡ table_line number ++ answers rules text)
-        × (collected.report ≡ report_on rules (lines text))
-        × (collected.report.answered ≡ length (jobs_of rules (lines text)))) }
+    ensures ok { IfOk result (IsCollected ⟦<R as Source>⟧ reader.old reader.new rules number) }
 
     ensures read_failed { IsErrOf result DeskFault.Read
         → FailsOrGoesOn ⟦<R as Source>⟧ reader.old reader.new }
@@ -194,11 +184,11 @@ impl<P: GivenTable> Collector<P> {
         match read_line(rules, line) {
             Ok(None) => Ok(()),
             Ok(Some(job)) => {
-                self.report.answered = one_more(self.report.answered)?;
+                self.report.answered = one_more_line(self.report.answered)?;
                 self.sheets.add_job(job)
             }
             Err(fault) => {
-                self.report.refused = one_more(self.report.refused)?;
+                self.report.refused = one_more_line(self.report.refused)?;
                 self.sheets.add_refusal(fault)
             }
         }
@@ -206,7 +196,7 @@ impl<P: GivenTable> Collector<P> {
 }
 
 /// One more line. A count of more lines than a `u64` holds finds no memory.
-fn one_more(lines: u64) -> Result<u64, AllocError>
+fn one_more_line(lines: u64) -> Result<u64, AllocError>
     ensures { IfOk result (λ more. more ≡ lines + 1) }
 {
     lines.checked_add(1).ok_or(AllocError)

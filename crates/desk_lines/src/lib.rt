@@ -22,7 +22,6 @@
 #![tactic(auto)]
 
 mod answering;
-mod asked;
 mod collecting;
 mod desk;
 mod explained;
@@ -49,9 +48,9 @@ mod sheets;
 mod teller;
 mod text;
 mod told;
+mod unmade_line;
 mod waits;
 
-pub use asked::Asked;
 pub use collecting::{Collected, collect_text};
 pub use explaining::explain_text;
 pub use fault::DeskFault;
@@ -63,4 +62,5 @@ pub use riichi_hand::Rules;
 pub use sheet::Sheet;
 pub use sheet_texts::{texts_of, write_texts};
 pub use text::desk_text;
+pub use unmade_line::UnmadeLine;
 pub use waits::{WaitsLine, waits_answer};

@@ -17,9 +17,10 @@ use riichi_hand::{Job, LineFault, Rules, read_line};
 pub(crate) struct Objects;
 
 impl Responder for Objects {
-    ghost use Rattle.desk_lines.specs.JsonLine.{IsJson, is_refusal, json_alike};
+    ghost use Rattle.desk_lines.specs.JsonLine.{json_of, is_refusal, json_alike};
+    ghost use Rattle.desk_lines.specs.LineAnswer.{IsBy};
 
-    ghost may_tell = { IsJson };
+    ghost may_tell = { IsBy json_of };
 
     ghost refuses = { is_refusal };
 

@@ -1,6 +1,7 @@
 //! What answers one record line.
-ghost use Rattle.std.specs.Prelude.{◌<◌, ℕ, List, Bool, Option, length};
+ghost use Rattle.std.specs.Prelude.{ℕ, List, Bool, Option};
 ghost use Rattle.riichi_hand.specs.declared.win.Rules.{Rules};
+ghost use Rattle.desk_lines.specs.LongLines.{AreAlike};
 ghost use Rattle.desk_lines.specs.Outbox.{HasRoom};
 ghost use Rattle.desk_lines.specs.Records.{Puts};
 
@@ -23,7 +24,5 @@ pub(crate) trait Responder {
             (may_tell rules line.now) result outbox.old.bytes.items outbox.new.bytes.items };
 
     /// Lines of more than 4,096 bytes are told alike.
-    ghost alike: { (rules : Rules) (line other : List ℕ) (told : Option (List ℕ))
-        → 4096 < length line → 4096 < length other
-        → may_tell rules line told → may_tell rules other told };
+    ghost alike: { AreAlike may_tell };
 }

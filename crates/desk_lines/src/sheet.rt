@@ -3,10 +3,9 @@ ghost use Rattle.std.specs.Prelude.{◌≡◌, ◌+◌, ◌<◌, ◌≤◌, ◌�
 ghost use Rattle.riichi_hand.specs.FaultTexts.{fault_text};
 ghost use Rattle.desk_core.specs.AnswerText.{answer_text};
 ghost use Rattle.desk_core.specs.Value.{value_of};
-ghost use Rattle.desk_lines.specs.Asked.{count_jobs};
-ghost use Rattle.desk_lines.specs.Tables.{table_line};
+ghost use Rattle.desk_lines.specs.Tables.{count_jobs, line_told, table_line};
 
-use super::asked::Asked;
+use super::unmade_line::UnmadeLine;
 use riichi_hand::{Job, LineFault};
 use std::alloc::{AllocError, Global};
 
@@ -17,13 +16,13 @@ const LINES: usize = 4096;
 /// the jobs whose answers are among them.
 #[derive(Drop)]
 pub struct Sheet {
-    asked: Vec<Asked>,
+    lines: Vec<UnmadeLine>,
     jobs: Vec<Job>,
 
     /// Each job has its line.
-    ghost complete: { count_jobs asked.items ≡ length jobs.items },
-    ghost fewer: { length jobs.items ≤ length asked.items },
-    ghost few: { length asked.items ≤ 4096 },
+    ghost complete: { count_jobs lines.items ≡ length jobs.items },
+    ghost fewer: { length jobs.items ≤ length lines.items },
+    ghost few: { length lines.items ≤ 4096 },
 }
 
 impl Sheet {
@@ -31,61 +30,68 @@ impl Sheet {
 
     pub(crate) fn new(alloc: Global) -> Sheet
         ensures told { sheet_told result ≡ [] }
-        ensures room { length result.asked.items < LINES }
+        ensures room { length result.lines.items < LINES }
     {
         Sheet {
-            asked: Vec::new(alloc),
+            lines: Vec::new(alloc),
             jobs: Vec::new(alloc),
         }
     }
 
     /// Whether no line may be added.
     pub(crate) fn is_full(&self) -> bool
-        ensures { IsTrue result ↔ (LINES ≤ length self.now.asked.items) }
+        ensures { IsTrue result ↔ (LINES ≤ length self.now.lines.items) }
     {
-        self.asked.len() >= LINES
+        self.lines.len() >= LINES
     }
 
     /// Adds the line that stands before the answers of a table.
     pub(crate) fn add_table(&mut self, number: usize) -> Result<(), AllocError>
-        requires { length self.old.asked.items < LINES }
+        requires { length self.old.lines.items < LINES }
         ensures { OnOk result (sheet_told self.new ≡ sheet_told self.old ++ table_line number) }
     {
-        self.asked.reserve(1)?;
-        self.asked.push_reserved(Asked::Table(number));
-        Ok(())
+        self.add_line(UnmadeLine::Table(number))
     }
 
     /// Adds the answer to a job.
     pub(crate) fn add_job(&mut self, job: Job) -> Result<(), AllocError>
-        requires { length self.old.asked.items < LINES }
+        requires { length self.old.lines.items < LINES }
         ensures { OnOk result (sheet_told self.new
             ≡ sheet_told self.old ++ (answer_text (value_of job) ++ 10 ∷ [])) }
     {
-        self.asked.reserve(1)?;
+        self.lines.reserve(1)?;
         self.jobs.reserve(1)?;
-        self.asked.push_reserved(Asked::NextJob);
+        self.lines.push_reserved(UnmadeLine::NextJob);
         self.jobs.push_reserved(job);
         Ok(())
     }
 
     /// Adds the fault of a line.
     pub(crate) fn add_refusal(&mut self, fault: LineFault) -> Result<(), AllocError>
-        requires { length self.old.asked.items < LINES }
+        requires { length self.old.lines.items < LINES }
         ensures { OnOk result (sheet_told self.new
             ≡ sheet_told self.old ++ (fault_text fault ++ 10 ∷ [])) }
     {
-        self.asked.reserve(1)?;
-        self.asked.push_reserved(Asked::Refusal(fault));
+        self.add_line(UnmadeLine::Refusal(fault))
+    }
+
+    /// Adds a line that wants no answer.
+    fn add_line(&mut self, line: UnmadeLine) -> Result<(), AllocError>
+        requires room { length self.old.lines.items < LINES }
+        requires alone { count_jobs (line ∷ []) ≡ 0 }
+        ensures { OnOk result (sheet_told self.new ≡ sheet_told self.old ++ line_told line []) }
+    {
+        self.lines.reserve(1)?;
+        self.lines.push_reserved(line);
         Ok(())
     }
 
     /// What its lines are made of, and the jobs whose answers are among them.
-    pub fn into_parts(self) -> (Vec<Asked>, Vec<Job>)
-        ensures parts { (result.0 ≡ self.asked) × (result.1 ≡ self.jobs) }
+    pub fn into_parts(self) -> (Vec<UnmadeLine>, Vec<Job>)
+        ensures parts { (result.0 ≡ self.lines) × (result.1 ≡ self.jobs) }
         ensures few { length result.1.items ≤ 4096 }
     {
-        let Sheet { asked, jobs } = self;
-        (asked, jobs)
+        let Sheet { lines, jobs } = self;
+        (lines, jobs)
     }
 }

@@ -1,14 +1,13 @@
 //! The texts of answer lines, made and written.
 ghost use Rattle.std.specs.Prelude.{◌≡◌, ◌++◌, map, IfOk, OnOk};
 ghost use Rattle.std.specs.List.{flat_map};
-ghost use Rattle.desk_lines.specs.Asked.{line_told, answers_after, told};
 ghost use Rattle.desk_lines.specs.Sheets.{lists_told};
-ghost use Rattle.desk_lines.specs.Tables.{first_answers, other_answers};
+ghost use Rattle.desk_lines.specs.Tables.{line_told, answers_after, told, first_answers, other_answers};
 ghost use Rattle.desk_lines.specs.Streams.{Writes};
 
-use super::asked::Asked;
 use super::fault::DeskFault;
 use super::outbox::write_all;
+use super::unmade_line::UnmadeLine;
 use arrayvec::ArrayString;
 use desk_core::{Answer, push_answer};
 use desk_streams::Sink;
@@ -19,17 +18,17 @@ use std::alloc::{AllocError, Global};
 /// The texts of several lists of answer lines, where these are the answers to the jobs of each list.
 pub fn texts_of(
     alloc: Global,
-    lists: &[Vec<Asked>],
+    lists: &[Vec<UnmadeLine>],
     answers: &[Vec<Answer>],
 ) -> Result<Vec<Vec<u8>>, AllocError>
     ensures { IfOk result (λ texts. flat_map (λ text. text.items) texts.items
-        ≡ lists_told (map (λ asked. asked.items) lists.now) (map (λ given. given.items) answers.now)) }
+        ≡ lists_told (map (λ lines. lines.items) lists.now) (map (λ given. given.items) answers.now)) }
 {
     let mut texts = Vec::new(alloc);
     let mut rest = answers;
-    for asked in lists {
+    for lines in lists {
         let (given, after) = first_list(rest);
-        let text = text_of(alloc, asked.as_slice(), given)?;
+        let text = text_of(alloc, lines.as_slice(), given)?;
         texts.push(text)?;
         rest = after;
     }
@@ -49,13 +48,13 @@ fn first_list(answers: &[Vec<Answer>]) -> (&[Answer], &[Vec<Answer>])
 }
 
 /// The text of answer lines, where these are the answers to their jobs.
-fn text_of(alloc: Global, asked: &[Asked], answers: &[Answer]) -> Result<Vec<u8>, AllocError>
-    ensures { IfOk result (λ text. text.items ≡ told asked.now answers.now) }
+fn text_of(alloc: Global, lines: &[UnmadeLine], answers: &[Answer]) -> Result<Vec<u8>, AllocError>
+    ensures { IfOk result (λ text. text.items ≡ told lines.now answers.now) }
 {
     let mut text = Vec::new(alloc);
     let mut room: ArrayString<3072> = ArrayString::new();
     let mut rest = answers;
-    for line in asked {
+    for line in lines {
         rest = add_line(&mut text, &mut room, line, rest)?;
     }
     text.shrink_to_fit();
@@ -66,7 +65,7 @@ fn text_of(alloc: Global, asked: &[Asked], answers: &[Answer]) -> Result<Vec<u8>
 fn add_line<'a>(
     text: &mut Vec<u8>,
     room: &mut ArrayString<3072>,
-    line: &Asked,
+    line: &UnmadeLine,
     answers: &'a [Answer],
 ) -> Result<&'a [Answer], AllocError>
     ensures rest { IfOk result (λ rest. rest.now ≡ answers_after line.now answers.now) }
@@ -76,12 +75,12 @@ fn add_line<'a>(
     room.clear();
     let mut rest = answers;
     match line {
-        Asked::Table(number) => {
+        UnmadeLine::Table(number) => {
             room.push_str("table ");
             push_number(room, *number);
         }
-        Asked::Refusal(fault) => room.push_str(fault_text(fault).as_str()),
-        Asked::NextJob => {
+        UnmadeLine::Refusal(fault) => room.push_str(fault_text(fault).as_str()),
+        UnmadeLine::NextJob => {
             let Some((answer, after)) = answers.split_first() else {
                 return Ok(answers);
             };

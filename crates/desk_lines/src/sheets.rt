@@ -59,7 +59,7 @@ impl Sheets {
     /// Begins a sheet where the last one is full.
     fn make_room(&mut self) -> Result<(), AllocError>
         ensures told { OnOk result (told_on self.new ≡ told_on self.old) }
-        ensures room { OnOk result (length self.new.last.asked.items < 4096) }
+        ensures room { OnOk result (length self.new.last.lines.items < 4096) }
     {
         if self.last.is_full() {
             let full = replace(&mut self.last, Sheet::new(self.alloc));

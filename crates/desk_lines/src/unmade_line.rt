@@ -3,7 +3,7 @@ use riichi_hand::LineFault;
 
 /// What an answer line of a score is made of.
 #[derive(Clone, Copy, Debug, PartialEq, Eq)]
-pub enum Asked {
+pub enum UnmadeLine {
     /// The number of a table, before its answers.
     Table(usize),
     /// The answer to the next job.

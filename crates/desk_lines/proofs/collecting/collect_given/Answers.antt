@@ -1,28 +1,22 @@
-use Rattle.std.proofs.Common.{◌≡◌, ◌∙◌, List, ℕ, [], ◌++◌, length, sym, ap, subst, Err}
-use Rattle.std.proofs.lemmas.Result.{err_from_is_err_and}
+use Rattle.std.proofs.Common.{◌≡◌, ◌∙◌, List, ℕ, ◌++◌, length, sym, ap, subst, Err}
 use Rattle.desk_lines.specs.declared.fault.DeskFault.TheVariants.{Write}
 use Rattle.desk_lines.specs.declared.collecting.Collector.{Collector}
 use Rattle.riichi_hand.specs.declared.win.Rules.{Rules}
-use Rattle.desk_lines.specs.Asked.{jobs_of}
+use Rattle.desk_lines.specs.Outcomes.{jobs_of}
 use Rattle.desk_lines.specs.Collector.{Collects}
 use Rattle.desk_lines.specs.LineAnswers.{answers_to, report_on}
 use Rattle.desk_lines.specs.Lines.{lines}
 use Rattle.desk_lines.specs.Streams.{IsProperFront}
 use Rattle.desk_lines.specs.Tables.{table_line}
 use Rattle.desk_lines.specs.Telling.{text_of}
-use Rattle.desk_lines.proofs.AskedLemmas.{report-counted}
-use Rattle.desk_lines.proofs.StreamLemmas.{no_front_of_none}
+use Rattle.desk_lines.proofs.OutcomeLemmas.{report-counted}
+use Rattle.desk_lines.proofs.StreamLemmas.{no_front_of_none, passed_on}
 use Rattle.desk_lines.proofs.collecting.collect_given.Goals as goal
-
-never_cut : (front : List ℕ) (answers : List (List ℕ)) → answers ≡ [] → IsProperFront front (text_of answers) → ⊥
-never_cut front answers none is = no_front_of_none front (subst (λ (all : List (List ℕ)). IsProperFront front (text_of all)) none is)
 
 pub returns-in_err-told-clause-no_write : goal.returns-in_err-told-clause-no_write
 returns-in_err-told-clause-no_write g c is =
-    let p = err_from_is_err_and c.from_residual.result c.from_residual.ensures.1 in
-    let fault : c.in_err-told.field-0.0 ≡ Write = (let given = p.1 in let told = p.2 in cc) in
-    let stop = c.in_err-told.ensures.write_failed (ap Err fault) in
-    never_cut stop.4.stops.front stop.4.answers stop.4.tells.1.1 stop.4.stops.is_front
+    let stop = c.in_err-told.ensures.write_failed (ap Err (passed_on c.from_residual.result c.in_err-told.field-0.0 Write c.from_residual.ensures.1 is)) in
+    no_front_of_none stop.4.stops.front (subst (λ (all : List (List ℕ)). IsProperFront stop.4.stops.front (text_of all)) stop.4.tells.1.1 stop.4.stops.is_front)
 
 pub returns-in-Ok-collected-clause-ok : goal.returns-in-Ok-collected-clause-ok
 returns-in-Ok-collected-clause-ok g c =

@@ -1,16 +1,18 @@
 use Rattle.std.proofs.Common.{◌≡◌, ◌∙◌, ◌+◌, ◌<◌, ◌++◌, [], List, ℕ, zero, suc, Result, Ok, Err, ap, sym, subst, refl, take, inl, inr, arith}
 use Rattle.std.proofs.KnownBytes.{Consumes-nil, Consumes-kept}
 use Rattle.std.proofs.lemmas.List.{append-nil, length-take}
-use Rattle.std.proofs.lemmas.Result.{MatchResult-weaker, err_from_is_err_and}
+use Rattle.std.proofs.lemmas.Result.{MatchResult-weaker}
 use Rattle.desk_streams.specs.Calls.{found_ends}
 use Rattle.desk_lines.specs.declared.fault.DeskFault.{DeskFault}
 use Rattle.desk_lines.specs.declared.fault.DeskFault.TheVariants.{Read, Write, Memory}
 use Rattle.desk_lines.specs.Lines.{ended_lines, lines}
 use Rattle.desk_lines.specs.Telling.{count_of}
-use Rattle.desk_lines.specs.Streams.{Gives}
+use Rattle.desk_lines.specs.Streams.{Gives, AreWhole}
 use Rattle.desk_lines.specs.Told.{StopsTelling}
-use Rattle.desk_lines.proofs.StreamLemmas.{Gives-more, err_at}
+use Rattle.desk_lines.proofs.StreamLemmas.{Gives-more, err_at, passed_on}
 use Rattle.desk_lines.proofs.DeskLemmas.{Holds-new}
+use Rattle.desk_lines.proofs.reading.tell_lines.Given.{Over}
+use Rattle.desk_lines.proofs.reading.tell_lines.Goals.{After-finish, In_err-feed-in-Ok}
 use Rattle.desk_lines.proofs.reading.tell_lines.Goals as goal
 
 -- a read that gives some bytes found no end
@@ -51,84 +53,68 @@ loop-turn-preserved g c =
       },
     )
 
--- the text that was given once the end was read
+-- the reader gave its text, and found its end
+gave : (g : Over) (c : After-finish g) → Gives g.R.Source c.args.reader.now c.read.new.self c.loop-turn.invariant.0
+gave g c =
+    let source = g.R.Source in
+    let kept = c.loop-turn.invariant in
+    let none : c.in-Ok-eq0.field-0 ≡ 0 = c.in-Ok-eq0.field-0-test in
+    subst (λ (all : List ℕ). Gives source c.args.reader.now c.read.new.self all) (ap (λ count. kept.0 ++ take count c.read.new.buffer) none ∙ append-nil kept.0)
+    (Gives-more source c.args.reader.now c.loop-turn.reader c.read.new.self kept.0 (take c.in-Ok-eq0.field-0 c.read.new.buffer) kept.1.gives c.in-Ok-eq0.ensures.given c.in-Ok-eq0.ensures.left.0)
+
 pub returns-in-Ok-eq0-clause-ok : goal.returns-in-Ok-eq0-clause-ok
 returns-in-Ok-eq0-clause-ok g c =
-    let source = g.R.Source in
     let kept = c.loop-turn.invariant in
-    let text = kept.0 in
     let none : c.in-Ok-eq0.field-0 ≡ 0 = c.in-Ok-eq0.field-0-test in
-    let gives = subst (λ (all : List ℕ). Gives source c.args.reader.now c.read.new.self all) (ap (λ count. text ++ take count c.read.new.buffer) none ∙ append-nil text)
-    (Gives-more source c.args.reader.now c.loop-turn.reader c.read.new.self text (take c.in-Ok-eq0.field-0 c.read.new.buffer) kept.1.gives c.in-Ok-eq0.ensures.given c.in-Ok-eq0.ensures.left.0) in
+    let gives = gave g (goal.at.returns-in-Ok-eq0-clause-ok g c).After-finish in
     MatchResult-weaker c.finish.result c.finish.ensures.ends (λ told ends.
-    (text, record { gives = gives; ended = c.in-Ok-eq0.ensures.ended none (omega arith); none_left = c.in-Ok-eq0.ensures.left.1 none (omega arith); not_failed = let same = c.in-Ok-eq0.ensures.failures in let before = kept.1.reads in omega arith }, ends c.args.writer.now text kept.1.holds))
+    (kept.0, record { gives = gives; ended = c.in-Ok-eq0.ensures.ended none (omega arith); none_left = c.in-Ok-eq0.ensures.left.1 none (omega arith); not_failed = let same = c.in-Ok-eq0.ensures.failures in let before = kept.1.reads in omega arith }, ends c.args.writer.now kept.0 kept.1.holds))
     (λ fault told. told)
 
-pub returns-in-Ok-eq0-clause-read_failed : goal.returns-in-Ok-eq0-clause-read_failed
-returns-in-Ok-eq0-clause-read_failed g c is =
+-- of the whole lines of a text that the reader gave the first were answered
+abbrev Stopped : (g : Over) → g.row.R.Denot → g.row.R.Denot → g.row.W.Denot → g.row.W.Denot → DeskFault → Type 0
+Stopped g reader read writer written fault =
+    (text : List ℕ) × (whole : List (List ℕ)) × Gives g.R.Source reader read text × AreWhole (g.R.Source.is_ended read) text whole × StopsTelling g.W.Sink g.T.Teller writer written fault whole
+
+-- the last of them
+stopped_at_end : (g : Over) (c : After-finish g) (fault : DeskFault) → c.finish.result ≡ Err fault → Stopped g c.args.reader.now c.read.new.self c.args.writer.now c.finish.new.writer fault
+stopped_at_end g c fault is =
     let kept = c.loop-turn.invariant in
-    let stop = err_at c.finish.result _ c.finish.ensures.stops Read is c.args.writer.now kept.0 kept.1.holds in
-    absurd stop.stops
+    (kept.0, lines kept.0, gave g c, inr (c.in-Ok-eq0.ensures.ended c.in-Ok-eq0.field-0-test (omega arith), refl), err_at c.finish.result _ c.finish.ensures.stops fault is c.args.writer.now kept.0 kept.1.holds)
+
+pub returns-in-Ok-eq0-clause-read_failed : goal.returns-in-Ok-eq0-clause-read_failed
+returns-in-Ok-eq0-clause-read_failed g c is = absurd ((stopped_at_end g (goal.at.returns-in-Ok-eq0-clause-read_failed g c).After-finish Read is).4.stops)
 
 pub returns-in-Ok-eq0-clause-write_failed : goal.returns-in-Ok-eq0-clause-write_failed
-returns-in-Ok-eq0-clause-write_failed g c is =
-    let source = g.R.Source in
-    let kept = c.loop-turn.invariant in
-    let text = kept.0 in
-    let none : c.in-Ok-eq0.field-0 ≡ 0 = c.in-Ok-eq0.field-0-test in
-    let gives = subst (λ (all : List ℕ). Gives source c.args.reader.now c.read.new.self all) (ap (λ count. text ++ take count c.read.new.buffer) none ∙ append-nil text)
-    (Gives-more source c.args.reader.now c.loop-turn.reader c.read.new.self text (take c.in-Ok-eq0.field-0 c.read.new.buffer) kept.1.gives c.in-Ok-eq0.ensures.given c.in-Ok-eq0.ensures.left.0) in
-    (text, lines text, gives, inr (c.in-Ok-eq0.ensures.ended none (omega arith), refl), err_at c.finish.result _ c.finish.ensures.stops Write is c.args.writer.now text kept.1.holds)
+returns-in-Ok-eq0-clause-write_failed g c is = stopped_at_end g (goal.at.returns-in-Ok-eq0-clause-write_failed g c).After-finish Write is
 
 pub returns-in-Ok-eq0-clause-no_memory : goal.returns-in-Ok-eq0-clause-no_memory
-returns-in-Ok-eq0-clause-no_memory g c is =
-    let source = g.R.Source in
-    let kept = c.loop-turn.invariant in
-    let text = kept.0 in
-    let none : c.in-Ok-eq0.field-0 ≡ 0 = c.in-Ok-eq0.field-0-test in
-    let gives = subst (λ (all : List ℕ). Gives source c.args.reader.now c.read.new.self all) (ap (λ count. text ++ take count c.read.new.buffer) none ∙ append-nil text)
-    (Gives-more source c.args.reader.now c.loop-turn.reader c.read.new.self text (take c.in-Ok-eq0.field-0 c.read.new.buffer) kept.1.gives c.in-Ok-eq0.ensures.given c.in-Ok-eq0.ensures.left.0) in
-    (text, lines text, gives, inr (c.in-Ok-eq0.ensures.ended none (omega arith), refl), err_at c.finish.result _ c.finish.ensures.stops Memory is c.args.writer.now text kept.1.holds)
+returns-in-Ok-eq0-clause-no_memory g c is = stopped_at_end g (goal.at.returns-in-Ok-eq0-clause-no_memory g c).After-finish Memory is
 
--- the bytes that came were told in part
+-- those that came with the last read
+stopped_before : (g : Over) (c : In_err-feed-in-Ok g) (fault : DeskFault) → c.in_err-feed-in-Ok.field-0.0 ≡ fault → Stopped g c.args.reader.now c.read.new.self c.args.writer.now c.feed.new.writer fault
+stopped_before g c fault same =
+    let kept = c.loop-turn.invariant in
+    let bytes = take c.in-Ok.count c.read.new.buffer in
+    let text = kept.0 ++ bytes in (
+      text,
+      ended_lines text,
+      Gives-more g.R.Source c.args.reader.now c.loop-turn.reader c.read.new.self kept.0 bytes kept.1.gives c.in-Ok.ensures.given c.in-Ok.ensures.left.0,
+      inl refl,
+      subst (λ (f : DeskFault). StopsTelling g.W.Sink g.T.Teller c.args.writer.now c.feed.new.writer f (ended_lines text)) same (c.in_err-feed-in-Ok.ensures.stops c.args.writer.now kept.0 kept.1.holds),
+    )
+
 pub returns-in_err-feed-in-Ok-clause-read_failed : goal.returns-in_err-feed-in-Ok-clause-read_failed
 returns-in_err-feed-in-Ok-clause-read_failed g c is =
-    let kept = c.loop-turn.invariant in
-    let p = err_from_is_err_and c.from_residual.result c.from_residual.ensures.1 in
-    let stop = c.in_err-feed-in-Ok.ensures.stops c.args.writer.now kept.0 kept.1.holds in
-    let same : c.in_err-feed-in-Ok.field-0.0 ≡ Read = (let given = p.1 in let fault = p.2 in cc) in
-    let told = subst (λ (fault : DeskFault). StopsTelling g.W.Sink g.T.Teller c.args.writer.now c.feed.new.writer fault (ended_lines (kept.0 ++ take c.in-Ok.count c.read.new.buffer))) same stop in
-    absurd told.stops
+    absurd ((stopped_before g (goal.at.returns-in_err-feed-in-Ok-clause-read_failed g c).In_err-feed-in-Ok Read (passed_on c.from_residual.result c.in_err-feed-in-Ok.field-0.0 Read c.from_residual.ensures.1 is)).4.stops)
 
 pub returns-in_err-feed-in-Ok-clause-write_failed : goal.returns-in_err-feed-in-Ok-clause-write_failed
 returns-in_err-feed-in-Ok-clause-write_failed g c is =
-    let kept = c.loop-turn.invariant in
-    let bytes = take c.in-Ok.count c.read.new.buffer in
-    let text = kept.0 ++ bytes in
-    let p = err_from_is_err_and c.from_residual.result c.from_residual.ensures.1 in
-    let stop = c.in_err-feed-in-Ok.ensures.stops c.args.writer.now kept.0 kept.1.holds in
-    let same : c.in_err-feed-in-Ok.field-0.0 ≡ Write = (let given = p.1 in let fault = p.2 in cc) in (
-      text,
-      ended_lines text,
-      Gives-more g.R.Source c.args.reader.now c.loop-turn.reader c.read.new.self kept.0 bytes kept.1.gives c.in-Ok.ensures.given c.in-Ok.ensures.left.0,
-      inl refl,
-      subst (λ (fault : DeskFault). StopsTelling g.W.Sink g.T.Teller c.args.writer.now c.feed.new.writer fault (ended_lines text)) same stop,
-    )
+    stopped_before g (goal.at.returns-in_err-feed-in-Ok-clause-write_failed g c).In_err-feed-in-Ok Write (passed_on c.from_residual.result c.in_err-feed-in-Ok.field-0.0 Write c.from_residual.ensures.1 is)
 
 pub returns-in_err-feed-in-Ok-clause-no_memory : goal.returns-in_err-feed-in-Ok-clause-no_memory
 returns-in_err-feed-in-Ok-clause-no_memory g c is =
-    let kept = c.loop-turn.invariant in
-    let bytes = take c.in-Ok.count c.read.new.buffer in
-    let text = kept.0 ++ bytes in
-    let p = err_from_is_err_and c.from_residual.result c.from_residual.ensures.1 in
-    let stop = c.in_err-feed-in-Ok.ensures.stops c.args.writer.now kept.0 kept.1.holds in
-    let same : c.in_err-feed-in-Ok.field-0.0 ≡ Memory = (let given = p.1 in let fault = p.2 in cc) in (
-      text,
-      ended_lines text,
-      Gives-more g.R.Source c.args.reader.now c.loop-turn.reader c.read.new.self kept.0 bytes kept.1.gives c.in-Ok.ensures.given c.in-Ok.ensures.left.0,
-      inl refl,
-      subst (λ (fault : DeskFault). StopsTelling g.W.Sink g.T.Teller c.args.writer.now c.feed.new.writer fault (ended_lines text)) same stop,
-    )
+    stopped_before g (goal.at.returns-in_err-feed-in-Ok-clause-no_memory g c).In_err-feed-in-Ok Memory (passed_on c.from_residual.result c.in_err-feed-in-Ok.field-0.0 Memory c.from_residual.ensures.1 is)
 
 -- a read failed, or there were too many
 pub returns-in-Err-clause-read_failed : goal.returns-in-Err-clause-read_failed

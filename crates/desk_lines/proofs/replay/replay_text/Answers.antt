@@ -1,13 +1,12 @@
-use Rattle.std.proofs.Common.{◌≡◌, ◌∙◌, ◌++◌, [], List, ℕ, ap, refl, sym, subst, inl, arith, Err}
+use Rattle.std.proofs.Common.{◌∙◌, ◌++◌, [], List, ℕ, ap, refl, sym, subst, inl, arith, Err}
 use Rattle.std.proofs.KnownBytes.{Consumes-nil}
 use Rattle.std.proofs.lemmas.List.{append-nil}
-use Rattle.std.proofs.lemmas.Result.{err_from_is_err_and}
 use Rattle.desk_script.proofs.Only.{only_replay}
 use Rattle.desk_lines.specs.declared.fault.DeskFault.TheVariants.{Read, Write, Memory}
 use Rattle.desk_lines.specs.Lines.{lines, ended_lines}
 use Rattle.desk_lines.specs.Streams.{StopsWriting}
 use Rattle.desk_lines.specs.Telling.{text_of}
-use Rattle.desk_lines.proofs.StreamLemmas.{WritesAll-nil, StopsWriting-more}
+use Rattle.desk_lines.proofs.StreamLemmas.{WritesAll-nil, StopsWriting-more, passed_on}
 use Rattle.desk_lines.proofs.TellingLemmas.{text_of-append}
 use Rattle.desk_lines.proofs.ToldLemmas.{Stands-written}
 use Rattle.desk_lines.proofs.ScriptLemmas.{replays, replays_whole, replays_none}
@@ -38,19 +37,14 @@ returns-clause-ok g c =
 
 pub returns-in_err-told-clause-read_failed : goal.returns-in_err-told-clause-read_failed
 returns-in_err-told-clause-read_failed g c is =
-    let p = err_from_is_err_and c.from_residual.result c.from_residual.ensures.1 in
-    let same : c.in_err-told.field-0.0 ≡ Read = (let given = p.1 in let fault = p.2 in cc) in
-    let failed = c.tell_lines.ensures.read_failed (c.in_err-told.was ∙ ap Err same) in
+    let failed = c.tell_lines.ensures.read_failed (c.in_err-told.was ∙ ap Err (passed_on c.from_residual.result c.in_err-told.field-0.0 Read c.from_residual.ensures.1 is)) in
     let text = failed.1.0 in
-    let told = failed.1.1 in
     let stands = failed.1.3 in
-    (failed.0, (text, stands.answers, failed.1.2, replays _ (ended_lines text) stands.answers stands.tells, Stands-written g.W.Sink _ c.args.writer.now (ended_lines text) told c.tell_lines.new.writer stands failed.1.4))
+    (failed.0, (text, stands.answers, failed.1.2, replays _ (ended_lines text) stands.answers stands.tells, Stands-written g.W.Sink _ c.args.writer.now (ended_lines text) failed.1.1 c.tell_lines.new.writer stands failed.1.4))
 
 pub returns-in_err-told-clause-write_failed : goal.returns-in_err-told-clause-write_failed
 returns-in_err-told-clause-write_failed g c is =
-    let p = err_from_is_err_and c.from_residual.result c.from_residual.ensures.1 in
-    let same : c.in_err-told.field-0.0 ≡ Write = (let given = p.1 in let fault = p.2 in cc) in
-    let failed = c.tell_lines.ensures.write_failed (c.in_err-told.was ∙ ap Err same) in
+    let failed = c.tell_lines.ensures.write_failed (c.in_err-told.was ∙ ap Err (passed_on c.from_residual.result c.in_err-told.field-0.0 Write c.from_residual.ensures.1 is)) in
     let stops = failed.4 in
     let all = replays_whole stops.last failed.1 stops.first stops.others stops.answers stops.parts stops.tells in (
       failed.0,
@@ -65,9 +59,7 @@ returns-in_err-told-clause-write_failed g c is =
 
 pub returns-in_err-told-clause-no_memory : goal.returns-in_err-told-clause-no_memory
 returns-in_err-told-clause-no_memory g c is =
-    let p = err_from_is_err_and c.from_residual.result c.from_residual.ensures.1 in
-    let same : c.in_err-told.field-0.0 ≡ Memory = (let given = p.1 in let fault = p.2 in cc) in
-    let failed = c.tell_lines.ensures.no_memory (c.in_err-told.was ∙ ap Err same) in
+    let failed = c.tell_lines.ensures.no_memory (c.in_err-told.was ∙ ap Err (passed_on c.from_residual.result c.in_err-told.field-0.0 Memory c.from_residual.ensures.1 is)) in
     let stops = failed.4 in
     let all = replays_whole stops.last failed.1 stops.first stops.others stops.answers stops.parts stops.tells in
     (failed.0, failed.1, stops.answers, all.0, failed.2, failed.3, all.1, stops.stops)

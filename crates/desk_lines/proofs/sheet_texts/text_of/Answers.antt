@@ -1,13 +1,13 @@
 use Rattle.std.proofs.Common.{◌∙◌, ◌+◌, ◌++◌, ap, sym, get_or, drop, append_assoc, arith}
 use Rattle.std.proofs.lemmas.List.{append-nil, drop_all}
-use Rattle.desk_lines.specs.declared.asked.Asked.TheVariants.{Table}
-use Rattle.desk_lines.specs.Asked.{told, line_told}
+use Rattle.desk_lines.specs.declared.unmade_line.UnmadeLine.TheVariants.{Table}
+use Rattle.desk_lines.specs.Tables.{told, line_told}
 use Rattle.desk_lines.proofs.TextsLemmas.{told-next}
 use Rattle.desk_lines.proofs.sheet_texts.text_of.Goals as goal
 
 pub loop-line-preserved : goal.loop-line-preserved
 loop-line-preserved c =
-    let lines = c.args.asked.now in
+    let lines = c.args.lines.now in
     let place = c.loop-line.line-index in
     let text = c.loop-line.text.items in
     let line = line_told (get_or lines place (Table 0)) c.loop-line.rest.now in
@@ -18,6 +18,6 @@ loop-line-preserved c =
 
 pub returns : goal.returns
 returns c =
-    let lines = c.args.asked.now in
+    let lines = c.args.lines.now in
     c.shrink_to_fit.ensures.items
     ∙ sym (c.loop-line.invariant ∙ ap (λ rest. c.loop-line.text.items ++ told rest c.loop-line.rest.now) (drop_all c.loop-line.line-index lines (omega arith)) ∙ append-nil c.loop-line.text.items)

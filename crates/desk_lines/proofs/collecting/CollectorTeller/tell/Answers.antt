@@ -1,6 +1,6 @@
 use Rattle.std.proofs.Common.{◌∙◌, None, refl, sym}
 use Rattle.std.proofs.lemmas.List.{append-nil}
-use Rattle.desk_lines.proofs.AskedLemmas.{Collects-line}
+use Rattle.desk_lines.proofs.OutcomeLemmas.{Collects-line}
 use Rattle.desk_lines.proofs.collecting.CollectorTeller.tell.Goals as goal
 
 pub returns-clause-told : goal.returns-clause-told

@@ -1,5 +1,6 @@
-use Rattle.std.proofs.Common.{Ok, refl, sym, ap, ◌∙◌}
-use Rattle.desk_lines.proofs.ExplainedPuts.{puts-none, puts-job, puts-refusal}
+use Rattle.std.proofs.Common.{Ok, Err, Some, true, false, refl, sym, ap, ◌∙◌}
+use Rattle.desk_lines.proofs.KindLemmas.{is_refusal-fault, is_refusal-job}
+use Rattle.desk_lines.proofs.ExplainedPuts.{puts-none, puts-said}
 use Rattle.desk_lines.proofs.explained.ExplainedResponder.respond.Goals as goal
 
 pub returns-in-Ok-None : goal.returns-in-Ok-None
@@ -9,10 +10,10 @@ returns-in-Ok-None c =
 pub returns-in-Ok-Some : goal.returns-in-Ok-Some
 returns-in-Ok-Some c =
     let put = c.put_job.ensures in
-    puts-job c.args.rules c.args.line.now c.args.outbox.now.bytes.items c.put_job.new.outbox.bytes.items put.0 c.in-Ok-Some.job
-    (sym c.read_line.ensures.value ∙ c.in-Ok-Some.is ∙ ap Ok c.in-Ok-Some.field-0-is) put.1 put.2
+    puts-said c.args.rules c.args.line.now c.args.outbox.now.bytes.items c.put_job.new.outbox.bytes.items put.0 _ (Ok (Some c.in-Ok-Some.job)) false
+    (sym c.read_line.ensures.value ∙ c.in-Ok-Some.is ∙ ap Ok c.in-Ok-Some.field-0-is) refl (is_refusal-job c.in-Ok-Some.job) put.1 put.2
 
 pub returns-in-Err : goal.returns-in-Err
 returns-in-Err c =
-    puts-refusal c.args.rules c.args.line.now c.args.outbox.now.bytes.items c.put_refusal.new.outbox.bytes.items c.in-Err.fault
-    (sym c.read_line.ensures.value ∙ c.in-Err.is) c.put_refusal.ensures
+    puts-said c.args.rules c.args.line.now c.args.outbox.now.bytes.items c.put_refusal.new.outbox.bytes.items _ _ (Err c.in-Err.fault) true
+    (sym c.read_line.ensures.value ∙ c.in-Err.is) refl (is_refusal-fault c.in-Err.fault) refl c.put_refusal.ensures

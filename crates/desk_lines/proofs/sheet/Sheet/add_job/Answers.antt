@@ -1,8 +1,8 @@
 use Rattle.std.proofs.Common.{◌≡◌, ◌∙◌, [], ◌∷◌, ◌++◌, length, map, ap, refl, arith}
 use Rattle.std.proofs.lemmas.List.{length-append}
 use Rattle.desk_core.specs.Value.{value_of}
-use Rattle.desk_lines.specs.declared.asked.Asked.TheVariants.{NextJob}
-use Rattle.desk_lines.specs.Asked.{told, count_jobs}
+use Rattle.desk_lines.specs.declared.unmade_line.UnmadeLine.TheVariants.{NextJob}
+use Rattle.desk_lines.specs.Tables.{told, count_jobs}
 use Rattle.desk_lines.proofs.SheetLemmas.{count_jobs-last, told-job}
 use Rattle.desk_lines.proofs.sheet.Sheet.add_job.Goals as goal
 
@@ -10,7 +10,7 @@ pub invariant_of-self-2-clause-complete : goal.invariant_of-self-2-clause-comple
 invariant_of-self-2-clause-complete c =
     let sheet = c.args.self.now in
     let same = ap count_jobs (c.push_reserved.ensures.items ∙ ap (λ lines. lines ++ NextJob ∷ []) c.reserve.ensures.items) in
-    let more = count_jobs-last sheet.asked.items NextJob in
+    let more = count_jobs-last sheet.lines.items NextJob in
     let one : count_jobs (NextJob ∷ []) ≡ 1 = refl in
     let jobs = ap length (c.push_reserved-2.ensures.items ∙ ap (λ jobs. jobs ++ c.args.job ∷ []) c.reserve-2.ensures.items) ∙ length-append sheet.jobs.items (c.args.job ∷ []) in
     let had = sheet.complete in
@@ -19,6 +19,6 @@ invariant_of-self-2-clause-complete c =
 pub returns : goal.returns
 returns c =
     let sheet = c.args.self.now in
-    ap (λ asked. told asked (map value_of c.push_reserved-2.new.self.items)) (c.push_reserved.ensures.items ∙ ap (λ lines. lines ++ NextJob ∷ []) c.reserve.ensures.items)
-    ∙ ap (λ jobs. told (sheet.asked.items ++ NextJob ∷ []) (map value_of jobs)) (c.push_reserved-2.ensures.items ∙ ap (λ jobs. jobs ++ c.args.job ∷ []) c.reserve-2.ensures.items)
-    ∙ told-job sheet.asked.items sheet.jobs.items sheet.complete c.args.job
+    ap (λ lines. told lines (map value_of c.push_reserved-2.new.self.items)) (c.push_reserved.ensures.items ∙ ap (λ lines. lines ++ NextJob ∷ []) c.reserve.ensures.items)
+    ∙ ap (λ jobs. told (sheet.lines.items ++ NextJob ∷ []) (map value_of jobs)) (c.push_reserved-2.ensures.items ∙ ap (λ jobs. jobs ++ c.args.job ∷ []) c.reserve-2.ensures.items)
+    ∙ told-job sheet.lines.items sheet.jobs.items sheet.complete c.args.job

@@ -4,16 +4,21 @@ use Rattle.desk_lines.specs.Streams.{WritesAll, StopsWriting}
 use Rattle.desk_lines.specs.Told.{Stands}
 use Rattle.desk_lines.proofs.ToldLemmas.{Stands-line, Stands-stops, Stands-no_memory}
 use Rattle.desk_lines.proofs.told.Told.answer.Goals as goal
-use Rattle.desk_lines.proofs.told.Told.answer.Goals.{then-not-has_room+in_ok-flush, else-not-has_room}
+use Rattle.desk_lines.proofs.told.Told.answer.Given.{Over}
+use Rattle.desk_lines.proofs.told.Told.answer.Goals.{After-take_line, then-not-has_room+in_ok-flush, else-not-has_room}
+
+-- what was answered before, with room for any answer
+stood : (g : Over) (c : After-take_line g) (start : g.row.W.Denot) (lines : List (List ℕ)) → Stands g.W.Sink g.T.Teller start lines c.args.self.now c.args.writer.now
+    → Stands g.W.Sink g.T.Teller start lines c.if-not-has_room.self c.if-not-has_room.writer
+stood g c start lines stands = elim c.if-not-has_room.branch [
+  | then-not-has_room+in_ok-flush w ↦ rw (w.self-is, w.writer-is) (w.in_ok-flush.ensures.stands start lines stands)
+  | else-not-has_room w ↦ rw (w.self-is, w.writer-is) stands
+]
 
 pub returns-in-Ok-clause-stands : goal.returns-in-Ok-clause-stands
 returns-in-Ok-clause-stands g c start lines next as_this stands =
-    let stood : Stands g.W.Sink g.T.Teller start lines c.if-not-has_room.self c.if-not-has_room.writer = elim c.if-not-has_room.branch [
-      | then-not-has_room+in_ok-flush w ↦ rw (w.self-is, w.writer-is) (w.in_ok-flush.ensures.stands start lines stands)
-      | else-not-has_room w ↦ rw (w.self-is, w.writer-is) stands
-    ] in
     let told = c.in-Ok.ensures.told in
-    Stands-line g.W.Sink g.T.Teller start lines c.if-not-has_room.self c.take_line.new.self c.if-not-has_room.writer c.args.line.now next told.0 as_this stood told.1 told.2
+    Stands-line g.W.Sink g.T.Teller start lines c.if-not-has_room.self c.take_line.new.self c.if-not-has_room.writer c.args.line.now next told.0 as_this (stood g (goal.at.returns-in-Ok-clause-stands g c).After-take_line start lines stands) told.1 told.2
 
 -- memory was wanted, and then the answers before could not be written
 pub returns-in_err-flush-in-Err-clause-stops : goal.returns-in_err-flush-in-Err-clause-stops
@@ -22,20 +27,12 @@ returns-in_err-flush-in-Err-clause-stops g c =
     let stops = c.in_err-flush-in-Err.ensures.writes in
     let same = c.in-Err.ensures.err.0 in
     rw (p.1, p.2, stops.0) (λ start lines stands.
-    let stood : Stands g.W.Sink g.T.Teller start lines c.if-not-has_room.self c.if-not-has_room.writer = elim c.if-not-has_room.branch [
-      | then-not-has_room+in_ok-flush w ↦ rw (w.self-is, w.writer-is) (w.in_ok-flush.ensures.stands start lines stands)
-      | else-not-has_room w ↦ rw (w.self-is, w.writer-is) stands
-    ] in
-    Stands-stops g.W.Sink g.T.Teller start lines c.if-not-has_room.self c.if-not-has_room.writer c.flush-in-Err.new.writer stood
+    Stands-stops g.W.Sink g.T.Teller start lines c.if-not-has_room.self c.if-not-has_room.writer c.flush-in-Err.new.writer (stood g (goal.at.returns-in_err-flush-in-Err-clause-stops g c).After-take_line start lines stands)
     (subst (λ (text : List ℕ). StopsWriting g.W.Sink c.if-not-has_room.writer c.flush-in-Err.new.writer text) same stops.1))
 
 -- memory was wanted, and the answers before were written
 pub returns-in_ok-flush-in-Err-clause-stops : goal.returns-in_ok-flush-in-Err-clause-stops
 returns-in_ok-flush-in-Err-clause-stops g c start lines stands =
-    let stood : Stands g.W.Sink g.T.Teller start lines c.if-not-has_room.self c.if-not-has_room.writer = elim c.if-not-has_room.branch [
-      | then-not-has_room+in_ok-flush w ↦ rw (w.self-is, w.writer-is) (w.in_ok-flush.ensures.stands start lines stands)
-      | else-not-has_room w ↦ rw (w.self-is, w.writer-is) stands
-    ] in
     let err = c.in-Err.ensures.err in
-    Stands-no_memory g.W.Sink g.T.Teller start lines c.if-not-has_room.self c.if-not-has_room.writer c.flush-in-Err.new.writer stood
+    Stands-no_memory g.W.Sink g.T.Teller start lines c.if-not-has_room.self c.if-not-has_room.writer c.flush-in-Err.new.writer (stood g (goal.at.returns-in_ok-flush-in-Err-clause-stops g c).After-take_line start lines stands)
     (subst (λ (text : List ℕ). WritesAll g.W.Sink c.if-not-has_room.writer c.flush-in-Err.new.writer text) err.0 c.in_ok-flush-in-Err.ensures.writes) c.args.line.now err.1
