@@ -1,5 +1,5 @@
 -- One more reader, and what its text is answered.
-use Rattle.std.proofs.Common.{◌≡◌, ℕ, ◌+◌, suc, List, [], ◌∷◌, ◌++◌, map, length, refl, sym, ◌∙◌, ap, append_assoc, arith}
+use Rattle.std.proofs.Common.{◌≡◌, ℕ, ◌+◌, suc, List, [], ◌∷◌, ◌++◌, map, length, sym, ◌∙◌, ap, append_assoc, arith}
 use Rattle.std.proofs.lemmas.List.{append-nil, length-map, map-append}
 use Rattle.std.proofs.lemmas.List.Elements.{All-append, All-cons, All-head, All-tail}
 use Rattle.std.proofs.lemmas.List.Sums.{sum_by_push}
@@ -57,8 +57,4 @@ score_report-last rules texts text before sum is answered refused =
     let now = score_report rules (texts ++ text ∷ []) in
     let answered_so : sum.answered ≡ now.answered = answered ∙ ap (λ (r : DeskReport). r.answered + (report_on rules (lines text)).answered) is ∙ sym (sum_by_push (λ t. (report_on rules (lines t)).answered) texts text) in
     let refused_so : sum.refused ≡ now.refused = refused ∙ ap (λ (r : DeskReport). r.refused + (report_on rules (lines text)).refused) is ∙ sym (sum_by_push (λ t. (report_on rules (lines t)).refused) texts text) in
-    ap (λ (n : ℕ). let told : DeskReport = record { answered = n; refused = sum.refused } in told) answered_so ∙ ap (λ (n : ℕ). let told : DeskReport = record { answered = now.answered; refused = n } in told) refused_so
-
-pub none_left : {X : Type 0} (xs : List X) → length xs ≡ 0 → xs ≡ []
-none_left [] none = refl
-none_left (x ∷ xs) none = absurd (omega arith)
+    λ i. record { answered = answered_so i; refused = refused_so i }

@@ -9,11 +9,11 @@ use Rattle.desk_score.specs.declared.rounds.Rounds.{Rounds}
 
 -- the text of a round's sheets, with the values of their jobs
 abbrev pub round_told : Round → List ℕ
-round_told round = lists_told (map (λ asked. asked.items) round.asked.items) (map (λ jobs. values jobs.items) round.jobs.items)
+round_told round = lists_told (map (λ lines. lines.items) round.lines.items) (map (λ jobs. values jobs.items) round.jobs.items)
 
 -- the text of a judged round's sheets, with their answers
 abbrev pub judged_told : Judged → List ℕ
-judged_told judged = lists_told (map (λ asked. asked.items) judged.asked.items) (map (λ given. given.items) judged.answers.items)
+judged_told judged = lists_told (map (λ lines. lines.items) judged.lines.items) (map (λ given. given.items) judged.answers.items)
 
 -- the text of all sheets so far
 abbrev pub rounds_told : Rounds → List ℕ

@@ -7,7 +7,7 @@ use Rattle.desk_core.specs.declared.lane.TheConstants.{LIMIT}
 use Rattle.desk_lines.specs.declared.report.DeskReport.{DeskReport}
 use Rattle.desk_lines.specs.Lines.{lines}
 use Rattle.desk_lines.specs.LineAnswers.{answers, report_on}
-use Rattle.desk_lines.specs.Asked.{jobs_of}
+use Rattle.desk_lines.specs.Outcomes.{jobs_of}
 use Rattle.desk_lines.specs.Streams.{GivesAll, FailsOrGoesOn, IsReadWithin}
 use Rattle.desk_lines.specs.Tables.{tables_text}
 

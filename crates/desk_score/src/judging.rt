@@ -7,7 +7,7 @@ ghost use Rattle.desk_score.specs.Rounds.{judged_told, round_told};
 use crate::round::Round;
 use crate::score_fault::ScoreFault;
 use desk_core::Answer;
-use desk_lines::{Asked, texts_of};
+use desk_lines::{UnmadeLine, texts_of};
 use desk_run::{RunFault, run_tables};
 use riichi_hand::Job;
 use std::alloc::{AllocError, Global};
@@ -29,7 +29,7 @@ fn places_of(sheets: usize) -> u32
 /// A round that was judged: the answers to its jobs.
 #[derive(Drop)]
 pub(crate) struct Judged {
-    asked: Vec<Vec<Asked>>,
+    lines: Vec<Vec<UnmadeLine>>,
     answers: Vec<Vec<Answer>>,
 }
 
@@ -39,7 +39,7 @@ impl Judged {
         ensures { judged_told result ≡ [] }
     {
         Judged {
-            asked: Vec::new(alloc),
+            lines: Vec::new(alloc),
             answers: Vec::new(alloc),
         }
     }
@@ -49,7 +49,7 @@ impl Judged {
         ensures { IfOk result (λ texts. flat_map (λ text. text.items) texts.items
             ≡ judged_told self) }
     {
-        texts_of(alloc, self.asked.as_slice(), self.answers.as_slice())
+        texts_of(alloc, self.lines.as_slice(), self.answers.as_slice())
     }
 }
 
@@ -70,7 +70,7 @@ pub(crate) fn judge<H: Threads + Wait + Sync>(
     ensures not_write { IsErrOf result ScoreFault.Write → ⊥ }
     ensures not_range { IsErrOf result ScoreFault.Range → ⊥ }
 {
-    let Round { asked, jobs } = round;
+    let Round { lines, jobs } = round;
     let jobs = jobs.as_slice();
     let places = places_of(jobs.len());
     let (texts, answers) = join(
@@ -87,5 +87,5 @@ pub(crate) fn judge<H: Threads + Wait + Sync>(
     );
     let texts = texts?;
     let answers = answers?;
-    Ok((texts, Judged { asked, answers }))
+    Ok((texts, Judged { lines, answers }))
 }

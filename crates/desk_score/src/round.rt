@@ -2,7 +2,7 @@
 ghost use Rattle.std.specs.Prelude.{◌≡◌, ◌<◌, ◌≤◌, ◌↔◌, [], ◌++◌, All, length, vec_len, IsTrue, OnOk};
 ghost use Rattle.desk_lines.specs.Sheets.{sheet_told};
 
-use desk_lines::{Asked, Sheet};
+use desk_lines::{Sheet, UnmadeLine};
 use riichi_hand::Job;
 use std::alloc::{AllocError, Global};
 
@@ -12,10 +12,10 @@ const SHEETS: usize = 8;
 /// At most eight sheets: what the lines of each are made of, and its jobs.
 #[derive(Drop)]
 pub(crate) struct Round {
-    pub(crate) asked: Vec<Vec<Asked>>,
+    pub(crate) lines: Vec<Vec<UnmadeLine>>,
     pub(crate) jobs: Vec<Vec<Job>>,
 
-    ghost paired: { length asked.items ≡ length jobs.items },
+    ghost paired: { length lines.items ≡ length jobs.items },
     ghost few: { length jobs.items ≤ 8 },
     ghost small: { All (λ list. vec_len list ≤ 4096) jobs.items },
 }
@@ -28,7 +28,7 @@ impl Round {
         ensures room { length result.jobs.items < SHEETS }
     {
         Round {
-            asked: Vec::new(alloc),
+            lines: Vec::new(alloc),
             jobs: Vec::new(alloc),
         }
     }
@@ -51,10 +51,10 @@ impl Round {
         requires { length self.old.jobs.items < SHEETS }
         ensures { OnOk result (round_told self.new ≡ round_told self.old ++ sheet_told sheet) }
     {
-        let (asked, jobs) = sheet.into_parts();
-        self.asked.reserve(1)?;
+        let (lines, jobs) = sheet.into_parts();
+        self.lines.reserve(1)?;
         self.jobs.reserve(1)?;
-        self.asked.push_reserved(asked);
+        self.lines.push_reserved(lines);
         self.jobs.push_reserved(jobs);
         Ok(())
     }

@@ -2,7 +2,7 @@
 ghost use Rattle.std.specs.Prelude.{◌≡◌, ◌↔◌, ◌≤◌, ℕ, List, [], ◌∷◌, ◌++◌, ◌+◌, length, IsTrue, OnOk, IfOk, IfErr, IsErrOf};
 ghost use Rattle.riichi_hand.specs.declared.win.Rules.{Rules};
 ghost use Rattle.desk_lines.specs.Lines.{lines};
-ghost use Rattle.desk_lines.specs.Asked.{jobs_of};
+ghost use Rattle.desk_lines.specs.Outcomes.{jobs_of};
 ghost use Rattle.desk_lines.specs.LineAnswers.{answers, report_on};
 ghost use Rattle.desk_lines.specs.Sheets.{sheets_told};
 ghost use Rattle.desk_lines.specs.Tables.{table_line};
@@ -78,7 +78,7 @@ impl Tables {
     {
         let Collected { mut sheets, report } = collected;
         self.report = sum_of(self.report, report)?;
-        self.count = one_more(self.count)?;
+        self.count = one_more_table(self.count)?;
         self.within_limit = are_within_limit(self.within_limit, report.answered);
         self.sheets.append(&mut sheets)?;
         Ok(())
@@ -108,7 +108,7 @@ fn sum_of(one: DeskReport, other: DeskReport) -> Result<DeskReport, ScoreFault>
 }
 
 /// One table more. Where a `usize` doesn't hold their number there is no memory.
-fn one_more(tables: usize) -> Result<usize, ScoreFault>
+fn one_more_table(tables: usize) -> Result<usize, ScoreFault>
     ensures ok { IfOk result (λ more. more ≡ tables + 1) }
     ensures err { IfErr result (λ fault. fault ≡ ScoreFault.Memory) }
 {

@@ -2,7 +2,7 @@ use Rattle.std.proofs.Common.{◌∙◌, ◌≤◌, ◌+◌, ℕ, List, [], ◌�
 use Rattle.std.proofs.lemmas.Grind.{flat_map-append}
 use Rattle.std.proofs.lemmas.List.{length-append}
 use Rattle.desk_core.specs.declared.lane.TheConstants.{LIMIT}
-use Rattle.desk_lines.specs.Asked.{jobs_of}
+use Rattle.desk_lines.specs.Outcomes.{jobs_of}
 use Rattle.desk_lines.specs.Lines.{lines}
 use Rattle.desk_lines.specs.declared.report.DeskReport.{DeskReport}
 use Rattle.desk_lines.specs.Sheets.{sheet_told, sheets_told}

@@ -1,5 +1,5 @@
 use Rattle.std.proofs.Common.{◌≡◌, ◌∙◌, ℕ, List, [], ◌∷◌, ◌++◌, Err, ap, sym, subst, append_assoc, arith}
-use Rattle.std.proofs.lemmas.List.{append-nil}
+use Rattle.std.proofs.lemmas.List.{append-nil, nil_from_length}
 use Rattle.std.proofs.lemmas.Result.{err_from_is_err_and}
 use Rattle.std.specs.Vec.Iter.{into_iter_items}
 use Rattle.desk_lines.specs.declared.fault.DeskFault.{DeskFault}
@@ -9,14 +9,13 @@ use Rattle.desk_score.specs.Faults.{desk_fault}
 use Rattle.desk_lines.specs.LineAnswers.{answers}
 use Rattle.desk_lines.specs.Tables.{table_line}
 use Rattle.desk_score.specs.Score.{AllGive}
-use Rattle.desk_score.proofs.ScoreLemmas.{AllGive-last, none_left}
+use Rattle.desk_score.proofs.ScoreLemmas.{AllGive-last}
 use Rattle.desk_score.proofs.tables.Tables.read.Goals as goal
 
 -- only a failed read is told as one
 was_read : (fault : DeskFault) → desk_fault fault ≡ Read → fault ≡ desk.Read
 was_read desk.Read is = cc
-was_read desk.Write is = absurd (let no : ⊥ = cc in no)
-was_read desk.Memory is = absurd (let no : ⊥ = cc in no)
+was_read other is = absurd (let no : ⊥ = cc in no)
 
 pub loop-reader-init : goal.loop-reader-init
 loop-reader-init g c = ([], record { given = tt; read = c.new-tables.ensures c.args.rules; parts = sym c.into_iter-reader-iterator.ensures.into_iter_gives.0 })
@@ -52,6 +51,6 @@ returns-in_err-collected-clause-read_failed g c is =
 pub returns-clause-ok : goal.returns-clause-ok
 returns-clause-ok g c =
     let kept = c.loop-reader.invariant in
-    let none : into_iter_items c.loop-reader.reader-iterator ≡ [] = none_left (into_iter_items c.loop-reader.reader-iterator) (let end = c.in-None.ensures.steps.0 in let ok = c.loop-reader.reader-iterator.rest.ok.0 in omega arith) in
+    let none : into_iter_items c.loop-reader.reader-iterator ≡ [] = nil_from_length (into_iter_items c.loop-reader.reader-iterator) (let end = c.in-None.ensures.steps.0 in let ok = c.loop-reader.reader-iterator.rest.ok.0 in omega arith) in
     let all : c.loop-reader.yielded ≡ c.args.readers.items = sym (kept.1.parts ∙ ap (λ rest. c.loop-reader.yielded ++ rest) none ∙ append-nil c.loop-reader.yielded) in
     (kept.0, subst (λ (readers : List g.row.R.Denot). AllGive g.R.Source readers kept.0) all kept.1.given, kept.1.read)
