@@ -12,7 +12,7 @@ use Rattle.atomic_table.proofs.Lists.{at_set, set_again, at_snoc, exchanged}
 use Rattle.desk_run.specs.Counts.{total, one_if, same_ticket, times}
 use Rattle.desk_run.specs.Views.{entering, has_number, is_at, holds_at, finished_of, numbered, holders, finishes, new_table, new_worker, with_state, offering, table_lost, holding, worker_lost, having_finished, looking}
 use Rattle.desk_run.specs.Rule.{count_of, HeldWith, Standing, fresh, vacant, ready, taken, done, Seated, Orderly}
-use Rattle.desk_run.specs.Plays.{SeatState, Claims, Fetches, table_of, worker_of, stop_of, entered_table, entered_worker, entered_stop, took_up, offered, claimed, finished, fetched, stopped, looked}
+use Rattle.desk_run.specs.Plays.{SeatState, Claims, Fetches, table_of, worker_of, stop_of, entered, entered_table, entered_worker, entered_stop, took_up, offered, claimed, finished, fetched, stopped, looked}
 use Rattle.desk_core.specs.declared.ticket.Ticket.{Ticket}
 use Rattle.riichi_hand.specs.declared.job.Job.{Job}
 use Rattle.desk_core.specs.Ticketed.{Ticketed}
@@ -211,44 +211,19 @@ kept_out : (size : BoardSize) (s : St) (o : Orderly size s) (id i : ℕ) (about 
     → Orderly size (board (set s.words i (get_or s.words i 0)) s.homes (set s.views id (Entering about)))
 kept_out size s o id i about me = unmoved size s o id i (Entering about) (Entering about) me (λ n. refl) (o.seats id (Entering about) me) (λ q. (refl, refl)) (λ x. refl)
 
-pub enters_table : (size : BoardSize) (id i : ℕ) (carried : List (ℕ × Content)) (said : Option Content) → i < size.tables
-    → Allows (Orderly size) (count_of size) id (Entering size, carried) 0 (λ n. either (eqb n i) (i + 1) n) (entered_table (step (count_of size) 0 i (i + 1) said) (Entering size, carried))
-enters_table size id i carried said few s o wide me _ = let then : ℕ → SeatState → Type 0 = entered_table (step (count_of size) 0 i (i + 1) said) (Entering size, carried) in
-    exchanged (get_or s.words 0 0) i (i + 1) (Goes size s 0 id (Entering size, carried) then)
-    (λ hit. let u = o.unentered i (omega arith) in (
-      Table (new_table i size),
-      keeps,
-      tt,
-      enters size s o id i size (Table (new_table i size)) me hit (omega arith) (λ n. refl)
-          (few, refl, length-replicate size.places Fresh, (λ k state at. let c = replicate_is size.places Fresh k state at in u.1 k c.0 ∙ c.1), sym u.0) (λ q. refl) (λ x. refl),
-      (λ _. ap (λ (r : ℕ). let n : SeatState = (Table (new_table r size), carried) in n) (sym hit), λ miss. absurd (miss hit)),
-    ))
-    (λ miss. (Entering size, keeps, tt, kept_out size s o id 0 size me, (λ hit. absurd (miss hit), λ _. refl)))
-
-pub enters_worker : (size : BoardSize) (id i : ℕ) (carried : List (ℕ × Content)) (said : Option Content) → size.tables ≤ i → i < size.tables + size.workers
-    → Allows (Orderly size) (count_of size) id (Entering size, carried) 0 (λ n. either (eqb n i) (i + 1) n) (entered_worker (step (count_of size) 0 i (i + 1) said) (Entering size, carried))
-enters_worker size id i carried said from few s o wide me _ = let then : ℕ → SeatState → Type 0 = entered_worker (step (count_of size) 0 i (i + 1) said) (Entering size, carried) in
+-- a seat gets the number where it is the next one
+enters_as : (view : ℕ → BoardSize → View) (size : BoardSize) (id i : ℕ) (carried : List (ℕ × Content)) (said : Option Content) → i ≤ size.tables + size.workers
+    → ((n : ℕ) → has_number n (view i size) ≡ eqb i n) → ((q : ℕ) → holds_at q (view i size) ≡ false) → ((x : Ticket) → times x (finished_of (view i size)) ≡ 0)
+    → ((s : St) (o : Orderly size s) → get_or s.words 0 0 ≡ i → Seated size o.states o.offers (get_or s.words 1 0) (view i size))
+    → Allows (Orderly size) (count_of size) id (Entering size, carried) 0 (λ n. either (eqb n i) (i + 1) n) (entered view (step (count_of size) 0 i (i + 1) said) (Entering size, carried))
+enters_as view size id i carried said few has free none_yet mine s o wide me _ = let then : ℕ → SeatState → Type 0 = entered view (step (count_of size) 0 i (i + 1) said) (Entering size, carried) in
     exchanged (get_or s.words 0 0) i (i + 1) (Goes size s 0 id (Entering size, carried) then)
     (λ hit. (
-      Worker (new_worker i),
+      view i size,
       keeps,
       tt,
-      enters size s o id i size (Worker (new_worker i)) me hit (omega arith) (λ n. refl) (from, few, λ e. absurd (false≢true e)) (λ q. refl) (λ x. refl),
-      (λ _. ap (λ (r : ℕ). let n : SeatState = (Worker (new_worker r), carried) in n) (sym hit), λ miss. absurd (miss hit)),
-    ))
-    (λ miss. (Entering size, keeps, tt, kept_out size s o id 0 size me, (λ hit. absurd (miss hit), λ _. refl)))
-
-pub enters_stop : (size : BoardSize) (id i : ℕ) (carried : List (ℕ × Content)) (said : Option Content) → i ≡ size.tables + size.workers
-    → Allows (Orderly size) (count_of size) id (Entering size, carried) 0 (λ n. either (eqb n i) (i + 1) n) (entered_stop (step (count_of size) 0 i (i + 1) said) (Entering size, carried))
-enters_stop size id i carried said is s o wide me _ = let then : ℕ → SeatState → Type 0 = entered_stop (step (count_of size) 0 i (i + 1) said) (Entering size, carried) in
-    let w : ℕ → StopView = λ r. record { number = r; knows_stop = false } in
-    exchanged (get_or s.words 0 0) i (i + 1) (Goes size s 0 id (Entering size, carried) then)
-    (λ hit. (
-      Stop (w i),
-      keeps,
-      tt,
-      enters size s o id i size (Stop (w i)) me hit (omega arith) (λ n. refl) (is, o.unstopped (omega arith)) (λ q. refl) (λ x. refl),
-      (λ _. ap (λ (r : ℕ). let n : SeatState = (Stop (w r), carried) in n) (sym hit), λ miss. absurd (miss hit)),
+      enters size s o id i size (view i size) me hit few has (mine s o hit) free none_yet,
+      (λ _. ap (λ (r : ℕ). let n : SeatState = (view r size, carried) in n) (sym hit), λ miss. absurd (miss hit)),
     ))
     (λ miss. (Entering size, keeps, tt, kept_out size s o id 0 size me, (λ hit. absurd (miss hit), λ _. refl)))
 
@@ -375,20 +350,29 @@ module _ (key size : BoardSize) (slots id word : ℕ) (m : SeatState) (keyed : k
       along_me (λ a n i y. Allows (Orderly a) n id y i (λ z. z) (looked (step n i 0 0 none) y)) key size slots (count_of size) word 1 m (Worker v, m.1) keyed sized at (λ i. (is i, m.1))
       (looks size id v m.1 free)
 
+  may_enter : (view : ℕ → BoardSize → View) (i : ℕ) → m.0 ≡ entering size → word ≡ 0
+      → Allows (Orderly size) (count_of size) id (Entering size, m.1) 0 (λ n. either (eqb n i) (i + 1) n) (entered view (step (count_of size) 0 i (i + 1) none) (Entering size, m.1))
+      → Allows (Orderly key) slots id m word (λ n. either (eqb n i) (i + 1) n) (entered view (step slots word i (i + 1) none) m)
+  may_enter view i is at may =
+      along_me (λ a n j y. Allows (Orderly a) n id y j (λ z. either (eqb z i) (i + 1) z) (entered view (step n j i (i + 1) none) y)) key size slots (count_of size) word 0 m (Entering size, m.1) keyed sized at (λ j. (is j, m.1)) may
+
   pub may_enter_table : (i : ℕ) → m.0 ≡ entering size → word ≡ 0 → i < size.tables → Allows (Orderly key) slots id m word (λ n. either (eqb n i) (i + 1) n) (entered_table (step slots word i (i + 1) none) m)
   may_enter_table i is at few =
-      along_me (λ a n j y. Allows (Orderly a) n id y j (λ z. either (eqb z i) (i + 1) z) (entered_table (step n j i (i + 1) none) y)) key size slots (count_of size) word 0 m (Entering size, m.1) keyed sized at (λ j. (is j, m.1))
-      (enters_table size id i m.1 none few)
+      let view : ℕ → BoardSize → View = λ number about. Table (new_table number about) in
+      may_enter view i is at (enters_as view size id i m.1 none (omega arith) (λ n. refl) (λ q. refl) (λ x. refl) (λ s o hit.
+      let u = o.unentered i (omega (arith, hit, few)) in
+      (few, refl, length-replicate size.places Fresh, (λ k state at. let c = replicate_is size.places Fresh k state at in u.1 k c.0 ∙ c.1), sym u.0)))
 
-  pub may_enter_worker : (i : ℕ) → m.0 ≡ entering size → word ≡ 0 → size.tables ≤ i → i < size.tables + size.workers → Allows (Orderly key) slots id m word (λ n. either (eqb n i) (i + 1) n) (entered_worker (step slots word i (i + 1) none) m)
+  pub may_enter_worker : (i : ℕ) → m.0 ≡ entering size → word ≡ 0 → size.tables ≤ i → i < size.tables + size.workers
+      → Allows (Orderly key) slots id m word (λ n. either (eqb n i) (i + 1) n) (entered_worker (step slots word i (i + 1) none) m)
   may_enter_worker i is at from few =
-      along_me (λ a n j y. Allows (Orderly a) n id y j (λ z. either (eqb z i) (i + 1) z) (entered_worker (step n j i (i + 1) none) y)) key size slots (count_of size) word 0 m (Entering size, m.1) keyed sized at (λ j. (is j, m.1))
-      (enters_worker size id i m.1 none from few)
+      let view : ℕ → BoardSize → View = λ number about. Worker (new_worker number) in
+      may_enter view i is at (enters_as view size id i m.1 none (omega arith) (λ n. refl) (λ q. refl) (λ x. refl) (λ s o hit. (from, few, λ e. absurd (false≢true e))))
 
   pub may_enter_stop : (i : ℕ) → m.0 ≡ entering size → word ≡ 0 → i ≡ size.tables + size.workers → Allows (Orderly key) slots id m word (λ n. either (eqb n i) (i + 1) n) (entered_stop (step slots word i (i + 1) none) m)
   may_enter_stop i is at last =
-      along_me (λ a n j y. Allows (Orderly a) n id y j (λ z. either (eqb z i) (i + 1) z) (entered_stop (step n j i (i + 1) none) y)) key size slots (count_of size) word 0 m (Entering size, m.1) keyed sized at (λ j. (is j, m.1))
-      (enters_stop size id i m.1 none last)
+      let view : ℕ → BoardSize → View = λ number about. Stop (record { number = number; knows_stop = false }) in
+      may_enter view i is at (enters_as view size id i m.1 none (omega arith) (λ n. refl) (λ q. refl) (λ x. refl) (λ s o hit. (last, o.unstopped (omega (arith, hit, last)))))
 
 pub may_split : (key size : BoardSize) (id : ℕ) (v : View) → key ≡ size → v ≡ entering size → Splits (Orderly key) id v v v
 may_split key size id v keyed is = subst (λ (a : BoardSize). Splits (Orderly a) id v v v) (sym keyed) (subst (λ (w : View). Splits (Orderly size) id w w w) (sym is) (splits size id))

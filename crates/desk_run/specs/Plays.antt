@@ -52,14 +52,18 @@ stop_of (Table v) = record { number = 0; knows_stop = false }
 stop_of (Worker v) = record { number = 0; knows_stop = false }
 stop_of (Stop v) = v
 
+-- a seat that had the number it asked for has this view, and else the one that it had
+abbrev pub entered : (ℕ → BoardSize → View) → Play
+entered view st m r n = (r ≡ st.first → n ≡ (view r (size_seen m.0), m.1)) × (r ≢ st.first → n ≡ m)
+
 abbrev pub entered_table : Play
-entered_table st m r n = (r ≡ st.first → n ≡ (Table (new_table r (size_seen m.0)), m.1)) × (r ≢ st.first → n ≡ m)
+entered_table = entered (λ number size. Table (new_table number size))
 
 abbrev pub entered_worker : Play
-entered_worker st m r n = (r ≡ st.first → n ≡ (Worker (new_worker r), m.1)) × (r ≢ st.first → n ≡ m)
+entered_worker = entered (λ number size. Worker (new_worker number))
 
 abbrev pub entered_stop : Play
-entered_stop st m r n = (r ≡ st.first → n ≡ (Stop (record { number = r; knows_stop = false }), m.1)) × (r ≢ st.first → n ≡ m)
+entered_stop = entered (λ number size. Stop (record { number = number; knows_stop = false }))
 
 abbrev pub took_up : Play
 took_up st m r n = (k : ℕ) → let v = table_of m.0 in st.word ≡ 2 + (v.base + k) → n ≡ (Table (with_state v k Vacant), (v.base + k, Empty) ∷ m.1)
