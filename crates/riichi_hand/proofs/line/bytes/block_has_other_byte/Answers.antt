@@ -22,9 +22,9 @@ doubled n = grind (arith, nat_tests)
 some_bit : {X : Type 0} (p : X → Bool) (xs : List X) → not (eqb (mask_l (map p xs)) 0) ≡ list_any p xs
 some_bit p [] = refl
 some_bit p (x ∷ xs) = elim (cases_Bool (p x)) [
-    | inl set ↦ rw set (ap not (ne_eqb (1 + 2 * mask_l (map p xs)) 0 (λ none. omega arith)))
-    | inr clear ↦ rw clear (doubled (mask_l (map p xs)) ∙ some_bit p xs)
-  ]
+  | inl set ↦ rw set (ap not (ne_eqb (1 + 2 * mask_l (map p xs)) 0 (λ none. omega arith)))
+  | inr clear ↦ rw clear (doubled (mask_l (map p xs)) ∙ some_bit p xs)
+]
 
 of_lanes : (block : List ℕ) (less : ℕ → ℕ → ℕ) → length block ≡ 16 → ((byte : ℕ) → top 7 (bit_or (less byte 32) (less 126 byte)) ≡ is_other_byte byte)
     → not (eqb (mask_l (map (top 7) (zip2 bit_or (zip2 less block (replicate 16 32)) (zip2 less (replicate 16 126) block))) % 2 ^ 64) 0) ≡ list_any is_other_byte block
