@@ -382,10 +382,10 @@ fn a_text_taken_apart(rt: HostRuntime) -> Result<(), Fail> {
         place: 0,
     };
     let expected = [
-        Asked::Table(7),
-        Asked::NextJob,
-        Asked::Refusal(LineFault::Notation(TextName::Hand, fault)),
-        Asked::NextJob,
+        UnmadeLine::Table(7),
+        UnmadeLine::NextJob,
+        UnmadeLine::Refusal(LineFault::Notation(TextName::Hand, fault)),
+        UnmadeLine::NextJob,
     ];
     holds(&rt, asked.as_slice() == expected.as_slice());
     Ok(())
@@ -418,10 +418,10 @@ fn a_sheet_that_is_full(rt: HostRuntime) -> Result<(), Fail> {
 fn lists_without_answers(rt: HostRuntime) -> Result<(), Fail> {
     let alloc = rt.alloc();
     let mut first = Vec::new(alloc);
-    first.push(Asked::Table(0))?;
-    first.push(Asked::Refusal(LineFault::Line(LineCode::H8)))?;
+    first.push(UnmadeLine::Table(0))?;
+    first.push(UnmadeLine::Refusal(LineFault::Line(LineCode::H8)))?;
     let mut second = Vec::new(alloc);
-    second.push(Asked::Table(1))?;
+    second.push(UnmadeLine::Table(1))?;
     let mut lists = Vec::new(alloc);
     lists.push(first)?;
     lists.push(second)?;
