@@ -1,5 +1,7 @@
 -- What each call of the table asks: the step keeps the rule.
 use Rattle.std.proofs.Common.{◌≡◌, ℕ, ◌+◌, ◌<◌, ◌≤◌, ◌≢◌, true, false, List, [], ◌∷◌, ◌++◌, length, get_or, set, sym, refl, ap, ◌∙◌, subst, arith, eqb, eq-eqb, ne_eqb, eqb-true, ◌⊎◌, ⊎_elim, length-set, replicate, map, get_or-set_other, get_or-set_same, None, Some}
+use Rattle.std.specs.Prelude.{sum_by}
+use Rattle.std.proofs.lemmas.List.Sums.{sum_by_push}
 use Rattle.std.proofs.lemmas.List.{length-replicate}
 use mathlib.Core.Bool.{false≢true}
 use mathlib.Core.Logic.{dite}
@@ -9,7 +11,7 @@ use lib.ListN.{get_elem?}
 use prog.Atomic.{either}
 use Rattle.atomic_table.specs.Table.{step, Act, keeps, takes, gives, Valid, carried_after, stepped, opening, Allows, Splits}
 use Rattle.atomic_table.proofs.Lists.{at_set, set_again, at_snoc, exchanged}
-use Rattle.desk_run.specs.Counts.{total, one_if, same_ticket, times}
+use Rattle.desk_run.specs.Counts.{one_if, same_ticket, times}
 use Rattle.desk_run.specs.Views.{entering, has_number, is_at, holds_at, finished_of, numbered, holders, finishes, new_table, new_worker, with_state, offering, table_lost, holding, worker_lost, having_finished, looking}
 use Rattle.desk_run.specs.Rule.{count_of, HeldWith, Standing, fresh, vacant, ready, taken, done, Seated, Orderly}
 use Rattle.desk_run.specs.Plays.{SeatState, Claims, Fetches, table_of, worker_of, stop_of, entered, entered_table, entered_worker, entered_stop, took_up, offered, claimed, finished, fetched, stopped, looked}
@@ -28,7 +30,7 @@ use Rattle.desk_run.specs.declared.view.StopView.{StopView}
 use Rattle.desk_run.specs.declared.view.View.{View}
 use Rattle.desk_run.specs.declared.view.View.TheVariants.{Entering, Table, Worker, Stop}
 use Rattle.desk_run.proofs.Moves.{St, board, there_is, table_step, worker_step, at_seat, unmoved, fresh_place, vacant_place, ready_place, taken_place, done_place, holders_same, finishes_same, numbered_same, is_holding, below_roll, apart_numbers}
-use Rattle.desk_run.proofs.Lists.{replicate_is, zeros, empties, held_is, two_more, tested, out_ticket, offer_ticket, offer_job, total-append, total-set, term_le, one, within, times-push}
+use Rattle.desk_run.proofs.Lists.{replicate_is, zeros, empties, held_is, two_more, tested, out_ticket, offer_ticket, offer_job, sum_by-changed, term_le, one, within, times-push}
 
 abbrev Goes : (size : BoardSize) → St → ℕ → ℕ → SeatState → (ℕ → SeatState → Type 0) → ℕ → Type 0
 Goes size s i id m then k = (w : View) × (a : Act Content) × Valid s.homes m.1 a × Orderly size (stepped s i k id m.1 w a) × then (get_or s.words i 0) (w, carried_after m.1 a)
@@ -125,7 +127,7 @@ claims size id p v carried said free near s o wide me _ = let i : ℕ = 2 + p in
     let c : Some (record { place = p; ticket = x; job = job }) ≡ Some h = ap (λ (z : WorkerView). z.held) d ∙ has in held_is p x job h c)
     (λ (y : (j ≢ id) × (get_elem? s.views j ≡ some (Worker u))). let z = term_le (λ u. one_if (holds_at p u)) s.views j (Worker u) y.1 in let a = one (holds_at p (Worker u)) (is_holding u h p has here) in let b = f.4 in absurd (omega arith))
     (at_set s.views id j (Worker w) (Worker u) at) in
-    let counted : holders p vs ≡ 1 = let c = total-set (λ u. one_if (holds_at p u)) s.views id (Worker v) (Worker w) me in
+    let counted : holders p vs ≡ 1 = let c = sum_by-changed (λ u. one_if (holds_at p u)) s.views id (Worker v) (Worker w) me in
     let a : one_if (holds_at p (Worker v)) ≡ 0 = ap (λ h. one_if (is_at p h)) free in let b : one_if (holds_at p (Worker w)) ≡ 1 = one (holds_at p (Worker w)) (eq-eqb p p refl) in let z = f.4 in omega arith in (
       Worker w,
       takes p (Offer x job),
@@ -158,8 +160,8 @@ finishes_at size id p v h piece more has here ticket job near s o wide me _ =
     let e : piece.ticket ≡ x = ticket ∙ given.0 in let d : piece.job ≡ f.1 = job ∙ given.1 in
     let w : WorkerView = having_finished v h.ticket in let vs : List View = set s.views id (Worker w) in
     let state : o.states p ≡ Out piece.ticket piece.job = f.2 ∙ sym (ap (λ (z : Ticket). Out z piece.job) e ∙ ap (λ (z : Job). Out x z) d) in
-    let none_left : holders p vs ≡ 0 = let c = total-set (λ u. one_if (holds_at p u)) s.views id (Worker v) (Worker w) me in let b = one (holds_at p (Worker v)) mine in let a = f.3 in omega arith in
-    let counted : (y : Ticket) → finishes y vs ≡ finishes y s.views + one_if (same_ticket y h.ticket) = λ y. let c = total-set (λ u. times y (finished_of u)) s.views id (Worker v) (Worker w) me in omega (arith, times-push y h.ticket v.finished) in
+    let none_left : holders p vs ≡ 0 = let c = sum_by-changed (λ u. one_if (holds_at p u)) s.views id (Worker v) (Worker w) me in let b = one (holds_at p (Worker v)) mine in let a = f.3 in omega arith in
+    let counted : (y : Ticket) → finishes y vs ≡ finishes y s.views + one_if (same_ticket y h.ticket) = λ y. let c = sum_by-changed (λ u. times y (finished_of u)) s.views id (Worker v) (Worker w) me in omega (arith, times-push y h.ticket v.finished) in
     let unfinished : finishes h.ticket s.views ≡ 0 = ap (λ (z : Ticket). finishes z s.views) given.0 ∙ f.5 in
     let either_way : (y : Ticket) → ((y ≡ h.ticket) × (one_if (same_ticket y h.ticket) ≤ 1)) ⊎ (one_if (same_ticket y h.ticket) ≡ 0) = λ y. tested y h.ticket in (
       Worker w,
@@ -198,7 +200,7 @@ enters size s o id i about w me hit few has mine free none_yet =
     let roll : get_or ws 0 0 ≡ i + 1 = get_or-set_same s.words 0 (i + 1) 0 (omega arith) in
     let halt : get_or ws 1 0 ≡ get_or s.words 1 0 = get_or-set_other s.words 0 1 (i + 1) 0 (λ e. omega arith) in
     at_seat size s o id (Entering about) w ws me (length-set s.words 0 (i + 1)) (λ p. get_or-set_other s.words 0 (2 + p) (i + 1) 0 (λ e. omega arith))
-    (λ n. let c = total-set (λ x. one_if (has_number n x)) s.views id (Entering about) w me in let a = o.numbers n in let b : one_if (has_number n w) ≡ one_if (eqb i n) = ap one_if (has n) in
+    (λ n. let c = sum_by-changed (λ x. one_if (has_number n x)) s.views id (Entering about) w me in let a = o.numbers n in let b : one_if (has_number n w) ≡ one_if (eqb i n) = ap one_if (has n) in
     dite (ℕ_discrete i n)
     (λ e. let y : one_if (eqb i n) ≡ 1 = one (eqb i n) (eq-eqb i n e) in let z = a.1 (omega arith) in (λ _. omega arith, λ h. absurd (omega arith)))
     (λ ne. let y : one_if (eqb i n) ≡ 0 = ap one_if (ne_eqb i n ne) in (λ h. let z = a.0 (omega arith) in omega arith, λ h. let z = a.1 (omega arith) in omega arith)))
@@ -256,8 +258,8 @@ looks size id v carried free s o wide me _ = let r : ℕ = get_or s.words 1 0 in
 )
 
 -- one more seat that has not entered
-longer : {A : Type 0} (g : A → ℕ) (l : List A) (a : A) → g a ≡ 0 → total g (l ++ a ∷ []) ≡ total g l
-longer g l a e = omega (arith, total-append g l (a ∷ []))
+longer : {A : Type 0} (g : A → ℕ) (l : List A) (a : A) → g a ≡ 0 → sum_by g (l ++ a ∷ []) ≡ sum_by g l
+longer g l a e = omega (arith, sum_by_push g l a)
 
 more_views : (word p : ℕ) (home : Option (Option Content)) (state : PlaceState) (vs : List View) (about : BoardSize) → Standing word home state p vs → Standing word home state p (vs ++ Entering about ∷ [])
 more_views word p home state vs about (fresh e h l n) = fresh e h l (longer (λ u. one_if (holds_at p u)) vs (Entering about) refl ∙ n)

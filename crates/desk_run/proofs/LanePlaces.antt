@@ -17,16 +17,21 @@ use Rattle.desk_run.specs.Sitting.{Receives}
 use mathlib.Core.Logic.{dite}
 use native.Mathlib.Decide.{dec_le}
 use Rattle.std.specs.Prelude.{slice_get, MatchBool, ◌||◌, Result, Ok, Err, OnErr}
+use Rattle.std.proofs.lemmas.List.Sums.{sum_by-cons}
 use Rattle.std.proofs.lemmas.Option.{same_Some}
 use Rattle.desk_run.specs.Counts.{one_if, same_ticket}
-use Rattle.desk_run.specs.LanePlaces.{Agrees, IsPending, ticket, offered, is_withdrawn, outs, one_out, is_out, times_out}
+use Rattle.desk_run.specs.LanePlaces.{Agrees, IsPending, ticket, offered, is_withdrawn, outs, has_ticket_out, is_out, times_out}
 use Rattle.desk_core.specs.declared.ticket.Ticket.{Ticket}
 use Rattle.riichi_hand.specs.declared.job.Job.{Job}
 use Rattle.desk_core.specs.Ticketed.{Ticketed}
 use Rattle.desk_run.specs.declared.place_state.PlaceState.{PlaceState}
 use Rattle.desk_run.specs.declared.place_state.PlaceState.TheVariants.{Fresh, Vacant, Out}
-use Rattle.desk_run.proofs.Lists.{total-set, terms_le, term_le, one, out_ticket, out_job, tested, ticket_is}
+use Rattle.desk_run.proofs.Lists.{sum_by-changed, terms_le, term_le, one, out_ticket, out_job, tested, ticket_is}
 use Rattle.desk_run.proofs.Moves.{there_is}
+
+-- 1 where a ticket is out at the place
+abbrev pub out_or_not : PlaceState → ℕ
+out_or_not state = one_if (has_ticket_out state)
 
 pub at_push : {A : Type 0} (l : List A) (a b : A) (j : ℕ) → get_elem? (l ++ a ∷ []) j ≡ some b → ((j < length l) × (get_elem? l j ≡ some b)) ⊎ ((j ≡ length l) × (a ≡ b))
 at_push [] a b zero e = inr (refl, some-injective a b e)
@@ -44,7 +49,7 @@ not_out x (Out y job) h = ⊎_elim (λ (t : (x ≡ y) × (one_if (same_ticket x 
 
 none_out : (x : Ticket) (states : List PlaceState) → ((k : ℕ) (y : Ticket) (job : Job) → get_elem? states k ≡ some (Out y job) → x ≢ y) → times_out x states ≡ 0
 none_out x [] h = refl
-none_out x (state ∷ states) h = let a = not_out x state (λ y job e. h 0 y job (ap (λ (l : PlaceState). some l) e)) in let b = none_out x states (λ k y job e. h (suc k) y job e) in omega arith
+none_out x (state ∷ states) h = let a = not_out x state (λ y job e. h 0 y job (ap (λ (l : PlaceState). some l) e)) in let b = none_out x states (λ k y job e. h (suc k) y job e) in omega (arith, sum_by-cons (λ s. one_if (is_out x s)) state states)
 
 -- a ticket is out at one place
 out_once : (x : Ticket) (states : List PlaceState) (j k : ℕ) (a b : Job) → times_out x states ≡ 1 → get_elem? states j ≡ some (Out x a) → get_elem? states k ≡ some (Out x b) → j ≢ k → ⊥
@@ -83,7 +88,7 @@ submitted lane k states vacant job b =
       vacant_are = λ i j e. let h = there_is vacant i j e in
           set_else states k j (Out x job) (λ same. let c = b.once i (length vacant) k (at_longer vacant (k ∷ []) i k (subst (λ (z : ℕ). get_elem? vacant i ≡ some z) same e)) (at_last vacant k (length vacant) refl) in omega arith) ∙ b.vacant_are i j (at_longer vacant (k ∷ []) i j e);
       once = λ i j l e d. b.once i j l (at_longer vacant (k ∷ []) i l e) (at_longer vacant (k ∷ []) j l d);
-      counted = let c = b.counted in let t = total-set one_out states k Vacant (Out x job) mine in omega (arith, length-append vacant (k ∷ []), length-set states k (Out x job));
+      counted = let c = b.counted in let t = sum_by-changed out_or_not states k Vacant (Out x job) mine in omega (arith, length-append vacant (k ∷ []), length-set states k (Out x job));
       own = λ j y a e. ⊎_elim
           (λ (t : (j ≡ k) × (Out x job ≡ Out y a)). let s = out_ticket x y job a t.1 in
           (sym (ap (λ (z : Ticket). z.table) s), (let d : next + length window ≡ y.seq = ap (λ (z : Ticket). z.seq) s in omega (arith, length-append window ((job, false) ∷ [])))))
@@ -94,7 +99,7 @@ submitted lane k states vacant job b =
           subst (λ (z : Ticket). IsPending (with_job lane job) z a) s (subst (λ (z : Job). IsPending (with_job lane job) x z) d (is_pending (with_job lane job) x job (length window) refl refl (at_last window (job, false) (length window) refl))))
           (λ (t : (j ≢ k) × (get_elem? states j ≡ some (Out y a))). let d = b.pending j y a t.1 out in let p = place_of lane y a d in is_pending (with_job lane job) y a p.0 d.0 p.1 (at_longer window ((job, false) ∷ []) p.0 (a, false) p.2))
           (at_set states k j (Out x job) (Out y a) e);
-      listed = λ i a e out. let y : Ticket = ticket lane.table (next + i) in let t = total-set (λ state. one_if (is_out y state)) states k Vacant (Out x job) mine in ⊎_elim
+      listed = λ i a e out. let y : Ticket = ticket lane.table (next + i) in let t = sum_by-changed (λ state. one_if (is_out y state)) states k Vacant (Out x job) mine in ⊎_elim
           (λ (h : (i < length window) × (get_elem? window i ≡ some (a, false))). let c = b.listed i a h.1 out in
           ⊎_elim (λ (s : (y ≡ x) × (one_if (same_ticket y x) ≤ 1)). let d : next + i ≡ next + length window = ap (λ (z : Ticket). z.seq) s.0 in let g = h.0 in absurd (omega arith)) (λ s. omega arith) (tested y x))
           (λ (h : (i ≡ length window) × (◌≡◌ {A = Job × Bool} (job, false) (a, false))). let same : y ≡ x = ap (λ (n : ℕ). ticket lane.table (next + n)) h.0 in
@@ -126,7 +131,7 @@ keeps_again lane k states vacant x job out b =
           (λ (h : (i ≡ length vacant) × (k ≡ l)). ⊎_elim (λ (g : (j < length vacant) × (get_elem? vacant j ≡ some l)). absurd (not_vacant (ap (λ (n : ℕ). get_elem? states n) h.1 ∙ b.vacant_are j l g.1)))
           (λ (g : (j ≡ length vacant) × (k ≡ l)). h.0 ∙ sym g.0) (at_push vacant k l j d))
           (at_push vacant k l i e);
-      counted = let c = b.counted in let t = total-set one_out states k (Out x job) Vacant out in omega (arith, length-append vacant (k ∷ []), length-set states k Vacant);
+      counted = let c = b.counted in let t = sum_by-changed out_or_not states k (Out x job) Vacant out in omega (arith, length-append vacant (k ∷ []), length-set states k Vacant);
     }
 
 -- the lane accepts the piece of a ticket that was not withdrawn
@@ -152,7 +157,7 @@ accepted lane k place states vacant piece seq waits live out b =
           is_pending (record lane { window = set window place (piece.job, true) }) y a p.0 d.0 p.1 (set_else window place p.0 (piece.job, true) (λ same. let s : y ≡ x = ticket_is y x (d.0 ∙ sym mine.0) (sym p.1 ∙ (ap (λ (n : ℕ). next + n) same ∙ seq)) in
           out_once x states j k a piece.job single (subst (λ (z : Ticket). get_elem? states j ≡ some (Out z a)) s t.1) out t.0) ∙ p.2))
           (at_set states k j Vacant (Out y a) e);
-      listed = λ i a e out_still. let y : Ticket = ticket lane.table (next + i) in let t = total-set (λ state. one_if (is_out y state)) states k (Out x piece.job) Vacant out in ⊎_elim
+      listed = λ i a e out_still. let y : Ticket = ticket lane.table (next + i) in let t = sum_by-changed (λ state. one_if (is_out y state)) states k (Out x piece.job) Vacant out in ⊎_elim
           (λ (h : (i ≡ place) × (◌≡◌ {A = Job × Bool} (piece.job, true) (a, false))). absurd (waits_or_not piece.job a h.1))
           (λ (h : (i ≢ place) × (get_elem? window i ≡ some (a, false))). let c = b.listed i a h.1 out_still in
           ⊎_elim (λ (s : (y ≡ x) × (one_if (same_ticket y x) ≤ 1)). absurd (h.0 (let d : next + i ≡ x.seq = ap (λ (z : Ticket). z.seq) s.0 in omega arith))) (λ s. omega arith) (tested y x))
@@ -168,7 +173,7 @@ left lane k states vacant x job gone out b = let m = keeps_again lane k states v
   counted = m.counted;
   own = λ j y a e. ⊎_elim (λ (t : (j ≡ k) × (Vacant ≡ Out y a)). let d = t.1 in cc) (λ (t : (j ≢ k) × (get_elem? states j ≡ some (Out y a))). b.own j y a t.1) (at_set states k j Vacant (Out y a) e);
   pending = λ j y a e still. ⊎_elim (λ (t : (j ≡ k) × (Vacant ≡ Out y a)). let d = t.1 in cc) (λ (t : (j ≢ k) × (get_elem? states j ≡ some (Out y a))). b.pending j y a t.1 still) (at_set states k j Vacant (Out y a) e);
-  listed = λ i a e still. let y : Ticket = ticket lane.table (lane.next + i) in let t = total-set (λ state. one_if (is_out y state)) states k (Out x job) Vacant out in let c = b.listed i a e still in
+  listed = λ i a e still. let y : Ticket = ticket lane.table (lane.next + i) in let t = sum_by-changed (λ state. one_if (is_out y state)) states k (Out x job) Vacant out in let c = b.listed i a e still in
       ⊎_elim (λ (s : (y ≡ x) × (one_if (same_ticket y x) ≤ 1)). absurd (false≢true (sym still ∙ (ap (λ (z : Ticket). is_withdrawn lane z.seq) s.0 ∙ gone)))) (λ s. omega arith) (tested y x);
 }
 
@@ -288,4 +293,4 @@ pub last_vacant : (lane : LaneState) (k : ℕ) (states : List PlaceState) (ks ls
 last_vacant lane k states ks ls b e = b.vacant_are (length ls) k (subst (λ (l : List ℕ). get_elem? l (length ls) ≡ some k) (sym e) (at_last ls k (length ls) refl))
 
 pub has_room : (lane : LaneState) (k : ℕ) (states : List PlaceState) (ks : List ℕ) (x : Ticket) (job : Job) → Agrees lane states ks → get_elem? states k ≡ some (Out x job) → length ks < length states
-has_room lane k states ks x job b e = let a = b.counted in let c = term_le one_out states k (Out x job) e in omega arith
+has_room lane k states ks x job b e = let a = b.counted in let c = term_le out_or_not states k (Out x job) e in omega arith

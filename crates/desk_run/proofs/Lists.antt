@@ -4,7 +4,9 @@ use mathlib.Core.Logic.{dite}
 use native.Mathlib.Decide.{dec_le}
 use mathlib.Core.Option.{some, some-injective, some-ne-none}
 use lib.ListN.{get_elem?}
-use Rattle.desk_run.specs.Counts.{total, one_if, same_ticket, times}
+use Rattle.std.specs.Prelude.{sum_by}
+use Rattle.std.proofs.lemmas.List.Sums.{sum_by-cons, sum_by_push}
+use Rattle.desk_run.specs.Counts.{one_if, same_ticket, times}
 use Rattle.desk_core.specs.declared.ticket.Ticket.{Ticket}
 use Rattle.riichi_hand.specs.declared.job.Job.{Job}
 use Rattle.desk_run.specs.declared.content.Content.TheVariants.{Empty, Offer}
@@ -12,29 +14,25 @@ use Rattle.desk_run.specs.declared.held.Held.{Held}
 use Rattle.desk_run.specs.declared.place_state.PlaceState.TheVariants.{Out}
 
 module _ {A : Type 0} (g : A → ℕ) where
-  pub total-append : (l m : List A) → total g (l ++ m) ≡ total g l + total g m
-  total-append [] m = omega arith
-  total-append (x ∷ xs) m = omega (arith, total-append xs m)
+  pub sum_by-changed : (l : List A) (j : ℕ) (v w : A) → get_elem? l j ≡ some v → sum_by g (set l j w) + g v ≡ sum_by g l + g w
+  sum_by-changed [] j v w e = absurd (some-ne-none v (sym e))
+  sum_by-changed (x ∷ xs) zero v w e = omega (arith, ap g (some-injective x v e), sum_by-cons g x xs, sum_by-cons g w xs)
+  sum_by-changed (x ∷ xs) (suc j) v w e = omega (arith, sum_by-changed xs j v w e, sum_by-cons g x xs, sum_by-cons g x (set xs j w))
 
-  pub total-set : (l : List A) (j : ℕ) (v w : A) → get_elem? l j ≡ some v → total g (set l j w) + g v ≡ total g l + g w
-  total-set [] j v w e = absurd (some-ne-none v (sym e))
-  total-set (x ∷ xs) zero v w e = omega (arith, ap g (some-injective x v e))
-  total-set (x ∷ xs) (suc j) v w e = omega (arith, total-set xs j v w e)
+  pub sum_by-same : (l : List A) (j : ℕ) (v w : A) → get_elem? l j ≡ some v → g w ≡ g v → sum_by g (set l j w) ≡ sum_by g l
+  sum_by-same l j v w e h = omega (arith, sum_by-changed l j v w e)
 
-  pub total-same : (l : List A) (j : ℕ) (v w : A) → get_elem? l j ≡ some v → g w ≡ g v → total g (set l j w) ≡ total g l
-  total-same l j v w e h = omega (arith, total-set l j v w e)
-
-  pub term_le : (l : List A) (j : ℕ) (v : A) → get_elem? l j ≡ some v → g v ≤ total g l
+  pub term_le : (l : List A) (j : ℕ) (v : A) → get_elem? l j ≡ some v → g v ≤ sum_by g l
   term_le [] j v e = absurd (some-ne-none v (sym e))
-  term_le (x ∷ xs) zero v e = omega (arith, ap g (some-injective x v e))
-  term_le (x ∷ xs) (suc j) v e = omega (arith, term_le xs j v e)
+  term_le (x ∷ xs) zero v e = omega (arith, ap g (some-injective x v e), sum_by-cons g x xs)
+  term_le (x ∷ xs) (suc j) v e = omega (arith, term_le xs j v e, sum_by-cons g x xs)
 
-  pub terms_le : (l : List A) (j k : ℕ) (v u : A) → k ≢ j → get_elem? l j ≡ some v → get_elem? l k ≡ some u → g v + g u ≤ total g l
+  pub terms_le : (l : List A) (j k : ℕ) (v u : A) → k ≢ j → get_elem? l j ≡ some v → get_elem? l k ≡ some u → g v + g u ≤ sum_by g l
   terms_le [] j k v u n e d = absurd (some-ne-none v (sym e))
   terms_le (x ∷ xs) zero zero v u n e d = absurd (n refl)
-  terms_le (x ∷ xs) zero (suc k) v u n e d = omega (arith, ap g (some-injective x v e), term_le xs k u d)
-  terms_le (x ∷ xs) (suc j) zero v u n e d = omega (arith, ap g (some-injective x u d), term_le xs j v e)
-  terms_le (x ∷ xs) (suc j) (suc k) v u n e d = omega (arith, terms_le xs j k v u (λ h. n (ap suc h)) e d)
+  terms_le (x ∷ xs) zero (suc k) v u n e d = omega (arith, ap g (some-injective x v e), term_le xs k u d, sum_by-cons g x xs)
+  terms_le (x ∷ xs) (suc j) zero v u n e d = omega (arith, ap g (some-injective x u d), term_le xs j v e, sum_by-cons g x xs)
+  terms_le (x ∷ xs) (suc j) (suc k) v u n e d = omega (arith, terms_le xs j k v u (λ h. n (ap suc h)) e d, sum_by-cons g x xs)
 
 pub one : (b : Bool) → b ≡ true → one_if b ≡ 1
 one b e = ap one_if e
@@ -70,7 +68,7 @@ pub same_is : (x y : Ticket) → same_ticket x y ≡ true → x ≡ y
 same_is x y e = let t : (eqb x.table y.table ≡ true) × (eqb x.seq y.seq ≡ true) = grind arith in ticket_is x y (eqb-true x.table y.table t.0) (eqb-true x.seq y.seq t.1)
 
 pub times-push : (x y : Ticket) (l : List Ticket) → times x (l ++ y ∷ []) ≡ times x l + one_if (same_ticket x y)
-times-push x y l = omega (arith, total-append (λ z. one_if (same_ticket x z)) l (y ∷ []))
+times-push x y l = sum_by_push (λ z. one_if (same_ticket x z)) l y
 
 pub out_ticket : (x y : Ticket) (a b : Job) → Out x a ≡ Out y b → x ≡ y
 out_ticket x y a b e = cc

@@ -24,7 +24,7 @@ use Rattle.desk_run.specs.declared.view.TableView.{TableView}
 use Rattle.desk_run.specs.declared.view.WorkerView.{WorkerView}
 use Rattle.desk_run.specs.declared.view.View.{View}
 use Rattle.desk_run.specs.declared.view.View.TheVariants.{Entering, Table, Worker, Stop}
-use Rattle.desk_run.proofs.Lists.{total-same, term_le, terms_le, one, put, put_here, put_else, apart, within}
+use Rattle.desk_run.proofs.Lists.{sum_by-same, term_le, terms_le, one, put, put_here, put_else, apart, within}
 
 abbrev pub St : Type 0
 St = State Content View
@@ -36,13 +36,13 @@ pub is_holding : (u : WorkerView) (h : Held) (q : ℕ) → u.held ≡ Some h →
 is_holding u h q e d = ap (is_at q) e ∙ eq-eqb h.place q d
 
 pub holders_same : (vs : List View) (id q : ℕ) (v w : View) → get_elem? vs id ≡ some v → holds_at q w ≡ holds_at q v → holders q (set vs id w) ≡ holders q vs
-holders_same vs id q v w me e = total-same (λ x. one_if (holds_at q x)) vs id v w me (ap one_if e)
+holders_same vs id q v w me e = sum_by-same (λ x. one_if (holds_at q x)) vs id v w me (ap one_if e)
 
 pub finishes_same : (vs : List View) (id : ℕ) (x : Ticket) (v w : View) → get_elem? vs id ≡ some v → times x (finished_of w) ≡ times x (finished_of v) → finishes x (set vs id w) ≡ finishes x vs
-finishes_same vs id x v w me e = total-same (λ y. times x (finished_of y)) vs id v w me e
+finishes_same vs id x v w me e = sum_by-same (λ y. times x (finished_of y)) vs id v w me e
 
 pub numbered_same : (vs : List View) (id n : ℕ) (v w : View) → get_elem? vs id ≡ some v → has_number n w ≡ has_number n v → numbered n (set vs id w) ≡ numbered n vs
-numbered_same vs id n v w me e = total-same (λ x. one_if (has_number n x)) vs id v w me (ap one_if e)
+numbered_same vs id n v w me e = sum_by-same (λ x. one_if (has_number n x)) vs id v w me (ap one_if e)
 
 -- a place that the seat does not hold, before and after
 still : (vs : List View) (id q word : ℕ) (v w : View) (home : Option (Option Content)) (state : PlaceState) → get_elem? vs id ≡ some v

@@ -5,7 +5,6 @@ use mathlib.Core.Option.{some}
 use lib.ListN.{get_elem?}
 use Rattle.atomic_table.specs.Table.{rest}
 use Rattle.desk_core.specs.LaneState.{LaneState, with_job, new_lane}
-use Rattle.desk_core.specs.declared.taken.Taken.TheVariants as taken
 use Rattle.desk_run.specs.LanePlaces.{offered}
 use Rattle.desk_run.specs.Plays.{SeatState, table_of}
 use Rattle.atomic_table.specs.Seated.{TableId}

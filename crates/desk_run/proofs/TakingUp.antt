@@ -4,13 +4,14 @@ use mathlib.Core.Logic.{dite}
 use native.Mathlib.Decide.{ℕ_discrete}
 use mathlib.Core.Option.{some, some-injective, some-ne-none}
 use lib.ListN.{get_elem?}
+use Rattle.std.proofs.lemmas.List.Folds.{sum_by-replicate}
 use Rattle.atomic_table.proofs.Lists.{set_here, set_else}
 use Rattle.desk_core.specs.LaneState.{LaneState, new_lane}
-use Rattle.desk_run.specs.LanePlaces.{Agrees, outs, one_out}
+use Rattle.desk_run.specs.LanePlaces.{Agrees, outs}
 use Rattle.desk_run.specs.declared.place_state.PlaceState.{PlaceState}
 use Rattle.desk_run.specs.declared.place_state.PlaceState.TheVariants.{Fresh, Vacant, Out}
-use Rattle.desk_run.proofs.Lists.{total-set, term_le}
-use Rattle.desk_run.proofs.LanePlaces.{at_push}
+use Rattle.desk_run.proofs.Lists.{sum_by-changed, term_le}
+use Rattle.desk_run.proofs.LanePlaces.{at_push, out_or_not}
 
 -- the first n places are vacant, and the others not yet taken up
 pub record TakenUp (n : ℕ) (states : List PlaceState) (vacant : List ℕ) : Type 0 where
@@ -23,8 +24,7 @@ pub record TakenUp (n : ℕ) (states : List PlaceState) (vacant : List ℕ) : Ty
   pub many : length vacant ≡ n
 
 no_outs : (n : ℕ) → outs (replicate n Fresh) ≡ 0
-no_outs zero = refl
-no_outs (suc n) = let e = no_outs n in omega arith
+no_outs n = omega (arith, sum_by-replicate out_or_not n Fresh)
 
 all_fresh : (n j : ℕ) → j < length (replicate n Fresh) → get_elem? (replicate n Fresh) j ≡ some Fresh
 all_fresh zero j h = absurd (omega arith)
@@ -55,7 +55,7 @@ one_up n states vacant near b = record {
   below = λ i k e. ⊎_elim (λ (h : (i < length vacant) × (get_elem? vacant i ≡ some k)). let l = b.below i k h.1 in omega arith) (λ (h : (i ≡ length vacant) × (n ≡ k)). let s = h.1 in omega arith) (at_push vacant n k i e);
   up = λ j h. dite (ℕ_discrete j n) (λ e. subst (λ (m : ℕ). get_elem? (set states n Vacant) m ≡ some Vacant) (sym e) (set_here states n Vacant near))
       (λ ne. set_else states n j Vacant ne ∙ b.up j (omega arith));
-  none_out = let f = b.fresh n (omega arith) near in let c = total-set one_out states n Fresh Vacant f in let z = b.none_out in omega arith;
+  none_out = let f = b.fresh n (omega arith) near in let c = sum_by-changed out_or_not states n Fresh Vacant f in let z = b.none_out in omega arith;
   fresh = λ j h g. set_else states n j Vacant (λ same. omega arith) ∙ b.fresh j (omega arith) (omega (arith, length-set states n Vacant));
   many = let m = b.many in omega (arith, length-append vacant (n ∷ []));
 }
@@ -74,7 +74,7 @@ all_up lane t n states vacant new e b = subst (λ (l : LaneState). Agrees l stat
   vacant_are = b.vacant_are;
   once = b.once;
   counted = let m = b.many in let z = b.none_out in omega arith;
-  own = λ k x job at. let c = term_le one_out states k (Out x job) at in let z = b.none_out in absurd (omega arith);
-  pending = λ k x job at still. let c = term_le one_out states k (Out x job) at in let z = b.none_out in absurd (omega arith);
+  own = λ k x job at. let c = term_le out_or_not states k (Out x job) at in let z = b.none_out in absurd (omega arith);
+  pending = λ k x job at still. let c = term_le out_or_not states k (Out x job) at in let z = b.none_out in absurd (omega arith);
   listed = λ i job at still. absurd (some-ne-none _ (sym at));
 })

@@ -1,11 +1,6 @@
 -- Counting in lists.
-use Rattle.std.specs.Prelude.{ℕ, ◌+◌, ◌==◌, ◌&&◌, Bool, cond, List, [], ◌∷◌}
+use Rattle.std.specs.Prelude.{ℕ, ◌==◌, ◌&&◌, Bool, cond, List, count_by}
 use Rattle.desk_core.specs.declared.ticket.Ticket.{Ticket}
-
--- the sum of f over the list
-abbrev pub total : {A : Type 0} → (A → ℕ) → List A → ℕ
-total f [] = 0
-total f (x ∷ xs) = f x + total f xs
 
 -- 1 where the test holds, and else 0
 abbrev pub one_if : Bool → ℕ
@@ -16,4 +11,4 @@ same_ticket x y = (x.table == y.table) && (x.seq == y.seq)
 
 -- how often the ticket stands in the list
 abbrev pub times : Ticket → List Ticket → ℕ
-times x ys = total (λ y. one_if (same_ticket x y)) ys
+times x ys = count_by (same_ticket x) ys

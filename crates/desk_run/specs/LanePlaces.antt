@@ -1,11 +1,11 @@
 -- How a table's places agree with its lane.
-use Rattle.std.specs.Prelude.{◌≡◌, ℕ, ◌+◌, ◌-◌, ◌<◌, ◌≤◌, Bool, false, List, length}
+use Rattle.std.specs.Prelude.{◌≡◌, ℕ, ◌+◌, ◌-◌, ◌<◌, ◌≤◌, Bool, true, false, List, length, count_by}
 use mathlib.Core.Option as ghost_option
 use lib.ListN.{get_elem?}
 use Rattle.desk_core.specs.LaneState.{LaneState, is_among}
 use Rattle.desk_core.specs.declared.ticket.Ticket.{Ticket}
 use Rattle.riichi_hand.specs.declared.job.Job.{Job}
-use Rattle.desk_run.specs.Counts.{total, one_if, same_ticket}
+use Rattle.desk_run.specs.Counts.{same_ticket}
 use Rattle.desk_run.specs.declared.place_state.PlaceState.{PlaceState}
 use Rattle.desk_run.specs.declared.place_state.PlaceState.TheVariants.{Fresh, Vacant, Out}
 
@@ -21,14 +21,13 @@ abbrev pub IsPending : LaneState → Ticket → Job → Type 0
 IsPending lane x job =
     (x.table ≡ lane.table) × (lane.next ≤ x.seq) × (get_elem? lane.window (x.seq - lane.next) ≡ ghost_option.some (job, false))
 
-abbrev pub one_out : PlaceState → ℕ
-one_out Fresh = 0
-one_out Vacant = 0
-one_out (Out x job) = 1
+abbrev pub has_ticket_out : PlaceState → Bool
+has_ticket_out (Out x job) = true
+has_ticket_out other = false
 
 -- how many places are out
 abbrev pub outs : List PlaceState → ℕ
-outs states = total one_out states
+outs states = count_by has_ticket_out states
 
 abbrev pub is_out : Ticket → PlaceState → Bool
 is_out x Fresh = false
@@ -37,7 +36,7 @@ is_out x (Out y job) = same_ticket x y
 
 -- at how many places the ticket is out
 abbrev pub times_out : Ticket → List PlaceState → ℕ
-times_out x states = total (λ state. one_if (is_out x state)) states
+times_out x states = count_by (is_out x) states
 
 -- the table withdrew the ticket with this number
 abbrev pub is_withdrawn : LaneState → ℕ → Bool

@@ -1,6 +1,6 @@
 -- What the seats' views say.
-use Rattle.std.specs.Prelude.{ℕ, ◌+◌, ◌*◌, ◌==◌, Bool, false, List, [], ◌∷◌, ◌++◌, Option, None, Some, slice_set, replicate}
-use Rattle.desk_run.specs.Counts.{total, one_if, times}
+use Rattle.std.specs.Prelude.{ℕ, ◌+◌, ◌*◌, ◌==◌, Bool, false, List, [], ◌∷◌, ◌++◌, Option, None, Some, slice_set, replicate, count_by, sum_by}
+use Rattle.desk_run.specs.Counts.{times}
 use Rattle.desk_core.specs.declared.ticket.Ticket.{Ticket}
 use Rattle.riichi_hand.specs.declared.job.Job.{Job}
 use Rattle.desk_run.specs.declared.size.BoardSize.{BoardSize}
@@ -40,13 +40,13 @@ finished_of (Stop v) = []
 
 -- how many views have the number, how many workers hold the place, and how often the ticket was finished
 abbrev pub numbered : ℕ → List View → ℕ
-numbered n views = total (λ v. one_if (has_number n v)) views
+numbered n views = count_by (has_number n) views
 
 abbrev pub holders : ℕ → List View → ℕ
-holders p views = total (λ v. one_if (holds_at p v)) views
+holders p views = count_by (holds_at p) views
 
 abbrev pub finishes : Ticket → List View → ℕ
-finishes x views = total (λ v. times x (finished_of v)) views
+finishes x views = sum_by (λ v. times x (finished_of v)) views
 
 abbrev pub new_table : ℕ → BoardSize → TableView
 new_table n size = record { number = n; base = n * size.places; states = replicate size.places Fresh; offers = 0; lost = [] }
