@@ -56,8 +56,10 @@ import types
 KIT = os.path.dirname(os.path.dirname(os.path.realpath(__file__)))
 
 
-def share_work(_):
-    pass
+if os.path.isfile(f"{KIT}/shares"):  # not every kit has this call
+
+    def share_work(_):
+        pass
 
 
 def lock(_):
@@ -261,6 +263,7 @@ wait $!
 told 'a proof that is interrupted' "status 130: prove: interrupted at 2 of $count crates; what is proved stays, and the next ./prove goes on from there" \
   "status $?: $(tail -n 1 "$scripts/said")"
 rm "$kit/slow"
+: > "$kit/shares"
 told 'a whole proof' "prove: $count of $count crates, less than a minute left
 prove: all proved; the program is bin/riichi_desk
 status 0" "$(by_hand "$scripts" ./linked-prove | tail -n 3)"
