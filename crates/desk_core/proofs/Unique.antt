@@ -38,7 +38,7 @@ submit_unique turns table (reply.Ticket ticket) (reply.Ticket same) first second
 submit_unique turns table (reply.Ticket ticket) b first second differ other = absurd second
 submit_unique turns table a b first second differ other = absurd first
 
--- a piece that is told a stranger is told nothing else
+-- a piece that is answered as a stranger has no other answer
 stranger_alone : (turns : List Turn) (piece : Ticketed) (b : Arrived) → ArriveReply turns piece (reply.Arrived arrived.Stranger) → ArriveReply turns piece (reply.Arrived b) → arrived.Stranger ≡ b
 stranger_alone turns piece arrived.Stranger first second = refl
 stranger_alone turns piece arrived.Doubled (inl past) second = absurd (omega (arith, HasArrived-within turns piece.ticket.seq second.1))

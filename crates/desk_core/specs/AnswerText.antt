@@ -1,4 +1,4 @@
--- How an answer is told, on one line.
+-- The text of an answer, on one line.
 use Rattle.std.specs.Prelude.{ℕ, List}
 use Rattle.riichi_split.specs.Waits.{waits_text}
 use Rattle.riichi_score.specs.Text.{text_of as win_text}

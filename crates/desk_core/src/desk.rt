@@ -45,7 +45,7 @@ impl DeskCore {
         }
     }
 
-    /// Does an event and tells its reply. Only a submission and a withdrawal take memory.
+    /// Does an event and returns its reply. Only a submission and a withdrawal take memory.
     pub fn step(&mut self, event: Event) -> Reply
         ensures step { IsDeskRun self.old ((event, result) ∷ []) self.new }
         ensures tables { length self.new ≡ length self.old }

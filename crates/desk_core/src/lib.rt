@@ -4,7 +4,7 @@
 //!
 //! A `Lane` is one table: `submit` gives a `Ticket` for a `Job`, `arrive` takes in a `Piece`, which
 //! is a ticket, a job and by its type the job's `Answer`, and `take` gives the next answer where its
-//! piece is there. A `DeskCore` is the lanes of all tables; `step` does one `Event` and tells its
+//! piece is there. A `DeskCore` is the lanes of all tables; `step` does one `Event` and returns its
 //! `Reply`, and `run` does a list of them. Its contract carries the promise of the desk.
 //!
 //! ```text

@@ -148,7 +148,7 @@ same_sets a b low high e =
     let numbers = sym (numbers_in a) ∙ ap (map number) yaku ∙ numbers_in b in
     same_from_bits_below 41 a b low high (λ i within. same_bits a b i (same_tests (has a) (has b) 0 41 numbers i (omega arith) (omega arith)))
 
--- the second letter of an object's first name, which tells payments apart
+-- the second letter of an object's first name, by which payments differ
 second_letter : Json → ℕ
 second_letter (object (member name value more)) = get_or name 1 0
 second_letter json = 0
@@ -184,7 +184,7 @@ same_scores a b h k e =
     let yaku = same_sets a.yaku b.yaku h.yaku k.yaku sets in
     λ i. record { han = han i; fu = fu i; base = base i; yaku = yaku i; dora = dora i; payment = payment i; gain = gain i }
 
--- the fourth letter of an answer's sort, which tells the sorts apart
+-- the fourth letter of an answer's sort, by which the sorts differ
 sort_letter : Json → ℕ
 sort_letter (object (member name (string sort) more)) = get_or sort 3 0
 sort_letter json = 0

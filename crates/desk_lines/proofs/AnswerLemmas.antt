@@ -35,7 +35,7 @@ same_rules given rules line next (inr long) = rules_long given rules line long.0
 
 -- ---- any kind of answer
 
--- one more line is told its answer
+-- one more line gets its answer
 AreTold-last : (Answers : AnswerKind) (rules : Rules) (lines : List (List ℕ)) (line : List ℕ) (told : List (List ℕ)) (answer : Option (List ℕ)) → AreTold Answers rules lines told → Answers rules line answer
     → AreTold Answers rules (lines ++ line ∷ []) (told ++ answers_in answer)
 AreTold-last Answers rules [] line told answer are is = (answer, [], is, ap (λ (front : List (List ℕ)). front ++ answers_in answer) are ∙ sym (append-nil (answers_in answer)), refl)

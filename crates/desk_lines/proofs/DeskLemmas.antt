@@ -57,7 +57,7 @@ lines_without_last : (n : ℕ) (held text : List ℕ) → 0 < n → held ≡ tak
 lines_without_last n held text some is none =
     ap (λ rest. ended_lines text ++ last_line rest) (none_kept n (cut_of text).rest some (sym none ∙ is)) ∙ append-nil (ended_lines text)
 
--- the whole line is told as the part of it that came and was held
+-- the whole line has the answer of the part of it that came and was held
 pub told_alone : (most room : ℕ) → most + 2 ≤ room → (held rest bytes : List ℕ) → held ≡ take room rest → held ≡ [] → IsToldAs most (without_return bytes) (without_return (rest ++ bytes))
 told_alone most room enough held rest bytes is none = told_by_front most room enough bytes (rest ++ bytes) (front_alone room held rest bytes (omega arith) is none)
 

@@ -18,7 +18,7 @@ use Rattle.desk_lines.proofs.ExplainedLemmas.{last_feed}
 abbrev Outcome : Type 0
 Outcome = Result (Option Job) LineFault
 
--- what may be told, by the outcome of the line
+-- what may be answered, by the outcome of the line
 may_be_told : (rules : Rules) (line : List ℕ) (outcome : Outcome) (told : Option (List ℕ)) → outcome_of rules line ≡ outcome → IsToldWithWhy rules line (outcome_text outcome) told → IsExplained rules line told
 unfolding answer_of
 may_be_told rules line outcome told is with_why = subst (λ (o : Outcome). IsToldWithWhy rules line (outcome_text o) told) (sym is) with_why

@@ -1,4 +1,4 @@
--- What one more line asks, and how what was asked is told.
+-- What one more line asks, and the answers to what was asked.
 use Rattle.std.proofs.Common.{◌≡◌, ℕ, ◌+◌, ◌<◌, inl, inr, List, [], ◌∷◌, ◌++◌, Bool, true, false, cond, flat_map, length, map, Option, Some, None, Result, Ok, Err, refl, sym, ◌∙◌, ap, append_assoc, arith}
 use Rattle.std.proofs.lemmas.List.{length-append, map-append}
 use Rattle.std.proofs.lemmas.List.Elements.{filter_map-append}
@@ -81,7 +81,7 @@ same_outcome : (given : Rules) (rules : Option Rules) (line next : List ℕ) →
 same_outcome given rules line next (inl same) = ap (outcome_by given rules) same
 same_outcome given rules line next (inr long) = outcome_long given rules line long.0 ∙ sym (outcome_long given rules next long.1)
 
--- one more line, or one that is told as it, was taken
+-- one more line, or one that has its answer, was taken
 pub Collects-line : {P : Type 0} (old new : Collector P) (line next : List ℕ) (lines : List (List ℕ)) → IsToldAs 4096 line next → Collects lines old → new.given ≡ old.given → new.number ≡ old.number
     → new.rules ≡ Some (rules_by old.given old.rules line) → told_on new.sheets ≡ told_on old.sheets ++ texts_in (outcome_by old.given old.rules line)
     → new.report.answered ≡ old.report.answered + length (flat_map jobs_in (outcome_by old.given old.rules line))

@@ -12,7 +12,7 @@ use Rattle.desk_script.proofs.Continued.{replay_goes_on}
 use Rattle.desk_lines.specs.Telling.{answers_in, IsToldAs}
 use Rattle.desk_lines.specs.Scripts.{TellsScript}
 
--- a line may be told as this one
+-- a line may have the answer of this one
 Tells-as : (script : ScriptState) (lines : List (List ℕ)) (told : List Told) (line next : List ℕ) → IsToldAs 8192 line next → Tells script (lines ++ line ∷ []) told → Tells script (lines ++ next ∷ []) told
 Tells-as script lines told line next (inl same) tells = subst (λ (l : List ℕ). Tells script (lines ++ l ∷ []) told) same tells
 Tells-as script lines told line next (inr long) tells = Tells-alike script lines told line next long.0 long.1 tells

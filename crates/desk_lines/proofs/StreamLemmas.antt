@@ -72,7 +72,7 @@ module _ {W : Type 0} (sink : OfSink W) where
 pub err_at : {T E : Type 0} (r : Result T E) (P : E → Type 0) → IfErr r P → (e : E) → r ≡ Err e → P e
 err_at {T = T} {E = E} r P holds e is = subst (λ (s : Result T E). IfErr s P) is holds
 
--- the fault that is passed on is the one that is told
+-- the fault that is passed on is the one that is returned
 pub passed_on : {T E : Type 0} (r : Result T E) (given fault : E) → IsErrAnd r (λ f. f ≡ given) → r ≡ Err fault → given ≡ fault
 passed_on (Ok value) given fault passed is = absurd passed
 passed_on (Err told) given fault passed is = let same : told ≡ fault = cc in sym passed ∙ same

@@ -55,7 +55,7 @@ without_return_short [] = omega arith
 without_return_short (byte ∷ []) = elim (nat_eq byte 13) as (λ test. 1 ≤ length (cond test [] (byte ∷ [])) + 1) [ true ↦ omega arith | false ↦ omega arith ]
 without_return_short (byte ∷ next ∷ bytes) = let shorter = without_return_short (next ∷ bytes) in omega arith
 
--- A line of which only a front is kept may be told as the whole: it is no longer than what is kept, or so long that it is told as any such line.
+-- A line of which only a front is held has the answer of the whole: it is no longer than what is held, or so long that it is answered as any such line.
 pub told_by_front : (most room : ℕ) → most + 2 ≤ room → (line other : List ℕ) → take room line ≡ take room other → IsToldAs most (without_return line) (without_return other)
 told_by_front most room enough line other same = elim (cases_lt (most + 1) (length line)) as (λ _. IsToldAs most (without_return line) (without_return other)) [
   | inl longer ↦

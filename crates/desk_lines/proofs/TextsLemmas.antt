@@ -21,7 +21,7 @@ module _ {V : Type 0} (lines_of : V → List UnmadeLine) where
       ap (λ rest. lists_told (map lines_of rest) answers) (drop-cons lists place list within ∙ ap (λ first. first ∷ drop (suc place) lists) (sym is))
       ∙ ap (λ next. told (lines_of list) (first_answers answers) ++ lists_told (map lines_of (drop next lists)) (other_answers answers)) (sym (add-one place))
 
-  -- where the first lists were told, and one more
+  -- where the first lists were written, and one more
   pub lists-step : (all front : List ℕ) (lists : List V) (place : ℕ) (list : V) (answers others : List (List Answer)) → place < length lists → list ≡ get_or lists place list → others ≡ other_answers answers
       → all ≡ front ++ lists_told (map lines_of (drop place lists)) answers
       → all ≡ (front ++ told (lines_of list) (first_answers answers)) ++ lists_told (map lines_of (drop (place + 1) lists)) others

@@ -1,4 +1,4 @@
--- What a stream was told once it has been answered one more line.
+-- The answers to a stream once one more line of it is answered.
 use Rattle.std.proofs.Common.{◌≡◌, ℕ, List, [], ◌∷◌, ◌++◌, sym, subst, ◌∙◌, ap, append_assoc}
 use Rattle.std.proofs.lemmas.List.{append-nil}
 use Rattle.desk_streams.specs.declared.sink.Sink.{Ghosts as OfSink}

@@ -27,6 +27,6 @@ pub record Collects {P : Type 0} (lines : List (List ℕ)) (collector : Collecto
   pub answered : collector.report.answered ≡ length (jobs_of collector.given lines)
   pub refused : collector.report.refused ≡ length (refusals_of collector.given lines)
 
--- it has, and told nothing
+-- it has, and gave no answer yet
 abbrev pub CollectsUntold : {P : Type 0} → Collector P → List (List ℕ) → List (List ℕ) → Type 0
 CollectsUntold collector lines told = Collects lines collector × (told ≡ [])

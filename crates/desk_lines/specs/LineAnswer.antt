@@ -9,7 +9,7 @@ use Rattle.desk_core.specs.declared.answer.Answer.{Answer}
 use Rattle.desk_core.specs.AnswerText.{answer_text}
 use Rattle.desk_core.specs.Value.{value_of}
 
--- A line that is no record has no answer; a job is answered by its value, a fault is told: by these texts of an answer and of a fault.
+-- A line that is no record has no answer; a job is answered by its value, and a refused line by its fault: by these texts of an answer and of a fault.
 abbrev pub outcome_told : (Answer → List ℕ) → (LineFault → List ℕ) → Result (Option Job) LineFault → Option (List ℕ)
 outcome_told text_of told (Ok None) = None
 outcome_told text_of told (Ok (Some job)) = Some (text_of (value_of job))
@@ -21,6 +21,6 @@ outcome_text outcome = outcome_told answer_text fault_text outcome
 unfoldable pub answer_of : Rules → List ℕ → Option (List ℕ)
 answer_of rules line = outcome_text (outcome_of rules line)
 
--- a line is told what a function says
+-- a line is answered as a function says
 abbrev pub IsBy : (Rules → List ℕ → Option (List ℕ)) → Rules → List ℕ → Option (List ℕ) → Type 0
 IsBy answer rules line told = told ≡ answer rules line

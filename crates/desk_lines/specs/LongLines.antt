@@ -1,4 +1,4 @@
--- Lines of more than 4,096 bytes, of which only a front is kept: they set no profile, and are all told alike.
+-- Lines of more than 4,096 bytes, of which only a front is held: they set no profile, and are all answered alike.
 use Rattle.std.specs.Prelude.{◌≡◌, ℕ, ◌<◌, List, Bool, length, Option, Some, None, Result, Ok, Err, ◌||◌, if◌then◌else◌}
 use Rattle.std.specs.List.{list_any}
 use Rattle.std.proofs.Common.{sym, subst, ap, ◌∙◌}

@@ -11,11 +11,11 @@ abbrev pub rules_after : Rules → List (List ℕ) → Option Rules
 rules_after given [] = None
 rules_after given (line ∷ lines) = Some (rules_of given (line ∷ lines))
 
--- What a kind of answer is: which texts a record line may be told under a profile, or none.
+-- What a kind of answer is: which texts may answer a record line under a profile, or none.
 abbrev pub AnswerKind : Type 1
 AnswerKind = Rules → List ℕ → Option (List ℕ) → Type 0
 
--- One of the texts that may be told was put behind what stood there, or none was.
+-- One of the texts that may answer was put behind what stood there, or none was.
 pub record Puts (refuses : List ℕ → Bool) (May : Option (List ℕ) → Type 0) (kind : LineKind) (before after : List ℕ) : Type 0 where
   pub told : Option (List ℕ)
   pub may_be_told : May told

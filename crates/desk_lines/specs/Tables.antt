@@ -30,14 +30,14 @@ other_answers (given ∷ answers) = answers
 
 -- ---- lines that are not made yet
 
--- the line that is told, where some answers are still to be told: of a job the first of them
+-- the line that is written, where some answers are still to be written: of a job the first of them
 abbrev pub line_told : UnmadeLine → List Answer → List ℕ
 line_told (Table number) answers = table_line number
 line_told NextJob [] = []
 line_told NextJob (answer ∷ answers) = answer_text answer ++ 10 ∷ []
 line_told (Refusal fault) answers = fault_text fault ++ 10 ∷ []
 
--- the answers that are to be told after it
+-- the answers that are to be written after it
 abbrev pub answers_after : UnmadeLine → List Answer → List Answer
 answers_after (Table number) answers = answers
 answers_after NextJob [] = []

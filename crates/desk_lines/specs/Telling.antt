@@ -1,4 +1,4 @@
--- What was told of some lines: the answers, each a text without its line feed.
+-- The answers to some lines, each a text without its line feed.
 use Rattle.std.specs.Prelude.{◌≡◌, ℕ, ◌+◌, ◌<◌, ◌⊎◌, List, [], ◌∷◌, ◌++◌, length, Bool, not, Option, None, Some, nat_eq, codes, if◌then◌else◌}
 use Rattle.std.specs.List.{flat_map, starts_with, count_by, cons_option}
 use Rattle.desk_lines.specs.declared.report.DeskReport.{DeskReport}
@@ -9,7 +9,7 @@ use Rattle.desk_lines.specs.declared.line_kind.LineKind.TheVariants.{NoRecord, A
 abbrev pub text_of : List (List ℕ) → List ℕ
 text_of answers = flat_map (λ answer. answer ++ 10 ∷ []) answers
 
--- A kind of answer tells by a test which answers are refusals. Of plain answers these begin with `refused`.
+-- Each kind of answer has a test for those that are refusals. Of plain answers these begin with `refused`.
 abbrev pub is_refusal : List ℕ → Bool
 is_refusal answer = starts_with nat_eq answer (codes "refused")
 
@@ -51,11 +51,11 @@ kind_by refuses (Some answer) = if refuses answer then Refused else Answered
 abbrev pub kind_of : Option (List ℕ) → LineKind
 kind_of answer = kind_by is_refusal answer
 
--- a line may be told as another one: where they are one line, or both have more bytes than are told apart
+-- a line may have the answer of another one: where they are one line, or both are longer than any line with an answer of its own
 abbrev pub IsToldAs : ℕ → List ℕ → List ℕ → Type 0
 IsToldAs most line other = (line ≡ other) ⊎ ((most < length line) × (most < length other))
 
--- The next line was answered so, and any that may be told as this one: the answer was put behind the text that stood there.
+-- The next line was answered so, and any that may have its answer: the answer was put behind the text that stood there.
 pub record AnswersLine {T : Type 0} (refuses : List ℕ → Bool) (most : ℕ) (tells : T → List (List ℕ) → List (List ℕ) → Type 0) (old new : T) (line : List ℕ) (kind : LineKind) (before after : List ℕ) : Type 0 where
   pub answer : Option (List ℕ)
   pub kind_is : kind ≡ kind_by refuses answer

@@ -12,9 +12,9 @@ use super::told::Told;
 use desk_streams::Sink;
 use memchr::memchr;
 
-/// What is kept between two reads: the front of a line, and what the lines before it were told. Of a line it
-/// holds `ROOM` bytes, which are two more than those that the teller tells apart: a carriage return, and one
-/// byte that shows a longer line.
+/// What is held between two reads: the front of a line, and the answers to the lines before it. Of a line it
+/// holds `ROOM` bytes, two more than the longest line that has an answer of its own: a carriage return, and
+/// one byte that shows a longer line.
 #[derive(Drop)]
 pub(crate) struct Desk<T, const ROOM: usize> {
     held: LineBuffer<ROOM>,

@@ -1,13 +1,13 @@
 //! The lines of the desk: what a text of hands is answered.
 //!
 //! [`desk_text`] answers the record lines that a `desk_streams::Source` gives, one line for each, and
-//! writes the answers into a `desk_streams::Sink`. It tells in a [`DeskReport`] how many were answered and
-//! how many refused, or in a [`DeskFault`] why it gave up. [`json_text`] answers the same lines by objects of
+//! writes the answers into a `desk_streams::Sink`. It returns a [`DeskReport`] of how many were answered
+//! and how many refused, or the [`DeskFault`] for which it gave up. [`json_text`] answers the same lines by objects of
 //! JSON, [`explain_text`] with the reasons. [`replay_text`] does so with the commands of a
 //! script, over a desk of 64 tables. [`collect_text`] takes a text apart into [`Sheet`]s of answer lines that are
 //! not made yet, [`texts_of`] makes them once their jobs have answers, and [`write_texts`] writes them.
 //! `waits_answer` answers one hand, as the command `waits` prints it.
-//! `is_ready` tells whether a hand is ready, and [`laws`] that its shanten and its waits agree on that.
+//! `is_ready` says whether a hand is ready, and [`laws`] that its shanten and its waits agree on that.
 //!
 //! Inside, `tell_lines` reads a stream to its end. `Desk` cuts the bytes into lines and keeps the front of
 //! one that has not ended in a `LineBuffer`; a `Teller` answers line by line; `Told` counts the answers, and

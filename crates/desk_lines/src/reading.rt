@@ -1,4 +1,4 @@
-//! The lines of a reader, told one after another.
+//! The lines of a reader, answered one after another.
 ghost use Rattle.std.specs.Prelude.{◌≡◌, ◌+◌, ◌≤◌, ℕ, List, [], IfOk, IsErrOf};
 ghost use Rattle.desk_lines.specs.Lines.{ended_lines, lines};
 ghost use Rattle.desk_lines.specs.Streams.{Gives, GivesAll, AreWhole, FailsOrGoesOn, IsReadWithin};

@@ -18,7 +18,7 @@ use std::alloc::Global;
 const SCRIPT_ROOM: usize = 8_194;
 
 /// Answers the commands of a script that a reader gives, one line for each, over a desk of 64 tables. Records are
-/// read under the first profile. A submission that finds no memory is told so in its line; where a new table's name
+/// read under the first profile. A submission that finds no memory is answered so in its line; where a new table's name
 /// or the desk itself finds none, that ends the script.
 pub fn replay_text<R: Source, W: Sink>(
     alloc: Global,
@@ -26,7 +26,7 @@ pub fn replay_text<R: Source, W: Sink>(
     writer: &mut W,
 ) -> Result<DeskReport, DeskFault>
     // The reader was read to its end, and answers to its lines were written. They are the only ones where none of
-    // them tells of a want of memory.
+    // them speaks of a want of memory.
     ensures ok { IfOk result (λ report. (text : List ℕ) × (answers : List (List ℕ))
         × GivesAll ⟦<R as Source>⟧ reader.old reader.new text
         × Replays (lines text) answers

@@ -11,18 +11,18 @@ use riichi_hand::Rules;
 
 /// What answers one record line: a kind of answer.
 pub(crate) trait Responder {
-    /// A record line may be told this text under a profile, or nothing.
+    /// A record line may be answered by this text under a profile, or by none.
     ghost may_tell: { Rules → List ℕ → Option (List ℕ) → Type 0 };
 
     /// A text is a refusal.
     ghost refuses: { List ℕ → Bool };
 
-    /// Puts what a record line is told into the outbox.
+    /// Puts the answer to a record line into the outbox.
     fn respond(rules: Rules, line: &[u8], outbox: &mut Outbox) -> LineKind
         requires { HasRoom outbox.old }
         ensures { Puts refuses
             (may_tell rules line.now) result outbox.old.bytes.items outbox.new.bytes.items };
 
-    /// Lines of more than 4,096 bytes are told alike.
+    /// Lines of more than 4,096 bytes are answered alike.
     ghost alike: { AreAlike may_tell };
 }

@@ -61,7 +61,7 @@ fn text_of(alloc: Global, lines: &[UnmadeLine], answers: &[Answer]) -> Result<Ve
     Ok(text)
 }
 
-/// Adds an answer line, which is made in a room, and tells the answers that are still to be told.
+/// Adds an answer line, which is made in a room, and returns the answers that are still to be written.
 fn add_line<'a>(
     text: &mut Vec<u8>,
     room: &mut ArrayString<3072>,

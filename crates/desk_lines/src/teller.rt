@@ -12,17 +12,17 @@ pub(crate) trait Teller {
     /// An answer is a refusal.
     ghost refuses: { List ℕ → Bool };
 
-    /// Lines of more bytes are told alike.
+    /// Lines of more bytes are answered alike.
     ghost most: { ℕ };
 
-    /// It has taken these lines, and they were told these answers, in order.
+    /// It has taken these lines and given them these answers, in order.
     ghost tells: { Self → List (List ℕ) → List (List ℕ) → Type 0 };
 
     /// Memory may be wanted for this line.
     ghost wants_memory: { Self → List ℕ → Type 0 };
 
     /// Takes the next line, and puts its answer into the outbox, where it has one. Where memory was wanted,
-    /// nothing is told.
+    /// no answer is given.
     fn tell(&mut self, line: &[u8], outbox: &mut Outbox) -> Result<LineKind, AllocError>
         requires { HasRoom outbox.old }
         ensures told { IfOk result

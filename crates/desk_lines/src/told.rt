@@ -1,4 +1,4 @@
-//! What a stream was told so far.
+//! The answers to a stream so far.
 ghost use Rattle.std.specs.Prelude.{◌≡◌, ◌+◌, ◌<◌, ◌≤◌, ◌^◌, ℕ, List, [], ◌∷◌, ◌++◌, OnOk, OnErr, IfErr};
 ghost use Rattle.desk_lines.specs.declared.line_kind.LineKind.{LineKind};
 ghost use Rattle.desk_lines.specs.Outbox.{HasRoom};
@@ -12,7 +12,7 @@ use super::teller::Teller;
 use desk_streams::Sink;
 use std::alloc::AllocError;
 
-/// What a stream was told so far: the teller of its lines, a count of the answers, and those that were not
+/// The answers to a stream so far: what answers its lines, a count of the answers, and those that are not
 /// written yet.
 #[derive(Drop)]
 pub(crate) struct Told<T> {
@@ -51,7 +51,7 @@ impl<T: Teller + Drop> Told<T> {
         self.report
     }
 
-    /// Answers the next line, or any that may be told as this one. The answers that stand in the way of its own
+    /// Answers the next line, or any that has the same answer as this one. The answers that stand in the way of its own
     /// are written first, and where memory is wanted all that were given before.
     pub(crate) fn answer<W: Sink>(&mut self, line: &[u8], writer: &mut W) -> Result<(), DeskFault>
         requires { count_of self.old.report + 1 < 2 ^ 64 }

@@ -27,7 +27,7 @@ done_piece a b e = cc
 pub offer_is : (x y : Ticket) (a b : Job) → Offer x a ≡ Offer y b → (x ≡ y) × (a ≡ b)
 offer_is x y a b e = let d : x ≡ y = cc in let f : a ≡ b = cc in (d, f)
 
--- what an offer tells, at the seat that was found
+-- what an offer answers, at the seat that was found
 pub offered_from : (m n : SeatState) (v : TableView) (k p : ℕ) (x : Ticket) (job : Job) (more : List (ℕ × Content)) → m ≡ (Table v, (v.base + k, Offer x job) ∷ more) → p ≡ 2 + (v.base + k)
     → ((i : ℕ) (y : Ticket) (a : Job) → p ≡ 2 + ((table_of m.0).base + i) → m.1 ≡ ((table_of m.0).base + i, Offer y a) ∷ rest m.1 → n ≡ (Table (offering (table_of m.0) i y a), rest m.1))
     → n ≡ (Table (offering v k x job), more)

@@ -1,4 +1,4 @@
--- What each step tells: of the step, the seat before, the number found and the seat after.
+-- What each step says: of the step, the seat before, the number found and the seat after.
 use Rattle.std.specs.Prelude.{◌≡◌, ◌≢◌, ℕ, ◌+◌, ◌==◌, true, false, ◌∷◌, Some}
 use mathlib.Core.Option as ghost_option
 use lib.ListN.{get_elem?}

@@ -1,4 +1,4 @@
--- How the faults of a text and of a run are told: as which fault of a score, by which code and words, with which exit status.
+-- How the faults of a text and of a run are reported: as which fault of a score, by which code and words, with which exit status.
 use Rattle.std.specs.Prelude.{ℕ, List, codes}
 use Rattle.desk_lines.specs.declared.fault.DeskFault.{DeskFault}
 use Rattle.desk_lines.specs.declared.fault.DeskFault.TheVariants as desk

@@ -1,4 +1,4 @@
--- What a score over several readers writes and tells.
+-- What a score over several readers writes and reports.
 use Rattle.std.specs.Prelude.{◌≡◌, ℕ, ◌≤◌, List, [], ◌∷◌, ◌++◌, All, length, map}
 use Rattle.std.specs.List.{sum_by}
 use Rattle.desk_streams.specs.declared.source.Source.{Ghosts as OfSource}

@@ -1,8 +1,8 @@
 //! The answers to the texts of many tables, judged by many workers.
 //!
 //! [`score_text`] reads several `desk_streams::Source`s to their ends, each the text of a table, has the
-//! workers of `desk_run` judge all jobs, and writes the answers table by table. It tells in a
-//! `desk_lines::DeskReport` how many lines were answered and how many refused, or in a [`ScoreFault`] why
+//! workers of `desk_run` judge all jobs, and writes the answers table by table. It returns a
+//! `desk_lines::DeskReport` of how many lines were answered and how many refused, or the [`ScoreFault`] for which
 //! it gave up.
 //!
 //! Inside, `Tables` is what the readers ask: `desk_lines::collect_text` takes each text apart into sheets of

@@ -28,7 +28,7 @@ impl ScoreFault {
     ghost use Rattle.std.specs.Prelude.{◌≡◌};
     ghost use Rattle.desk_score.specs.Faults.{code_of, words_of, status_of};
 
-    /// The code of the fault, as the program tells it on standard error.
+    /// The code of the fault, as the program writes it on standard error.
     pub fn code(self) -> &'static str
         ensures { result.now ≡ code_of self }
     {

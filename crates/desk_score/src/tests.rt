@@ -49,7 +49,7 @@ fn empty_readers(alloc: Global, count: usize) -> Result<Vec<BytesIn<'static>>, F
     Ok(readers)
 }
 
-/// What is written, and what is told of it.
+/// What is written, and the report on it.
 fn score<R: Threads + Wait + Sync + Abort>(
     rt: &R,
     alloc: Global,
@@ -166,7 +166,7 @@ fn a_failed_write(rt: HostRuntime) -> Result<(), Fail> {
     Ok(())
 }
 
-/// Whether the two tables are answered. Where memory is refused it is told so, or a thread is not started, and
+/// Whether the two tables are answered. Where memory is refused that is the fault, or a thread is not started, and
 /// nothing is written.
 fn is_scored(rt: &(impl Threads + Wait + Sync + Abort + Print), alloc: Global) -> bool {
     let Ok(readers) = two_readers(alloc, FIRST, b"") else {

@@ -18,7 +18,7 @@ use Rattle.desk_script.specs.OnlyReplay.{IsOnlyReplay}
 abbrev NoMemory : Reply → Type 0
 NoMemory replied = replied ≡ reply.Refused fault.Memory
 
--- no line tells of a want of memory
+-- no line speaks of a want of memory
 abbrev NoWant : List ℕ → Type 0
 NoWant answer = answer ≢ codes "refused C3"
 

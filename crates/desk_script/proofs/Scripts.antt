@@ -36,7 +36,7 @@ names_after-last lines line = names_from-last [] lines line
 pub asked_on-last : (lines : List (List ℕ)) (line : List ℕ) → asked_on (lines ++ line ∷ []) ≡ asked_on lines ++ asked_by (names_after lines) line ∷ []
 asked_on-last lines line = asked_from-append [] lines (line ∷ [])
 
--- one more line: what it asks, the desk's replies to that, and what it was told
+-- one more line: what it asks, the desk's replies to that, and its answer
 pub Tells-line : (old new : ScriptState) (lines : List (List ℕ)) (before : List Told) (line : List ℕ) (asked : Asked) (more : List Reply) (told : Told) → Tells old lines before
     → asked ≡ asked_by old.names line → new.names ≡ names_by old.names line → length more ≡ length (events_of (asked ∷ [])) → told_with (asked ∷ []) more ≡ told ∷ []
     → IsDeskRun old.lanes (zip (events_of (asked ∷ [])) more) new.lanes → length new.lanes ≡ length old.lanes
@@ -66,7 +66,7 @@ names_by-long : (names : List (List ℕ)) (line : List ℕ) → 8192 < length li
 unfolding names_by
 names_by-long names line long = rw (lt-ltb 8192 (length line) long) refl
 
--- longer lines than any command are told alike
+-- longer lines than any command are answered alike
 pub Tells-alike : (script : ScriptState) (lines : List (List ℕ)) (told : List Told) (line other : List ℕ) → 8192 < length line → 8192 < length other
     → Tells script (lines ++ line ∷ []) told → Tells script (lines ++ other ∷ []) told
 Tells-alike script lines told line other long longer tells =

@@ -3,7 +3,7 @@ use Rattle.std.specs.Prelude.{◌≡◌, ◌≢◌, ℕ, List, codes}
 use Rattle.std.specs.List.{All}
 use Rattle.desk_script.specs.Replay.{Replays}
 
--- no answer tells of a want of memory
+-- no answer speaks of a want of memory
 abbrev pub MeetsNoWant : List (List ℕ) → Type 0
 MeetsNoWant answers = All (λ answer. answer ≢ codes "refused C3") answers
 

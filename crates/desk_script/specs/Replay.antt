@@ -12,7 +12,7 @@ use Rattle.desk_script.specs.declared.asked.Asked.TheVariants as ask
 use Rattle.desk_script.specs.Asked.{names_after, asked_on, events_of}
 use Rattle.desk_script.specs.Texts.{told_text}
 
--- what lines that ask this are told, where the desk gave these replies to what it was asked
+-- the answers to lines that ask this, where the desk gave these replies to what it was asked
 abbrev pub told_with : List Asked → List Reply → List Told
 told_with [] replies = []
 told_with (ask.Told told ∷ others) replies = told ∷ told_with others replies
@@ -35,7 +35,7 @@ pub record ScriptState : Type 0 where
   pub names : List (List ℕ)
   pub lanes : List LaneState
 
--- The script has read these lines, and they were told this.
+-- The script has read these lines, and gave them these answers.
 pub record Tells (script : ScriptState) (lines : List (List ℕ)) (told : List Told) : Type 0 where
   pub replies : List Reply
   pub count : length replies ≡ length (events_of (asked_on lines))
@@ -44,7 +44,7 @@ pub record Tells (script : ScriptState) (lines : List (List ℕ)) (told : List T
   pub tables : length script.lanes ≡ 64
   pub told_are : told ≡ told_with (asked_on lines) replies
 
--- The next line of a script was told something with this text, whatever the lines before.
+-- The next line of a script got an answer with this text, whatever the lines before.
 pub record AnswersLine (old new : ScriptState) (line : List ℕ) (text : Option (List ℕ)) : Type 0 where
   pub told : Told
   pub text_is : text ≡ told_text told

@@ -1,4 +1,4 @@
--- What a line of a script is told, as text.
+-- The answer to a line of a script, as text.
 use Rattle.std.specs.Prelude.{ℕ, List, ◌++◌, Bool, true, false, Option, None, Some, codes, decimal}
 use Rattle.arrayvec.specs.ArrayString.{ArrayString}
 use Rattle.riichi_hand.specs.FaultTexts.{fault_text}
@@ -47,7 +47,7 @@ taken_text (taken.Answer seq answer) = codes "answer " ++ decimal seq ++ codes "
 taken_text taken.Waiting = codes "waiting"
 taken_text taken.Finished = codes "finished"
 
--- a desk of 64 tables knows each that a script can name, so the first is never told
+-- a desk of 64 tables knows each that a script can name, so the first is never written
 abbrev pub reply_text : Reply → List ℕ
 reply_text reply.NoTable = codes "refused P2"
 reply_text (reply.Ticket ticket) = codes "ticket " ++ decimal ticket.seq

@@ -4,7 +4,7 @@ use desk_core::Event;
 /// What a line asks.
 #[derive(Drop)]
 pub(crate) enum Asked {
-    /// Nothing of the desk: it is told this.
+    /// Nothing of the desk: this is its answer.
     Told(Told),
     /// This of the desk.
     Event(Event),

@@ -1,8 +1,8 @@
-//! The script of a desk: commands of tables in, what each is told out.
+//! The script of a desk: commands of tables in, the answer to each out.
 //!
-//! A [`Script`] reads one line at a time. A line is no command, or it is told at once why it is refused or
-//! which number a new table has, or it asks the desk for something: to take a job, a piece or a closing, or
-//! to give the next answer. What it is told is a [`Told`], and `told_text` is the line that tells it.
+//! A [`Script`] reads one line at a time. A line is no command, or it is answered at once with the reason of its
+//! refusal or the number of a new table, or it asks the desk for something: to take a job, a piece or a closing, or
+//! to give the next answer. Its answer is a [`Told`], and `told_text` is the text of that.
 //!
 //! Inside, `read_command` reads the words of a line, `Names` numbers the tables in the order in which they
 //! were opened, and `ask` joins the two: what a line asks, after the names that are open. The desk itself is

@@ -46,7 +46,7 @@ impl Names {
         }
     }
 
-    /// Opens a table with a new name, and tells its number; none where as many as may be are open.
+    /// Opens a table with a new name, and returns its number; none where as many as may be are open.
     pub(crate) fn open(&mut self, name: &[u8]) -> Result<Option<u32>, AllocError>
         requires { position (bytes_eq name.now) self.old ≡ None }
         ensures full { IfOk result (λ opened. MatchOption opened ((64 ≤ length self.old)

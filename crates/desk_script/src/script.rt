@@ -48,8 +48,8 @@ impl Script {
         }
     }
 
-    /// The line that the next line is answered with, without the line's end; none where it is told nothing. A
-    /// submission or a withdrawal that finds no memory is told so; only where a new table's name finds none there is
+    /// The line that the next line is answered with, without the line's end; none where it has no answer. A
+    /// submission or a withdrawal that finds no memory is answered so; only where a new table's name finds none there is
     /// no answer, and the script is as before.
     pub fn answer(&mut self, line: &[u8]) -> Result<Option<ArrayString<LONGEST>>, AllocError>
         ensures told { IfOk result (λ text. AnswersLine self.old self.new line.now

@@ -1,4 +1,4 @@
-//! What a line of a script is told, as text.
+//! The answer to a line of a script, as text.
 ghost use Rattle.std.specs.Prelude.{◌≡◌, ◌++◌, ◌+◌, ◌≤◌};
 ghost use Rattle.arrayvec.specs.ArrayString.{array_string_len};
 ghost use Rattle.desk_script.specs.Texts as spec;
@@ -13,7 +13,7 @@ use riichi_text::push_number;
 /// The longest text: an answer of 3,072 bytes behind a word and a ticket's number.
 pub const LONGEST: usize = 3_096;
 
-/// The line that a line of a script is told, without the line's end; none where it is told nothing.
+/// The line that answers a line of a script, without the line's end; none where it has no answer.
 #[tactic(auto, unfolding(crate::specs::Texts::told_text))]
 pub fn told_text(told: &Told) -> Option<ArrayString<LONGEST>>
     ensures { spec.bytes_of result ≡ spec.told_text told.now }

@@ -1,7 +1,7 @@
 use crate::refusal::Refusal;
 use desk_core::Reply;
 
-/// What a line of a script is told.
+/// The answer to a line of a script.
 #[derive(Clone, Copy, Debug, PartialEq, Eq)]
 pub enum Told {
     /// Nothing: it is a comment, or empty.

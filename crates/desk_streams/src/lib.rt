@@ -1,7 +1,7 @@
 //! Readers and writers whose bytes, calls and failed calls a contract sees.
 //!
 //! A [`Source`] is read from and a [`Sink`] is written to, each in pieces of any size. Their ghost
-//! members tell what all calls so far have moved, how many calls there were and how many of them
+//! members say what all calls so far have moved, how many calls there were and how many of them
 //! failed, so that a text over streams can say: what it wrote is a function of what it read.
 //!
 //! [`FromReader`] and [`ToWriter`] make a source of any reader of std and a sink of any writer;

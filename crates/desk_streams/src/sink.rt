@@ -21,7 +21,7 @@ pub trait Sink {
     /// How many of them failed.
     ghost failures: { Self → ℕ };
 
-    /// Takes a front of the bytes, and tells how many it took.
+    /// Takes a front of the bytes, and returns how many it took.
     fn write(&mut self, bytes: &[u8]) -> io::Result<usize>
         ensures bound { WritesAtMost result bytes.now }
         ensures written { written self.new ≡ written self.old ++ bytes_taken result bytes.now }

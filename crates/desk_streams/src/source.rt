@@ -26,7 +26,7 @@ pub trait Source {
     /// How many of them found the end.
     ghost ends: { Self → ℕ };
 
-    /// Puts the next bytes at the front of the buffer and tells how many these are: 0 at the end,
+    /// Puts the next bytes at the front of the buffer and returns how many these are: 0 at the end,
     /// or where the buffer has no room.
     fn read(&mut self, buffer: &mut [u8]) -> io::Result<usize>
         ensures bound { ReadsAtMost result buffer.new }

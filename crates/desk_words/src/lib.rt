@@ -1,6 +1,6 @@
 //! The words of the command line of `riichi_desk`.
 //!
-//! `commands` makes the commands with their help, `clap` matches the words with them, and `request_of` tells what they
+//! `commands` makes the commands with their help, `clap` matches the words with them, and `request_of` returns what they
 //! ask for. They stand apart from the program, since they need nothing of the desk but the rule profiles.
 //!
 //! ```text

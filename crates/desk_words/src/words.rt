@@ -31,7 +31,7 @@ fn waits_command<'a>(alloc: Global) -> Result<Command<'a>, AllocError> {
         .arg(hand)
 }
 
-/// The rules of lines that are not told theirs.
+/// The rules of lines that are given no others.
 fn rules_arg<'a>(alloc: Global) -> Arg<'a> {
     Arg::new(alloc, "rules")
         .long("rules")

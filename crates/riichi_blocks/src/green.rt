@@ -13,7 +13,7 @@ fn are_green_from_bamboos(tiles: &[u8; 34]) -> bool
     (18..KINDS).all(|kind| is_green_tile(kind) || tiles[kind] == 0)
 }
 
-/// Whether every tile is one of these, where it is told whether some tile is of the other suits.
+/// Whether every tile is one of these; `others` says whether some tile is of the other suits.
 pub(crate) fn are_green(tiles: &[u8; 34], others: bool) -> bool
     requires { others ≡ (some_in tiles.now 0 9 || (some_in tiles.now 9 9 || false)) }
     ensures { result ≡ spec.every kinds.is_green_tile tiles.now }

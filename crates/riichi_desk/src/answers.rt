@@ -16,7 +16,7 @@ use std::rt::Files;
 use std::sync::Wait;
 use std::thread::Threads;
 
-/// Reads the words, writes the answer, and tells the exit status: 1 where a line of the answer is a refusal.
+/// Reads the words, writes the answer, and returns the exit status: 1 where a line of the answer is a refusal.
 pub fn answer<R: Input + Print + Eprint + Env + Files + AllocGlobal + Threads + Wait + Sync>(
     rt: &R,
 ) -> u8 {

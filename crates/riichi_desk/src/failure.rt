@@ -1,4 +1,4 @@
-//! What keeps the program from an answer, and how it is told.
+//! What keeps the program from an answer, and how it is reported.
 ghost use Rattle.std.specs.Prelude.{◌≡◌};
 ghost use Rattle.desk_score.specs.Faults.{desk_fault, status_of};
 ghost use Rattle.desk_score.specs.declared.score_fault.ScoreFault.{ScoreFault};
@@ -22,7 +22,7 @@ pub enum Failure<'a> {
     CannotOpen(&'a str),
     /// Input, output, memory or a thread failed, or there is too much.
     Fault(ScoreFault),
-    /// The same of the command that explains, and so is told in words.
+    /// The same of the command that explains, and so is reported in words.
     Explained(DeskFault),
 }
 
@@ -79,7 +79,7 @@ impl<'a> From<Error> for Failure<'a> {
     }
 }
 
-/// Says on standard error why the program stops, and tells its exit status: 2 for a fault of the command line or too much
+/// Says on standard error why the program stops, and returns its exit status: 2 for a fault of the command line or too much
 /// of something, 3 for input or output, 4 for memory or a thread; 0 where help or the version was asked for.
 pub fn report<R: Print + Eprint>(rt: &R, failure: &Failure<'_>) -> u8
     ensures fault { (fault : ScoreFault) → failure.now ≡ Failure.Fault fault

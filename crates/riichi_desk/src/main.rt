@@ -1,8 +1,8 @@
 //! The program `riichi_desk`: a scoring desk for riichi mahjong.
 //!
 //! `desk_words` reads the command line into a `Request`, `answers` carries it out over the standard streams, `explaining`
-//! with reasons and `scoring` over files, `codes` and `version` tell what they are named for, and `failure` says what is
-//! told on standard error and with which exit status the program ends.
+//! with reasons and `scoring` over files, `codes` and `version` print what they are named for, and `failure` says what is
+//! written on standard error and with which exit status the program ends.
 #![tactic(auto)]
 
 mod answers;

@@ -9,7 +9,7 @@ use std::rt::Files;
 use std::sync::Wait;
 use std::thread::Threads;
 
-/// The most files. That there are more is told before any is opened.
+/// The most files. That there are more is reported before any is opened.
 const MOST_FILES: usize = 64;
 
 /// Answers the record lines of files on standard output, table by table: whether a line is refused.

@@ -9,7 +9,7 @@ use std::{env, fs};
 /// The file beside the program in which `./prove` writes what it was proved with.
 const PROVED: &str = "riichi_desk.proved";
 
-/// Prints the version, which clap tells, and below it what the program was proved with, where the file that says it is
+/// Prints the version, which clap gives, and below it what the program was proved with, where the file that says it is
 /// there. No line is refused. Where there is no memory, nothing is printed.
 pub fn print_version<R: Print + Eprint + Files + AllocGlobal>(
     rt: &R,

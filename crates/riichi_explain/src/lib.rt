@@ -2,7 +2,7 @@
 //!
 //! [`explain_win`] gives the reading of a win that scores and the rows of it, which add up; [`explain_shape`] how far a shape is
 //! from each form. [`push_win_lines`] and [`push_shanten_line`] write their lines, which begin with two spaces. Why a hand waits
-//! for a kind, `riichi_waits` tells. No call takes memory.
+//! for a kind, `riichi_waits` says. No call takes memory.
 #![tactic(auto)]
 
 mod base;

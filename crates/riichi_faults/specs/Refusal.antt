@@ -62,7 +62,7 @@ refusal_lines line (Line code) = line_lines code line
 refusal_lines line (Notation name fault) =
     notation_lines fault.place (key_of name) (unwrap_or (text_word name line) []) (notation_words fault.code)
 
--- lines of more than 4,096 bytes are told the same
+-- lines of more than 4,096 bytes are answered alike
 long_foreign : (line : List ℕ) → 4096 < length line → foreign_lines line ≡ word_line None (line_words H1)
 unfolding foreign_lines
 long_foreign line long = ap (λ (is_long : Bool). if is_long then word_line None (line_words H1) else byte_lines line) (lt-ltb 4096 (length line) long)

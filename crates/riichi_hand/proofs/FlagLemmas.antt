@@ -125,7 +125,7 @@ are_flags-front items others are =
     let first = le-leb (copies items (codes "first")) 1 (omega (arith, fewer items others (codes "first"), f.4)) in
     rw (every.0, ippatsu, rinshan, chankan, last, first) refl
 
--- flags that are told are those of the items
+-- flags that are set are those of the items
 pub flags_of_items-some : (items : List (List ℕ)) (flags : Flags) → Some flags ≡ flags_of_items items → (are_flags items ≡ true) × (flags ≡ flags_in items)
 flags_of_items-some items flags told =
     elim (cases_Bool (are_flags items)) [ inl are ↦ (are, (let e : Some flags ≡ Some (flags_in items) = rw are at told in cc)) | inr not_flags ↦ absurd (let e : Some flags ≡ None = rw not_flags at told in cc) ]

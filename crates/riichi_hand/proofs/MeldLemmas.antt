@@ -9,7 +9,7 @@ use Rattle.riichi_tiles.specs.Melds.{meld_of}
 use Rattle.riichi_tiles.specs.declared.meld.Meld.{Meld}
 use Rattle.riichi_hand.specs.Values.{is_spelled, melds_of_items}
 
--- what the first melds have told
+-- what the first melds have shown
 pub record Stands (melds : List Meld) (items : List (List ℕ)) : Type 0 where
   pub each : list_all is_spelled items ≡ true
   pub few : length items ≤ 4

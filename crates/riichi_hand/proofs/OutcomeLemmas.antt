@@ -84,7 +84,7 @@ pub kept_parts : (rules : Rules) (win : WinParts) (kept : List ℕ) → kept ≡
 kept_parts One win kept is = rw is refl
 kept_parts Two win kept is = rw is refl
 
--- these are told as the parts are
+-- these have the faults of the parts
 pub win_of_kept : (rules : Rules) (win : WinParts) → win.rules ≡ rules → win_of (kept_under rules win) ≡ fault_or (first_fault (win_faults win)) (kept_under rules win)
 unfolding win_of
 win_of_kept One win is = rw is refl

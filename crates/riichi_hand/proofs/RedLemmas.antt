@@ -199,7 +199,7 @@ four_at_most win kind near none =
       | inr four ↦ (let most = ltb-false 4 (copies_in win kind) four in omega (arith, most))
     ]
 
--- Five copies of a kind are an earlier fault, so what is told with the red fives as they are joined is what the line says.
+-- Five copies of a kind are an earlier fault, so what is read with the red fives as they are joined is what the line says.
 
 five_copies_first : (a b : Bool) (later others : List (Option LineFault)) (one other : WinParts)
     → fault_or (first_fault (coded H4 a ∷ coded H8 b ∷ coded H9 true ∷ later)) one ≡ fault_or (first_fault (coded H4 a ∷ coded H8 b ∷ coded H9 true ∷ others)) other

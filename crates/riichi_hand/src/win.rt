@@ -81,7 +81,7 @@ impl Flags {
     }
 }
 
-/// What a win is told as: any values of these types. [`WinRecord::new`] tests them.
+/// What a win is made of: any values of these types. [`WinRecord::new`] tests them.
 #[derive(Clone, Copy, Debug, PartialEq, Eq)]
 pub struct WinParts {
     pub rules: Rules,
@@ -148,7 +148,7 @@ impl WinRecord {
         }
     }
 
-    /// All that the win was told as, without the red fives under the first profile.
+    /// All that the win was made of, without the red fives under the first profile.
     pub fn parts(&self) -> WinParts
         ensures value { result ≡ self.now }
         ensures win { spec.IsWin self.now }
@@ -178,7 +178,7 @@ impl WinRecord {
         self.parts.concealed
     }
 
-    /// The melds, in the order in which they were told.
+    /// The melds, in the order in which they were given.
     pub fn melds(&self) -> Melds
         ensures { result ≡ self.now.melds }
     {
@@ -358,7 +358,7 @@ fn called_tiles(parts: &WinParts) -> [u8; 34]
     called
 }
 
-/// The copies of a kind, with those among the indicators, where the tiles of the melds and the winning tile are told
+/// The copies of a kind, with those among the indicators, where the tiles of the melds and the winning tile are counted
 /// kind by kind.
 fn copies_of(parts: &WinParts, called: &[u8; 34], kind: Kind) -> u8
     requires value { (kind : ℕ) → slice_index called.now kind

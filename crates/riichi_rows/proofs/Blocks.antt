@@ -1,4 +1,4 @@
--- Choices of blocks and columns by rank tell the same lacks.
+-- Choices of blocks and columns by rank have the same lacks.
 use Rattle.std.proofs.Common.{◌≡◌, ℕ, zero, suc, ◌+◌, ◌-◌, ◌*◌, ◌<◌, ◌≤◌, Bool, true, false, cond, inl, inr, List, [], ◌∷◌, ◌++◌, length, drop, get_or, replicate, ltb, eqb, refl, sym, ap, ◌∙◌, ⊎_elim, Some, None, subst, arith}
 use Rattle.std.proofs.lemmas.Bool.{false≢true, ltb-true, ltb-false}
 use Rattle.std.proofs.lemmas.Bool.Decides.{nat_tests}

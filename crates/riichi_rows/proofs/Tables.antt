@@ -1,4 +1,4 @@
--- The tables of a rank: their values are few, the same tables add up the same, and the least are told by the counts.
+-- The tables of a rank: their values are few, the same tables add up the same, and the least follow from the counts.
 use Rattle.std.proofs.Common.{ℕ, zero, suc, min, sym, ◌∙◌, refl, arith}
 use Rattle.riichi_rows.specs.Lanes.{Agree, IsFew, with_set, with_pair}
 use Rattle.riichi_rows.specs.Open.{Added, AreFew, Begun, FewAdded, FewBegun, IsAdded, SameAdded, SameBegun}

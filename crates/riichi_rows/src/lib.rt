@@ -6,7 +6,7 @@
 //! `suit_row` makes it in one pass over the nine ranks, and `join_rows` is the least sum of four
 //! rows with one pair in all. So the row of no tiles says `row.get(2, true) == Some(8)`: two sets
 //! and a pair are eight tiles. Where one row changes, `join_two` and `JoinedRows` keep the other
-//! three joined; `JoinedRows::lacked_by` tells which ranks of a suit are lacked by choices that
+//! three joined; `JoinedRows::lacked_by` says which ranks of a suit are lacked by choices that
 //! take part in the least sum, as a `RankSet`. `suit_rows` makes the row of a suit together with the
 //! rows without one of its tiles, as `SuitRows`; each of these begins at the rank of its tile. A
 //! `RowSource` is what answers for rows, and `FreshRows` the one that makes each anew.

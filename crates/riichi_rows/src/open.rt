@@ -198,7 +198,7 @@ impl Open {
         }
     }
 
-    /// The tables with no run begun one rank before: all that is told of a suit's second rank.
+    /// The tables with no run begun one rank before: all that is known at a suit's second rank.
     #[inline(always)]
     pub fn begun_before(&self, have: u8, limit: u8, bit: u8) -> Begun
         requires { limit ≤ 4 }

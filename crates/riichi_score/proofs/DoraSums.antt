@@ -90,7 +90,7 @@ most win n h lt = omega (arith, four_shown win n h lt, ten_indicators win h)
 
 -- ---- the loop of `indicator_dora`
 
--- of so many kinds the dora are told, and so many indicators are left
+-- of so many kinds the dora are counted, and so many indicators are left
 pub record IsShown (win : WinParts) (n told left : ℕ) : Type 0 where
   pub within : n ≤ 34
   pub told_is : told ≡ total win n

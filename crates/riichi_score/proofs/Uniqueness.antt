@@ -13,7 +13,7 @@ use Rattle.riichi_score.specs.Fu.{fu_of}
 use Rattle.riichi_score.specs.Scores.{with_base, limit, counted, score_of}
 use Rattle.riichi_score.specs.Best.{rank, is_above, IsBest}
 
--- ---- the rank tells the score
+-- ---- the rank determines the score
 
 -- the score of these numbers: the dora are the win's, and none of a yakuman
 abbrev told : WinParts → ℕ → ℕ → ℕ → ℕ → Score

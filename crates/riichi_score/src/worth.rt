@@ -16,7 +16,7 @@ use riichi_hand::WinRecord;
 use riichi_split::Reading;
 use riichi_yaku::{YakuSet, yaku_among};
 
-/// A score without what is paid for it, which the win and the base points tell.
+/// A score without what is paid for it, which follows from the win and the base points.
 #[derive(Clone, Copy)]
 pub(crate) struct Worth {
     pub han: u8,

@@ -1,4 +1,4 @@
--- The discards that are kept, and those that they tell.
+-- The discards that are kept, and those that they stand for.
 use Rattle.std.proofs.Common.{◌≡◌, ℕ, zero, suc, ◌+◌, ◌*◌, ◌^◌, ◌/◌, ◌%◌, ◌<◌, ◌≤◌, Bool, true, false, cond, Option, Some, None, List, [], ◌∷◌, map, get_or, length, max, refl, sym, ap, ◌∙◌, subst, arith}
 use Rattle.std.proofs.lemmas.Bool.{or_left, or_right, lt-ltb}
 use Rattle.std.proofs.lemmas.List.FromFn.{get_or-map-range_with_len, length-map-range_with_len}
@@ -23,7 +23,7 @@ use Rattle.riichi_shape.proofs.LiveLemmas.{copies_told}
 pub same_discard : {number kind : ℕ} {list other : List (ℕ × ℕ)} → number ≡ kind → list ≡ other → ◌≡◌ {A = Discard} (record { kind = number; accepted = list }) (record { kind = kind; accepted = other })
 same_discard e e' = cc
 
--- ---- the set of a discard, out of the kinds that it is told with
+-- ---- the set of a discard, out of the kinds of its pairs
 
 kinds_low : (pairs : List (ℕ × ℕ)) → kinds_in pairs < 2 ^ 34
 unfolding kinds_in
@@ -83,7 +83,7 @@ module _ (copies : List ℕ) where
   all_low (kept ∷ order) all zero other low = set_low kept all.0.numbers_below all.0.honours_below
   all_low (kept ∷ order) all (suc place) other low = all_low order all.1 place other (omega arith)
 
-  -- ---- all copies that are told
+  -- ---- all copies that the discards name
 
   greater : (a b : Bool) (c : ℕ) → max (cond a c 0) (cond b c 0) ≡ cond (a || b) c 0
   greater a b c = grind arith

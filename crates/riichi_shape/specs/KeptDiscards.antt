@@ -42,7 +42,7 @@ abbrev pub IsToldOf : List ℕ → List Meld → ℕ → List ℕ → KeptDiscar
 IsToldOf hand melds kind copies kept =
     (seen : List ℕ) → AreLiveCopies hand melds seen copies → told copies kept ≡ discard_of hand melds seen kind
 
--- it is told whole: each kind that it accepts has a live copy, and so many are live in all
+-- nothing of it is lost: each kind that it accepts has a live copy, and so many are live in all
 pub record IsKept (copies : List ℕ) (kept : KeptDiscard) : Type 0 where
   pub numbers_below : kept.numbers < 2 ^ 27
   pub honours_below : kept.honours < 2 ^ 7
@@ -71,7 +71,7 @@ most_copies (discard ∷ rest) kind = max (copies_in discard.accepted kind) (mos
 unfoldable pub all_copies : List Discard → List ℕ
 all_copies discards = map (most_copies discards) every_kind
 
--- the discards tell all that is kept
+-- the discards determine all that is kept
 pub record AreTold (copies : List ℕ) (order : List KeptDiscard) : Type 0 where
   pub few : (kind : ℕ) → slice_index copies kind ≤ 4
   pub copies_are : copies ≡ all_copies (map (told copies) order)

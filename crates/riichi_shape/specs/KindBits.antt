@@ -1,4 +1,4 @@
--- What sets of kinds are told of, and the copies of their kinds.
+-- Which kinds a set has, and the copies of its kinds.
 use Rattle.std.specs.Prelude.{ℕ, ◌≡◌, ◌<◌, Bool, true, if◌then◌else◌, List, map, slice_index}
 use Rattle.riichi_tiles.specs.HeldKinds.{is_held}
 use Rattle.riichi_tiles.specs.Melds.{every_kind}

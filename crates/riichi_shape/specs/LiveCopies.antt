@@ -1,4 +1,4 @@
--- Live copies, told as a count for each kind or as a list of pairs.
+-- Live copies, as a count for each kind or as a list of pairs.
 use Rattle.std.specs.Prelude.{◌≡◌, ℕ, ◌==◌, nat_lt, if◌then◌else◌, List, map, filter, slice_index, sum_by}
 use Rattle.riichi_tiles.specs.Melds.{every_kind}
 use Rattle.riichi_tiles.specs.Tiles.{IsCounts}
@@ -18,7 +18,7 @@ copies_from pairs = map (copies_in pairs) every_kind
 abbrev pub live_in : List (ℕ × ℕ) → ℕ
 live_in pairs = sum_by (λ pair. pair.1) pairs
 
--- a count for each kind, none above four, which the pairs tell whole
+-- a count for each kind, none above four, which the pairs determine
 pub record AreLive (copies : List ℕ) : Type 0 where
   pub counts : IsCounts copies
   pub told : copies ≡ copies_from (pairs_of copies)

@@ -6,7 +6,7 @@ use crate::discard::Discard;
 use crate::discard_order::DiscardOrder;
 use std::marker::Model;
 
-/// Discards, at most fourteen, in the order in which they are told. How many copies of a kind are live does not depend on
+/// Discards, at most fourteen, in the order in which they are listed. How many copies of a kind are live does not depend on
 /// the discard: it stands here once.
 #[derive(Clone, Copy, Debug, PartialEq, Eq)]
 pub struct DiscardList {

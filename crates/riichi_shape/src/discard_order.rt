@@ -1,4 +1,4 @@
-//! Discards in the order in which they are told.
+//! Discards in the order in which they are listed.
 ghost use Rattle.std.specs.List.{list_any, position};
 ghost use Rattle.std.specs.Prelude.{ℕ, ◌≡◌, ◌-◌, ◌<◌, ◌≤◌, ◌^◌, ◌∷◌, ◌++◌, [], All, length, slice_get, take, drop};
 ghost use Rattle.riichi_shape.specs.Discards.{inserted_by};

@@ -6,7 +6,7 @@ ghost use Rattle.riichi_shape.specs.Suits.{AreHandCaps};
 use crate::suit_caps::SuitCaps;
 use riichi_tiles::{BySuit, Melds, meld_tiles};
 
-/// How many of each kind a winning multiset may hold beside the melds, suit by suit. It is told
+/// How many of each kind a winning multiset may hold beside the melds, suit by suit. It is counted
 /// once a hand: the melds stay as they are while tiles are added and removed.
 pub(crate) type HandCaps = BySuit<SuitCaps>;
 

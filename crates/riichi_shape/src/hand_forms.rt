@@ -15,7 +15,7 @@ use riichi_rows::{RowSource, SuitRow};
 use riichi_tiles::{Counts, Kind, Melds};
 
 /// What is known of a hand: the rows of its suits, beside each the other three joined, and how near
-/// it is to the forms that stand beside no meld. From this are told its distance and the kinds that
+/// it is to the forms that stand beside no meld. From this follow its distance and the kinds that
 /// it lacks.
 #[derive(Clone, Copy)]
 pub(crate) struct HandForms {

@@ -1,4 +1,4 @@
-//! Laws over the definitions alone: which kinds bring a hand nearer, told by the winning multisets
+//! Laws over the definitions alone: which kinds bring a hand nearer, by the winning multisets
 //! that lack least, and which discards a hand has.
 ghost use Rattle.riichi_shape.specs.Choosing.{DiscardsLaw};
 ghost use Rattle.riichi_shape.specs.Lacked.{AcceptanceLaw, FormsLaw, JoinLaw, OrphansLaw, PairsLaw};
@@ -17,18 +17,18 @@ pub fn forms()
     ensures { FormsLaw }
 {}
 
-/// Which kinds the least winning multisets by sets and a pair lack is told by the rows of the hand
-/// alone.
+/// Which kinds the least winning multisets by sets and a pair lack follows from the rows of the
+/// hand alone.
 pub fn joins()
     ensures { JoinLaw }
 {}
 
-/// The kinds that the least seven pairs lack, told by the counts.
+/// The kinds that the least seven pairs lack, by the counts.
 pub fn pairs()
     ensures { PairsLaw }
 {}
 
-/// The kinds that the least thirteen orphans lack, told by the counts.
+/// The kinds that the least thirteen orphans lack, by the counts.
 pub fn orphans()
     ensures { OrphansLaw }
 {}

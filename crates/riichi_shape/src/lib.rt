@@ -6,7 +6,7 @@
 //! shanten, with the list that the rest then accepts. `shanten` and `accepted` are the parts alone;
 //! the text of an answer is `riichi_shape_text`. A hand is measured by its four suit rows, which
 //! `riichi_rows` makes, and beside each the other three are joined. The marks of a row say which
-//! ranks its least choices lack, so the rows of the hand alone tell the kinds that bring it nearer:
+//! ranks its least choices lack, so the rows of the hand alone show the kinds that bring it nearer:
 //! no row of the hand with one more tile is ever made. A tile that is discarded changes one row: of
 //! fourteen tiles the rows of a suit, whole and without each of its tiles, are asked for together.
 //! `shape_with` is `shape` by the rows of a `RowCache`, which many hands share.

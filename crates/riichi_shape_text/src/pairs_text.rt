@@ -6,8 +6,8 @@ ghost use Rattle.riichi_shape_text.specs.Text as spec;
 
 use riichi_text::{digit_of, letter_of};
 
-/// Writes the kinds that have live copies, from the first byte on, and tells how many bytes they
-/// take.
+/// Writes the kinds that have live copies, from the first byte on, and returns how many bytes
+/// they take.
 pub(crate) fn write_pairs(bytes: &mut [u8; 175], copies: &[u8; 34]) -> usize
     requires { (k : ℕ) → slice_index copies.now k ≤ 4 }
     ensures text { take result bytes.new ≡ flat_map spec.pair_text (pairs_of copies.now) }
@@ -20,7 +20,7 @@ pub(crate) fn write_pairs(bytes: &mut [u8; 175], copies: &[u8; 34]) -> usize
     end
 }
 
-/// Writes a kind with its live copies at a place, and tells where its text ends. That of a kind
+/// Writes a kind with its live copies at a place, and returns where its text ends. That of a kind
 /// without live copies ends where it begins: so there is no branch for a processor to guess wrong.
 #[inline(always)]
 fn write_pair(bytes: &mut [u8; 175], at: usize, kind: usize, live: u8) -> usize

@@ -1,4 +1,4 @@
--- The numbers of a set's tiles add up to a multiple of three, so the sum of all numbers tells the pair's kind by three.
+-- The numbers of a set's tiles add up to a multiple of three, so the sum of all numbers gives the pair's kind by three.
 use Rattle.std.proofs.Common.{◌≡◌, ◌≤◌, ℕ, zero, suc, ◌+◌, ◌-◌, ◌*◌, ◌%◌, ◌<◌, cond, add-one, Option, Some, None, List, [], ◌∷◌, length, length-set, get_or, set, refl, ap, ◌∙◌, arith, ltb}
 use Rattle.std.specs.List.{AllByRecursion}
 use Rattle.std.proofs.lemmas.Bool.Decides.{nat_tests}

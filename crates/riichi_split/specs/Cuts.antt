@@ -87,7 +87,7 @@ doubts (held ∷ counts) = doubts counts + (if nat_le 3 held && may_have_runs co
 abbrev pub choices_beside : List ℕ → ℕ
 choices_beside counts = 2 ^ min 4 (doubts counts)
 
--- no kind is held but those told
+-- no kind is held but these
 pub record HoldsAtMost (counts : List ℕ) (held : ℕ) : Type 0 where
   pub none : (kind : ℕ) → is_held held kind ≡ false → slice_index counts kind ≡ 0
 

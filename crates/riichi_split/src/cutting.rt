@@ -92,7 +92,7 @@ fn begin(sets: &mut Sets, kind: Kind, choice: Choice)
     }
 }
 
-/// The sets that use up the counts, as the choices say. No kind is held but those told.
+/// The sets that use up the counts, as the choices say. No kind is held but those of `held`.
 pub(crate) fn cut(counts: &[u8; 34], held: HeldKinds, wanted: usize, choices: usize) -> Option<Sets>
     requires wanted { wanted ≤ 4 }
     requires held { HoldsAtMost counts.now held }

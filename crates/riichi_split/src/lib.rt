@@ -7,7 +7,7 @@
 //! thirteen orphans. Two readings that differ in the completed block alone are two, since their
 //! waits, and so their points, may differ.
 //!
-//! [`is_win`] tells whether tiles have a reading, which does not depend on the tile that wins.
+//! [`is_win`] says whether tiles have a reading, which does not depend on the tile that wins.
 //! [`waits`] are the kinds that would complete a hand, and [`waits_text`] writes them.
 //!
 //! No call takes memory. [`laws`] has a law of the definitions: a collection of sets stands in order

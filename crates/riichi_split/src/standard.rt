@@ -54,8 +54,8 @@ impl Suits {
     }
 
     /// Whether one more tile of a rank completes the hand: with the pair, where the other suits are
-    /// sets; as sets, where another suit has the pair. It is told how many pairs the others are, and what
-    /// the sum of this suit's numbers leaves over by three.
+    /// sets; as sets, where another suit has the pair. `others` is how many pairs the others are,
+    /// and `third` what the sum of this suit's numbers leaves over by three.
     fn is_completed_by(&self, suit: Suit, rank: usize, others: usize, third: usize) -> bool
         requires counted { spec.AreCounted self.now.tiles self.now.pairs }
         requires rank { rank < kinds_of suit }
@@ -90,7 +90,7 @@ impl Suits {
         self.mark_ranks(suit, others, marks);
     }
 
-    /// The same, where it is told how many pairs the other suits are.
+    /// The same, where `others` is how many pairs the other suits are.
     #[inline(never)]
     fn mark_ranks(&self, suit: Suit, others: usize, marks: &mut KindSet)
         requires counted { spec.AreCounted self.now.tiles self.now.pairs }

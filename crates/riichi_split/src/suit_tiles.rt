@@ -144,8 +144,8 @@ impl SuitTiles {
         self.are_sets_and_pair_by(self.third())
     }
 
-    /// The same, where it is told what the sum of all numbers leaves over by three. What the number of
-    /// the pair's rank leaves over is twice as much, so that only every third rank can have the pair.
+    /// The same, where `third` is what the sum of all numbers leaves over by three. What the number
+    /// of the pair's rank leaves over is twice as much, so that only every third rank can have the pair.
     fn are_sets_and_pair_by(&self, third: usize) -> bool
         requires { third ≡ spec.third_of self.now.held }
         ensures { IsTrue result ↔ spec.AreSetsAndPair self.now }
@@ -156,7 +156,7 @@ impl SuitTiles {
             || self.are_sets_beside(first + 6)
     }
 
-    /// Whether the tiles and one more of a rank are sets, where it is told what the sum of all numbers
+    /// Whether the tiles and one more of a rank are sets, where `third` is what the sum of all numbers
     /// leaves over without it.
     pub(crate) fn are_sets_with(&self, rank: usize, third: usize) -> bool
         requires rank { rank < 9 }

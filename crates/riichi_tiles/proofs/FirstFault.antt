@@ -1,4 +1,4 @@
--- The function that tells what a text spells, or its first fault, agrees with the relations.
+-- The function that returns what a text spells, or its first fault, agrees with the relations.
 use Rattle.std.proofs.Common.{◌≡◌, ◌⊎◌, ℕ, ◌+◌, ◌<◌, ◌≤◌, zero, suc, Bool, true, false, List, [], ◌∷◌, Option, Some, None, Ok, Err, length, map, take, drop, slice_index, slice_index_or, nat_eq, nat_lt, ◌&&◌, refl, sym, ap, ◌∙◌, subst, inl, inr, arith}
 use Rattle.std.specs.Prelude.{not, option_map}
 use Rattle.std.specs.List.{count_by, find, range_with_len}

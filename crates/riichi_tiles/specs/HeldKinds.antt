@@ -1,4 +1,4 @@
--- Sets of kinds as numbers: bit n is for the kind n. So the kinds that are held are told.
+-- Sets of kinds as numbers: bit n is for the kind n. So the kinds that are held are one number.
 use Rattle.std.specs.Prelude.{ℕ, ◌≡◌, Bool, ◌==◌, List}
 use Rattle.std.specs.Int.{bit_at}
 use Rattle.riichi_tiles.specs.Tiles.{has_tile}

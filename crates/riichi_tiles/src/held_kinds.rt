@@ -1,4 +1,4 @@
-//! Which kinds are held, so that some of them are told at once.
+//! Which kinds are held, so that one test asks for any of several kinds.
 ghost use Rattle.std.specs.Prelude.{◌≡◌, ◌-◌, ◌*◌, ◌<◌, ◌≤◌, ◌^◌, ℕ, true, false, length, map, nat_lt, take, if◌then◌else◌};
 ghost use lib.Lanes.{mask_l};
 ghost use Rattle.std.specs.List.{list_any, range_with_len};

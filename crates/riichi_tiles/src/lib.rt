@@ -3,13 +3,13 @@
 //! A [`Kind`] is one of the 34 kinds of tile, and belongs to a [`Suit`]; [`BySuit`] has something for each suit.
 //! [`Counts`] says how many of each are held, at most four; a [`KindSet`] is a set of kinds, as the waits of a hand, and
 //! [`HeldKinds`] are those of which a hand has tiles. A [`Meld`] is a set that was called or declared, [`Melds`] the
-//! melds of one hand, at most four; a [`Block`] is a run, a triplet or a pair within the concealed tiles. Each tells how
+//! melds of one hand, at most four; a [`Block`] is a run, a triplet or a pair within the concealed tiles. Each says how
 //! many tiles of a kind it has, so that hands are added up kind by kind. [`Reds`] counts the red fives of a suit, and
-//! [`dora_of`] tells what an indicator makes dora.
+//! [`dora_of`] is the kind that an indicator makes dora.
 //!
 //! [`read_counts`] reads the notation of tiles, as `123m44z`, and answers the first of its faults; [`write_counts`] and
 //! [`write_kinds`] write it. [`Meld::read`] reads a meld, as `chi:340m`, and [`reds_of`] the red fives of a text, where they
-//! stand as `0`; [`split_at_mark`] cuts a text where a meld's name ends. The notation itself is told in docs/NOTATION.md.
+//! stand as `0`; [`split_at_mark`] cuts a text where a meld's name ends. The notation itself stands in docs/NOTATION.md.
 //!
 //! All of these are plain values: each can be copied and compared. No call takes memory, and the readers take any bytes.
 //!

@@ -33,7 +33,7 @@ enum MeldName {
 
 impl Meld {
     /// The meld that a text spells: its word, a colon, and the notation of just its tiles, in any order, as `chi:340m` or
-    /// `pon:1z1z1z`. `None` for any other text; why it is no meld isn't told.
+    /// `pon:1z1z1z`. `None` for any other text; why it is no meld isn't said.
     #[tactic(auto, unfolding(crate::specs::Melds::meld_of))]
     pub fn read(text: &[u8]) -> Option<Meld>
         ensures value { result ≡ meld_of text.now }

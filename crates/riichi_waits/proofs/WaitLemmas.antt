@@ -63,7 +63,7 @@ sorts-of_all c melds w all long few are =
 
 -- ---- the kinds
 
--- a mark of the waits tells whether the hand waits for the kind
+-- a mark of the waits says whether the hand waits for the kind
 pub is_wait-marked : (hand : HandParts) (kinds : List Bool) (kind : ℕ) (held : Bool) → kind < 34 → kinds ≡ waits_of hand → IsTrue held ↔ IsMarked kinds kind → held ≡ is_wait hand kind
 is_wait-marked hand kinds kind held low same member =
     let marked : get_or kinds kind false ≡ is_wait hand kind = ap (λ (marks : List Bool). get_or marks kind false) same ∙ mark_of hand kind low in

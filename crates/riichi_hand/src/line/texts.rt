@@ -61,7 +61,7 @@ impl Texts {
     }
 }
 
-/// Puts the tiles of a notation text where none were, or tells its fault.
+/// Puts the tiles of a notation text where none were, or returns its fault.
 fn read_text(counts: &mut Counts, name: TextName, text: &[u8]) -> Result<(), LineFault>
     requires none { counts.old ≡ replicate 34 0 }
     ensures { MatchResult result

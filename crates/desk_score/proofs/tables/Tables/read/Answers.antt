@@ -12,7 +12,7 @@ use Rattle.desk_score.specs.Score.{AllGive}
 use Rattle.desk_score.proofs.ScoreLemmas.{AllGive-last}
 use Rattle.desk_score.proofs.tables.Tables.read.Goals as goal
 
--- only a failed read is told as one
+-- only a failed read is reported as one
 was_read : (fault : DeskFault) → desk_fault fault ≡ Read → fault ≡ desk.Read
 was_read desk.Read is = cc
 was_read other is = absurd (let no : ⊥ = cc in no)
