@@ -83,7 +83,7 @@ def _accepted(told: dict[str, Any]) -> Accepted:
 
 
 def read(text: str) -> Answer:
-    """The answer that a line of JSON tells.
+    """The answer that a line of JSON holds.
 
     >>> read('{"answer":"waits","kinds":["2p","5p"]}')
     Waits(kinds=('2p', '5p'))

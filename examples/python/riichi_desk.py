@@ -47,7 +47,7 @@ def json(line: bytes | str, rules: int = 1) -> str | None:
 
 
 def text(line: bytes | str, rules: int = 1) -> str | None:
-    """The same answer as the command `line` tells it.
+    """The same answer in the words of the command `line`.
 
     >>> text("waits 1112345678999m")
     'waits 123456789m'
