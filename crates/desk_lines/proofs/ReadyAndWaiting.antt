@@ -11,7 +11,7 @@ use Rattle.riichi_tiles.specs.declared.meld.Meld.{Meld}
 use Rattle.riichi_hand.specs.HandParts.{HandParts}
 use Rattle.riichi_hand.specs.Hand.{copies_held, has_five_copies, is_thirteen, size, IsHand}
 use Rattle.riichi_split.specs.Waits.{with_one}
-use Rattle.riichi_split.proofs.AnyTile.{reading-iff}
+use Rattle.riichi_split.proofs.AnyTile.{form-iff, reading-iff}
 use Rattle.riichi_split.proofs.Lists.{IsIn, in-range}
 use Rattle.riichi_split.proofs.Marks.{few_melds}
 use Rattle.riichi_shape.specs.EveryWinning.{distance_of, every_winning, shanten_of}
@@ -23,7 +23,6 @@ use Rattle.riichi_shape.proofs.ReadyLemmas.{one_more_at, one_more_past, ready_is
 use Rattle.riichi_shape.proofs.ShapeFacts.{no_faults}
 use Rattle.riichi_shape.proofs.Uniqueness.{distance_from, listed_winning, winning_listed}
 use Rattle.desk_lines.specs.Ready.{HasWait}
-use Rattle.desk_lines.proofs.WinningShapes.{form_iff}
 
 -- ---- the distance is that of some winning multiset
 
@@ -72,8 +71,8 @@ module _ (hand : HandParts) (counts : IsCounts hand.concealed) (is : IsHand hand
     record {
       of_a_kind = ready.is_kind;
       some_left = omega (arith, ready.is_winning.within_four.at ready.kind ready.is_kind, one_more_of ready.kind ready.is_kind);
-      completes = (reading-iff (with_one hand.concealed ready.kind) (length hand.melds) ready.kind (omega (arith, one_more_of ready.kind ready.is_kind))).0
-          ((form_iff (with_one hand.concealed ready.kind) (length hand.melds) (completed_is_long ready.kind) few).0 ready.is_winning.form);
+      completes = (reading-iff (with_one hand.concealed ready.kind) (length hand.melds) ready.kind (completed_is_long ready.kind) (omega (arith, one_more_of ready.kind ready.is_kind))).0
+          ((form-iff (with_one hand.concealed ready.kind) (length hand.melds)).1 (few, ready.is_winning.form));
     },
   )
 
@@ -91,8 +90,8 @@ module _ (hand : HandParts) (counts : IsCounts hand.concealed) (is : IsHand hand
         kind = kind;
         is_kind = wait.1.of_a_kind;
         is_winning = record {
-          form = (form_iff (with_one hand.concealed kind) (length hand.melds) (completed_is_long kind) few).1
-              ((reading-iff (with_one hand.concealed kind) (length hand.melds) kind (omega (arith, one_more_of kind wait.1.of_a_kind))).1 wait.1.completes);
+          form = ((form-iff (with_one hand.concealed kind) (length hand.melds)).0
+              ((reading-iff (with_one hand.concealed kind) (length hand.melds) kind (completed_is_long kind) (omega (arith, one_more_of kind wait.1.of_a_kind))).1 wait.1.completes)).1;
           within_four = record { at = within_four kind wait.1.of_a_kind wait.1.some_left };
         };
       }

@@ -4,7 +4,6 @@ ghost use Rattle.std.specs.List.{list_all, list_any};
 ghost use Rattle.riichi_blocks.specs.BlockKinds as spec;
 
 use crate::HandBlock;
-use crate::kinds::{is_honour, is_orphan, is_terminal};
 
 /// A run 123 or 789.
 fn is_outer_run(low: usize) -> bool
@@ -19,7 +18,7 @@ fn has_orphan(block: &HandBlock) -> bool
     match block {
         HandBlock::Run(low) => is_outer_run(low.index()),
         HandBlock::Triplet { kind, .. } | HandBlock::Kong { kind, .. } | HandBlock::Pair(kind) => {
-            is_orphan(kind.index())
+            kind.is_orphan()
         }
     }
 }
@@ -30,7 +29,7 @@ fn has_terminal(block: &HandBlock) -> bool
     match block {
         HandBlock::Run(low) => is_outer_run(low.index()),
         HandBlock::Triplet { kind, .. } | HandBlock::Kong { kind, .. } | HandBlock::Pair(kind) => {
-            is_terminal(kind.index())
+            kind.is_terminal()
         }
     }
 }
@@ -41,7 +40,7 @@ fn has_honour(block: &HandBlock) -> bool
     match block {
         HandBlock::Run(_) => false,
         HandBlock::Triplet { kind, .. } | HandBlock::Kong { kind, .. } | HandBlock::Pair(kind) => {
-            is_honour(kind.index())
+            kind.is_honour()
         }
     }
 }

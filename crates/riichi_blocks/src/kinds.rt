@@ -17,13 +17,6 @@ pub const GREEN: usize = 32;
 /// The Red dragon.
 pub const RED: usize = 33;
 
-/// A wind or a dragon.
-pub(crate) fn is_honour(kind: usize) -> bool
-    ensures { result ≡ spec.is_honour kind }
-{
-    kind >= EAST
-}
-
 /// East, South, West or North.
 pub fn is_wind(kind: usize) -> bool
     ensures { result ≡ spec.is_wind kind }
@@ -36,20 +29,6 @@ pub fn is_dragon(kind: usize) -> bool
     ensures { result ≡ spec.is_dragon kind }
 {
     kind >= WHITE
-}
-
-/// A 1 or a 9 of a suit.
-pub fn is_terminal(kind: usize) -> bool
-    ensures { result ≡ spec.is_terminal kind }
-{
-    kind < EAST && (kind % 9 == 0 || kind % 9 == 8)
-}
-
-/// A terminal or an honour.
-pub fn is_orphan(kind: usize) -> bool
-    ensures { result ≡ spec.is_orphan kind }
-{
-    is_terminal(kind) || is_honour(kind)
 }
 
 /// Whether the kind is of this suit: 0 for m, 1 for p, 2 for s.

@@ -33,9 +33,7 @@ pub use blocks::Blocks;
 pub use hand_block::HandBlock;
 pub use held::all_tiles;
 pub use joining::{blocks_of, push_blocks};
-pub use kinds::{
-    EAST, GREEN, KINDS, RED, WHITE, is_dragon, is_of_suit, is_orphan, is_terminal, is_wind,
-};
+pub use kinds::{EAST, GREEN, KINDS, RED, WHITE, is_dragon, is_of_suit, is_wind};
 pub use pairs::{has_plain_pair, pair_fu};
 pub use reading_shapes::{is_orphans, is_seven_pairs, is_standard};
 pub use tiles::AllTiles;

@@ -6,7 +6,7 @@ ghost use Rattle.riichi_blocks.specs.HandBlocks.{blocks_of};
 ghost use Rattle.riichi_yaku.specs.Runs.{is_pinfu};
 ghost use Rattle.riichi_score.specs.Fu as spec;
 
-use riichi_blocks::{Blocks, HandBlock, blocks_of, is_orphan, pair_fu, wait_fu};
+use riichi_blocks::{Blocks, HandBlock, blocks_of, pair_fu, wait_fu};
 use riichi_hand::{WinRecord, is_ron};
 use riichi_split::Reading;
 use riichi_tiles::{Block, Kind};
@@ -121,7 +121,7 @@ fn triplet_fu(kind: Kind, concealed: bool) -> u8
     ensures value { result ≡ spec.triplet_fu kind concealed }
     ensures most { result ≤ 8 }
 {
-    let open = if is_orphan(kind.index()) { 4 } else { 2 };
+    let open = if kind.is_orphan() { 4 } else { 2 };
     if concealed { 2 * open } else { open }
 }
 

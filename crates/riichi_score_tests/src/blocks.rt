@@ -234,11 +234,6 @@ fn knows_kinds_waits_and_winners(rt: HostRuntime) -> Result<(), Fail> {
     holds(&rt, is_dragon(WHITE) && is_dragon(RED) && !is_dragon(30));
     holds(
         &rt,
-        is_terminal(8) && is_terminal(18) && !is_terminal(7) && !is_terminal(EAST),
-    );
-    holds(&rt, is_orphan(8) && is_orphan(33) && !is_orphan(7));
-    holds(
-        &rt,
         is_of_suit(1, 9) && is_of_suit(1, 17) && !is_of_suit(1, 18),
     );
     same(&rt, KINDS, 34);

@@ -9,7 +9,7 @@ use Rattle.riichi_tiles.specs.declared.block.Block.{Block}
 use Rattle.riichi_tiles.specs.declared.block.Block.TheVariants.{Run, Triplet, Pair}
 use Rattle.riichi_rows.specs.Suit.{is_set, is_pair}
 use Rattle.riichi_rows.proofs.Blocks.{set_of, has_pair}
-use Rattle.riichi_shape.specs.Winning.{IsSetsAndPair}
+use Rattle.riichi_tiles.specs.Forms.{IsSetsAndPair}
 
 -- a block of the 34 kinds
 abbrev pub IsOfKinds : Block → Type 0
@@ -50,10 +50,10 @@ count_pairs (b ∷ bs) all = sum_by-cons has_pair b bs ∙ omega (arith, count_p
 pub counted : (sets : ℕ) (wanted : List ℕ) → IsSetsAndPair sets wanted → AreCounted sets wanted
 counted sets wanted is = record {
   blocks = Pair is.pair ∷ is.blocks;
-  of_kinds = All-cons IsOfKinds (Pair is.pair) is.blocks is.is_kind (all_of_kinds is.blocks is.are_sets);
-  has_sets = sum_by-cons set_of (Pair is.pair) is.blocks ∙ omega (arith, count_sets is.blocks is.are_sets, is.has_sets);
-  has_pair = sum_by-cons has_pair (Pair is.pair) is.blocks ∙ omega (arith, count_pairs is.blocks is.are_sets);
-  adds_up = is.adds_up;
+  of_kinds = All-cons IsOfKinds (Pair is.pair) is.blocks is.made_of.is_kind (all_of_kinds is.blocks is.made_of.are_sets);
+  has_sets = sum_by-cons set_of (Pair is.pair) is.blocks ∙ omega (arith, count_sets is.blocks is.made_of.are_sets, is.has_sets);
+  has_pair = sum_by-cons has_pair (Pair is.pair) is.blocks ∙ omega (arith, count_pairs is.blocks is.made_of.are_sets);
+  adds_up = is.made_of.adds_up;
 }
 
 -- ---- the pairs taken out
@@ -108,10 +108,8 @@ uncounted sets wanted is = by_pairs s.pairs s.are_kinds (s.has_pairs ∙ is.has_
     by_pairs [] all one adds = absurd (omega arith)
     by_pairs (pair ∷ []) all one adds = record {
       blocks = s.sets;
-      are_sets = s.are_sets;
-      has_sets = s.has_sets ∙ is.has_sets;
       pair = pair;
-      is_kind = All-head (λ (kind : ℕ). kind < 34) pair [] all;
-      adds_up = λ kind low. omega (arith, is.adds_up kind low, adds kind);
+      made_of = record { are_sets = s.are_sets; is_kind = All-head (λ (kind : ℕ). kind < 34) pair [] all; adds_up = λ kind low. omega (arith, is.adds_up kind low, adds kind) };
+      has_sets = s.has_sets ∙ is.has_sets;
     }
     by_pairs (pair ∷ another ∷ pairs) all one adds = absurd (omega arith)

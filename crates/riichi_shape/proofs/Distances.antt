@@ -7,8 +7,8 @@ use Rattle.riichi_tiles.specs.declared.meld.Meld.{Meld}
 use Rattle.riichi_rows.proofs.Joins.{min_is}
 use Rattle.riichi_rows.proofs.Spread.{spread, sum_range}
 use Rattle.riichi_shape.specs.Distance.{IsDistance, IsLeastStandard}
-use Rattle.riichi_shape.specs.Orphans.{IsThirteenOrphans, orphan_tiles, is_listed_orphan}
-use Rattle.riichi_shape.specs.Pairs.{IsSevenPairs}
+use Rattle.riichi_tiles.specs.Forms.{IsSevenPairs, IsThirteenOrphans, orphan_copies}
+use Rattle.riichi_tiles.specs.Kinds.{is_orphan}
 use Rattle.riichi_shape.specs.Special.{IsSpecialDistance, SpecialLacks}
 use Rattle.riichi_shape.specs.Winning.{IsWinning, lacking}
 use Rattle.riichi_shape.proofs.Exists.{StandardExists, standard_exists, melds_few}
@@ -21,8 +21,8 @@ each_below f a (suc n) k low high = ⊎_elim (λ later. omega (arith, each_below
     same : k ≤ a → k ≡ a
     same here = omega arith
 
-pub orphan_few : (t k : ℕ) → orphan_tiles t k ≤ 2
-orphan_few t k = at_most_two (is_listed_orphan k) (eqb k t)
+pub orphan_few : (t k : ℕ) → orphan_copies t k ≤ 2
+orphan_few t k = at_most_two (is_orphan k) (eqb k t)
   where
     at_most_two : (b c : Bool) → cond b (cond c 2 1) 0 ≤ 2
     at_most_two true true = omega arith

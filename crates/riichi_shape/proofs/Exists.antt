@@ -11,7 +11,8 @@ use Rattle.riichi_tiles.specs.declared.meld.Meld.TheVariants.{Chi, Pon, Kan, Ank
 use Rattle.riichi_tiles.specs.declared.block.Block.{Block}
 use Rattle.riichi_tiles.specs.declared.meld.Meld.{Meld}
 use Rattle.riichi_tiles.specs.declared.block.Block.TheVariants.{Triplet, Pair}
-use Rattle.riichi_shape.specs.Winning.{IsSetsAndPair, WithinFour, lacking}
+use Rattle.riichi_tiles.specs.Forms.{IsSetsAndPair}
+use Rattle.riichi_shape.specs.Winning.{WithinFour, lacking}
 use Rattle.riichi_shape.proofs.Counted.{IsOfKinds, uncounted}
 use Rattle.riichi_rows.proofs.Blocks.{tiles_of, tiles_is_sum, set_of, has_pair}
 use Rattle.riichi_rows.proofs.Spread.{spread, spread_sum, sum_range, spread_shift, spread_none, table, table_at, at_same_number}

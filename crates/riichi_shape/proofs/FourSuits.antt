@@ -16,7 +16,8 @@ use Rattle.riichi_rows.specs.Suit.{is_set, is_pair, IsInSuit, IsChoice, lack, La
 use Rattle.riichi_tiles.specs.declared.block.Block.TheVariants.{Run, Triplet, Pair}
 use Rattle.riichi_shape.specs.Distance.{StandardReached, IsLeastStandard}
 use Rattle.riichi_shape.specs.Suits.{IsSuitOf}
-use Rattle.riichi_shape.specs.Winning.{IsSetsAndPair, WithinFour, lacking}
+use Rattle.riichi_tiles.specs.Forms.{IsSetsAndPair}
+use Rattle.riichi_shape.specs.Winning.{WithinFour, lacking}
 use Rattle.riichi_shape.proofs.Counted.{AreCounted, IsOfKinds, counted, uncounted}
 use Rattle.riichi_rows.proofs.Blocks.{tiles_of, tiles_is_sum, total-append, set_of, has_pair}
 use Rattle.riichi_rows.proofs.Spread.{same_spread, spread, sum_range, spread_add, at_same_number, spread_shift, spread_none, table, table_at}

@@ -19,7 +19,6 @@ pub mod OneMore
 pub mod OneTile
 pub mod OrderLemmas
 pub mod OrphanLemmas
-pub mod ListedOrphans
 pub mod OrphansLacked
 pub mod PairLemmas
 pub mod PairsLacked

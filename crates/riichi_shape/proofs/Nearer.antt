@@ -11,7 +11,7 @@ use Rattle.riichi_shape.specs.Distance.{IsDistance, IsLeastStandard}
 use Rattle.riichi_shape.specs.EveryWinning.{distance_of}
 use Rattle.riichi_shape.specs.LackedKinds.{AreLackedKinds, AreLackedOf, AreSuitsLacked, NoneStandardLess, lacks_kind, suits_lack}
 use Rattle.riichi_shape.specs.Special.{AreSpecialLacked, IsSpecialDistance, SpecialLacks, special_lacks}
-use Rattle.riichi_shape.specs.Winning.{IsSetsAndPair}
+use Rattle.riichi_tiles.specs.Forms.{IsSetsAndPair}
 use Rattle.riichi_shape.specs.declared.lacked_kinds.LackedKinds.{LackedKinds}
 use Rattle.riichi_shape.proofs.Distances.{exists, never_none, whole_distance}
 use Rattle.riichi_shape.proofs.OneMore.{accepted, by_forms}

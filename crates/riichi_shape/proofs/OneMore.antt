@@ -5,9 +5,8 @@ use Rattle.riichi_rows.specs.Lacked.{IsOneMore}
 use Rattle.riichi_rows.proofs.Spread.{Falls, sums_fall}
 use Rattle.riichi_tiles.specs.declared.meld.Meld.{Meld}
 use Rattle.riichi_shape.specs.Lacked.{WinningLacks, AcceptanceLaw, FormLacks, FormsLaw}
-use Rattle.riichi_shape.specs.Orphans.{IsThirteenOrphans}
-use Rattle.riichi_shape.specs.Pairs.{IsSevenPairs}
-use Rattle.riichi_shape.specs.Winning.{HasWinningForm, IsSetsAndPair, lacking}
+use Rattle.riichi_tiles.specs.Forms.{HasWinningForm, IsSetsAndPair, IsSevenPairs, IsThirteenOrphans}
+use Rattle.riichi_shape.specs.Winning.{lacking}
 
 -- ---- a whole hand
 

@@ -1,18 +1,21 @@
 -- Thirteen orphans: one tile for each kind that is missing, and one where none is held twice.
-use Rattle.std.proofs.Common.{◌≡◌, ℕ, ◌+◌, ◌-◌, ◌<◌, ◌≤◌, Bool, true, false, cond, ◌⊎◌, List, [], ◌∷◌, ◌++◌, ◌%◌, ◌^◌, replicate, length, map, leb, eqb, refl, sym, ap, ◌∙◌, ⊎_elim, arith}
+use Rattle.std.proofs.Common.{◌≡◌, ℕ, ◌+◌, ◌-◌, ◌<◌, ◌≤◌, Bool, true, false, cond, ◌⊎◌, inl, inr, List, [], ◌∷◌, ◌++◌, ◌%◌, ◌^◌, replicate, length, zero, suc, map, filter, leb, eqb, refl, sym, ap, ◌∙◌, ⊎_elim, arith}
 use Rattle.std.proofs.Common as width
-use Rattle.std.proofs.lemmas.Bool.{cases_lt, or_cases, or_right, eqb-true, eq-eqb}
+use Rattle.std.proofs.lemmas.Bool.{cases_lt, eqb-true}
 use Rattle.std.proofs.lemmas.List.{length-map}
 use Rattle.std.proofs.lemmas.Simd.{mask_l-mod, ones-mask_l, tops_compared, zip2_splat_left}
 use Rattle.std.specs.Int.RustNames.{count_ones}
 use lib.Lanes.{mask_l, top, zip2}
 use Rattle.std.proofs.lemmas.Bool.Decides.{nat_tests}
-use Rattle.std.specs.List.{list_any}
-use Rattle.std.specs.Prelude.{count_by, slice_index, nat_le, ◌==◌, ◌||◌}
+use Rattle.std.specs.List.{range_with_len}
+use Rattle.std.specs.Prelude.{count_by, slice_index, nat_le, ◌==◌}
+use Rattle.riichi_tiles.specs.Melds.{every_kind}
 use Rattle.riichi_shape.specs.Distance.{OrphansReached}
-use Rattle.riichi_shape.specs.Orphans.{IsThirteenOrphans, orphan_kinds, is_listed_orphan, orphan_tiles}
+use Rattle.riichi_tiles.specs.Forms.{IsThirteenOrphans, orphan_copies, orphan_kinds}
+use Rattle.riichi_tiles.specs.Kinds.{is_orphan}
 use Rattle.riichi_shape.specs.Winning.{lacking}
 use Rattle.riichi_rows.proofs.Spread.{spread, sum_range, spread_shift, table, table_at, at_same_number, spread_with}
+use Rattle.riichi_shape.proofs.Members.{Among, among_filter, among_range, from_filter, from_range}
 use Rattle.riichi_shape.proofs.PairLemmas.{total_of, sum_is_total}
 
 abbrev pub missing_one : ℕ → ℕ
@@ -31,43 +34,34 @@ orphan_lack t k h here same = grind (arith, nat_tests)
 abbrev two : ℕ → ℕ
 two h = cond (leb 2 h) 1 0
 
--- counts a number that is no kind
-abbrev beyond : ℕ → ℕ
-beyond k = cond (leb 34 k) 1 0
-
 extra_is : (h : ℕ) → extra h + two h ≡ 1
 extra_is h = grind (arith, nat_tests)
 
-none_doubled : (h : ℕ → ℕ) (ks : List ℕ) (t : ℕ) → total_of two (map h ks) ≡ 0 → list_any (eqb t) ks ≡ true → two (h t) ≡ 0
+none_doubled : (h : ℕ → ℕ) (ks : List ℕ) (t : ℕ) → total_of two (map h ks) ≡ 0 → Among t ks → two (h t) ≡ 0
 unfolding total_of
-none_doubled h [] t none here = absurd (grind arith)
-none_doubled h (k ∷ ks) t none here =
-    ⊎_elim (λ first. ap (λ k. two (h k)) (eqb-true t k first) ∙ omega (arith, none)) (λ later. none_doubled h ks t (omega (arith, none)) later) (or_cases (eqb t k) (list_any (eqb t) ks) here)
+none_doubled h [] t none here = absurd here
+none_doubled h (k ∷ ks) t none (inl first) = ap (λ k. two (h k)) first ∙ omega (arith, none)
+none_doubled h (k ∷ ks) t none (inr later) = none_doubled h ks t (omega (arith, none)) later
 
 record Doubled (h : ℕ → ℕ) (ks : List ℕ) : Type 0 where
-  pub kind : ℕ
-  pub is_one : list_any (eqb kind) ks ≡ true
-  pub twice : 0 < two (h kind)
+  kind : ℕ
+  among : Among kind ks
+  twice : 0 < two (h kind)
 
 some_doubled : (h : ℕ → ℕ) (ks : List ℕ) → 0 < total_of two (map h ks) → Doubled h ks
 unfolding total_of
 some_doubled h [] some = absurd (omega (arith, some))
 some_doubled h (k ∷ ks) some =
-    ⊎_elim (λ first. record { kind = k; is_one = ap (λ b. b || list_any (eqb k) ks) (eq-eqb k k refl); twice = first })
-    (λ later. (let d = some_doubled h ks (omega (arith, some, later)) in record { kind = d.kind; is_one = or_right (eqb d.kind k) (list_any (eqb d.kind) ks) d.is_one; twice = d.twice }))
+    ⊎_elim (λ first. record { kind = k; among = inl refl; twice = first })
+    (λ later. (let d = some_doubled h ks (omega (arith, some, later)) in record { kind = d.kind; among = inr d.among; twice = d.twice }))
     (cases_lt 0 (two (h k)))
 
-below : (ks : List ℕ) (t : ℕ) → total_of beyond ks ≡ 0 → list_any (eqb t) ks ≡ true → t < 34
-unfolding total_of
-below [] t all here = absurd (grind arith)
-below (k ∷ ks) t all here = ⊎_elim (λ first. small k t (eqb-true t k first) (omega (arith, all))) (λ later. below ks t (omega (arith, all)) later) (or_cases (eqb t k) (list_any (eqb t) ks) here)
-  where
-    small : (k t : ℕ) → t ≡ k → beyond k ≡ 0 → t < 34
-    small k t e low = grind (arith, nat_tests)
+-- each orphan is listed, and no other kind
+pub listed : (t : ℕ) → t < 34 → is_orphan t ≡ true → Among t orphan_kinds
+listed t low is = among_filter is_orphan t every_kind (among_range t 0 34 (omega arith) (omega (arith, low))) is
 
-orphan_below : (t : ℕ) → is_listed_orphan t ≡ true → t < 34
-unfolding total_of
-orphan_below t is = below orphan_kinds t refl is
+pub is_listed : (t : ℕ) → Among t orphan_kinds → (t < 34) × (is_orphan t ≡ true)
+is_listed t here = let both = from_filter is_orphan t every_kind here in ((from_range t 0 34 both.0).1, both.1)
 
 -- those that are missing are the rest of the thirteen
 missing_or_held : (xs : List ℕ) → total_of missing_one xs + total_of (λ x. cond (leb 1 x) 1 0) xs ≡ length xs
@@ -83,33 +77,42 @@ missing_count hand held some are counted =
     let thirteen : length held ≡ 13 = ap length are in
     omega (arith, counted, missing_or_held held, sum_is_total missing_one held, sum_is_total (λ x. cond (leb 1 x) 1 0) held, thirteen)
 
+-- a sum over the kinds that pass a test
+filtered : (p : ℕ → Bool) (f h : ℕ → ℕ) (a n : ℕ) → spread (λ k. cond (p k) (f (h k)) 0) a n ≡ total_of f (map h (filter p (range_with_len a n)))
+unfolding spread total_of
+filtered p f h a zero = refl
+filtered p f h a (suc n) = one (p a) _ _ (filtered p f h (a + 1) n)
+  where
+    one : (passes : Bool) (rest : ℕ) (ks : List ℕ) → rest ≡ total_of f (map h ks) → cond passes (f (h a)) 0 + rest ≡ total_of f (map h (cond passes (a ∷ ks) ks))
+    one true rest ks same = omega (arith, same)
+    one false rest ks same = omega (arith, same)
+
 module _ (hand : List ℕ) where
   abbrev lack_of_one : ℕ → ℕ
-  lack_of_one k = cond (is_listed_orphan k) (missing_one (slice_index hand k)) 0
+  lack_of_one k = cond (is_orphan k) (missing_one (slice_index hand k)) 0
 
   missing_is : spread lack_of_one 0 34 ≡ total_of missing_one (map (slice_index hand) orphan_kinds)
-  unfolding spread total_of
-  missing_is = omega arith
+  missing_is = filtered is_orphan missing_one (slice_index hand) 0 34
 
-  pub lack_is : (t : ℕ) → is_listed_orphan t ≡ true → (wanted : List ℕ) → ((k : ℕ) → k < 34 → slice_index wanted k ≡ orphan_tiles t k) → lacking hand wanted ≡ total_of missing_one (map (slice_index hand) orphan_kinds) + extra (slice_index hand t)
-  lack_is t is wanted at =
+  pub lack_is : (t : ℕ) → t < 34 → is_orphan t ≡ true → (wanted : List ℕ) → ((k : ℕ) → k < 34 → slice_index wanted k ≡ orphan_copies t k) → lacking hand wanted ≡ total_of missing_one (map (slice_index hand) orphan_kinds) + extra (slice_index hand t)
+  lack_is t low is wanted at =
       let whole = sum_range (λ k. slice_index wanted k - slice_index hand k) 0 34 in
-      let same = spread_shift (λ k. slice_index wanted k - slice_index hand k) (λ k. orphan_tiles t k - slice_index hand k) 0 0 34 (λ r h. ap (λ w. w - slice_index hand (0 + r)) (at (0 + r) (omega arith))) in
-      let split = spread_with (λ k. orphan_tiles t k - slice_index hand k) lack_of_one (λ k. extra (slice_index hand k)) t
-      (λ k. orphan_lack t k (slice_index hand k) (is_listed_orphan k) (λ e. ap is_listed_orphan (eqb-true k t e) ∙ is)) 0 34 (omega arith) (omega (arith, orphan_below t is)) in
+      let same = spread_shift (λ k. slice_index wanted k - slice_index hand k) (λ k. orphan_copies t k - slice_index hand k) 0 0 34 (λ r h. ap (λ w. w - slice_index hand (0 + r)) (at (0 + r) (omega arith))) in
+      let split = spread_with (λ k. orphan_copies t k - slice_index hand k) lack_of_one (λ k. extra (slice_index hand k)) t
+      (λ k. orphan_lack t k (slice_index hand k) (is_orphan k) (λ e. ap is_orphan (eqb-true k t e) ∙ is)) 0 34 (omega arith) (omega (arith, low)) in
       whole ∙ same ∙ split ∙ ap (λ n. n + extra (slice_index hand t)) missing_is
 
   abbrev pub orphans_wanted : ℕ → List ℕ
-  orphans_wanted t = table (orphan_tiles t) 0 34
+  orphans_wanted t = table (orphan_copies t) 0 34
 
-  pub orphans_at : (t k : ℕ) → k < 34 → slice_index (orphans_wanted t) k ≡ orphan_tiles t k
-  orphans_at t k h = table_at (orphan_tiles t) 0 34 k h ∙ at_same_number (orphan_tiles t) (0 + k) k (omega arith)
+  pub orphans_at : (t k : ℕ) → k < 34 → slice_index (orphans_wanted t) k ≡ orphan_copies t k
+  orphans_at t k h = table_at (orphan_copies t) 0 34 k h ∙ at_same_number (orphan_copies t) (0 + k) k (omega arith)
 
-  pub are_orphans : (t n : ℕ) → is_listed_orphan t ≡ true → n ≡ total_of missing_one (map (slice_index hand) orphan_kinds) + extra (slice_index hand t) → OrphansReached hand n
-  are_orphans t n is e = record {
+  pub are_orphans : (t n : ℕ) → t < 34 → is_orphan t ≡ true → n ≡ total_of missing_one (map (slice_index hand) orphan_kinds) + extra (slice_index hand t) → OrphansReached hand n
+  are_orphans t n low is e = record {
     wanted = orphans_wanted t;
-    thirteen_orphans = record { doubled = t; doubles_orphan = is; at = orphans_at t };
-    lacks = lack_is t is (orphans_wanted t) (orphans_at t) ∙ sym e;
+    thirteen_orphans = record { doubled = t; is_kind = low; doubles_orphan = is; at = orphans_at t };
+    lacks = lack_is t low is (orphans_wanted t) (orphans_at t) ∙ sym e;
   }
 
   module _ (held : List ℕ) (held_are : held ≡ map (slice_index hand) orphan_kinds) (missing doubled : ℕ) (missing_are : missing ≡ count_by (λ x. x == 0) held) (doubled_are : doubled ≡ count_by (λ x. nat_le 2 x) held) where
@@ -120,35 +123,37 @@ module _ (hand : List ℕ) where
     doubled_total = doubled_are ∙ sum_is_total two held ∙ ap (λ xs. total_of two xs) held_are
 
     pub bound_doubled : (wanted : List ℕ) → IsThirteenOrphans wanted → missing ≤ lacking hand wanted
-    bound_doubled wanted is = let e = lack_is is.doubled is.doubles_orphan wanted is.at in omega (arith, missing_total, e)
+    bound_doubled wanted is = let e = lack_is is.doubled is.is_kind is.doubles_orphan wanted is.at in omega (arith, missing_total, e)
 
     pub reached_doubled : 0 < doubled → OrphansReached hand missing
     reached_doubled some =
         let d = some_doubled (slice_index hand) orphan_kinds (omega (arith, some, doubled_total)) in
-        are_orphans d.kind missing d.is_one (omega (arith, missing_total, d.twice, extra_is (slice_index hand d.kind)))
+        let is = is_listed d.kind d.among in
+        are_orphans d.kind missing is.0 is.1 (omega (arith, missing_total, d.twice, extra_is (slice_index hand d.kind)))
 
     pub bound_single : doubled ≤ 0 → (wanted : List ℕ) → IsThirteenOrphans wanted → missing + 1 ≤ lacking hand wanted
     bound_single none wanted is =
-        let e = lack_is is.doubled is.doubles_orphan wanted is.at in
-        let single = none_doubled (slice_index hand) orphan_kinds is.doubled (omega (arith, none, doubled_total)) is.doubles_orphan in
+        let e = lack_is is.doubled is.is_kind is.doubles_orphan wanted is.at in
+        let single = none_doubled (slice_index hand) orphan_kinds is.doubled (omega (arith, none, doubled_total)) (listed is.doubled is.is_kind is.doubles_orphan) in
         omega (arith, missing_total, e, single, extra_is (slice_index hand is.doubled))
 
     pub reached_single : doubled ≤ 0 → OrphansReached hand (missing + 1)
     reached_single none =
-        let single = none_doubled (slice_index hand) orphan_kinds 0 (omega (arith, none, doubled_total)) refl in
-        are_orphans 0 (missing + 1) refl (omega (arith, missing_total, single, extra_is (slice_index hand 0)))
+        let single = none_doubled (slice_index hand) orphan_kinds 0 (omega (arith, none, doubled_total)) (inl refl) in
+        are_orphans 0 (missing + 1) (omega arith) refl (omega (arith, missing_total, single, extra_is (slice_index hand 0)))
 
     -- some orphan that is held twice, or none
-    pub orphan_doubled : 0 < doubled → (k : ℕ) × (is_listed_orphan k ≡ true) × (2 ≤ slice_index hand k)
+    pub orphan_doubled : 0 < doubled → (k : ℕ) × (k < 34) × (is_orphan k ≡ true) × (2 ≤ slice_index hand k)
     orphan_doubled some =
         let d = some_doubled (slice_index hand) orphan_kinds (omega (arith, some, doubled_total)) in
-        (d.kind, d.is_one, at_least_two (slice_index hand d.kind) d.twice)
+        let is = is_listed d.kind d.among in
+        (d.kind, is.0, is.1, at_least_two (slice_index hand d.kind) d.twice)
       where
         at_least_two : (h : ℕ) → 0 < two h → 2 ≤ h
         at_least_two h some = grind (arith, nat_tests)
 
-    pub orphan_single : doubled ≤ 0 → (k : ℕ) → is_listed_orphan k ≡ true → slice_index hand k ≤ 1
-    orphan_single none k is = at_most_one (slice_index hand k) (none_doubled (slice_index hand) orphan_kinds k (omega (arith, none, doubled_total)) is)
+    pub orphan_single : doubled ≤ 0 → (k : ℕ) → k < 34 → is_orphan k ≡ true → slice_index hand k ≤ 1
+    orphan_single none k low is = at_most_one (slice_index hand k) (none_doubled (slice_index hand) orphan_kinds k (omega (arith, none, doubled_total)) (listed k low is))
       where
         at_most_one : (h : ℕ) → two h ≡ 0 → h ≤ 1
         at_most_one h none = grind (arith, nat_tests)

@@ -7,7 +7,8 @@ use Rattle.riichi_tiles.specs.Melds.{tiles}
 use Rattle.riichi_tiles.specs.declared.meld.Meld.{Meld}
 use Rattle.riichi_shape.specs.Distance.{OrphansReached}
 use Rattle.riichi_shape.specs.Lacked.{FormLacks, OrphansLaw}
-use Rattle.riichi_shape.specs.Orphans.{IsThirteenOrphans, orphan_kinds, is_listed_orphan, orphan_tiles}
+use Rattle.riichi_tiles.specs.Forms.{IsThirteenOrphans, orphan_copies, orphan_kinds}
+use Rattle.riichi_tiles.specs.Kinds.{is_orphan}
 use Rattle.riichi_shape.specs.Special.{AreNearestOrphans, AreNoMelds, lacks_held}
 use Rattle.riichi_shape.specs.Winning.{lacking}
 use Rattle.riichi_shape.specs.declared.nearest_form.NearestForm.{NearestForm}
@@ -24,14 +25,14 @@ some_missing t x h true less = (refl, by_test (eqb x t) refl)
     by_test b e = grind (arith, nat_tests)
 some_missing t x h false less = absurd (omega (arith, less))
 
-at_least_one : (t x : ℕ) → is_listed_orphan x ≡ true → 0 < orphan_tiles t x
-at_least_one t x is = ap_less (is_listed_orphan x) (eqb x t) is
+at_least_one : (t x : ℕ) → is_orphan x ≡ true → 0 < orphan_copies t x
+at_least_one t x is = ap_less (is_orphan x) (eqb x t) is
   where
     ap_less : (b c : Bool) → b ≡ true → 0 < cond b (cond c 2 1) 0
     ap_less b c e = grind arith
 
-two_of : (x : ℕ) → is_listed_orphan x ≡ true → orphan_tiles x x ≡ 2
-two_of x is = two_there (is_listed_orphan x) (eqb x x) is (same x) (orphan_tiles x x) refl
+two_of : (x : ℕ) → is_orphan x ≡ true → orphan_copies x x ≡ 2
+two_of x is = two_there (is_orphan x) (eqb x x) is (same x) (orphan_copies x x) refl
   where
     same : (x : ℕ) → eqb x x ≡ true
     same x = grind (arith, nat_tests)
@@ -52,22 +53,22 @@ module _ (hand : List ℕ) (melds : List Meld) (n x : ℕ) (inside : x < 34) (no
   missing = total_of missing_one (map (slice_index hand) orphan_kinds)
 
   n_is : n ≡ missing + extra (slice_index hand reached.thirteen_orphans.doubled)
-  n_is = sym reached.lacks ∙ lack_is hand reached.thirteen_orphans.doubled reached.thirteen_orphans.doubles_orphan reached.wanted reached.thirteen_orphans.at
+  n_is = sym reached.lacks ∙ lack_is hand reached.thirteen_orphans.doubled reached.thirteen_orphans.is_kind reached.thirteen_orphans.doubles_orphan reached.wanted reached.thirteen_orphans.at
 
   subst_le : (a b c : ℕ) → a ≤ b → b ≡ c → a ≤ c
   subst_le a b c h e = omega arith
 
-  with_kind : (k : ℕ) → is_listed_orphan k ≡ true → n ≤ missing + extra (slice_index hand k)
-  with_kind k is =
-      subst_le n (lacking hand (orphans_wanted hand k)) (missing + extra (slice_index hand k)) (bound (orphans_wanted hand k) (record { doubled = k; doubles_orphan = is; at = orphans_at hand k }))
-      (lack_is hand k is (orphans_wanted hand k) (orphans_at hand k))
+  with_kind : (k : ℕ) → k < 34 → is_orphan k ≡ true → n ≤ missing + extra (slice_index hand k)
+  with_kind k low is =
+      subst_le n (lacking hand (orphans_wanted hand k)) (missing + extra (slice_index hand k)) (bound (orphans_wanted hand k) (record { doubled = k; is_kind = low; doubles_orphan = is; at = orphans_at hand k }))
+      (lack_is hand k low is (orphans_wanted hand k) (orphans_at hand k))
 
-  there : FormLacks IsThirteenOrphans hand melds n x → IsTrue (is_listed_orphan x) × ((slice_index hand x ≡ 0) ⊎ ((slice_index hand x ≡ 1) × ((k : ℕ) → IsTrue (is_listed_orphan k) → slice_index hand k ≤ 1)))
+  there : FormLacks IsThirteenOrphans hand melds n x → IsTrue (is_orphan x) × ((slice_index hand x ≡ 0) ⊎ ((slice_index hand x ≡ 1) × ((k : ℕ) → k < 34 → IsTrue (is_orphan k) → slice_index hand k ≤ 1)))
   there w =
-      let e : n ≡ missing + extra (slice_index hand w.is_form.doubled) = sym w.lacks ∙ lack_is hand w.is_form.doubled w.is_form.doubles_orphan w.wanted w.is_form.at in
-      let less : slice_index hand x < orphan_tiles w.is_form.doubled x = subst_less (slice_index hand x) (slice_index w.wanted x) (orphan_tiles w.is_form.doubled x) w.lacks_kind (w.is_form.at x inside) in
-      let m = some_missing w.is_form.doubled x (slice_index hand x) (is_listed_orphan x) less in
-      (m.0, ⊎_elim (λ none. inl none) (λ one. inr (one.0, λ k is. single k is e (extra_one (slice_index hand w.is_form.doubled) (same one.0 one.1)))) m.1)
+      let e : n ≡ missing + extra (slice_index hand w.is_form.doubled) = sym w.lacks ∙ lack_is hand w.is_form.doubled w.is_form.is_kind w.is_form.doubles_orphan w.wanted w.is_form.at in
+      let less : slice_index hand x < orphan_copies w.is_form.doubled x = subst_less (slice_index hand x) (slice_index w.wanted x) (orphan_copies w.is_form.doubled x) w.lacks_kind (w.is_form.at x inside) in
+      let m = some_missing w.is_form.doubled x (slice_index hand x) (is_orphan x) less in
+      (m.0, ⊎_elim (λ none. inl none) (λ one. inr (one.0, λ k low is. single k low is e (extra_one (slice_index hand w.is_form.doubled) (same one.0 one.1)))) m.1)
     where
       subst_less : (a b c : ℕ) → a < b → b ≡ c → a < c
       subst_less a b c h e = omega arith
@@ -75,17 +76,17 @@ module _ (hand : List ℕ) (melds : List Meld) (n x : ℕ) (inside : x < 34) (no
       same : {t : ℕ} → slice_index hand x ≡ 1 → x ≡ t → slice_index hand t < 2
       same {t} one at = omega (arith, one, ap (slice_index hand) at)
 
-      single : {v : ℕ} → (k : ℕ) → is_listed_orphan k ≡ true → n ≡ missing + v → v ≡ 1 → slice_index hand k ≤ 1
-      single {v} k is e one = ⊎_elim (λ low. omega (arith, low)) (λ high. absurd (contradict (extra (slice_index hand k)) v missing (with_kind k is) e one (extra_none (slice_index hand k) high))) (cases_lt (slice_index hand k) 2)
+      single : {v : ℕ} → (k : ℕ) → k < 34 → is_orphan k ≡ true → n ≡ missing + v → v ≡ 1 → slice_index hand k ≤ 1
+      single {v} k inside is e one = ⊎_elim (λ low. omega (arith, low)) (λ high. absurd (contradict (extra (slice_index hand k)) v missing (with_kind k inside is) e one (extra_none (slice_index hand k) high))) (cases_lt (slice_index hand k) 2)
         where
           contradict : (z v m : ℕ) → n ≤ m + z → n ≡ m + v → v ≡ 1 → z ≡ 0 → ⊥
           contradict z v m h e one none = omega arith
 
-  pub orphans_back : IsTrue (is_listed_orphan x) × ((slice_index hand x ≡ 0) ⊎ ((slice_index hand x ≡ 1) × ((k : ℕ) → IsTrue (is_listed_orphan k) → slice_index hand k ≤ 1))) → FormLacks IsThirteenOrphans hand melds n x
-  orphans_back lacked = ⊎_elim (λ none. as_reached none) (λ one. with_x one.0 (one.1 reached.thirteen_orphans.doubled reached.thirteen_orphans.doubles_orphan)) lacked.1
+  pub orphans_back : IsTrue (is_orphan x) × ((slice_index hand x ≡ 0) ⊎ ((slice_index hand x ≡ 1) × ((k : ℕ) → k < 34 → IsTrue (is_orphan k) → slice_index hand k ≤ 1))) → FormLacks IsThirteenOrphans hand melds n x
+  orphans_back lacked = ⊎_elim (λ none. as_reached none) (λ one. with_x one.0 (one.1 reached.thirteen_orphans.doubled reached.thirteen_orphans.is_kind reached.thirteen_orphans.doubles_orphan)) lacked.1
     where
-      few : (k t w : ℕ) → k < 34 → w ≡ orphan_tiles t k → w + tiles melds k ≤ 4
-      few k t w low e = sum_few w (orphan_tiles t k) (tiles melds k) e (orphan_few t k) (no_melds k low)
+      few : (k t w : ℕ) → k < 34 → w ≡ orphan_copies t k → w + tiles melds k ≤ 4
+      few k t w low e = sum_few w (orphan_copies t k) (tiles melds k) e (orphan_few t k) (no_melds k low)
         where
           sum_few : (w o m : ℕ) → w ≡ o → o ≤ 2 → m ≡ 0 → w + m ≤ 4
           sum_few w o m e h z = omega arith
@@ -99,7 +100,7 @@ module _ (hand : List ℕ) (melds : List Meld) (n x : ℕ) (inside : x < 34) (no
         is_form = reached.thirteen_orphans;
         within_four = record { at = λ k low. few k reached.thirteen_orphans.doubled (slice_index reached.wanted k) low (reached.thirteen_orphans.at k low) };
         lacks = reached.lacks;
-        lacks_kind = more (slice_index hand x) (slice_index reached.wanted x) (orphan_tiles reached.thirteen_orphans.doubled x) (reached.thirteen_orphans.at x inside) (zero_less (slice_index hand x) (orphan_tiles reached.thirteen_orphans.doubled x) none (at_least_one reached.thirteen_orphans.doubled x lacked.0));
+        lacks_kind = more (slice_index hand x) (slice_index reached.wanted x) (orphan_copies reached.thirteen_orphans.doubled x) (reached.thirteen_orphans.at x inside) (zero_less (slice_index hand x) (orphan_copies reached.thirteen_orphans.doubled x) none (at_least_one reached.thirteen_orphans.doubled x lacked.0));
       }
         where
           zero_less : (h o : ℕ) → h ≡ 0 → 0 < o → h < o
@@ -108,11 +109,11 @@ module _ (hand : List ℕ) (melds : List Meld) (n x : ℕ) (inside : x < 34) (no
       with_x : slice_index hand x ≡ 1 → slice_index hand reached.thirteen_orphans.doubled ≤ 1 → FormLacks IsThirteenOrphans hand melds n x
       with_x one single = record {
         wanted = orphans_wanted hand x;
-        is_form = record { doubled = x; doubles_orphan = lacked.0; at = orphans_at hand x };
+        is_form = record { doubled = x; is_kind = inside; doubles_orphan = lacked.0; at = orphans_at hand x };
         within_four = record { at = λ k low. few k x (slice_index (orphans_wanted hand x) k) low (orphans_at hand x k low) };
-        lacks = lack_is hand x lacked.0 (orphans_wanted hand x) (orphans_at hand x)
+        lacks = lack_is hand x inside lacked.0 (orphans_wanted hand x) (orphans_at hand x)
             ∙ sums (extra (slice_index hand x)) (extra (slice_index hand reached.thirteen_orphans.doubled)) missing (extra_one (slice_index hand x) (below (slice_index hand x) one)) (extra_one (slice_index hand reached.thirteen_orphans.doubled) (omega (arith, single))) n_is;
-        lacks_kind = more (slice_index hand x) (slice_index (orphans_wanted hand x) x) (orphan_tiles x x) (orphans_at hand x x inside) (one_less (slice_index hand x) (orphan_tiles x x) one (two_of x lacked.0));
+        lacks_kind = more (slice_index hand x) (slice_index (orphans_wanted hand x) x) (orphan_copies x x) (orphans_at hand x x inside) (one_less (slice_index hand x) (orphan_copies x x) one (two_of x lacked.0));
       }
         where
           below : (h : ℕ) → h ≡ 1 → h < 2
@@ -124,7 +125,7 @@ module _ (hand : List ℕ) (melds : List Meld) (n x : ℕ) (inside : x < 34) (no
           sums : (a b m : ℕ) → a ≡ 1 → b ≡ 1 → n ≡ m + b → m + a ≡ n
           sums a b m ea eb e = omega arith
 
-  pub orphans_there : FormLacks IsThirteenOrphans hand melds n x → IsTrue (is_listed_orphan x) × ((slice_index hand x ≡ 0) ⊎ ((slice_index hand x ≡ 1) × ((k : ℕ) → IsTrue (is_listed_orphan k) → slice_index hand k ≤ 1)))
+  pub orphans_there : FormLacks IsThirteenOrphans hand melds n x → IsTrue (is_orphan x) × ((slice_index hand x ≡ 0) ⊎ ((slice_index hand x ≡ 1) × ((k : ℕ) → k < 34 → IsTrue (is_orphan k) → slice_index hand k ≤ 1)))
   orphans_there w = there w
 
 pub orphans_lacked : OrphansLaw
@@ -140,17 +141,17 @@ module _ (hand held : List ℕ) (held_are : held ≡ map (slice_index hand) orph
   not_held_are = missing_count hand held kinds held_are kinds_are
 
   module _ (form : NearestForm) (reached : OrphansReached hand form.lack) (bound : (wanted : List ℕ) → IsThirteenOrphans wanted → form.lack ≤ lacking hand wanted) (missing_is : form.lacked.missing ≡ true)
-      (single_none : form.lacked.single ≡ true → (k : ℕ) → IsTrue (is_listed_orphan k) → slice_index hand k ≤ 1) (none_single : ((k : ℕ) → IsTrue (is_listed_orphan k) → slice_index hand k ≤ 1) → form.lacked.single ≡ true) where
+      (single_none : form.lacked.single ≡ true → (k : ℕ) → k < 34 → IsTrue (is_orphan k) → slice_index hand k ≤ 1) (none_single : ((k : ℕ) → k < 34 → IsTrue (is_orphan k) → slice_index hand k ≤ 1) → form.lacked.single ≡ true) where
     module _ (melds : List Meld) (no_melds : AreNoMelds melds) (kind : ℕ) (inside : kind < 34) where
-      counted_there : (lacks_held form.lacked (slice_index hand kind) && is_listed_orphan kind) ≡ true → FormLacks IsThirteenOrphans hand melds form.lack kind
+      counted_there : (lacks_held form.lacked (slice_index hand kind) && is_orphan kind) ≡ true → FormLacks IsThirteenOrphans hand melds form.lack kind
       counted_there e =
-          let both = and_parts (lacks_held form.lacked (slice_index hand kind)) (is_listed_orphan kind) e in
+          let both = and_parts (lacks_held form.lacked (slice_index hand kind)) (is_orphan kind) e in
           orphans_back hand melds form.lack kind inside no_melds reached bound (both.1, ⊎_elim (λ none. inl none.0) (λ one. inr (one.0, single_none one.1)) (lacks_there (slice_index hand kind) form.lacked both.0))
 
-      counted_back : FormLacks IsThirteenOrphans hand melds form.lack kind → (lacks_held form.lacked (slice_index hand kind) && is_listed_orphan kind) ≡ true
+      counted_back : FormLacks IsThirteenOrphans hand melds form.lack kind → (lacks_held form.lacked (slice_index hand kind) && is_orphan kind) ≡ true
       counted_back w =
           let h = orphans_there hand melds form.lack kind inside no_melds reached bound w in
-          and_from (lacks_held form.lacked (slice_index hand kind)) (is_listed_orphan kind) (lacks_back (slice_index hand kind) form.lacked (⊎_elim (λ none. inl (none, missing_is)) (λ one. inr (one.0, none_single one.1)) h.1)) h.0
+          and_from (lacks_held form.lacked (slice_index hand kind)) (is_orphan kind) (lacks_back (slice_index hand kind) form.lacked (⊎_elim (λ none. inl (none, missing_is)) (λ one. inr (one.0, none_single one.1)) h.1)) h.0
 
     nearest_are : AreNearestOrphans hand form
     nearest_are = record { bound = bound; reached = reached; lacked = λ melds no_melds kind inside. (counted_there melds no_melds kind inside, counted_back melds no_melds kind inside) }
@@ -161,8 +162,8 @@ module _ (hand held : List ℕ) (held_are : held ≡ map (slice_index hand) orph
       nearest_are form reached (λ wanted is. (let b = bound_doubled hand held held_are not_held doubled not_held_are doubled_are wanted is in omega (arith, b, lack_is))) missing_is
       (λ e. absurd (false≢true (sym single_is ∙ e))) (λ few. absurd (contradict few))
     where
-      contradict : ((k : ℕ) → IsTrue (is_listed_orphan k) → slice_index hand k ≤ 1) → ⊥
-      contradict few = let d = orphan_doubled hand held held_are not_held doubled not_held_are doubled_are some in omega (arith, few d.0 d.1, d.2)
+      contradict : ((k : ℕ) → k < 34 → IsTrue (is_orphan k) → slice_index hand k ≤ 1) → ⊥
+      contradict few = let d = orphan_doubled hand held held_are not_held doubled not_held_are doubled_are some in omega (arith, few d.0 d.1 d.2, d.3)
 
   pub nearest_single : (form : NearestForm) → doubled ≤ 0 → form.lack ≡ not_held + 1 → form.lacked.missing ≡ true → form.lacked.single ≡ true → AreNearestOrphans hand form
   nearest_single form none lack_is missing_is single_is =

@@ -5,7 +5,7 @@ use Rattle.std.proofs.lemmas.Bool.Decides.{nat_tests}
 use Rattle.std.proofs.lemmas.List.Sums.{sum_by-cons}
 use Rattle.std.specs.Prelude.{sum, sum_by, count_by, nat_le, slice_index}
 use Rattle.riichi_shape.specs.Distance.{PairsReached}
-use Rattle.riichi_shape.specs.Pairs.{IsSevenPairs}
+use Rattle.riichi_tiles.specs.Forms.{IsSevenPairs}
 use Rattle.riichi_shape.specs.Winning.{lacking}
 use Rattle.riichi_tiles.specs.Melds.{every_kind}
 use Rattle.riichi_rows.proofs.Spread.{same_spread, spread, spread_sum, sum_range, spread_shift, table, table_at, at_same_number}

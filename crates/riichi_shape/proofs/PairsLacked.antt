@@ -8,7 +8,7 @@ use Rattle.riichi_tiles.specs.declared.meld.Meld.{Meld}
 use Rattle.riichi_rows.proofs.Spread.{spread, sum_range, table_at}
 use Rattle.riichi_shape.specs.Distance.{PairsReached}
 use Rattle.riichi_shape.specs.Lacked.{FormLacks, PairsLaw, kinds_paired, kinds_single}
-use Rattle.riichi_shape.specs.Pairs.{IsSevenPairs}
+use Rattle.riichi_tiles.specs.Forms.{IsSevenPairs}
 use Rattle.riichi_shape.specs.Special.{AreNearestPairs, AreNoMelds, lacks_held}
 use Rattle.riichi_shape.specs.Winning.{lacking}
 use Rattle.riichi_shape.specs.declared.nearest_form.NearestForm.{NearestForm}

@@ -14,10 +14,9 @@ use Rattle.riichi_hand.specs.Hand.{size}
 use Rattle.riichi_rows.proofs.Spread.{spread, spread_none, spread_shift, spread_sum, spread_with, sum_range}
 use Rattle.riichi_shape.specs.Accepted.{with_one}
 use Rattle.riichi_shape.specs.Distance.{IsDistance}
-use Rattle.riichi_shape.specs.Orphans.{IsThirteenOrphans}
-use Rattle.riichi_shape.specs.Pairs.{IsSevenPairs}
+use Rattle.riichi_tiles.specs.Forms.{AreMadeOf, IsSetsAndPair, IsSevenPairs, IsThirteenOrphans}
 use Rattle.riichi_shape.specs.Ready.{IsReady, ReadyLaw}
-use Rattle.riichi_shape.specs.Winning.{IsSetsAndPair, IsWinning, lacking}
+use Rattle.riichi_shape.specs.Winning.{IsWinning, lacking}
 use Rattle.riichi_shape.proofs.OrphanLemmas.{lack_is}
 use Rattle.riichi_shape.proofs.PairLemmas.{sum_spread, total_of}
 use Rattle.riichi_shape.proofs.Uniqueness.{SameTiles}
@@ -56,15 +55,15 @@ sets_tiles (b ∷ bs) all =
 
 standard_tiles : (sets : ℕ) (wanted : List ℕ) → IsSetsAndPair sets wanted → spread (slice_index wanted) 0 34 ≡ 3 * sets + 2
 standard_tiles sets wanted is =
-    let told = spread_shift (slice_index wanted) (total (Pair is.pair ∷ is.blocks)) 0 0 34 (λ k low. is.adds_up (0 + k) (omega arith)) in
+    let told = spread_shift (slice_index wanted) (total (Pair is.pair ∷ is.blocks)) 0 0 34 (λ k low. is.made_of.adds_up (0 + k) (omega arith)) in
     let apart = spread_sum (copies (Pair is.pair)) (total is.blocks) (total (Pair is.pair ∷ is.blocks)) (λ k. refl) 0 34 in
-    omega (arith, told, apart, point_sum is.pair 2 is.is_kind, sets_tiles is.blocks is.are_sets, is.has_sets)
+    omega (arith, told, apart, point_sum is.pair 2 is.made_of.is_kind, sets_tiles is.blocks is.made_of.are_sets, is.has_sets)
 
 orphans_tiles : (wanted : List ℕ) → IsThirteenOrphans wanted → spread (slice_index wanted) 0 34 ≡ 14
 unfolding total_of
 orphans_tiles wanted is =
     spread_shift (slice_index wanted) (λ k. slice_index wanted k - slice_index [] k) 0 0 34 (λ k low. all_of (slice_index wanted (0 + k)))
-    ∙ sym (sum_range (λ k. slice_index wanted k - slice_index [] k) 0 34) ∙ lack_is [] is.doubled is.doubles_orphan wanted is.at
+    ∙ sym (sum_range (λ k. slice_index wanted k - slice_index [] k) 0 34) ∙ lack_is [] is.doubled is.is_kind is.doubles_orphan wanted is.at
   where
     all_of : (n : ℕ) → n ≡ n - 0
     all_of n = omega arith
@@ -131,11 +130,14 @@ one_place d a (suc n) one = ⊎_elim (λ some. one_first d a n (omega (arith, on
 
 winning_same : (melds : List Meld) (wanted same : List ℕ) → SameTiles same wanted → IsWinning melds wanted → IsWinning melds same
 winning_same melds wanted same are is = record {
-  form = ⊎_elim (λ s. inl (record { blocks = s.blocks; are_sets = s.are_sets; has_sets = s.has_sets; pair = s.pair; is_kind = s.is_kind; adds_up = λ kind low. are.at kind low ∙ s.adds_up kind low }))
+  form = ⊎_elim (λ s. inl (record { blocks = s.blocks; pair = s.pair; made_of = made s.blocks s.pair s.made_of; has_sets = s.has_sets }))
       (λ special. ⊎_elim (λ p. inr (inl (p.0, pairs p.1))) (λ o. inr (inr (o.0, orphans o.1))) special) is.form;
   within_four = record { at = λ kind low. omega (arith, are.at kind low, is.within_four.at kind low) };
 }
   where
+    made : (sets : List Block) (pair : ℕ) → AreMadeOf wanted sets pair → AreMadeOf same sets pair
+    made sets pair of = record { are_sets = of.are_sets; is_kind = of.is_kind; adds_up = λ kind low. are.at kind low ∙ of.adds_up kind low }
+
     pairs : IsSevenPairs wanted → IsSevenPairs same
     pairs p = record {
       two_or_none = λ kind low. ⊎_elim (λ none. inl (are.at kind low ∙ none)) (λ two. inr (are.at kind low ∙ two)) (p.two_or_none kind low);
@@ -143,7 +145,7 @@ winning_same melds wanted same are is = record {
     }
 
     orphans : IsThirteenOrphans wanted → IsThirteenOrphans same
-    orphans o = record { doubled = o.doubled; doubles_orphan = o.doubles_orphan; at = λ kind low. are.at kind low ∙ o.at kind low }
+    orphans o = record { doubled = o.doubled; is_kind = o.is_kind; doubles_orphan = o.doubles_orphan; at = λ kind low. are.at kind low ∙ o.at kind low }
 
 -- ---- a hand of thirteen
 

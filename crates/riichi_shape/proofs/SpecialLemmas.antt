@@ -5,8 +5,8 @@ use Rattle.std.specs.Prelude.{slice_index, ◌==◌, ◌&&◌, ◌↔◌}
 use Rattle.riichi_tiles.specs.declared.meld.Meld.{Meld}
 use Rattle.riichi_shape.specs.Distance.{IsDistance}
 use Rattle.riichi_shape.specs.Lacked.{FormLacks}
-use Rattle.riichi_shape.specs.Orphans.{IsThirteenOrphans, is_listed_orphan}
-use Rattle.riichi_shape.specs.Pairs.{IsSevenPairs}
+use Rattle.riichi_tiles.specs.Forms.{IsSevenPairs, IsThirteenOrphans}
+use Rattle.riichi_tiles.specs.Kinds.{is_orphan}
 use Rattle.riichi_shape.specs.Special.{AreSpecialForms, AreSpecialLacked, SpecialLacks, lacked_at, lacks_held, no_kind, special_lacks}
 use Rattle.riichi_shape.specs.declared.lacked_held.LackedHeld.{LackedHeld}
 use Rattle.riichi_shape.specs.declared.nearest_form.NearestForm.{NearestForm}
@@ -68,8 +68,8 @@ module _ (hand : List ℕ) (melds : List Meld) (forms : SpecialForms) (are : Are
         (λ no w. (let reached = (are.pairs no).reached in omega (arith, (are.pairs no).bound w.wanted w.is_form, w.lacks, none_less.bound reached.wanted (inl (no, reached.seven_pairs)), reached.lacks)))
         (λ no. (are.pairs no).lacked melds (no_tiles melds no) kind inside)
 
-    orphans_law : ((lacks_held (lacked_at forms.orphans n) held && is_listed_orphan kind) ≡ true) ↔ ((length melds ≡ 0) × FormLacks IsThirteenOrphans hand melds n kind)
-    orphans_law = form_is hand melds n kind low IsThirteenOrphans forms.orphans (λ l. lacks_held l held && is_listed_orphan kind) (ap (λ b. b && is_listed_orphan kind) (no_kind_held held)) are.no_orphans
+    orphans_law : ((lacks_held (lacked_at forms.orphans n) held && is_orphan kind) ≡ true) ↔ ((length melds ≡ 0) × FormLacks IsThirteenOrphans hand melds n kind)
+    orphans_law = form_is hand melds n kind low IsThirteenOrphans forms.orphans (λ l. lacks_held l held && is_orphan kind) (ap (λ b. b && is_orphan kind) (no_kind_held held)) are.no_orphans
         (λ no w. (let reached = (are.orphans no).reached in omega (arith, (are.orphans no).bound w.wanted w.is_form, w.lacks, none_less.bound reached.wanted (inr (no, reached.thirteen_orphans)), reached.lacks)))
         (λ no. (are.orphans no).lacked melds (no_tiles melds no) kind inside)
 
@@ -77,7 +77,7 @@ module _ (hand : List ℕ) (melds : List Meld) (forms : SpecialForms) (are : Are
   special_lacked lacked pairs_are orphans_are = record {
     at = λ kind inside. rw (pairs_are, orphans_are)
         (let pair_bit = lacks_held (lacked_at forms.pairs n) (slice_index hand kind) in
-        let orphan_bit = lacks_held (lacked_at forms.orphans n) (slice_index hand kind) && is_listed_orphan kind in (
+        let orphan_bit = lacks_held (lacked_at forms.orphans n) (slice_index hand kind) && is_orphan kind in (
           λ e. ⊎_elim (λ p. inl ((pairs_law kind inside).0 p)) (λ o. inr ((orphans_law kind inside).0 o)) (or_cases pair_bit orphan_bit e),
           λ w. ⊎_elim (λ p. or_left pair_bit orphan_bit ((pairs_law kind inside).1 p)) (λ o. or_right pair_bit orphan_bit ((orphans_law kind inside).1 o)) w,
         ));

@@ -1,10 +1,9 @@
 -- The distance is one number: the least lack over the list of every winning multiset.
-use Rattle.std.proofs.Common.{◌≡◌, ℕ, zero, suc, ◌+◌, ◌-◌, ◌<◌, true, inl, inr, List, [], ◌∷◌, ◌++◌, map, length, eqb, refl, sym, ap, ◌∙◌, ⊎_elim, subst, arith, Bool, false, cond}
+use Rattle.std.proofs.Common.{◌≡◌, ℕ, zero, suc, ◌+◌, ◌-◌, ◌<◌, true, inl, inr, List, [], ◌∷◌, ◌++◌, map, length, refl, sym, ap, ◌∙◌, ⊎_elim, subst, arith, Bool, false, cond}
 use Rattle.std.proofs.lemmas.List.FromFn.{get_or-map-range_with_len, length-map-range_with_len}
-use Rattle.std.proofs.lemmas.Bool.{false≢true, or_left, or_right, le-leb, leb-true, or_cases, eqb-true, eq-eqb}
+use Rattle.std.proofs.lemmas.Bool.{le-leb, leb-true}
 use Rattle.std.proofs.lemmas.Bool.Decides.{nat_tests}
 use Rattle.std.proofs.lemmas.List.Elements.{All-nil, All-cons, All-head, All-tail}
-use Rattle.std.specs.List.{list_any}
 use Rattle.std.specs.Prelude.{All, slice_index, sum_by, nat_le, ◌==◌}
 use Rattle.riichi_tiles.specs.Sets.{every_set, sets_at}
 use Rattle.riichi_tiles.proofs.Suits.{begins_at, run_low}
@@ -17,9 +16,9 @@ use Rattle.riichi_tiles.specs.declared.meld.Meld.{Meld}
 use Rattle.riichi_rows.proofs.Spread.{sum_range, spread_shift}
 use Rattle.riichi_shape.specs.Distance.{IsDistance}
 use Rattle.riichi_shape.specs.EveryWinning.{lists_of, counts_of, every_sets_and_pair, every_seven_pairs, every_orphans, every_special, is_within_four, every_winning, least, distance_of}
-use Rattle.riichi_shape.specs.Orphans.{IsThirteenOrphans, orphan_kinds, orphan_tiles}
-use Rattle.riichi_shape.specs.Pairs.{IsSevenPairs}
-use Rattle.riichi_shape.specs.Winning.{HasWinningForm, IsSetsAndPair, IsWinning, WithinFour, lacking}
+use Rattle.riichi_tiles.specs.Forms.{HasWinningForm, IsSetsAndPair, IsSevenPairs, IsThirteenOrphans, orphan_copies, orphan_kinds}
+use Rattle.riichi_shape.specs.Winning.{IsWinning, WithinFour, lacking}
+use Rattle.riichi_shape.proofs.OrphanLemmas.{is_listed, listed}
 use Rattle.riichi_shape.proofs.Members.{Among, all_among, all_of, among_either, among_filter, among_flat_map, among_get_or, among_left, among_lists, among_map, among_range, among_right, from_filter, from_flat_map, from_lists, from_map, from_range, least_is}
 
 -- two multisets with the same tiles
@@ -75,9 +74,9 @@ listed_sets : (sets : ℕ) (wanted : List ℕ) → IsSetsAndPair sets wanted →
 unfolding every_sets_and_pair
 listed_sets sets wanted is = record {
   listed = counts_of (Pair is.pair ∷ is.blocks);
-  among = among_flat_map (λ pair. map (λ blocks. counts_of (Pair pair ∷ blocks)) (lists_of every_set sets)) is.pair (counts_of (Pair is.pair ∷ is.blocks)) every_kind (among_range is.pair 0 34 (omega arith) (omega (arith, is.is_kind)))
-      (among_map (λ blocks. counts_of (Pair is.pair ∷ blocks)) is.blocks (lists_of every_set sets) (among_lists every_set sets is.blocks is.has_sets (each_set is.blocks is.are_sets)));
-  same = record { at = λ kind low. counts_at (Pair is.pair ∷ is.blocks) kind low ∙ sym (is.adds_up kind low) };
+  among = among_flat_map (λ pair. map (λ blocks. counts_of (Pair pair ∷ blocks)) (lists_of every_set sets)) is.pair (counts_of (Pair is.pair ∷ is.blocks)) every_kind (among_range is.pair 0 34 (omega arith) (omega (arith, is.made_of.is_kind)))
+      (among_map (λ blocks. counts_of (Pair is.pair ∷ blocks)) is.blocks (lists_of every_set sets) (among_lists every_set sets is.blocks is.has_sets (each_set is.blocks is.made_of.are_sets)));
+  same = record { at = λ kind low. counts_at (Pair is.pair ∷ is.blocks) kind low ∙ sym (is.made_of.adds_up kind low) };
 }
 
 sets_listed : (sets : ℕ) (wanted : List ℕ) → Among wanted (every_sets_and_pair sets) → IsSetsAndPair sets wanted
@@ -88,11 +87,13 @@ sets_listed sets wanted h =
     let list = from_lists every_set sets by_blocks.0 by_blocks.1 in
     record {
       blocks = by_blocks.0;
-      are_sets = all_sets by_blocks.0 list.each;
-      has_sets = list.long;
       pair = by_pair.0;
-      is_kind = (from_range by_pair.0 0 34 by_pair.1).1;
-      adds_up = λ kind low. ap (λ w. slice_index w kind) by_blocks.2 ∙ counts_at (Pair by_pair.0 ∷ by_blocks.0) kind low;
+      made_of = record {
+        are_sets = all_sets by_blocks.0 list.each;
+        is_kind = (from_range by_pair.0 0 34 by_pair.1).1;
+        adds_up = λ kind low. ap (λ w. slice_index w kind) by_blocks.2 ∙ counts_at (Pair by_pair.0 ∷ by_blocks.0) kind low;
+      };
+      has_sets = list.long;
     }
 
 -- ---- seven pairs
@@ -139,31 +140,24 @@ pairs_listed wanted h =
 
 -- ---- orphans
 
-among_any : (k : ℕ) (ks : List ℕ) → list_any (eqb k) ks ≡ true → Among k ks
-among_any k [] e = absurd (false≢true e)
-among_any k (x ∷ ks) e = ⊎_elim (λ t. inl (eqb-true k x t)) (λ later. inr (among_any k ks later)) (or_cases (eqb k x) (list_any (eqb k) ks) e)
-
-any_among : (k : ℕ) (ks : List ℕ) → Among k ks → list_any (eqb k) ks ≡ true
-any_among k [] h = absurd h
-any_among k (x ∷ ks) h =
-    ⊎_elim (λ e. or_left (eqb k x) (list_any (eqb k) ks) (eq-eqb k x e)) (λ later. or_right (eqb k x) (list_any (eqb k) ks) (any_among k ks later)) h
-
 listed_orphans : (wanted : List ℕ) → IsThirteenOrphans wanted → Listed every_orphans wanted
 unfolding every_orphans
 listed_orphans wanted is = record {
-  listed = map (orphan_tiles is.doubled) every_kind;
-  among = among_map (λ doubled. map (orphan_tiles doubled) every_kind) is.doubled orphan_kinds (among_any is.doubled orphan_kinds is.doubles_orphan);
-  same = record { at = λ kind low. get_or-map-range_with_len (orphan_tiles is.doubled) 0 34 kind kind 0 low (omega arith) ∙ sym (is.at kind low) };
+  listed = map (orphan_copies is.doubled) every_kind;
+  among = among_map (λ doubled. map (orphan_copies doubled) every_kind) is.doubled orphan_kinds (listed is.doubled is.is_kind is.doubles_orphan);
+  same = record { at = λ kind low. get_or-map-range_with_len (orphan_copies is.doubled) 0 34 kind kind 0 low (omega arith) ∙ sym (is.at kind low) };
 }
 
 orphans_listed : (wanted : List ℕ) → Among wanted every_orphans → IsThirteenOrphans wanted
 unfolding every_orphans
 orphans_listed wanted h =
-    let r = from_map (λ doubled. map (orphan_tiles doubled) every_kind) wanted orphan_kinds h in
+    let r = from_map (λ doubled. map (orphan_copies doubled) every_kind) wanted orphan_kinds h in
+    let is = is_listed r.0 r.1 in
     record {
       doubled = r.0;
-      doubles_orphan = any_among r.0 orphan_kinds r.1;
-      at = λ kind low. ap (λ w. slice_index w kind) r.2 ∙ get_or-map-range_with_len (orphan_tiles r.0) 0 34 kind kind 0 low (omega arith);
+      is_kind = is.0;
+      doubles_orphan = is.1;
+      at = λ kind low. ap (λ w. slice_index w kind) r.2 ∙ get_or-map-range_with_len (orphan_copies r.0) 0 34 kind kind 0 low (omega arith);
     }
 
 -- ---- all forms

@@ -1,9 +1,8 @@
 -- The least lack of a winning multiset, and the shanten.
 use Rattle.std.specs.Prelude.{◌≡◌, ℕ, ◌≤◌, ℤ, pos, ◌+ℤ◌, ◌≤ℤ◌, List, Option, Some, None}
 use Rattle.riichi_tiles.specs.declared.meld.Meld.{Meld}
-use Rattle.riichi_shape.specs.Orphans.{IsThirteenOrphans}
-use Rattle.riichi_shape.specs.Pairs.{IsSevenPairs}
-use Rattle.riichi_shape.specs.Winning.{IsSetsAndPair, IsWinning, WithinFour, lacking}
+use Rattle.riichi_tiles.specs.Forms.{IsSetsAndPair, IsSevenPairs, IsThirteenOrphans}
+use Rattle.riichi_shape.specs.Winning.{IsWinning, WithinFour, lacking}
 
 -- some winning multiset lacks n tiles, and none lacks less
 pub record IsDistance (hand : List ℕ) (melds : List Meld) (n : ℕ) : Type 0 where

@@ -7,7 +7,7 @@ use Rattle.riichi_tiles.specs.Sets.{every_set}
 use Rattle.riichi_tiles.specs.declared.block.Block.{Block}
 use Rattle.riichi_tiles.specs.declared.block.Block.TheVariants.{Pair}
 use Rattle.riichi_tiles.specs.declared.meld.Meld.{Meld}
-use Rattle.riichi_shape.specs.Orphans.{orphan_kinds, orphan_tiles}
+use Rattle.riichi_tiles.specs.Forms.{orphan_copies, orphan_kinds}
 use Rattle.riichi_shape.specs.Winning.{lacking}
 
 -- every list of so many of some things
@@ -29,7 +29,7 @@ every_seven_pairs = filter (λ wanted. sum_by (slice_index wanted) every_kind ==
 
 -- the terminals and honours, with each of them twice in turn
 unfoldable pub every_orphans : List (List ℕ)
-every_orphans = map (λ doubled. map (orphan_tiles doubled) every_kind) orphan_kinds
+every_orphans = map (λ doubled. map (orphan_copies doubled) every_kind) orphan_kinds
 
 -- the forms that stand beside no meld
 unfoldable pub every_special : ℕ → List (List ℕ)

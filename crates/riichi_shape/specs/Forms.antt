@@ -2,8 +2,7 @@
 use Rattle.std.specs.Prelude.{ℕ, ◌≡◌, ◌==◌, ◌<◌, ◌≤◌, List, length, min, Option, Some, None, if◌then◌else◌}
 use Rattle.riichi_tiles.specs.declared.meld.Meld.{Meld}
 use Rattle.riichi_shape.specs.Distance.{PairsReached, OrphansReached}
-use Rattle.riichi_shape.specs.Orphans.{IsThirteenOrphans}
-use Rattle.riichi_shape.specs.Pairs.{IsSevenPairs}
+use Rattle.riichi_tiles.specs.Forms.{IsSevenPairs, IsThirteenOrphans}
 use Rattle.riichi_shape.specs.Winning.{lacking}
 use Rattle.riichi_shape.specs.declared.forms.FormDistances.{FormDistances}
 

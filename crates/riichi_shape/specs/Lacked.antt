@@ -6,10 +6,10 @@ use Rattle.riichi_rows.specs.Join.{EntriesSum, IsLeastJoin}
 use Rattle.riichi_rows.specs.Lacked.{ChoiceLacks, IsOneMore}
 use Rattle.riichi_rows.specs.Suit.{IsSuitRow}
 use Rattle.riichi_shape.specs.Distance.{IsDistance, OrphansReached, PairsReached}
-use Rattle.riichi_shape.specs.Orphans.{IsThirteenOrphans, is_listed_orphan}
-use Rattle.riichi_shape.specs.Pairs.{IsSevenPairs}
+use Rattle.riichi_tiles.specs.Forms.{HasWinningForm, IsSetsAndPair, IsSevenPairs, IsThirteenOrphans}
+use Rattle.riichi_tiles.specs.Kinds.{is_orphan}
 use Rattle.riichi_shape.specs.Suits.{IsSuitOf}
-use Rattle.riichi_shape.specs.Winning.{HasWinningForm, IsSetsAndPair, WithinFour, lacking}
+use Rattle.riichi_shape.specs.Winning.{WithinFour, lacking}
 
 -- some multiset of a form that lacks n tiles has more of the kind x than the hand
 pub record FormLacks (IsForm : List ℕ → Type 0) (hand : List ℕ) (melds : List Meld) (n x : ℕ) : Type 0 where
@@ -86,4 +86,4 @@ abbrev pub OrphansLaw : Type 0
 OrphansLaw =
     (hand : List ℕ) (melds : List Meld) (n x : ℕ) → x < 34 → ((k : ℕ) → k < 34 → tiles melds k ≡ 0) →
     OrphansReached hand n → ((wanted : List ℕ) → IsThirteenOrphans wanted → n ≤ lacking hand wanted) →
-    FormLacks IsThirteenOrphans hand melds n x ↔ (IsTrue (is_listed_orphan x) × ((slice_index hand x ≡ 0) ⊎ ((slice_index hand x ≡ 1) × ((k : ℕ) → IsTrue (is_listed_orphan k) → slice_index hand k ≤ 1))))
+    FormLacks IsThirteenOrphans hand melds n x ↔ (IsTrue (is_orphan x) × ((slice_index hand x ≡ 0) ⊎ ((slice_index hand x ≡ 1) × ((k : ℕ) → k < 34 → IsTrue (is_orphan k) → slice_index hand k ≤ 1))))

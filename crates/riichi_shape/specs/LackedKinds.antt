@@ -9,7 +9,8 @@ use Rattle.riichi_shape.specs.Accepted.{AreAccepted, AreLiveCopies}
 use Rattle.riichi_shape.specs.EveryWinning.{distance_of}
 use Rattle.riichi_shape.specs.Lacked.{StandardLacks, WinningLacks}
 use Rattle.riichi_shape.specs.Special.{special_lacks}
-use Rattle.riichi_shape.specs.Winning.{IsSetsAndPair, WithinFour, lacking}
+use Rattle.riichi_tiles.specs.Forms.{IsSetsAndPair}
+use Rattle.riichi_shape.specs.Winning.{WithinFour, lacking}
 use Rattle.riichi_shape.specs.declared.lacked_kinds.LackedKinds.{LackedKinds}
 
 -- a kind is lacked where its rank is lacked in its suit

@@ -11,8 +11,6 @@ pub mod KindBits
 pub mod LackedKinds
 pub mod LiveCopies
 pub mod Ordered
-pub mod Orphans
-pub mod Pairs
 pub mod Ready
 pub mod Rows
 pub mod Special

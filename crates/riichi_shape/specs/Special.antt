@@ -4,8 +4,8 @@ use Rattle.riichi_tiles.specs.Melds.{tiles}
 use Rattle.riichi_tiles.specs.declared.meld.Meld.{Meld}
 use Rattle.riichi_shape.specs.Distance.{OrphansReached, PairsReached}
 use Rattle.riichi_shape.specs.Lacked.{FormLacks}
-use Rattle.riichi_shape.specs.Orphans.{IsThirteenOrphans, is_listed_orphan}
-use Rattle.riichi_shape.specs.Pairs.{IsSevenPairs}
+use Rattle.riichi_tiles.specs.Forms.{IsSevenPairs, IsThirteenOrphans}
+use Rattle.riichi_tiles.specs.Kinds.{is_orphan}
 use Rattle.riichi_shape.specs.Winning.{lacking}
 use Rattle.riichi_shape.specs.declared.nearest_form.NearestForm.{NearestForm}
 use Rattle.riichi_shape.specs.declared.lacked_held.LackedHeld.{LackedHeld}
@@ -39,7 +39,7 @@ abbrev pub lacked_at : NearestForm → ℕ → LackedHeld
 lacked_at form n = if form.lack == n then form.lacked else no_kind
 
 abbrev pub special_lacks : SpecialLacked → ℕ → ℕ → Bool
-special_lacks lacked kind held = lacks_held lacked.pairs held || (lacks_held lacked.orphans held && is_listed_orphan kind)
+special_lacks lacked kind held = lacks_held lacked.pairs held || (lacks_held lacked.orphans held && is_orphan kind)
 
 -- melds without any tile
 abbrev pub AreNoMelds : List Meld → Type 0
@@ -57,7 +57,7 @@ pub record AreNearestOrphans (hand : List ℕ) (form : NearestForm) : Type 0 whe
   pub bound : (wanted : List ℕ) → IsThirteenOrphans wanted → form.lack ≤ lacking hand wanted
   pub reached : OrphansReached hand form.lack
   pub lacked : (melds : List Meld) → AreNoMelds melds → (kind : ℕ) → kind < 34 →
-      IsTrue (lacks_held form.lacked (slice_index hand kind) && is_listed_orphan kind) ↔ FormLacks IsThirteenOrphans hand melds form.lack kind
+      IsTrue (lacks_held form.lacked (slice_index hand kind) && is_orphan kind) ↔ FormLacks IsThirteenOrphans hand melds form.lack kind
 
 -- what a hand lacks of both, where no meld stands; beside melds more than any distance
 pub record AreSpecialForms (hand : List ℕ) (melds : List Meld) (forms : SpecialForms) : Type 0 where

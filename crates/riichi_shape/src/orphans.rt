@@ -1,7 +1,7 @@
 //! Thirteen orphans.
 ghost use Rattle.std.specs.Prelude.{ℕ, List, [], ◌≡◌, ◌<◌, ◌≤◌, ◌∷◌, ◌++◌, count_by, length, map, nat_le, slice_index};
 ghost use Rattle.riichi_tiles.specs.Kinds.{is_orphan};
-ghost use Rattle.riichi_shape.specs.Orphans.{is_listed_orphan, orphan_kinds};
+ghost use Rattle.riichi_tiles.specs.Forms.{orphan_kinds};
 ghost use Rattle.riichi_shape.specs.Special.{AreNearestOrphans};
 
 use crate::lacked_held::LackedHeld;
@@ -71,13 +71,4 @@ pub(crate) fn nearest_orphans(hand: &Counts) -> NearestForm
             },
         }
     }
-}
-
-/// A terminal or an honour.
-#[tactic(auto, using(crate::proofs::ListedOrphans::listed_is))]
-pub(crate) fn is_listed_orphan(kind: Kind) -> bool
-    ensures listed { result ≡ is_listed_orphan kind }
-    ensures orphan { result ≡ is_orphan kind }
-{
-    matches!(kind.index(), 0 | 8 | 9 | 17 | 18 | 26..=33)
 }

@@ -8,7 +8,7 @@ ghost use Rattle.riichi_shape.specs.Special.{AreSpecialForms, AreSpecialLacked, 
 use crate::kind_bits::KindBits;
 use crate::lacked_held::{LackedHeld, NO_KIND};
 use crate::nearest_form::{FAR, NearestForm};
-use crate::orphans::{is_listed_orphan, nearest_orphans};
+use crate::orphans::nearest_orphans;
 use crate::pairs::nearest_pairs;
 use riichi_tiles::{Counts, Kind, Melds};
 
@@ -107,7 +107,7 @@ impl SpecialLacked {
     pub(crate) fn contains(&self, kind: Kind, held: u8) -> bool
         ensures { result ≡ special_lacks self.now kind held }
     {
-        self.pairs.contains(held) || self.orphans.contains(held) && is_listed_orphan(kind)
+        self.pairs.contains(held) || self.orphans.contains(held) && kind.is_orphan()
     }
 
     /// The kinds that are lacked by a hand that holds so many of each.

@@ -5,7 +5,8 @@ use Rattle.riichi_tiles.specs.declared.block.Block.{Block}
 use Rattle.riichi_split.specs.declared.split.Split.{Split}
 use Rattle.riichi_split.specs.declared.reading.Reading.{Reading}
 use Rattle.riichi_split.specs.declared.reading.Reading.TheVariants.{Standard, SevenPairs, Orphans}
-use Rattle.riichi_split.specs.Readings.{IsSplit, IsDone, IsReading, AreTheReadings, IsSevenPairs, IsOrphans}
+use Rattle.riichi_tiles.specs.Forms.{IsSevenPairs, IsThirteenOrphans}
+use Rattle.riichi_split.specs.Readings.{IsSplit, IsDone, IsReading, AreTheReadings}
 use Rattle.riichi_split.specs.Cuts.{AreTheSplits}
 use Rattle.riichi_split.specs.Dones.{flagged, dones, blocks_of, read_with, readings_with}
 use Rattle.riichi_split.proofs.Lists.{IsIn, Differ, in-left, in-right, in-cases, Differ-append, Contains-in, in-Contains, All-in, in-All, AllPairs-differ, differ-AllPairs, in-map, in-map-inv, Differ-map, in-flat_map, in-flat_map-inv, Differ-flat_map}
@@ -73,7 +74,7 @@ all-cases standard seven orphans r h =
       | inr b ↦ inr (elim (in-cases r (flagged orphans Orphans) standard b) [ inl x ↦ inl (flagged-inv orphans Orphans r x) | inr y ↦ inr y ])
     ]
 
-sound-all : (c : List ℕ) (melds w : ℕ) (standard : List Reading) (seven orphans : Bool) (r : Reading) → AreStandard c melds w standard → (IsTrue seven ↔ IsSevenPairs c melds) → (IsTrue orphans ↔ IsOrphans c melds) → IsIn r (all_of standard seven orphans) → IsReading c melds w r
+sound-all : (c : List ℕ) (melds w : ℕ) (standard : List Reading) (seven orphans : Bool) (r : Reading) → AreStandard c melds w standard → (IsTrue seven ↔ ((melds ≡ 0) × IsSevenPairs c)) → (IsTrue orphans ↔ ((melds ≡ 0) × IsThirteenOrphans c)) → IsIn r (all_of standard seven orphans) → IsReading c melds w r
 sound-all c melds w standard seven orphans r are s o h =
     let P : Reading → Type 0 = λ x. IsReading c melds w x in
     elim (all-cases standard seven orphans r h) [
@@ -81,13 +82,13 @@ sound-all c melds w standard seven orphans r are s o h =
       | inr b ↦ elim b [ inl x ↦ subst P x.1 (o.0 x.0) | inr y ↦ (are.sound r y).0 ]
     ]
 
-complete-all : (c : List ℕ) (melds w : ℕ) (standard : List Reading) (seven orphans : Bool) (r : Reading) → AreStandard c melds w standard → (IsTrue seven ↔ IsSevenPairs c melds) → (IsTrue orphans ↔ IsOrphans c melds) → IsReading c melds w r → IsIn r (all_of standard seven orphans)
+complete-all : (c : List ℕ) (melds w : ℕ) (standard : List Reading) (seven orphans : Bool) (r : Reading) → AreStandard c melds w standard → (IsTrue seven ↔ ((melds ≡ 0) × IsSevenPairs c)) → (IsTrue orphans ↔ ((melds ≡ 0) × IsThirteenOrphans c)) → IsReading c melds w r → IsIn r (all_of standard seven orphans)
 complete-all c melds w standard seven orphans (Standard sets p d) are s o h =
     in-right _ (flagged seven SevenPairs) _ (in-right _ (flagged orphans Orphans) _ (are.complete sets p d h.0 h.1))
 complete-all c melds w standard seven orphans SevenPairs are s o h = in-left _ _ _ (in-when seven SevenPairs (SevenPairs ∷ []) (s.1 h) (inl refl))
 complete-all c melds w standard seven orphans Orphans are s o h = in-right _ (flagged seven SevenPairs) _ (in-left _ _ _ (in-when orphans Orphans (Orphans ∷ []) (o.1 h) (inl refl)))
 
-pub the_readings : (c : List ℕ) (melds w : ℕ) (splits : List Split) (seven orphans : Bool) → AreTheSplits c melds splits → (IsTrue seven ↔ IsSevenPairs c melds) → (IsTrue orphans ↔ IsOrphans c melds) → AreTheReadings c melds w (all_of (flat_map (readings_with w) splits) seven orphans)
+pub the_readings : (c : List ℕ) (melds w : ℕ) (splits : List Split) (seven orphans : Bool) → AreTheSplits c melds splits → (IsTrue seven ↔ ((melds ≡ 0) × IsSevenPairs c)) → (IsTrue orphans ↔ ((melds ≡ 0) × IsThirteenOrphans c)) → AreTheReadings c melds w (all_of (flat_map (readings_with w) splits) seven orphans)
 the_readings c melds w splits seven orphans the_splits s o = let standard = flat_map (readings_with w) splits in let are = splits-standard c melds w splits the_splits in record {
   sound = All-in (IsReading c melds w) (all_of standard seven orphans) (λ r h. sound-all c melds w standard seven orphans r are s o h);
   complete = λ r h. Contains-in r (all_of standard seven orphans) (complete-all c melds w standard seven orphans r are s o h);

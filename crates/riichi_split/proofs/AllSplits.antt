@@ -11,6 +11,7 @@ use Rattle.riichi_tiles.specs.declared.block.Block.{Block}
 use Rattle.riichi_tiles.specs.Blocks.{total}
 use Rattle.riichi_split.specs.declared.split.Split.{Split}
 use Rattle.riichi_split.specs.Readings.{IsSplit}
+use Rattle.riichi_split.proofs.MadeOf.{adds-everywhere, each-set, made-of}
 use Rattle.riichi_split.specs.Cuts.{AreTheSplits, cut_from, sets_beside, split_of, from_choices, from_pairs, falling, doubts}
 use Rattle.riichi_split.proofs.Falling.{in-falling, falling-inv, Differ-falling}
 use Rattle.riichi_split.proofs.Lists.{IsIn, Differ, Contains-in, All-in, AllPairs-differ}
@@ -42,10 +43,8 @@ IsSplit-from c wanted melds p x bs counts w l e =
     let cut = IsCut-from (set c p (get_or c p 0 - 2)) 0 0 0 wanted x bs (simp length-set (omega (arith, counts.each_kind))) s.1 in
     record {
       four = omega (arith, cut.many);
-      each_a_set = cut.sets;
+      made_of = made-of c bs p cut.sets l (λ k low. let a = cut.adds k in let u = uncarried k in let t = same-total bs (0 + k) k (omega arith) in let v = without c p k (omega (arith, counts.each_kind)) s.0 in omega arith);
       in_order = cut.order;
-      pair_is_kind = l;
-      add_up = λ k. let a = cut.adds k in let u = uncarried k in let t = same-total bs (0 + k) k (omega arith) in let v = without c p k (omega (arith, counts.each_kind)) s.0 in omega arith;
     }
 
 beside-is : (c : List ℕ) (wanted p x : ℕ) (bs : List Block) → 2 ≤ get_or c p 0 → cut_from 0 (set c p (get_or c p 0 - 2)) 0 0 wanted x ≡ Some bs → sets_beside c wanted p x ≡ Some bs
@@ -87,15 +86,16 @@ least x n h i =
 pub choice-from : (c : List ℕ) (wanted melds p : ℕ) (bs : List Block) → IsCounts c → wanted + melds ≡ 4 → IsSplit c melds bs p → (x : ℕ) × (x < 2 ^ min 4 (doubts c)) × (sets_beside c wanted p x ≡ Some bs)
 choice-from c wanted melds p bs counts w h =
     let rest = set c p (get_or c p 0 - 2) in
-    let in_range : p < length c = omega (arith, counts.each_kind, h.pair_is_kind) in
-    let own : cond (eqb p p) 2 0 + total bs p ≡ get_or c p 0 = h.add_up p in
+    let adds = adds-everywhere c bs p counts.each_kind h.made_of in
+    let in_range : p < length c = omega (arith, counts.each_kind, h.made_of.is_kind) in
+    let own : cond (eqb p p) 2 0 + total bs p ≡ get_or c p 0 = adds p in
     let has : 2 ≤ get_or c p 0 = grind (arith, nat_tests) in
     let small : AllByRecursion (λ n. n ≤ 4) rest = small-by rest (λ k. let v = without c p k in_range has in omega (arith, v, counts.at_most_four k)) in
     let cut : IsCut 0 rest 0 0 wanted bs = record {
       many = omega (arith, h.four);
-      sets = h.each_a_set;
+      sets = each-set c bs p h.made_of;
       order = h.in_order;
-      adds = λ k. let a : cond (eqb k p) 2 0 + total bs k ≡ get_or c k 0 = h.add_up k in let u = uncarried k in let t = same-total bs (0 + k) k (omega arith) in let v = without c p k in_range has in omega arith;
+      adds = λ k. let a : cond (eqb k p) 2 0 + total bs k ≡ get_or c k 0 = adds k in let u = uncarried k in let t = same-total bs (0 + k) k (omega arith) in let v = without c p k in_range has in omega arith;
     } in
     let f : IsFound 0 rest 0 0 wanted bs = found-by rest 0 0 0 wanted bs small cut in
     let few : wanted ≤ 4 = omega arith in

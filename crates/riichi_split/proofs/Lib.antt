@@ -15,6 +15,8 @@ pub mod DoneSteps
 pub mod AllReadings
 pub mod Next
 pub mod Collections
+pub mod MadeOf
+pub mod PairCounts
 pub mod EveryReading
 pub mod AnyTile
 pub mod Marks

@@ -1,5 +1,5 @@
 -- The marks of the kinds that a hand waits for.
-use Rattle.std.proofs.Common.{not, None, Ok, ap, ◌≡◌, ℕ, zero, suc, ◌+◌, ◌*◌, ◌<◌, ◌≤◌, ◌↔◌, ◌⊎◌, subst, Bool, true, false, List, [], ◌∷◌, length, get_or, refl, sym, ◌∙◌, arith, ltb, IsTrue, inl, inr}
+use Rattle.std.proofs.Common.{not, None, Ok, ap, ◌≡◌, ℕ, zero, suc, ◌+◌, ◌*◌, ◌<◌, ◌≤◌, ◌↔◌, subst, Bool, true, false, List, [], ◌∷◌, length, get_or, refl, sym, ◌∙◌, arith, ltb, IsTrue, inl, inr}
 use Rattle.std.specs.List.{list_any}
 use Rattle.std.proofs.lemmas.Bool.{cases_lt, and_parts, and_from, ltb-true, lt-ltb, true_from_ne_false}
 use Rattle.std.proofs.lemmas.Bool.Decides.{nat_tests, same_from_decides}
@@ -16,13 +16,12 @@ use Rattle.riichi_hand.specs.Hand.{copies_held, size, is_thirteen, has_five_copi
 use Rattle.std.specs.List.{sum}
 use Rattle.riichi_tiles.specs.Melds.{tiles}
 use Rattle.riichi_tiles.specs.declared.meld.Meld.{Meld}
-use Rattle.riichi_split.specs.Readings.{IsSevenPairs, IsOrphans}
 use Rattle.riichi_split.specs.SpecialWaits.{AddsSpecial}
-use Rattle.riichi_split.specs.Winning.{HasReading, HasShape, HasSplit}
+use Rattle.riichi_split.specs.Winning.{HasReading, HasSplit}
 use Rattle.riichi_split.proofs.SpecialKinds.{fifth-completes-none}
 use Rattle.riichi_split.specs.Waits.{with_one, IsWait, is_wait, waits_of}
 use Rattle.riichi_split.specs.ReadingsOf.{readings_of}
-use Rattle.riichi_split.proofs.AnyTile.{some-reading, reading-iff}
+use Rattle.riichi_split.proofs.AnyTile.{HasShape, some-reading, reading-iff}
 use Rattle.riichi_split.proofs.EveryReading.{every_reading}
 
 -- ---- one kind
@@ -75,7 +74,7 @@ all_marked hand marks counts few long each = ext_get_or false marks (waits_of ha
 -- a wait makes one of them
 wait-shape : (hand : HandParts) (kind : ℕ) → IsCounts hand.concealed → IsWait hand kind ↔ ((kind < 34) × (copies_held hand.concealed hand.melds kind < 4) × HasShape (with_one hand.concealed kind) (length hand.melds))
 wait-shape hand kind counts =
-    let i = λ (l : kind < 34). reading-iff (with_one hand.concealed kind) (length hand.melds) kind (held-with_one hand.concealed kind (omega (arith, counts.each_kind))) in (
+    let i = λ (l : kind < 34). reading-iff (with_one hand.concealed kind) (length hand.melds) kind (length-with_one hand.concealed kind ∙ counts.each_kind) (held-with_one hand.concealed kind (omega (arith, counts.each_kind))) in (
       λ w. (w.of_a_kind, w.some_left, (i w.of_a_kind).1 w.completes),
       λ h. record { of_a_kind = h.0; some_left = h.1; completes = (i h.0).0 h.2 },
     )
@@ -90,18 +89,17 @@ closed-waits hand old marks counts none standard adds kind =
     let s = wait-shape hand kind counts in
     let a = adds.each kind in
     let o = standard kind in
-    let t : tiles hand.melds kind ≡ 0 = ap (λ (melds : List Meld). tiles melds kind) (nil_from_length hand.melds none) in
-    let S : ℕ → Type 0 = λ n. IsSevenPairs (with_one hand.concealed kind) n ⊎ IsOrphans (with_one hand.concealed kind) n in (
+    let t : tiles hand.melds kind ≡ 0 = ap (λ (melds : List Meld). tiles melds kind) (nil_from_length hand.melds none) in (
       λ m. elim (a.0 m) [
         | inl b ↦ let h = o.0 b in s.1 (h.0, omega (arith, h.1, t), inl h.2)
         | inr w ↦ elim (cases_lt (get_or hand.concealed kind 0) 4) [
-          | inl l ↦ s.1 (w.1.0, omega (arith, l, t), inr (subst S (sym none) w.1.1))
+          | inl l ↦ s.1 (w.1.0, omega (arith, l, t), inr (elim w.1.1 [ inl pairs ↦ inl (none, pairs) | inr orphans ↦ inr (none, orphans) ]))
           | inr four ↦ absurd (fifth-completes-none hand.concealed kind counts.each_kind four w.1)
         ]
       ],
       λ w. let h = s.0 w in a.1 (elim h.2 [
         | inl split ↦ inl (o.1 (h.0, omega (arith, h.1, t), split))
-        | inr special ↦ inr (h.0, (h.0, subst S none special))
+        | inr special ↦ inr (h.0, (h.0, elim special [ inl pairs ↦ inl pairs.1 | inr orphans ↦ inr orphans.1 ]))
       ]),
     )
 
@@ -119,7 +117,7 @@ open-waits hand old marks counts some standard left others kind =
             omega (arith, h.1),
             elim h.2 [
               | inl split ↦ split
-              | inr special ↦ absurd (elim special [ inl p ↦ omega (arith, p.no_meld, some) | inr z ↦ omega (arith, z.no_meld, some) ])
+              | inr special ↦ absurd (elim special [ inl pairs ↦ omega (arith, pairs.0, some) | inr orphans ↦ omega (arith, orphans.0, some) ])
             ],
           ),
           h.1,

@@ -1,5 +1,5 @@
 -- Each collection of sets has one ordered list: sort it; two such lists are one.
-use Rattle.std.proofs.Common.{◌≡◌, ℕ, ◌+◌, ◌<◌, ◌≤◌, Bool, true, false, cond, List, [], ◌∷◌, refl, sym, ap, ◌∙◌, arith, leb}
+use Rattle.std.proofs.Common.{◌≡◌, ℕ, ◌+◌, ◌<◌, ◌≤◌, Bool, true, false, cond, List, [], ◌∷◌, length, refl, sym, ap, ◌∙◌, arith, leb}
 use Rattle.std.specs.List.{AllByRecursion}
 use Rattle.std.proofs.lemmas.Bool.{cond_both, leb-true, leb-false}
 use Rattle.riichi_tiles.specs.declared.block.Block.{Block}
@@ -38,6 +38,10 @@ times-sorted y bs = sym (sum-sorted (times y) (λ b. cond (same_block y b) 1 0) 
 -- sorted sets have the same tiles
 pub total-sorted : (k : ℕ) (bs : List Block) → total (sorted bs) k ≡ total bs k
 total-sorted k bs = sum-sorted (λ bs. total bs k) (λ b. copies b k) (λ b bs. refl) bs
+
+-- and are as many
+pub length-sorted : (bs : List Block) → length (sorted bs) ≡ length bs
+length-sorted bs = sum-sorted (λ bs. length bs) (λ b. 1) (λ b bs. omega arith) bs
 
 sets-put : (b : Block) (xs : List Block) → IsSet b → AllByRecursion IsSet xs → AllByRecursion IsSet (put b xs)
 unfolding put

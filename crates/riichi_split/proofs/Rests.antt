@@ -31,7 +31,7 @@ record HasRests (c : List ℕ) (pair : ℕ) : Type 0 where
 
 rests-of : (c : List ℕ) (melds : ℕ) (sets : List Block) (pair : ℕ) → length c ≡ 34 → IsSplit c melds sets pair → HasRests c pair
 rests-of c melds sets pair long split =
-    let w = won-by c melds sets pair split in
+    let w = won-by c melds sets pair long split in
     let own = w.0.pair in record {
       suit = own;
       has_pair = w.1;

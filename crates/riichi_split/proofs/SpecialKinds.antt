@@ -5,52 +5,51 @@ use Rattle.std.proofs.lemmas.Bool.Decides.{nat_tests}
 use Rattle.std.proofs.lemmas.List.{get_or-set_other}
 use Rattle.std.proofs.lemmas.Grind.{get_or-set_at}
 use Rattle.riichi_tiles.specs.Kinds.{is_orphan}
-use Rattle.riichi_split.specs.Readings.{IsSevenPairs, IsOrphans, orphan_copies}
-use Rattle.riichi_split.specs.Waits.{with_one}
+use Rattle.riichi_tiles.specs.Forms.{orphan_copies}
 use Rattle.riichi_split.specs.SpecialWaits.{IsSpecialWait, CompletesPairs, CompletesOrphans, Adds, AddsSpecial}
 use Rattle.riichi_split.proofs.KindSums.{get_or-more}
 
 -- a kind that is neither none nor two is the one that is completed
-pub single-completed : (c : List ℕ) (kind single : ℕ) → kind < length c → get_or c single 0 ≢ 0 → get_or c single 0 ≢ 2 → IsSevenPairs (with_one c kind) 0 → kind ≡ single
-single-completed c kind single small none two s = elim (cases_eq single kind) [
+pub single-completed : (c : List ℕ) (kind single : ℕ) → length c ≡ 34 → kind < 34 → single < 34 → get_or c single 0 ≢ 0 → get_or c single 0 ≢ 2 → CompletesPairs c kind → kind ≡ single
+single-completed c kind single long small low none two s = elim (cases_eq single kind) [
   | inl e ↦ sym e
-  | inr n ↦ let o = get_or-more c kind single 1 small in elim (s.twos single) [
+  | inr n ↦ let o = get_or-more c kind single 1 (omega (arith, long, small)) in elim (s.two_or_none single low) [
     | inl z ↦ absurd (none (grind (arith, nat_tests, o, z)))
     | inr t ↦ absurd (two (grind (arith, nat_tests, o, t)))
   ]
 ]
 
 -- where each is none or two, none is completed
-pub none-completed : (c : List ℕ) (kind : ℕ) → kind < length c → (get_or c kind 0 ≡ 0) ⊎ (get_or c kind 0 ≡ 2) → IsSevenPairs (with_one c kind) 0 → ⊥
-none-completed c kind small h s =
-    let o = get_or-more c kind kind 1 small in
-    elim (s.twos kind) [
+pub none-completed : (c : List ℕ) (kind : ℕ) → length c ≡ 34 → kind < 34 → (get_or c kind 0 ≡ 0) ⊎ (get_or c kind 0 ≡ 2) → CompletesPairs c kind → ⊥
+none-completed c kind long small h s =
+    let o = get_or-more c kind kind 1 (omega (arith, long, small)) in
+    elim (s.two_or_none kind small) [
       | inl z ↦ elim h [ inl a ↦ grind (arith, nat_tests, o, z, a) | inr b ↦ grind (arith, nat_tests, o, z, b) ]
       | inr t ↦ elim h [ inl a ↦ grind (arith, nat_tests, o, t, a) | inr b ↦ grind (arith, nat_tests, o, t, b) ]
     ]
 
-held-orphan : (twice kind : ℕ) → IsTrue (is_orphan kind) → 0 < orphan_copies twice kind
-held-orphan twice kind o = grind (arith, nat_tests, o)
+held-orphan : (doubled kind : ℕ) → IsTrue (is_orphan kind) → 0 < orphan_copies doubled kind
+held-orphan doubled kind o = grind (arith, nat_tests, o)
 
 -- the kind that is completed isn't one that is still lacking
-lacked-completed : (c : List ℕ) (kind lacked : ℕ) → lacked < 34 → IsTrue (is_orphan lacked) → get_or c lacked 0 ≡ 0 → lacked ≢ kind → IsOrphans (with_one c kind) 0 → ⊥
+lacked-completed : (c : List ℕ) (kind lacked : ℕ) → lacked < 34 → IsTrue (is_orphan lacked) → get_or c lacked 0 ≡ 0 → lacked ≢ kind → CompletesOrphans c kind → ⊥
 lacked-completed c kind lacked l o z n h =
-    omega (arith, get_or-set_other c kind lacked (get_or c kind 0 + 1) 0 n, h.twice.3 lacked l, z, held-orphan h.twice.0 lacked o)
+    omega (arith, get_or-set_other c kind lacked (get_or c kind 0 + 1) 0 n, h.at lacked l, z, held-orphan h.doubled lacked o)
 
-few-orphans : (twice kind : ℕ) → orphan_copies twice kind ≤ 2
-few-orphans twice kind = grind (arith, nat_tests)
+few-orphans : (doubled kind : ℕ) → orphan_copies doubled kind ≤ 2
+few-orphans doubled kind = grind (arith, nat_tests)
 
 -- a fifth copy completes nothing
 pub fifth-completes-none : (c : List ℕ) (kind : ℕ) → length c ≡ 34 → 4 ≤ get_or c kind 0 → IsSpecialWait c kind → ⊥
 fifth-completes-none c kind long four w =
     let o = get_or-set_at c kind kind (get_or c kind 0 + 1) 0 refl (omega (arith, long, w.0)) in
     elim w.1 [
-      | inl s ↦ elim (s.twos kind) [ inl z ↦ omega (arith, o, z, four) | inr t ↦ omega (arith, o, t, four) ]
-      | inr h ↦ omega (arith, o, h.twice.3 kind w.0, few-orphans h.twice.0 kind, four)
+      | inl s ↦ elim (s.two_or_none kind w.0) [ inl z ↦ omega (arith, o, z, four) | inr t ↦ omega (arith, o, t, four) ]
+      | inr h ↦ omega (arith, o, h.at kind w.0, few-orphans h.doubled kind, four)
     ]
 
 -- the kind that is completed is the one that is lacking
-pub lacked-is : (c : List ℕ) (kind lacked : ℕ) → lacked < 34 → IsTrue (is_orphan lacked) → get_or c lacked 0 ≡ 0 → IsOrphans (with_one c kind) 0 → kind ≡ lacked
+pub lacked-is : (c : List ℕ) (kind lacked : ℕ) → lacked < 34 → IsTrue (is_orphan lacked) → get_or c lacked 0 ≡ 0 → CompletesOrphans c kind → kind ≡ lacked
 lacked-is c kind lacked l o z h = elim (cases_eq lacked kind) [ inl e ↦ sym e | inr n ↦ absurd (lacked-completed c kind lacked l o z n h) ]
 
 pub adds-both : (c : List ℕ) (old middle marks : List Bool) → Adds (CompletesPairs c) 34 old middle → Adds (CompletesOrphans c) 34 middle marks → AddsSpecial c 34 old marks

@@ -20,6 +20,7 @@ use Rattle.riichi_split.specs.SuitTiles.{OneSuit, AreCut, AreSets, AreSetsAndPai
 use Rattle.riichi_split.specs.Cuts.{suit_total}
 use Rattle.riichi_split.specs.Waits.{with_one}
 use Rattle.riichi_split.specs.Readings.{IsSplit}
+use Rattle.riichi_split.proofs.MadeOf.{adds-everywhere, each-set, made-of}
 use Rattle.riichi_split.specs.Winning.{HasSplit}
 use Rattle.riichi_split.proofs.Orders.{sorted, sets-sorted, order-sorted, total-sorted}
 use Rattle.riichi_split.proofs.KindSums.{suit_total-suc, suit_total-zero, sum-none, sum-run, sum-triplet, sum-split, total-sum, one-kind}
@@ -100,23 +101,24 @@ won-suits c suit rank small two b cut = record {
   others = λ other ne. in-suits c AreSets other (let P : List ℕ → Type 0 = λ xs. AreCut (has_runs other) 0 0 xs in subst P (b.there other ne) (cut other));
 }
 
-pub won-by : (c : List ℕ) (melds : ℕ) (sets : List Block) (p : ℕ) → IsSplit c melds sets p → (won : AreWon (suits_of c)) × IsOfSuit won.pair p
+pub won-by : (c : List ℕ) (melds : ℕ) (sets : List Block) (p : ℕ) → length c ≡ 34 → IsSplit c melds sets p → (won : AreWon (suits_of c)) × IsOfSuit won.pair p
 unfolding won-suits
-won-by c melds sets p s =
-    let place = some_suit p s.pair_is_kind in
+won-by c melds sets p long s =
+    let adds = adds-everywhere c sets p long s.made_of in
+    let place = some_suit p s.made_of.is_kind in
     let suit = place.0 in
     let rank = p - first_of suit in
     let at : first_of suit + rank ≡ p = omega (arith, place.1.low) in
     let small : rank < 9 = omega (arith, place.1.low, nine_at_most suit p place.1) in
     let C : ℕ → Type 0 = λ k. AllCut c k in
-    let cut : C (first_of suit + rank) = subst C (sym at) (cut-of sets s.each_a_set (beside c p) (λ k. let a = s.add_up k in omega (arith, a))) in
-    let b = is-beside c suit rank small (omega (arith, at, s.pair_is_kind)) in
+    let cut : C (first_of suit + rank) = subst C (sym at) (cut-of sets (each-set c sets p s.made_of) (beside c p) (λ k. let a = adds k in omega (arith, a))) in
+    let b = is-beside c suit rank small (omega (arith, at, s.made_of.is_kind)) in
     let T : ℕ → Type 0 = λ k. 2 ≤ get_or c k 0 in
-    let two : 2 ≤ get_or c p 0 = let a = s.add_up p in let e : cond {A = ℕ} (eqb p p) 2 0 ≡ 2 = grind (arith, nat_tests) in omega (arith, a, e) in
+    let two : 2 ≤ get_or c p 0 = let a = adds p in let e : cond {A = ℕ} (eqb p p) 2 0 ≡ 2 = grind (arith, nat_tests) in omega (arith, a, e) in
     (won-suits c suit rank small (subst T (sym at) two) b cut, place.1)
 
-pub won-from-split : (c : List ℕ) (melds : ℕ) → HasSplit c melds → AreWon (suits_of c)
-won-from-split c melds h = (won-by c melds h.0 h.1 h.2).0
+pub won-from-split : (c : List ℕ) (melds : ℕ) → length c ≡ 34 → HasSplit c melds → AreWon (suits_of c)
+won-from-split c melds long h = (won-by c melds h.0 h.1 long h.2).0
 
 -- ---- how many sets there are
 
@@ -145,7 +147,7 @@ tiles-of-split c sets p long kind s adds = omega (arith, sum-split (λ f. suit_t
 
 -- a split has four sets and a pair
 pub split-size : (c : List ℕ) (melds : ℕ) → length c ≡ 34 → HasSplit c melds → sum c + 3 * melds ≡ 14
-split-size c melds long h = let s = h.2 in omega (arith, tiles-of-split c h.0 h.1 long s.pair_is_kind s.each_a_set s.add_up, s.four)
+split-size c melds long h = let s = h.2 in omega (arith, tiles-of-split c h.0 h.1 long s.made_of.is_kind (each-set c h.0 h.1 s.made_of) (adds-everywhere c h.0 h.1 long s.made_of), s.four)
 
 -- ---- from the suits to a split
 
@@ -186,10 +188,8 @@ split-from-won c melds long sum-c w =
       p,
       record {
         four = omega (arith, sum-c, tiles-of-split c (sorted m.0) p long kind each adds);
-        each_a_set = each;
+        made_of = made-of c (sorted m.0) p each kind (λ k low. adds k);
         in_order = order-sorted m.0;
-        pair_is_kind = kind;
-        add_up = adds;
       },
     )
 
@@ -249,6 +249,6 @@ completes-iff c melds kind long sum-c =
       λ h. record {
         of_a_kind = h.0;
         some_left = omega (arith, h.1, left h.0);
-        wins = same-won (suits_of (with_one c kind)) (with_kind (suits_of c) kind) (more-suits c kind h.0 long) (won-from-split (with_one c kind) melds h.2);
+        wins = same-won (suits_of (with_one c kind)) (with_kind (suits_of c) kind) (more-suits c kind h.0 long) (won-from-split (with_one c kind) melds (length-set c kind (get_or c kind 0 + 1) ∙ long) h.2);
       },
     )

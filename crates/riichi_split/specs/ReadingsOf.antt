@@ -3,13 +3,13 @@ use Rattle.std.specs.Prelude.{ℕ, zero, suc, ◌-◌, ◌==◌, Bool, ◌&&◌,
 use Rattle.std.specs.List.{list_all, list_any, flat_map, count_by}
 use Rattle.riichi_tiles.specs.Melds.{every_kind}
 use Rattle.riichi_tiles.specs.Blocks.{total, place_of}
+use Rattle.riichi_tiles.specs.Forms.{orphan_copies}
 use Rattle.riichi_tiles.specs.declared.block.Block.{Block}
 use Rattle.riichi_tiles.specs.declared.block.Block.TheVariants.{Pair}
 use Rattle.riichi_split.specs.declared.reading.Reading.{Reading}
 use Rattle.riichi_split.specs.declared.reading.Reading.TheVariants.{SevenPairs, Orphans}
 use Rattle.riichi_tiles.specs.Kinds.{is_orphan}
 use Rattle.riichi_tiles.specs.Sets.{every_set}
-use Rattle.riichi_split.specs.Readings.{orphan_copies}
 use Rattle.riichi_split.specs.declared.split.Split.{Split}
 use Rattle.riichi_split.specs.Dones.{readings_with, flagged}
 

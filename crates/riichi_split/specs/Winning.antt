@@ -1,8 +1,8 @@
 -- Winning hands.
-use Rattle.std.specs.Prelude.{ℕ, ◌<◌, ◌⊎◌, List, slice_index}
+use Rattle.std.specs.Prelude.{ℕ, ◌<◌, List, slice_index}
 use Rattle.riichi_tiles.specs.declared.block.Block.{Block}
 use Rattle.riichi_split.specs.declared.reading.Reading.{Reading}
-use Rattle.riichi_split.specs.Readings.{IsSplit, IsSevenPairs, IsOrphans, IsReading}
+use Rattle.riichi_split.specs.Readings.{IsSplit, IsReading}
 
 -- the tiles have a reading beside so many melds, won by that tile
 abbrev pub HasReading : List ℕ → ℕ → ℕ → Type 0
@@ -12,10 +12,6 @@ HasReading counts melds winning = (reading : Reading) × IsReading counts melds 
 abbrev pub IsWin : List ℕ → ℕ → Type 0
 IsWin counts melds = (winning : ℕ) × (0 < slice_index counts winning) × HasReading counts melds winning
 
--- Whichever tile wins, a reading needs one of the three shapes.
-
+-- sets and a pair, with so many melds among the sets, listed in order
 abbrev pub HasSplit : List ℕ → ℕ → Type 0
 HasSplit counts melds = (sets : List Block) × (pair : ℕ) × IsSplit counts melds sets pair
-
-abbrev pub HasShape : List ℕ → ℕ → Type 0
-HasShape counts melds = HasSplit counts melds ⊎ (IsSevenPairs counts melds ⊎ IsOrphans counts melds)

@@ -1,13 +1,10 @@
 //! The kinds that complete seven pairs or the orphans.
 ghost use Rattle.std.specs.Prelude.{◌≡◌, ◌≢◌, ◌↔◌, ◌<◌, ◌≤◌, ◌⊎◌, ℕ, IsTrue, length, slice_index};
 ghost use Rattle.riichi_tiles.specs.Kinds.{is_orphan};
-ghost use Rattle.riichi_split.specs.Readings.{IsSevenPairs, IsOrphans, HasEachOrphan};
-ghost use Rattle.riichi_split.specs.Waits.{with_one};
+ghost use Rattle.riichi_split.specs.Readings.{HasEachOrphan};
 ghost use Rattle.riichi_split.specs.SpecialWaits as spec;
 
-use crate::special::{
-    are_orphans_once, are_seven_pairs, are_thirteen_orphans, is_terminal_or_honour,
-};
+use crate::special::{are_orphans_once, are_seven_pairs, are_thirteen_orphans};
 use riichi_tiles::{Counts, Kind, KindSet};
 
 /// Marks the kinds that complete seven pairs or the orphans, where no meld stands.
@@ -65,15 +62,16 @@ fn mark_orphans(marks: &mut KindSet)
     ensures { spec.Adds (λ kind. IsTrue (is_orphan kind)) 34 marks.old marks.new }
 {
     for number in 0..34u8 {
-        if is_terminal_or_honour(number as usize) {
-            marks.insert(Kind::at(number));
+        let kind = Kind::at(number);
+        if kind.is_orphan() {
+            marks.insert(kind);
         }
     }
 }
 
 /// The only kind of which neither none nor two are held, or 34: no other kind completes seven pairs.
 fn single_of(counts: &[u8; 34]) -> u8
-    ensures only { (kind : ℕ) → kind < 34 → IsSevenPairs (with_one counts.now kind) 0
+    ensures only { (kind : ℕ) → kind < 34 → spec.CompletesPairs counts.now kind
         → kind ≡ result }
     ensures kind { result ≤ 34 }
 {
@@ -114,8 +112,7 @@ fn next_lacking(counts: &[u8; 34]) -> u8
     ensures all { result ≡ 34 → HasEachOrphan counts.now }
 {
     for number in 0..34u8 {
-        let kind = number as usize;
-        if counts[kind] == 0 && is_terminal_or_honour(kind) {
+        if counts[number as usize] == 0 && Kind::at(number).is_orphan() {
             return number;
         }
     }
@@ -124,10 +121,10 @@ fn next_lacking(counts: &[u8; 34]) -> u8
 
 /// Whether no tile but terminals and honours is held.
 fn are_orphans_alone(counts: &[u8; 34]) -> bool
-    ensures { (kind : ℕ) → kind < 34 → IsOrphans (with_one counts.now kind) 0 → IsTrue result }
+    ensures { (kind : ℕ) → kind < 34 → spec.CompletesOrphans counts.now kind → IsTrue result }
 {
     for (kind, count) in counts.iter().enumerate() {
-        if *count > 0 && !is_terminal_or_honour(kind) {
+        if *count > 0 && !Kind::at(kind as u8).is_orphan() {
             return false;
         }
     }

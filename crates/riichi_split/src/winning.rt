@@ -1,6 +1,8 @@
 //! Winning hands.
-ghost use Rattle.std.specs.Prelude.{◌↔◌, ◌<◌, ℕ, IsTrue, slice_index};
-ghost use Rattle.riichi_split.specs.Winning.{HasReading, IsWin, HasSplit, HasShape};
+ghost use Rattle.std.specs.Prelude.{◌↔◌, ◌<◌, ◌≤◌, ℕ, IsTrue, slice_index};
+ghost use Rattle.riichi_tiles.specs.Forms.{HasWinningForm};
+ghost use Rattle.riichi_tiles.specs.Tiles.{IsCounts};
+ghost use Rattle.riichi_split.specs.Winning.{HasReading, IsWin, HasSplit};
 
 use crate::special::{are_seven_pairs, are_thirteen_orphans};
 use crate::standard::has_split;
@@ -12,12 +14,13 @@ pub fn is_win(counts: &Counts, melds: u8) -> bool
     ensures by_any { (winning : ℕ) → 0 < slice_index counts.now winning
         → IsTrue result ↔ HasReading counts.now melds winning }
 {
-    has_shape(counts, melds as usize)
+    has_winning_form(counts, melds as usize)
 }
 
-/// The tiles are four sets and a pair, the melds among the sets, or seven pairs, or orphans.
-fn has_shape(counts: &Counts, melds: usize) -> bool
-    ensures { IsTrue result ↔ HasShape counts.now melds }
+/// The tiles are four sets and a pair, the melds among the sets, or seven pairs, or thirteen orphans.
+fn has_winning_form(counts: &Counts, melds: usize) -> bool
+    ensures form { IsTrue result ↔ ((melds ≤ 4) × HasWinningForm melds counts.now) }
+    ensures counts { IsCounts counts.now }
 {
     let tiles = counts.as_array();
     are_sets_and_pair(counts, melds)

@@ -7,6 +7,7 @@ pub mod Printing
 pub mod Groups
 pub mod Melds
 pub mod Sets
+pub mod Forms
 pub mod Dora
 pub mod Reds
 pub mod Blocks

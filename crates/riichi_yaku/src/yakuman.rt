@@ -5,18 +5,19 @@ ghost use Rattle.riichi_yaku.specs.Yakuman as spec;
 
 use crate::honours::{has_dragon_triplets, has_wind_triplets, is_last_wind};
 use riichi_blocks::{
-    AllTiles, Blocks, EAST, KINDS, is_dealer, is_of_suit, is_orphans, is_standard, is_terminal,
+    AllTiles, Blocks, EAST, KINDS, is_dealer, is_of_suit, is_orphans, is_standard,
 };
 use riichi_hand::WinRecord;
 use riichi_split::Reading;
+use riichi_tiles::Kind;
 
 /// How many of a kind nine gates has at least.
-fn gate_copies(suit: usize, kind: usize) -> u8
+fn gate_copies(suit: usize, kind: Kind) -> u8
     ensures { result ≡ spec.gate_copies suit kind }
 {
-    if !is_of_suit(suit, kind) {
+    if !is_of_suit(suit, kind.index()) {
         0
-    } else if is_terminal(kind) {
+    } else if kind.is_terminal() {
         3
     } else {
         1
@@ -26,7 +27,7 @@ fn gate_copies(suit: usize, kind: usize) -> u8
 fn has_gates(counts: &[u8; 34], suit: usize) -> bool
     ensures { result ≡ spec.has_gates counts.now suit }
 {
-    (0..KINDS).all(|kind| counts[kind] >= gate_copies(suit, kind))
+    (0..KINDS).all(|kind| counts[kind] >= gate_copies(suit, Kind::at(kind as u8)))
 }
 
 fn has_suit_with_gates(tiles: &AllTiles, suit: usize) -> bool

@@ -1,6 +1,6 @@
 use Rattle.std.proofs.Common.{List, ℕ, map, refl, arith}
 use Rattle.std.specs.Prelude.{slice_index}
-use Rattle.riichi_shape.specs.Orphans.{orphan_kinds}
+use Rattle.riichi_tiles.specs.Forms.{orphan_kinds}
 use Rattle.riichi_shape.proofs.OrphansLacked.{nearest_doubled, nearest_single}
 use Rattle.riichi_shape.proofs.orphans.nearest_orphans.Goals as goal
 
