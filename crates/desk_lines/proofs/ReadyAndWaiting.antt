@@ -1,9 +1,8 @@
 -- A hand is ready exactly where it waits.
-use Rattle.std.proofs.Common.{◌≡◌, ℕ, pos, ◌+◌, ◌≤ℤ◌, ◌<◌, ◌≤◌, ◌↔◌, inl, inr, Bool, true, false, List, [], ◌∷◌, length, refl, sym, subst, ap, ◌∙◌, arith}
-use Rattle.std.proofs.lemmas.Bool.{cases_eq, eqb-true, ltb-false, or_parts}
+use Rattle.std.proofs.Common.{◌≡◌, ℕ, pos, ◌+◌, ◌≤ℤ◌, ◌<◌, ◌≤◌, ◌↔◌, inl, inr, true, false, List, [], ◌∷◌, length, refl, sym, subst, arith}
+use Rattle.std.proofs.lemmas.Bool.{cases_eq, eqb-true, ltb-false}
 use Rattle.std.proofs.lemmas.Int.{ints}
 use Rattle.std.proofs.lemmas.List.{length-set}
-use Rattle.std.specs.List.{list_any}
 use Rattle.std.specs.Prelude.{nat_lt, slice_index}
 use Rattle.riichi_tiles.specs.Tiles.{IsCounts}
 use Rattle.riichi_tiles.specs.Melds.{every_kind, tiles}
@@ -12,13 +11,12 @@ use Rattle.riichi_hand.specs.HandParts.{HandParts}
 use Rattle.riichi_hand.specs.Hand.{copies_held, has_five_copies, is_thirteen, size, IsHand}
 use Rattle.riichi_split.specs.Waits.{with_one}
 use Rattle.riichi_split.proofs.AnyTile.{form-iff, reading-iff}
-use Rattle.riichi_split.proofs.Lists.{IsIn, in-range}
+use Rattle.riichi_tiles.proofs.Members.{IsIn, in-range, none-in}
 use Rattle.riichi_split.proofs.Marks.{few_melds}
 use Rattle.riichi_shape.specs.EveryWinning.{distance_of, every_winning, shanten_of}
 use Rattle.riichi_shape.specs.Ready.{IsReady}
 use Rattle.riichi_shape.specs.Winning.{IsWinning}
 use Rattle.riichi_shape.proofs.Distances.{never_none}
-use Rattle.riichi_shape.proofs.Members.{Among}
 use Rattle.riichi_shape.proofs.ReadyLemmas.{one_more_at, one_more_past, ready_is}
 use Rattle.riichi_shape.proofs.ShapeFacts.{no_faults}
 use Rattle.riichi_shape.proofs.Uniqueness.{distance_from, listed_winning, winning_listed}
@@ -32,15 +30,10 @@ some_winning hand melds within few = by_list (every_winning melds) refl
     by_list : (all : List (List ℕ)) → every_winning melds ≡ all → (wanted : List ℕ) × IsWinning melds wanted
     by_list [] none =
         absurd (never_none hand melds few within
-        (λ wanted sets four. subst (λ (all : List (List ℕ)). Among (listed_winning melds wanted (record { form = inl sets; within_four = four })).listed all) none (listed_winning melds wanted (record { form = inl sets; within_four = four })).among))
-    by_list (first ∷ rest) some = (first, winning_listed melds first (subst (λ (all : List (List ℕ)). Among first all) (sym some) (inl refl)))
+        (λ wanted sets four. subst (λ (all : List (List ℕ)). IsIn (listed_winning melds wanted (record { form = inl sets; within_four = four })).listed all) none (listed_winning melds wanted (record { form = inl sets; within_four = four })).among))
+    by_list (first ∷ rest) some = (first, winning_listed melds first (subst (λ (all : List (List ℕ)). IsIn first all) (sym some) (inl refl)))
 
 -- ---- what is known of a hand
-
-none_of : (p : ℕ → Bool) (xs : List ℕ) (x : ℕ) → list_any p xs ≡ false → IsIn x xs → p x ≡ false
-none_of p [] x none here = absurd here
-none_of p (y ∷ xs) x none (inl first) = ap p (sym first) ∙ (or_parts (p y) (list_any p xs) none).0
-none_of p (y ∷ xs) x none (inr later) = none_of p xs x (or_parts (p y) (list_any p xs) none).1 later
 
 module _ (hand : HandParts) (counts : IsCounts hand.concealed) (is : IsHand hand) where
   tests : (is_thirteen hand.concealed hand.melds ≡ true) × (has_five_copies hand.concealed hand.melds ≡ false)
@@ -54,7 +47,7 @@ module _ (hand : HandParts) (counts : IsCounts hand.concealed) (is : IsHand hand
 
   at_most_four : (kind : ℕ) → kind < 34 → copies_held hand.concealed hand.melds kind ≤ 4
   at_most_four kind low =
-      ltb-false 4 (copies_held hand.concealed hand.melds kind) (none_of (λ kind. nat_lt 4 (copies_held hand.concealed hand.melds kind)) every_kind kind tests.1 (in-range 34 0 kind (omega arith) (omega (arith, low))))
+      ltb-false 4 (copies_held hand.concealed hand.melds kind) (none-in (λ kind. nat_lt 4 (copies_held hand.concealed hand.melds kind)) every_kind tests.1 kind (in-range 34 0 kind (omega arith) (omega (arith, low))))
 
   pub melded : (kind : ℕ) → kind < 34 → tiles hand.melds kind ≤ 4
   melded kind low = omega (arith, at_most_four kind low)

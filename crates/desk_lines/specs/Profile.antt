@@ -7,9 +7,11 @@ use Rattle.riichi_hand.specs.declared.win.Rules.TheVariants.{One, Two}
 use Rattle.riichi_hand.specs.Words.{words_of}
 use Rattle.riichi_hand.specs.Lines.{is_other_byte}
 
+-- the profile of a number
 abbrev pub profile_numbered : List ℕ → Option Rules
 profile_numbered number = if bytes_eq number (codes "1") then Some One else if bytes_eq number (codes "2") then Some Two else None
 
+-- the profile that the words `rules 1` or `rules 2` name
 abbrev pub profile_of_words : List (List ℕ) → Option Rules
 profile_of_words (word ∷ number ∷ []) = if bytes_eq word (codes "rules") then profile_numbered number else None
 profile_of_words words = None
@@ -28,12 +30,12 @@ abbrev pub record_lines : List (List ℕ) → List (List ℕ)
 record_lines [] = []
 record_lines (line ∷ lines) = if is_some (profile_of line) then lines else line ∷ lines
 
--- the profile once one more line was read
+-- the profile once one more line was read; `None` before the first line
 abbrev pub rules_by : Rules → Option Rules → List ℕ → Rules
 rules_by given None line = unwrap_or (profile_of line) given
 rules_by given (Some rules) line = rules
 
--- under which profile one more line is a record; none where it sets the profile
+-- the profile under which one more line is answered; `None` where the line sets the profile, and is no record
 abbrev pub record_rules : Rules → Option Rules → List ℕ → Option Rules
 record_rules given None line = if is_some (profile_of line) then None else Some given
 record_rules given (Some rules) line = Some rules

@@ -29,7 +29,7 @@ of_meld (Pon kind) = Triplet kind false
 of_meld (Kan kind) = Kong kind false
 of_meld (Ankan kind) = Kong kind true
 
--- the sets in hand, the pair and the melds of a standard reading; seven pairs and thirteen orphans have no blocks
+-- the sets in hand, the pair and the melds of a standard reading; seven pairs and thirteen orphans have no blocks, so that no yaku of sets holds of them
 abbrev pub blocks_of : Reading → WinParts → List HandBlock
 blocks_of (Standard sets pair done) parts = map (of_set parts.by done) sets ++ Pair pair ∷ map of_meld parts.melds
 blocks_of other parts = []
@@ -42,9 +42,9 @@ abbrev pub is_seven_pairs : Reading → Bool
 is_seven_pairs SevenPairs = true
 is_seven_pairs other = false
 
-abbrev pub is_orphans : Reading → Bool
-is_orphans Orphans = true
-is_orphans other = false
+abbrev pub is_thirteen_orphans : Reading → Bool
+is_thirteen_orphans Orphans = true
+is_thirteen_orphans other = false
 
 -- ---- words on a block; a triplet is a triplet or a kong
 
@@ -56,10 +56,10 @@ abbrev pub is_run_from : ℕ → HandBlock → Bool
 is_run_from low (Run held) = held == low
 is_run_from low other = false
 
-abbrev pub is_triplet : HandBlock → Bool
-is_triplet (Triplet kind concealed) = true
-is_triplet (Kong kind concealed) = true
-is_triplet other = false
+abbrev pub is_triplet_or_kong : HandBlock → Bool
+is_triplet_or_kong (Triplet kind concealed) = true
+is_triplet_or_kong (Kong kind concealed) = true
+is_triplet_or_kong other = false
 
 abbrev pub is_triplet_of : ℕ → HandBlock → Bool
 is_triplet_of kind (Triplet held concealed) = held == kind

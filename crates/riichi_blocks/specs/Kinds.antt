@@ -27,7 +27,7 @@ dragons = range_with_len 31 3
 abbrev pub is_simple : ℕ → Bool
 is_simple kind = not (is_orphan kind)
 
--- the suits are 0 for m, 1 for p, 2 for s
+-- the suits are 0 for m, 1 for p, 2 for s, 3 for the honours
 abbrev pub is_of_suit : ℕ → ℕ → Bool
 is_of_suit suit kind = kind / 9 == suit
 

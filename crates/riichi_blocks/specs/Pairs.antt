@@ -1,15 +1,15 @@
 -- The pair, and the fu that it earns.
-use Rattle.std.specs.Prelude.{ℕ, ◌+◌, Bool, false, ◌==◌, nat_le, if◌then◌else◌}
+use Rattle.std.specs.Prelude.{ℕ, ◌+◌, Bool, false, ◌==◌, if◌then◌else◌}
 use Rattle.riichi_hand.specs.declared.win.WinParts.{WinParts}
 use Rattle.riichi_hand.specs.Win.{wind_kind}
 use Rattle.riichi_blocks.specs.declared.hand_block.HandBlock.{HandBlock}
 use Rattle.riichi_blocks.specs.declared.hand_block.HandBlock.TheVariants.{Pair}
-use Rattle.riichi_blocks.specs.Kinds.{white}
+use Rattle.riichi_blocks.specs.Kinds.{is_dragon}
 
--- The fu of a pair of this kind: of dragons 2, of the seat wind 2, of the prevalent wind 2; both winds 4.
+-- The fu of a pair of this kind: of dragons 2, of the seat wind 2, of the round's wind 2; both winds 4.
 abbrev pub pair_fu : WinParts → ℕ → ℕ
 pair_fu parts kind =
-    (if nat_le white kind then 2 else 0)
+    (if is_dragon kind then 2 else 0)
     + (if kind == wind_kind parts.seat then 2 else 0)
     + (if kind == wind_kind parts.round then 2 else 0)
 

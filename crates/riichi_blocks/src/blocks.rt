@@ -150,7 +150,7 @@ impl Blocks {
 
     /// How many blocks are triplets or kongs.
     pub fn triplets(&self) -> usize
-        ensures { result ≡ count_by spec.is_triplet self.now }
+        ensures { result ≡ count_by spec.is_triplet_or_kong self.now }
     {
         self.triplets as usize
     }

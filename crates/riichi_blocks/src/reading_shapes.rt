@@ -19,8 +19,8 @@ pub fn is_seven_pairs(reading: &Reading) -> bool
 }
 
 /// Whether the reading is thirteen orphans.
-pub fn is_orphans(reading: &Reading) -> bool
-    ensures { result ≡ spec.is_orphans reading.now }
+pub fn is_thirteen_orphans(reading: &Reading) -> bool
+    ensures { result ≡ spec.is_thirteen_orphans reading.now }
 {
     matches!(reading, Reading::Orphans)
 }

@@ -16,7 +16,7 @@ use Rattle.riichi_blocks.specs.HandBlocks.{blocks_of}
 use Rattle.riichi_blocks.specs.Kinds.{white}
 use Rattle.riichi_blocks.specs.Waits.{is_closed_wait, is_edge_wait, wait_fu}
 use Rattle.riichi_yaku.specs.Runs.{is_pinfu}
-use Rattle.riichi_score.specs.Fu.{ron_fu, draw_fu, block_fu, open_fu, fu_sum, fu_of, up_to_ten}
+use Rattle.riichi_score.specs.Fu.{ron_fu, self_draw_fu, block_fu, open_fu, fu_sum, fu_of, up_to_ten}
 use Rattle.riichi_explain.specs.declared.fu.FuPart.{FuPart}
 use Rattle.riichi_explain.specs.declared.fu.FuPart.TheVariants as part
 use Rattle.riichi_explain.specs.declared.fu.FuRow.{FuRow}
@@ -78,7 +78,7 @@ pub total-plain : (blocks : List HandBlock) (reading : Reading) (done : Block) (
 total-plain blocks reading done win =
     let a = earned part.Base 20 in
     let b = earned part.ConcealedRon (ron_fu win) in
-    let c = earned part.SelfDraw (draw_fu (is_pinfu blocks reading win) win) in
+    let c = earned part.SelfDraw (self_draw_fu (is_pinfu blocks reading win) win) in
     let d = flat_map (block_rows win) blocks in
     let e = wait_rows win.winning done in
     omega (
@@ -89,7 +89,7 @@ total-plain blocks reading done win =
       total-append a b,
       total-earned part.Base 20,
       total-earned part.ConcealedRon (ron_fu win),
-      total-earned part.SelfDraw (draw_fu (is_pinfu blocks reading win) win),
+      total-earned part.SelfDraw (self_draw_fu (is_pinfu blocks reading win) win),
       total-blocks win blocks,
       total-wait win.winning done,
     )

@@ -15,7 +15,7 @@ use Rattle.riichi_score.specs.Base.{is_raised, product_of, base_of}
 use Rattle.riichi_score.specs.Dora.{dora_of}
 use Rattle.riichi_score.specs.Fu.{fu_of}
 use Rattle.riichi_score.specs.Payment.{payment_of, paid_for, gain_of}
-use Rattle.riichi_score.specs.Scores.{score_of, counted, limit, IsReadingOf}
+use Rattle.riichi_score.specs.Scores.{score_of, counted, yakuman_score, IsReadingOf}
 use Rattle.riichi_score.specs.declared.score.Score.{Score}
 use Rattle.riichi_explain.specs.declared.base.BaseRule.TheVariants.{Product, Capped, Raised, Limited}
 use Rattle.riichi_explain.specs.declared.base.Limit.TheVariants.{Mangan, Haneman, Baiman, Sanbaiman, Yakuman}
@@ -77,12 +77,12 @@ pays base Tsumo false counters sticks = omega arith
 -- a score of a counted hand, or of a yakuman
 pub record IsCounted (r : Reading) (w : WinParts) (s : Score) : Type 0 where
   pub counted : is_yakuman s.yaku ≡ false → s ≡ counted s.yaku (fu_of r w) (dora_of w) w
-  pub yakuman : is_yakuman s.yaku ≡ true → s ≡ limit s.yaku w
+  pub yakuman : is_yakuman s.yaku ≡ true → s ≡ yakuman_score s.yaku w
 
-counted-score : (r : Reading) (w : WinParts) (yaku : ℕ) (none yakuman : Bool) (s : Score) → none ≡ eqb yaku 0 → yakuman ≡ is_yakuman yaku → cond none None (cond yakuman (Some (limit yaku w)) (Some (counted yaku (fu_of r w) (dora_of w) w))) ≡ Some s → IsCounted r w s
+counted-score : (r : Reading) (w : WinParts) (yaku : ℕ) (none yakuman : Bool) (s : Score) → none ≡ eqb yaku 0 → yakuman ≡ is_yakuman yaku → cond none None (cond yakuman (Some (yakuman_score yaku w)) (Some (counted yaku (fu_of r w) (dora_of w) w))) ≡ Some s → IsCounted r w s
 counted-score r w yaku true yakuman s a b e = absurd (cc)
 counted-score r w yaku false true s a b e =
-    let same : limit yaku w ≡ s = cc in
+    let same : yakuman_score yaku w ≡ s = cc in
     subst (λ (x : Score). IsCounted r w x) same (record { counted = λ h. absurd (cc); yakuman = λ h. refl })
 counted-score r w yaku false false s a b e =
     let same : counted yaku (fu_of r w) (dora_of w) w ≡ s = cc in

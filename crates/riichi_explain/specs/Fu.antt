@@ -1,5 +1,5 @@
 -- The rows of a hand's fu.
-use Rattle.std.specs.Prelude.{ℕ, ◌==◌, nat_le, List, [], ◌∷◌, ◌++◌, if◌then◌else◌}
+use Rattle.std.specs.Prelude.{ℕ, ◌==◌, List, [], ◌∷◌, ◌++◌, if◌then◌else◌}
 use Rattle.std.specs.List.{sum_by, flat_map}
 use Rattle.riichi_tiles.specs.declared.block.Block.{Block}
 use Rattle.riichi_tiles.specs.declared.block.Block.TheVariants as block
@@ -10,10 +10,10 @@ use Rattle.riichi_split.specs.declared.reading.Reading.TheVariants.{Standard, Se
 use Rattle.riichi_blocks.specs.declared.hand_block.HandBlock.{HandBlock}
 use Rattle.riichi_blocks.specs.declared.hand_block.HandBlock.TheVariants.{Run, Triplet, Kong, Pair}
 use Rattle.riichi_blocks.specs.HandBlocks.{blocks_of}
-use Rattle.riichi_blocks.specs.Kinds.{white}
+use Rattle.riichi_blocks.specs.Kinds.{is_dragon}
 use Rattle.riichi_blocks.specs.Waits.{is_closed_wait, is_edge_wait}
 use Rattle.riichi_yaku.specs.Runs.{is_pinfu}
-use Rattle.riichi_score.specs.Fu.{ron_fu, draw_fu, block_fu, open_fu, fu_sum, up_to_ten}
+use Rattle.riichi_score.specs.Fu.{ron_fu, self_draw_fu, block_fu, open_fu, fu_sum, up_to_ten}
 use Rattle.riichi_explain.specs.declared.fu.FuPart.{FuPart}
 use Rattle.riichi_explain.specs.declared.fu.FuPart.TheVariants as part
 use Rattle.riichi_explain.specs.declared.fu.FuRow.{FuRow}
@@ -25,7 +25,7 @@ earned part fu = if fu == 0 then [] else record { part = part; fu = fu } ∷ []
 -- a pair of dragons, of the seat wind, of the prevalent wind: 2 each
 abbrev pub pair_rows : WinParts → ℕ → List FuRow
 pair_rows win kind =
-    earned (part.DragonPair kind) (if nat_le white kind then 2 else 0)
+    earned (part.DragonPair kind) (if is_dragon kind then 2 else 0)
     ++ earned (part.SeatWindPair kind) (if kind == wind_kind win.seat then 2 else 0)
     ++ earned (part.PrevalentWindPair kind) (if kind == wind_kind win.round then 2 else 0)
 
@@ -49,7 +49,7 @@ abbrev pub plain_rows : List HandBlock → Reading → Block → WinParts → Li
 plain_rows blocks reading done win =
     earned part.Base 20
     ++ earned part.ConcealedRon (ron_fu win)
-    ++ earned part.SelfDraw (draw_fu (is_pinfu blocks reading win) win)
+    ++ earned part.SelfDraw (self_draw_fu (is_pinfu blocks reading win) win)
     ++ flat_map (block_rows win) blocks
     ++ wait_rows win.winning done
 

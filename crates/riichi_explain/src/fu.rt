@@ -7,7 +7,7 @@ ghost use Rattle.riichi_explain.specs.Fu as spec;
 use arrayvec::ArrayVec;
 use riichi_blocks::{Blocks, HandBlock, WHITE, blocks_of, is_closed_wait, is_edge_wait};
 use riichi_hand::WinRecord;
-use riichi_score::{block_fu, draw_fu, open_fu, ron_fu};
+use riichi_score::{block_fu, open_fu, ron_fu, self_draw_fu};
 use riichi_split::Reading;
 use riichi_tiles::{Block, Kind};
 
@@ -106,7 +106,7 @@ fn push_plain(rows: &mut FuRows, blocks: &Blocks, reading: &Reading, done: &Bloc
         FuPart::ConcealedRon,
         ron_fu(win.melds().concealed(), win),
     );
-    push_earned(rows, FuPart::SelfDraw, draw_fu(blocks, reading, win));
+    push_earned(rows, FuPart::SelfDraw, self_draw_fu(blocks, reading, win));
     push_rows_of_blocks(rows, blocks, win);
     push_wait_rows(rows, win.winning(), done);
 }

@@ -51,7 +51,7 @@ only_kind counts = if sum counts == 1 then find (λ kind. nat_lt 0 (slice_index 
 abbrev pub zeros_in : LineParts → ℕ → ℕ
 zeros_in parts letter = zeros letter parts.hand + zeros letter (unwrap_or (value On parts) []) + zeros letter (unwrap_or (value Open parts) [])
 
--- the red fives of a line: its digits 0 of m, of p and of s
+-- the red fives of a line: the digits 0 of m, of p and of s in hand, winning tile and melds; a 0 among the indicators is a plain five
 abbrev pub reds : LineParts → List ℕ
 reds parts = zeros_in parts characters ∷ zeros_in parts circles ∷ zeros_in parts bamboos ∷ []
 

@@ -33,10 +33,11 @@ abbrev pub is_two : Rules → Bool
 is_two One = false
 is_two Two = true
 
--- the copies of a kind among hand, melds and the winning tile, and those with the indicators
+-- the copies of a kind among hand, melds and the winning tile
 abbrev pub copies_won : WinParts → ℕ → ℕ
 copies_won parts kind = slice_index parts.concealed kind + tiles parts.melds kind + (if nat_eq parts.winning kind then 1 else 0)
 
+-- the same with the indicators
 abbrev pub copies_in : WinParts → ℕ → ℕ
 copies_in parts kind = copies_won parts kind + slice_index parts.dora kind + slice_index parts.ura kind
 
@@ -57,9 +58,9 @@ are_exclusive flags = (flags.rinshan && (flags.last || flags.ippatsu)) || (flags
 abbrev pub has_other_flag : Flags → Bool
 has_other_flag flags = flags.ippatsu || flags.rinshan || flags.chankan || flags.last
 
--- a win in the first turn has no meld, is by tsumo, without riichi or another flag
-abbrev pub is_late_first : WinParts → Bool
-is_late_first parts =
+-- the flag `first` beside a meld, by ron, with riichi or with another flag
+abbrev pub has_wrong_first : WinParts → Bool
+has_wrong_first parts =
     parts.flags.first && (nat_lt 0 (length parts.melds) || is_ron parts.by || not (parts.riichi == 0) || has_other_flag parts.flags)
 
 -- more red fives of a suit than fives among hand, melds and the winning tile; the fives are the kinds 4, 13, 22
@@ -80,7 +81,7 @@ win_faults parts =
     ∷ coded H12 (parts.flags.rinshan && (is_ron parts.by || not (list_any is_kong parts.melds)))
     ∷ coded H13 (parts.flags.chankan && not (is_ron parts.by))
     ∷ coded H14 (are_exclusive parts.flags)
-    ∷ coded H15 (is_late_first parts)
+    ∷ coded H15 (has_wrong_first parts)
     ∷ coded H16 (is_two parts.rules && has_too_many_reds parts)
     ∷ []
 
@@ -111,8 +112,8 @@ abbrev pub kept_under : Rules → WinParts → WinParts
 kept_under One parts = without_reds parts
 kept_under Two parts = parts
 
--- A win record: its parts have no fault, and under the first profile no red five.
-pub record IsWin (parts : WinParts) : Type 0 where
+-- The parts of a win record: they have no fault, and under the first profile no red five. Whether the hand wins is another matter.
+pub record IsWinRecord (parts : WinParts) : Type 0 where
   pub no_fault : first_fault (win_faults parts) ≡ None
   pub kept : kept_under parts.rules parts ≡ parts
 

@@ -12,9 +12,9 @@ use std::marker::Model;
 /// The rule profile of a win.
 #[derive(Clone, Copy, Debug, PartialEq, Eq)]
 pub enum Rules {
-    /// A red five is a plain five.
+    /// A `0` is a plain five.
     One,
-    /// Each red five is one han of dora, and four han with 30 fu are a mangan.
+    /// Each red five is one han of dora, and four han with 30 fu, or three with 60, are a mangan.
     Two,
 }
 
@@ -119,13 +119,13 @@ pub struct WinRecord {
 impl Model for WinRecord {
     ghost use Rattle.std.specs.Prelude.{◌≡◌, None};
     ghost use Rattle.riichi_hand.specs.declared.win.WinParts.{WinParts};
-    ghost use Rattle.riichi_hand.specs.Win.{IsWin};
+    ghost use Rattle.riichi_hand.specs.Win.{IsWinRecord};
 
     ghost Value = { WinParts };
 
     ghost view = { λ w. w.parts };
 
-    ghost invariant = { λ w. IsWin w.parts };
+    ghost invariant = { λ w. IsWinRecord w.parts };
 
     ghost inverse = { λ p. record { parts = p } };
 }
@@ -151,7 +151,7 @@ impl WinRecord {
     /// All that the win was made of, without the red fives under the first profile.
     pub fn parts(&self) -> WinParts
         ensures value { result ≡ self.now }
-        ensures win { spec.IsWin self.now }
+        ensures win { spec.IsWinRecord self.now }
     {
         self.parts
     }
@@ -292,7 +292,7 @@ fn fault_of(parts: &WinParts) -> Option<LineFault>
     if are_exclusive(parts.flags) {
         return Some(LineFault::Line(LineCode::H14));
     }
-    if is_late_first(parts) {
+    if has_wrong_first(parts) {
         return Some(LineFault::Line(LineCode::H15));
     }
     if is_two(parts.rules) && has_too_many_reds(parts) {
@@ -387,8 +387,8 @@ fn are_exclusive(flags: Flags) -> bool
 }
 
 /// A win in the first turn has no meld, is by tsumo, without riichi or another flag.
-fn is_late_first(parts: &WinParts) -> bool
-    ensures { result ≡ spec.is_late_first parts.now }
+fn has_wrong_first(parts: &WinParts) -> bool
+    ensures { result ≡ spec.has_wrong_first parts.now }
 {
     parts.flags.first
         && (parts.melds.count() > 0

@@ -228,6 +228,9 @@ fn adds_up_melds_and_blocks(rt: HostRuntime) {
         &rt,
         tiles[27] == 4 && tiles[2] == 1 && tiles[3] == 1 && tiles[4] == 1,
     );
+    let mut held = [1; 34];
+    add_melds(&mut held, &melds);
+    holds(&rt, held[27] == 5 && held[2] == 2 && held[5] == 1);
     holds(&rt, !run.is_kong());
     holds(&rt, run.is_open());
 

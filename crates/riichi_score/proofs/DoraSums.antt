@@ -9,7 +9,7 @@ use Rattle.std.proofs.lemmas.Bool.Decides.{nat_tests}
 use Rattle.riichi_tiles.specs.Dora.{indicated}
 use Rattle.riichi_tiles.specs.HeldKinds.{is_held, AreHeldOf}
 use Rattle.riichi_hand.specs.declared.win.WinParts.{WinParts}
-use Rattle.riichi_hand.specs.Win.{IsWin, copies_won}
+use Rattle.riichi_hand.specs.Win.{IsWinRecord, copies_won}
 use Rattle.riichi_score.specs.Dora.{indicators, kind_dora}
 use Rattle.riichi_score.proofs.Wins.{ten_indicators, four_copies}
 
@@ -63,7 +63,7 @@ total win n = sum_by (kind_dora win) (range_with_len 0 n)
 AtMostFourEach : WinParts → ℕ → Type 0
 AtMostFourEach win n = total win n ≤ 4 * (held win.dora n + held win.ura n)
 
-four_more : (win : WinParts) (n : ℕ) → IsWin win → n < 34 → AtMostFourEach win n → AtMostFourEach win (n + 1)
+four_more : (win : WinParts) (n : ℕ) → IsWinRecord win → n < 34 → AtMostFourEach win n → AtMostFourEach win (n + 1)
 unfolding AtMostFourEach
 four_more win n h lt so_far =
     let copies = four_copies win (indicated n) h (same_suit n lt) in
@@ -71,13 +71,13 @@ four_more win n h lt so_far =
     let each = times_four (indicators win n) (copies_won win (indicated n)) (total win n) (held win.dora n + held win.ura n) few so_far in
     omega (arith, each, kinds_more (kind_dora win) n, kinds_more (λ kind. get_or win.dora kind 0) n, kinds_more (λ kind. get_or win.ura kind 0) n)
 
-four_each : (win : WinParts) (n : ℕ) → IsWin win → n ≤ 34 → AtMostFourEach win n
+four_each : (win : WinParts) (n : ℕ) → IsWinRecord win → n ≤ 34 → AtMostFourEach win n
 unfolding AtMostFourEach
 four_each win zero h lt = omega arith
 four_each win (suc n) h lt =
     subst (λ (m : ℕ). AtMostFourEach win m) (add-one n) (four_more win n h (omega arith) (four_each win n h (omega arith)))
 
-four_shown : (win : WinParts) (n : ℕ) → IsWin win → n ≤ 34 → total win n ≤ 4 * (sum win.dora + sum win.ura)
+four_shown : (win : WinParts) (n : ℕ) → IsWinRecord win → n ≤ 34 → total win n ≤ 4 * (sum win.dora + sum win.ura)
 unfolding AtMostFourEach
 four_shown win n h lt =
     let dora = held_of_first win.dora n in
@@ -85,7 +85,7 @@ four_shown win n h lt =
     omega (arith, four_each win n h lt, dora, ura, sum_by-take-le (λ (x : ℕ). x) win.dora n, sum_by-take-le (λ (x : ℕ). x) win.ura n)
 
 -- at most 40 in all
-pub most : (win : WinParts) (n : ℕ) → IsWin win → n ≤ 34 → total win n ≤ 40
+pub most : (win : WinParts) (n : ℕ) → IsWinRecord win → n ≤ 34 → total win n ≤ 40
 most win n h lt = omega (arith, four_shown win n h lt, ten_indicators win h)
 
 -- ---- the loop of `indicator_dora`

@@ -6,7 +6,7 @@ use Rattle.std.proofs.lemmas.List.Elements.{All-contains, Contains-push, Contain
 use Rattle.riichi_tiles.specs.Tiles.{IsCounts}
 use Rattle.riichi_tiles.specs.declared.meld.Meld.{Meld}
 use Rattle.riichi_hand.specs.declared.win.WinParts.{WinParts}
-use Rattle.riichi_hand.specs.Win.{IsWin}
+use Rattle.riichi_hand.specs.Win.{IsWinRecord}
 use Rattle.riichi_split.specs.declared.reading.Reading.{Reading}
 use Rattle.riichi_split.specs.declared.reading.Reading.TheVariants.{Standard, SevenPairs, Orphans}
 use Rattle.riichi_split.specs.Readings.{AreTheReadings}
@@ -152,7 +152,7 @@ best_of-IsBest w counts melds =
     best-all w all (best_among w all) (every_reading (hand_of w) (length w.melds) w.winning counts.each_kind melds) (among-more w [] all NoWin (λ r h. absurd (omega (arith, h.1))))
 
 -- what is best when none is left is the best of every reading
-pub best-end : (w : WinParts) (all before left : List Reading) (a : WinAnswer) → IsCounts (hand_of w) → IsWin w → AreReadingsOf w all → IsSoFar w all before left a → left ≡ [] → (a ≡ best_of w) × IsBest w a
+pub best-end : (w : WinParts) (all before left : List Reading) (a : WinAnswer) → IsCounts (hand_of w) → IsWinRecord w → AreReadingsOf w all → IsSoFar w all before left a → left ≡ [] → (a ≡ best_of w) × IsBest w a
 best-end w all before left a counts win readings h e =
     let same : before ≡ all = sym (h.parts ∙ ap (λ x. before ++ x) e ∙ append-nil before) in
     let greatest = best-all w all a readings (subst (λ (x : List Reading). IsBestOf (Contains x) w a) same h.best) in

@@ -10,7 +10,7 @@ use Rattle.riichi_score.specs.declared.answer.WinAnswer.{WinAnswer}
 use Rattle.riichi_score.specs.declared.answer.WinAnswer.TheVariants.{Won, NoYaku, NoWin}
 use Rattle.riichi_score.specs.Dora.{dora_of}
 use Rattle.riichi_score.specs.Fu.{fu_of}
-use Rattle.riichi_score.specs.Scores.{with_base, limit, counted, score_of}
+use Rattle.riichi_score.specs.Scores.{with_base, yakuman_score, counted, score_of}
 use Rattle.riichi_score.specs.Best.{rank, is_above, IsBest}
 
 -- ---- the rank determines the score
@@ -19,7 +19,7 @@ use Rattle.riichi_score.specs.Best.{rank, is_above, IsBest}
 abbrev told : WinParts → ℕ → ℕ → ℕ → ℕ → Score
 told w base han fu yaku = with_base base han fu yaku (cond (is_yakuman yaku) 0 (dora_of w)) w
 
-told-limit : (yaku : ℕ) (w : WinParts) → is_yakuman yaku ≡ true → limit yaku w ≡ told w 8000 0 0 yaku
+told-limit : (yaku : ℕ) (w : WinParts) → is_yakuman yaku ≡ true → yakuman_score yaku w ≡ told w 8000 0 0 yaku
 told-limit yaku w h = ap (λ b. with_base 8000 0 0 yaku (cond b 0 (dora_of w)) w) (sym h)
 
 told-counted : (yaku fu : ℕ) (w : WinParts) → is_yakuman yaku ≡ false → counted yaku fu (dora_of w) w ≡ (let s = counted yaku fu (dora_of w) w in told w s.base s.han s.fu s.yaku)
@@ -27,10 +27,10 @@ told-counted yaku fu w h =
     let s = counted yaku fu (dora_of w) w in
     ap (λ b. with_base s.base s.han s.fu s.yaku (cond b 0 (dora_of w)) w) (sym h)
 
-scored-told : (yaku fu : ℕ) (w : WinParts) (none yakuman : Bool) (s : Score) → none ≡ eqb yaku 0 → yakuman ≡ is_yakuman yaku → cond none None (cond yakuman (Some (limit yaku w)) (Some (counted yaku fu (dora_of w) w))) ≡ Some s → s ≡ told w s.base s.han s.fu s.yaku
+scored-told : (yaku fu : ℕ) (w : WinParts) (none yakuman : Bool) (s : Score) → none ≡ eqb yaku 0 → yakuman ≡ is_yakuman yaku → cond none None (cond yakuman (Some (yakuman_score yaku w)) (Some (counted yaku fu (dora_of w) w))) ≡ Some s → s ≡ told w s.base s.han s.fu s.yaku
 scored-told yaku fu w true yakuman s a b e = absurd (cc)
 scored-told yaku fu w false true s a b e =
-    let same : limit yaku w ≡ s = cc in
+    let same : yakuman_score yaku w ≡ s = cc in
     subst (λ (x : Score). x ≡ told w x.base x.han x.fu x.yaku) same (told-limit yaku w (sym b))
 scored-told yaku fu w false false s a b e =
     let same : counted yaku fu (dora_of w) w ≡ s = cc in

@@ -10,7 +10,7 @@ use Rattle.riichi_hand.specs.declared.fault.LineCode.TheVariants.{H4, H8, H9}
 use Rattle.riichi_hand.specs.declared.fault.LineFault.{LineFault}
 use Rattle.riichi_hand.specs.declared.win.WinParts.{WinParts}
 use Rattle.riichi_hand.specs.Faults.{coded, first_fault}
-use Rattle.riichi_hand.specs.Win.{IsWin, win_faults, copies_in, has_five_in, has_wrong_size, is_out_of_range}
+use Rattle.riichi_hand.specs.Win.{IsWinRecord, win_faults, copies_in, has_five_in, has_wrong_size, is_out_of_range}
 
 -- none of the first three faults
 pub record IsClear (a b c : Bool) : Type 0 where
@@ -24,21 +24,21 @@ clear true size copies later h = absurd (cc)
 clear false true copies later h = absurd (cc)
 clear false false true later h = absurd (cc)
 
-is_clear : (win : WinParts) → IsWin win → IsClear (is_out_of_range win) (has_wrong_size win) (has_five_in win)
+is_clear : (win : WinParts) → IsWinRecord win → IsClear (is_out_of_range win) (has_wrong_size win) (has_five_in win)
 is_clear win h = clear (is_out_of_range win) (has_wrong_size win) (has_five_in win) (drop 3 (win_faults win)) h.no_fault
 
 few : (a : Bool) (dora ura : ℕ) → (not a || ltb 5 dora || ltb 5 ura) ≡ false → dora + ura ≤ 10
 few a dora ura h = grind (arith, nat_tests)
 
 -- at most ten indicators
-pub ten_indicators : (win : WinParts) → IsWin win → sum win.dora + sum win.ura ≤ 10
+pub ten_indicators : (win : WinParts) → IsWinRecord win → sum win.dora + sum win.ura ≤ 10
 ten_indicators win h = few _ (sum win.dora) (sum win.ura) (is_clear win h).size
 
 thirteen : (held melds : ℕ) (b c : Bool) → (not (eqb (held + 3 * melds) 13) || b || c) ≡ false → melds ≤ 4
 thirteen held melds b c h = grind (arith, nat_tests)
 
 -- at most four melds
-pub four_melds : (win : WinParts) → IsWin win → length win.melds ≤ 4
+pub four_melds : (win : WinParts) → IsWinRecord win → length win.melds ≤ 4
 four_melds win h = thirteen (sum win.concealed) (length win.melds) (ltb 5 (sum win.dora)) (ltb 5 (sum win.ura)) (is_clear win h).size
 
 -- a test that no kind passes fails at each
@@ -48,7 +48,7 @@ fails_at test kind none lt passed =
     sym (list_any_at test (range_with_len 0 34) kind 0 (omega (arith, length-range_with_len 0 34)) (ap test place ∙ passed)) ∙ none
 
 -- no kind has more than four copies
-pub four_copies : (win : WinParts) (kind : ℕ) → IsWin win → kind < 34 → copies_in win kind ≤ 4
+pub four_copies : (win : WinParts) (kind : ℕ) → IsWinRecord win → kind < 34 → copies_in win kind ≤ 4
 four_copies win kind h lt =
     ltb-false 4 (copies_in win kind) (false_from_ne_true (ltb 4 (copies_in win kind)) (λ more. true≢false (fails_at (λ k. ltb 4 (copies_in win k)) kind (is_clear win h).copies lt more)))
 
@@ -56,6 +56,6 @@ self_counts : (concealed melds kind dora ura : ℕ) → concealed + melds + cond
 self_counts concealed melds kind dora ura h = grind (arith, nat_tests)
 
 -- the hand has room for the winning tile
-pub room_for_winning : (win : WinParts) → IsWin win → win.winning < 34 → get_or win.concealed win.winning 0 < 4
+pub room_for_winning : (win : WinParts) → IsWinRecord win → win.winning < 34 → get_or win.concealed win.winning 0 < 4
 room_for_winning win h lt =
     self_counts (get_or win.concealed win.winning 0) (tiles win.melds win.winning) win.winning (get_or win.dora win.winning 0) (get_or win.ura win.winning 0) (four_copies win win.winning h lt)

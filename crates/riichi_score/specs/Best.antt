@@ -23,7 +23,7 @@ is_above (number ∷ numbers) (other ∷ others) =
 
 -- ---- the best in the words of the game
 
--- the answer for a win whose readings are those of which P holds
+-- the answer for a win whose readings are those of which P holds: NoWin where there is none; NoYaku where none of them has a yaku; else the score of one such that no other is above it
 abbrev pub IsBestOf : (Reading → Type 0) → WinParts → WinAnswer → Type 0
 IsBestOf P win NoWin = (reading : Reading) → P reading → ⊥
 IsBestOf P win NoYaku = ((reading : Reading) × P reading) × ((reading : Reading) → P reading → score_of reading win ≡ None)
@@ -31,7 +31,7 @@ IsBestOf P win (Won best) =
     ((reading : Reading) × P reading × (score_of reading win ≡ Some best))
     × ((reading : Reading) (score : Score) → P reading → score_of reading win ≡ Some score → is_above (rank score) (rank best) ≡ false)
 
--- NoWin where there is no reading; NoYaku where no reading has a yaku; else the score of a reading such that no other is above it
+-- the answer for a win, over every reading of its hand
 abbrev pub IsBest : WinParts → WinAnswer → Type 0
 IsBest win answer = IsBestOf (IsReadingOf win) win answer
 

@@ -16,7 +16,7 @@ indicators win kind = slice_index win.dora kind + slice_index win.ura kind
 abbrev pub kind_dora : WinParts → ℕ → ℕ
 kind_dora win kind = indicators win kind * copies_won win (indicated kind)
 
--- under the second profile each red five earns one han
+-- under the second profile each red five earns one han; under the first it is a plain five
 abbrev pub red_dora : Rules → List ℕ → ℕ
 red_dora One reds = 0
 red_dora Two reds = sum reds

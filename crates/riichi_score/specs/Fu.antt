@@ -19,15 +19,15 @@ use Rattle.riichi_blocks.specs.Waits.{wait_fu}
 abbrev pub ron_fu : WinParts → ℕ
 ron_fu win = if are_concealed win.melds && is_ron win.by then 10 else 0
 
--- self-draw, unless the hand is concealed and a pinfu: 2
-abbrev pub draw_fu : Bool → WinParts → ℕ
-draw_fu pinfu win = if is_ron win.by || pinfu then 0 else 2
+-- a self-draw, on the tile after a kong too, unless the hand has pinfu: 2
+abbrev pub self_draw_fu : Bool → WinParts → ℕ
+self_draw_fu pinfu win = if is_ron win.by || pinfu then 0 else 2
 
--- triplet of simples, open 2, concealed 4; of terminals or honours 4, 8
+-- a triplet of simples: open 2, concealed 4; of terminals or honours 4, 8
 abbrev pub triplet_fu : ℕ → Bool → ℕ
 triplet_fu kind concealed = (if is_orphan kind then 4 else 2) * (if concealed then 2 else 1)
 
--- kong of simples, Kan 8, Ankan 16; of terminals or honours 16, 32. A run has none
+-- a kong earns four times what a triplet does: of simples 8, concealed 16; of terminals or honours 16, 32. A run earns none
 abbrev pub block_fu : WinParts → HandBlock → ℕ
 block_fu win (Run low) = 0
 block_fu win (Triplet kind concealed) = triplet_fu kind concealed
@@ -37,7 +37,7 @@ block_fu win (Pair kind) = pair_fu win kind
 -- the sum of the rows of a standard reading, which has 20 by itself
 abbrev pub fu_sum : List HandBlock → Reading → Block → WinParts → ℕ
 fu_sum blocks reading done win =
-    20 + ron_fu win + draw_fu (is_pinfu blocks reading win) win + sum_by (block_fu win) blocks + wait_fu win.winning done
+    20 + ron_fu win + self_draw_fu (is_pinfu blocks reading win) win + sum_by (block_fu win) blocks + wait_fu win.winning done
 
 -- an open hand won by ron whose sum is 20: 10 more
 abbrev pub open_fu : WinParts → ℕ → ℕ
@@ -52,7 +52,7 @@ standard_fu blocks reading done win =
     let sum = fu_sum blocks reading done win in
     up_to_ten (sum + open_fu win sum)
 
--- seven pairs 25, thirteen orphans 0
+-- the fu of a reading: seven pairs 25, which is not rounded; thirteen orphans 0, as a yakuman counts no fu
 abbrev pub fu_from : List HandBlock → Reading → WinParts → ℕ
 fu_from blocks (Standard sets pair done) win = standard_fu blocks (Standard sets pair done) done win
 fu_from blocks SevenPairs win = 25

@@ -30,15 +30,15 @@ counted yaku fu dora win =
     let han = han_of yaku (are_concealed win.melds) + dora in
     with_base (base_of win.rules han fu) han fu yaku dora win
 
--- a yakuman, one or several: 8000 base points; its han, fu and dora are 0
-abbrev pub limit : ℕ → WinParts → Score
-limit yaku win = with_base 8000 0 0 yaku 0 win
+-- a yakuman, one or several, in a rarer form or not, pays one limit: 8000 base points; its han, fu and dora are 0
+abbrev pub yakuman_score : ℕ → WinParts → Score
+yakuman_score yaku win = with_base 8000 0 0 yaku 0 win
 
 -- a reading with an empty set has no score
 abbrev pub scored : ℕ → ℕ → ℕ → WinParts → Option Score
 scored yaku fu dora win =
     if yaku == 0 then None
-    else (if is_yakuman yaku then Some (limit yaku win) else Some (counted yaku fu dora win))
+    else (if is_yakuman yaku then Some (yakuman_score yaku win) else Some (counted yaku fu dora win))
 
 -- the score of a reading, if it has a yaku
 unfoldable pub score_of : Reading → WinParts → Option Score

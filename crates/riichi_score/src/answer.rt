@@ -1,7 +1,7 @@
 //! The best score of a win.
 ghost use Rattle.std.specs.Prelude.{◌≡◌};
 ghost use Rattle.riichi_tiles.specs.Tiles.{IsCounts};
-ghost use Rattle.riichi_hand.specs.Win.{IsWin};
+ghost use Rattle.riichi_hand.specs.Win.{IsWinRecord};
 ghost use Rattle.riichi_score.specs.Best as spec;
 ghost use Rattle.riichi_score.specs.Scores.{hand_of};
 
@@ -44,7 +44,7 @@ pub fn best(win: &WinRecord) -> WinAnswer
 pub fn hand_of(win: &WinRecord) -> Counts
     ensures value { result ≡ hand_of win.now }
     ensures counts { IsCounts result }
-    ensures win { IsWin win.now }
+    ensures win { IsWinRecord win.now }
 {
     let _told = win.parts();
     let mut hand = win.concealed();

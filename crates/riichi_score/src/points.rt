@@ -65,7 +65,7 @@ fn standard_fu(
     ensures value { result ≡ spec.standard_fu blocks.now reading.now done.now win.now }
     ensures most { result ≤ 200 }
 {
-    let drawn = draw_fu(blocks, reading, win);
+    let drawn = self_draw_fu(blocks, reading, win);
     let ron = ron_fu(concealed, win);
     let sum = 20 + ron + drawn + blocks_fu(blocks, win) + wait_fu(win.winning(), done);
     up_to_ten(sum + open_fu(concealed, win, u32::from(sum)))
@@ -81,8 +81,8 @@ pub fn ron_fu(concealed: bool, win: &WinRecord) -> u8
 }
 
 /// What a self-draw earns.
-pub fn draw_fu(blocks: &Blocks, reading: &Reading, win: &WinRecord) -> u8
-    ensures value { result ≡ spec.draw_fu (is_pinfu blocks.now reading.now win.now) win.now }
+pub fn self_draw_fu(blocks: &Blocks, reading: &Reading, win: &WinRecord) -> u8
+    ensures value { result ≡ spec.self_draw_fu (is_pinfu blocks.now reading.now win.now) win.now }
     ensures most { result ≤ 2 }
 {
     if is_ron(win.by()) || is_pinfu(blocks, reading, win) {

@@ -97,14 +97,14 @@ fn valued(yaku: YakuSet, fu: u8, dora: u8, concealed: bool, win: &WinRecord) -> 
     if yaku.is_empty() {
         None
     } else if yaku.is_yakuman() {
-        Some(limit(yaku))
+        Some(yakuman_worth(yaku))
     } else {
         Some(counted(yaku, fu, dora, concealed, win))
     }
 }
 
 /// A yakuman, one or several.
-fn limit(yaku: YakuSet) -> Worth
+fn yakuman_worth(yaku: YakuSet) -> Worth
     ensures { result ≡ spec.limit_worth yaku }
 {
     Worth {

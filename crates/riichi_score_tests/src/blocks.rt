@@ -58,7 +58,7 @@ fn open_hand(rt: &impl Abort, reading: &Reading, win: &WinRecord) {
     same(rt, blocks.kongs(), 1);
     holds(
         rt,
-        is_standard(reading) && !is_seven_pairs(reading) && !is_orphans(reading),
+        is_standard(reading) && !is_seven_pairs(reading) && !is_thirteen_orphans(reading),
     );
     holds(rt, has_plain_pair(blocks.as_slice(), win));
 }
@@ -150,7 +150,7 @@ fn special(rt: &impl Abort, reading: &Reading, win: &WinRecord, seven_pairs: boo
         blocks_of(reading, win).as_slice().is_empty() && !is_standard(reading),
     );
     same(rt, is_seven_pairs(reading), seven_pairs);
-    same(rt, is_orphans(reading), !seven_pairs);
+    same(rt, is_thirteen_orphans(reading), !seven_pairs);
     holds(
         rt,
         !has_plain_pair(&[], win) && !has_two_sided_wait(reading, win.winning()),

@@ -10,7 +10,7 @@ use Rattle.std.specs.Prelude.{slice_index, sum_by, nat_lt, ◌==◌}
 use Rattle.riichi_tiles.specs.Melds.{every_kind}
 use Rattle.riichi_rows.proofs.Spread.{spread, spread_none, spread_shift, spread_with}
 use Rattle.riichi_shape.specs.LiveCopies.{AreLive, copies_from, copies_in, live_in, pairs_of}
-use Rattle.riichi_shape.proofs.Members.{Among, from_filter, from_map}
+use Rattle.riichi_tiles.proofs.Members.{IsIn, in-filter-inv, in-map-inv}
 use Rattle.riichi_shape.proofs.PairLemmas.{sum_spread}
 
 -- ---- a sum over the chosen of successive numbers
@@ -66,7 +66,7 @@ pub empty_is : (copies : List ℕ) (pairs : List (ℕ × ℕ)) → pairs_of copi
 unfolding pairs_of
 empty_is copies [] e none = refl
 empty_is copies (pair ∷ pairs) e none =
-    let there = subst (λ (ps : List (ℕ × ℕ)). Among pair ps) (sym e) (inl refl) in
-    let r = from_map (λ kind. (kind, slice_index copies kind)) pair (filter (λ kind. nat_lt 0 (slice_index copies kind)) every_kind) there in
-    let t = from_filter (λ kind. nat_lt 0 (slice_index copies kind)) r.0 every_kind r.1 in
+    let there = subst (λ (ps : List (ℕ × ℕ)). IsIn pair ps) (sym e) (inl refl) in
+    let r = in-map-inv (λ kind. (kind, slice_index copies kind)) pair (filter (λ kind. nat_lt 0 (slice_index copies kind)) every_kind) there in
+    let t = in-filter-inv (λ kind. nat_lt 0 (slice_index copies kind)) r.0 every_kind r.1 in
     absurd (omega (arith, ltb-true 0 (slice_index copies r.0) t.1, ap (λ p. p.1) r.2, sum_by-cons (λ p. p.1) pair pairs, none))

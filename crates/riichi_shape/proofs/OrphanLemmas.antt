@@ -15,7 +15,7 @@ use Rattle.riichi_tiles.specs.Forms.{IsThirteenOrphans, orphan_copies, orphan_ki
 use Rattle.riichi_tiles.specs.Kinds.{is_orphan}
 use Rattle.riichi_shape.specs.Winning.{lacking}
 use Rattle.riichi_rows.proofs.Spread.{spread, sum_range, spread_shift, table, table_at, at_same_number, spread_with}
-use Rattle.riichi_shape.proofs.Members.{Among, among_filter, among_range, from_filter, from_range}
+use Rattle.riichi_tiles.proofs.Members.{IsIn, in-filter, in-filter-inv, in-range, in-range-inv}
 use Rattle.riichi_shape.proofs.PairLemmas.{total_of, sum_is_total}
 
 abbrev pub missing_one : ℕ → ℕ
@@ -37,15 +37,15 @@ two h = cond (leb 2 h) 1 0
 extra_is : (h : ℕ) → extra h + two h ≡ 1
 extra_is h = grind (arith, nat_tests)
 
-none_doubled : (h : ℕ → ℕ) (ks : List ℕ) (t : ℕ) → total_of two (map h ks) ≡ 0 → Among t ks → two (h t) ≡ 0
+none_doubled : (h : ℕ → ℕ) (ks : List ℕ) (t : ℕ) → total_of two (map h ks) ≡ 0 → IsIn t ks → two (h t) ≡ 0
 unfolding total_of
 none_doubled h [] t none here = absurd here
-none_doubled h (k ∷ ks) t none (inl first) = ap (λ k. two (h k)) first ∙ omega (arith, none)
+none_doubled h (k ∷ ks) t none (inl first) = ap (λ k. two (h k)) (sym first) ∙ omega (arith, none)
 none_doubled h (k ∷ ks) t none (inr later) = none_doubled h ks t (omega (arith, none)) later
 
 record Doubled (h : ℕ → ℕ) (ks : List ℕ) : Type 0 where
   kind : ℕ
-  among : Among kind ks
+  among : IsIn kind ks
   twice : 0 < two (h kind)
 
 some_doubled : (h : ℕ → ℕ) (ks : List ℕ) → 0 < total_of two (map h ks) → Doubled h ks
@@ -57,11 +57,11 @@ some_doubled h (k ∷ ks) some =
     (cases_lt 0 (two (h k)))
 
 -- each orphan is listed, and no other kind
-pub listed : (t : ℕ) → t < 34 → is_orphan t ≡ true → Among t orphan_kinds
-listed t low is = among_filter is_orphan t every_kind (among_range t 0 34 (omega arith) (omega (arith, low))) is
+pub listed : (t : ℕ) → t < 34 → is_orphan t ≡ true → IsIn t orphan_kinds
+listed t low is = in-filter is_orphan t every_kind (in-range 34 0 t (omega arith) (omega (arith, low))) is
 
-pub is_listed : (t : ℕ) → Among t orphan_kinds → (t < 34) × (is_orphan t ≡ true)
-is_listed t here = let both = from_filter is_orphan t every_kind here in ((from_range t 0 34 both.0).1, both.1)
+pub is_listed : (t : ℕ) → IsIn t orphan_kinds → (t < 34) × (is_orphan t ≡ true)
+is_listed t here = let both = in-filter-inv is_orphan t every_kind here in ((in-range-inv 34 0 t both.0).1, both.1)
 
 -- those that are missing are the rest of the thirteen
 missing_or_held : (xs : List ℕ) → total_of missing_one xs + total_of (λ x. cond (leb 1 x) 1 0) xs ≡ length xs

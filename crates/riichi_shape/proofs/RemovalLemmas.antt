@@ -11,7 +11,7 @@ use Rattle.riichi_rows.proofs.Spread.{same_spread, spread, spread_add}
 use Rattle.riichi_shape.specs.declared.discard.Discard.{Discard}
 use Rattle.riichi_shape.specs.Discards.{AreDistancesWithout, IsLeastOf, discard_of, discards_of, distance_without, in_order, inserted, is_best, is_discard}
 use Rattle.riichi_shape.proofs.PairLemmas.{sum_spread}
-use Rattle.riichi_shape.proofs.Members.{Among, all_among, all_of, among_filter, among_range, from_filter, from_range}
+use Rattle.riichi_tiles.proofs.Members.{IsIn, all-from, all-in, in-filter, in-filter-inv, in-range, in-range-inv}
 use Rattle.riichi_shape.proofs.OrderLemmas.{chosen_step}
 
 module _ (hand : List ℕ) (melds : List Meld) (distances : List ℕ) (least : ℕ) (are : AreDistancesWithout hand melds distances) (is : IsLeastOf distances least) (kind : ℕ) (inside : kind < 34) (held : 0 < slice_index hand kind) where
@@ -19,12 +19,12 @@ module _ (hand : List ℕ) (melds : List Meld) (distances : List ℕ) (least : �
   no_less other = nat_le (distance_without hand melds kind) (distance_without hand melds other)
 
   there : (slice_index distances kind == least) ≡ true → is_best hand melds kind ≡ true
-  there e = all_of no_less (filter (has_tile hand) every_kind) each
+  there e = all-from no_less (filter (has_tile hand) every_kind) each
     where
-      each : (other : ℕ) → Among other (filter (has_tile hand) every_kind) → no_less other ≡ true
+      each : (other : ℕ) → IsIn other (filter (has_tile hand) every_kind) → no_less other ≡ true
       each other h =
-          let r = from_filter (has_tile hand) other every_kind h in
-          let within = (from_range other 0 34 r.0).1 in
+          let r = in-filter-inv (has_tile hand) other every_kind h in
+          let within = (in-range-inv 34 0 other r.0).1 in
           let there = ltb-true 0 (slice_index hand other) r.1 in
           le-leb (distance_without hand melds kind) (distance_without hand melds other) (omega (arith, are.held kind inside held, are.held other within there, is.bound other within, eqb-true (slice_index distances kind) least e))
 
@@ -33,7 +33,7 @@ module _ (hand : List ℕ) (melds : List Meld) (distances : List ℕ) (least : �
     where
       at_held : 0 < slice_index hand is.place → slice_index distances kind ≡ least
       at_held h =
-          let t = all_among no_less is.place (filter (has_tile hand) every_kind) all (among_filter (has_tile hand) is.place every_kind (among_range is.place 0 34 (omega arith) (omega (arith, is.is_kind))) (lt-ltb 0 (slice_index hand is.place) h)) in
+          let t = all-in no_less (filter (has_tile hand) every_kind) all is.place (in-filter (has_tile hand) is.place every_kind (in-range 34 0 is.place (omega arith) (omega (arith, is.is_kind))) (lt-ltb 0 (slice_index hand is.place) h)) in
           omega (arith, leb-true (distance_without hand melds kind) (distance_without hand melds is.place) t, are.held kind inside held, are.held is.place is.is_kind h, is.reached, is.bound kind inside)
 
       at_other : slice_index hand is.place ≤ 0 → slice_index distances kind ≡ least

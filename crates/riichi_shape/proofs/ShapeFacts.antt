@@ -1,8 +1,8 @@
 -- What is known of the parts of a shape.
-use Rattle.std.proofs.Common.{◌≡◌, ℕ, ◌<◌, ◌≤◌, ℤ, Bool, true, false, List, [], ◌∷◌, None, refl, ap, ◌∙◌, ⊎_elim, arith}
-use Rattle.std.proofs.lemmas.Bool.{or_parts, ltb-false}
+use Rattle.std.proofs.Common.{◌≡◌, ℕ, ◌<◌, ◌≤◌, ℤ, Bool, true, false, List, [], ◌∷◌, None, refl, ap, ◌∙◌, arith}
+use Rattle.std.proofs.lemmas.Bool.{ltb-false}
 use Rattle.std.proofs.lemmas.Bool.Decides.{nat_tests}
-use Rattle.std.specs.List.{list_any, sum}
+use Rattle.std.specs.List.{sum}
 use Rattle.std.specs.Prelude.{not, nat_lt, ◌==◌, ◌||◌}
 use Rattle.riichi_tiles.specs.Melds.{every_kind, tiles}
 use Rattle.riichi_hand.specs.Faults.{coded, first_fault}
@@ -18,16 +18,12 @@ use Rattle.riichi_shape.specs.declared.accepts.Accepts.{Accepts}
 use Rattle.riichi_shape.specs.declared.accepts.Accepts.TheVariants.{Thirteen, Fourteen}
 use Rattle.riichi_shape.specs.declared.discard.Discard.{Discard}
 use Rattle.riichi_shape.specs.declared.shape_answer.ShapeAnswer.{ShapeAnswer}
-use Rattle.riichi_shape.proofs.Members.{Among, among_range}
+use Rattle.riichi_tiles.proofs.Members.{in-range, none-in}
 
 pub no_faults : (a b : Bool) → first_fault (coded H8 (not a) ∷ coded H9 b ∷ []) ≡ None → (a ≡ true) × (b ≡ false)
 no_faults true false e = (refl, refl)
 no_faults true true e = cc
 no_faults false b e = cc
-
-pub none_of : {A : Type 0} (p : A → Bool) (xs : List A) (x : A) → list_any p xs ≡ false → Among x xs → p x ≡ false
-none_of p [] x none h = absurd h
-none_of p (y ∷ xs) x none h = let both = or_parts (p y) (list_any p xs) none in ⊎_elim (λ e. ap p e ∙ both.0) (λ later. none_of p xs x both.1 later) h
 
 either_size : (n : ℕ) → ((n == 13) || (n == 14)) ≡ true → n ≤ 14
 either_size n e = grind (arith, nat_tests)
@@ -35,7 +31,7 @@ either_size n e = grind (arith, nat_tests)
 module _ (parts : ShapeParts) (is : IsShape parts) where
   pub copies_few : (kind : ℕ) → kind < 34 → copies_with parts kind ≤ 4
   copies_few kind low =
-      ltb-false 4 (copies_with parts kind) (none_of (λ kind. nat_lt 4 (copies_with parts kind)) every_kind kind (no_faults (is_thirteen_or_more parts.tiles parts.melds) (has_five_seen parts) is).1 (among_range kind 0 34 (omega arith) (omega arith)))
+      ltb-false 4 (copies_with parts kind) (none-in (λ kind. nat_lt 4 (copies_with parts kind)) every_kind (no_faults (is_thirteen_or_more parts.tiles parts.melds) (has_five_seen parts) is).1 kind (in-range 34 0 kind (omega arith) (omega arith)))
 
   pub tiles_few : sum parts.tiles ≤ 14
   tiles_few = omega (arith, either_size (size parts.tiles parts.melds) (no_faults (is_thirteen_or_more parts.tiles parts.melds) (has_five_seen parts) is).0)

@@ -19,7 +19,8 @@ use Rattle.riichi_shape.specs.EveryWinning.{lists_of, counts_of, every_sets_and_
 use Rattle.riichi_tiles.specs.Forms.{HasWinningForm, IsSetsAndPair, IsSevenPairs, IsThirteenOrphans, orphan_copies, orphan_kinds}
 use Rattle.riichi_shape.specs.Winning.{IsWinning, WithinFour, lacking}
 use Rattle.riichi_shape.proofs.OrphanLemmas.{is_listed, listed}
-use Rattle.riichi_shape.proofs.Members.{Among, all_among, all_of, among_either, among_filter, among_flat_map, among_get_or, among_left, among_lists, among_map, among_range, among_right, from_filter, from_flat_map, from_lists, from_map, from_range, least_is}
+use Rattle.riichi_tiles.proofs.Members.{IsIn, all-from, all-in, get_or-in, in-cases, in-filter, in-filter-inv, in-flat_map, in-flat_map-inv, in-left, in-map, in-map-inv, in-range, in-range-inv, in-right}
+use Rattle.riichi_shape.proofs.Members.{among_lists, from_lists, least_is}
 
 -- two multisets with the same tiles
 pub record SameTiles (w v : List ℕ) : Type 0 where
@@ -28,7 +29,7 @@ pub record SameTiles (w v : List ℕ) : Type 0 where
 -- some element has the same tiles
 pub record Listed (ws : List (List ℕ)) (wanted : List ℕ) : Type 0 where
   pub listed : List ℕ
-  pub among : Among listed ws
+  pub among : IsIn listed ws
   pub same : SameTiles listed wanted
 
 pub lacking_same : (hand w v : List ℕ) → SameTiles w v → lacking hand w ≡ lacking hand v
@@ -39,30 +40,30 @@ lacking_same hand w v same =
 
 -- ---- sets
 
-among_sets : (b : Block) → IsSet b → Among b every_set
+among_sets : (b : Block) → IsSet b → IsIn b every_set
 unfolding every_set
-among_sets (Run low) is = among_flat_map sets_at low (Run low) every_kind (among_range low 0 34 (omega arith) (omega (arith, is.0))) (rw (begins_at low is) (inr (inl refl)))
-among_sets (Triplet held) is = among_flat_map sets_at held (Triplet held) every_kind (among_range held 0 34 (omega arith) (omega arith)) (inl refl)
+among_sets (Run low) is = in-flat_map sets_at low (Run low) every_kind (in-range 34 0 low (omega arith) (omega (arith, is.0))) (rw (begins_at low is) (inr (inl refl)))
+among_sets (Triplet held) is = in-flat_map sets_at held (Triplet held) every_kind (in-range 34 0 held (omega arith) (omega arith)) (inl refl)
 among_sets (Pair held) is = absurd is
 
-from_sets : (b : Block) → Among b every_set → IsSet b
+from_sets : (b : Block) → IsIn b every_set → IsSet b
 unfolding every_set
 from_sets b h =
-    let at = from_flat_map sets_at b every_kind h in
+    let at = in-flat_map-inv sets_at b every_kind h in
     let kind = at.0 in
-    ⊎_elim (λ triplet. subst (λ (v : Block). IsSet v) (sym triplet) (from_range kind 0 34 at.1).1) (run (begins_run kind) kind refl) at.2
+    ⊎_elim (λ triplet. subst (λ (v : Block). IsSet v) triplet (in-range-inv 34 0 kind at.1).1) (run (begins_run kind) kind refl) at.2
   where
-    run : (test : Bool) (kind : ℕ) → begins_run kind ≡ test → Among b (cond test (Run kind ∷ []) []) → IsSet b
-    run true kind begins (inl is) = subst (λ (v : Block). IsSet v) (sym is) (run_low kind begins)
+    run : (test : Bool) (kind : ℕ) → begins_run kind ≡ test → IsIn b (cond test (Run kind ∷ []) []) → IsSet b
+    run true kind begins (inl is) = subst (λ (v : Block). IsSet v) is (run_low kind begins)
     run true kind begins (inr none) = absurd none
     run false kind begins none = absurd none
 
-each_set : (bs : List Block) → All IsSet bs → (b : Block) → Among b bs → Among b every_set
+each_set : (bs : List Block) → All IsSet bs → (b : Block) → IsIn b bs → IsIn b every_set
 each_set [] all b h = absurd h
 each_set (c ∷ bs) all b h =
-    ⊎_elim (λ e. subst (λ (v : Block). Among v every_set) (sym e) (among_sets c (All-head IsSet c bs all))) (λ later. each_set bs (All-tail IsSet c bs all) b later) h
+    ⊎_elim (λ e. subst (λ (v : Block). IsIn v every_set) e (among_sets c (All-head IsSet c bs all))) (λ later. each_set bs (All-tail IsSet c bs all) b later) h
 
-all_sets : (bs : List Block) → ((b : Block) → Among b bs → Among b every_set) → All IsSet bs
+all_sets : (bs : List Block) → ((b : Block) → IsIn b bs → IsIn b every_set) → All IsSet bs
 all_sets [] each = All-nil IsSet
 all_sets (b ∷ bs) each = All-cons IsSet b bs (from_sets b (each b (inl refl))) (all_sets bs (λ c h. each c (inr h)))
 
@@ -74,24 +75,24 @@ listed_sets : (sets : ℕ) (wanted : List ℕ) → IsSetsAndPair sets wanted →
 unfolding every_sets_and_pair
 listed_sets sets wanted is = record {
   listed = counts_of (Pair is.pair ∷ is.blocks);
-  among = among_flat_map (λ pair. map (λ blocks. counts_of (Pair pair ∷ blocks)) (lists_of every_set sets)) is.pair (counts_of (Pair is.pair ∷ is.blocks)) every_kind (among_range is.pair 0 34 (omega arith) (omega (arith, is.made_of.is_kind)))
-      (among_map (λ blocks. counts_of (Pair is.pair ∷ blocks)) is.blocks (lists_of every_set sets) (among_lists every_set sets is.blocks is.has_sets (each_set is.blocks is.made_of.are_sets)));
+  among = in-flat_map (λ pair. map (λ blocks. counts_of (Pair pair ∷ blocks)) (lists_of every_set sets)) is.pair (counts_of (Pair is.pair ∷ is.blocks)) every_kind (in-range 34 0 is.pair (omega arith) (omega (arith, is.made_of.is_kind)))
+      (in-map (λ blocks. counts_of (Pair is.pair ∷ blocks)) is.blocks (lists_of every_set sets) (among_lists every_set sets is.blocks is.has_sets (each_set is.blocks is.made_of.are_sets)));
   same = record { at = λ kind low. counts_at (Pair is.pair ∷ is.blocks) kind low ∙ sym (is.made_of.adds_up kind low) };
 }
 
-sets_listed : (sets : ℕ) (wanted : List ℕ) → Among wanted (every_sets_and_pair sets) → IsSetsAndPair sets wanted
+sets_listed : (sets : ℕ) (wanted : List ℕ) → IsIn wanted (every_sets_and_pair sets) → IsSetsAndPair sets wanted
 unfolding every_sets_and_pair
 sets_listed sets wanted h =
-    let by_pair = from_flat_map (λ pair. map (λ blocks. counts_of (Pair pair ∷ blocks)) (lists_of every_set sets)) wanted every_kind h in
-    let by_blocks = from_map (λ blocks. counts_of (Pair by_pair.0 ∷ blocks)) wanted (lists_of every_set sets) by_pair.2 in
+    let by_pair = in-flat_map-inv (λ pair. map (λ blocks. counts_of (Pair pair ∷ blocks)) (lists_of every_set sets)) wanted every_kind h in
+    let by_blocks = in-map-inv (λ blocks. counts_of (Pair by_pair.0 ∷ blocks)) wanted (lists_of every_set sets) by_pair.2 in
     let list = from_lists every_set sets by_blocks.0 by_blocks.1 in
     record {
       blocks = by_blocks.0;
       pair = by_pair.0;
       made_of = record {
         are_sets = all_sets by_blocks.0 list.each;
-        is_kind = (from_range by_pair.0 0 34 by_pair.1).1;
-        adds_up = λ kind low. ap (λ w. slice_index w kind) by_blocks.2 ∙ counts_at (Pair by_pair.0 ∷ by_blocks.0) kind low;
+        is_kind = (in-range-inv 34 0 by_pair.0 by_pair.1).1;
+        adds_up = λ kind low. ap (λ w. slice_index w kind) (sym by_blocks.2) ∙ counts_at (Pair by_pair.0 ∷ by_blocks.0) kind low;
       };
       has_sets = list.long;
     }
@@ -117,24 +118,24 @@ listed_pairs : (wanted : List ℕ) → IsSevenPairs wanted → Listed every_seve
 unfolding every_seven_pairs
 listed_pairs wanted is = record {
   listed = map (slice_index wanted) every_kind;
-  among = among_filter (λ w. tiles_of_all w == 14) (map (slice_index wanted) every_kind) (lists_of (0 ∷ 2 ∷ []) 34)
+  among = in-filter (λ w. tiles_of_all w == 14) (map (slice_index wanted) every_kind) (lists_of (0 ∷ 2 ∷ []) 34)
       (among_lists (0 ∷ 2 ∷ []) 34 (map (slice_index wanted) every_kind) (length-map-range_with_len (slice_index wanted) 0 34) each)
       (is_fourteen (tiles_of_all (map (slice_index wanted) every_kind)) (all_same (map (slice_index wanted) every_kind) wanted (copied wanted) ∙ is.fourteen));
   same = copied wanted;
 }
   where
-    each : (n : ℕ) → Among n (map (slice_index wanted) every_kind) → Among n (0 ∷ 2 ∷ [])
+    each : (n : ℕ) → IsIn n (map (slice_index wanted) every_kind) → IsIn n (0 ∷ 2 ∷ [])
     each n h =
-        let r = from_map (slice_index wanted) n every_kind h in
-        ⊎_elim (λ none. inl (r.2 ∙ none)) (λ two. inr (inl (r.2 ∙ two))) (is.two_or_none r.0 (from_range r.0 0 34 r.1).1)
+        let r = in-map-inv (slice_index wanted) n every_kind h in
+        ⊎_elim (λ none. inl (sym none ∙ r.2)) (λ two. inr (inl (sym two ∙ r.2))) (is.two_or_none r.0 (in-range-inv 34 0 r.0 r.1).1)
 
-pairs_listed : (wanted : List ℕ) → Among wanted every_seven_pairs → IsSevenPairs wanted
+pairs_listed : (wanted : List ℕ) → IsIn wanted every_seven_pairs → IsSevenPairs wanted
 unfolding every_seven_pairs
 pairs_listed wanted h =
-    let r = from_filter (λ w. tiles_of_all w == 14) wanted (lists_of (0 ∷ 2 ∷ []) 34) h in
+    let r = in-filter-inv (λ w. tiles_of_all w == 14) wanted (lists_of (0 ∷ 2 ∷ []) 34) h in
     let list = from_lists (0 ∷ 2 ∷ []) 34 wanted r.0 in
     record {
-      two_or_none = λ kind low. ⊎_elim (λ none. inl none) (λ rest. ⊎_elim (λ two. inr two) (λ no. absurd no) rest) (list.each (slice_index wanted kind) (among_get_or wanted kind (omega (arith, list.long))));
+      two_or_none = λ kind low. ⊎_elim (λ none. inl (sym none)) (λ rest. ⊎_elim (λ two. inr (sym two)) (λ no. absurd no) rest) (list.each (slice_index wanted kind) (get_or-in wanted kind 0 (omega (arith, list.long))));
       fourteen = fourteen_is (tiles_of_all wanted) r.1;
     }
 
@@ -144,20 +145,20 @@ listed_orphans : (wanted : List ℕ) → IsThirteenOrphans wanted → Listed eve
 unfolding every_orphans
 listed_orphans wanted is = record {
   listed = map (orphan_copies is.doubled) every_kind;
-  among = among_map (λ doubled. map (orphan_copies doubled) every_kind) is.doubled orphan_kinds (listed is.doubled is.is_kind is.doubles_orphan);
+  among = in-map (λ doubled. map (orphan_copies doubled) every_kind) is.doubled orphan_kinds (listed is.doubled is.is_kind is.doubles_orphan);
   same = record { at = λ kind low. get_or-map-range_with_len (orphan_copies is.doubled) 0 34 kind kind 0 low (omega arith) ∙ sym (is.at kind low) };
 }
 
-orphans_listed : (wanted : List ℕ) → Among wanted every_orphans → IsThirteenOrphans wanted
+orphans_listed : (wanted : List ℕ) → IsIn wanted every_orphans → IsThirteenOrphans wanted
 unfolding every_orphans
 orphans_listed wanted h =
-    let r = from_map (λ doubled. map (orphan_copies doubled) every_kind) wanted orphan_kinds h in
+    let r = in-map-inv (λ doubled. map (orphan_copies doubled) every_kind) wanted orphan_kinds h in
     let is = is_listed r.0 r.1 in
     record {
       doubled = r.0;
       is_kind = is.0;
       doubles_orphan = is.1;
-      at = λ kind low. ap (λ w. slice_index w kind) r.2 ∙ get_or-map-range_with_len (orphan_copies r.0) 0 34 kind kind 0 low (omega arith);
+      at = λ kind low. ap (λ w. slice_index w kind) (sym r.2) ∙ get_or-map-range_with_len (orphan_copies r.0) 0 34 kind kind 0 low (omega arith);
     }
 
 -- ---- all forms
@@ -167,40 +168,39 @@ unfolding every_special
 listed_form melds wanted form = ⊎_elim by_sets (λ special. ⊎_elim (λ pairs. by_pairs melds pairs.0 pairs.1) (λ orphans. by_orphans melds orphans.0 orphans.1) special) form
   where
     by_sets : IsSetsAndPair (4 - melds) wanted → Listed (every_sets_and_pair (4 - melds) ++ every_special melds) wanted
-    by_sets is = let l = listed_sets (4 - melds) wanted is in record { listed = l.listed; among = among_left l.listed (every_sets_and_pair (4 - melds)) (every_special melds) l.among; same = l.same }
+    by_sets is = let l = listed_sets (4 - melds) wanted is in record { listed = l.listed; among = in-left l.listed (every_sets_and_pair (4 - melds)) (every_special melds) l.among; same = l.same }
 
     by_pairs : (melds : ℕ) → melds ≡ 0 → IsSevenPairs wanted → Listed (every_sets_and_pair (4 - melds) ++ every_special melds) wanted
     by_pairs zero none is =
         let l = listed_pairs wanted is in
-        record { listed = l.listed; among = among_right l.listed (every_sets_and_pair 4) (every_seven_pairs ++ every_orphans) (among_left l.listed every_seven_pairs every_orphans l.among); same = l.same }
+        record { listed = l.listed; among = in-right l.listed (every_sets_and_pair 4) (every_seven_pairs ++ every_orphans) (in-left l.listed every_seven_pairs every_orphans l.among); same = l.same }
     by_pairs (suc melds) none is = absurd (omega arith)
 
     by_orphans : (melds : ℕ) → melds ≡ 0 → IsThirteenOrphans wanted → Listed (every_sets_and_pair (4 - melds) ++ every_special melds) wanted
     by_orphans zero none is =
         let l = listed_orphans wanted is in
-        record { listed = l.listed; among = among_right l.listed (every_sets_and_pair 4) (every_seven_pairs ++ every_orphans) (among_right l.listed every_seven_pairs every_orphans l.among); same = l.same }
+        record { listed = l.listed; among = in-right l.listed (every_sets_and_pair 4) (every_seven_pairs ++ every_orphans) (in-right l.listed every_seven_pairs every_orphans l.among); same = l.same }
     by_orphans (suc melds) none is = absurd (omega arith)
 
-special_listed : (melds : ℕ) (wanted : List ℕ) → Among wanted (every_special melds) → HasWinningForm melds wanted
+special_listed : (melds : ℕ) (wanted : List ℕ) → IsIn wanted (every_special melds) → HasWinningForm melds wanted
 unfolding every_special
 special_listed zero wanted h =
-    ⊎_elim (λ pairs. inr (inl (refl, pairs_listed wanted pairs))) (λ orphans. inr (inr (refl, orphans_listed wanted orphans))) (among_either wanted every_seven_pairs every_orphans h)
+    ⊎_elim (λ pairs. inr (inl (refl, pairs_listed wanted pairs))) (λ orphans. inr (inr (refl, orphans_listed wanted orphans))) (in-cases wanted every_seven_pairs every_orphans h)
 special_listed (suc melds) wanted h = absurd h
 
-form_listed : (melds : ℕ) (wanted : List ℕ) → Among wanted (every_sets_and_pair (4 - melds) ++ every_special melds) → HasWinningForm melds wanted
+form_listed : (melds : ℕ) (wanted : List ℕ) → IsIn wanted (every_sets_and_pair (4 - melds) ++ every_special melds) → HasWinningForm melds wanted
 form_listed melds wanted h =
-    ⊎_elim (λ sets. inl (sets_listed (4 - melds) wanted sets)) (λ special. special_listed melds wanted special) (among_either wanted (every_sets_and_pair (4 - melds)) (every_special melds) h)
+    ⊎_elim (λ sets. inl (sets_listed (4 - melds) wanted sets)) (λ special. special_listed melds wanted special) (in-cases wanted (every_sets_and_pair (4 - melds)) (every_special melds) h)
 
 four_of : (melds : List Meld) (wanted listed : List ℕ) → SameTiles listed wanted → WithinFour melds wanted → is_within_four melds listed ≡ true
 unfolding is_within_four
 four_of melds wanted listed same four =
-    all_of (λ kind. nat_le (slice_index listed kind + tiles melds kind) 4) every_kind
-    (λ kind h. (let inside = (from_range kind 0 34 h).1 in le-leb (slice_index listed kind + tiles melds kind) 4 (omega (arith, four.at kind inside, same.at kind inside))))
+    all-from (λ kind. nat_le (slice_index listed kind + tiles melds kind) 4) every_kind (λ kind h. (let inside = (in-range-inv 34 0 kind h).1 in le-leb (slice_index listed kind + tiles melds kind) 4 (omega (arith, four.at kind inside, same.at kind inside))))
 
 of_four : (melds : List Meld) (wanted : List ℕ) → is_within_four melds wanted ≡ true → WithinFour melds wanted
 unfolding is_within_four
 of_four melds wanted e = record {
-  at = λ kind low. leb-true (slice_index wanted kind + tiles melds kind) 4 (all_among (λ kind. nat_le (slice_index wanted kind + tiles melds kind) 4) kind every_kind e (among_range kind 0 34 (omega arith) (omega arith)));
+  at = λ kind low. leb-true (slice_index wanted kind + tiles melds kind) 4 (all-in (λ kind. nat_le (slice_index wanted kind + tiles melds kind) 4) every_kind e kind (in-range 34 0 kind (omega arith) (omega arith)));
 }
 
 pub listed_winning : (melds : List Meld) (wanted : List ℕ) → IsWinning melds wanted → Listed (every_winning melds) wanted
@@ -209,14 +209,14 @@ listed_winning melds wanted is =
     let l = listed_form (length melds) wanted is.form in
     record {
       listed = l.listed;
-      among = among_filter (is_within_four melds) l.listed (every_sets_and_pair (4 - length melds) ++ every_special (length melds)) l.among (four_of melds wanted l.listed l.same is.within_four);
+      among = in-filter (is_within_four melds) l.listed (every_sets_and_pair (4 - length melds) ++ every_special (length melds)) l.among (four_of melds wanted l.listed l.same is.within_four);
       same = l.same;
     }
 
-pub winning_listed : (melds : List Meld) (wanted : List ℕ) → Among wanted (every_winning melds) → IsWinning melds wanted
+pub winning_listed : (melds : List Meld) (wanted : List ℕ) → IsIn wanted (every_winning melds) → IsWinning melds wanted
 unfolding every_winning
 winning_listed melds wanted h =
-    let r = from_filter (is_within_four melds) wanted (every_sets_and_pair (4 - length melds) ++ every_special (length melds)) h in
+    let r = in-filter-inv (is_within_four melds) wanted (every_sets_and_pair (4 - length melds) ++ every_special (length melds)) h in
     record { form = form_listed (length melds) wanted r.0; within_four = of_four melds wanted r.1 }
 
 -- ---- the least
@@ -225,9 +225,9 @@ pub distance_is : (hand : List ℕ) (melds : List Meld) (n : ℕ) → IsDistance
 unfolding distance_of
 distance_is hand melds n is =
     let l = listed_winning melds is.wanted is.is_winning in
-    let among = among_map (lacking hand) l.listed (every_winning melds) l.among in
+    let among = in-map (lacking hand) l.listed (every_winning melds) l.among in
     let least_one = least_is (map (lacking hand) (every_winning melds)) (lacking hand l.listed) among in
-    let back = from_map (lacking hand) (least (map (lacking hand) (every_winning melds))) (every_winning melds) least_one.1 in
+    let back = in-map-inv (lacking hand) (least (map (lacking hand) (every_winning melds))) (every_winning melds) least_one.1 in
     omega (arith, least_one.0, lacking_same hand l.listed is.wanted l.same, is.reached, is.none_less back.0 (winning_listed melds back.0 back.1), back.2)
 
 -- where there is a winning multiset at all, the least lack is reached
@@ -236,14 +236,14 @@ unfolding distance_of
 distance_from hand melds wanted is =
     let lacks = map (lacking hand) (every_winning melds) in
     let l = listed_winning melds wanted is in
-    let least_one = least_is lacks (lacking hand l.listed) (among_map (lacking hand) l.listed (every_winning melds) l.among) in
-    let back = from_map (lacking hand) (least lacks) (every_winning melds) least_one.1 in
+    let least_one = least_is lacks (lacking hand l.listed) (in-map (lacking hand) l.listed (every_winning melds) l.among) in
+    let back = in-map-inv (lacking hand) (least lacks) (every_winning melds) least_one.1 in
     record {
       wanted = back.0;
       is_winning = winning_listed melds back.0 back.1;
-      reached = sym back.2;
+      reached = back.2;
       none_less = λ other is_other.
           (let o = listed_winning melds other is_other in
-          let below = least_is (map (lacking hand) (every_winning melds)) (lacking hand o.listed) (among_map (lacking hand) o.listed (every_winning melds) o.among) in
+          let below = least_is (map (lacking hand) (every_winning melds)) (lacking hand o.listed) (in-map (lacking hand) o.listed (every_winning melds) o.among) in
           omega (arith, below.0, lacking_same hand o.listed other o.same));
     }

@@ -9,7 +9,8 @@ use Rattle.riichi_tiles.specs.Forms.{IsSevenPairs, IsThirteenOrphans}
 use Rattle.riichi_split.specs.Readings.{IsSplit, IsDone, IsReading, AreTheReadings}
 use Rattle.riichi_split.specs.Cuts.{AreTheSplits}
 use Rattle.riichi_split.specs.Dones.{flagged, dones, blocks_of, read_with, readings_with}
-use Rattle.riichi_split.proofs.Lists.{IsIn, Differ, in-left, in-right, in-cases, Differ-append, Contains-in, in-Contains, All-in, in-All, AllPairs-differ, differ-AllPairs, in-map, in-map-inv, Differ-map, in-flat_map, in-flat_map-inv, Differ-flat_map}
+use Rattle.riichi_tiles.proofs.Members.{All-in, Contains-in, IsIn, in-All, in-Contains, in-cases, in-flat_map, in-flat_map-inv, in-left, in-map, in-map-inv, in-right}
+use Rattle.riichi_split.proofs.Lists.{Differ, Differ-append, AllPairs-differ, differ-AllPairs, Differ-map, Differ-flat_map}
 use Rattle.riichi_split.proofs.Collections.{in-when, in-when-inv, Differ-when}
 use Rattle.riichi_split.proofs.Dones.{dones-inv, in-dones, Differ-dones}
 

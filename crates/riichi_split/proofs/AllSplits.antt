@@ -14,7 +14,8 @@ use Rattle.riichi_split.specs.Readings.{IsSplit}
 use Rattle.riichi_split.proofs.MadeOf.{adds-everywhere, each-set, made-of}
 use Rattle.riichi_split.specs.Cuts.{AreTheSplits, cut_from, sets_beside, split_of, from_choices, from_pairs, falling, doubts}
 use Rattle.riichi_split.proofs.Falling.{in-falling, falling-inv, Differ-falling}
-use Rattle.riichi_split.proofs.Lists.{IsIn, Differ, Contains-in, All-in, AllPairs-differ}
+use Rattle.riichi_tiles.proofs.Members.{All-in, Contains-in, IsIn}
+use Rattle.riichi_split.proofs.Lists.{Differ, AllPairs-differ}
 use Rattle.riichi_split.proofs.Sound.{carried, IsCut, IsCut-from, same_choices, few_choices, same-total}
 use Rattle.riichi_split.proofs.Complete.{found-by, IsFound}
 

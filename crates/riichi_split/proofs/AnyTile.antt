@@ -14,7 +14,7 @@ use Rattle.riichi_split.specs.declared.reading.Reading.{Reading}
 use Rattle.riichi_split.specs.declared.reading.Reading.TheVariants.{Standard, SevenPairs, Orphans}
 use Rattle.riichi_split.specs.Readings.{IsSplit, IsDone, IsReading, AreTheReadings}
 use Rattle.riichi_split.specs.Winning.{HasReading, HasSplit, IsWin}
-use Rattle.riichi_split.proofs.Lists.{IsIn, in-left, in-right, Contains-in, in-Contains, in-All}
+use Rattle.riichi_tiles.proofs.Members.{Contains-in, IsIn, in-All, in-Contains, in-left, in-right}
 use Rattle.riichi_split.proofs.MadeOf.{adds-everywhere, each-set, made-of}
 use Rattle.riichi_split.proofs.Orders.{length-sorted, order-sorted, sets-sorted, sorted, total-sorted}
 

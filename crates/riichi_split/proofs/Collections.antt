@@ -11,7 +11,8 @@ use Rattle.riichi_tiles.specs.declared.block.Block.{Block}
 use Rattle.riichi_tiles.specs.declared.block.Block.TheVariants.{Run, Triplet, Pair}
 use Rattle.riichi_tiles.specs.Kinds.{begins_run}
 use Rattle.riichi_split.specs.ReadingsOf.{when, collections}
-use Rattle.riichi_split.proofs.Lists.{IsIn, Differ, in-map, in-map-inv, Differ-map, in-flat_map, in-flat_map-inv, Differ-flat_map, in-range, in-range-inv, Differ-range}
+use Rattle.riichi_tiles.proofs.Members.{IsIn, in-flat_map, in-flat_map-inv, in-map, in-map-inv, in-range, in-range-inv}
+use Rattle.riichi_split.proofs.Lists.{Differ, Differ-map, Differ-flat_map, Differ-range}
 
 module _ {X : Type 0} where
   pub in-when : (b : Bool) (x : X) (xs : List X) → b ≡ true → IsIn x xs → IsIn x (when b xs)

@@ -6,7 +6,8 @@ use Rattle.riichi_tiles.specs.declared.block.Block.{Block}
 use Rattle.riichi_tiles.specs.declared.block.Block.TheVariants.{Run, Triplet, Pair}
 use Rattle.riichi_tiles.specs.Blocks.{copies}
 use Rattle.riichi_split.specs.Dones.{same_block, is_among, dones}
-use Rattle.riichi_split.proofs.Lists.{IsIn, Differ}
+use Rattle.riichi_tiles.proofs.Members.{IsIn}
+use Rattle.riichi_split.proofs.Lists.{Differ}
 
 pub same-block : (a b : Block) → same_block a b ≡ true → a ≡ b
 same-block (Run a) (Run b) e = ap Run (grind (arith, nat_tests))

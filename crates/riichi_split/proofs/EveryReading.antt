@@ -12,7 +12,8 @@ use Rattle.riichi_tiles.specs.Kinds.{is_orphan}
 use Rattle.riichi_split.specs.Readings.{IsSplit, AreTheReadings}
 use Rattle.riichi_split.specs.Cuts.{AreTheSplits}
 use Rattle.riichi_split.specs.ReadingsOf.{adds_up, split_with, splits_of, are_seven_pairs, are_orphans_with, are_orphans, collections, readings_of}
-use Rattle.riichi_split.proofs.Lists.{IsIn, all-in, all-from, any-in, any-from, in-flat_map, in-flat_map-inv, Differ-flat_map, in-range, in-range-inv, Differ-range, Contains-in, All-in, AllPairs-differ}
+use Rattle.riichi_tiles.proofs.Members.{All-in, Contains-in, IsIn, all-from, all-in, any-from, any-in, in-flat_map, in-flat_map-inv, in-range, in-range-inv}
+use Rattle.riichi_split.proofs.Lists.{Differ-flat_map, Differ-range, AllPairs-differ}
 use Rattle.riichi_split.proofs.Collections.{in-when, in-when-inv, Differ-when, in-collections, collections-inv, Differ-collections}
 use Rattle.riichi_split.proofs.AllReadings.{the_readings}
 use Rattle.riichi_split.proofs.MadeOf.{each-set, made-of}

@@ -2,7 +2,8 @@
 use Rattle.std.proofs.Common.{◌≡◌, ℕ, zero, suc, ◌+◌, ◌-◌, ◌<◌, ◌≤◌, List, [], ◌++◌, inl, inr, sym, ap, subst, ◌∙◌, arith}
 use Rattle.std.proofs.lemmas.Bool.{cases_eq}
 use Rattle.riichi_split.specs.Cuts.{falling}
-use Rattle.riichi_split.proofs.Lists.{IsIn, Differ, in-left, in-right, in-cases, Differ-append}
+use Rattle.riichi_tiles.proofs.Members.{IsIn, in-cases, in-left, in-right}
+use Rattle.riichi_split.proofs.Lists.{Differ, Differ-append}
 
 module _ {X : Type 0} (f : ℕ → List X) where
   step : (n m : ℕ) → n ≡ suc m → falling f n ≡ f m ++ falling f m

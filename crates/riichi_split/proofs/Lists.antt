@@ -1,58 +1,18 @@
--- Membership and difference by recursion on a list, and what std's words say of them.
-use Rattle.std.proofs.Common.{◌∙◌, ◌≤◌, ◌+◌, Bool, true, flat_map, ◌≡◌, ◌≢◌, ℕ, zero, suc, ◌<◌, ◌⊎◌, inl, inr, List, [], ◌∷◌, ◌++◌, length, get_or, map, replicate, refl, sym, ap, subst, arith, All, Contains}
-use Rattle.std.specs.List.{AllPairs, list_all, list_any, range_with_len}
-use Rattle.std.proofs.lemmas.Bool.{and_from, and_parts, or_cases, or_left, or_right, cases_eq}
+-- Lists whose elements differ, and what std's words say of them.
+use Rattle.std.proofs.Common.{◌≡◌, ◌≢◌, ◌+◌, ℕ, zero, suc, inl, inr, List, [], ◌∷◌, ◌++◌, get_or, map, flat_map, replicate, refl, sym, subst, arith}
+use Rattle.std.specs.List.{AllPairs, range_with_len}
+use Rattle.riichi_tiles.proofs.Members.{Contains-in, IsIn, get_or-in, in-cases, in-flat_map-inv, in-map-inv, in-range-inv}
 
 module _ {X : Type 0} where
-  -- x is an element
-  abbrev pub IsIn : X → List X → Type 0
-  IsIn x [] = ⊥
-  IsIn x (y ∷ ys) = (y ≡ x) ⊎ IsIn x ys
-
   -- the elements differ
   abbrev pub Differ : List X → Type 0
   Differ [] = Unit {0}
   Differ (x ∷ xs) = (IsIn x xs → ⊥) × Differ xs
 
-  pub in-left : (x : X) (xs ys : List X) → IsIn x xs → IsIn x (xs ++ ys)
-  in-left x [] ys h = absurd h
-  in-left x (y ∷ xs) ys (inl e) = inl e
-  in-left x (y ∷ xs) ys (inr h) = inr (in-left x xs ys h)
-
-  pub in-right : (x : X) (xs ys : List X) → IsIn x ys → IsIn x (xs ++ ys)
-  in-right x [] ys h = h
-  in-right x (y ∷ xs) ys h = inr (in-right x xs ys h)
-
-  pub in-cases : (x : X) (xs ys : List X) → IsIn x (xs ++ ys) → IsIn x xs ⊎ IsIn x ys
-  in-cases x [] ys h = inr h
-  in-cases x (y ∷ xs) ys (inl e) = inl (inl e)
-  in-cases x (y ∷ xs) ys (inr h) = elim (in-cases x xs ys h) [ inl a ↦ inl (inr a) | inr b ↦ inr b ]
-
   pub Differ-append : (xs ys : List X) → Differ xs → Differ ys → ((x : X) → IsIn x xs → IsIn x ys → ⊥) → Differ (xs ++ ys)
   Differ-append [] ys a b h = b
   Differ-append (x ∷ xs) ys a b h =
       (λ i. elim (in-cases x xs ys i) [ inl p ↦ a.0 p | inr q ↦ h x (inl refl) q ], Differ-append xs ys a.1 b (λ z p q. h z (inr p) q))
-
-  pub Contains-in : (x : X) (xs : List X) → IsIn x xs → Contains xs x
-  Contains-in x [] h = absurd h
-  Contains-in x (y ∷ ys) (inl e) = (0, omega arith, e)
-  Contains-in x (y ∷ ys) (inr h) = let c = Contains-in x ys h in (suc c.0, omega (arith, c.1), c.2)
-
-  in-at : (x : X) (xs : List X) (k : ℕ) → k < length xs → get_or xs k x ≡ x → IsIn x xs
-  in-at x [] k l e = absurd (omega arith)
-  in-at x (y ∷ ys) zero l e = inl e
-  in-at x (y ∷ ys) (suc k) l e = inr (in-at x ys k (omega arith) e)
-
-  pub in-Contains : (x : X) (xs : List X) → Contains xs x → IsIn x xs
-  in-Contains x xs c = in-at x xs c.0 c.1 c.2
-
-  get_or-in : (xs : List X) (k : ℕ) (d : X) → k < length xs → IsIn (get_or xs k d) xs
-  get_or-in [] k d l = absurd (omega arith)
-  get_or-in (y ∷ ys) zero d l = inl refl
-  get_or-in (y ∷ ys) (suc k) d l = inr (get_or-in ys k d (omega arith))
-
-  pub All-in : (P : X → Type 0) (xs : List X) → ((x : X) → IsIn x xs → P x) → All P xs
-  All-in P xs h k d l = h (get_or xs k d) (get_or-in xs k d l)
 
   pub AllPairs-differ : (xs : List X) → Differ xs → AllPairs ◌≢◌ xs
   AllPairs-differ [] h i j d l m = absurd (omega arith)
@@ -61,89 +21,29 @@ module _ {X : Type 0} where
   AllPairs-differ (x ∷ xs) h (suc i) zero d l m = absurd (omega arith)
   AllPairs-differ (x ∷ xs) h (suc i) (suc j) d l m = AllPairs-differ xs h.1 i j d (omega arith) (omega arith)
 
-  pub in-All : (P : X → Type 0) (xs : List X) → All P xs → (x : X) → IsIn x xs → P x
-  in-All P [] h x i = absurd i
-  in-All P (y ∷ ys) h x (inl e) = subst P e (h 0 y (omega arith))
-  in-All P (y ∷ ys) h x (inr i) = in-All P ys (λ k d l. h (suc k) d (omega arith)) x i
-
   pub differ-AllPairs : (xs : List X) → AllPairs ◌≢◌ xs → Differ xs
   differ-AllPairs [] h = tt
   differ-AllPairs (x ∷ xs) h =
       (λ i. let c = Contains-in x xs i in h 0 (suc c.0) x (omega arith) (omega (arith, c.1)) (sym c.2), differ-AllPairs xs (λ i j d l m. h (suc i) (suc j) d (omega arith) (omega arith)))
 
 module _ {X Y : Type 0} (f : X → List Y) where
-  pub in-flat_map : (x : X) (y : Y) (xs : List X) → IsIn x xs → IsIn y (f x) → IsIn y (flat_map f xs)
-  in-flat_map x y [] h i = absurd h
-  in-flat_map x y (z ∷ zs) (inl e) i = in-left y (f z) (flat_map f zs) (subst (λ (w : X). IsIn y (f w)) (sym e) i)
-  in-flat_map x y (z ∷ zs) (inr h) i = in-right y (f z) (flat_map f zs) (in-flat_map x y zs h i)
-
-  pub in-flat_map-inv : (y : Y) (xs : List X) → IsIn y (flat_map f xs) → (x : X) × IsIn x xs × IsIn y (f x)
-  in-flat_map-inv y [] h = absurd h
-  in-flat_map-inv y (x ∷ xs) h =
-      elim (in-cases y (f x) (flat_map f xs) h) [
-        | inl a ↦ (x, inl refl, a)
-        | inr b ↦ let i = in-flat_map-inv y xs b in (i.0, inr i.1, i.2)
-      ]
-
   pub Differ-flat_map : (xs : List X) → ((x : X) → Differ (f x)) → ((a b : X) (y : Y) → IsIn y (f a) → IsIn y (f b) → a ≡ b) → Differ xs → Differ (flat_map f xs)
   Differ-flat_map [] d s h = tt
   Differ-flat_map (x ∷ xs) d s h =
       Differ-append (f x) (flat_map f xs) (d x) (Differ-flat_map xs d s h.1)
-      (λ y a b. let i = in-flat_map-inv y xs b in h.0 (subst (λ (z : X). IsIn z xs) (sym (s x i.0 y a i.2)) i.1))
+      (λ y a b. let i = in-flat_map-inv f y xs b in h.0 (subst (λ (z : X). IsIn z xs) (sym (s x i.0 y a i.2)) i.1))
 
 module _ {X Y : Type 0} (f : X → Y) where
-  pub in-map : (x : X) (xs : List X) → IsIn x xs → IsIn (f x) (map f xs)
-  in-map x [] h = absurd h
-  in-map x (y ∷ ys) (inl e) = inl (ap f e)
-  in-map x (y ∷ ys) (inr h) = inr (in-map x ys h)
-
-  pub in-map-inv : (y : Y) (xs : List X) → IsIn y (map f xs) → (x : X) × IsIn x xs × (f x ≡ y)
-  in-map-inv y [] h = absurd h
-  in-map-inv y (x ∷ xs) (inl e) = (x, inl refl, e)
-  in-map-inv y (x ∷ xs) (inr h) = let i = in-map-inv y xs h in (i.0, inr i.1, i.2)
-
   pub Differ-map : (xs : List X) → ((a b : X) → f a ≡ f b → a ≡ b) → Differ xs → Differ (map f xs)
   Differ-map [] j h = tt
   Differ-map (x ∷ xs) j h =
-      (λ i. let m = in-map-inv (f x) xs i in h.0 (subst (λ (z : X). IsIn z xs) (j m.0 x m.2) m.1), Differ-map xs j h.1)
-
--- ---- tests of all and of some elements
-
-module _ {X : Type 0} (p : X → Bool) where
-  pub all-in : (xs : List X) → list_all p xs ≡ true → (x : X) → IsIn x xs → p x ≡ true
-  all-in [] h x i = absurd i
-  all-in (y ∷ ys) h x (inl e) = ap p (sym e) ∙ (and_parts (p y) (list_all p ys) h).0
-  all-in (y ∷ ys) h x (inr i) = all-in ys (and_parts (p y) (list_all p ys) h).1 x i
-
-  pub all-from : (xs : List X) → ((x : X) → IsIn x xs → p x ≡ true) → list_all p xs ≡ true
-  all-from [] h = refl
-  all-from (y ∷ ys) h = and_from (p y) (list_all p ys) (h y (inl refl)) (all-from ys (λ x i. h x (inr i)))
-
-  pub any-in : (xs : List X) → list_any p xs ≡ true → (x : X) × IsIn x xs × (p x ≡ true)
-  any-in [] h = absurd (cc)
-  any-in (y ∷ ys) h = elim (or_cases (p y) (list_any p ys) h) [ inl e ↦ (y, inl refl, e) | inr r ↦ let i = any-in ys r in (i.0, inr i.1, i.2) ]
-
-  pub any-from : (xs : List X) (x : X) → IsIn x xs → p x ≡ true → list_any p xs ≡ true
-  any-from [] x i e = absurd i
-  any-from (y ∷ ys) x (inl i) e = or_left (p y) (list_any p ys) (ap p i ∙ e)
-  any-from (y ∷ ys) x (inr i) e = or_right (p y) (list_any p ys) (any-from ys x i e)
+      (λ i. let m = in-map-inv f (f x) xs i in h.0 (subst (λ (z : X). IsIn z xs) (j m.0 x m.2) m.1), Differ-map xs j h.1)
 
 -- a list of one and the same element
 pub replicate-at : {X : Type 0} (n k : ℕ) (x : X) → get_or (replicate n x) k x ≡ x
 replicate-at zero k x = refl
 replicate-at (suc n) zero x = refl
 replicate-at (suc n) (suc k) x = replicate-at n k x
-
--- ---- the numbers of a range
-
-pub in-range : (n a k : ℕ) → a ≤ k → k < a + n → IsIn k (range_with_len a n)
-in-range zero a k l h = absurd (omega arith)
-in-range (suc n) a k l h = elim (cases_eq a k) [ inl e ↦ inl e | inr u ↦ inr (in-range n (a + 1) k (omega arith) (omega arith)) ]
-
-pub in-range-inv : (n a k : ℕ) → IsIn k (range_with_len a n) → (a ≤ k) × (k < a + n)
-in-range-inv zero a k h = absurd h
-in-range-inv (suc n) a k (inl e) = (omega arith, omega arith)
-in-range-inv (suc n) a k (inr h) = let i = in-range-inv n (a + 1) k h in (omega (arith, i.0), omega (arith, i.1))
 
 pub Differ-range : (n a : ℕ) → Differ (range_with_len a n)
 Differ-range zero a = tt

@@ -1,5 +1,5 @@
--- The forms of a winning hand: sets and a pair, seven pairs, thirteen orphans. Tiles are counts by kind, of which those of
--- the 34 kinds are looked at.
+-- The forms of a winning hand: sets and a pair, seven pairs, thirteen orphans. Tiles are a list with the count of each of
+-- the 34 kinds; what stands behind these isn't looked at.
 use Rattle.std.specs.Prelude.{◌≡◌, ◌==◌, ℕ, ◌-◌, ◌<◌, ◌⊎◌, IsTrue, List, ◌∷◌, All, filter, length, slice_index, sum_by, if◌then◌else◌}
 use Rattle.riichi_tiles.specs.Blocks.{IsSet, total}
 use Rattle.riichi_tiles.specs.Kinds.{is_orphan}
@@ -33,7 +33,7 @@ orphan_kinds = filter is_orphan every_kind
 abbrev pub orphan_copies : ℕ → ℕ → ℕ
 orphan_copies doubled kind = if is_orphan kind then (if kind == doubled then 2 else 1) else 0
 
--- the terminals and honours once each, one of them twice
+-- each terminal and honour once, one of them twice
 pub record IsThirteenOrphans (counts : List ℕ) : Type 0 where
   pub doubled : ℕ
   pub is_kind : doubled < 34

@@ -47,7 +47,7 @@ pub use held_kinds::HeldKinds;
 pub use kind::Kind;
 pub use kind_set::KindSet;
 pub use meld::Meld;
-pub use melded::meld_tiles;
+pub use melded::{add_melds, meld_tiles};
 pub use melds::Melds;
 pub use notation::{
     NotationCode, NotationFault, is_digit, read_counts, read_into, write_counts, write_kinds,

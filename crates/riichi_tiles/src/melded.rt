@@ -11,17 +11,27 @@ pub fn meld_tiles(melds: &Melds) -> [u8; 34]
     ensures most { (kind : ℕ) → slice_index result kind ≤ 16 }
 {
     let mut held = [0; 34];
+    add_melds(&mut held, melds);
+    held
+}
+
+/// Adds the tiles of the melds of a hand to those held, kind by kind, of which five are held at most.
+pub fn add_melds(held: &mut [u8; 34], melds: &Melds)
+    requires { (kind : ℕ) → slice_index held.old kind ≤ 5 }
+    ensures value { (kind : ℕ)
+        → slice_index held.new kind ≡ slice_index held.old kind + tiles melds.now kind }
+    ensures most { (kind : ℕ) → slice_index held.new kind ≤ slice_index held.old kind + 16 }
+{
     for place in 0..melds.count() {
         if let Some(meld) = melds.get(place) {
-            add_meld(&mut held, meld);
+            add_meld(held, meld);
         }
     }
-    held
 }
 
 /// Adds the tiles of a meld to those held, kind by kind.
 pub(crate) fn add_meld(held: &mut [u8; 34], meld: Meld)
-    requires few { (kind : ℕ) → slice_index held.old kind ≤ 12 }
+    requires few { (kind : ℕ) → slice_index held.old kind ≤ 200 }
     requires proper { is_meld meld ≡ true }
     ensures { (kind : ℕ)
         → slice_index held.new kind ≡ slice_index held.old kind + tiles_of meld kind }

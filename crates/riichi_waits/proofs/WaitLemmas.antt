@@ -12,7 +12,7 @@ use Rattle.riichi_tiles.specs.Tiles.{IsMarked}
 use Rattle.riichi_hand.specs.Hand.{copies_held}
 use Rattle.riichi_hand.specs.HandParts.{HandParts}
 use Rattle.riichi_split.specs.Waits.{waits_of, is_wait}
-use Rattle.riichi_split.proofs.Lists.{IsIn, in-All, in-Contains, any-in, any-from}
+use Rattle.riichi_tiles.proofs.Members.{IsIn, any-from, any-in, in-All, in-Contains}
 use Rattle.riichi_split.proofs.EveryReading.{every_reading}
 use Rattle.riichi_split.proofs.Marks.{mark_of}
 use Rattle.riichi_waits.specs.declared.waits.WaitSorts.{WaitSorts}

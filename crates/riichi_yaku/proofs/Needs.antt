@@ -7,7 +7,7 @@ use Rattle.std.proofs.lemmas.List.Sums.{sum_by-cons}
 use Rattle.std.proofs.lemmas.Bool.Decides.{nat_tests}
 use Rattle.riichi_blocks.specs.declared.hand_block.HandBlock.{HandBlock}
 use Rattle.riichi_blocks.specs.declared.hand_block.HandBlock.TheVariants.{Run, Triplet, Kong, Pair}
-use Rattle.riichi_blocks.specs.HandBlocks.{is_run, is_run_from, is_triplet, is_triplet_of, has_triplet}
+use Rattle.riichi_blocks.specs.HandBlocks.{is_run, is_run_from, is_triplet_or_kong, is_triplet_of, has_triplet}
 use Rattle.riichi_blocks.specs.Kinds.{is_wind, is_dragon}
 use Rattle.riichi_blocks.proofs.Tally.{counted-any}
 use Rattle.riichi_yaku.specs.Runs.{has_run_in_each_suit}
@@ -26,7 +26,7 @@ a-run : (a b c : ℕ) → a ≢ b → a ≢ c → b ≢ c → (block : HandBlock
 a-run a b c ab ac bc (Run low) = one-of-three a b c low ab ac bc
 a-run a b c ab ac bc other = omega arith
 
-a-triplet : (a b c : ℕ) → a ≢ b → a ≢ c → b ≢ c → (block : HandBlock) → IsThree is_triplet_of is_triplet a b c block
+a-triplet : (a b c : ℕ) → a ≢ b → a ≢ c → b ≢ c → (block : HandBlock) → IsThree is_triplet_of is_triplet_or_kong a b c block
 a-triplet a b c ab ac bc (Triplet kind concealed) = one-of-three a b c kind ab ac bc
 a-triplet a b c ab ac bc (Kong kind concealed) = one-of-three a b c kind ab ac bc
 a-triplet a b c ab ac bc other = omega arith
@@ -62,8 +62,8 @@ none p xs h = list_any_none p xs (λ k d l. h (get_or xs k d))
 pub few-runs : (blocks : List HandBlock) (ranks : List ℕ) → count_by is_run blocks < 3 → list_any (has_run_in_each_suit blocks) ranks ≡ false
 few-runs blocks ranks few = none (has_run_in_each_suit blocks) ranks (λ rank. no-three is_run_from is_run a-run blocks rank few)
 
-pub few-triplets : (blocks : List HandBlock) (ranks : List ℕ) → count_by is_triplet blocks < 3 → list_any (has_triplet_in_each_suit blocks) ranks ≡ false
-few-triplets blocks ranks few = none (has_triplet_in_each_suit blocks) ranks (λ rank. no-three is_triplet_of is_triplet a-triplet blocks rank few)
+pub few-triplets : (blocks : List HandBlock) (ranks : List ℕ) → count_by is_triplet_or_kong blocks < 3 → list_any (has_triplet_in_each_suit blocks) ranks ≡ false
+few-triplets blocks ranks few = none (has_triplet_in_each_suit blocks) ranks (λ rank. no-three is_triplet_of is_triplet_or_kong a-triplet blocks rank few)
 
 -- ---- a triplet of one of two honours
 

@@ -4,7 +4,7 @@ use Rattle.std.specs.List.{list_any}
 use Rattle.riichi_hand.specs.declared.win.WinParts.{WinParts}
 use Rattle.riichi_split.specs.declared.reading.Reading.{Reading}
 use Rattle.riichi_blocks.specs.declared.hand_block.HandBlock.{HandBlock}
-use Rattle.riichi_blocks.specs.HandBlocks.{blocks_of, is_seven_pairs, is_orphans}
+use Rattle.riichi_blocks.specs.HandBlocks.{blocks_of, is_seven_pairs, is_thirteen_orphans}
 use Rattle.riichi_blocks.specs.Held.{all_tiles}
 use Rattle.riichi_yaku.specs.declared.table.Yaku.{Yaku}
 use Rattle.riichi_yaku.specs.declared.table.Yaku.TheVariants.{Riichi, DoubleRiichi, Ippatsu, FullyConcealed, Pinfu, PureDoubleChow, AllSimples, WhiteDragon, GreenDragon, RedDragon, SeatWind, PrevalentWind, AfterAKong, RobbingTheKong, LastTile, MixedTripleChow, PureStraight, OutsideHand, SevenPairs, TriplePung, ThreeKongs, AllPungs, ThreeConcealedPungs, LittleThreeDragons, AllTerminalsAndHonours, HalfFlush, TerminalsInAllSets, TwicePureDoubleChow, FullFlush, ThirteenOrphans, NineGates, FourConcealedPungs, BigThreeDragons, LittleFourWinds, BigFourWinds, AllHonours, AllTerminals, AllGreen, FourKongs, BlessingOfHeaven, BlessingOfEarth}
@@ -49,7 +49,7 @@ condition blocks reading tiles parts HalfFlush = is_half_flush reading tiles
 condition blocks reading tiles parts TerminalsInAllSets = is_terminals_in_all_sets blocks
 condition blocks reading tiles parts TwicePureDoubleChow = is_twice_pure_double_chow blocks parts
 condition blocks reading tiles parts FullFlush = is_full_flush reading tiles
-condition blocks reading tiles parts ThirteenOrphans = is_orphans reading
+condition blocks reading tiles parts ThirteenOrphans = is_thirteen_orphans reading
 condition blocks reading tiles parts NineGates = is_nine_gates reading tiles parts
 condition blocks reading tiles parts FourConcealedPungs = is_four_concealed_pungs blocks
 condition blocks reading tiles parts BigThreeDragons = is_big_three_dragons blocks

@@ -1,4 +1,4 @@
--- The yaku of winds and dragons.
+-- The yaku of winds and dragons. The number before each is its number in the table of yaku (`Table.antt`).
 use Rattle.std.specs.Prelude.{ℕ, Bool, false, ◌&&◌, ◌||◌, ◌==◌, List}
 use Rattle.std.specs.List.{list_any, list_all}
 use Rattle.riichi_hand.specs.declared.win.WinParts.{WinParts}

@@ -1,4 +1,4 @@
--- The yaku whose every set and pair has a terminal or an honour.
+-- The yaku whose every set and pair has a terminal or an honour. The number before each is its number in the table of yaku (`Table.antt`).
 use Rattle.std.specs.Prelude.{Bool, not, ◌&&◌, List}
 use Rattle.std.specs.List.{list_any, list_all}
 use Rattle.riichi_blocks.specs.declared.hand_block.HandBlock.{HandBlock}

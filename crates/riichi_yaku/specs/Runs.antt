@@ -1,4 +1,4 @@
--- The yaku of runs.
+-- The yaku of runs. The number before each is its number in the table of yaku (`Table.antt`).
 use Rattle.std.specs.Prelude.{ℕ, ◌+◌, ◌%◌, Bool, not, ◌&&◌, ◌==◌, nat_le, List, [], ◌∷◌, count_by}
 use Rattle.std.specs.List.{list_any, list_all}
 use Rattle.riichi_tiles.specs.declared.suit.Suit.{Suit}
@@ -45,7 +45,7 @@ has_run_in_each_suit blocks rank = list_all (λ suit. has_run blocks (first_of s
 abbrev pub is_mixed_triple_chow : List HandBlock → Bool
 is_mixed_triple_chow blocks = list_any (has_run_in_each_suit blocks) every_rank
 
--- runs 123, 456, 789 of this suit
+-- runs 123, 456, 789 of this suit, which begin at the ranks 0, 3 and 6
 abbrev pub has_straight : List HandBlock → Suit → Bool
 has_straight blocks suit = list_all (λ rank. has_run blocks (first_of suit + rank)) (0 ∷ 3 ∷ 6 ∷ [])
 

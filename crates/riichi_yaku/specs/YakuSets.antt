@@ -13,7 +13,7 @@ contains set yaku = bit_at set (number yaku) == 1
 unfoldable pub yaku_in : ℕ → List Yaku
 yaku_in set = filter (contains set) every_yaku
 
--- a yakuman is in it: the first of them is thirteen orphans
+-- a yakuman is in it: the yakuman are the last of the table, and the first of them is thirteen orphans
 abbrev pub is_yakuman : ℕ → Bool
 is_yakuman set = nat_le (2 ^ number ThirteenOrphans) set
 

@@ -1,17 +1,17 @@
--- The yakuman. 29, thirteen orphans, is the reading itself.
+-- The yakuman. 29, thirteen orphans, is the reading itself. The number before each is its number in the table of yaku (`Table.antt`).
 use Rattle.std.specs.Prelude.{ℕ, Bool, not, ◌&&◌, ◌==◌, nat_le, List, length, count_by, slice_index, if◌then◌else◌}
 use Rattle.std.specs.List.{list_any, list_all, range_with_len}
 use Rattle.riichi_tiles.specs.Melds.{every_kind}
 use Rattle.riichi_hand.specs.declared.win.WinParts.{WinParts}
 use Rattle.riichi_split.specs.declared.reading.Reading.{Reading}
 use Rattle.riichi_blocks.specs.declared.hand_block.HandBlock.{HandBlock}
-use Rattle.riichi_blocks.specs.HandBlocks.{is_standard, is_orphans, is_concealed_triplet, is_kong}
+use Rattle.riichi_blocks.specs.HandBlocks.{is_standard, is_thirteen_orphans, is_concealed_triplet, is_kong}
 use Rattle.riichi_blocks.specs.Winner.{is_dealer}
 use Rattle.riichi_yaku.specs.Honours.{has_triplets, is_last_wind}
 use Rattle.riichi_blocks.specs.Held.{every}
 use Rattle.riichi_blocks.specs.Kinds.{winds, dragons, is_honour, is_terminal, is_of_suit, is_green_tile}
 
--- the copies that nine gates has at least: three 1, three 9 and one of each 2 to 8
+-- the copies that nine gates has at least: three 1, three 9 and one of each 2 to 8, whatever the wait
 abbrev pub gate_copies : ℕ → ℕ → ℕ
 gate_copies suit kind = if is_of_suit suit kind then (if is_terminal kind then 3 else 1) else 0
 
@@ -23,7 +23,7 @@ has_gates tiles suit = list_all (λ kind. nat_le (gate_copies suit kind) (slice_
 abbrev pub has_suit_with_gates : List ℕ → ℕ → Bool
 has_suit_with_gates tiles suit = every (is_of_suit suit) tiles && has_gates tiles suit
 
--- 30: a standard reading and no meld; every tile of one suit; at least three 1, three 9 and one of each 2 to 8
+-- 30: a standard reading and no meld; every tile of one suit; at least three 1, three 9 and one of each 2 to 8, whatever the wait
 abbrev pub is_nine_gates : Reading → List ℕ → WinParts → Bool
 is_nine_gates reading tiles parts = is_standard reading && (length parts.melds == 0) && list_any (has_suit_with_gates tiles) (range_with_len 0 3)
 
@@ -45,7 +45,7 @@ is_big_four_winds blocks = has_triplets blocks winds
 
 -- 35: every tile is an honour; a standard reading or seven pairs
 abbrev pub is_all_honours : Reading → List ℕ → Bool
-is_all_honours reading tiles = not (is_orphans reading) && every is_honour tiles
+is_all_honours reading tiles = not (is_thirteen_orphans reading) && every is_honour tiles
 
 -- 36: every tile is a terminal; a standard reading
 abbrev pub is_all_terminals : Reading → List ℕ → Bool

@@ -28,7 +28,7 @@ use crate::yakuman::{
     is_little_four_winds, is_nine_gates,
 };
 use crate::{Yaku, YakuSet};
-use riichi_blocks::{AllTiles, Blocks, all_tiles, blocks_of, is_orphans, is_seven_pairs};
+use riichi_blocks::{AllTiles, Blocks, all_tiles, blocks_of, is_seven_pairs, is_thirteen_orphans};
 use riichi_hand::WinRecord;
 use riichi_split::Reading;
 
@@ -107,7 +107,7 @@ fn yakuman_among(blocks: &Blocks, reading: &Reading, tiles: &AllTiles, win: &Win
         ≡ set_of (spec.is_yakuman_met (spec.condition blocks.now reading.now tiles.now win.now)) }
 {
     YakuSet::none()
-        .with(Yaku::ThirteenOrphans, is_orphans(reading))
+        .with(Yaku::ThirteenOrphans, is_thirteen_orphans(reading))
         .with(Yaku::NineGates, is_nine_gates(reading, tiles, win))
         .with(Yaku::FourConcealedPungs, is_four_concealed_pungs(blocks))
         .with(Yaku::BigThreeDragons, is_big_three_dragons(blocks))

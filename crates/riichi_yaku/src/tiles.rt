@@ -2,19 +2,19 @@
 ghost use Rattle.std.specs.Prelude.{◌≡◌, ◌<◌};
 ghost use Rattle.riichi_yaku.specs.Tiles as spec;
 
-use riichi_blocks::{AllTiles, is_orphans};
+use riichi_blocks::{AllTiles, is_thirteen_orphans};
 use riichi_split::Reading;
 
 pub(crate) fn is_all_simples(reading: &Reading, tiles: &AllTiles) -> bool
     ensures { result ≡ spec.is_all_simples reading.now tiles.now }
 {
-    !is_orphans(reading) && tiles.are_simples()
+    !is_thirteen_orphans(reading) && tiles.are_simples()
 }
 
 pub(crate) fn is_all_terminals_and_honours(reading: &Reading, tiles: &AllTiles) -> bool
     ensures { result ≡ spec.is_all_terminals_and_honours reading.now tiles.now }
 {
-    !is_orphans(reading) && tiles.are_orphans()
+    !is_thirteen_orphans(reading) && tiles.are_orphans()
 }
 
 fn has_suit_alone(tiles: &AllTiles, suit: usize) -> bool
@@ -33,7 +33,7 @@ fn has_one_suit(tiles: &AllTiles) -> bool
 pub(crate) fn is_half_flush(reading: &Reading, tiles: &AllTiles) -> bool
     ensures { result ≡ spec.is_half_flush reading.now tiles.now }
 {
-    !is_orphans(reading) && has_one_suit(tiles) && tiles.has_honours()
+    !is_thirteen_orphans(reading) && has_one_suit(tiles) && tiles.has_honours()
 }
 
 fn are_of_one_suit(tiles: &AllTiles) -> bool
@@ -45,5 +45,5 @@ fn are_of_one_suit(tiles: &AllTiles) -> bool
 pub(crate) fn is_full_flush(reading: &Reading, tiles: &AllTiles) -> bool
     ensures { result ≡ spec.is_full_flush reading.now tiles.now }
 {
-    !is_orphans(reading) && are_of_one_suit(tiles)
+    !is_thirteen_orphans(reading) && are_of_one_suit(tiles)
 }

@@ -5,7 +5,7 @@ ghost use Rattle.riichi_yaku.specs.Yakuman as spec;
 
 use crate::honours::{has_dragon_triplets, has_wind_triplets, is_last_wind};
 use riichi_blocks::{
-    AllTiles, Blocks, EAST, KINDS, is_dealer, is_of_suit, is_orphans, is_standard,
+    AllTiles, Blocks, EAST, KINDS, is_dealer, is_of_suit, is_standard, is_thirteen_orphans,
 };
 use riichi_hand::WinRecord;
 use riichi_split::Reading;
@@ -87,7 +87,7 @@ pub(crate) fn is_big_four_winds(blocks: &Blocks) -> bool
 pub(crate) fn is_all_honours(reading: &Reading, tiles: &AllTiles) -> bool
     ensures { result ≡ spec.is_all_honours reading.now tiles.now }
 {
-    !is_orphans(reading) && tiles.are_honours()
+    !is_thirteen_orphans(reading) && tiles.are_honours()
 }
 
 pub(crate) fn is_all_terminals(reading: &Reading, tiles: &AllTiles) -> bool

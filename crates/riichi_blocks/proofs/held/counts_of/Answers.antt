@@ -11,9 +11,9 @@ returns c =
     c.args.win.now
     concealed
     winning
-    c.add_melds.new.counts
+    c.add_melds.new.held
     (c.to_array-counts.ensures.value ∙ c.concealed.ensures)
     (c.index.ensures.value ∙ c.winning.ensures)
     (omega arith)
     c.add_melds.array_long
-    (λ kind h. c.add_melds.ensures kind h ∙ ap (λ melds. get_or (set concealed winning (get_or concealed winning 0 + 1)) kind 0 + tiles melds kind) c.melds.ensures)
+    (λ kind h. c.add_melds.ensures.value kind ∙ ap (λ melds. get_or (set concealed winning (get_or concealed winning 0 + 1)) kind 0 + tiles melds kind) c.melds.ensures)

@@ -1,27 +1,12 @@
-use Rattle.std.proofs.Common.{◌∙◌, ◌+◌, ap, sym, arith, add-one, take, get_or}
-use Rattle.riichi_tiles.specs.Melds.{tiles, tiles_of}
+use Rattle.std.proofs.Common.{arith}
 use Rattle.riichi_tiles.proofs.Reading.{zero_at}
-use Rattle.riichi_tiles.proofs.MeldTiles.{tiles_more, tiles_of-most, within_melds, is_meld-get}
-use Rattle.riichi_tiles.proofs.melded.meld_tiles.Goals.{in-Some, in_default}
 use Rattle.riichi_tiles.proofs.melded.meld_tiles.Goals as goal
 
-pub loop-place-init : goal.loop-place-init
-loop-place-init c = (zero_at 34, λ kind. omega (arith, zero_at 34 kind))
+pub add_melds-requires : goal.add_melds-requires
+add_melds-requires c = λ kind. omega (arith, zero_at 34 kind)
 
-pub add_meld-requires-clause-proper : goal.add_meld-requires-clause-proper
-add_meld-requires-clause-proper c = is_meld-get c.args.melds.now c.loop-place.place c.in-Some.meld c.count-place-end.ensures.melds.each_proper c.in-Some.ensures
+pub returns-clause-value : goal.returns-clause-value
+returns-clause-value c = λ kind. omega (arith, c.add_melds.ensures.value kind, zero_at 34 kind)
 
-pub loop-place-preserved : goal.loop-place-preserved
-loop-place-preserved c =
-    let melds = c.args.melds.now in
-    let place = c.loop-place.place in
-    let so_far = c.loop-place.invariant in
-    elim c.match-get.branch [
-      | in-Some w ↦
-          let meld = w.in-Some.meld in (
-            λ kind. ap (λ held. get_or held kind 0) w.held-is ∙ w.add_meld.ensures kind ∙ ap (λ n. n + tiles_of meld kind) (so_far.0 kind)
-                ∙ sym (tiles_more melds place meld kind w.in-Some.ensures) ∙ ap (λ n. tiles (take n melds) kind) (sym (add-one place)),
-            λ kind. omega (arith, ap (λ held. get_or held kind 0) w.held-is, w.add_meld.ensures kind, so_far.1 kind, tiles_of-most meld kind),
-          )
-      | in_default w ↦ absurd (within_melds melds place (omega arith) w.in_default.ensures)
-    ]
+pub returns-clause-most : goal.returns-clause-most
+returns-clause-most c = λ kind. omega (arith, c.add_melds.ensures.most kind, zero_at 34 kind)
