@@ -1,5 +1,5 @@
 -- What one more line asks, and the answers to what was asked.
-use Rattle.std.proofs.Common.{◌≡◌, ℕ, ◌+◌, ◌<◌, inl, inr, List, [], ◌∷◌, ◌++◌, Bool, true, false, cond, flat_map, length, map, Option, Some, None, Result, Ok, Err, refl, sym, ◌∙◌, ap, append_assoc, arith}
+use Rattle.std.proofs.Common.{◌≡◌, ℕ, ◌+◌, ◌<◌, List, [], ◌∷◌, ◌++◌, Bool, true, false, cond, flat_map, length, map, Option, Some, None, Result, Ok, Err, refl, sym, ◌∙◌, ap, append_assoc, arith}
 use Rattle.std.proofs.lemmas.List.{length-append, map-append}
 use Rattle.std.proofs.lemmas.List.Elements.{filter_map-append}
 use Rattle.std.proofs.lemmas.List.Sums.{sum_by-cons}
@@ -28,7 +28,7 @@ use Rattle.desk_lines.specs.LongLines.{long_outcome, long_profile}
 use Rattle.desk_lines.specs.Sheets.{told_on}
 use Rattle.desk_lines.specs.Tables.{table_line}
 use Rattle.desk_lines.proofs.AnswerLemmas.{record_lines-more, rules_after-last, rules_long, same_as_told}
-use Rattle.desk_lines.proofs.KindLemmas.{is_refusal-fault, is_refusal-job}
+use Rattle.desk_lines.proofs.KindLemmas.{is_refusal-answer, is_refusal-fault}
 use Rattle.desk_lines.proofs.TellingLemmas.{text_of-append}
 
 abbrev Outcome : Type 0
@@ -112,7 +112,7 @@ module _ {X : Type 0} (test : Bool → Bool) (things_in : Outcome → List X) (n
 
   one_outcome : (outcome : Outcome) (texts : List (List ℕ)) → count (cons_option (outcome_text outcome) texts) ≡ length (things_in outcome) + count texts
   one_outcome (Ok None) texts = omega (arith, none)
-  one_outcome (Ok (Some job)) texts = omega (arith, one_text (answer_text (value_of job)) false texts (is_refusal-job job), of_job job)
+  one_outcome (Ok (Some job)) texts = omega (arith, one_text (answer_text (value_of job)) false texts (is_refusal-answer (value_of job)), of_job job)
   one_outcome (Err fault) texts = omega (arith, one_text (fault_text fault) true texts (is_refusal-fault fault), of_fault fault)
 
   counted_outcomes : (lines : List Outcome) → count (filter_map outcome_text lines) ≡ length (flat_map things_in lines)
