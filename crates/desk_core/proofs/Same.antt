@@ -1,8 +1,8 @@
 -- Two jobs are one where `==` says so: the derived test of each record is that of its fields.
-use Rattle.std.proofs.Common.{◌≡◌, ℕ, Bool, true, List, refl, ap, rules}
+use Rattle.std.proofs.Common.{◌≡◌, ℕ, true, List, refl, ap, rules}
 use Rattle.std.proofs.lemmas.Bool.{and_parts, eqb-true}
 use Rattle.std.specs.Prelude.{nat_eq}
-use Rattle.std.specs.Bool.{Decides, beq}
+use Rattle.std.specs.Bool.{Decides}
 use Rattle.std.specs.Cmp.{booleans_Decides}
 use Rattle.std.proofs.lemmas.Slice.Eq.{slice_eq-Decides}
 use Rattle.riichi_tiles.specs.declared.meld.Meld.{Meld}
@@ -27,9 +27,6 @@ use Rattle.riichi_hand.specs.contracts.shape.ShapeRecordPartialEq.TheImpl.{ghost
 use Rattle.riichi_hand.specs.contracts.win.WinPartsPartialEq.TheImpl.{ghosts as parts}
 use Rattle.riichi_hand.specs.contracts.job.JobPartialEq.TheImpl.{ghosts as job}
 use Rattle.riichi_hand.specs.contracts.job.JobEq.TheImpl.Laws.{laws-law as job_equiv}
-
-same_bools : (a b : Bool) → beq a b ≡ true → a ≡ b
-same_bools a b h = (booleans_Decides a b).0 h
 
 same_meld : (a b : Meld) → Decides (meld.eq a b) (a ≡ b)
 same_meld a b = search rules
@@ -59,11 +56,11 @@ same_flags a b h =
     let c = and_parts _ _ r.1 in
     let l = and_parts _ _ c.1 in
     λ k. record {
-      ippatsu = same_bools a.ippatsu b.ippatsu i.0 k;
-      rinshan = same_bools a.rinshan b.rinshan r.0 k;
-      chankan = same_bools a.chankan b.chankan c.0 k;
-      last = same_bools a.last b.last l.0 k;
-      first = same_bools a.first b.first l.1 k;
+      ippatsu = (booleans_Decides a.ippatsu b.ippatsu).0 i.0 k;
+      rinshan = (booleans_Decides a.rinshan b.rinshan).0 r.0 k;
+      chankan = (booleans_Decides a.chankan b.chankan).0 c.0 k;
+      last = (booleans_Decides a.last b.last).0 l.0 k;
+      first = (booleans_Decides a.first b.first).0 l.1 k;
     }
 
 same_hand : (a b : HandParts) → hand.eq a b ≡ true → a ≡ b

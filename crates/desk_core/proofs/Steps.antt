@@ -12,7 +12,7 @@ use Rattle.desk_core.proofs.Facts.{IsSound, IsSound-IsLegal, next-within, next-s
 use Rattle.desk_core.specs.Value.{value_of}
 use Rattle.desk_core.specs.Ticketed.{Ticketed}
 use Rattle.desk_core.specs.LaneState.{LaneState, is_among, with_job, PassesWithdrawn, CanTakeBack, TakesBack}
-use Rattle.desk_core.specs.History.{Turn, table_of, turns_of, is_close, is_closed, submitted, submitted_job, HasArrived, withdrawn, is_given, is_withdrawn, is_done, next_ticket, CanWithdraw, ReplyOf, DeskReplyOf}
+use Rattle.desk_core.specs.History.{Turn, table_of, turns_of, is_close, is_closed, submitted, submitted_job, HasArrived, is_given, is_withdrawn, is_done, next_ticket, CanWithdraw, ReplyOf, DeskReplyOf}
 use Rattle.desk_core.specs.Step.{IsLeftBy, IsStep}
 use Rattle.desk_core.specs.Entry.{TakesIn}
 use Rattle.desk_core.specs.declared.arrived.Arrived.{Arrived}

@@ -4,7 +4,6 @@ use Rattle.std.proofs.lemmas.Bool.Decides.{nat_tests}
 use Rattle.std.proofs.lemmas.Bool.{cases_lt}
 use Rattle.std.proofs.lemmas.Fmt.{decimal_injective, signed_decimal_injective}
 use Rattle.std.proofs.lemmas.List.{ext_get_or}
-use Rattle.std.proofs.lemmas.Nat.Bits.{bit_at-lt, same_from_bits_below}
 use Rattle.std.specs.Fmt.{signed_decimal}
 use Rattle.std.specs.Int.{bit_at}
 use Rattle.std.specs.List.{filter, range_with_len}
@@ -20,6 +19,7 @@ use Rattle.riichi_shape.specs.declared.accepts.Accepts.{Accepts}
 use Rattle.riichi_shape.specs.declared.accepts.Accepts.TheVariants.{Thirteen, Fourteen}
 use Rattle.riichi_shape.specs.declared.discard.Discard.{Discard}
 use Rattle.riichi_shape.specs.declared.shape_answer.ShapeAnswer.{ShapeAnswer}
+use Rattle.riichi_shape.proofs.KindLemmas.{same_members}
 use Rattle.riichi_yaku.specs.declared.table.Yaku.{Yaku}
 use Rattle.riichi_yaku.specs.declared.table.Yaku.TheVariants.{Riichi}
 use Rattle.riichi_yaku.specs.Table.{every_yaku, number}
@@ -135,18 +135,12 @@ numbers_in set =
     let numbers : map number every_yaku ≡ range_with_len 0 41 = refl in
     chosen_values number (has set) every_yaku ∙ ap (filter (has set)) numbers
 
-same_bits : (a b i : ℕ) → has a i ≡ has b i → bit_at a i ≡ bit_at b i
-unfolding has
-same_bits a b i e = of_bits (bit_at a i) (bit_at b i) (bit_at-lt a i) (bit_at-lt b i) e
-  where
-    of_bits : (x y : ℕ) → x < 2 → y < 2 → (x == 1) ≡ (y == 1) → x ≡ y
-    of_bits x y low high e = grind (arith, nat_tests)
-
 same_sets : (a b : ℕ) → a < 2 ^ 41 → b < 2 ^ 41 → items_of yaku_tree (yaku_in a) ≡ items_of yaku_tree (yaku_in b) → a ≡ b
+unfolding has
 same_sets a b low high e =
     let yaku = same_items yaku_tree (λ y. Unit {0}) (λ x y h k. same_yaku x y) (yaku_in a) (yaku_in b) (each_of_all (yaku_in a)) (each_of_all (yaku_in b)) e in
     let numbers = sym (numbers_in a) ∙ ap (map number) yaku ∙ numbers_in b in
-    same_from_bits_below 41 a b low high (λ i within. same_bits a b i (same_tests (has a) (has b) 0 41 numbers i (omega arith) (omega arith)))
+    same_members 41 a b low high (λ i within. same_tests (has a) (has b) 0 41 numbers i (omega arith) (omega arith))
 
 -- the second letter of an object's first name, by which payments differ
 second_letter : Json → ℕ

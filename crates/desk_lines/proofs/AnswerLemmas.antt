@@ -17,6 +17,11 @@ use Rattle.desk_lines.proofs.TellingLemmas.{text_of-append}
 use Rattle.desk_lines.proofs.StreamLemmas.{StopsWriting-more}
 use Rattle.desk_lines.specs.LongLines.{AreAlike, long_profile}
 
+-- what is the same for all long lines is the same for lines with one answer
+pub same_as_told : {X : Type 0} {long : X} (of : List ℕ → X) → ((line : List ℕ) → 4096 < length line → of line ≡ long) → (line next : List ℕ) → IsToldAs 4096 line next → of line ≡ of next
+same_as_told of each line next (inl same) = ap of same
+same_as_told of each line next (inr both) = each line both.0 ∙ sym (each next both.1)
+
 -- all but the first line are records
 pub record_lines-more : (line : List ℕ) (lines more : List (List ℕ)) → record_lines ((line ∷ lines) ++ more) ≡ record_lines (line ∷ lines) ++ more
 record_lines-more line lines more = elim (is_some (profile_of line)) as (λ test. cond test (lines ++ more) (line ∷ lines ++ more) ≡ cond test lines (line ∷ lines) ++ more) [ true ↦ refl | false ↦ refl ]
@@ -25,13 +30,9 @@ pub rules_after-last : (given : Rules) (lines : List (List ℕ)) (line : List �
 rules_after-last given [] line = refl
 rules_after-last given (first ∷ lines) line = refl
 
-rules_long : (given : Rules) (rules : Option Rules) (line : List ℕ) → 4096 < length line → rules_by given rules line ≡ unwrap_or rules given
+pub rules_long : (given : Rules) (rules : Option Rules) (line : List ℕ) → 4096 < length line → rules_by given rules line ≡ unwrap_or rules given
 rules_long given None line long = rw (long_profile line long) refl
 rules_long given (Some rules) line long = refl
-
-pub same_rules : (given : Rules) (rules : Option Rules) (line next : List ℕ) → IsToldAs 4096 line next → rules_by given rules line ≡ rules_by given rules next
-same_rules given rules line next (inl same) = ap (rules_by given rules) same
-same_rules given rules line next (inr long) = rules_long given rules line long.0 ∙ sym (rules_long given rules next long.1)
 
 -- ---- any kind of answer
 
@@ -69,17 +70,17 @@ told_as : (Answers : AnswerKind) → AreAlike Answers → (given : Rules) (rules
     → IsToldBy Answers given rules line answer → IsToldBy Answers given rules next answer
 told_as Answers alike given rules line next answer (inl same) is = subst (λ (l : List ℕ). IsToldBy Answers given rules l answer) same is
 told_as Answers alike given rules line next answer (inr long) is =
-    let kept = records_long given rules line long.0 in
-    let kept_next = records_long given rules next long.1 in
-    subst (λ (r : Option Rules). IsToldUnder Answers r next answer) (kept ∙ sym kept_next) (alike_under Answers alike (record_rules given rules line) line next answer long.0 long.1 is)
+    let kept = same_as_told (record_rules given rules) (records_long given rules) line next (inr long) in
+    subst (λ (r : Option Rules). IsToldUnder Answers r next answer) kept (alike_under Answers alike (record_rules given rules line) line next answer long.0 long.1 is)
 
 -- one more line was answered as its records are
 pub TellsRecords-line : {A P : Type 0} (Answers : AnswerKind) → AreAlike Answers → (old new : Records A P) (line next : List ℕ) (answer : Option (List ℕ)) (lines told : List (List ℕ)) → IsToldAs 4096 line next → TellsRecords Answers old lines told
     → new.given ≡ old.given → new.rules ≡ Some (rules_by old.given old.rules line) → IsToldBy Answers old.given old.rules line answer → TellsRecords Answers new (lines ++ next ∷ []) (told ++ answers_in answer)
 TellsRecords-line Answers alike old new line next answer lines told as_this tells given rules is =
+    let before = rules_after old.given lines in
     let so = subst (λ (r : Option Rules). IsToldBy Answers old.given r line answer) tells.0 is in
-    let front = AnswerRecords-last Answers old.given lines next told answer tells.1 (told_as Answers alike old.given (rules_after old.given lines) line next answer as_this so) in (
-      rules ∙ ap (λ r. Some (rules_by old.given r line)) tells.0 ∙ ap Some (same_rules old.given (rules_after old.given lines) line next as_this) ∙ sym (rules_after-last old.given lines next)
+    let front = AnswerRecords-last Answers old.given lines next told answer tells.1 (told_as Answers alike old.given before line next answer as_this so) in (
+      rules ∙ ap (λ r. Some (rules_by old.given r line)) tells.0 ∙ ap Some (same_as_told (rules_by old.given before) (rules_long old.given before) line next as_this) ∙ sym (rules_after-last old.given lines next)
           ∙ ap (λ (g : Rules). rules_after g (lines ++ next ∷ [])) (sym given),
       subst (λ (g : Rules). AnswerRecords Answers g (lines ++ next ∷ []) (told ++ answers_in answer)) (sym given) front,
     )

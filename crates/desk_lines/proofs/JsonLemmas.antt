@@ -20,7 +20,7 @@ use Rattle.desk_lines.specs.LineAnswer.{answer_of, outcome_text}
 use Rattle.desk_lines.specs.LineAnswers.{answers_on, report_on}
 use Rattle.desk_lines.specs.Profile.{rules_of, record_lines}
 use Rattle.desk_lines.specs.Telling.{is_refusal as is_told_refusal, report_by}
-use Rattle.desk_lines.proofs.KindLemmas.{is_refusal-fault as told-fault, is_refusal-job as told-job}
+use Rattle.desk_lines.proofs.KindLemmas.{is_refusal-fault as told-fault, is_refusal-answer as told-answer}
 use Rattle.desk_lines.proofs.TellingLemmas.{report_by-same}
 
 parts_refuse : (fault : LineFault) → is_refusal (fault_parts fault) ≡ true
@@ -37,23 +37,20 @@ no_win_refuses (Won score) = refl
 no_win_refuses NoYaku = refl
 no_win_refuses NoWin = refl
 
-is_refusal-answer : (told : Answer) → is_refusal (answer_text told) ≡ false
+pub is_refusal-answer : (told : Answer) → is_refusal (answer_text told) ≡ false
 unfolding waits_text shape_text
 is_refusal-answer (answer.Win win) = ap is_refusal (win_written win) ∙ no_win_refuses win
 is_refusal-answer (answer.Waits marks) = ap is_refusal (waits_written marks)
 is_refusal-answer (answer.Shape shape) = ap is_refusal (shape_written shape)
 
-pub is_refusal-job : (job : Job) → is_refusal (answer_text (value_of job)) ≡ false
-is_refusal-job job = is_refusal-answer (value_of job)
-
-pub ruleset kinds = (is_refusal-fault, is_refusal-job)
+pub ruleset kinds = (is_refusal-fault, is_refusal-answer)
 
 -- ---- how many
 
 one_refusal : (outcome : Result (Option Job) LineFault) (objects answers : List (List ℕ)) → map is_refusal objects ≡ map is_told_refusal answers
     → map is_refusal (cons_option (outcome_json outcome) objects) ≡ map is_told_refusal (cons_option (outcome_text outcome) answers)
 one_refusal (Ok None) objects answers rest = rest
-one_refusal (Ok (Some job)) objects answers rest = λ i. (is_refusal-job job ∙ sym (told-job job)) i ∷ rest i
+one_refusal (Ok (Some job)) objects answers rest = λ i. (is_refusal-answer (value_of job) ∙ sym (told-answer (value_of job))) i ∷ rest i
 one_refusal (Err fault) objects answers rest = λ i. (is_refusal-fault fault ∙ sym (told-fault fault)) i ∷ rest i
 
 -- the objects that are refusals are those of the plain answers that are

@@ -1,6 +1,5 @@
 -- Which answers begin with `refused`.
 use Rattle.std.proofs.Common.{◌≡◌, true, false, refl}
-use Rattle.riichi_hand.specs.declared.job.Job.{Job}
 use Rattle.riichi_hand.specs.declared.fault.LineFault.{LineFault}
 use Rattle.riichi_hand.specs.declared.fault.LineFault.TheVariants.{Line, Notation}
 use Rattle.riichi_hand.specs.FaultTexts.{fault_text}
@@ -8,7 +7,6 @@ use Rattle.riichi_score.specs.declared.answer.WinAnswer.TheVariants.{NoWin}
 use Rattle.riichi_score.specs.Text.{text_of}
 use Rattle.riichi_shape_text.specs.Text.{text_of as shape_text}
 use Rattle.desk_core.specs.AnswerText.{answer_text}
-use Rattle.desk_core.specs.Value.{value_of}
 use Rattle.desk_core.specs.declared.answer.Answer.{Answer}
 use Rattle.desk_core.specs.declared.answer.Answer.TheVariants as answer
 use Rattle.desk_lines.specs.Telling.{is_refusal}
@@ -17,12 +15,9 @@ pub is_refusal-fault : (fault : LineFault) → is_refusal (fault_text fault) ≡
 is_refusal-fault (Line code) = refl
 is_refusal-fault (Notation name fault) = refl
 
-is_refusal-answer : (answer : Answer) → is_refusal (answer_text answer) ≡ false
+pub is_refusal-answer : (answer : Answer) → is_refusal (answer_text answer) ≡ false
 unfolding answer_text text_of shape_text
 is_refusal-answer (answer.Win NoWin) = refl
 is_refusal-answer _ = refl
 
-pub is_refusal-job : (job : Job) → is_refusal (answer_text (value_of job)) ≡ false
-is_refusal-job job = is_refusal-answer (value_of job)
-
-pub ruleset kinds = (is_refusal-fault, is_refusal-job)
+pub ruleset kinds = (is_refusal-fault, is_refusal-answer)

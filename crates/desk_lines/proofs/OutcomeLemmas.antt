@@ -1,5 +1,5 @@
 -- What one more line asks, and the answers to what was asked.
-use Rattle.std.proofs.Common.{◌≡◌, ℕ, ◌+◌, ◌<◌, inl, inr, List, [], ◌∷◌, ◌++◌, Bool, true, false, cond, flat_map, length, map, Option, Some, None, Result, Ok, Err, refl, sym, ◌∙◌, ap, append_assoc, arith}
+use Rattle.std.proofs.Common.{◌≡◌, ℕ, ◌+◌, ◌<◌, List, [], ◌∷◌, ◌++◌, Bool, true, false, cond, flat_map, length, map, Option, Some, None, Result, Ok, Err, refl, sym, ◌∙◌, ap, append_assoc, arith}
 use Rattle.std.proofs.lemmas.List.{length-append, map-append}
 use Rattle.std.proofs.lemmas.List.Elements.{filter_map-append}
 use Rattle.std.proofs.lemmas.List.Sums.{sum_by-cons}
@@ -27,8 +27,8 @@ use Rattle.desk_lines.specs.Collector.{Collects}
 use Rattle.desk_lines.specs.LongLines.{long_outcome, long_profile}
 use Rattle.desk_lines.specs.Sheets.{told_on}
 use Rattle.desk_lines.specs.Tables.{table_line}
-use Rattle.desk_lines.proofs.AnswerLemmas.{record_lines-more, rules_after-last, same_rules}
-use Rattle.desk_lines.proofs.KindLemmas.{is_refusal-fault, is_refusal-job}
+use Rattle.desk_lines.proofs.AnswerLemmas.{record_lines-more, rules_after-last, rules_long, same_as_told}
+use Rattle.desk_lines.proofs.KindLemmas.{is_refusal-answer, is_refusal-fault}
 use Rattle.desk_lines.proofs.TellingLemmas.{text_of-append}
 
 abbrev Outcome : Type 0
@@ -77,10 +77,6 @@ outcome_long : (given : Rules) (rules : Option Rules) (line : List ℕ) → 4096
 outcome_long given None line long = rw (long_profile line long) (ap (λ o. o ∷ []) (long_outcome given line long))
 outcome_long given (Some rules) line long = ap (λ o. o ∷ []) (long_outcome rules line long)
 
-same_outcome : (given : Rules) (rules : Option Rules) (line next : List ℕ) → IsToldAs 4096 line next → outcome_by given rules line ≡ outcome_by given rules next
-same_outcome given rules line next (inl same) = ap (outcome_by given rules) same
-same_outcome given rules line next (inr long) = outcome_long given rules line long.0 ∙ sym (outcome_long given rules next long.1)
-
 -- one more line, or one that has its answer, was taken
 pub Collects-line : {P : Type 0} (old new : Collector P) (line next : List ℕ) (lines : List (List ℕ)) → IsToldAs 4096 line next → Collects lines old → new.given ≡ old.given → new.number ≡ old.number
     → new.rules ≡ Some (rules_by old.given old.rules line) → told_on new.sheets ≡ told_on old.sheets ++ texts_in (outcome_by old.given old.rules line)
@@ -89,12 +85,12 @@ pub Collects-line : {P : Type 0} (old new : Collector P) (line next : List ℕ) 
     → Collects (lines ++ next ∷ []) new
 Collects-line old new line next lines as_this collects given number rules told answered refused =
     let g = old.given in let before = rules_after g lines in
-    let outcome : outcome_by g old.rules line ≡ outcome_by g before next = ap (λ r. outcome_by g r line) collects.rules ∙ same_outcome g before line next as_this in
+    let outcome : outcome_by g old.rules line ≡ outcome_by g before next = ap (λ r. outcome_by g r line) collects.rules ∙ same_as_told (outcome_by g before) (outcome_long g before) line next as_this in
     let jobs = ap (λ o. length (flat_map jobs_in o)) outcome in
     let faults = ap (λ o. length (flat_map refusals_in o)) outcome in
     let jobs_so : new.report.answered ≡ length (jobs_of g (lines ++ next ∷ [])) = (let had = collects.answered in let more = counted-last jobs_in g lines next in omega arith) in
     let faults_so : new.report.refused ≡ length (refusals_of g (lines ++ next ∷ [])) = (let had = collects.refused in let more = counted-last refusals_in g lines next in omega arith) in record {
-      rules = rules ∙ ap (λ r. Some (rules_by g r line)) collects.rules ∙ ap Some (same_rules g before line next as_this) ∙ sym (rules_after-last g lines next)
+      rules = rules ∙ ap (λ r. Some (rules_by g r line)) collects.rules ∙ ap Some (same_as_told (rules_by g before) (rules_long g before) line next as_this) ∙ sym (rules_after-last g lines next)
           ∙ ap (λ (h : Rules). rules_after h (lines ++ next ∷ [])) (sym given);
       told = told ∙ ap (λ front. front ++ texts_in (outcome_by g old.rules line)) collects.told ∙ ap (λ more. (table_line old.number ++ answers_to g lines) ++ texts_in more) outcome
           ∙ append_assoc (table_line old.number) (answers_to g lines) (texts_in (outcome_by g before next)) ∙ ap (λ all. table_line old.number ++ all) (sym (answers_to-last g lines next))
@@ -116,7 +112,7 @@ module _ {X : Type 0} (test : Bool → Bool) (things_in : Outcome → List X) (n
 
   one_outcome : (outcome : Outcome) (texts : List (List ℕ)) → count (cons_option (outcome_text outcome) texts) ≡ length (things_in outcome) + count texts
   one_outcome (Ok None) texts = omega (arith, none)
-  one_outcome (Ok (Some job)) texts = omega (arith, one_text (answer_text (value_of job)) false texts (is_refusal-job job), of_job job)
+  one_outcome (Ok (Some job)) texts = omega (arith, one_text (answer_text (value_of job)) false texts (is_refusal-answer (value_of job)), of_job job)
   one_outcome (Err fault) texts = omega (arith, one_text (fault_text fault) true texts (is_refusal-fault fault), of_fault fault)
 
   counted_outcomes : (lines : List Outcome) → count (filter_map outcome_text lines) ≡ length (flat_map things_in lines)

@@ -108,22 +108,19 @@ submitted lane k states vacant job b =
           (at_push window (job, false) (a, false) i e);
     }
 
--- what the vacant places are, whatever the lane
-record Keeps (states : List PlaceState) (vacant : List ℕ) : Type 0 where
-  vacant_are : (i k : ℕ) → get_elem? vacant i ≡ some k → get_elem? states k ≡ some Vacant
-  once : (i j k : ℕ) → get_elem? vacant i ≡ some k → get_elem? vacant j ≡ some k → i ≡ j
-  counted : length vacant + outs states ≡ length states
+-- the places in the list are vacant, and each stands in it once
+pub record AreVacant (states : List PlaceState) (vacant : List ℕ) : Type 0 where
+  pub vacant_are : (i k : ℕ) → get_elem? vacant i ≡ some k → get_elem? states k ≡ some Vacant
+  pub once : (i j k : ℕ) → get_elem? vacant i ≡ some k → get_elem? vacant j ≡ some k → i ≡ j
 
--- a place that was out is vacant again
-keeps_again : (lane : LaneState) (k : ℕ) (states : List PlaceState) (vacant : List ℕ) (x : Ticket) (job : Job) → get_elem? states k ≡ some (Out x job) → Agrees lane states vacant
-    → Keeps (set states k Vacant) (vacant ++ k ∷ [])
-keeps_again lane k states vacant x job out b =
-    let near = there_is states k (Out x job) out in
-    let not_vacant : get_elem? states k ≡ some Vacant → ⊥ = λ e. let d : Out x job ≡ Vacant = some-injective (Out x job) Vacant (sym out ∙ e) in cc in
+-- one more place is vacant
+pub one_vacant : (k : ℕ) (states : List PlaceState) (vacant : List ℕ) (was : PlaceState) → get_elem? states k ≡ some was → was ≢ Vacant → AreVacant states vacant → AreVacant (set states k Vacant) (vacant ++ k ∷ [])
+one_vacant k states vacant was at other b =
+    let not_vacant : get_elem? states k ≡ some Vacant → ⊥ = λ e. other (some-injective was Vacant (sym at ∙ e)) in
     record {
       vacant_are = λ i j e. ⊎_elim
           (λ (h : (i < length vacant) × (get_elem? vacant i ≡ some j)). let c = b.vacant_are i j h.1 in set_else states k j Vacant (λ same. not_vacant (ap (λ (n : ℕ). get_elem? states n) (sym same) ∙ c)) ∙ c)
-          (λ (h : (i ≡ length vacant) × (k ≡ j)). subst (λ (n : ℕ). get_elem? (set states k Vacant) n ≡ some Vacant) h.1 (set_here states k Vacant near))
+          (λ (h : (i ≡ length vacant) × (k ≡ j)). subst (λ (n : ℕ). get_elem? (set states k Vacant) n ≡ some Vacant) h.1 (set_here states k Vacant (there_is states k was at)))
           (at_push vacant k j i e);
       once = λ i j l e d. ⊎_elim
           (λ (h : (i < length vacant) × (get_elem? vacant i ≡ some l)). ⊎_elim (λ (g : (j < length vacant) × (get_elem? vacant j ≡ some l)). b.once i j l h.1 g.1)
@@ -131,8 +128,15 @@ keeps_again lane k states vacant x job out b =
           (λ (h : (i ≡ length vacant) × (k ≡ l)). ⊎_elim (λ (g : (j < length vacant) × (get_elem? vacant j ≡ some l)). absurd (not_vacant (ap (λ (n : ℕ). get_elem? states n) h.1 ∙ b.vacant_are j l g.1)))
           (λ (g : (j ≡ length vacant) × (k ≡ l)). h.0 ∙ sym g.0) (at_push vacant k l j d))
           (at_push vacant k l i e);
-      counted = let c = b.counted in let t = sum_by-changed out_or_not states k (Out x job) Vacant out in omega (arith, length-append vacant (k ∷ []), length-set states k Vacant);
     }
+
+-- a place that was out is vacant again
+module _ (lane : LaneState) (k : ℕ) (states : List PlaceState) (vacant : List ℕ) (x : Ticket) (job : Job) (out : get_elem? states k ≡ some (Out x job)) (b : Agrees lane states vacant) where
+  vacant_again : AreVacant (set states k Vacant) (vacant ++ k ∷ [])
+  vacant_again = one_vacant k states vacant (Out x job) out (λ e. cc) (record { vacant_are = b.vacant_are; once = b.once })
+
+  counted_again : length (vacant ++ k ∷ []) + outs (set states k Vacant) ≡ length (set states k Vacant)
+  counted_again = let c = b.counted in let t = sum_by-changed out_or_not states k (Out x job) Vacant out in omega (arith, length-append vacant (k ∷ []), length-set states k Vacant)
 
 -- the lane accepts the piece of a ticket that was not withdrawn
 accepted : (lane : LaneState) (k place : ℕ) (states : List PlaceState) (vacant : List ℕ) (piece : Ticketed) → lane.next + place ≡ piece.ticket.seq → get_elem? lane.window place ≡ some (piece.job, false)
@@ -140,13 +144,13 @@ accepted : (lane : LaneState) (k place : ℕ) (states : List PlaceState) (vacant
     → Agrees (record lane { window = set lane.window place (piece.job, true) }) (set states k Vacant) (vacant ++ k ∷ [])
 accepted lane k place states vacant piece seq waits live out b =
     let x : Ticket = piece.ticket in let window : List (Job × Bool) = lane.window in let next : ℕ = lane.next in let mine = b.own k x piece.job out in
-    let m = keeps_again lane k states vacant x piece.job out b in
+    let m = vacant_again lane k states vacant x piece.job out b in
     let is_x : x ≡ ticket lane.table (next + place) = ticket_is x (ticket lane.table (next + place)) mine.0 (sym seq) in
     let single : times_out x states ≡ 1 = ap (λ (z : Ticket). times_out z states) is_x ∙ b.listed place piece.job waits (ap (is_withdrawn lane) seq ∙ live) in
     record {
       vacant_are = m.vacant_are;
       once = m.once;
-      counted = m.counted;
+      counted = counted_again lane k states vacant x piece.job out b;
       own = λ j y a e. ⊎_elim
           (λ (t : (j ≡ k) × (Vacant ≡ Out y a)). let d = t.1 in cc)
           (λ (t : (j ≢ k) × (get_elem? states j ≡ some (Out y a))). let d = b.own j y a t.1 in (d.0, (let l = d.1 in omega (arith, length-set window place (piece.job, true)))))
@@ -167,10 +171,10 @@ accepted lane k place states vacant piece seq waits live out b =
 -- the piece of a withdrawn ticket was fetched
 left : (lane : LaneState) (k : ℕ) (states : List PlaceState) (vacant : List ℕ) (x : Ticket) (job : Job) → is_withdrawn lane x.seq ≡ true → get_elem? states k ≡ some (Out x job) → Agrees lane states vacant
     → Agrees lane (set states k Vacant) (vacant ++ k ∷ [])
-left lane k states vacant x job gone out b = let m = keeps_again lane k states vacant x job out b in record {
+left lane k states vacant x job gone out b = let m = vacant_again lane k states vacant x job out b in record {
   vacant_are = m.vacant_are;
   once = m.once;
-  counted = m.counted;
+  counted = counted_again lane k states vacant x job out b;
   own = λ j y a e. ⊎_elim (λ (t : (j ≡ k) × (Vacant ≡ Out y a)). let d = t.1 in cc) (λ (t : (j ≢ k) × (get_elem? states j ≡ some (Out y a))). b.own j y a t.1) (at_set states k j Vacant (Out y a) e);
   pending = λ j y a e still. ⊎_elim (λ (t : (j ≡ k) × (Vacant ≡ Out y a)). let d = t.1 in cc) (λ (t : (j ≢ k) × (get_elem? states j ≡ some (Out y a))). b.pending j y a t.1 still) (at_set states k j Vacant (Out y a) e);
   listed = λ i a e still. let y : Ticket = ticket lane.table (lane.next + i) in let t = sum_by-changed (λ state. one_if (is_out y state)) states k (Out x job) Vacant out in let c = b.listed i a e still in

@@ -1,5 +1,5 @@
 -- A table takes up its places, one after the other.
-use Rattle.std.proofs.Common.{◌≡◌, ℕ, zero, suc, ◌+◌, ◌<◌, ◌≤◌, List, [], ◌∷◌, ◌++◌, length, set, sym, refl, ap, ◌∙◌, subst, arith, ⊎_elim, length-set, length-append, replicate}
+use Rattle.std.proofs.Common.{◌≡◌, ℕ, zero, suc, ◌+◌, ◌<◌, ◌≤◌, List, [], ◌∷◌, ◌++◌, length, set, sym, refl, ap, ◌∙◌, subst, arith, length-set, length-append, replicate}
 use mathlib.Core.Logic.{dite}
 use native.Mathlib.Decide.{ℕ_discrete}
 use mathlib.Core.Option.{some, some-injective, some-ne-none}
@@ -11,13 +11,11 @@ use Rattle.desk_run.specs.LanePlaces.{Agrees, outs}
 use Rattle.desk_run.specs.declared.place_state.PlaceState.{PlaceState}
 use Rattle.desk_run.specs.declared.place_state.PlaceState.TheVariants.{Fresh, Vacant, Out}
 use Rattle.desk_run.proofs.Lists.{sum_by-changed, term_le}
-use Rattle.desk_run.proofs.LanePlaces.{at_push, out_or_not}
+use Rattle.desk_run.proofs.LanePlaces.{AreVacant, one_vacant, out_or_not}
 
 -- the first n places are vacant, and the others not yet taken up
 pub record TakenUp (n : ℕ) (states : List PlaceState) (vacant : List ℕ) : Type 0 where
-  pub vacant_are : (i k : ℕ) → get_elem? vacant i ≡ some k → get_elem? states k ≡ some Vacant
-  pub once : (i j k : ℕ) → get_elem? vacant i ≡ some k → get_elem? vacant j ≡ some k → i ≡ j
-  pub below : (i k : ℕ) → get_elem? vacant i ≡ some k → k < n
+  pub places : AreVacant states vacant
   pub up : (j : ℕ) → j < n → get_elem? states j ≡ some Vacant
   pub none_out : outs states ≡ 0
   pub fresh : (j : ℕ) → n ≤ j → j < length states → get_elem? states j ≡ some Fresh
@@ -33,9 +31,7 @@ all_fresh (suc n) (suc j) h = all_fresh n j (omega arith)
 
 pub none_up : (n : ℕ) (states : List PlaceState) → states ≡ replicate n Fresh → TakenUp 0 states []
 none_up n states e = subst (λ (l : List PlaceState). TakenUp 0 l []) (sym e) (record {
-  vacant_are = λ i k h. absurd (some-ne-none k (sym h));
-  once = λ i j k h g. absurd (some-ne-none k (sym h));
-  below = λ i k h. absurd (some-ne-none k (sym h));
+  places = record { vacant_are = λ i k h. absurd (some-ne-none k (sym h)); once = λ i j k h g. absurd (some-ne-none k (sym h)) };
   up = λ j h. absurd (omega arith);
   none_out = no_outs n;
   fresh = λ j h g. all_fresh n j g;
@@ -44,15 +40,7 @@ none_up n states e = subst (λ (l : List PlaceState). TakenUp 0 l []) (sym e) (r
 
 pub one_up : (n : ℕ) (states : List PlaceState) (vacant : List ℕ) → n < length states → TakenUp n states vacant → TakenUp (n + 1) (set states n Vacant) (vacant ++ n ∷ [])
 one_up n states vacant near b = record {
-  vacant_are = λ i k e. ⊎_elim (λ (h : (i < length vacant) × (get_elem? vacant i ≡ some k)). let l = b.below i k h.1 in set_else states n k Vacant (λ same. omega arith) ∙ b.vacant_are i k h.1)
-      (λ (h : (i ≡ length vacant) × (n ≡ k)). subst (λ (m : ℕ). get_elem? (set states n Vacant) m ≡ some Vacant) h.1 (set_here states n Vacant near)) (at_push vacant n k i e);
-  once = λ i j k e d. ⊎_elim
-      (λ (h : (i < length vacant) × (get_elem? vacant i ≡ some k)). ⊎_elim (λ (g : (j < length vacant) × (get_elem? vacant j ≡ some k)). b.once i j k h.1 g.1)
-      (λ (g : (j ≡ length vacant) × (n ≡ k)). let l = b.below i k h.1 in let s = g.1 in absurd (omega arith)) (at_push vacant n k j d))
-      (λ (h : (i ≡ length vacant) × (n ≡ k)). ⊎_elim (λ (g : (j < length vacant) × (get_elem? vacant j ≡ some k)). let l = b.below j k g.1 in let s = h.1 in absurd (omega arith))
-      (λ (g : (j ≡ length vacant) × (n ≡ k)). h.0 ∙ sym g.0) (at_push vacant n k j d))
-      (at_push vacant n k i e);
-  below = λ i k e. ⊎_elim (λ (h : (i < length vacant) × (get_elem? vacant i ≡ some k)). let l = b.below i k h.1 in omega arith) (λ (h : (i ≡ length vacant) × (n ≡ k)). let s = h.1 in omega arith) (at_push vacant n k i e);
+  places = one_vacant n states vacant Fresh (b.fresh n (omega arith) near) (λ e. cc) b.places;
   up = λ j h. dite (ℕ_discrete j n) (λ e. subst (λ (m : ℕ). get_elem? (set states n Vacant) m ≡ some Vacant) (sym e) (set_here states n Vacant near))
       (λ ne. set_else states n j Vacant ne ∙ b.up j (omega arith));
   none_out = let f = b.fresh n (omega arith) near in let c = sum_by-changed out_or_not states n Fresh Vacant f in let z = b.none_out in omega arith;
@@ -71,8 +59,8 @@ all_vacant n states vacant e b = all_alike n states Vacant e b.up
 
 pub all_up : (lane : LaneState) (t n : ℕ) (states : List PlaceState) (vacant : List ℕ) → lane ≡ new_lane t → n ≡ length states → TakenUp n states vacant → Agrees lane states vacant
 all_up lane t n states vacant new e b = subst (λ (l : LaneState). Agrees l states vacant) (sym new) (record {
-  vacant_are = b.vacant_are;
-  once = b.once;
+  vacant_are = b.places.vacant_are;
+  once = b.places.once;
   counted = let m = b.many in let z = b.none_out in omega arith;
   own = λ k x job at. let c = term_le out_or_not states k (Out x job) at in let z = b.none_out in absurd (omega arith);
   pending = λ k x job at still. let c = term_le out_or_not states k (Out x job) at in let z = b.none_out in absurd (omega arith);

@@ -22,13 +22,9 @@ use Rattle.riichi_explain.specs.declared.fu.FuPart.TheVariants as part
 use Rattle.riichi_explain.specs.declared.fu.FuRow.{FuRow}
 use Rattle.riichi_explain.specs.Fu.{earned, block_rows, wait_rows, plain_rows, standard_rows, fu_rows, fu_total, fu_from_rows}
 
-earned-cases : (part : FuPart) (fu : ℕ) (none : Bool) → none ≡ eqb fu 0 → fu_total (cond none [] (record { part = part; fu = fu } ∷ [])) ≡ fu
-earned-cases part fu true e = grind (arith, nat_tests)
-earned-cases part fu false e = omega arith
-
 -- a row adds what the part earns
 total-earned : (part : FuPart) (fu : ℕ) → fu_total (earned part fu) ≡ fu
-total-earned part fu = earned-cases part fu (eqb fu 0) refl
+total-earned part fu = grind (arith, nat_tests)
 
 total-append : (xs ys : List FuRow) → fu_total (xs ++ ys) ≡ fu_total xs + fu_total ys
 total-append xs ys = sum_by-append (λ (row : FuRow). row.fu) xs ys

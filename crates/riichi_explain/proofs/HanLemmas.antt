@@ -1,5 +1,5 @@
 -- What rows of han add up to.
-use Rattle.std.proofs.Common.{◌≡◌, ℕ, ◌+◌, Bool, true, false, cond, eqb, List, [], ◌∷◌, ◌++◌, map, refl, sym, ap, arith}
+use Rattle.std.proofs.Common.{◌≡◌, ℕ, ◌+◌, Bool, true, false, cond, List, [], ◌∷◌, ◌++◌, map, refl, sym, ap, arith}
 use Rattle.std.specs.List.{sum_by}
 use Rattle.std.proofs.lemmas.List.Sums.{sum_by-append}
 use Rattle.std.proofs.lemmas.Bool.Decides.{nat_tests}
@@ -17,12 +17,8 @@ use Rattle.riichi_explain.specs.Han.{yaku_row, yakuman_row, counted_row, indicat
 total-append : (xs ys : List HanRow) → han_total (xs ++ ys) ≡ han_total xs + han_total ys
 total-append xs ys = sum_by-append (λ (row : HanRow). row.han) xs ys
 
-counted-cases : (part : HanPart) (han : ℕ) (none : Bool) → none ≡ eqb han 0 → han_total (cond none [] (record { part = part; han = han } ∷ [])) ≡ han
-counted-cases part han true e = grind (arith, nat_tests)
-counted-cases part han false e = omega arith
-
 total-counted : (part : HanPart) (han : ℕ) → han_total (counted_row part han) ≡ han
-total-counted part han = counted-cases part han (eqb han 0) refl
+total-counted part han = grind (arith, nat_tests)
 
 -- ---- the yaku
 

@@ -6,6 +6,7 @@ use Rattle.std.specs.Str.{bytes_eq}
 use Rattle.std.proofs.lemmas.Bool.{and_parts, leb-true, le-leb, lt-ltb, cases_Bool}
 use Rattle.std.proofs.lemmas.List.Folds.{list_all-append}
 use Rattle.std.proofs.lemmas.List.Sums.{sum_by-append}
+use Rattle.std.proofs.lemmas.Option.{cond_some}
 use Rattle.riichi_hand.specs.declared.win.Flags.{Flags}
 use Rattle.riichi_hand.specs.Values.{is_flag, copies, are_flags, flags_in, flags_of_items, has_item}
 
@@ -127,8 +128,7 @@ are_flags-front items others are =
 
 -- flags that are set are those of the items
 pub flags_of_items-some : (items : List (List ℕ)) (flags : Flags) → Some flags ≡ flags_of_items items → (are_flags items ≡ true) × (flags ≡ flags_in items)
-flags_of_items-some items flags told =
-    elim (cases_Bool (are_flags items)) [ inl are ↦ (are, (let e : Some flags ≡ Some (flags_in items) = rw are at told in cc)) | inr not_flags ↦ absurd (let e : Some flags ≡ None = rw not_flags at told in cc) ]
+flags_of_items-some items flags told = let is = cond_some (are_flags items) (flags_in items) flags (sym told) in (is.0, sym is.1)
 
 pub flags_of_items-none : (items others : List (List ℕ)) → None ≡ flags_of_items items → None ≡ flags_of_items (items ++ others)
 flags_of_items-none items others none =

@@ -1,10 +1,11 @@
 -- Melds and one more item.
-use Rattle.std.proofs.Common.{◌≡◌, ℕ, suc, ◌≤◌, ◌<◌, List, [], ◌∷◌, ◌++◌, true, false, Option, Some, None, length, refl, ◌∙◌, ap, arith, inl, inr, length-append}
+use Rattle.std.proofs.Common.{◌≡◌, ℕ, suc, ◌≤◌, ◌<◌, List, [], ◌∷◌, ◌++◌, true, false, Option, Some, None, length, refl, sym, ◌∙◌, ap, arith, inl, inr, length-append}
 use Rattle.std.specs.Prelude.{◌&&◌, nat_le, is_some, if◌then◌else◌}
 use Rattle.std.specs.List.{list_all, filter_map, cons_option}
 use Rattle.std.proofs.lemmas.Bool.{and_parts, leb-true, le-leb, lt-leb, cases_Bool}
 use Rattle.std.proofs.lemmas.List.Folds.{list_all-append}
 use Rattle.std.proofs.lemmas.List.Elements.{filter_map-append}
+use Rattle.std.proofs.lemmas.Option.{cond_some}
 use Rattle.riichi_tiles.specs.Melds.{meld_of}
 use Rattle.riichi_tiles.specs.declared.meld.Meld.{Meld}
 use Rattle.riichi_hand.specs.Values.{is_spelled, melds_of_items}
@@ -17,11 +18,9 @@ pub record Stands (melds : List Meld) (items : List (List ℕ)) : Type 0 where
 
 pub stands_from : (melds : List Meld) (items : List (List ℕ)) → Some melds ≡ melds_of_items items → Stands melds items
 stands_from melds items told =
-    elim (cases_Bool (list_all is_spelled items && nat_le (length items) 4)) [
-      | inl both ↦ let p = and_parts (list_all is_spelled items) (nat_le (length items) 4) both in
-          record { each = p.0; few = leb-true (length items) 4 p.1; melds_are = (let e : Some melds ≡ Some (filter_map meld_of items) = rw both at told in cc) }
-      | inr other ↦ absurd (let e : Some melds ≡ None = rw other at told in cc)
-    ]
+    let is = cond_some (list_all is_spelled items && nat_le (length items) 4) (filter_map meld_of items) melds (sym told) in
+    let p = and_parts (list_all is_spelled items) (nat_le (length items) 4) is.0 in
+    record { each = p.0; few = leb-true (length items) 4 p.1; melds_are = sym is.1 }
 
 some_length : (item : List ℕ) (melds : List Meld) → is_spelled item ≡ true → length (cons_option (meld_of item) melds) ≡ suc (length melds)
 some_length item melds = elim (meld_of item) as (λ (meld : Option Meld). is_some meld ≡ true → length (cons_option meld melds) ≡ suc (length melds)) [ None ↦ λ h. absurd (cc) | Some meld ↦ λ h. refl ]

@@ -1,7 +1,10 @@
 -- The first fault of a line, step by step.
-use Rattle.std.proofs.Common.{◌≡◌, ◌≤◌, ℕ, List, [], ◌∷◌, ◌++◌, false, Option, Some, None, Result, Ok, Err, refl, sym, ap, ◌∙◌}
+use Rattle.std.proofs.Common.{◌≡◌, ◌≤◌, ℕ, List, [], ◌∷◌, ◌++◌, map, Bool, true, false, Option, Some, None, Result, Ok, Err, refl, sym, ap, ◌∙◌}
 use Rattle.std.specs.Prelude.{length, option_map, is_some, not, if◌then◌else◌}
-use Rattle.std.proofs.lemmas.Bool.{le-ltb}
+use Rattle.std.specs.List.{list_all}
+use Rattle.std.specs.Str.{bytes_eq}
+use Rattle.std.proofs.lemmas.Bool.{and_parts, le-ltb}
+use Rattle.std.proofs.lemmas.Slice.Eq.{bytes_eq-Decides}
 use Rattle.riichi_tiles.specs.Notation.{notation_fault}
 use Rattle.riichi_tiles.specs.declared.notation.NotationFault.{NotationFault}
 use Rattle.riichi_hand.specs.declared.fault.LineCode.{LineCode}
@@ -15,7 +18,8 @@ use Rattle.riichi_hand.specs.declared.win.Rules.TheVariants.{One, Two}
 use Rattle.riichi_hand.specs.declared.win.WinParts.{WinParts}
 use Rattle.riichi_hand.specs.declared.job.Job.{Job}
 use Rattle.riichi_hand.specs.declared.job.Job.TheVariants as jobs
-use Rattle.riichi_hand.specs.declared.fault.LineCode.TheVariants.{H7, H8}
+use Rattle.riichi_hand.specs.declared.fault.LineCode.TheVariants.{H7, H8, H9}
+use Rattle.riichi_hand.specs.FaultTexts.{line_code_text}
 use Rattle.riichi_hand.specs.Faults.{coded, first_fault, fault_or, IsStep}
 use Rattle.riichi_hand.specs.Win.{is_two, no_reds, kept_under, win_faults, win_of}
 use Rattle.riichi_hand.specs.Words.{words_of}
@@ -34,7 +38,27 @@ first_fault-here [] later fault some = absurd (cc)
 first_fault-here (None ∷ faults) later fault some = first_fault-here faults later fault some
 first_fault-here (Some first ∷ faults) later fault some = some
 
--- where the first of some faults is one of a line, it is no fault of the text before them
+-- the faults of some tests, each with its code
+abbrev coded_by : List (LineCode × Bool) → List (Option LineFault)
+coded_by tests = map (λ (test : LineCode × Bool). coded test.0 test.1) tests
+
+abbrev has_other : LineCode → LineCode × Bool → Bool
+has_other code test = not (bytes_eq (line_code_text test.0) (line_code_text code))
+
+-- where the first of some faults is one of a line, it is of no test before them that has another code
+pub after_others : (code : LineCode) (tests : List (LineCode × Bool)) (faults : List (Option LineFault)) → list_all (has_other code) tests ≡ true → first_fault (coded_by tests ++ faults) ≡ Some (Line code)
+    → first_fault faults ≡ Some (Line code)
+after_others code [] faults others is = is
+after_others code ((one, false) ∷ tests) faults others is = after_others code tests faults (and_parts _ _ others).1 is
+after_others code ((one, true) ∷ tests) faults others is =
+    let same : one ≡ code = cc in
+    let apart = (and_parts (has_other code (one, true)) (list_all (has_other code) tests) others).0 in
+    absurd (let e : false ≡ true = rw (same, (bytes_eq-Decides (line_code_text code) (line_code_text code)).1 refl) at apart in cc)
+
+pub size_or_copies : (code : LineCode) (a b : Bool) → list_all (has_other code) ((H8, a) ∷ (H9, b) ∷ []) ≡ true → first_fault (coded H8 a ∷ coded H9 b ∷ []) ≡ Some (Line code) → ⊥
+size_or_copies code a b others is = let none : None ≡ Some (Line code) = after_others code ((H8, a) ∷ (H9, b) ∷ []) [] others is in cc
+
+-- nor is it a fault of the text before them
 after_notation : (code : LineCode) (name : TextName) (fault : Option NotationFault) (faults : List (Option LineFault)) → first_fault (option_map (Notation name) fault ∷ faults) ≡ Some (Line code)
     → first_fault faults ≡ Some (Line code)
 after_notation code name None faults is = is
@@ -45,7 +69,7 @@ after_text : (code : LineCode) (name : TextName) (text : Option (List ℕ)) (fau
 after_text code name None faults is = is
 after_text code name (Some text) faults is = after_notation code name (notation_fault text) faults is
 
--- nor is it one of the texts of the line, behind which the melds are spelled
+-- nor one of the texts of the line, behind which the melds are spelled
 pub after_texts : (code : LineCode) (parts : LineParts) (faults : List (Option LineFault)) → first_fault (text_faults parts ++ faults) ≡ Some (Line code)
     → first_fault (coded H7 (not (is_some (melds_in (value Open parts)))) ∷ faults) ≡ Some (Line code)
 after_texts code parts faults is =

@@ -12,7 +12,7 @@ use Rattle.riichi_hand.specs.declared.line.needed.WinKeys.{WinKeys}
 use Rattle.riichi_hand.specs.declared.line.job_name.JobName.{JobName}
 use Rattle.riichi_hand.specs.declared.line.job_name.JobName.TheVariants.{Win, Waits, Shape}
 use Rattle.riichi_hand.specs.declared.line.key.Key.{Key}
-use Rattle.riichi_hand.specs.declared.line.key.Key.TheVariants.{Open, Riichi, Counters, Sticks}
+use Rattle.riichi_hand.specs.declared.line.key.Key.TheVariants.{Riichi, Counters, Sticks}
 use Rattle.riichi_hand.specs.declared.line.texts.Texts.{Texts}
 use Rattle.riichi_hand.specs.declared.win.Rules.{Rules}
 use Rattle.riichi_hand.specs.declared.win.WinParts.{WinParts}
@@ -23,10 +23,10 @@ use Rattle.riichi_hand.specs.Entries.{keyed_of, value_in, first_of, entries_of}
 use Rattle.riichi_hand.specs.Win.{is_out_of_range}
 use Rattle.riichi_hand.specs.Words.{words_of}
 use Rattle.riichi_hand.specs.Parts.{LineParts, line_parts, parts_of, job_in, hand_in, value}
-use Rattle.riichi_hand.specs.Texts.{texts_of, melds_in, only_kind}
+use Rattle.riichi_hand.specs.Texts.{texts_of, only_kind}
 use Rattle.riichi_hand.specs.Jobs.{and_then, win_keys, win_parts, win_of_line, job_of}
-use Rattle.riichi_hand.specs.Lines.{text_faults, faults_of_win, job_faults, faults_of, outcome_of, is_no_record, has_bad_word}
-use Rattle.riichi_hand.proofs.OutcomeLemmas.{after_texts, first_of_err}
+use Rattle.riichi_hand.specs.Lines.{entry_faults, need_faults, text_faults, faults_of_win, job_faults, faults_of, outcome_of, is_no_record, has_bad_word}
+use Rattle.riichi_hand.proofs.OutcomeLemmas.{after_others, after_texts, first_of_err, size_or_copies}
 
 riichi_small : (text : List ℕ) (n : ℕ) → riichi_of text ≡ Some n → n ≤ 2
 riichi_small text n is =
@@ -95,41 +95,15 @@ in_range job words = (
 
 -- H4 as the first of several faults.
 
-front : (a b c bad e f : Bool) (faults : List (Option LineFault)) → first_fault (coded H1 a ∷ coded H2 b ∷ coded H3 c ∷ coded H4 bad ∷ coded H5 e ∷ coded H6 f ∷ faults) ≡ Some (Line H4)
-    → (bad ≡ true) ⊎ (first_fault faults ≡ Some (Line H4))
-front true b c bad e f faults is = absurd (cc)
-front false true c bad e f faults is = absurd (cc)
-front false false true bad e f faults is = absurd (cc)
-front false false false true e f faults is = inl refl
-front false false false false true f faults is = absurd (cc)
-front false false false false false true faults is = absurd (cc)
-front false false false false false false faults is = inr is
-
-after_melds : (bad : Bool) (faults : List (Option LineFault)) → first_fault (coded H7 bad ∷ faults) ≡ Some (Line H4) → first_fault faults ≡ Some (Line H4)
-after_melds true faults is = absurd (cc)
-after_melds false faults is = is
-
-size_or_copies : (a b : Bool) → first_fault (coded H8 a ∷ coded H9 b ∷ []) ≡ Some (Line H4) → ⊥
-size_or_copies true b is = cc
-size_or_copies false true is = cc
-size_or_copies false false is = cc
-
-win_later : (a b c d e f g h i : Bool) → first_fault (coded H8 a ∷ coded H9 b ∷ coded H10 c ∷ coded H11 d ∷ coded H12 e ∷ coded H13 f ∷ coded H14 g ∷ coded H15 h ∷ coded H16 i ∷ []) ≡ Some (Line H4) → ⊥
-win_later true b c d e f g h i is = cc
-win_later false true c d e f g h i is = cc
-win_later false false true d e f g h i is = cc
-win_later false false false true e f g h i is = cc
-win_later false false false false true f g h i is = cc
-win_later false false false false false true g h i is = cc
-win_later false false false false false false true h i is = cc
-win_later false false false false false false false true i is = cc
-win_later false false false false false false false false true is = cc
-win_later false false false false false false false false false is = cc
+front : (bad : Bool) (faults : List (Option LineFault)) → first_fault (coded H4 bad ∷ faults) ≡ Some (Line H4) → (bad ≡ true) ⊎ (first_fault faults ≡ Some (Line H4))
+front true faults is = inl refl
+front false faults is = inr is
 
 win_not : (only : Bool) (line : Option WinParts) → ((win : WinParts) → line ≡ Some win → is_out_of_range win ≡ false) → first_fault (coded H8 only ∷ faults_of_win line) ≡ Some (Line H4) → ⊥
 win_not true line range is = cc
 win_not false None range is = cc
-win_not false (Some win) range is = win_later _ _ _ _ _ _ _ _ _ (rw (range win refl) at is)
+win_not false (Some win) range is =
+    let none : None ≡ Some (Line H4) = after_others H4 ((H8, _) ∷ (H9, _) ∷ (H10, _) ∷ (H11, _) ∷ (H12, _) ∷ (H13, _) ∷ (H14, _) ∷ (H15, _) ∷ (H16, _) ∷ []) [] refl (rw (range win refl) at is) in cc
 
 made_in_range : (rules : Rules) (parts : LineParts) (texts : Texts) (only : Option ℕ) (keys : Option WinKeys) (win : WinParts) → unwrap_or (value Riichi parts) 0 ≤ 2 → unwrap_or (value Counters parts) 0 ≤ 99
     → unwrap_or (value Sticks parts) 0 ≤ 99 → and_then only (λ winning. option_map (win_parts rules parts texts winning) keys) ≡ Some win → is_out_of_range win ≡ false
@@ -144,8 +118,8 @@ job_not rules job hand words texts Win is =
     let parts = line_parts job hand words in
     let range = in_range job words in
     win_not (not (is_some (only_kind texts.on))) (win_of_line rules parts texts) (λ win made. made_in_range rules parts texts (only_kind texts.on) (win_keys parts) win range.0 range.1 range.2 made) is
-job_not rules job hand words texts Waits is = size_or_copies _ _ is
-job_not rules job hand words texts Shape is = size_or_copies _ _ is
+job_not rules job hand words texts Waits is = size_or_copies H4 _ _ refl is
+job_not rules job hand words texts Shape is = size_or_copies H4 _ _ refl is
 
 -- a line is refused with H4 only where a word is no entry of its job
 pub bad_word : (rules : Rules) (line : List ℕ) → outcome_of rules line ≡ Err (Line H4) → has_bad_word line ≡ true
@@ -162,10 +136,14 @@ bad_word rules line is =
         | inr some ↦
             let e : fault_or (first_fault (faults_of rules line parts)) (job_of rules parts (texts_of parts) parts.job) ≡ Err (Line H4) = rw (short, some) at is in
             let first = first_of_err (first_fault (faults_of rules line parts)) (job_of rules parts (texts_of parts) parts.job) (Line H4) (sym e) in
-            elim (front _ _ _ _ _ _ (text_faults parts ++ job_faults rules parts (texts_of parts) parts.job) first) [
+            let jobs = job_faults rules parts (texts_of parts) parts.job in
+            let texts = text_faults parts ++ jobs in
+            let entries = after_others H4 ((H1, _) ∷ (H2, _) ∷ (H3, _) ∷ []) (entry_faults parts ++ (need_faults parts ++ texts)) refl first in
+            elim (front parts.entries.has_bad_word (coded H5 parts.entries.has_doubled_key ∷ need_faults parts ++ texts) entries) [
               | inl bad ↦ bad
-              | inr later ↦ let jobs = job_faults rules parts (texts_of parts) parts.job in
-                  absurd (job_not rules job hand (drop 2 words) (texts_of parts) parts.job (after_melds (not (is_some (melds_in (value Open parts)))) jobs (after_texts H4 parts jobs later)))
+              | inr later ↦
+                  let melds = after_texts H4 parts jobs (after_others H4 ((H5, _) ∷ (H6, _) ∷ []) texts refl later) in
+                  absurd (job_not rules job hand (drop 2 words) (texts_of parts) parts.job (after_others H4 ((H7, _) ∷ []) jobs refl melds))
             ]
       ]
     ]

@@ -18,51 +18,23 @@ use Rattle.riichi_hand.specs.Parts.{LineParts, parts_of, value}
 use Rattle.riichi_hand.specs.Texts.{texts_of, melds_in, only_kind}
 use Rattle.riichi_hand.specs.Jobs.{and_then, win_keys, win_parts, job_of}
 use Rattle.riichi_hand.specs.Lines.{text_faults, faults_of_win, job_faults, faults_of, outcome_of, is_no_record}
-use Rattle.riichi_hand.proofs.OutcomeLemmas.{after_texts, first_of_err}
+use Rattle.riichi_hand.proofs.OutcomeLemmas.{after_others, after_texts, first_of_err, size_or_copies}
 use Rattle.riichi_hand.proofs.RedLemmas.{line_has_room}
 
--- H16 as the first of several faults.
-
-front : (a b c d e f : Bool) (faults : List (Option LineFault)) → first_fault (coded H1 a ∷ coded H2 b ∷ coded H3 c ∷ coded H4 d ∷ coded H5 e ∷ coded H6 f ∷ faults) ≡ Some (Line H16)
-    → first_fault faults ≡ Some (Line H16)
-front true b c d e f faults is = absurd (cc)
-front false true c d e f faults is = absurd (cc)
-front false false true d e f faults is = absurd (cc)
-front false false false true e f faults is = absurd (cc)
-front false false false false true f faults is = absurd (cc)
-front false false false false false true faults is = absurd (cc)
-front false false false false false false faults is = is
-
--- and then the melds are spelled
+-- Where H16 is the first fault, the melds are spelled.
 after_melds : (spelled : Bool) (faults : List (Option LineFault)) → first_fault (coded H7 (not spelled) ∷ faults) ≡ Some (Line H16) → (spelled ≡ true) × (first_fault faults ≡ Some (Line H16))
 after_melds true faults is = (refl, is)
 after_melds false faults is = absurd (cc)
-
-size_or_copies : (a b : Bool) → first_fault (coded H8 a ∷ coded H9 b ∷ []) ≡ Some (Line H16) → ⊥
-size_or_copies true b is = cc
-size_or_copies false true is = cc
-size_or_copies false false is = cc
-
-win_later : (a b c d e f g h i j : Bool) → j ≡ false
-    → first_fault (coded H4 a ∷ coded H8 b ∷ coded H9 c ∷ coded H10 d ∷ coded H11 e ∷ coded H12 f ∷ coded H13 g ∷ coded H14 h ∷ coded H15 i ∷ coded H16 j ∷ []) ≡ Some (Line H16) → ⊥
-win_later true b c d e f g h i j few is = cc
-win_later false true c d e f g h i j few is = cc
-win_later false false true d e f g h i j few is = cc
-win_later false false false true e f g h i j few is = cc
-win_later false false false false true f g h i j few is = cc
-win_later false false false false false true g h i j few is = cc
-win_later false false false false false false true h i j few is = cc
-win_later false false false false false false false true i j few is = cc
-win_later false false false false false false false false true j few is = cc
-win_later false false false false false false false false false true few is = cc
-win_later false false false false false false false false false false few is = cc
 
 not_two : (two many : Bool) → many ≡ false → (two && many) ≡ false
 not_two true many few = few
 not_two false many few = refl
 
 win_not : (win : WinParts) → has_too_many_reds win ≡ false → first_fault (win_faults win) ≡ Some (Line H16) → ⊥
-win_not win few is = win_later _ _ _ _ _ _ _ _ _ (is_two win.rules && has_too_many_reds win) (not_two (is_two win.rules) (has_too_many_reds win) few) is
+win_not win few is =
+    let reds = is_two win.rules && has_too_many_reds win in
+    let last = after_others H16 ((H4, _) ∷ (H8, _) ∷ (H9, _) ∷ (H10, _) ∷ (H11, _) ∷ (H12, _) ∷ (H13, _) ∷ (H14, _) ∷ (H15, _) ∷ []) (coded H16 reds ∷ []) refl is in
+    let none : None ≡ Some (Line H16) = rw (not_two (is_two win.rules) (has_too_many_reds win) few) at last in cc
 
 win_told : (rules : Rules) (parts : LineParts) (only : Option ℕ) (keys : Option WinKeys) → is_some (melds_in (value Open parts)) ≡ true → only_kind (texts_of parts).on ≡ only
     → first_fault (coded H8 (not (is_some only)) ∷ faults_of_win (and_then only (λ winning. option_map (win_parts rules parts (texts_of parts) winning) keys))) ≡ Some (Line H16) → ⊥
@@ -72,8 +44,8 @@ win_told rules parts (Some winning) (Some keys) some one is = win_not (win_parts
 
 job_not : (rules : Rules) (parts : LineParts) (asked : JobName) → is_some (melds_in (value Open parts)) ≡ true → first_fault (job_faults rules parts (texts_of parts) asked) ≡ Some (Line H16) → ⊥
 job_not rules parts Win some is = win_told rules parts (only_kind (texts_of parts).on) (win_keys parts) some refl is
-job_not rules parts Waits some is = size_or_copies _ _ is
-job_not rules parts Shape some is = size_or_copies _ _ is
+job_not rules parts Waits some is = size_or_copies H16 _ _ refl is
+job_not rules parts Shape some is = size_or_copies H16 _ _ refl is
 
 -- no line is refused with H16
 pub no_reds_over : (rules : Rules) (line : List ℕ) → outcome_of rules line ≡ Err (Line H16) → ⊥
@@ -88,7 +60,8 @@ no_reds_over rules line is =
             (let e : fault_or (first_fault (faults_of rules line parts)) (job_of rules parts (texts_of parts) parts.job) ≡ Err (Line H16) = rw (short, some) at is in
             let first = first_of_err (first_fault (faults_of rules line parts)) (job_of rules parts (texts_of parts) parts.job) (Line H16) (sym e) in
             let jobs = job_faults rules parts (texts_of parts) parts.job in
-            let later = after_melds (is_some (melds_in (value Open parts))) jobs (after_texts H16 parts jobs (front _ _ _ _ _ _ (text_faults parts ++ jobs) first)) in
+            let texts = after_others H16 ((H1, _) ∷ (H2, _) ∷ (H3, _) ∷ (H4, _) ∷ (H5, _) ∷ (H6, _) ∷ []) (text_faults parts ++ jobs) refl first in
+            let later = after_melds (is_some (melds_in (value Open parts))) jobs (after_texts H16 parts jobs texts) in
             job_not rules parts parts.job later.0 later.1)
       ]
     ]

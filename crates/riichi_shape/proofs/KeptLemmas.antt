@@ -17,7 +17,7 @@ use Rattle.riichi_shape.specs.LiveCopies.{copies_in, pairs_of}
 use Rattle.riichi_shape.specs.declared.discard.Discard.{Discard}
 use Rattle.riichi_shape.specs.declared.kept_discard.KeptDiscard.{KeptDiscard}
 use Rattle.riichi_shape.proofs.DiscardLemmas.{put_in}
-use Rattle.riichi_shape.proofs.KindLemmas.{among_at, among_same, are_among, few_among, marked_at, same_kinds}
+use Rattle.riichi_shape.proofs.KindLemmas.{among_at, among_same, are_among, few_among, marked_at, same_members}
 use Rattle.riichi_shape.proofs.LiveLemmas.{copies_told}
 
 pub same_discard : {number kind : ℕ} {list other : List (ℕ × ℕ)} → number ≡ kind → list ≡ other → ◌≡◌ {A = Discard} (record { kind = number; accepted = list }) (record { kind = kind; accepted = other })
@@ -44,7 +44,7 @@ copies_of copies set kind low = copies_told (copies_among copies set) kind low �
 
 kinds_back : (copies : List ℕ) (set : ℕ) → set < 2 ^ 34 → ((kind : ℕ) → kind < 34 → is_held set kind ≡ true → 0 < slice_index copies kind) → kinds_in (pairs_of (copies_among copies set)) ≡ set
 kinds_back copies set low some =
-    same_kinds (kinds_in (pairs_of (copies_among copies set))) set (kinds_low (pairs_of (copies_among copies set))) low
+    same_members 34 (kinds_in (pairs_of (copies_among copies set))) set (kinds_low (pairs_of (copies_among copies set))) low
     (λ kind inside. has_kind_in (pairs_of (copies_among copies set)) kind inside ∙ ap (nat_lt 0) (copies_of copies set kind inside) ∙ some_at (is_held set kind) (slice_index copies kind) (some kind inside))
 
 all_long : (discards : List Discard) → length (all_copies discards) ≡ 34

@@ -89,10 +89,10 @@ among_same copies others set other each = are_among (copies_among copies set) ot
 pub few_among : (copies : List ℕ) (set : ℕ) → ((kind : ℕ) → slice_index copies kind ≤ 4) → (kind : ℕ) → slice_index (copies_among copies set) kind ≤ 4
 few_among copies set few = some_few (copies_among copies set) copies (is_held set) (among_long copies set) few (among_at copies set)
 
--- ---- two sets with the same kinds
+-- ---- two sets with the same members
 
-pub same_kinds : (a b : ℕ) → a < 2 ^ 34 → b < 2 ^ 34 → ((kind : ℕ) → kind < 34 → is_held a kind ≡ is_held b kind) → a ≡ b
-same_kinds a b low low' each = same_from_bits_below 34 a b low low' (λ kind inside. same_bit (bit_at a kind) (bit_at b kind) (bit_at-lt a kind) (bit_at-lt b kind) (each kind inside))
+pub same_members : (size a b : ℕ) → a < 2 ^ size → b < 2 ^ size → ((n : ℕ) → n < size → is_held a n ≡ is_held b n) → a ≡ b
+same_members size a b low low' each = same_from_bits_below size a b low low' (λ n inside. same_bit (bit_at a n) (bit_at b n) (bit_at-lt a n) (bit_at-lt b n) (each n inside))
   where
     same_bit : (m n : ℕ) → m < 2 → n < 2 → (m == 1) ≡ (n == 1) → m ≡ n
     same_bit m n low low' e = grind (arith, nat_tests)
