@@ -18,7 +18,7 @@ use Rattle.riichi_shape.specs.Ready.{IsReady}
 use Rattle.riichi_shape.specs.Winning.{IsWinning}
 use Rattle.riichi_shape.proofs.Distances.{never_none}
 use Rattle.riichi_shape.proofs.ReadyLemmas.{one_more_at, one_more_past, ready_is}
-use Rattle.riichi_shape.proofs.ShapeFacts.{no_faults}
+use Rattle.riichi_hand.proofs.OutcomeLemmas.{no_faults}
 use Rattle.riichi_shape.proofs.Uniqueness.{distance_from, listed_winning, winning_listed}
 use Rattle.desk_lines.specs.Ready.{HasWait}
 

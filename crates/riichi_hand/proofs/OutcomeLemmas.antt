@@ -58,6 +58,12 @@ after_others code ((one, true) ∷ tests) faults others is =
 pub size_or_copies : (code : LineCode) (a b : Bool) → list_all (has_other code) ((H8, a) ∷ (H9, b) ∷ []) ≡ true → first_fault (coded H8 a ∷ coded H9 b ∷ []) ≡ Some (Line code) → ⊥
 size_or_copies code a b others is = let none : None ≡ Some (Line code) = after_others code ((H8, a) ∷ (H9, b) ∷ []) [] others is in cc
 
+-- where there is no fault, no test says so
+pub no_faults : (a b : Bool) → first_fault (coded H8 (not a) ∷ coded H9 b ∷ []) ≡ None → (a ≡ true) × (b ≡ false)
+no_faults true false e = (refl, refl)
+no_faults true true e = cc
+no_faults false b e = cc
+
 -- nor is it a fault of the text before them
 after_notation : (code : LineCode) (name : TextName) (fault : Option NotationFault) (faults : List (Option LineFault)) → first_fault (option_map (Notation name) fault ∷ faults) ≡ Some (Line code)
     → first_fault faults ≡ Some (Line code)

@@ -18,12 +18,8 @@ use Rattle.riichi_shape.specs.declared.accepts.Accepts.{Accepts}
 use Rattle.riichi_shape.specs.declared.accepts.Accepts.TheVariants.{Thirteen, Fourteen}
 use Rattle.riichi_shape.specs.declared.discard.Discard.{Discard}
 use Rattle.riichi_shape.specs.declared.shape_answer.ShapeAnswer.{ShapeAnswer}
+use Rattle.riichi_hand.proofs.OutcomeLemmas.{no_faults}
 use Rattle.riichi_tiles.proofs.Members.{in-range, none-in}
-
-pub no_faults : (a b : Bool) → first_fault (coded H8 (not a) ∷ coded H9 b ∷ []) ≡ None → (a ≡ true) × (b ≡ false)
-no_faults true false e = (refl, refl)
-no_faults true true e = cc
-no_faults false b e = cc
 
 either_size : (n : ℕ) → ((n == 13) || (n == 14)) ≡ true → n ≤ 14
 either_size n e = grind (arith, nat_tests)

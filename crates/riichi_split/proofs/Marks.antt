@@ -10,6 +10,7 @@ use Rattle.riichi_tiles.specs.Tiles.{IsMarked, IsCounts}
 use Rattle.riichi_tiles.specs.Notation.{notation_fault, reading_of}
 use Rattle.riichi_tiles.specs.Printing.{digits, tiles_text, once, ones}
 use Rattle.riichi_hand.specs.HandParts.{HandParts}
+use Rattle.riichi_hand.proofs.OutcomeLemmas.{no_faults}
 use Rattle.riichi_hand.specs.declared.fault.LineCode.TheVariants.{H8, H9}
 use Rattle.riichi_hand.specs.Faults.{coded, first_fault}
 use Rattle.riichi_hand.specs.Hand.{copies_held, size, is_thirteen, has_five_copies, IsHand}
@@ -160,13 +161,9 @@ empty-none marks text empty reads =
 pub some-any : (marks : List Bool) → (length (tiles_text (once marks)) ≡ 0 → ⊥) → list_any (λ mark. mark) marks ≡ true
 some-any marks some = true_from_ne_false (list_any (λ mark. mark) marks) (λ none. some (ap length (no-text marks none)))
 
-thirteen : (b d : Bool) → first_fault (coded H8 (not b) ∷ coded H9 d ∷ []) ≡ None → b ≡ true
-thirteen true d e = refl
-thirteen false d e = absurd (cc)
-
 pub thirteen_tiles : (hand : HandParts) → IsHand hand → sum hand.concealed + 3 * length hand.melds ≡ 13
 thirteen_tiles hand h =
-    let t : is_thirteen hand.concealed hand.melds ≡ true = thirteen (is_thirteen hand.concealed hand.melds) (has_five_copies hand.concealed hand.melds) h in
+    let t : is_thirteen hand.concealed hand.melds ≡ true = (no_faults (is_thirteen hand.concealed hand.melds) (has_five_copies hand.concealed hand.melds) h).0 in
     let e : size hand.concealed hand.melds ≡ 13 = grind (arith, nat_tests) in
     e
 
