@@ -3,7 +3,7 @@ use Rattle.std.proofs.Common.{◌≡◌, ℕ, ◌+◌, ◌<◌, cond, nat_eq, Li
 use Rattle.riichi_tiles.specs.Melds.{tiles}
 use Rattle.riichi_hand.specs.declared.win.WinParts.{WinParts}
 use Rattle.riichi_hand.specs.Win.{copies_won}
-use Rattle.riichi_split.proofs.KindSums.{get_or-more}
+use Rattle.riichi_tiles.proofs.KindSums.{get_or-more}
 use Rattle.riichi_blocks.specs.Held.{all_tiles}
 use Rattle.std.proofs.lemmas.List.FromFn.{fill_by_all}
 

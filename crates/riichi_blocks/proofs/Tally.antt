@@ -13,7 +13,7 @@ use Rattle.riichi_blocks.specs.declared.hand_block.HandBlock.{HandBlock}
 use Rattle.riichi_blocks.specs.declared.hand_block.HandBlock.TheVariants.{Run, Triplet, Kong}
 use Rattle.riichi_blocks.specs.HandBlocks.{is_run, is_run_from, is_triplet_or_kong, is_triplet_of, is_concealed_triplet, is_kong}
 use Rattle.riichi_blocks.specs.Tally.{IsTally}
-use Rattle.riichi_split.proofs.KindSums.{get_or-more}
+use Rattle.riichi_tiles.proofs.KindSums.{get_or-more}
 
 count-push : (p : HandBlock → Bool) (blocks : List HandBlock) (block : HandBlock) → count_by p (blocks ++ block ∷ []) ≡ count_by p blocks + cond (p block) 1 0
 count-push p blocks block =

@@ -11,6 +11,7 @@ use Rattle.riichi_tiles.specs.declared.block.Block.{Block}
 use Rattle.riichi_tiles.specs.declared.block.Block.TheVariants.{Run, Triplet, Pair}
 use Rattle.riichi_tiles.specs.declared.meld.Meld.{Meld}
 use Rattle.riichi_hand.specs.Hand.{size}
+use Rattle.riichi_tiles.proofs.KindSums.{made-tiles}
 use Rattle.riichi_rows.proofs.Spread.{spread, spread_none, spread_shift, spread_sum, spread_with, sum_range}
 use Rattle.riichi_shape.specs.Accepted.{with_one}
 use Rattle.riichi_shape.specs.Distance.{IsDistance}
@@ -33,31 +34,8 @@ point_sum place n inside =
     sums : (m : ℕ) → m ≡ 0 + m
     sums m = omega arith
 
-run_points : (low k : ℕ) → copies (Run low) k ≡ point low 1 k + point (low + 1) 1 k + point (low + 2) 1 k
-run_points low k = grind (arith, nat_tests)
-
-run_below : (low : ℕ) → IsRunLow low → low + 2 < 27
-run_below low is = let few = is.0 in let within = is.1 in omega arith
-
-set_tiles : (b : Block) → IsSet b → spread (copies b) 0 34 ≡ 3
-set_tiles (Run low) is =
-    let below = run_below low is in
-    let front = spread_sum (point low 1) (point (low + 1) 1) (λ k. point low 1 k + point (low + 1) 1 k) (λ k. refl) 0 34 in
-    let all = spread_sum (λ k. point low 1 k + point (low + 1) 1 k) (point (low + 2) 1) (copies (Run low)) (run_points low) 0 34 in
-    omega (arith, front, all, point_sum low 1 (omega (arith, below)), point_sum (low + 1) 1 (omega (arith, below)), point_sum (low + 2) 1 (omega (arith, below)))
-set_tiles (Triplet held) is = point_sum held 3 is
-set_tiles (Pair held) is = absurd is
-
-sets_tiles : (bs : List Block) → All IsSet bs → spread (total bs) 0 34 ≡ 3 * length bs
-sets_tiles [] all = spread_none (total []) 0 34 (λ k low high. refl)
-sets_tiles (b ∷ bs) all =
-    omega (arith, set_tiles b (All-head IsSet b bs all), sets_tiles bs (All-tail IsSet b bs all), spread_sum (copies b) (total bs) (total (b ∷ bs)) (λ k. refl) 0 34)
-
 standard_tiles : (sets : ℕ) (wanted : List ℕ) → IsSetsAndPair sets wanted → spread (slice_index wanted) 0 34 ≡ 3 * sets + 2
-standard_tiles sets wanted is =
-    let told = spread_shift (slice_index wanted) (total (Pair is.pair ∷ is.blocks)) 0 0 34 (λ k low. is.made_of.adds_up (0 + k) (omega arith)) in
-    let apart = spread_sum (copies (Pair is.pair)) (total is.blocks) (total (Pair is.pair ∷ is.blocks)) (λ k. refl) 0 34 in
-    omega (arith, told, apart, point_sum is.pair 2 is.made_of.is_kind, sets_tiles is.blocks is.made_of.are_sets, is.has_sets)
+standard_tiles sets wanted is = omega (arith, sum_range (slice_index wanted) 0 34, made-tiles wanted is.blocks is.pair is.made_of, is.has_sets)
 
 orphans_tiles : (wanted : List ℕ) → IsThirteenOrphans wanted → spread (slice_index wanted) 0 34 ≡ 14
 unfolding total_of

@@ -1,5 +1,4 @@
 pub mod Placed
-pub mod KindSums
 pub mod Rests
 pub mod SuitCuts
 pub mod Thirds

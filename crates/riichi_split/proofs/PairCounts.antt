@@ -7,6 +7,7 @@ use Rattle.std.proofs.lemmas.List.Sums.{sum_by-cons}
 use Rattle.std.specs.List.{count_by, list_all, range_with_len, sum}
 use Rattle.std.specs.Prelude.{slice_index, sum_by, ◌==◌}
 use Rattle.riichi_tiles.specs.Forms.{IsSevenPairs}
+use Rattle.riichi_tiles.proofs.KindSums.{tiles-by-kind}
 use Rattle.riichi_tiles.specs.Melds.{every_kind}
 use Rattle.riichi_split.specs.ReadingsOf.{are_seven_pairs}
 
@@ -42,26 +43,6 @@ tiles-of-pairs (held ∷ c) each =
     let tiles = sum_by-cons (λ held. held) held c in
     let twos = sum_by-cons (λ held. cond (held == 2) 1 0) held c in
     omega (arith, tiles, twos, twice held (each 0), tiles-of-pairs c (λ k. each (suc k)))
-
--- the tiles counted by kind, from a kind on
-tiles-from : (f : ℕ → ℕ) (a : ℕ) (c : List ℕ) → ((k : ℕ) → f (a + k) ≡ get_or c k 0) → sum_by f (range_with_len a (length c)) ≡ sum c
-tiles-from f a [] each = refl
-tiles-from f a (held ∷ c) each =
-    let first : f a ≡ held = ap f (same a) ∙ each 0 in
-    let rest = tiles-from f (a + 1) c (λ k. ap f (next a k) ∙ each (suc k)) in
-    omega (arith, first, rest, sum_by-cons f a (range_with_len (a + 1) (length c)), sum_by-cons (λ held. held) held c)
-  where
-    same : (a : ℕ) → a ≡ a + 0
-    same a = omega arith
-
-    next : (a k : ℕ) → a + 1 + k ≡ a + suc k
-    next a k = omega arith
-
-tiles-by-kind : (c : List ℕ) → length c ≡ 34 → sum_by (slice_index c) every_kind ≡ sum c
-tiles-by-kind c long = ap (λ n. sum_by (slice_index c) (range_with_len 0 n)) (sym long) ∙ tiles-from (slice_index c) 0 c (λ k. ap (slice_index c) (same k))
-  where
-    same : (k : ℕ) → 0 + k ≡ k
-    same k = omega arith
 
 pub pairs-of : (c : List ℕ) → length c ≡ 34 → ArePairs c → count_by (λ held. held == 2) c ≡ 7 → IsSevenPairs c
 pairs-of c long each seven = record { two_or_none = λ k low. each k; fourteen = omega (arith, tiles-by-kind c long, tiles-of-pairs c each, seven) }

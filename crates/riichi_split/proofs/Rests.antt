@@ -1,13 +1,13 @@
 -- What the tiles of each suit leave over beside sets of three: two in the pair's suit, none in the others.
 use Rattle.std.proofs.Common.{◌≡◌, ◌≢◌, ℕ, ◌+◌, ◌%◌, List, length, get_or, sym, ap, ◌∙◌, subst, inl, inr, arith}
-use Rattle.std.specs.List.{sum}
+use Rattle.std.specs.List.{range_with_len, sum}
 use Rattle.std.proofs.lemmas.List.{get_or_past}
 use Rattle.riichi_tiles.specs.declared.block.Block.{Block}
 use Rattle.riichi_tiles.specs.declared.suit.Suit.{Suit}
 use Rattle.riichi_tiles.specs.declared.suit.Suit.TheVariants.{Characters, Circles, Bamboos, Honours}
 use Rattle.riichi_tiles.specs.Kinds.{IsOfSuit, first_of, kinds_of}
 use Rattle.riichi_tiles.proofs.Suits.{cases_suit}
-use Rattle.riichi_split.specs.Cuts.{suit_total}
+use Rattle.std.specs.Prelude.{sum_by}
 use Rattle.riichi_split.specs.Readings.{IsSplit}
 use Rattle.riichi_split.specs.SuitTiles.{AreSets, AreSetsAndPair, tiles_of_suit}
 use Rattle.riichi_split.proofs.PairTotals.{one-of}
@@ -15,11 +15,10 @@ use Rattle.riichi_split.proofs.SuitCuts.{sum-of-sets, sum-with-pair}
 use Rattle.riichi_split.proofs.SplitSuits.{won-by, suit-is, nine-length}
 
 abbrev rest : List ℕ → Suit → ℕ
-rest c suit = suit_total (λ k. get_or c k 0) (first_of suit) (kinds_of suit) % 3
+rest c suit = sum_by (λ k. get_or c k 0) (range_with_len (first_of suit) (kinds_of suit)) % 3
 
 -- past the last honour there are no tiles
-sum-of : (c : List ℕ) (suit : Suit) → length c ≡ 34 → suit_total (λ k. get_or c k 0) (first_of suit) (kinds_of suit) ≡ sum (tiles_of_suit c suit).held
-unfolding suit_total
+sum-of : (c : List ℕ) (suit : Suit) → length c ≡ 34 → sum_by (λ k. get_or c k 0) (range_with_len (first_of suit) (kinds_of suit)) ≡ sum (tiles_of_suit c suit).held
 sum-of c Honours long = omega (arith, get_or_past c 34 0 (omega arith), get_or_past c 35 0 (omega arith))
 sum-of c other long = omega arith
 

@@ -7,7 +7,7 @@ use Rattle.std.proofs.lemmas.Grind.{get_or-set_at}
 use Rattle.riichi_tiles.specs.Kinds.{is_orphan}
 use Rattle.riichi_tiles.specs.Forms.{orphan_copies}
 use Rattle.riichi_split.specs.SpecialWaits.{IsSpecialWait, CompletesPairs, CompletesOrphans, Adds, AddsSpecial}
-use Rattle.riichi_split.proofs.KindSums.{get_or-more}
+use Rattle.riichi_tiles.proofs.KindSums.{get_or-more}
 
 -- a kind that is neither none nor two is the one that is completed
 pub single-completed : (c : List ℕ) (kind single : ℕ) → length c ≡ 34 → kind < 34 → single < 34 → get_or c single 0 ≢ 0 → get_or c single 0 ≢ 2 → CompletesPairs c kind → kind ≡ single

@@ -17,13 +17,12 @@ use Rattle.riichi_tiles.specs.Suits.{of_suit, with_suit}
 use Rattle.riichi_tiles.specs.Blocks.{copies, total, IsSet}
 use Rattle.riichi_tiles.proofs.Suits.{only_suit, some_suit, own_suit, nine_at_most, cases_suit, of_nine, of_suit-with_same, of_suit-with_other}
 use Rattle.riichi_split.specs.SuitTiles.{OneSuit, AreCut, AreSets, AreSetsAndPair, AreWon, Completes, has_runs, nine_from, tiles_of_suit, suits_of, with_tile, with_kind}
-use Rattle.riichi_split.specs.Cuts.{suit_total}
 use Rattle.riichi_split.specs.Waits.{with_one}
 use Rattle.riichi_split.specs.Readings.{IsSplit}
 use Rattle.riichi_split.proofs.MadeOf.{adds-everywhere, each-set, made-of}
 use Rattle.riichi_split.specs.Winning.{HasSplit}
 use Rattle.riichi_split.proofs.Orders.{sorted, sets-sorted, order-sorted, total-sorted}
-use Rattle.riichi_split.proofs.KindSums.{suit_total-suc, suit_total-zero, sum-none, sum-run, sum-triplet, sum-split, total-sum, one-kind}
+use Rattle.riichi_tiles.proofs.KindSums.{made-tiles, tiles-by-kind}
 use Rattle.riichi_split.proofs.Filling.{same-suit}
 use Rattle.riichi_split.proofs.SuitBlocks.{cut-of, sets-of}
 
@@ -122,32 +121,9 @@ won-from-split c melds long h = (won-by c melds h.0 h.1 long h.2).0
 
 -- ---- how many sets there are
 
--- a set has three tiles
-three : (set : Block) → IsSet set → suit_total (copies set) 0 34 ≡ 3
-three (Run low) s = omega (arith, sum-run (λ f. suit_total f 0 34) (total-sum 34) low, one-kind low (omega (arith, s.0)), one-kind (low + 1) (omega (arith, s.0)), one-kind (low + 2) (omega (arith, s.0)))
-three (Triplet kind) s = omega (arith, sum-triplet (λ f. suit_total f 0 34) (total-sum 34) kind, one-kind kind s)
-three (Pair kind) s = absurd s
-
-tiles-of-sets : (sets : List Block) → AllByRecursion IsSet sets → suit_total (total sets) 0 34 ≡ 3 * length sets
-tiles-of-sets [] s = sum-none (λ f. suit_total f 0 34) (total-sum 34)
-tiles-of-sets (set ∷ sets) s = omega (arith, (total-sum 34).add (copies set) (total sets), three set s.0, tiles-of-sets sets s.1)
-
-sum-to : (c : List ℕ) (n : ℕ) → n ≤ length c → suit_total (λ k. get_or c k 0) 0 n ≡ sum (take n c)
-sum-to c zero l = suit_total-zero (λ k. get_or c k 0) 0
-sum-to c (suc n) l =
-    let e : sum (take (suc n) c) ≡ sum (take (n + 1) c) = ap (λ m. sum (take m c)) (sym (add-one n)) in
-    let z : get_or c (0 + n) 0 ≡ get_or c n 0 = ap (λ j. get_or c j 0) (omega arith) in
-    omega (arith, z, suit_total-suc (λ k. get_or c k 0) 0 n, sum-to c n (omega arith), sum_by_more (λ x. x) c n 0 (omega arith), e)
-
-sum-is : (c : List ℕ) → length c ≡ 34 → suit_total (λ k. get_or c k 0) 0 34 ≡ sum c
-sum-is c long = sum-to c 34 (omega (arith, long)) ∙ ap sum (take_all 34 c (omega (arith, long)))
-
-tiles-of-split : (c : List ℕ) (sets : List Block) (p : ℕ) → length c ≡ 34 → p < 34 → AllByRecursion IsSet sets → ((k : ℕ) → total (Pair p ∷ sets) k ≡ get_or c k 0) → sum c ≡ 2 + 3 * length sets
-tiles-of-split c sets p long kind s adds = omega (arith, sum-split (λ f. suit_total f 0 34) (total-sum 34) c sets p adds, one-kind p kind, tiles-of-sets sets s, sum-is c long)
-
 -- a split has four sets and a pair
 pub split-size : (c : List ℕ) (melds : ℕ) → length c ≡ 34 → HasSplit c melds → sum c + 3 * melds ≡ 14
-split-size c melds long h = let s = h.2 in omega (arith, tiles-of-split c h.0 h.1 long s.made_of.is_kind (each-set c h.0 h.1 s.made_of) (adds-everywhere c h.0 h.1 long s.made_of), s.four)
+split-size c melds long h = omega (arith, made-tiles c h.0 h.1 h.2.made_of, tiles-by-kind c long, h.2.four)
 
 -- ---- from the suits to a split
 
@@ -183,12 +159,13 @@ split-from-won c melds long sum-c w =
     ] in
     let m = sets-of (beside c p) (λ k h. kind-held c k 0 long (omega (arith, h))) cut in
     let each = sets-sorted m.0 m.1.sets in
-    let adds : (k : ℕ) → copies (Pair p) k + total (sorted m.0) k ≡ get_or c k 0 = λ k. let a = m.1.adds k in let t = total-sorted k m.0 in omega (arith, a, t, pair-back c p k two) in (
+    let adds : (k : ℕ) → copies (Pair p) k + total (sorted m.0) k ≡ get_or c k 0 = λ k. let a = m.1.adds k in let t = total-sorted k m.0 in omega (arith, a, t, pair-back c p k two) in
+    let made = made-of c (sorted m.0) p each kind (λ k low. adds k) in (
       sorted m.0,
       p,
       record {
-        four = omega (arith, sum-c, tiles-of-split c (sorted m.0) p long kind each adds);
-        made_of = made-of c (sorted m.0) p each kind (λ k low. adds k);
+        four = omega (arith, sum-c, made-tiles c (sorted m.0) p made, tiles-by-kind c long);
+        made_of = made;
         in_order = order-sorted m.0;
       },
     )

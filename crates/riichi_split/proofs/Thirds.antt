@@ -6,7 +6,7 @@ use Rattle.riichi_tiles.specs.declared.block.Block.{Block}
 use Rattle.riichi_tiles.specs.declared.block.Block.TheVariants.{Run, Triplet, Pair}
 use Rattle.riichi_tiles.specs.Blocks.{copies, total, IsSet}
 use Rattle.riichi_split.specs.Cuts.{thirds, third_of_pair, sets_beside, split_of, from_choices, from_pairs}
-use Rattle.riichi_split.proofs.KindSums.{IsSum, one, sum-none, sum-run, sum-triplet, sum-split}
+use Rattle.riichi_tiles.proofs.KindSums.{IsSum, one, sum-none, sum-run, sum-triplet, sum-split}
 use Rattle.riichi_split.proofs.Sound.{IsCut-from, same-total}
 use Rattle.riichi_split.proofs.AllSplits.{beside-inv, uncarried, without}
 use Rattle.riichi_split.proofs.Falling.{falling-passed}

@@ -64,11 +64,6 @@ from_choices counts wanted pair choices = falling (λ number. split_of pair (set
 unfoldable pub from_pairs : List ℕ → ℕ → ℕ → ℕ → ℕ → List Split
 from_pairs counts wanted choices first kinds = falling (λ kind. from_choices counts wanted (first + kind) choices) kinds
 
--- the tiles of so many kinds, from a kind on
-unfoldable pub suit_total : (ℕ → ℕ) → ℕ → ℕ → ℕ
-suit_total copies first zero = 0
-suit_total copies first (suc kinds) = suit_total copies first kinds + copies (first + kinds)
-
 -- the sum of the numbers of the first kinds' tiles, three kinds at a time, each number by what it leaves over by three
 unfoldable pub thirds : (ℕ → ℕ) → ℕ → ℕ
 thirds copies zero = 0

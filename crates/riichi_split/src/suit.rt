@@ -1,7 +1,7 @@
 //! The suit that has the pair: its tiles are two more than some sets have.
-ghost use Rattle.std.specs.Prelude.{◌≡◌, ◌+◌, ◌%◌, ◌<◌, ◌≤◌, ℕ, List, slice_index};
+ghost use Rattle.std.specs.Prelude.{◌≡◌, ◌+◌, ◌%◌, ◌<◌, ◌≤◌, ℕ, List, slice_index, sum_by};
+ghost use Rattle.std.specs.List.{range_with_len};
 ghost use Rattle.riichi_tiles.specs.declared.block.Block.{Block};
-ghost use Rattle.riichi_split.specs.Cuts.{suit_total};
 ghost use Rattle.riichi_split.specs.Readings.{IsSplit};
 
 /// So many kinds from the first on.
@@ -46,7 +46,7 @@ pub(crate) fn suit_of_pair(counts: &[u8; 34]) -> Suit
 /// How many tiles of so many kinds are left over beside sets of three.
 fn rest_of(counts: &[u8; 34], first: usize, kinds: usize) -> usize
     requires { first + kinds ≤ 34 }
-    ensures value { result ≡ suit_total (slice_index counts.now) first kinds % 3 }
+    ensures value { result ≡ sum_by (slice_index counts.now) (range_with_len first kinds) % 3 }
     ensures rest { result < 3 }
 {
     let mut total = 0usize;
