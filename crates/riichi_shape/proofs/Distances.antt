@@ -11,6 +11,7 @@ use Rattle.riichi_tiles.specs.Forms.{IsSevenPairs, IsThirteenOrphans, orphan_cop
 use Rattle.riichi_tiles.specs.Kinds.{is_orphan}
 use Rattle.riichi_shape.specs.Special.{IsSpecialDistance, SpecialLacks}
 use Rattle.riichi_shape.specs.Winning.{IsWinning, lacking}
+use Rattle.riichi_tiles.proofs.EverySet.{few-orphans}
 use Rattle.riichi_shape.proofs.Exists.{StandardExists, standard_exists, melds_few}
 
 pub each_below : (f : ℕ → ℕ) (a n k : ℕ) → a ≤ k → k < a + n → f k ≤ spread f a n
@@ -20,14 +21,6 @@ each_below f a (suc n) k low high = ⊎_elim (λ later. omega (arith, each_below
   where
     same : k ≤ a → k ≡ a
     same here = omega arith
-
-pub orphan_few : (t k : ℕ) → orphan_copies t k ≤ 2
-orphan_few t k = at_most_two (is_orphan k) (eqb k t)
-  where
-    at_most_two : (b c : Bool) → cond b (cond c 2 1) 0 ≤ 2
-    at_most_two true true = omega arith
-    at_most_two true false = omega arith
-    at_most_two false c = omega arith
 
 -- ---- without melds
 
@@ -47,7 +40,7 @@ pairs_winning melds none wanted is = record {
 pub orphans_winning : (melds : List Meld) → length melds ≡ 0 → (wanted : List ℕ) → IsThirteenOrphans wanted → IsWinning melds wanted
 orphans_winning melds none wanted is = record {
   form = inr (inr (none, is));
-  within_four = record { at = λ k low. (let few = orphan_few is.doubled k in omega (arith, few, is.at k low, no_tiles melds none k low)) };
+  within_four = record { at = λ k low. (let few = few-orphans is.doubled k in omega (arith, few, is.at k low, no_tiles melds none k low)) };
 }
 
 pub least_beside : (hand : List ℕ) (melds : List Meld) (melded : ℕ) (o : Option ℕ) → melded ≡ length melds → IsLeastStandard hand melds (4 - melded) o → IsLeastStandard hand melds (4 - length melds) o

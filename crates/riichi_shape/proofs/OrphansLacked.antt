@@ -12,7 +12,7 @@ use Rattle.riichi_tiles.specs.Kinds.{is_orphan}
 use Rattle.riichi_shape.specs.Special.{AreNearestOrphans, AreNoMelds, lacks_held}
 use Rattle.riichi_shape.specs.Winning.{lacking}
 use Rattle.riichi_shape.specs.declared.nearest_form.NearestForm.{NearestForm}
-use Rattle.riichi_shape.proofs.Distances.{orphan_few}
+use Rattle.riichi_tiles.proofs.EverySet.{few-orphans}
 use Rattle.riichi_shape.proofs.OrphanLemmas.{lack_is, orphans_at, orphans_wanted, missing_one, extra, bound_doubled, reached_doubled, bound_single, reached_single, orphan_doubled, orphan_single, missing_count}
 use Rattle.riichi_shape.proofs.PairLemmas.{total_of}
 use Rattle.riichi_shape.proofs.SpecialLemmas.{lacks_back, lacks_there}
@@ -86,7 +86,7 @@ module _ (hand : List ℕ) (melds : List Meld) (n x : ℕ) (inside : x < 34) (no
   orphans_back lacked = ⊎_elim (λ none. as_reached none) (λ one. with_x one.0 (one.1 reached.thirteen_orphans.doubled reached.thirteen_orphans.is_kind reached.thirteen_orphans.doubles_orphan)) lacked.1
     where
       few : (k t w : ℕ) → k < 34 → w ≡ orphan_copies t k → w + tiles melds k ≤ 4
-      few k t w low e = sum_few w (orphan_copies t k) (tiles melds k) e (orphan_few t k) (no_melds k low)
+      few k t w low e = sum_few w (orphan_copies t k) (tiles melds k) e (few-orphans t k) (no_melds k low)
         where
           sum_few : (w o m : ℕ) → w ≡ o → o ≤ 2 → m ≡ 0 → w + m ≤ 4
           sum_few w o m e h z = omega arith

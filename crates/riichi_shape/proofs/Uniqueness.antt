@@ -19,7 +19,8 @@ use Rattle.riichi_shape.specs.EveryWinning.{lists_of, counts_of, every_sets_and_
 use Rattle.riichi_tiles.specs.Forms.{HasWinningForm, IsSetsAndPair, IsSevenPairs, IsThirteenOrphans, orphan_copies, orphan_kinds}
 use Rattle.riichi_shape.specs.Winning.{IsWinning, WithinFour, lacking}
 use Rattle.riichi_shape.proofs.OrphanLemmas.{is_listed, listed}
-use Rattle.riichi_tiles.proofs.Members.{IsIn, all-from, all-in, get_or-in, in-cases, in-filter, in-filter-inv, in-flat_map, in-flat_map-inv, in-left, in-map, in-map-inv, in-range, in-range-inv, in-right}
+use Rattle.riichi_tiles.proofs.EverySet.{every_set-inv, in-every_set}
+use Rattle.riichi_tiles.proofs.Members.{All-in, IsIn, in-All, all-from, all-in, get_or-in, in-cases, in-filter, in-filter-inv, in-flat_map, in-flat_map-inv, in-left, in-map, in-map-inv, in-range, in-range-inv, in-right}
 use Rattle.riichi_shape.proofs.Members.{among_lists, from_lists, least_is}
 
 -- two multisets with the same tiles
@@ -40,33 +41,6 @@ lacking_same hand w v same =
 
 -- ---- sets
 
-among_sets : (b : Block) → IsSet b → IsIn b every_set
-unfolding every_set
-among_sets (Run low) is = in-flat_map sets_at low (Run low) every_kind (in-range 34 0 low (omega arith) (omega (arith, is.0))) (rw (begins_at low is) (inr (inl refl)))
-among_sets (Triplet held) is = in-flat_map sets_at held (Triplet held) every_kind (in-range 34 0 held (omega arith) (omega arith)) (inl refl)
-among_sets (Pair held) is = absurd is
-
-from_sets : (b : Block) → IsIn b every_set → IsSet b
-unfolding every_set
-from_sets b h =
-    let at = in-flat_map-inv sets_at b every_kind h in
-    let kind = at.0 in
-    ⊎_elim (λ triplet. subst (λ (v : Block). IsSet v) triplet (in-range-inv 34 0 kind at.1).1) (run (begins_run kind) kind refl) at.2
-  where
-    run : (test : Bool) (kind : ℕ) → begins_run kind ≡ test → IsIn b (cond test (Run kind ∷ []) []) → IsSet b
-    run true kind begins (inl is) = subst (λ (v : Block). IsSet v) is (run_low kind begins)
-    run true kind begins (inr none) = absurd none
-    run false kind begins none = absurd none
-
-each_set : (bs : List Block) → All IsSet bs → (b : Block) → IsIn b bs → IsIn b every_set
-each_set [] all b h = absurd h
-each_set (c ∷ bs) all b h =
-    ⊎_elim (λ e. subst (λ (v : Block). IsIn v every_set) e (among_sets c (All-head IsSet c bs all))) (λ later. each_set bs (All-tail IsSet c bs all) b later) h
-
-all_sets : (bs : List Block) → ((b : Block) → IsIn b bs → IsIn b every_set) → All IsSet bs
-all_sets [] each = All-nil IsSet
-all_sets (b ∷ bs) each = All-cons IsSet b bs (from_sets b (each b (inl refl))) (all_sets bs (λ c h. each c (inr h)))
-
 counts_at : (bs : List Block) (k : ℕ) → k < 34 → slice_index (counts_of bs) k ≡ total bs k
 unfolding counts_of
 counts_at bs k h = get_or-map-range_with_len (total bs) 0 34 k k 0 h (omega arith)
@@ -76,7 +50,7 @@ unfolding every_sets_and_pair
 listed_sets sets wanted is = record {
   listed = counts_of (Pair is.pair ∷ is.blocks);
   among = in-flat_map (λ pair. map (λ blocks. counts_of (Pair pair ∷ blocks)) (lists_of every_set sets)) is.pair (counts_of (Pair is.pair ∷ is.blocks)) every_kind (in-range 34 0 is.pair (omega arith) (omega (arith, is.made_of.is_kind)))
-      (in-map (λ blocks. counts_of (Pair is.pair ∷ blocks)) is.blocks (lists_of every_set sets) (among_lists every_set sets is.blocks is.has_sets (each_set is.blocks is.made_of.are_sets)));
+      (in-map (λ blocks. counts_of (Pair is.pair ∷ blocks)) is.blocks (lists_of every_set sets) (among_lists every_set sets is.blocks is.has_sets (λ set here. in-every_set set (in-All IsSet is.blocks is.made_of.are_sets set here))));
   same = record { at = λ kind low. counts_at (Pair is.pair ∷ is.blocks) kind low ∙ sym (is.made_of.adds_up kind low) };
 }
 
@@ -90,7 +64,7 @@ sets_listed sets wanted h =
       blocks = by_blocks.0;
       pair = by_pair.0;
       made_of = record {
-        are_sets = all_sets by_blocks.0 list.each;
+        are_sets = All-in IsSet by_blocks.0 (λ set here. every_set-inv set (list.each set here));
         is_kind = (in-range-inv 34 0 by_pair.0 by_pair.1).1;
         adds_up = λ kind low. ap (λ w. slice_index w kind) (sym by_blocks.2) ∙ counts_at (Pair by_pair.0 ∷ by_blocks.0) kind low;
       };

@@ -12,6 +12,7 @@ use Rattle.riichi_tiles.specs.declared.block.Block.TheVariants.{Run, Triplet, Pa
 use Rattle.riichi_tiles.specs.Kinds.{begins_run}
 use Rattle.riichi_split.specs.ReadingsOf.{when, collections}
 use Rattle.riichi_tiles.proofs.Members.{IsIn, in-flat_map, in-flat_map-inv, in-map, in-map-inv, in-range, in-range-inv}
+use Rattle.riichi_tiles.proofs.EverySet.{every_set-inv, in-every_set}
 use Rattle.riichi_split.proofs.Lists.{Differ, Differ-map, Differ-flat_map, Differ-range}
 
 module _ {X : Type 0} where
@@ -51,33 +52,6 @@ Differ-sets_at k = (
 Differ-every_set : Differ every_set
 unfolding every_set
 Differ-every_set = Differ-flat_map sets_at every_kind Differ-sets_at same-kind (Differ-range 34 0)
-
-in-every_set : (set : Block) → IsSet set → IsIn set every_set
-unfolding every_set
-in-every_set (Run low) s =
-    in-flat_map sets_at low (Run low) every_kind (in-range 34 0 low (omega arith) (omega (arith, s.0))) (inr (in-when (begins_run low) (Run low) (Run low ∷ []) (begins_at low s) (inl refl)))
-in-every_set (Triplet kind) s = in-flat_map sets_at kind (Triplet kind) every_kind (in-range 34 0 kind (omega arith) (omega (arith, s))) (inl refl)
-in-every_set (Pair kind) s = absurd s
-
-set-triplet : (k : ℕ) (set : Block) → k < 34 → set ≡ Triplet k → IsSet set
-set-triplet k (Run low) l e = absurd (cc)
-set-triplet k (Triplet kind) l e = let f : kind ≡ k = cc in omega arith
-set-triplet k (Pair kind) l e = absurd (cc)
-
-set-run : (k : ℕ) (set : Block) → IsRunLow k → set ≡ Run k → IsSet set
-set-run k (Run low) l e = let f : low ≡ k = cc in rw f l
-set-run k (Triplet kind) l e = absurd (cc)
-set-run k (Pair kind) l e = absurd (cc)
-
-every_set-inv : (set : Block) → IsIn set every_set → IsSet set
-unfolding every_set
-every_set-inv set h =
-    let i = in-flat_map-inv sets_at set every_kind h in
-    let r = in-range-inv 34 0 i.0 i.1 in
-    elim (in-sets_at i.0 set i.2) [
-      | inl e ↦ set-triplet i.0 set (omega (arith, r.1)) e
-      | inr e ↦ set-run i.0 set (run_low i.0 e.1) e.0
-    ]
 
 -- ---- collections
 

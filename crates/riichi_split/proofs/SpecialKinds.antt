@@ -7,6 +7,7 @@ use Rattle.std.proofs.lemmas.Grind.{get_or-set_at}
 use Rattle.riichi_tiles.specs.Kinds.{is_orphan}
 use Rattle.riichi_tiles.specs.Forms.{orphan_copies}
 use Rattle.riichi_split.specs.SpecialWaits.{IsSpecialWait, CompletesPairs, CompletesOrphans, Adds, AddsSpecial}
+use Rattle.riichi_tiles.proofs.EverySet.{few-orphans}
 use Rattle.riichi_tiles.proofs.KindSums.{get_or-more}
 
 -- a kind that is neither none nor two is the one that is completed
@@ -35,9 +36,6 @@ held-orphan doubled kind o = grind (arith, nat_tests, o)
 lacked-completed : (c : List ℕ) (kind lacked : ℕ) → lacked < 34 → IsTrue (is_orphan lacked) → get_or c lacked 0 ≡ 0 → lacked ≢ kind → CompletesOrphans c kind → ⊥
 lacked-completed c kind lacked l o z n h =
     omega (arith, get_or-set_other c kind lacked (get_or c kind 0 + 1) 0 n, h.at lacked l, z, held-orphan h.doubled lacked o)
-
-few-orphans : (doubled kind : ℕ) → orphan_copies doubled kind ≤ 2
-few-orphans doubled kind = grind (arith, nat_tests)
 
 -- a fifth copy completes nothing
 pub fifth-completes-none : (c : List ℕ) (kind : ℕ) → length c ≡ 34 → 4 ≤ get_or c kind 0 → IsSpecialWait c kind → ⊥
