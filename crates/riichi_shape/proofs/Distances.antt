@@ -1,5 +1,5 @@
 -- The least of the three distances is the distance.
-use Rattle.std.proofs.Common.{◌≡◌, ℕ, ◌+◌, ◌-◌, ◌<◌, ◌≤◌, min, ◌⊎◌, inl, inr, List, zero, suc, Bool, true, false, cond, Some, None, refl, ap, ⊎_elim, sym, ◌∙◌, eqb, length, subst, Option, arith}
+use Rattle.std.proofs.Common.{◌≡◌, ℕ, ◌+◌, ◌-◌, ◌<◌, ◌≤◌, min, ◌⊎◌, inl, inr, List, zero, suc, Some, None, refl, ap, ⊎_elim, sym, ◌∙◌, length, subst, Option, arith}
 use Rattle.std.proofs.lemmas.Bool.{cases_lt}
 use Rattle.std.specs.Prelude.{slice_index}
 use Rattle.riichi_tiles.specs.Melds.{tiles}
@@ -7,8 +7,7 @@ use Rattle.riichi_tiles.specs.declared.meld.Meld.{Meld}
 use Rattle.riichi_rows.proofs.Joins.{min_is}
 use Rattle.riichi_rows.proofs.Spread.{spread, sum_range}
 use Rattle.riichi_shape.specs.Distance.{IsDistance, IsLeastStandard}
-use Rattle.riichi_tiles.specs.Forms.{IsSevenPairs, IsThirteenOrphans, orphan_copies}
-use Rattle.riichi_tiles.specs.Kinds.{is_orphan}
+use Rattle.riichi_tiles.specs.Forms.{IsSevenPairs, IsThirteenOrphans}
 use Rattle.riichi_shape.specs.Special.{IsSpecialDistance, SpecialLacks}
 use Rattle.riichi_shape.specs.Winning.{IsWinning, lacking}
 use Rattle.riichi_tiles.proofs.EverySet.{few-orphans}

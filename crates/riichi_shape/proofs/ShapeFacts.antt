@@ -1,14 +1,12 @@
 -- What is known of the parts of a shape.
-use Rattle.std.proofs.Common.{◌≡◌, ℕ, ◌<◌, ◌≤◌, ℤ, Bool, true, false, List, [], ◌∷◌, None, refl, ap, ◌∙◌, arith}
+use Rattle.std.proofs.Common.{◌≡◌, ℕ, ◌<◌, ◌≤◌, ℤ, true, false, List, ap, ◌∙◌, arith}
 use Rattle.std.proofs.lemmas.Bool.{ltb-false}
 use Rattle.std.proofs.lemmas.Bool.Decides.{nat_tests}
 use Rattle.std.specs.List.{sum}
-use Rattle.std.specs.Prelude.{not, nat_lt, ◌==◌, ◌||◌}
+use Rattle.std.specs.Prelude.{nat_lt, ◌==◌, ◌||◌}
 use Rattle.riichi_tiles.specs.Melds.{every_kind, tiles}
-use Rattle.riichi_hand.specs.Faults.{coded, first_fault}
 use Rattle.riichi_hand.specs.Hand.{IsShape, copies_with, has_five_seen, is_thirteen, is_thirteen_or_more, size}
 use Rattle.riichi_hand.specs.HandParts.{ShapeParts}
-use Rattle.riichi_hand.specs.declared.fault.LineCode.TheVariants.{H8, H9}
 use Rattle.riichi_tiles.specs.declared.meld.Meld.{Meld}
 use Rattle.riichi_shape.specs.Accepted.{accepted_of}
 use Rattle.riichi_shape.specs.Answer.{accepts_of, shape_of}

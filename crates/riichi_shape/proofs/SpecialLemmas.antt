@@ -1,7 +1,8 @@
 -- What a hand lacks of the forms that stand beside no meld.
 use Rattle.std.proofs.Common.{◌≡◌, ℕ, ◌<◌, Bool, true, false, cond, ◌⊎◌, inl, inr, List, length, refl, sym, ap, ◌∙◌, ⊎_elim, subst, arith}
 use Rattle.std.proofs.lemmas.Bool.{cases_lt, false≢true, or_left, or_right, and_parts, and_from, eqb-true, eq-eqb, or_cases}
-use Rattle.std.specs.Prelude.{slice_index, ◌==◌, ◌&&◌, ◌↔◌}
+use Rattle.std.proofs.lemmas.Bool.Decides.{nat_tests}
+use Rattle.std.specs.Prelude.{slice_index, ◌==◌, ◌&&◌, ◌||◌, ◌↔◌, not}
 use Rattle.riichi_tiles.specs.declared.meld.Meld.{Meld}
 use Rattle.riichi_shape.specs.Distance.{IsDistance}
 use Rattle.riichi_shape.specs.Lacked.{FormLacks}
@@ -85,6 +86,23 @@ module _ (hand : List ℕ) (melds : List Meld) (forms : SpecialForms) (are : Are
 
 pub nothing_lacked : (kind held : ℕ) → special_lacks (record { pairs = no_kind; orphans = no_kind }) kind held ≡ false
 nothing_lacked kind held = rw (no_kind_held held) refl
+
+-- no kind is lacked just where neither those that are not held nor those that are held once are
+abbrev pub are_empty : SpecialLacked → Bool
+are_empty lacked = not (lacked.pairs.missing || lacked.pairs.single) && not (lacked.orphans.missing || lacked.orphans.single)
+
+lacks_none : (a b c d : Bool) → (not (a || b) && not (c || d)) ≡ true → (kind held : ℕ) → special_lacks (record { pairs = record { missing = a; single = b }; orphans = record { missing = c; single = d } }) kind held ≡ false
+lacks_none true b c d e kind held = absurd (cc)
+lacks_none false true c d e kind held = absurd (cc)
+lacks_none false false true d e kind held = absurd (cc)
+lacks_none false false false true e kind held = absurd (cc)
+lacks_none false false false false e kind held = nothing_lacked kind held
+
+pub empty_iff : (lacked : SpecialLacked) → (are_empty lacked ≡ true) ↔ ((kind held : ℕ) → special_lacks lacked kind held ≡ false)
+empty_iff lacked = (
+  lacks_none lacked.pairs.missing lacked.pairs.single lacked.orphans.missing lacked.orphans.single,
+  λ none. let missing = none 0 0 in let single = none 0 1 in grind (arith, nat_tests),
+)
 
 -- where the forms lack more than n, they lack no kind at n
 pub none_lacked : (hand : List ℕ) (melds : List Meld) (floor n : ℕ) → SpecialLacks hand melds floor → n < floor → (lacked : SpecialLacked) → ((kind : ℕ) → special_lacks lacked kind (slice_index hand kind) ≡ false) → AreSpecialLacked hand melds n lacked

@@ -1,17 +1,14 @@
 -- The distance is one number: the least lack over the list of every winning multiset.
-use Rattle.std.proofs.Common.{◌≡◌, ℕ, zero, suc, ◌+◌, ◌-◌, ◌<◌, true, inl, inr, List, [], ◌∷◌, ◌++◌, map, length, refl, sym, ap, ◌∙◌, ⊎_elim, subst, arith, Bool, false, cond}
+use Rattle.std.proofs.Common.{◌≡◌, ℕ, zero, suc, ◌+◌, ◌-◌, ◌<◌, true, inl, inr, List, [], ◌∷◌, ◌++◌, map, length, refl, sym, ap, ◌∙◌, ⊎_elim, arith}
 use Rattle.std.proofs.lemmas.List.FromFn.{get_or-map-range_with_len, length-map-range_with_len}
 use Rattle.std.proofs.lemmas.Bool.{le-leb, leb-true}
 use Rattle.std.proofs.lemmas.Bool.Decides.{nat_tests}
-use Rattle.std.proofs.lemmas.List.Elements.{All-nil, All-cons, All-head, All-tail}
-use Rattle.std.specs.Prelude.{All, slice_index, sum_by, nat_le, ◌==◌}
-use Rattle.riichi_tiles.specs.Sets.{every_set, sets_at}
-use Rattle.riichi_tiles.proofs.Suits.{begins_at, run_low}
+use Rattle.std.specs.Prelude.{slice_index, sum_by, nat_le, ◌==◌}
+use Rattle.riichi_tiles.specs.Sets.{every_set}
 use Rattle.riichi_tiles.specs.Blocks.{IsSet, total}
 use Rattle.riichi_tiles.specs.Melds.{every_kind, tiles}
-use Rattle.riichi_tiles.specs.Kinds.{begins_run}
 use Rattle.riichi_tiles.specs.declared.block.Block.{Block}
-use Rattle.riichi_tiles.specs.declared.block.Block.TheVariants.{Run, Triplet, Pair}
+use Rattle.riichi_tiles.specs.declared.block.Block.TheVariants.{Pair}
 use Rattle.riichi_tiles.specs.declared.meld.Meld.{Meld}
 use Rattle.riichi_rows.proofs.Spread.{sum_range, spread_shift}
 use Rattle.riichi_shape.specs.Distance.{IsDistance}

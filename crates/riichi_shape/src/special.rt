@@ -1,5 +1,5 @@
 //! The forms that stand beside no meld.
-ghost use Rattle.std.specs.Prelude.{ℕ, ◌≡◌, ◌<◌, IsTrue, List, false, slice_index};
+ghost use Rattle.std.specs.Prelude.{ℕ, ◌≡◌, ◌<◌, ◌↔◌, IsTrue, List, false, slice_index};
 ghost use Rattle.riichi_tiles.specs.declared.meld.Meld.{Meld};
 ghost use Rattle.riichi_shape.specs.Accepted.{without_one};
 ghost use Rattle.riichi_shape.specs.KindBits.{AreKindsOf};
@@ -98,7 +98,7 @@ impl SpecialForms {
 impl SpecialLacked {
     /// Whether no kind is lacked.
     pub(crate) fn is_empty(&self) -> bool
-        ensures { IsTrue result → (kind held : ℕ) → special_lacks self.now kind held ≡ false }
+        ensures { IsTrue result ↔ ((kind held : ℕ) → special_lacks self.now kind held ≡ false) }
     {
         self.pairs.is_empty() && self.orphans.is_empty()
     }

@@ -1,17 +1,15 @@
 -- The ordered lists of sets: each stands once among `collections`.
-use Rattle.std.proofs.Common.{subst, ◌≡◌, ℕ, zero, suc, ◌<◌, Bool, true, false, List, [], ◌∷◌, length, flat_map, inl, inr, ◌⊎◌, refl, sym, ap, ◌∙◌, arith, leb, map}
+use Rattle.std.proofs.Common.{subst, ◌≡◌, ℕ, zero, suc, Bool, true, false, List, [], ◌∷◌, length, flat_map, inl, inr, ◌⊎◌, refl, sym, ap, ◌∙◌, arith, leb, map}
 use Rattle.std.specs.List.{AllByRecursion}
 use Rattle.std.proofs.lemmas.Bool.Decides.{nat_tests}
 use Rattle.riichi_tiles.specs.Sets.{sets_at, every_set}
-use Rattle.riichi_tiles.proofs.Suits.{begins_at, run_low}
 use Rattle.riichi_tiles.specs.Melds.{every_kind}
-use Rattle.riichi_tiles.specs.Kinds.{IsRunLow}
 use Rattle.riichi_tiles.specs.Blocks.{IsSet, IsOrderedFrom, place_of}
 use Rattle.riichi_tiles.specs.declared.block.Block.{Block}
-use Rattle.riichi_tiles.specs.declared.block.Block.TheVariants.{Run, Triplet, Pair}
+use Rattle.riichi_tiles.specs.declared.block.Block.TheVariants.{Run, Triplet}
 use Rattle.riichi_tiles.specs.Kinds.{begins_run}
 use Rattle.riichi_split.specs.ReadingsOf.{when, collections}
-use Rattle.riichi_tiles.proofs.Members.{IsIn, in-flat_map, in-flat_map-inv, in-map, in-map-inv, in-range, in-range-inv}
+use Rattle.riichi_tiles.proofs.Members.{IsIn, in-flat_map, in-flat_map-inv, in-map, in-map-inv}
 use Rattle.riichi_tiles.proofs.EverySet.{every_set-inv, in-every_set}
 use Rattle.riichi_split.proofs.Lists.{Differ, Differ-map, Differ-flat_map, Differ-range}
 

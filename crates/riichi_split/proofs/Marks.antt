@@ -1,5 +1,5 @@
 -- The marks of the kinds that a hand waits for.
-use Rattle.std.proofs.Common.{not, None, Ok, ap, ◌≡◌, ℕ, zero, suc, ◌+◌, ◌*◌, ◌<◌, ◌≤◌, ◌↔◌, subst, Bool, true, false, List, [], ◌∷◌, length, get_or, refl, sym, ◌∙◌, arith, ltb, IsTrue, inl, inr}
+use Rattle.std.proofs.Common.{Ok, ap, ◌≡◌, ℕ, zero, suc, ◌+◌, ◌*◌, ◌<◌, ◌≤◌, ◌↔◌, subst, Bool, true, false, List, [], ◌∷◌, length, get_or, refl, sym, ◌∙◌, arith, ltb, IsTrue, inl, inr}
 use Rattle.std.specs.List.{list_any}
 use Rattle.std.proofs.lemmas.Bool.{cases_lt, and_parts, and_from, ltb-true, lt-ltb, true_from_ne_false}
 use Rattle.std.proofs.lemmas.Bool.Decides.{nat_tests, same_from_decides}
@@ -11,8 +11,6 @@ use Rattle.riichi_tiles.specs.Notation.{notation_fault, reading_of}
 use Rattle.riichi_tiles.specs.Printing.{digits, tiles_text, once, ones}
 use Rattle.riichi_hand.specs.HandParts.{HandParts}
 use Rattle.riichi_hand.proofs.OutcomeLemmas.{no_faults}
-use Rattle.riichi_hand.specs.declared.fault.LineCode.TheVariants.{H8, H9}
-use Rattle.riichi_hand.specs.Faults.{coded, first_fault}
 use Rattle.riichi_hand.specs.Hand.{copies_held, size, is_thirteen, has_five_copies, IsHand}
 use Rattle.std.specs.List.{sum}
 use Rattle.riichi_tiles.specs.Melds.{tiles}

@@ -1,14 +1,13 @@
 -- Seven kinds of two tiles are fourteen tiles, none or two of each kind.
-use Rattle.std.proofs.Common.{◌≡◌, ℕ, zero, suc, ◌+◌, ◌*◌, ◌↔◌, ◌⊎◌, inl, inr, true, cond, List, [], ◌∷◌, length, get_or, eqb, refl, sym, ap, ◌∙◌, arith, IsTrue, ◌&&◌, ◌||◌}
+use Rattle.std.proofs.Common.{◌≡◌, ℕ, zero, suc, ◌*◌, ◌↔◌, ◌⊎◌, inl, inr, true, cond, List, [], ◌∷◌, length, get_or, eqb, refl, arith, IsTrue, ◌&&◌, ◌||◌}
 use Rattle.std.proofs.lemmas.Bool.{and_from, and_parts, cases_lt, eqb-true, eq-eqb}
 use Rattle.std.proofs.lemmas.Bool.Decides.{nat_tests}
 use Rattle.std.proofs.lemmas.List.{get_or_past}
 use Rattle.std.proofs.lemmas.List.Sums.{sum_by-cons}
-use Rattle.std.specs.List.{count_by, list_all, range_with_len, sum}
-use Rattle.std.specs.Prelude.{slice_index, sum_by, ◌==◌}
+use Rattle.std.specs.List.{count_by, list_all, sum}
+use Rattle.std.specs.Prelude.{◌==◌}
 use Rattle.riichi_tiles.specs.Forms.{IsSevenPairs}
 use Rattle.riichi_tiles.proofs.KindSums.{tiles-by-kind}
-use Rattle.riichi_tiles.specs.Melds.{every_kind}
 use Rattle.riichi_split.specs.ReadingsOf.{are_seven_pairs}
 
 -- ---- none or two of each kind

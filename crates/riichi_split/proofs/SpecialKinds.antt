@@ -37,6 +37,13 @@ lacked-completed : (c : List ℕ) (kind lacked : ℕ) → lacked < 34 → IsTrue
 lacked-completed c kind lacked l o z n h =
     omega (arith, get_or-set_other c kind lacked (get_or c kind 0 + 1) 0 n, h.at lacked l, z, held-orphan h.doubled lacked o)
 
+is-orphan : (doubled kind : ℕ) → 0 < orphan_copies doubled kind → IsTrue (is_orphan kind)
+is-orphan doubled kind some = grind (arith, nat_tests)
+
+-- what completes the orphans is held beside orphans alone
+pub orphans-alone : (c : List ℕ) (kind : ℕ) → length c ≡ 34 → kind < 34 → CompletesOrphans c kind → (k : ℕ) → k < 34 → 0 < get_or c k 0 → IsTrue (is_orphan k)
+orphans-alone c kind long small h k low some = is-orphan h.doubled k (omega (arith, h.at k low, get_or-more c kind k 1 (omega (arith, long, small)), some))
+
 -- a fifth copy completes nothing
 pub fifth-completes-none : (c : List ℕ) (kind : ℕ) → length c ≡ 34 → 4 ≤ get_or c kind 0 → IsSpecialWait c kind → ⊥
 fifth-completes-none c kind long four w =

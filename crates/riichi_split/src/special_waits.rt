@@ -121,7 +121,8 @@ fn next_lacking(counts: &[u8; 34]) -> u8
 
 /// Whether no tile but terminals and honours is held.
 fn are_orphans_alone(counts: &[u8; 34]) -> bool
-    ensures { (kind : ℕ) → kind < 34 → spec.CompletesOrphans counts.now kind → IsTrue result }
+    ensures { IsTrue result ↔ ((kind : ℕ) → kind < 34 → 0 < slice_index counts.now kind
+        → IsTrue (is_orphan kind)) }
 {
     for (kind, count) in counts.iter().enumerate() {
         if *count > 0 && !Kind::at(kind as u8).is_orphan() {

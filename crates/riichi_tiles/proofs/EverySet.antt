@@ -1,5 +1,5 @@
 -- The list of every set has each set, and nothing else; and of no kind do the orphans have more than two.
-use Rattle.std.proofs.Common.{◌≡◌, ℕ, ◌≤◌, Bool, true, false, cond, List, [], ◌∷◌, inl, inr, refl, subst, arith}
+use Rattle.std.proofs.Common.{◌≡◌, ℕ, ◌≤◌, Bool, true, false, cond, [], ◌∷◌, inl, inr, refl, subst, arith}
 use Rattle.std.proofs.lemmas.Bool.Decides.{nat_tests}
 use Rattle.riichi_tiles.specs.Blocks.{IsSet}
 use Rattle.riichi_tiles.specs.Forms.{orphan_copies}

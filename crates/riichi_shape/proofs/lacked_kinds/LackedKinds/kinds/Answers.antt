@@ -12,7 +12,7 @@ alone false b none = sym none
 
 pub returns-then-is_empty : goal.returns-then-is_empty
 returns-then-is_empty c = λ kind low.
-    c.kinds_lacked-kinds.ensures kind low ∙ alone (suits_lack c.args.self.now.suits kind) (special_lacks c.args.self.now.special kind (slice_index c.args.held.now kind)) (c.is_empty.ensures c.if-is_empty.true kind (slice_index c.args.held.now kind))
+    c.kinds_lacked-kinds.ensures kind low ∙ alone (suits_lack c.args.self.now.suits kind) (special_lacks c.args.self.now.special kind (slice_index c.args.held.now kind)) (c.is_empty.ensures.0 c.if-is_empty.true kind (slice_index c.args.held.now kind))
 
 pub returns-else-is_empty : goal.returns-else-is_empty
 returns-else-is_empty c = λ kind low.
