@@ -17,6 +17,7 @@ use Rattle.riichi_shape.specs.LackedKinds.{AreSuitsLacked, NoneStandardLess}
 use Rattle.riichi_shape.specs.Rows.{AreJoinsOf, AreRowsOf, IsMeldedFew}
 use Rattle.riichi_shape.specs.declared.hand_joins.HandJoins.{HandJoins}
 use Rattle.riichi_tiles.specs.declared.by_suit.BySuit.{BySuit}
+use Rattle.riichi_tiles.specs.declared.suit.Suit.TheVariants.{Characters, Circles, Bamboos, Honours}
 use Rattle.riichi_rows.specs.declared.rank_set.RankSet.{RankSet}
 use Rattle.riichi_shape.proofs.FourSuits.{entries_laws}
 use Rattle.riichi_rows.proofs.Opposite.{through}
@@ -124,15 +125,15 @@ module _ (hand : List ℕ) (melds : List Meld) (rows : BySuit SuitRow) (are : Ar
   abbrev HandEntries : ℕ → Type 0
   HandEntries kind =
       EntryLacks (entries_of a) (entries_of b) (entries_of c) (entries_of d)
-      are.characters.counts are.circles.counts are.bamboos.counts are.honours.counts are.characters.caps are.circles.caps are.bamboos.caps are.honours.caps sets n kind
+      (are Characters).counts (are Circles).counts (are Bamboos).counts (are Honours).counts (are Characters).caps (are Circles).caps (are Bamboos).caps (are Honours).caps sets n kind
 
   laws : ((m : ℕ) → EntriesSum (entries_of a) (entries_of b) (entries_of c) (entries_of d) sets m → n ≤ m) × ((kind : ℕ) → kind < 34 → StandardLacks hand melds sets n kind ↔ HandEntries kind)
   laws =
       entries_laws hand melds
-      are.characters.counts are.circles.counts are.bamboos.counts are.honours.counts are.characters.caps are.circles.caps are.bamboos.caps are.honours.caps
-      are.characters.suit are.circles.suit are.bamboos.suit are.honours.suit
+      (are Characters).counts (are Circles).counts (are Bamboos).counts (are Honours).counts (are Characters).caps (are Circles).caps (are Bamboos).caps (are Honours).caps
+      (are Characters).suit (are Circles).suit (are Bamboos).suit (are Honours).suit
       (entries_of a) (entries_of b) (entries_of c) (entries_of d)
-      are.characters.is_row.least are.circles.is_row.least are.bamboos.is_row.least are.honours.is_row.least
+      (are Characters).is_row.least (are Circles).is_row.least (are Bamboos).is_row.least (are Honours).is_row.least
       sets few melds_few n none_less
 
   -- of a suit whose entry stands first in another order of the four, and whose kind is lacked by its own row alone
@@ -145,7 +146,7 @@ module _ (hand : List ℕ) (melds : List Meld) (rows : BySuit SuitRow) (are : Ar
   module _ (rank kind : ℕ) (low_rank : rank < 9) (kind_is : kind ≡ 0 + rank) where
     pub characters_lack : MarkedBeside a joins.beside_characters sets n rank ↔ StandardLacks hand melds sets n kind
     characters_lack =
-        suit_lack a b c d joins.beside_characters are_joins.beside_characters true 0 are.characters.counts are.characters.caps are.characters.is_row.marks (λ m e. e)
+        suit_lack a b c d joins.beside_characters are_joins.beside_characters true 0 (are Characters).counts (are Characters).caps (are Characters).is_row.marks (λ m e. e)
         rank kind low_rank kind_is (omega arith) (
           λ f. record { entries = f.entries; lacks_kind = inl f.lacks },
           λ k. record {
@@ -158,7 +159,7 @@ module _ (hand : List ℕ) (melds : List Meld) (rows : BySuit SuitRow) (are : Ar
     pub circles_lack : MarkedBeside b joins.beside_circles sets n rank ↔ StandardLacks hand melds sets n kind
     unfolding swapped
     circles_lack =
-        suit_lack b a c d joins.beside_circles are_joins.beside_circles true 9 are.circles.counts are.circles.caps are.circles.is_row.marks (swapped (entries_of b) (entries_of a) (entries_of c) (entries_of d) sets)
+        suit_lack b a c d joins.beside_circles are_joins.beside_circles true 9 (are Circles).counts (are Circles).caps (are Circles).is_row.marks (swapped (entries_of b) (entries_of a) (entries_of c) (entries_of d) sets)
         rank kind low_rank kind_is (omega arith) (
           λ f. record { entries = swapped (entries_of b) (entries_of a) (entries_of c) (entries_of d) sets n f.entries; lacks_kind = inr (inl f.lacks) },
           λ k. record {
@@ -171,7 +172,7 @@ module _ (hand : List ℕ) (melds : List Meld) (rows : BySuit SuitRow) (are : Ar
     pub bamboos_lack : MarkedBeside c joins.beside_bamboos sets n rank ↔ StandardLacks hand melds sets n kind
     unfolding turned
     bamboos_lack =
-        suit_lack c d a b joins.beside_bamboos are_joins.beside_bamboos true 18 are.bamboos.counts are.bamboos.caps are.bamboos.is_row.marks (turned (entries_of c) (entries_of d) (entries_of a) (entries_of b) sets)
+        suit_lack c d a b joins.beside_bamboos are_joins.beside_bamboos true 18 (are Bamboos).counts (are Bamboos).caps (are Bamboos).is_row.marks (turned (entries_of c) (entries_of d) (entries_of a) (entries_of b) sets)
         rank kind low_rank kind_is (omega arith) (
           λ f. record { entries = turned (entries_of c) (entries_of d) (entries_of a) (entries_of b) sets n f.entries; lacks_kind = inr (inr (inl f.lacks)) },
           λ k. record {
@@ -188,7 +189,7 @@ module _ (hand : List ℕ) (melds : List Meld) (rows : BySuit SuitRow) (are : Ar
     pub honours_lack : MarkedBeside d joins.beside_honours sets n rank ↔ StandardLacks hand melds sets n kind
     unfolding swapped turned
     honours_lack =
-        suit_lack d c a b joins.beside_honours are_joins.beside_honours false 27 are.honours.counts are.honours.caps are.honours.is_row.marks honours_last
+        suit_lack d c a b joins.beside_honours are_joins.beside_honours false 27 (are Honours).counts (are Honours).caps (are Honours).is_row.marks honours_last
         rank kind (omega arith) kind_is (omega arith) (
           λ f. record { entries = honours_last n f.entries; lacks_kind = inr (inr (inr f.lacks)) },
           λ k. record {

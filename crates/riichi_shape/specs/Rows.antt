@@ -1,8 +1,11 @@
 -- The four rows of a hand, and what is kept of them while a tile changes.
-use Rattle.std.specs.Prelude.{◌≡◌, ◌≢◌, ℕ, ◌<◌, ◌≤◌, ◌⊎◌, List, slice_index}
+use Rattle.std.specs.Prelude.{◌≡◌, ◌≢◌, ℕ, ◌<◌, ◌≤◌, List, slice_index}
+use Rattle.riichi_tiles.specs.Kinds.{first_of, kinds_of, suit_of}
 use Rattle.riichi_tiles.specs.Melds.{tiles}
+use Rattle.riichi_tiles.specs.Suits.{of_suit}
 use Rattle.riichi_tiles.specs.declared.by_suit.BySuit.{BySuit}
 use Rattle.riichi_tiles.specs.declared.meld.Meld.{Meld}
+use Rattle.riichi_tiles.specs.declared.suit.Suit.{Suit}
 use Rattle.riichi_rows.specs.Join.{IsLeastSum}
 use Rattle.riichi_rows.specs.Lanes.{lane}
 use Rattle.riichi_rows.specs.Row.{AreJoinedThree}
@@ -15,53 +18,28 @@ use Rattle.riichi_shape.specs.declared.hand_forms.HandForms.{HandForms}
 use Rattle.riichi_shape.specs.declared.hand_joins.HandJoins.{HandJoins}
 
 -- each is the marked row of its suit of the hand
-pub record AreRowsOf (hand : List ℕ) (melds : List Meld) (rows : BySuit SuitRow) : Type 0 where
-  pub characters : IsRowOf hand melds 0 9 rows.characters
-  pub circles : IsRowOf hand melds 9 9 rows.circles
-  pub bamboos : IsRowOf hand melds 18 9 rows.bamboos
-  pub honours : IsRowOf hand melds 27 7 rows.honours
+abbrev pub AreRowsOf : List ℕ → List Meld → BySuit SuitRow → Type 0
+AreRowsOf hand melds rows = (suit : Suit) → IsRowOf hand melds (first_of suit) (kinds_of suit) (of_suit rows suit)
 
 -- each is the rows of its suit of the hand, with all tiles and without one
-pub record AreSuitsOf (hand : List ℕ) (melds : List Meld) (suits : BySuit SuitRows) : Type 0 where
-  pub characters : AreSuitRowsOf hand melds 0 9 suits.characters
-  pub circles : AreSuitRowsOf hand melds 9 9 suits.circles
-  pub bamboos : AreSuitRowsOf hand melds 18 9 suits.bamboos
-  pub honours : AreSuitRowsOf hand melds 27 7 suits.honours
+abbrev pub AreSuitsOf : List ℕ → List Meld → BySuit SuitRows → Type 0
+AreSuitsOf hand melds suits = (suit : Suit) → AreSuitRowsOf hand melds (first_of suit) (kinds_of suit) (of_suit suits suit)
 
 -- two hands that have the same tiles of every other kind
 pub record DifferAt (kind : ℕ) (before after : List ℕ) : Type 0 where
   pub others : (other : ℕ) → other ≢ kind → slice_index after other ≡ slice_index before other
 
 -- the row of the suit of a kind
-pub record IsRowAt (hand : List ℕ) (melds : List Meld) (kind : ℕ) (row : SuitRow) : Type 0 where
-  pub characters : kind < 9 → IsRowOf hand melds 0 9 row
-  pub circles : 9 ≤ kind → kind < 18 → IsRowOf hand melds 9 9 row
-  pub bamboos : 18 ≤ kind → kind < 27 → IsRowOf hand melds 18 9 row
-  pub honours : 27 ≤ kind → IsRowOf hand melds 27 7 row
+abbrev pub IsRowAt : List ℕ → List Meld → ℕ → SuitRow → Type 0
+IsRowAt hand melds kind row = IsRowOf hand melds (first_of (suit_of kind)) (kinds_of (suit_of kind)) row
 
 -- no kind is melded more than four times
 abbrev pub IsMeldedFew : List Meld → Type 0
 IsMeldedFew melds = (kind : ℕ) → kind < 34 → tiles melds kind ≤ 4
 
 -- two hands that have the same rows but in the suit of a kind
-pub record AreSameBeside (kind : ℕ) (before after : BySuit SuitRow) : Type 0 where
-  pub characters : 9 ≤ kind → after.characters ≡ before.characters
-  pub circles : (kind < 9) ⊎ (18 ≤ kind) → after.circles ≡ before.circles
-  pub bamboos : (kind < 18) ⊎ (27 ≤ kind) → after.bamboos ≡ before.bamboos
-  pub honours : kind < 27 → after.honours ≡ before.honours
-
--- the same rows but one
-abbrev pub with_characters : BySuit SuitRow → SuitRow → BySuit SuitRow
-with_characters rows row = record { characters = row; circles = rows.circles; bamboos = rows.bamboos; honours = rows.honours }
-
-abbrev pub with_circles : BySuit SuitRow → SuitRow → BySuit SuitRow
-with_circles rows row = record { characters = rows.characters; circles = row; bamboos = rows.bamboos; honours = rows.honours }
-
-abbrev pub with_bamboos : BySuit SuitRow → SuitRow → BySuit SuitRow
-with_bamboos rows row = record { characters = rows.characters; circles = rows.circles; bamboos = row; honours = rows.honours }
-
-abbrev pub with_honours : BySuit SuitRow → SuitRow → BySuit SuitRow
-with_honours rows row = record { characters = rows.characters; circles = rows.circles; bamboos = rows.bamboos; honours = row }
+abbrev pub AreSameBeside : ℕ → BySuit SuitRow → BySuit SuitRow → Type 0
+AreSameBeside kind before after = (suit : Suit) → suit ≢ suit_of kind → of_suit after suit ≡ of_suit before suit
 
 -- the least sums of the rows of two suits
 abbrev pub AreJoinedTwo : SuitRow → SuitRow → JoinedRows → Type 0

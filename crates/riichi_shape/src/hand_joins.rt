@@ -4,13 +4,15 @@ ghost use Rattle.riichi_tiles.specs.declared.meld.Meld.{Meld};
 ghost use Rattle.riichi_shape.specs.Distance.{IsLeastStandard};
 ghost use Rattle.riichi_shape.specs.LackedKinds.{AreSuitsLacked, NoneStandardLess};
 ghost use Rattle.riichi_rows.specs.declared.row.SuitRow.{SuitRow};
-ghost use Rattle.riichi_shape.specs.Rows.{AreJoinsBeside, AreJoinsOf, AreRowsOf, AreSameBeside, IsMeldedFew, IsRowAt, with_bamboos, with_characters, with_circles, with_honours};
+ghost use Rattle.riichi_shape.specs.Rows.{AreJoinsBeside, AreJoinsOf, AreRowsOf, AreSameBeside, IsMeldedFew, IsRowAt};
+ghost use Rattle.riichi_tiles.specs.Suits.{with_suit};
 ghost use Rattle.riichi_tiles.specs.declared.by_suit.BySuit.{BySuit};
+ghost use Rattle.riichi_tiles.specs.declared.suit.Suit.TheVariants as suit;
 
 use crate::hand_rows::HandRows;
 use crate::suits_lacked::SuitsLacked;
 use riichi_rows::{JoinedRows, SuitRow, join_two};
-use riichi_tiles::{BySuit, Kind};
+use riichi_tiles::{BySuit, Kind, Suit};
 
 /// Beside each suit the rows of the other three, joined. They are kept while a tile of the suit is
 /// added or removed. Of the others just those are joined anew that the suit is in.
@@ -48,20 +50,16 @@ impl HandJoins {
         ensures { (before : BySuit SuitRow) → AreJoinsOf before self.now
             → AreSameBeside kind before rows.now → AreJoinsOf rows.now result }
     {
-        let number = kind.index();
-        if number < 9 {
-            self.with_characters(rows)
-        } else if number < 18 {
-            self.with_circles(rows)
-        } else if number < 27 {
-            self.with_bamboos(rows)
-        } else {
-            self.with_honours(rows)
+        match kind.suit() {
+            Suit::Characters => self.with_characters(rows),
+            Suit::Circles => self.with_circles(rows),
+            Suit::Bamboos => self.with_bamboos(rows),
+            Suit::Honours => self.with_honours(rows),
         }
     }
 
     fn with_characters(&self, rows: &HandRows) -> HandJoins
-        ensures { (before : SuitRow) → AreJoinsOf (with_characters rows.now before) self.now
+        ensures { (before : SuitRow) → AreJoinsOf (with_suit rows.now suit.Characters before) self.now
             → AreJoinsOf rows.now result }
     {
         let low = join_two(&rows.characters, &rows.circles);
@@ -75,7 +73,7 @@ impl HandJoins {
     }
 
     fn with_circles(&self, rows: &HandRows) -> HandJoins
-        ensures { (before : SuitRow) → AreJoinsOf (with_circles rows.now before) self.now
+        ensures { (before : SuitRow) → AreJoinsOf (with_suit rows.now suit.Circles before) self.now
             → AreJoinsOf rows.now result }
     {
         let low = join_two(&rows.characters, &rows.circles);
@@ -89,7 +87,7 @@ impl HandJoins {
     }
 
     fn with_bamboos(&self, rows: &HandRows) -> HandJoins
-        ensures { (before : SuitRow) → AreJoinsOf (with_bamboos rows.now before) self.now
+        ensures { (before : SuitRow) → AreJoinsOf (with_suit rows.now suit.Bamboos before) self.now
             → AreJoinsOf rows.now result }
     {
         let high = join_two(&rows.bamboos, &rows.honours);
@@ -103,7 +101,7 @@ impl HandJoins {
     }
 
     fn with_honours(&self, rows: &HandRows) -> HandJoins
-        ensures { (before : SuitRow) → AreJoinsOf (with_honours rows.now before) self.now
+        ensures { (before : SuitRow) → AreJoinsOf (with_suit rows.now suit.Honours before) self.now
             → AreJoinsOf rows.now result }
     {
         let high = join_two(&rows.bamboos, &rows.honours);
@@ -144,15 +142,11 @@ impl HandJoins {
             → IsMeldedFew melds → IsRowAt hand melds kind row.now
             → IsLeastStandard hand melds sets result }
     {
-        let number = kind.index();
-        if number < 9 {
-            self.beside_characters.with(row, sets)
-        } else if number < 18 {
-            self.beside_circles.with(row, sets)
-        } else if number < 27 {
-            self.beside_bamboos.with(row, sets)
-        } else {
-            self.beside_honours.with(row, sets)
+        match kind.suit() {
+            Suit::Characters => self.beside_characters.with(row, sets),
+            Suit::Circles => self.beside_circles.with(row, sets),
+            Suit::Bamboos => self.beside_bamboos.with(row, sets),
+            Suit::Honours => self.beside_honours.with(row, sets),
         }
     }
 }

@@ -34,26 +34,5 @@ pub(crate) fn with_row(rows: &HandRows, kind: Kind, row: &SuitRow) -> HandRows
         → DifferAt kind before hand → IsRowAt hand melds kind row.now
         → AreRowsOf hand melds result }
 {
-    let number = kind.index();
-    if number < 9 {
-        BySuit {
-            characters: *row,
-            ..*rows
-        }
-    } else if number < 18 {
-        BySuit {
-            circles: *row,
-            ..*rows
-        }
-    } else if number < 27 {
-        BySuit {
-            bamboos: *row,
-            ..*rows
-        }
-    } else {
-        BySuit {
-            honours: *row,
-            ..*rows
-        }
-    }
+    rows.with(kind.suit(), *row)
 }

@@ -48,14 +48,5 @@ pub(crate) fn row_without(suits: &HandSuits, kind: Kind) -> SuitRow
     ensures { (hand : List ℕ) (melds : List Meld) → AreSuitsOf hand melds suits.now
         → 0 < slice_index hand kind → IsRowAt (without_one hand kind) melds kind result }
 {
-    let number = kind.index();
-    if number < 9 {
-        suits.characters.without[number]
-    } else if number < 18 {
-        suits.circles.without[number - 9]
-    } else if number < 27 {
-        suits.bamboos.without[number - 18]
-    } else {
-        suits.honours.without[number - 27]
-    }
+    suits.lent(kind.suit()).without[kind.rank()]
 }

@@ -28,6 +28,13 @@ some_suit kind small = elim (cases_lt kind 9) [
   ]
 ]
 
+-- what holds of the four holds of any
+pub each_suit : (P : Suit → Type 0) → P Characters → P Circles → P Bamboos → P Honours → (suit : Suit) → P suit
+each_suit P a b c d Characters = a
+each_suit P a b c d Circles = b
+each_suit P a b c d Bamboos = c
+each_suit P a b c d Honours = d
+
 -- a kind among the nine from the first of a suit on is of that suit
 pub of_nine : (suit : Suit) (rank : ℕ) → rank < 9 → first_of suit + rank < 34 → IsOfSuit suit (first_of suit + rank)
 of_nine Characters rank small kind = record { low = omega arith; high = omega arith }
