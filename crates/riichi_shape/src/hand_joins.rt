@@ -59,7 +59,8 @@ impl HandJoins {
     }
 
     fn with_characters(&self, rows: &HandRows) -> HandJoins
-        ensures { (before : SuitRow) → AreJoinsOf (with_suit rows.now suit.Characters before) self.now
+        ensures { (before : SuitRow)
+            → AreJoinsOf (with_suit rows.now suit.Characters before) self.now
             → AreJoinsOf rows.now result }
     {
         let low = join_two(&rows.characters, &rows.circles);
@@ -73,7 +74,8 @@ impl HandJoins {
     }
 
     fn with_circles(&self, rows: &HandRows) -> HandJoins
-        ensures { (before : SuitRow) → AreJoinsOf (with_suit rows.now suit.Circles before) self.now
+        ensures { (before : SuitRow)
+            → AreJoinsOf (with_suit rows.now suit.Circles before) self.now
             → AreJoinsOf rows.now result }
     {
         let low = join_two(&rows.characters, &rows.circles);
@@ -87,7 +89,8 @@ impl HandJoins {
     }
 
     fn with_bamboos(&self, rows: &HandRows) -> HandJoins
-        ensures { (before : SuitRow) → AreJoinsOf (with_suit rows.now suit.Bamboos before) self.now
+        ensures { (before : SuitRow)
+            → AreJoinsOf (with_suit rows.now suit.Bamboos before) self.now
             → AreJoinsOf rows.now result }
     {
         let high = join_two(&rows.bamboos, &rows.honours);
@@ -101,7 +104,8 @@ impl HandJoins {
     }
 
     fn with_honours(&self, rows: &HandRows) -> HandJoins
-        ensures { (before : SuitRow) → AreJoinsOf (with_suit rows.now suit.Honours before) self.now
+        ensures { (before : SuitRow)
+            → AreJoinsOf (with_suit rows.now suit.Honours before) self.now
             → AreJoinsOf rows.now result }
     {
         let high = join_two(&rows.bamboos, &rows.honours);

@@ -7,7 +7,7 @@ ghost use Rattle.riichi_tiles.specs.declared.meld.Meld.{Meld};
 use crate::hand_caps::hand_caps_of;
 use crate::suit_of_hand::suit_row_of;
 use riichi_rows::{RowSource, SuitRow};
-use riichi_tiles::{BySuit, Counts, Kind, Melds};
+use riichi_tiles::{BySuit, Counts, Kind, Melds, Suit};
 
 /// The row of each suit. They are kept while tiles are added and removed: a tile changes one.
 pub(crate) type HandRows = BySuit<SuitRow>;
@@ -34,5 +34,22 @@ pub(crate) fn with_row(rows: &HandRows, kind: Kind, row: &SuitRow) -> HandRows
         → DifferAt kind before hand → IsRowAt hand melds kind row.now
         → AreRowsOf hand melds result }
 {
-    rows.with(kind.suit(), *row)
+    match kind.suit() {
+        Suit::Characters => BySuit {
+            characters: *row,
+            ..*rows
+        },
+        Suit::Circles => BySuit {
+            circles: *row,
+            ..*rows
+        },
+        Suit::Bamboos => BySuit {
+            bamboos: *row,
+            ..*rows
+        },
+        Suit::Honours => BySuit {
+            honours: *row,
+            ..*rows
+        },
+    }
 }

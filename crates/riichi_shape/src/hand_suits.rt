@@ -9,7 +9,7 @@ use crate::hand_caps::hand_caps_of;
 use crate::hand_rows::HandRows;
 use crate::suit_of_hand::suit_rows_of;
 use riichi_rows::{RowSource, SuitRow, SuitRows};
-use riichi_tiles::{BySuit, Counts, Kind, Melds};
+use riichi_tiles::{BySuit, Counts, Kind, Melds, Suit};
 
 /// The row of each suit, and the rows without one of its tiles: all that a hand of fourteen tiles
 /// asks for.
@@ -48,5 +48,11 @@ pub(crate) fn row_without(suits: &HandSuits, kind: Kind) -> SuitRow
     ensures { (hand : List ℕ) (melds : List Meld) → AreSuitsOf hand melds suits.now
         → 0 < slice_index hand kind → IsRowAt (without_one hand kind) melds kind result }
 {
-    suits.lent(kind.suit()).without[kind.rank()]
+    let number = kind.index();
+    match kind.suit() {
+        Suit::Characters => suits.characters.without[number],
+        Suit::Circles => suits.circles.without[number - 9],
+        Suit::Bamboos => suits.bamboos.without[number - 18],
+        Suit::Honours => suits.honours.without[number - 27],
+    }
 }

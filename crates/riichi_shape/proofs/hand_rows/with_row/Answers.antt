@@ -1,19 +1,36 @@
-use Rattle.std.proofs.Common.{ap, sym, subst, ◌∙◌}
-use Rattle.riichi_rows.specs.declared.row.SuitRow.{SuitRow}
-use Rattle.riichi_tiles.specs.Suits.{of_suit, with_suit}
-use Rattle.riichi_tiles.specs.declared.by_suit.BySuit.{BySuit}
+use Rattle.std.proofs.Common.{sym, subst, ◌∙◌}
+use Rattle.riichi_tiles.specs.Suits.{with_suit}
+use Rattle.riichi_tiles.specs.declared.suit.Suit.{Suit}
+use Rattle.riichi_tiles.specs.declared.suit.Suit.TheVariants.{Characters, Circles, Bamboos, Honours}
 use Rattle.riichi_tiles.proofs.Suits.{of_suit-with_other}
 use Rattle.riichi_shape.specs.Rows.{AreRowsOf}
 use Rattle.riichi_shape.proofs.KeptRows.{rows_with}
 use Rattle.riichi_shape.proofs.hand_rows.with_row.Goals as goal
 
-pub returns-clause-others : goal.returns-clause-others
-returns-clause-others c = λ suit ne.
-    let now = c.with.ensures ∙ ap (λ own. with_suit c.args.rows.now own c.args.row.now) c.suit.ensures.value in
-    ap (λ rows. of_suit rows suit) now ∙ of_suit-with_other c.args.rows.now _ suit c.args.row.now ne
+pub returns-in-Characters-clause-others : goal.returns-in-Characters-clause-others
+returns-in-Characters-clause-others c = λ suit ne. of_suit-with_other c.args.rows.now Characters suit c.args.row.now (λ e. ne (e ∙ c.in-Characters.ensures.value))
 
-pub returns-clause-rows : goal.returns-clause-rows
-returns-clause-rows c = λ before hand melds are differ row.
-    let Rows : BySuit SuitRow → Type 0 = λ rows. AreRowsOf hand melds rows in
-    let now = c.with.ensures ∙ ap (λ own. with_suit c.args.rows.now own c.args.row.now) c.suit.ensures.value in
-    subst Rows (sym now) (rows_with c.args.kind before hand melds c.args.rows.now c.args.row.now are differ row)
+pub returns-in-Characters-clause-rows : goal.returns-in-Characters-clause-rows
+returns-in-Characters-clause-rows c = λ before hand melds are differ row.
+    subst (λ (own : Suit). AreRowsOf hand melds (with_suit c.args.rows.now own c.args.row.now)) (sym c.in-Characters.ensures.value) (rows_with c.args.kind before hand melds c.args.rows.now c.args.row.now are differ row)
+
+pub returns-in-Circles-clause-others : goal.returns-in-Circles-clause-others
+returns-in-Circles-clause-others c = λ suit ne. of_suit-with_other c.args.rows.now Circles suit c.args.row.now (λ e. ne (e ∙ c.in-Circles.ensures.value))
+
+pub returns-in-Circles-clause-rows : goal.returns-in-Circles-clause-rows
+returns-in-Circles-clause-rows c = λ before hand melds are differ row.
+    subst (λ (own : Suit). AreRowsOf hand melds (with_suit c.args.rows.now own c.args.row.now)) (sym c.in-Circles.ensures.value) (rows_with c.args.kind before hand melds c.args.rows.now c.args.row.now are differ row)
+
+pub returns-in-Bamboos-clause-others : goal.returns-in-Bamboos-clause-others
+returns-in-Bamboos-clause-others c = λ suit ne. of_suit-with_other c.args.rows.now Bamboos suit c.args.row.now (λ e. ne (e ∙ c.in-Bamboos.ensures.value))
+
+pub returns-in-Bamboos-clause-rows : goal.returns-in-Bamboos-clause-rows
+returns-in-Bamboos-clause-rows c = λ before hand melds are differ row.
+    subst (λ (own : Suit). AreRowsOf hand melds (with_suit c.args.rows.now own c.args.row.now)) (sym c.in-Bamboos.ensures.value) (rows_with c.args.kind before hand melds c.args.rows.now c.args.row.now are differ row)
+
+pub returns-in-Honours-clause-others : goal.returns-in-Honours-clause-others
+returns-in-Honours-clause-others c = λ suit ne. of_suit-with_other c.args.rows.now Honours suit c.args.row.now (λ e. ne (e ∙ c.in-Honours.ensures.value))
+
+pub returns-in-Honours-clause-rows : goal.returns-in-Honours-clause-rows
+returns-in-Honours-clause-rows c = λ before hand melds are differ row.
+    subst (λ (own : Suit). AreRowsOf hand melds (with_suit c.args.rows.now own c.args.row.now)) (sym c.in-Honours.ensures.value) (rows_with c.args.kind before hand melds c.args.rows.now c.args.row.now are differ row)
