@@ -99,7 +99,7 @@ function showChoices() {
   for (const button of document.querySelectorAll("[data-target]")) button.setAttribute("aria-pressed", String(button.dataset.target === target));
   byId("red").hidden = state.rules !== 2;
   byId("red").setAttribute("aria-pressed", String(state.isRed));
-  byId("back").disabled = state.past.length === 0;
+  byId("back").setAttribute("aria-disabled", String(state.past.length === 0));
   for (const part of document.querySelectorAll("[data-jobs]")) part.hidden = !part.dataset.jobs.split(" ").includes(record.job);
 }
 
