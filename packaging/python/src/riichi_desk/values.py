@@ -1,10 +1,37 @@
-"""The answers of riichi_desk as values, read from their JSON (docs/answer.schema.json)."""
+"""The answers of riichi_desk as values, read from their JSON (answer.schema.json). They are never changed, and can be hashed."""
 
 from __future__ import annotations
 
 import json
+from collections.abc import Iterator, Mapping
 from dataclasses import dataclass
-from typing import Any, Union
+from typing import Any, TypeVar, Union
+
+V = TypeVar("V")
+
+
+class Table(Mapping[str, V]):
+    """A mapping that is never changed, so it can be hashed. It equals each mapping with the same items."""
+
+    __slots__ = ("_items",)
+
+    def __init__(self, items: Mapping[str, V]) -> None:
+        self._items = dict(items)
+
+    def __getitem__(self, key: str) -> V:
+        return self._items[key]
+
+    def __iter__(self) -> Iterator[str]:
+        return iter(self._items)
+
+    def __len__(self) -> int:
+        return len(self._items)
+
+    def __hash__(self) -> int:
+        return hash(frozenset(self._items.items()))
+
+    def __repr__(self) -> str:
+        return repr(self._items)
 
 
 @dataclass(frozen=True)
@@ -25,7 +52,7 @@ class Won:
     dora: int
     base: int
     limit: str | None
-    payment: dict[str, int]
+    payment: Table[int]
     """What each payer pays: `discarder`, or `dealer` and `each_other`, or `each`."""
     gain: int
     yaku: tuple[Yaku, ...]
@@ -50,9 +77,9 @@ class Waits:
 
 @dataclass(frozen=True)
 class Accepted:
-    """The kinds that bring a hand nearer, each with its live copies."""
+    """The kinds that bring a hand nearer, each with its live copies, and how many these are in all."""
 
-    kinds: dict[str, int]
+    kinds: Table[int]
     live: int
 
 
@@ -62,7 +89,7 @@ class Shape:
 
     shanten: int
     accepts: Accepted | None
-    discards: dict[str, Accepted]
+    discards: Table[Accepted]
     """The kinds to discard, the best first, with what the hand then accepts."""
 
 
@@ -79,7 +106,7 @@ Answer = Union[Won, NoYaku, NoWin, Waits, Shape, Refused]
 
 
 def _accepted(told: dict[str, Any]) -> Accepted:
-    return Accepted({each["kind"]: each["live"] for each in told["accepts"]}, told["live"])
+    return Accepted(Table({each["kind"]: each["live"] for each in told["accepts"]}), told["live"])
 
 
 def read(text: str) -> Answer:
@@ -88,17 +115,22 @@ def read(text: str) -> Answer:
     >>> read('{"answer":"waits","kinds":["2p","5p"]}')
     Waits(kinds=('2p', '5p'))
     """
-    told = json.loads(text)
+    return value_of(json.loads(text))
+
+
+def value_of(told: dict[str, Any]) -> Answer:
+    """The answer that an object of JSON is."""
     sort = told.pop("answer")
     if sort == "won":
-        yaku = tuple(Yaku(**each) for each in told.pop("yaku"))
-        return Won(**told, yaku=yaku)
+        yaku = tuple(Yaku(each["number"], each["word"]) for each in told["yaku"])
+        told |= {"payment": Table(told["payment"]), "yaku": yaku}
+        return Won(**told)
     if sort == "waits":
         return Waits(tuple(told["kinds"]))
     if sort == "shape":
         accepts = _accepted(told) if "accepts" in told else None
-        discards = {each["discard"]: _accepted(each) for each in told.get("discards", [])}
-        return Shape(told["shanten"], accepts, discards)
+        discards = {each["discard"]: _accepted(each) for each in told.get("discards", ())}
+        return Shape(told["shanten"], accepts, Table(discards))
     if sort == "refused":
         return Refused(told["code"], told.get("text"), told.get("place"))
     return NoYaku() if sort == "no yaku" else NoWin()
