@@ -13,7 +13,7 @@ version=$("$program" --version | sed 's/^riichi_desk //')
 name=riichi_desk-$version-linux-x86_64
 # stand-ins for what ./packages builds
 mkdir "$shop/bin/packages"
-for package in "riichi_desk-$version"{.tgz,.crate,-py3-none-manylinux_2_17_x86_64.whl} riichi_desk_portable.c riichi_desk.exe riichi_desk.aarch64; do
+for package in "riichi_desk-$version"{.tgz,.crate,-py3-none-manylinux_2_17_x86_64.whl} riichi_desk_portable.c {riichi_desk,libriichi_desk_c}-{windows-x86_64,linux-arm64}{,.a}; do
   echo "$package" > "$shop/bin/packages/$package"
 done
 "$shop/packaging/sources" > "$shop/bin/packages/sources"
@@ -38,7 +38,7 @@ told 'the checksums of the release' "riichi_desk-$version-linux-arm64.tar.gz: OK
 $name.tar.gz: OK
 riichi_desk-$version-windows-x86_64.zip: OK" "$(cd "$shop/releases" && cat ./*.sha256 | sha256sum -c)"
 told 'the release once more, to the byte' "$first" "$(by_hand "$shop" ./release > /dev/null; cd "$shop/releases" && sha256sum -- *)"
-told 'what is in the archive for Windows' 'LICENSE NOTATION.md README.md RULES.md SHA256SUMS examples licences riichi_desk.c riichi_desk.exe riichi_desk.h riichi_desk_portable.c' \
+told 'what is in the archive for Windows' 'LICENSE NOTATION.md README.md RULES.md SHA256SUMS answer.schema.json examples libriichi_desk_c.a licences riichi_desk.c riichi_desk.exe riichi_desk.h' \
   "$(unzip -l "$shop/releases/riichi_desk-$version-windows-x86_64.zip" | sed -n "s|.* riichi_desk-$version-windows-x86_64/\([^/]*\).*|\1|p" | sort -u | xargs)"
 told 'how it is called there' 3 "$(unzip -p "$shop/releases/riichi_desk-$version-windows-x86_64.zip" '*/README.md' | grep -cF '$ .\riichi_desk.exe ')"
 told 'a release without packages' 'release: without packages for other languages and systems' \
