@@ -44,3 +44,36 @@ if has debootstrap lintian && [ -n "$(ls releases/*.deb 2> /dev/null)" ]; then
 else
   skip "Debian's packages on an empty root" 'debootstrap, lintian, or a release,'
 fi
+
+# the release's README: what it prints for Python, JavaScript and one file of C
+archive_of=releases/riichi_desk-$version-linux-x86_64.tar.gz
+if [ -f "$archive_of" ]; then
+  tar -C "$shelf" -xf "$archive_of"
+  unpacked=$shelf/riichi_desk-$version-linux-x86_64
+  printed() {
+    awk -v word="$1" '/^```/ { if (within && index(text, word)) printf "%s", text; within = !within; text = ""; next } within { text = text $0 "\n" }' "$unpacked/README.md"
+  }
+  for word in 'pip install' 'npm install' riichi_desk_portable.c; do
+    told "the README: $word" "$("$program" explain < examples/club-night.lines)" "$(cd "$unpacked" && bash -ec "$(printed "$word")" 2> "$room/said" | grep -v '^added ')"
+  done
+else
+  skip "the release's README" "$archive_of"
+fi
+
+# the Python package on ARM64: the wheel, and the sources compiled for it
+arm=$shelf/arm64
+if has debootstrap qemu-aarch64-static && debootstrap --arch=arm64 --foreign --variant=minbase --include=python3 bookworm "$arm" > "$room/said" 2>&1; then
+  for package in "$arm"/var/cache/apt/archives/*.deb; do dpkg-deb -x "$package" "$arm" 2> /dev/null; done
+  by_arm() { PYTHONPATH=$1 qemu-aarch64-static -L "$arm" "$arm"/usr/bin/python3.11 -B "${@:2}"; }
+  mkdir "$shelf/wheel-arm64" "$shelf/built-arm64" "$shelf/sdist"
+  unzip -q "$packages"/riichi_desk-*aarch64.whl -d "$shelf/wheel-arm64"
+  same 'the wheel on ARM64' few-wanted by_arm "$shelf/wheel-arm64" examples/python/answer.py
+  tar -C "$shelf/sdist" -xf "$packages/riichi_desk-$version.tar.gz"
+  (cd "$shelf/sdist/riichi_desk-$version" && CC=aarch64-linux-gnu-gcc PLATFORM=linux_aarch64 /usr/bin/python3 -m build --wheel --no-isolation --skip-dependency-check \
+    --outdir "$shelf/built" .) > "$room/said" 2>&1
+  unzip -q "$shelf"/built/*.whl -d "$shelf/built-arm64"
+  same 'the package from its sources on ARM64' few-wanted by_arm "$shelf/built-arm64" examples/python/answer.py
+  told 'its edges on ARM64' 'all right' "$(by_arm "$shelf/built-arm64" tests/module_edges.py "$shelf/few" 2>&1)"
+else
+  skip 'the Python package on ARM64' 'debootstrap or qemu-user-static'
+fi

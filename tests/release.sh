@@ -50,6 +50,22 @@ unpacked=$scripts/$name
 told 'what is in the release' 'LICENSE NOTATION.md README.md RULES.md SHA256SUMS answer.schema.json completions desk.html examples libriichi_desk_c.a library licences packages riichi_desk riichi_desk.1 riichi_desk.h riichi_desk.proved' \
   "$(cd "$unpacked" && echo *)"
 told 'its files are whole' 0 "$(cd "$unpacked" && sha256sum --quiet -c SHA256SUMS > /dev/null; echo $?)"
+# printed WORD: the commands in the block of its README that has WORD; they answer in the release's folder
+printed() {
+  awk -v word="$1" '/^```/ { if (within && index(text, word)) printf "%s", text; within = !within; text = ""; next } within { text = text $0 "\n" }' "$unpacked/README.md"
+}
+explained=$("$program" explain < examples/club-night.lines)
+told 'the README: C' "$explained" "$(cd "$unpacked" && bash -c "$(printed 'answer.c libriichi_desk_c.a')" 2>&1)"
+if command -v pkg-config > /dev/null; then
+  told 'the README: C by the shared library' "$explained" "$(cd "$unpacked" && bash -c "$(printed PKG_CONFIG_PATH)" 2>&1)"
+else
+  skip 'the README: C by the shared library' pkg-config
+fi
+if command -v rustc > /dev/null; then
+  told 'the README: Rust' "$explained" "$(cd "$unpacked" && bash -c "$(printed 'rustc ')" 2>&1)"
+else
+  skip 'the README: Rust' rustc
+fi
 told 'the version says what it was proved with' "riichi_desk $version
 $(cat "$shop/bin/riichi_desk.proved")" "$("$unpacked/riichi_desk" --version)"
 mkdir "$scripts/link" && ln -s "$unpacked/riichi_desk" "$scripts/link/desk"
