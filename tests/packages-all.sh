@@ -31,7 +31,7 @@ if has debootstrap lintian && [ -n "$(ls releases/*.deb 2> /dev/null)" ]; then
   mkdir "$debs" && cp releases/*.deb "$debs"
   told 'lintian' '' "$(lintian --no-tag-display-limit "$debs"/*.deb 2>&1)"
   base=$shelf/root
-  debootstrap --variant=minbase --include=python3-minimal,gcc,libc6-dev,pkg-config bookworm "$base" > "$room/said" 2>&1
+  debootstrap --variant=minbase --include=python3,gcc,libc6-dev,pkg-config bookworm "$base" > "$room/said" 2>&1
   cp "$debs"/*.deb "$wheel" examples/python/answer.py "$base/root"
   in_root() { chroot "$base" /usr/bin/env PATH=/usr/bin:/usr/sbin:/bin HOME=/root "$@"; }
   told 'installed on an empty root' 0 "$(in_root sh -c 'dpkg -i /root/*.deb' > "$room/said" 2>&1; echo $?)"

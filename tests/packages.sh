@@ -52,7 +52,7 @@ if [ -f "$wheel" ] && /usr/bin/python3 -m venv "$shelf/venv" > /dev/null 2>&1 &&
   told 'its edges' 'all right' "$("$python" tests/module_edges.py "$shelf/lines" 2>&1)"
   told 'its licences' "$(unzip -l "$wheel" | grep -c 'licenses/.*LICENSE')" "$(tar -tf "$packages/riichi_desk-$version.crate" | grep -c LICENSE)"
   if has mypy; then
-    told 'its types' 'Success: no issues found in 5 source files' "$(mypy --strict --cache-dir="$shelf/types" packaging/python/src/riichi_desk 2>&1)"
+    told 'its types' Success "$(mypy --strict --cache-dir="$shelf/types" packaging/python/src/riichi_desk 2>&1 | sed 's/^Success: .*/Success/')"
   else
     skip 'the types of the wheel' mypy
   fi
@@ -113,9 +113,8 @@ if [ -f "$packages/riichi_desk-linux-arm64" ] && has qemu-aarch64-static; then
 else
   skip 'ARM64' qemu-user-static
 fi
-if [ -f "$packages/riichi_desk-windows-x86_64" ] && has wine; then
-  cp "$packages/riichi_desk-windows-x86_64" "$shelf/riichi_desk.exe"
-  by_wine() { WINEDEBUG=-all WINEPREFIX=$shelf/wine wine "$shelf/riichi_desk.exe" "$@"; }
+if [ -f "$packages/riichi_desk-windows-x86_64.exe" ] && has wine; then
+    by_wine() { WINEDEBUG=-all WINEPREFIX=$shelf/wine wine "$packages/riichi_desk-windows-x86_64.exe" "$@"; }
   by_wine --version > /dev/null 2>&1
   same 'Windows: line' wanted by_wine line
   same 'Windows: line --json' json by_wine line --json

@@ -13,7 +13,7 @@ version=$("$program" --version | sed 's/^riichi_desk //')
 name=riichi_desk-$version-linux-x86_64
 # stand-ins for what ./packages builds
 mkdir "$shop/bin/packages"
-for package in "riichi_desk-$version"{.tgz,.crate,-py3-none-manylinux_2_17_x86_64.whl} riichi_desk_portable.c {riichi_desk,libriichi_desk_c}-{windows-x86_64,linux-arm64}{,.a}; do
+for package in "riichi_desk-$version"{.tgz,.crate,-py3-none-manylinux_2_17_x86_64.whl} riichi_desk_portable.c riichi_desk-{windows-x86_64.exe,linux-arm64} libriichi_desk_c-{windows-x86_64,linux-arm64}.a; do
   echo "$package" > "$shop/bin/packages/$package"
 done
 "$shop/packaging/sources" > "$shop/bin/packages/sources"
