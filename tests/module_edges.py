@@ -1,17 +1,14 @@
 #!/usr/bin/env python3
-"""tests/module_edges.py FILE: edges of the Python package: ends of lines, sorts of bytes, profiles, many lines beside one, hands beside
-lines, threads; the lines are those of FILE. It says `all right` where all are.
+"""tests/module_edges.py FILE: edges of the Python package: ends of lines, sorts of bytes, profiles, many lines beside one,
+threads; the lines are those of FILE. It says `all right` where all are.
 """
 
 import array
 import pickle
-import random
 import sys
 from concurrent.futures import ThreadPoolExecutor
 
 import riichi_desk
-from riichi_desk import KINDS, NO_HAND
-
 WAITS = "waits 1112345678999m"
 
 
@@ -66,63 +63,6 @@ def try_many(text: bytes) -> None:
         assert list(pool.map(riichi_desk.lines, [text] * 8)) == [wanted] * 8
 
 
-def named(counts: list[int]) -> str:
-    return "".join(kind * count for kind, count in zip(KINDS, counts))
-
-
-def kinds(mask: int) -> list[str]:
-    return [kind for at, kind in enumerate(KINDS) if mask >> at & 1]
-
-
-def try_hands(tiles: int, rows: int = 500) -> None:
-    draw, wall = random.Random(tiles), [kind for kind in range(34) for _ in range(4)]
-    walls = [draw.sample(wall, tiles + 30) for _ in range(rows)]
-    counts = [[it[:tiles].count(kind) for kind in range(34)] for it in walls]
-    seen = [[it[tiles:].count(kind) for kind in range(34)] for it in walls]
-    call = riichi_desk.shapes if tiles == 13 else riichi_desk.discards
-    told = call(bytes(sum(counts, [])), bytearray(sum(seen, [])))
-    for row in range(rows):
-        wanted = riichi_desk.answer(f"shape {named(counts[row])} seen={named(seen[row])}")
-        assert told.shanten[row] == wanted.shanten
-        live = {kind: told.live[row, at] for at, kind in enumerate(KINDS)}
-        if tiles == 13:
-            accepted = {kind: live[kind] for kind in kinds(told.accepts[row])}
-            assert accepted == wanted.accepts.kinds and sum(live.values()) == wanted.accepts.live
-        else:
-            assert set(kinds(told.best[row])) == set(wanted.discards)
-            for at, kind in enumerate(KINDS):
-                of = wanted.discards.get(kind)
-                assert kinds(told.accepts[row, at]) == list(of.kinds if of else ()) and live[kind] == (of.live if of else 0)
-
-
-def try_counts() -> None:
-    none = bytes([0] * 34 + [255] * 34 + [13] + [0] * 33 + [1] * 13 + [0] * 21)
-    assert list(riichi_desk.shapes(none).shanten[:3]) == [NO_HAND] * 3
-    assert len(riichi_desk.shapes(b"").shanten) == 0
-    for counts, seen, error in (b"1", None, ValueError), (none, none[:34], ValueError), ("1m", None, TypeError):
-        try:
-            riichi_desk.shapes(counts, seen)
-        except error:
-            continue
-        raise AssertionError(counts)
-    try:
-        import numpy
-    except ImportError:
-        return
-    counts = numpy.frombuffer(none, numpy.uint8).reshape(4, 34)  # not to be written
-    for each in counts, counts.copy(), counts.astype(numpy.int8):
-        told = riichi_desk.shapes(each)
-        arrays = [numpy.asarray(it) for it in told]
-        assert [(it.dtype.name, it.shape) for it in arrays] == [("int8", (4,)), ("uint64", (4,)), ("uint8", (4, 34))]
-        assert told == riichi_desk.shapes(none)
-    for wrong in counts[:, ::2], counts.astype(numpy.int64):
-        try:
-            riichi_desk.shapes(wrong)
-        except (TypeError, ValueError):
-            continue
-        raise AssertionError("counts that are no bytes one behind the other")
-
-
 if __name__ == "__main__":
     with open(sys.argv[1], "rb") as file:
         front = b"".join(file.readline() for _ in range(3000))
@@ -130,7 +70,4 @@ if __name__ == "__main__":
     try_rules()
     try_values()
     try_many(front)
-    try_hands(13)
-    try_hands(14)
-    try_counts()
     print("all right")

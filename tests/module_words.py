@@ -3,9 +3,8 @@
 
 import doctest
 
-import riichi_desk.hands
 import riichi_desk.records
 import riichi_desk.values
 
-for module in riichi_desk.hands, riichi_desk.records, riichi_desk.values:
+for module in riichi_desk.records, riichi_desk.values:
     doctest.testmod(module)

@@ -43,7 +43,7 @@ else
 fi
 
 # the wheel, in a new environment
-wheel=$(echo "$packages"/riichi_desk-*.whl)
+wheel=$(echo "$packages"/riichi_desk-*x86_64.whl)
 if [ -f "$wheel" ] && /usr/bin/python3 -m venv "$shelf/venv" > /dev/null 2>&1 && "$shelf/venv/bin/pip" install -q --no-index "$wheel" > "$room/said" 2>&1; then
   python=$shelf/venv/bin/python3
   same 'the wheel, a call a line' wanted "$python" examples/python/answer.py
@@ -52,7 +52,7 @@ if [ -f "$wheel" ] && /usr/bin/python3 -m venv "$shelf/venv" > /dev/null 2>&1 &&
   told 'its edges' 'all right' "$("$python" tests/module_edges.py "$shelf/lines" 2>&1)"
   told 'its licences' "$(unzip -l "$wheel" | grep -c 'licenses/.*LICENSE')" "$(tar -tf "$packages/riichi_desk-$version.crate" | grep -c LICENSE)"
   if has mypy; then
-    told 'its types' 'Success: no issues found in 5 source files' "$(mypy --strict --cache-dir="$shelf/types" packaging/python/src/riichi_desk 2>&1)"
+    told 'its types' Success "$(mypy --strict --cache-dir="$shelf/types" packaging/python/src/riichi_desk 2>&1 | sed 's/^Success: .*/Success/')"
   else
     skip 'the types of the wheel' mypy
   fi
@@ -96,24 +96,30 @@ fi
 # one file of C
 portable=$packages/riichi_desk_portable.c
 if [ -f "$portable" ]; then
-  cc -O1 -Iinclude packaging/portable/riichi_desk.c "$portable" -lm -o "$shelf/portable"
+  cc -O1 -Iinclude packaging/anywhere/riichi_desk.c "$portable" -lm -o "$shelf/portable"
   same 'one file of C: line' wanted "$shelf/portable" line
   same 'one file of C: line --json' json "$shelf/portable" line --json
   same 'one file of C: explain' explained "$shelf/portable" explain
   told 'one file of C: waits' 'waits 123456789m' "$("$shelf/portable" waits 1112345678999m)"
   told 'one file of C: rules' "$("$program" line --rules 2 < examples/rules.lines | sha256sum)" "$("$shelf/portable" line --rules 2 < examples/rules.lines | sha256sum)"
   told 'one file of C: a first line of rules' "$(cat examples/rules-two.answers)" "$("$shelf/portable" line < examples/rules-two.lines)"
-  if has qemu-aarch64-static; then
-    same 'ARM64' few-wanted qemu-aarch64-static "$packages/riichi_desk.aarch64" line
-  else
-    skip 'ARM64' qemu-user-static
-  fi
-  if has wine; then
-    same 'Windows' few-wanted env WINEDEBUG=-all WINEPREFIX="$shelf/wine" wine "$packages/riichi_desk.exe" line
-  else
-    skip 'Windows' wine64
-  fi
 else
   skip 'one file of C' wabt
+fi
+
+# other systems
+if [ -f "$packages/riichi_desk-linux-arm64" ] && has qemu-aarch64-static; then
+  same 'ARM64: line' few-wanted qemu-aarch64-static "$packages/riichi_desk-linux-arm64" line
+else
+  skip 'ARM64' qemu-user-static
+fi
+if [ -f "$packages/riichi_desk-windows-x86_64.exe" ] && has wine; then
+    by_wine() { WINEDEBUG=-all WINEPREFIX=$shelf/wine wine "$packages/riichi_desk-windows-x86_64.exe" "$@"; }
+  by_wine --version > /dev/null 2>&1
+  same 'Windows: line' wanted by_wine line
+  same 'Windows: line --json' json by_wine line --json
+  same 'Windows: explain' explained by_wine explain
+else
+  skip 'Windows' wine64
 fi
 [ -z "$all" ] || source tests/packages-all.sh

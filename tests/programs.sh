@@ -17,7 +17,7 @@ cc -pthread -Iinclude tests/threads.c "$archive" -o "$made/threads"
 told 'four threads of a program at once' "$(sha256sum < "$made/wanted")" "$("$made/threads" "$made/lines" | sha256sum)"
 "$program" explain < "$made/lines" > "$made/explained"
 told 'a program in C, with explanations' "$(sha256sum < "$made/explained")" "$("$made/checked" explain < "$made/lines" 2>&1 | sha256sum)"
-packaging/library/install-library "$archive" include/riichi_desk.h 0 "$made/local"
+packaging/library/install-library "$archive" include/riichi_desk.h 0.0 "$made/local"
 # by_python WORDS..: Python of the distribution, with the package as it lies here and the shared library
 by_python() { RIICHI_DESK=$made/local/lib/libriichi_desk.so PYTHONPATH=packaging/python/src /usr/bin/python3 -B "$@"; }
 told 'a program in Python' "$(sha256sum < "$made/wanted")" "$(by_python examples/python/answer.py < "$made/lines" | sha256sum)"

@@ -1,21 +1,19 @@
 """What a hand of riichi mahjong is worth and why, its waits, and how far it is from a win. The answers are proved.
 
-One line a call: `text`, `answer`, `json`, `explain`. Many: `texts`, `answers`, `lines`. Hands as counts, without text: `shapes`,
-`discards`. The package has the shared library inside; RIICHI_DESK in the environment names another one.
+One line a call: `text`, `answer`, `json`, `explain`. Many: `texts`, `answers`, `lines`. The package has the shared library inside;
+RIICHI_DESK in the environment names another one.
 """
 
 from __future__ import annotations
 
 import ctypes
 
-from .hands import KINDS, NO_HAND, Discards, Shapes, discards, shapes
 from .library import CALLS, ROOMS
 from .records import answer, answers, explain, json, lines, text, texts
 from .values import Accepted, Answer, NoWin, NoYaku, Refused, Shape, Table, Waits, Won, Yaku
 
 __all__ = [
     *["Accepted", "Answer", "NoWin", "NoYaku", "Refused", "Shape", "Table", "Waits", "Won", "Yaku"],
-    *["KINDS", "NO_HAND", "Discards", "Shapes", "discards", "shapes"],
     *["answer", "answers", "explain", "json", "lines", "text", "texts", "version"],
 ]
 

@@ -11,19 +11,14 @@ from typing import Union
 Line = Union[str, bytes, bytearray, memoryview]
 """A line: a text, or its bytes. A line feed at its end is no part of it, nor a carriage return before that."""
 
-MOST_ANSWER = 3072
-MOST_JSON = 12288
-ROOM = 1 << 20
+MOST = 12288
+"""No answer takes more bytes."""
 
 _SIZE, _AT, _RULES = ctypes.c_size_t, ctypes.c_void_p, ctypes.c_uint32
 CALLS = ctypes.CDLL(os.environ.get("RIICHI_DESK", str(Path(__file__).with_name("libriichi_desk.so"))))
 _ARGUMENTS = {
     "riichi_version": [_AT, _SIZE],
     **dict.fromkeys(("riichi_answer", "riichi_json", "riichi_explain"), [_RULES, ctypes.c_char_p, _SIZE, _AT, _SIZE]),
-    **dict.fromkeys(("riichi_answer_lines", "riichi_json_lines"), [_RULES, _AT, _SIZE, _AT, _SIZE, ctypes.POINTER(_SIZE)]),
-    "riichi_answer_rows": [_RULES, *[_AT, _SIZE] * 4],
-    "riichi_shapes": [_AT, _SIZE] * 5,
-    "riichi_discards": [_AT, _SIZE] * 6,
 }
 for _name, _types in _ARGUMENTS.items():
     _call = getattr(CALLS, _name)
@@ -34,7 +29,7 @@ class _Rooms(threading.local):
     """For each thread the room that its calls answer into."""
 
     def __init__(self) -> None:
-        self.room = ctypes.create_string_buffer(ROOM)
+        self.room = ctypes.create_string_buffer(MOST)
 
 
 ROOMS = _Rooms()

@@ -1,5 +1,5 @@
-/* riichi_desk where a C compiler is: the commands explain, line and waits over riichi_desk.h, in C99 and with its library alone.
- *   cc -O2 riichi_desk.c riichi_desk_portable.c -o riichi_desk
+/* riichi_desk where the proved program has no home: the commands explain, line and waits over riichi_desk.h, in C99 with its library
+ * alone. Link it with the static library for the system, or with riichi_desk_portable.c.
  */
 #include "riichi_desk.h"
 #include <stdio.h>
