@@ -135,9 +135,15 @@ class Browser:
         return is_moved
 
     def swipe_to(self, selector: str) -> None:
-        """Moves the page by a finger until the element is seen."""
-        away = self.run(f"(() => {{ const box = document.querySelector({json.dumps(selector)}).getBoundingClientRect(); return box.y + box.height / 2 - innerHeight / 2; }})()")
-        self.ask("Input.synthesizeScrollGesture", x=100, y=300, yDistance=-away, speed=3000, gestureSourceType="touch")
+        """Moves the page by a finger until the element is about the middle of what is seen."""
+        box = f"document.querySelector({json.dumps(selector)}).getBoundingClientRect()"
+        away = self.run(f"{box}.y + {box}.height / 2 - innerHeight / 2")
+        start = 300 + away / 2
+        self.ask("Input.dispatchTouchEvent", type="touchStart", touchPoints=[{"x": 20, "y": start}])
+        for step in range(1, 11):
+            self.ask("Input.dispatchTouchEvent", type="touchMove", touchPoints=[{"x": 20, "y": start - away * step / 10}])
+        self.ask("Input.dispatchTouchEvent", type="touchEnd", touchPoints=[])
+        self.run("new Promise(done => setTimeout(done, 400))")
 
     def key(self, name: str, times: int = 1, is_back: bool = False) -> None:
         codes = {"Tab": 9, "Enter": 13, " ": 32, "Backspace": 8, "ArrowLeft": 37, "ArrowUp": 38, "ArrowRight": 39, "ArrowDown": 40}

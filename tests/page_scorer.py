@@ -13,13 +13,13 @@ WINS = {
     "closed, self-draw, riichi": "win 234567m345p6799s on=5s by=tsumo seat=S round=E riichi=1",
     "closed, ron, seven pairs": "win 1122m5588p3377s6z on=6z by=ron seat=W round=E riichi=1",
     "the dealer's, dora": "win 345678m234p5567s on=5s by=ron seat=E round=E riichi=1 dora=4m",
-    "one run called": "win 678p345s22s34p open=chi:345m on=2p by=ron seat=N round=E",
-    "two melds, dora": "win 34p99s567m open=pon:777z,chi:234m on=2p by=ron seat=S round=E dora=8s",
-    "closed kong, two indicators": "win 234m567p34s99m open=ankan:7777z on=5s by=tsumo seat=W round=S dora=1p3s",
+    "one run called": "win 34678p22345s open=chi:345m on=2p by=ron seat=N round=E",
+    "two melds, dora": "win 567m34p99s open=pon:777z,chi:234m on=2p by=ron seat=S round=E dora=8s",
+    "closed kong, two indicators": "win 23499m567p34s open=ankan:7777z on=5s by=tsumo seat=W round=S dora=1p3s",
     "four melds": "win 4z open=pon:111z,pon:999m,chi:789m,pon:666z on=4z by=ron seat=E round=S",
-    "self-draw after a kong": "win 345m67s22p open=kan:5555z,pon:888p on=8s by=tsumo seat=N round=E flags=rinshan",
-    "counters and sticks": "win 123m456m789m11p23s on=1s by=ron seat=S round=E riichi=1 counters=2 sticks=1",
-    "riichi, ippatsu, ura": "win 222m333p444s567s8s on=8s by=tsumo seat=W round=S riichi=1 flags=ippatsu dora=9m ura=7s",
+    "self-draw after a kong": "win 345m22p67s open=kan:5555z,pon:888p on=8s by=tsumo seat=N round=E flags=rinshan",
+    "counters and sticks": "win 123456789m11p23s on=1s by=ron seat=S round=E riichi=1 counters=2 sticks=1",
+    "riichi, ippatsu, ura": "win 222m333p4445678s on=8s by=tsumo seat=W round=S riichi=1 flags=ippatsu dora=9m ura=7s",
 }
 
 
@@ -100,12 +100,12 @@ def shape_with_discards(browser: Browser, rows: list[str]) -> None:
 def disputed_hand(browser: Browser, rows: list[str], folder: Path) -> None:
     """A hand is entered, put right, explained, named and shared; the page is loaded again, and the hand is there."""
     fresh(browser)
-    line = "win 99978m444p567s22s on=9m by=ron seat=S round=E riichi=1"
+    line = "win 78999m444p22567s on=9m by=ron seat=S round=E riichi=1"
     thumb = Scorer(browser)
     thumb.enter(line.replace("by=ron", "by=tsumo"))
     thumb.choose("by", "ron")
     thumb.tap("#why")
-    told("why", True, "8 concealed triplet" in browser.run("document.querySelector('#sheet .why:last-of-type').parentElement.innerText"))
+    told("why", True, "8 concealed triplet" in browser.run("document.querySelector('#sheet .answer .why').innerText"))
     browser.picture(folder / "disputed.png")
     browser.run("navigator.share = (parts) => { window.shared = parts; return Promise.resolve(); }")
     thumb.tap("#sheet-share")
