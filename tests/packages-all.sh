@@ -29,7 +29,7 @@ fi
 debs=$shelf/debs
 if has debootstrap lintian && [ -n "$(ls releases/*.deb 2> /dev/null)" ]; then
   mkdir "$debs" && cp releases/*.deb "$debs"
-  told 'lintian' '' "$(lintian --no-tag-display-limit "$debs"/*.deb 2>&1)"
+  told 'lintian' '' "$(lintian --tag-display-limit 0 "$debs"/*.deb 2> /dev/null)"
   base=$shelf/root
   debootstrap --variant=minbase --include=python3,gcc,libc6-dev,pkg-config bookworm "$base" > "$room/said" 2>&1
   cp "$debs"/*.deb "$wheel" examples/python/answer.py "$base/root"
