@@ -54,7 +54,7 @@ if [ -f "$archive_of" ]; then
     awk -v word="$1" '/^```/ { if (within && index(text, word)) printf "%s", text; within = !within; text = ""; next } within { text = text $0 "\n" }' "$unpacked/README.md"
   }
   for word in 'pip install' 'npm install' riichi_desk_portable.c; do
-    told "the README: $word" "$("$program" explain < examples/club-night.lines)" "$(cd "$unpacked" && bash -ec "$(printed "$word")" 2> "$room/said" | grep -v '^added ')"
+    told "the README: $word" "$("$program" explain < examples/club-night.lines)" "$(cd "$unpacked" && bash -ec "$(printed "$word")" 2> "$room/said" | grep -v '^added \|^found \|^$')"
   done
 else
   skip "the release's README" "$archive_of"
