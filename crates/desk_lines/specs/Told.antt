@@ -9,9 +9,9 @@ use Rattle.desk_lines.specs.Telling.{text_of, report_by}
 use Rattle.desk_lines.specs.Streams.{WritesAll, StopsWriting}
 
 -- These lines were answered. What of the answers was not written since the start is in the outbox.
-pub record Stands {W T : Type 0} (sink : OfSink W) (teller : OfTeller T) (start : W) (lines : List (List ℕ)) (told : Told T) (writer : W) : Type 0 where
+pub record Stands {W T : Type 0} (sink : OfSink W) (teller : OfTeller T) (start : W) (first : T) (lines : List (List ℕ)) (now : T) (told : Told) (writer : W) : Type 0 where
   pub answers : List (List ℕ)
-  pub tells : teller.tells told.teller lines answers
+  pub tells : teller.tells first now lines answers
   pub report : told.report ≡ report_by teller.refuses answers
   pub sent : List ℕ
   pub writes : WritesAll sink start writer sent
@@ -24,12 +24,12 @@ Stops sink old new Write text = StopsWriting sink old new text
 Stops sink old new Memory text = WritesAll sink old new text
 
 -- Of these lines only the first were answered, and their answers were written as far as that was possible.
-pub record StopsTelling {W T : Type 0} (sink : OfSink W) (teller : OfTeller T) (start new : W) (fault : DeskFault) (lines : List (List ℕ)) : Type 0 where
+pub record StopsTelling {W T : Type 0} (sink : OfSink W) (teller : OfTeller T) (start new : W) (first_state : T) (fault : DeskFault) (lines : List (List ℕ)) : Type 0 where
   pub first : List (List ℕ)
   pub others : List (List ℕ)
   pub parts : lines ≡ first ++ others
   pub last : T
   pub answers : List (List ℕ)
-  pub tells : teller.tells last first answers
+  pub tells : teller.tells first_state last first answers
   pub stops : Stops sink start new fault (text_of answers)
   pub wanted : fault ≡ Memory → (line : List ℕ) × teller.wants_memory last line

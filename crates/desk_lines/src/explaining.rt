@@ -13,7 +13,6 @@ use super::report::DeskReport;
 use super::responding::respond_text;
 use desk_streams::{Sink, Source};
 use riichi_hand::Rules;
-use std::marker::Brand;
 
 /// Answers the record lines that a reader gives as `desk_text` does, and writes behind each answer lines that begin
 /// with two spaces and say why it is so. Without these lines the text is that of `desk_text`. It takes no memory, and
@@ -52,5 +51,5 @@ pub fn explain_text<R: Source, W: Sink>(
     ensures no_memory { IsErrOf result DeskFault.Memory → ⊥ }
     ensures reads { IsReadWithin ⟦<R as Source>⟧ reader.old reader.new }
 {
-    respond_text::<Explained, Brand, R, W>(rules, reader, writer)
+    respond_text::<Explained, R, W>(rules, reader, writer)
 }

@@ -11,7 +11,6 @@ use super::report::DeskReport;
 use super::responding::respond_text;
 use desk_streams::{Sink, Source};
 use riichi_hand::Rules;
-use std::marker::Brand;
 
 /// Answers the record lines that a reader gives as `desk_text` does, but each by one object of JSON, those that are
 /// refused too. It takes no memory, and has no limit on the number of lines.
@@ -43,5 +42,5 @@ pub fn json_text<R: Source, W: Sink>(
     ensures no_memory { IsErrOf result DeskFault.Memory → ⊥ }
     ensures reads { IsReadWithin ⟦<R as Source>⟧ reader.old reader.new }
 {
-    respond_text::<Objects, Brand, R, W>(rules, reader, writer)
+    respond_text::<Objects, R, W>(rules, reader, writer)
 }

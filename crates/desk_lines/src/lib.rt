@@ -21,12 +21,13 @@
 //! ```
 #![tactic(auto)]
 
+mod answer_lines;
 mod answering;
 mod collecting;
-mod desk;
 mod explained;
 mod explaining;
 mod fault;
+mod first_line;
 mod json_lines;
 pub mod laws;
 mod line_buffer;
@@ -34,7 +35,6 @@ mod line_kind;
 mod objects;
 mod outbox;
 mod profile;
-mod reading;
 mod ready;
 mod records;
 mod replay;

@@ -6,7 +6,7 @@ ghost use Rattle.desk_lines.specs.Profile.{rules_by};
 
 use super::line_kind::LineKind;
 use super::outbox::Outbox;
-use super::profile::{GivenRules, record_rules};
+use super::profile::record_rules;
 use super::responder::Responder;
 use super::teller::Teller;
 use riichi_hand::Rules;
@@ -14,25 +14,23 @@ use std::alloc::AllocError;
 use std::marker::PhantomData;
 
 /// The teller of record lines: each is answered by itself, by one kind of answer, under the profile of its stream. It
-/// takes no memory. `A` is the kind of answer, and `P` stands for the given profile.
+/// takes no memory. `A` is the kind of answer.
 #[derive(Drop)]
-pub(crate) struct Records<A, P> {
+pub(crate) struct Records<A> {
     kind: PhantomData<A>,
-    profile: PhantomData<P>,
     /// The profile of a stream that sets none.
     given: Rules,
     /// The profile of the stream, or none before its first line.
     rules: Option<Rules>,
 }
 
-impl<A: Responder, P: GivenRules> Records<A, P> {
-    pub(crate) fn new(given: Rules) -> Records<A, P>
+impl<A: Responder> Records<A> {
+    pub(crate) fn new(given: Rules) -> Records<A>
         ensures given { result.given ≡ given }
         ensures rules { result.rules ≡ None }
     {
         Records {
             kind: PhantomData,
-            profile: PhantomData,
             given,
             rules: None,
         }
@@ -54,14 +52,14 @@ impl<A: Responder, P: GivenRules> Records<A, P> {
     }
 }
 
-impl<A: Responder, P: GivenRules> Teller for Records<A, P> {
+impl<A: Responder> Teller for Records<A> {
     ghost use Rattle.desk_lines.specs.Records.{TellsRecords};
 
     ghost refuses = { A.refuses };
 
     ghost most = { 4096 };
 
-    ghost tells = { λ records lines told. (records.given ≡ P.given) × TellsRecords A.may_tell records lines told };
+    ghost tells = { λ first now lines told. (now.given ≡ first.given) × TellsRecords A.may_tell now lines told };
 
     ghost wants_memory = { λ _ _. ⊥ };
 

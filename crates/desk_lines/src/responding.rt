@@ -5,28 +5,21 @@ ghost use Rattle.desk_lines.specs.Records.{AnswerRecords};
 ghost use Rattle.desk_lines.specs.Streams.{Gives, GivesAll, WritesAll, StopsWriting, AreWhole, FailsOrGoesOn, IsReadWithin};
 ghost use Rattle.desk_lines.specs.Telling.{text_of, report_by};
 
-use super::desk::Desk;
+use super::answer_lines::answer_lines;
 use super::fault::DeskFault;
-use super::profile::GivenRules;
-use super::reading::tell_lines;
 use super::records::Records;
 use super::report::DeskReport;
 use super::responder::Responder;
 use desk_streams::{Sink, Source};
 use riichi_hand::Rules;
 
-/// A record line of 4,096 bytes and its carriage return fit. One byte more shows a longer line.
-pub(crate) const RECORD_ROOM: usize = 4_098;
-
 /// Answers the record lines that a reader gives by the kind of answer `A`, under the profile that the first line sets, or
-/// else the given one, for which `P` stands.
-pub(crate) fn respond_text<A: Responder, P: GivenRules, R: Source, W: Sink>(
+/// else the given one.
+pub(crate) fn respond_text<A: Responder, R: Source, W: Sink>(
     rules: Rules,
     reader: &mut R,
     writer: &mut W,
 ) -> Result<DeskReport, DeskFault>
-    requires { rules ≡ P.given }
-
     // The reader was read to its end, and the answers to what it gave were written.
     ensures ok { IfOk result (λ report. (text : List ℕ) × (told : List (List ℕ))
         × GivesAll ⟦<R as Source>⟧ reader.old reader.new text
@@ -54,7 +47,6 @@ pub(crate) fn respond_text<A: Responder, P: GivenRules, R: Source, W: Sink>(
     ensures no_memory { IsErrOf result DeskFault.Memory → ⊥ }
     ensures reads { IsReadWithin ⟦<R as Source>⟧ reader.old reader.new }
 {
-    let desk: Desk<Records<A, P>, RECORD_ROOM> = Desk::new(Records::new(rules));
-    let told = tell_lines(desk, reader, writer)?;
-    Ok(told.report())
+    let mut records: Records<A> = Records::new(rules);
+    answer_lines(&mut records, reader, writer)
 }

@@ -15,8 +15,8 @@ pub(crate) trait Teller {
     /// Lines of more bytes are answered alike.
     ghost most: { ℕ };
 
-    /// It has taken these lines and given them these answers, in order.
-    ghost tells: { Self → List (List ℕ) → List (List ℕ) → Type 0 };
+    /// From the first state to the second it has taken these lines and given them these answers, in order.
+    ghost tells: { Self → Self → List (List ℕ) → List (List ℕ) → Type 0 };
 
     /// Memory may be wanted for this line.
     ghost wants_memory: { Self → List ℕ → Type 0 };

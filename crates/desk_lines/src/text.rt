@@ -10,7 +10,6 @@ use super::report::DeskReport;
 use super::responding::respond_text;
 use desk_streams::{Sink, Source};
 use riichi_hand::Rules;
-use std::marker::Brand;
 
 /// Answers the record lines that a reader gives, one line for each, under the profile that the first line sets, or
 /// else the given one. It reads and writes in large pieces; the answers to all lines that have ended are written
@@ -43,5 +42,5 @@ pub fn desk_text<R: Source, W: Sink>(
     ensures no_memory { IsErrOf result DeskFault.Memory → ⊥ }
     ensures reads { IsReadWithin ⟦<R as Source>⟧ reader.old reader.new }
 {
-    respond_text::<Plain, Brand, R, W>(rules, reader, writer)
+    respond_text::<Plain, R, W>(rules, reader, writer)
 }

@@ -3,7 +3,7 @@ use Rattle.std.proofs.lemmas.Bool.{eqb-true}
 use Rattle.std.proofs.lemmas.List.{take_all}
 use Rattle.riichi_tiles.proofs.CutLemmas.{around}
 use Rattle.desk_lines.proofs.LineLemmas.{plain-before}
-use Rattle.desk_lines.proofs.desk.cut_line.Goals as goal
+use Rattle.desk_lines.proofs.first_line.cut_text.Goals as goal
 
 pub returns-in-None : goal.returns-in-None
 returns-in-None c =
