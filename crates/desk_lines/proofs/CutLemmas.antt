@@ -69,6 +69,11 @@ as_front most (line ∷ lines) more (other ∷ next) are =
     let parts = as_front most lines more next are.1 in
     (other ∷ parts.0, parts.1, ap (λ all. other ∷ all) parts.2, (are.0, parts.3), parts.4)
 
+-- a line that may have the answer of the first
+pub as_first : (most : ℕ) (line : List ℕ) (lines next : List (List ℕ)) → AreToldAs most (line ∷ lines) next → (other : List ℕ) × (others : List (List ℕ)) × (next ≡ other ∷ others) × IsToldAs most line other
+as_first most line lines [] are = absurd are
+as_first most line lines (other ∷ others) are = (other, others, refl, are.0)
+
 as_one : (most : ℕ) (line : List ℕ) (next : List (List ℕ)) → AreToldAs most (line ∷ []) next → (other : List ℕ) × (next ≡ other ∷ []) × IsToldAs most line other
 as_one most line [] are = absurd are
 as_one most line (other ∷ []) are = (other, refl, are.0)

@@ -1,5 +1,5 @@
 -- The answers to a stream once one more line of it is answered.
-use Rattle.std.proofs.Common.{◌≡◌, ℕ, List, [], ◌∷◌, ◌++◌, sym, subst, ◌∙◌, ap, append_assoc}
+use Rattle.std.proofs.Common.{◌≡◌, ℕ, List, [], ◌∷◌, ◌++◌, refl, sym, subst, ◌∙◌, ap, append_assoc}
 use Rattle.std.proofs.lemmas.List.{append-nil}
 use Rattle.desk_streams.specs.declared.sink.Sink.{Ghosts as OfSink}
 use Rattle.desk_lines.specs.declared.told.Told.{Told}
@@ -7,7 +7,7 @@ use Rattle.desk_lines.specs.declared.teller.Teller.{Ghosts as OfTeller}
 use Rattle.desk_lines.specs.declared.fault.DeskFault.{DeskFault}
 use Rattle.desk_lines.specs.declared.fault.DeskFault.TheVariants.{Write, Memory}
 use Rattle.desk_lines.specs.declared.line_kind.LineKind.{LineKind}
-use Rattle.desk_lines.specs.Told.{Stands, Stops, StopsTelling}
+use Rattle.desk_lines.specs.Told.{Stands, Stops, WantsNext, StopsTelling}
 use Rattle.desk_lines.specs.Streams.{WritesAll, StopsWriting}
 use Rattle.desk_lines.specs.Telling.{text_of, with_line_feed, report_by, report_with, answers_in, AnswersLine, IsToldAs}
 use Rattle.desk_lines.proofs.TellingLemmas.{text_of-more, report_by-more}
@@ -50,13 +50,13 @@ module _ {W A : Type 0} (sink : OfSink W) (teller : OfTeller A) (start : W) (fir
   Stands-written lines now answered writer stands empty =
       subst (λ (all : List ℕ). WritesAll sink start writer all) (sym (ap (λ rest. stands.sent ++ rest) empty ∙ append-nil stands.sent) ∙ stands.text) stands.writes
 
-  -- all lines were answered, and the writing of the last answers stopped
-  given_up : (after : W) (lines : List (List ℕ)) (now : A) (answered : Told) (writer : W) (fault : DeskFault) (stands : Stands sink teller start first lines now answered writer) → Stops sink start after fault (text_of stands.answers)
-      → (fault ≡ Memory → (line : List ℕ) × teller.wants_memory now line) → StopsTelling sink teller start after first fault lines
-  given_up after lines now answered writer fault stands stops wanted = record {
+  -- these lines were answered and others were not, and the writing of the last answers stopped
+  given_up : (after : W) (lines others : List (List ℕ)) (now : A) (answered : Told) (writer : W) (fault : DeskFault) (stands : Stands sink teller start first lines now answered writer) → Stops sink start after fault (text_of stands.answers)
+      → (fault ≡ Memory → WantsNext teller now others) → StopsTelling sink teller start after first fault (lines ++ others)
+  given_up after lines others now answered writer fault stands stops wanted = record {
     first = lines;
-    others = [];
-    parts = sym (append-nil lines);
+    others = others;
+    parts = refl;
     last = now;
     answers = stands.answers;
     tells = stands.tells;
@@ -65,18 +65,18 @@ module _ {W A : Type 0} (sink : OfSink W) (teller : OfTeller A) (start : W) (fir
   }
 
   -- the outbox could not be written
-  pub Stands-stops : (lines : List (List ℕ)) (now : A) (old : Told) (writer after : W) → Stands sink teller start first lines now old writer
-      → StopsWriting sink writer after old.outbox.bytes.items → StopsTelling sink teller start after first Write lines
-  Stands-stops lines now old writer after stands stops =
-      given_up after lines now old writer Write stands (subst (λ (all : List ℕ). StopsWriting sink start after all) stands.text
+  pub Stands-stops : (lines others : List (List ℕ)) (now : A) (old : Told) (writer after : W) → Stands sink teller start first lines now old writer
+      → StopsWriting sink writer after old.outbox.bytes.items → StopsTelling sink teller start after first Write (lines ++ others)
+  Stands-stops lines others now old writer after stands stops =
+      given_up after lines others now old writer Write stands (subst (λ (all : List ℕ). StopsWriting sink start after all) stands.text
       (StopsWriting-after sink start writer after stands.sent old.outbox.bytes.items stands.writes stops)) (λ is. cc)
 
   -- memory was wanted, and the outbox was written
-  pub Stands-no_memory : (lines : List (List ℕ)) (now : A) (old : Told) (writer after : W) → Stands sink teller start first lines now old writer
-      → WritesAll sink writer after old.outbox.bytes.items → (line : List ℕ) → teller.wants_memory now line → StopsTelling sink teller start after first Memory lines
-  Stands-no_memory lines now old writer after stands writes line wants =
-      given_up after lines now old writer Memory stands (subst (λ (all : List ℕ). WritesAll sink start after all) stands.text
-      (WritesAll-trans sink start writer after stands.sent old.outbox.bytes.items stands.writes writes)) (λ is. (line, wants))
+  pub Stands-no_memory : (lines : List (List ℕ)) (now : A) (old : Told) (writer after : W) (line next : List ℕ) → IsToldAs teller.most line next → Stands sink teller start first lines now old writer
+      → WritesAll sink writer after old.outbox.bytes.items → teller.wants_memory now line → StopsTelling sink teller start after first Memory (lines ++ next ∷ [])
+  Stands-no_memory lines now old writer after line next as_this stands writes wants =
+      given_up after lines (next ∷ []) now old writer Memory stands (subst (λ (all : List ℕ). WritesAll sink start after all) stands.text
+      (WritesAll-trans sink start writer after stands.sent old.outbox.bytes.items stands.writes writes)) (λ is. (line, next, [], refl, as_this, wants))
 
   -- more lines follow those that were given up
   pub StopsTelling-more : (after : W) (fault : DeskFault) (lines more : List (List ℕ)) → StopsTelling sink teller start after first fault lines → StopsTelling sink teller start after first fault (lines ++ more)
@@ -88,5 +88,7 @@ module _ {W A : Type 0} (sink : OfSink W) (teller : OfTeller A) (start : W) (fir
     answers = stops.answers;
     tells = stops.tells;
     stops = stops.stops;
-    wanted = stops.wanted;
+    wanted = λ is.
+        let next = stops.wanted is in
+        (next.0, next.1, next.2 ++ more, ap (λ all. all ++ more) next.3, next.4, next.5);
   }

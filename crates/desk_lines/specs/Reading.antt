@@ -1,5 +1,5 @@
 -- What one read gave, behind the front of a line that was held.
-use Rattle.std.specs.Prelude.{◌≡◌, ℕ, ◌<◌, List, [], ◌∷◌, ◌++◌, Bool, true, false, take}
+use Rattle.std.specs.Prelude.{◌≡◌, ℕ, ◌+◌, List, [], ◌∷◌, ◌++◌, Bool, true, false, take}
 use Rattle.std.specs.Io.KnownBytes.{IsAtEnd}
 use Rattle.desk_streams.specs.declared.sink.Sink.{Ghosts as OfSink}
 use Rattle.desk_streams.specs.declared.source.Source.{Ghosts as OfSource}
@@ -8,7 +8,7 @@ use Rattle.desk_lines.specs.declared.fault.DeskFault.{DeskFault}
 use Rattle.desk_lines.specs.Told.{StopsTelling}
 use Rattle.desk_lines.specs.Lines.{cut_of}
 use Rattle.desk_lines.specs.Telling.{IsToldAs}
-use Rattle.desk_lines.specs.Streams.{Gives, AreWhole}
+use Rattle.desk_lines.specs.Streams.{Gives, FailsOnce, AreWhole}
 
 -- a line that goes on is ended
 abbrev pub with_end : List ℕ → List ℕ
@@ -22,7 +22,7 @@ at_hand held bytes false = held ++ bytes
 
 -- the reader has ended: it gave nothing
 abbrev pub IsEnd : {R : Type 0} → OfSource R → R → R → List ℕ → Bool → Type 0
-IsEnd source old new bytes true = (bytes ≡ []) × source.is_ended new × IsAtEnd (source.left new)
+IsEnd source old new bytes true = (bytes ≡ []) × source.is_ended new × IsAtEnd (source.left new) × (source.ends new ≡ source.ends old + 1)
 IsEnd source old new bytes false = source.ends new ≡ source.ends old
 
 -- One read gave these bytes, or found the end.
@@ -36,7 +36,7 @@ pub record IsRead {R : Type 0} (source : OfSource R) (old new : R) (held text : 
 -- a read failed, and gave nothing
 pub record FailsAgain {R : Type 0} (source : OfSource R) (old new : R) : Type 0 where
   pub gives : Gives source old new []
-  pub failed : source.failures old < source.failures new
+  pub once : FailsOnce source old new
 
 -- Of the whole lines of a text that the reader gave the first were answered.
 abbrev pub IsStopped : {R W A : Type 0} → OfSource R → OfSink W → OfTeller A → R → R → W → W → A → DeskFault → Type 0

@@ -54,6 +54,8 @@ pub(crate) fn answer_lines<T: Teller, R: Source, W: Sink>(
     ensures no_memory { IsErrOf result DeskFault.Memory
         → IsStopped ⟦<R as Source>⟧ ⟦<W as Sink>⟧ ⟦<T as Teller>⟧ reader.old reader.new writer.old writer.new teller.old DeskFault.Memory }
 
+    // A failed read is told as such, whatever comes after it. So what is said of a failed read is so before each read.
+    ensures told_as_read { (IsErrOf result DeskFault.Read → ⊥) → R.failures reader.new ≡ R.failures reader.old }
     ensures reads { IsReadWithin ⟦<R as Source>⟧ reader.old reader.new }
 {
     let mut room = [0; ROOM];

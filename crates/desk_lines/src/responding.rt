@@ -45,6 +45,8 @@ pub(crate) fn respond_text<A: Responder, R: Source, W: Sink>(
         × StopsWriting ⟦<W as Sink>⟧ writer.old writer.new (text_of told) }
 
     ensures no_memory { IsErrOf result DeskFault.Memory → ⊥ }
+    // A failed read is told as such, whatever comes after it. So what is said of a failed read is so before each read.
+    ensures told_as_read { (IsErrOf result DeskFault.Read → ⊥) → R.failures reader.new ≡ R.failures reader.old }
     ensures reads { IsReadWithin ⟦<R as Source>⟧ reader.old reader.new }
 {
     let mut records: Records<A> = Records::new(rules);

@@ -83,9 +83,10 @@ impl Told {
             → IsToldAs T.most line.now next
             → Stands ⟦<W as Sink>⟧ ⟦<T as Teller>⟧ start first lines teller.old self.old writer.old
             → Stands ⟦<W as Sink>⟧ ⟦<T as Teller>⟧ start first (lines ++ next ∷ []) teller.new self.new writer.new) }
-        ensures stops { IfErr result (λ fault. (start : W) (first : T) (lines : List (List ℕ))
+        ensures stops { IfErr result (λ fault. (start : W) (first : T) (lines : List (List ℕ)) (next : List ℕ)
+            → IsToldAs T.most line.now next
             → Stands ⟦<W as Sink>⟧ ⟦<T as Teller>⟧ start first lines teller.old self.old writer.old
-            → StopsTelling ⟦<W as Sink>⟧ ⟦<T as Teller>⟧ start writer.new first fault lines) }
+            → StopsTelling ⟦<W as Sink>⟧ ⟦<T as Teller>⟧ start writer.new first fault (lines ++ next ∷ [])) }
         ensures count { count_of self.new.report ≤ count_of self.old.report + 1 }
     {
         if !self.outbox.has_room() {

@@ -80,7 +80,8 @@ returns-in_err-flush-clause-write_failed g c is =
     let before = ended_lines c.loop-turn.invariant.0 in
     let stands = c.in_ok-rest.ensures.stands c.args.writer.now c.args.teller.now before all.2 all.6 c.loop-turn.invariant.1.stands in
     stopped g here c.flush.new.writer Write
-    (Stands-stops g.W.Sink g.T.Teller c.args.writer.now c.args.teller.now (before ++ all.2) c.add_lines.new.teller c.add_lines.new.self c.add_lines.new.writer c.flush.new.writer stands c.in_err-flush.ensures.writes.1)
+    (subst (λ (ls : List (List ℕ)). StopsTelling g.W.Sink g.T.Teller c.args.writer.now c.flush.new.writer c.args.teller.now Write ls) (append-nil (before ++ all.2))
+    (Stands-stops g.W.Sink g.T.Teller c.args.writer.now c.args.teller.now (before ++ all.2) [] c.add_lines.new.teller c.add_lines.new.self c.add_lines.new.writer c.flush.new.writer stands c.in_err-flush.ensures.writes.1))
 
 pub returns-then-is_end-clause-ok : goal.returns-then-is_end-clause-ok
 returns-then-is_end-clause-ok g c =
@@ -97,7 +98,7 @@ returns-then-is_end-clause-ok g c =
     let stands = Stands-flushed sink teller c.args.writer.now c.args.teller.now (lines text) c.add_lines.new.teller c.add_lines.new.self c.flush.new.self c.add_lines.new.writer c.flush.new.writer added c.in_ok-flush.ensures.writes c.flush.ensures.report c.in_ok-flush.ensures.empty in (
       text,
       stands.answers,
-      record { gives = end.0; ended = read.end.1; none_left = read.end.2; not_failed = read.not_failed ∙ so_far.reads },
+      record { gives = end.0; ended = read.end.1; found = let once = read.end.3 in let before = so_far.ends in omega arith; none_left = read.end.2; not_failed = read.not_failed ∙ so_far.reads },
       stands.tells,
       Stands-written sink teller c.args.writer.now c.args.teller.now (lines text) c.add_lines.new.teller c.flush.new.self c.flush.new.writer stands c.in_ok-flush.ensures.empty,
       c.report.ensures ∙ stands.report,

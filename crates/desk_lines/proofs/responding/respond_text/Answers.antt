@@ -28,4 +28,4 @@ returns-clause-write_failed g c is =
     (stopped.0, stopped.1, stops.first, stops.others, stops.answers, stopped.2, stopped.3, stops.parts, told, stops.stops)
 
 pub returns-clause-no_memory : goal.returns-clause-no_memory
-returns-clause-no_memory g c is = let stopped = c.answer_lines.ensures.no_memory is in (stopped.4.wanted refl).1
+returns-clause-no_memory g c is = let stopped = c.answer_lines.ensures.no_memory is in (stopped.4.wanted refl).5

@@ -1,4 +1,4 @@
-use Rattle.std.proofs.Common.{List, ℕ, subst}
+use Rattle.std.proofs.Common.{List, [], ◌∷◌, ℕ, subst}
 use Rattle.std.proofs.lemmas.Result.{err_from_is_err_and}
 use Rattle.desk_lines.specs.Told.{Stands}
 use Rattle.desk_lines.specs.Streams.{WritesAll, StopsWriting}
@@ -21,8 +21,8 @@ pub returns-in_err-flush-clause-stops : goal.returns-in_err-flush-clause-stops
 returns-in_err-flush-clause-stops g c =
     let p = err_from_is_err_and c.from_residual.result c.from_residual.ensures.1 in
     let stops = c.in_err-flush.ensures.writes in
-    rw (p.1, p.2, stops.0) (λ start first lines stands.
-    Stands-stops g.W.Sink g.T.Teller start first lines c.args.teller.now c.args.self.now c.args.writer.now c.flush.new.writer stands stops.1)
+    rw (p.1, p.2, stops.0) (λ start first lines next as_this stands.
+    Stands-stops g.W.Sink g.T.Teller start first lines (next ∷ []) c.args.teller.now c.args.self.now c.args.writer.now c.flush.new.writer stands stops.1)
 
 pub returns-in-Ok-clause-stands : goal.returns-in-Ok-clause-stands
 returns-in-Ok-clause-stands g c start first lines next as_this stands =
@@ -35,13 +35,13 @@ returns-in_err-flush-in-Err-clause-stops g c =
     let p = err_from_is_err_and c.from_residual-in_err-flush-in-Err.result c.from_residual-in_err-flush-in-Err.ensures.1 in
     let stops = c.in_err-flush-in-Err.ensures.writes in
     let same = c.in-Err.ensures.err.0 in
-    rw (p.1, p.2, stops.0) (λ start first lines stands.
-    Stands-stops g.W.Sink g.T.Teller start first lines c.args.teller.now c.if-not-has_room.self c.if-not-has_room.writer c.flush-in-Err.new.writer (stood g (goal.at.returns-in_err-flush-in-Err-clause-stops g c).After-take start first lines stands)
+    rw (p.1, p.2, stops.0) (λ start first lines next as_this stands.
+    Stands-stops g.W.Sink g.T.Teller start first lines (next ∷ []) c.args.teller.now c.if-not-has_room.self c.if-not-has_room.writer c.flush-in-Err.new.writer (stood g (goal.at.returns-in_err-flush-in-Err-clause-stops g c).After-take start first lines stands)
     (subst (λ (text : List ℕ). StopsWriting g.W.Sink c.if-not-has_room.writer c.flush-in-Err.new.writer text) same stops.1))
 
 -- memory was wanted, and the answers before were written
 pub returns-in_ok-flush-in-Err-clause-stops : goal.returns-in_ok-flush-in-Err-clause-stops
-returns-in_ok-flush-in-Err-clause-stops g c start first lines stands =
+returns-in_ok-flush-in-Err-clause-stops g c start first lines next as_this stands =
     let err = c.in-Err.ensures.err in
-    Stands-no_memory g.W.Sink g.T.Teller start first lines c.args.teller.now c.if-not-has_room.self c.if-not-has_room.writer c.flush-in-Err.new.writer (stood g (goal.at.returns-in_ok-flush-in-Err-clause-stops g c).After-take start first lines stands)
-    (subst (λ (text : List ℕ). WritesAll g.W.Sink c.if-not-has_room.writer c.flush-in-Err.new.writer text) err.0 c.in_ok-flush-in-Err.ensures.writes) c.args.line.now err.1
+    Stands-no_memory g.W.Sink g.T.Teller start first lines c.args.teller.now c.if-not-has_room.self c.if-not-has_room.writer c.flush-in-Err.new.writer c.args.line.now next as_this (stood g (goal.at.returns-in_ok-flush-in-Err-clause-stops g c).After-take start first lines stands)
+    (subst (λ (text : List ℕ). WritesAll g.W.Sink c.if-not-has_room.writer c.flush-in-Err.new.writer text) err.0 c.in_ok-flush-in-Err.ensures.writes) err.1
