@@ -12,6 +12,7 @@ use super::report::DeskReport;
 use super::teller::Teller;
 use super::told::Told;
 use desk_streams::{Sink, Source};
+use riichi_shape::RowSource;
 
 /// The longest front of a line that is kept: two bytes more than the longest line that is looked at, a carriage return
 /// and one byte that shows a longer line.
@@ -25,8 +26,9 @@ const MOST_READS: u64 = 4_294_967_295;
 
 /// Has the lines that a reader gives told, to its end. It reads and
 /// writes in large pieces; the answers to all lines that have ended are written before it reads again.
-pub(crate) fn answer_lines<T: Teller, R: Source, W: Sink>(
+pub(crate) fn answer_lines<T: Teller, S: RowSource, R: Source, W: Sink>(
     teller: &mut T,
+    source: &mut S,
     reader: &mut R,
     writer: &mut W,
 ) -> Result<DeskReport, DeskFault>
@@ -63,7 +65,7 @@ pub(crate) fn answer_lines<T: Teller, R: Source, W: Sink>(
     let mut told = Told::new();
     for turn in 0..MOST_READS {
         let (len, is_end) = read_behind(held.as_slice(), &mut room, reader)?;
-        let rest = told.add_lines(&room[..len], teller, writer)?;
+        let rest = told.add_lines(&room[..len], teller, source, writer)?;
         told.flush(writer)?;
         if is_end {
             return Ok(told.report());

@@ -20,6 +20,7 @@ use super::sheets::Sheets;
 use super::teller::Teller;
 use desk_streams::{BytesOut, Source};
 use riichi_hand::{Rules, read_line};
+use riichi_shape::{FreshRows, RowSource};
 use std::alloc::{AllocError, Global};
 
 /// What the text of a table asks.
@@ -55,7 +56,7 @@ pub fn collect_text<R: Source>(
         return Err(DeskFault::Memory);
     };
     let mut nowhere: BytesOut<0> = BytesOut::new(1, None);
-    answer_lines(&mut collector, reader, &mut nowhere)?;
+    answer_lines(&mut collector, &mut FreshRows, reader, &mut nowhere)?;
     all_collected(collector)
 }
 
@@ -183,7 +184,7 @@ impl Teller for Collector {
 
     ghost wants_memory = { λ _ _. Unit {0} };
 
-    fn tell(&mut self, line: &[u8], _outbox: &mut Outbox) -> Result<LineKind, AllocError> {
+    fn tell<S: RowSource>(&mut self, line: &[u8], _outbox: &mut Outbox, _source: &mut S) -> Result<LineKind, AllocError> {
         self.take_line(line)?;
         Ok(LineKind::NoRecord)
     }

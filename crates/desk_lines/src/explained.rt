@@ -23,6 +23,7 @@ use riichi_hand::{
     HandRecord, Job, LineFault, Rules, ShapeRecord, WinRecord, fault_text, read_line,
 };
 use riichi_score::push_win;
+use riichi_shape::RowSource;
 use riichi_waits::{explain_waits, push_waits_line};
 
 /// The explained answers: that of a line, and behind it lines that begin with two spaces and say why it is so.
@@ -39,11 +40,11 @@ impl Responder for Explained {
 
     ghost alike = { explanations_alike };
 
-    fn respond(rules: Rules, line: &[u8], outbox: &mut Outbox) -> LineKind {
+    fn respond<S: RowSource>(rules: Rules, line: &[u8], outbox: &mut Outbox, source: &mut S) -> LineKind {
         match read_line(rules, line) {
             Ok(None) => LineKind::NoRecord,
             Ok(Some(job)) => {
-                put_job(&job, outbox);
+                put_job(&job, outbox, source);
                 LineKind::Answered
             }
             Err(fault) => {
@@ -55,7 +56,7 @@ impl Responder for Explained {
 }
 
 /// Puts the answer to a job into the outbox, and why it is so.
-fn put_job(job: &Job, outbox: &mut Outbox)
+fn put_job<S: RowSource>(job: &Job, outbox: &mut Outbox, source: &mut S)
     requires { HasRoom outbox.old }
     ensures { (why : List ℕ) × IsJobText job.now why
         × (outbox.new.bytes.items ≡ outbox.old.bytes.items ++ ((answer_text (value_of job.now) ++ 10 ∷ []) ++ why)) }
@@ -63,7 +64,7 @@ fn put_job(job: &Job, outbox: &mut Outbox)
     match job {
         Job::Win(win) => put_win(win, outbox),
         Job::Waits(hand) => put_kinds(hand, outbox),
-        Job::Shape(tiles) => put_forms(tiles, outbox),
+        Job::Shape(tiles) => put_forms(tiles, outbox, source),
     }
 }
 
@@ -92,12 +93,12 @@ fn put_kinds(hand: &HandRecord, outbox: &mut Outbox)
     outbox.put_lines();
 }
 
-fn put_forms(tiles: &ShapeRecord, outbox: &mut Outbox)
+fn put_forms<S: RowSource>(tiles: &ShapeRecord, outbox: &mut Outbox, source: &mut S)
     requires { HasRoom outbox.old }
     ensures { (why : List ℕ) × IsShapeText tiles.now why
         × (outbox.new.bytes.items ≡ outbox.old.bytes.items ++ ((spec_shape.text_of (shape_of tiles.now) ++ 10 ∷ []) ++ why)) }
 {
-    put_shape(tiles, outbox);
+    put_shape(tiles, outbox, source);
     outbox.text.clear();
     push_shanten_line(&mut outbox.text, &explain_shape(tiles));
     outbox.put_lines();

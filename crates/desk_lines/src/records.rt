@@ -10,6 +10,7 @@ use super::profile::record_rules;
 use super::responder::Responder;
 use super::teller::Teller;
 use riichi_hand::Rules;
+use riichi_shape::RowSource;
 use std::alloc::AllocError;
 use std::marker::PhantomData;
 
@@ -37,7 +38,7 @@ impl<A: Responder> Records<A> {
     }
 
     /// Answers the next line.
-    fn put_line(&mut self, line: &[u8], outbox: &mut Outbox) -> LineKind
+    fn put_line<S: RowSource>(&mut self, line: &[u8], outbox: &mut Outbox, source: &mut S) -> LineKind
         requires { HasRoom outbox.old }
         ensures given { self.new.given ≡ self.old.given }
         ensures rules { self.new.rules ≡ Some (rules_by self.old.given self.old.rules line.now) }
@@ -46,7 +47,7 @@ impl<A: Responder> Records<A> {
             outbox.old.bytes.items outbox.new.bytes.items }
     {
         match record_rules(self.given, &mut self.rules, line) {
-            Some(rules) => A::respond(rules, line, outbox),
+            Some(rules) => A::respond(rules, line, outbox, source),
             None => LineKind::NoRecord,
         }
     }
@@ -63,7 +64,7 @@ impl<A: Responder> Teller for Records<A> {
 
     ghost wants_memory = { λ _ _. ⊥ };
 
-    fn tell(&mut self, line: &[u8], outbox: &mut Outbox) -> Result<LineKind, AllocError> {
-        Ok(self.put_line(line, outbox))
+    fn tell<S: RowSource>(&mut self, line: &[u8], outbox: &mut Outbox, source: &mut S) -> Result<LineKind, AllocError> {
+        Ok(self.put_line(line, outbox, source))
     }
 }

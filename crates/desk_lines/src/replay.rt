@@ -8,6 +8,7 @@ ghost use Rattle.desk_lines.specs.Streams.{Gives, GivesAll, WritesAll, StopsWrit
 
 use super::answer_lines::answer_lines;
 use super::fault::DeskFault;
+use super::kept_rows::KeptRows;
 use super::report::DeskReport;
 use desk_script::Script;
 use desk_streams::{Sink, Source};
@@ -62,5 +63,5 @@ pub fn replay_text<R: Source, W: Sink>(
         Ok(script) => script,
         Err(_) => return Err(DeskFault::Memory),
     };
-    answer_lines(&mut script, reader, writer)
+    answer_lines(&mut script, &mut KeptRows::new(alloc), reader, writer)
 }

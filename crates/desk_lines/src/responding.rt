@@ -12,10 +12,12 @@ use super::report::DeskReport;
 use super::responder::Responder;
 use desk_streams::{Sink, Source};
 use riichi_hand::Rules;
+use riichi_shape::RowSource;
 
 /// Answers the record lines that a reader gives by the kind of answer `A`, under the profile that the first line sets, or
 /// else the given one.
-pub(crate) fn respond_text<A: Responder, R: Source, W: Sink>(
+pub(crate) fn respond_text<A: Responder, S: RowSource, R: Source, W: Sink>(
+    source: &mut S,
     rules: Rules,
     reader: &mut R,
     writer: &mut W,
@@ -50,5 +52,5 @@ pub(crate) fn respond_text<A: Responder, R: Source, W: Sink>(
     ensures reads { IsReadWithin ⟦<R as Source>⟧ reader.old reader.new }
 {
     let mut records: Records<A> = Records::new(rules);
-    answer_lines(&mut records, reader, writer)
+    answer_lines(&mut records, source, reader, writer)
 }

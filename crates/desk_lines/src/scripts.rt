@@ -7,6 +7,7 @@ use super::line_kind::LineKind;
 use super::outbox::Outbox;
 use super::teller::Teller;
 use desk_script::Script;
+use riichi_shape::RowSource;
 use std::alloc::AllocError;
 
 impl Teller for Script {
@@ -21,8 +22,8 @@ impl Teller for Script {
 
     ghost wants_memory = { λ _ _. Unit {0} };
 
-    fn tell(&mut self, line: &[u8], outbox: &mut Outbox) -> Result<LineKind, AllocError> {
-        match self.answer(line)? {
+    fn tell<S: RowSource>(&mut self, line: &[u8], outbox: &mut Outbox, source: &mut S) -> Result<LineKind, AllocError> {
+        match self.answer_with(source, line)? {
             None => Ok(LineKind::NoRecord),
             Some(text) => Ok(put_text(text.as_str().as_bytes(), outbox)),
         }

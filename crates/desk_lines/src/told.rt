@@ -14,6 +14,7 @@ use super::outbox::Outbox;
 use super::report::DeskReport;
 use super::teller::Teller;
 use desk_streams::Sink;
+use riichi_shape::RowSource;
 use std::alloc::AllocError;
 
 /// The answers to a stream so far: a count of them, and those that are not written yet.
@@ -44,10 +45,11 @@ impl Told {
     }
 
     /// Answers the lines of a text that have ended, and returns what comes after them.
-    pub(crate) fn add_lines<'a, T: Teller, W: Sink>(
+    pub(crate) fn add_lines<'a, T: Teller, S: RowSource, W: Sink>(
         &mut self,
         text: &'a [u8],
         teller: &mut T,
+        source: &mut S,
         writer: &mut W,
     ) -> Result<&'a [u8], DeskFault>
         requires count { count_of self.old.report + length text.now < 2 ^ 64 }
@@ -64,7 +66,7 @@ impl Told {
     {
         let mut rest = text;
         while let Some((line, after)) = first_line(rest) {
-            self.add(line, teller, writer)?;
+            self.add(line, teller, source, writer)?;
             rest = after;
         }
         Ok(rest)
@@ -72,10 +74,11 @@ impl Told {
 
     /// Answers the next line. The answers that stand in the way of its own are written first, and where memory is wanted
     /// all that were given before.
-    fn add<T: Teller, W: Sink>(
+    fn add<T: Teller, S: RowSource, W: Sink>(
         &mut self,
         line: &[u8],
         teller: &mut T,
+        source: &mut S,
         writer: &mut W,
     ) -> Result<(), DeskFault>
         requires { count_of self.old.report + 1 < 2 ^ 64 }
@@ -92,7 +95,7 @@ impl Told {
         if !self.outbox.has_room() {
             self.flush(writer)?;
         }
-        match self.take(line, teller) {
+        match self.take(line, teller, source) {
             Ok(()) => Ok(()),
             Err(_) => {
                 self.outbox.flush(writer)?;
@@ -111,7 +114,7 @@ impl Told {
     }
 
     /// Answers the next line, where there is room for any answer.
-    fn take<T: Teller>(&mut self, line: &[u8], teller: &mut T) -> Result<(), AllocError>
+    fn take<T: Teller, S: RowSource>(&mut self, line: &[u8], teller: &mut T, source: &mut S) -> Result<(), AllocError>
         requires room { HasRoom self.old.outbox }
         requires count { count_of self.old.report + 1 < 2 ^ 64 }
         ensures told { OnOk result ((kind : LineKind)
@@ -121,7 +124,7 @@ impl Told {
             × T.wants_memory teller.old line.now) }
         ensures count { count_of self.new.report ≤ count_of self.old.report + 1 }
     {
-        let kind = teller.tell(line, &mut self.outbox)?;
+        let kind = teller.tell(line, &mut self.outbox, source)?;
         self.report.count(kind);
         Ok(())
     }

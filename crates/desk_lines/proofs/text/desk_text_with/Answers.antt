@@ -5,7 +5,7 @@ use Rattle.desk_lines.specs.Lines.{lines, ended_lines}
 use Rattle.desk_lines.specs.Streams.{WritesAll}
 use Rattle.desk_lines.specs.Telling.{text_of, report_of}
 use Rattle.desk_lines.proofs.AnswerLemmas.{answers_told, front_told}
-use Rattle.desk_lines.proofs.text.desk_text.Goals as goal
+use Rattle.desk_lines.proofs.text.desk_text_with.Goals as goal
 
 pub returns-clause-ok : goal.returns-clause-ok
 returns-clause-ok g c = MatchResult-weaker c.respond_text.result c.respond_text.ensures.ok (λ report ok.

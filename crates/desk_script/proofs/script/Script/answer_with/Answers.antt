@@ -3,7 +3,7 @@ use Rattle.desk_script.specs.declared.asked.Asked.TheVariants as ask
 use Rattle.desk_script.specs.declared.told.Told.TheVariants.{Replied}
 use Rattle.desk_script.specs.Replay.{ScriptState, Tells}
 use Rattle.desk_script.proofs.Scripts.{Tells-line}
-use Rattle.desk_script.proofs.script.Script.answer.Goals as goal
+use Rattle.desk_script.proofs.script.Script.answer_with.Goals as goal
 
 pub returns-in-Told-clause-told : goal.returns-in-Told-clause-told
 returns-in-Told-clause-told c =

@@ -6,7 +6,7 @@ use Rattle.desk_lines.specs.Streams.{WritesAll}
 use Rattle.desk_lines.specs.Telling.{text_of, report_by}
 use Rattle.desk_lines.proofs.AnswerLemmas.{answers_told, front_told}
 use Rattle.desk_lines.proofs.JsonLemmas.{json_report}
-use Rattle.desk_lines.proofs.json_lines.json_text.Goals as goal
+use Rattle.desk_lines.proofs.json_lines.json_text_with.Goals as goal
 
 pub returns-clause-ok : goal.returns-clause-ok
 returns-clause-ok g c = MatchResult-weaker c.respond_text.result c.respond_text.ensures.ok (λ report ok.
