@@ -9,15 +9,15 @@
 //! `waits_answer` answers one hand, as the command `waits` prints it.
 //! `is_ready` says whether a hand is ready, and [`laws`] that its shanten and its waits agree on that.
 //!
-//! Inside, `tell_lines` reads a stream to its end. `Desk` cuts the bytes into lines and keeps the front of
-//! one that has not ended in a `LineBuffer`; a `Teller` answers line by line; `Told` counts the answers, and
-//! its `Outbox` keeps them until they are written in one piece. `Records` is the teller of record lines,
-//! under the profile that the first line may set; a `desk_script::Script` is that of a script.
+//! Inside, `answer_lines` reads a stream to its end and has its lines answered by a `Teller` that it is lent. `Told` cuts
+//! the text at hand into lines, has them answered one by one and counts the answers; its `Outbox` keeps these until they
+//! are written in one piece. Of a line that has not ended the front is kept in a `LineBuffer`. `Records` is the
+//! teller of record lines, under the profile that the first line may set; a `desk_script::Script` is that of a script.
 //!
 //! ```text
 //! let mut reader = FromReader::new(rt.reader());
 //! let mut writer = ToWriter::new(io::writer(&rt));
-//! let report = desk_text(&mut reader, &mut writer)?;
+//! let report = desk_text(Rules::One, &mut reader, &mut writer)?;
 //! ```
 #![tactic(auto)]
 

@@ -1,4 +1,4 @@
-//! Tests of `desk_lines`, by what it exports: the answers to lines, to texts and to scripts, and its law; and of readers of std.
+//! Tests of `desk_lines`, by what it exports: the answers to lines, to texts and to scripts, and its law.
 //!
 //! They stand apart from the libraries, since a check of a crate with its tests proves the crate once more.
 #![tactic(auto)]
@@ -15,7 +15,5 @@ mod lines;
 mod ready;
 #[cfg(test)]
 mod replay;
-#[cfg(test)]
-mod streams;
 #[cfg(test)]
 mod waits;
