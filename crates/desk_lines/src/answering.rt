@@ -34,14 +34,24 @@ impl Responder for Plain {
 
     ghost alike = { answers_alike };
 
-    fn respond<S: RowSource>(rules: Rules, line: &[u8], outbox: &mut Outbox, source: &mut S) -> LineKind {
+    fn respond<S: RowSource>(
+        rules: Rules,
+        line: &[u8],
+        outbox: &mut Outbox,
+        source: &mut S,
+    ) -> LineKind {
         put_answer(rules, line, outbox, source)
     }
 }
 
 /// Puts the answer to a line into the outbox, where it has one.
 #[tactic(auto, using(crate::proofs::KindLemmas::kinds), unfolding(crate::specs::LineAnswer::answer_of))]
-fn put_answer<S: RowSource>(rules: Rules, line: &[u8], outbox: &mut Outbox, source: &mut S) -> LineKind
+fn put_answer<S: RowSource>(
+    rules: Rules,
+    line: &[u8],
+    outbox: &mut Outbox,
+    source: &mut S,
+) -> LineKind
     requires { HasRoom outbox.old }
     ensures kind { result ≡ kind_of (answer_of rules line.now) }
     ensures told { outbox.new.bytes.items

@@ -184,7 +184,12 @@ impl Teller for Collector {
 
     ghost wants_memory = { λ _ _. Unit {0} };
 
-    fn tell<S: RowSource>(&mut self, line: &[u8], _outbox: &mut Outbox, _source: &mut S) -> Result<LineKind, AllocError> {
+    fn tell<S: RowSource>(
+        &mut self,
+        line: &[u8],
+        _outbox: &mut Outbox,
+        _source: &mut S,
+    ) -> Result<LineKind, AllocError> {
         self.take_line(line)?;
         Ok(LineKind::NoRecord)
     }

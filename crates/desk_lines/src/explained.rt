@@ -40,7 +40,12 @@ impl Responder for Explained {
 
     ghost alike = { explanations_alike };
 
-    fn respond<S: RowSource>(rules: Rules, line: &[u8], outbox: &mut Outbox, source: &mut S) -> LineKind {
+    fn respond<S: RowSource>(
+        rules: Rules,
+        line: &[u8],
+        outbox: &mut Outbox,
+        source: &mut S,
+    ) -> LineKind {
         match read_line(rules, line) {
             Ok(None) => LineKind::NoRecord,
             Ok(Some(job)) => {

@@ -2,8 +2,8 @@
 //!
 //! [`desk_text`] answers the record lines that a `desk_streams::Source` gives, one line for each, and
 //! writes the answers into a `desk_streams::Sink`. It returns a [`DeskReport`] of how many were answered
-//! and how many refused, or the [`DeskFault`] for which it gave up. [`json_text`] answers the same lines by objects of
-//! JSON, [`explain_text`] with the reasons. [`replay_text`] does so with the commands of a
+//! and how many refused, or the [`DeskFault`] for which it gave up. [`json_text_with`] answers the same lines by objects of
+//! JSON, [`explain_text_with`] with the reasons. [`replay_text`] does so with the commands of a
 //! script, over a desk of 64 tables. [`collect_text`] takes a text apart into [`Sheet`]s of answer lines that are
 //! not made yet, [`texts_of`] makes them once their jobs have answers, and [`write_texts`] writes them.
 //! `waits_answer` answers one hand, as the command `waits` prints it.
@@ -29,7 +29,6 @@ mod explaining;
 mod fault;
 mod first_line;
 mod json_lines;
-mod kept_rows;
 pub mod laws;
 mod line_buffer;
 mod line_kind;
@@ -56,11 +55,11 @@ pub use collecting::{Collected, collect_text};
 pub use explaining::explain_text_with;
 pub use fault::DeskFault;
 pub use json_lines::json_text_with;
-pub use kept_rows::KeptRows;
 pub use ready::is_ready;
 pub use replay::replay_text;
 pub use report::DeskReport;
 pub use riichi_hand::Rules;
+pub use riichi_shape::KeptRows;
 pub use sheet::Sheet;
 pub use sheet_texts::{texts_of, write_texts};
 pub use text::{desk_text, desk_text_with};

@@ -27,14 +27,24 @@ impl Responder for Objects {
 
     ghost alike = { json_alike };
 
-    fn respond<S: RowSource>(rules: Rules, line: &[u8], outbox: &mut Outbox, source: &mut S) -> LineKind {
+    fn respond<S: RowSource>(
+        rules: Rules,
+        line: &[u8],
+        outbox: &mut Outbox,
+        source: &mut S,
+    ) -> LineKind {
         put_json(rules, line, outbox, source)
     }
 }
 
 /// Puts the answer to a line into the outbox, where it has one.
 #[tactic(auto, using(crate::proofs::JsonLemmas::kinds), unfolding(crate::specs::JsonLine::json_of))]
-fn put_json<S: RowSource>(rules: Rules, line: &[u8], outbox: &mut Outbox, source: &mut S) -> LineKind
+fn put_json<S: RowSource>(
+    rules: Rules,
+    line: &[u8],
+    outbox: &mut Outbox,
+    source: &mut S,
+) -> LineKind
     requires { HasRoom outbox.old }
     ensures kind { result ≡ kind_by is_refusal (json_of rules line.now) }
     ensures told { outbox.new.bytes.items ≡

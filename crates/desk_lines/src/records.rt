@@ -38,7 +38,12 @@ impl<A: Responder> Records<A> {
     }
 
     /// Answers the next line.
-    fn put_line<S: RowSource>(&mut self, line: &[u8], outbox: &mut Outbox, source: &mut S) -> LineKind
+    fn put_line<S: RowSource>(
+        &mut self,
+        line: &[u8],
+        outbox: &mut Outbox,
+        source: &mut S,
+    ) -> LineKind
         requires { HasRoom outbox.old }
         ensures given { self.new.given ≡ self.old.given }
         ensures rules { self.new.rules ≡ Some (rules_by self.old.given self.old.rules line.now) }
@@ -64,7 +69,12 @@ impl<A: Responder> Teller for Records<A> {
 
     ghost wants_memory = { λ _ _. ⊥ };
 
-    fn tell<S: RowSource>(&mut self, line: &[u8], outbox: &mut Outbox, source: &mut S) -> Result<LineKind, AllocError> {
+    fn tell<S: RowSource>(
+        &mut self,
+        line: &[u8],
+        outbox: &mut Outbox,
+        source: &mut S,
+    ) -> Result<LineKind, AllocError> {
         Ok(self.put_line(line, outbox, source))
     }
 }

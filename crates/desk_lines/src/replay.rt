@@ -8,10 +8,10 @@ ghost use Rattle.desk_lines.specs.Streams.{Gives, GivesAll, WritesAll, StopsWrit
 
 use super::answer_lines::answer_lines;
 use super::fault::DeskFault;
-use super::kept_rows::KeptRows;
 use super::report::DeskReport;
 use desk_script::Script;
 use desk_streams::{Sink, Source};
+use riichi_shape::KeptRows;
 use std::alloc::Global;
 
 /// Answers the commands of a script that a reader gives, one line for each, over a desk of 64 tables. Records are

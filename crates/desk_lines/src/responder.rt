@@ -19,7 +19,12 @@ pub(crate) trait Responder {
     ghost refuses: { List ℕ → Bool };
 
     /// Puts the answer to a record line into the outbox. Shapes are answered by the rows of a source, and as by any other.
-    fn respond<S: RowSource>(rules: Rules, line: &[u8], outbox: &mut Outbox, source: &mut S) -> LineKind
+    fn respond<S: RowSource>(
+        rules: Rules,
+        line: &[u8],
+        outbox: &mut Outbox,
+        source: &mut S,
+    ) -> LineKind
         requires { HasRoom outbox.old }
         ensures { Puts refuses
             (may_tell rules line.now) result outbox.old.bytes.items outbox.new.bytes.items };

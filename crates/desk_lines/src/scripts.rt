@@ -22,7 +22,12 @@ impl Teller for Script {
 
     ghost wants_memory = { λ _ _. Unit {0} };
 
-    fn tell<S: RowSource>(&mut self, line: &[u8], outbox: &mut Outbox, source: &mut S) -> Result<LineKind, AllocError> {
+    fn tell<S: RowSource>(
+        &mut self,
+        line: &[u8],
+        outbox: &mut Outbox,
+        source: &mut S,
+    ) -> Result<LineKind, AllocError> {
         match self.answer_with(source, line)? {
             None => Ok(LineKind::NoRecord),
             Some(text) => Ok(put_text(text.as_str().as_bytes(), outbox)),

@@ -24,7 +24,12 @@ pub(crate) trait Teller {
 
     /// Takes the next line, and puts its answer into the outbox, where it has one; shapes are answered by the rows of a source. Where memory was wanted,
     /// no answer is given.
-    fn tell<S: RowSource>(&mut self, line: &[u8], outbox: &mut Outbox, source: &mut S) -> Result<LineKind, AllocError>
+    fn tell<S: RowSource>(
+        &mut self,
+        line: &[u8],
+        outbox: &mut Outbox,
+        source: &mut S,
+    ) -> Result<LineKind, AllocError>
         requires { HasRoom outbox.old }
         ensures told { IfOk result
             (λ kind. AnswersLine refuses most tells self.old self.new line.now kind outbox.old.bytes.items outbox.new.bytes.items) }

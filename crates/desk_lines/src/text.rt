@@ -6,12 +6,11 @@ ghost use Rattle.desk_lines.specs.Streams.{Gives, GivesAll, WritesAll, StopsWrit
 
 use super::answering::Plain;
 use super::fault::DeskFault;
-use super::kept_rows::FRAME_PLACES;
 use super::report::DeskReport;
 use super::responding::respond_text;
 use desk_streams::{Sink, Source};
 use riichi_hand::Rules;
-use riichi_shape::{FrameMemo, RowSource};
+use riichi_shape::{KeptRows, RowSource};
 
 /// Answers the record lines that a reader gives, one line for each, under the profile that the first line sets, or
 /// else the given one. It reads and writes in large pieces; the answers to all lines that have ended are written
@@ -46,7 +45,7 @@ pub fn desk_text<R: Source, W: Sink>(
     ensures told_as_read { (IsErrOf result DeskFault.Read → ⊥) → R.failures reader.new ≡ R.failures reader.old }
     ensures reads { IsReadWithin ⟦<R as Source>⟧ reader.old reader.new }
 {
-    desk_text_with(&mut FrameMemo::<FRAME_PLACES>::new(), rules, reader, writer)
+    desk_text_with(&mut KeptRows::in_value(), rules, reader, writer)
 }
 
 /// The same, where shapes are answered by the rows of a source: the answers are the same, whichever it is.

@@ -114,7 +114,12 @@ impl Told {
     }
 
     /// Answers the next line, where there is room for any answer.
-    fn take<T: Teller, S: RowSource>(&mut self, line: &[u8], teller: &mut T, source: &mut S) -> Result<(), AllocError>
+    fn take<T: Teller, S: RowSource>(
+        &mut self,
+        line: &[u8],
+        teller: &mut T,
+        source: &mut S,
+    ) -> Result<(), AllocError>
         requires room { HasRoom self.old.outbox }
         requires count { count_of self.old.report + 1 < 2 ^ 64 }
         ensures told { OnOk result ((kind : LineKind)

@@ -21,7 +21,11 @@ const MOST_LINE: usize = 8_192;
 /// What a line asks, after the names that are open. The name of a table that it opens is added. Memory is wanted
 /// for a new name alone, and where there is none the names stay.
 #[tactic(auto, unfolding(crate::specs::Asked::asked_by, crate::specs::Asked::names_by))]
-pub(crate) fn ask<S: RowSource>(names: &mut Names, line: &[u8], source: &mut S) -> Result<Asked, AllocError>
+pub(crate) fn ask<S: RowSource>(
+    names: &mut Names,
+    line: &[u8],
+    source: &mut S,
+) -> Result<Asked, AllocError>
     ensures asked { IfOk result (λ asked. asked ≡ asked_by names.old line.now) }
     ensures names { OnOk result (names.new ≡ names_by names.old line.now) }
     ensures err { OnErr result ((names.new ≡ names.old)
@@ -40,7 +44,11 @@ pub(crate) fn ask<S: RowSource>(names: &mut Names, line: &[u8], source: &mut S) 
 }
 
 /// What a command asks.
-fn ask_command<S: RowSource>(names: &mut Names, command: &Command<'_>, source: &mut S) -> Result<Asked, AllocError>
+fn ask_command<S: RowSource>(
+    names: &mut Names,
+    command: &Command<'_>,
+    source: &mut S,
+) -> Result<Asked, AllocError>
     ensures asked { IfOk result (λ asked. asked
         ≡ asked_of_command names.old (Some (said_of command.now))) }
     ensures names { OnOk result (names.new

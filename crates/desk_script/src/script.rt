@@ -62,7 +62,11 @@ impl Script {
     }
 
     /// The same, where a shape is judged by the rows of a source.
-    pub fn answer_with<S: RowSource>(&mut self, source: &mut S, line: &[u8]) -> Result<Option<ArrayString<LONGEST>>, AllocError>
+    pub fn answer_with<S: RowSource>(
+        &mut self,
+        source: &mut S,
+        line: &[u8],
+    ) -> Result<Option<ArrayString<LONGEST>>, AllocError>
         ensures told { IfOk result (λ text. AnswersLine self.old self.new line.now
             (bytes_of text)) }
         ensures err { OnErr result ((self.new ≡ self.old)
