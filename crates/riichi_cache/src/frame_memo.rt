@@ -3,7 +3,7 @@ ghost use Rattle.std.specs.Prelude.{ℕ, ◌≡◌, ◌<◌, ◌≤◌, slice_in
 
 use crate::kept_row::{KeptRow, row_at};
 use crate::row_key::RowKey;
-use riichi_rows::{RowSource, SuitRow, SuitRows, suit_rows};
+use riichi_rows::{RowSource, SuitRow};
 use std::marker::Model;
 
 /// A place for each of `N` rows, which takes no memory but that of the value: 48 bytes a place. It
@@ -38,9 +38,5 @@ impl<const N: usize> FrameMemo<N> {
 impl<const N: usize> RowSource for FrameMemo<N> {
     fn row(&mut self, counts: &[u8; 9], caps: &[u8; 9], runs: bool) -> SuitRow {
         row_at(&mut self.places, RowKey::new(counts, caps, runs))
-    }
-
-    fn rows(&mut self, counts: &[u8; 9], caps: &[u8; 9], runs: bool) -> SuitRows {
-        suit_rows(counts, caps, runs)
     }
 }

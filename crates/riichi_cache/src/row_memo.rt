@@ -4,7 +4,7 @@ ghost use Rattle.std.specs.Prelude.{ℕ, ◌≡◌, ◌<◌, ◌≤◌, IfOk, sl
 use crate::kept_row::{KeptRow, row_at};
 use crate::memory::Memory;
 use crate::row_key::RowKey;
-use riichi_rows::{RowSource, SuitRow, SuitRows, suit_rows};
+use riichi_rows::{RowSource, SuitRow};
 use std::alloc::Global;
 use std::marker::Model;
 
@@ -42,9 +42,5 @@ impl RowMemo {
 impl RowSource for RowMemo {
     fn row(&mut self, counts: &[u8; 9], caps: &[u8; 9], runs: bool) -> SuitRow {
         row_at(&mut self.places, RowKey::new(counts, caps, runs))
-    }
-
-    fn rows(&mut self, counts: &[u8; 9], caps: &[u8; 9], runs: bool) -> SuitRows {
-        suit_rows(counts, caps, runs)
     }
 }

@@ -10,7 +10,6 @@ use crate::acceptance::{accepted_by, live_copies};
 use crate::accepts::Accepts;
 use crate::distance::shanten_at;
 use crate::hand_forms::HandForms;
-use crate::hand_suits::{hand_suits_of, whole_rows};
 use crate::removal::discards_by;
 use crate::shape_answer::ShapeAnswer;
 use riichi_hand::ShapeRecord;
@@ -54,11 +53,10 @@ fn shape_of_fourteen<R: RowSource>(
         ≡ shape_of (record { tiles = hand.now; melds = melds.now; seen = seen.now }) }
     ensures stays { source.new ≡ source.old }
 {
-    let suits = hand_suits_of(source, hand, melds);
-    let forms = HandForms::of_rows(whole_rows(&suits), hand, melds);
+    let forms = HandForms::new(source, hand, melds);
     ShapeAnswer {
         shanten: shanten_at(forms.distance(melds)),
-        accepts: Accepts::Fourteen(discards_by(&suits, &forms, hand, melds, seen)),
+        accepts: Accepts::Fourteen(discards_by(source, &forms, hand, melds, seen)),
     }
 }
 

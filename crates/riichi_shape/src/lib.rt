@@ -7,8 +7,7 @@
 //! the text of an answer is `riichi_shape_text`. A hand is measured by its four suit rows, which
 //! `riichi_rows` makes, and beside each the other three are joined. The marks of a row say which
 //! ranks its least choices lack, so the rows of the hand alone show the kinds that bring it nearer:
-//! no row of the hand with one more tile is ever made. A tile that is discarded changes one row: of
-//! fourteen tiles the rows of a suit, whole and without each of its tiles, are asked for together.
+//! no row of the hand with one more tile is ever made. A tile that is discarded changes one row.
 //! `shape_with` is `shape` by the rows of a `RowSource`, which many hands share: a `RowMemo`, a
 //! `FrameMemo`, which takes no memory, or a `RowCache`.
 //!
@@ -27,7 +26,6 @@ mod hand_caps;
 mod hand_forms;
 mod hand_joins;
 mod hand_rows;
-mod hand_suits;
 mod kept_discard;
 mod kind_bits;
 mod lacked_held;

@@ -69,20 +69,3 @@ fn rows_of_a_memo_in_the_frame(rt: HostRuntime) -> Result<(), Fail> {
     check_keys_that_are_alike(&rt, &mut FrameMemo::<1>::new())?;
     check_keys_that_are_alike(&rt, &mut FrameMemo::<6>::new())
 }
-
-/// Rows without a tile lack as those of a hand that never had it.
-#[test]
-fn rows_without_a_tile(rt: HostRuntime) -> Result<(), Fail> {
-    let mut cache = one_place(rt.alloc()).map_err(|_| "no memory twice")?;
-    let rows = cache.rows(&[0, 1, 1, 1, 0, 0, 2, 0, 0], &[4; 9], true);
-    let rest = [0, 1, 0, 1, 0, 0, 2, 0, 0];
-    holds(
-        &rt,
-        is_same(&rows.without[2], &FreshRows.row(&rest, &[4; 9], true)),
-    );
-    // a run, and a pair
-    same(&rt, rows.whole.get(1, true), Some(0));
-    same(&rt, rows.without[2].get(1, true), Some(1));
-    same(&rt, rows.without[6].get(1, true), Some(1));
-    Ok(())
-}
