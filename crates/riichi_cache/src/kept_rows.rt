@@ -4,7 +4,7 @@ ghost use Rattle.riichi_rows.specs.Marks.{IsMarkedRow};
 
 use crate::frame_memo::FrameMemo;
 use crate::row_memo::RowMemo;
-use riichi_rows::{RowSource, SuitRow, SuitRows};
+use riichi_rows::{RowSource, SuitRow};
 use std::alloc::Global;
 
 /// So many rows are kept in memory, of 48 bytes each.
@@ -40,13 +40,6 @@ impl RowSource for KeptRows {
         match self {
             KeptRows::InMemory(memo) => memo.row(counts, caps, runs),
             KeptRows::InValue(memo) => memo.row(counts, caps, runs),
-        }
-    }
-
-    fn rows(&mut self, counts: &[u8; 9], caps: &[u8; 9], runs: bool) -> SuitRows {
-        match self {
-            KeptRows::InMemory(memo) => memo.rows(counts, caps, runs),
-            KeptRows::InValue(memo) => memo.rows(counts, caps, runs),
         }
     }
 }
