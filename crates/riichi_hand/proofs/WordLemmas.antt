@@ -44,7 +44,7 @@ without_spaces-past [] (byte ∷ bytes) all begins = rw begins refl
 without_spaces-past (byte ∷ spaces) rest all begins = let h = and_parts (nat_eq byte 32) (list_all (λ byte. nat_eq byte 32) spaces) all in rw h.0 (without_spaces-past spaces rest h.1 begins)
 
 -- a word ends at the first space
-position_or_len-word : (word rest : List ℕ) → list_all (plain 32) word ≡ true → (rest ≡ []) ⊎ (begins_with_space rest ≡ true) → position_or_len is_space (word ++ rest) ≡ length word
+pub position_or_len-word : (word rest : List ℕ) → list_all (plain 32) word ≡ true → (rest ≡ []) ⊎ (begins_with_space rest ≡ true) → position_or_len is_space (word ++ rest) ≡ length word
 position_or_len-word [] [] all after = refl
 position_or_len-word [] (byte ∷ bytes) all (inl none) = absurd (cc)
 position_or_len-word [] (byte ∷ bytes) all (inr space) = rw space refl

@@ -1,7 +1,8 @@
-use Rattle.std.proofs.Common.{◌<◌, ◌≡◌, ◌++◌, ◌∙◌, ap, sym, length, arith}
+use Rattle.std.proofs.Common.{◌<◌, ◌≡◌, ◌++◌, ◌∙◌, ap, sym, length, drop, arith}
 use Rattle.std.proofs.lemmas.Bool.{eqb-false}
 use Rattle.std.proofs.lemmas.List.{take-append-drop}
 use Rattle.riichi_hand.proofs.WordLemmas.{first_word}
+use Rattle.riichi_hand.proofs.PlaceLemmas.{first_from}
 use Rattle.riichi_hand.proofs.line.cuts.next_word.Goals as goal
 
 pub returns-clause-words : goal.returns-clause-words
@@ -10,6 +11,13 @@ returns-clause-words c =
     let some : 0 < length text = (let empty = eqb-false _ 0 (sym c.is_empty.ensures ∙ c.if-is_empty.false) in omega arith) in
     let first = first_word text c.word_len.result some c.without_spaces-text.ensures.begins c.word_len.ensures.word c.word_len.ensures.rest c.word_len.ensures.bound in
     rw (c.split_at.ensures.front, c.split_at.ensures.back) (sym c.without_spaces-text.ensures.words ∙ first.0, omega arith)
+
+pub returns-clause-from : goal.returns-clause-from
+returns-clause-from c =
+    let text = c.without_spaces-text.result.now in
+    let some : 0 < length text = (let empty = eqb-false _ 0 (sym c.is_empty.ensures ∙ c.if-is_empty.false) in omega arith) in
+    let first = first_from text c.word_len.result some c.without_spaces-text.ensures.begins c.word_len.ensures.word c.word_len.ensures.rest c.word_len.ensures.bound in
+    rw c.split_at.ensures.back (ap (drop 1) (sym first ∙ c.without_spaces-text.ensures.from))
 
 pub returns-clause-text : goal.returns-clause-text
 returns-clause-text c =
