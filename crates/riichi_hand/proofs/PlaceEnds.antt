@@ -10,10 +10,10 @@ use Rattle.riichi_hand.specs.declared.fault.LineFault.{LineFault}
 use Rattle.riichi_hand.specs.declared.fault.LineFault.TheVariants.{Line, Notation}
 use Rattle.riichi_hand.specs.declared.fault.TextName.{TextName}
 use Rattle.riichi_hand.specs.declared.fault.TextName.TheVariants.{Hand, On, Dora, Ura, Seen}
-use Rattle.riichi_hand.specs.Words.{is_space, words_of}
+use Rattle.riichi_hand.specs.Words.{is_space, words_of, starts, from_words, word_of}
 use Rattle.riichi_hand.specs.Entries.{first_of, is_bad}
 use Rattle.riichi_hand.specs.Parts.{parts_of}
-use Rattle.riichi_hand.specs.Places.{starts, from_words, word_of, begins, from_with, or_other, first_at, has_doubled, wrong_number, key_of, text_from, code_from, fault_from}
+use Rattle.riichi_hand.specs.Places.{begins, from_with, or_other, first_at, has_doubled, wrong_number, key_of, text_from, code_from, fault_from}
 
 abbrev IsEnd : List ℕ → List ℕ → Type 0
 IsEnd line from = (front : List ℕ) × (line ≡ front ++ from)

@@ -1,63 +1,16 @@
--- Where the words of a text begin.
-use Rattle.std.proofs.Common.{◌≡◌, ℕ, zero, suc, ◌<◌, ◌≤◌, ◌⊎◌, inl, inr, List, [], ◌∷◌, ◌++◌, map, Bool, true, false, Option, Some, None, nat_eq, length, take, drop, refl, sym, ◌∙◌, ap, append_assoc, arith}
-use Rattle.std.specs.Prelude.{◌||◌, not, option_map, is_some, if◌then◌else◌}
-use Rattle.std.specs.List.{list_all, list_any}
-use Rattle.std.proofs.lemmas.Bool.{cases_Bool, cases_lt, and_parts}
-use Rattle.std.proofs.lemmas.List.{take-append-drop, drop_all}
-use Rattle.std.proofs.Math.Seq.{take-append_seam}
-use Rattle.riichi_tiles.proofs.CutLemmas.{plain, plain_is}
+-- At which word of a line a fault stands.
+use Rattle.std.proofs.Common.{◌≡◌, ℕ, inl, inr, List, [], ◌∷◌, ◌++◌, map, Bool, true, false, Option, Some, None, refl, sym, ◌∙◌, ap, append_assoc}
+use Rattle.std.specs.Prelude.{◌||◌, option_map, is_some, if◌then◌else◌}
+use Rattle.std.specs.List.{list_any}
+use Rattle.std.proofs.lemmas.Bool.{cases_Bool}
 use Rattle.riichi_hand.specs.declared.fault.LineFault.{LineFault}
 use Rattle.riichi_hand.specs.declared.fault.LineFault.TheVariants.{Line, Notation}
 use Rattle.riichi_hand.specs.declared.fault.LineCode.TheVariants.{H1, H2, H3, H4, H5, H6, H7, H8, H9, H10, H11, H12, H13, H14, H15, H16}
 use Rattle.riichi_hand.specs.declared.line.job_name.JobName.{JobName}
 use Rattle.riichi_hand.specs.Faults.{coded, first_fault}
-use Rattle.riichi_hand.specs.Words.{is_word, is_space, begins_with_space}
+use Rattle.riichi_hand.specs.Words.{word_of}
 use Rattle.riichi_hand.specs.Entries.{is_bad, IsMarked}
-use Rattle.riichi_hand.specs.Places.{starts, from_words, word_of, or_other, first_at, bad_from, doubled_from, entry_from}
-use Rattle.riichi_hand.proofs.WordLemmas.{position_or_len-word}
-
--- spaces before the words
-pub from_words-spaces : (spaces rest : List ℕ) → list_all (λ byte. nat_eq byte 32) spaces ≡ true → from_words (spaces ++ rest) ≡ from_words rest
-from_words-spaces [] rest all = refl
-from_words-spaces (byte ∷ spaces) rest all = let h = and_parts (nat_eq byte 32) (list_all (λ byte. nat_eq byte 32) spaces) all in rw h.0 (from_words-spaces spaces rest h.1)
-
-spaced : (byte : ℕ) (bytes : List ℕ) (test : Bool) → test ≡ true → starts (not test) bytes ≡ (if test then starts false bytes else (byte ∷ bytes) ∷ starts true bytes)
-spaced byte bytes true is = refl
-spaced byte bytes false is = absurd (cc)
-
--- no word begins before the first space
-in_word : (word rest : List ℕ) → list_all (plain 32) word ≡ true → (rest ≡ []) ⊎ (begins_with_space rest ≡ true) → starts true (word ++ rest) ≡ from_words rest
-in_word [] [] all after = refl
-in_word [] (byte ∷ bytes) all (inl none) = absurd (cc)
-in_word [] (byte ∷ bytes) all (inr space) = spaced byte bytes (is_space byte) space
-in_word (byte ∷ bytes) rest all after =
-    let h = plain_is 32 byte (list_all (plain 32) bytes) all in ap (λ test. starts (not test) (bytes ++ rest)) h.0 ∙ in_word bytes rest h.1 after
-
-pub from_words-word : (word rest : List ℕ) → list_all (plain 32) word ≡ true → is_word word ≡ true → (rest ≡ []) ⊎ (begins_with_space rest ≡ true) → from_words (word ++ rest) ≡ (word ++ rest) ∷ from_words rest
-from_words-word [] rest all some after = absurd (cc)
-from_words-word (byte ∷ bytes) rest all some after =
-    let h = plain_is 32 byte (list_all (plain 32) bytes) all in
-    ap (λ (test : Bool). if test then starts false (bytes ++ rest) else (byte ∷ bytes ++ rest) ∷ starts true (bytes ++ rest)) h.0 ∙ ap (λ froms. (byte ∷ bytes ++ rest) ∷ froms) (in_word bytes rest h.1 after)
-
-pub word_of-word : (word rest : List ℕ) → list_all (plain 32) word ≡ true → (rest ≡ []) ⊎ (begins_with_space rest ≡ true) → word_of (word ++ rest) ≡ word
-word_of-word word rest all after = ap (λ len. take len (word ++ rest)) (position_or_len-word word rest all after) ∙ take-append_seam word rest
-
--- the same of a text that is cut at a place
-pub first_from : (text : List ℕ) (len : ℕ) → 0 < length text → begins_with_space text ≡ false → list_all (plain 32) (take len text) ≡ true → (len < length text → begins_with_space (drop len text) ≡ true) → len ≤ length text
-    → from_words text ≡ text ∷ from_words (drop len text)
-first_from [] len some begins all after within = absurd (omega arith)
-first_from (byte ∷ bytes) zero some begins all after within = let space = after some in absurd (cc)
-first_from (byte ∷ bytes) (suc len) some begins all after within =
-    let text = byte ∷ bytes in
-    let rest : (drop (suc len) text ≡ []) ⊎ (begins_with_space (drop (suc len) text) ≡ true) =
-    elim (cases_lt (suc len) (length text)) as (λ _. (drop (suc len) text ≡ []) ⊎ (begins_with_space (drop (suc len) text) ≡ true)) [ inl more ↦ inr (after more) | inr over ↦ inl (drop_all (suc len) text over) ] in
-    let joined = take-append-drop (suc len) text in
-    ap from_words (sym joined) ∙ from_words-word (take (suc len) text) (drop (suc len) text) all refl rest ∙ ap (λ t. t ∷ from_words (drop (suc len) text)) joined
-
--- a text that begins with a word
-pub from_words-begins : (text : List ℕ) → 0 < length text → begins_with_space text ≡ false → (froms : List (List ℕ)) × (from_words text ≡ text ∷ froms)
-from_words-begins [] some begins = absurd (omega arith)
-from_words-begins (byte ∷ bytes) some begins = (starts true bytes, ap (λ (test : Bool). if test then starts false bytes else (byte ∷ bytes) ∷ starts true bytes) begins)
+use Rattle.riichi_hand.specs.Places.{or_other, first_at, bad_from, doubled_from, entry_from}
 
 -- ---- the first word that is no entry
 

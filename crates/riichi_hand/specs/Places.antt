@@ -1,6 +1,6 @@
--- Where the words of a line begin, and at which of them a fault stands. A place is the text of the line from there on.
-use Rattle.std.specs.Prelude.{ℕ, List, [], ◌∷◌, ◌++◌, Bool, true, false, ◌&&◌, not, Option, None, Some, nat_eq, nat_le, take, drop, count_by, codes, if◌then◌else◌}
-use Rattle.std.specs.List.{find, starts_with, position_or_len}
+-- At which word of a line a fault stands. A place is the text of the line from there on.
+use Rattle.std.specs.Prelude.{ℕ, List, [], ◌∷◌, ◌++◌, Bool, true, false, ◌&&◌, Option, None, Some, nat_eq, nat_le, drop, count_by, codes, if◌then◌else◌}
+use Rattle.std.specs.List.{find, starts_with}
 use Rattle.riichi_tiles.specs.Notation.{is_digit}
 use Rattle.riichi_hand.specs.declared.fault.LineCode.{LineCode}
 use Rattle.riichi_hand.specs.declared.fault.LineCode.TheVariants.{H1, H2, H3, H4, H5, H6, H7, H8, H9, H10, H11, H12, H13, H14, H15, H16}
@@ -9,23 +9,9 @@ use Rattle.riichi_hand.specs.declared.fault.LineFault.TheVariants.{Line, Notatio
 use Rattle.riichi_hand.specs.declared.fault.TextName.{TextName}
 use Rattle.riichi_hand.specs.declared.fault.TextName.TheVariants.{Hand, On, Dora, Ura, Seen}
 use Rattle.riichi_hand.specs.declared.line.job_name.JobName.{JobName}
-use Rattle.riichi_hand.specs.Words.{is_space, words_of}
+use Rattle.riichi_hand.specs.Words.{from_words, word_of, words_of}
 use Rattle.riichi_hand.specs.Entries.{is_bad, entries_of, first_of}
 use Rattle.riichi_hand.specs.Parts.{parts_of}
-
--- a word begins at a byte that is no space, where none goes on
-abbrev pub starts : Bool → List ℕ → List (List ℕ)
-starts goes_on [] = []
-starts true (byte ∷ bytes) = starts (not (is_space byte)) bytes
-starts false (byte ∷ bytes) = if is_space byte then starts false bytes else (byte ∷ bytes) ∷ starts true bytes
-
--- the text from each word on
-abbrev pub from_words : List ℕ → List (List ℕ)
-from_words line = starts false line
-
--- the word with which a text begins
-abbrev pub word_of : List ℕ → List ℕ
-word_of from = take (position_or_len is_space from) from
 
 -- ---- words by how they begin
 

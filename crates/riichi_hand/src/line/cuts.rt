@@ -2,8 +2,7 @@
 ghost use Rattle.std.specs.Prelude.{◌≡◌, ◌<◌, ◌≤◌, ◌==◌, [], ◌∷◌, ◌++◌, false, true, length, IfSome, MatchOption, is_some, not, take, drop};
 ghost use Rattle.std.specs.List.{list_all, position_or_len};
 ghost use Rattle.riichi_tiles.specs.Melds.{cut_at};
-ghost use Rattle.riichi_hand.specs.Words.{words_of, is_space, without_spaces, begins_with_space, BeginsWithSpaces};
-ghost use Rattle.riichi_hand.specs.Places.{from_words, word_of};
+ghost use Rattle.riichi_hand.specs.Words.{words_of, is_space, without_spaces, begins_with_space, BeginsWithSpaces, from_words, word_of};
 
 /// The first word of a text, and all that comes after it.
 pub fn next_word(text: &[u8]) -> Option<(&[u8], &[u8])>
@@ -24,7 +23,6 @@ pub fn next_word(text: &[u8]) -> Option<(&[u8], &[u8])>
 /// The text without the spaces that it begins with.
 pub fn without_spaces(text: &[u8]) -> &[u8]
     ensures value { result.now ≡ without_spaces text.now }
-    ensures words { words_of result.now ≡ words_of text.now }
     ensures from { from_words result.now ≡ from_words text.now }
     ensures text { BeginsWithSpaces text.now result.now }
     ensures begins { begins_with_space result.now ≡ false }

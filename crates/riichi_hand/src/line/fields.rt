@@ -5,7 +5,8 @@ ghost use Rattle.riichi_hand.specs.Faults.{IsStep};
 ghost use Rattle.riichi_hand.specs.Lines.{entry_faults};
 ghost use Rattle.riichi_hand.specs.Parts.{parts_in};
 ghost use Rattle.riichi_hand.specs.Entries.{first_or, is_again, IsMarked};
-ghost use Rattle.riichi_hand.specs.Places.{from_words, entry_from};
+ghost use Rattle.riichi_hand.specs.Words.{from_words};
+ghost use Rattle.riichi_hand.specs.Places.{entry_from};
 
 use super::cuts::without_spaces;
 use super::entry::Entry;

@@ -3,9 +3,9 @@ ghost use Rattle.std.specs.Prelude.{◌≡◌, ◌≤◌, length, option_map, co
 ghost use Rattle.riichi_tiles.specs.Notation.{is_digit};
 ghost use Rattle.riichi_hand.specs.Entries.{first_of};
 ghost use Rattle.riichi_hand.specs.Parts.{parts_of};
-ghost use Rattle.riichi_hand.specs.Words.{words_of};
+ghost use Rattle.riichi_hand.specs.Words.{words_of, from_words};
 ghost use Rattle.riichi_hand.specs.Places as spec;
-ghost use Rattle.riichi_hand.specs.Places.{from_words, entry_from};
+ghost use Rattle.riichi_hand.specs.Places.{entry_from};
 ghost use Rattle.riichi_hand.specs.declared.fault.LineFault.TheVariants.{Line};
 
 use super::cuts::{cut_word, next_word, without_spaces};

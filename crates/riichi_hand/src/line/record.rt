@@ -2,11 +2,11 @@
 ghost use Rattle.std.specs.Prelude.{◌≡◌, ◌≢◌, ◌==◌, [], None, Some, true, Ok, Err, IfErr, MatchOption, MatchResult, option_map, take, drop};
 ghost use Rattle.std.specs.List.{list_all};
 ghost use Rattle.riichi_hand.specs.Lines.{outcome_of, is_no_record, has_bad_word};
-ghost use Rattle.riichi_hand.specs.Places.{from_words, word_of, entry_from, fault_from};
+ghost use Rattle.riichi_hand.specs.Places.{entry_from, fault_from};
 ghost use Rattle.riichi_hand.specs.Entries.{entries_of, Holds};
 ghost use Rattle.riichi_hand.specs.Parts.{parts_of};
 ghost use Rattle.riichi_hand.specs.Texts.{no_texts};
-ghost use Rattle.riichi_hand.specs.Words.{words_of};
+ghost use Rattle.riichi_hand.specs.Words.{words_of, from_words, word_of};
 ghost use Rattle.riichi_hand.specs.declared.line.job_name.JobName.{JobName};
 ghost use Rattle.riichi_hand.specs.declared.fault.LineFault.TheVariants.{Line};
 ghost use Rattle.riichi_hand.specs.declared.fault.LineCode.TheVariants.{H4, H16};

@@ -1,8 +1,7 @@
 ghost use Rattle.std.specs.Prelude.{◌≡◌, IfOk, drop};
-ghost use Rattle.riichi_hand.specs.Words.{words_of};
+ghost use Rattle.riichi_hand.specs.Words.{words_of, from_words};
 ghost use Rattle.riichi_hand.specs.Faults.{IsStep};
 ghost use Rattle.riichi_hand.specs.Lines.{word_faults};
-ghost use Rattle.riichi_hand.specs.Places.{from_words};
 
 use super::bytes::has_other_byte;
 use super::cuts::{has_mark, next_word};

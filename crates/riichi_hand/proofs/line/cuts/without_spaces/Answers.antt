@@ -1,17 +1,9 @@
 use Rattle.std.proofs.Common.{◌≡◌, ◌∙◌, false, ap, sym, length, take, drop, inl, inr, arith, length-drop}
 use Rattle.std.proofs.lemmas.Bool.{cases_lt}
 use Rattle.std.proofs.lemmas.List.{take-append-drop, drop_all}
-use Rattle.riichi_hand.specs.Words.{words_of, without_spaces, begins_with_space}
-use Rattle.riichi_hand.specs.Places.{from_words}
-use Rattle.riichi_hand.proofs.WordLemmas.{words_of-spaces, without_spaces-past}
-use Rattle.riichi_hand.proofs.PlaceLemmas.{from_words-spaces}
+use Rattle.riichi_hand.specs.Words.{without_spaces, begins_with_space, from_words}
+use Rattle.riichi_hand.proofs.WordLemmas.{from_words-spaces, without_spaces-past}
 use Rattle.riichi_hand.proofs.line.cuts.without_spaces.Goals as goal
-
-pub returns-clause-words : goal.returns-clause-words
-returns-clause-words c =
-    let text = c.args.text.now in
-    let len = c.spaces_len.result in
-    rw c.split_at.ensures.back (sym (ap words_of (sym (take-append-drop len text)) ∙ words_of-spaces (take len text) (drop len text) c.spaces_len.ensures.spaces))
 
 pub returns-clause-from : goal.returns-clause-from
 returns-clause-from c =

@@ -4,9 +4,9 @@ use Rattle.riichi_hand.specs.declared.line.job_name.JobName.TheVariants.{Waits}
 use Rattle.riichi_hand.specs.declared.line.words.Words.{Words}
 use Rattle.riichi_hand.specs.declared.line.texts.Texts.{Texts}
 use Rattle.riichi_hand.specs.Faults.{first_fault}
-use Rattle.riichi_hand.specs.Words.{words_of}
+use Rattle.riichi_hand.specs.Words.{words_of, from_words}
 use Rattle.riichi_hand.specs.Parts.{LineParts, parts_of, parts_in}
-use Rattle.riichi_hand.specs.Places.{from_words, entry_from}
+use Rattle.riichi_hand.specs.Places.{entry_from}
 use Rattle.riichi_hand.proofs.PlaceLemmas.{no_mark, word_from-none}
 use Rattle.riichi_hand.specs.Jobs.{job_of}
 use Rattle.riichi_hand.specs.Lines.{is_no_record, word_faults, entry_faults, need_faults, text_faults, job_faults}

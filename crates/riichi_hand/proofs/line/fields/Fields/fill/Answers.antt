@@ -3,14 +3,15 @@ use Rattle.std.specs.Prelude.{is_some, not, option_map, if◌then◌else◌}
 use Rattle.std.specs.List.{list_any}
 use Rattle.std.proofs.lemmas.List.{append-nil, map-append}
 use Rattle.riichi_hand.specs.declared.line.key.Key.{Key}
-use Rattle.riichi_hand.specs.Words.{words_of}
+use Rattle.riichi_hand.specs.Words.{words_of, from_words, word_of}
 use Rattle.riichi_hand.specs.Keys.{value_of}
 use Rattle.riichi_hand.specs.declared.fault.LineCode.TheVariants.{H4, H5}
 use Rattle.riichi_hand.specs.Faults.{coded, first_fault}
 use Rattle.riichi_hand.specs.Entries.{is_entry, is_bad, Entries, entries_of, Holds}
-use Rattle.riichi_hand.specs.Places.{from_words, word_of, or_other, bad_from, has_doubled, doubled_from, entry_from}
+use Rattle.riichi_hand.specs.Places.{or_other, bad_from, has_doubled, doubled_from, entry_from}
 use Rattle.riichi_hand.proofs.FieldLemmas.{entries_of-last}
-use Rattle.riichi_hand.proofs.PlaceLemmas.{no_mark, marked, first_at-last, from_words-begins, bad_from-here, entry_from-none}
+use Rattle.riichi_hand.proofs.WordLemmas.{from_words-begins}
+use Rattle.riichi_hand.proofs.PlaceLemmas.{no_mark, marked, first_at-last, bad_from-here, entry_from-none}
 use Rattle.riichi_hand.proofs.line.fields.Fields.fill.Goals as goal
 
 pub loop-rest-init : goal.loop-rest-init
@@ -18,7 +19,6 @@ loop-rest-init c =
     let holds = c.requires c.args.words.now.job in (
       [],
       record {
-        words = sym c.without_spaces-rest.ensures.words;
         from = sym c.without_spaces-rest.ensures.from;
         good = refl;
         holds = holds;
@@ -39,11 +39,9 @@ loop-rest-preserved c =
     let after = c.without_spaces-rest-in-loop-rest.result.now in
     let keyed : Key × List ℕ = (c.in-Some.entry.key, c.in-Some.entry.value.now) in
     let more : map word_of (froms ++ text ∷ []) ≡ before ++ word ∷ [] = map-append word_of froms (text ∷ []) in
-    let here : words_of text ≡ word ∷ words_of after = first.1 ∙ ap (λ words. word ∷ words) (first.2.1 ∙ sym c.without_spaces-rest-in-loop-rest.ensures.words) in
-    let words : words_of c.args.words.now.entries.now ≡ (before ++ word ∷ []) ++ words_of after = so_far.1.words ∙ ap (λ rest. before ++ rest) here ∙ sym (append_assoc before (word ∷ []) (words_of after)) in
-    let here_from : from_words text ≡ text ∷ from_words after = first.2.2 ∙ ap (λ rest. text ∷ rest) (sym c.without_spaces-rest-in-loop-rest.ensures.from) in
+    let here_from : from_words text ≡ text ∷ from_words after = first.1 ∙ ap (λ rest. text ∷ rest) (sym c.without_spaces-rest-in-loop-rest.ensures.from) in
     let from : from_words c.args.words.now.entries.now ≡ (froms ++ text ∷ []) ++ from_words after = so_far.1.from ∙ ap (λ rest. froms ++ rest) here_from ∙ sym (append_assoc froms (text ∷ []) (from_words after)) in
-    let last = entries_of-last job before word keyed first.2.0 in
+    let last = entries_of-last job before word keyed first.0 in
     let value : is_some (value_of keyed.0 keyed.1) ≡ true = sym c.put.ensures.answer ∙ c.if-not-put.false in
     let good : list_any (is_bad job) (before ++ word ∷ []) ≡ false = ap (λ (e : Entries). e.has_bad_word) last ∙ rw (so_far.1.good, value) refl in
     let Of : Entries → Type 0 = λ entries. Holds c.put.new.self entries in
@@ -54,7 +52,6 @@ loop-rest-preserved c =
     let OfWords : List (List ℕ) → Type 0 = λ ws. Holds c.put.new.self (entries_of job ws) in (
       froms ++ text ∷ [],
       record {
-        words = words ∙ ap (λ ws. ws ++ words_of after) (sym more);
         from = from;
         good = ap (list_any (is_bad job)) more ∙ good;
         holds = subst OfWords (sym more) holds;
@@ -71,7 +68,7 @@ returns-in_default-clause-from c =
     let text = c.loop-rest.rest.now in
     let some : 0 < length text = search rules in
     let here = from_words-begins text some so_far.begins in
-    let bad : is_bad job (word_of text) ≡ true = ap (λ (keyed : Option (Key × List ℕ)). not (is_entry keyed)) c.in_default.ensures.2 in
+    let bad : is_bad job (word_of text) ≡ true = ap (λ (keyed : Option (Key × List ℕ)). not (is_entry keyed)) c.in_default.ensures in
     sym (ap (bad_from job) (so_far.from ∙ ap (λ rest. c.loop-rest.invariant.0 ++ rest) here.1) ∙ bad_from-here job c.loop-rest.invariant.0 here.0 text so_far.good bad)
 
 -- a word with no value of its key
@@ -83,8 +80,8 @@ returns-then-not-put-clause-from c =
     let first = c.in-Some.ensures in
     let keyed : Key × List ℕ = (c.in-Some.entry.key, c.in-Some.entry.value.now) in
     let none : is_some (value_of keyed.0 keyed.1) ≡ false = sym c.put.ensures.answer ∙ c.if-not-put.true in
-    let bad : is_bad job (word_of text) ≡ true = ap (λ (k : Option (Key × List ℕ)). not (is_entry k)) first.2.0 ∙ ap not none in
-    sym (ap (bad_from job) (so_far.from ∙ ap (λ rest. c.loop-rest.invariant.0 ++ rest) first.2.2) ∙ bad_from-here job c.loop-rest.invariant.0 _ text so_far.good bad)
+    let bad : is_bad job (word_of text) ≡ true = ap (λ (k : Option (Key × List ℕ)). not (is_entry k)) first.0 ∙ ap not none in
+    sym (ap (bad_from job) (so_far.from ∙ ap (λ rest. c.loop-rest.invariant.0 ++ rest) first.1) ∙ bad_from-here job c.loop-rest.invariant.0 _ text so_far.good bad)
 
 -- no word is left
 all_words : (before words rest : List (List ℕ)) → words ≡ before ++ rest → rest ≡ [] → words ≡ before
@@ -99,7 +96,7 @@ returns-clause-step c =
     let job = c.args.words.now.job in
     let before = map word_of c.loop-rest.invariant.0 in
     let none : c.loop-rest.rest.now ≡ [] = search rules in
-    let words : words_of c.args.words.now.entries.now ≡ before = all_words before _ _ so_far.words (ap words_of none) in
+    let words : words_of c.args.words.now.entries.now ≡ before = ap (map word_of) (all_words c.loop-rest.invariant.0 _ _ so_far.from (ap from_words none)) in
     let Of : List (List ℕ) → Type 0 = λ ws. Holds c.loop-rest.self (entries_of job ws) in
     let holds = subst Of (sym words) so_far.holds in
     let single : is_some c.loop-rest.self.at_fault ≡ false = search rules in
