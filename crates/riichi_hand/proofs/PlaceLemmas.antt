@@ -18,6 +18,14 @@ any_parts : (a b : Bool) → (a || b) ≡ false → (a ≡ false) × (b ≡ fals
 any_parts false b none = (refl, none)
 any_parts true b none = absurd (cc)
 
+or_true : (a : Bool) → (a || true) ≡ true
+or_true false = refl
+or_true true = refl
+
+pub any_bad : (job : JobName) (froms more : List (List ℕ)) (from : List ℕ) → is_bad job (word_of from) ≡ true → list_any (is_bad job) (map word_of (froms ++ from ∷ more)) ≡ true
+any_bad job [] more from bad = rw bad refl
+any_bad job (first ∷ froms) more from bad = ap (λ other. is_bad job (word_of first) || other) (any_bad job froms more from bad) ∙ or_true (is_bad job (word_of first))
+
 pub bad_from-here : (job : JobName) (froms more : List (List ℕ)) (from : List ℕ) → list_any (is_bad job) (map word_of froms) ≡ false → is_bad job (word_of from) ≡ true → bad_from job (froms ++ from ∷ more) ≡ Some from
 bad_from-here job [] more from good bad = rw bad refl
 bad_from-here job (first ∷ froms) more from good bad =

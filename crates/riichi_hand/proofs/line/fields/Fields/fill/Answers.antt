@@ -11,7 +11,7 @@ use Rattle.riichi_hand.specs.Entries.{is_entry, is_bad, Entries, entries_of, Hol
 use Rattle.riichi_hand.specs.Places.{or_other, bad_from, has_doubled, doubled_from, entry_from}
 use Rattle.riichi_hand.proofs.FieldLemmas.{entries_of-last}
 use Rattle.riichi_hand.proofs.WordLemmas.{from_words-begins}
-use Rattle.riichi_hand.proofs.PlaceLemmas.{no_mark, marked, first_at-last, bad_from-here, entry_from-none}
+use Rattle.riichi_hand.proofs.PlaceLemmas.{no_mark, marked, first_at-last, any_bad, bad_from-here, entry_from-none}
 use Rattle.riichi_hand.proofs.line.fields.Fields.fill.Goals as goal
 
 pub loop-rest-init : goal.loop-rest-init
@@ -61,6 +61,19 @@ loop-rest-preserved c =
     )
 
 -- a word that is no entry
+pub returns-in_default-clause-step : goal.returns-in_default-clause-step
+returns-in_default-clause-step c =
+    let so_far = c.loop-rest.invariant.1 in
+    let job = c.args.words.now.job in
+    let froms = c.loop-rest.invariant.0 in
+    let text = c.loop-rest.rest.now in
+    let some : 0 < length text = search rules in
+    let here = from_words-begins text some so_far.begins in
+    let bad : is_bad job (word_of text) ≡ true = ap (λ (keyed : Option (Key × List ℕ)). not (is_entry keyed)) c.in_default.ensures in
+    let any : list_any (is_bad job) (words_of c.args.words.now.entries.now) ≡ true =
+    ap (λ all. list_any (is_bad job) (map word_of all)) (so_far.from ∙ ap (λ rest. froms ++ rest) here.1) ∙ any_bad job froms here.0 text bad in
+    rw any refl
+
 pub returns-in_default-clause-from : goal.returns-in_default-clause-from
 returns-in_default-clause-from c =
     let so_far = c.loop-rest.invariant.1 in
