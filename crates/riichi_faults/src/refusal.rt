@@ -5,8 +5,7 @@ ghost use Rattle.arrayvec.specs.ArrayString.{array_string_len};
 ghost use Rattle.riichi_hand.specs.Entries.{first_of};
 ghost use Rattle.riichi_hand.specs.Lines.{is_other_byte};
 ghost use Rattle.riichi_hand.specs.Places.{fault_from};
-ghost use Rattle.riichi_hand.specs.Places as spec_word;
-ghost use Rattle.riichi_hand.specs.Words.{words_of};
+ghost use Rattle.riichi_hand.specs.Words.{word_of, words_of};
 ghost use Rattle.riichi_faults.specs.LineWords.{word_at_fault};
 ghost use Rattle.riichi_faults.specs.Refusal as spec;
 
@@ -43,7 +42,7 @@ pub fn push_refusal_lines(text: &mut ArrayString<3072>, line: &[u8], refusal: &R
 
 fn word_in<'a>(from: Option<&'a [u8]>) -> Option<&'a [u8]>
     ensures { option_map (λ word. word.now) result
-        ≡ option_map spec_word.word_of (option_map (λ from. from.now) from.entry) }
+        ≡ option_map word_of (option_map (λ from. from.now) from.entry) }
 {
     Some(word_of(from?))
 }

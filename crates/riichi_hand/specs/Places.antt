@@ -1,5 +1,5 @@
 -- At which word of a line a fault stands. A place is the text of the line from there on.
-use Rattle.std.specs.Prelude.{ℕ, List, [], ◌∷◌, ◌++◌, Bool, true, false, ◌&&◌, Option, None, Some, nat_eq, nat_le, drop, count_by, codes, if◌then◌else◌}
+use Rattle.std.specs.Prelude.{ℕ, List, [], ◌∷◌, ◌++◌, Bool, ◌&&◌, Option, None, Some, nat_eq, nat_le, drop, count_by, codes, if◌then◌else◌}
 use Rattle.std.specs.List.{find, starts_with}
 use Rattle.riichi_tiles.specs.Notation.{is_digit}
 use Rattle.riichi_hand.specs.declared.fault.LineCode.{LineCode}
