@@ -1,9 +1,10 @@
 //! The answer to one line, and why it is so.
-ghost use Rattle.std.specs.Prelude.{◌≡◌, ℕ, List, ◌∷◌, ◌++◌, []};
+ghost use Rattle.std.specs.Prelude.{◌≡◌, ℕ, List, ◌∷◌, ◌++◌, [], option_map};
 ghost use Rattle.desk_core.specs.AnswerText.{answer_text};
 ghost use Rattle.desk_core.specs.Value.{value_of};
 ghost use Rattle.riichi_explain.specs.Explanation.{IsJobText, IsWinText, IsShapeText};
 ghost use Rattle.riichi_hand.specs.FaultTexts.{fault_text};
+ghost use Rattle.riichi_hand.specs.Places.{fault_from};
 ghost use Rattle.riichi_faults.specs.Refusal.{refusal_lines};
 ghost use Rattle.riichi_score.specs.Best.{best_of};
 ghost use Rattle.riichi_score.specs.Text as spec_win;
@@ -20,7 +21,7 @@ use super::responder::Responder;
 use riichi_explain::{explain_shape, explain_win, push_shanten_line, push_win_lines};
 use riichi_faults::push_refusal_lines;
 use riichi_hand::{
-    HandRecord, Job, LineFault, Rules, ShapeRecord, WinRecord, fault_text, read_line,
+    HandRecord, Job, Refusal, Rules, ShapeRecord, WinRecord, fault_text, read_placed,
 };
 use riichi_score::push_win;
 use riichi_shape::RowSource;
@@ -46,14 +47,14 @@ impl Responder for Explained {
         outbox: &mut Outbox,
         source: &mut S,
     ) -> LineKind {
-        match read_line(rules, line) {
+        match read_placed(rules, line) {
             Ok(None) => LineKind::NoRecord,
             Ok(Some(job)) => {
                 put_job(&job, outbox, source);
                 LineKind::Answered
             }
-            Err(fault) => {
-                put_refusal(line, &fault, outbox);
+            Err(refusal) => {
+                put_refusal(line, &refusal, outbox);
                 LineKind::Refused
             }
         }
@@ -109,13 +110,14 @@ fn put_forms<S: RowSource>(tiles: &ShapeRecord, outbox: &mut Outbox, source: &mu
     outbox.put_lines();
 }
 
-fn put_refusal(line: &[u8], fault: &LineFault, outbox: &mut Outbox)
-    requires { HasRoom outbox.old }
+fn put_refusal(line: &[u8], refusal: &Refusal<'_>, outbox: &mut Outbox)
+    requires room { HasRoom outbox.old }
+    requires from { option_map (λ from. from.now) refusal.now.from ≡ fault_from refusal.now.fault line.now }
     ensures { outbox.new.bytes.items ≡ outbox.old.bytes.items
-        ++ ((fault_text fault.now ++ 10 ∷ []) ++ refusal_lines line.now fault.now) }
+        ++ ((fault_text refusal.now.fault ++ 10 ∷ []) ++ refusal_lines line.now refusal.now.fault) }
 {
-    outbox.put_line(fault_text(fault).as_str().as_bytes());
+    outbox.put_line(fault_text(&refusal.fault).as_str().as_bytes());
     outbox.text.clear();
-    push_refusal_lines(&mut outbox.text, line, fault);
+    push_refusal_lines(&mut outbox.text, line, refusal);
     outbox.put_lines();
 }
