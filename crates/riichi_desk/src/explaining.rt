@@ -1,6 +1,6 @@
 //! The command `explain`: answers with the reasons for them.
 use crate::failure::Failure;
-use desk_lines::{DeskFault, DeskReport, KeptRows, Rules, explain_text_with};
+use desk_lines::{DeskFault, DeskReport, Rules, SuitMemo, explain_text_with};
 use desk_streams::{BytesIn, FromReader, ToWriter};
 use std::alloc::{AllocError, Global};
 use std::io::{self, Input, Print};
@@ -24,7 +24,7 @@ fn explained<R: Input + Print + AllocGlobal>(
     rules: Rules,
 ) -> Result<DeskReport, DeskFault> {
     let mut writer = ToWriter::new(io::writer(rt));
-    let mut rows = KeptRows::new(rt.alloc());
+    let mut rows = SuitMemo::new(rt.alloc());
     let Some(lines) = lines else {
         let mut reader = FromReader::new(rt.reader());
         return explain_text_with(&mut rows, rules, &mut reader, &mut writer);
