@@ -3,7 +3,7 @@ use Rattle.std.specs.List.{list_any, range_with_len}
 use Rattle.std.proofs.lemmas.Nat.{one_shl}
 use Rattle.riichi_tiles.specs.HeldKinds.{is_held}
 use Rattle.riichi_tiles.proofs.KindBits.{some-held}
-use Rattle.riichi_tiles.proofs.held_kinds.HeldKinds.has_some.Goals as goal
+use Rattle.riichi_tiles.proofs.kind_set.KindSet.has_some.Goals as goal
 
 pub returns : goal.returns
 returns c =

@@ -3,7 +3,7 @@ use Rattle.std.specs.Int.{trailing_zeros}
 use Rattle.std.proofs.lemmas.Nat.{shr_le}
 use Rattle.riichi_tiles.specs.HeldKinds.{is_held}
 use Rattle.riichi_tiles.proofs.KindBits.{none-above, first-above}
-use Rattle.riichi_tiles.proofs.held_kinds.HeldKinds.first_from.Goals as goal
+use Rattle.riichi_tiles.proofs.kind_set.KindSet.first_from.Goals as goal
 
 pub returns-then-above-eq0-clause-none : goal.returns-then-above-eq0-clause-none
 returns-then-above-eq0-clause-none c = λ other a b.
