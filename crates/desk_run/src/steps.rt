@@ -21,7 +21,7 @@ use crate::slot::Slot;
 use crate::view::View;
 use desk_core::{Piece, Ticket};
 use riichi_hand::Job;
-use riichi_shape::RowCache;
+use riichi_shape::RowSource;
 
 pub type Seat = atomic_table::Seat<Slot, View>;
 
@@ -231,16 +231,21 @@ impl Board {
     }
 
     /// Judges the job that was claimed, in its slot in front, and answers its ticket.
-    pub(crate) fn judge(&self, seat: &mut Seat, cache: &mut RowCache, place: usize) -> Ticket
+    pub(crate) fn judge<S: RowSource>(
+        &self,
+        seat: &mut Seat,
+        source: &mut S,
+        place: usize,
+    ) -> Ticket
         requires id { seat.old.table_id ≡ board_id self.now }
         requires claimed { (m : SeatState) × Claims m place seat.old.me }
         ensures id { seat.new.table_id ≡ seat.old.table_id }
         ensures me { (m : SeatState) → Claims m place seat.old.me
             → Judges m place result seat.new.me }
-        ensures stays { cache.new ≡ cache.old }
+        ensures stays { source.new ≡ source.old }
     {
         let slot = seat.slot_mut(&self.table.shared, place);
-        slot.judge(cache)
+        slot.judge(source)
     }
 
     /// The piece in front goes home, and the place is done.
