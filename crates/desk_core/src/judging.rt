@@ -20,9 +20,9 @@ pub fn judge(job: &Job) -> Answer
     }
 }
 
-/// The same, where a shape is answered by the rows of a source: the same whichever it is.
+/// The same, where a shape is answered by the rows of a source: it is the same value, whatever the source.
 #[tactic(auto, unfolding(crate::specs::Value::value_of))]
-pub fn judge_with<S: RowSource>(source: &mut S, job: &Job) -> Answer
+pub fn judge_with<R: RowSource>(source: &mut R, job: &Job) -> Answer
     ensures value { result ≡ value_of job.now }
     ensures stays { source.new ≡ source.old }
 {

@@ -53,7 +53,7 @@ impl Piece {
     }
 
     /// Judges the job, a shape by the rows of a source.
-    pub fn score_with<S: RowSource>(source: &mut S, ticket: Ticket, job: Job) -> Piece
+    pub fn score_with<R: RowSource>(source: &mut R, ticket: Ticket, job: Job) -> Piece
         ensures ticket { result.ticket ≡ ticket }
         ensures job { result.job ≡ job }
         ensures stays { source.new ≡ source.old }
