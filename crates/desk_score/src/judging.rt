@@ -19,10 +19,10 @@ fn places_of(sheets: usize) -> u32
     ensures { (1 ≤ result) × (result ≤ 32) }
 {
     match sheets {
-        0..=1 => 32,
-        2 => 32,
-        3..=4 => 16,
-        _ => 8,
+        0..=1 => 16,
+        2 => 8,
+        3..=4 => 4,
+        _ => 2,
     }
 }
 
