@@ -6,7 +6,7 @@ use crate::files::open_file;
 use crate::scoring::score_files;
 use crate::version::print_version;
 use clap::error::ErrorKind;
-use desk_lines::{Rules, desk_text, json_text, replay_text, waits_answer};
+use desk_lines::{Rules, SuitMemo, desk_text_with, json_text_with, replay_text, waits_answer};
 use desk_score::ScoreFault;
 use desk_streams::{FromReader, ToWriter};
 use desk_words::{Form, Request, commands, request_of};
@@ -80,16 +80,17 @@ fn print_waits<R: Print>(rt: &R, hand: &str) -> Result<bool, Failure<'static>> {
 }
 
 /// Answers the record lines of standard input on standard output.
-fn answer_lines<R: Input + Print>(
+fn answer_lines<R: Input + Print + AllocGlobal>(
     rt: &R,
     form: Form,
     rules: Rules,
 ) -> Result<bool, Failure<'static>> {
     let mut reader = FromReader::new(rt.reader());
     let mut writer = ToWriter::new(io::writer(rt));
+    let mut rows = SuitMemo::new(rt.alloc());
     let report = match form {
-        Form::Words => desk_text(rules, &mut reader, &mut writer)?,
-        Form::Json => json_text(rules, &mut reader, &mut writer)?,
+        Form::Words => desk_text_with(&mut rows, rules, &mut reader, &mut writer)?,
+        Form::Json => json_text_with(&mut rows, rules, &mut reader, &mut writer)?,
     };
     Ok(report.refused > 0)
 }

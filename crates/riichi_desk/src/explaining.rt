@@ -1,6 +1,6 @@
 //! The command `explain`: answers with the reasons for them.
 use crate::failure::Failure;
-use desk_lines::{DeskFault, DeskReport, Rules, explain_text};
+use desk_lines::{DeskFault, DeskReport, Rules, SuitMemo, explain_text_with};
 use desk_streams::{BytesIn, FromReader, ToWriter};
 use std::alloc::{AllocError, Global};
 use std::io::{self, Input, Print};
@@ -24,15 +24,16 @@ fn explained<R: Input + Print + AllocGlobal>(
     rules: Rules,
 ) -> Result<DeskReport, DeskFault> {
     let mut writer = ToWriter::new(io::writer(rt));
+    let mut rows = SuitMemo::new(rt.alloc());
     let Some(lines) = lines else {
         let mut reader = FromReader::new(rt.reader());
-        return explain_text(rules, &mut reader, &mut writer);
+        return explain_text_with(&mut rows, rules, &mut reader, &mut writer);
     };
     let Ok(text) = joined(rt.alloc(), lines) else {
         return Err(DeskFault::Memory);
     };
     let mut reader = BytesIn::new(text.as_bytes(), text.len() + 1, None);
-    explain_text(rules, &mut reader, &mut writer)
+    explain_text_with(&mut rows, rules, &mut reader, &mut writer)
 }
 
 /// The lines, each with its line feed.
