@@ -76,11 +76,17 @@ impl<'b> Peeking<'b> {
             found: 0,
         }
     }
+
+    /// How many pieces it finds.
+    fn look(&mut self) -> u32 {
+        self.table.collect(self.board)
+    }
 }
 
 impl<'b> Gate for Peeking<'b> {
     fn before_finish(&mut self, _ticket: Ticket) {
-        self.found = self.found.saturating_add(self.table.collect(self.board));
+        let found = self.look();
+        self.found = self.found.saturating_add(found);
     }
 }
 
@@ -108,6 +114,6 @@ fn the_gate_comes_before_the_piece(rt: HostRuntime) -> Result<(), Fail> {
         worker.work_once(&board, &mut gate, &mut cache) == Worked::Did(ticket(0)),
     );
     holds(&rt, gate.found == 0);
-    holds(&rt, gate.table.collect(&board) == 1);
+    holds(&rt, gate.look() == 1);
     Ok(())
 }
