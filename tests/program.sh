@@ -228,9 +228,12 @@ for ((i = 0; i < 64; i++)); do many+=("$room/second"); done
 row 0 "$(for ((i = 0; i < 64; i++)); do echo "table $i"; done)" '' score "${many[@]}"
 row 2 '' 'riichi_desk: fault B1' score "${many[@]}" "$room/none"
 row 0 "$(for ((i = 0; i < 63; i++)); do echo "table $i"; done)" '' score "${many[@]:1}"
-# a hand too many in one file; no memory for the hands; no memory for a thread's stack
+# a hand too many in one file, and just as many as it may have; no memory for the hands; no memory for a thread's stack
 yes 'waits 1112345678999m' | head -n 1000001 > "$room/many"
 row 2 '' 'riichi_desk: fault B1' score "$room/many"
+head -n 1000000 "$room/many" > "$room/most"
+told 'a score of 1,000,000 hands' "$({ echo 'table 0'; yes 'waits 123456789m' | head -n 1000000; } | sha256sum)" "$("$program" score "$room/most" 2> "$room/said" | sha256sum)"
+rm "$room/most"
 told 'a score without memory' $'riichi_desk: fault F3\nstatus 4' "$(ulimit -v 60000; "$program" score "$room/many" 2>&1; echo "status $?")"
 told 'a score without a thread' $'riichi_desk: fault B4\nstatus 4' "$(ulimit -v 30000; "$program" score --workers 4 "$room/first" 2>&1; echo "status $?")"
 told 'a full disk at the end of a score' $'riichi_desk: fault F2\nstatus 3' "$("$program" score "$room/first" 2>&1 > /dev/full; echo "status $?")"
