@@ -83,10 +83,13 @@ done
 told 'the help of riichi_desk help-codes has the exit statuses' 4 "$("$program" help-codes --help | sed -n '/^Exit status:$/,$p' | grep -cE '^  [0-4]  ')"
 told 'the help names the commands' 6 "$("$program" --help | grep -cE '^  (waits|line|explain|replay|score|help-codes) ')"
 
+told 'help and a full disk' 'status 3' "$("$program" --help 2>&1 > /dev/full; echo "status $?")"
+told 'the codes and a full disk' $'riichi_desk: fault F2\nstatus 3' "$("$program" help-codes 2>&1 > /dev/full; echo "status $?")"
+
 # the command line: no input, a page of lines with its answers, and each example of the rules
 row 0 '' '' line
-printf '# table three\nwaits 1112345678999m\n\nwaits 8z\r\nwaits 123456789m1134p' > "$room/input"
-row 1 $'waits 123456789m\nrefused N5 hand at 0\nwaits 25p' '' line
+printf '# table three\nwaits 1112345678999m\n\nwaits 8z\r\nshape 123456789m1134p seen=111p\nwaits 123456789m1134p' > "$room/input"
+row 1 $'waits 123456789m\nrefused N5 hand at 0\nrefused H9\nwaits 25p' '' line
 : > "$room/input"
 answers examples/club-night.lines examples/club-night.answers
 answers examples/rules.lines examples/rules.answers
@@ -125,6 +128,7 @@ told 'explain --rules 2' 'won 4 han 30 fu 8000 gain 8000 pinfu pure-straight dor
 cp "$room/own" "$room/input"
 row 0 'won 3 han 30 fu 3900 gain 3900 pinfu pure-straight' '' line --rules 2
 row 2 '' "invalid value '3' for '--rules <N>'" line --rules 3
+row 2 '' "invalid value '0' for '--rules <N>'" line --rules 0
 : > "$room/input"
 row 0 '' '' explain
 told 'explain and a full disk' $'riichi_desk: fault F2: the answers can\'t be written\nstatus 3' "$("$program" explain "$disputed" 2>&1 > /dev/full; echo "status $?")"
@@ -183,6 +187,11 @@ told 'the answer to the next line' 'refused N5 hand at 0' "${typed:-nothing}"
 eval "exec $to_desk>&-"
 wait "$typist" 2> /dev/null
 
+# one Ctrl-D at a terminal ends the lines: nothing is read behind the end
+type_end='import os, pty, signal, sys; signal.alarm(20); pid, screen = pty.fork(); pid or os.execv(sys.argv[1], sys.argv[1:])
+os.write(screen, b"waits 8z\n\4"); print("status", os.waitstatus_to_exitcode(os.waitpid(pid, 0)[1]))'
+told 'one Ctrl-D ends the lines' 'status 1' "$(python3 -c "$type_end" "$program" line 2>&1)"
+
 # one line of ten million bytes, then one more
 { head -c 10000000 /dev/zero | tr '\0' 'm'; printf '\nwaits 8z\n'; } > "$room/long"
 told 'a line of ten million bytes' $'refused H1\nrefused N5 hand at 0' "$("$program" line < "$room/long")"
@@ -232,6 +241,12 @@ row 2 '' 'riichi_desk: fault B1' score "$room/many"
 told 'a score without memory' $'riichi_desk: fault F3\nstatus 4' "$(ulimit -v 60000; "$program" score "$room/many" 2>&1; echo "status $?")"
 told 'a score without a thread' $'riichi_desk: fault B4\nstatus 4' "$(ulimit -v 30000; "$program" score --workers 4 "$room/first" 2>&1; echo "status $?")"
 told 'a full disk at the end of a score' $'riichi_desk: fault F2\nstatus 3' "$("$program" score "$room/first" 2>&1 > /dev/full; echo "status $?")"
+# each worker is a thread, and one more plays the tables
+cc -shared -fPIC -o "$room/count.so" tests/count.c -ldl
+for workers in 1 3; do
+  THREADS_COUNT=$room/count LD_PRELOAD=$room/count.so "$program" score --workers $workers "$room/first" > /dev/null
+  told "the threads of $workers workers" $((workers + 1)) "$(cat "$room/count")"
+done
 # each table of a score is answered as `line` answers its file, whatever the workers; one of them has 57,400 lines
 for ((i = 0; i < 350; i++)); do cat examples/rules.lines; done > "$room/long"
 {

@@ -40,6 +40,28 @@ fn gives_each_reading(rt: HostRuntime) -> Result<(), Fail> {
     Ok(())
 }
 
+/// Runs and a pair that the winning tile completes, and beside them seven pairs.
+#[test]
+fn reads_pairs_as_runs_too(rt: HostRuntime) -> Result<(), Fail> {
+    let counts = tiles(b"112233m556677p99s")?;
+    let mut pairs = 0;
+    for reading in Readings::new(&counts, &Melds::new(), Kind::at(26)) {
+        match reading {
+            Reading::Standard { sets, pair, done } => {
+                let (low, high) = (Block::Run(Kind::at(0)), Block::Run(Kind::at(13)));
+                same(&rt, sets.as_slice(), &[low, low, high, high]);
+                same(&rt, pair, Kind::at(26));
+                same(&rt, done, Block::Pair(Kind::at(26)));
+            }
+            Reading::SevenPairs => pairs += 1,
+            Reading::Orphans => return Err("no orphans".into()),
+        }
+        holds(&rt, pairs <= 1);
+    }
+    same(&rt, pairs, 1);
+    Ok(())
+}
+
 #[test]
 fn completes_the_triplet_or_the_run(rt: HostRuntime) -> Result<(), Fail> {
     let counts = tiles(b"999978m444p567s22s")?;
