@@ -1,7 +1,7 @@
 use crate::facts::{holds, same};
 use riichi_hand::HandRecord;
 use riichi_split::*;
-use riichi_tiles::{Block, Counts, Kind, KindSet, Meld, Melds, read_counts};
+use riichi_tiles::{Counts, Kind, KindSet, Meld, Melds, read_counts};
 use std::test::Fail;
 
 fn tiles(text: &[u8]) -> Result<Counts, Fail> {
