@@ -37,7 +37,7 @@ if python3 -c 'import jsonschema' 2> /dev/null; then
     "$(for text in "${texts[@]}"; do "$program" line < "$text"; done | wc -l) valid" \
     "$(for text in "${texts[@]}"; do "$program" line --json < "$text"; done | python3 -B tests/valid_answers.py docs/answer.schema.json)"
 else
-  echo 'python3-jsonschema is not here: docs/answer.schema.json is not tried'
+  skip 'answers by their JSON Schema' python3-jsonschema
 fi
 # (a machine that builds the rest may have no Rust)
 if command -v rustc > /dev/null; then
@@ -45,6 +45,6 @@ if command -v rustc > /dev/null; then
   told 'a program in Rust' "$(sha256sum < "$made/wanted")" "$("$made/in_rust" < "$made/lines" | sha256sum)"
   told 'a program in Rust, with explanations' "$(sha256sum < "$made/explained")" "$("$made/in_rust" explain < "$made/lines" | sha256sum)"
 else
-  echo 'rustc is not here: the program in Rust is not tried'
+  skip 'a program in Rust' rustc
 fi
 told 'what the library asks of the C library' 'memcpy memmove memset' "$(nm -u "$archive" | sed -n 's/^ *U //p' | sort -u | xargs)"
