@@ -39,11 +39,11 @@ total-three : (p q r : FuPart) (a b c : ℕ) → fu_total (earned p a ++ earned 
 total-three p q r a b c = omega (arith, total-append (earned p a ++ earned q b) (earned r c), total-two p q a b, total-earned r c)
 
 -- no wind is a dragon
-pub wind-below : (wind : Wind) → wind_kind wind < white
-wind-below East = omega arith
-wind-below South = omega arith
-wind-below West = omega arith
-wind-below North = omega arith
+pub wind_below : (wind : Wind) → wind_kind wind < white
+wind_below East = omega arith
+wind_below South = omega arith
+wind_below West = omega arith
+wind_below North = omega arith
 
 total-set : (win : WinParts) (block : HandBlock) → fu_total (set_rows win block) + fu_total (rows_if_pair win block) ≡ block_fu win block
 total-set win (Run low) = refl

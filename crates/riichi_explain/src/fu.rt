@@ -181,7 +181,7 @@ fn push_rows_of_pair(rows: &mut FuRows, blocks: &Blocks, win: &WinRecord)
 }
 
 /// No kind is both a dragon and a wind.
-#[tactic(auto, using(crate::proofs::FuLemmas::wind-below))]
+#[tactic(auto, using(crate::proofs::FuLemmas::wind_below))]
 fn push_pair_rows(rows: &mut FuRows, kind: Kind, win: &WinRecord)
     requires { length rows.old.items ≤ 18 }
     ensures items { rows.new.items ≡ rows.old.items ++ spec.pair_rows win.now kind }
