@@ -174,9 +174,18 @@ fn push_rows_of_pair(rows: &mut FuRows, blocks: &Blocks, win: &WinRecord)
     ensures most { length rows.new.items ≤ length rows.old.items + 10 }
 {
     for block in blocks.as_slice() {
-        if let HandBlock::Pair(kind) = *block {
-            push_pair_rows(rows, kind, win);
-        }
+        push_rows_if_pair(rows, block, win);
+    }
+}
+
+fn push_rows_if_pair(rows: &mut FuRows, block: &HandBlock, win: &WinRecord)
+    requires { length rows.old.items ≤ 18 }
+    ensures items { rows.new.items ≡ rows.old.items ++ spec.rows_if_pair win.now block.now }
+    ensures most { length rows.new.items ≤ length rows.old.items + 2 }
+{
+    match *block {
+        HandBlock::Pair(kind) => push_pair_rows(rows, kind, win),
+        HandBlock::Run(_) | HandBlock::Triplet { .. } | HandBlock::Kong { .. } => {}
     }
 }
 
