@@ -50,8 +50,10 @@ total-set win (Run low) = refl
 total-set win (Triplet kind concealed) = omega (arith, total-earned (part.Triplet kind concealed) (block_fu win (Triplet kind concealed)))
 total-set win (Kong kind concealed) = omega (arith, total-earned (part.Kong kind concealed) (block_fu win (Kong kind concealed)))
 total-set win (Pair kind) =
-    total-three (part.DragonPair kind) (part.SeatWindPair kind) (part.PrevalentWindPair kind)
-    (cond (leb white kind) 2 0) (cond (eqb kind (wind_kind win.seat)) 2 0) (cond (eqb kind (wind_kind win.round)) 2 0)
+    let a = cond (leb white kind) 2 0 in
+    let b = cond (eqb kind (wind_kind win.seat)) 2 0 in
+    let c = cond (eqb kind (wind_kind win.round)) 2 0 in
+    omega (arith, total-three (part.DragonPair kind) (part.SeatWindPair kind) (part.PrevalentWindPair kind) a b c)
 
 total-sets : (win : WinParts) (blocks : List HandBlock) → fu_total (flat_map (set_rows win) blocks) + fu_total (flat_map (rows_if_pair win) blocks) ≡ sum_by (block_fu win) blocks
 total-sets win [] = refl

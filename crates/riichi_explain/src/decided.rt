@@ -8,15 +8,15 @@ use crate::payers::{PayRow, Payer};
 use riichi_tiles::Decided;
 
 impl Decided for HanPart {
-    ghost use Rattle.riichi_yaku.specs.contracts.decided.YakuDecided.TheImpl.Laws.{decides-law as yaku_decides};
+    ghost use Rattle.riichi_explain.specs.Equality.{han_parts_decide};
 
-    ghost decides = { λ a b. Prim.search (rules, yaku_decides) };
+    ghost decides = { han_parts_decide };
 }
 
 impl Decided for HanRow {
-    ghost use Rattle.riichi_explain.specs.contracts.decided.HanPartDecided.TheImpl.Laws.{decides-law as parts_decide};
+    ghost use Rattle.riichi_explain.specs.Equality.{han_rows_decide};
 
-    ghost decides = { λ a b. Prim.search (rules, parts_decide) };
+    ghost decides = { han_rows_decide };
 }
 
 impl Decided for FuPart {
