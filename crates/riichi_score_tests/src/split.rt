@@ -1,7 +1,7 @@
 use crate::facts::{holds, same};
 use riichi_hand::HandRecord;
 use riichi_split::*;
-use riichi_tiles::{Counts, Kind, KindSet, Meld, Melds, read_counts};
+use riichi_tiles::{Block, Counts, Kind, KindSet, Meld, Melds, read_counts};
 use std::test::Fail;
 
 fn tiles(text: &[u8]) -> Result<Counts, Fail> {
@@ -40,25 +40,20 @@ fn gives_each_reading(rt: HostRuntime) -> Result<(), Fail> {
     Ok(())
 }
 
-/// Runs and a pair that the winning tile completes, and beside them seven pairs.
+/// Two equal runs twice and a pair are seven pairs too.
 #[test]
-fn reads_pairs_as_runs_too(rt: HostRuntime) -> Result<(), Fail> {
+fn reads_runs_and_seven_pairs(rt: HostRuntime) -> Result<(), Fail> {
     let counts = tiles(b"112233m556677p99s")?;
-    let mut pairs = 0;
-    for reading in Readings::new(&counts, &Melds::new(), Kind::at(26)) {
-        match reading {
-            Reading::Standard { sets, pair, done } => {
-                let (low, high) = (Block::Run(Kind::at(0)), Block::Run(Kind::at(13)));
-                same(&rt, sets.as_slice(), &[low, low, high, high]);
-                same(&rt, pair, Kind::at(26));
-                same(&rt, done, Block::Pair(Kind::at(26)));
-            }
-            Reading::SevenPairs => pairs += 1,
-            Reading::Orphans => return Err("no orphans".into()),
-        }
-        holds(&rt, pairs <= 1);
-    }
-    same(&rt, pairs, 1);
+    let mut readings = Readings::new(&counts, &Melds::new(), Kind::at(26));
+    same(&rt, readings.next(), Some(Reading::SevenPairs));
+    let Some(Reading::Standard { sets, pair, done }) = readings.next() else {
+        return Err("a standard reading".into());
+    };
+    let (low, high) = (Block::Run(Kind::at(0)), Block::Run(Kind::at(13)));
+    holds(&rt, sets.as_slice() == [low, low, high, high].as_slice());
+    same(&rt, pair, Kind::at(26));
+    same(&rt, done, Block::Pair(Kind::at(26)));
+    same(&rt, readings.next(), None);
     Ok(())
 }
 
