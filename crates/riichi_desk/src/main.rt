@@ -1,15 +1,16 @@
 //! The program `riichi_desk`: a scoring desk for riichi mahjong.
 //!
-//! `desk_words` reads the command line into a `Request`, `answers` carries it out over the standard streams, `explaining`
-//! with reasons and `scoring` over files, `codes` and `version` print what they are named for, and `failure` says what is
-//! written on standard error and with which exit status the program ends.
+//! `desk_words` reads the command line into a `Request`, `answers` carries it out, `lines` over record lines and `scoring`
+//! over the files of tables, `codes` and `version` print what they are named for. `failure` says what is written on standard
+//! error and with which exit status the program ends; `noted` keeps what the system said of a stream that failed.
 #![tactic(auto)]
 
 mod answers;
 mod codes;
-mod explaining;
 mod failure;
 mod files;
+mod lines;
+mod noted;
 mod scoring;
 mod version;
 

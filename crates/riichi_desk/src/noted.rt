@@ -1,0 +1,124 @@
+//! What the system said of the stream that failed last.
+use std::cell::Cell;
+use std::io::{self, Eprint, ErrorKind, Print, Printer, Read, Write};
+
+/// The failure of a stream: its name, and what the system said.
+#[derive(Clone, Copy)]
+struct Note<'a> {
+    name: &'a str,
+    kind: ErrorKind,
+    code: Option<i32>,
+}
+
+/// The failure that was noted last.
+#[derive(Drop)]
+pub struct Notes<'a> {
+    last: Cell<Option<Note<'a>>>,
+}
+
+/// A stream whose failures are noted under its name.
+#[derive(Drop)]
+pub struct Noted<'n, 'a, T> {
+    stream: T,
+    name: &'a str,
+    notes: &'n Notes<'a>,
+}
+
+impl<'a> Notes<'a> {
+    /// No failure yet.
+    pub fn new() -> Notes<'a> {
+        Notes {
+            last: Cell::new(None),
+        }
+    }
+
+    /// A reader whose failures are noted under this name.
+    pub fn reader<'n, T: Read>(&'n self, name: &'a str, stream: T) -> Noted<'n, 'a, T> {
+        Noted {
+            stream,
+            name,
+            notes: self,
+        }
+    }
+
+    /// Standard output, whose failures are noted.
+    pub fn output<'n, P: Print>(&'n self, rt: &'n P) -> Noted<'n, 'a, Printer<'n, P>> {
+        Noted {
+            stream: io::writer(rt),
+            name: OUTPUT,
+            notes: self,
+        }
+    }
+
+    /// Notes that standard output failed.
+    pub fn output_failed(&self, error: &io::Error) {
+        self.note(OUTPUT, error);
+    }
+
+    fn note(&self, name: &'a str, error: &io::Error) {
+        self.last.set(Some(Note {
+            name,
+            kind: error.kind(),
+            code: error.raw_os_error(),
+        }));
+    }
+
+    /// Whether what failed last is that nobody reads standard output any more.
+    pub fn is_unread(&self) -> bool {
+        match self.last.get() {
+            Some(note) => note.kind == ErrorKind::BrokenPipe,
+            None => false,
+        }
+    }
+
+    /// Says on standard error which stream failed, in the system's words.
+    pub fn tell<R: Eprint>(&self, rt: &R) {
+        if let Some(note) = self.last.get() {
+            let name = note.name;
+            match note.code {
+                Some(code) => {
+                    let error = io::Error::from_raw_os_error(code);
+                    let _ = eprintln!(rt; "riichi_desk: {name}: {error}");
+                }
+                None => {
+                    let kind = note.kind;
+                    let _ = eprintln!(rt; "riichi_desk: {name}: {kind}");
+                }
+            }
+        }
+    }
+}
+
+const OUTPUT: &str = "standard output";
+
+impl<R: Read> Read for Noted<'_, '_, R> {
+    ghost remaining = { λ noted. R.remaining noted.stream };
+
+    fn read(&mut self, buffer: &mut [u8]) -> io::Result<usize> {
+        match self.stream.read(buffer) {
+            Ok(count) => Ok(count),
+            Err(error) => {
+                self.notes.note(self.name, &error);
+                Err(error)
+            }
+        }
+    }
+}
+
+impl<W: Write> Write for Noted<'_, '_, W> {
+    ghost contents = { λ noted. W.contents noted.stream };
+
+    fn write(&mut self, bytes: &[u8]) -> io::Result<usize> {
+        match self.stream.write(bytes) {
+            Ok(count) => Ok(count),
+            Err(error) => {
+                self.notes.note(self.name, &error);
+                Err(error)
+            }
+        }
+    }
+
+    fn flush(&mut self) -> io::Result<()> {
+        self.stream.flush()
+    }
+}
