@@ -7,3 +7,4 @@ pub mod BlockKinds
 pub mod Winner
 pub mod Pairs
 pub mod Waits
+pub mod Equality

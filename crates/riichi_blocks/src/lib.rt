@@ -17,6 +17,7 @@
 
 mod block_kinds;
 mod blocks;
+mod decided;
 mod green;
 mod hand_block;
 mod held;

@@ -1,21 +1,32 @@
 //! Suit rows that are kept.
 //!
-//! A `RowCache` is a `RowSource` that keeps the rows it was asked for last, up to its capacity, and
-//! makes a row anew only where it keeps none of that key. Each row that it keeps is by its type the
-//! row of its key, so it answers as `FreshRows` does, whatever it was asked before. It never fails:
-//! a row for which there is no memory is not kept. The rows that a hand of fourteen tiles asks for,
-//! with and without each of its tiles, share their work: they are made at once, and none is kept.
+//! Three sources of rows that keep what they make, and make a row anew only where they keep none of
+//! that key. Each row that one keeps is by its type the row of its key, so it answers as
+//! `FreshRows` does, whatever it was asked before. None fails.
+//!
+//! - `RowMemo` has a place for each of so many rows, and finds the place of a row by its counts and
+//!   caps. Where the place has that very row, it is the answer; else the row is made, and takes the
+//!   place of the other. It is the fastest.
+//! - `FrameMemo` is the same of `N` places in the value itself: it takes no memory.
+//! - `RowCache` keeps the rows that it was asked for last, up to its capacity. A row for which there
+//!   is no memory is not kept.
 //!
 //! ```text
-//! let mut cache = RowCache::new(alloc, 512)?;            // 512 rows at most
-//! let row = cache.row(&[0; 9], &[4; 9], true);         // made, and kept
-//! let again = cache.row(&[0; 9], &[4; 9], true);       // found
+//! let mut memo = RowMemo::new(alloc, 16384)?;          // 16,384 places
+//! let row = memo.row(&[0; 9], &[4; 9], true);          // made, and kept
+//! let again = memo.row(&[0; 9], &[4; 9], true);        // found
 //! ```
 #![tactic(auto)]
 
+mod frame_memo;
+mod kept_row;
 mod memory;
+mod place;
 mod row_cache;
 mod row_key;
+mod row_memo;
 
+pub use frame_memo::FrameMemo;
 pub use memory::Memory;
 pub use row_cache::RowCache;
+pub use row_memo::RowMemo;

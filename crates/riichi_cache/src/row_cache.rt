@@ -6,7 +6,7 @@ ghost use Rattle.riichi_cache.specs.Kept.{AreRows};
 use crate::memory::Memory;
 use crate::row_key::RowKey;
 use lru::LruCache;
-use riichi_rows::{RowSource, SuitRow, SuitRows, suit_row, suit_rows};
+use riichi_rows::{RowSource, SuitRow, suit_row};
 use std::alloc::Global;
 use std::marker::Model;
 use std::num::NonZeroUsize;
@@ -73,10 +73,5 @@ impl RowSource for RowCache {
             runs,
         };
         kept_row(&mut self.rows, key)
-    }
-
-    // They share their tables, and seldom come again: they are made at once, and none is kept.
-    fn rows(&mut self, counts: &[u8; 9], caps: &[u8; 9], runs: bool) -> SuitRows {
-        suit_rows(counts, caps, runs)
     }
 }

@@ -1,5 +1,5 @@
 //! What a row is kept under.
-ghost use Rattle.std.specs.Prelude.{◌∷◌};
+ghost use Rattle.std.specs.Prelude.{◌≡◌, ◌∷◌, IsTrue};
 ghost use Rattle.std.proofs.Common.{rules};
 ghost use Rattle.std.specs.Hash as fed;
 ghost use Rattle.std.specs.Cmp.Rules.{hashing};
@@ -24,5 +24,40 @@ impl Hash for RowKey {
         state.write(&self.counts);
         state.write(&self.caps);
         self.runs.hash(state);
+    }
+}
+
+/// Whether nine numbers are the same: eight at once.
+#[inline(always)]
+fn are_same(some: &[u8; 9], others: &[u8; 9]) -> bool
+    ensures { IsTrue result → some.now ≡ others.now }
+{
+    let [a, b, c, d, e, f, g, h, last] = *some;
+    let [i, j, k, l, m, n, o, p, other_last] = *others;
+    let first = u64::from_le_bytes([a, b, c, d, e, f, g, h]);
+    let other_first = u64::from_le_bytes([i, j, k, l, m, n, o, p]);
+    first == other_first && last == other_last
+}
+
+impl RowKey {
+    #[inline(always)]
+    pub(crate) fn new(counts: &[u8; 9], caps: &[u8; 9], runs: bool) -> RowKey
+        ensures { result ≡ record { counts = counts.now; caps = caps.now; runs = runs } }
+    {
+        RowKey {
+            counts: *counts,
+            caps: *caps,
+            runs,
+        }
+    }
+
+    /// Whether it is the same key.
+    #[inline(always)]
+    pub(crate) fn is(&self, other: &RowKey) -> bool
+        ensures { IsTrue result → self.now ≡ other.now }
+    {
+        self.runs == other.runs
+            && are_same(&self.counts, &other.counts)
+            && are_same(&self.caps, &other.caps)
     }
 }

@@ -11,3 +11,4 @@ pub mod Parts
 pub mod Texts
 pub mod Jobs
 pub mod Lines
+pub mod Equality

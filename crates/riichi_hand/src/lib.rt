@@ -20,6 +20,7 @@
 //! ```
 #![tactic(auto)]
 
+mod decided;
 mod fault;
 mod hand;
 mod job;

@@ -1,9 +1,7 @@
-pub mod Beside
 pub mod Blocks
 pub mod CostLemmas
 pub mod JoinOrders
 pub mod Joins
-pub mod KeptTables
 pub mod LackedRanks
 pub mod LaneLemmas
 pub mod MarkLemmas
@@ -18,4 +16,3 @@ pub mod Spread
 pub mod Steps
 pub mod Tables
 pub mod WholeSuit
-pub mod WithoutEach

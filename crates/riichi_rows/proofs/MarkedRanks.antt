@@ -1,19 +1,18 @@
 -- One rank in front of the later ones, for the counts as they are and with one more tile of each rank.
-use Rattle.std.proofs.Common.{◌≡◌, ℕ, zero, suc, ◌+◌, ◌*◌, ◌-◌, ◌^◌, ◌<◌, ◌≤◌, Bool, true, false, List, [], ◌∷◌, drop, get_or, length, set, sym, subst, ap, ◌∙◌, ⊎_elim, inl, inr, arith}
+use Rattle.std.proofs.Common.{◌≡◌, ℕ, zero, suc, ◌+◌, ◌*◌, ◌-◌, ◌^◌, ◌<◌, ◌≤◌, Bool, List, [], ◌∷◌, drop, get_or, length, sym, subst, ap, ◌∙◌, ⊎_elim, inl, inr, arith}
 use Rattle.std.specs.Prelude.{◌⊎◌, ◌≢◌, bit_and, slice_index}
 use Rattle.std.specs.Int.Bits.{and_zero_r}
 use Rattle.std.proofs.Math.Seq.{drop-cons}
 use Rattle.std.proofs.lemmas.Bool.{cases_lt}
 use Rattle.std.proofs.lemmas.Bool.Decides.{nat_tests}
-use Rattle.std.proofs.lemmas.List.{drop_all, length-drop, drop-set, drop-set-add, drop-set-lt, get_or-drop, get_or-set_other, length-set}
+use Rattle.std.proofs.lemmas.List.{drop_all, length-drop, drop-set, drop-set-lt, get_or-drop, get_or-set_other, length-set}
 use Rattle.std.proofs.lemmas.Nat.{pow_apart}
 use Rattle.riichi_rows.specs.Columns.{AreLeast, Column, Fits, lack_from, LeastFrom}
 use Rattle.riichi_rows.specs.Lanes.{Agree, lack_with, lane, mark}
 use Rattle.riichi_rows.specs.Open.{AreFew, Begun, FewBegun, FewOpen, LeastBegun, LeastOpen, SameBegun, SameOpen}
 use Rattle.riichi_rows.specs.Open as table
-use Rattle.riichi_rows.specs.Ranks.{AreRanks, AreRanksWithoutRuns, HoldsFrom, LeastAlone, OpenLeast, one_more}
+use Rattle.riichi_rows.specs.Ranks.{AreRanks, HoldsFrom, OpenLeast, one_more}
 use Rattle.riichi_rows.specs.Seen.{begun_seen, open_seen, seen}
-use Rattle.riichi_rows.specs.Without.{one_less}
 use Rattle.riichi_rows.specs.declared.marked_lanes.MarkedLanes.{MarkedLanes}
 use Rattle.riichi_rows.specs.declared.open.Begun as code
 use Rattle.riichi_rows.specs.declared.open.Open as open_code
@@ -44,18 +43,18 @@ module _ (runs : Bool) (counts caps : List ℕ) (few : AreCaps caps) (short : le
   pub are_few : (a b : ℕ) (f : ℕ → ℕ → ℕ) → AreLeast runs counts caps a b f → AreFew f
   are_few a b f least s p hs hp low = omega (arith, reached_small a b s p (f s p) (least.at s p hs hp) low)
 
-pub few_begun : (counts caps : List ℕ) → AreCaps caps → length caps ≤ 9 → (a : ℕ) (x : Begun) → LeastBegun counts caps a x → FewBegun x
-few_begun counts caps few short a x least = record {
-  zero = are_few true counts caps few short 0 a x.zero least.zero_begun;
-  one = are_few true counts caps few short 1 a x.one least.one_begun;
-  two = are_few true counts caps few short 2 a x.two least.two_begun;
+pub few_begun : (runs : Bool) (counts caps : List ℕ) → AreCaps caps → length caps ≤ 9 → (a : ℕ) (x : Begun) → LeastBegun runs counts caps a x → FewBegun x
+few_begun runs counts caps few short a x least = record {
+  zero = are_few runs counts caps few short 0 a x.zero least.zero_begun;
+  one = are_few runs counts caps few short 1 a x.one least.one_begun;
+  two = are_few runs counts caps few short 2 a x.two least.two_begun;
 }
 
-pub few_open : (counts caps : List ℕ) → AreCaps caps → length caps ≤ 9 → (x : table.Open) → LeastOpen counts caps x → FewOpen x
-few_open counts caps few short x least = record {
-  zero = few_begun counts caps few short 0 x.zero least.zero_open;
-  one = few_begun counts caps few short 1 x.one least.one_open;
-  two = few_begun counts caps few short 2 x.two least.two_open;
+pub few_open : (runs : Bool) (counts caps : List ℕ) → AreCaps caps → length caps ≤ 9 → (x : table.Open) → LeastOpen runs counts caps x → FewOpen x
+few_open runs counts caps few short x least = record {
+  zero = few_begun runs counts caps few short 0 x.zero least.zero_open;
+  one = few_begun runs counts caps few short 1 x.one least.one_open;
+  two = few_begun runs counts caps few short 2 x.two least.two_open;
 }
 
 -- ---- a bit that marks no rank yet changes nothing
@@ -79,28 +78,24 @@ same_value runs counts caps a b s p bit lack here one plain = ⊎_elim (λ low. 
         let reached = found.lacks in
         omega (arith, is, less, bound, reached)
 
-pub same_seen : (runs : Bool) (counts caps : List ℕ) (a b bit : ℕ) (x : MarkedLanes) → AreLeast runs counts caps a b (seen bit x) → AreLeast runs counts caps a b (seen 0 x) → Agree (seen bit x) (seen 0 x)
+same_seen : (runs : Bool) (counts caps : List ℕ) (a b bit : ℕ) (x : MarkedLanes) → AreLeast runs counts caps a b (seen bit x) → AreLeast runs counts caps a b (seen 0 x) → Agree (seen bit x) (seen 0 x)
 same_seen runs counts caps a b bit x one plain s p hs hp = same_value runs counts caps a b s p bit (lane x.lacks.lacks s p) (mark x.marks s p) (one.at s p hs hp) (plain.at s p hs hp)
 
-same_begun : (counts caps : List ℕ) (a bit : ℕ) (x : code.Begun) → LeastBegun counts caps a (begun_seen bit x) → LeastBegun counts caps a (begun_seen 0 x) → SameBegun (begun_seen bit x) (begun_seen 0 x)
-same_begun counts caps a bit x one plain = record {
-  zero = same_seen true counts caps 0 a bit x.zero one.zero_begun plain.zero_begun;
-  one = same_seen true counts caps 1 a bit x.one one.one_begun plain.one_begun;
-  two = same_seen true counts caps 2 a bit x.two one.two_begun plain.two_begun;
+same_begun : (runs : Bool) (counts caps : List ℕ) (a bit : ℕ) (x : code.Begun) → LeastBegun runs counts caps a (begun_seen bit x) → LeastBegun runs counts caps a (begun_seen 0 x) → SameBegun (begun_seen bit x) (begun_seen 0 x)
+same_begun runs counts caps a bit x one plain = record {
+  zero = same_seen runs counts caps 0 a bit x.zero one.zero_begun plain.zero_begun;
+  one = same_seen runs counts caps 1 a bit x.one one.one_begun plain.one_begun;
+  two = same_seen runs counts caps 2 a bit x.two one.two_begun plain.two_begun;
 }
 
-pub same_open : (counts caps : List ℕ) (bit : ℕ) (x : open_code.Open) → LeastOpen counts caps (open_seen bit x) → LeastOpen counts caps (open_seen 0 x) → SameOpen (open_seen bit x) (open_seen 0 x)
-same_open counts caps bit x one plain = record {
-  zero = same_begun counts caps 0 bit x.zero one.zero_open plain.zero_open;
-  one = same_begun counts caps 1 bit x.one one.one_open plain.one_open;
-  two = same_begun counts caps 2 bit x.two one.two_open plain.two_open;
+pub same_open : (runs : Bool) (counts caps : List ℕ) (bit : ℕ) (x : open_code.Open) → LeastOpen runs counts caps (open_seen bit x) → LeastOpen runs counts caps (open_seen 0 x) → SameOpen (open_seen bit x) (open_seen 0 x)
+same_open runs counts caps bit x one plain = record {
+  zero = same_begun runs counts caps 0 bit x.zero one.zero_open plain.zero_open;
+  one = same_begun runs counts caps 1 bit x.one one.one_open plain.one_open;
+  two = same_begun runs counts caps 2 bit x.two one.two_open plain.two_open;
 }
 
 -- ---- one rank more
-
--- the same first count and cap
-pub here : (n m limit cap : ℕ) (cs ks : List ℕ) (x : table.Open) → n ≡ m → limit ≡ cap → LeastOpen (n ∷ cs) (limit ∷ ks) x → LeastOpen (m ∷ cs) (cap ∷ ks) x
-here n m limit cap cs ks x same low least = subst (λ (k : ℕ). LeastOpen (m ∷ cs) (k ∷ ks) x) low (subst (λ (k : ℕ). LeastOpen (k ∷ cs) (limit ∷ ks) x) same least)
 
 pub in_front : (xs : List ℕ) (k : ℕ) → k < length xs → drop k xs ≡ get_or xs k 0 ∷ drop (k + 1) xs
 in_front xs k inside = (let next : suc k ≡ k + 1 = omega arith in drop-cons xs k 0 inside ∙ ap (λ (n : ℕ). get_or xs k 0 ∷ drop n xs) next)
@@ -160,7 +155,7 @@ power_some : (n : ℕ) → 0 < 2 ^ n
 power_some zero = omega arith
 power_some (suc n) = omega (arith, power_some n)
 
-module _ (counts caps : List ℕ) (long : length counts ≡ 9) (caps_long : length caps ≡ 9) (few : (r : ℕ) → r < 9 → slice_index caps r ≤ 4) (k : ℕ) (some : 0 < k) (inside : k < 9) (bit : ℕ) (is_bit : bit ≡ 2 ^ (k - 1)) where
+module _ (runs : Bool) (counts caps : List ℕ) (long : length counts ≡ 9) (caps_long : length caps ≡ 9) (few : (r : ℕ) → r < 9 → slice_index caps r ≤ 4) (k : ℕ) (some : 0 < k) (inside : k < 9) (bit : ℕ) (is_bit : bit ≡ 2 ^ (k - 1)) where
   has_bit : 0 < bit
   has_bit = (let p = power_some (k - 1) in omega (arith, p, is_bit))
 
@@ -168,24 +163,14 @@ module _ (counts caps : List ℕ) (long : length counts ≡ 9) (caps_long : leng
   short = drop_short caps (k + 1) caps_long
 
   pub next_open : (later : open_code.Open) (N : List ℕ → List ℕ → ℕ → Type 0) →
-      ((other : ℕ) (cs ks : List ℕ) → bit_and bit other ≡ 0 → FewOpen (open_seen 0 later) → OpenLeast later cs ks other → N (get_or counts k 0 ∷ cs) (get_or caps k 0 ∷ ks) other) →
-      ((cs ks : List ℕ) → 0 < bit → FewOpen (open_seen 0 later) → SameOpen (open_seen bit later) (open_seen 0 later) → OpenLeast later cs ks 0 → N ((get_or counts k 0 + 1) ∷ cs) (get_or caps k 0 ∷ ks) bit) →
-      (n : ℕ) → n ≡ k + 1 → AreRanks n counts caps later → HoldsFrom N k counts caps
+      ((other : ℕ) (cs ks : List ℕ) → bit_and bit other ≡ 0 → FewOpen (open_seen 0 later) → OpenLeast runs later cs ks other → N (get_or counts k 0 ∷ cs) (get_or caps k 0 ∷ ks) other) →
+      ((cs ks : List ℕ) → 0 < bit → FewOpen (open_seen 0 later) → SameOpen (open_seen bit later) (open_seen 0 later) → OpenLeast runs later cs ks 0 → N ((get_or counts k 0 + 1) ∷ cs) (get_or caps k 0 ∷ ks) bit) →
+      (n : ℕ) → n ≡ k + 1 → AreRanks runs n counts caps later → HoldsFrom N k counts caps
   next_open later N others own n next are =
-      let there : AreRanks (k + 1) counts caps later = subst (λ (m : ℕ). AreRanks m counts caps later) next are in
-      let little = few_open _ _ (caps_from caps (k + 1) few caps_long) short (open_seen 0 later) there.plain in
-      next_from counts caps long caps_long k some inside bit is_bit (OpenLeast later) N (λ other cs ks apart least. others other cs ks apart little least)
-      (λ cs ks marked plain. own cs ks has_bit little (same_open cs ks bit later marked plain) plain) there
-
-  pub next_alone : (later : MarkedLanes) (N : List ℕ → List ℕ → ℕ → Type 0) →
-      ((other : ℕ) (cs ks : List ℕ) → bit_and bit other ≡ 0 → AreFew (seen 0 later) → LeastAlone later cs ks other → N (get_or counts k 0 ∷ cs) (get_or caps k 0 ∷ ks) other) →
-      ((cs ks : List ℕ) → 0 < bit → AreFew (seen 0 later) → Agree (seen bit later) (seen 0 later) → LeastAlone later cs ks 0 → N ((get_or counts k 0 + 1) ∷ cs) (get_or caps k 0 ∷ ks) bit) →
-      (n : ℕ) → n ≡ k + 1 → AreRanksWithoutRuns n counts caps later → HoldsFrom N k counts caps
-  next_alone later N others own n next are =
-      let there : AreRanksWithoutRuns (k + 1) counts caps later = subst (λ (m : ℕ). AreRanksWithoutRuns m counts caps later) next are in
-      let little = are_few false _ _ (caps_from caps (k + 1) few caps_long) short 0 0 (seen 0 later) there.plain in
-      next_from counts caps long caps_long k some inside bit is_bit (LeastAlone later) N (λ other cs ks apart least. others other cs ks apart little least)
-      (λ cs ks marked plain. own cs ks has_bit little (same_seen false cs ks 0 0 bit later marked plain) plain) there
+      let there : AreRanks runs (k + 1) counts caps later = subst (λ (m : ℕ). AreRanks runs m counts caps later) next are in
+      let little = few_open runs _ _ (caps_from caps (k + 1) few caps_long) short (open_seen 0 later) there.plain in
+      next_from counts caps long caps_long k some inside bit is_bit (OpenLeast runs later) N (λ other cs ks apart least. others other cs ks apart little least)
+      (λ cs ks marked plain. own cs ks has_bit little (same_open runs cs ks bit later marked plain) plain) there
 
 -- after the last rank
 pub nothing_left : (counts caps : List ℕ) → length counts ≡ 9 → length caps ≡ 9 → (L : List ℕ → List ℕ → ℕ → Type 0) → ((bit : ℕ) → L [] [] bit) → HoldsFrom L 9 counts caps
@@ -198,37 +183,3 @@ nothing_left counts caps long caps_long L least = record {
     ended cs bit nine =
         subst (λ (ys : List ℕ). L ys (drop 9 caps) bit) (sym (drop_all 9 cs (omega (arith, nine))))
         (subst (λ (zs : List ℕ). L [] zs bit) (sym (drop_all 9 caps (omega (arith, caps_long)))) (least bit))
-
--- ---- with one tile fewer of a rank
-
-module _ (counts : List ℕ) (rank from : ℕ) (below : rank < from) where
-  drop_one_less : drop from (one_less counts rank) ≡ drop from counts
-  drop_one_less = drop-set-lt from counts rank (slice_index counts rank - 1) below
-
-  -- also where some rank has one more
-  drop_before : (r : ℕ) → r < from → drop from (one_more (one_less counts rank) r) ≡ drop from (one_more counts r)
-  drop_before r low =
-      drop-set-lt from (one_less counts rank) r (slice_index (one_less counts rank) r + 1) low ∙ drop_one_less
-      ∙ sym (drop-set-lt from counts r (slice_index counts r + 1) low)
-
-  held : (r : ℕ) → rank < r → slice_index (one_less counts rank) r ≡ slice_index counts r
-  held r above = get_or-set_other counts rank r (slice_index counts rank - 1) 0 (λ e. omega (arith, e, above))
-
-  at_place : (i : ℕ) → drop from (one_more (one_less counts rank) (from + i)) ≡ drop from (one_more counts (from + i))
-  at_place i =
-      drop-set-add from (one_less counts rank) i _ ∙ ap (λ (ys : List ℕ). set ys i (slice_index (one_less counts rank) (from + i) + 1)) drop_one_less
-      ∙ ap (λ (n : ℕ). set (drop from counts) i (n + 1)) (held (from + i) (omega (arith, below)))
-      ∙ sym (drop-set-add from counts i _)
-
-  drop_after : (r i : ℕ) → from + i ≡ r → drop from (one_more (one_less counts rank) r) ≡ drop from (one_more counts r)
-  drop_after r i is = subst (λ (n : ℕ). drop from (one_more (one_less counts rank) n) ≡ drop from (one_more counts n)) is (at_place i)
-
-  drop_changed : (r : ℕ) → drop from (one_more (one_less counts rank) r) ≡ drop from (one_more counts r)
-  drop_changed r = ⊎_elim (λ low. drop_before r low) (λ high. drop_after r (r - from) (omega (arith, high))) (cases_lt r from)
-
-  -- the tables after a rank stay
-  pub same_after : (L : List ℕ → List ℕ → ℕ → Type 0) (caps : List ℕ) → HoldsFrom L from counts caps → HoldsFrom L from (one_less counts rank) caps
-  same_after L caps are = record {
-    plain = subst (λ (ys : List ℕ). L ys (drop from caps) 0) (sym drop_one_less) are.plain;
-    marks = λ r low. subst (λ (ys : List ℕ). L ys (drop from caps) (2 ^ r)) (sym (drop_changed (suc r))) (are.marks r low);
-  }

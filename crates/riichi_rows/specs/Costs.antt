@@ -15,4 +15,3 @@ pub record AreCosts (have limit bit : ℕ) (x : Costs) : Type 0 where
   pub two : IsCost have limit bit 2 x.two
   pub three : IsCost have limit bit 3 x.three
   pub four : IsCost have limit bit 4 x.four
-  pub above : (x.above.tiles ≡ 255) × IsMarkOf bit x.above.tiles x.above.mark

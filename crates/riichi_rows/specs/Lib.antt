@@ -1,7 +1,6 @@
 pub mod Columns
 pub mod Costs
 pub mod Join
-pub mod Kept
 pub mod Lacked
 pub mod Lanes
 pub mod Marks
@@ -10,4 +9,3 @@ pub mod Ranks
 pub mod Row
 pub mod Seen
 pub mod Suit
-pub mod Without

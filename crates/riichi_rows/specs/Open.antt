@@ -1,7 +1,7 @@
--- What the tables of a rank are where there are runs, by the runs that are open there.
-use Rattle.std.specs.Prelude.{◌≡◌, ℕ, zero, suc, ◌+◌, ◌-◌, ◌<◌, min, true, nat_le, if◌then◌else◌, List}
+-- What the tables of a rank are, by the runs that are open there.
+use Rattle.std.specs.Prelude.{◌≡◌, ℕ, ◌-◌, ◌<◌, min, Bool, nat_le, if◌then◌else◌, List}
 use Rattle.riichi_rows.specs.Columns.{AreLeast}
-use Rattle.riichi_rows.specs.Lanes.{Agree, IsFew, capped, with_set, with_pair}
+use Rattle.riichi_rows.specs.Lanes.{Agree, IsFew, with_set, with_pair, where_runs}
 
 -- what it costs to hold n tiles of a rank
 abbrev pub cost : ℕ → ℕ → ℕ → ℕ
@@ -32,37 +32,24 @@ pub record Added : Type 0 where
   pub four : ℕ → ℕ → ℕ
 
 -- with u runs begun at this rank, for u up to 2, and a runs one rank before
-pub record LeastBegun (counts caps : List ℕ) (a : ℕ) (x : Begun) : Type 0 where
-  pub zero_begun : AreLeast true counts caps 0 a x.zero
-  pub one_begun : AreLeast true counts caps 1 a x.one
-  pub two_begun : AreLeast true counts caps 2 a x.two
+pub record LeastBegun (runs : Bool) (counts caps : List ℕ) (a : ℕ) (x : Begun) : Type 0 where
+  pub zero_begun : AreLeast runs counts caps 0 a x.zero
+  pub one_begun : AreLeast runs counts caps 1 a x.one
+  pub two_begun : AreLeast runs counts caps 2 a x.two
 
 -- with a runs begun one rank before, for a up to 2, and b runs two ranks before
-pub record LeastOpen (counts caps : List ℕ) (x : Open) : Type 0 where
-  pub zero_open : LeastBegun counts caps 0 x.zero
-  pub one_open : LeastBegun counts caps 1 x.one
-  pub two_open : LeastBegun counts caps 2 x.two
+pub record LeastOpen (runs : Bool) (counts caps : List ℕ) (x : Open) : Type 0 where
+  pub zero_open : LeastBegun runs counts caps 0 x.zero
+  pub one_open : LeastBegun runs counts caps 1 x.one
+  pub two_open : LeastBegun runs counts caps 2 x.two
 
 -- the better of what takes so many tiles of a rank: no run, one or two that begin there, with a triplet or a pair or neither
-pub record IsAdded (later : Begun) (x : Added) : Type 0 where
+pub record IsAdded (runs : Bool) (later : Begun) (x : Added) : Type 0 where
   pub no_tile : Agree x.zero later.zero
-  pub one_tile : Agree x.one (with_set later.one)
-  pub two_tiles : Agree x.two (λ s p. min (with_pair later.zero s p) (with_set (with_set later.two) s p))
-  pub three_tiles : Agree x.three (λ s p. min (with_set later.zero s p) (with_pair (with_set later.one) s p))
-  pub four_tiles : Agree x.four (λ s p. min (with_set (with_set later.one) s p) (with_pair (with_set (with_set later.two)) s p))
-
--- the table of what takes so many tiles
-abbrev pub taking : Added → ℕ → ℕ → ℕ → ℕ
-taking x zero = x.zero
-taking x (suc zero) = x.one
-taking x (suc (suc zero)) = x.two
-taking x (suc (suc (suc zero))) = x.three
-taking x (suc (suc (suc (suc n)))) = x.four
-
--- the better of what takes at most so many tiles, each of which is lacking but for those that are held
-abbrev pub up_to : Added → ℕ → ℕ → ℕ → ℕ → ℕ
-up_to x held zero s p = taking x zero s p
-up_to x held (suc most) s p = min (up_to x held most s p) (capped (taking x (suc most) s p + (suc most - held)))
+  pub one_tile : Agree x.one (where_runs runs (with_set later.one))
+  pub two_tiles : Agree x.two (λ s p. min (with_pair later.zero s p) (where_runs runs (with_set (with_set later.two)) s p))
+  pub three_tiles : Agree x.three (λ s p. min (with_set later.zero s p) (with_pair (where_runs runs (with_set later.one)) s p))
+  pub four_tiles : Agree x.four (λ s p. min (with_set (where_runs runs (with_set later.one)) s p) (with_pair (where_runs runs (with_set (with_set later.two))) s p))
 
 -- no sum with a value of the table comes near to none
 abbrev pub AreFew : (ℕ → ℕ → ℕ) → Type 0

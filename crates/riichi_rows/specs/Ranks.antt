@@ -1,11 +1,9 @@
 -- The tables of a suit from a rank on.
-use Rattle.std.specs.Prelude.{ℕ, suc, ◌+◌, ◌^◌, ◌<◌, ◌≤◌, Bool, false, List, drop, slice_index, slice_set}
+use Rattle.std.specs.Prelude.{ℕ, suc, ◌+◌, ◌^◌, ◌<◌, ◌≤◌, Bool, List, drop, slice_index, slice_set}
 use Rattle.riichi_rows.specs.Columns.{AreLeast}
 use Rattle.riichi_rows.specs.Lanes.{lane}
-use Rattle.riichi_rows.specs.Open.{LeastBegun, LeastOpen}
-use Rattle.riichi_rows.specs.Seen.{begun_seen, open_seen, seen}
-use Rattle.riichi_rows.specs.declared.marked_lanes.MarkedLanes.{MarkedLanes}
-use Rattle.riichi_rows.specs.declared.open.Begun.{Begun}
+use Rattle.riichi_rows.specs.Open.{LeastOpen}
+use Rattle.riichi_rows.specs.Seen.{open_seen, seen}
 use Rattle.riichi_rows.specs.declared.open.Open.{Open}
 use Rattle.riichi_rows.specs.declared.suit_lanes.SuitLanes.{SuitLanes}
 
@@ -19,26 +17,12 @@ pub record HoldsFrom (L : List ℕ → List ℕ → ℕ → Type 0) (from : ℕ)
   pub marks : (r : ℕ) → r < 8 → L (drop from (one_more counts (suc r))) (drop from caps) (2 ^ r)
 
 -- the tables are least, with one more tile of the rank of a bit
-abbrev pub OpenLeast : Open → List ℕ → List ℕ → ℕ → Type 0
-OpenLeast later counts caps bit = LeastOpen counts caps (open_seen bit later)
+abbrev pub OpenLeast : Bool → Open → List ℕ → List ℕ → ℕ → Type 0
+OpenLeast runs later counts caps bit = LeastOpen runs counts caps (open_seen bit later)
 
--- the same where no run begins one rank before
-abbrev pub BegunLeast : Begun → List ℕ → List ℕ → ℕ → Type 0
-BegunLeast later counts caps bit = LeastBegun counts caps 0 (begun_seen bit later)
-
--- the same without runs
-abbrev pub LeastAlone : MarkedLanes → List ℕ → List ℕ → ℕ → Type 0
-LeastAlone later counts caps bit = AreLeast false counts caps 0 0 (seen bit later)
-
--- each of them from a rank on
-abbrev pub AreRanks : ℕ → List ℕ → List ℕ → Open → Type 0
-AreRanks from counts caps later = HoldsFrom (OpenLeast later) from counts caps
-
-abbrev pub AreBegunRanks : ℕ → List ℕ → List ℕ → Begun → Type 0
-AreBegunRanks from counts caps later = HoldsFrom (BegunLeast later) from counts caps
-
-abbrev pub AreRanksWithoutRuns : ℕ → List ℕ → List ℕ → MarkedLanes → Type 0
-AreRanksWithoutRuns from counts caps later = HoldsFrom (LeastAlone later) from counts caps
+-- from a rank on
+abbrev pub AreRanks : Bool → ℕ → List ℕ → List ℕ → Open → Type 0
+AreRanks runs from counts caps later = HoldsFrom (OpenLeast runs later) from counts caps
 
 -- the tables of the whole suit; four tiles of the first rank are as many as any choice holds
 pub record AreSuitLanes (runs : Bool) (counts caps : List ℕ) (lanes : SuitLanes) : Type 0 where

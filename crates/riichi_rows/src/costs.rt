@@ -15,7 +15,6 @@ pub struct Costs {
     pub two: Cost,
     pub three: Cost,
     pub four: Cost,
-    pub above: Cost,
 }
 
 #[inline(always)]
@@ -41,13 +40,13 @@ impl Costs {
             two: Cost::new(lacking_at(have, limit, 2), bit),
             three: Cost::new(lacking_at(have, limit, 3), bit),
             four: Cost::new(lacking_at(have, limit, 4), bit),
-            above: Cost::new(NONE, bit),
         }
     }
 
     /// What it costs to hold so many tiles.
     #[inline(always)]
     pub fn of(&self, used: u8) -> Cost
+        requires { used ≤ 4 }
         ensures { (have limit bit : ℕ) → limit ≤ 4 → AreCosts have limit bit self.now
             → IsCost have limit bit used result }
     {
@@ -56,8 +55,7 @@ impl Costs {
             1 => self.one,
             2 => self.two,
             3 => self.three,
-            4 => self.four,
-            _ => self.above,
+            _ => self.four,
         }
     }
 }

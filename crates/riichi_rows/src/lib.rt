@@ -7,9 +7,8 @@
 //! rows with one pair in all. So the row of no tiles says `row.get(2, true) == Some(8)`: two sets
 //! and a pair are eight tiles. Where one row changes, `join_two` and `JoinedRows` keep the other
 //! three joined; `JoinedRows::lacked_by` says which ranks of a suit are lacked by choices that
-//! take part in the least sum, as a `RankSet`. `suit_rows` makes the row of a suit together with the
-//! rows without one of its tiles, as `SuitRows`; each of these begins at the rank of its tile. A
-//! `RowSource` is what answers for rows, and `FreshRows` the one that makes each anew.
+//! take part in the least sum, as a `RankSet`. A `RowSource` is what answers for rows, and `FreshRows`
+//! the one that makes each anew.
 #![tactic(auto)]
 
 mod added;
@@ -17,7 +16,6 @@ mod cost;
 mod costs;
 mod join;
 mod joined;
-mod kept_ranks;
 mod lacked;
 mod lanes;
 pub mod laws;
@@ -25,7 +23,6 @@ mod marked_lanes;
 mod open;
 mod rank_set;
 mod ranks;
-mod removed;
 mod row;
 mod row_source;
 mod suit_lanes;
@@ -34,6 +31,5 @@ pub use join::join_rows;
 pub use joined::{JoinedRows, join_two};
 pub use rank_set::RankSet;
 pub use ranks::suit_row;
-pub use removed::{SuitRows, suit_rows};
 pub use row::SuitRow;
 pub use row_source::{FreshRows, RowSource};

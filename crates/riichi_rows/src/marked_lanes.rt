@@ -2,7 +2,7 @@
 
 ghost use Rattle.std.specs.Prelude.{◌≡◌, ◌+◌, ◌-◌, ◌<◌, ◌≤◌, ℕ, List, bit_and, if◌then◌else◌, length, min, nat_lt};
 ghost use Rattle.riichi_rows.specs.Open.{IsMarkOf};
-ghost use Rattle.riichi_rows.specs.Lanes.{Agree, HasRoom, none, nothing, with_set, with_pair, capped, lacks_with, lane, mark};
+ghost use Rattle.riichi_rows.specs.Lanes.{Agree, HasRoom, none, nothing, with_set, with_pair, capped, lacks_with, lane, mark, where_runs};
 
 use crate::cost::Cost;
 use crate::lanes::{Lanes, ONE_SET_MORE, WITH_A_PAIR};
@@ -36,6 +36,15 @@ impl MarkedLanes {
             lacks: Lanes::nothing(),
             marks: u8x16::splat(0),
         }
+    }
+
+    /// These choices where runs may begin, and none where none may.
+    pub fn where_runs(self, runs: bool) -> MarkedLanes
+        ensures { (bit : ℕ)
+            → Agree (lacks_with bit result.lacks.lacks result.marks) (where_runs runs
+            (lacks_with bit self.lacks.lacks self.marks)) }
+    {
+        if runs { self } else { MarkedLanes::none() }
     }
 
     /// The same choices with one set more.

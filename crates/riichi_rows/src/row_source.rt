@@ -1,10 +1,8 @@
 //! Where the rows of suits come from.
 ghost use Rattle.std.specs.Prelude.{ℕ, ◌≡◌, ◌<◌, ◌≤◌, slice_index};
 ghost use Rattle.riichi_rows.specs.Marks.{IsMarkedRow};
-ghost use Rattle.riichi_rows.specs.Without.{AreSuitRows};
 
 use crate::ranks::suit_row;
-use crate::removed::{SuitRows, suit_rows};
 use crate::row::SuitRow;
 
 /// What answers for suit rows: it may make each one anew, or keep those that it has made. It stays what its
@@ -16,12 +14,6 @@ pub trait RowSource {
         requires { (r : ℕ) → r < 9 → slice_index caps.now r ≤ 4 }
         ensures row { IsMarkedRow runs counts.now caps.now result }
         ensures stays { self.new ≡ self.old };
-
-    /// The same, and the rows without one of its tiles.
-    fn rows(&mut self, counts: &[u8; 9], caps: &[u8; 9], runs: bool) -> SuitRows
-        requires { (r : ℕ) → r < 9 → slice_index caps.now r ≤ 4 }
-        ensures rows { AreSuitRows runs counts.now caps.now result }
-        ensures stays { self.new ≡ self.old };
 }
 
 /// Makes each row anew, and keeps none.
@@ -31,9 +23,5 @@ pub struct FreshRows;
 impl RowSource for FreshRows {
     fn row(&mut self, counts: &[u8; 9], caps: &[u8; 9], runs: bool) -> SuitRow {
         suit_row(*counts, *caps, runs)
-    }
-
-    fn rows(&mut self, counts: &[u8; 9], caps: &[u8; 9], runs: bool) -> SuitRows {
-        suit_rows(counts, caps, runs)
     }
 }

@@ -24,7 +24,6 @@ pub mod PairLemmas
 pub mod PairsLacked
 pub mod ReadyLemmas
 pub mod RemovalLemmas
-pub mod RowsWithout
 pub mod ShapeFacts
 pub mod SpecialLemmas
 pub mod Uniqueness

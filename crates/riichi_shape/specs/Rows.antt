@@ -10,20 +10,15 @@ use Rattle.riichi_rows.specs.Join.{IsLeastSum}
 use Rattle.riichi_rows.specs.Lanes.{lane}
 use Rattle.riichi_rows.specs.Row.{AreJoinedThree}
 use Rattle.riichi_rows.specs.declared.joined.JoinedRows.{JoinedRows}
-use Rattle.riichi_rows.specs.declared.removed.SuitRows.{SuitRows}
 use Rattle.riichi_rows.specs.declared.row.SuitRow.{SuitRow}
 use Rattle.riichi_shape.specs.Special.{AreSpecialForms}
-use Rattle.riichi_shape.specs.Suits.{AreSuitRowsOf, IsRowOf}
+use Rattle.riichi_shape.specs.Suits.{IsRowOf}
 use Rattle.riichi_shape.specs.declared.hand_forms.HandForms.{HandForms}
 use Rattle.riichi_shape.specs.declared.hand_joins.HandJoins.{HandJoins}
 
 -- each is the marked row of its suit of the hand
 abbrev pub AreRowsOf : List ℕ → List Meld → BySuit SuitRow → Type 0
 AreRowsOf hand melds rows = (suit : Suit) → IsRowOf hand melds (first_of suit) (kinds_of suit) (of_suit rows suit)
-
--- each is the rows of its suit of the hand, with all tiles and without one
-abbrev pub AreSuitsOf : List ℕ → List Meld → BySuit SuitRows → Type 0
-AreSuitsOf hand melds suits = (suit : Suit) → AreSuitRowsOf hand melds (first_of suit) (kinds_of suit) (of_suit suits suit)
 
 -- two hands that have the same tiles of every other kind
 pub record DifferAt (kind : ℕ) (before after : List ℕ) : Type 0 where

@@ -1,12 +1,10 @@
 -- The four suits of a hand, each with the most tiles of a kind that a winning multiset may hold beside the melds.
-use Rattle.std.specs.Prelude.{◌≡◌, ◌==◌, ℕ, ◌+◌, ◌-◌, ◌<◌, ◌≤◌, List, get_or, slice_index}
+use Rattle.std.specs.Prelude.{◌≡◌, ◌==◌, ℕ, ◌+◌, ◌-◌, ◌<◌, ◌≤◌, List, slice_index}
 use Rattle.riichi_rows.specs.Marks.{IsMarkedRow}
-use Rattle.riichi_rows.specs.declared.removed.SuitRows.{SuitRows}
 use Rattle.riichi_rows.specs.declared.row.SuitRow.{SuitRow}
 use Rattle.riichi_tiles.specs.Melds.{tiles}
 use Rattle.riichi_tiles.specs.declared.by_suit.BySuit.{BySuit}
 use Rattle.riichi_tiles.specs.declared.meld.Meld.{Meld}
-use Rattle.riichi_shape.specs.Accepted.{without_one}
 use Rattle.riichi_shape.specs.declared.suit_caps.SuitCaps.{SuitCaps}
 
 -- the counts and caps of the suit that begins at the kind base and has so many ranks
@@ -33,8 +31,3 @@ pub record IsRowOf (hand : List ℕ) (melds : List Meld) (base width : ℕ) (row
   pub caps : List ℕ
   pub suit : IsSuitOf base width hand melds counts caps
   pub is_row : IsMarkedRow (width == 9) counts caps row
-
--- that row, and for each tile of the suit the row that the suit has without it
-pub record AreSuitRowsOf (hand : List ℕ) (melds : List Meld) (base width : ℕ) (rows : SuitRows) : Type 0 where
-  pub whole : IsRowOf hand melds base width rows.whole
-  pub without : (rank : ℕ) → rank < width → 0 < slice_index hand (base + rank) → (other : SuitRow) → IsRowOf (without_one hand (base + rank)) melds base width (get_or rows.without rank other)

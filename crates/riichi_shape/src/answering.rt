@@ -10,10 +10,8 @@ use crate::acceptance::{accepted_by, live_copies};
 use crate::accepts::Accepts;
 use crate::distance::shanten_at;
 use crate::hand_forms::HandForms;
-use crate::hand_suits::{hand_suits_of, whole_rows};
 use crate::removal::discards_by;
 use crate::shape_answer::ShapeAnswer;
-use riichi_cache::RowCache;
 use riichi_hand::ShapeRecord;
 use riichi_rows::{FreshRows, RowSource};
 use riichi_tiles::{Counts, Melds};
@@ -55,17 +53,17 @@ fn shape_of_fourteen<R: RowSource>(
         ≡ shape_of (record { tiles = hand.now; melds = melds.now; seen = seen.now }) }
     ensures stays { source.new ≡ source.old }
 {
-    let suits = hand_suits_of(source, hand, melds);
-    let forms = HandForms::of_rows(whole_rows(&suits), hand, melds);
+    let forms = HandForms::new(source, hand, melds);
     ShapeAnswer {
         shanten: shanten_at(forms.distance(melds)),
-        accepts: Accepts::Fourteen(discards_by(&suits, &forms, hand, melds, seen)),
+        accepts: Accepts::Fourteen(discards_by(source, &forms, hand, melds, seen)),
     }
 }
 
-/// The shanten of a hand and what it accepts, by the rows of a source.
-pub(crate) fn shape_by<R: RowSource>(source: &mut R, asked: &ShapeRecord) -> ShapeAnswer
+/// The shanten of a hand and what it accepts, by the rows of a source: the same whichever it is.
+pub fn shape_with<R: RowSource>(source: &mut R, asked: &ShapeRecord) -> ShapeAnswer
     ensures shape { result ≡ shape_of asked.now }
+    ensures discards { HasDiscards asked.now result.accepts }
     ensures stays { source.new ≡ source.old }
 {
     let hand = asked.tiles();
@@ -78,22 +76,10 @@ pub(crate) fn shape_by<R: RowSource>(source: &mut R, asked: &ShapeRecord) -> Sha
     }
 }
 
-/// The shanten of a hand and what it accepts.
-#[tactic(auto, using(crate::proofs::Choices::has_discards))]
+/// The same by rows that are made anew.
 pub fn shape(asked: &ShapeRecord) -> ShapeAnswer
     ensures shape { result ≡ shape_of asked.now }
     ensures discards { HasDiscards asked.now result.accepts }
 {
-    shape_by(&mut FreshRows, asked)
-}
-
-/// The same. The rows of thirteen tiles are those of the cache, which keeps what it makes; those of fourteen, with and
-/// without each tile, are made anew.
-#[tactic(auto, using(crate::proofs::Choices::has_discards))]
-pub fn shape_with(cache: &mut RowCache, asked: &ShapeRecord) -> ShapeAnswer
-    ensures shape { result ≡ shape_of asked.now }
-    ensures discards { HasDiscards asked.now result.accepts }
-    ensures stays { cache.new ≡ cache.old }
-{
-    shape_by(cache, asked)
+    shape_with(&mut FreshRows, asked)
 }

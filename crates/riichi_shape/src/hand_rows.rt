@@ -2,9 +2,10 @@
 ghost use Rattle.std.specs.Prelude.{ℕ, ◌≡◌, ◌<◌, ◌≤◌, List};
 ghost use Rattle.riichi_tiles.specs.Melds.{tiles};
 ghost use Rattle.riichi_shape.specs.Rows.{AreRowsOf, AreSameBeside, DifferAt, IsRowAt};
+ghost use Rattle.riichi_shape.specs.Suits.{AreHandCaps};
 ghost use Rattle.riichi_tiles.specs.declared.meld.Meld.{Meld};
 
-use crate::hand_caps::hand_caps_of;
+use crate::hand_caps::{HandCaps, hand_caps_of};
 use crate::suit_of_hand::suit_row_of;
 use riichi_rows::{RowSource, SuitRow};
 use riichi_tiles::{BySuit, Counts, Kind, Melds, Suit};
@@ -24,6 +25,25 @@ pub(crate) fn hand_rows_of<R: RowSource>(source: &mut R, hand: &Counts, melds: &
         circles: suit_row_of(source, hand, &caps.circles, 9, 9),
         bamboos: suit_row_of(source, hand, &caps.bamboos, 18, 9),
         honours: suit_row_of(source, hand, &caps.honours, 27, 7),
+    }
+}
+
+/// The row of the suit of a kind.
+pub(crate) fn row_at<R: RowSource>(
+    source: &mut R,
+    hand: &Counts,
+    caps: &HandCaps,
+    kind: Kind,
+) -> SuitRow
+    ensures row { (melds : List Meld) → AreHandCaps melds caps.now
+        → IsRowAt hand.now melds kind result }
+    ensures stays { source.new ≡ source.old }
+{
+    match kind.suit() {
+        Suit::Characters => suit_row_of(source, hand, &caps.characters, 0, 9),
+        Suit::Circles => suit_row_of(source, hand, &caps.circles, 9, 9),
+        Suit::Bamboos => suit_row_of(source, hand, &caps.bamboos, 18, 9),
+        Suit::Honours => suit_row_of(source, hand, &caps.honours, 27, 7),
     }
 }
 

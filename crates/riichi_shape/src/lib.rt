@@ -7,9 +7,9 @@
 //! the text of an answer is `riichi_shape_text`. A hand is measured by its four suit rows, which
 //! `riichi_rows` makes, and beside each the other three are joined. The marks of a row say which
 //! ranks its least choices lack, so the rows of the hand alone show the kinds that bring it nearer:
-//! no row of the hand with one more tile is ever made. A tile that is discarded changes one row: of
-//! fourteen tiles the rows of a suit, whole and without each of its tiles, are asked for together.
-//! `shape_with` is `shape` by the rows of a `RowCache`, which many hands share.
+//! no row of the hand with one more tile is ever made. A tile that is discarded changes one row.
+//! `shape_with` is `shape` by the rows of a `RowSource`, which many hands share: a `RowMemo`, a
+//! `FrameMemo`, which takes no memory, or a `RowCache`.
 //!
 //! So `123456789m1134p` is ready: `shanten` is 0, and `accepted` has four live 2p and four 5p.
 #![tactic(auto)]
@@ -26,7 +26,6 @@ mod hand_caps;
 mod hand_forms;
 mod hand_joins;
 mod hand_rows;
-mod hand_suits;
 mod kept_discard;
 mod kind_bits;
 mod lacked_held;
@@ -52,6 +51,6 @@ pub use discard_list::DiscardList;
 pub use distance::shanten;
 pub use forms::{FormDistances, form_distances};
 pub use live_list::LiveList;
-pub use riichi_cache::{Memory, RowCache};
-pub use riichi_rows::{SuitRow, join_rows, suit_row};
+pub use riichi_cache::{FrameMemo, Memory, RowCache, RowMemo};
+pub use riichi_rows::{FreshRows, RowSource, SuitRow, join_rows, suit_row};
 pub use shape_answer::ShapeAnswer;

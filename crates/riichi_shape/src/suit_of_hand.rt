@@ -1,11 +1,11 @@
 //! The row of one suit of a hand.
 ghost use Rattle.std.specs.Prelude.{ℕ, ◌≡◌, ◌+◌, ◌<◌, ◌≤◌, List, slice_index};
 ghost use Rattle.riichi_tiles.specs.declared.meld.Meld.{Meld};
-ghost use Rattle.riichi_shape.specs.Suits.{AreCapsOf, AreSuitRowsOf, IsRowOf};
+ghost use Rattle.riichi_shape.specs.Suits.{AreCapsOf, IsRowOf};
 ghost use Rattle.riichi_tiles.specs.Tiles.{IsCounts};
 
 use crate::suit_caps::SuitCaps;
-use riichi_rows::{RowSource, SuitRow, SuitRows};
+use riichi_rows::{RowSource, SuitRow};
 use riichi_tiles::Counts;
 
 /// The counts of a suit, from its first kind on.
@@ -39,22 +39,4 @@ pub(crate) fn suit_row_of<R: RowSource>(
 {
     let counts = suit_counts(hand, first, ranks);
     source.row(&counts, &caps.left, ranks == 9)
-}
-
-/// The row of one suit of a hand, and for each of its tiles the row without that tile.
-pub(crate) fn suit_rows_of<R: RowSource>(
-    source: &mut R,
-    hand: &Counts,
-    caps: &SuitCaps,
-    first: u8,
-    ranks: u8,
-) -> SuitRows
-    requires ranks { ranks ≤ 9 }
-    requires within { first + ranks ≤ 34 }
-    ensures rows { (melds : List Meld) → AreCapsOf first ranks melds caps.now.left
-        → AreSuitRowsOf hand.now melds first ranks result }
-    ensures stays { source.new ≡ source.old }
-{
-    let counts = suit_counts(hand, first, ranks);
-    source.rows(&counts, &caps.left, ranks == 9)
 }

@@ -1,8 +1,8 @@
-//! A cache answers as fresh rows do, whatever it keeps.
+//! A cache and the memos answer as fresh rows do, whatever they keep.
 ghost use Rattle.std.specs.Prelude.{◌≤◌};
 
 use crate::facts::{holds, same};
-use riichi_cache::{Memory, RowCache};
+use riichi_cache::{FrameMemo, Memory, RowCache, RowMemo};
 use riichi_rows::{FreshRows, RowSource, SuitRow};
 use std::alloc::Global;
 use std::process::Abort;
@@ -20,9 +20,9 @@ fn is_same(one: &SuitRow, other: &SuitRow) -> bool {
     })
 }
 
-fn check(
+fn check<R: RowSource>(
     rt: &impl Abort,
-    cache: &mut RowCache,
+    source: &mut R,
     counts: [u8; 9],
     cap: u8,
     runs: bool,
@@ -30,40 +30,42 @@ fn check(
     requires { cap ≤ 4 }
 {
     let caps = [cap; 9];
-    let row = cache.row(&counts, &caps, runs);
+    let row = source.row(&counts, &caps, runs);
     holds(rt, is_same(&row, &FreshRows.row(&counts, &caps, runs)));
     Ok(())
 }
 
 /// Keys that differ in counts, caps or runs alone, each of them twice.
-#[test]
-fn rows_of_keys_that_are_alike(rt: HostRuntime) -> Result<(), Fail> {
-    let mut cache = one_place(rt.alloc()).map_err(|_| "no memory twice")?;
+fn check_keys_that_are_alike<R: RowSource>(rt: &impl Abort, source: &mut R) -> Result<(), Fail> {
     let counts = [1, 1, 1, 0, 0, 0, 2, 0, 0];
     for _ in 0..2 {
-        check(&rt, &mut cache, counts, 4, true)?;
-        check(&rt, &mut cache, counts, 4, true)?;
-        check(&rt, &mut cache, counts, 2, true)?;
-        check(&rt, &mut cache, counts, 2, false)?;
-        check(&rt, &mut cache, [0; 9], 2, false)?;
+        check(rt, source, counts, 4, true)?;
+        check(rt, source, counts, 4, true)?;
+        check(rt, source, counts, 2, true)?;
+        check(rt, source, counts, 2, false)?;
+        check(rt, source, [0; 9], 2, false)?;
     }
-    same(&rt, cache.row(&[0; 9], &[4; 9], true).get(2, true), Some(8));
+    same(rt, source.row(&[0; 9], &[4; 9], true).get(2, true), Some(8));
     Ok(())
 }
 
-/// Rows without a tile lack as those of a hand that never had it.
 #[test]
-fn rows_without_a_tile(rt: HostRuntime) -> Result<(), Fail> {
+fn rows_of_a_cache(rt: HostRuntime) -> Result<(), Fail> {
     let mut cache = one_place(rt.alloc()).map_err(|_| "no memory twice")?;
-    let rows = cache.rows(&[0, 1, 1, 1, 0, 0, 2, 0, 0], &[4; 9], true);
-    let rest = [0, 1, 0, 1, 0, 0, 2, 0, 0];
-    holds(
-        &rt,
-        is_same(&rows.without[2], &FreshRows.row(&rest, &[4; 9], true)),
-    );
-    // a run, and a pair
-    same(&rt, rows.whole.get(1, true), Some(0));
-    same(&rt, rows.without[2].get(1, true), Some(1));
-    same(&rt, rows.without[6].get(1, true), Some(1));
-    Ok(())
+    check_keys_that_are_alike(&rt, &mut cache)
+}
+
+#[test]
+fn rows_of_a_memo(rt: HostRuntime) -> Result<(), Fail> {
+    let mut memo = RowMemo::new(rt.alloc(), 1)
+        .or_else(|_| RowMemo::new(rt.alloc(), 4))
+        .map_err(|_| "no memory twice")?;
+    check_keys_that_are_alike(&rt, &mut memo)
+}
+
+/// Of a single place, and of a number that is no power of two.
+#[test]
+fn rows_of_a_memo_in_the_frame(rt: HostRuntime) -> Result<(), Fail> {
+    check_keys_that_are_alike(&rt, &mut FrameMemo::<1>::new())?;
+    check_keys_that_are_alike(&rt, &mut FrameMemo::<6>::new())
 }

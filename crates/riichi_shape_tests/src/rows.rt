@@ -1,9 +1,7 @@
-//! Rows worked by hand, and rows without one tile beside rows made anew.
-ghost use Rattle.std.specs.Prelude.{◌≤◌};
+//! Rows worked by hand.
 
 use crate::facts::{holds, same};
-use riichi_rows::{JoinedRows, RankSet, SuitRow, join_two, suit_row, suit_rows};
-use std::process::Abort;
+use riichi_rows::{JoinedRows, RankSet, SuitRow, join_two, suit_row};
 use std::test::Fail;
 
 const NO_TILES: [u8; 9] = [0; 9];
@@ -25,43 +23,6 @@ fn rows_of_no_tiles(rt: HostRuntime) -> Result<(), Fail> {
     same(&rt, pairs.get(0, true), Some(2));
     same(&rt, pairs.get(1, false), None);
     Ok(())
-}
-
-fn is_same(one: &SuitRow, other: &SuitRow) -> bool {
-    (0..5u8).all(|sets| {
-        one.get(sets, false) == other.get(sets, false)
-            && one.get(sets, true) == other.get(sets, true)
-    })
-}
-
-/// The rows of a suit are those that are made of its counts one by one.
-fn check_rows(rt: &impl Abort, counts: [u8; 9], cap: u8, runs: bool) -> Result<(), Fail>
-    requires { cap ≤ 4 }
-{
-    let caps = [cap; 9];
-    let rows = suit_rows(&counts, &caps, runs);
-    holds(rt, is_same(&rows.whole, &suit_row(counts, caps, runs)));
-    for rank in 0..9usize {
-        if counts[rank] > 0 {
-            let mut rest = counts;
-            rest[rank] -= 1;
-            holds(
-                rt,
-                is_same(&rows.without[rank], &suit_row(rest, caps, runs)),
-            );
-        }
-    }
-    Ok(())
-}
-
-/// Tiles at both ends of a suit, ranks held once and four times, a lower cap, and honours.
-#[test]
-fn rows_without_one_tile(rt: HostRuntime) -> Result<(), Fail> {
-    check_rows(&rt, [1, 1, 1, 1, 0, 1, 0, 0, 0], 4, true)?;
-    check_rows(&rt, [2, 0, 0, 3, 1, 0, 0, 1, 2], 4, true)?;
-    check_rows(&rt, [0, 0, 0, 0, 0, 4, 4, 3, 3], 4, true)?;
-    check_rows(&rt, [1, 0, 2, 0, 1, 1, 0, 2, 1], 2, true)?;
-    check_rows(&rt, [1, 2, 0, 3, 0, 0, 1, 0, 0], 4, false)
 }
 
 /// Of the ranks of a suit just these are in the set.

@@ -11,3 +11,4 @@ pub mod Laws
 pub mod SuitTiles
 pub mod Marks
 pub mod SpecialWaits
+pub mod Equality

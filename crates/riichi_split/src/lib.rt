@@ -23,6 +23,7 @@
 #![tactic(auto)]
 
 mod cutting;
+mod decided;
 mod done;
 pub mod laws;
 mod reading;

@@ -12,3 +12,4 @@ pub mod Dora
 pub mod Reds
 pub mod Blocks
 pub mod HeldKinds
+pub mod Equality

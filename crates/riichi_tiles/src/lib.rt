@@ -11,7 +11,8 @@
 //! [`write_kinds`] write it. [`Meld::read`] reads a meld, as `chi:340m`, and [`reds_of`] the red fives of a text, where they
 //! stand as `0`; [`split_at_mark`] cuts a text where a meld's name ends. The notation itself stands in docs/NOTATION.md.
 //!
-//! All of these are plain values: each can be copied and compared. No call takes memory, and the readers take any bytes.
+//! All of these are plain values: each can be copied and compared, and `==` says whether two are one ([`Decided`]). No call
+//! takes memory, and the readers take any bytes.
 //!
 //! ```
 //! let hand = read_counts(b"5m123p044s")?;
@@ -27,6 +28,7 @@ mod block;
 mod by_suit;
 mod counts;
 mod cuts;
+mod decided;
 mod dora;
 mod held_kinds;
 mod kind;
@@ -42,6 +44,7 @@ pub use block::Block;
 pub use by_suit::BySuit;
 pub use counts::Counts;
 pub use cuts::split_at_mark;
+pub use decided::{Decided, is_same};
 pub use dora::dora_of;
 pub use held_kinds::HeldKinds;
 pub use kind::Kind;

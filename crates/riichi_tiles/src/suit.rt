@@ -14,6 +14,13 @@ pub enum Suit {
     Honours,
 }
 
+const _: () = prove!(
+    Suit::ALL[0] as u8 == 0
+        && Suit::ALL[1] as u8 == 1
+        && Suit::ALL[2] as u8 == 2
+        && Suit::ALL[3] as u8 == 3
+);
+
 impl Suit {
     /// The four, in the order of their kinds.
     pub const ALL: [Suit; 4] = [

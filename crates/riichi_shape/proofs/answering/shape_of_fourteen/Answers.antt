@@ -7,4 +7,4 @@ pub returns-clause-shape : goal.returns-clause-shape
 returns-clause-shape g c =
     let same : to_z width.w8 (of_z width.w8 c.shanten_at.result) ≡ c.shanten_at.result = search rules in
     fourteen_is (record { tiles = c.args.hand.now; melds = c.args.melds.now; seen = c.args.seen.now }) (to_z width.w8 (of_z width.w8 c.shanten_at.result))
-    (same ∙ c.shanten_at.ensures ∙ ap (λ n. pos n -ℤ pos 1) (c.distance.ensures.value c.args.hand.now c.of_rows-forms.ensures)) c.discards_by.result c.requires.fourteen c.discards_by.ensures
+    (same ∙ c.shanten_at.ensures ∙ ap (λ n. pos n -ℤ pos 1) (c.distance.ensures.value c.args.hand.now c.new-forms.ensures.forms)) c.discards_by.result c.requires.fourteen c.discards_by.ensures.discards

@@ -5,12 +5,16 @@ use Rattle.riichi_tiles.specs.HeldKinds.{is_held}
 use Rattle.riichi_shape.specs.KindBits.{copies_among}
 use Rattle.riichi_shape.specs.LackedKinds.{AreLackedOf}
 use Rattle.riichi_shape.specs.LiveCopies.{live_in, pairs_of}
+use Rattle.riichi_shape.specs.Rows.{IsRowAt}
 use Rattle.riichi_shape.proofs.AcceptedLemmas.{live_same}
 use Rattle.riichi_shape.proofs.KeptLemmas.{same_discard}
 use Rattle.riichi_shape.proofs.removal.discard_of.Goals as goal
 
+pub lacked_without-lacked-requires-clause-row : goal.lacked_without-lacked-requires-clause-row
+lacked_without-lacked-requires-clause-row g c = subst (λ (rest : List ℕ). IsRowAt rest c.args.melds.now c.args.kind c.row_at-row.result) c.remove.ensures.value (c.row_at-row.ensures.row c.args.melds.now c.requires.caps)
+
 pub returns-clause-told : goal.returns-clause-told
-returns-clause-told c = λ seen are.
+returns-clause-told g c = λ seen are.
     (let hand = c.args.hand.now in
     let kind = c.args.kind in
     let copies = c.args.live.now.copies in
@@ -22,7 +26,7 @@ returns-clause-told c = λ seen are.
     ∙ ap (λ rest. accepted_of rest c.args.melds.now (with_one seen kind)) c.remove.ensures.value))
 
 pub returns-clause-kept : goal.returns-clause-kept
-returns-clause-kept c = record {
+returns-clause-kept g c = record {
   numbers_below = c.new.ensures.numbers;
   honours_below = c.new.ensures.honours;
   some_live = λ kind low there. c.accepted_by-accepted.ensures.live kind low (ap (λ s. is_held s kind) (sym c.new.ensures.accepted) ∙ there);

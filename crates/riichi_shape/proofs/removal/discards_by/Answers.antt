@@ -8,20 +8,21 @@ use Rattle.riichi_shape.proofs.removal.discards_by.Goals as goal
 use Rattle.riichi_shape.proofs.removal.discards_by.Goals.{else-get-gt0-via-then-get-gt0+else-distances-number, else-get-gt0-via-else-get-gt0}
 
 pub loop-number-init : goal.loop-number-init
-loop-number-init c = record {
+loop-number-init g c = record {
+  stays = c.distances_without-distances.ensures.stays;
   so_far = ap (map (told c.live_copies-live.result.copies)) c.new-order.ensures ∙ sym (discards_none c.args.hand.now c.args.melds.now c.args.seen.now 34);
   kept = subst (AreKept c.live_copies-live.result.copies) (sym c.new-order.ensures) tt;
   few = omega (arith, ap length c.new-order.ensures);
 }
 
 pub insert-requires : goal.insert-requires
-insert-requires c =
+insert-requires g c =
     let hand = c.args.hand.now in
     let held : 0 < slice_index hand (c.loop-number.number - 1) = omega (arith, c.if-get-gt0.true, c.get.ensures.value, ap (slice_index hand) c.at-kind.ensures) in
     still_room hand c.args.melds.now c.args.seen.now c.loop-number.number c.loop-number-test.true c.loop-number.auto.number (length c.loop-number.order) c.get.ensures.counts.each_kind c.requires.few held c.loop-number.invariant.few
 
 pub loop-number-preserved-then-distances-number : goal.loop-number-preserved-then-distances-number
-loop-number-preserved-then-distances-number c =
+loop-number-preserved-then-distances-number g c =
     let hand = c.args.hand.now in
     let copies = c.live_copies-live.result.copies in
     let order = c.loop-number.order in
@@ -29,8 +30,9 @@ loop-number-preserved-then-distances-number c =
     let held : 0 < slice_index hand c.at-kind.result = omega (arith, c.if-get-gt0.true, c.get.ensures.value) in
     let there : 0 < slice_index hand (c.loop-number.number - 1) = omega (arith, held, ap (slice_index hand) c.at-kind.ensures) in
     record {
+      stays = c.discard_of.ensures.stays ∙ c.loop-number.invariant.stays;
       so_far = put_list hand c.args.melds.now c.args.seen.now c.loop-number.number c.loop-number-test.true c.loop-number.auto.number
-          c.distances_without-distances.result c.least_of-least.result c.distances_without-distances.ensures c.least_of-least.ensures (map (told copies) order) c.loop-number.invariant.so_far
+          c.distances_without-distances.result c.least_of-least.result c.distances_without-distances.ensures.distances c.least_of-least.ensures (map (told copies) order) c.loop-number.invariant.so_far
           (map (told copies) c.insert.new.self) (told copies kept) c.at-kind.result c.at-kind.ensures (c.discard_of.ensures.told c.args.seen.now c.live_copies-live.ensures) held c.if-distances-number.true
           (ap (map (told copies)) c.insert.ensures ∙ told_put copies kept c.discard_of.ensures.kept order c.loop-number.invariant.kept);
       kept = subst (AreKept copies) (sym c.insert.ensures) (all_put copies kept c.discard_of.ensures.kept order c.loop-number.invariant.kept);
@@ -38,25 +40,26 @@ loop-number-preserved-then-distances-number c =
     }
 
 pub loop-number-preserved : goal.loop-number-preserved
-loop-number-preserved c =
+loop-number-preserved g c =
     let hand = c.args.hand.now in
     let list = map (told c.live_copies-live.result.copies) c.loop-number.order in
     record {
+      stays = c.loop-number.invariant.stays;
       so_far = elim c.else-get-gt0.branch [
         | else-get-gt0-via-then-get-gt0+else-distances-number w ↦
             left_worse hand c.args.melds.now c.args.seen.now c.loop-number.number c.loop-number-test.true c.loop-number.auto.number
-            c.distances_without-distances.result c.least_of-least.result c.distances_without-distances.ensures c.least_of-least.ensures list c.loop-number.invariant.so_far
+            c.distances_without-distances.result c.least_of-least.result c.distances_without-distances.ensures.distances c.least_of-least.ensures list c.loop-number.invariant.so_far
             (omega (arith, w.if-get-gt0.true, c.get.ensures.value, ap (slice_index hand) c.at-kind.ensures)) w.if-distances-number.false
         | else-get-gt0-via-else-get-gt0 w ↦
             left_unheld hand c.args.melds.now c.args.seen.now c.loop-number.number c.loop-number-test.true c.loop-number.auto.number
-            c.distances_without-distances.result c.least_of-least.result c.distances_without-distances.ensures c.least_of-least.ensures list c.loop-number.invariant.so_far
+            c.distances_without-distances.result c.least_of-least.result c.distances_without-distances.ensures.distances c.least_of-least.ensures list c.loop-number.invariant.so_far
             (omega (arith, w.if-get-gt0.false, c.get.ensures.value, ap (slice_index hand) c.at-kind.ensures))
       ];
       kept = c.loop-number.invariant.kept;
       few = left_few hand c.args.melds.now c.args.seen.now c.loop-number.number c.loop-number-test.true c.loop-number.auto.number (length c.loop-number.order) c.loop-number.invariant.few;
     }
 
-pub returns : goal.returns
-returns c =
+pub returns-clause-discards : goal.returns-clause-discards
+returns-clause-discards g c =
     let at_first : c.loop-number.number ≡ 0 = omega arith in
     c.new.ensures ∙ c.loop-number.invariant.so_far ∙ ap (λ k. discards_from c.args.hand.now c.args.melds.now c.args.seen.now k (34 - k)) at_first ∙ discards_all c.args.hand.now c.args.melds.now c.args.seen.now

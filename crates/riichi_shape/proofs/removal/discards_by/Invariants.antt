@@ -6,7 +6,8 @@ use Rattle.riichi_shape.proofs.RemovalLemmas.{discards_from}
 use Rattle.riichi_shape.proofs.removal.discards_by.Given as goal
 
 abbrev pub invariant-loop-number : goal.invariant-loop-number
-invariant-loop-number l = record {
+invariant-loop-number g l = record {
+  stays : l.source ≡ l.fn.source;
   so_far : map (told l.live.copies) l.order ≡ discards_from l.hand l.melds l.seen l.number (34 - l.number);
   kept : AreKept l.live.copies l.order;
   few : length l.order ≤ spread (slice_index l.hand) l.number (34 - l.number);

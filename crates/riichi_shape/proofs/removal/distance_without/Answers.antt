@@ -1,12 +1,12 @@
 use Rattle.std.proofs.Common.{◌-◌, subst, sym, List, ℕ}
 use Rattle.std.specs.Prelude.{slice_index}
-use Rattle.riichi_shape.specs.Rows.{DifferAt, IsRowAt}
+use Rattle.riichi_shape.specs.Rows.{DifferAt}
 use Rattle.riichi_shape.proofs.KeptRows.{set_differs}
 use Rattle.riichi_shape.proofs.OneTile.{special_without}
 use Rattle.riichi_shape.proofs.removal.distance_without.Goals as goal
 
 pub distance_with-requires-clause-joins : goal.distance_with-requires-clause-joins
-distance_with-requires-clause-joins c =
+distance_with-requires-clause-joins g c =
     let hand = c.args.hand.now in
     record {
       before = hand;
@@ -15,9 +15,8 @@ distance_with-requires-clause-joins c =
     }
 
 pub distance_with-requires-clause-floor : goal.distance_with-requires-clause-floor
-distance_with-requires-clause-floor c =
+distance_with-requires-clause-floor g c =
     special_without c.args.hand.now c.remove.new.self c.args.melds.now c.args.kind c.args.floor c.remove.ensures.counts.each_kind c.requires.held c.remove.ensures.value c.requires.floor
 
 pub distance_with-requires-clause-row : goal.distance_with-requires-clause-row
-distance_with-requires-clause-row c =
-    subst (λ (rest : List ℕ). IsRowAt rest c.args.melds.now c.args.kind c.row_without.result) (sym c.remove.ensures.value) (c.row_without.ensures c.args.hand.now c.args.melds.now c.requires.suits c.requires.held)
+distance_with-requires-clause-row g c = c.row_at-row.ensures.row c.args.melds.now c.requires.caps

@@ -1,0 +1,85 @@
+//! Rows with what they were made of.
+ghost use Rattle.std.specs.Prelude.{ℕ, ◌≡◌, ◌<◌, ◌≤◌, IfSome, length, slice_index};
+ghost use Rattle.riichi_rows.specs.Marks.{IsMarkedRow};
+
+use crate::row_key::RowKey;
+use riichi_rows::{SuitRow, suit_row};
+use std::marker::Model;
+
+/// The row of a key.
+#[derive(Clone, Copy)]
+pub(crate) struct KeptRow {
+    key: RowKey,
+    row: SuitRow,
+}
+
+impl Model for KeptRow {
+    ghost use Rattle.riichi_rows.specs.declared.row.SuitRow.{SuitRow};
+    ghost use Rattle.riichi_cache.specs.declared.row_key.RowKey.{RowKey};
+    ghost use Rattle.riichi_rows.specs.Marks.{IsMarkedRow};
+
+    ghost Value = { RowKey × SuitRow };
+
+    ghost view = { λ kept. (kept.key, kept.row) };
+
+    ghost invariant = { λ kept. IsMarkedRow kept.key.runs kept.key.counts kept.key.caps kept.row };
+
+    ghost inverse = { λ pair. record { key = pair.0; row = pair.1 } };
+}
+
+impl KeptRow {
+    /// The row is made here.
+    pub(crate) fn new(key: RowKey) -> KeptRow
+        requires { (r : ℕ) → r < 9 → slice_index key.caps r ≤ 4 }
+        ensures { result.0 ≡ key }
+    {
+        KeptRow {
+            key,
+            row: suit_row(key.counts, key.caps, key.runs),
+        }
+    }
+
+    /// The row of no tiles of which none may be held: what stands in a place before another row.
+    pub(crate) fn of_nothing() -> KeptRow {
+        KeptRow::new(RowKey {
+            counts: [0; 9],
+            caps: [0; 9],
+            runs: false,
+        })
+    }
+
+    pub(crate) fn row(&self) -> SuitRow
+        ensures { IsMarkedRow self.now.0.runs self.now.0.counts self.now.0.caps result }
+    {
+        self.row
+    }
+
+    /// The row, if it is the row of this key.
+    pub(crate) fn row_of(&self, key: &RowKey) -> Option<SuitRow>
+        ensures { IfSome result (IsMarkedRow key.now.runs key.now.counts key.now.caps) }
+    {
+        if self.key.is(key) {
+            Some(self.row)
+        } else {
+            None
+        }
+    }
+}
+
+/// The row of a key: the one at its place, or a new one, which takes that place.
+pub(crate) fn row_at(places: &mut [KeptRow], key: RowKey) -> SuitRow
+    requires some { 0 < length places.old }
+    requires caps { (r : ℕ) → r < 9 → slice_index key.caps r ≤ 4 }
+    ensures row { IsMarkedRow key.runs key.counts key.caps result }
+    ensures places { length places.new ≡ length places.old }
+{
+    let place = key.place(places.len());
+    match places[place].row_of(&key) {
+        Some(row) => row,
+        None => {
+            let made = KeptRow::new(key);
+            places[place] = made;
+            made.row()
+        }
+    }
+}

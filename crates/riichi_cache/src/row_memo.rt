@@ -1,0 +1,46 @@
+//! Rows that were made before, in memory that was asked for.
+ghost use Rattle.std.specs.Prelude.{ℕ, ◌≡◌, ◌<◌, ◌≤◌, IfOk, slice_index};
+
+use crate::kept_row::{KeptRow, row_at};
+use crate::memory::Memory;
+use crate::row_key::RowKey;
+use riichi_rows::{RowSource, SuitRow};
+use std::alloc::Global;
+use std::marker::Model;
+
+/// A place for each of so many rows. It is seen as their number.
+#[derive(Drop)]
+pub struct RowMemo {
+    places: Vec<KeptRow>,
+}
+
+impl Model for RowMemo {
+    ghost use Rattle.std.specs.Prelude.{ℕ, ◌<◌, vec_len};
+
+    ghost Value = { ℕ };
+
+    ghost view = { λ memo. vec_len memo.places };
+
+    ghost invariant = { λ memo. 0 < vec_len memo.places };
+}
+
+impl RowMemo {
+    /// So many places of 48 bytes, all of them asked for here. Of a number that is no power of two
+    /// some are never used.
+    pub fn new(alloc: Global, places: usize) -> Result<RowMemo, Memory>
+        requires { 0 < places }
+        ensures { IfOk result (λ memo. memo ≡ places) }
+    {
+        let mut rows = Vec::new(alloc);
+        match rows.resize(places, KeptRow::of_nothing()) {
+            Ok(()) => Ok(RowMemo { places: rows }),
+            Err(_) => Err(Memory),
+        }
+    }
+}
+
+impl RowSource for RowMemo {
+    fn row(&mut self, counts: &[u8; 9], caps: &[u8; 9], runs: bool) -> SuitRow {
+        row_at(&mut self.places, RowKey::new(counts, caps, runs))
+    }
+}

@@ -1,0 +1,69 @@
+//! Equality of records and faults.
+ghost use Rattle.std.proofs.Common.{rules};
+
+use crate::fault::{LineCode, LineFault, TextName};
+use crate::hand::HandRecord;
+use crate::job::Job;
+use crate::shape::ShapeRecord;
+use crate::win::{By, Flags, Rules, WinParts, WinRecord, Wind};
+use riichi_tiles::Decided;
+
+impl Decided for Rules {
+    ghost decides = { λ a b. Prim.search rules };
+}
+
+impl Decided for By {
+    ghost decides = { λ a b. Prim.search rules };
+}
+
+impl Decided for Wind {
+    ghost decides = { λ a b. Prim.search rules };
+}
+
+impl Decided for Flags {
+    ghost use Rattle.riichi_hand.specs.Equality.{flags_decide};
+
+    ghost decides = { flags_decide };
+}
+
+impl Decided for WinParts {
+    ghost use Rattle.riichi_hand.specs.Equality.{parts_decide};
+
+    ghost decides = { parts_decide };
+}
+
+impl Decided for WinRecord {
+    ghost use Rattle.riichi_hand.specs.Equality.{parts_decide};
+
+    ghost decides = { parts_decide };
+}
+
+impl Decided for HandRecord {
+    ghost use Rattle.riichi_hand.specs.Equality.{hands_decide};
+
+    ghost decides = { hands_decide };
+}
+
+impl Decided for ShapeRecord {
+    ghost use Rattle.riichi_hand.specs.Equality.{shapes_decide};
+
+    ghost decides = { shapes_decide };
+}
+
+impl Decided for Job {
+    ghost use Rattle.riichi_hand.specs.Equality.{hands_decide, parts_decide, shapes_decide};
+
+    ghost decides = { λ a b. Prim.search (rules, parts_decide, hands_decide, shapes_decide) };
+}
+
+impl Decided for LineCode {
+    ghost decides = { λ a b. Prim.search rules };
+}
+
+impl Decided for TextName {
+    ghost decides = { λ a b. Prim.search rules };
+}
+
+impl Decided for LineFault {
+    ghost decides = { λ a b. Prim.search rules };
+}
