@@ -5,11 +5,17 @@ use crate::hint::mended;
 fn tiles_and_words(rt: HostRuntime) {
     for line in LINES {
         match mended(line.as_bytes()) {
-            Some(text) => { let text = text.as_str(); let _ = println!(rt; "{line}|{text}"); }
-            None => { let _ = println!(rt; "{line}|NONE"); }
+            Some(text) => {
+                let text = text.as_str();
+                let _ = println!(rt; "{line}|{text}");
+            }
+            None => {
+                let _ = println!(rt; "{line}|NONE");
+            }
         }
     }
 }
+
 static LINES: [&str; 72] = [
     "waits 1112345678999M",
     "win 234M567M345P67S99S on=5S by=ron seat=S round=E",

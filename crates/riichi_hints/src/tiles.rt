@@ -68,12 +68,7 @@ fn led_tiles(word: &str) -> Option<Tiles> {
         if let Some(next) = suit_of(letter) {
             suit = next;
         } else if letter.is_ascii_digit() {
-            tiles
-                .try_push(Tile {
-                    digit: letter,
-                    suit,
-                })
-                .ok()?;
+            push_tile(&mut tiles, letter, suit)?;
         } else if !is_between(letter) {
             return None;
         }
