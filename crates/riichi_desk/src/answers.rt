@@ -2,7 +2,7 @@
 use crate::codes::print_codes;
 use crate::failure::{Failure, report};
 use crate::files::open_file;
-use crate::lines::{Wanted, answer_lines};
+use crate::lines::answer_lines;
 use crate::noted::Notes;
 use crate::scoring::score_files;
 use crate::version::print_version;
@@ -72,7 +72,7 @@ fn answer_words<'a, R: Input + Print + Eprint + Files + Threads + Wait + Sync + 
     match request_of(&matches) {
         Some(Request::Waits(hand)) => print_waits(rt, notes, hand),
         Some(Request::Lines { lines, form, rules }) => {
-            answer_lines(rt, notes, lines, Wanted { form, rules })
+            answer_lines(rt, notes, lines, form, rules)
         }
         Some(Request::HelpCodes) => print_codes(rt, notes),
         Some(Request::Replay(file)) => replay_file(rt, notes, file),

@@ -2,7 +2,9 @@
 use crate::failure::Failure;
 use crate::files::open_file;
 use crate::noted::Notes;
-use desk_lines::{DeskFault, DeskReport, Rules, desk_text, explain_text, json_text};
+use desk_lines::{
+    DeskFault, DeskReport, KeptRows, Rules, desk_text_with, explain_text_with, json_text_with,
+};
 use desk_streams::{BytesIn, FromReader, Sink, Source, ToWriter};
 use desk_words::{Form, Lines};
 use std::alloc::{AllocError, Global};
@@ -12,11 +14,12 @@ use std::rt::Files;
 /// The name of the file that is standard input.
 const INPUT: &str = "-";
 
-/// What answers are made by: their form, and the rules of lines that are given no others.
-#[derive(Clone, Copy)]
-pub struct Wanted {
-    pub form: Form,
-    pub rules: Rules,
+/// Answers lines: in which form, by which rules where they are given no others, with the rows that are kept, and where to.
+struct Answering<W> {
+    form: Form,
+    rules: Rules,
+    rows: KeptRows,
+    writer: W,
 }
 
 /// Answers record lines on standard output: whether a line is refused.
@@ -24,93 +27,76 @@ pub fn answer_lines<'a, R: Input + Print + Files + AllocGlobal>(
     rt: &R,
     notes: &Notes<'a>,
     lines: Lines<'_, 'a>,
-    wanted: Wanted,
+    form: Form,
+    rules: Rules,
 ) -> Result<bool, Failure<'a>> {
-    let mut writer = ToWriter::new(notes.output(rt));
+    let mut answering = Answering {
+        form,
+        rules,
+        rows: KeptRows::new(rt.alloc()),
+        writer: ToWriter::new(notes.output(rt)),
+    };
     match lines {
-        Lines::Input => answer_input(rt, notes, wanted, &mut writer),
-        Lines::Files(files) => answer_files(rt, notes, files, wanted, &mut writer),
-        Lines::Each(words) => {
-            let text = each_line(rt.alloc(), words)?;
-            answer_text(&text, wanted, &mut writer)
-        }
-        Lines::One(words) => {
-            let text = one_line(rt.alloc(), words)?;
-            answer_text(&text, wanted, &mut writer)
-        }
+        Lines::Input => answering.input(rt, notes),
+        Lines::Files(files) => answering.files(rt, notes, files),
+        Lines::Each(words) => answering.text(&each_line(rt.alloc(), words)?),
+        Lines::One(words) => answering.text(&one_line(rt.alloc(), words)?),
         Lines::Record { job, hand, words } => {
             let mut text = String::from_str(rt.alloc(), job)?;
             push_word(&mut text, hand)?;
             push_words(&mut text, words)?;
-            answer_text(&text, wanted, &mut writer)
+            answering.text(&text)
         }
     }
 }
 
-fn answer_input<'a, R: Input, W: Sink>(
-    rt: &R,
-    notes: &Notes<'a>,
-    wanted: Wanted,
-    writer: &mut W,
-) -> Result<bool, Failure<'a>> {
-    let mut reader = FromReader::new(notes.reader("standard input", rt.reader()));
-    answer_source(&mut reader, wanted, writer)
-}
+impl<W: Sink> Answering<W> {
+    fn input<'a, R: Input>(&mut self, rt: &R, notes: &Notes<'a>) -> Result<bool, Failure<'a>> {
+        self.source(&mut FromReader::new(notes.reader("standard input", rt.reader())))
+    }
 
-/// Answers the lines of files, each of which may set its own profile. The first that can't be opened or read ends it.
-fn answer_files<'a, R: Input + Files + AllocGlobal, W: Sink>(
-    rt: &R,
-    notes: &Notes<'a>,
-    files: &[&'a str],
-    wanted: Wanted,
-    writer: &mut W,
-) -> Result<bool, Failure<'a>> {
-    let mut is_refused = false;
-    for file in files {
-        let file = *file;
-        if file == INPUT {
-            is_refused |= answer_input(rt, notes, wanted, writer)?;
-        } else {
-            let mut reader = FromReader::new(notes.reader(file, open_file(rt, file)?));
-            is_refused |= answer_source(&mut reader, wanted, writer)?;
+    /// Answers the lines of files, each of which may set its own profile. The first that can't be opened or read ends it.
+    fn files<'a, R: Input + Files + AllocGlobal>(
+        &mut self,
+        rt: &R,
+        notes: &Notes<'a>,
+        files: &[&'a str],
+    ) -> Result<bool, Failure<'a>> {
+        let mut is_refused = false;
+        for file in files {
+            let file = *file;
+            if file == INPUT {
+                is_refused |= self.input(rt, notes)?;
+            } else {
+                let mut reader = FromReader::new(notes.reader(file, open_file(rt, file)?));
+                is_refused |= self.source(&mut reader)?;
+            }
+        }
+        Ok(is_refused)
+    }
+
+    fn text(&mut self, text: &String) -> Result<bool, Failure<'static>> {
+        self.source(&mut BytesIn::new(text.as_bytes(), text.len() + 1, None))
+    }
+
+    /// Answers the lines of a source: whether one is refused.
+    fn source<'a, S: Source>(&mut self, reader: &mut S) -> Result<bool, Failure<'a>> {
+        match self.report(reader) {
+            Ok(report) => Ok(report.refused > 0),
+            Err(fault) => Err(match self.form {
+                Form::Reasons => Failure::Explained(fault),
+                Form::Words | Form::Json => Failure::from(fault),
+            }),
         }
     }
-    Ok(is_refused)
-}
 
-fn answer_text<W: Sink>(
-    text: &String,
-    wanted: Wanted,
-    writer: &mut W,
-) -> Result<bool, Failure<'static>> {
-    let mut reader = BytesIn::new(text.as_bytes(), text.len() + 1, None);
-    answer_source(&mut reader, wanted, writer)
-}
-
-/// Answers the lines of a source: whether one is refused.
-fn answer_source<'a, S: Source, W: Sink>(
-    reader: &mut S,
-    wanted: Wanted,
-    writer: &mut W,
-) -> Result<bool, Failure<'a>> {
-    match answered(reader, wanted, writer) {
-        Ok(report) => Ok(report.refused > 0),
-        Err(fault) => Err(match wanted.form {
-            Form::Reasons => Failure::Explained(fault),
-            Form::Words | Form::Json => Failure::from(fault),
-        }),
-    }
-}
-
-fn answered<S: Source, W: Sink>(
-    reader: &mut S,
-    wanted: Wanted,
-    writer: &mut W,
-) -> Result<DeskReport, DeskFault> {
-    match wanted.form {
-        Form::Words => desk_text(wanted.rules, reader, writer),
-        Form::Json => json_text(wanted.rules, reader, writer),
-        Form::Reasons => explain_text(wanted.rules, reader, writer),
+    fn report<S: Source>(&mut self, reader: &mut S) -> Result<DeskReport, DeskFault> {
+        let (rows, writer) = (&mut self.rows, &mut self.writer);
+        match self.form {
+            Form::Words => desk_text_with(rows, self.rules, reader, writer),
+            Form::Json => json_text_with(rows, self.rules, reader, writer),
+            Form::Reasons => explain_text_with(rows, self.rules, reader, writer),
+        }
     }
 }
 
