@@ -15,6 +15,7 @@ use std::rt::Files;
 const INPUT: &str = "-";
 
 /// Answers lines: in which form, by which rules where they are given no others, with the rows that are kept, and where to.
+#[derive(Drop)]
 struct Answering<W> {
     form: Form,
     rules: Rules,

@@ -5,4 +5,5 @@ pub mod TextLemmas
 pub mod FormLemmas
 pub mod PlainTexts
 pub mod RefusalLines
+pub mod HintLines
 pub mod ExplainedLines

@@ -6,7 +6,7 @@ use crate::plain::plain_text;
 use crate::reading::draft_of;
 use crate::writing::line_of;
 use arrayvec::ArrayString;
-use riichi_hand::{MOST_LINE, Rules, read_line};
+use riichi_hand::{MOST_LINE, Rules, has_other_byte, read_line};
 
 /// The text of a mended line.
 pub type HintText = ArrayString<512>;
@@ -25,11 +25,11 @@ pub fn mended(line: &[u8]) -> Option<HintText>
     }
 }
 
-/// Whether a line is answered, under each profile.
+/// Whether a line is answered, under each profile, and can be typed.
 fn is_answered(line: &[u8]) -> bool
     ensures { result ≡ true → spec.IsAnswered line.now }
 {
-    is_job(Rules::One, line) && is_job(Rules::Two, line)
+    is_job(Rules::One, line) && is_job(Rules::Two, line) && !has_other_byte(line)
 }
 
 fn is_job(rules: Rules, line: &[u8]) -> bool
