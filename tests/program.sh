@@ -96,8 +96,9 @@ for command in '' win waits shape line explain replay score; do
   told "the help of riichi_desk $command says the program's own name" 'Usage: riichi_desk' "$("$program" $command --help | grep -oE '^Usage: [a-z_]+')"
   told "the help of riichi_desk $command has the exit statuses" 5 "$("$program" $command --help | sed -n '/^Exit status:$/,$p' | grep -cE '^  [0-4]  ')"
 done
+told 'the help of riichi_desk help-yaku has the exit statuses' 4 "$("$program" help-yaku --help | sed -n '/^Exit status:$/,$p' | grep -cE '^  [0-4]  ')"
 told 'the help of riichi_desk help-codes has the exit statuses' 4 "$("$program" help-codes --help | sed -n '/^Exit status:$/,$p' | grep -cE '^  [0-4]  ')"
-told 'the help names the commands' 8 "$("$program" --help | grep -cE '^  (win|waits|shape|line|explain|replay|score|help-codes) ')"
+told 'the help names the commands' 9 "$("$program" --help | grep -cE '^  (win|waits|shape|line|explain|replay|score|help-codes|help-yaku) ')"
 
 # the command line: no input, a page of lines with its answers, and each example of the rules
 row 0 '' '' line
@@ -196,6 +197,12 @@ told 'line --json and a folder' "riichi_desk: fault F1
 $folder
 status 3" "$("$program" line --json < "$room" 2>&1; echo "status $?")"
 
+# the yaku, as docs/RULES.md has them
+told 'help-yaku' "$(awk -F ' \\| ' '{ gsub(/`/, "") } /^\| (No|[0-9]+) \| [a-zW]/ {
+    sub(/^\| /, "", $1); sub(/ \|$/, "", $NF); gsub(/[^ -~]/, "", $3); sub(/[ ,]+$/, "", $3)
+    if (NF == 6) printf "%2s|%s|%s|%s|%s|%s\n", $1, $2, $3, $4, $5, $6; else if (NF == 4) printf "%2s|%s|%s|%s\n", $1, $2, $3, $4 }' docs/RULES.md)" \
+  "$("$program" help-yaku | sed -nE 's/^  ( ?[0-9No]+)  ([^ ]+) +(.{15}) +([0-9C][a-z]*) +([0-9O-][a-z]*)  (.*)/\1|\2|\3|\4|\5|\6/p; t; s/^  ([0-9No]+)  ([^ ]+) +(.{15})  (.*)/\1|\2|\3|\4/p' | sed 's/ *|/|/g')"
+
 # the codes in words, as the documentation has them; and what follows each refusal, where `{}` stands for the words of its code
 "$program" help-codes > "$room/codes"
 told 'help-codes' "$(awk '/^## Codes$/ { here = 1 } /^```/ { inside = here && !inside; if (!inside && seen) exit; next } inside { seen = 1; print }' docs/NOTATION.md)" "$(cat "$room/codes")"
@@ -205,6 +212,16 @@ while IFS='|' read -r _ code line said; do
   told "the code of $line" "refused $code" "$(sed -nE '1s/^(refused [A-Z][0-9]+).*/\1/p' <<< "$got")"
   told "the word at fault of $line" "$(printf '%b' "${said/'{}'/$words}")" "$(tail -n +2 <<< "$got")"
 done < <(sed 's/^/|/' tests/refused.lines)
+
+# lines as beginners type them: each gets the line of its hint, and those lines are answered when they are copied
+: > "$room/hints"
+while IFS= read -r typed; do
+  [ "${typed:0:1}" = '#' ] && continue
+  IFS= read -r hint
+  told "the hint of $typed" "  try: ${hint#=> }" "$("$program" explain "$typed" | grep '^  try: ')"
+  "$program" explain "$typed" | sed -n 's/^  try: //p' >> "$room/hints"
+done < tests/beginners.lines
+told 'hints that are copied' "$(grep -c '^=> ' tests/beginners.lines) lines, status 0" "$("$program" line < "$room/hints" | grep -c .) lines, status $("$program" line < "$room/hints" > /dev/null; echo $?)"
 
 # someone types: the answer to a line comes before the next line is sent
 coproc desk { "$program" line; }

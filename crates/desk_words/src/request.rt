@@ -14,6 +14,8 @@ pub enum Request<'m, 'a> {
     },
     /// Every code in words.
     HelpCodes,
+    /// Every yaku with its names, its han and its condition.
+    HelpYaku,
     /// The answers to the script of this file.
     Replay(&'a str),
     /// The answers to the record lines of files, each a table, by so many workers.
@@ -66,6 +68,9 @@ pub fn request_of<'m, 'a>(matches: &'m ArgMatches<'a>) -> Option<Request<'m, 'a>
     }
     if matches.subcommand_matches("help-codes").is_some() {
         return Some(Request::HelpCodes);
+    }
+    if matches.subcommand_matches("help-yaku").is_some() {
+        return Some(Request::HelpYaku);
     }
     if let Some(replay) = matches.subcommand_matches("replay") {
         return Some(Request::Replay(replay.get_str("FILE")?));

@@ -21,7 +21,8 @@ pub fn commands<'a>(alloc: Global) -> Result<Command<'a>, AllocError> {
         .subcommand(explain_command(alloc)?)?
         .subcommand(replay_command(alloc)?)?
         .subcommand(score_command(alloc)?)?
-        .subcommand(codes_command(alloc))
+        .subcommand(codes_command(alloc))?
+        .subcommand(yaku_command(alloc))
 }
 
 fn win_command<'a>(alloc: Global) -> Result<Command<'a>, AllocError> {
@@ -131,6 +132,12 @@ fn codes_command<'a>(alloc: Global) -> Command<'a> {
     Command::new(alloc, "help-codes")
         .about("Prints every refusal, fault and exit status in words")
         .after_help(CODES_HELP)
+}
+
+fn yaku_command<'a>(alloc: Global) -> Command<'a> {
+    Command::new(alloc, "help-yaku")
+        .about("Prints every yaku: its word, its Japanese name, its han and its condition")
+        .after_help(YAKU_HELP)
 }
 
 fn replay_command<'a>(alloc: Global) -> Result<Command<'a>, AllocError> {

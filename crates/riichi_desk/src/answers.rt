@@ -6,6 +6,7 @@ use crate::lines::answer_lines;
 use crate::noted::Notes;
 use crate::scoring::score_files;
 use crate::version::print_version;
+use crate::yaku::print_yaku;
 use clap::error::ErrorKind;
 use desk_lines::{replay_text, waits_answer};
 use desk_score::ScoreFault;
@@ -75,6 +76,7 @@ fn answer_words<'a, R: Input + Print + Eprint + Files + Threads + Wait + Sync + 
             answer_lines(rt, notes, lines, form, rules)
         }
         Some(Request::HelpCodes) => print_codes(rt, notes),
+        Some(Request::HelpYaku) => print_yaku(rt, notes),
         Some(Request::Replay(file)) => replay_file(rt, notes, file),
         Some(
             Request::Score {

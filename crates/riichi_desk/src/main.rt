@@ -1,7 +1,7 @@
 //! The program `riichi_desk`: a scoring desk for riichi mahjong.
 //!
 //! `desk_words` reads the command line into a `Request`, `answers` carries it out, `lines` over record lines and `scoring`
-//! over the files of tables, `codes` and `version` print what they are named for. `failure` says what is written on standard
+//! over the files of tables, `codes`, `yaku` and `version` print what they are named for. `failure` says what is written on standard
 //! error and with which exit status the program ends; `noted` keeps what the system said of a stream that failed.
 #![tactic(auto)]
 
@@ -13,6 +13,7 @@ mod lines;
 mod noted;
 mod scoring;
 mod version;
+mod yaku;
 
 use answers::answer;
 use std::process::ExitCode;
