@@ -153,6 +153,23 @@ told 'explain --rules 2' 'won 4 han 30 fu 8000 gain 8000 pinfu pure-straight dor
 cp "$room/own" "$room/input"
 row 0 'won 3 han 30 fu 3900 gain 3900 pinfu pure-straight' '' line --rules 2
 row 2 '' "invalid value '3' for '--rules <N>'" line --rules 3
+# a line that looks like a profile line and is none is told on standard error, with the profile of the other lines
+ready=$'waits 123456789m'
+printf '\xef\xbb\xbfrules 2\nwaits 1112345678999m\n' > "$room/input"
+row 1 $'refused H1\n'"$ready" 'standard input: line 1 sets no profile' line
+printf 'Rules 2\nwaits 1112345678999m' > "$room/input"
+row 1 $'refused H2\n'"$ready" 'the lines are answered under profile 2' line --rules 2
+printf 'rules 3\r\nwaits 1112345678999m\n' > "$room/input"
+row 1 $'refused H2\n'"$ready" 'standard input: line 1 sets no profile' line
+printf '# table three\n\nrules 2\nwaits 1112345678999m\nrules 2\n' > "$room/input"
+row 1 $'refused H2\n'"$ready"$'\nrefused H2' 'standard input: line 3 sets no profile' line
+told 'a text is told once' 1 "$("$program" line < "$room/input" 2>&1 > /dev/null | grep -c .)"
+told 'each text of a score is told' 2 "$("$program" score "$room/input" "$room/input" 2>&1 > /dev/null | grep -c 'under profile 1')"
+told 'an explained text is told' 1 "$("$program" explain --file "$room/input" 2>&1 > /dev/null | grep -c 'line 3 sets no profile')"
+printf 'rules 2\nwaits 1112345678999m\nrules 1' > "$room/input"
+row 1 "$ready"$'\nrefused H2' 'line 3 sets no profile, though it looks like a line that does: the lines are answered under profile 2' line
+printf ' rules  2 \r\n# rules 1\nwaits 1112345678999m' > "$room/input"
+row 0 "$ready" '' line
 : > "$room/input"
 row 0 '' '' explain
 told 'explain and a full disk' "riichi_desk: fault F2: the answers can't be written

@@ -1,7 +1,7 @@
 //! The commands and their words.
 use crate::help::{
     CODES_HELP, EXPLAIN_HELP, LINE_HELP, PROGRAM_HELP, REPLAY_HELP, SCORE_HELP, SHAPE_HELP,
-    WAITS_HELP, WIN_HELP,
+    WAITS_HELP, WIN_HELP, YAKU_HELP,
 };
 use clap::{Arg, ArgAction, Command, value_parser};
 use std::alloc::{AllocError, Global};

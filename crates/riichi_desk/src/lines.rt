@@ -8,7 +8,7 @@ use desk_lines::{
 use desk_streams::{BytesIn, FromReader, Sink, Source, ToWriter};
 use desk_words::{Form, Lines};
 use std::alloc::{AllocError, Global};
-use std::io::{Input, Print};
+use std::io::{Eprint, Input, Print};
 use std::rt::Files;
 
 /// The name of the file that is standard input.
@@ -24,7 +24,7 @@ struct Answering<W> {
 }
 
 /// Answers record lines on standard output: whether a line is refused.
-pub fn answer_lines<'a, R: Input + Print + Files + AllocGlobal>(
+pub fn answer_lines<'a, R: Input + Print + Eprint + Files + AllocGlobal>(
     rt: &R,
     notes: &Notes<'a>,
     lines: Lines<'_, 'a>,
@@ -52,12 +52,21 @@ pub fn answer_lines<'a, R: Input + Print + Files + AllocGlobal>(
 }
 
 impl<W: Sink> Answering<W> {
-    fn input<'a, R: Input>(&mut self, rt: &R, notes: &Notes<'a>) -> Result<bool, Failure<'a>> {
-        self.source(&mut FromReader::new(notes.reader("standard input", rt.reader())))
+    fn input<'a, R: Input + Eprint>(
+        &mut self,
+        rt: &R,
+        notes: &Notes<'a>,
+    ) -> Result<bool, Failure<'a>> {
+        self.source(&mut FromReader::new(notes.lines(
+            rt,
+            "standard input",
+            self.rules,
+            rt.reader(),
+        )))
     }
 
     /// Answers the lines of files, each of which may set its own profile. The first that can't be opened or read ends it.
-    fn files<'a, R: Input + Files + AllocGlobal>(
+    fn files<'a, R: Input + Eprint + Files + AllocGlobal>(
         &mut self,
         rt: &R,
         notes: &Notes<'a>,
@@ -69,7 +78,12 @@ impl<W: Sink> Answering<W> {
             if file == INPUT {
                 is_refused |= self.input(rt, notes)?;
             } else {
-                let mut reader = FromReader::new(notes.reader(file, open_file(rt, file)?));
+                let mut reader = FromReader::new(notes.lines(
+                    rt,
+                    file,
+                    self.rules,
+                    open_file(rt, file)?,
+                ));
                 is_refused |= self.source(&mut reader)?;
             }
         }

@@ -2,7 +2,8 @@
 //!
 //! `desk_words` reads the command line into a `Request`, `answers` carries it out, `lines` over record lines and `scoring`
 //! over the files of tables, `codes`, `yaku` and `version` print what they are named for. `failure` says what is written on standard
-//! error and with which exit status the program ends; `noted` keeps what the system said of a stream that failed.
+//! error and with which exit status the program ends; `noted` keeps what the system said of a stream that failed,
+//! and `profile` finds lines that look like a profile line and are none.
 #![tactic(auto)]
 
 mod answers;
@@ -11,6 +12,7 @@ mod failure;
 mod files;
 mod lines;
 mod noted;
+mod profile;
 mod scoring;
 mod version;
 mod yaku;

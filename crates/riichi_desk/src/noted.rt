@@ -1,4 +1,6 @@
 //! What the system said of the stream that failed last.
+use crate::profile::{ProfileWatch, Slip};
+use desk_lines::Rules;
 use std::cell::Cell;
 use std::io::{self, Eprint, ErrorKind, Print, Printer, Read, Write};
 
@@ -103,6 +105,58 @@ impl<R: Read> Read for Noted<'_, '_, R> {
             }
         }
     }
+}
+
+/// A reader of record lines: its failures are noted, and a line that looks like a profile line and is none is told on standard
+/// error.
+#[derive(Drop)]
+pub struct Watched<'n, 'a, R, T> {
+    reader: Noted<'n, 'a, T>,
+    rt: &'n R,
+    watch: ProfileWatch,
+}
+
+impl<'a> Notes<'a> {
+    /// A reader of record lines under this name; these are the rules where the first line sets none.
+    pub fn lines<'n, R: Eprint, T: Read>(
+        &'n self,
+        rt: &'n R,
+        name: &'a str,
+        rules: Rules,
+        stream: T,
+    ) -> Watched<'n, 'a, R, T> {
+        Watched {
+            reader: self.reader(name, stream),
+            rt,
+            watch: ProfileWatch::new(rules),
+        }
+    }
+}
+
+impl<R: Eprint, T: Read> Read for Watched<'_, '_, R, T> {
+    ghost remaining = { λ watched. T.remaining watched.reader.stream };
+
+    fn read(&mut self, buffer: &mut [u8]) -> io::Result<usize> {
+        let count = self.reader.read(buffer)?;
+        if let Some(bytes) = buffer.get(..count) {
+            if let Some(slip) = self.watch.look(bytes) {
+                tell_slip(self.rt, self.reader.name, slip);
+            }
+        }
+        Ok(count)
+    }
+}
+
+/// Says that a line set no profile, and which profile the others have.
+fn tell_slip<R: Eprint>(rt: &R, name: &str, slip: Slip) {
+    let line = slip.line;
+    let profile = match slip.rules {
+        Rules::One => 1,
+        Rules::Two => 2,
+    };
+    let _ = eprintln!(rt;
+        "riichi_desk: {name}: line {line} sets no profile, though it looks like a line that does: the lines are answered under profile {profile}. A profile is set by `rules 1` or `rules 2` alone, as the first line"
+    );
 }
 
 impl<W: Write> Write for Noted<'_, '_, W> {

@@ -19,14 +19,14 @@
 mod draft;
 mod hint;
 mod names;
-mod nearest;
+mod near;
 mod plain;
 mod reading;
 mod tiles;
 mod writing;
 
 pub use hint::{HintText, mended, push_hint};
-pub use nearest::{distance, nearest};
+pub use near::{distance, nearest};
 
 #[cfg(test)]
 mod tests;

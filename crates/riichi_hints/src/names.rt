@@ -1,6 +1,6 @@
 //! The names that people write, and what each is in the notation.
 use crate::draft::{JobWord, KeyWord, MeldWord, Said};
-use crate::nearest::{distance, nearest};
+use crate::near::{distance, nearest};
 use arrayvec::ArrayString;
 
 /// A name in small letters.
