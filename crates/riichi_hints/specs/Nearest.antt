@@ -1,5 +1,5 @@
 -- The word of a list that is nearest to another.
-use Rattle.std.specs.Prelude.{ℕ, ◌+◌, ◌-◌, ◌==◌, ◌≤◌, List, length, min, not, reverse, Contains, All}
+use Rattle.std.specs.Prelude.{ℕ, ◌+◌, ◌-◌, ◌==◌, List, length, min, not, reverse}
 use Rattle.std.specs.List.{count_by, zip}
 
 -- how many letters differ of those that stand side by side

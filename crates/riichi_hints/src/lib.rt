@@ -26,7 +26,7 @@ mod tiles;
 mod writing;
 
 pub use hint::{HintText, mended, push_hint};
-pub use near::{distance, nearest};
+pub use near::distance;
 
 #[cfg(test)]
 mod tests;

