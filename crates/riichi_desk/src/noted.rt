@@ -155,7 +155,7 @@ fn tell_slip<R: Eprint>(rt: &R, name: &str, slip: Slip) {
         Rules::Two => 2,
     };
     let _ = eprintln!(rt;
-        "riichi_desk: {name}: line {line} sets no profile, though it looks like a line that does: the lines are answered under profile {profile}. A profile is set by `rules 1` or `rules 2` alone, as the first line"
+        "riichi_desk: {name}: line {line} sets no profile: the lines are answered under profile {profile}; `rules 1` or `rules 2` sets one, alone in the first line"
     );
 }
 
