@@ -1,6 +1,6 @@
 /* riichi_desk for C and C++: the answers of the command `line`, one call a line.
  *
- * Link with libriichi_desk_c.a and the C library. No call keeps anything or takes memory, so any thread may make any of
+ * Link with libriichi_desk_c.a and the C library: they run on every processor of x86-64 under Linux. No call keeps anything or takes memory, so any thread may make any of
  * them at any time. Of the C library they use memcpy, memmove and memset alone.
  *
  * Each pointer must be valid for as many bytes as its length says, and not null even where that is 0; `line` and `room`

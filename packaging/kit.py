@@ -17,3 +17,8 @@ def load():
     module = importlib.util.module_from_spec(importlib.util.spec_from_loader(loader.name, loader))
     loader.exec_module(module)
     return module
+
+
+def build_static(crate, flags):
+    """Proves and builds a static library, for every processor of x86-64: it can't look first, as a program does, which one it is on."""
+    return crate.build_static([*flags, "--cpu", "x86-64"])

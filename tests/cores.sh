@@ -31,5 +31,5 @@ if command -v parallel > /dev/null; then
   told 'many cores, nothing' "$(by_one < /dev/null)" "$(by_many < /dev/null)"
   told 'many cores, a program that is not there' 127 "$(echo waits | PROGRAM=/nowhere/desk examples/many-cores 2> /dev/null; echo $?)"
 else
-  echo 'GNU parallel is not here: examples/many-cores is not tried'
+  skip 'many cores' parallel
 fi

@@ -1,14 +1,7 @@
-# Rows of the built program, read by ./test: it gives `program`, an empty folder `room`, and the counts `passed` and `failed`.
+# Rows of the built program, read by ./test: it gives `program`, an empty folder `room`, and the counts `passed`,
+# `failed` and `skipped`.
 
-# told NAME WANTED GOT: counts one row, and says where it differs
-told() {
-  if [ "$2" = "$3" ]; then
-    passed=$((passed + 1))
-  else
-    failed=$((failed + 1))
-    echo "FAILED: $1: wanted '$(head -c 400 <<< "$2")', got '$(head -c 400 <<< "$3")'"
-  fi
-}
+source tests/counts.sh
 
 # row STATUS OUTPUT ERRORS WORDS..: runs the program on WORDS with the file `room/input` as its input, and compares.
 # ERRORS is a text that must stand in what it says on standard error; an empty one means that it says nothing.

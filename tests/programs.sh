@@ -17,17 +17,17 @@ cc -pthread -Iinclude tests/threads.c "$archive" -o "$made/threads"
 told 'four threads of a program at once' "$(sha256sum < "$made/wanted")" "$("$made/threads" "$made/lines" | sha256sum)"
 "$program" explain < "$made/lines" > "$made/explained"
 told 'a program in C, with explanations' "$(sha256sum < "$made/explained")" "$("$made/checked" explain < "$made/lines" 2>&1 | sha256sum)"
-cc -shared -o "$made/libriichi_desk.so" -Wl,--whole-archive "$archive" -Wl,--no-whole-archive
-told 'a program in Python' "$(sha256sum < "$made/wanted")" "$(RIICHI_DESK=$made/libriichi_desk.so python3 examples/python/riichi_desk.py < "$made/lines" | sha256sum)"
-told 'a program in Python, with explanations' "$(sha256sum < "$made/explained")" \
-  "$(RIICHI_DESK=$made/libriichi_desk.so python3 examples/python/riichi_desk.py explain < "$made/lines" | sha256sum)"
-told 'the version by Python' "$("$program" --version)" \
-  "$(RIICHI_DESK=$made/libriichi_desk.so PYTHONPATH=examples/python python3 -B -c 'import riichi_desk; print(riichi_desk.version())')"
-told 'answers as values by Python' "$(sha256sum < "$made/wanted")" \
-  "$(RIICHI_DESK=$made/libriichi_desk.so python3 -B tests/typed_answers.py < "$made/lines" | sha256sum)"
-told 'the words of the Python modules' '' "$(cd examples/python && RIICHI_DESK=$made/libriichi_desk.so python3 -B -m doctest riichi_desk.py answers.py 2>&1)"
-RIICHI_DESK=$made/libriichi_desk.so PYTHONPATH=examples/python python3 -B -c 'import riichi_desk, sys
-for line in sys.stdin.buffer: print(riichi_desk.json(line.rstrip(b"\n")) or "", end="\n")' < "$made/lines" | grep . > "$made/json"
+packaging/library/install-library "$archive" include/riichi_desk.h 0.0 "$made/local"
+# by_python WORDS..: Python of the distribution, with the package as it lies here and the shared library
+by_python() { RIICHI_DESK=$made/local/lib/libriichi_desk.so PYTHONPATH=packaging/python/src /usr/bin/python3 -B "$@"; }
+told 'a program in Python' "$(sha256sum < "$made/wanted")" "$(by_python examples/python/answer.py < "$made/lines" | sha256sum)"
+told 'a program in Python, with explanations' "$(sha256sum < "$made/explained")" "$(by_python examples/python/answer.py explain < "$made/lines" | sha256sum)"
+told 'the version by Python' "$("$program" --version)" "$(by_python -c 'import riichi_desk; print(riichi_desk.version())')"
+told 'answers as values by Python' "$(sha256sum < "$made/wanted")" "$(by_python tests/typed_answers.py < "$made/lines" | sha256sum)"
+told 'the words of the Python package' '' "$(by_python tests/module_words.py 2>&1)"
+told 'the edges of the Python package' 'all right' "$(by_python tests/module_edges.py "$made/lines" 2>&1)"
+by_python -c 'import riichi_desk, sys
+for line in sys.stdin.buffer: print(riichi_desk.json(line) or "")' < "$made/lines" | grep . > "$made/json"
 told 'line --json' "$(sha256sum < "$made/json")" "$("$program" line --json < "$made/lines" | sha256sum)"
 # (the validator is the package python3-jsonschema)
 if python3 -c 'import jsonschema' 2> /dev/null; then
@@ -37,7 +37,7 @@ if python3 -c 'import jsonschema' 2> /dev/null; then
     "$(for text in "${texts[@]}"; do "$program" line < "$text"; done | wc -l) valid" \
     "$(for text in "${texts[@]}"; do "$program" line --json < "$text"; done | python3 -B tests/valid_answers.py docs/answer.schema.json)"
 else
-  echo 'python3-jsonschema is not here: docs/answer.schema.json is not tried'
+  skip 'answers by their JSON Schema' python3-jsonschema
 fi
 # (a machine that builds the rest may have no Rust)
 if command -v rustc > /dev/null; then
@@ -45,6 +45,6 @@ if command -v rustc > /dev/null; then
   told 'a program in Rust' "$(sha256sum < "$made/wanted")" "$("$made/in_rust" < "$made/lines" | sha256sum)"
   told 'a program in Rust, with explanations' "$(sha256sum < "$made/explained")" "$("$made/in_rust" explain < "$made/lines" | sha256sum)"
 else
-  echo 'rustc is not here: the program in Rust is not tried'
+  skip 'a program in Rust' rustc
 fi
 told 'what the library asks of the C library' 'memcpy memmove memset' "$(nm -u "$archive" | sed -n 's/^ *U //p' | sort -u | xargs)"

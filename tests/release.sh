@@ -1,31 +1,71 @@
-# Rows of ./release, read by ./test after tests/scripts.sh, whose folder `scripts` and words it uses. The release is made
-# in a copy of the tree from the built program, and unpacked beside it.
+# Rows of ./release, read by ./test after tests/scripts.sh and tests/programs.sh, whose folder `scripts`, words and `archive` it
+# uses. The release is made in a copy of the tree from the built program, and unpacked beside it.
 
 shop=$scripts/shop
 mkdir -p "$shop/docs" "$shop/bin"
-cp -r "$tree"/{sources,desk,crates.txt,crates} release packaging examples include web LICENSE "$shop"
-echo archive > "$shop/bin/libriichi_desk_c.a"
+cp -r "$tree"/{sources,desk,crates.txt,crates} release packages packaging examples include web LICENSE "$shop"
+cp "$archive" "$shop/bin"
 echo page > "$shop/bin/desk.html"
 cp docs/NOTATION.md docs/RULES.md docs/answer.schema.json "$shop/docs"
 cp "$program" "$shop/bin/riichi_desk"
 printf 'proved with kit-0, logic 0123\nsources %s\nprogram %s\n' "$sum" "$(sha256sum < "$program" | cut -d' ' -f1)" > "$shop/bin/riichi_desk.proved"
 version=$("$program" --version | sed 's/^riichi_desk //')
 name=riichi_desk-$version-linux-x86_64
+# stand-ins for what ./packages builds
+mkdir "$shop/bin/packages"
+for package in "riichi_desk-$version"{.tgz,.crate,-py3-none-manylinux_2_17_x86_64.whl} riichi_desk_portable.c riichi_desk-{windows-x86_64.exe,linux-arm64} libriichi_desk_c-{windows-x86_64,linux-arm64}.a; do
+  echo "$package" > "$shop/bin/packages/$package"
+done
+"$shop/packaging/sources" > "$shop/bin/packages/sources"
+debs=
+if command -v dpkg-deb > /dev/null; then
+  debs=$(printf 'release: releases/%s_%s_amd64.deb\n' libriichi-desk-dev "$version" libriichi-desk0 "$version" riichi-desk "$version")$'\n'
+else
+  skip "Debian's packages" dpkg-dev
+fi
+others="release: releases/riichi_desk-$version-windows-x86_64.zip
+release: releases/riichi_desk-$version-linux-arm64.tar.gz
+$debs"
 echo another > "$shop/bin/desk.html.sources"
 told 'a release, and a page of other sources' "release: no page of these sources lies in bin; ./page builds it
-release: releases/$name.tar.gz
+${others}release: releases/$name.tar.gz
 status 0 0" "$(by_hand "$shop" ./release) $(tar -tf "$shop/releases/$name.tar.gz" | grep -c 'desk.html$')"
 "$shop/web/sources" > "$shop/bin/desk.html.sources"
-told 'a release' "release: releases/$name.tar.gz
+told 'a release' "${others}release: releases/$name.tar.gz
 status 0" "$(by_hand "$shop" ./release)"
-first=$(sha256sum < "$shop/releases/$name.tar.gz")
-told 'the checksum of the release' "$name.tar.gz: OK" "$(cd "$shop/releases" && sha256sum -c "$name.tar.gz.sha256")"
-told 'the release once more, to the byte' "$first" "$(by_hand "$shop" ./release > /dev/null; sha256sum < "$shop/releases/$name.tar.gz")"
+first=$(cd "$shop/releases" && sha256sum -- *)
+told 'the checksums of the release' "riichi_desk-$version-linux-arm64.tar.gz: OK
+$name.tar.gz: OK
+riichi_desk-$version-windows-x86_64.zip: OK" "$(cd "$shop/releases" && cat ./*.sha256 | sha256sum -c)"
+told 'the release once more, to the byte' "$first" "$(by_hand "$shop" ./release > /dev/null; cd "$shop/releases" && sha256sum -- *)"
+told 'what is in the archive for Windows' 'LICENSE NOTATION.md README.md RULES.md SHA256SUMS answer.schema.json examples libriichi_desk_c.a licences riichi_desk.c riichi_desk.exe riichi_desk.h' \
+  "$(unzip -l "$shop/releases/riichi_desk-$version-windows-x86_64.zip" | sed -n "s|.* riichi_desk-$version-windows-x86_64/\([^/]*\).*|\1|p" | sort -u | xargs)"
+told 'how it is called there' 3 "$(unzip -p "$shop/releases/riichi_desk-$version-windows-x86_64.zip" '*/README.md' | grep -cF '$ .\riichi_desk.exe ')"
+told 'a release without packages' 'release: without packages for other languages and systems' \
+  "$(echo another > "$shop/bin/packages/sources"; by_hand "$shop" ./release | grep without)"
+"$shop/packaging/sources" > "$shop/bin/packages/sources"
+by_hand "$shop" ./release > /dev/null
 tar -C "$scripts" -xf "$shop/releases/$name.tar.gz"
 unpacked=$scripts/$name
-told 'what is in the release' 'LICENSE NOTATION.md README.md RULES.md SHA256SUMS answer.schema.json completions desk.html examples libriichi_desk_c.a licences riichi_desk riichi_desk.1 riichi_desk.h riichi_desk.proved' \
+told 'what is in the release' 'LICENSE NOTATION.md README.md RULES.md SHA256SUMS answer.schema.json completions desk.html examples libriichi_desk_c.a library licences packages riichi_desk riichi_desk.1 riichi_desk.h riichi_desk.proved' \
   "$(cd "$unpacked" && echo *)"
 told 'its files are whole' 0 "$(cd "$unpacked" && sha256sum --quiet -c SHA256SUMS > /dev/null; echo $?)"
+# printed WORD: the commands in the block of its README that has WORD; they answer in the release's folder
+printed() {
+  awk -v word="$1" '/^```/ { if (within && index(text, word)) printf "%s", text; within = !within; text = ""; next } within { text = text $0 "\n" }' "$unpacked/README.md"
+}
+explained=$("$program" explain < examples/club-night.lines)
+told 'the README: C' "$explained" "$(cd "$unpacked" && bash -c "$(printed 'answer.c libriichi_desk_c.a')" 2>&1)"
+if command -v pkg-config > /dev/null; then
+  told 'the README: C by the shared library' "$explained" "$(cd "$unpacked" && bash -c "$(printed PKG_CONFIG_PATH)" 2>&1)"
+else
+  skip 'the README: C by the shared library' pkg-config
+fi
+if command -v rustc > /dev/null; then
+  told 'the README: Rust' "$explained" "$(cd "$unpacked" && bash -c "$(printed 'rustc ')" 2>&1)"
+else
+  skip 'the README: Rust' rustc
+fi
 told 'the version says what it was proved with' "riichi_desk $version
 $(cat "$shop/bin/riichi_desk.proved")" "$("$unpacked/riichi_desk" --version)"
 mkdir "$scripts/link" && ln -s "$unpacked/riichi_desk" "$scripts/link/desk"

@@ -1,15 +1,13 @@
 #!/usr/bin/env python3
-"""tests/typed_answers.py: answers the lines of standard input by examples/python, as values, and tells them in the words of the command `line`."""
+"""tests/typed_riichi_desk.py: answers the lines of standard input by the Python package, as values, and tells them in the words of the command `line`."""
 
 import sys
-from pathlib import Path
+from collections.abc import Mapping
 
-sys.path.insert(0, str(Path(__file__).parent.parent / "examples" / "python"))
-import answers  # noqa: E402
-import riichi_desk  # noqa: E402
+import riichi_desk
 
 
-def paid(payment: dict[str, int]) -> str:
+def paid(payment: Mapping[str, int]) -> str:
     if "discarder" in payment:
         return f"{payment['discarder']}"
     if "each" in payment:
@@ -17,7 +15,7 @@ def paid(payment: dict[str, int]) -> str:
     return f"{payment['each_other']}/{payment['dealer']}"
 
 
-def won(score: answers.Won) -> str:
+def won(score: riichi_desk.Won) -> str:
     worth = "yakuman" if score.yakuman else f"{score.han} han {score.fu} fu"
     words = [f"won {worth} {paid(score.payment)} gain {score.gain}", *(each.word for each in score.yaku)]
     if score.dora:
@@ -25,7 +23,7 @@ def won(score: answers.Won) -> str:
     return " ".join(words)
 
 
-def accepted(kinds: answers.Accepted) -> str:
+def accepted(kinds: riichi_desk.Accepted) -> str:
     each = " ".join(f"{kind}:{live}" for kind, live in kinds.kinds.items()) or "-"
     return f"accepts {each} live {kinds.live}"
 
@@ -35,7 +33,7 @@ def tiles(kinds: tuple[str, ...]) -> str:
     return "".join(suit for suit in suits if len(suit) > 1) or "-"
 
 
-def shape(told: answers.Shape) -> str:
+def shape(told: riichi_desk.Shape) -> str:
     words = [f"shanten {told.shanten}"]
     if told.accepts is not None:
         words.append(accepted(told.accepts))
@@ -43,24 +41,26 @@ def shape(told: answers.Shape) -> str:
     return " ".join(words)
 
 
-def words_of(told: answers.Answer) -> str:
+def words_of(told: riichi_desk.Answer) -> str:
     match told:
-        case answers.Won():
+        case riichi_desk.Won():
             return won(told)
-        case answers.NoYaku():
+        case riichi_desk.NoYaku():
             return "no yaku"
-        case answers.NoWin():
+        case riichi_desk.NoWin():
             return "no win"
-        case answers.Waits():
+        case riichi_desk.Waits():
             return f"waits {tiles(told.kinds)}"
-        case answers.Shape():
+        case riichi_desk.Shape():
             return shape(told)
-        case answers.Refused(code=code, text=None):
+        case riichi_desk.Refused(code=code, text=None):
             return f"refused {code}"
     return f"refused {told.code} {told.text} at {told.place}"
 
 
-for line in sys.stdin.buffer:
-    told = riichi_desk.answer(line.rstrip(b"\r\n"))
+lines = sys.stdin.buffer.read().split(b"\n")
+for line, many in zip(lines, riichi_desk.answers(lines)):
+    told = riichi_desk.answer(line)
+    assert told == many and hash(told) == hash(many), line
     if told is not None:
         print(words_of(told))

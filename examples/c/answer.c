@@ -1,5 +1,8 @@
 /* Answers the lines of standard input, each under the first profile, and with the word `explain` says why:
- *   cc answer.c -I../../include libriichi_desk_c.a -o answer && ./answer < FILE && ./answer explain < FILE
+ *   cc -I. examples/c/answer.c libriichi_desk_c.a -o answer
+ *   ./answer < FILE
+ *   ./answer explain < FILE
+ * in the folder of a release; in that of the sources, -Iinclude and bin/libriichi_desk_c.a.
  */
 #define _POSIX_C_SOURCE 200809L
 #include <riichi_desk.h>
@@ -15,7 +18,8 @@ int main(int count, char **words) {
     ssize_t length;
     uint8_t room[RIICHI_MOST_ANSWER];
     while ((length = getline(&line, &size, stdin)) >= 0) {
-        while (length > 0 && (line[length - 1] == '\n' || line[length - 1] == '\r')) length--;
+        if (length > 0 && line[length - 1] == '\n') length--;
+        if (length > 0 && line[length - 1] == '\r') length--;
         size_t needed = riichi_answer(RIICHI_RULES_ONE, (const uint8_t *)line, (size_t)length, room, sizeof room);
         if (needed > 0) {
             fwrite(room, 1, needed, stdout);

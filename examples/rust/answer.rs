@@ -1,5 +1,10 @@
 //! Answers the lines of standard input, each under the first profile, and with the word `explain` says why:
-//! `rustc answer.rs -L FOLDER -l static=riichi_desk_c && ./answer < FILE`, with libriichi_desk_c.a in FOLDER.
+//!
+//!     rustc -O --edition 2021 -L . -l static=riichi_desk_c examples/rust/answer.rs -o answer
+//!     ./answer < FILE
+//!     ./answer explain < FILE
+//!
+//! in the folder of a release; in that of the sources, -L bin.
 use std::io::{self, BufRead, Write};
 
 extern "C" {

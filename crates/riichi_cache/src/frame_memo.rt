@@ -6,7 +6,7 @@ use crate::row_key::RowKey;
 use riichi_rows::{RowSource, SuitRow};
 use std::marker::Model;
 
-/// A place for each of `N` rows, which takes no memory but that of the value: 48 bytes a place. It
+/// A place for each of `N` rows, which takes no memory but that of the value: 67 bytes a place. It
 /// is seen as their number.
 #[derive(Drop)]
 pub struct FrameMemo<const N: usize> {

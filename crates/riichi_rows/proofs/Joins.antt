@@ -4,6 +4,9 @@ use Rattle.std.proofs.lemmas.Bool.{cases_lt, ltb-true, ltb-false, lt-ltb}
 use Rattle.riichi_rows.specs.Lanes.{capped, with_set, with_pair}
 use Rattle.riichi_rows.specs.Join.{IsLeastSum, SumReached, EntriesSum, IsLeastJoin}
 use Rattle.riichi_rows.specs.Suit.{entry_of}
+use Rattle.riichi_tiles.specs.Suits.{over_suits}
+use Rattle.riichi_tiles.specs.declared.suit.Suit.{Suit}
+use Rattle.riichi_tiles.proofs.Suits.{le_over, one_of, same_over}
 
 -- the values with n sets more
 pub record IsMoved (g moved : ℕ → ℕ → ℕ) (n : ℕ) : Type 0 where
@@ -100,7 +103,7 @@ least_sum f g h so_far = record {
   reached = so_far.reached;
 }
 
--- ---- four rows
+-- ---- entries
 
 pub entry_is : (v n : ℕ) → entry_of v ≡ Some n → (v ≡ n) × (v < 255)
 entry_is v n e = by_test (ltb v 255) refl
@@ -118,65 +121,44 @@ entries f s p = entry_of (f s p)
 abbrev pub IsSmall : (ℕ → ℕ → ℕ) → Type 0
 IsSmall f = (s p : ℕ) → s < 5 → p < 2 → f s p < 255 → f s p ≤ 36
 
--- four entries of four rows
-module _ (a b c d : ℕ → ℕ → ℕ) (sets n : ℕ) where
-  unfoldable pub four_entries : (s0 s1 s2 s3 p0 p1 p2 p3 : ℕ) → s0 + s1 + s2 + s3 ≡ sets → p0 + p1 + p2 + p3 ≡ 1 → a s0 p0 + b s1 p1 + c s2 p2 + d s3 p3 ≡ n → n < 255
-      → EntriesSum (entries a) (entries b) (entries c) (entries d) sets n
-  four_entries s0 s1 s2 s3 p0 p1 p2 p3 has_sets has_pair total low = record {
-    split = record { sets_0 = s0; sets_1 = s1; sets_2 = s2; sets_3 = s3; pairs_0 = p0; pairs_1 = p1; pairs_2 = p2; pairs_3 = p3 };
+-- ---- the rows of the suits
+
+abbrev pub each_entries : (Suit → ℕ → ℕ → ℕ) → Suit → ℕ → ℕ → Option ℕ
+each_entries rows suit = entries (rows suit)
+
+module _ (rows : Suit → ℕ → ℕ → ℕ) (sets n : ℕ) where
+  -- an entry of each, by so many sets and pairs of each suit
+  unfoldable pub entries_at : (sets_of pairs_of : Suit → ℕ) → over_suits sets_of ≡ sets → over_suits pairs_of ≡ 1 → over_suits (λ suit. rows suit (sets_of suit) (pairs_of suit)) ≡ n → n < 255
+      → EntriesSum (each_entries rows) sets n
+  entries_at sets_of pairs_of has_sets has_pair total low = record {
+    sets_of = sets_of;
+    pairs_of = pairs_of;
+    lack_of = λ suit. rows suit (sets_of suit) (pairs_of suit);
     has_sets = has_sets;
     has_pair = has_pair;
-    lack_0 = a s0 p0;
-    lack_1 = b s1 p1;
-    lack_2 = c s2 p2;
-    lack_3 = d s3 p3;
-    entry_0 = entry_some (a s0 p0) (omega arith);
-    entry_1 = entry_some (b s1 p1) (omega arith);
-    entry_2 = entry_some (c s2 p2) (omega arith);
-    entry_3 = entry_some (d s3 p3) (omega arith);
+    entry = λ suit. entry_some (rows suit (sets_of suit) (pairs_of suit)) (omega (arith, one_of (λ suit. rows suit (sets_of suit) (pairs_of suit)) suit, total, low));
     total = total;
   }
 
-  module _ (e : EntriesSum (entries a) (entries b) (entries c) (entries d) sets n) (few : sets ≤ 4) (small_a : IsSmall a) (small_b : IsSmall b) (small_c : IsSmall c) (small_d : IsSmall d) where
-    pub entries_total : (a e.split.sets_0 e.split.pairs_0 + b e.split.sets_1 e.split.pairs_1 + c e.split.sets_2 e.split.pairs_2 + d e.split.sets_3 e.split.pairs_3 ≡ n) × (n ≤ 144)
+  module _ (e : EntriesSum (each_entries rows) sets n) (few : sets ≤ 4) (small : (suit : Suit) → IsSmall (rows suit)) where
+    few_sets : (suit : Suit) → e.sets_of suit ≤ 4
+    few_sets suit = omega (arith, one_of e.sets_of suit, e.has_sets)
+
+    few_pairs : (suit : Suit) → e.pairs_of suit ≤ 1
+    few_pairs suit = omega (arith, one_of e.pairs_of suit, e.has_pair)
+
+    pub entries_total : (over_suits (λ suit. rows suit (e.sets_of suit) (e.pairs_of suit)) ≡ n) × (n ≤ 144)
     entries_total =
-        let e0 = entry_is (a e.split.sets_0 e.split.pairs_0) e.lack_0 e.entry_0 in
-        let e1 = entry_is (b e.split.sets_1 e.split.pairs_1) e.lack_1 e.entry_1 in
-        let e2 = entry_is (c e.split.sets_2 e.split.pairs_2) e.lack_2 e.entry_2 in
-        let e3 = entry_is (d e.split.sets_3 e.split.pairs_3) e.lack_3 e.entry_3 in
-        let m0 = small_a e.split.sets_0 e.split.pairs_0 (omega (arith, e.has_sets)) (omega (arith, e.has_pair)) e0.1 in
-        let m1 = small_b e.split.sets_1 e.split.pairs_1 (omega (arith, e.has_sets)) (omega (arith, e.has_pair)) e1.1 in
-        let m2 = small_c e.split.sets_2 e.split.pairs_2 (omega (arith, e.has_sets)) (omega (arith, e.has_pair)) e2.1 in
-        let m3 = small_d e.split.sets_3 e.split.pairs_3 (omega (arith, e.has_sets)) (omega (arith, e.has_pair)) e3.1 in
-        (omega (arith, e0.0, e1.0, e2.0, e3.0, e.total), omega (arith, m0, m1, m2, m3, e0.0, e1.0, e2.0, e3.0, e.total))
+        let lacks : Suit → ℕ = λ suit. rows suit (e.sets_of suit) (e.pairs_of suit) in
+        let is : (suit : Suit) → (lacks suit ≡ e.lack_of suit) × (lacks suit < 255) = λ suit. entry_is (lacks suit) (e.lack_of suit) (e.entry suit) in
+        let sum = same_over lacks e.lack_of (λ suit. (is suit).0) in
+        let most = le_over lacks (λ suit. 36) (λ suit. small suit (e.sets_of suit) (e.pairs_of suit) (omega (arith, few_sets suit)) (omega (arith, few_pairs suit)) (is suit).1) in
+        (sum ∙ e.total, omega (arith, sum, e.total, most))
 
 -- a lane that no sum is below, and that is reached unless it stands for none
-pub entry_join : (a b c d : ℕ → ℕ → Option ℕ) (sets n : ℕ) → ((m : ℕ) → EntriesSum a b c d sets m → (n ≤ m) × (m ≤ 144)) → (n < 255 → EntriesSum a b c d sets n) → IsLeastJoin a b c d sets (entry_of n)
-entry_join a b c d sets n bound reached = by_test (ltb n 255) refl
+pub entry_join : (rows : Suit → ℕ → ℕ → Option ℕ) (sets n : ℕ) → ((m : ℕ) → EntriesSum rows sets m → (n ≤ m) × (m ≤ 144)) → (n < 255 → EntriesSum rows sets n) → IsLeastJoin rows sets (entry_of n)
+entry_join rows sets n bound reached = by_test (ltb n 255) refl
   where
-    by_test : (t : Bool) → ltb n 255 ≡ t → IsLeastJoin a b c d sets (cond t (Some n) None)
+    by_test : (t : Bool) → ltb n 255 ≡ t → IsLeastJoin rows sets (cond t (Some n) None)
     by_test true low = (reached (ltb-true n 255 low), λ m e. (bound m e).0)
     by_test false high = λ m e. (let below = bound m e in omega (arith, ltb-false n 255 high, below.0, below.1))
-
-module _ (a b c d left right all : ℕ → ℕ → ℕ) (left_least : IsLeastSum a b left) (right_least : IsLeastSum c d right) (all_least : IsLeastSum left right all) (sets : ℕ) (few : sets ≤ 4)
-    (small_a : IsSmall a) (small_b : IsSmall b) (small_c : IsSmall c) (small_d : IsSmall d) where
-  join_bound : (n : ℕ) → EntriesSum (entries a) (entries b) (entries c) (entries d) sets n → (all sets 1 ≤ n) × (n ≤ 144)
-  join_bound n e =
-      let x = e.split in
-      let sum = entries_total a b c d sets n e few small_a small_b small_c small_d in
-      let l = left_least.bound x.sets_0 x.pairs_0 x.sets_1 x.pairs_1 (omega (arith, e.has_sets)) (omega (arith, e.has_pair)) in
-      let r = right_least.bound x.sets_2 x.pairs_2 x.sets_3 x.pairs_3 (omega (arith, e.has_sets)) (omega (arith, e.has_pair)) in
-      let t = all_least.bound (x.sets_0 + x.sets_1) (x.pairs_0 + x.pairs_1) (x.sets_2 + x.sets_3) (x.pairs_2 + x.pairs_3) (omega (arith, e.has_sets)) (omega (arith, e.has_pair)) in
-      let place = at_same all sets (x.sets_0 + x.sets_1 + (x.sets_2 + x.sets_3)) 1 (x.pairs_0 + x.pairs_1 + (x.pairs_2 + x.pairs_3)) (omega (arith, e.has_sets)) (omega (arith, e.has_pair)) in
-      (omega (arith, place, t, l, r, sum.0), sum.1)
-
-  join_reached : all sets 1 < 255 → EntriesSum (entries a) (entries b) (entries c) (entries d) sets (all sets 1)
-  join_reached low =
-      let t = all_least.reached sets 1 few (omega arith) low in
-      let l = left_least.reached t.left_sets t.left_pairs (omega (arith, t.sets)) (omega (arith, t.pairs)) (omega (arith, t.value)) in
-      let r = right_least.reached t.right_sets t.right_pairs (omega (arith, t.sets)) (omega (arith, t.pairs)) (omega (arith, t.value)) in
-      four_entries a b c d sets (all sets 1) l.left_sets l.right_sets r.left_sets r.right_sets l.left_pairs l.right_pairs r.left_pairs r.right_pairs
-      (omega (arith, t.sets, l.sets, r.sets)) (omega (arith, t.pairs, l.pairs, r.pairs)) (omega (arith, t.value, l.value, r.value)) low
-
-  pub join_entry : (n : ℕ) → n ≡ all sets 1 → IsLeastJoin (entries a) (entries b) (entries c) (entries d) sets (entry_of n)
-  join_entry n same = subst (λ (v : ℕ). IsLeastJoin (entries a) (entries b) (entries c) (entries d) sets (entry_of v)) (sym same) (entry_join (entries a) (entries b) (entries c) (entries d) sets (all sets 1) join_bound join_reached)

@@ -1,6 +1,5 @@
 pub mod Blocks
 pub mod CostLemmas
-pub mod JoinOrders
 pub mod Joins
 pub mod LackedRanks
 pub mod LaneLemmas

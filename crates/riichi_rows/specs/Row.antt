@@ -1,6 +1,9 @@
 -- What a suit row shows.
-use Rattle.std.specs.Prelude.{ℕ, Option, List, ◌≡◌, ◌∷◌, []}
-use Rattle.riichi_rows.specs.Join.{IsLeastJoin, IsLeastSum}
+use Rattle.std.specs.Prelude.{ℕ, Option}
+use Rattle.riichi_tiles.specs.Suits.{first_far, last_far, of_suit, partner}
+use Rattle.riichi_tiles.specs.declared.by_suit.BySuit.{BySuit}
+use Rattle.riichi_tiles.specs.declared.suit.Suit.{Suit}
+use Rattle.riichi_rows.specs.Join.{IsLeastSum}
 use Rattle.riichi_rows.specs.Lanes.{lane}
 use Rattle.riichi_rows.specs.Suit.{row_entries}
 use Rattle.riichi_rows.specs.declared.joined.JoinedRows.{JoinedRows}
@@ -10,12 +13,12 @@ use Rattle.riichi_rows.specs.declared.row.SuitRow.{SuitRow}
 abbrev pub entries_of : SuitRow → ℕ → ℕ → Option ℕ
 entries_of row = row_entries row.entries.lacks
 
--- the least join of a list of four rows
-pub record IsLeastJoinOf (rows : List SuitRow) (sets : ℕ) (least : Option ℕ) : Type 0 where
-  pub at : (a b c d : SuitRow) → rows ≡ a ∷ b ∷ c ∷ d ∷ [] → IsLeastJoin (entries_of a) (entries_of b) (entries_of c) (entries_of d) sets least
+-- the entries of each suit's row
+abbrev pub suit_entries : BySuit SuitRow → Suit → ℕ → ℕ → Option ℕ
+suit_entries rows suit = entries_of (of_suit rows suit)
 
--- the least sums of the rows of three suits
-pub record AreJoinedThree (b c d : SuitRow) (x : JoinedRows) : Type 0 where
+-- the least sums of the rows of the three suits beside one
+pub record AreJoinedBeside (suit : Suit) (rows : BySuit SuitRow) (x : JoinedRows) : Type 0 where
   pub last_two : ℕ → ℕ → ℕ
-  pub two_least : IsLeastSum (lane c.entries.lacks) (lane d.entries.lacks) last_two
-  pub least : IsLeastSum (lane b.entries.lacks) last_two (lane x.sums.lacks)
+  pub two_least : IsLeastSum (lane (of_suit rows (first_far suit)).entries.lacks) (lane (of_suit rows (last_far suit)).entries.lacks) last_two
+  pub least : IsLeastSum (lane (of_suit rows (partner suit)).entries.lacks) last_two (lane x.sums.lacks)

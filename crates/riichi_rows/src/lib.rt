@@ -27,8 +27,7 @@ mod row;
 mod row_source;
 mod suit_lanes;
 
-pub use join::join_rows;
-pub use joined::{JoinedRows, join_two};
+pub use joined::{JoinedRows, join_rows, join_two};
 pub use rank_set::RankSet;
 pub use ranks::suit_row;
 pub use row::SuitRow;

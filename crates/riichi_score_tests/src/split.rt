@@ -40,6 +40,23 @@ fn gives_each_reading(rt: HostRuntime) -> Result<(), Fail> {
     Ok(())
 }
 
+/// Two equal runs twice and a pair are seven pairs too.
+#[test]
+fn reads_runs_and_seven_pairs(rt: HostRuntime) -> Result<(), Fail> {
+    let counts = tiles(b"112233m556677p99s")?;
+    let mut readings = Readings::new(&counts, &Melds::new(), Kind::at(26));
+    same(&rt, readings.next(), Some(Reading::SevenPairs));
+    let Some(Reading::Standard { sets, pair, done }) = readings.next() else {
+        return Err("a standard reading".into());
+    };
+    let (low, high) = (Block::Run(Kind::at(0)), Block::Run(Kind::at(13)));
+    holds(&rt, sets.as_slice() == [low, low, high, high].as_slice());
+    same(&rt, pair, Kind::at(26));
+    same(&rt, done, Block::Pair(Kind::at(26)));
+    same(&rt, readings.next(), None);
+    Ok(())
+}
+
 #[test]
 fn completes_the_triplet_or_the_run(rt: HostRuntime) -> Result<(), Fail> {
     let counts = tiles(b"999978m444p567s22s")?;

@@ -1,15 +1,19 @@
 -- The join of four suit rows is the least lack over the winning multisets by sets and a pair.
-use Rattle.std.proofs.Common.{◌≡◌, ℕ, ◌+◌, ◌-◌, ◌<◌, ◌≤◌, Bool, true, false, IsTrue, ◌⊎◌, inl, inr, List, [], ◌∷◌, ◌++◌, refl, sym, ap, ◌∙◌, ⊎_elim, subst, Option, Some, None, arith}
+use Rattle.std.proofs.Common.{◌≡◌, ◌≢◌, ℕ, ◌+◌, ◌-◌, ◌<◌, ◌≤◌, Bool, IsTrue, ◌⊎◌, inl, inr, List, [], ◌∷◌, ◌++◌, refl, sym, ap, ◌∙◌, ⊎_elim, subst, Option, Some, None, arith}
 use Rattle.std.proofs.lemmas.Bool.{cases_lt}
 use Rattle.std.proofs.lemmas.Bool.Decides.{nat_tests}
 use Rattle.std.proofs.lemmas.List.Elements.{All-head, All-tail, All-append}
 use Rattle.std.proofs.lemmas.List.Sums.{sum_by-append, sum_by-cons}
 use Rattle.std.specs.Prelude.{All, slice_index, count_by, sum_by, ◌↔◌}
-use Rattle.riichi_rows.specs.Lacked.{ChoiceLacks}
-use Rattle.riichi_shape.specs.Lacked.{SuitLacks, EntryLacks, StandardLacks}
+use Rattle.riichi_shape.specs.Lacked.{EntryLacks, StandardLacks}
 use Rattle.riichi_rows.specs.Join.{EntriesSum, IsLeastJoin}
 use Rattle.riichi_tiles.specs.Blocks.{total}
+use Rattle.riichi_tiles.specs.Kinds.{first_of, has_runs, kinds_of, rank_of, suit_of}
 use Rattle.riichi_tiles.specs.Melds.{tiles}
+use Rattle.riichi_tiles.specs.Suits.{over_suits}
+use Rattle.riichi_tiles.specs.declared.suit.Suit.{Suit}
+use Rattle.riichi_tiles.specs.declared.suit.Suit.TheVariants.{Characters, Circles, Bamboos, Honours}
+use Rattle.riichi_tiles.proofs.Suits.{but_for, but_for-own, le_over, one_of, only_over, own_suit, same_from_sums, same_over}
 use Rattle.riichi_tiles.specs.declared.block.Block.{Block}
 use Rattle.riichi_tiles.specs.declared.meld.Meld.{Meld}
 use Rattle.riichi_rows.specs.Suit.{is_set, is_pair, IsInSuit, IsChoice, lack, LackReached, IsLeastLack, IsSuitRow}
@@ -19,7 +23,7 @@ use Rattle.riichi_shape.specs.Suits.{IsSuitOf}
 use Rattle.riichi_tiles.specs.Forms.{IsSetsAndPair}
 use Rattle.riichi_shape.specs.Winning.{WithinFour, lacking}
 use Rattle.riichi_shape.proofs.Counted.{AreCounted, IsOfKinds, counted, uncounted}
-use Rattle.riichi_rows.proofs.Blocks.{tiles_of, tiles_is_sum, total-append, set_of, has_pair}
+use Rattle.riichi_rows.proofs.Blocks.{tiles_of, tiles_is_sum, set_of, has_pair}
 use Rattle.riichi_rows.proofs.Spread.{same_spread, spread, sum_range, spread_add, at_same_number, spread_shift, spread_none, table, table_at}
 use Rattle.riichi_shape.proofs.BySuit.{part, IsBase, tiles_part, sets_by_suit, pairs_by_suit, part_in_suit, raised, tiles_within, tiles_outside, sets_raised, pairs_raised, raised_kinds, raised_honours}
 
@@ -37,14 +41,37 @@ tiles_beyond k bs h all = tiles_is_sum k bs ∙ none bs all
     none [] all = refl
     none (b ∷ bs) all = omega (arith, sum_by-cons (tiles_of k) b bs, block b (All-head IsOfKinds b bs all), none bs (All-tail IsOfKinds b bs all))
 
+-- what is so of the kinds of any suit
+record HasKinds (suit : Suit) : Type 0 where
+  pub is_base : IsBase (first_of suit)
+  pub runs : IsTrue (has_runs suit) ⊎ (first_of suit ≡ 27)
+  pub nine : kinds_of suit ≤ 9
+  pub inside : first_of suit + kinds_of suit ≤ 34
+  pub whole : (kinds_of suit ≡ 9) ⊎ (first_of suit + kinds_of suit ≡ 34)
+
+has_kinds : (suit : Suit) → HasKinds suit
+has_kinds Characters = record { is_base = inl refl; runs = inl refl; nine = omega arith; inside = omega arith; whole = inl refl }
+has_kinds Circles = record { is_base = inr (inl refl); runs = inl refl; nine = omega arith; inside = omega arith; whole = inl refl }
+has_kinds Bamboos = record { is_base = inr (inr (inl refl)); runs = inl refl; nine = omega arith; inside = omega arith; whole = inl refl }
+has_kinds Honours = record { is_base = inr (inr (inr refl)); runs = inr refl; nine = omega arith; inside = omega arith; whole = inr refl }
+
 -- the lack of one suit, as a part of the whole
-module _ (hand : List ℕ) (melds : List Meld) (wanted : List ℕ) (base width : ℕ) (counts caps : List ℕ) (suit : IsSuitOf base width hand melds counts caps) (nine : width ≤ 9) (blocks : List Block)
-    (in_caps : (r : ℕ) → r < 9 → total blocks r ≤ slice_index caps r) (wanted_at : (r : ℕ) → r < width → slice_index wanted (base + r) ≡ total blocks r) where
+module _ (hand : List ℕ) (melds : List Meld) (wanted : List ℕ) (own : Suit) (counts caps : List ℕ) (suit : IsSuitOf own hand melds counts caps) (blocks : List Block)
+    (in_caps : (r : ℕ) → r < 9 → total blocks r ≤ slice_index caps r) (wanted_at : (r : ℕ) → r < kinds_of own → slice_index wanted (first_of own + r) ≡ total blocks r) where
+  abbrev base : ℕ
+  base = first_of own
+
+  abbrev width : ℕ
+  width = kinds_of own
+
+  nine : width ≤ 9
+  nine = (has_kinds own).nine
+
   suit_sum : lack counts blocks ≡ spread (λ k. slice_index wanted k - slice_index hand k) base width
   suit_sum =
       let whole = sum_range (λ r. total blocks r - slice_index counts r) 0 9 in
       let split = spread_add (λ r. total blocks r - slice_index counts r) 0 width (9 - width) in
-      let cut = same_spread (λ r. total blocks r - slice_index counts r) 0 0 9 (width + (9 - width)) refl (omega arith) in
+      let cut = same_spread (λ r. total blocks r - slice_index counts r) 0 0 9 (width + (9 - width)) refl (omega (arith, nine)) in
       let front = spread_shift (λ r. total blocks r - slice_index counts r) (λ k. slice_index wanted k - slice_index hand k) 0 base width at in
       let back = spread_none (λ r. total blocks r - slice_index counts r) (0 + width) (9 - width) past in
       whole ∙ cut ∙ split ∙ omega (arith, front, back)
@@ -58,7 +85,7 @@ module _ (hand : List ℕ) (melds : List Meld) (wanted : List ℕ) (base width :
           ∙ sub_same (total blocks r) (slice_index wanted (base + r)) (slice_index counts r) (slice_index hand (base + r)) (sym (wanted_at r h)) (suit.counts_at r h)
 
       past : (r : ℕ) → 0 + width ≤ r → r < 0 + width + (9 - width) → total blocks r - slice_index counts r ≡ 0
-      past r low high = omega (arith, in_caps r (omega arith), suit.none_past r (omega arith) (omega arith))
+      past r low high = omega (arith, in_caps r (omega (arith, nine, high)), suit.are_caps.none_past r (omega (arith, low)))
 
 -- ---- the entries of a row
 
@@ -82,196 +109,170 @@ record PartOf (runs : Bool) (base width : ℕ) (hand wanted counts caps : List �
   pub is_entry : row (count_by is_set blocks) (count_by is_pair blocks) ≡ Some entry
   pub below : entry ≤ lack counts blocks
 
-module _ (hand : List ℕ) (melds : List Meld) (wanted : List ℕ) (sets : ℕ) (is : AreCounted sets wanted) (four : WithinFour melds wanted) (runs : Bool) (base width : ℕ) (counts caps : List ℕ) (is_base : IsBase base)
-    (runs_here : IsTrue runs ⊎ (base ≡ 27)) (nine : width ≤ 9) (inside : base + width ≤ 34) (all_kinds : (width ≡ 9) ⊎ (base + width ≡ 34)) (suit : IsSuitOf base width hand melds counts caps) where
+module _ (hand : List ℕ) (melds : List Meld) (wanted : List ℕ) (sets : ℕ) (is : AreCounted sets wanted) (four : WithinFour melds wanted) (own : Suit) (counts caps : List ℕ) (suit : IsSuitOf own hand melds counts caps) where
   abbrev suit_blocks : List Block
-  suit_blocks = part base is.blocks
+  suit_blocks = part (first_of own) is.blocks
 
-  suit_tiles : (r : ℕ) → r < 9 → total suit_blocks r ≡ total is.blocks (base + r)
-  suit_tiles r h = tiles_part base r is.blocks is_base h is.of_kinds
+  suit_tiles : (r : ℕ) → r < 9 → total suit_blocks r ≡ total is.blocks (first_of own + r)
+  suit_tiles r h = tiles_part (first_of own) r is.blocks (has_kinds own).is_base h is.of_kinds
 
-  suit_choice : IsChoice runs caps (count_by is_set suit_blocks) (count_by is_pair suit_blocks) suit_blocks
+  suit_choice : IsChoice (has_runs own) caps (count_by is_set suit_blocks) (count_by is_pair suit_blocks) suit_blocks
   suit_choice = record {
-    in_suit = part_in_suit runs base is.blocks is_base runs_here is.of_kinds;
+    in_suit = part_in_suit (has_runs own) (first_of own) is.blocks (has_kinds own).is_base (has_kinds own).runs is.of_kinds;
     has_sets = refl;
     has_pairs = refl;
     in_caps = capped_at;
   }
     where
       capped_at : (r : ℕ) → r < 9 → total suit_blocks r ≤ slice_index caps r
-      capped_at r h = ⊎_elim within past (cases_lt r width)
+      capped_at r h = ⊎_elim within past (cases_lt r (kinds_of own))
         where
-          within : r < width → total suit_blocks r ≤ slice_index caps r
-          within low = omega (arith, suit_tiles r h, is.adds_up (base + r) (omega arith), four.at (base + r) (omega arith), suit.caps_at r low)
+          within : r < kinds_of own → total suit_blocks r ≤ slice_index caps r
+          within low = omega (arith, (has_kinds own).inside, suit_tiles r h, is.adds_up (first_of own + r) (omega (arith, (has_kinds own).inside)), four.at (first_of own + r) (omega (arith, (has_kinds own).inside)), suit.are_caps.caps_at r low)
 
-          past : width ≤ r → total suit_blocks r ≤ slice_index caps r
-          past high = omega (arith, suit_tiles r h, tiles_beyond (base + r) is.blocks (⊎_elim (λ e. absurd (omega (arith, e))) (λ e. omega (arith, e)) all_kinds) is.of_kinds)
+          past : kinds_of own ≤ r → total suit_blocks r ≤ slice_index caps r
+          past high = omega (arith, suit_tiles r h, tiles_beyond (first_of own + r) is.blocks (⊎_elim (λ e. absurd (omega (arith, e))) (λ e. omega (arith, e)) (has_kinds own).whole) is.of_kinds)
 
-  suit_lack : lack counts suit_blocks ≡ spread (λ k. slice_index wanted k - slice_index hand k) base width
-  suit_lack = suit_sum hand melds wanted base width counts caps suit nine suit_blocks suit_choice.in_caps (λ r h. omega (arith, suit_tiles r (omega arith), is.adds_up (base + r) (omega arith)))
-
-  suit_part : (row : ℕ → ℕ → Option ℕ) → IsSuitRow runs counts caps row → count_by is_set suit_blocks ≤ 4 → count_by is_pair suit_blocks ≤ 1 → PartOf runs base width hand wanted counts caps row suit_blocks
+  suit_part : (row : ℕ → ℕ → Option ℕ) → IsSuitRow (has_runs own) counts caps row → count_by is_set suit_blocks ≤ 4 → count_by is_pair suit_blocks ≤ 1 → PartOf (has_runs own) (first_of own) (kinds_of own) hand wanted counts caps row suit_blocks
   suit_part row is_row few_sets few_pairs =
-      let entry = row_below runs counts caps row is_row (count_by is_set suit_blocks) (count_by is_pair suit_blocks) few_sets few_pairs suit_blocks suit_choice in
-      record { choice = suit_choice; lacks = suit_lack; entry = entry.0; is_entry = entry.1; below = entry.2 }
+      let entry = row_below (has_runs own) counts caps row is_row (count_by is_set suit_blocks) (count_by is_pair suit_blocks) few_sets few_pairs suit_blocks suit_choice in
+      record {
+        choice = suit_choice;
+        lacks = suit_sum hand melds wanted own counts caps suit suit_blocks suit_choice.in_caps
+            (λ r h. omega (arith, suit_tiles r (omega (arith, (has_kinds own).nine)), is.adds_up (first_of own + r) (omega (arith, (has_kinds own).inside))));
+        entry = entry.0;
+        is_entry = entry.1;
+        below = entry.2;
+      }
 
--- terms that are no greater, with a sum that is no less, are the same
-sums_meet : (a b c d e f g h : ℕ) → a ≤ e → b ≤ f → c ≤ g → d ≤ h → e + f + g + h ≤ a + b + c + d → (e ≡ a) × (f ≡ b) × (g ≡ c) × (h ≡ d)
-sums_meet a b c d e f g h first second third last sum = (omega arith, omega arith, omega arith, omega arith)
-
-lacking_by_suit : (hand wanted : List ℕ) → (let f = λ (k : ℕ). slice_index wanted k - slice_index hand k in lacking hand wanted ≡ spread f 0 9 + spread f 9 9 + spread f 18 9 + spread f 27 7)
+lacking_by_suit : (hand wanted : List ℕ) → (let f = λ (k : ℕ). slice_index wanted k - slice_index hand k in lacking hand wanted ≡ over_suits (λ suit. spread f (first_of suit) (kinds_of suit)))
 lacking_by_suit hand wanted =
     let f : ℕ → ℕ = λ k. slice_index wanted k - slice_index hand k in
     omega (arith, sum_range f 0 34, spread_add f 0 9 25, spread_add f 9 9 16, spread_add f 18 9 7)
 
+-- a rank of one suit is clear of another suit
+clear_of : (suit other : Suit) (r : ℕ) → other ≢ suit → r < 9 → (first_of suit + r < first_of other) ⊎ (first_of other + 9 ≤ first_of suit + r)
+clear_of Characters Characters r ne h = absurd (ne refl)
+clear_of Circles Circles r ne h = absurd (ne refl)
+clear_of Bamboos Bamboos r ne h = absurd (ne refl)
+clear_of Honours Honours r ne h = absurd (ne refl)
+clear_of suit other r ne h = grind arith
+
 -- the blocks of four suits together
-module _ (b0 b1 b2 b3 : List Block) (in0 : All (IsInSuit true) b0) (in1 : All (IsInSuit true) b1) (in2 : All (IsInSuit true) b2) (in3 : All (IsInSuit false) b3) where
+module _ (blocks : Suit → List Block) (in_suit : (suit : Suit) → All (IsInSuit (has_runs suit)) (blocks suit)) where
+  abbrev at_suit : Suit → List Block
+  at_suit suit = raised (first_of suit) (blocks suit)
+
   abbrev together : List Block
-  together = raised 0 b0 ++ (raised 9 b1 ++ (raised 18 b2 ++ raised 27 b3))
+  together = at_suit Characters ++ (at_suit Circles ++ (at_suit Bamboos ++ at_suit Honours))
 
-  tiles_together : (k : ℕ) → total together k ≡ total (raised 0 b0) k + (total (raised 9 b1) k + (total (raised 18 b2) k + total (raised 27 b3) k))
-  tiles_together k =
-      total-append k (raised 0 b0) (raised 9 b1 ++ (raised 18 b2 ++ raised 27 b3))
-      ∙ ap (λ n. total (raised 0 b0) k + n) (total-append k (raised 9 b1) (raised 18 b2 ++ raised 27 b3)
-      ∙ ap (λ n. total (raised 9 b1) k + n) (total-append k (raised 18 b2) (raised 27 b3)))
+  -- of what is added up over the blocks
+  sum_together : (f : Block → ℕ) → sum_by f together ≡ over_suits (λ suit. sum_by f (at_suit suit))
+  sum_together f =
+      omega (arith, sum_by-append f (at_suit Characters) (at_suit Circles ++ (at_suit Bamboos ++ at_suit Honours)), sum_by-append f (at_suit Circles) (at_suit Bamboos ++ at_suit Honours), sum_by-append f (at_suit Bamboos) (at_suit Honours))
 
-  -- of what is counted alike in each suit
-  count_together : (f : Block → ℕ) → ((base : ℕ) (bs : List Block) → sum_by f (raised base bs) ≡ sum_by f bs) → sum_by f together ≡ sum_by f b0 + sum_by f b1 + sum_by f b2 + sum_by f b3
-  count_together f alike =
-      let e0 = sum_by-append f (raised 0 b0) (raised 9 b1 ++ (raised 18 b2 ++ raised 27 b3)) in
-      let e1 = sum_by-append f (raised 9 b1) (raised 18 b2 ++ raised 27 b3) in
-      let e2 = sum_by-append f (raised 18 b2) (raised 27 b3) in
-      omega (arith, e0, e1, e2, alike 0 b0, alike 9 b1, alike 18 b2, alike 27 b3)
+  tiles_at : (suit : Suit) (r : ℕ) → r < 9 → total together (first_of suit + r) ≡ total (blocks suit) r
+  tiles_at suit r h =
+      let k = first_of suit + r in
+      tiles_is_sum k together ∙ sum_together (tiles_of k)
+      ∙ only_over (λ other. sum_by (tiles_of k) (at_suit other)) suit (λ other ne. sym (tiles_is_sum k (at_suit other)) ∙ tiles_outside (has_runs other) (first_of other) k (blocks other) (clear_of suit other r ne h) (in_suit other))
+      ∙ sym (tiles_is_sum k (at_suit suit)) ∙ tiles_within (has_runs suit) (first_of suit) r (blocks suit) h (in_suit suit)
 
-  tiles_0 : (r : ℕ) → r < 9 → total together (0 + r) ≡ total b0 r
-  tiles_0 r h = omega (arith, tiles_together (0 + r), tiles_within true 0 r b0 h in0, tiles_outside true 9 (0 + r) b1 (inl (omega arith)) in1, tiles_outside true 18 (0 + r) b2 (inl (omega arith)) in2, tiles_outside false 27 (0 + r) b3 (inl (omega arith)) in3)
+  kinds_together : ((r : ℕ) → 7 ≤ r → r < 9 → total (blocks Honours) r ≡ 0) → All IsOfKinds together
+  kinds_together none =
+      All-append IsOfKinds (at_suit Characters) (at_suit Circles ++ (at_suit Bamboos ++ at_suit Honours)) (raised_kinds 0 (blocks Characters) (inl refl) (in_suit Characters))
+      (All-append IsOfKinds (at_suit Circles) (at_suit Bamboos ++ at_suit Honours) (raised_kinds 9 (blocks Circles) (inr (inl refl)) (in_suit Circles))
+      (All-append IsOfKinds (at_suit Bamboos) (at_suit Honours) (raised_kinds 18 (blocks Bamboos) (inr (inr refl)) (in_suit Bamboos))
+      (raised_honours (blocks Honours) (sym (tiles_is_sum 7 (blocks Honours)) ∙ none 7 (omega arith) (omega arith)) (sym (tiles_is_sum 8 (blocks Honours)) ∙ none 8 (omega arith) (omega arith)) (in_suit Honours))))
 
-  tiles_1 : (r : ℕ) → r < 9 → total together (9 + r) ≡ total b1 r
-  tiles_1 r h = omega (arith, tiles_together (9 + r), tiles_within true 9 r b1 h in1, tiles_outside true 0 (9 + r) b0 (inr (omega arith)) in0, tiles_outside true 18 (9 + r) b2 (inl (omega arith)) in2, tiles_outside false 27 (9 + r) b3 (inl (omega arith)) in3)
-
-  tiles_2 : (r : ℕ) → r < 9 → total together (18 + r) ≡ total b2 r
-  tiles_2 r h = omega (arith, tiles_together (18 + r), tiles_within true 18 r b2 h in2, tiles_outside true 0 (18 + r) b0 (inr (omega arith)) in0, tiles_outside true 9 (18 + r) b1 (inr (omega arith)) in1, tiles_outside false 27 (18 + r) b3 (inl (omega arith)) in3)
-
-  tiles_3 : (r : ℕ) → r < 9 → total together (27 + r) ≡ total b3 r
-  tiles_3 r h = omega (arith, tiles_together (27 + r), tiles_within false 27 r b3 h in3, tiles_outside true 0 (27 + r) b0 (inr (omega arith)) in0, tiles_outside true 9 (27 + r) b1 (inr (omega arith)) in1, tiles_outside true 18 (27 + r) b2 (inr (omega arith)) in2)
-
-  kinds_together : total b3 7 ≡ 0 → total b3 8 ≡ 0 → All IsOfKinds together
-  kinds_together no_7 no_8 =
-      All-append IsOfKinds (raised 0 b0) (raised 9 b1 ++ (raised 18 b2 ++ raised 27 b3)) (raised_kinds 0 b0 (inl refl) in0)
-      (All-append IsOfKinds (raised 9 b1) (raised 18 b2 ++ raised 27 b3) (raised_kinds 9 b1 (inr (inl refl)) in1)
-      (All-append IsOfKinds (raised 18 b2) (raised 27 b3) (raised_kinds 18 b2 (inr (inr refl)) in2)
-      (raised_honours b3 (sym (tiles_is_sum 7 b3) ∙ no_7) (sym (tiles_is_sum 8 b3) ∙ no_8) in3)))
-
-module _ (hand : List ℕ) (melds : List Meld) (c0 c1 c2 c3 k0 k1 k2 k3 : List ℕ)
-    (suit0 : IsSuitOf 0 9 hand melds c0 k0) (suit1 : IsSuitOf 9 9 hand melds c1 k1) (suit2 : IsSuitOf 18 9 hand melds c2 k2) (suit3 : IsSuitOf 27 7 hand melds c3 k3)
-    (a b c d : ℕ → ℕ → Option ℕ) (row0 : IsSuitRow true c0 k0 a) (row1 : IsSuitRow true c1 k1 b) (row2 : IsSuitRow true c2 k2 c) (row3 : IsSuitRow false c3 k3 d)
+module _ (hand : List ℕ) (melds : List Meld) (counts caps : Suit → List ℕ) (suits : (suit : Suit) → IsSuitOf suit hand melds (counts suit) (caps suit))
+    (rows : Suit → ℕ → ℕ → Option ℕ) (are : (suit : Suit) → IsSuitRow (has_runs suit) (counts suit) (caps suit) (rows suit))
     (sets : ℕ) (few : sets ≤ 4) (melds_few : (k : ℕ) → k < 34 → tiles melds k ≤ 4) where
   -- ---- a winning multiset gives four entries
 
   module _ (wanted : List ℕ) (is : AreCounted sets wanted) (four : WithinFour melds wanted) where
-    sets_split : count_by is_set (part 0 is.blocks) + count_by is_set (part 9 is.blocks) + count_by is_set (part 18 is.blocks) + count_by is_set (part 27 is.blocks) ≡ sets
+    abbrev blocks_of : Suit → List Block
+    blocks_of suit = part (first_of suit) is.blocks
+
+    sets_split : over_suits (λ suit. count_by is_set (blocks_of suit)) ≡ sets
     sets_split = sets_by_suit is.blocks is.of_kinds ∙ is.has_sets
 
-    pairs_split : count_by is_pair (part 0 is.blocks) + count_by is_pair (part 9 is.blocks) + count_by is_pair (part 18 is.blocks) + count_by is_pair (part 27 is.blocks) ≡ 1
+    pairs_split : over_suits (λ suit. count_by is_pair (blocks_of suit)) ≡ 1
     pairs_split = pairs_by_suit is.blocks is.of_kinds ∙ is.has_pair
 
-    part_0 : PartOf true 0 9 hand wanted c0 k0 a (part 0 is.blocks)
-    part_0 = suit_part hand melds wanted sets is four true 0 9 c0 k0 (inl refl) (inl refl) (omega arith) (omega arith) (inl refl) suit0 a row0 (omega (arith, sets_split)) (omega (arith, pairs_split))
+    part_of : (suit : Suit) → PartOf (has_runs suit) (first_of suit) (kinds_of suit) hand wanted (counts suit) (caps suit) (rows suit) (blocks_of suit)
+    part_of suit =
+        suit_part hand melds wanted sets is four suit (counts suit) (caps suit) (suits suit) (rows suit) (are suit)
+        (omega (arith, one_of (λ s. count_by is_set (blocks_of s)) suit, sets_split)) (omega (arith, one_of (λ s. count_by is_pair (blocks_of s)) suit, pairs_split))
 
-    part_1 : PartOf true 9 9 hand wanted c1 k1 b (part 9 is.blocks)
-    part_1 = suit_part hand melds wanted sets is four true 9 9 c1 k1 (inr (inl refl)) (inl refl) (omega arith) (omega arith) (inl refl) suit1 b row1 (omega (arith, sets_split)) (omega (arith, pairs_split))
+    abbrev all_entries : ℕ
+    all_entries = over_suits (λ suit. (part_of suit).entry)
 
-    part_2 : PartOf true 18 9 hand wanted c2 k2 c (part 18 is.blocks)
-    part_2 = suit_part hand melds wanted sets is four true 18 9 c2 k2 (inr (inr (inl refl))) (inl refl) (omega arith) (omega arith) (inl refl) suit2 c row2 (omega (arith, sets_split)) (omega (arith, pairs_split))
-
-    part_3 : PartOf false 27 7 hand wanted c3 k3 d (part 27 is.blocks)
-    part_3 = suit_part hand melds wanted sets is four false 27 7 c3 k3 (inr (inr (inr refl))) (inr refl) (omega arith) (omega arith) (inr refl) suit3 d row3 (omega (arith, sets_split)) (omega (arith, pairs_split))
-
-    entries_of : (n : ℕ) → part_0.entry + part_1.entry + part_2.entry + part_3.entry ≡ n → EntriesSum a b c d sets n
+    entries_of : (n : ℕ) → all_entries ≡ n → EntriesSum rows sets n
     entries_of n total = record {
-      split = record {
-        sets_0 = count_by is_set (part 0 is.blocks);
-        sets_1 = count_by is_set (part 9 is.blocks);
-        sets_2 = count_by is_set (part 18 is.blocks);
-        sets_3 = count_by is_set (part 27 is.blocks);
-        pairs_0 = count_by is_pair (part 0 is.blocks);
-        pairs_1 = count_by is_pair (part 9 is.blocks);
-        pairs_2 = count_by is_pair (part 18 is.blocks);
-        pairs_3 = count_by is_pair (part 27 is.blocks);
-      };
+      sets_of = λ suit. count_by is_set (blocks_of suit);
+      pairs_of = λ suit. count_by is_pair (blocks_of suit);
+      lack_of = λ suit. (part_of suit).entry;
       has_sets = sets_split;
       has_pair = pairs_split;
-      lack_0 = part_0.entry;
-      lack_1 = part_1.entry;
-      lack_2 = part_2.entry;
-      lack_3 = part_3.entry;
-      entry_0 = part_0.is_entry;
-      entry_1 = part_1.is_entry;
-      entry_2 = part_2.is_entry;
-      entry_3 = part_3.is_entry;
+      entry = λ suit. (part_of suit).is_entry;
       total = total;
     }
 
-    all_lacks : lacking hand wanted ≡ lack c0 (part 0 is.blocks) + lack c1 (part 9 is.blocks) + lack c2 (part 18 is.blocks) + lack c3 (part 27 is.blocks)
-    all_lacks = omega (arith, lacking_by_suit hand wanted, part_0.lacks, part_1.lacks, part_2.lacks, part_3.lacks)
+    all_lacks : lacking hand wanted ≡ over_suits (λ suit. lack (counts suit) (blocks_of suit))
+    all_lacks = lacking_by_suit hand wanted ∙ sym (same_over (λ suit. lack (counts suit) (blocks_of suit)) (λ suit. spread (λ k. slice_index wanted k - slice_index hand k) (first_of suit) (kinds_of suit)) (λ suit. (part_of suit).lacks))
 
-    sum_below : part_0.entry + part_1.entry + part_2.entry + part_3.entry ≤ lacking hand wanted
-    sum_below = omega (arith, all_lacks, part_0.below, part_1.below, part_2.below, part_3.below)
+    sum_below : all_entries ≤ lacking hand wanted
+    sum_below = omega (arith, all_lacks, le_over (λ suit. (part_of suit).entry) (λ suit. lack (counts suit) (blocks_of suit)) (λ suit. (part_of suit).below))
 
     -- where the multiset lacks least, so does each suit's part of it
-    module _ (n x : ℕ) (inside : x < 34) (least : IsLeastJoin a b c d sets (Some n)) (lacks : lacking hand wanted ≡ n) (lacks_kind : slice_index hand x < slice_index wanted x) where
-      sum_least : n ≤ part_0.entry + part_1.entry + part_2.entry + part_3.entry
-      sum_least = least.1 (part_0.entry + part_1.entry + part_2.entry + part_3.entry) (entries_of (part_0.entry + part_1.entry + part_2.entry + part_3.entry) refl)
+    module _ (n x : ℕ) (inside : x < 34) (least : IsLeastJoin rows sets (Some n)) (lacks : lacking hand wanted ≡ n) (lacks_kind : slice_index hand x < slice_index wanted x) where
+      sum_least : n ≤ all_entries
+      sum_least = least.1 all_entries (entries_of all_entries refl)
 
-      part_lacks : (base : ℕ) → IsBase base → (counts : List ℕ) → base ≤ x → x - base < 9 → slice_index counts (x - base) ≡ slice_index hand (base + (x - base)) → slice_index counts (x - base) < total (part base is.blocks) (x - base)
-      part_lacks base is_base counts low high same =
-          let place : base + (x - base) ≡ x = omega arith in
-          let t = tiles_part base (x - base) is.blocks is_base high is.of_kinds in
-          omega (arith, t, same, is.adds_up x inside, lacks_kind, ap (total is.blocks) place, ap (slice_index hand) place)
+      abbrev own : Suit
+      own = suit_of x
 
-      in_suit : (runs : Bool) (base width : ℕ) (counts caps : List ℕ) (row : ℕ → ℕ → Option ℕ) (own : PartOf runs base width hand wanted counts caps row (part base is.blocks)) → lack counts (part base is.blocks) ≡ own.entry → IsBase base → IsSuitOf base width hand melds counts caps →
-          width ≤ 9 → base ≤ x → x < base + width → SuitLacks runs base counts caps (count_by is_set (part base is.blocks)) (count_by is_pair (part base is.blocks)) own.entry x
-      in_suit runs base width counts caps row own exact is_base suit nine low high = record {
-        rank = x - base;
-        is_rank = omega arith;
-        is_kind = omega arith;
-        choice = record { blocks = part base is.blocks; is_choice = own.choice; lacks = exact; lacks_rank = part_lacks base is_base counts low (omega arith) (suit.counts_at (x - base) (omega arith)) };
-      }
+      place : first_of own + rank_of x ≡ x
+      place = omega (arith, (own_suit x inside).low)
 
-      entry_lacks : EntryLacks a b c d c0 c1 c2 c3 k0 k1 k2 k3 sets n x
+      here : rank_of x < kinds_of own
+      here = omega (arith, (own_suit x inside).low, (own_suit x inside).high)
+
+      entry_lacks : EntryLacks rows counts caps sets n x
       unfolding entries_of
       entry_lacks =
-          let exact = sums_meet part_0.entry part_1.entry part_2.entry part_3.entry (lack c0 (part 0 is.blocks)) (lack c1 (part 9 is.blocks)) (lack c2 (part 18 is.blocks)) (lack c3 (part 27 is.blocks))
-          part_0.below part_1.below part_2.below part_3.below (omega (arith, all_lacks, sum_least, lacks)) in
+          let exact = same_from_sums (λ suit. (part_of suit).entry) (λ suit. lack (counts suit) (blocks_of suit)) (λ suit. (part_of suit).below) (omega (arith, all_lacks, sum_least, lacks)) own in
+          let tiles = tiles_part (first_of own) (rank_of x) is.blocks (has_kinds own).is_base (omega (arith, here, (has_kinds own).nine)) is.of_kinds in
           record {
             entries = entries_of n (omega (arith, sum_least, sum_below, lacks));
-            lacks_kind = ⊎_elim (λ low. inl (in_suit true 0 9 c0 k0 a part_0 exact.0 (inl refl) suit0 (omega arith) (omega arith) (omega arith)))
-                (λ past0. ⊎_elim (λ low. inr (inl (in_suit true 9 9 c1 k1 b part_1 exact.1 (inr (inl refl)) suit1 (omega arith) (omega arith) (omega arith))))
-                (λ past1. ⊎_elim (λ low. inr (inr (inl (in_suit true 18 9 c2 k2 c part_2 exact.2 (inr (inr (inl refl))) suit2 (omega arith) (omega arith) (omega arith)))))
-                (λ past2. inr (inr (inr (in_suit false 27 7 c3 k3 d part_3 exact.3 (inr (inr (inr refl))) suit3 (omega arith) (omega arith) (omega arith)))))
-                (cases_lt x 27)) (cases_lt x 18)) (cases_lt x 9);
+            lacks_kind = record {
+              blocks = blocks_of own;
+              is_choice = (part_of own).choice;
+              lacks = exact;
+              lacks_rank = omega (arith, tiles, (suits own).counts_at (rank_of x) here, is.adds_up x inside, lacks_kind, ap (total is.blocks) place, ap (slice_index hand) place);
+            };
           }
 
   -- ---- four choices make a winning multiset
 
-  module _ (n : ℕ) (e : EntriesSum a b c d sets n) where
-    reached0 : LackReached true c0 k0 e.split.sets_0 e.split.pairs_0 e.lack_0
-    reached0 = row_chosen true c0 k0 a row0 e.split.sets_0 e.split.pairs_0 e.lack_0 (omega (arith, e.has_sets)) (omega (arith, e.has_pair)) e.entry_0
+  abbrev Chosen : (n : ℕ) → EntriesSum rows sets n → Suit → Type 0
+  Chosen n e suit = LackReached (has_runs suit) (counts suit) (caps suit) (e.sets_of suit) (e.pairs_of suit) (e.lack_of suit)
 
-    reached1 : LackReached true c1 k1 e.split.sets_1 e.split.pairs_1 e.lack_1
-    reached1 = row_chosen true c1 k1 b row1 e.split.sets_1 e.split.pairs_1 e.lack_1 (omega (arith, e.has_sets)) (omega (arith, e.has_pair)) e.entry_1
+  reached : (n : ℕ) (e : EntriesSum rows sets n) (suit : Suit) → Chosen n e suit
+  reached n e suit =
+      row_chosen (has_runs suit) (counts suit) (caps suit) (rows suit) (are suit) (e.sets_of suit) (e.pairs_of suit) (e.lack_of suit)
+      (omega (arith, one_of e.sets_of suit, e.has_sets)) (omega (arith, one_of e.pairs_of suit, e.has_pair)) (e.entry suit)
 
-    reached2 : LackReached true c2 k2 e.split.sets_2 e.split.pairs_2 e.lack_2
-    reached2 = row_chosen true c2 k2 c row2 e.split.sets_2 e.split.pairs_2 e.lack_2 (omega (arith, e.has_sets)) (omega (arith, e.has_pair)) e.entry_2
+  module _ (n : ℕ) (e : EntriesSum rows sets n) (chosen_of : (suit : Suit) → Chosen n e suit) where
+    abbrev blocks_at : Suit → List Block
+    blocks_at suit = (chosen_of suit).blocks
 
-    reached3 : LackReached false c3 k3 e.split.sets_3 e.split.pairs_3 e.lack_3
-    reached3 = row_chosen false c3 k3 d row3 e.split.sets_3 e.split.pairs_3 e.lack_3 (omega (arith, e.has_sets)) (omega (arith, e.has_pair)) e.entry_3
+    in_suit_at : (suit : Suit) → All (IsInSuit (has_runs suit)) (blocks_at suit)
+    in_suit_at suit = (chosen_of suit).is_choice.in_suit
 
-  module _ (n : ℕ) (e : EntriesSum a b c d sets n)
-      (chosen0 : LackReached true c0 k0 e.split.sets_0 e.split.pairs_0 e.lack_0) (chosen1 : LackReached true c1 k1 e.split.sets_1 e.split.pairs_1 e.lack_1)
-      (chosen2 : LackReached true c2 k2 e.split.sets_2 e.split.pairs_2 e.lack_2) (chosen3 : LackReached false c3 k3 e.split.sets_3 e.split.pairs_3 e.lack_3) where
     abbrev chosen_blocks : List Block
-    chosen_blocks = together chosen0.blocks chosen1.blocks chosen2.blocks chosen3.blocks chosen0.is_choice.in_suit chosen1.is_choice.in_suit chosen2.is_choice.in_suit chosen3.is_choice.in_suit
+    chosen_blocks = together blocks_at in_suit_at
 
     chosen_wanted : List ℕ
     chosen_wanted = table (total chosen_blocks) 0 34
@@ -280,129 +281,91 @@ module _ (hand : List ℕ) (melds : List Meld) (c0 c1 c2 c3 k0 k1 k2 k3 : List �
     unfolding chosen_wanted
     wanted_is k h = table_at (total chosen_blocks) 0 34 k h ∙ at_same_number (total chosen_blocks) (0 + k) k (omega arith)
 
-    in0 : All (IsInSuit true) chosen0.blocks
-    in0 = chosen0.is_choice.in_suit
-
-    in1 : All (IsInSuit true) chosen1.blocks
-    in1 = chosen1.is_choice.in_suit
-
-    in2 : All (IsInSuit true) chosen2.blocks
-    in2 = chosen2.is_choice.in_suit
-
-    in3 : All (IsInSuit false) chosen3.blocks
-    in3 = chosen3.is_choice.in_suit
-
-    at_0 : (r : ℕ) → r < 9 → slice_index chosen_wanted (0 + r) ≡ total chosen0.blocks r
-    at_0 r h = wanted_is (0 + r) (omega arith) ∙ tiles_0 chosen0.blocks chosen1.blocks chosen2.blocks chosen3.blocks in0 in1 in2 in3 r h
-
-    at_1 : (r : ℕ) → r < 9 → slice_index chosen_wanted (9 + r) ≡ total chosen1.blocks r
-    at_1 r h = wanted_is (9 + r) (omega arith) ∙ tiles_1 chosen0.blocks chosen1.blocks chosen2.blocks chosen3.blocks in0 in1 in2 in3 r h
-
-    at_2 : (r : ℕ) → r < 9 → slice_index chosen_wanted (18 + r) ≡ total chosen2.blocks r
-    at_2 r h = wanted_is (18 + r) (omega arith) ∙ tiles_2 chosen0.blocks chosen1.blocks chosen2.blocks chosen3.blocks in0 in1 in2 in3 r h
-
-    at_3 : (r : ℕ) → r < 7 → slice_index chosen_wanted (27 + r) ≡ total chosen3.blocks r
-    at_3 r h = wanted_is (27 + r) (omega arith) ∙ tiles_3 chosen0.blocks chosen1.blocks chosen2.blocks chosen3.blocks in0 in1 in2 in3 r (omega arith)
-
-    no_7 : total chosen3.blocks 7 ≡ 0
-    no_7 = omega (arith, chosen3.is_choice.in_caps 7 (omega arith), suit3.none_past 7 (omega arith) (omega arith))
-
-    no_8 : total chosen3.blocks 8 ≡ 0
-    no_8 = omega (arith, chosen3.is_choice.in_caps 8 (omega arith), suit3.none_past 8 (omega arith) (omega arith))
+    wanted_at : (suit : Suit) (r : ℕ) → r < kinds_of suit → slice_index chosen_wanted (first_of suit + r) ≡ total (blocks_at suit) r
+    wanted_at suit r h = wanted_is (first_of suit + r) (omega (arith, (has_kinds suit).inside)) ∙ tiles_at blocks_at in_suit_at suit r (omega (arith, (has_kinds suit).nine))
 
     chosen_sets_and_pair : IsSetsAndPair sets chosen_wanted
     chosen_sets_and_pair = uncounted sets chosen_wanted (record {
       blocks = chosen_blocks;
-      of_kinds = kinds_together chosen0.blocks chosen1.blocks chosen2.blocks chosen3.blocks in0 in1 in2 in3 no_7 no_8;
-      has_sets = omega (arith, count_together chosen0.blocks chosen1.blocks chosen2.blocks chosen3.blocks in0 in1 in2 in3 set_of sets_raised, chosen0.is_choice.has_sets, chosen1.is_choice.has_sets, chosen2.is_choice.has_sets, chosen3.is_choice.has_sets, e.has_sets);
-      has_pair = omega (arith, count_together chosen0.blocks chosen1.blocks chosen2.blocks chosen3.blocks in0 in1 in2 in3 has_pair pairs_raised, chosen0.is_choice.has_pairs, chosen1.is_choice.has_pairs, chosen2.is_choice.has_pairs, chosen3.is_choice.has_pairs, e.has_pair);
+      of_kinds = kinds_together blocks_at in_suit_at (λ r high low. omega (arith, (chosen_of Honours).is_choice.in_caps r low, (suits Honours).are_caps.none_past r high));
+      has_sets = sum_together blocks_at in_suit_at set_of ∙ same_over _ e.sets_of (λ suit. sets_raised (first_of suit) (blocks_at suit) ∙ (chosen_of suit).is_choice.has_sets) ∙ e.has_sets;
+      has_pair = sum_together blocks_at in_suit_at has_pair ∙ same_over _ e.pairs_of (λ suit. pairs_raised (first_of suit) (blocks_at suit) ∙ (chosen_of suit).is_choice.has_pairs) ∙ e.has_pair;
       adds_up = wanted_is;
     })
 
-    within_at : (base width : ℕ) (counts caps : List ℕ) → IsSuitOf base width hand melds counts caps → base + width ≤ 34 → width ≤ 9 → (bs : List Block) → ((r : ℕ) → r < 9 → total bs r ≤ slice_index caps r) → ((r : ℕ) → r < width → slice_index chosen_wanted (base + r) ≡ total bs r) →
-        (k : ℕ) → base ≤ k → k < base + width → slice_index chosen_wanted k + tiles melds k ≤ 4
-    within_at base width counts caps suit fits nine bs in_caps here k low high =
-        let place = at_same_number (slice_index chosen_wanted) k (base + (k - base)) (omega arith) in
-        let meld_place = at_same_number (tiles melds) k (base + (k - base)) (omega arith) in
-        omega (arith, place, meld_place, here (k - base) (omega arith), in_caps (k - base) (omega arith), suit.caps_at (k - base) (omega arith), melds_few k (omega arith))
-
     chosen_within : (k : ℕ) → k < 34 → slice_index chosen_wanted k + tiles melds k ≤ 4
     chosen_within k h =
-        ⊎_elim (λ low. within_at 0 9 c0 k0 suit0 (omega arith) (omega arith) chosen0.blocks chosen0.is_choice.in_caps at_0 k (omega arith) (omega arith))
-        (λ past0. ⊎_elim (λ low. within_at 9 9 c1 k1 suit1 (omega arith) (omega arith) chosen1.blocks chosen1.is_choice.in_caps at_1 k (omega arith) (omega arith))
-        (λ past1. ⊎_elim (λ low. within_at 18 9 c2 k2 suit2 (omega arith) (omega arith) chosen2.blocks chosen2.is_choice.in_caps at_2 k (omega arith) (omega arith))
-        (λ past2. within_at 27 7 c3 k3 suit3 (omega arith) (omega arith) chosen3.blocks chosen3.is_choice.in_caps at_3 k (omega arith) (omega arith))
-        (cases_lt k 27)) (cases_lt k 18)) (cases_lt k 9)
+        let suit = suit_of k in
+        let is = own_suit k h in
+        let place = at_same_number (slice_index chosen_wanted) k (first_of suit + (k - first_of suit)) (omega (arith, is.low)) in
+        let meld_place = at_same_number (tiles melds) k (first_of suit + (k - first_of suit)) (omega (arith, is.low)) in
+        let low : k - first_of suit < kinds_of suit = omega (arith, is.low, is.high) in
+        omega (arith, place, meld_place, wanted_at suit (k - first_of suit) low, (chosen_of suit).is_choice.in_caps (k - first_of suit) (omega (arith, low, (has_kinds suit).nine)), (suits suit).are_caps.caps_at (k - first_of suit) low, melds_few k h)
 
     chosen : StandardReached hand melds sets n
-    chosen =
-        let l0 = suit_sum hand melds chosen_wanted 0 9 c0 k0 suit0 (omega arith) chosen0.blocks chosen0.is_choice.in_caps at_0 in
-        let l1 = suit_sum hand melds chosen_wanted 9 9 c1 k1 suit1 (omega arith) chosen1.blocks chosen1.is_choice.in_caps at_1 in
-        let l2 = suit_sum hand melds chosen_wanted 18 9 c2 k2 suit2 (omega arith) chosen2.blocks chosen2.is_choice.in_caps at_2 in
-        let l3 = suit_sum hand melds chosen_wanted 27 7 c3 k3 suit3 (omega arith) chosen3.blocks chosen3.is_choice.in_caps at_3 in
-        record {
-          wanted = chosen_wanted;
-          sets_and_pair = chosen_sets_and_pair;
-          within_four = record { at = chosen_within };
-          lacks = omega (arith, lacking_by_suit hand chosen_wanted, l0, l1, l2, l3, chosen0.lacks, chosen1.lacks, chosen2.lacks, chosen3.lacks, e.total);
-        }
-
-    lacks_at : (base width : ℕ) (counts caps : List ℕ) → IsSuitOf base width hand melds counts caps → (bs : List Block) → ((r : ℕ) → r < width → slice_index chosen_wanted (base + r) ≡ total bs r) →
-        (x r : ℕ) → x ≡ base + r → r < width → slice_index counts r < total bs r → StandardLacks hand melds sets n x
-    unfolding chosen
-    lacks_at base width counts caps suit bs here x r e_x low more = record {
-      wanted = chosen.wanted;
-      is_form = chosen.sets_and_pair;
-      within_four = chosen.within_four;
-      lacks = chosen.lacks;
-      lacks_kind = (let at = here r low in omega (arith, at, suit.counts_at r low, more, ap (slice_index hand) e_x, ap (slice_index chosen_wanted) e_x));
+    chosen = record {
+      wanted = chosen_wanted;
+      sets_and_pair = chosen_sets_and_pair;
+      within_four = record { at = chosen_within };
+      lacks = lacking_by_suit hand chosen_wanted
+          ∙ same_over _ e.lack_of (λ suit. sym (suit_sum hand melds chosen_wanted suit (counts suit) (caps suit) (suits suit) (blocks_at suit) (chosen_of suit).is_choice.in_caps (wanted_at suit)) ∙ (chosen_of suit).lacks)
+          ∙ e.total;
     }
 
+    lacks_at : (x : ℕ) → x < 34 → (let suit = suit_of x in slice_index (counts suit) (rank_of x) < total (blocks_at suit) (rank_of x)) → StandardLacks hand melds sets n x
+    unfolding chosen
+    lacks_at x inside more =
+        let suit = suit_of x in
+        let is = own_suit x inside in
+        let place : x ≡ first_of suit + rank_of x = omega (arith, is.low) in
+        let low : rank_of x < kinds_of suit = omega (arith, is.low, is.high) in
+        record {
+          wanted = chosen.wanted;
+          is_form = chosen.sets_and_pair;
+          within_four = chosen.within_four;
+          lacks = chosen.lacks;
+          lacks_kind = omega (arith, wanted_at suit (rank_of x) low, (suits suit).counts_at (rank_of x) low, more, ap (slice_index hand) place, ap (slice_index chosen_wanted) place);
+        }
+
   -- the join of the rows is the least lack
-  pub standard_least : (o : Option ℕ) → IsLeastJoin a b c d sets o → IsLeastStandard hand melds sets o
+  pub standard_least : (o : Option ℕ) → IsLeastJoin rows sets o → IsLeastStandard hand melds sets o
   standard_least (Some n) join = (
-    chosen n join.0 (reached0 n join.0) (reached1 n join.0) (reached2 n join.0) (reached3 n join.0),
+    chosen n join.0 (reached n join.0),
     λ wanted is four. (let below = sum_below wanted (counted sets wanted is) four in let least = join.1 _ (entries_of wanted (counted sets wanted is) four _ refl) in omega (arith, below, least)),
   )
   standard_least None join = λ wanted is four. join _ (entries_of wanted (counted sets wanted is) four _ refl)
 
   -- a kind is lacked by some least winning multiset exactly where a least choice of its suit lacks it, in some least join
-  pub join_lacks : (n : ℕ) → IsLeastJoin a b c d sets (Some n) → (x : ℕ) → x < 34 → StandardLacks hand melds sets n x ↔ EntryLacks a b c d c0 c1 c2 c3 k0 k1 k2 k3 sets n x
+  pub join_lacks : (n : ℕ) → IsLeastJoin rows sets (Some n) → (x : ℕ) → x < 34 → StandardLacks hand melds sets n x ↔ EntryLacks rows counts caps sets n x
   join_lacks n join x inside = (λ w. entry_lacks w.wanted (counted sets w.wanted w.is_form) w.within_four n x inside join w.lacks w.lacks_kind, back)
     where
-      back : EntryLacks a b c d c0 c1 c2 c3 k0 k1 k2 k3 sets n x → StandardLacks hand melds sets n x
+      back : EntryLacks rows counts caps sets n x → StandardLacks hand melds sets n x
       back k =
           let e = k.entries in
-          let reach0 = reached0 n e in
-          let reach1 = reached1 n e in
-          let reach2 = reached2 n e in
-          let reach3 = reached3 n e in
-          ⊎_elim (λ s. (let own = reach s.choice in lacks_at n e own reach1 reach2 reach3 0 9 c0 k0 suit0 own.blocks (at_0 n e own reach1 reach2 reach3) x s.rank s.is_kind s.is_rank s.choice.lacks_rank))
-          (λ others. ⊎_elim (λ s. (let own = reach s.choice in lacks_at n e reach0 own reach2 reach3 9 9 c1 k1 suit1 own.blocks (at_1 n e reach0 own reach2 reach3) x s.rank s.is_kind s.is_rank s.choice.lacks_rank))
-          (λ others. ⊎_elim (λ s. (let own = reach s.choice in lacks_at n e reach0 reach1 own reach3 18 9 c2 k2 suit2 own.blocks (at_2 n e reach0 reach1 own reach3) x s.rank s.is_kind s.is_rank s.choice.lacks_rank))
-          (λ s. (let own = reach s.choice in lacks_at n e reach0 reach1 reach2 own 27 7 c3 k3 suit3 own.blocks (at_3 n e reach0 reach1 reach2 own) x s.rank s.is_kind (omega (arith, s.is_kind)) s.choice.lacks_rank)) others) others) k.lacks_kind
-        where
-          reach : {runs : Bool} {counts caps : List ℕ} {s p l r : ℕ} → ChoiceLacks runs counts caps s p l r → LackReached runs counts caps s p l
-          reach c = record { blocks = c.blocks; is_choice = c.is_choice; lacks = c.lacks }
+          let own = suit_of x in
+          let mine : Chosen n e own = record { blocks = k.lacks_kind.blocks; is_choice = k.lacks_kind.is_choice; lacks = k.lacks_kind.lacks } in
+          let each = but_for (Chosen n e) (reached n e) own mine in
+          lacks_at n e each x inside
+          (subst (λ (c : Chosen n e own). slice_index (counts own) (rank_of x) < total c.blocks (rank_of x)) (sym (but_for-own (Chosen n e) (reached n e) own mine)) k.lacks_kind.lacks_rank)
 
   -- where no sets and a pair lack fewer than n, no four entries sum to less
   module _ (n : ℕ) (none_less : (wanted : List ℕ) → IsSetsAndPair sets wanted → WithinFour melds wanted → n ≤ lacking hand wanted) where
-    sums_bound : (m : ℕ) → EntriesSum a b c d sets m → n ≤ m
+    sums_bound : (m : ℕ) → EntriesSum rows sets m → n ≤ m
     sums_bound m e =
-        let w = chosen m e (reached0 m e) (reached1 m e) (reached2 m e) (reached3 m e) in
+        let w = chosen m e (reached m e) in
         omega (arith, none_less w.wanted w.sets_and_pair w.within_four, w.lacks)
 
-    lacks_by_entries : (x : ℕ) → x < 34 → StandardLacks hand melds sets n x ↔ EntryLacks a b c d c0 c1 c2 c3 k0 k1 k2 k3 sets n x
+    lacks_by_entries : (x : ℕ) → x < 34 → StandardLacks hand melds sets n x ↔ EntryLacks rows counts caps sets n x
     lacks_by_entries x inside = (
       λ w. (join_lacks n (join_of w.wanted (counted sets w.wanted w.is_form) w.within_four w.lacks) x inside).0 w,
       λ k. (join_lacks n (k.entries, sums_bound) x inside).1 k,
     )
       where
-        join_of : (wanted : List ℕ) (is : AreCounted sets wanted) (four : WithinFour melds wanted) → lacking hand wanted ≡ n → IsLeastJoin a b c d sets (Some n)
+        join_of : (wanted : List ℕ) (is : AreCounted sets wanted) (four : WithinFour melds wanted) → lacking hand wanted ≡ n → IsLeastJoin rows sets (Some n)
         join_of wanted is four lacks =
             let below = sum_below wanted is four in
             let least = sums_bound _ (entries_of wanted is four _ refl) in
             (entries_of wanted is four n (omega (arith, below, least, lacks)), sums_bound)
 
-    pub entries_laws : ((m : ℕ) → EntriesSum a b c d sets m → n ≤ m) × ((x : ℕ) → x < 34 → StandardLacks hand melds sets n x ↔ EntryLacks a b c d c0 c1 c2 c3 k0 k1 k2 k3 sets n x)
+    pub entries_laws : ((m : ℕ) → EntriesSum rows sets m → n ≤ m) × ((x : ℕ) → x < 34 → StandardLacks hand melds sets n x ↔ EntryLacks rows counts caps sets n x)
     entries_laws = (sums_bound, lacks_by_entries)

@@ -1,7 +1,6 @@
 -- Sets of kinds as numbers.
-use Rattle.std.proofs.Common.{◌≡◌, ℕ, zero, suc, ◌+◌, ◌-◌, ◌*◌, ◌^◌, ◌<◌, ◌≤◌, Bool, true, false, cond, List, [], ◌∷◌, map, drop, get_or, length, max, min, ltb, refl, sym, ap, ◌∙◌, ⊎_elim, arith, bit_and}
+use Rattle.std.proofs.Common.{◌≡◌, ℕ, zero, suc, ◌+◌, ◌-◌, ◌*◌, ◌^◌, ◌<◌, ◌≤◌, Bool, true, false, cond, List, [], ◌∷◌, map, drop, get_or, length, max, min, ltb, refl, sym, ap, ◌∙◌, arith, bit_and}
 use Rattle.std.proofs.lemmas.Bool.Decides.{nat_tests}
-use Rattle.std.proofs.lemmas.Bool.{cases_lt, lt-ltb, le-ltb}
 use Rattle.std.proofs.lemmas.List.{ext_get_or, length-drop, length-map}
 use Rattle.std.proofs.lemmas.List.FromFn.{get_or-map-range_with_len, length-map-range_with_len}
 use Rattle.std.proofs.lemmas.Nat.Bits.{bit_at-lt, bit_at_and, bit_at_cat_high, bit_at_cat_low, bit_at_ones, bit_at_or, same_from_bits_below}
@@ -15,7 +14,12 @@ use Rattle.std.specs.Simd.Lanes.{mask_l}
 use Rattle.riichi_rows.specs.Marks.{has_rank}
 use Rattle.riichi_shape.specs.LackedKinds.{suits_lack}
 use Rattle.riichi_shape.proofs.AcceptedLemmas.{some_few}
+use Rattle.riichi_tiles.specs.Kinds.{IsOfSuit, first_of, suit_of}
+use Rattle.riichi_tiles.specs.Suits.{of_suit}
 use Rattle.riichi_tiles.specs.declared.by_suit.BySuit.{BySuit}
+use Rattle.riichi_tiles.specs.declared.suit.Suit.{Suit}
+use Rattle.riichi_tiles.specs.declared.suit.Suit.TheVariants.{Characters, Circles, Bamboos, Honours}
+use Rattle.riichi_tiles.proofs.Suits.{own_suit}
 use Rattle.riichi_rows.specs.declared.rank_set.RankSet.{RankSet}
 use Rattle.riichi_tiles.specs.HeldKinds.{is_held}
 use Rattle.riichi_shape.specs.KindBits.{copies_among, copies_at}
@@ -117,9 +121,6 @@ in_seven n kind low = both_at n 127 kind ∙ ap (λ b. is_held n kind && (b == 1
 module _ (suits : BySuit RankSet) (m p s h n : ℕ) (m_low : m < 512) (p_low : p < 512) (s_low : s < 512) (is : n ≡ ((bit_and h 127 * 512 + s) * 512 + p) * 512 + m)
     (m_is : (rank : ℕ) → rank < 9 → is_held m rank ≡ has_rank suits.characters rank) (p_is : (rank : ℕ) → rank < 9 → is_held p rank ≡ has_rank suits.circles rank)
     (s_is : (rank : ℕ) → rank < 9 → is_held s rank ≡ has_rank suits.bamboos rank) (h_is : (rank : ℕ) → rank < 9 → is_held h rank ≡ has_rank suits.honours rank) where
-  abbrev by_suit : Bool → Bool → Bool → ℕ → Bool
-  by_suit a b c kind = cond a (has_rank suits.characters kind) (cond b (has_rank suits.circles (kind - 9)) (cond c (has_rank suits.bamboos (kind - 18)) (has_rank suits.honours (kind - 27))))
-
   at_place : (rank other : ℕ) (set : ℕ) → rank ≡ other → is_held set rank ≡ is_held set other
   at_place rank other set e = ap (is_held set) e
 
@@ -132,15 +133,11 @@ module _ (suits : BySuit RankSet) (m p s h n : ℕ) (m_low : m < 512) (p_low : p
   third : (kind : ℕ) → 27 ≤ kind → is_held n kind ≡ is_held (bit_and h 127) (kind - 27)
   third kind high = second kind (omega arith) ∙ in_upper (bit_and h 127) s (bit_and h 127 * 512 + s) s_low refl (kind - 18) (omega arith) ∙ at_place (kind - 18 - 9) (kind - 27) (bit_and h 127) (omega arith)
 
-  tested : (kind : ℕ) (a b c : Bool) → ltb kind 9 ≡ a → ltb kind 18 ≡ b → ltb kind 27 ≡ c → by_suit a b c kind ≡ suits_lack suits kind
-  tested kind a b c e e' e'' = sym (ap (λ a. by_suit a (ltb kind 18) (ltb kind 27) kind) e ∙ ap (λ b. by_suit a b (ltb kind 27) kind) e' ∙ ap (λ c. by_suit a b c kind) e'')
+  pub at_suit : (suit : Suit) (kind : ℕ) → IsOfSuit suit kind → is_held n kind ≡ has_rank (of_suit suits suit) (kind - first_of suit)
+  at_suit Characters kind of = in_lower ((bit_and h 127 * 512 + s) * 512 + p) m n m_low is kind (omega (arith, of.high)) ∙ m_is kind (omega (arith, of.high)) ∙ ap (has_rank suits.characters) (let e : kind ≡ kind - 0 = omega arith in e)
+  at_suit Circles kind of = first kind of.low ∙ in_lower (bit_and h 127 * 512 + s) p ((bit_and h 127 * 512 + s) * 512 + p) p_low refl (kind - 9) (omega (arith, of.high)) ∙ p_is (kind - 9) (omega (arith, of.high))
+  at_suit Bamboos kind of = second kind of.low ∙ in_lower (bit_and h 127) s (bit_and h 127 * 512 + s) s_low refl (kind - 18) (omega (arith, of.high)) ∙ s_is (kind - 18) (omega (arith, of.high))
+  at_suit Honours kind of = third kind of.low ∙ in_seven h (kind - 27) (omega (arith, of.high)) ∙ h_is (kind - 27) (omega (arith, of.high))
 
   pub suits_at : (kind : ℕ) → kind < 34 → is_held n kind ≡ suits_lack suits kind
-  suits_at kind inside =
-      ⊎_elim (λ low. in_lower ((bit_and h 127 * 512 + s) * 512 + p) m n m_low is kind low ∙ m_is kind low ∙ tested kind true (ltb kind 18) (ltb kind 27) (lt-ltb kind 9 low) refl refl)
-      (λ high. ⊎_elim (λ low. first kind high ∙ in_lower (bit_and h 127 * 512 + s) p ((bit_and h 127 * 512 + s) * 512 + p) p_low refl (kind - 9) (omega arith) ∙ p_is (kind - 9) (omega arith)
-      ∙ tested kind false true (ltb kind 27) (le-ltb kind 9 high) (lt-ltb kind 18 low) refl)
-      (λ high'. ⊎_elim (λ low. second kind high' ∙ in_lower (bit_and h 127) s (bit_and h 127 * 512 + s) s_low refl (kind - 18) (omega arith) ∙ s_is (kind - 18) (omega arith)
-      ∙ tested kind false false true (le-ltb kind 9 high) (le-ltb kind 18 high') (lt-ltb kind 27 low))
-      (λ high''. third kind high'' ∙ in_seven h (kind - 27) (omega arith) ∙ h_is (kind - 27) (omega arith) ∙ tested kind false false false (le-ltb kind 9 high) (le-ltb kind 18 high') (le-ltb kind 27 high''))
-      (cases_lt kind 27)) (cases_lt kind 18)) (cases_lt kind 9)
+  suits_at kind inside = at_suit (suit_of kind) kind (own_suit kind inside)

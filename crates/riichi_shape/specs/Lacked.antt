@@ -1,5 +1,5 @@
 -- Which kinds bring a hand nearer to a winning multiset.
-use Rattle.std.specs.Prelude.{◌≡◌, ℕ, ◌+◌, ◌-◌, ◌<◌, ◌≤◌, ◌↔◌, ◌⊎◌, Bool, true, false, IsTrue, List, count_by, nat_eq, nat_le, slice_index, length, Option, Some}
+use Rattle.std.specs.Prelude.{◌≡◌, ℕ, ◌+◌, ◌-◌, ◌<◌, ◌≤◌, ◌↔◌, ◌⊎◌, IsTrue, List, count_by, nat_eq, nat_le, slice_index, length, Option, Some}
 use Rattle.riichi_tiles.specs.Melds.{every_kind, tiles}
 use Rattle.riichi_tiles.specs.declared.meld.Meld.{Meld}
 use Rattle.riichi_rows.specs.Join.{EntriesSum, IsLeastJoin}
@@ -7,7 +7,8 @@ use Rattle.riichi_rows.specs.Lacked.{ChoiceLacks, IsOneMore}
 use Rattle.riichi_rows.specs.Suit.{IsSuitRow}
 use Rattle.riichi_shape.specs.Distance.{IsDistance, OrphansReached, PairsReached}
 use Rattle.riichi_tiles.specs.Forms.{HasWinningForm, IsSetsAndPair, IsSevenPairs, IsThirteenOrphans}
-use Rattle.riichi_tiles.specs.Kinds.{is_orphan}
+use Rattle.riichi_tiles.specs.Kinds.{first_of, has_runs, is_orphan, kinds_of, rank_of, suit_of}
+use Rattle.riichi_tiles.specs.declared.suit.Suit.{Suit}
 use Rattle.riichi_shape.specs.Suits.{IsSuitOf}
 use Rattle.riichi_shape.specs.Winning.{WithinFour, lacking}
 
@@ -33,31 +34,19 @@ AcceptanceLaw =
 abbrev pub StandardLacks : List ℕ → List Meld → ℕ → ℕ → ℕ → Type 0
 StandardLacks hand melds sets n x = FormLacks (IsSetsAndPair sets) hand melds n x
 
--- the same of a kind x of the suit that begins at the kind base
-pub record SuitLacks (runs : Bool) (base : ℕ) (counts caps : List ℕ) (sets pairs n x : ℕ) : Type 0 where
-  pub rank : ℕ
-  pub is_rank : rank < 9
-  pub is_kind : x ≡ base + rank
-  pub choice : ChoiceLacks runs counts caps sets pairs n rank
-
 -- four entries of the rows sum to n, and some least choice of the suit of x lacks x
-pub record EntryLacks (a b c d : ℕ → ℕ → Option ℕ) (c0 c1 c2 c3 k0 k1 k2 k3 : List ℕ) (sets n x : ℕ) : Type 0 where
-  pub entries : EntriesSum a b c d sets n
-  pub lacks_kind :
-      SuitLacks true 0 c0 k0 entries.split.sets_0 entries.split.pairs_0 entries.lack_0 x
-      ⊎ SuitLacks true 9 c1 k1 entries.split.sets_1 entries.split.pairs_1 entries.lack_1 x
-      ⊎ SuitLacks true 18 c2 k2 entries.split.sets_2 entries.split.pairs_2 entries.lack_2 x
-      ⊎ SuitLacks false 27 c3 k3 entries.split.sets_3 entries.split.pairs_3 entries.lack_3 x
+pub record EntryLacks (rows : Suit → ℕ → ℕ → Option ℕ) (counts caps : Suit → List ℕ) (sets n x : ℕ) : Type 0 where
+  pub entries : EntriesSum rows sets n
+  pub lacks_kind : (let suit = suit_of x in ChoiceLacks (has_runs suit) (counts suit) (caps suit) (entries.sets_of suit) (entries.pairs_of suit) (entries.lack_of suit) (rank_of x))
 
 -- over the rows of the hand alone: some least winning multiset by sets and a pair lacks x exactly where x is lacked by
 -- a least choice of its suit, for sets and pairs at which the four entries sum to the least
 abbrev pub JoinLaw : Type 0
 JoinLaw =
-    (hand : List ℕ) (melds : List Meld) (c0 c1 c2 c3 k0 k1 k2 k3 : List ℕ) →
-    IsSuitOf 0 9 hand melds c0 k0 → IsSuitOf 9 9 hand melds c1 k1 → IsSuitOf 18 9 hand melds c2 k2 → IsSuitOf 27 7 hand melds c3 k3 →
-    (a b c d : ℕ → ℕ → Option ℕ) → IsSuitRow true c0 k0 a → IsSuitRow true c1 k1 b → IsSuitRow true c2 k2 c → IsSuitRow false c3 k3 d →
-    (sets n x : ℕ) → sets ≤ 4 → ((k : ℕ) → k < 34 → tiles melds k ≤ 4) → IsLeastJoin a b c d sets (Some n) → x < 34 →
-    StandardLacks hand melds sets n x ↔ EntryLacks a b c d c0 c1 c2 c3 k0 k1 k2 k3 sets n x
+    (hand : List ℕ) (melds : List Meld) (counts caps : Suit → List ℕ) → ((suit : Suit) → IsSuitOf suit hand melds (counts suit) (caps suit)) →
+    (rows : Suit → ℕ → ℕ → Option ℕ) → ((suit : Suit) → IsSuitRow (has_runs suit) (counts suit) (caps suit) (rows suit)) →
+    (sets n x : ℕ) → sets ≤ 4 → ((k : ℕ) → k < 34 → tiles melds k ≤ 4) → IsLeastJoin rows sets (Some n) → x < 34 →
+    StandardLacks hand melds sets n x ↔ EntryLacks rows counts caps sets n x
 
 -- a kind is lacked at the least lack in one of the three forms, each of which is looked at alone
 abbrev pub FormsLaw : Type 0

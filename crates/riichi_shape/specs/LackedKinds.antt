@@ -1,7 +1,9 @@
 -- Which kinds the least winning multisets lack, as the program keeps them.
-use Rattle.std.specs.Prelude.{ℕ, ◌-◌, ◌<◌, ◌≤◌, ◌↔◌, ◌||◌, Bool, IsTrue, if◌then◌else◌, nat_lt, List, length, slice_index}
+use Rattle.std.specs.Prelude.{ℕ, ◌<◌, ◌≤◌, ◌↔◌, ◌||◌, Bool, IsTrue, List, length, slice_index}
 use Rattle.riichi_rows.specs.Marks.{has_rank}
+use Rattle.riichi_tiles.specs.Kinds.{rank_of, suit_of}
 use Rattle.riichi_tiles.specs.Melds.{tiles}
+use Rattle.riichi_tiles.specs.Suits.{of_suit}
 use Rattle.riichi_rows.specs.declared.rank_set.RankSet.{RankSet}
 use Rattle.riichi_tiles.specs.declared.by_suit.BySuit.{BySuit}
 use Rattle.riichi_tiles.specs.declared.meld.Meld.{Meld}
@@ -15,11 +17,7 @@ use Rattle.riichi_shape.specs.declared.lacked_kinds.LackedKinds.{LackedKinds}
 
 -- a kind is lacked where its rank is lacked in its suit
 abbrev pub suits_lack : BySuit RankSet → ℕ → Bool
-suits_lack suits kind =
-    if nat_lt kind 9 then has_rank suits.characters kind
-    else (if nat_lt kind 18 then has_rank suits.circles (kind - 9)
-    else (if nat_lt kind 27 then has_rank suits.bamboos (kind - 18)
-    else has_rank suits.honours (kind - 27)))
+suits_lack suits kind = has_rank (of_suit suits (suit_of kind)) (rank_of kind)
 
 -- a kind of which so many are held is lacked by sets and a pair, or by another form
 abbrev pub lacks_kind : LackedKinds → ℕ → ℕ → Bool

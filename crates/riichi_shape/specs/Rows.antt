@@ -1,6 +1,6 @@
 -- The four rows of a hand, and what is kept of them while a tile changes.
 use Rattle.std.specs.Prelude.{◌≡◌, ◌≢◌, ℕ, ◌<◌, ◌≤◌, List, slice_index}
-use Rattle.riichi_tiles.specs.Kinds.{first_of, kinds_of, suit_of}
+use Rattle.riichi_tiles.specs.Kinds.{suit_of}
 use Rattle.riichi_tiles.specs.Melds.{tiles}
 use Rattle.riichi_tiles.specs.Suits.{of_suit}
 use Rattle.riichi_tiles.specs.declared.by_suit.BySuit.{BySuit}
@@ -8,7 +8,7 @@ use Rattle.riichi_tiles.specs.declared.meld.Meld.{Meld}
 use Rattle.riichi_tiles.specs.declared.suit.Suit.{Suit}
 use Rattle.riichi_rows.specs.Join.{IsLeastSum}
 use Rattle.riichi_rows.specs.Lanes.{lane}
-use Rattle.riichi_rows.specs.Row.{AreJoinedThree}
+use Rattle.riichi_rows.specs.Row.{AreJoinedBeside}
 use Rattle.riichi_rows.specs.declared.joined.JoinedRows.{JoinedRows}
 use Rattle.riichi_rows.specs.declared.row.SuitRow.{SuitRow}
 use Rattle.riichi_shape.specs.Special.{AreSpecialForms}
@@ -18,7 +18,7 @@ use Rattle.riichi_shape.specs.declared.hand_joins.HandJoins.{HandJoins}
 
 -- each is the marked row of its suit of the hand
 abbrev pub AreRowsOf : List ℕ → List Meld → BySuit SuitRow → Type 0
-AreRowsOf hand melds rows = (suit : Suit) → IsRowOf hand melds (first_of suit) (kinds_of suit) (of_suit rows suit)
+AreRowsOf hand melds rows = (suit : Suit) → IsRowOf suit hand melds (of_suit rows suit)
 
 -- two hands that have the same tiles of every other kind
 pub record DifferAt (kind : ℕ) (before after : List ℕ) : Type 0 where
@@ -26,15 +26,15 @@ pub record DifferAt (kind : ℕ) (before after : List ℕ) : Type 0 where
 
 -- the row of the suit of a kind
 abbrev pub IsRowAt : List ℕ → List Meld → ℕ → SuitRow → Type 0
-IsRowAt hand melds kind row = IsRowOf hand melds (first_of (suit_of kind)) (kinds_of (suit_of kind)) row
+IsRowAt hand melds kind row = IsRowOf (suit_of kind) hand melds row
 
 -- no kind is melded more than four times
 abbrev pub IsMeldedFew : List Meld → Type 0
 IsMeldedFew melds = (kind : ℕ) → kind < 34 → tiles melds kind ≤ 4
 
--- two hands that have the same rows but in the suit of a kind
-abbrev pub AreSameBeside : ℕ → BySuit SuitRow → BySuit SuitRow → Type 0
-AreSameBeside kind before after = (suit : Suit) → suit ≢ suit_of kind → of_suit after suit ≡ of_suit before suit
+-- two hands that have the same rows but in one suit
+abbrev pub AreSameBut : Suit → BySuit SuitRow → BySuit SuitRow → Type 0
+AreSameBut own before after = (suit : Suit) → suit ≢ own → of_suit after suit ≡ of_suit before suit
 
 -- the least sums of the rows of two suits
 abbrev pub AreJoinedTwo : SuitRow → SuitRow → JoinedRows → Type 0
@@ -44,10 +44,13 @@ AreJoinedTwo a b joined = IsLeastSum (lane a.entries.lacks) (lane b.entries.lack
 pub record AreJoinsOf (rows : BySuit SuitRow) (joins : HandJoins) : Type 0 where
   pub low : AreJoinedTwo rows.characters rows.circles joins.low
   pub high : AreJoinedTwo rows.bamboos rows.honours joins.high
-  pub beside_characters : AreJoinedThree rows.circles rows.bamboos rows.honours joins.beside_characters
-  pub beside_circles : AreJoinedThree rows.characters rows.bamboos rows.honours joins.beside_circles
-  pub beside_bamboos : AreJoinedThree rows.honours rows.characters rows.circles joins.beside_bamboos
-  pub beside_honours : AreJoinedThree rows.bamboos rows.characters rows.circles joins.beside_honours
+  pub beside : (suit : Suit) → AreJoinedBeside suit rows (of_suit joins.beside suit)
+
+-- the joins of rows that differ from these in one suit alone
+pub record IsChangedAt (own : Suit) (joins : HandJoins) (rows : BySuit SuitRow) : Type 0 where
+  pub before : BySuit SuitRow
+  pub are_joins : AreJoinsOf before joins
+  pub same : AreSameBut own before rows
 
 -- the joins of the rows of a hand
 pub record AreJoinsOfHand (hand : List ℕ) (melds : List Meld) (joins : HandJoins) : Type 0 where

@@ -1,15 +1,15 @@
 //! The distance of a hand from winning, and its shanten.
 ghost use Rattle.std.specs.Prelude.{ℕ, ◌≡◌, ◌≤◌, ◌<◌, pos, ◌-ℤ◌};
 ghost use Rattle.riichi_tiles.specs.Melds.{tiles};
-ghost use Rattle.riichi_shape.specs.Distance.{NoneLacksLess, ShantenReached};
+ghost use Rattle.riichi_shape.specs.Distance.{IsDistance, NoneLacksLess, ShantenReached};
 ghost use Rattle.riichi_shape.specs.EveryWinning.{distance_of, shanten_of};
-ghost use Rattle.riichi_shape.specs.Rows.{AreJoinsBeside, IsRowAt};
+ghost use Rattle.riichi_shape.specs.Rows.{AreJoinsBeside, AreRowsOf, IsRowAt};
 ghost use Rattle.riichi_shape.specs.Special.{SpecialLacks};
 
-use crate::hand_forms::HandForms;
 use crate::hand_joins::HandJoins;
+use crate::hand_rows::{HandRows, hand_rows_of};
 use crate::special::SpecialForms;
-use riichi_rows::{FreshRows, SuitRow};
+use riichi_rows::{FreshRows, RowSource, SuitRow, join_rows};
 use riichi_tiles::{Counts, Kind, Melds};
 
 /// The distance of a hand that has changed at one kind since its rows were joined, by the row of
@@ -49,14 +49,40 @@ pub(crate) fn shanten_at(distance: u8) -> i8
     distance as i8 - 1
 }
 
-/// One less than the distance: 0 for a ready hand, -1 for a complete one.
-pub fn shanten(hand: &Counts, melds: &Melds) -> i8
+/// The distance of a hand by the rows of its suits.
+fn distance_by(rows: &HandRows, hand: &Counts, melds: &Melds) -> u8
+    requires melded { (k : ℕ) → k < 34 → tiles melds.now k ≤ 4 }
+    requires rows { AreRowsOf hand.now melds.now rows.now }
+    ensures value { result ≡ distance_of hand.now melds.now }
+    ensures least { IsDistance hand.now melds.now result }
+    ensures few { result ≤ 14 }
+{
+    let sets = 4 - melds.count() as u8;
+    let standard = join_rows(rows, sets).unwrap_or(u8::MAX);
+    standard.min(SpecialForms::new(hand, melds).distance())
+}
+
+/// One less than the distance: 0 for a ready hand, -1 for a complete one. It is the same by the rows
+/// of any source, and asks for four of them.
+pub fn shanten_with<R: RowSource>(source: &mut R, hand: &Counts, melds: &Melds) -> i8
     requires { (kind : ℕ) → kind < 34 → tiles melds.now kind ≤ 4 }
     ensures value { result ≡ shanten_of hand.now melds.now }
 
     // Some winning multiset lacks one tile more than this, and none lacks fewer.
     ensures reached { ShantenReached hand.now melds.now result }
     ensures none_less { NoneLacksLess hand.now melds.now result }
+    ensures stays { source.new ≡ source.old }
 {
-    shanten_at(HandForms::new(&mut FreshRows, hand, melds).distance(melds))
+    let rows = hand_rows_of(source, hand, melds);
+    shanten_at(distance_by(&rows, hand, melds))
+}
+
+/// The same by rows that are made anew.
+pub fn shanten(hand: &Counts, melds: &Melds) -> i8
+    requires { (kind : ℕ) → kind < 34 → tiles melds.now kind ≤ 4 }
+    ensures value { result ≡ shanten_of hand.now melds.now }
+    ensures reached { ShantenReached hand.now melds.now result }
+    ensures none_less { NoneLacksLess hand.now melds.now result }
+{
+    shanten_with(&mut FreshRows, hand, melds)
 }

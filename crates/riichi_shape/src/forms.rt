@@ -31,7 +31,8 @@ pub fn form_distances(hand: &Counts, melds: &Melds) -> FormDistances
     let melded = melds.count();
     let Some(sets_and_pair) = forms
         .joins
-        .beside_characters
+        .beside
+        .characters
         .with(&forms.rows.characters, 4 - melded as u8)
     else {
         unreachable!()

@@ -59,7 +59,8 @@ impl HandForms {
         let sets = 4 - melds.count() as u8;
         let standard = self
             .joins
-            .beside_characters
+            .beside
+            .characters
             .with(&self.rows.characters, sets);
         standard.unwrap_or(u8::MAX).min(self.special.distance())
     }

@@ -1,13 +1,11 @@
 //! The rows of a hand joined beside each suit.
 ghost use Rattle.std.specs.Prelude.{ℕ, ◌<◌, ◌≤◌, List};
+ghost use Rattle.riichi_tiles.specs.Kinds.{suit_of};
 ghost use Rattle.riichi_tiles.specs.declared.meld.Meld.{Meld};
 ghost use Rattle.riichi_shape.specs.Distance.{IsLeastStandard};
 ghost use Rattle.riichi_shape.specs.LackedKinds.{AreSuitsLacked, NoneStandardLess};
-ghost use Rattle.riichi_rows.specs.declared.row.SuitRow.{SuitRow};
-ghost use Rattle.riichi_shape.specs.Rows.{AreJoinsBeside, AreJoinsOf, AreRowsOf, AreSameBeside, IsMeldedFew, IsRowAt};
-ghost use Rattle.riichi_tiles.specs.Suits.{with_suit};
-ghost use Rattle.riichi_tiles.specs.declared.by_suit.BySuit.{BySuit};
-ghost use Rattle.riichi_tiles.specs.declared.suit.Suit.TheVariants as suit;
+ghost use Rattle.riichi_rows.specs.Row.{AreJoinedBeside};
+ghost use Rattle.riichi_shape.specs.Rows.{AreJoinedTwo, AreJoinsBeside, AreJoinsOf, AreRowsOf, IsChangedAt, IsMeldedFew, IsRowAt};
 
 use crate::hand_rows::HandRows;
 use crate::suits_lacked::SuitsLacked;
@@ -22,10 +20,22 @@ pub(crate) struct HandJoins {
     pub(crate) low: JoinedRows,
     /// The bamboos and the honours.
     pub(crate) high: JoinedRows,
-    pub(crate) beside_characters: JoinedRows,
-    pub(crate) beside_circles: JoinedRows,
-    pub(crate) beside_bamboos: JoinedRows,
-    pub(crate) beside_honours: JoinedRows,
+    pub(crate) beside: BySuit<JoinedRows>,
+}
+
+/// The rows beside a suit, out of the joins of two suits.
+#[inline(always)]
+fn beside(rows: &HandRows, low: &JoinedRows, high: &JoinedRows, suit: Suit) -> JoinedRows
+    requires low { AreJoinedTwo rows.now.characters rows.now.circles low.now }
+    requires high { AreJoinedTwo rows.now.bamboos rows.now.honours high.now }
+    ensures { AreJoinedBeside suit rows.now result }
+{
+    match suit {
+        Suit::Characters => high.and(&rows.circles),
+        Suit::Circles => high.and(&rows.characters),
+        Suit::Bamboos => low.and(&rows.honours),
+        Suit::Honours => low.and(&rows.bamboos),
+    }
 }
 
 impl HandJoins {
@@ -38,83 +48,80 @@ impl HandJoins {
         HandJoins {
             low,
             high,
-            beside_characters: high.and(&rows.circles),
-            beside_circles: high.and(&rows.characters),
-            beside_bamboos: low.and(&rows.honours),
-            beside_honours: low.and(&rows.bamboos),
+            beside: BySuit {
+                characters: beside(rows, &low, &high, Suit::Characters),
+                circles: beside(rows, &low, &high, Suit::Circles),
+                bamboos: beside(rows, &low, &high, Suit::Bamboos),
+                honours: beside(rows, &low, &high, Suit::Honours),
+            },
         }
     }
 
     /// The joins of these rows, where the rows that were joined differ in the suit of a kind alone.
     pub(crate) fn with_row(&self, kind: Kind, rows: &HandRows) -> HandJoins
-        ensures { (before : BySuit SuitRow) → AreJoinsOf before self.now
-            → AreSameBeside kind before rows.now → AreJoinsOf rows.now result }
+        requires { IsChangedAt (suit_of kind) self.now rows.now }
+        ensures { AreJoinsOf rows.now result }
     {
-        match kind.suit() {
-            Suit::Characters => self.with_characters(rows),
-            Suit::Circles => self.with_circles(rows),
-            Suit::Bamboos => self.with_bamboos(rows),
-            Suit::Honours => self.with_honours(rows),
-        }
-    }
-
-    fn with_characters(&self, rows: &HandRows) -> HandJoins
-        ensures { (before : SuitRow)
-            → AreJoinsOf (with_suit rows.now suit.Characters before) self.now
-            → AreJoinsOf rows.now result }
-    {
-        let low = join_two(&rows.characters, &rows.circles);
+        let own = kind.suit();
+        let low = self.low_with(own, rows);
+        let high = self.high_with(own, rows);
         HandJoins {
             low,
-            beside_circles: self.high.and(&rows.characters),
-            beside_bamboos: low.and(&rows.honours),
-            beside_honours: low.and(&rows.bamboos),
-            ..*self
-        }
-    }
-
-    fn with_circles(&self, rows: &HandRows) -> HandJoins
-        ensures { (before : SuitRow)
-            → AreJoinsOf (with_suit rows.now suit.Circles before) self.now
-            → AreJoinsOf rows.now result }
-    {
-        let low = join_two(&rows.characters, &rows.circles);
-        HandJoins {
-            low,
-            beside_characters: self.high.and(&rows.circles),
-            beside_bamboos: low.and(&rows.honours),
-            beside_honours: low.and(&rows.bamboos),
-            ..*self
-        }
-    }
-
-    fn with_bamboos(&self, rows: &HandRows) -> HandJoins
-        ensures { (before : SuitRow)
-            → AreJoinsOf (with_suit rows.now suit.Bamboos before) self.now
-            → AreJoinsOf rows.now result }
-    {
-        let high = join_two(&rows.bamboos, &rows.honours);
-        HandJoins {
             high,
-            beside_characters: high.and(&rows.circles),
-            beside_circles: high.and(&rows.characters),
-            beside_honours: self.low.and(&rows.bamboos),
-            ..*self
+            beside: BySuit {
+                characters: self.beside_with(own, rows, &low, &high, Suit::Characters),
+                circles: self.beside_with(own, rows, &low, &high, Suit::Circles),
+                bamboos: self.beside_with(own, rows, &low, &high, Suit::Bamboos),
+                honours: self.beside_with(own, rows, &low, &high, Suit::Honours),
+            },
         }
     }
 
-    fn with_honours(&self, rows: &HandRows) -> HandJoins
-        ensures { (before : SuitRow)
-            → AreJoinsOf (with_suit rows.now suit.Honours before) self.now
-            → AreJoinsOf rows.now result }
+    #[inline(always)]
+    fn low_with(&self, own: Suit, rows: &HandRows) -> JoinedRows
+        requires { IsChangedAt own self.now rows.now }
+        ensures { AreJoinedTwo rows.now.characters rows.now.circles result }
     {
-        let high = join_two(&rows.bamboos, &rows.honours);
-        HandJoins {
-            high,
-            beside_characters: high.and(&rows.circles),
-            beside_circles: high.and(&rows.characters),
-            beside_bamboos: self.low.and(&rows.honours),
-            ..*self
+        match own {
+            Suit::Characters => join_two(&rows.characters, &rows.circles),
+            Suit::Circles => join_two(&rows.characters, &rows.circles),
+            Suit::Bamboos => self.low,
+            Suit::Honours => self.low,
+        }
+    }
+
+    #[inline(always)]
+    fn high_with(&self, own: Suit, rows: &HandRows) -> JoinedRows
+        requires { IsChangedAt own self.now rows.now }
+        ensures { AreJoinedTwo rows.now.bamboos rows.now.honours result }
+    {
+        match own {
+            Suit::Characters => self.high,
+            Suit::Circles => self.high,
+            Suit::Bamboos => join_two(&rows.bamboos, &rows.honours),
+            Suit::Honours => join_two(&rows.bamboos, &rows.honours),
+        }
+    }
+
+    /// Beside the suit whose row has changed the others stay as they were.
+    #[inline(always)]
+    fn beside_with(
+        &self,
+        own: Suit,
+        rows: &HandRows,
+        low: &JoinedRows,
+        high: &JoinedRows,
+        suit: Suit,
+    ) -> JoinedRows
+        requires low { AreJoinedTwo rows.now.characters rows.now.circles low.now }
+        requires high { AreJoinedTwo rows.now.bamboos rows.now.honours high.now }
+        requires changed { IsChangedAt own self.now rows.now }
+        ensures { AreJoinedBeside suit rows.now result }
+    {
+        if suit == own {
+            self.beside.get(suit)
+        } else {
+            beside(rows, low, high, suit)
         }
     }
 
@@ -127,13 +134,12 @@ impl HandJoins {
             → AreJoinsOf rows.now self.now → IsMeldedFew melds
             → NoneStandardLess hand melds sets least → AreSuitsLacked hand melds sets least result }
     {
+        let beside = &self.beside;
         BySuit {
-            characters: self
-                .beside_characters
-                .lacked_by(&rows.characters, sets, least),
-            circles: self.beside_circles.lacked_by(&rows.circles, sets, least),
-            bamboos: self.beside_bamboos.lacked_by(&rows.bamboos, sets, least),
-            honours: self.beside_honours.lacked_by(&rows.honours, sets, least),
+            characters: beside.characters.lacked_by(&rows.characters, sets, least),
+            circles: beside.circles.lacked_by(&rows.circles, sets, least),
+            bamboos: beside.bamboos.lacked_by(&rows.bamboos, sets, least),
+            honours: beside.honours.lacked_by(&rows.honours, sets, least),
         }
     }
 
@@ -146,11 +152,6 @@ impl HandJoins {
             → IsMeldedFew melds → IsRowAt hand melds kind row.now
             → IsLeastStandard hand melds sets result }
     {
-        match kind.suit() {
-            Suit::Characters => self.beside_characters.with(row, sets),
-            Suit::Circles => self.beside_circles.with(row, sets),
-            Suit::Bamboos => self.beside_bamboos.with(row, sets),
-            Suit::Honours => self.beside_honours.with(row, sets),
-        }
+        self.beside.lent(kind.suit()).with(row, sets)
     }
 }

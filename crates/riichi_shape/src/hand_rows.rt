@@ -1,7 +1,8 @@
 //! The rows of a hand.
 ghost use Rattle.std.specs.Prelude.{ℕ, ◌≡◌, ◌<◌, ◌≤◌, List};
+ghost use Rattle.riichi_tiles.specs.Kinds.{suit_of};
 ghost use Rattle.riichi_tiles.specs.Melds.{tiles};
-ghost use Rattle.riichi_shape.specs.Rows.{AreRowsOf, AreSameBeside, DifferAt, IsRowAt};
+ghost use Rattle.riichi_shape.specs.Rows.{AreRowsOf, AreSameBut, DifferAt, IsRowAt};
 ghost use Rattle.riichi_shape.specs.Suits.{AreHandCaps};
 ghost use Rattle.riichi_tiles.specs.declared.meld.Meld.{Meld};
 
@@ -21,10 +22,10 @@ pub(crate) fn hand_rows_of<R: RowSource>(source: &mut R, hand: &Counts, melds: &
 {
     let caps = hand_caps_of(melds);
     BySuit {
-        characters: suit_row_of(source, hand, &caps.characters, 0, 9),
-        circles: suit_row_of(source, hand, &caps.circles, 9, 9),
-        bamboos: suit_row_of(source, hand, &caps.bamboos, 18, 9),
-        honours: suit_row_of(source, hand, &caps.honours, 27, 7),
+        characters: suit_row_of(source, hand, &caps, Suit::Characters),
+        circles: suit_row_of(source, hand, &caps, Suit::Circles),
+        bamboos: suit_row_of(source, hand, &caps, Suit::Bamboos),
+        honours: suit_row_of(source, hand, &caps, Suit::Honours),
     }
 }
 
@@ -39,37 +40,15 @@ pub(crate) fn row_at<R: RowSource>(
         → IsRowAt hand.now melds kind result }
     ensures stays { source.new ≡ source.old }
 {
-    match kind.suit() {
-        Suit::Characters => suit_row_of(source, hand, &caps.characters, 0, 9),
-        Suit::Circles => suit_row_of(source, hand, &caps.circles, 9, 9),
-        Suit::Bamboos => suit_row_of(source, hand, &caps.bamboos, 18, 9),
-        Suit::Honours => suit_row_of(source, hand, &caps.honours, 27, 7),
-    }
+    suit_row_of(source, hand, caps, kind.suit())
 }
 
 /// The rows of a hand that has changed at one kind, with this row of the suit of that kind.
 pub(crate) fn with_row(rows: &HandRows, kind: Kind, row: &SuitRow) -> HandRows
-    ensures others { AreSameBeside kind rows.now result }
+    ensures others { AreSameBut (suit_of kind) rows.now result }
     ensures rows { (before hand : List ℕ) (melds : List Meld) → AreRowsOf before melds rows.now
         → DifferAt kind before hand → IsRowAt hand melds kind row.now
         → AreRowsOf hand melds result }
 {
-    match kind.suit() {
-        Suit::Characters => BySuit {
-            characters: *row,
-            ..*rows
-        },
-        Suit::Circles => BySuit {
-            circles: *row,
-            ..*rows
-        },
-        Suit::Bamboos => BySuit {
-            bamboos: *row,
-            ..*rows
-        },
-        Suit::Honours => BySuit {
-            honours: *row,
-            ..*rows
-        },
-    }
+    rows.with(kind.suit(), *row)
 }

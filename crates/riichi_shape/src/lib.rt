@@ -48,7 +48,7 @@ pub use accepts::Accepts;
 pub use answering::{shape, shape_with};
 pub use discard::Discard;
 pub use discard_list::DiscardList;
-pub use distance::shanten;
+pub use distance::{shanten, shanten_with};
 pub use forms::{FormDistances, form_distances};
 pub use live_list::LiveList;
 pub use riichi_cache::{FrameMemo, KeptRows, Memory, RowCache, RowMemo};

@@ -3,14 +3,14 @@ ghost use Rattle.std.specs.Prelude.{◌<◌, ◌≤◌};
 
 use crate::facts::{holds, same};
 use arrayvec::ArrayString;
-use riichi_hand::ShapeRecord;
+use riichi_hand::{LineCode, LineFault, ShapeRecord};
 use riichi_rows::join_two;
 use riichi_shape::{
-    Accepts, DiscardList, Memory, RowCache, ShapeAnswer, accepted, join_rows, laws, shanten, shape,
-    shape_with, suit_row,
+    Accepts, DiscardList, FrameMemo, Memory, RowCache, ShapeAnswer, accepted, join_rows, laws,
+    shanten, shanten_with, shape, shape_with, suit_row,
 };
 use riichi_shape_text::{push_shape, shape_text};
-use riichi_tiles::{Counts, Kind, Meld, Melds, read_counts};
+use riichi_tiles::{BySuit, Counts, Kind, Meld, Melds, Suit, read_counts};
 use std::alloc::Global;
 use std::process::Abort;
 use std::test::Fail;
@@ -67,6 +67,14 @@ fn writes_behind_a_text(rt: HostRuntime) -> Result<(), Fail> {
     text.push_str("> ");
     push_shape(&mut text, &shape(&asked));
     same(&rt, text.as_str(), "> shanten 0 accepts 2p:4 5p:4 live 8");
+    Ok(())
+}
+
+/// Two in the hand and three seen elsewhere are a fifth copy.
+#[test]
+fn refuses_a_fifth_copy(rt: HostRuntime) -> Result<(), Fail> {
+    let asked = ShapeRecord::new(tiles("123456789m1134p")?, Melds::new(), tiles("111p")?);
+    same(&rt, asked.err(), Some(LineFault::Line(LineCode::H9)));
     Ok(())
 }
 
@@ -221,6 +229,10 @@ fn thirteen_tiles(rt: HostRuntime) -> Result<(), Fail> {
     let hand = tiles("123456789m1134p")?;
     let melds = Melds::new();
     same(&rt, shanten(&hand, &melds), 0);
+    let mut memo = FrameMemo::<8>::new();
+    for _ in 0..2 {
+        same(&rt, shanten_with(&mut memo, &hand, &melds), 0);
+    }
     same(&rt, accepted(&hand, &melds, &Counts::new()).live(), 8);
     same(&rt, shanten(&Counts::new(), &melds), 13);
     Ok(())
@@ -236,10 +248,25 @@ fn rows_of_no_tiles(rt: HostRuntime) -> Result<(), Fail> {
     let closed = suit_row([0; 9], [0; 9], true);
     same(&rt, closed.get(0, false), Some(0));
     same(&rt, closed.get(0, true), None);
-    same(&rt, closed.get(1, false), None);
-    same(&rt, join_rows(&[row, row, row, row], 4), Some(14));
-    same(&rt, join_rows(&[closed, closed, closed, row], 1), Some(5));
-    same(&rt, join_rows(&[closed, closed, closed, closed], 0), None);
+    for sets in 1..5u8 {
+        same(&rt, closed.get(sets, false), None);
+        same(&rt, closed.get(sets, true), None);
+    }
+    let open = BySuit {
+        characters: row,
+        circles: row,
+        bamboos: row,
+        honours: row,
+    };
+    let shut = BySuit {
+        characters: closed,
+        circles: closed,
+        bamboos: closed,
+        honours: closed,
+    };
+    same(&rt, join_rows(&open, 4), Some(14));
+    same(&rt, join_rows(&shut.with(Suit::Honours, row), 1), Some(5));
+    same(&rt, join_rows(&shut, 0), None);
     Ok(())
 }
 

@@ -21,6 +21,10 @@ kinds_of Circles = 9
 kinds_of Bamboos = 9
 kinds_of Honours = 7
 
+-- a suit of nine kinds has runs
+abbrev pub has_runs : Suit → Bool
+has_runs suit = kinds_of suit == 9
+
 -- a kind of the suit
 pub record IsOfSuit (suit : Suit) (kind : ℕ) : Type 0 where
   pub low : first_of suit ≤ kind

@@ -1,4 +1,5 @@
 -- What each suit has.
+use Rattle.std.specs.Prelude.{ℕ, ◌+◌}
 use Rattle.riichi_tiles.specs.declared.suit.Suit.{Suit}
 use Rattle.riichi_tiles.specs.declared.suit.Suit.TheVariants.{Characters, Circles, Bamboos, Honours}
 use Rattle.riichi_tiles.specs.declared.by_suit.BySuit.{BySuit}
@@ -15,3 +16,23 @@ with_suit by Characters value = record by { characters = value }
 with_suit by Circles value = record by { circles = value }
 with_suit by Bamboos value = record by { bamboos = value }
 with_suit by Honours value = record by { honours = value }
+
+-- a number of each suit, added up
+abbrev pub over_suits : (Suit → ℕ) → ℕ
+over_suits f = f Characters + f Circles + f Bamboos + f Honours
+
+-- the other three, seen from a suit: the one that stands beside it, and the two of the other half
+abbrev pub partner : Suit → Suit
+partner Characters = Circles
+partner Circles = Characters
+partner Bamboos = Honours
+partner Honours = Bamboos
+
+abbrev pub first_far : Suit → Suit
+first_far Characters = Bamboos
+first_far Circles = Bamboos
+first_far Bamboos = Characters
+first_far Honours = Characters
+
+abbrev pub last_far : Suit → Suit
+last_far suit = partner (first_far suit)

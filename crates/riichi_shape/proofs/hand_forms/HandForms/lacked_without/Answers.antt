@@ -9,6 +9,9 @@ pub lacked_without-requires-clause-least : goal.lacked_without-requires-clause-l
 lacked_without-requires-clause-least c =
     special_floor (without_one c.args.hand.now c.args.kind) c.args.melds.now c.args.least c.count.ensures.melds.at_most_four c.requires.melded c.requires.least
 
+pub with_row-requires : goal.with_row-requires
+with_row-requires c = record { before = c.args.self.now.rows; are_joins = c.requires.forms.are_joins; same = c.with_row-rows.ensures.others }
+
 pub returns : goal.returns
 returns c =
     let hand = c.args.hand.now in
@@ -16,6 +19,5 @@ returns c =
     let melds = c.args.melds.now in
     let differ = set_differs hand c.args.kind (slice_index hand c.args.kind - 1) in
     let rows = c.with_row-rows.ensures.rows hand rest melds c.requires.forms.are_rows differ c.requires.row in
-    let joins = c.with_row.ensures c.args.self.now.rows c.requires.forms.are_joins c.with_row-rows.ensures.others in
     lacked_of rest melds c.args.least c.count.ensures.melds.at_most_four c.requires.melded c.requires.least (4 - c.count.result) (ap (λ n. 4 - n) c.count.ensures.value) _
-    (c.lacked.ensures rest melds rows joins c.requires.melded) (λ none_less. c.lacked_without.ensures)
+    (c.lacked.ensures rest melds rows c.with_row.ensures c.requires.melded) (λ none_less. c.lacked_without.ensures)

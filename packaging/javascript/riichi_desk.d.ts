@@ -1,0 +1,46 @@
+/** The rule profiles, as RULES.md of the release has them. */
+export type Rules = 1 | 2;
+/** A line as a text, or its bytes. A line feed at its end is no part of it, nor a carriage return before that. */
+export type Line = string | Uint8Array;
+/** A kind of tile, as its digit and its letter: "5m", "7z". */
+export type Kind = `${1 | 2 | 3 | 4 | 5 | 6 | 7 | 8 | 9}${"m" | "p" | "s"}` | `${1 | 2 | 3 | 4 | 5 | 6 | 7}z`;
+export interface Yaku { number: number; word: string }
+/** What each payer pays, in points. */
+export type Payment = { discarder: number } | { dealer: number; each_other: number } | { each: number };
+/** What a win is worth. Of a yakuman `han`, `fu` and `dora` are 0. */
+export interface Won {
+  answer: "won";
+  yakuman: boolean;
+  han: number;
+  fu: number;
+  dora: number;
+  base: number;
+  limit: null | "mangan" | "haneman" | "baiman" | "sanbaiman" | "yakuman";
+  payment: Payment;
+  gain: number;
+  yaku: Yaku[];
+}
+/** The kinds that bring a hand nearer, each with its live copies, and how many these are in all. */
+export interface Accepted { accepts: { kind: Kind; live: number }[]; live: number }
+export type Answer =
+  | Won
+  | { answer: "no yaku" }
+  | { answer: "no win" }
+  | { answer: "waits"; kinds: Kind[] }
+  | ({ answer: "shape"; shanten: number } & Accepted)
+  | { answer: "shape"; shanten: number; discards: ({ discard: Kind } & Accepted)[] }
+  | { answer: "refused"; code: string; text?: string; place?: number };
+/** The answer to one line, such as `waits 1112345678999m`; null where it is a comment or blank. */
+export function answer(line: Line, rules?: Rules): Answer | null;
+/** The answer to each of many lines. */
+export function answers(lines: Iterable<Line>, rules?: Rules): (Answer | null)[];
+/** The answer in the words of the command `line`. */
+export function text(line: Line, rules?: Rules): string | null;
+/** The same of many lines. */
+export function texts(lines: Iterable<Line>, rules?: Rules): (string | null)[];
+/** The answer as one line of JSON. */
+export function json(line: Line, rules?: Rules): string | null;
+/** The lines that say why a line is answered as it is. */
+export function explain(line: Line, rules?: Rules): string[];
+/** The name and version of the library. */
+export function version(): string;

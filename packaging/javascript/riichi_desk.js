@@ -1,0 +1,81 @@
+// The proved library for browsers and for Node: import { answer } from "riichi_desk". The modules lie beside this file.
+
+const MOST_LINE = 4200; // a line of more than 4096 bytes is refused whatever follows
+const MOST_ANSWER = 1 << 16;
+
+// A module with nothing but an instruction on vectors. An engine that has none takes the module without them, which is slower.
+const OF_VECTORS = [0, 97, 115, 109, 1, 0, 0, 0, 1, 5, 1, 96, 0, 1, 123, 3, 2, 1, 0, 10, 10, 1, 8, 0, 65, 0, 253, 15, 253, 98, 11];
+const MODULE = WebAssembly.validate(new Uint8Array(OF_VECTORS))
+  ? new URL("./riichi_desk.wasm", import.meta.url)
+  : new URL("./riichi_desk_plain.wasm", import.meta.url);
+
+async function bytesOfModule() {
+  if (MODULE.protocol === "file:" && typeof process === "object") {
+    const { readFile } = await import("node:fs/promises");
+    return readFile(MODULE);
+  }
+  const told = await fetch(MODULE);
+  if (!told.ok) throw new Error(`${MODULE}: ${told.status}`);
+  return told.arrayBuffer();
+}
+
+const { instance } = await WebAssembly.instantiate(await bytesOfModule(), {});
+const calls = instance.exports;
+const LINE = calls.memory.grow(2) * 65536;
+const ROOM = LINE + 65536;
+const memory = new Uint8Array(calls.memory.buffer); // a call takes no memory, so it stays this one
+const lineRoom = memory.subarray(LINE, LINE + MOST_LINE);
+const encoder = new TextEncoder();
+const decoder = new TextDecoder();
+
+// Sizes and places are 64-bit numbers in the module's calls, though its memory has 32-bit places.
+const AT = [BigInt(LINE), BigInt(ROOM), BigInt(MOST_ANSWER)];
+
+function read(needed) {
+  return decoder.decode(memory.subarray(ROOM, ROOM + Number(needed)));
+}
+
+// How many bytes of a line lie in its room: a text or bytes, without a line feed at its end and a carriage return before that.
+function put(line) {
+  if (typeof line === "string") return encoder.encodeInto(line.replace(/\r?\n?$/, ""), lineRoom).written;
+  let end = line.length;
+  if (line[end - 1] === 10) end--;
+  if (line[end - 1] === 13) end--;
+  const front = line.subarray(0, Math.min(end, MOST_LINE));
+  lineRoom.set(front);
+  return front.length;
+}
+
+function ask(call, line, rules) {
+  if (rules !== 1 && rules !== 2) throw new RangeError(`rules is 1 or 2, and not ${rules}`);
+  const needed = call(rules, AT[0], BigInt(put(line)), AT[1], AT[2]);
+  return needed > 0n ? read(needed) : null;
+}
+
+export function text(line, rules = 1) {
+  return ask(calls.riichi_answer, line, rules);
+}
+
+export function texts(lines, rules = 1) {
+  return Array.from(lines, (line) => text(line, rules));
+}
+
+export function json(line, rules = 1) {
+  return ask(calls.riichi_json, line, rules);
+}
+
+export function answer(line, rules = 1) {
+  return JSON.parse(json(line, rules) ?? "null");
+}
+
+export function answers(lines, rules = 1) {
+  return Array.from(lines, (line) => answer(line, rules));
+}
+
+export function explain(line, rules = 1) {
+  return (ask(calls.riichi_explain, line, rules) ?? "").split("\n").filter((it) => it !== "");
+}
+
+export function version() {
+  return read(calls.riichi_version(AT[1], AT[2]));
+}

@@ -1,0 +1,24 @@
+"""What a hand of riichi mahjong is worth and why, its waits, and how far it is from a win. The answers are proved.
+
+One line a call: `text`, `answer`, `json`, `explain`. Many: `texts`, `answers`, `lines`. The package has the shared library inside;
+RIICHI_DESK in the environment names another one.
+"""
+
+from __future__ import annotations
+
+import ctypes
+
+from .library import CALLS, ROOMS
+from .records import answer, answers, explain, json, lines, text, texts
+from .values import Accepted, Answer, NoWin, NoYaku, Refused, Shape, Table, Waits, Won, Yaku
+
+__all__ = [
+    *["Accepted", "Answer", "NoWin", "NoYaku", "Refused", "Shape", "Table", "Waits", "Won", "Yaku"],
+    *["answer", "answers", "explain", "json", "lines", "text", "texts", "version"],
+]
+
+
+def version() -> str:
+    """The name and version of the library."""
+    room = ROOMS.room
+    return ctypes.string_at(room, CALLS.riichi_version(room, 64)).decode("ascii")

@@ -1,0 +1,48 @@
+"""The calls of the shared library (riichi_desk.h), and what is lent to them: lines, buffers, and a room for each thread."""
+
+from __future__ import annotations
+
+import ctypes
+import os
+import threading
+from pathlib import Path
+from typing import Union
+
+Line = Union[str, bytes, bytearray, memoryview]
+"""A line: a text, or its bytes. A line feed at its end is no part of it, nor a carriage return before that."""
+
+MOST = 12288
+"""No answer takes more bytes."""
+
+_SIZE, _AT, _RULES = ctypes.c_size_t, ctypes.c_void_p, ctypes.c_uint32
+CALLS = ctypes.CDLL(os.environ.get("RIICHI_DESK", str(Path(__file__).with_name("libriichi_desk.so"))))
+_ARGUMENTS = {
+    "riichi_version": [_AT, _SIZE],
+    **dict.fromkeys(("riichi_answer", "riichi_json", "riichi_explain"), [_RULES, ctypes.c_char_p, _SIZE, _AT, _SIZE]),
+}
+for _name, _types in _ARGUMENTS.items():
+    _call = getattr(CALLS, _name)
+    _call.argtypes, _call.restype = _types, _SIZE
+
+
+class _Rooms(threading.local):
+    """For each thread the room that its calls answer into."""
+
+    def __init__(self) -> None:
+        self.room = ctypes.create_string_buffer(MOST)
+
+
+ROOMS = _Rooms()
+
+
+def rules_of(rules: int) -> int:
+    """The number of a profile."""
+    if rules not in (1, 2):
+        raise ValueError(f"rules is 1 or 2, and not {rules}")
+    return rules
+
+
+def bytes_of(line: Line) -> bytes:
+    """The bytes of a line, as the command `line` takes it from a text."""
+    given = line.encode("utf-8", "surrogateescape") if isinstance(line, str) else bytes(memoryview(line))
+    return given.removesuffix(b"\n").removesuffix(b"\r")

@@ -1,0 +1,10 @@
+//! The calls of `riichi_desk.h`, as they are.
+
+pub const MOST_JSON: usize = 12288;
+
+extern "C" {
+    pub fn riichi_answer(rules: u32, line: *const u8, line_len: usize, room: *mut u8, room_len: usize) -> usize;
+    pub fn riichi_json(rules: u32, line: *const u8, line_len: usize, room: *mut u8, room_len: usize) -> usize;
+    pub fn riichi_explain(rules: u32, line: *const u8, line_len: usize, room: *mut u8, room_len: usize) -> usize;
+    pub fn riichi_version(room: *mut u8, room_len: usize) -> usize;
+}

@@ -1,0 +1,104 @@
+//! What a hand of riichi mahjong is worth and why, its waits, and how far it is from a win. The answers are proved to be those of the
+//! rules, for every hand.
+//!
+//! ```
+//! use riichi_desk::{answer, explain, Rules};
+//! assert_eq!(answer("waits 1112345678999m", Rules::One).as_deref(), Some("waits 123456789m"));
+//! assert_eq!(answer("# a comment", Rules::One), None);
+//! for why in explain("win 99978m444p567s22s on=9m by=ron seat=S round=E riichi=1", Rules::One).lines() {
+//!     println!("{why}"); // the reading, and its rows of han, fu and payments
+//! }
+//! ```
+//!
+//! A line is a `&str` or bytes, without its line feed and a carriage return before that. Every call may be made by any thread.
+use std::str;
+
+mod calls;
+
+/// The rule profiles, as RULES.md of the release has them.
+#[derive(Clone, Copy, Debug, PartialEq, Eq, Hash, Default)]
+#[repr(u32)]
+pub enum Rules {
+    #[default]
+    One = 1,
+    Two = 2,
+}
+
+type Call = unsafe extern "C" fn(u32, *const u8, usize, *mut u8, usize) -> usize;
+
+/// A place for answers, to be used for one call after another, so that none takes memory. No answer is longer.
+pub struct Room(Box<[u8; calls::MOST_JSON]>);
+
+impl Room {
+    pub fn new() -> Self {
+        Room(Box::new([0; calls::MOST_JSON]))
+    }
+
+    fn told(&mut self, call: Call, line: &[u8], rules: Rules) -> &str {
+        // SAFETY: the pointers are those of slices, so they are valid for their lengths and not null, and a `&mut` overlaps nothing.
+        let needed = unsafe { call(rules as u32, line.as_ptr(), line.len(), self.0.as_mut_ptr(), self.0.len()) };
+        str::from_utf8(&self.0[..needed]).expect("answers are ASCII")
+    }
+
+    /// The answer to one line in the words of the command `line`; `None` where the line is a comment or blank.
+    pub fn answer(&mut self, line: impl AsRef<[u8]>, rules: Rules) -> Option<&str> {
+        Some(self.told(calls::riichi_answer, line.as_ref(), rules)).filter(|it| !it.is_empty())
+    }
+
+    /// The same answer as one object of JSON.
+    pub fn json(&mut self, line: impl AsRef<[u8]>, rules: Rules) -> Option<&str> {
+        Some(self.told(calls::riichi_json, line.as_ref(), rules)).filter(|it| !it.is_empty())
+    }
+
+    /// Why the line is answered as it is: lines, each with its line feed; none of a comment or a blank line.
+    pub fn explain(&mut self, line: impl AsRef<[u8]>, rules: Rules) -> &str {
+        self.told(calls::riichi_explain, line.as_ref(), rules)
+    }
+}
+
+impl Default for Room {
+    fn default() -> Self {
+        Self::new()
+    }
+}
+
+/// The answer to one line, in a string of its own; `None` where it is a comment or blank.
+pub fn answer(line: impl AsRef<[u8]>, rules: Rules) -> Option<String> {
+    Room::new().answer(line, rules).map(str::to_owned)
+}
+
+/// The same answer as one object of JSON.
+pub fn json(line: impl AsRef<[u8]>, rules: Rules) -> Option<String> {
+    Room::new().json(line, rules).map(str::to_owned)
+}
+
+/// Why the line is answered as it is: lines, each with its line feed.
+pub fn explain(line: impl AsRef<[u8]>, rules: Rules) -> String {
+    Room::new().explain(line, rules).to_owned()
+}
+
+/// The answers to a whole text of lines, as the command `line` writes them: each with a line feed, and nothing for a comment or a
+/// blank line. A line `rules 2` is a line like any other here, and refused.
+///
+/// ```
+/// use riichi_desk::{answer_lines, Rules};
+/// assert_eq!(answer_lines("waits 123456789m1134p\n# a comment\nwaits 8z\n", Rules::One), "waits 25p\nrefused N5 hand at 0\n");
+/// ```
+pub fn answer_lines(text: impl AsRef<[u8]>, rules: Rules) -> String {
+    let (mut room, mut told) = (Room::new(), String::new());
+    for line in text.as_ref().split(|&byte| byte == b'\n') {
+        if let Some(answer) = room.answer(line.strip_suffix(b"\r").unwrap_or(line), rules) {
+            told.push_str(answer);
+            told.push('\n');
+        }
+    }
+    told
+}
+
+/// The name and version of the library.
+pub fn version() -> String {
+    let mut room = [0; 64];
+    // SAFETY: as in `Room::told`.
+    let needed = unsafe { calls::riichi_version(room.as_mut_ptr(), room.len()) };
+    String::from_utf8_lossy(&room[..needed]).into_owned()
+}

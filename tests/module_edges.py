@@ -1,0 +1,73 @@
+#!/usr/bin/env python3
+"""tests/module_edges.py FILE: edges of the Python package: ends of lines, sorts of bytes, profiles, many lines beside one,
+threads; the lines are those of FILE. It says `all right` where all are.
+"""
+
+import array
+import pickle
+import sys
+from concurrent.futures import ThreadPoolExecutor
+
+import riichi_desk
+WAITS = "waits 1112345678999m"
+
+
+def try_lines() -> None:
+    told = riichi_desk.text(WAITS)
+    for end in "", "\n", "\r", "\r\n":
+        line = WAITS + end
+        for each in line, line.encode(), bytearray(line.encode()), memoryview(line.encode()), array.array("B", line.encode()):
+            assert riichi_desk.text(each) == told, each
+    for end in "\r\r", "\n\n", "\n\r", "\r\r\n":
+        assert riichi_desk.text(WAITS + end).startswith("refused"), end
+    assert riichi_desk.text(WAITS + "\udcff") == riichi_desk.text(WAITS.encode() + b"\xff")
+    assert riichi_desk.text("") is None and riichi_desk.explain("# a comment") == []
+    for line in 5, None, ["waits"]:
+        try:
+            riichi_desk.text(line)
+        except TypeError:
+            continue
+        raise AssertionError(line)
+
+
+def try_rules() -> None:
+    for call, given in (riichi_desk.text, WAITS), (riichi_desk.explain, WAITS), (riichi_desk.texts, [WAITS]), (riichi_desk.lines, b""), (riichi_desk.answers, []):
+        for rules in -1, 0, 3, 2**32 - 1, 2**32, 2**32 + 1, 2**64 + 1:
+            try:
+                call(given, rules)
+            except ValueError:
+                continue
+            raise AssertionError(rules)
+
+
+def try_values() -> None:
+    lines = [WAITS, "shape 123456789m11348p", "shape 123456789m1134p", "waits 8z", "win 1m", "# a comment"]
+    found = riichi_desk.answers(lines)
+    assert found == [riichi_desk.answer(it) for it in lines] == pickle.loads(pickle.dumps(found))
+    assert len({*found, *found}) == len(lines)
+    assert found[1].discards["8p"].kinds == {"2p": 4, "5p": 4}
+
+
+def try_many(text: bytes) -> None:
+    given = text.split(b"\n")
+    told = [riichi_desk.text(it) for it in given]
+    assert riichi_desk.texts(given) == told and riichi_desk.texts(iter(given)) == told
+    assert riichi_desk.texts(it.decode("utf-8", "surrogateescape") for it in given) == told
+    assert riichi_desk.texts([]) == [] and riichi_desk.texts([""]) == [None]
+    wanted = "".join(f"{it}\n" for it in told if it is not None).encode()
+    assert riichi_desk.lines(text) == wanted and riichi_desk.lines(b"") == b""
+    within = b"waits 1m\nwaits 2m"
+    assert riichi_desk.texts([within, WAITS]) == [riichi_desk.text(within), riichi_desk.text(WAITS)]
+    assert riichi_desk.answers([within, WAITS]) == [riichi_desk.answer(within), riichi_desk.answer(WAITS)]
+    with ThreadPoolExecutor(4) as pool:
+        assert list(pool.map(riichi_desk.lines, [text] * 8)) == [wanted] * 8
+
+
+if __name__ == "__main__":
+    with open(sys.argv[1], "rb") as file:
+        front = b"".join(file.readline() for _ in range(3000))
+    try_lines()
+    try_rules()
+    try_values()
+    try_many(front)
+    print("all right")

@@ -1,0 +1,125 @@
+# Rows of packaging/: each package is installed where a user would, and answers 20,000 mixed lines by the bytes of `line`. ./test
+# reads this after tests/programs.sh, and tests/packages alone; they give `program`, `archive`, an empty folder `room`, the folder
+# `packages` where packaging/build-packages has built, and `all`, which says whether rows that take minutes are tried too.
+
+shelf=$room/shelf
+mkdir -p "$shelf"
+version=$("$program" --version | sed -n '1s/^riichi_desk //p')
+tests/mixed-lines 20000 > "$shelf/lines"
+"$program" line < "$shelf/lines" > "$shelf/wanted"
+"$program" line --json < "$shelf/lines" > "$shelf/json"
+"$program" explain < "$shelf/lines" > "$shelf/explained"
+head -n 2000 "$shelf/lines" > "$shelf/few"
+"$program" line < "$shelf/few" > "$shelf/few-wanted"
+told 'mixed lines' 20000 "$(wc -l < "$shelf/lines")"
+# same NAME WANTED WORDS..: WORDS answer the mixed lines, or the few, as the file WANTED
+same() {
+  local name=$1 wanted=$shelf/$2 lines=$shelf/lines
+  shift 2
+  [[ $wanted != *few* ]] || lines=$shelf/few
+  told "$name" "$(sha256sum < "$wanted")" "$("$@" < "$lines" 2> "$room/said" | sha256sum)"
+}
+# has COMMAND..: whether all are here
+has() { for command in "$@"; do command -v "$command" > /dev/null || return 1; done; }
+
+# the shared library
+packaging/library/install-library "$archive" include/riichi_desk.h "$version" "$shelf/local"
+lib=$shelf/local/lib
+told 'the calls of the shared library' "$(grep -oE '\briichi_[a-z_]+\(' include/riichi_desk.h | tr -d '(' | sort -u | xargs)" \
+  "$(nm -D --defined-only "$lib/libriichi_desk.so" | sed -n 's/.* T \(.*\)@@RIICHI_DESK_0$/\1/p' | sort | xargs)"
+told 'its soname' libriichi_desk.so.0 "$(readelf -d "$lib/libriichi_desk.so" | sed -n 's/.*soname: \[\(.*\)\]/\1/p')"
+if has pkg-config; then
+  (export PKG_CONFIG_PATH=$lib/pkgconfig && cc -O1 examples/c/answer.c $(pkg-config --cflags --libs riichi_desk) -o "$shelf/shared")
+  same 'the shared library by pkg-config' wanted env LD_LIBRARY_PATH="$lib" "$shelf/shared"
+  told 'the version by pkg-config' "$version" "$(PKG_CONFIG_PATH=$lib/pkgconfig pkg-config --modversion riichi_desk)"
+else
+  skip 'the shared library by pkg-config' pkg-config
+fi
+if has qemu-x86_64-static; then
+  cc -O1 -Iinclude examples/c/answer.c "$archive" -static -o "$shelf/static"
+  same 'the static library on a processor of 2003' few-wanted qemu-x86_64-static -cpu kvm64 "$shelf/static"
+else
+  skip 'the static library on an old processor' qemu-user-static
+fi
+
+# the wheel, in a new environment
+wheel=$(echo "$packages"/riichi_desk-*x86_64.whl)
+if [ -f "$wheel" ] && /usr/bin/python3 -m venv "$shelf/venv" > /dev/null 2>&1 && "$shelf/venv/bin/pip" install -q --no-index "$wheel" > "$room/said" 2>&1; then
+  python=$shelf/venv/bin/python3
+  same 'the wheel, a call a line' wanted "$python" examples/python/answer.py
+  same 'the wheel, a call a text' wanted "$python" -c 'import riichi_desk, sys; sys.stdout.buffer.write(riichi_desk.lines(sys.stdin.buffer.read()))'
+  same 'the wheel, values' wanted "$python" tests/typed_answers.py
+  told 'its edges' 'all right' "$("$python" tests/module_edges.py "$shelf/lines" 2>&1)"
+  told 'its licences' "$(unzip -l "$wheel" | grep -c 'licenses/.*LICENSE')" "$(tar -tf "$packages/riichi_desk-$version.crate" | grep -c LICENSE)"
+  if has mypy; then
+    told 'its types' Success "$(mypy --strict --cache-dir="$shelf/types" packaging/python/src/riichi_desk 2>&1 | sed 's/^Success: .*/Success/')"
+  else
+    skip 'the types of the wheel' mypy
+  fi
+else
+  skip 'the wheel' 'python3-venv, python3-build or python3-hatchling'
+fi
+
+# the crate, beside one that has nothing else
+crate=$packages/riichi_desk-$version.crate
+if [ -f "$crate" ] && has cargo; then
+  tar -C "$shelf" -xf "$crate"
+  (cd "$shelf/riichi_desk-$version" && cargo build -q --release --offline --example line --target-dir "$shelf/target") > "$room/said" 2>&1
+  same 'the crate, a call a line' wanted "$shelf/target/release/examples/line"
+  same 'the crate, a call a text' wanted "$shelf/target/release/examples/line" text
+  told 'the words of the crate' 0 "$(cd "$shelf/riichi_desk-$version" && cargo test -q --release --offline --doc --target-dir "$shelf/target" > "$room/said" 2>&1; echo $?)"
+else
+  skip 'the crate' cargo
+fi
+
+# the package for JavaScript
+script=$packages/riichi_desk-$version.tgz
+if [ -f "$script" ] && has npm node; then
+  mkdir -p "$shelf/node" && (cd "$shelf/node" && npm init -y && npm install --offline "$script") > "$room/said" 2>&1
+  command=$shelf/node/node_modules/.bin/riichi-desk
+  same 'Node: line' wanted "$command" line
+  same 'Node: line --json' json "$command" line --json
+  same 'Node: explain' explained "$command" explain
+  told 'Node: waits' 'waits 123456789m' "$("$command" waits 1112345678999m)"
+  told 'Node: rules' "$("$program" line --rules 2 < examples/rules.lines | sha256sum)" "$("$command" line --rules 2 < examples/rules.lines | sha256sum)"
+  told 'Node: a first line of rules' "$(cat examples/rules-two.answers)" "$("$command" line < examples/rules-two.lines)"
+  if has tsc; then
+    cp tests/module_types.ts "$shelf/node"
+    told 'the types for JavaScript' '' "$(cd "$shelf/node" && tsc --strict --noEmit --target es2022 --module es2022 --moduleResolution node module_types.ts 2>&1)"
+  else
+    skip 'the types for JavaScript' node-typescript
+  fi
+else
+  skip 'the package for JavaScript' 'nodejs, npm or binaryen'
+fi
+
+# one file of C
+portable=$packages/riichi_desk_portable.c
+if [ -f "$portable" ]; then
+  cc -O1 -Iinclude packaging/anywhere/riichi_desk.c "$portable" -lm -o "$shelf/portable"
+  same 'one file of C: line' wanted "$shelf/portable" line
+  same 'one file of C: line --json' json "$shelf/portable" line --json
+  same 'one file of C: explain' explained "$shelf/portable" explain
+  told 'one file of C: waits' 'waits 123456789m' "$("$shelf/portable" waits 1112345678999m)"
+  told 'one file of C: rules' "$("$program" line --rules 2 < examples/rules.lines | sha256sum)" "$("$shelf/portable" line --rules 2 < examples/rules.lines | sha256sum)"
+  told 'one file of C: a first line of rules' "$(cat examples/rules-two.answers)" "$("$shelf/portable" line < examples/rules-two.lines)"
+else
+  skip 'one file of C' wabt
+fi
+
+# other systems
+if [ -f "$packages/riichi_desk-linux-arm64" ] && has qemu-aarch64-static; then
+  same 'ARM64: line' few-wanted qemu-aarch64-static "$packages/riichi_desk-linux-arm64" line
+else
+  skip 'ARM64' qemu-user-static
+fi
+if [ -f "$packages/riichi_desk-windows-x86_64.exe" ] && has wine; then
+    by_wine() { WINEDEBUG=-all WINEPREFIX=$shelf/wine wine "$packages/riichi_desk-windows-x86_64.exe" "$@"; }
+  by_wine --version > /dev/null 2>&1
+  same 'Windows: line' wanted by_wine line
+  same 'Windows: line --json' json by_wine line --json
+  same 'Windows: explain' explained by_wine explain
+else
+  skip 'Windows' wine64
+fi
+[ -z "$all" ] || source tests/packages-all.sh
