@@ -223,16 +223,6 @@ while IFS='|' read -r _ code line said; do
   told "the word at fault of $line" "$(printf '%b' "${said/'{}'/$words}")" "$(tail -n +2 <<< "$got")"
 done < <(sed 's/^/|/' tests/refused.lines)
 
-# lines as beginners type them: each gets the line of its hint, and those lines are answered when they are copied
-: > "$room/hints"
-while IFS= read -r typed; do
-  [ "${typed:0:1}" = '#' ] && continue
-  IFS= read -r hint
-  told "the hint of $typed" "  try: ${hint#=> }" "$("$program" explain "$typed" | grep '^  try: ')"
-  "$program" explain "$typed" | sed -n 's/^  try: //p' >> "$room/hints"
-done < tests/beginners.lines
-told 'hints that are copied' "$(grep -c '^=> ' tests/beginners.lines) lines, status 0" "$("$program" line < "$room/hints" | grep -c .) lines, status $("$program" line < "$room/hints" > /dev/null; echo $?)"
-
 # someone types: the answer to a line comes before the next line is sent
 coproc desk { "$program" line; }
 to_desk=${desk[1]} from_desk=${desk[0]} typist=$desk_PID

@@ -59,7 +59,7 @@ pub use ready::is_ready;
 pub use replay::replay_text;
 pub use report::DeskReport;
 pub use riichi_hand::Rules;
-pub use riichi_shape::KeptRows;
+pub use riichi_shape::SuitMemo;
 pub use sheet::Sheet;
 pub use sheet_texts::{texts_of, write_texts};
 pub use text::{desk_text, desk_text_with};

@@ -11,7 +11,7 @@ use super::fault::DeskFault;
 use super::report::DeskReport;
 use desk_script::Script;
 use desk_streams::{Sink, Source};
-use riichi_shape::KeptRows;
+use riichi_shape::SuitMemo;
 use std::alloc::Global;
 
 /// Answers the commands of a script that a reader gives, one line for each, over a desk of 64 tables. Records are
@@ -63,5 +63,5 @@ pub fn replay_text<R: Source, W: Sink>(
         Ok(script) => script,
         Err(_) => return Err(DeskFault::Memory),
     };
-    answer_lines(&mut script, &mut KeptRows::new(alloc), reader, writer)
+    answer_lines(&mut script, &mut SuitMemo::new(alloc), reader, writer)
 }

@@ -10,7 +10,7 @@ use super::report::DeskReport;
 use super::responding::respond_text;
 use desk_streams::{Sink, Source};
 use riichi_hand::Rules;
-use riichi_shape::{KeptRows, RowSource};
+use riichi_shape::{RowSource, SuitMemo};
 
 /// Answers the record lines that a reader gives, one line for each, under the profile that the first line sets, or
 /// else the given one. It reads and writes in large pieces; the answers to all lines that have ended are written
@@ -45,7 +45,7 @@ pub fn desk_text<R: Source, W: Sink>(
     ensures told_as_read { (IsErrOf result DeskFault.Read → ⊥) → R.failures reader.new ≡ R.failures reader.old }
     ensures reads { IsReadWithin ⟦<R as Source>⟧ reader.old reader.new }
 {
-    desk_text_with(&mut KeptRows::in_value(), rules, reader, writer)
+    desk_text_with(&mut SuitMemo::in_value(), rules, reader, writer)
 }
 
 /// The same, where shapes are answered by the rows of a source: the answers are the same, whichever it is.

@@ -5,5 +5,4 @@ pub mod TextLemmas
 pub mod FormLemmas
 pub mod PlainTexts
 pub mod RefusalLines
-pub mod HintLines
 pub mod ExplainedLines

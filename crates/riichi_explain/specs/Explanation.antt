@@ -1,5 +1,5 @@
 -- The lines that follow an answer and say why it is what it is.
-use Rattle.std.specs.Prelude.{◌≡◌, ℕ, List, [], ◌++◌, Option, None, Some, Result, Ok, Err, take}
+use Rattle.std.specs.Prelude.{◌≡◌, ℕ, List, [], Option, None, Some, Result, Ok, Err, take}
 use Rattle.std.specs.List.{flat_map}
 use Rattle.riichi_hand.specs.declared.win.WinParts.{WinParts}
 use Rattle.riichi_hand.specs.declared.win.Rules.{Rules}
@@ -14,7 +14,6 @@ use Rattle.riichi_shape.specs.declared.forms.FormDistances.{FormDistances}
 use Rattle.riichi_explain.specs.declared.win.WinExplanation.{WinExplanation}
 use Rattle.riichi_explain.specs.declared.win.WinExplanation.TheVariants.{Won, NoYaku, NoWin}
 use Rattle.riichi_faults.specs.Refusal.{refusal_lines}
-use Rattle.riichi_hints.specs.Hints.{IsHint}
 use Rattle.riichi_explain.specs.Forms.{AreFormDistances, shanten_line}
 use Rattle.riichi_explain.specs.Text.{won_hand_text, no_yaku_line}
 use Rattle.riichi_waits.specs.Waits.{kind_waits, waits_line}
@@ -47,17 +46,11 @@ IsJobText (job.Win win) text = IsWinText win text
 IsJobText (job.Waits hand) text = text ≡ waits_line (kind_waits hand)
 IsJobText (job.Shape shape) text = IsShapeText shape text
 
--- The text says why a line is refused. It may end with a line that is answered in its place.
-pub record IsRefusalText (line : List ℕ) (fault : LineFault) (text : List ℕ) : Type 0 where
-  pub hint : List ℕ
-  pub is_hint : IsHint line hint
-  pub text_is : text ≡ refusal_lines line fault ++ hint
-
 -- The text says why a line with this outcome is answered as it is.
 abbrev pub IsOutcomeText : List ℕ → Result (Option Job) LineFault → List ℕ → Type 0
 IsOutcomeText line (Ok None) text = text ≡ []
 IsOutcomeText line (Ok (Some job)) text = IsJobText job text
-IsOutcomeText line (Err fault) text = IsRefusalText line fault text
+IsOutcomeText line (Err fault) text = text ≡ refusal_lines line fault
 
 -- The text says why a line is answered as it is.
 unfoldable pub IsExplanation : Rules → List ℕ → List ℕ → Type 0

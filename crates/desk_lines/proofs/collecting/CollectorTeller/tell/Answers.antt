@@ -4,7 +4,7 @@ use Rattle.desk_lines.proofs.OutcomeLemmas.{Collects-line}
 use Rattle.desk_lines.proofs.collecting.CollectorTeller.tell.Goals as goal
 
 pub returns-clause-told : goal.returns-clause-told
-returns-clause-told c =
+returns-clause-told g c =
     let took = c.in_ok-take_line.ensures in record {
       answer = None;
       kind_is = refl;
