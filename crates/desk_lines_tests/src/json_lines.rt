@@ -29,7 +29,7 @@ fn an_object_for_each_record(rt: HostRuntime) {
         let mut reader = BytesIn::new(TEXT, most, None);
         let mut writer: BytesOut<1024> = BytesOut::new(most, None);
         let report = json_text_with(
-            &mut KeptRows::in_value(),
+            &mut SuitMemo::in_value(),
             Rules::One,
             &mut reader,
             &mut writer,
@@ -54,7 +54,7 @@ fn many_long_objects(rt: HostRuntime) -> Result<(), Fail> {
     holds(
         &rt,
         json_text_with(
-            &mut KeptRows::in_value(),
+            &mut SuitMemo::in_value(),
             Rules::One,
             &mut reader,
             &mut once,
@@ -72,7 +72,7 @@ fn many_long_objects(rt: HostRuntime) -> Result<(), Fail> {
     holds(
         &rt,
         json_text_with(
-            &mut KeptRows::in_value(),
+            &mut SuitMemo::in_value(),
             Rules::One,
             &mut reader,
             &mut writer,
@@ -94,7 +94,7 @@ fn stops_at_each_failing_read(rt: HostRuntime) {
             &rt,
             &failing,
             json_text_with(
-                &mut KeptRows::in_value(),
+                &mut SuitMemo::in_value(),
                 Rules::One,
                 &mut reader,
                 &mut writer,
@@ -120,7 +120,7 @@ fn stops_at_each_failing_write(rt: HostRuntime) {
             &rt,
             &failing,
             json_text_with(
-                &mut KeptRows::in_value(),
+                &mut SuitMemo::in_value(),
                 Rules::One,
                 &mut reader,
                 &mut writer,

@@ -466,7 +466,7 @@ shanten 0 accepts 2p:4 5p:4 live 8
     let mut reader = BytesIn::new(text, 7, None);
     let mut writer: BytesOut<2048> = BytesOut::new(1000, None);
     let report = explain_text_with(
-        &mut KeptRows::in_value(),
+        &mut SuitMemo::in_value(),
         Rules::One,
         &mut reader,
         &mut writer,

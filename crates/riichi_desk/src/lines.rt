@@ -3,7 +3,7 @@ use crate::failure::Failure;
 use crate::files::open_file;
 use crate::noted::Notes;
 use desk_lines::{
-    DeskFault, DeskReport, KeptRows, Rules, desk_text_with, explain_text_with, json_text_with,
+    DeskFault, DeskReport, Rules, SuitMemo, desk_text_with, explain_text_with, json_text_with,
 };
 use desk_streams::{BytesIn, FromReader, Sink, Source, ToWriter};
 use desk_words::{Form, Lines};
@@ -19,7 +19,7 @@ const INPUT: &str = "-";
 struct Answering<W> {
     form: Form,
     rules: Rules,
-    rows: KeptRows,
+    rows: SuitMemo,
     writer: W,
 }
 
@@ -34,7 +34,7 @@ pub fn answer_lines<'a, R: Input + Print + Eprint + Files + AllocGlobal>(
     let mut answering = Answering {
         form,
         rules,
-        rows: KeptRows::new(rt.alloc()),
+        rows: SuitMemo::new(rt.alloc()),
         writer: ToWriter::new(notes.output(rt)),
     };
     match lines {

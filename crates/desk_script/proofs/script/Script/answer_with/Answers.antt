@@ -6,7 +6,7 @@ use Rattle.desk_script.proofs.Scripts.{Tells-line}
 use Rattle.desk_script.proofs.script.Script.answer_with.Goals as goal
 
 pub returns-in-Told-clause-told : goal.returns-in-Told-clause-told
-returns-in-Told-clause-told c =
+returns-in-Told-clause-told g c =
     let old : ScriptState = record { names = c.self.inside.names; lanes = c.self.inside.core } in
     let new : ScriptState = record { names = c.ask.new.names; lanes = c.self.inside.core } in
     record {
@@ -19,7 +19,7 @@ returns-in-Told-clause-told c =
     }
 
 pub returns-in-Event-clause-told : goal.returns-in-Event-clause-told
-returns-in-Event-clause-told c =
+returns-in-Event-clause-told g c =
     let old : ScriptState = record { names = c.self.inside.names; lanes = c.self.inside.core } in
     let new : ScriptState = record { names = c.ask.new.names; lanes = c.step.new.self } in
     record {

@@ -15,31 +15,31 @@ const FEW_PLACES: usize = 1_024;
 
 /// Rows that are kept in memory, or where no memory can be had in the value itself. So a program always has a source.
 #[derive(Drop)]
-pub enum KeptRows {
+pub enum SuitMemo {
     InMemory(RowMemo),
     InValue(FrameMemo<FEW_PLACES>),
 }
 
-impl KeptRows {
+impl SuitMemo {
     /// No row is kept yet.
-    pub fn new(alloc: Global) -> KeptRows {
+    pub fn new(alloc: Global) -> SuitMemo {
         match RowMemo::new(alloc, PLACES) {
-            Ok(memo) => KeptRows::InMemory(memo),
-            Err(_) => KeptRows::in_value(),
+            Ok(memo) => SuitMemo::InMemory(memo),
+            Err(_) => SuitMemo::in_value(),
         }
     }
 
     /// The same without memory.
-    pub fn in_value() -> KeptRows {
-        KeptRows::InValue(FrameMemo::new())
+    pub fn in_value() -> SuitMemo {
+        SuitMemo::InValue(FrameMemo::new())
     }
 }
 
-impl RowSource for KeptRows {
+impl RowSource for SuitMemo {
     fn row(&mut self, counts: &[u8; 9], caps: &[u8; 9], runs: bool) -> SuitRow {
         match self {
-            KeptRows::InMemory(memo) => memo.row(counts, caps, runs),
-            KeptRows::InValue(memo) => memo.row(counts, caps, runs),
+            SuitMemo::InMemory(memo) => memo.row(counts, caps, runs),
+            SuitMemo::InValue(memo) => memo.row(counts, caps, runs),
         }
     }
 }
