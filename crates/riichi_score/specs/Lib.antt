@@ -7,3 +7,4 @@ pub mod Best
 pub mod Text
 pub mod Worths
 pub mod Read
+pub mod Equality

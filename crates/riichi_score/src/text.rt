@@ -8,6 +8,15 @@ use arrayvec::ArrayString;
 use riichi_text::push_number;
 use riichi_yaku::push_words;
 
+/// The text of an answer, without the line's end.
+pub fn win_text(answer: &WinAnswer) -> ArrayString<3072>
+    ensures { result.bytes ≡ spec.text_of answer.now }
+{
+    let mut text = ArrayString::new();
+    push_win(&mut text, answer);
+    text
+}
+
 /// Writes the answer behind a text, without the line's end. A text that is kept need not be made anew for each answer.
 #[tactic(auto, unfolding(crate::specs::Text::text_of))]
 pub fn push_win(text: &mut ArrayString<3072>, answer: &WinAnswer)

@@ -17,6 +17,7 @@
 mod acceptance;
 mod accepts;
 mod answering;
+mod decided;
 mod discard;
 mod discard_list;
 mod discard_order;

@@ -41,6 +41,7 @@ mod winning;
 
 pub use reading::Reading;
 pub use readings::Readings;
+pub use riichi_tiles::Block;
 pub use sets::Sets;
 pub use waiting::{waits, waits_text};
 pub use winning::is_win;

@@ -10,6 +10,7 @@
 //! ```
 #![tactic(auto)]
 
+mod decided;
 mod waits;
 mod waits_text;
 

@@ -40,7 +40,12 @@ pub struct KindWait {
     pub sorts: WaitSorts,
 }
 
+/// What fills the places of a list that no wait has taken.
 impl Default for KindWait {
+    ghost use Rattle.riichi_waits.specs.Waits.{no_sorts};
+
+    ghost is_default = { λ row. row ≡ record { kind = 0; left = 0; sorts = no_sorts } };
+
     fn default() -> Self {
         KindWait {
             kind: Kind::at(0),

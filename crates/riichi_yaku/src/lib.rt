@@ -8,6 +8,7 @@
 #![tactic(auto)]
 
 mod conditions;
+mod decided;
 mod honours;
 mod luck;
 mod outside;
