@@ -29,7 +29,7 @@ fi
 debs=$shelf/debs
 if has debootstrap lintian && [ -n "$(ls releases/*.deb 2> /dev/null)" ]; then
   mkdir "$debs" && cp releases/*.deb "$debs"
-  told 'lintian' '' "$(lintian --no-tag-display-limit "$debs"/*.deb 2>&1)"
+  told 'lintian' '' "$(lintian --tag-display-limit 0 "$debs"/*.deb 2> /dev/null)"
   base=$shelf/root
   debootstrap --variant=minbase --include=python3,gcc,libc6-dev,pkg-config bookworm "$base" > "$room/said" 2>&1
   cp "$debs"/*.deb "$wheel" examples/python/answer.py "$base/root"
@@ -54,7 +54,7 @@ if [ -f "$archive_of" ]; then
     awk -v word="$1" '/^```/ { if (within && index(text, word)) printf "%s", text; within = !within; text = ""; next } within { text = text $0 "\n" }' "$unpacked/README.md"
   }
   for word in 'pip install' 'npm install' riichi_desk_portable.c; do
-    told "the README: $word" "$("$program" explain < examples/club-night.lines)" "$(cd "$unpacked" && bash -ec "$(printed "$word")" 2> "$room/said" | grep -v '^added ')"
+    told "the README: $word" "$("$program" explain < examples/club-night.lines)" "$(cd "$unpacked" && bash -ec "$(printed "$word")" 2> "$room/said" | grep -v '^added \|^found \|^$')"
   done
 else
   skip "the release's README" "$archive_of"

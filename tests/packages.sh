@@ -1,6 +1,6 @@
 # Rows of packaging/: each package is installed where a user would, and answers 20,000 mixed lines by the bytes of `line`. ./test
 # reads this after tests/programs.sh, and tests/packages alone; they give `program`, `archive`, an empty folder `room`, the folder
-# `packages` where packaging/build-packages has built, and `all`, which says whether rows that take minutes are tried too.
+# `packages` where packaging/build-packages builds or has built, and `all`, which says whether rows that take minutes are tried too.
 
 shelf=$room/shelf
 mkdir -p "$shelf"
@@ -21,6 +21,14 @@ same() {
 }
 # has COMMAND..: whether all are here
 has() { for command in "$@"; do command -v "$command" > /dev/null || return 1; done; }
+
+if [ ! -d "$packages" ]; then
+  packaging/build-packages "$program" "$archive" "$packages" > "$shelf/said" 2>&1
+  built=$?
+  # (127: a tool isn't here)
+  [ $built = 127 ] || told 'the packages are built' 0 $built
+  tail -n 20 "$shelf/said"
+fi
 
 # the shared library
 packaging/library/install-library "$archive" include/riichi_desk.h "$version" "$shelf/local"

@@ -1,6 +1,6 @@
 """Answers the lines of standard input, each under the first profile, and with the word `explain` says why:
 
-    pip install packages/riichi_desk-*.whl
+    pip install packages/riichi_desk-*_x86_64.whl
     python3 examples/python/answer.py < FILE
     python3 examples/python/answer.py explain < FILE
 """

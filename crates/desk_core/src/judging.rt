@@ -4,7 +4,7 @@ ghost use Rattle.desk_core.specs.Value.{value_of};
 use crate::answer::Answer;
 use riichi_hand::Job;
 use riichi_score::best;
-use riichi_shape::{RowCache, shape, shape_with};
+use riichi_shape::{RowSource, shape, shape_with};
 use riichi_split::waits;
 
 /// The value of a job: the best score of a win, the waits of a hand, or the shanten and the
@@ -20,15 +20,14 @@ pub fn judge(job: &Job) -> Answer
     }
 }
 
-/// The same, where a shape of thirteen tiles is answered by the rows of a cache, which keeps those
-/// that it makes; those of fourteen tiles are made anew.
+/// The same, where a shape is answered by the rows of a source: it is the same value, whatever the source.
 #[tactic(auto, unfolding(crate::specs::Value::value_of))]
-pub fn judge_with(cache: &mut RowCache, job: &Job) -> Answer
+pub fn judge_with<R: RowSource>(source: &mut R, job: &Job) -> Answer
     ensures value { result ≡ value_of job.now }
-    ensures stays { cache.new ≡ cache.old }
+    ensures stays { source.new ≡ source.old }
 {
     match job {
-        Job::Shape(tiles) => Answer::Shape(shape_with(cache, tiles)),
+        Job::Shape(tiles) => Answer::Shape(shape_with(source, tiles)),
         _ => judge(job),
     }
 }

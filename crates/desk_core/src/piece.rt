@@ -4,7 +4,7 @@ use crate::answer::Answer;
 use crate::judging::{judge, judge_with};
 use crate::ticket::Ticket;
 use riichi_hand::Job;
-use riichi_shape::RowCache;
+use riichi_shape::RowSource;
 use std::marker::Model;
 
 /// A ticket with a job and its answer, which by this type is the job's value.
@@ -31,7 +31,7 @@ impl Piece {
     ghost use Rattle.desk_core.specs.Value.{value_of};
 
     /// A job with its value.
-    fn answered(ticket: Ticket, job: Job, answer: Answer) -> Piece
+    pub fn answered(ticket: Ticket, job: Job, answer: Answer) -> Piece
         requires { answer ≡ value_of job }
         ensures ticket { result.ticket ≡ ticket }
         ensures job { result.job ≡ job }
@@ -52,14 +52,13 @@ impl Piece {
         Piece::answered(ticket, job, answer)
     }
 
-    /// Judges the job, a shape of thirteen tiles by the rows of a cache, which keeps those that it
-    /// makes.
-    pub fn score_with(cache: &mut RowCache, ticket: Ticket, job: Job) -> Piece
+    /// Judges the job, a shape by the rows of a source.
+    pub fn score_with<R: RowSource>(source: &mut R, ticket: Ticket, job: Job) -> Piece
         ensures ticket { result.ticket ≡ ticket }
         ensures job { result.job ≡ job }
-        ensures stays { cache.new ≡ cache.old }
+        ensures stays { source.new ≡ source.old }
     {
-        let answer = judge_with(cache, &job);
+        let answer = judge_with(source, &job);
         Piece::answered(ticket, job, answer)
     }
 

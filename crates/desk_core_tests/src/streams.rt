@@ -126,3 +126,30 @@ fn calls_once_and_passes_on_a_failure(rt: HostRuntime) -> Result<(), Fail> {
     same(&rt, writer.write(&buffer)?, 3);
     Ok(())
 }
+
+/// Gives a byte, then finds the end once, and then goes on, as a terminal does behind an end that was typed.
+#[derive(Drop)]
+struct Terminal {
+    calls: u8,
+}
+
+impl Read for Terminal {
+    fn read(&mut self, buffer: &mut [u8]) -> io::Result<usize> {
+        self.calls = self.calls.saturating_add(1);
+        if self.calls == 2 || buffer.is_empty() {
+            return Ok(0);
+        }
+        buffer[0] = b'x';
+        Ok(1)
+    }
+}
+
+#[test]
+fn one_end_is_enough(rt: HostRuntime) -> Result<(), Fail> {
+    let mut reader = FromReader::new(Terminal { calls: 0 });
+    let mut buffer = [0; 8];
+    for given in [1, 0, 1] {
+        same(&rt, reader.read(&mut buffer)?, given);
+    }
+    Ok(())
+}

@@ -74,7 +74,7 @@ told_as Answers alike given rules line next answer (inr long) is =
     subst (λ (r : Option Rules). IsToldUnder Answers r next answer) kept (alike_under Answers alike (record_rules given rules line) line next answer long.0 long.1 is)
 
 -- one more line was answered as its records are
-pub TellsRecords-line : {A P : Type 0} (Answers : AnswerKind) → AreAlike Answers → (old new : Records A P) (line next : List ℕ) (answer : Option (List ℕ)) (lines told : List (List ℕ)) → IsToldAs 4096 line next → TellsRecords Answers old lines told
+pub TellsRecords-line : {A : Type 0} (Answers : AnswerKind) → AreAlike Answers → (old new : Records A) (line next : List ℕ) (answer : Option (List ℕ)) (lines told : List (List ℕ)) → IsToldAs 4096 line next → TellsRecords Answers old lines told
     → new.given ≡ old.given → new.rules ≡ Some (rules_by old.given old.rules line) → IsToldBy Answers old.given old.rules line answer → TellsRecords Answers new (lines ++ next ∷ []) (told ++ answers_in answer)
 TellsRecords-line Answers alike old new line next answer lines told as_this tells given rules is =
     let before = rules_after old.given lines in

@@ -78,7 +78,7 @@ outcome_long given None line long = rw (long_profile line long) (ap (λ o. o ∷
 outcome_long given (Some rules) line long = ap (λ o. o ∷ []) (long_outcome rules line long)
 
 -- one more line, or one that has its answer, was taken
-pub Collects-line : {P : Type 0} (old new : Collector P) (line next : List ℕ) (lines : List (List ℕ)) → IsToldAs 4096 line next → Collects lines old → new.given ≡ old.given → new.number ≡ old.number
+pub Collects-line : (old new : Collector) (line next : List ℕ) (lines : List (List ℕ)) → IsToldAs 4096 line next → Collects lines old → new.given ≡ old.given → new.number ≡ old.number
     → new.rules ≡ Some (rules_by old.given old.rules line) → told_on new.sheets ≡ told_on old.sheets ++ texts_in (outcome_by old.given old.rules line)
     → new.report.answered ≡ old.report.answered + length (flat_map jobs_in (outcome_by old.given old.rules line))
     → new.report.refused ≡ old.report.refused + length (flat_map refusals_in (outcome_by old.given old.rules line))

@@ -1,47 +1,63 @@
 -- The answers to a stream once one more line of it is answered.
-use Rattle.std.proofs.Common.{◌≡◌, ℕ, List, [], ◌∷◌, ◌++◌, sym, subst, ◌∙◌, ap, append_assoc}
+use Rattle.std.proofs.Common.{◌≡◌, ℕ, List, [], ◌∷◌, ◌++◌, refl, sym, subst, ◌∙◌, ap, append_assoc}
 use Rattle.std.proofs.lemmas.List.{append-nil}
 use Rattle.desk_streams.specs.declared.sink.Sink.{Ghosts as OfSink}
-use Rattle.desk_lines.specs.declared.teller.Teller.{Ghosts as OfTeller}
 use Rattle.desk_lines.specs.declared.told.Told.{Told}
-use Rattle.desk_lines.specs.declared.line_kind.LineKind.{LineKind}
+use Rattle.desk_lines.specs.declared.teller.Teller.{Ghosts as OfTeller}
 use Rattle.desk_lines.specs.declared.fault.DeskFault.{DeskFault}
 use Rattle.desk_lines.specs.declared.fault.DeskFault.TheVariants.{Write, Memory}
-use Rattle.desk_lines.specs.Telling.{text_of, with_line_feed, report_by, report_with, answers_in, AnswersLine, IsToldAs}
+use Rattle.desk_lines.specs.declared.line_kind.LineKind.{LineKind}
+use Rattle.desk_lines.specs.Told.{Stands, Stops, WantsNext, StopsTelling}
 use Rattle.desk_lines.specs.Streams.{WritesAll, StopsWriting}
-use Rattle.desk_lines.specs.Told.{Stands, Stops, StopsTelling}
+use Rattle.desk_lines.specs.Telling.{text_of, with_line_feed, report_by, report_with, answers_in, AnswersLine, IsToldAs}
 use Rattle.desk_lines.proofs.TellingLemmas.{text_of-more, report_by-more}
-use Rattle.desk_lines.proofs.StreamLemmas.{WritesAll-trans, StopsWriting-after}
+use Rattle.desk_lines.proofs.StreamLemmas.{WritesAll-nil, WritesAll-trans, StopsWriting-after}
 
-module _ {W T : Type 0} (sink : OfSink W) (teller : OfTeller T) where
+module _ {W A : Type 0} (sink : OfSink W) (teller : OfTeller A) (start : W) (first : A) where
+  -- before the first line
+  pub Stands-new : (new : Told) → teller.tells first first [] [] → new.report ≡ report_by teller.refuses [] → new.outbox.bytes.items ≡ [] → Stands sink teller start first [] first new start
+  Stands-new new tells report none = record { answers = []; tells = tells; report = report; sent = []; writes = WritesAll-nil sink start; text = none }
+
   -- a line was answered
-  pub Stands-line : (start : W) (lines : List (List ℕ)) (old new : Told T) (writer : W) (line next : List ℕ) (kind : LineKind) → IsToldAs teller.most line next → Stands sink teller start lines old writer
-      → AnswersLine teller.refuses teller.most teller.tells old.teller new.teller line kind old.outbox.bytes.items new.outbox.bytes.items → new.report ≡ report_with old.report kind
-      → Stands sink teller start (lines ++ next ∷ []) new writer
-  Stands-line start lines old new writer line next kind as_this stands answered counted = record {
+  pub Stands-line : (lines : List (List ℕ)) (old new : A) (before after : Told) (writer : W) (line next : List ℕ) (kind : LineKind) → IsToldAs teller.most line next → Stands sink teller start first lines old before writer
+      → AnswersLine teller.refuses teller.most teller.tells old new line kind before.outbox.bytes.items after.outbox.bytes.items → after.report ≡ report_with before.report kind
+      → Stands sink teller start first (lines ++ next ∷ []) new after writer
+  Stands-line lines old new before after writer line next kind as_this stands answered counted = record {
     answers = stands.answers ++ answers_in answered.answer;
-    tells = answered.tells_more lines stands.answers next as_this stands.tells;
+    tells = answered.tells_more first lines stands.answers next as_this stands.tells;
     report = counted ∙ ap (λ report. report_with report kind) stands.report ∙ ap (report_with (report_by teller.refuses stands.answers)) answered.kind_is ∙ sym (report_by-more teller.refuses stands.answers answered.answer);
     sent = stands.sent;
     writes = stands.writes;
-    text = ap (λ all. stands.sent ++ all) answered.put ∙ sym (append_assoc stands.sent old.outbox.bytes.items (with_line_feed answered.answer))
+    text = ap (λ all. stands.sent ++ all) answered.put ∙ sym (append_assoc stands.sent before.outbox.bytes.items (with_line_feed answered.answer))
         ∙ ap (λ all. all ++ with_line_feed answered.answer) stands.text ∙ sym (text_of-more stands.answers answered.answer);
   }
 
+  -- all that stood in the outbox was written
+  pub Stands-flushed : (lines : List (List ℕ)) (now : A) (before after : Told) (writer written : W) → Stands sink teller start first lines now before writer
+      → WritesAll sink writer written before.outbox.bytes.items → after.report ≡ before.report → after.outbox.bytes.items ≡ [] → Stands sink teller start first lines now after written
+  Stands-flushed lines now before after writer written stands writes report empty = record {
+    answers = stands.answers;
+    tells = stands.tells;
+    report = report ∙ stands.report;
+    sent = stands.sent ++ before.outbox.bytes.items;
+    writes = WritesAll-trans sink start writer written stands.sent before.outbox.bytes.items stands.writes writes;
+    text = ap (λ rest. (stands.sent ++ before.outbox.bytes.items) ++ rest) empty ∙ append-nil (stands.sent ++ before.outbox.bytes.items) ∙ stands.text;
+  }
+
   -- all was written
-  pub Stands-written : (start : W) (lines : List (List ℕ)) (told : Told T) (writer : W) (stands : Stands sink teller start lines told writer) → told.outbox.bytes.items ≡ []
+  pub Stands-written : (lines : List (List ℕ)) (now : A) (answered : Told) (writer : W) (stands : Stands sink teller start first lines now answered writer) → answered.outbox.bytes.items ≡ []
       → WritesAll sink start writer (text_of stands.answers)
-  Stands-written start lines told writer stands empty =
+  Stands-written lines now answered writer stands empty =
       subst (λ (all : List ℕ). WritesAll sink start writer all) (sym (ap (λ rest. stands.sent ++ rest) empty ∙ append-nil stands.sent) ∙ stands.text) stands.writes
 
-  -- all lines were answered, and the writing of the last answers stopped
-  given_up : (start after : W) (lines : List (List ℕ)) (told : Told T) (writer : W) (fault : DeskFault) (stands : Stands sink teller start lines told writer) → Stops sink start after fault (text_of stands.answers)
-      → (fault ≡ Memory → (line : List ℕ) × teller.wants_memory told.teller line) → StopsTelling sink teller start after fault lines
-  given_up start after lines told writer fault stands stops wanted = record {
+  -- these lines were answered and others were not, and the writing of the last answers stopped
+  given_up : (after : W) (lines others : List (List ℕ)) (now : A) (answered : Told) (writer : W) (fault : DeskFault) (stands : Stands sink teller start first lines now answered writer) → Stops sink start after fault (text_of stands.answers)
+      → (fault ≡ Memory → WantsNext teller now others) → StopsTelling sink teller start after first fault (lines ++ others)
+  given_up after lines others now answered writer fault stands stops wanted = record {
     first = lines;
-    others = [];
-    parts = sym (append-nil lines);
-    last = told.teller;
+    others = others;
+    parts = refl;
+    last = now;
     answers = stands.answers;
     tells = stands.tells;
     stops = stops;
@@ -49,22 +65,22 @@ module _ {W T : Type 0} (sink : OfSink W) (teller : OfTeller T) where
   }
 
   -- the outbox could not be written
-  pub Stands-stops : (start : W) (lines : List (List ℕ)) (old : Told T) (writer after : W) → Stands sink teller start lines old writer
-      → StopsWriting sink writer after old.outbox.bytes.items → StopsTelling sink teller start after Write lines
-  Stands-stops start lines old writer after stands stops =
-      given_up start after lines old writer Write stands (subst (λ (all : List ℕ). StopsWriting sink start after all) stands.text
+  pub Stands-stops : (lines others : List (List ℕ)) (now : A) (old : Told) (writer after : W) → Stands sink teller start first lines now old writer
+      → StopsWriting sink writer after old.outbox.bytes.items → StopsTelling sink teller start after first Write (lines ++ others)
+  Stands-stops lines others now old writer after stands stops =
+      given_up after lines others now old writer Write stands (subst (λ (all : List ℕ). StopsWriting sink start after all) stands.text
       (StopsWriting-after sink start writer after stands.sent old.outbox.bytes.items stands.writes stops)) (λ is. cc)
 
   -- memory was wanted, and the outbox was written
-  pub Stands-no_memory : (start : W) (lines : List (List ℕ)) (old : Told T) (writer after : W) → Stands sink teller start lines old writer
-      → WritesAll sink writer after old.outbox.bytes.items → (line : List ℕ) → teller.wants_memory old.teller line → StopsTelling sink teller start after Memory lines
-  Stands-no_memory start lines old writer after stands writes line wants =
-      given_up start after lines old writer Memory stands (subst (λ (all : List ℕ). WritesAll sink start after all) stands.text
-      (WritesAll-trans sink start writer after stands.sent old.outbox.bytes.items stands.writes writes)) (λ is. (line, wants))
+  pub Stands-no_memory : (lines : List (List ℕ)) (now : A) (old : Told) (writer after : W) (line next : List ℕ) → IsToldAs teller.most line next → Stands sink teller start first lines now old writer
+      → WritesAll sink writer after old.outbox.bytes.items → teller.wants_memory now line → StopsTelling sink teller start after first Memory (lines ++ next ∷ [])
+  Stands-no_memory lines now old writer after line next as_this stands writes wants =
+      given_up after lines (next ∷ []) now old writer Memory stands (subst (λ (all : List ℕ). WritesAll sink start after all) stands.text
+      (WritesAll-trans sink start writer after stands.sent old.outbox.bytes.items stands.writes writes)) (λ is. (line, next, [], refl, as_this, wants))
 
   -- more lines follow those that were given up
-  pub StopsTelling-lines : (start new : W) (fault : DeskFault) (lines more : List (List ℕ)) → StopsTelling sink teller start new fault lines → StopsTelling sink teller start new fault (lines ++ more)
-  StopsTelling-lines start new fault lines more stops = record {
+  pub StopsTelling-more : (after : W) (fault : DeskFault) (lines more : List (List ℕ)) → StopsTelling sink teller start after first fault lines → StopsTelling sink teller start after first fault (lines ++ more)
+  StopsTelling-more after fault lines more stops = record {
     first = stops.first;
     others = stops.others ++ more;
     parts = ap (λ all. all ++ more) stops.parts ∙ append_assoc stops.first stops.others more;
@@ -72,5 +88,7 @@ module _ {W T : Type 0} (sink : OfSink W) (teller : OfTeller T) where
     answers = stops.answers;
     tells = stops.tells;
     stops = stops.stops;
-    wanted = stops.wanted;
+    wanted = λ is.
+        let next = stops.wanted is in
+        (next.0, next.1, next.2 ++ more, ap (λ all. all ++ more) next.3, next.4, next.5);
   }

@@ -21,12 +21,12 @@ IsCollected source old new rules number collected =
     × (collected.report.answered ≡ length (jobs_of rules (lines text)))
 
 -- The collector has taken these lines.
-pub record Collects {P : Type 0} (lines : List (List ℕ)) (collector : Collector P) : Type 0 where
+pub record Collects (lines : List (List ℕ)) (collector : Collector) : Type 0 where
   pub rules : collector.rules ≡ rules_after collector.given lines
   pub told : told_on collector.sheets ≡ table_line collector.number ++ answers_to collector.given lines
   pub answered : collector.report.answered ≡ length (jobs_of collector.given lines)
   pub refused : collector.report.refused ≡ length (refusals_of collector.given lines)
 
--- it has, and gave no answer yet
-abbrev pub CollectsUntold : {P : Type 0} → Collector P → List (List ℕ) → List (List ℕ) → Type 0
-CollectsUntold collector lines told = Collects lines collector × (told ≡ [])
+-- it has, from the first state on, and gave no answer yet
+abbrev pub CollectsUntold : Collector → Collector → List (List ℕ) → List (List ℕ) → Type 0
+CollectsUntold first now lines told = (now.given ≡ first.given) × (now.number ≡ first.number) × Collects lines now × (told ≡ [])

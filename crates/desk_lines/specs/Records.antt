@@ -43,6 +43,6 @@ abbrev pub AnswerRecords : AnswerKind → Rules → List (List ℕ) → List (Li
 AnswerRecords Answers given lines told = AreTold Answers (rules_of given lines) (record_lines lines) told
 
 -- the lines were read, and their records answered
-abbrev pub TellsRecords : {A P : Type 0} → AnswerKind → Records A P → List (List ℕ) → List (List ℕ) → Type 0
+abbrev pub TellsRecords : {A : Type 0} → AnswerKind → Records A → List (List ℕ) → List (List ℕ) → Type 0
 TellsRecords Answers records lines told =
     (records.rules ≡ rules_after records.given lines) × AnswerRecords Answers records.given lines told

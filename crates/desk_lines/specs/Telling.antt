@@ -56,8 +56,8 @@ abbrev pub IsToldAs : ℕ → List ℕ → List ℕ → Type 0
 IsToldAs most line other = (line ≡ other) ⊎ ((most < length line) × (most < length other))
 
 -- The next line was answered so, and any that may have its answer: the answer was put behind the text that stood there.
-pub record AnswersLine {T : Type 0} (refuses : List ℕ → Bool) (most : ℕ) (tells : T → List (List ℕ) → List (List ℕ) → Type 0) (old new : T) (line : List ℕ) (kind : LineKind) (before after : List ℕ) : Type 0 where
+pub record AnswersLine {T : Type 0} (refuses : List ℕ → Bool) (most : ℕ) (tells : T → T → List (List ℕ) → List (List ℕ) → Type 0) (old new : T) (line : List ℕ) (kind : LineKind) (before after : List ℕ) : Type 0 where
   pub answer : Option (List ℕ)
   pub kind_is : kind ≡ kind_by refuses answer
   pub put : after ≡ before ++ with_line_feed answer
-  pub tells_more : (lines told : List (List ℕ)) (next : List ℕ) → IsToldAs most line next → tells old lines told → tells new (lines ++ next ∷ []) (told ++ answers_in answer)
+  pub tells_more : (first : T) (lines told : List (List ℕ)) (next : List ℕ) → IsToldAs most line next → tells first old lines told → tells first new (lines ++ next ∷ []) (told ++ answers_in answer)

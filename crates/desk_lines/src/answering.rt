@@ -16,7 +16,7 @@ use super::outbox::Outbox;
 use super::responder::Responder;
 use riichi_hand::{HandRecord, Job, Rules, ShapeRecord, WinRecord, fault_text, read_line};
 use riichi_score::{best, push_win};
-use riichi_shape::shape;
+use riichi_shape::{RowSource, shape_with};
 use riichi_shape_text::push_shape;
 use riichi_split::{waits, waits_text};
 
@@ -34,14 +34,24 @@ impl Responder for Plain {
 
     ghost alike = { answers_alike };
 
-    fn respond(rules: Rules, line: &[u8], outbox: &mut Outbox) -> LineKind {
-        put_answer(rules, line, outbox)
+    fn respond<S: RowSource>(
+        rules: Rules,
+        line: &[u8],
+        outbox: &mut Outbox,
+        source: &mut S,
+    ) -> LineKind {
+        put_answer(rules, line, outbox, source)
     }
 }
 
 /// Puts the answer to a line into the outbox, where it has one.
 #[tactic(auto, using(crate::proofs::KindLemmas::kinds), unfolding(crate::specs::LineAnswer::answer_of))]
-fn put_answer(rules: Rules, line: &[u8], outbox: &mut Outbox) -> LineKind
+fn put_answer<S: RowSource>(
+    rules: Rules,
+    line: &[u8],
+    outbox: &mut Outbox,
+    source: &mut S,
+) -> LineKind
     requires { HasRoom outbox.old }
     ensures kind { result ≡ kind_of (answer_of rules line.now) }
     ensures told { outbox.new.bytes.items
@@ -50,7 +60,7 @@ fn put_answer(rules: Rules, line: &[u8], outbox: &mut Outbox) -> LineKind
     match read_line(rules, line) {
         Ok(None) => LineKind::NoRecord,
         Ok(Some(job)) => {
-            put_job(&job, outbox);
+            put_job(&job, outbox, source);
             LineKind::Answered
         }
         Err(fault) => {
@@ -62,7 +72,7 @@ fn put_answer(rules: Rules, line: &[u8], outbox: &mut Outbox) -> LineKind
 
 /// Puts the answer to a job into the outbox. Each sort by itself: the room of the longest text costs time for the others.
 #[tactic(auto, using(crate::proofs::JobTexts::job_texts))]
-fn put_job(job: &Job, outbox: &mut Outbox)
+fn put_job<S: RowSource>(job: &Job, outbox: &mut Outbox, source: &mut S)
     requires { HasRoom outbox.old }
     ensures { outbox.new.bytes.items
         ≡ outbox.old.bytes.items ++ (answer_text (value_of job.now) ++ 10 ∷ []) }
@@ -70,7 +80,7 @@ fn put_job(job: &Job, outbox: &mut Outbox)
     match job {
         Job::Win(win) => put_win(win, outbox),
         Job::Waits(hand) => put_waits(hand, outbox),
-        Job::Shape(tiles) => put_shape(tiles, outbox),
+        Job::Shape(tiles) => put_shape(tiles, outbox, source),
     }
 }
 
@@ -94,13 +104,13 @@ pub(crate) fn put_waits(hand: &HandRecord, outbox: &mut Outbox)
     outbox.put_line(waits_text(waits(hand)).as_str().as_bytes());
 }
 
-pub(crate) fn put_shape(tiles: &ShapeRecord, outbox: &mut Outbox)
+pub(crate) fn put_shape<S: RowSource>(tiles: &ShapeRecord, outbox: &mut Outbox, source: &mut S)
     requires { HasRoom outbox.old }
     ensures room { length outbox.new.bytes.items ≤ length outbox.old.bytes.items + 3073 }
     ensures told { outbox.new.bytes.items
         ≡ outbox.old.bytes.items ++ (spec_shape.text_of (shape_of tiles.now) ++ 10 ∷ []) }
 {
     outbox.text.clear();
-    push_shape(&mut outbox.text, &shape(tiles));
+    push_shape(&mut outbox.text, &shape_with(source, tiles));
     outbox.put_text();
 }

@@ -1,30 +1,27 @@
 //! Collects what the lines of a table ask.
-ghost use Rattle.std.specs.Prelude.{◌≡◌, ◌+◌, ℕ, length, [], ◌∷◌, ◌++◌, Some, OnOk, IfOk, IsErrOf};
+ghost use Rattle.std.specs.Prelude.{◌≡◌, ◌+◌, ℕ, length, [], ◌∷◌, ◌++◌, Some, Err, OnOk, IfOk, IsErrOf};
 ghost use Rattle.std.specs.List.{flat_map};
 ghost use Rattle.riichi_hand.specs.Lines.{outcome_of};
-ghost use Rattle.riichi_hand.specs.declared.win.Rules.{Rules};
-ghost use Rattle.riichi_hand.specs.declared.win.Rules.TheVariants.{One};
+ghost use Rattle.desk_lines.specs.declared.fault.DeskFault.{DeskFault};
 ghost use Rattle.desk_lines.specs.Collector.{IsCollected};
 ghost use Rattle.desk_lines.specs.Outcomes.{jobs_in, outcome_by, refusals_in, texts_in};
 ghost use Rattle.desk_lines.specs.Profile.{rules_by};
 ghost use Rattle.desk_lines.specs.Sheets.{sheets_told, told_on};
 ghost use Rattle.desk_lines.specs.Streams.{FailsOrGoesOn, IsReadWithin};
 
-use super::desk::Desk;
+use super::answer_lines::answer_lines;
 use super::fault::DeskFault;
 use super::line_kind::LineKind;
 use super::outbox::Outbox;
 use super::profile::record_rules;
-use super::reading::tell_lines;
 use super::report::DeskReport;
-use super::responding::RECORD_ROOM;
 use super::sheet::Sheet;
 use super::sheets::Sheets;
 use super::teller::Teller;
 use desk_streams::{BytesOut, Source};
 use riichi_hand::{Rules, read_line};
+use riichi_shape::{FreshRows, RowSource};
 use std::alloc::{AllocError, Global};
-use std::marker::{Brand, PhantomData};
 
 /// What the text of a table asks.
 #[derive(Drop)]
@@ -33,19 +30,6 @@ pub struct Collected {
     pub sheets: Vec<Sheet>,
     /// How many of the answer lines begin with `refused`, and how many don't.
     pub report: DeskReport,
-}
-
-/// A type that stands for a table: the profile of a text that sets none, and the number of the table.
-pub(crate) trait GivenTable {
-    ghost given: { Rules };
-
-    ghost number: { ℕ };
-}
-
-impl GivenTable for Brand {
-    ghost given = { One };
-
-    ghost number = { 0 };
 }
 
 /// Reads a reader to its end and collects what its lines ask: their jobs, and the faults of those that are
@@ -64,42 +48,33 @@ pub fn collect_text<R: Source>(
     ensures read_failed { IsErrOf result DeskFault.Read
         → FailsOrGoesOn ⟦<R as Source>⟧ reader.old reader.new }
     ensures no_write { IsErrOf result DeskFault.Write → ⊥ }
+    // A failed read is told as such, whatever comes after it. So what is said of a failed read is so before each read.
+    ensures told_as_read { (IsErrOf result DeskFault.Read → ⊥) → R.failures reader.new ≡ R.failures reader.old }
     ensures reads { IsReadWithin ⟦<R as Source>⟧ reader.old reader.new }
 {
-    collect_given::<Brand, R>(alloc, rules, number, reader)
-}
-
-/// The same, where `P` stands for the table.
-fn collect_given<P: GivenTable, R: Source>(
-    alloc: Global,
-    rules: Rules,
-    number: usize,
-    reader: &mut R,
-) -> Result<Collected, DeskFault>
-    requires { (rules ≡ P.given) × (number ≡ P.number) }
-    ensures ok { IfOk result (IsCollected ⟦<R as Source>⟧ reader.old reader.new rules number) }
-
-    ensures read_failed { IsErrOf result DeskFault.Read
-        → FailsOrGoesOn ⟦<R as Source>⟧ reader.old reader.new }
-    ensures no_write { IsErrOf result DeskFault.Write → ⊥ }
-    ensures reads { IsReadWithin ⟦<R as Source>⟧ reader.old reader.new }
-{
-    let mut nowhere: BytesOut<0> = BytesOut::new(1, None);
-    let Ok(collector) = Collector::<P>::new(alloc, rules, number) else {
+    let Ok(mut collector) = Collector::new(alloc, rules, number) else {
         return Err(DeskFault::Memory);
     };
-    let desk: Desk<Collector<P>, RECORD_ROOM> = Desk::new(collector);
-    let told = tell_lines(desk, reader, &mut nowhere)?;
-    match told.into_teller().collected() {
+    let mut nowhere: BytesOut<0> = BytesOut::new(1, None);
+    answer_lines(&mut collector, &mut FreshRows, reader, &mut nowhere)?;
+    all_collected(collector)
+}
+
+fn all_collected(collector: Collector) -> Result<Collected, DeskFault>
+    ensures collected { IfOk result (λ collected.
+        (sheets_told collected.sheets.items ≡ told_on collector.sheets)
+        × (collected.report ≡ collector.report)) }
+    ensures memory { (fault : DeskFault) → result ≡ Err fault → fault ≡ DeskFault.Memory }
+{
+    match collector.collected() {
         Ok(collected) => Ok(collected),
         Err(_) => Err(DeskFault::Memory),
     }
 }
 
-/// What the lines of a table asked so far. `P` stands for the table.
+/// What the lines of a table asked so far.
 #[derive(Drop)]
-pub(crate) struct Collector<P> {
-    table: PhantomData<P>,
+pub(crate) struct Collector {
     /// The profile of a text that sets none.
     given: Rules,
     /// The number of the table.
@@ -110,21 +85,16 @@ pub(crate) struct Collector<P> {
     report: DeskReport,
 }
 
-impl<P: GivenTable> Collector<P> {
+impl Collector {
     ghost use Rattle.desk_lines.specs.Collector.{Collects};
 
-    pub(crate) fn new(
-        alloc: Global,
-        given: Rules,
-        number: usize,
-    ) -> Result<Collector<P>, AllocError>
+    pub(crate) fn new(alloc: Global, given: Rules, number: usize) -> Result<Collector, AllocError>
         ensures given { IfOk result (λ new. (new.given ≡ given) × (new.number ≡ number)) }
         ensures none { IfOk result (λ new. Collects [] new) }
     {
         let mut sheets = Sheets::new(alloc);
         sheets.add_table(number)?;
         Ok(Collector {
-            table: PhantomData,
             given,
             number,
             rules: None,
@@ -202,7 +172,7 @@ fn one_more_line(lines: u64) -> Result<u64, AllocError>
     lines.checked_add(1).ok_or(AllocError)
 }
 
-impl<P: GivenTable> Teller for Collector<P> {
+impl Teller for Collector {
     ghost use Rattle.desk_lines.specs.Collector.{CollectsUntold};
     ghost use Rattle.desk_lines.specs.Telling.{is_refusal};
 
@@ -210,12 +180,16 @@ impl<P: GivenTable> Teller for Collector<P> {
 
     ghost most = { 4096 };
 
-    ghost tells = { λ collector lines told. ((collector.given ≡ P.given) × (collector.number ≡ P.number))
-        × CollectsUntold collector lines told };
+    ghost tells = { CollectsUntold };
 
     ghost wants_memory = { λ _ _. Unit {0} };
 
-    fn tell(&mut self, line: &[u8], _outbox: &mut Outbox) -> Result<LineKind, AllocError> {
+    fn tell<S: RowSource>(
+        &mut self,
+        line: &[u8],
+        _outbox: &mut Outbox,
+        _source: &mut S,
+    ) -> Result<LineKind, AllocError> {
         self.take_line(line)?;
         Ok(LineKind::NoRecord)
     }

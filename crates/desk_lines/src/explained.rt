@@ -1,9 +1,10 @@
 //! The answer to one line, and why it is so.
-ghost use Rattle.std.specs.Prelude.{◌≡◌, ℕ, List, ◌∷◌, ◌++◌, []};
+ghost use Rattle.std.specs.Prelude.{◌≡◌, ℕ, List, ◌∷◌, ◌++◌, [], option_map};
 ghost use Rattle.desk_core.specs.AnswerText.{answer_text};
 ghost use Rattle.desk_core.specs.Value.{value_of};
 ghost use Rattle.riichi_explain.specs.Explanation.{IsJobText, IsWinText, IsShapeText};
 ghost use Rattle.riichi_hand.specs.FaultTexts.{fault_text};
+ghost use Rattle.riichi_hand.specs.Places.{fault_from};
 ghost use Rattle.riichi_faults.specs.Refusal.{refusal_lines};
 ghost use Rattle.riichi_score.specs.Best.{best_of};
 ghost use Rattle.riichi_score.specs.Text as spec_win;
@@ -20,9 +21,10 @@ use super::responder::Responder;
 use riichi_explain::{explain_shape, explain_win, push_shanten_line, push_win_lines};
 use riichi_faults::push_refusal_lines;
 use riichi_hand::{
-    HandRecord, Job, LineFault, Rules, ShapeRecord, WinRecord, fault_text, read_line,
+    HandRecord, Job, Refusal, Rules, ShapeRecord, WinRecord, fault_text, read_placed,
 };
 use riichi_score::push_win;
+use riichi_shape::RowSource;
 use riichi_waits::{explain_waits, push_waits_line};
 
 /// The explained answers: that of a line, and behind it lines that begin with two spaces and say why it is so.
@@ -39,15 +41,20 @@ impl Responder for Explained {
 
     ghost alike = { explanations_alike };
 
-    fn respond(rules: Rules, line: &[u8], outbox: &mut Outbox) -> LineKind {
-        match read_line(rules, line) {
+    fn respond<S: RowSource>(
+        rules: Rules,
+        line: &[u8],
+        outbox: &mut Outbox,
+        source: &mut S,
+    ) -> LineKind {
+        match read_placed(rules, line) {
             Ok(None) => LineKind::NoRecord,
             Ok(Some(job)) => {
-                put_job(&job, outbox);
+                put_job(&job, outbox, source);
                 LineKind::Answered
             }
-            Err(fault) => {
-                put_refusal(line, &fault, outbox);
+            Err(refusal) => {
+                put_refusal(line, &refusal, outbox);
                 LineKind::Refused
             }
         }
@@ -55,7 +62,7 @@ impl Responder for Explained {
 }
 
 /// Puts the answer to a job into the outbox, and why it is so.
-fn put_job(job: &Job, outbox: &mut Outbox)
+fn put_job<S: RowSource>(job: &Job, outbox: &mut Outbox, source: &mut S)
     requires { HasRoom outbox.old }
     ensures { (why : List ℕ) × IsJobText job.now why
         × (outbox.new.bytes.items ≡ outbox.old.bytes.items ++ ((answer_text (value_of job.now) ++ 10 ∷ []) ++ why)) }
@@ -63,7 +70,7 @@ fn put_job(job: &Job, outbox: &mut Outbox)
     match job {
         Job::Win(win) => put_win(win, outbox),
         Job::Waits(hand) => put_kinds(hand, outbox),
-        Job::Shape(tiles) => put_forms(tiles, outbox),
+        Job::Shape(tiles) => put_forms(tiles, outbox, source),
     }
 }
 
@@ -92,24 +99,25 @@ fn put_kinds(hand: &HandRecord, outbox: &mut Outbox)
     outbox.put_lines();
 }
 
-fn put_forms(tiles: &ShapeRecord, outbox: &mut Outbox)
+fn put_forms<S: RowSource>(tiles: &ShapeRecord, outbox: &mut Outbox, source: &mut S)
     requires { HasRoom outbox.old }
     ensures { (why : List ℕ) × IsShapeText tiles.now why
         × (outbox.new.bytes.items ≡ outbox.old.bytes.items ++ ((spec_shape.text_of (shape_of tiles.now) ++ 10 ∷ []) ++ why)) }
 {
-    put_shape(tiles, outbox);
+    put_shape(tiles, outbox, source);
     outbox.text.clear();
     push_shanten_line(&mut outbox.text, &explain_shape(tiles));
     outbox.put_lines();
 }
 
-fn put_refusal(line: &[u8], fault: &LineFault, outbox: &mut Outbox)
-    requires { HasRoom outbox.old }
+fn put_refusal(line: &[u8], refusal: &Refusal<'_>, outbox: &mut Outbox)
+    requires room { HasRoom outbox.old }
+    requires from { option_map (λ from. from.now) refusal.now.from ≡ fault_from refusal.now.fault line.now }
     ensures { outbox.new.bytes.items ≡ outbox.old.bytes.items
-        ++ ((fault_text fault.now ++ 10 ∷ []) ++ refusal_lines line.now fault.now) }
+        ++ ((fault_text refusal.now.fault ++ 10 ∷ []) ++ refusal_lines line.now refusal.now.fault) }
 {
-    outbox.put_line(fault_text(fault).as_str().as_bytes());
+    outbox.put_line(fault_text(&refusal.fault).as_str().as_bytes());
     outbox.text.clear();
-    push_refusal_lines(&mut outbox.text, line, fault);
+    push_refusal_lines(&mut outbox.text, line, refusal);
     outbox.put_lines();
 }

@@ -13,12 +13,13 @@ use super::report::DeskReport;
 use super::responding::respond_text;
 use desk_streams::{Sink, Source};
 use riichi_hand::Rules;
-use std::marker::Brand;
+use riichi_shape::RowSource;
 
 /// Answers the record lines that a reader gives as `desk_text` does, and writes behind each answer lines that begin
 /// with two spaces and say why it is so. Without these lines the text is that of `desk_text`. It takes no memory, and
 /// has no limit on the number of lines.
-pub fn explain_text<R: Source, W: Sink>(
+pub fn explain_text_with<S: RowSource, R: Source, W: Sink>(
+    source: &mut S,
     rules: Rules,
     reader: &mut R,
     writer: &mut W,
@@ -50,7 +51,9 @@ pub fn explain_text<R: Source, W: Sink>(
         × StopsWriting ⟦<W as Sink>⟧ writer.old writer.new (text_of told) }
 
     ensures no_memory { IsErrOf result DeskFault.Memory → ⊥ }
+    // A failed read is told as such, whatever comes after it. So what is said of a failed read is so before each read.
+    ensures told_as_read { (IsErrOf result DeskFault.Read → ⊥) → R.failures reader.new ≡ R.failures reader.old }
     ensures reads { IsReadWithin ⟦<R as Source>⟧ reader.old reader.new }
 {
-    respond_text::<Explained, Brand, R, W>(rules, reader, writer)
+    respond_text::<Explained, S, R, W>(source, rules, reader, writer)
 }

@@ -11,11 +11,12 @@ use super::report::DeskReport;
 use super::responding::respond_text;
 use desk_streams::{Sink, Source};
 use riichi_hand::Rules;
-use std::marker::Brand;
+use riichi_shape::RowSource;
 
 /// Answers the record lines that a reader gives as `desk_text` does, but each by one object of JSON, those that are
 /// refused too. It takes no memory, and has no limit on the number of lines.
-pub fn json_text<R: Source, W: Sink>(
+pub fn json_text_with<S: RowSource, R: Source, W: Sink>(
+    source: &mut S,
     rules: Rules,
     reader: &mut R,
     writer: &mut W,
@@ -41,7 +42,9 @@ pub fn json_text<R: Source, W: Sink>(
         × StopsWriting ⟦<W as Sink>⟧ writer.old writer.new (json_to rules whole) }
 
     ensures no_memory { IsErrOf result DeskFault.Memory → ⊥ }
+    // A failed read is told as such, whatever comes after it. So what is said of a failed read is so before each read.
+    ensures told_as_read { (IsErrOf result DeskFault.Read → ⊥) → R.failures reader.new ≡ R.failures reader.old }
     ensures reads { IsReadWithin ⟦<R as Source>⟧ reader.old reader.new }
 {
-    respond_text::<Objects, Brand, R, W>(rules, reader, writer)
+    respond_text::<Objects, S, R, W>(source, rules, reader, writer)
 }

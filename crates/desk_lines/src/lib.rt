@@ -2,31 +2,32 @@
 //!
 //! [`desk_text`] answers the record lines that a `desk_streams::Source` gives, one line for each, and
 //! writes the answers into a `desk_streams::Sink`. It returns a [`DeskReport`] of how many were answered
-//! and how many refused, or the [`DeskFault`] for which it gave up. [`json_text`] answers the same lines by objects of
-//! JSON, [`explain_text`] with the reasons. [`replay_text`] does so with the commands of a
+//! and how many refused, or the [`DeskFault`] for which it gave up. [`json_text_with`] answers the same lines by objects of
+//! JSON, [`explain_text_with`] with the reasons. [`replay_text`] does so with the commands of a
 //! script, over a desk of 64 tables. [`collect_text`] takes a text apart into [`Sheet`]s of answer lines that are
 //! not made yet, [`texts_of`] makes them once their jobs have answers, and [`write_texts`] writes them.
 //! `waits_answer` answers one hand, as the command `waits` prints it.
 //! `is_ready` says whether a hand is ready, and [`laws`] that its shanten and its waits agree on that.
 //!
-//! Inside, `tell_lines` reads a stream to its end. `Desk` cuts the bytes into lines and keeps the front of
-//! one that has not ended in a `LineBuffer`; a `Teller` answers line by line; `Told` counts the answers, and
-//! its `Outbox` keeps them until they are written in one piece. `Records` is the teller of record lines,
-//! under the profile that the first line may set; a `desk_script::Script` is that of a script.
+//! Inside, `answer_lines` reads a stream to its end and has its lines answered by a `Teller` that it is lent. `Told` cuts
+//! the text at hand into lines, has them answered one by one and counts the answers; its `Outbox` keeps these until they
+//! are written in one piece. Of a line that has not ended the front is kept in a `LineBuffer`. `Records` is the
+//! teller of record lines, under the profile that the first line may set; a `desk_script::Script` is that of a script.
 //!
 //! ```text
 //! let mut reader = FromReader::new(rt.reader());
 //! let mut writer = ToWriter::new(io::writer(&rt));
-//! let report = desk_text(&mut reader, &mut writer)?;
+//! let report = desk_text(Rules::One, &mut reader, &mut writer)?;
 //! ```
 #![tactic(auto)]
 
+mod answer_lines;
 mod answering;
 mod collecting;
-mod desk;
 mod explained;
 mod explaining;
 mod fault;
+mod first_line;
 mod json_lines;
 pub mod laws;
 mod line_buffer;
@@ -34,7 +35,6 @@ mod line_kind;
 mod objects;
 mod outbox;
 mod profile;
-mod reading;
 mod ready;
 mod records;
 mod replay;
@@ -52,15 +52,16 @@ mod unmade_line;
 mod waits;
 
 pub use collecting::{Collected, collect_text};
-pub use explaining::explain_text;
+pub use explaining::explain_text_with;
 pub use fault::DeskFault;
-pub use json_lines::json_text;
+pub use json_lines::json_text_with;
 pub use ready::is_ready;
 pub use replay::replay_text;
 pub use report::DeskReport;
 pub use riichi_hand::Rules;
+pub use riichi_shape::SuitMemo;
 pub use sheet::Sheet;
 pub use sheet_texts::{texts_of, write_texts};
-pub use text::desk_text;
+pub use text::{desk_text, desk_text_with};
 pub use unmade_line::UnmadeLine;
 pub use waits::{WaitsLine, waits_answer};

@@ -9,9 +9,10 @@ ghost use Rattle.desk_lines.specs.Telling.{kind_by, with_line_feed};
 use super::line_kind::LineKind;
 use super::outbox::Outbox;
 use super::responder::Responder;
-use desk_core::judge;
+use desk_core::judge_with;
 use desk_json::{push_answer, push_fault};
 use riichi_hand::{Job, LineFault, Rules, read_line};
+use riichi_shape::RowSource;
 
 /// The answers as JSON: an object on a line for each record.
 pub(crate) struct Objects;
@@ -26,14 +27,24 @@ impl Responder for Objects {
 
     ghost alike = { json_alike };
 
-    fn respond(rules: Rules, line: &[u8], outbox: &mut Outbox) -> LineKind {
-        put_json(rules, line, outbox)
+    fn respond<S: RowSource>(
+        rules: Rules,
+        line: &[u8],
+        outbox: &mut Outbox,
+        source: &mut S,
+    ) -> LineKind {
+        put_json(rules, line, outbox, source)
     }
 }
 
 /// Puts the answer to a line into the outbox, where it has one.
 #[tactic(auto, using(crate::proofs::JsonLemmas::kinds), unfolding(crate::specs::JsonLine::json_of))]
-fn put_json(rules: Rules, line: &[u8], outbox: &mut Outbox) -> LineKind
+fn put_json<S: RowSource>(
+    rules: Rules,
+    line: &[u8],
+    outbox: &mut Outbox,
+    source: &mut S,
+) -> LineKind
     requires { HasRoom outbox.old }
     ensures kind { result ≡ kind_by is_refusal (json_of rules line.now) }
     ensures told { outbox.new.bytes.items ≡
@@ -42,7 +53,7 @@ fn put_json(rules: Rules, line: &[u8], outbox: &mut Outbox) -> LineKind
     match read_line(rules, line) {
         Ok(None) => LineKind::NoRecord,
         Ok(Some(job)) => {
-            put_job(&job, outbox);
+            put_job(&job, outbox, source);
             LineKind::Answered
         }
         Err(fault) => {
@@ -52,13 +63,13 @@ fn put_json(rules: Rules, line: &[u8], outbox: &mut Outbox) -> LineKind
     }
 }
 
-fn put_job(job: &Job, outbox: &mut Outbox)
+fn put_job<S: RowSource>(job: &Job, outbox: &mut Outbox, source: &mut S)
     requires { HasRoom outbox.old }
     ensures { outbox.new.bytes.items ≡
         outbox.old.bytes.items ++ (spec.answer_text (value_of job.now) ++ 10 ∷ []) }
 {
     outbox.object.clear();
-    push_answer(&mut outbox.object, &judge(job));
+    push_answer(&mut outbox.object, &judge_with(source, job));
     outbox.put_object();
 }
 

@@ -1,20 +1,8 @@
 //! The rule profile that a stream's first line can set.
 ghost use Rattle.std.specs.Prelude.{◌≡◌, ◌<◌, Some};
-ghost use Rattle.riichi_hand.specs.declared.win.Rules.{Rules};
-ghost use Rattle.riichi_hand.specs.declared.win.Rules.TheVariants.{One};
 ghost use Rattle.desk_lines.specs.Profile.{profile_numbered, profile_of, rules_by, record_rules};
 
 use riichi_hand::{MOST_LINE, Rules, has_other_byte, next_word};
-use std::marker::Brand;
-
-/// A type that stands for the profile of a stream that sets none.
-pub(crate) trait GivenRules {
-    ghost given: { Rules };
-}
-
-impl GivenRules for Brand {
-    ghost given = { One };
-}
 
 /// Takes the next line of a stream, whose profile is none before its first line, and then the given one where that
 /// line sets none. Answers under which profile the line is a record; none where it sets the profile.

@@ -6,16 +6,13 @@ ghost use Rattle.desk_lines.specs.Lines.{ended_lines, lines};
 ghost use Rattle.desk_lines.specs.Telling.{text_of, report_of};
 ghost use Rattle.desk_lines.specs.Streams.{Gives, GivesAll, WritesAll, StopsWriting, AreWhole, FailsOrGoesOn, IsReadWithin};
 
-use super::desk::Desk;
+use super::answer_lines::answer_lines;
 use super::fault::DeskFault;
-use super::reading::tell_lines;
 use super::report::DeskReport;
 use desk_script::Script;
 use desk_streams::{Sink, Source};
+use riichi_shape::SuitMemo;
 use std::alloc::Global;
-
-/// A line of 8,192 bytes and its carriage return fit. One byte more shows a longer line.
-const SCRIPT_ROOM: usize = 8_194;
 
 /// Answers the commands of a script that a reader gives, one line for each, over a desk of 64 tables. Records are
 /// read under the first profile. A submission that finds no memory is answered so in its line; where a new table's name
@@ -58,13 +55,13 @@ pub fn replay_text<R: Source, W: Sink>(
         × Replays whole (first ++ others)
         × WritesAll ⟦<W as Sink>⟧ writer.old writer.new (text_of first) }
 
+    // A failed read is told as such, whatever comes after it. So what is said of a failed read is so before each read.
+    ensures told_as_read { (IsErrOf result DeskFault.Read → ⊥) → R.failures reader.new ≡ R.failures reader.old }
     ensures reads { IsReadWithin ⟦<R as Source>⟧ reader.old reader.new }
 {
-    let script = match Script::new(alloc) {
+    let mut script = match Script::new(alloc) {
         Ok(script) => script,
         Err(_) => return Err(DeskFault::Memory),
     };
-    let desk: Desk<Script, SCRIPT_ROOM> = Desk::new(script);
-    let told = tell_lines(desk, reader, writer)?;
-    Ok(told.report())
+    answer_lines(&mut script, &mut SuitMemo::new(alloc), reader, writer)
 }

@@ -8,6 +8,7 @@ ghost use Rattle.desk_lines.specs.Records.{Puts};
 use super::line_kind::LineKind;
 use super::outbox::Outbox;
 use riichi_hand::Rules;
+use riichi_shape::RowSource;
 
 /// What answers one record line: a kind of answer.
 pub(crate) trait Responder {
@@ -17,8 +18,13 @@ pub(crate) trait Responder {
     /// A text is a refusal.
     ghost refuses: { List ℕ → Bool };
 
-    /// Puts the answer to a record line into the outbox.
-    fn respond(rules: Rules, line: &[u8], outbox: &mut Outbox) -> LineKind
+    /// Puts the answer to a record line into the outbox. Shapes are answered by the rows of a source, and as by any other.
+    fn respond<S: RowSource>(
+        rules: Rules,
+        line: &[u8],
+        outbox: &mut Outbox,
+        source: &mut S,
+    ) -> LineKind
         requires { HasRoom outbox.old }
         ensures { Puts refuses
             (may_tell rules line.now) result outbox.old.bytes.items outbox.new.bytes.items };

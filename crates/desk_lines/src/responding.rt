@@ -5,28 +5,23 @@ ghost use Rattle.desk_lines.specs.Records.{AnswerRecords};
 ghost use Rattle.desk_lines.specs.Streams.{Gives, GivesAll, WritesAll, StopsWriting, AreWhole, FailsOrGoesOn, IsReadWithin};
 ghost use Rattle.desk_lines.specs.Telling.{text_of, report_by};
 
-use super::desk::Desk;
+use super::answer_lines::answer_lines;
 use super::fault::DeskFault;
-use super::profile::GivenRules;
-use super::reading::tell_lines;
 use super::records::Records;
 use super::report::DeskReport;
 use super::responder::Responder;
 use desk_streams::{Sink, Source};
 use riichi_hand::Rules;
-
-/// A record line of 4,096 bytes and its carriage return fit. One byte more shows a longer line.
-pub(crate) const RECORD_ROOM: usize = 4_098;
+use riichi_shape::RowSource;
 
 /// Answers the record lines that a reader gives by the kind of answer `A`, under the profile that the first line sets, or
-/// else the given one, for which `P` stands.
-pub(crate) fn respond_text<A: Responder, P: GivenRules, R: Source, W: Sink>(
+/// else the given one.
+pub(crate) fn respond_text<A: Responder, S: RowSource, R: Source, W: Sink>(
+    source: &mut S,
     rules: Rules,
     reader: &mut R,
     writer: &mut W,
 ) -> Result<DeskReport, DeskFault>
-    requires { rules ≡ P.given }
-
     // The reader was read to its end, and the answers to what it gave were written.
     ensures ok { IfOk result (λ report. (text : List ℕ) × (told : List (List ℕ))
         × GivesAll ⟦<R as Source>⟧ reader.old reader.new text
@@ -52,9 +47,10 @@ pub(crate) fn respond_text<A: Responder, P: GivenRules, R: Source, W: Sink>(
         × StopsWriting ⟦<W as Sink>⟧ writer.old writer.new (text_of told) }
 
     ensures no_memory { IsErrOf result DeskFault.Memory → ⊥ }
+    // A failed read is told as such, whatever comes after it. So what is said of a failed read is so before each read.
+    ensures told_as_read { (IsErrOf result DeskFault.Read → ⊥) → R.failures reader.new ≡ R.failures reader.old }
     ensures reads { IsReadWithin ⟦<R as Source>⟧ reader.old reader.new }
 {
-    let desk: Desk<Records<A, P>, RECORD_ROOM> = Desk::new(Records::new(rules));
-    let told = tell_lines(desk, reader, writer)?;
-    Ok(told.report())
+    let mut records: Records<A> = Records::new(rules);
+    answer_lines(&mut records, source, reader, writer)
 }

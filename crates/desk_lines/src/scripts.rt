@@ -7,10 +7,10 @@ use super::line_kind::LineKind;
 use super::outbox::Outbox;
 use super::teller::Teller;
 use desk_script::Script;
+use riichi_shape::RowSource;
 use std::alloc::AllocError;
 
 impl Teller for Script {
-    ghost use Rattle.desk_script.specs.Asked.{asked_by, opens};
     ghost use Rattle.desk_lines.specs.Scripts.{TellsScript};
     ghost use Rattle.desk_lines.specs.Telling.{is_refusal};
 
@@ -18,12 +18,17 @@ impl Teller for Script {
 
     ghost most = { 8192 };
 
-    ghost tells = { TellsScript };
+    ghost tells = { λ _ now lines told. TellsScript now lines told };
 
-    ghost wants_memory = { λ script line. asked_by script.names line ≡ opens script.names };
+    ghost wants_memory = { λ _ _. Unit {0} };
 
-    fn tell(&mut self, line: &[u8], outbox: &mut Outbox) -> Result<LineKind, AllocError> {
-        match self.answer(line)? {
+    fn tell<S: RowSource>(
+        &mut self,
+        line: &[u8],
+        outbox: &mut Outbox,
+        source: &mut S,
+    ) -> Result<LineKind, AllocError> {
+        match self.answer_with(source, line)? {
             None => Ok(LineKind::NoRecord),
             Some(text) => Ok(put_text(text.as_str().as_bytes(), outbox)),
         }

@@ -5,6 +5,7 @@ ghost use Rattle.desk_lines.specs.Telling.{AnswersLine};
 
 use super::line_kind::LineKind;
 use super::outbox::Outbox;
+use riichi_shape::RowSource;
 use std::alloc::AllocError;
 
 /// What answers the lines of a stream, one after another. What it keeps of a line it may need memory for.
@@ -15,15 +16,20 @@ pub(crate) trait Teller {
     /// Lines of more bytes are answered alike.
     ghost most: { ℕ };
 
-    /// It has taken these lines and given them these answers, in order.
-    ghost tells: { Self → List (List ℕ) → List (List ℕ) → Type 0 };
+    /// From the first state to the second it has taken these lines and given them these answers, in order.
+    ghost tells: { Self → Self → List (List ℕ) → List (List ℕ) → Type 0 };
 
     /// Memory may be wanted for this line.
     ghost wants_memory: { Self → List ℕ → Type 0 };
 
-    /// Takes the next line, and puts its answer into the outbox, where it has one. Where memory was wanted,
+    /// Takes the next line, and puts its answer into the outbox, where it has one; shapes are answered by the rows of a source. Where memory was wanted,
     /// no answer is given.
-    fn tell(&mut self, line: &[u8], outbox: &mut Outbox) -> Result<LineKind, AllocError>
+    fn tell<S: RowSource>(
+        &mut self,
+        line: &[u8],
+        outbox: &mut Outbox,
+        source: &mut S,
+    ) -> Result<LineKind, AllocError>
         requires { HasRoom outbox.old }
         ensures told { IfOk result
             (λ kind. AnswersLine refuses most tells self.old self.new line.now kind outbox.old.bytes.items outbox.new.bytes.items) }

@@ -10,7 +10,7 @@ use super::report::DeskReport;
 use super::responding::respond_text;
 use desk_streams::{Sink, Source};
 use riichi_hand::Rules;
-use std::marker::Brand;
+use riichi_shape::{RowSource, SuitMemo};
 
 /// Answers the record lines that a reader gives, one line for each, under the profile that the first line sets, or
 /// else the given one. It reads and writes in large pieces; the answers to all lines that have ended are written
@@ -41,7 +41,44 @@ pub fn desk_text<R: Source, W: Sink>(
         × StopsWriting ⟦<W as Sink>⟧ writer.old writer.new (answers_to rules whole) }
 
     ensures no_memory { IsErrOf result DeskFault.Memory → ⊥ }
+    // A failed read is told as such, whatever comes after it. So what is said of a failed read is so before each read.
+    ensures told_as_read { (IsErrOf result DeskFault.Read → ⊥) → R.failures reader.new ≡ R.failures reader.old }
     ensures reads { IsReadWithin ⟦<R as Source>⟧ reader.old reader.new }
 {
-    respond_text::<Plain, Brand, R, W>(rules, reader, writer)
+    desk_text_with(&mut SuitMemo::in_value(), rules, reader, writer)
+}
+
+/// The same, where shapes are answered by the rows of a source: the answers are the same, whichever it is.
+pub fn desk_text_with<S: RowSource, R: Source, W: Sink>(
+    source: &mut S,
+    rules: Rules,
+    reader: &mut R,
+    writer: &mut W,
+) -> Result<DeskReport, DeskFault>
+    // The reader was read to its end, and the answers to what it gave were written.
+    ensures ok { IfOk result (λ report. (text : List ℕ)
+        × GivesAll ⟦<R as Source>⟧ reader.old reader.new text
+        × WritesAll ⟦<W as Sink>⟧ writer.old writer.new (answers rules text)
+        × (report ≡ report_on rules (lines text))) }
+
+    // A read failed, or there were too many: the answers to the lines that had ended were written.
+    ensures read_failed { IsErrOf result DeskFault.Read
+        → FailsOrGoesOn ⟦<R as Source>⟧ reader.old reader.new
+        × ((text : List ℕ)
+        × Gives ⟦<R as Source>⟧ reader.old reader.new text
+        × WritesAll ⟦<W as Sink>⟧ writer.old writer.new (answers_to rules (ended_lines text))) }
+
+    // A write failed: a front of the answers to the whole lines that the reader gave was written.
+    ensures write_failed { IsErrOf result DeskFault.Write
+        → (text : List ℕ) × (whole : List (List ℕ))
+        × Gives ⟦<R as Source>⟧ reader.old reader.new text
+        × AreWhole (R.is_ended reader.new) text whole
+        × StopsWriting ⟦<W as Sink>⟧ writer.old writer.new (answers_to rules whole) }
+
+    ensures no_memory { IsErrOf result DeskFault.Memory → ⊥ }
+    // A failed read is told as such, whatever comes after it. So what is said of a failed read is so before each read.
+    ensures told_as_read { (IsErrOf result DeskFault.Read → ⊥) → R.failures reader.new ≡ R.failures reader.old }
+    ensures reads { IsReadWithin ⟦<R as Source>⟧ reader.old reader.new }
+{
+    respond_text::<Plain, S, R, W>(source, rules, reader, writer)
 }

@@ -1,34 +1,35 @@
 //! The answers to a stream so far.
-ghost use Rattle.std.specs.Prelude.{◌≡◌, ◌+◌, ◌<◌, ◌≤◌, ◌^◌, ℕ, List, [], ◌∷◌, ◌++◌, OnOk, OnErr, IfErr};
+ghost use Rattle.std.specs.Prelude.{◌≡◌, ◌+◌, ◌<◌, ◌≤◌, ◌^◌, ℕ, List, [], ◌∷◌, ◌++◌, length, OnOk, OnErr, IfOk, IfErr};
 ghost use Rattle.desk_lines.specs.declared.line_kind.LineKind.{LineKind};
-ghost use Rattle.desk_lines.specs.Outbox.{HasRoom};
-ghost use Rattle.desk_lines.specs.Telling.{report_of, report_with, count_of, AnswersLine, IsToldAs};
 ghost use Rattle.desk_lines.specs.Told.{Stands, StopsTelling};
+ghost use Rattle.desk_lines.specs.Lines.{cut_of, ended_lines};
+ghost use Rattle.desk_lines.specs.Outbox.{HasRoom};
+ghost use Rattle.desk_lines.specs.Reading.{AreToldAs};
+ghost use Rattle.desk_lines.specs.Streams.{Writes};
+ghost use Rattle.desk_lines.specs.Telling.{report_of, report_with, count_of, AnswersLine, IsToldAs};
 
 use super::fault::DeskFault;
+use super::first_line::first_line;
 use super::outbox::Outbox;
 use super::report::DeskReport;
 use super::teller::Teller;
 use desk_streams::Sink;
+use riichi_shape::RowSource;
 use std::alloc::AllocError;
 
-/// The answers to a stream so far: what answers its lines, a count of the answers, and those that are not
-/// written yet.
+/// The answers to a stream so far: a count of them, and those that are not written yet.
 #[derive(Drop)]
-pub(crate) struct Told<T> {
-    teller: T,
+pub(crate) struct Told {
     report: DeskReport,
     outbox: Outbox,
 }
 
-impl<T: Teller + Drop> Told<T> {
-    pub(crate) fn new(teller: T) -> Told<T>
-        ensures teller { result.teller ≡ teller }
+impl Told {
+    pub(crate) fn new() -> Told
         ensures report { result.report ≡ report_of [] }
         ensures outbox { result.outbox.bytes.items ≡ [] }
     {
         Told {
-            teller,
             report: DeskReport {
                 answered: 0,
                 refused: 0,
@@ -37,37 +38,64 @@ impl<T: Teller + Drop> Told<T> {
         }
     }
 
-    /// The teller, where all is written.
-    pub(crate) fn into_teller(self) -> T
-        ensures { result ≡ self.teller }
-    {
-        let Told { teller, .. } = self;
-        teller
-    }
-
     pub(crate) fn report(&self) -> DeskReport
         ensures { result ≡ self.now.report }
     {
         self.report
     }
 
-    /// Answers the next line, or any that has the same answer as this one. The answers that stand in the way of its own
-    /// are written first, and where memory is wanted all that were given before.
-    pub(crate) fn answer<W: Sink>(&mut self, line: &[u8], writer: &mut W) -> Result<(), DeskFault>
+    /// Answers the lines of a text that have ended, and returns what comes after them.
+    pub(crate) fn add_lines<'a, T: Teller, S: RowSource, W: Sink>(
+        &mut self,
+        text: &'a [u8],
+        teller: &mut T,
+        source: &mut S,
+        writer: &mut W,
+    ) -> Result<&'a [u8], DeskFault>
+        requires count { count_of self.old.report + length text.now < 2 ^ 64 }
+        ensures stands { OnOk result ((start : W) (first : T) (lines next : List (List ℕ))
+            → AreToldAs T.most (ended_lines text.now) next
+            → Stands ⟦<W as Sink>⟧ ⟦<T as Teller>⟧ start first lines teller.old self.old writer.old
+            → Stands ⟦<W as Sink>⟧ ⟦<T as Teller>⟧ start first (lines ++ next) teller.new self.new writer.new) }
+        ensures rest { IfOk result (λ rest. rest.now ≡ (cut_of text.now).rest) }
+        ensures stops { IfErr result (λ fault. (start : W) (first : T) (lines next : List (List ℕ))
+            → AreToldAs T.most (ended_lines text.now) next
+            → Stands ⟦<W as Sink>⟧ ⟦<T as Teller>⟧ start first lines teller.old self.old writer.old
+            → StopsTelling ⟦<W as Sink>⟧ ⟦<T as Teller>⟧ start writer.new first fault (lines ++ next)) }
+        ensures count { count_of self.new.report ≤ count_of self.old.report + length text.now }
+    {
+        let mut rest = text;
+        while let Some((line, after)) = first_line(rest) {
+            self.add(line, teller, source, writer)?;
+            rest = after;
+        }
+        Ok(rest)
+    }
+
+    /// Answers the next line. The answers that stand in the way of its own are written first, and where memory is wanted
+    /// all that were given before.
+    fn add<T: Teller, S: RowSource, W: Sink>(
+        &mut self,
+        line: &[u8],
+        teller: &mut T,
+        source: &mut S,
+        writer: &mut W,
+    ) -> Result<(), DeskFault>
         requires { count_of self.old.report + 1 < 2 ^ 64 }
-        ensures stands { OnOk result ((start : W) (lines : List (List ℕ)) (next : List ℕ)
+        ensures stands { OnOk result ((start : W) (first : T) (lines : List (List ℕ)) (next : List ℕ)
             → IsToldAs T.most line.now next
-            → Stands ⟦<W as Sink>⟧ ⟦<T as Teller>⟧ start lines self.old writer.old
-            → Stands ⟦<W as Sink>⟧ ⟦<T as Teller>⟧ start (lines ++ next ∷ []) self.new writer.new) }
-        ensures stops { IfErr result (λ fault. (start : W) (lines : List (List ℕ))
-            → Stands ⟦<W as Sink>⟧ ⟦<T as Teller>⟧ start lines self.old writer.old
-            → StopsTelling ⟦<W as Sink>⟧ ⟦<T as Teller>⟧ start writer.new fault lines) }
+            → Stands ⟦<W as Sink>⟧ ⟦<T as Teller>⟧ start first lines teller.old self.old writer.old
+            → Stands ⟦<W as Sink>⟧ ⟦<T as Teller>⟧ start first (lines ++ next ∷ []) teller.new self.new writer.new) }
+        ensures stops { IfErr result (λ fault. (start : W) (first : T) (lines : List (List ℕ)) (next : List ℕ)
+            → IsToldAs T.most line.now next
+            → Stands ⟦<W as Sink>⟧ ⟦<T as Teller>⟧ start first lines teller.old self.old writer.old
+            → StopsTelling ⟦<W as Sink>⟧ ⟦<T as Teller>⟧ start writer.new first fault (lines ++ next ∷ [])) }
         ensures count { count_of self.new.report ≤ count_of self.old.report + 1 }
     {
         if !self.outbox.has_room() {
             self.flush(writer)?;
         }
-        match self.take_line(line) {
+        match self.take(line, teller, source) {
             Ok(()) => Ok(()),
             Err(_) => {
                 self.outbox.flush(writer)?;
@@ -78,31 +106,30 @@ impl<T: Teller + Drop> Told<T> {
 
     /// Writes the answers that were not written yet.
     pub(crate) fn flush<W: Sink>(&mut self, writer: &mut W) -> Result<(), DeskFault>
-        ensures stands { OnOk result ((start : W) (lines : List (List ℕ))
-            → Stands ⟦<W as Sink>⟧ ⟦<T as Teller>⟧ start lines self.old writer.old
-            → Stands ⟦<W as Sink>⟧ ⟦<T as Teller>⟧ start lines self.new writer.new) }
-        ensures stops { IfErr result (λ fault. (start : W) (lines : List (List ℕ))
-            → Stands ⟦<W as Sink>⟧ ⟦<T as Teller>⟧ start lines self.old writer.old
-            → StopsTelling ⟦<W as Sink>⟧ ⟦<T as Teller>⟧ start writer.new fault lines) }
+        ensures writes { Writes ⟦<W as Sink>⟧ writer.old writer.new result self.old.outbox.bytes.items }
         ensures empty { OnOk result (self.new.outbox.bytes.items ≡ []) }
         ensures report { self.new.report ≡ self.old.report }
-        ensures room { OnOk result (HasRoom self.new.outbox) }
     {
         self.outbox.flush(writer)
     }
 
     /// Answers the next line, where there is room for any answer.
-    fn take_line(&mut self, line: &[u8]) -> Result<(), AllocError>
+    fn take<T: Teller, S: RowSource>(
+        &mut self,
+        line: &[u8],
+        teller: &mut T,
+        source: &mut S,
+    ) -> Result<(), AllocError>
         requires room { HasRoom self.old.outbox }
         requires count { count_of self.old.report + 1 < 2 ^ 64 }
         ensures told { OnOk result ((kind : LineKind)
-            × AnswersLine T.refuses T.most T.tells self.old.teller self.new.teller line.now kind self.old.outbox.bytes.items self.new.outbox.bytes.items
+            × AnswersLine T.refuses T.most T.tells teller.old teller.new line.now kind self.old.outbox.bytes.items self.new.outbox.bytes.items
             × (self.new.report ≡ report_with self.old.report kind)) }
         ensures err { OnErr result ((self.new.outbox.bytes.items ≡ self.old.outbox.bytes.items)
-            × T.wants_memory self.old.teller line.now) }
+            × T.wants_memory teller.old line.now) }
         ensures count { count_of self.new.report ≤ count_of self.old.report + 1 }
     {
-        let kind = self.teller.tell(line, &mut self.outbox)?;
+        let kind = teller.tell(line, &mut self.outbox, source)?;
         self.report.count(kind);
         Ok(())
     }

@@ -465,7 +465,12 @@ shanten 0 accepts 2p:4 5p:4 live 8
 ";
     let mut reader = BytesIn::new(text, 7, None);
     let mut writer: BytesOut<2048> = BytesOut::new(1000, None);
-    let report = explain_text(Rules::One, &mut reader, &mut writer);
+    let report = explain_text_with(
+        &mut SuitMemo::in_value(),
+        Rules::One,
+        &mut reader,
+        &mut writer,
+    );
     same(&rt, writer.bytes(), told.as_slice());
     holds(
         &rt,

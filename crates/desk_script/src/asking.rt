@@ -12,6 +12,7 @@ use crate::told::Told;
 use crate::words::is_blank;
 use desk_core::{Event, Piece, Ticket};
 use riichi_hand::{Job, Rules, read_line};
+use riichi_shape::RowSource;
 use std::alloc::AllocError;
 
 /// The longest line of a script.
@@ -20,7 +21,11 @@ const MOST_LINE: usize = 8_192;
 /// What a line asks, after the names that are open. The name of a table that it opens is added. Memory is wanted
 /// for a new name alone, and where there is none the names stay.
 #[tactic(auto, unfolding(crate::specs::Asked::asked_by, crate::specs::Asked::names_by))]
-pub(crate) fn ask(names: &mut Names, line: &[u8]) -> Result<Asked, AllocError>
+pub(crate) fn ask<S: RowSource>(
+    names: &mut Names,
+    line: &[u8],
+    source: &mut S,
+) -> Result<Asked, AllocError>
     ensures asked { IfOk result (λ asked. asked ≡ asked_by names.old line.now) }
     ensures names { OnOk result (names.new ≡ names_by names.old line.now) }
     ensures err { OnErr result ((names.new ≡ names.old)
@@ -34,12 +39,16 @@ pub(crate) fn ask(names: &mut Names, line: &[u8]) -> Result<Asked, AllocError>
     }
     match read_command(line) {
         None => Ok(refused(Refusal::NoCommand)),
-        Some(command) => ask_command(names, &command),
+        Some(command) => ask_command(names, &command, source),
     }
 }
 
 /// What a command asks.
-fn ask_command(names: &mut Names, command: &Command<'_>) -> Result<Asked, AllocError>
+fn ask_command<S: RowSource>(
+    names: &mut Names,
+    command: &Command<'_>,
+    source: &mut S,
+) -> Result<Asked, AllocError>
     ensures asked { IfOk result (λ asked. asked
         ≡ asked_of_command names.old (Some (said_of command.now))) }
     ensures names { OnOk result (names.new
@@ -48,7 +57,7 @@ fn ask_command(names: &mut Names, command: &Command<'_>) -> Result<Asked, AllocE
         × (asked_of_command names.old (Some (said_of command.now)) ≡ opens names.old)) }
 {
     match names.number_of(command.name) {
-        Some(table) => Ok(ask_table(table, command.action, command.job_line)),
+        Some(table) => Ok(ask_table(table, command.action, command.job_line, source)),
         None => match command.action {
             Action::Open => Ok(match names.open(command.name)? {
                 Some(number) => Asked::Told(Told::Table(number)),
@@ -60,7 +69,7 @@ fn ask_command(names: &mut Names, command: &Command<'_>) -> Result<Asked, AllocE
 }
 
 /// What a command asks of a table that is open.
-fn ask_table(table: u32, action: Action, job_line: &[u8]) -> Asked
+fn ask_table<S: RowSource>(table: u32, action: Action, job_line: &[u8], source: &mut S) -> Asked
     ensures { result ≡ asked_at table action job_line.now }
 {
     match action {
@@ -71,7 +80,7 @@ fn ask_table(table: u32, action: Action, job_line: &[u8]) -> Asked
             Err(fault) => refused(Refusal::Record(fault)),
         },
         Action::Arrive { seq } => match read_line(Rules::One, job_line) {
-            Ok(Some(job)) => Asked::Event(arrive(table, seq, &job)),
+            Ok(Some(job)) => Asked::Event(arrive(table, seq, &job, source)),
             Ok(None) => refused(Refusal::NoCommand),
             Err(fault) => refused(Refusal::Record(fault)),
         },
@@ -87,10 +96,10 @@ fn submit(table: u32, job: &Job) -> Event
     Event::Submit { table, job: *job }
 }
 
-fn arrive(table: u32, seq: u32, job: &Job) -> Event
+fn arrive<S: RowSource>(table: u32, seq: u32, job: &Job, source: &mut S) -> Event
     ensures { result ≡ Event.Arrive (piece_of table seq job.now) }
 {
-    Event::Arrive(Piece::score(Ticket { table, seq }, *job))
+    Event::Arrive(Piece::score_with(source, Ticket { table, seq }, *job))
 }
 
 fn refused(refusal: Refusal) -> Asked

@@ -11,6 +11,7 @@ use crate::text::{LONGEST, told_text};
 use crate::told::Told;
 use arrayvec::ArrayString;
 use desk_core::{CoreFault, DeskCore};
+use riichi_shape::{FreshRows, RowSource};
 use std::alloc::{AllocError, Global};
 use std::marker::Model;
 
@@ -57,7 +58,21 @@ impl Script {
         ensures err { OnErr result ((self.new ≡ self.old)
             × (asked_by self.old.names line.now ≡ opens self.old.names)) }
     {
-        match ask(&mut self.names, line)? {
+        self.answer_with(&mut FreshRows, line)
+    }
+
+    /// The same, where a shape is judged by the rows of a source.
+    pub fn answer_with<S: RowSource>(
+        &mut self,
+        source: &mut S,
+        line: &[u8],
+    ) -> Result<Option<ArrayString<LONGEST>>, AllocError>
+        ensures told { IfOk result (λ text. AnswersLine self.old self.new line.now
+            (bytes_of text)) }
+        ensures err { OnErr result ((self.new ≡ self.old)
+            × (asked_by self.old.names line.now ≡ opens self.old.names)) }
+    {
+        match ask(&mut self.names, line, source)? {
             Asked::Told(told) => Ok(told_text(&told)),
             Asked::Event(event) => {
                 let told = Told::Replied(self.core.step(event));

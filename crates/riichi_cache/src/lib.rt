@@ -10,6 +10,7 @@
 //! - `FrameMemo` is the same of `N` places in the value itself: it takes no memory.
 //! - `RowCache` keeps the rows that it was asked for last, up to its capacity. A row for which there
 //!   is no memory is not kept.
+//! - `SuitMemo` is a `RowMemo`, or a `FrameMemo` where there is no memory for that.
 //!
 //! ```text
 //! let mut memo = RowMemo::new(alloc, 16384)?;          // 16,384 places
@@ -25,8 +26,10 @@ mod place;
 mod row_cache;
 mod row_key;
 mod row_memo;
+mod suit_memo;
 
 pub use frame_memo::FrameMemo;
 pub use memory::Memory;
 pub use row_cache::RowCache;
 pub use row_memo::RowMemo;
+pub use suit_memo::SuitMemo;

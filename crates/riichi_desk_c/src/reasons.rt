@@ -1,6 +1,7 @@
 //! Why a line is answered as it is.
-ghost use Rattle.std.specs.Prelude.{◌≡◌, ◌≤◌};
+ghost use Rattle.std.specs.Prelude.{◌≡◌, ◌≤◌, option_map};
 ghost use Rattle.riichi_explain.specs.Explanation.{IsJobText};
+ghost use Rattle.riichi_hand.specs.Places.{fault_from};
 ghost use Rattle.riichi_faults.specs.Refusal.{refusal_lines};
 ghost use Rattle.riichi_desk_c.specs.Reasons.{PlacesReason};
 
@@ -9,7 +10,7 @@ use super::rules_numbered;
 use arrayvec::ArrayString;
 use riichi_explain::{explain_shape, explain_win, push_shanten_line, push_win_lines};
 use riichi_faults::push_refusal_lines;
-use riichi_hand::{Job, LineFault, read_line};
+use riichi_hand::{Job, Refusal, read_placed};
 use riichi_waits::{explain_waits, push_waits_line};
 
 /// Says why one line is answered as it is, under the profile of this number, 1 or 2: the bytes that the text takes, 0 where the
@@ -24,10 +25,10 @@ pub extern "C" fn riichi_explain(rules: u32, line: &[u8], room: &mut [u8]) -> us
     let Some(rules) = rules_numbered(rules) else {
         return place(b"refused rules", room);
     };
-    match read_line(rules, line) {
+    match read_placed(rules, line) {
         Ok(None) => place(b"", room),
         Ok(Some(job)) => place(job_lines(&job).as_str().as_bytes(), room),
-        Err(fault) => place(fault_lines(line, &fault).as_str().as_bytes(), room),
+        Err(refusal) => place(refusal_text(line, &refusal).as_str().as_bytes(), room),
     }
 }
 
@@ -43,10 +44,11 @@ fn job_lines(job: &Job) -> ArrayString<3072>
     text
 }
 
-fn fault_lines(line: &[u8], fault: &LineFault) -> ArrayString<3072>
-    ensures { result.bytes ≡ refusal_lines line.now fault.now }
+fn refusal_text(line: &[u8], refusal: &Refusal<'_>) -> ArrayString<3072>
+    requires { option_map (λ from. from.now) refusal.now.from ≡ fault_from refusal.now.fault line.now }
+    ensures { result.bytes ≡ refusal_lines line.now refusal.now.fault }
 {
     let mut text = ArrayString::new();
-    push_refusal_lines(&mut text, line, fault);
+    push_refusal_lines(&mut text, line, refusal);
     text
 }

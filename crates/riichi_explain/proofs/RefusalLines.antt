@@ -13,7 +13,8 @@ use Rattle.riichi_hand.specs.Entries.{first_of}
 use Rattle.riichi_hand.specs.Lines.{is_other_byte}
 use Rattle.riichi_hand.specs.Words.{words_of}
 use Rattle.riichi_faults.specs.Faults.{line_words, notation_words, first_word_words, keys_words, win_words, entry_words, byte_words}
-use Rattle.riichi_faults.specs.LineWords.{first_with, word_at_fault, text_word, key_of}
+use Rattle.riichi_hand.specs.Places.{from_with, key_of}
+use Rattle.riichi_faults.specs.LineWords.{word_at_fault, text_word}
 use Rattle.riichi_faults.specs.Refusal.{named_word, word_line, byte_lines, foreign_lines, missing_key, missing_line, line_lines, place_in, notation_lines, refusal_lines}
 use Rattle.riichi_faults.specs.Shown.{hex_digit, byte_text, shown, around, shown_line, mark_line, marked_lines}
 use Rattle.riichi_explain.proofs.PlainTexts.{plain, after, after3, byte-plain, flat_map-plain, replicate-plain, are_indented, pass, lines-append}
@@ -123,8 +124,8 @@ foreign_lines-lines line = elim (nat_lt 4096 (length line)) as (λ test. are_ind
 
 missing_key-plain : (line : List ℕ) → plain (missing_key line) ≡ true
 missing_key-plain line =
-    either (is_some (first_with (codes "on=") 0 line)) _ _
-    (either (is_some (first_with (codes "by=") 0 line)) _ _ (either (is_some (first_with (codes "seat=") 0 line)) _ _ refl refl) refl) refl
+    either (is_some (from_with (codes "on=") 0 line)) _ _
+    (either (is_some (from_with (codes "by=") 0 line)) _ _ (either (is_some (from_with (codes "seat=") 0 line)) _ _ refl refl) refl) refl
 
 missing_line-lines : (line : List ℕ) → are_indented (missing_line line) ≡ true
 unfolding missing_line

@@ -1,18 +1,18 @@
 use crate::facts::same;
 use arrayvec::ArrayString;
 use riichi_faults::*;
-use riichi_hand::{LineCode, LineFault, Rules, TextName, read_line};
+use riichi_hand::{LineCode, LineFault, Rules, read_placed};
 use std::process::Abort;
 use std::test::Fail;
 
 /// Each line is refused, and these lines follow.
 fn refuses(rt: &impl Abort, rows: &[(&[u8], &str)]) -> Result<(), Fail> {
     for (line, lines) in rows {
-        let Err(fault) = read_line(Rules::One, line) else {
+        let Err(refusal) = read_placed(Rules::One, line) else {
             return Err("a line without a fault")?;
         };
         let mut text = ArrayString::new();
-        push_refusal_lines(&mut text, line, &fault);
+        push_refusal_lines(&mut text, line, &refusal);
         same(rt, text.as_str(), *lines);
     }
     Ok(())
@@ -199,18 +199,6 @@ fn faults_of_the_record(rt: HostRuntime) -> Result<(), Fail> {
 
 #[test]
 fn words_by_name(rt: HostRuntime) -> Result<(), Fail> {
-    let line = b"win 1m on=2m seat=s";
-    same(
-        &rt,
-        word_at_fault(LineCode::H4, line),
-        Some(b"seat=s".as_slice()),
-    );
-    same(
-        &rt,
-        text_word(TextName::On, line),
-        Some(b"on=2m".as_slice()),
-    );
-    same(&rt, text_word(TextName::Dora, line), None);
     let words = fault_words(&LineFault::Line(LineCode::H16));
     same(&rt, words, "a red five is one of the fives");
     Ok(())

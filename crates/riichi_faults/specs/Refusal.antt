@@ -11,7 +11,8 @@ use Rattle.riichi_hand.specs.Entries.{first_of}
 use Rattle.riichi_hand.specs.Lines.{is_other_byte}
 use Rattle.riichi_hand.specs.Words.{words_of}
 use Rattle.riichi_faults.specs.Faults.{line_words, notation_words, first_word_words, entry_words, byte_words}
-use Rattle.riichi_faults.specs.LineWords.{first_with, word_at_fault, text_word, key_of}
+use Rattle.riichi_hand.specs.Places.{from_with, key_of}
+use Rattle.riichi_faults.specs.LineWords.{word_at_fault, text_word}
 use Rattle.riichi_faults.specs.Shown.{shown, marked_lines}
 
 -- the first 72 bytes of a word that is at fault
@@ -35,9 +36,9 @@ foreign_lines line = if nat_lt 4096 (length line) then word_line None (line_word
 -- the first key that a win must have and that no word gives
 abbrev pub missing_key : List ℕ → List ℕ
 missing_key line =
-    if is_some (first_with (codes "on=") 0 line)
-    then (if is_some (first_with (codes "by=") 0 line)
-    then (if is_some (first_with (codes "seat=") 0 line) then codes "round" else codes "seat")
+    if is_some (from_with (codes "on=") 0 line)
+    then (if is_some (from_with (codes "by=") 0 line)
+    then (if is_some (from_with (codes "seat=") 0 line) then codes "round" else codes "seat")
     else codes "by") else codes "on"
 
 unfoldable pub missing_line : List ℕ → List ℕ

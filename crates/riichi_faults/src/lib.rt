@@ -1,8 +1,7 @@
 //! What is wrong with a line, in words: the word of the line that is at fault, and what may stand there.
 //!
-//! [`push_refusal_lines`] writes the lines that follow a refusal. [`word_at_fault`] gives the word of a line at which a fault
-//! of the line stands, and [`text_word`] the word with a text of tiles. [`fault_words`] says what holds of every line
-//! without the fault. What is shown of a line is printable: another byte stands as `\xNN`. No call takes memory.
+//! [`push_refusal_lines`] writes the lines that follow a refusal. [`fault_words`] says what holds of every line without the fault.
+//! What is shown of a line is printable: another byte stands as `\xNN`. No call takes memory.
 //!
 //! ```text
 //! refused H4
@@ -13,11 +12,9 @@
 //! ```
 #![tactic(auto)]
 
-mod line_words;
 mod refusal;
 mod shown;
 mod words;
 
-pub use line_words::{text_word, word_at_fault};
 pub use refusal::push_refusal_lines;
 pub use words::fault_words;

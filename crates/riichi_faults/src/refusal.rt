@@ -2,14 +2,19 @@
 ghost use Rattle.std.specs.Prelude.{◌≡◌, ◌+◌, ◌≤◌, ◌<◌, ◌++◌, IfSome, length, option_map, unwrap_or};
 ghost use Rattle.std.specs.List.{position};
 ghost use Rattle.arrayvec.specs.ArrayString.{array_string_len};
+ghost use Rattle.riichi_hand.specs.Entries.{first_of};
 ghost use Rattle.riichi_hand.specs.Lines.{is_other_byte};
+ghost use Rattle.riichi_hand.specs.Places.{fault_from};
+ghost use Rattle.riichi_hand.specs.Words.{word_of, words_of};
+ghost use Rattle.riichi_faults.specs.LineWords.{word_at_fault};
 ghost use Rattle.riichi_faults.specs.Refusal as spec;
 
-use crate::line_words::{first_with, job_word, key_of, text_word, word_at_fault};
 use crate::shown::{front, push_marked, push_shown};
 use crate::words::{byte_words, entry_words, first_word_words, line_words, notation_words};
 use arrayvec::ArrayString;
-use riichi_hand::{LineCode, LineFault, MOST_LINE, is_other_byte};
+use riichi_hand::{
+    LineCode, LineFault, MOST_LINE, Refusal, from_with, is_other_byte, key_of, next_word, word_of,
+};
 
 /// How many bytes of a word are shown.
 const SHOWN: usize = 72;
@@ -17,43 +22,52 @@ const SHOWN: usize = 72;
 /// Writes the lines of a refusal: the word of the line that is at fault, and what may stand there. All that it writes is
 /// printable, and each of its lines begins with two spaces.
 #[tactic(auto, unfolding(crate::specs::Refusal::refusal_lines))]
-pub fn push_refusal_lines(text: &mut ArrayString<3072>, line: &[u8], fault: &LineFault)
-    requires { array_string_len text.old + 2930 ≤ 3072 }
-    ensures { text.new.bytes ≡ text.old.bytes ++ spec.refusal_lines line.now fault.now }
+pub fn push_refusal_lines(text: &mut ArrayString<3072>, line: &[u8], refusal: &Refusal<'_>)
+    requires room { array_string_len text.old + 2930 ≤ 3072 }
+    requires from { option_map (λ from. from.now) refusal.now.from ≡ fault_from refusal.now.fault line.now }
+    ensures { text.new.bytes ≡ text.old.bytes ++ spec.refusal_lines line.now refusal.now.fault }
 {
-    match fault {
-        LineFault::Line(code) => push_line_lines(text, *code, line),
-        LineFault::Notation(name, fault) => {
-            let word = text_word(*name, line).unwrap_or(&[]);
-            push_notation_lines(
-                text,
-                fault.place,
-                key_of(*name),
-                word,
-                notation_words(fault.code),
-            );
-        }
+    let word = word_in(refusal.from);
+    match refusal.fault {
+        LineFault::Line(code) => push_line_lines(text, code, line, word),
+        LineFault::Notation(name, fault) => push_notation_lines(
+            text,
+            fault.place,
+            key_of(name),
+            word.unwrap_or(&[]),
+            notation_words(fault.code),
+        ),
     }
 }
 
+fn word_in<'a>(from: Option<&'a [u8]>) -> Option<&'a [u8]>
+    ensures { option_map (λ word. word.now) result
+        ≡ option_map word_of (option_map (λ from. from.now) from.entry) }
+{
+    Some(word_of(from?))
+}
+
 #[tactic(auto, unfolding(crate::specs::Refusal::line_lines))]
-fn push_line_lines(text: &mut ArrayString<3072>, code: LineCode, line: &[u8])
-    requires { array_string_len text.old + 2930 ≤ 3072 }
+fn push_line_lines(text: &mut ArrayString<3072>, code: LineCode, line: &[u8], word: Option<&[u8]>)
+    requires room { array_string_len text.old + 2930 ≤ 3072 }
+    requires word { option_map (λ word. word.now) word ≡ word_at_fault code line.now }
     ensures { text.new.bytes ≡ text.old.bytes ++ spec.line_lines code line.now }
 {
     match code {
         LineCode::H1 => push_foreign_lines(text, line),
-        LineCode::H2 => {
-            let word = word_at_fault(LineCode::H2, line);
-            push_word_line(text, word, first_word_words(word));
-        }
-        LineCode::H4 => {
-            let word = word_at_fault(LineCode::H4, line);
-            push_word_line(text, word, entry_words(job_word(line), word));
-        }
+        LineCode::H2 => push_word_line(text, word, first_word_words(word)),
+        LineCode::H4 => push_word_line(text, word, entry_words(job_word(line), word)),
         LineCode::H6 => push_missing_line(text, line),
-        _ => push_word_line(text, word_at_fault(code, line), line_words(code)),
+        _ => push_word_line(text, word, line_words(code)),
     }
+}
+
+/// The first word.
+fn job_word<'a>(line: &'a [u8]) -> Option<&'a [u8]>
+    ensures { option_map (λ word. word.now) result ≡ first_of (words_of line.now) }
+{
+    let (word, _) = next_word(line)?;
+    Some(word)
 }
 
 /// Writes a word that is at fault, and what may stand there.
@@ -127,11 +141,11 @@ fn missing_key(line: &[u8]) -> &'static str
     ensures value { result.now ≡ spec.missing_key line.now }
     ensures short { length result.now ≤ 5 }
 {
-    if first_with(b"on=", 0, line).is_none() {
+    if from_with(b"on=", 0, line).is_none() {
         "on"
-    } else if first_with(b"by=", 0, line).is_none() {
+    } else if from_with(b"by=", 0, line).is_none() {
         "by"
-    } else if first_with(b"seat=", 0, line).is_none() {
+    } else if from_with(b"seat=", 0, line).is_none() {
         "seat"
     } else {
         "round"

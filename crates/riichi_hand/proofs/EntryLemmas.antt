@@ -1,5 +1,5 @@
 -- The first word of a text as an entry: the name of a key, the first `=`, the text of the value.
-use Rattle.std.proofs.Common.{◌≡◌, ℕ, ◌+◌, ◌-◌, ◌<◌, ◌≤◌, ◌⊎◌, inl, inr, List, [], ◌∷◌, ◌++◌, Bool, true, false, Option, Some, None, nat_eq, nat_le, length, take, drop, refl, sym, ◌∙◌, ap, subst, arith, append_assoc, length-append, length-drop, length-take}
+use Rattle.std.proofs.Common.{◌≡◌, ℕ, ◌+◌, ◌-◌, ◌<◌, ◌≤◌, ◌⊎◌, inl, inr, List, [], ◌∷◌, ◌++◌, Bool, true, Option, Some, None, nat_eq, nat_le, length, take, drop, refl, sym, ◌∙◌, ap, subst, arith, append_assoc, length-append, length-drop, length-take}
 use Rattle.std.specs.Prelude.{slice_index}
 use Rattle.std.specs.List.{list_all}
 use Rattle.std.specs.Str.{bytes_eq}
@@ -13,9 +13,9 @@ use Rattle.riichi_hand.specs.declared.line.job_name.JobName.{JobName}
 use Rattle.riichi_hand.specs.declared.line.key.Key.{Key}
 use Rattle.riichi_hand.specs.Values.{named}
 use Rattle.riichi_hand.specs.Keys.{key_names, key_named, has_key}
-use Rattle.riichi_hand.specs.Words.{is_word, words_of, begins_with_space}
+use Rattle.riichi_hand.specs.Words.{begins_with_space, from_words, word_of}
 use Rattle.riichi_hand.specs.Entries.{keyed_by, keyed_cut, keyed_of}
-use Rattle.riichi_hand.proofs.WordLemmas.{words_of-word}
+use Rattle.riichi_hand.proofs.WordLemmas.{is_word, from_words-word, word_of-word}
 
 -- What holds of each word of a table holds of one that is named there.
 named_each : {X : Type 0} (p : List ℕ → Bool) (rows : List (List ℕ × X)) (word : List ℕ) (x : X) → list_all (λ row. p row.0) rows ≡ true → named rows word ≡ Some x → p word ≡ true
@@ -125,37 +125,28 @@ first_of (byte ∷ bytes) =
           record { word = byte ∷ first.word; after = first.after; text_is = ap (λ t. byte ∷ t) first.text_is; unspaced = rw other first.unspaced; ends = first.ends }
     ]
 
-first_is_word : (text : List ℕ) (first : FirstWord text) → 0 < length text → begins_with_space text ≡ false → is_word first.word ≡ true
-first_is_word text first some begins = go first.word first.after first.text_is first.ends
-  where
-    go : (word after : List ℕ) → text ≡ word ++ after → (after ≡ []) ⊎ (begins_with_space after ≡ true) → is_word word ≡ true
-    go [] after is (inl none) = absurd (let e : length text ≡ 0 = ap length (is ∙ none) in omega arith)
-    go [] after is (inr space) = absurd (let e : begins_with_space text ≡ true = ap begins_with_space is ∙ space in cc)
-    go (byte ∷ bytes) after is ends = refl
-
 -- It is no entry.
-pub refused : (job : JobName) (text : List ℕ) → 0 < length text → begins_with_space text ≡ false → (BeginsAsEntry job text → ⊥)
-    → (word : List ℕ) × (words : List (List ℕ)) × (words_of text ≡ word ∷ words) × (keyed_of job word ≡ None)
-refused job text some begins never =
+pub refused : (job : JobName) (text : List ℕ) → (BeginsAsEntry job text → ⊥) → keyed_of job (word_of text) ≡ None
+refused job text never =
     let first = first_of text in
-    let Begins : List ℕ → Type 0 = λ t. BeginsAsEntry job t in (
-      first.word,
-      words_of first.after,
-      ap words_of first.text_is ∙ words_of-word first.word first.after first.unspaced (first_is_word text first some begins) first.ends,
-      not_keyed job first.word first.after (λ b. never (subst Begins (sym first.text_is) b)),
-    )
+    let Begins : List ℕ → Type 0 = λ t. BeginsAsEntry job t in
+    let same : word_of text ≡ first.word = ap word_of first.text_is ∙ word_of-word first.word first.after first.unspaced first.ends in
+    ap (keyed_of job) same ∙ not_keyed job first.word first.after (λ b. never (subst Begins (sym first.text_is) b))
 
 -- It is an entry.
 taken : (job : JobName) (text name value after : List ℕ) (key : Key) → text ≡ name ++ 61 ∷ (value ++ after) → key_named name ≡ Some key → has_key job key ≡ true
     → list_all (plain 32) value ≡ true → (after ≡ []) ⊎ (begins_with_space after ≡ true)
-    → (words_of text ≡ (name ++ 61 ∷ value) ∷ words_of after) × (keyed_of job (name ++ 61 ∷ value) ≡ Some (key, value))
+    → (keyed_of job (word_of text) ≡ Some (key, value)) × (from_words text ≡ text ∷ from_words after)
 taken job text name value after key text_is is_named has unspaced ends =
     let word : List ℕ = name ++ 61 ∷ value in
     let joined : text ≡ word ++ after = text_is ∙ sym (append_assoc name (61 ∷ value) after) in
     let all : list_all (plain 32) word ≡ true = list_all-append (plain 32) name (61 ∷ value) ∙ and_from (list_all (plain 32) name) (list_all (plain 32) (61 ∷ value)) (name_unspaced name key is_named) unspaced in
     let some : is_word word ≡ true = not_empty name in
     let cut : cut_at 61 word ≡ Some (name, value) = cut_at-front 61 61 name value refl (name_plain name key is_named) in
-    (ap words_of joined ∙ words_of-word word after all some ends, ap (keyed_cut job) cut ∙ ap (λ found. keyed_by job found value) is_named ∙ rw has refl)
+    let same : word_of text ≡ word = ap word_of joined ∙ word_of-word word after all ends in (
+      ap (keyed_of job) same ∙ ap (keyed_cut job) cut ∙ ap (λ found. keyed_by job found value) is_named ∙ rw has refl,
+      ap from_words joined ∙ from_words-word word after all some ends ∙ ap (λ t. t ∷ from_words after) (sym joined),
+    )
   where
     not_empty : (name : List ℕ) → is_word (name ++ 61 ∷ value) ≡ true
     not_empty [] = refl
@@ -165,8 +156,7 @@ taken job text name value after key text_is is_named has unspaced ends =
 pub taken_at : (job : JobName) (text : List ℕ) (len n : ℕ) (key : Key) → len < length text → slice_index text len ≡ 61 → key_named (take len text) ≡ Some key → has_key job key ≡ true
     → (rest value after : List ℕ) → rest ≡ take (length text - (len + 1)) (drop (len + 1) text) → value ≡ take n rest → after ≡ drop n rest
     → list_all (plain 32) (take n rest) ≡ true → (n < length rest → begins_with_space (drop n rest) ≡ true)
-    → (word : List ℕ) × (words : List (List ℕ)) × (words_of text ≡ word ∷ words)
-    × ((keyed_of job word ≡ Some (key, value)) × (words ≡ words_of after) × (length after < length text))
+    → (keyed_of job (word_of text) ≡ Some (key, value)) × (from_words text ≡ text ∷ from_words after) × (length after < length text)
 taken_at job text len n key within equals is_named has rest value after rest_is front back unspaced ends =
     let name : List ℕ = take len text in
     let joined : value ++ after ≡ rest = ap (λ t. t ++ after) front ∙ ap (λ t. take n rest ++ t) back ∙ take-append-drop n rest in
@@ -185,4 +175,4 @@ taken_at job text len n key within equals is_named has rest value after rest_is 
       length-drop (len + 1) text,
       within,
     ) in
-    (name ++ 61 ∷ value, words_of after, entry.0, (entry.1, refl, shorter))
+    (entry.0, entry.1, shorter)

@@ -1,5 +1,7 @@
 pub mod CopyLemmas
 pub mod WordLemmas
+pub mod PlaceLemmas
+pub mod PlaceEnds
 pub mod CutLemmas
 pub mod EntryLemmas
 pub mod FlagLemmas

@@ -1,5 +1,5 @@
 -- What the words after the hand say, key by key.
-use Rattle.std.specs.Prelude.{◌≡◌, ℕ, List, [], ◌∷◌, Bool, false, ◌||◌, not, Option, None, Some, is_some, if◌then◌else◌, length, nat_lt, option_map, unwrap_or}
+use Rattle.std.specs.Prelude.{◌≡◌, ◌⊎◌, ℕ, List, [], ◌∷◌, Bool, false, ◌||◌, not, Option, None, Some, is_some, if◌then◌else◌, length, nat_lt, option_map, unwrap_or}
 use Rattle.std.specs.List.{filter_map, list_any}
 use Rattle.riichi_tiles.specs.Melds.{cut_at}
 use Rattle.riichi_hand.specs.declared.line.job_name.JobName.{JobName}
@@ -73,9 +73,14 @@ abbrev pub is_again : {X : Type 0} → Option X → Option X → Bool
 is_again first None = false
 is_again first (Some second) = is_some first
 
+-- a mark stays, and one that is new is this one
+abbrev pub IsMarked : {X : Type 0} → Option X → X → Option X → Type 0
+IsMarked (Some old) from new = new ≡ Some old
+IsMarked None from new = (new ≡ None) ⊎ (new ≡ Some from)
+
 -- Fields hold what entries say: whether a key stands twice, and the value of each key in its place.
 pub record Holds (fields : Fields) (entries : Entries) : Type 0 where
-  pub doubled : fields.has_doubled_key ≡ entries.has_doubled_key
+  pub doubled : is_some fields.at_fault ≡ entries.has_doubled_key
   pub on : option_map (λ text. text.now) fields.on ≡ entries.value On
   pub by : fields.by ≡ entries.value By
   pub seat : fields.seat ≡ entries.value Seat

@@ -12,3 +12,4 @@ pub mod Texts
 pub mod Jobs
 pub mod Lines
 pub mod Equality
+pub mod Places

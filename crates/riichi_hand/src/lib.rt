@@ -34,7 +34,8 @@ pub use fault::{
 pub use hand::HandRecord;
 pub use job::Job;
 pub use line::{
-    MOST_LINE, has_other_byte, is_other_byte, next_word, read_line, without_spaces, word_len,
+    MOST_LINE, Place, Refusal, from_with, has_other_byte, is_other_byte, key_of, next_word,
+    read_line, read_placed, without_spaces, word_len, word_of,
 };
 pub use shape::ShapeRecord;
 pub use win::{By, Flags, Rules, WinParts, WinRecord, Wind, is_ron};

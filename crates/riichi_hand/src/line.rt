@@ -9,11 +9,13 @@ mod jobs;
 mod key;
 mod needed;
 mod open;
+mod places;
 mod record;
 mod texts;
 mod values;
 mod words;
 
 pub use bytes::{MOST_LINE, has_other_byte, is_other_byte};
-pub use cuts::{next_word, without_spaces, word_len};
-pub use record::read_line;
+pub use cuts::{next_word, without_spaces, word_len, word_of};
+pub use places::{from_with, key_of};
+pub use record::{Place, Refusal, read_line, read_placed};

@@ -16,3 +16,4 @@ pub mod Rows
 pub mod Special
 pub mod Suits
 pub mod Winning
+pub mod Equality

@@ -1,14 +1,17 @@
 //! The discards of a hand of fourteen tiles.
 ghost use Rattle.std.specs.Prelude.{ℕ, ◌≡◌, ◌≤◌, length, map, slice_get, slice_index};
+ghost use Rattle.std.specs.Cmp.{decided, partial_equiv_from_equiv};
+ghost use Rattle.riichi_shape.specs.Equality.{discards_decide, discards_eq};
 ghost use Rattle.riichi_shape.specs.KeptDiscards.{AreKept, told};
 
 use crate::discard::Discard;
 use crate::discard_order::DiscardOrder;
+use crate::live_copies::copies_among;
 use std::marker::Model;
 
 /// Discards, at most fourteen, in the order in which they are listed. How many copies of a kind are live does not depend on
 /// the discard: it stands here once.
-#[derive(Clone, Copy, Debug, PartialEq, Eq)]
+#[derive(Clone, Copy, Debug)]
 pub struct DiscardList {
     copies: [u8; 34],
     order: DiscardOrder,
@@ -28,6 +31,20 @@ impl Model for DiscardList {
     ghost inverse = { λ l. record { copies = all_copies l; order = map kept_of l } };
 }
 
+impl PartialEq for DiscardList {
+    ghost eq = { discards_eq };
+
+    ghost laws = { partial_equiv_from_equiv (decided discards_eq discards_decide) };
+
+    fn eq(&self, other: &DiscardList) -> bool {
+        self.copies == other.copies && self.order == other.order
+    }
+}
+
+impl Eq for DiscardList {
+    ghost laws = { decided discards_eq discards_decide };
+}
+
 impl DiscardList {
     /// The discards of an order, beside these live copies.
     pub(crate) fn new(copies: &[u8; 34], order: DiscardOrder) -> DiscardList
@@ -36,7 +53,7 @@ impl DiscardList {
         ensures { result ≡ map (told copies.now) order }
     {
         DiscardList {
-            copies: order.accepted().among(copies),
+            copies: copies_among(copies, order.accepted()),
             order,
         }
     }

@@ -1,5 +1,7 @@
 //! The kinds that a hand accepts.
 ghost use Rattle.std.specs.Prelude.{ℕ, ◌≡◌, ◌≤◌, ◌↔◌, IsTrue, [], length, slice_index};
+ghost use Rattle.std.specs.Cmp.{decided, partial_equiv_from_equiv};
+ghost use Rattle.riichi_shape.specs.Equality.{live_decides, live_eq};
 ghost use Rattle.riichi_shape.specs.LiveCopies.{copies_in, live_in, pairs_of};
 
 use riichi_tiles::Kind;
@@ -7,7 +9,7 @@ use std::marker::Model;
 
 /// How many copies are live of each kind, none of most; seen as the list of the kinds that have
 /// live copies, ascending, each with their number.
-#[derive(Clone, Copy, Debug, PartialEq, Eq)]
+#[derive(Clone, Copy, Debug)]
 pub struct LiveList {
     copies: [u8; 34],
 }
@@ -23,6 +25,20 @@ impl Model for LiveList {
     ghost invariant = { λ l. AreLive l.copies };
 
     ghost inverse = { λ p. record { copies = copies_from p } };
+}
+
+impl PartialEq for LiveList {
+    ghost eq = { live_eq };
+
+    ghost laws = { partial_equiv_from_equiv (decided live_eq live_decides) };
+
+    fn eq(&self, other: &LiveList) -> bool {
+        self.copies == other.copies
+    }
+}
+
+impl Eq for LiveList {
+    ghost laws = { decided live_eq live_decides };
 }
 
 impl LiveList {

@@ -2,7 +2,7 @@
 ghost use Rattle.std.specs.Prelude.{◌≡◌, ◌<◌, ◌≤◌, ◌==◌, [], ◌∷◌, ◌++◌, false, true, length, IfSome, MatchOption, is_some, not, take, drop};
 ghost use Rattle.std.specs.List.{list_all, position_or_len};
 ghost use Rattle.riichi_tiles.specs.Melds.{cut_at};
-ghost use Rattle.riichi_hand.specs.Words.{words_of, is_space, without_spaces, begins_with_space, BeginsWithSpaces};
+ghost use Rattle.riichi_hand.specs.Words.{words_of, is_space, without_spaces, begins_with_space, BeginsWithSpaces, from_words, word_of};
 
 /// The first word of a text, and all that comes after it.
 pub fn next_word(text: &[u8]) -> Option<(&[u8], &[u8])>
@@ -10,6 +10,8 @@ pub fn next_word(text: &[u8]) -> Option<(&[u8], &[u8])>
         (words_of text.now ≡ found.0.now ∷ words_of found.1.now) × (length found.1.now < length text.now)) }
     ensures text { IfSome result (λ found.
         BeginsWithSpaces text.now (found.0.now ++ found.1.now)) }
+    ensures from { MatchOption result (from_words text.now ≡ [])
+        (λ found. from_words found.1.now ≡ drop 1 (from_words text.now)) }
 {
     let text = without_spaces(text);
     if text.is_empty() {
@@ -21,12 +23,30 @@ pub fn next_word(text: &[u8]) -> Option<(&[u8], &[u8])>
 /// The text without the spaces that it begins with.
 pub fn without_spaces(text: &[u8]) -> &[u8]
     ensures value { result.now ≡ without_spaces text.now }
-    ensures words { words_of result.now ≡ words_of text.now }
+    ensures from { from_words result.now ≡ from_words text.now }
     ensures text { BeginsWithSpaces text.now result.now }
     ensures begins { begins_with_space result.now ≡ false }
     ensures shorter { length result.now ≤ length text.now }
 {
     text.split_at(spaces_len(text)).1
+}
+
+/// The word with which a text begins.
+pub fn word_of(from: &[u8]) -> &[u8]
+    ensures { result.now ≡ word_of from.now }
+{
+    from.split_at(word_len(from)).0
+}
+
+/// The word with which a text begins, and all that comes after it.
+pub(crate) fn cut_word(from: &[u8]) -> (&[u8], &[u8])
+    requires some { 0 < length from.now }
+    requires begins { begins_with_space from.now ≡ false }
+    ensures word { result.0.now ≡ word_of from.now }
+    ensures from { from_words from.now ≡ from.now ∷ from_words result.1.now }
+    ensures shorter { length result.1.now < length from.now }
+{
+    from.split_at(word_len(from))
 }
 
 /// How many spaces a text begins with.

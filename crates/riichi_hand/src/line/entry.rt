@@ -3,7 +3,7 @@ ghost use Rattle.std.specs.Prelude.{◌≡◌, ◌<◌, ◌∷◌, ℕ, List, le
 ghost use Rattle.riichi_hand.specs.declared.line.key.Key as keys;
 ghost use Rattle.riichi_hand.specs.Keys.{key_named};
 ghost use Rattle.riichi_hand.specs.Entries.{keyed_of};
-ghost use Rattle.riichi_hand.specs.Words.{words_of, begins_with_space};
+ghost use Rattle.riichi_hand.specs.Words.{begins_with_space, from_words, word_of};
 
 use super::cuts::word_len;
 use super::job_name::JobName;
@@ -23,10 +23,11 @@ impl<'a> Entry<'a> {
     pub(crate) fn first(job: JobName, text: &'a [u8]) -> Option<Entry<'a>>
         requires some { 0 < length text.now }
         requires begins { begins_with_space text.now ≡ false }
-        ensures { (word : List ℕ) × (words : List (List ℕ)) × (words_of text.now ≡ word ∷ words)
-            × MatchOption result (keyed_of job word ≡ None)
+        ensures { let word = word_of text.now in
+            MatchOption result (keyed_of job word ≡ None)
             (λ entry. (keyed_of job word ≡ Some (entry.key, entry.value.now))
-            × (words ≡ words_of entry.after.now) × (length entry.after.now < length text.now)) }
+            × (from_words text.now ≡ text.now ∷ from_words entry.after.now)
+            × (length entry.after.now < length text.now)) }
     {
         if text.len() < 2 {
             return None;

@@ -1,23 +1,80 @@
 //! A line that is a record.
-ghost use Rattle.std.specs.Prelude.{◌≡◌, ◌≢◌, ◌==◌, None, true, Ok, Err};
+ghost use Rattle.std.specs.Prelude.{◌≡◌, ◌≢◌, ◌==◌, [], None, Some, true, Ok, Err, IfErr, MatchOption, MatchResult, option_map, take, drop};
 ghost use Rattle.std.specs.List.{list_all};
 ghost use Rattle.riichi_hand.specs.Lines.{outcome_of, is_no_record, has_bad_word};
+ghost use Rattle.riichi_hand.specs.Places.{entry_from, fault_from};
+ghost use Rattle.riichi_hand.specs.Entries.{entries_of, Holds};
+ghost use Rattle.riichi_hand.specs.Parts.{parts_of};
+ghost use Rattle.riichi_hand.specs.Texts.{no_texts};
+ghost use Rattle.riichi_hand.specs.Words.{words_of, from_words, word_of};
+ghost use Rattle.riichi_hand.specs.declared.line.job_name.JobName.{JobName};
 ghost use Rattle.riichi_hand.specs.declared.fault.LineFault.TheVariants.{Line};
 ghost use Rattle.riichi_hand.specs.declared.fault.LineCode.TheVariants.{H4, H16};
 
 use super::bytes::MOST_LINE;
+use super::cuts::word_len;
 use super::fields::Fields;
 use super::jobs::make_job;
 use super::needed::Needed;
+use super::places::fault_from;
 use super::texts::Texts;
 use super::words::Words;
 use crate::fault::{LineCode, LineFault};
 use crate::job::Job;
 use crate::win::Rules;
 
+/// Why a line is refused: its first fault, and the line from the word on at which it stands, where that is one word.
+#[derive(Clone, Copy, Debug)]
+pub struct Refusal<'a> {
+    pub fault: LineFault,
+    pub from: Option<&'a [u8]>,
+}
+
+/// Where a word stands in its line, in bytes.
+#[derive(Clone, Copy, Debug)]
+pub struct Place {
+    pub at: usize,
+    pub length: usize,
+}
+
+impl Refusal<'_> {
+    /// Where the word at fault stands in the line that was refused.
+    pub fn place(&self, line: &[u8]) -> Option<Place>
+        requires { option_map (λ from. from.now) self.now.from ≡ fault_from self.now.fault line.now }
+        ensures { let from = fault_from self.now.fault line.now in
+            MatchOption result (from ≡ None) (λ place.
+            (from ≡ Some (drop place.at line.now))
+            × (take place.length (drop place.at line.now) ≡ word_of (drop place.at line.now))) }
+    {
+        match self.from {
+            None => None,
+            Some(from) => Some(Place {
+                at: line.len() - from.len(),
+                length: word_len(from),
+            }),
+        }
+    }
+}
+
+/// The job of a line, as `read_line` reads it, or why it is refused.
+pub fn read_placed<'a>(rules: Rules, line: &'a [u8]) -> Result<Option<Job>, Refusal<'a>>
+    ensures { MatchResult result (λ job. outcome_of rules line.now ≡ Ok job)
+        (λ refusal. (outcome_of rules line.now ≡ Err refusal.fault)
+        × (option_map (λ from. from.now) refusal.from ≡ fault_from refusal.fault line.now)) }
+{
+    let mut fields = Fields::new();
+    let mut texts = Texts::new();
+    match read_into(rules, line, &mut fields, &mut texts) {
+        Ok(job) => Ok(job),
+        Err(fault) => Err(Refusal {
+            fault,
+            from: fault_from(&fault, line, fields.at_fault),
+        }),
+    }
+}
+
 /// The job of a line, `None` for a comment or a line of spaces alone or nothing, or the line's first fault. The line comes
 /// without the line feed and the carriage return that ended it.
-#[tactic(auto, unfolding(crate::specs::Lines::outcome_of))]
 pub fn read_line(rules: Rules, line: &[u8]) -> Result<Option<Job>, LineFault>
     ensures value { result ≡ outcome_of rules line.now }
 
@@ -30,6 +87,26 @@ pub fn read_line(rules: Rules, line: &[u8]) -> Result<Option<Job>, LineFault>
     // Rooms that are made at once are cleared once.
     let mut fields = Fields::new();
     let mut texts = Texts::new();
+    read_into(rules, line, &mut fields, &mut texts)
+}
+
+/// The same, by fields that are empty. Where a word after the hand is at fault, they say from where on.
+#[inline(never)]
+#[tactic(auto, unfolding(crate::specs::Lines::outcome_of))]
+fn read_into<'a>(
+    rules: Rules,
+    line: &'a [u8],
+    fields: &mut Fields<'a>,
+    texts: &mut Texts,
+) -> Result<Option<Job>, LineFault>
+    requires fields { (job : JobName) → Holds fields.old (entries_of job []) }
+    requires texts { texts.old ≡ no_texts }
+    ensures value { result ≡ outcome_of rules line.now }
+    ensures silent { result ≡ Ok None → is_no_record line.now ≡ true }
+    ensures from { let from = option_map (λ from. from.now) fields.new.at_fault in
+        let job = (parts_of (words_of line.now)).job in
+        IfErr result (λ fault. from ≡ entry_from job fault (drop 2 (from_words line.now))) }
+{
     if line.len() > MOST_LINE {
         return Err(LineFault::Line(LineCode::H1));
     }
@@ -38,9 +115,9 @@ pub fn read_line(rules: Rules, line: &[u8]) -> Result<Option<Job>, LineFault>
     }
     let words = Words::read(line)?; // H1 to H3
     fields.fill(&words)?; // H4 and H5
-    let needed = Needed::read(&words, &fields)?; // H6
-    texts.spell(&words, &fields)?; // N1 to N6, then H7
-    let job = make_job(rules, needed, &words, &fields, &texts)?; // H8 to H15
+    let needed = Needed::read(&words, fields)?; // H6
+    texts.spell(&words, fields)?; // N1 to N6, then H7
+    let job = make_job(rules, needed, &words, fields, texts)?; // H8 to H15
     Ok(Some(job))
 }
 

@@ -5,7 +5,7 @@ use Rattle.riichi_shape_text.specs.Text.{text_of}
 use Rattle.desk_lines.proofs.explained.put_forms.Goals as goal
 
 pub returns : goal.returns
-returns c =
+returns g c =
     let forms = c.explain_shape.result in
     let before = c.args.outbox.now.bytes.items in
     let answer = text_of (shape_of c.args.tiles.now) ++ 10 ∷ [] in

@@ -1,36 +1,31 @@
-use Rattle.std.proofs.Common.{◌∙◌, ap, refl, sym, subst, Err}
+use Rattle.std.proofs.Common.{◌∙◌, refl, subst}
+use Rattle.std.proofs.lemmas.Result.{MatchResult-weaker}
 use Rattle.riichi_hand.specs.declared.win.Rules.{Rules}
-use Rattle.desk_lines.specs.declared.fault.DeskFault.TheVariants.{Read, Write, Memory}
 use Rattle.desk_lines.specs.Lines.{lines, ended_lines}
 use Rattle.desk_lines.specs.Records.{AnswerRecords}
-use Rattle.desk_lines.proofs.StreamLemmas.{passed_on}
-use Rattle.desk_lines.proofs.ToldLemmas.{Stands-written}
 use Rattle.desk_lines.proofs.responding.respond_text.Goals as goal
 
+pub answer_lines-requires-clause-new : goal.answer_lines-requires-clause-new
+answer_lines-requires-clause-new g c = (refl, (c.new-records.ensures.rules, refl))
+
 pub returns-clause-ok : goal.returns-clause-ok
-returns-clause-ok g c =
-    let ok = c.in_ok-told.ensures.ok in
-    let text = ok.0 in
-    let stands = ok.2 in
-    let told = subst (λ (r : Rules). AnswerRecords g.A.Responder.may_tell r (lines text) stands.answers) (stands.tells.0 ∙ sym c.requires) stands.tells.1.1 in
-    (text, stands.answers, ok.1, told, Stands-written g.W.Sink _ c.args.writer.now (lines text) c.in_ok-told.told c.tell_lines.new.writer stands c.in_ok-told.ensures.empty, c.report.ensures ∙ stands.report)
+returns-clause-ok g c = MatchResult-weaker c.answer_lines.result c.answer_lines.ensures.ok (λ report ok.
+    let told = subst (λ (r : Rules). AnswerRecords g.A.Responder.may_tell r (lines ok.0) ok.1) (ok.3.0 ∙ c.new-records.ensures.given) ok.3.1.1 in
+    (ok.0, ok.1, ok.2, told, ok.4, ok.5))
+    (λ fault told. told)
 
-pub returns-in_err-told-clause-read_failed : goal.returns-in_err-told-clause-read_failed
-returns-in_err-told-clause-read_failed g c is =
-    let failed = c.tell_lines.ensures.read_failed (c.in_err-told.was ∙ ap Err (passed_on c.from_residual.result c.in_err-told.field-0.0 Read c.from_residual.ensures.1 is)) in
-    let text = failed.1.0 in
-    let stands = failed.1.3 in
-    let told = subst (λ (r : Rules). AnswerRecords g.A.Responder.may_tell r (ended_lines text) stands.answers) (stands.tells.0 ∙ sym c.requires) stands.tells.1.1 in
-    (failed.0, (text, stands.answers, failed.1.2, told, Stands-written g.W.Sink _ c.args.writer.now (ended_lines text) failed.1.1 c.tell_lines.new.writer stands failed.1.4))
+pub returns-clause-read_failed : goal.returns-clause-read_failed
+returns-clause-read_failed g c is =
+    let failed = c.answer_lines.ensures.read_failed is in
+    let told = subst (λ (r : Rules). AnswerRecords g.A.Responder.may_tell r (ended_lines failed.1.0) failed.1.1) (failed.1.3.0 ∙ c.new-records.ensures.given) failed.1.3.1.1 in
+    (failed.0, (failed.1.0, failed.1.1, failed.1.2, told, failed.1.4))
 
-pub returns-in_err-told-clause-write_failed : goal.returns-in_err-told-clause-write_failed
-returns-in_err-told-clause-write_failed g c is =
-    let failed = c.tell_lines.ensures.write_failed (c.in_err-told.was ∙ ap Err (passed_on c.from_residual.result c.in_err-told.field-0.0 Write c.from_residual.ensures.1 is)) in
-    let stops = failed.4 in
-    let told = subst (λ (r : Rules). AnswerRecords g.A.Responder.may_tell r stops.first stops.answers) (stops.tells.0 ∙ sym c.requires) stops.tells.1.1 in
-    (failed.0, failed.1, stops.first, stops.others, stops.answers, failed.2, failed.3, stops.parts, told, stops.stops)
+pub returns-clause-write_failed : goal.returns-clause-write_failed
+returns-clause-write_failed g c is =
+    let stopped = c.answer_lines.ensures.write_failed is in
+    let stops = stopped.4 in
+    let told = subst (λ (r : Rules). AnswerRecords g.A.Responder.may_tell r stops.first stops.answers) (stops.tells.0 ∙ c.new-records.ensures.given) stops.tells.1.1 in
+    (stopped.0, stopped.1, stops.first, stops.others, stops.answers, stopped.2, stopped.3, stops.parts, told, stops.stops)
 
-pub returns-in_err-told-clause-no_memory : goal.returns-in_err-told-clause-no_memory
-returns-in_err-told-clause-no_memory g c is =
-    let failed = c.tell_lines.ensures.no_memory (c.in_err-told.was ∙ ap Err (passed_on c.from_residual.result c.in_err-told.field-0.0 Memory c.from_residual.ensures.1 is)) in
-    (failed.4.wanted refl).1
+pub returns-clause-no_memory : goal.returns-clause-no_memory
+returns-clause-no_memory g c is = let stopped = c.answer_lines.ensures.no_memory is in (stopped.4.wanted refl).5

@@ -9,11 +9,10 @@ returns-clause-told g c =
       answer = None;
       kind_is = refl;
       put = sym (append-nil c.args._outbox.now.bytes.items);
-      tells_more = λ lines told next as_this untold. (
-        (took.given.0 ∙ untold.0.0, took.given.1 ∙ untold.0.1),
-        (
-          Collects-line c.args.self.now c.take_line.new.self c.args.line.now next lines as_this untold.1.0 took.given.0 took.given.1 took.rules took.told took.answered took.refused,
-          append-nil told ∙ untold.1.1,
-        ),
+      tells_more = λ first lines told next as_this tells. (
+        took.given.0 ∙ tells.0,
+        took.given.1 ∙ tells.1,
+        Collects-line c.args.self.now c.take_line.new.self c.args.line.now next lines as_this tells.2 took.given.0 took.given.1 took.rules took.told took.answered took.refused,
+        append-nil told ∙ tells.3,
       );
     }

@@ -7,24 +7,24 @@ use Rattle.desk_lines.proofs.ScriptLemmas.{TellsScript-line}
 use Rattle.desk_lines.proofs.scripts.ScriptTeller.tell.Goals as goal
 
 pub returns-in-None-clause-told : goal.returns-in-None-clause-told
-returns-in-None-clause-told c =
+returns-in-None-clause-told g c =
     let items = c.args.outbox.now.bytes.items in
     let is = c.in-None.is in record {
-      answer = bytes_of c.in_ok-answer.field-0;
+      answer = bytes_of c.in_ok-answer_with.field-0;
       kind_is = ap (λ (text : Option ArrayString). kind_of (bytes_of text)) (sym is);
       put = sym (append-nil items) ∙ ap (λ (text : Option ArrayString). items ++ with_line_feed (bytes_of text)) (sym is);
-      tells_more = λ lines answers next as_this tells.
-          TellsScript-line c.args.self.now c.answer.new.self lines answers c.args.line.now next (bytes_of c.in_ok-answer.field-0) as_this c.in_ok-answer.ensures.told tells;
+      tells_more = λ first lines answers next as_this tells.
+          TellsScript-line c.args.self.now c.answer_with.new.self lines answers c.args.line.now next (bytes_of c.in_ok-answer_with.field-0) as_this c.in_ok-answer_with.ensures.told tells;
     }
 
 pub returns-in-Some-clause-told : goal.returns-in-Some-clause-told
-returns-in-Some-clause-told c =
+returns-in-Some-clause-told g c =
     let items = c.args.outbox.now.bytes.items in
     let is = c.in-Some.is in
     let whole : c.as_bytes.result.now ≡ c.in-Some.text.bytes = c.as_bytes.ensures.value ∙ c.as_str.ensures.value in record {
-      answer = bytes_of c.in_ok-answer.field-0;
+      answer = bytes_of c.in_ok-answer_with.field-0;
       kind_is = c.put_text.ensures.kind ∙ ap (λ (bytes : List ℕ). kind_of (Some bytes)) whole ∙ ap (λ (text : Option ArrayString). kind_of (bytes_of text)) (sym is);
       put = c.put_text.ensures.told ∙ ap (λ (bytes : List ℕ). items ++ with_line_feed (Some bytes)) whole ∙ ap (λ (text : Option ArrayString). items ++ with_line_feed (bytes_of text)) (sym is);
-      tells_more = λ lines answers next as_this tells.
-          TellsScript-line c.args.self.now c.answer.new.self lines answers c.args.line.now next (bytes_of c.in_ok-answer.field-0) as_this c.in_ok-answer.ensures.told tells;
+      tells_more = λ first lines answers next as_this tells.
+          TellsScript-line c.args.self.now c.answer_with.new.self lines answers c.args.line.now next (bytes_of c.in_ok-answer_with.field-0) as_this c.in_ok-answer_with.ensures.told tells;
     }

@@ -1,15 +1,15 @@
 use Rattle.std.proofs.Common.{◌≡◌, ◌∙◌, false, ap, sym, length, take, drop, inl, inr, arith, length-drop}
 use Rattle.std.proofs.lemmas.Bool.{cases_lt}
 use Rattle.std.proofs.lemmas.List.{take-append-drop, drop_all}
-use Rattle.riichi_hand.specs.Words.{words_of, without_spaces, begins_with_space}
-use Rattle.riichi_hand.proofs.WordLemmas.{words_of-spaces, without_spaces-past}
+use Rattle.riichi_hand.specs.Words.{without_spaces, begins_with_space, from_words}
+use Rattle.riichi_hand.proofs.WordLemmas.{from_words-spaces, without_spaces-past}
 use Rattle.riichi_hand.proofs.line.cuts.without_spaces.Goals as goal
 
-pub returns-clause-words : goal.returns-clause-words
-returns-clause-words c =
+pub returns-clause-from : goal.returns-clause-from
+returns-clause-from c =
     let text = c.args.text.now in
     let len = c.spaces_len.result in
-    rw c.split_at.ensures.back (sym (ap words_of (sym (take-append-drop len text)) ∙ words_of-spaces (take len text) (drop len text) c.spaces_len.ensures.spaces))
+    rw c.split_at.ensures.back (sym (ap from_words (sym (take-append-drop len text)) ∙ from_words-spaces (take len text) (drop len text) c.spaces_len.ensures.spaces))
 
 pub returns-clause-text : goal.returns-clause-text
 returns-clause-text c =

@@ -6,11 +6,11 @@ use Rattle.riichi_hand.proofs.line.entry.Entry.first.Goals.{then-len-text-via-th
 
 pub returns-then-text-lt2 : goal.returns-then-text-lt2
 returns-then-text-lt2 c =
-    refused c.args.job c.args.text.now c.requires.some c.requires.begins (λ begins. omega (arith, entry_long c.args.job c.args.text.now begins))
+    refused c.args.job c.args.text.now (λ begins. omega (arith, entry_long c.args.job c.args.text.now begins))
 
 pub returns-then-len-text : goal.returns-then-len-text
 returns-then-len-text c =
-    refused c.args.job c.args.text.now c.requires.some c.requires.begins (λ begins.
+    refused c.args.job c.args.text.now (λ begins.
     let ends = name_ends c.args.job c.args.text.now c.name_len-len.result c.name_len-len.ensures begins in
     elim c.then-len-text.branch [
       | then-len-text-via-then-len-text w ↦ omega (arith, ends.0)
@@ -19,13 +19,13 @@ returns-then-len-text c =
 
 pub returns-in_default : goal.returns-in_default
 returns-in_default c =
-    refused c.args.job c.args.text.now c.requires.some c.requires.begins (λ begins.
+    refused c.args.job c.args.text.now (λ begins.
     let ends = name_ends c.args.job c.args.text.now c.name_len-len.result c.name_len-len.ensures begins in
     cc)
 
 pub returns-then-not-has_key : goal.returns-then-not-has_key
 returns-then-not-has_key c =
-    refused c.args.job c.args.text.now c.requires.some c.requires.begins (λ begins.
+    refused c.args.job c.args.text.now (λ begins.
     let ends = name_ends c.args.job c.args.text.now c.name_len-len.result c.name_len-len.ensures begins in
     let found : Some c.in-Some.key ≡ Some begins.key = c.in-Some.ensures ∙ ends.2 in
     let same : begins.key ≡ c.in-Some.key = cc in

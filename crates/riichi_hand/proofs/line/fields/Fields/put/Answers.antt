@@ -16,7 +16,7 @@ returns-in-On-clause-answer c = rw c.in-On.is c.keep.ensures.answer
 pub returns-in-On-clause-holds : goal.returns-in-On-clause-holds
 returns-in-On-clause-holds c =
     rw c.in-On.is (λ entries h.
-    let text = kept (λ text. text.now) _ _ c.keep.ensures.first c.keep.ensures.doubled h.on h.doubled in
+    let text = kept (λ text. text.now) _ _ c.keep.ensures.first c.keep.ensures.again h.on h.doubled in
     record { doubled = text.0; on = text.1; by = h.by; seat = h.seat; round = h.round; melds = h.melds; riichi = h.riichi; flags = h.flags; dora = h.dora; ura = h.ura; counters = h.counters; sticks = h.sticks; seen = h.seen })
 
 pub returns-in-By-clause-answer : goal.returns-in-By-clause-answer
@@ -46,7 +46,7 @@ returns-in-Open-clause-answer c = rw c.in-Open.is c.keep-in-Open.ensures.answer
 pub returns-in-Open-clause-holds : goal.returns-in-Open-clause-holds
 returns-in-Open-clause-holds c =
     rw c.in-Open.is (λ entries h.
-    let text = kept (λ text. text.now) _ _ c.keep-in-Open.ensures.first c.keep-in-Open.ensures.doubled h.melds h.doubled in
+    let text = kept (λ text. text.now) _ _ c.keep-in-Open.ensures.first c.keep-in-Open.ensures.again h.melds h.doubled in
     record { doubled = text.0; on = h.on; by = h.by; seat = h.seat; round = h.round; melds = text.1; riichi = h.riichi; flags = h.flags; dora = h.dora; ura = h.ura; counters = h.counters; sticks = h.sticks; seen = h.seen })
 
 pub returns-in-Riichi-clause-answer : goal.returns-in-Riichi-clause-answer
@@ -69,7 +69,7 @@ returns-in-Dora-clause-answer c = rw c.in-Dora.is c.keep-in-Dora.ensures.answer
 pub returns-in-Dora-clause-holds : goal.returns-in-Dora-clause-holds
 returns-in-Dora-clause-holds c =
     rw c.in-Dora.is (λ entries h.
-    let text = kept (λ text. text.now) _ _ c.keep-in-Dora.ensures.first c.keep-in-Dora.ensures.doubled h.dora h.doubled in
+    let text = kept (λ text. text.now) _ _ c.keep-in-Dora.ensures.first c.keep-in-Dora.ensures.again h.dora h.doubled in
     record { doubled = text.0; on = h.on; by = h.by; seat = h.seat; round = h.round; melds = h.melds; riichi = h.riichi; flags = h.flags; dora = text.1; ura = h.ura; counters = h.counters; sticks = h.sticks; seen = h.seen })
 
 pub returns-in-Ura-clause-answer : goal.returns-in-Ura-clause-answer
@@ -78,7 +78,7 @@ returns-in-Ura-clause-answer c = rw c.in-Ura.is c.keep-in-Ura.ensures.answer
 pub returns-in-Ura-clause-holds : goal.returns-in-Ura-clause-holds
 returns-in-Ura-clause-holds c =
     rw c.in-Ura.is (λ entries h.
-    let text = kept (λ text. text.now) _ _ c.keep-in-Ura.ensures.first c.keep-in-Ura.ensures.doubled h.ura h.doubled in
+    let text = kept (λ text. text.now) _ _ c.keep-in-Ura.ensures.first c.keep-in-Ura.ensures.again h.ura h.doubled in
     record { doubled = text.0; on = h.on; by = h.by; seat = h.seat; round = h.round; melds = h.melds; riichi = h.riichi; flags = h.flags; dora = h.dora; ura = text.1; counters = h.counters; sticks = h.sticks; seen = h.seen })
 
 pub returns-in-Counters-clause-answer : goal.returns-in-Counters-clause-answer
@@ -101,5 +101,5 @@ returns-in-Seen-clause-answer c = rw c.in-Seen.is c.keep-in-Seen.ensures.answer
 pub returns-in-Seen-clause-holds : goal.returns-in-Seen-clause-holds
 returns-in-Seen-clause-holds c =
     rw c.in-Seen.is (λ entries h.
-    let text = kept (λ text. text.now) _ _ c.keep-in-Seen.ensures.first c.keep-in-Seen.ensures.doubled h.seen h.doubled in
+    let text = kept (λ text. text.now) _ _ c.keep-in-Seen.ensures.first c.keep-in-Seen.ensures.again h.seen h.doubled in
     record { doubled = text.0; on = h.on; by = h.by; seat = h.seat; round = h.round; melds = h.melds; riichi = h.riichi; flags = h.flags; dora = h.dora; ura = h.ura; counters = h.counters; sticks = h.sticks; seen = text.1 })
