@@ -90,7 +90,7 @@ impl<W: Sink> Answering<W> {
         Ok(is_refused)
     }
 
-    fn text(&mut self, text: &String) -> Result<bool, Failure<'static>> {
+    fn text<'a>(&mut self, text: &String) -> Result<bool, Failure<'a>> {
         self.source(&mut BytesIn::new(text.as_bytes(), text.len() + 1, None))
     }
 

@@ -51,23 +51,35 @@ fn runs_and_draws(rt: HostRuntime) -> Result<(), Fail> {
     )
 }
 
+/// The text of a win and its base points.
+fn text_and_base_of(job: &Job) -> Option<(ArrayString<3072>, u32)> {
+    if let Job::Win(win) = job {
+        let answer = best(win);
+        if let WinAnswer::Won(score) = &answer {
+            return Some((win_text(&answer), score.base));
+        }
+    }
+    None
+}
+
 /// Two han with 30 fu: 30 times 16.
 #[test]
 fn base_points_of_a_score(rt: HostRuntime) -> Result<(), Fail> {
     let line = b"win 234m567m345p67s99s on=5s by=ron seat=S round=E riichi=1";
-    let Ok(Some(Job::Win(win))) = read_line(Rules::One, line) else {
-        return Err("a win".into());
-    };
-    let answer = best(&win);
-    same(
-        &rt,
-        win_text(&answer).as_str(),
-        "won 2 han 30 fu 2000 gain 2000 riichi pinfu",
-    );
-    let WinAnswer::Won(score) = answer else {
-        return Err("a score".into());
-    };
-    same(&rt, score.base, 480);
+    match read_line(Rules::One, line) {
+        Ok(Some(job)) => {
+            let Some((text, base)) = text_and_base_of(&job) else {
+                return Err("a score".into());
+            };
+            same(
+                &rt,
+                text.as_str(),
+                "won 2 han 30 fu 2000 gain 2000 riichi pinfu",
+            );
+            same(&rt, base, 480);
+        }
+        _ => return Err("a win".into()),
+    }
     Ok(())
 }
 

@@ -46,11 +46,17 @@ fn reads_runs_and_seven_pairs(rt: HostRuntime) -> Result<(), Fail> {
     let counts = tiles(b"112233m556677p99s")?;
     let mut readings = Readings::new(&counts, &Melds::new(), Kind::at(26));
     same(&rt, readings.next(), Some(Reading::SevenPairs));
-    let Some(Reading::Standard { sets, pair, done }) = readings.next() else {
+    let Some(reading) = readings.next() else {
+        return Err("a reading".into());
+    };
+    let Reading::Standard { sets, pair, done } = reading else {
         return Err("a standard reading".into());
     };
-    let (low, high) = (Block::Run(Kind::at(0)), Block::Run(Kind::at(13)));
-    holds(&rt, sets.as_slice() == [low, low, high, high].as_slice());
+    same(&rt, sets.len(), 4);
+    same(&rt, sets.get(0), Some(Block::Run(Kind::at(0))));
+    same(&rt, sets.get(1), Some(Block::Run(Kind::at(0))));
+    same(&rt, sets.get(2), Some(Block::Run(Kind::at(13))));
+    same(&rt, sets.get(3), Some(Block::Run(Kind::at(13))));
     same(&rt, pair, Kind::at(26));
     same(&rt, done, Block::Pair(Kind::at(26)));
     same(&rt, readings.next(), None);
