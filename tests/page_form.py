@@ -94,6 +94,7 @@ def test_red_fives(browser: Browser) -> None:
 
 
 def test_refusals(browser: Browser) -> None:
+    fresh(browser)
     line = "win 234m567m345p67s99s on=5s by=ron seat=S round=E"
     rows = [
         ("refused H10", "riichi", "win 567m345p67s88s open=chi:234m on=5s by=ron seat=S round=E riichi=1"),
@@ -131,6 +132,7 @@ DISCARDS = """[...document.querySelectorAll('#answer .discards > li')].map((it) 
 
 
 def test_shapes(browser: Browser) -> None:
+    fresh(browser)
     lines = ["shape 123456789m11348p", "shape 19m19p19s12345z247m", "shape 11z open=pon:222z,chi:123m,chi:123m,chi:123m", "shape 159m159p159s12345z"]
     for line in lines:
         type_line(browser, line)
@@ -147,6 +149,7 @@ def test_shapes(browser: Browser) -> None:
 
 def test_explanations(browser: Browser) -> None:
     """The rows of an explanation are those of the command `explain`; tiles are drawn, so their text is left out here."""
+    fresh(browser)
     lines = ["win 99978m444p567s22s on=9m by=ron seat=S round=E riichi=1", "win 1133m5577p2288s4z on=4z by=tsumo seat=W round=E counters=1"]
     lines += ["win 456m22s34p open=chi:123m,chi:678p on=2p by=ron seat=S round=E", "win 123456789m22s34p on=9s by=ron seat=S round=E"]
     lines += ["shape 123456789m1134p"]
@@ -159,6 +162,7 @@ def test_explanations(browser: Browser) -> None:
 
 
 def test_many_lines(browser: Browser) -> None:
+    fresh(browser)
     lines = subprocess.run([TOP / "tests/lines"], check=True, capture_output=True, text=True).stdout
     wanted = answers_of(lines.splitlines())
     choose(browser, "mode", "many")

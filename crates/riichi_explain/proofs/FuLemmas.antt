@@ -1,5 +1,6 @@
 -- What rows of fu add up to.
 use Rattle.std.proofs.Common.{◌≡◌, ℕ, ◌+◌, ◌<◌, Bool, true, false, cond, eqb, leb, List, [], ◌∷◌, ◌++◌, ◌||◌, refl, ap, ◌∙◌, arith}
+use Rattle.std.proofs.Math.Nat.{zero-add}
 use Rattle.std.specs.List.{sum_by, flat_map}
 use Rattle.std.proofs.lemmas.List.Concat.{flat_map-cons}
 use Rattle.std.proofs.lemmas.List.Sums.{sum_by-append, sum_by-cons}
@@ -22,7 +23,7 @@ use Rattle.riichi_score.specs.Fu.{ron_fu, self_draw_fu, block_fu, open_fu, fu_su
 use Rattle.riichi_explain.specs.declared.fu.FuPart.{FuPart}
 use Rattle.riichi_explain.specs.declared.fu.FuPart.TheVariants as part
 use Rattle.riichi_explain.specs.declared.fu.FuRow.{FuRow}
-use Rattle.riichi_explain.specs.Fu.{earned, set_rows, rows_if_pair, block_rows, wait_rows, plain_rows, standard_rows, fu_rows, fu_total, fu_from_rows}
+use Rattle.riichi_explain.specs.Fu.{earned, pair_rows, set_rows, rows_if_pair, block_rows, wait_rows, plain_rows, standard_rows, fu_rows, fu_total, fu_from_rows}
 
 -- a row adds what the part earns
 total-earned : (part : FuPart) (fu : ℕ) → fu_total (earned part fu) ≡ fu
@@ -53,7 +54,7 @@ total-set win (Pair kind) =
     let a = cond (leb white kind) 2 0 in
     let b = cond (eqb kind (wind_kind win.seat)) 2 0 in
     let c = cond (eqb kind (wind_kind win.round)) 2 0 in
-    omega (arith, total-three (part.DragonPair kind) (part.SeatWindPair kind) (part.PrevalentWindPair kind) a b c)
+    zero-add (fu_total (pair_rows win kind)) ∙ total-three (part.DragonPair kind) (part.SeatWindPair kind) (part.PrevalentWindPair kind) a b c
 
 total-sets : (win : WinParts) (blocks : List HandBlock) → fu_total (flat_map (set_rows win) blocks) + fu_total (flat_map (rows_if_pair win) blocks) ≡ sum_by (block_fu win) blocks
 total-sets win [] = refl
