@@ -37,7 +37,7 @@ rules_long given (Some rules) line long = refl
 -- ---- any kind of answer
 
 -- one more line gets its answer
-AreTold-last : (Answers : AnswerKind) (rules : Rules) (lines : List (List ℕ)) (line : List ℕ) (told : List (List ℕ)) (answer : Option (List ℕ)) → AreTold Answers rules lines told → Answers rules line answer
+pub AreTold-last : (Answers : AnswerKind) (rules : Rules) (lines : List (List ℕ)) (line : List ℕ) (told : List (List ℕ)) (answer : Option (List ℕ)) → AreTold Answers rules lines told → Answers rules line answer
     → AreTold Answers rules (lines ++ line ∷ []) (told ++ answers_in answer)
 AreTold-last Answers rules [] line told answer are is = (answer, [], is, ap (λ (front : List (List ℕ)). front ++ answers_in answer) are ∙ sym (append-nil (answers_in answer)), refl)
 AreTold-last Answers rules (first ∷ lines) line told answer are is =
@@ -87,7 +87,7 @@ TellsRecords-line Answers alike old new line next answer lines told as_this tell
 
 -- ---- answers by a function
 
-told_by : (by : Rules → List ℕ → Option (List ℕ)) (rules : Rules) (lines told : List (List ℕ)) → AreTold (IsBy by) rules lines told → told ≡ filter_map (by rules) lines
+pub told_by : (by : Rules → List ℕ → Option (List ℕ)) (rules : Rules) (lines told : List (List ℕ)) → AreTold (IsBy by) rules lines told → told ≡ filter_map (by rules) lines
 told_by by rules [] told are = are
 told_by by rules (line ∷ lines) told are =
     are.3 ∙ ap (λ (rest : List (List ℕ)). answers_in are.0 ++ rest) (told_by by rules lines are.1 are.4) ∙ cons are.0 (filter_map (by rules) lines)

@@ -25,7 +25,7 @@ with_front-then byte cut more = elim (cases_Bool (nat_eq byte 10)) [
   | inr other ↦ rw other (in_front-then byte cut.ended cut.rest more other)
 ]
 
-cut_of-append : (text more : List ℕ) → cut_of (text ++ more) ≡ then_cut (cut_of text) (cut_of ((cut_of text).rest ++ more))
+pub cut_of-append : (text more : List ℕ) → cut_of (text ++ more) ≡ then_cut (cut_of text) (cut_of ((cut_of text).rest ++ more))
 cut_of-append [] more = refl
 cut_of-append (byte ∷ bytes) more = ap (with_front byte) (cut_of-append bytes more) ∙ with_front-then byte (cut_of bytes) more
 

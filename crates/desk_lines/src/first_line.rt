@@ -16,7 +16,7 @@ pub(crate) fn first_line(text: &[u8]) -> Option<(&[u8], &[u8])>
 }
 
 /// What stands before and after the first line feed.
-fn cut_text(text: &[u8]) -> Option<(&[u8], &[u8])>
+pub(crate) fn cut_text(text: &[u8]) -> Option<(&[u8], &[u8])>
     ensures { MatchOption result (is_plain text.now ≡ true)
         (λ cut. (text.now ≡ cut.0.now ++ 10 ∷ cut.1.now) × (is_plain cut.0.now ≡ true)) }
 {
@@ -27,7 +27,7 @@ fn cut_text(text: &[u8]) -> Option<(&[u8], &[u8])>
 }
 
 /// Without a carriage return at its end.
-fn without_return(bytes: &[u8]) -> &[u8]
+pub(crate) fn without_return(bytes: &[u8]) -> &[u8]
     ensures { result.now ≡ without_return bytes.now }
 {
     match bytes.split_last() {

@@ -36,6 +36,18 @@ impl Outbox {
         }
     }
 
+    pub(crate) fn as_slice(&self) -> &[u8]
+        ensures { result.now ≡ self.now.bytes.items }
+    {
+        self.bytes.as_slice()
+    }
+
+    pub(crate) fn clear(&mut self)
+        ensures { self.new.bytes.items ≡ [] }
+    {
+        self.bytes.clear();
+    }
+
     /// Whether any answer fits.
     pub(crate) fn has_room(&self) -> bool
         ensures { IsTrue result ↔ HasRoom self.now }

@@ -6,6 +6,8 @@
 #[cfg(test)]
 mod facts;
 #[cfg(test)]
+mod filling;
+#[cfg(test)]
 mod json_lines;
 #[cfg(test)]
 mod laws;

@@ -1,3 +1,4 @@
 pub mod Replies
 pub mod JsonReplies
 pub mod Reasons
+pub mod ManyLines

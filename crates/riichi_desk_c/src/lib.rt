@@ -9,11 +9,13 @@ ghost use Rattle.std.specs.Prelude.{◌≡◌, ◌≤◌, ◌<◌, ◌++◌, len
 ghost use Rattle.riichi_desk_c.specs.Replies.{reply_to, rules_numbered};
 
 mod json;
+mod lines;
 mod placing;
 mod reasons;
 
 use desk_core::{answer_text, judge};
 pub use json::riichi_json;
+pub use lines::{riichi_answer_lines, riichi_explain_lines, riichi_json_lines};
 use placing::place;
 pub use reasons::riichi_explain;
 use riichi_hand::{Rules, fault_text, read_line};

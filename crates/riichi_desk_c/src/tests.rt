@@ -1,6 +1,9 @@
 mod facts;
 
-use super::{riichi_answer, riichi_explain, riichi_json, riichi_version};
+use super::{
+    riichi_answer, riichi_answer_lines, riichi_explain, riichi_explain_lines, riichi_json,
+    riichi_json_lines, riichi_version,
+};
 use facts::holds;
 
 #[test]
@@ -95,4 +98,57 @@ fn explains_a_line(rt: HostRuntime) {
     holds(&rt, riichi_explain(1, b"# table three", &mut room) == 0);
     let needed = riichi_explain(3, line, &mut room);
     holds(&rt, room.get(..needed) == Some(b"refused rules".as_slice()));
+}
+
+#[test]
+fn answers_the_lines_of_a_text(rt: HostRuntime) {
+    let text = b"waits 123456789m1134p\r\n# c\nrules 2\nwaits 1m";
+    let answers = b"waits 25p\nrefused H2\nrefused H8\n".as_slice();
+    let mut room = [7u8; 38];
+    let mut taken = 9;
+    let filled = riichi_answer_lines(1, text, &mut room, &mut taken);
+    holds(&rt, taken == text.len());
+    holds(&rt, room.get(..filled) == Some(answers));
+    holds(&rt, room.get(filled..) == Some([7u8; 6].as_slice()));
+    let mut small = [7u8; 20];
+    holds(
+        &rt,
+        riichi_answer_lines(1, text, &mut small, &mut taken) == 10,
+    );
+    holds(&rt, taken == 27);
+    holds(&rt, small.get(..10) == answers.get(..10));
+    holds(&rt, small.get(10..) == Some([7u8; 10].as_slice()));
+    holds(
+        &rt,
+        riichi_answer_lines(3, text, &mut room, &mut taken) == 0,
+    );
+    holds(&rt, taken == 0);
+}
+
+#[test]
+fn answers_the_lines_of_a_text_as_json_and_with_reasons(rt: HostRuntime) {
+    let text = b"waits 123456789m1134p\n";
+    let mut room = [7u8; 64];
+    let mut taken = 0;
+    let filled = riichi_json_lines(1, text, &mut room, &mut taken);
+    holds(&rt, taken == text.len());
+    holds(
+        &rt,
+        room.get(..filled)
+            == Some(b"{\"answer\":\"waits\",\"kinds\":[\"2p\",\"5p\"]}\n".as_slice()),
+    );
+    let filled = riichi_explain_lines(1, text, &mut room, &mut taken);
+    holds(&rt, taken == text.len());
+    holds(
+        &rt,
+        room.get(..filled)
+            == Some(b"waits 25p\n  2p 4 left, two-sided; 5p 4 left, two-sided\n".as_slice()),
+    );
+    holds(&rt, riichi_json_lines(0, text, &mut room, &mut taken) == 0);
+    holds(&rt, taken == 0);
+    holds(
+        &rt,
+        riichi_explain_lines(0, text, &mut room, &mut taken) == 0,
+    );
+    holds(&rt, taken == 0);
 }

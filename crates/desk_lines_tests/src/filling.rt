@@ -1,0 +1,62 @@
+//! A text that is answered into rooms of each size.
+use crate::facts::{holds, same_in};
+use desk_lines::{Filled, fill_answers, fill_explanations, fill_objects};
+use riichi_hand::Rules;
+use std::process::Abort;
+
+const TEXT: &[u8] = b"# c\nwaits 123456789m1134p\r\n\nwaits 8z\nrules 2\nwaits 1m";
+
+const ANSWERS: &[u8] = b"waits 25p\nrefused N5 hand at 0\nrefused H2\nrefused H8\n";
+
+/// In a room of this size so many bytes of the text are answered, and their answers fill so many.
+fn fills<const ROOM: usize>(rt: &impl Abort, taken: usize, filled: usize) {
+    let mut room = [7u8; ROOM];
+    let done = fill_answers(Rules::One, TEXT, &mut room);
+    same_in(rt, &ROOM, done.taken, taken);
+    same_in(rt, &ROOM, done.filled, filled);
+    holds(rt, room.get(..filled) == ANSWERS.get(..filled));
+    holds(rt, room.iter().skip(filled).all(|byte| *byte == 7));
+}
+
+#[test]
+fn stops_before_the_first_answer_that_has_no_room(rt: HostRuntime) {
+    fills::<0>(&rt, 4, 0);
+    fills::<9>(&rt, 4, 0);
+    fills::<10>(&rt, 28, 10);
+    fills::<30>(&rt, 28, 10);
+    fills::<31>(&rt, 37, 31);
+    fills::<41>(&rt, 37, 31);
+    fills::<42>(&rt, 45, 42);
+    fills::<52>(&rt, 45, 42);
+    fills::<53>(&rt, 53, 53);
+    fills::<90>(&rt, 53, 53);
+}
+
+#[test]
+fn answers_no_text_and_texts_without_answers(rt: HostRuntime) {
+    let none = Filled {
+        taken: 0,
+        filled: 0,
+    };
+    holds(&rt, fill_answers(Rules::One, b"", &mut []) == none);
+    holds(&rt, fill_objects(Rules::One, b"waits 8z", &mut []) == none);
+    holds(&rt, fill_explanations(Rules::One, b"waits 8z", &mut []) == none);
+    let comments = Filled {
+        taken: 11,
+        filled: 0,
+    };
+    holds(&rt, fill_answers(Rules::Two, b"# a\r\n\n   \n#", &mut []) == comments);
+}
+
+#[test]
+fn refuses_lines_that_are_too_long(rt: HostRuntime) {
+    let mut room = [7u8; 22];
+    let mut text = [b'#'; 4099];
+    holds(&rt, fill_answers(Rules::One, &text, &mut room).filled == 11);
+    holds(&rt, room.get(..11) == Some(b"refused H1\n".as_slice()));
+    text[4096] = b'\r';
+    text[4097] = b'\n';
+    holds(&rt, fill_answers(Rules::One, &text, &mut room).filled == 0);
+    text[4096] = b'#';
+    holds(&rt, fill_answers(Rules::One, &text, &mut room).filled == 11);
+}

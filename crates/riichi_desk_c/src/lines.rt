@@ -1,0 +1,81 @@
+//! The lines of a text, many by one call.
+ghost use Rattle.desk_lines.specs.Explained.{IsExplained};
+ghost use Rattle.desk_lines.specs.Filling.{AreAnswersBy};
+ghost use Rattle.desk_lines.specs.JsonLine.{json_of};
+ghost use Rattle.desk_lines.specs.LineAnswer.{answer_of};
+ghost use Rattle.desk_lines.specs.Records.{AreTold};
+ghost use Rattle.riichi_desk_c.specs.ManyLines.{FillsUnder};
+
+use crate::rules_numbered;
+use desk_lines::{fill_answers, fill_explanations, fill_objects};
+
+/// Answers the lines of a text from its start, as many as have room, each answer with a line feed behind it, under the profile
+/// of this number: the bytes that the answers fill. `taken` is set to the bytes of the text that are answered, always whole
+/// lines; a call with the rest of the text goes on. Under a number that is no profile's nothing is answered.
+#[unsafe(no_mangle)]
+pub extern "C" fn riichi_answer_lines(
+    rules: u32,
+    text: &[u8],
+    room: &mut [u8],
+    taken: &mut usize,
+) -> usize
+    ensures { FillsUnder (λ rules. AreAnswersBy (answer_of rules)) rules text.now room.old room.new taken.new result }
+{
+    match rules_numbered(rules) {
+        Some(rules) => {
+            let done = fill_answers(rules, text, room);
+            *taken = done.taken;
+            done.filled
+        }
+        None => {
+            *taken = 0;
+            0
+        }
+    }
+}
+
+/// The same, each answer as an object of JSON.
+#[unsafe(no_mangle)]
+pub extern "C" fn riichi_json_lines(
+    rules: u32,
+    text: &[u8],
+    room: &mut [u8],
+    taken: &mut usize,
+) -> usize
+    ensures { FillsUnder (λ rules. AreAnswersBy (json_of rules)) rules text.now room.old room.new taken.new result }
+{
+    match rules_numbered(rules) {
+        Some(rules) => {
+            let done = fill_objects(rules, text, room);
+            *taken = done.taken;
+            done.filled
+        }
+        None => {
+            *taken = 0;
+            0
+        }
+    }
+}
+
+/// The same, and behind each answer the lines that explain it.
+#[unsafe(no_mangle)]
+pub extern "C" fn riichi_explain_lines(
+    rules: u32,
+    text: &[u8],
+    room: &mut [u8],
+    taken: &mut usize,
+) -> usize
+    ensures { FillsUnder (AreTold IsExplained) rules text.now room.old room.new taken.new result }
+{
+    match rules_numbered(rules) {
+        Some(rules) => {
+            let done = fill_explanations(rules, text, room);
+            *taken = done.taken;
+            done.filled
+        }
+        None => {
+            *taken = 0;
+            0
+        }
+    }
+}
