@@ -11,7 +11,8 @@ cp "$program" "$shop/bin/riichi_desk"
 printf 'proved with kit-0, logic 0123\nsources %s\nprogram %s\n' "$sum" "$(sha256sum < "$program" | cut -d' ' -f1)" > "$shop/bin/riichi_desk.proved"
 version=$("$program" --version | sed 's/^riichi_desk //')
 name=riichi_desk-$version-linux-x86_64
-# stand-ins for what ./packages builds
+# stand-ins for a licence of the kit, and for what ./packages builds
+mkdir -p "$kit/rattle/arrayvec" && echo licence > "$kit/rattle/arrayvec/LICENSE-APACHE"
 mkdir "$shop/bin/packages"
 for package in "riichi_desk-$version"{.tgz,.crate,-py3-none-manylinux_2_17_x86_64.whl} riichi_desk_portable.c riichi_desk-{windows-x86_64.exe,linux-arm64} libriichi_desk_c-{windows-x86_64,linux-arm64}.a; do
   echo "$package" > "$shop/bin/packages/$package"
@@ -47,7 +48,7 @@ told 'a release without packages' 'release: without packages for other languages
 by_hand "$shop" ./release > /dev/null
 tar -C "$scripts" -xf "$shop/releases/$name.tar.gz"
 unpacked=$scripts/$name
-told 'what is in the release' 'LICENSE NOTATION.md README.md RULES.md SHA256SUMS answer.schema.json completions desk.html examples libriichi_desk_c.a library licences packages riichi_desk riichi_desk.1 riichi_desk.h riichi_desk.proved' \
+told 'what is in the release' 'LICENSE NOTATION.md README.md RULES.md SHA256SUMS answer.schema.json completions desk.html examples library libriichi_desk_c.a licences packages riichi_desk riichi_desk.1 riichi_desk.h riichi_desk.proved' \
   "$(cd "$unpacked" && echo *)"
 told 'its files are whole' 0 "$(cd "$unpacked" && sha256sum --quiet -c SHA256SUMS > /dev/null; echo $?)"
 # printed WORD: the commands in the block of its README that has WORD; they answer in the release's folder
