@@ -75,11 +75,22 @@ class Browser:
             raise RuntimeError(f"{script}: {said['exceptionDetails']}")
         return said["result"].get("value")
 
-    def open(self, page: Path) -> None:
-        self.ask("Page.navigate", url=page.as_uri())
+    def open(self, page: Path | str) -> None:
+        """Opens a file or an address, and waits until the page has started or says why it can't."""
+        # a link within the page that is open would not load it anew
+        self.ask("Page.navigate", url="about:blank")
+        self.ask("Page.navigate", url=page if isinstance(page, str) else page.as_uri())
+        self.started()
+
+    def reload(self) -> None:
+        self.run("document.getElementById('desk').hidden = true")
+        self.ask("Page.reload")
+        self.started()
+
+    def started(self) -> None:
         self.run(
-            "new Promise(done => { const look = () => document.getElementById('desk') && "
-            "(!document.getElementById('desk').hidden || !document.getElementById('unable').hidden) ? done() : setTimeout(look, 20); look(); })"
+            "new Promise(done => { const look = () => document.getElementById('desk')?.hidden === false || "
+            "document.getElementById('unable')?.getAttribute('role') === 'alert' ? done() : setTimeout(look, 20); look(); })"
         )
 
     def size(self, width: int, height: int, touch: bool = False) -> None:
@@ -101,12 +112,45 @@ class Browser:
         for sort in ("mousePressed", "mouseReleased"):
             self.ask("Input.dispatchMouseEvent", type=sort, x=x, y=y, button="left", clickCount=1)
 
-    def key(self, name: str, times: int = 1) -> None:
+    def place(self, selector: str) -> tuple[float, float] | None:
+        """The middle of what is seen of an element; None where it is out of sight or something else lies upon it."""
+        script = (
+            f"(() => {{ const it = document.querySelector({json.dumps(selector)}); const box = it.getBoundingClientRect();"
+            " const [x, y] = [box.x + box.width / 2, box.y + box.height / 2];"
+            " const top = document.elementFromPoint(x, y); return top && (it.contains(top) || top.contains(it)) ? [x, y] : null; })()"
+        )
+        return self.run(script)
+
+    def touch(self, selector: str) -> bool:
+        """A tap by touch events alone, where the element is seen; whether the page had to be moved by a swipe for it."""
+        found = self.place(selector)
+        is_moved = found is None
+        if is_moved:
+            self.swipe_to(selector)
+            found = self.place(selector)
+        x, y = found
+        self.ask("Input.dispatchTouchEvent", type="touchStart", touchPoints=[{"x": x, "y": y}])
+        self.ask("Input.dispatchTouchEvent", type="touchEnd", touchPoints=[])
+        self.run("new Promise(done => requestAnimationFrame(() => requestAnimationFrame(done)))")
+        return is_moved
+
+    def swipe_to(self, selector: str) -> None:
+        """Moves the page by a finger until the element is about the middle of what is seen."""
+        box = f"document.querySelector({json.dumps(selector)}).getBoundingClientRect()"
+        away = self.run(f"{box}.y + {box}.height / 2 - innerHeight / 2")
+        start = 300 + away / 2
+        self.ask("Input.dispatchTouchEvent", type="touchStart", touchPoints=[{"x": 20, "y": start}])
+        for step in range(1, 11):
+            self.ask("Input.dispatchTouchEvent", type="touchMove", touchPoints=[{"x": 20, "y": start - away * step / 10}])
+        self.ask("Input.dispatchTouchEvent", type="touchEnd", touchPoints=[])
+        self.run("new Promise(done => setTimeout(done, 400))")
+
+    def key(self, name: str, times: int = 1, is_back: bool = False) -> None:
         codes = {"Tab": 9, "Enter": 13, " ": 32, "Backspace": 8, "ArrowLeft": 37, "ArrowUp": 38, "ArrowRight": 39, "ArrowDown": 40}
-        codes |= {"Home": 36, "End": 35}
+        codes |= {"Home": 36, "End": 35, "Escape": 27}
         text = {"Enter": {"text": "\r"}, " ": {"text": " "}}.get(name, {})
         for _ in range(times):
-            about = {"key": name, "code": "Space" if name == " " else name, "windowsVirtualKeyCode": codes[name]}
+            about = {"key": name, "code": "Space" if name == " " else name, "windowsVirtualKeyCode": codes[name], "modifiers": 8 if is_back else 0}
             self.ask("Input.dispatchKeyEvent", type="keyDown", **about, **text)
             self.ask("Input.dispatchKeyEvent", type="keyUp", **about)
 

@@ -47,6 +47,10 @@ explains() {
   told "explain < $1" "status $status: $(sha256sum < "$2")" "status $got: $(grep -v '^  ' "$room/answers" | sha256sum)"
 }
 
+# what the system says of a full disk, and of a folder in place of standard input
+full='riichi_desk: standard output: No space left on device (os error 28)'
+folder='riichi_desk: standard input: Is a directory (os error 21)'
+
 # the command waits
 row 0 'waits 123456789m' '' waits 1112345678999m
 row 0 'waits -' '' waits 123456789m1111z
@@ -57,10 +61,22 @@ row 1 'refused N1 hand at 0' '' waits ''
 row 1 'refused N2 hand at 0' '' waits -- -1m
 row 1 'refused N5 hand at 0' '' waits 8z
 
+row 0 'waits 12345678m' '' waits 2223456777m open=pon:111z
+row 1 'refused H4' '' waits 1112345678999m seen=1m
+row 1 'refused H4' '' waits A B
+
+# the words of a win and of a shape
+row 0 'won 1 han 30 fu 1000 gain 1000 pinfu' '' win 234m567m345p67s99s on=5s by=ron seat=S round=E
+row 0 'won 4 han 30 fu 8000 gain 8000 pinfu pure-straight dora 1' '' win --rules 2 123406789m22s34p on=2p by=ron seat=S round=E
+row 1 'refused H6' '' win 234m567m345p67s99s on=5s by=ron seat=S
+row 0 'shanten 0 accepts 2p:4 5p:4 live 8' '' shape 123456789m1134p
+row 0 'shanten 0 accepts 5p:4 live 4' '' shape 123456789m1134p seen=2222p
+row 1 'refused N1 seen at 0' '' shape 123456789m1134p seen=
+
 # faults of the command line, and help
 row 2 '' 'requires a subcommand'
 row 2 '' "unrecognized subcommand 'fly'" fly
-row 2 '' "unexpected argument 'B' found" waits A B
+row 2 '' "unexpected argument 'A' found" help-codes A
 row 2 '' '<HAND>' waits
 row 2 '' 'UTF-8' waits $'\xff'
 row 2 '' "unexpected argument 'file' found" line file
@@ -69,12 +85,13 @@ row 2 '' "invalid value '0' for '--workers <N>'" score --workers 0 file
 row 2 '' "invalid value '17' for '--workers <N>'" score --workers 17 file
 row 2 '' "invalid value 'many' for '--workers <N>'" score --workers many file
 row 0 'riichi_desk 0.1.0' '' --version
-for command in '' waits line explain replay score; do
+for command in '' win waits shape line explain replay score; do
   told "the help of riichi_desk $command says the program's own name" 'Usage: riichi_desk' "$("$program" $command --help | grep -oE '^Usage: [a-z_]+')"
   told "the help of riichi_desk $command has the exit statuses" 5 "$("$program" $command --help | sed -n '/^Exit status:$/,$p' | grep -cE '^  [0-4]  ')"
 done
+told 'the help of riichi_desk help-yaku has the exit statuses' 4 "$("$program" help-yaku --help | sed -n '/^Exit status:$/,$p' | grep -cE '^  [0-4]  ')"
 told 'the help of riichi_desk help-codes has the exit statuses' 4 "$("$program" help-codes --help | sed -n '/^Exit status:$/,$p' | grep -cE '^  [0-4]  ')"
-told 'the help names the commands' 6 "$("$program" --help | grep -cE '^  (waits|line|explain|replay|score|help-codes) ')"
+told 'the help names the commands' 9 "$("$program" --help | grep -cE '^  (win|waits|shape|line|explain|replay|score|help-codes|help-yaku) ')"
 
 told 'help and a full disk' 'status 3' "$("$program" --help 2>&1 > /dev/full; echo "status $?")"
 told 'the codes and a full disk' $'riichi_desk: fault F2\nstatus 3' "$("$program" help-codes 2>&1 > /dev/full; echo "status $?")"
@@ -108,6 +125,17 @@ why=$'won 1 han 50 fu 1600 gain 1600 riichi\n  reading 789m 999m 444p 567s 22s, 
   base    50 x 2^3 = 400\n  pays    discarder 1600\n  gain    1600'
 row 0 "$why" '' explain "$disputed"
 row 1 "$why"$'\nrefused N5 hand at 0\n  8z\n  ^ honours are 1z to 7z' '' explain "$disputed" 'waits 8z'
+row 0 "$why" '' explain $disputed
+# files in place of standard input, each with its own profile
+echo "$disputed" > "$room/one"
+printf 'rules 2\nwin 123406789m22s34p on=2p by=ron seat=S round=E\n' > "$room/two"
+echo 'waits 8z' > "$room/input"
+row 0 "$why" '' explain --file "$room/one"
+row 1 $'won 1 han 50 fu 1600 gain 1600 riichi\nwon 4 han 30 fu 8000 gain 8000 pinfu pure-straight dora 1\nrefused N5 hand at 0\nwon 1 han 50 fu 1600 gain 1600 riichi' '' line --file "$room/one" "$room/two" - "$room/one"
+row 3 'won 1 han 50 fu 1600 gain 1600 riichi' "riichi_desk: cannot open $room/none" line --file "$room/one" "$room/none" "$room/two"
+row 3 '' "riichi_desk: $room: Is a directory" line --file "$room"
+row 3 '' "riichi_desk: $room: Is a directory" score "$room/one" "$room"
+row 2 '' 'cannot be used with' explain 'waits 8z' --file "$room/one"
 echo "$disputed" > "$room/input"
 row 0 "$why" '' explain
 # hands, waits and a shape, worked by hand from the tables of the rules
@@ -122,10 +150,31 @@ cp "$room/own" "$room/input"
 row 0 'won 3 han 30 fu 3900 gain 3900 pinfu pure-straight' '' line --rules 2
 row 2 '' "invalid value '3' for '--rules <N>'" line --rules 3
 row 2 '' "invalid value '0' for '--rules <N>'" line --rules 0
+# a line that looks like a profile line and is none is told on standard error, with the profile of the other lines
+ready=$'waits 123456789m'
+printf '\xef\xbb\xbfrules 2\nwaits 1112345678999m\n' > "$room/input"
+row 1 $'refused H1\n'"$ready" 'standard input: line 1 sets no profile' line
+printf 'Rules 2\nwaits 1112345678999m' > "$room/input"
+row 1 $'refused H2\n'"$ready" 'the lines are answered under profile 2' line --rules 2
+printf 'rules 3\r\nwaits 1112345678999m\n' > "$room/input"
+row 1 $'refused H2\n'"$ready" 'standard input: line 1 sets no profile' line
+printf '# table three\n\nrules 2\nwaits 1112345678999m\nrules 2\n' > "$room/input"
+row 1 $'refused H2\n'"$ready"$'\nrefused H2' 'standard input: line 3 sets no profile' line
+told 'a text is told once' 1 "$("$program" line < "$room/input" 2>&1 > /dev/null | grep -c .)"
+told 'each text of a score is told' 2 "$("$program" score "$room/input" "$room/input" 2>&1 > /dev/null | grep -c 'under profile 1')"
+told 'an explained text is told' 1 "$("$program" explain --file "$room/input" 2>&1 > /dev/null | grep -c 'line 3 sets no profile')"
+printf 'rules 2\nwaits 1112345678999m\nrules 1' > "$room/input"
+row 1 "$ready"$'\nrefused H2' 'line 3 sets no profile: the lines are answered under profile 2' line
+printf ' rules  2 \r\n# rules 1\nwaits 1112345678999m' > "$room/input"
+row 0 "$ready" '' line
 : > "$room/input"
 row 0 '' '' explain
-told 'explain and a full disk' $'riichi_desk: fault F2: the answers can\'t be written\nstatus 3' "$("$program" explain "$disputed" 2>&1 > /dev/full; echo "status $?")"
-told 'explain and a folder' $'riichi_desk: fault F1: the input can\'t be read, or has no end\nstatus 3' "$("$program" explain < "$room" 2>&1; echo "status $?")"
+told 'explain and a full disk' "riichi_desk: fault F2: the answers can't be written
+$full
+status 3" "$("$program" explain "$disputed" 2>&1 > /dev/full; echo "status $?")"
+told 'explain and a folder' "riichi_desk: fault F1: the input can't be read, or has no end
+$folder
+status 3" "$("$program" explain < "$room" 2>&1; echo "status $?")"
 
 # the same lines as JSON: what is refused too, each job, each payment, a yakuman; a profile from the command line
 printf '# table three\nwaits 123456789m1134p\n\nwaits 8z\r\nwait 1m' > "$room/input"
@@ -155,8 +204,18 @@ $rest" '' line --json
 row 0 '' '' line --json
 row 2 '' "unexpected argument '--json' found" score --json file
 row 2 '' "unexpected argument '--json' found" explain --json
-told 'line --json and a full disk' $'riichi_desk: fault F2\nstatus 3' "$("$program" line --json < examples/club-night.lines 2>&1 > /dev/full; echo "status $?")"
-told 'line --json and a folder' $'riichi_desk: fault F1\nstatus 3' "$("$program" line --json < "$room" 2>&1; echo "status $?")"
+told 'line --json and a full disk' "riichi_desk: fault F2
+$full
+status 3" "$("$program" line --json < examples/club-night.lines 2>&1 > /dev/full; echo "status $?")"
+told 'line --json and a folder' "riichi_desk: fault F1
+$folder
+status 3" "$("$program" line --json < "$room" 2>&1; echo "status $?")"
+
+# the yaku, as docs/RULES.md has them
+told 'help-yaku' "$(awk -F ' \\| ' '{ gsub(/`/, "") } /^\| (No|[0-9]+) \| [a-zW]/ {
+    sub(/^\| /, "", $1); sub(/ \|$/, "", $NF); gsub(/[^ -~]/, "", $3); sub(/[ ,]+$/, "", $3)
+    if (NF == 6) printf "%2s|%s|%s|%s|%s|%s\n", $1, $2, $3, $4, $5, $6; else if (NF == 4) printf "%2s|%s|%s|%s\n", $1, $2, $3, $4 }' docs/RULES.md)" \
+  "$("$program" help-yaku | sed -nE 's/^  ( ?[0-9No]+)  ([^ ]+) +(.{15}) +([0-9C][a-z]*) +([0-9O-][a-z]*)  (.*)/\1|\2|\3|\4|\5|\6/p; t; s/^  ([0-9No]+)  ([^ ]+) +(.{15})  (.*)/\1|\2|\3|\4/p' | sed 's/ *|/|/g')"
 
 # the codes in words, as the documentation has them; and what follows each refusal, where `{}` stands for the words of its code
 "$program" help-codes > "$room/codes"
@@ -192,10 +251,18 @@ told 'a line of ten million bytes' $'refused H1\nrefused N5 hand at 0' "$("$prog
 # who reads the answers goes away, and a full disk
 yes 'waits 1112345678999m' | head -n 100000 > "$room/many"
 { "$program" line < "$room/many" 2> "$room/said"; echo "status $?" >> "$room/said"; } | head -n 1 > /dev/null
-told 'the reader of the answers goes away' $'riichi_desk: fault F2\nstatus 3' "$(cat "$room/said")"
-told 'a hand and a full disk' $'riichi_desk: fault F2\nstatus 3' "$("$program" waits 1112345678999m 2>&1 > /dev/full; echo "status $?")"
-told 'lines from a folder' $'riichi_desk: fault F1\nstatus 3' "$("$program" line < "$room" 2>&1; echo "status $?")"
-told 'a full disk' $'riichi_desk: fault F2\nstatus 3' "$("$program" line < "$room/many" 2>&1 > /dev/full; echo "status $?")"
+told 'the reader of the answers goes away' 'status 0' "$(cat "$room/said")"
+{ "$program" score "$room/many" 2> "$room/said"; echo "status $?" >> "$room/said"; } | head -n 1 > /dev/null
+told 'the reader of a score goes away' 'status 0' "$(cat "$room/said")"
+told 'a hand and a full disk' "riichi_desk: fault F2
+$full
+status 3" "$("$program" waits 1112345678999m 2>&1 > /dev/full; echo "status $?")"
+told 'lines from a folder' "riichi_desk: fault F1
+$folder
+status 3" "$("$program" line < "$room" 2>&1; echo "status $?")"
+told 'a full disk' "riichi_desk: fault F2
+$full
+status 3" "$("$program" line < "$room/many" 2>&1 > /dev/full; echo "status $?")"
 
 # a script: two tables, each answer and each refusal; a table too many; no file; a full disk
 replays examples/replay.lines examples/replay.answers
@@ -211,7 +278,9 @@ row 3 '' "riichi_desk: cannot open $room/none" replay "$room/none"
 row 3 '' 'riichi_desk: fault F1' replay "$room"
 row 2 '' '<FILE>' replay
 row 2 '' "unexpected argument 'B' found" replay A B
-told 'a script and a full disk' $'riichi_desk: fault F2\nstatus 3' "$("$program" replay examples/replay.lines 2>&1 > /dev/full; echo "status $?")"
+told 'a script and a full disk' "riichi_desk: fault F2
+$full
+status 3" "$("$program" replay examples/replay.lines 2>&1 > /dev/full; echo "status $?")"
 # the command score: two tables, the profile of one, files that aren't there, too many files, a full disk
 printf 'waits 1112345678999m\nwaits 8z\n' > "$room/first"
 : > "$room/second"
@@ -228,12 +297,17 @@ for ((i = 0; i < 64; i++)); do many+=("$room/second"); done
 row 0 "$(for ((i = 0; i < 64; i++)); do echo "table $i"; done)" '' score "${many[@]}"
 row 2 '' 'riichi_desk: fault B1' score "${many[@]}" "$room/none"
 row 0 "$(for ((i = 0; i < 63; i++)); do echo "table $i"; done)" '' score "${many[@]:1}"
-# a hand too many in one file; no memory for the hands; no memory for a thread's stack
+# a hand too many in one file, and just as many as it may have; no memory for the hands; no memory for a thread's stack
 yes 'waits 1112345678999m' | head -n 1000001 > "$room/many"
 row 2 '' 'riichi_desk: fault B1' score "$room/many"
+head -n 1000000 "$room/many" > "$room/most"
+told 'a score of 1,000,000 hands' "$({ echo 'table 0'; yes 'waits 123456789m' | head -n 1000000; } | sha256sum)" "$("$program" score "$room/most" 2> "$room/said" | sha256sum)"
+rm "$room/most"
 told 'a score without memory' $'riichi_desk: fault F3\nstatus 4' "$(ulimit -v 60000; "$program" score "$room/many" 2>&1; echo "status $?")"
 told 'a score without a thread' $'riichi_desk: fault B4\nstatus 4' "$(ulimit -v 30000; "$program" score --workers 4 "$room/first" 2>&1; echo "status $?")"
-told 'a full disk at the end of a score' $'riichi_desk: fault F2\nstatus 3' "$("$program" score "$room/first" 2>&1 > /dev/full; echo "status $?")"
+told 'a full disk at the end of a score' "riichi_desk: fault F2
+$full
+status 3" "$("$program" score "$room/first" 2>&1 > /dev/full; echo "status $?")"
 # each worker is a thread, and one more plays the tables
 cc -shared -fPIC -o "$room/count.so" tests/count.c -ldl
 for workers in 1 3; do

@@ -72,7 +72,7 @@ $(cat "$shop/bin/riichi_desk.proved")" "$("$unpacked/riichi_desk" --version)"
 mkdir "$scripts/link" && ln -s "$unpacked/riichi_desk" "$scripts/link/desk"
 told 'the version through a link' "$("$unpacked/riichi_desk" --version)" "$("$scripts/link/desk" --version)"
 told 'the help under another name' "$("$program" --help)" "$("$scripts/link/desk" --help)"
-told 'the version and a full disk' $'riichi_desk: fault F2\nstatus 3' "$("$unpacked/riichi_desk" --version 2>&1 > /dev/full; echo "status $?")"
+told 'the version and a full disk' $'riichi_desk: fault F2\nriichi_desk: standard output: No space left on device (os error 28)\nstatus 3' "$("$unpacked/riichi_desk" --version 2>&1 > /dev/full; echo "status $?")"
 rm -r "$shop/bin" && cp -r "$unpacked" "$shop"
 told 'a release that is unpacked into the tree' $'waits 123456789m\nstatus 0' "$(by_hand "$shop" ./desk waits 1112345678999m)"
 

@@ -1,13 +1,71 @@
 // The start of the page.
 
-const NO_BIG_MEMORY =
-  "This browser can't run the desk: it has no 64-bit memory for WebAssembly. Chrome and Edge have it from version 133 on, Firefox from 134 on.";
+import { byId } from "./elements.js";
+import { facesOfAll } from "./faces.js";
+import { aim, changeLine, choose, clearAll, onChange, openHand, showForm, step, takeBack, takeTile, turnRed } from "./form.js";
+import { listenToHands, listParts, showHands } from "./kept.js";
+import { Desk, lackOfBrowser } from "./library.js";
+import { listenToMany, showMany } from "./many.js";
+import { makePicker } from "./picker.js";
+import { JOBS } from "./record.js";
+import { listenToSettings, showSettings } from "./settings.js";
+import { handOfHash } from "./share.js";
+import { handParts, listenToSheet, openSheet } from "./sheet.js";
+import { setEmpty, setRecord, state } from "./state.js";
+import { readChoices, writeChoices } from "./store.js";
 
 // Says why the page can't answer, and shows nothing that wouldn't work.
 function refuseToRun(words) {
-  byId("unable").textContent = words;
-  byId("unable").hidden = false;
-  byId("rules").hidden = true;
+  byId("unable").textContent = `This browser can't run the desk. ${words}`;
+  byId("unable").setAttribute("role", "alert");
+}
+
+function keepChoices() {
+  const { line, mode, rules, names, scheme, handId } = state;
+  writeChoices({ line, mode, rules, names, scheme, handId });
+  byId("rules-now").textContent = String(rules);
+}
+
+// Shows a tab: a job, the many lines or the list of hands.
+function showMode(mode) {
+  state.mode = mode;
+  for (const input of document.querySelectorAll("#modes input")) input.checked = input.value === mode;
+  byId("one").hidden = !JOBS.includes(mode);
+  byId("many").hidden = mode !== "many";
+  byId("hands").hidden = mode !== "hands";
+  if (mode === "many") showMany();
+  if (mode === "hands") showHands();
+}
+
+function chooseMode({ target: { value } }) {
+  if (JOBS.includes(value) && value !== state.record.job) {
+    setRecord({ ...state.record, job: value });
+    state.handId = 0;
+    showForm();
+  }
+  showMode(value);
+  keepChoices();
+}
+
+// Shows a hand from elsewhere in the form.
+function showHand(hand) {
+  openHand(hand);
+  showMode(state.record.job);
+  showSettings();
+  keepChoices();
+  byId("line").focus({ preventScroll: true });
+}
+
+// Opens the hand of the link by which the page was opened, and takes it from the link, so that a reload keeps what was done since.
+function openLink() {
+  const hand = handOfHash(location.hash);
+  if (!hand) return;
+  showHand(hand);
+  try {
+    history.replaceState(null, "", location.href.split("#")[0]);
+  } catch {
+    // A page from a file may keep its link.
+  }
 }
 
 // Lines that are pasted into the line go to the many lines.
@@ -16,40 +74,71 @@ function pasteLine(event) {
   if (!text.includes("\n")) return;
   event.preventDefault();
   byId("lines").value = text;
-  document.querySelector("#jobs input[value=many]").checked = true;
-  chooseJob("many");
+  showMode("many");
   byId("lines").focus();
+}
+
+// Puts on paper what is shown, where the browser's own menu prints the page.
+function fillPaper() {
+  if (byId("paper").childElementCount > 0) return;
+  byId("paper").replaceChildren(...(state.mode === "hands" ? listParts() : handParts(state.line, state.rules)));
 }
 
 function listen() {
   const on = (id, sort, act) => byId(id).addEventListener(sort, act);
-  on("form", "change", choose);
-  on("jobs", "change", ({ target }) => chooseJob(target.value));
-  on("rules", "change", ({ target }) => chooseRules(Number(target.value)));
+  on("fields", "change", choose);
+  on("modes", "change", chooseMode);
   on("back", "click", takeBack);
-  on("clear", "click", clearAll);
-  on("line", "input", ({ target }) => changeLine(target.value.replaceAll("\n", " ")));
+  on("red", "click", turnRed);
+  on("new", "click", clearAll);
+  on("why", "click", () => openSheet(state.line, state.rules, state.handId));
   on("line", "keydown", (event) => event.key === "Enter" && event.preventDefault());
+  on("line", "input", ({ target }) => {
+    changeLine(target.value.replaceAll("\n", " "));
+    showMode(state.record.job);
+  });
   on("line", "paste", pasteLine);
-  on("copy", "click", ({ currentTarget }) => copyText(currentTarget, state.line));
-  on("lines", "input", showMany);
-  on("copy-answers", "click", copyAnswers);
-  on("file", "change", openFile);
+  for (const button of document.querySelectorAll("[data-target]")) button.addEventListener("click", aim);
+  for (const button of document.querySelectorAll("[data-number]")) button.addEventListener("click", step);
+  for (const button of document.querySelectorAll("dialog .close")) button.addEventListener("click", () => button.closest("dialog").close());
+  addEventListener("hashchange", openLink);
+  addEventListener("beforeprint", fillPaper);
+  addEventListener("afterprint", () => byId("paper").replaceChildren());
+}
+
+// What the last visit left.
+function takeUp() {
+  const { line, mode, rules, names, scheme, handId } = readChoices();
+  if ([1, 2].includes(rules)) state.rules = rules;
+  Object.assign(state, { names: names ?? state.names, scheme: scheme ?? state.scheme });
+  if (typeof line === "string") openHand({ line, rules: state.rules, id: Number(handId) || 0 });
+  else setEmpty("win");
+  state.past = [];
+  showMode([...JOBS, "many", "hands"].includes(mode) ? mode : "win");
 }
 
 async function start() {
-  if (!hasBigMemory()) return refuseToRun(NO_BIG_MEMORY);
+  if (lackOfBrowser() !== "") return refuseToRun(lackOfBrowser());
   try {
     state.desk = await Desk.start();
   } catch (failure) {
-    return refuseToRun(`This browser can't run the desk: ${failure.message}`);
+    return refuseToRun(`The library doesn't start: ${failure.message}.`);
   }
   byId("faces").innerHTML = facesOfAll();
-  byId("version").textContent = state.desk.version();
-  makePicker();
+  makePicker(takeTile, takeBack);
   listen();
+  listenToSettings();
+  listenToSheet();
+  listenToMany(showHand);
+  listenToHands(showHand);
+  takeUp();
+  showSettings();
+  onChange(keepChoices);
   showForm();
+  openLink();
+  byId("unable").hidden = true;
   byId("desk").hidden = false;
+  if (document.documentElement.dataset.site !== undefined && "serviceWorker" in navigator) navigator.serviceWorker.register("worker.js");
 }
 
 start();

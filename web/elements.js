@@ -1,6 +1,9 @@
 // Elements of the page. Text that a person gave is only ever set as text.
 
-function make(name, properties = {}, ...children) {
+import { languageOfNames, tileName } from "./names.js";
+import { tilesIn } from "./tiles.js";
+
+export function make(name, properties = {}, ...children) {
   const element = document.createElement(name);
   for (const [key, value] of Object.entries(properties)) {
     if (typeof value === "function") element.addEventListener(key, value);
@@ -10,12 +13,17 @@ function make(name, properties = {}, ...children) {
   return element;
 }
 
-function byId(id) {
+export function byId(id) {
   return document.getElementById(id);
 }
 
+// A text of names, in the language that they are in.
+export function names(element, properties, ...children) {
+  return make(element, { ...properties, lang: languageOfNames() }, ...children);
+}
+
 // The drawing of a tile, which says nothing to those who can't see it.
-function drawing(tile) {
+export function drawing(tile) {
   const svg = document.createElementNS("http://www.w3.org/2000/svg", "svg");
   const use = document.createElementNS("http://www.w3.org/2000/svg", "use");
   use.setAttribute("href", `#face-${tile}`);
@@ -26,34 +34,36 @@ function drawing(tile) {
 }
 
 // A tile as a picture with its name.
-function tileImage(tile) {
-  return make("span", { class: "tile", role: "img", "aria-label": tileName(tile), title: tileName(tile) }, drawing(tile));
+export function tileImage(tile) {
+  const name = tileName(tile);
+  return names("span", { class: "tile", role: "img", "aria-label": name, title: name, "data-tile": tile }, drawing(tile));
 }
 
-function tileButton(tile, label, press) {
-  return make("button", { type: "button", class: "tile", "aria-label": label, title: label, click: press }, drawing(tile));
+// A button with a tile on it, as large as a thumb.
+export function tileButton(tile, label, press) {
+  const face = make("span", { class: "tile" }, drawing(tile));
+  return names("button", { type: "button", class: "on-tile", "aria-label": label, title: label, "data-tile": tile, click: press }, face);
 }
 
 // The tiles of a text side by side.
-function tilesDrawn(tiles) {
+export function tilesDrawn(tiles) {
   return make("span", { class: "drawn" }, ...tiles.map(tileImage));
 }
 
 // A text in which each group of tiles, as 789m or chi:123m, is drawn.
-function textWithTiles(text) {
+export function textWithTiles(text) {
   const parts = text.split(/((?:[0-9]+[mps]|[1-7]+z)+(?![0-9a-z]))/);
   return parts.map((part, at) => (at % 2 === 1 && tilesIn(part) ? tilesDrawn(tilesIn(part)) : part)).filter((part) => part !== "");
 }
 
-// Copies a text, and says so on the button for a moment.
-async function copyText(button, text) {
-  const label = button.dataset.label ?? button.textContent;
-  button.dataset.label = label;
-  try {
-    await navigator.clipboard.writeText(text);
-    button.textContent = "Copied";
-  } catch {
-    button.textContent = "This browser doesn't let a page copy";
-  }
-  setTimeout(() => (button.textContent = label), 1500);
+// Says something for a moment, where a person sees it and a screen reader hears it.
+let wordsEnd = 0;
+export function say(words) {
+  const box = document.querySelector("dialog[open] .said") ?? byId("said");
+  box.textContent = words;
+  box.hidden = false;
+  clearTimeout(wordsEnd);
+  wordsEnd = setTimeout(() => {
+    for (const it of document.querySelectorAll(".said")) it.hidden = true;
+  }, 4000);
 }

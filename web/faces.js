@@ -1,5 +1,7 @@
 // The faces of the tiles, drawn in strokes and dots. A face is 30 wide and 40 high: its index above, its picture below.
 
+import { isRed, KINDS, kindOf } from "./tiles.js";
+
 const NUMERALS = [
   "M7 18H23",
   "M9 14H21M6.5 21H23.5",
@@ -109,7 +111,7 @@ function face(tile) {
 }
 
 // The faces of all tiles, as symbols that the page draws by their names.
-function facesOfAll() {
-  const symbols = [...KINDS, ...RED_FIVES].map((tile) => `<symbol id="face-${tile}" viewBox="0 0 30 40">${face(tile)}</symbol>`);
+export function facesOfAll() {
+  const symbols = [...KINDS, "0m", "0p", "0s"].map((tile) => `<symbol id="face-${tile}" viewBox="0 0 30 40">${face(tile)}</symbol>`);
   return `<svg width="0" height="0" aria-hidden="true" focusable="false">${symbols.join("")}</svg>`;
 }

@@ -1,137 +1,192 @@
-// The form: the record that it holds, the line of that record, and what the person does to them.
+// The form: the hand that is made, and what the person does to it.
 
-const state = { record: emptyRecord("win"), line: "", rules: 1, target: "hand", past: [], desk: null };
+import { answerTo, lacks } from "./answers.js";
+import { fieldOf, lackOfTiles } from "./asked.js";
+import { byId, drawing, make, names, tileButton } from "./elements.js";
+import { nextTarget, taken, without, withoutMeld } from "./moves.js";
+import { named, tileName } from "./names.js";
+import { showPicker } from "./picker.js";
+import { MELD_WORDS } from "./record.js";
+import { shownWhole } from "./shown.js";
+import { setBack, setEmpty, setLine, setRecord, state } from "./state.js";
+import { keepHand } from "./store.js";
 
-// Takes a new record from the form, and makes its line.
-function changeRecord(record, target = state.target) {
-  state.past.push({ record: state.record, line: state.line, target: state.target });
-  Object.assign(state, { record, target, line: lineOf(record) });
-  showForm();
+// Called after each change; `desk.js` keeps the choices by it.
+let changed = () => {};
+
+export function onChange(act) {
+  changed = act;
 }
 
-// Takes a line that was typed: the form shows what it can hold of it.
-function changeLine(line) {
-  state.past.push({ record: state.record, line: state.line, target: state.target });
-  const record = recordOf(line) ?? state.record;
-  Object.assign(state, { line, record, target: nextTarget(record, "hand") });
-  showForm();
-}
-
-function takeBack() {
-  const before = state.past.pop();
-  if (before) Object.assign(state, before);
-  showForm();
-}
-
-function clearAll() {
-  changeRecord({ ...emptyRecord(state.record.job), round: state.record.round }, "hand");
-}
-
-function takeTile(tile) {
-  if (!canTake(state.record, state.target, tile)) return;
+export function takeTile(tile) {
   const record = taken(state.record, state.target, tile);
-  changeRecord(record, nextTarget(record, state.target));
+  if (record === null) return;
+  setRecord(record, nextTarget(state.target));
+  showForm();
 }
 
-// A change that a tile in a tray makes when it is pressed; the focus stays where it was.
-function fromTray(tray, at, record) {
-  changeRecord(record, state.target === "on" && hasSpace(record, "hand") ? "hand" : state.target);
-  const left = byId(tray).querySelectorAll("button");
-  (left[Math.min(at, left.length - 1)] ?? document.querySelector("#picker [tabindex='0']")).focus();
+export function takeBack() {
+  setBack();
+  showForm();
 }
 
-function trayItems(name) {
-  return state.record[name].map((tile, at) =>
-    make("li", {}, tileButton(tile, `Remove ${tileName(tile)}`, () => fromTray(name, at, without(state.record, name, at)))),
-  );
+export function clearAll() {
+  setEmpty();
+  showForm();
 }
 
-// A tile of a meld: under the second profile a five can be turned red and plain.
-function meldTile(tile, at, place) {
-  if (state.rules !== 2 || !isFive(tile)) return tileImage(tile);
-  const label = isRed(tile) ? `Make ${tileName(tile)} plain` : `Make ${tileName(tile)} red`;
-  return tileButton(tile, label, () => fromTray("open", at, withRedTurned(state.record, at, place)));
+export function changeLine(line) {
+  setLine(line);
+  showForm();
 }
 
-function meldItem(meld, at) {
-  const name = `${TARGET_NAMES[meld.word]} ${textOf(meld.tiles)}`;
-  const remove = () => fromTray("open", at, withoutMeld(state.record, at));
-  return make(
-    "li",
-    { class: "meld", "aria-label": name },
-    make("span", { class: "meld-word" }, TARGET_NAMES[meld.word]),
-    ...meld.tiles.map((tile, place) => meldTile(tile, at, place)),
-    make("button", { type: "button", class: "remove", "aria-label": `Remove ${name}`, click: remove }, "×"),
-  );
+// Shows a hand of the list, of a link or of the many lines.
+export function openHand({ line, rules, id = 0 }) {
+  setLine(line);
+  Object.assign(state, { rules, handId: id });
+  showForm();
 }
 
-function showTrays() {
-  for (const name of ["hand", "on", "dora", "ura", "seen"]) byId(name).replaceChildren(...trayItems(name));
-  byId("open").replaceChildren(...state.record.melds.map(meldItem));
-  byId("hand-count").textContent = `${state.record.hand.length} of ${roomOf(state.record)}`;
-  byId("target-help").textContent = targetHelp(state.record, state.target);
+// A change by a button that takes a tile out; the focus stays where it was.
+function takeOut(list, record) {
+  const at = [...byId(list).querySelectorAll("button")].indexOf(document.activeElement);
+  setRecord(record, state.target === "seen" ? "seen" : "hand");
+  showForm();
+  const left = byId(list).querySelectorAll("button");
+  if (at >= 0) (left[Math.min(at, left.length - 1)] ?? document.querySelector("#picker [tabindex='0']")).focus({ preventScroll: true });
+}
+
+function tileItem(list, name, tile, at) {
+  const out = () => takeOut(list, without(state.record, name, at));
+  return make("li", {}, tileButton(tile, `Take out ${tileName(tile)}`, out));
+}
+
+function emptySlot(label = "") {
+  return make("li", { class: "slot", "aria-hidden": "true" }, make("span", {}, label));
+}
+
+function meldItem({ word, tiles }, at) {
+  const label = `Take out ${named(word)}: ${tiles.map(tileName).join(", ")}`;
+  const faces = tiles.map((tile) => make("span", { class: "tile" }, drawing(tile)));
+  const mark = make("span", { class: "meld-word" }, named(word));
+  const press = () => takeOut("tray", withoutMeld(state.record, at));
+  return make("li", { class: "meld" }, names("button", { type: "button", "aria-label": label, title: label, click: press }, mark, ...faces));
+}
+
+// The hand, the tiles that it still lacks as empty places, the winning tile and the melds.
+function showTray() {
+  const { record } = state;
+  const hand = record.hand.map((tile, at) => tileItem("tray", "hand", tile, at));
+  const lacking = Array.from({ length: lackOfTiles(record) }, () => emptySlot());
+  const winning = record.on.map((tile, at) => tileItem("tray", "on", tile, at));
+  if (winning.length === 0) winning.push(emptySlot("win"));
+  for (const item of winning) {
+    item.classList.add("winning");
+    item.dataset.field = "on";
+  }
+  const melds = record.melds.map(meldItem);
+  byId("tray").replaceChildren(...hand, ...lacking, ...(record.job === "win" ? winning : []), ...melds);
+  for (const name of ["dora", "ura", "seen"]) byId(name).replaceChildren(...record[name].map((tile, at) => tileItem(name, name, tile, at)));
 }
 
 // Sets each choice to what the record says, and hides what its job doesn't ask for.
 function showChoices() {
-  const { record } = state;
-  for (const input of document.querySelectorAll("#form input[type=radio], #jobs input")) {
-    if (input.name === "target") input.checked = input.value === state.target;
-    else input.checked = record[input.name] === input.value;
-  }
+  const { record, target } = state;
+  byId("one").dataset.job = record.job;
+  for (const input of document.querySelectorAll("#fields input[type=radio]")) input.checked = record[input.name] === input.value;
   for (const input of document.querySelectorAll("input[name=flags]")) input.checked = record.flags.includes(input.value);
   for (const name of ["counters", "sticks"]) if (Number(byId(name).value) !== Number(record[name])) byId(name).value = record[name];
+  for (const button of document.querySelectorAll("[data-target]")) button.setAttribute("aria-pressed", String(button.dataset.target === target));
+  byId("red").hidden = state.rules !== 2;
+  byId("red").setAttribute("aria-pressed", String(state.isRed));
+  byId("back").setAttribute("aria-disabled", String(state.past.length === 0));
   for (const part of document.querySelectorAll("[data-jobs]")) part.hidden = !part.dataset.jobs.split(" ").includes(record.job);
 }
 
-function showFaults(fields) {
+function showFault(field) {
   for (const part of document.querySelectorAll("[data-field]")) {
-    const isFaulty = fields.includes(part.dataset.field);
+    const isFaulty = part.dataset.field === field;
     part.classList.toggle("faulty", isFaulty);
     const controls = part.matches("[role=radiogroup]") ? [part] : part.querySelectorAll("input:not([type=radio]), textarea");
     for (const control of controls) control.setAttribute("aria-invalid", String(isFaulty));
   }
 }
 
-function showAnswer() {
-  const { line, rules, desk, record } = state;
-  const text = desk.answer(line, rules);
-  const lack = line === lineOf(record) ? lackWords(record) : "";
-  byId("answer").replaceChildren(...shownAnswer(text, line, desk.explain(line, rules), lack));
-  byId("summary").textContent = lack !== "" ? `Wanted: ${lack}` : text || "Answer";
-  showFaults(text.startsWith("refused") && lack === "" ? faultyFields(answerOf(text), line) : []);
+// What is said while a tap goes elsewhere than into the hand.
+function targetHelp() {
+  const word = named(state.target);
+  if (state.target === "chi") return `${word}: tap the lowest tile of the run.`;
+  if (MELD_WORDS.includes(state.target)) return `${word}: tap its tile.`;
+  return state.target === "hand" ? "" : `${word}: tap the tiles.`;
 }
 
-function showForm() {
+function showAnswer() {
+  const { line, rules, record } = state;
+  const lacking = lacks();
+  const help = targetHelp() === "" ? [] : [names("p", { class: "lacking" }, targetHelp())];
+  const about = answerTo(line, rules);
+  byId("why").disabled = lacking.length > 0 || about.values === null;
+  showFault("");
+  if (lacking.length > 0) {
+    const wanted = record.hand.length === 0 ? "Tap the tiles of the hand" : "Still wanted";
+    byId("answer").replaceChildren(...help, names("p", { class: "lacking" }, `${wanted}: ${lacking.join(", ")}.`));
+    return;
+  }
+  if (about.values === null) {
+    byId("answer").replaceChildren(make("p", {}, "Tap the tiles of a hand, or type or paste its line."));
+    return;
+  }
+  byId("answer").replaceChildren(...help, ...shownWhole(about.values, about));
+  if (about.values.answer !== "refused") state.handId = keepHand(state.handId, line, rules);
+  else showFault(document.querySelector(`[data-field="${fieldOf(line, rules)}"]`) ? fieldOf(line, rules) : "line");
+}
+
+export function showForm() {
   if (byId("line").value !== state.line) byId("line").value = state.line;
   showChoices();
-  showTrays();
+  showTray();
   showPicker();
   showAnswer();
+  changed();
 }
 
 // A choice of the form has changed: a radio button, a flag or a number.
-function choose({ target: input }) {
-  if (input.name === "target") {
-    state.target = input.value;
-    showForm();
-  } else if (input.name === "flags") {
+export function choose({ target: input }) {
+  if (input.name === "flags") {
     const flags = [...document.querySelectorAll("input[name=flags]:checked")].map((it) => it.value);
-    changeRecord({ ...state.record, flags });
+    setRecord({ ...state.record, flags });
   } else if (input.name) {
-    changeRecord({ ...state.record, [input.name]: input.value });
+    setRecord({ ...state.record, [input.name]: input.value });
   }
-}
-
-function chooseJob(job) {
-  byId("one").hidden = job === "many";
-  byId("many").hidden = job !== "many";
-  if (job === "many") return showMany();
-  if (job !== state.record.job) changeRecord({ ...state.record, job }, nextTarget({ ...state.record, job }, "hand"));
-}
-
-function chooseRules(rules) {
-  state.rules = rules;
   showForm();
-  if (!byId("many").hidden) showMany();
+}
+
+// A button that sends the next tile elsewhere, or back into the hand.
+export function aim({ currentTarget }) {
+  const { target } = currentTarget.dataset;
+  state.target = state.target === target ? "hand" : target;
+  showForm();
+}
+
+export function turnRed() {
+  state.isRed = !state.isRed;
+  showForm();
+}
+
+// A button beside a number that makes it one more or one less.
+export function step({ currentTarget }) {
+  const { number, by } = currentTarget.dataset;
+  const input = byId(number);
+  const value = Math.min(Number(input.max), Math.max(Number(input.min), Number(input.value) + Number(by)));
+  setRecord({ ...state.record, [number]: String(value) });
+  showForm();
+}
+
+// The words of the page in the chosen names.
+export function showNames() {
+  for (const it of document.querySelectorAll("[data-name]")) {
+    it.textContent = named(it.dataset.name);
+    it.lang = state.names === "script" ? "ja" : "en";
+  }
+  for (const it of document.querySelectorAll("[data-target], #red")) it.title = it.textContent;
 }

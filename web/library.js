@@ -1,35 +1,42 @@
-// The proved library: the module in this file, and its calls. Sizes and places are 64-bit numbers there.
+// The proved library: its module, and its calls. Sizes and places are 64-bit numbers there, though its memory has 32-bit places.
 
+const PAGE = 65536;
 const MOST_LINE = 4098;
-const MOST_ANSWER = 1 << 16;
 
-// A module with nothing but a memory of 64-bit addresses.
-const SMALLEST = new Uint8Array([0, 97, 115, 109, 1, 0, 0, 0, 5, 3, 1, 4, 1]);
-
-function hasBigMemory() {
-  return typeof WebAssembly === "object" && WebAssembly.validate(SMALLEST);
+// What this browser lacks of what the module needs, in words; "" where nothing is known to be lacking.
+export function lackOfBrowser() {
+  if (typeof WebAssembly !== "object") {
+    return "WebAssembly is missing. On an iPhone or iPad Lockdown Mode turns it off; elsewhere a newer browser has it.";
+  }
+  if (typeof BigInt64Array !== "function") return "64-bit numbers (BigInt) are missing. Browsers have them since 2020: a newer version runs the desk.";
+  return "";
 }
 
-function bytesOfModule() {
-  const text = atob(document.getElementById("module").textContent.trim());
-  return Uint8Array.from(text, (letter) => letter.charCodeAt(0));
+// The module's bytes: inside this page, or beside it.
+async function bytesOfModule() {
+  const inside = document.getElementById("module");
+  if (inside) return Uint8Array.from(atob(inside.textContent.trim()), (letter) => letter.charCodeAt(0));
+  const told = await fetch("riichi_desk.wasm");
+  if (!told.ok) throw new Error(`the file riichi_desk.wasm isn't there (${told.status})`);
+  return new Uint8Array(await told.arrayBuffer());
 }
 
 // The desk over the exports of the module: each call puts a line into the module's memory and reads what was answered.
-class Desk {
+export class Desk {
   #exports;
   #line;
   #room;
 
   constructor(exports) {
-    const pages = exports.memory.grow(2n);
     this.#exports = exports;
-    this.#line = Number(pages) * 65536;
-    this.#room = this.#line + 65536;
+    this.#line = exports.memory.grow(2) * PAGE;
+    this.#room = this.#line + PAGE;
   }
 
   static async start() {
-    const { instance } = await WebAssembly.instantiate(bytesOfModule(), {});
+    const bytes = await bytesOfModule();
+    if (!WebAssembly.validate(bytes)) throw new Error("its WebAssembly is too old: browsers since 2021 have what is needed");
+    const { instance } = await WebAssembly.instantiate(bytes, {});
     return new Desk(instance.exports);
   }
 
@@ -42,12 +49,18 @@ class Desk {
     // A line of more than 4096 bytes is refused whatever follows.
     const bytes = new TextEncoder().encode(line.replace(/\r$/, "")).subarray(0, MOST_LINE);
     new Uint8Array(this.#exports.memory.buffer).set(bytes, this.#line);
-    const room = [BigInt(this.#room), BigInt(MOST_ANSWER)];
+    const room = [BigInt(this.#room), BigInt(PAGE)];
     return this.#read(this.#exports[`riichi_${call}`](rules, BigInt(this.#line), BigInt(bytes.length), ...room));
   }
 
+  // The answer as a text; "" for a comment.
   answer(line, rules) {
     return this.#ask("answer", line, rules);
+  }
+
+  // The answer's values; null for a comment.
+  values(line, rules) {
+    return JSON.parse(this.#ask("json", line, rules) || "null");
   }
 
   // The lines that say why the answer is what it is.
@@ -56,6 +69,6 @@ class Desk {
   }
 
   version() {
-    return this.#read(this.#exports.riichi_version(BigInt(this.#room), BigInt(MOST_ANSWER)));
+    return this.#read(this.#exports.riichi_version(BigInt(this.#room), BigInt(PAGE)));
   }
 }

@@ -1,6 +1,11 @@
 // Many lines: each with its answer, as the command `line` gives them.
 
+import { byId, make } from "./elements.js";
+import { copyText } from "./share.js";
+import { state } from "./state.js";
+
 const MOST_SHOWN = 5000;
+let openLine = () => {};
 
 // The lines of a text that have an answer, with their numbers and answers. A first line can set the profile.
 function answersTo(text, rules) {
@@ -19,21 +24,11 @@ function answerItem({ number, line, told, rules }) {
     told.startsWith("refused") ? { class: "is-refused" } : {},
     make("span", { class: "number" }, String(number)),
     make("div", {}, make("div", { class: "raw" }, line), make("div", { class: "told" }, told)),
-    make("button", { type: "button", "aria-label": `Open line ${number} in the form`, click: () => openLine(line, rules) }, "Open"),
+    make("button", { type: "button", "aria-label": `Open line ${number} in the form`, click: () => openLine({ line, rules, id: 0 }) }, "Open"),
   );
 }
 
-// Shows one of the lines in the form.
-function openLine(line, rules) {
-  document.querySelector(`#rules input[value="${rules}"]`).checked = true;
-  byId("one").hidden = false;
-  byId("many").hidden = true;
-  state.rules = rules;
-  changeLine(line);
-  byId("line").focus();
-}
-
-function showMany() {
+export function showMany() {
   const answers = answersTo(byId("lines").value, state.rules);
   const refused = answers.filter(({ told }) => told.startsWith("refused")).length;
   const more = answers.length > MOST_SHOWN ? `, of which the first ${MOST_SHOWN} are shown` : "";
@@ -49,6 +44,9 @@ async function openFile({ target }) {
   showMany();
 }
 
-function copyAnswers({ currentTarget }) {
-  copyText(currentTarget, answersTo(byId("lines").value, state.rules).map(({ told }) => `${told}\n`).join(""));
+export function listenToMany(openHand) {
+  openLine = openHand;
+  byId("lines").addEventListener("input", showMany);
+  byId("file").addEventListener("change", openFile);
+  byId("copy-answers").addEventListener("click", () => copyText(answersTo(byId("lines").value, state.rules).map(({ told }) => `${told}\n`).join("")));
 }

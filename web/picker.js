@@ -1,69 +1,94 @@
 // The picker: a button for each kind of tile. One of them is in the order of the Tab key, and the arrow keys move among them.
 
-function pickerRows() {
-  const rows = SUITS.map((suit) => KINDS.filter((kind) => kind[1] === suit));
-  return [...rows, RED_FIVES];
+import { byId, make, tileButton } from "./elements.js";
+import { meldTiles, taken } from "./moves.js";
+import { named, tileName } from "./names.js";
+import { MELD_WORDS } from "./record.js";
+import { state } from "./state.js";
+import { isFive, KINDS, kindOf, SUITS } from "./tiles.js";
+
+// On a narrow screen the suits are columns, and the arrow keys go otherwise.
+const isWide = matchMedia("(min-width: 44rem)");
+
+export function makePicker(take, back) {
+  const press = (kind) => take(tileOf(kind));
+  const rows = SUITS.map((suit) => KINDS.filter((kind) => kind[1] === suit).map((kind) => pickerButton(kind, press)));
+  byId("picker").prepend(...rows.map((buttons) => make("div", { class: "suit" }, ...buttons)));
+  // The seven honours leave space for two buttons.
+  document.querySelector("#picker .suit:last-of-type").append(byId("red"), byId("back"));
+  byId("picker").addEventListener("keydown", (event) => movePicker(event, back));
+  makeReachable(pickerButtons()[0]);
 }
 
 function pickerButtons() {
-  return [...document.querySelectorAll("#picker .suit:not([hidden]) button")];
+  return [...document.querySelectorAll("#picker .on-tile")];
 }
 
-function makePicker() {
-  const rows = pickerRows().map((kinds) => make("div", { class: "suit" }, ...kinds.map((tile) => pickerButton(tile))));
-  rows.at(-1).id = "red-fives";
-  byId("picker").replaceChildren(...rows);
-  byId("picker").addEventListener("keydown", movePicker);
-  pickerButtons()[0].tabIndex = 0;
-}
-
-function pickerButton(tile) {
-  const button = tileButton(tile, tileName(tile), () => takeTile(tile));
-  button.dataset.tile = tile;
-  button.tabIndex = -1;
+function pickerButton(kind, press) {
+  const button = tileButton(kind, tileName(kind), () => press(kind));
+  button.dataset.kind = kind;
   button.addEventListener("focus", () => makeReachable(button));
   return button;
 }
 
+// The tile that a button stands for now: the next five may be a red one.
+function tileOf(kind) {
+  return state.isRed && isFive(kind) ? `0${kind[1]}` : kind;
+}
+
 function makeReachable(button) {
-  for (const other of document.querySelectorAll("#picker button")) other.tabIndex = other === button ? 0 : -1;
+  for (const other of pickerButtons()) other.tabIndex = other === button ? 0 : -1;
 }
 
 // The button that an arrow key, Home or End leads to.
 function buttonFrom(button, key) {
-  const row = [...button.parentElement.children];
-  const at = row.indexOf(button);
-  const rows = [...document.querySelectorAll("#picker .suit:not([hidden])")];
-  const beside = rows[rows.indexOf(button.parentElement) + { ArrowUp: -1, ArrowDown: 1 }[key]];
-  const found = {
-    ArrowLeft: () => row[at - 1],
-    ArrowRight: () => row[at + 1],
-    ArrowUp: () => beside?.children[Math.min(at, beside.children.length - 1)],
-    ArrowDown: () => beside?.children[Math.min(at, beside.children.length - 1)],
-    Home: () => row[0],
-    End: () => row.at(-1),
-  };
-  return found[key]?.();
+  const rows = [...document.querySelectorAll("#picker .suit")].map((row) => [...row.querySelectorAll(".on-tile")]);
+  const row = rows.findIndex((it) => it.includes(button));
+  const at = rows[row].indexOf(button);
+  const keys = [["ArrowLeft", "ArrowRight"], ["ArrowUp", "ArrowDown"]];
+  const [along, across] = isWide.matches ? keys : keys.reverse();
+  if (key === "Home") return rows[row][0];
+  if (key === "End") return rows[row].at(-1);
+  if (along.includes(key)) return rows[row][at + (key === along[0] ? -1 : 1)];
+  if (!across.includes(key)) return undefined;
+  const beside = rows[row + (key === across[0] ? -1 : 1)];
+  return beside?.[Math.min(at, beside.length - 1)];
 }
 
-function movePicker(event) {
+function movePicker(event, back) {
+  const button = event.target.closest(".on-tile");
+  if (!button) return;
   if (event.key === "Backspace") {
     event.preventDefault();
-    takeBack();
+    back();
     return;
   }
-  const next = buttonFrom(event.target.closest("button"), event.key);
+  const next = buttonFrom(button, event.key);
   if (!next) return;
   event.preventDefault();
   next.focus();
 }
 
-// Marks the tiles that can't be taken now, and shows red fives where the profile has them.
-function showPicker() {
-  byId("red-fives").hidden = state.rules !== 2;
-  for (const button of document.querySelectorAll("#picker button")) {
-    const isFree = canTake(state.record, state.target, button.dataset.tile);
+// What a tap on this tile would take, as it is read aloud.
+function labelOf(tile, target) {
+  const name = tileName(tile);
+  if (!MELD_WORDS.includes(target)) return name;
+  const digits = meldTiles(target, tile).map((it) => kindOf(it)[0]).join(" ");
+  return target === "chi" ? `${named(target)} ${digits}, from ${name} on` : `${named(target)}: ${name}`;
+}
+
+// Shows what each button would take now, and marks those that can't be taken.
+export function showPicker() {
+  const { record, target } = state;
+  const isMeld = MELD_WORDS.includes(target);
+  for (const button of pickerButtons()) {
+    const tile = tileOf(button.dataset.kind);
+    const isFree = taken(record, target, tile) !== null;
     button.setAttribute("aria-disabled", String(!isFree));
+    button.setAttribute("aria-label", labelOf(tile, target));
+    button.title = labelOf(tile, target);
+    button.dataset.meld = isMeld && isFree ? meldTiles(target, tile).map((it) => it[0]).join("") : "";
+    button.dataset.tile = tile;
+    button.querySelector("use").setAttribute("href", `#face-${tile}`);
   }
-  if (!pickerButtons().some((button) => button.tabIndex === 0)) makeReachable(pickerButtons()[0]);
 }

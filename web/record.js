@@ -1,66 +1,63 @@
 // A record: what is asked of the desk, as the form holds it, and its line.
 
-const JOBS = ["win", "waits", "shape"];
-const MELD_WORDS = ["chi", "pon", "kan", "ankan"];
-const FLAGS = ["ippatsu", "rinshan", "chankan", "last", "first"];
-// The keys that a job may have, in the order in which the line tells them.
+import { textOf, tilesIn } from "./tiles.js";
+
+export const JOBS = ["win", "waits", "shape"];
+export const MELD_WORDS = ["chi", "pon", "kan", "ankan"];
+const TEXTS_OF_TILES = ["on", "dora", "ura", "seen"];
+// The keys that a job's form has, in the order in which the line tells them.
 const KEYS_OF = {
   win: ["open", "on", "by", "seat", "round", "riichi", "flags", "dora", "ura", "counters", "sticks"],
   waits: ["open"],
   shape: ["open", "seen"],
 };
-const MUST_BE = { win: ["on", "by", "seat", "round"], waits: [], shape: [] };
-const TEXTS_OF_TILES = ["on", "dora", "ura", "seen"];
-// The value of each key that is a word or a number.
+// The values that the form has of each key that is a word or a number.
 const VALUES = {
   by: /^(ron|tsumo)$/,
   seat: /^[ESWN]$/,
   round: /^[ESWN]$/,
   riichi: /^[012]$/,
-  flags: /^(ippatsu|rinshan|chankan|last|first)(,(ippatsu|rinshan|chankan|last|first))*$/,
+  flags: /^[a-z]+(,[a-z]+)*$/,
   counters: /^[0-9]{1,2}$/,
   sticks: /^[0-9]{1,2}$/,
 };
 
-function emptyRecord(job) {
+// A record in which nothing is chosen but the round, which lasts for many hands.
+export function emptyRecord(job, round = "E") {
   return {
-    job, hand: [], melds: [], on: [], by: "ron", seat: "S", round: "E", riichi: "0",
+    job, hand: [], melds: [], on: [], by: "", seat: "", round, riichi: "0",
     flags: [], dora: [], ura: [], counters: "0", sticks: "0", seen: [],
   };
 }
 
-// How many concealed tiles the hand of a record has at most.
-function roomOf(record) {
-  return (record.job === "shape" ? 14 : 13) - 3 * record.melds.length;
-}
-
 // All tiles that the record's line shows.
-function tilesOf(record) {
+export function tilesOf(record) {
   const keys = KEYS_OF[record.job];
   const texts = TEXTS_OF_TILES.filter((key) => keys.includes(key)).flatMap((key) => record[key]);
   return [...record.hand, ...record.melds.flatMap((meld) => meld.tiles), ...texts];
 }
 
-function isConcealed(record) {
-  return record.melds.every((meld) => meld.word === "ankan");
+export function textOfMelds(melds) {
+  return melds.map((meld) => `${meld.word}:${textOf(meld.tiles)}`).join(",");
 }
 
 // The text of a key's value; "" where the key is left out.
 function valueOf(record, key) {
-  if (key === "open") return record.melds.map((meld) => `${meld.word}:${textOf(meld.tiles)}`).join(",");
+  if (key === "open") return textOfMelds(record.melds);
   if (key === "flags") return record.flags.join(",");
   if (TEXTS_OF_TILES.includes(key)) return textOf(record[key]);
   return ["riichi", "counters", "sticks"].includes(key) && Number(record[key]) === 0 ? "" : record[key];
 }
 
-function lineOf(record) {
+export function lineOf(record) {
   const keys = KEYS_OF[record.job].map((key) => [key, valueOf(record, key)]).filter(([, value]) => value !== "");
   return [record.job, textOf(record.hand), ...keys.map(([key, value]) => `${key}=${value}`)].filter((word) => word !== "").join(" ");
 }
 
-// The job, the hand and the other words of a line.
-function wordsOf(line) {
-  const [job = "", hand = "", ...rest] = line.split(" ").filter((word) => word !== "");
+// The job, the hand and the other words of a line. A line whose hand isn't there yet has its keys behind the job.
+export function wordsOf(line) {
+  const [job = "", ...rest] = line.split(" ").filter((word) => word !== "");
+  const hand = rest[0] && !rest[0].includes("=") ? rest.shift() : "";
   return { job, hand, keys: rest.map((word) => [word.split("=", 1)[0], word.includes("=") ? word.slice(word.indexOf("=") + 1) : null]) };
 }
 
@@ -78,13 +75,13 @@ function heldValue(key, text) {
 }
 
 // The record of a line, as far as the form can hold it; null where its job isn't one.
-function recordOf(line) {
+export function recordOf(line) {
   const { job, hand, keys } = wordsOf(line);
   if (!JOBS.includes(job)) return null;
-  const record = { ...emptyRecord(job), hand: tilesIn(hand) ?? [] };
+  const record = { ...emptyRecord(job, ""), hand: tilesIn(hand) ?? [] };
   for (const [key, text] of keys) {
     const value = text === null || !KEYS_OF[job].includes(key) ? null : heldValue(key, text);
     if (value !== null) record[key === "open" ? "melds" : key] = value;
   }
-  return record;
+  return job === "win" ? record : { ...record, round: "E" };
 }

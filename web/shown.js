@@ -1,21 +1,53 @@
 // The answer to one line, as it is shown.
 
-function shownWin(answer) {
-  const sizes = answer.isYakuman ? "Yakuman" : `${answer.han} han, ${answer.fu} fu`;
-  const yaku = answer.yaku.map((word) => make("li", {}, yakuName(word)));
-  if (answer.dora > 0) yaku.push(make("li", {}, `Dora ${answer.dora}`));
+import { fieldOf } from "./asked.js";
+import { make, names, textWithTiles, tileImage } from "./elements.js";
+import { named, shantenWords, spoken, yakuName } from "./names.js";
+import { wordsOf } from "./record.js";
+
+export const FIELD_NAMES = {
+  line: "the line", hand: "the hand", on: "the winning tile", open: "the melds", by: "ron or self-draw", seat: "the seat wind",
+  round: "the round wind", riichi: "riichi", flags: "the circumstances", dora: "the dora indicators", ura: "the ura indicators",
+  counters: "the counters", sticks: "the riichi sticks", seen: "the tiles seen elsewhere",
+};
+
+// A number of points, with a thin space before its thousands.
+function points(number) {
+  return String(number).replace(/\B(?=([0-9]{3})+$)/g, "\u202f");
+}
+
+function payWords({ discarder, dealer, each_other: other, each }) {
+  if (discarder !== undefined) return `${points(discarder)} from the discarder`;
+  if (each !== undefined) return `${points(each)} from each player`;
+  return `${points(dealer)} from ${named("dealer")}, ${points(other)} each from two others`;
+}
+
+// The number of han and fu, and the limit that they reach.
+function sizeWords({ yakuman, han, fu, limit }) {
+  if (yakuman) return named("yakuman");
+  const size = `${han} han, ${fu} fu`;
+  return limit ? `${named(limit)}: ${size}` : size;
+}
+
+export function doraWords({ dora }) {
+  return `${named("dora")} ${dora}`;
+}
+
+function shownWin(answer, { by }) {
+  const yaku = answer.yaku.map(({ word }) => names("li", {}, yakuName(word, by)));
+  if (answer.dora > 0) yaku.push(names("li", {}, doraWords(answer)));
   return [
     make("p", { class: "headline" }, `${points(answer.gain)} points`),
-    make("p", {}, `${sizes}: ${answer.pay}`),
+    names("p", {}, `${sizeWords(answer)} \u2022 ${payWords(answer.payment)}`),
     make("ul", { class: "yaku", "aria-label": "Yaku" }, ...yaku),
   ];
 }
 
-function shownWaits(answer) {
-  if (answer.kinds.length === 0) return [make("p", { class: "headline" }, "No waits")];
+function shownWaits({ kinds }) {
+  if (kinds.length === 0) return [make("p", { class: "headline" }, "No waits")];
   return [
-    make("p", { class: "headline" }, `Waits for ${answer.kinds.length} ${answer.kinds.length === 1 ? "kind" : "kinds"}`),
-    make("ul", { class: "accepted", "aria-label": "Waits" }, ...answer.kinds.map((kind) => make("li", {}, tileImage(kind)))),
+    make("p", { class: "headline" }, `Waits for ${kinds.length} ${kinds.length === 1 ? "kind" : "kinds"}`),
+    make("ul", { class: "accepted", "aria-label": "Waits" }, ...kinds.map((kind) => make("li", {}, tileImage(kind)))),
   ];
 }
 
@@ -30,49 +62,43 @@ function discardItem({ discard, accepts, live }) {
   return make("li", {}, tileImage(discard), make("span", {}, `${live} live`), acceptedList(accepts));
 }
 
-function shownShape(answer) {
-  const head = make("p", { class: "headline" }, shantenWords(answer.shanten));
-  const [first] = answer.parts;
-  if (!first || first.discard === null) {
-    return first ? [head, make("p", {}, `Accepts ${first.accepts.length} kinds, ${first.live} live tiles`), acceptedList(first.accepts)] : [head];
-  }
-  const best = [...answer.parts].sort((one, other) => other.live - one.live);
+function shownShape({ shanten, discards, accepts, live }) {
+  const head = names("p", { class: "headline" }, shantenWords(shanten));
+  if (!discards) return [head, make("p", {}, `Accepts ${accepts.length} kinds, ${live} live tiles`), acceptedList(accepts)];
+  if (discards.length === 0) return [head];
+  const best = [...discards].sort((one, other) => other.live - one.live);
   return [head, make("p", {}, "Discard, and what is then accepted:"), make("ol", { class: "discards" }, ...best.map(discardItem))];
 }
 
 // The text in which a fault stands, with its place marked.
-function placeShown(answer, line) {
+function placeShown({ text: field, place }, line) {
   const { hand, keys } = wordsOf(line);
-  const text = answer.field === "hand" ? hand : (keys.find(([key]) => key === answer.field)?.[1] ?? "");
-  const mark = make("span", { class: "place" }, text.slice(answer.place, answer.place + 1) || "its end");
-  return make("p", { class: "raw" }, text.slice(0, answer.place), mark, text.slice(answer.place + 1));
+  const text = field === "hand" ? hand : (keys.find(([key]) => key === field)?.[1] ?? "");
+  const mark = make("span", { class: "place" }, text.slice(place, place + 1) || "its end");
+  return make("p", { class: "raw" }, text.slice(0, place), mark, text.slice(place + 1));
 }
 
 // What a refusal says, without the mark under a place: the page shows the place of a text of tiles itself.
 function saidOf(answer, reasons) {
   const rows = reasons.map((row) => row.trim().replace(/^\^ /, ""));
-  return answer.place === null ? rows : rows.slice(-1);
+  return answer.place === undefined ? rows : rows.slice(1);
 }
 
-function shownRefusal(answer, line, reasons) {
-  const fields = faultyFields(answer, line).map((name) => FIELD_NAMES[name] ?? name);
+function shownRefusal(answer, { line, rules, reasons }) {
+  const field = fieldOf(line, rules);
   const box = make("div", { class: "refused" }, make("p", { class: "headline" }, "Refused"));
-  box.append(...saidOf(answer, reasons).map((row) => make("p", { class: "reason" }, row)), make("p", {}, `Look at ${fields.join(" and ")}.`));
-  if (answer.place !== null) box.append(placeShown(answer, line));
+  box.append(...saidOf(answer, reasons).map((row) => make("p", { class: "reason" }, row)));
+  box.append(make("p", {}, `Look at ${FIELD_NAMES[field] ?? FIELD_NAMES.line}.`));
+  if (answer.place !== undefined) box.append(placeShown(answer, line));
   return [box];
 }
 
-// What a record that is being made still lacks.
-function shownLack(lack) {
-  return [make("div", { class: "lacking" }, make("p", {}, `Still wanted: ${lack}.`))];
-}
-
 // Rows of an explanation: a word, and what it tells. Each kind that a hand waits for has a row.
-function shownReasons(rows) {
+function shownReasons({ reasons, by }) {
   const list = make("dl", { class: "why", "aria-label": "Why" });
-  for (const row of rows.flatMap((it) => it.split("; "))) {
-    const [, word, text] = /^ *(\S+) *(.*)$/.exec(row);
-    list.append(make("dt", {}, word), make("dd", {}, ...textWithTiles(text)));
+  for (const row of reasons.flatMap((it) => it.split("; "))) {
+    const [, word, text] = /^ *(\S+) *(.*)$/.exec(row) ?? [null, row, ""];
+    list.append(make("dt", {}, ...textWithTiles(word)), names("dd", {}, ...textWithTiles(spoken(text, by))));
   }
   return [list];
 }
@@ -82,16 +108,18 @@ const SHOWN = {
   waits: shownWaits,
   shape: shownShape,
   refused: shownRefusal,
-  none: (answer) => [make("p", { class: "headline" }, answer.text === "no yaku" ? "No yaku" : "No win")],
-  other: (answer) => [make("p", { class: "headline" }, answer.text)],
+  "no yaku": () => [make("p", { class: "headline" }, "No yaku")],
+  "no win": () => [make("p", { class: "headline" }, "No win")],
 };
 
-// The parts of the page that show what a line was answered; `lack` is what its record still lacks.
-function shownAnswer(text, line, reasons, lack) {
-  if (text === "") return [make("p", {}, "Tap the tiles of a hand, or type or paste its line.")];
-  const answer = answerOf(text);
-  const isUnfinished = lack !== "" && ["H3", "H6", "H8"].includes(answer.code);
-  const parts = isUnfinished ? shownLack(lack) : SHOWN[answer.sort](answer, line, reasons);
-  const hasRows = reasons.length > 0 && answer.sort !== "refused";
-  return [...parts, ...(hasRows ? shownReasons(reasons) : []), make("p", { class: "raw" }, text)];
+// The parts of the page that show what a line was answered, without the reasons: `about` has the line, its profile, the reasons
+// and how the hand was won.
+export function shownAnswer(answer, about) {
+  return (SHOWN[answer.answer] ?? (() => [make("p", { class: "headline" }, answer.answer)]))(answer, about);
+}
+
+// The same with its reasons, and the answer as a text.
+export function shownWhole(answer, about) {
+  const hasRows = about.reasons.length > 0 && answer.answer !== "refused";
+  return [...shownAnswer(answer, about), ...(hasRows ? shownReasons(about) : []), make("p", { class: "raw" }, about.text)];
 }

@@ -1,5 +1,5 @@
 //! Suit rows: for each number of sets up to four, without and with a pair, the least number of tiles that a choice of
-//! blocks lacks, and the ranks that some least choice lacks. No tables; vectors of eight words.
+//! blocks lacks, and the ranks that some least choice lacks. Vectors of eight words; tables of all patterns without melds.
 //!
 //! All that is unsafe here is SSE2 on registers, which every x86-64 has.
 use std::arch::x86_64::*;
@@ -411,40 +411,122 @@ impl<E: Entries> Ranks<E> {
     }
 }
 
-/// What was made of the suits of a hand: half rows of all, whole ones of those that may have four sets.
+/// Rows of suits: of a hand without melds from the tables, the others made anew, up to three sets, rank by rank.
 pub struct Kept {
-    half: [Ranks<HalfRow>; 3],
-    whole: [Ranks<Row>; 3],
-    is_whole: [bool; 3],
+    tables: &'static Tables,
+    made: [Ranks<HalfRow>; 3],
+}
+
+fn has_melds(caps: &[u8]) -> bool {
+    caps.iter().any(|&cap| cap != 4)
 }
 
 impl Kept {
     pub fn new() -> Kept {
-        Kept { half: [Ranks::new(); 3], whole: [Ranks::new(); 3], is_whole: [false; 3] }
+        Kept { tables: tables(), made: [Ranks::new(); 3] }
     }
 
-    pub fn half_row(&mut self, suit: usize, counts: &[u8; 9], caps: &[u8; 9]) -> Row {
-        self.is_whole[suit] = false;
-        self.half[suit].row(counts, caps).whole()
-    }
-
-    pub fn whole_row(&mut self, suit: usize, counts: &[u8; 9], caps: &[u8; 9]) -> Row {
-        self.is_whole[suit] = true;
-        self.whole[suit].row(counts, caps)
+    /// Of a suit that has melds up to three sets, and up to four of all others.
+    pub fn row(&mut self, suit: usize, counts: &[u8; 9], caps: &[u8; 9]) -> Row {
+        if has_melds(caps) { self.made[suit].row(counts, caps).whole() } else { self.tables.row(counts) }
     }
 
     /// The row of the suit with other counts at this rank.
     pub fn row_again(&self, suit: usize, counts: &[u8; 9], caps: &[u8; 9], rank: usize) -> Row {
-        if self.is_whole[suit] {
-            self.whole[suit].row_again(counts, caps, rank)
-        } else {
-            self.half[suit].row_again(counts, caps, rank).whole()
-        }
+        if has_melds(caps) { self.made[suit].row_again(counts, caps, rank).whole() } else { self.tables.row(counts) }
+    }
+
+    /// The row of the honours, with so many melds as sets that lack nothing.
+    pub fn honour_row(&self, counts: &[u8; 7], caps: &[u8; 7], melds: usize) -> Row {
+        if melds == 0 { self.tables.honours(counts) } else { honour_row(counts, caps, melds) }
     }
 }
 
+/// The rows of all patterns of a suit and of the honours with at most fourteen tiles, no melds beside them.
+pub struct Tables {
+    /// By rank, tiles of earlier ranks and count: what it adds to the place of a pattern.
+    steps: [[[u32; 5]; 15]; 9],
+    rows: Vec<Row>,
+    honours: Vec<Row>,
+}
+
+const MOST: usize = 14;
+
+impl Tables {
+    fn new() -> Tables {
+        // patterns[ranks][tiles]: how many ways the last so many ranks take at most so many tiles
+        let mut patterns = [[1u32; MOST + 1]; 10];
+        for ranks in 1..10 {
+            for tiles in 0..=MOST {
+                patterns[ranks][tiles] = (0..=tiles.min(4)).map(|count| patterns[ranks - 1][tiles - count]).sum();
+            }
+        }
+        let mut steps = [[[0; 5]; 15]; 9];
+        for rank in 0..9 {
+            for before in 0..=MOST {
+                for count in 1..5.min(MOST - before + 2).min(5) {
+                    if before + count - 1 <= MOST {
+                        steps[rank][before][count] = steps[rank][before][count - 1] + patterns[8 - rank][MOST + 1 - before - count];
+                    }
+                }
+            }
+        }
+        let size = patterns[9][MOST] as usize;
+        let mut all = Tables { steps, rows: vec![Row::nothing(); size], honours: vec![Row::nothing(); patterns[7][MOST] as usize] };
+        let mut ranks = Ranks::new();
+        let (mut counts, mut total) = ([0u8; 9], 0);
+        all.fill(&mut ranks, &mut counts, &mut total, 0);
+        all
+    }
+
+    fn fill(&mut self, ranks: &mut Ranks<Row>, counts: &mut [u8; 9], total: &mut usize, rank: usize) {
+        if rank == 9 {
+            let place = self.place(counts);
+            self.rows[place] = ranks.row(counts, &[4; 9]);
+            if counts[..2] == [0, 0] {
+                let seven = *counts[2..].first_chunk().expect("seven ranks are left");
+                self.honours[place] = honour_row(&seven, &[4; 7], 0);
+            }
+            return;
+        }
+        for count in 0..=4.min(MOST - *total) {
+            counts[rank] = count as u8;
+            *total += count;
+            self.fill(ranks, counts, total, rank + 1);
+            *total -= count;
+        }
+        counts[rank] = 0;
+    }
+
+    #[inline(always)]
+    fn place(&self, counts: &[u8]) -> usize {
+        let (mut place, mut before) = (0, 0);
+        for (rank, &count) in counts.iter().enumerate() {
+            place += self.steps[rank + 9 - counts.len()][before & 15][usize::from(count) % 5] as usize;
+            before += usize::from(count);
+        }
+        place
+    }
+
+    #[inline(always)]
+    fn row(&self, counts: &[u8; 9]) -> Row {
+        self.rows[self.place(counts)]
+    }
+
+    #[inline(always)]
+    fn honours(&self, counts: &[u8; 7]) -> Row {
+        self.honours[self.place(counts)]
+    }
+}
+
+/// The tables, made when they are first asked for.
+pub fn tables() -> &'static Tables {
+    static TABLES: std::sync::OnceLock<Tables> = std::sync::OnceLock::new();
+    TABLES.get_or_init(Tables::new)
+}
+
 /// The row of the honours, with so many melds as sets that lack nothing.
-pub fn honour_row(counts: &[u8; 7], caps: &[u8; 7], melds: usize) -> Row {
+fn honour_row(counts: &[u8; 7], caps: &[u8; 7], melds: usize) -> Row {
     let mut row = Row::nothing();
     for _ in 0..melds {
         row = row.with_set();

@@ -1,7 +1,7 @@
-//! Shanten, accepted tiles, discards. No tables.
+//! Shanten, accepted tiles, discards.
 use crate::kinds::{at_least, Each, ALL, ORPHANS};
 use crate::pen::{Pen, NAMES};
-use crate::rows::{honour_row, joined, Kept, Row, Words};
+use crate::rows::{joined, Kept, Row, Words};
 use crate::tiles::{Counts, Melds};
 
 /// Lacks more than any hand.
@@ -18,29 +18,19 @@ impl Hand {
         counts[suit * 9..].first_chunk().expect("a suit has nine kinds")
     }
 
-    fn half_row(&self, kept: &mut Kept, suit: usize) -> Row {
-        kept.half_row(suit, Hand::nine(&self.counts, suit), Hand::nine(&self.caps, suit))
+    fn row(&self, kept: &mut Kept, suit: usize) -> Row {
+        kept.row(suit, Hand::nine(&self.counts, suit), Hand::nine(&self.caps, suit))
     }
 
-    fn whole_row(&self, kept: &mut Kept, suit: usize) -> Row {
-        kept.whole_row(suit, Hand::nine(&self.counts, suit), Hand::nine(&self.caps, suit))
-    }
-
-    /// Four sets of this suit may lack no more than so many.
-    fn may_have_four(&self, suit: usize, lack: i16) -> bool {
-        let held = Hand::nine(&self.counts, suit).iter().sum::<u8>();
-        self.melds == 0 && 12 - i16::from(held) <= lack
-    }
-
-    fn honours(&self) -> Row {
+    fn honours(&self, kept: &Kept) -> Row {
         let seven = |counts: &Counts| *counts[27..].first_chunk().expect("there are seven honours");
-        honour_row(&seven(&self.counts), &seven(&self.caps), self.melds)
+        kept.honour_row(&seven(&self.counts), &seven(&self.caps), self.melds)
     }
 
     /// The row of the suit of a kind that has other counts than before.
     fn row_again(&self, kept: &Kept, kind: usize) -> Row {
         match kind / 9 {
-            3 => self.honours(),
+            3 => self.honours(kept),
             suit => kept.row_again(suit, Hand::nine(&self.counts, suit), Hand::nine(&self.caps, suit), kind % 9),
         }
     }
@@ -109,17 +99,7 @@ struct Joins {
 
 impl Joins {
     fn new(hand: &Hand, kept: &mut Kept) -> Joins {
-        let rows = [hand.half_row(kept, 0), hand.half_row(kept, 1), hand.half_row(kept, 2), hand.honours()];
-        let mut joins = Joins::of(rows);
-        let most = joins.least.max(1);
-        for suit in 0..3 {
-            if hand.may_have_four(suit, most) {
-                let mut rows = joins.rows;
-                rows[suit] = hand.whole_row(kept, suit);
-                joins = Joins::of(rows);
-            }
-        }
-        joins
+        Joins::of([hand.row(kept, 0), hand.row(kept, 1), hand.row(kept, 2), hand.honours(kept)])
     }
 
     fn of(rows: [Row; 4]) -> Joins {

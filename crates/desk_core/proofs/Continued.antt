@@ -8,7 +8,7 @@ use Rattle.std.proofs.lemmas.List.Elements.{All-from_recursion}
 use Rattle.std.proofs.lemmas.Option.{slice_get_cases}
 use Rattle.riichi_hand.specs.contracts.job.JobPartialEq.TheImpl.{ghosts as job_eq}
 use Rattle.riichi_hand.specs.declared.job.Job.{Job}
-use Rattle.desk_core.proofs.Same.{job_eq-Decides}
+use Rattle.riichi_hand.specs.contracts.decided.JobDecided.TheImpl.Laws.{decides-law as job_decides}
 use Rattle.desk_core.proofs.Facts.{IsSound, IsSound-IsLegal, IsLegalAfter-split}
 use Rattle.desk_core.proofs.Steps.{IsOwnStep, IsStep-from_own, count, submit_after_close, submit_over_limit, submit_without_memory, submit_accepted, arrive_unknown, arrive_withdrawn, arrive_given, arrive_again, arrive_other_job, arrive_accepted, with_piece, close_step, take_waiting, take_open, take_finished, take_answer, withdraw_refused, withdraw_without_memory, withdraw_done, CanTakeBack-from_turns}
 use Rattle.desk_core.proofs.Desks.{IsDeskRun-no_table, IsDeskRun-step, IsNewDesk-push, DeskStandsFor-new}
@@ -63,11 +63,11 @@ arrives lane piece = by_withdrawn (is_among lane.withdrawn piece.ticket.seq) ref
   where
     with_job_of : (k : ℕ) (job : Job) → is_among lane.withdrawn piece.ticket.seq ≡ false → lane.next + k ≡ piece.ticket.seq → slice_get lane.window k ≡ Some (job, false) → (b : Bool) → job_eq.eq job piece.job ≡ b → LaneReply lane (Arrive piece)
     with_job_of k job stays seq there true is =
-        let same : job ≡ piece.job = (job_eq-Decides job piece.job).0 is in
+        let same : job ≡ piece.job = (job_decides job piece.job).0 is in
         let there' : slice_get lane.window k ≡ Some (piece.job, false) = there ∙ ap (λ j. Some (j, false)) same in
         record { replied = reply.Arrived arrived.Accepted; new = with_piece lane k piece.job; same_table = refl; step = arrive_accepted lane piece k stays seq there'; ample = λ e. cc }
     with_job_of k job stays seq there false is =
-        let other : job ≢ piece.job = λ same. false≢true (sym is ∙ (job_eq-Decides job piece.job).1 same) in
+        let other : job ≢ piece.job = λ same. false≢true (sym is ∙ (job_decides job piece.job).1 same) in
         record { replied = reply.Arrived arrived.Stranger; new = lane; same_table = refl; step = arrive_other_job lane piece k job stays seq there other; ample = λ e. cc }
 
     with_entry : (k : ℕ) (entry : Job × Bool) → is_among lane.withdrawn piece.ticket.seq ≡ false → lane.next + k ≡ piece.ticket.seq → slice_get lane.window k ≡ Some entry → LaneReply lane (Arrive piece)

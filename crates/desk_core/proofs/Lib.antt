@@ -7,6 +7,5 @@ pub mod Lists
 pub mod Next
 pub mod Passing
 pub mod Promise
-pub mod Same
 pub mod Steps
 pub mod Unique

@@ -31,7 +31,7 @@ impl Piece {
     ghost use Rattle.desk_core.specs.Value.{value_of};
 
     /// A job with its value.
-    fn answered(ticket: Ticket, job: Job, answer: Answer) -> Piece
+    pub fn answered(ticket: Ticket, job: Job, answer: Answer) -> Piece
         requires { answer ≡ value_of job }
         ensures ticket { result.ticket ≡ ticket }
         ensures job { result.job ≡ job }

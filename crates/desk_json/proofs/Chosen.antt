@@ -4,7 +4,7 @@ use Rattle.std.proofs.lemmas.Bool.{lt-ltb}
 use Rattle.std.proofs.lemmas.List.{append-nil, map-append, map-id, map_more}
 use Rattle.std.proofs.lemmas.List.FromFn.{filter_of_map_range_with_len_more}
 use Rattle.std.specs.List.{filter, range_with_len}
-use Rattle.std.specs.Prelude.{slice_index, slice_get, nat_lt, IsTrue, ◌↔◌}
+use Rattle.std.specs.Prelude.{slice_index, slice_get, nat_lt}
 use Rattle.std.proofs.lemmas.Option.{get_or_from_slice_get, slice_get_within}
 use Rattle.riichi_shape.specs.LiveCopies.{pairs_of}
 use Rattle.riichi_shape.specs.declared.discard.Discard.{Discard}
@@ -62,13 +62,6 @@ pub at_end : (text : ℕ → List ℕ) (test : ℕ → Bool) (n end : ℕ) (befo
 at_end text test n end before now later so_far most least =
     let same : n ≡ end = omega arith in
     so_far.bytes ∙ ap (λ m. before ++ listed (texts_below text test m)) same
-
-pub unmarked : (mark told : Bool) → (IsTrue told ↔ (mark ≡ true)) → told ≡ false → mark ≡ false
-unmarked true told both e = absurd (apart (both.1 refl) e)
-  where
-    apart : told ≡ true → told ≡ false → ⊥
-    apart marked e = cc
-unmarked false told both e = refl
 
 -- ---- the texts of a list
 

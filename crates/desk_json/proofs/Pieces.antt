@@ -99,7 +99,7 @@ kind_written kind = ap (λ t. 34 ∷ (t ++ 34 ∷ [])) (escape_kind kind)
 list_ends : (a y x z : List ℕ) → a ++ ((y ++ x) ++ z) ≡ (a ++ y) ++ (x ++ z)
 list_ends a y x z = simp append_assoc
 
-pub waits_written : (marks : List Bool) → answer_text (answer.Waits marks) ≡ parts.waits_text marks
+pub waits_written : (marks : ℕ) → answer_text (answer.Waits marks) ≡ parts.waits_text marks
 unfolding answer_tree waits_tree parts.waits_text written escape_byte
 waits_written marks =
     text_written (waits_tree marks)

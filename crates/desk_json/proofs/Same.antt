@@ -7,7 +7,7 @@ use Rattle.std.proofs.lemmas.List.{ext_get_or}
 use Rattle.std.specs.Fmt.{signed_decimal}
 use Rattle.std.specs.Int.{bit_at}
 use Rattle.std.specs.List.{filter, range_with_len}
-use Rattle.std.specs.Prelude.{codes, slice_index_or, ◌==◌}
+use Rattle.std.specs.Prelude.{codes, ◌==◌}
 use Rattle.json.specs.Json.{Json, string, object, Members, no_members, member}
 use Rattle.riichi_score.specs.declared.payers.Payment.{Payment}
 use Rattle.riichi_score.specs.declared.payers.Payment.TheVariants.{Ron, Tsumo, DealerTsumo}
@@ -19,7 +19,8 @@ use Rattle.riichi_shape.specs.declared.accepts.Accepts.{Accepts}
 use Rattle.riichi_shape.specs.declared.accepts.Accepts.TheVariants.{Thirteen, Fourteen}
 use Rattle.riichi_shape.specs.declared.discard.Discard.{Discard}
 use Rattle.riichi_shape.specs.declared.shape_answer.ShapeAnswer.{ShapeAnswer}
-use Rattle.riichi_shape.proofs.KindLemmas.{same_members}
+use Rattle.riichi_tiles.specs.HeldKinds.{is_held}
+use Rattle.riichi_tiles.proofs.KindSets.{same_members}
 use Rattle.riichi_yaku.specs.declared.table.Yaku.{Yaku}
 use Rattle.riichi_yaku.specs.declared.table.Yaku.TheVariants.{Riichi}
 use Rattle.riichi_yaku.specs.Table.{every_yaku, number}
@@ -136,7 +137,7 @@ numbers_in set =
     chosen_values number (has set) every_yaku ∙ ap (filter (has set)) numbers
 
 same_sets : (a b : ℕ) → a < 2 ^ 41 → b < 2 ^ 41 → items_of yaku_tree (yaku_in a) ≡ items_of yaku_tree (yaku_in b) → a ≡ b
-unfolding has
+unfolding is_held has
 same_sets a b low high e =
     let yaku = same_items yaku_tree (λ y. Unit {0}) (λ x y h k. same_yaku x y) (yaku_in a) (yaku_in b) (each_of_all (yaku_in a)) (each_of_all (yaku_in b)) e in
     let numbers = sym (numbers_in a) ∙ ap (map number) yaku ∙ numbers_in b in
@@ -196,21 +197,19 @@ same_lists : (kinds others : List ℕ) → answer_of_sort (codes "waits") ((code
     → items_of kind_tree kinds ≡ items_of kind_tree others
 same_lists kinds others e = cc
 
-marked_kinds : (marks : List Bool) → Each (λ k. k < 34) (kinds_in marks)
+set_kinds : (set : ℕ) → Each (λ k. k < 34) (kinds_in set)
 unfolding kinds_in
-marked_kinds marks = each_in_range (λ k. slice_index_or marks k false) 0 34 34 (omega arith)
+set_kinds set = each_in_range (is_held set) 0 34 34 (omega arith)
 
-same_marks : (a b : List Bool) → length a ≡ 34 → length b ≡ 34 → kinds_in a ≡ kinds_in b → a ≡ b
+same_kind_sets : (a b : ℕ) → a < 2 ^ 34 → b < 2 ^ 34 → kinds_in a ≡ kinds_in b → a ≡ b
 unfolding kinds_in
-same_marks a b long as_long kinds =
-    ext_get_or false a b (long ∙ sym as_long)
-    (λ i within. same_tests (λ k. slice_index_or a k false) (λ k. slice_index_or b k false) 0 34 kinds i (omega arith) (omega arith))
+same_kind_sets a b few as_few kinds = same_members 34 a b few as_few (λ i within. same_tests (is_held a) (is_held b) 0 34 kinds i (omega arith) (omega arith))
 
-same_waits : (a b : List Bool) → length a ≡ 34 → length b ≡ 34 → waits_tree a ≡ waits_tree b → a ≡ b
+same_waits : (a b : ℕ) → a < 2 ^ 34 → b < 2 ^ 34 → waits_tree a ≡ waits_tree b → a ≡ b
 unfolding waits_tree
-same_waits a b long as_long e =
-    same_marks a b long as_long
-    (same_items kind_tree (λ k. k < 34) same_kinds (kinds_in a) (kinds_in b) (marked_kinds a) (marked_kinds b) (same_lists (kinds_in a) (kinds_in b) e))
+same_waits a b few as_few e =
+    same_kind_sets a b few as_few
+    (same_items kind_tree (λ k. k < 34) same_kinds (kinds_in a) (kinds_in b) (set_kinds a) (set_kinds b) (same_lists (kinds_in a) (kinds_in b) e))
 
 -- ---- shapes
 

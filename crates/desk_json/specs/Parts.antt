@@ -79,10 +79,10 @@ win_text NoWin = codes "{\"answer\":\"no win\"}"
 abbrev pub quoted_kind : ℕ → List ℕ
 quoted_kind kind = codes "\"" ++ kind_text kind ++ codes "\""
 
-abbrev pub kinds_text : List Bool → List ℕ
+abbrev pub kinds_text : ℕ → List ℕ
 kinds_text marks = listed (map quoted_kind (kinds_in marks))
 
-unfoldable pub waits_text : List Bool → List ℕ
+unfoldable pub waits_text : ℕ → List ℕ
 waits_text marks = codes "{\"answer\":\"waits\",\"kinds\":[" ++ kinds_text marks ++ codes "]}"
 
 -- ---- shapes

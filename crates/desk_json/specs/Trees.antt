@@ -1,7 +1,8 @@
 -- The answers as values of JSON.
-use Rattle.std.specs.Prelude.{ℕ, Bool, false, List, [], ◌∷◌, ◌==◌, if◌then◌else◌, codes, decimal, filter, slice_index_or}
+use Rattle.std.specs.Prelude.{ℕ, Bool, List, [], ◌∷◌, ◌==◌, if◌then◌else◌, codes, decimal, filter}
 use Rattle.std.specs.Fmt.{signed_decimal}
 use Rattle.json.specs.Json.{Json, null, boolean, number, string, array, object, Items, no_items, item, Members, no_members, member}
+use Rattle.riichi_tiles.specs.HeldKinds.{is_held}
 use Rattle.riichi_tiles.specs.Melds.{every_kind}
 use Rattle.riichi_hand.specs.FaultTexts.{line_code_text, notation_code_text, name_text}
 use Rattle.riichi_hand.specs.declared.fault.LineFault.{LineFault}
@@ -97,11 +98,11 @@ win_tree NoWin = answer_of_sort (codes "no win") []
 
 -- ---- waits
 
--- the marked kinds, ascending
-unfoldable pub kinds_in : List Bool → List ℕ
-kinds_in marks = filter (λ kind. slice_index_or marks kind false) every_kind
+-- the kinds of a set, ascending
+unfoldable pub kinds_in : ℕ → List ℕ
+kinds_in set = filter (is_held set) every_kind
 
-unfoldable pub waits_tree : List Bool → Json
+unfoldable pub waits_tree : ℕ → Json
 waits_tree marks = answer_of_sort (codes "waits") ((codes "kinds", list_of kind_tree (kinds_in marks)) ∷ [])
 
 -- ---- shapes

@@ -60,5 +60,5 @@ IsWholeWin NoWin = Unit {0}
 
 abbrev pub IsWhole : Answer → Type 0
 IsWhole (answer.Win win) = IsWholeWin win
-IsWhole (answer.Waits marks) = length marks ≡ 34
+IsWhole (answer.Waits marks) = marks < 2 ^ 34
 IsWhole (answer.Shape shape) = IsWholeShape shape

@@ -8,7 +8,6 @@ ghost use Rattle.desk_json.specs.Whole as spec;
 use desk_core::Answer;
 use riichi_score::{Payment, Score, WinAnswer};
 use riichi_shape::{Accepts, Discard, DiscardList, LiveList, ShapeAnswer};
-use riichi_tiles::Kind;
 
 /// What a reader of JSON reads in the text of an answer is the answer's tree.
 pub fn each_text_reads_back(answer: &Answer)
@@ -32,7 +31,7 @@ fn see_answer(answer: &Answer)
     match answer {
         Answer::Win(win) => see_win(win),
         Answer::Waits(kinds) => {
-            let _east = kinds.contains(Kind::at(27));
+            let _bits = kinds.bits();
         }
         Answer::Shape(shape) => see_shape(shape),
     }

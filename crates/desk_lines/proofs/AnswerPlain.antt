@@ -1,6 +1,6 @@
 -- No answer has a line feed in it, or begins with two spaces.
 use Rattle.std.proofs.Common.{◌≡◌, ℕ, ℤ, pos, negsuc, suc, ◌+◌, ◌%◌, List, [], ◌∷◌, ◌++◌, Bool, true, false, cond, nat_eq, Option, Some, None, Result, Ok, Err, refl, subst, arith}
-use Rattle.std.specs.Prelude.{codes, decimal}
+use Rattle.std.specs.Prelude.{◌==◌, codes, decimal}
 use Rattle.std.specs.Fmt.{signed_decimal}
 use Rattle.std.specs.List.{list_any}
 use Rattle.riichi_tiles.specs.Printing.{tiles_text, once}
@@ -92,8 +92,8 @@ win_text-plain (Won score) =
 
 -- ---- waits and shapes
 
-waits-plain : (kinds : List Bool) → plain (waits_text kinds) ≡ true
-waits-plain kinds = elim (list_any (λ mark. mark) kinds) as (λ test. plain (cond test (tiles_text (once kinds)) (codes "-")) ≡ true) [ true ↦ tiles_text-plain (once kinds) | false ↦ refl ]
+waits-plain : (kinds : ℕ) → plain (waits_text kinds) ≡ true
+waits-plain kinds = elim (kinds == 0) as (λ test. plain (cond test (codes "-") (tiles_text (once kinds))) ≡ true) [ true ↦ refl | false ↦ tiles_text-plain (once kinds) ]
 
 pair-plain : (pair : ℕ × ℕ) → plain (pair_text pair) ≡ true
 pair-plain pair = byte-plain (49 + pair.0 % 9) (letter_of pair.0 ∷ 58 ∷ (48 + pair.1) ∷ []) (omega arith) (byte-plain (letter_of pair.0) (58 ∷ (48 + pair.1) ∷ []) (omega (arith, letter_high pair.0)) (byte-plain (48 + pair.1) [] (omega arith) refl))

@@ -14,7 +14,7 @@ use Rattle.atomic_table.proofs.Lists.{at_set, set_again, at_snoc, exchanged}
 use Rattle.desk_run.specs.Counts.{one_if, same_ticket, times}
 use Rattle.desk_run.specs.Views.{entering, has_number, is_at, holds_at, finished_of, numbered, holders, finishes, new_table, new_worker, with_state, offering, table_lost, holding, worker_lost, having_finished, looking}
 use Rattle.desk_run.specs.Rule.{count_of, HeldWith, Standing, fresh, vacant, ready, taken, done, Seated, Orderly}
-use Rattle.desk_run.specs.Plays.{SeatState, Claims, Fetches, table_of, worker_of, stop_of, entered, entered_table, entered_worker, entered_stop, took_up, offered, claimed, finished, fetched, stopped, looked}
+use Rattle.desk_run.specs.Plays.{SeatState, Claims, Fetches, table_of, worker_of, stop_of, entered, entered_table, entered_worker, entered_stop, took_up, offered, claimed, tried, finished, fetched, seen_ready, seen_done, stopped, looked}
 use Rattle.desk_core.specs.declared.ticket.Ticket.{Ticket}
 use Rattle.riichi_hand.specs.declared.job.Job.{Job}
 use Rattle.desk_core.specs.Ticketed.{Ticketed}
@@ -147,6 +147,82 @@ claims size id p v carried said free near s o wide me _ = let i : ℕ = 2 + p in
       tt,
       lost_worker size s o id p v me free,
       λ r e. ((λ hit. absurd (miss hit)), λ _. ap (λ (q : ℕ). let n : SeatState = (Worker (worker_lost v q), carried) in n) (two_more p r e)),
+    ))
+
+-- the same, where a miss is not noted
+pub tries : (size : BoardSize) (id p : ℕ) (v : WorkerView) (carried : List (ℕ × Content)) (said : Option Content) → v.held ≡ None → p < count_of size
+    → Allows (Orderly size) (count_of size) id (Worker v, carried) (2 + p) (λ n. either (eqb n 1) 2 n)
+    (tried (step (count_of size) (2 + p) 1 2 said) (Worker v, carried))
+tries size id p v carried said free near s o wide me _ = let i : ℕ = 2 + p in
+    let then : ℕ → SeatState → Type 0 = tried (step (count_of size) (2 + p) 1 2 said) (Worker v, carried) in
+    exchanged (get_or s.words i 0) 1 2 (Goes size s i id (Worker v, carried) then)
+    (λ hit. let f = ready_place (get_or s.words (2 + p) 0) p (get_elem? s.homes p) (o.states p) s.views hit (o.places p near) in
+    let x : Ticket = f.0 in let job : Job = f.1 in let w : WorkerView = holding v p x job in let vs : List View = set s.views id (Worker w) in
+    let others_free : (q : ℕ) → q ≢ p → (is_at q v.held ≡ false) × (is_at q w.held ≡ false) = λ q ne. (ap (is_at q) free, ne_eqb p q (λ e. ne (sym e))) in
+    let alone : HeldWith p x job vs = λ j u h at has here. ⊎_elim
+    (λ (y : (j ≡ id) × (Worker w ≡ Worker u)). let e : Worker w ≡ Worker u = y.1 in let d : w ≡ u = cc in
+    let c : Some (record { place = p; ticket = x; job = job }) ≡ Some h = ap (λ (z : WorkerView). z.held) d ∙ has in held_is p x job h c)
+    (λ (y : (j ≢ id) × (get_elem? s.views j ≡ some (Worker u))). let z = term_le (λ u. one_if (holds_at p u)) s.views j (Worker u) y.1 in let a = one (holds_at p (Worker u)) (is_holding u h p has here) in let b = f.4 in absurd (omega arith))
+    (at_set s.views id j (Worker w) (Worker u) at) in
+    let counted : holders p vs ≡ 1 = let c = sum_by-changed (λ u. one_if (holds_at p u)) s.views id (Worker v) (Worker w) me in
+    let a : one_if (holds_at p (Worker v)) ≡ 0 = ap (λ h. one_if (is_at p h)) free in let b : one_if (holds_at p (Worker w)) ≡ 1 = one (holds_at p (Worker w)) (eq-eqb p p refl) in let z = f.4 in omega arith in (
+      Worker w,
+      takes p (Offer x job),
+      f.2,
+      worker_step size s o id p 2 v w none me wide near (refl, refl) others_free
+          (taken x job refl refl f.3 counted alone (finishes_same s.views id x (Worker v) (Worker w) me refl ∙ f.5))
+          (λ q y j ne h l. refl)
+          (λ y. (
+            let e = finishes_same s.views id y (Worker v) (Worker w) me refl in let a = o.once y in omega arith,
+            λ h. finishes_same s.views id y (Worker v) (Worker w) me refl ∙ o.offered y h,
+          )),
+      λ r e. ((λ _. subst (λ (q : ℕ). Claims (Worker v, carried) q (Worker w, (p, Offer x job) ∷ carried)) (two_more p r e) (x, job, refl)), λ miss. absurd (miss hit)),
+    ))
+    (λ miss. (
+      Worker v,
+      keeps,
+      tt,
+      unmoved size s o id i (Worker v) (Worker v) me (λ n. refl) (o.seats id (Worker v) me) (λ q. (ap (is_at q) free, ap (is_at q) free)) (λ x. refl),
+      λ r e. ((λ hit. absurd (miss hit)), λ _. refl),
+    ))
+
+-- a look at a place: no word changes, and where nothing is ready the view notes the place
+pub sees_ready : (size : BoardSize) (id p : ℕ) (v : WorkerView) (carried : List (ℕ × Content)) → v.held ≡ None
+    → Allows (Orderly size) (count_of size) id (Worker v, carried) (2 + p) (λ n. n) (seen_ready (step (count_of size) (2 + p) 0 0 none) (Worker v, carried))
+sees_ready size id p v carried free s o wide me _ =
+    dite (ℕ_discrete (get_or s.words (2 + p) 0) 1)
+    (λ hit. (
+      Worker v,
+      keeps,
+      tt,
+      unmoved size s o id (2 + p) (Worker v) (Worker v) me (λ n. refl) (o.seats id (Worker v) me) (λ q. (ap (is_at q) free, ap (is_at q) free)) (λ x. refl),
+      λ q e. ((λ _. refl), λ miss. absurd (miss hit)),
+    ))
+    (λ miss. (
+      Worker (worker_lost v p),
+      keeps,
+      tt,
+      lost_worker size s o id p v me free,
+      λ r e. ((λ hit. absurd (miss hit)), λ _. ap (λ (q : ℕ). let n : SeatState = (Worker (worker_lost v q), carried) in n) (two_more p r e)),
+    ))
+
+pub sees_done : (size : BoardSize) (id k : ℕ) (v : TableView) (carried : List (ℕ × Content))
+    → Allows (Orderly size) (count_of size) id (Table v, carried) (2 + (v.base + k)) (λ n. n) (seen_done (step (count_of size) (2 + (v.base + k)) 0 0 none) (Table v, carried))
+sees_done size id k v carried s o wide me _ = let p : ℕ = v.base + k in let i : ℕ = 2 + p in
+    dite (ℕ_discrete (get_or s.words i 0) 3)
+    (λ hit. (
+      Table v,
+      keeps,
+      tt,
+      unmoved size s o id i (Table v) (Table v) me (λ n. refl) (o.seats id (Table v) me) (λ q. (refl, refl)) (λ x. refl),
+      λ r e. ((λ _. refl), λ miss. absurd (miss hit)),
+    ))
+    (λ miss. (
+      Table (table_lost v p),
+      keeps,
+      tt,
+      lost_table size s o id i p v me,
+      λ r e. ((λ hit. absurd (miss hit)), λ _. ap (λ (j : ℕ). let n : SeatState = (Table (table_lost v (v.base + j)), carried) in n) (same_place v.base r k e)),
     ))
 
 pub finishes_at : (size : BoardSize) (id p : ℕ) (v : WorkerView) (h : Held) (piece : Ticketed) (more : List (ℕ × Content)) → v.held ≡ Some h → h.place ≡ p → piece.ticket ≡ h.ticket → piece.job ≡ h.job → p < count_of size
@@ -336,11 +412,29 @@ module _ (key size : BoardSize) (slots id word : ℕ) (m : SeatState) (keyed : k
       along_me (λ a n i y. Allows (Orderly a) n id y i (λ z. either (eqb z 1) 2 z) (claimed (step n i 1 2 none) y)) key size slots (count_of size) word (2 + p) m (Worker v, m.1) keyed sized at (λ i. (is i, m.1))
       (claims size id p v m.1 none free (omega arith))
 
+  pub may_try : (p : ℕ) → m.0 ≡ Worker (worker_of m.0) → word ≡ 2 + p → (worker_of m.0).held ≡ None → p < slots
+      → Allows (Orderly key) slots id m word (λ n. either (eqb n 1) 2 n) (tried (step slots word 1 2 none) m)
+  may_try p is at free near = let v : WorkerView = worker_of m.0 in
+      along_me (λ a n i y. Allows (Orderly a) n id y i (λ z. either (eqb z 1) 2 z) (tried (step n i 1 2 none) y)) key size slots (count_of size) word (2 + p) m (Worker v, m.1) keyed sized at (λ i. (is i, m.1))
+      (tries size id p v m.1 none free (omega arith))
+
   pub may_finish : (p : ℕ) (v : WorkerView) (h : Held) (piece : Ticketed) (more : List (ℕ × Content)) → m ≡ (Worker v, (p, Done piece) ∷ more) → word ≡ 2 + p → v.held ≡ Some h → h.place ≡ p → piece.ticket ≡ h.ticket → piece.job ≡ h.job → p < slots
       → Allows (Orderly key) slots id m word (λ _. 3) (λ _. finished (step slots word 3 0 none) m 3)
   may_finish p v h piece more is at has here ticket job near =
       along_me (λ a n i y. Allows (Orderly a) n id y i (λ _. 3) (λ _. finished (step n i 3 0 none) y 3)) key size slots (count_of size) word (2 + p) m (Worker v, (p, Done piece) ∷ more) keyed sized at is
       (finishes_at size id p v h piece more has here ticket job (omega arith))
+
+  pub may_see_ready : (p : ℕ) → m.0 ≡ Worker (worker_of m.0) → word ≡ 2 + p → (worker_of m.0).held ≡ None
+      → Allows (Orderly key) slots id m word (λ n. n) (seen_ready (step slots word 0 0 none) m)
+  may_see_ready p is at free = let v : WorkerView = worker_of m.0 in
+      along_me (λ a n i y. Allows (Orderly a) n id y i (λ z. z) (seen_ready (step n i 0 0 none) y)) key size slots (count_of size) word (2 + p) m (Worker v, m.1) keyed sized at (λ i. (is i, m.1))
+      (sees_ready size id p v m.1 free)
+
+  pub may_see_done : (k : ℕ) → m.0 ≡ Table (table_of m.0) → word ≡ 2 + ((table_of m.0).base + k)
+      → Allows (Orderly key) slots id m word (λ n. n) (seen_done (step slots word 0 0 none) m)
+  may_see_done k is at = let v : TableView = table_of m.0 in
+      along_me (λ a n i y. Allows (Orderly a) n id y i (λ z. z) (seen_done (step n i 0 0 none) y)) key size slots (count_of size) word (2 + (v.base + k)) m (Table v, m.1) keyed sized at (λ i. (is i, m.1))
+      (sees_done size id k v m.1)
 
   pub may_halt : m.0 ≡ Stop (stop_of m.0) → word ≡ 1 → Allows (Orderly key) slots id m word (λ _. 1) (λ _. stopped (step slots word 1 0 none) m 1)
   may_halt is at = let v : StopView = stop_of m.0 in

@@ -1,10 +1,13 @@
 -- The slot that a seat took last.
 use Rattle.std.proofs.Common.{◌≡◌, ℕ, ◌+◌, refl, subst, List, ◌∷◌, sym, ap, ◌∙◌, get_or}
 use Rattle.atomic_table.specs.Table.{rest}
-use Rattle.desk_run.specs.Plays.{SeatState, table_of}
-use Rattle.desk_run.specs.Views.{offering}
+use Rattle.std.specs.Prelude.{Some}
+use Rattle.desk_run.specs.Counts.{times}
+use Rattle.desk_run.specs.Plays.{SeatState, Judges, table_of, worker_of}
+use Rattle.desk_run.specs.Views.{offering, holding, having_finished}
+use Rattle.desk_run.specs.declared.held.Held.{Held}
 use Rattle.desk_run.specs.declared.view.TableView.{TableView}
-use Rattle.desk_run.specs.declared.view.View.TheVariants.{Table}
+use Rattle.desk_run.specs.declared.view.View.TheVariants.{Table, Worker}
 use Rattle.desk_core.specs.declared.ticket.Ticket.{Ticket}
 use Rattle.riichi_hand.specs.declared.job.Job.{Job}
 use Rattle.desk_core.specs.Ticketed.{Ticketed}
@@ -15,11 +18,34 @@ use Rattle.desk_run.specs.declared.view.View.{View}
 pub front_of : (m : SeatState) (v : View) (p : ℕ) (x : Content) (more : List (ℕ × Content)) → m ≡ (v, (p, x) ∷ more) → m.1 ≡ (p, x) ∷ rest m.1
 front_of m v p x more e = let d : m.1 ≡ (p, x) ∷ more = ap (λ (n : SeatState). n.1) e in d ∙ ap (λ (l : List (ℕ × Content)). (p, x) ∷ l) (sym (ap rest d))
 
--- an exchange finds what was there, and leaves the new content
-pub swapped : (m n : SeatState) (v : View) (p : ℕ) (x y r : Content) (more : List (ℕ × Content)) → m ≡ (v, (p, x) ∷ more) → m.1 ≡ (p, r) ∷ rest m.1 → n ≡ (m.0, (p, y) ∷ rest m.1)
-    → (x ≡ r) × (n ≡ (v, (p, y) ∷ more))
-swapped m n v p x y r more e f g = let d : m.1 ≡ (p, x) ∷ more = ap (λ (z : SeatState). z.1) e in
-    (ap (λ (l : List (ℕ × Content)). (get_or l 0 (0, Empty)).1) (sym d ∙ f), g ∙ ap (λ (z : SeatState). let w : SeatState = (z.0, (p, y) ∷ rest z.1) in w) e)
+-- what a seat finds in its slot in front
+pub found_in : (m : SeatState) (v : View) (p : ℕ) (x r : Content) (more : List (ℕ × Content)) → m ≡ (v, (p, x) ∷ more) → m.1 ≡ (p, r) ∷ rest m.1 → r ≡ x
+found_in m v p x r more e f = let d : m.1 ≡ (p, x) ∷ more = ap (λ (z : SeatState). z.1) e in
+    ap (λ (l : List (ℕ × Content)). (get_or l 0 (0, Empty)).1) (sym f ∙ d)
+
+-- what it has once something else lies there
+pub left_in : (m : SeatState) (v : View) (p : ℕ) (x y z : Content) (more : List (ℕ × Content)) → m ≡ (v, (p, x) ∷ more) → y ≡ z
+    → (let n : SeatState = (m.0, (p, y) ∷ rest m.1) in n) ≡ (v, (p, z) ∷ more)
+left_in m v p x y z more e same =
+    ap (λ (s : SeatState). let n : SeatState = (s.0, (p, y) ∷ rest s.1) in n) e ∙ ap (λ (c : Content). let n : SeatState = (v, (p, c) ∷ more) in n) same
+
+-- an offer that was judged in place
+pub judged_in : (m n : SeatState) (p : ℕ) (x r : Ticket) (job : Job) (left : Content) → n ≡ (Worker (holding (worker_of m.0) p x job), (p, Offer x job) ∷ m.1) → (r ≡ x) × (left ≡ Done (record { ticket = x; job = job }))
+    → Judges m p r (n.0, (p, left) ∷ rest n.1)
+judged_in m n p x r job left is then = (
+  job,
+  left_in n (Worker (holding (worker_of m.0) p x job)) p (Offer x job) left (Done (record { ticket = x; job = job })) m.1 is then.1
+      ∙ ap (λ (y : Ticket). let w : SeatState = (Worker (holding (worker_of m.0) p y job), (p, Done (record { ticket = y; job = job })) ∷ m.1) in w) (sym then.0),
+)
+
+-- what finishing answers, at the seat that was found
+pub finished_from : (m n after : SeatState) (p : ℕ) (x : Ticket) → Judges m p x n
+    → ((h : Held) → (worker_of n.0).held ≡ Some h → (after ≡ (Worker (having_finished (worker_of n.0) h.ticket), rest n.1)) × (times h.ticket (worker_of n.0).finished ≡ 0))
+    → (after ≡ (Worker (having_finished (worker_of m.0) x), m.1)) × (times x (worker_of m.0).finished ≡ 0)
+finished_from m n after p x judges play =
+    let Tells : SeatState → Type 0 = λ s. (h : Held) → (worker_of s.0).held ≡ Some h → (after ≡ (Worker (having_finished (worker_of s.0) h.ticket), rest s.1)) × (times h.ticket (worker_of s.0).finished ≡ 0) in
+    let job : Job = judges.0 in
+    let told : Tells (Worker (holding (worker_of m.0) p x job), (p, Done (record { ticket = x; job = job })) ∷ m.1) = subst Tells judges.1 play in told (record { place = p; ticket = x; job = job }) refl
 
 pub done_piece : (a b : Ticketed) → Done a ≡ Done b → a ≡ b
 done_piece a b e = cc

@@ -1,7 +1,7 @@
 -- What each step of a table leaves of its play.
 use Rattle.std.proofs.Common.{◌≡◌, ℕ, zero, suc, ◌+◌, ◌<◌, ◌≤◌, Bool, true, false, List, [], ◌∷◌, ◌++◌, length, take, drop, set, get_or, sym, refl, ap, ◌∙◌, subst, arith, length-append, append_assoc}
 use Rattle.std.proofs.lemmas.Bool.{false≢true}
-use Rattle.std.proofs.lemmas.List.{length-map}
+use Rattle.std.proofs.lemmas.List.{length-map, append-nil, nil_from_length}
 use mathlib.Core.Option.{some, some-injective}
 use lib.ListN.{get_elem?}
 use Rattle.desk_core.specs.Value.{value_of}
@@ -95,3 +95,13 @@ room_for lane new jobs n seq answers answer g b =
     let first : answers ++ value_of g.0 ∷ values (jobs_of g.1) ≡ values (take n jobs) = ap (λ (l : List (Job × Bool)). answers ++ values (jobs_of l)) (sym g.2) ∙ b.given in
     let long : length (answers ++ value_of g.0 ∷ values (jobs_of g.1)) ≡ length (values (take n jobs)) = ap (λ (l : List Answer). length l) first in
     let a = length-append answers (value_of g.0 ∷ values (jobs_of g.1)) in let m = length-map (take n jobs) value_of in let l = length-taken n jobs b.within in let w = b.within in omega arith
+
+-- a table that has as many answers as it has jobs was given them all
+pub all_given : (lane : LaneState) (jobs : List Job) (next : ℕ) (answers : List Answer) → IsPlayed lane jobs next answers → length answers ≡ length jobs → answers ≡ values jobs
+all_given lane jobs next answers p same =
+    let left : List Answer = values (jobs_of lane.window) in
+    let lengths = ap length p.given in let parts = length-append answers left in let each = length-map (take next jobs) value_of in
+    let first = length-taken next jobs p.within in let within = p.within in
+    let none : left ≡ [] = nil_from_length left (omega arith) in
+    let all : next ≡ length jobs = omega arith in
+    sym (append-nil answers) ∙ ap (λ (l : List Answer). answers ++ l) (sym none) ∙ p.given ∙ ap (λ (n : ℕ). values (take n jobs)) all ∙ ap values (take-whole jobs)

@@ -1,5 +1,6 @@
 pub mod Counts
 pub mod Views
+pub mod Slots
 pub mod Rule
 pub mod Plays
 pub mod Seats

@@ -76,8 +76,16 @@ offered st m r n = (k : ℕ) (x : Ticket) (job : Job) → let v = table_of m.0 i
 abbrev pub Claims : SeatState → ℕ → SeatState → Type 0
 Claims m p n = (x : Ticket) × (job : Job) × (n ≡ (Worker (holding (worker_of m.0) p x job), (p, Offer x job) ∷ m.1))
 
+-- the piece of the ticket that the worker holds lies in front, with its job
+abbrev pub Judges : SeatState → ℕ → Ticket → SeatState → Type 0
+Judges m p x n = (job : Job) × (n ≡ (Worker (holding (worker_of m.0) p x job), (p, Done (record { ticket = x; job = job })) ∷ m.1))
+
 abbrev pub claimed : Play
 claimed st m r n = (p : ℕ) → st.word ≡ 2 + p → (r ≡ st.first → Claims m p n) × (r ≢ st.first → n ≡ (Worker (worker_lost (worker_of m.0) p), m.1))
+
+-- the same, where a place that was not ready is not noted
+abbrev pub tried : Play
+tried st m r n = (p : ℕ) → st.word ≡ 2 + p → (r ≡ st.first → Claims m p n) × (r ≢ st.first → n ≡ m)
 
 abbrev pub finished : Play
 finished st m r n = (h : Held) → let v = worker_of m.0 in v.held ≡ Some h → (n ≡ (Worker (having_finished v h.ticket), rest m.1)) × (times h.ticket v.finished ≡ 0)
@@ -92,6 +100,14 @@ FetchesAt m place k n = Fetches m k n × (place ≡ (table_of m.0).base + k)
 
 abbrev pub fetched : Play
 fetched st m r n = (k : ℕ) → let v = table_of m.0 in st.word ≡ 2 + (v.base + k) → (r ≡ st.first → Fetches m k n) × (r ≢ st.first → n ≡ (Table (table_lost v (v.base + k)), m.1))
+
+-- a worker that found no offer notes the place, and else nothing has changed
+abbrev pub seen_ready : Play
+seen_ready st m r n = (p : ℕ) → st.word ≡ 2 + p → (r ≡ 1 → n ≡ m) × (r ≢ 1 → n ≡ (Worker (worker_lost (worker_of m.0) p), m.1))
+
+-- a table that found no piece notes the place, and else nothing has changed
+abbrev pub seen_done : Play
+seen_done st m r n = (k : ℕ) → let v = table_of m.0 in st.word ≡ 2 + (v.base + k) → (r ≡ 3 → n ≡ m) × (r ≢ 3 → n ≡ (Table (table_lost v (v.base + k)), m.1))
 
 abbrev pub stopped : Play
 stopped st m r n = n ≡ (Stop (record { number = (stop_of m.0).number; knows_stop = true }), m.1)

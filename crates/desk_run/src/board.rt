@@ -1,9 +1,9 @@
 ghost use Rattle.std.specs.Prelude.{◌≡◌, ◌+◌, ◌<◌};
 ghost use Rattle.desk_run.specs.Rule.{count_of};
 
-use crate::content::Content;
 use crate::rule::Order;
 use crate::size::BoardSize;
+use crate::slot::Slot;
 use crate::view::View;
 use atomic_table::Table;
 use std::alloc::Global;
@@ -11,7 +11,7 @@ use std::alloc::Global;
 /// The places that the seats share: for each an atomic word and a slot.
 #[derive(Drop)]
 pub struct Board {
-    pub(crate) table: Table<Content, View, BoardSize, Order, Global>,
+    pub(crate) table: Table<Slot, View, BoardSize, Order, Global>,
     pub(crate) size: BoardSize,
     ghost keyed: { table.shared.key ≡ size },
     ghost sized: { (table.shared.table_id.words ≡ 2 + count_of size) × (table.shared.table_id.slots ≡ count_of size) × (count_of size < 4096) },

@@ -36,6 +36,7 @@ mod run_fault;
 mod running;
 mod runs;
 mod size;
+mod slot;
 mod start;
 mod steps;
 mod stop_seat;

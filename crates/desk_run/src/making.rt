@@ -7,9 +7,9 @@ ghost use Rattle.desk_run.specs.declared.content.Content.TheVariants.{Empty};
 ghost use Rattle.desk_run.specs.declared.view.View.TheVariants.{Entering};
 
 use crate::board::Board;
-use crate::content::Content;
 use crate::lane_places::LanePlaces;
 use crate::size::BoardSize;
+use crate::slot::Slot;
 use crate::steps::Seat;
 use crate::stop_seat::StopSeat;
 use crate::table_seat::TableSeat;
@@ -17,12 +17,12 @@ use crate::worker_seat::WorkerSeat;
 use atomic_table::{Refused, Table};
 use std::alloc::{AllocError, Global};
 
-fn empty_places(alloc: Global, count: usize) -> Result<Vec<Content>, AllocError>
+fn empty_places(alloc: Global, count: usize) -> Result<Vec<Slot>, AllocError>
     ensures { IfOk result (λ places. places.items ≡ replicate count Empty) }
 {
     let mut places = Vec::with_capacity(alloc, count)?;
     for _laid in 0..count {
-        places.push_reserved(Content::Empty);
+        places.push_reserved(Slot::new());
     }
     Ok(places)
 }
@@ -87,7 +87,7 @@ impl Board {
         if !self.enter_worker(&mut seat, number) {
             return Err(AllocError);
         }
-        Ok(WorkerSeat { seat })
+        Ok(WorkerSeat { seat, from: 0 })
     }
 
     /// Enters as the seat that stops the workers.

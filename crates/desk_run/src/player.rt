@@ -193,9 +193,11 @@ impl<'b> Player<'b> {
             → self.new.answers.items ≡ values self.new.jobs.now) }
     {
         let offered = self.offer_all()?;
+        if self.answers.len() == self.jobs.len() {
+            return Ok(Turn::Finished);
+        }
         let fetched = self.collect();
-        let may_take = fetched || self.answers.len() == self.jobs.len();
-        if may_take && self.take_all() {
+        if fetched && self.take_all() {
             return Ok(Turn::Finished);
         }
         Ok(if offered || fetched {

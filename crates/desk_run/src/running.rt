@@ -1,5 +1,5 @@
 //! A run from the calling thread: it plays all tables while the workers work in threads.
-ghost use Rattle.std.specs.Prelude.{◌≡◌, ◌≢◌, ℕ, Err, IfOk, length};
+ghost use Rattle.std.specs.Prelude.{◌≡◌, ◌≢◌, ℕ, true, false, Err, IfOk, length};
 ghost use Rattle.desk_run.specs.Parts.{AreNewTables};
 ghost use Rattle.desk_run.specs.Runs.{AreValues, IsReady};
 ghost use Rattle.desk_run.specs.Sitting.{board_name};
@@ -48,12 +48,34 @@ impl<'b> TablesThread<'b> {
             tables,
             mut stop,
         } = self;
-        let answers = if start_workers(scope, rt, threads) {
-            play_all(rt, alloc, board, tables, jobs).map_err(|_| RunFault::Memory)
-        } else {
-            Err(RunFault::Thread)
-        };
+        let started = start_workers(scope, rt, threads);
+        let answers = play_started(started, rt, alloc, board, tables, jobs);
         stop.stop(board);
         answers
+    }
+}
+
+/// Plays all tables where each worker was started.
+fn play_started<R: Wait>(
+    started: bool,
+    rt: &R,
+    alloc: Global,
+    board: &Board,
+    tables: Vec<TableSeat>,
+    jobs: &[Vec<Job>],
+) -> Result<Vec<Vec<Answer>>, RunFault>
+    requires tables { (places : ℕ) × AreNewTables (board_name board.now) places tables.items }
+    requires count { length tables.items ≡ length jobs.now }
+    ensures range { result ≢ Err RunFault.Range }
+    ensures thread { result ≡ Err RunFault.Thread → started ≡ false }
+    ensures memory { result ≡ Err RunFault.Memory → started ≡ true }
+    ensures values { IfOk result (λ answers. AreValues jobs.now answers.items) }
+{
+    if !started {
+        return Err(RunFault::Thread);
+    }
+    match play_all(rt, alloc, board, tables, jobs) {
+        Ok(answers) => Ok(answers),
+        Err(_) => Err(RunFault::Memory),
     }
 }

@@ -6,22 +6,24 @@ ghost use Rattle.atomic_table.specs.Table.{rest};
 ghost use Rattle.desk_run.specs.Counts.{times};
 ghost use Rattle.desk_run.specs.Rule.{count_of};
 ghost use Rattle.desk_run.specs.Views.{new_table, new_worker, with_state, offering, table_lost, holding, worker_lost, having_finished, looking};
-ghost use Rattle.desk_run.specs.Plays.{SeatState, Claims, FetchesAt, table_of, worker_of, stop_of};
+ghost use Rattle.desk_run.specs.Plays.{SeatState, Claims, Judges, FetchesAt, table_of, worker_of, stop_of};
 ghost use Rattle.desk_run.specs.Seats.{board_id, IsTable, IsWorker, IsStop};
 ghost use Rattle.desk_run.specs.declared.place_state.PlaceState.TheVariants.{Fresh, Vacant, Out};
 ghost use Rattle.desk_run.specs.declared.view.View.TheVariants.{Entering, Table, Worker, Stop};
 ghost use Rattle.desk_run.specs.declared.content.Content.TheVariants.{Empty, Offer, Done};
 
 use crate::board::Board;
-use crate::content::Content;
 use crate::rule::{
-    Another, Claim, EnterStop, EnterTable, EnterWorker, Fetch, Finish, Halt, Look, Submit, TakeUp,
+    Another, Claim, EnterStop, EnterTable, EnterWorker, Fetch, Finish, Halt, Look, SeeDone,
+    SeeReady, Submit, TakeUp, Try,
 };
+use crate::slot::Slot;
 use crate::view::View;
 use desk_core::{Piece, Ticket};
 use riichi_hand::Job;
+use riichi_shape::RowSource;
 
-pub type Seat = atomic_table::Seat<Content, View>;
+pub type Seat = atomic_table::Seat<Slot, View>;
 
 // Word 0 is the roll, word 1 the stop, and each place has a word from FIRST on.
 const ROLL: usize = 0;
@@ -63,13 +65,56 @@ impl Board {
               rest seat.old.me.1,
             ) }
     {
-        let shared = &self.table.shared;
-        shared.exchange(seat, place, Content::offer(ticket, job));
-        shared.store::<Submit>(seat, FIRST + place, READY);
+        self.lay_offer(seat, place, ticket, job);
+        self.table
+            .shared
+            .store::<Submit>(seat, FIRST + place, READY);
     }
 
-    /// Whether the place was done. Its piece is then with the seat, in front.
-    pub(crate) fn fetch(&self, seat: &mut Seat, place: usize, _offset: usize) -> bool
+    /// Lays the offer into the slot in front.
+    fn lay_offer(&self, seat: &mut Seat, place: usize, ticket: Ticket, job: &Job)
+        requires id { seat.old.table_id ≡ board_id self.now }
+        requires front { seat.old.me.1 ≡ (place, Empty) ∷ rest seat.old.me.1 }
+        ensures id { seat.new.table_id ≡ seat.old.table_id }
+        ensures me { seat.new.me ≡ (seat.old.me.0, (place, Offer ticket job.now) ∷ rest seat.old.me.1) }
+    {
+        let slot = seat.slot_mut(&self.table.shared, place);
+        slot.offer(ticket, job);
+    }
+
+    /// Whether the place looks done, by a plain load. Where not, the table notes it as lost.
+    pub(crate) fn looks_done(&self, seat: &mut Seat, place: usize, _offset: usize) -> bool
+        requires id { (seat.old.table_id ≡ board_id self.now)
+            × (place < (board_id self.now).slots) }
+        requires table { IsTable seat.old.me × (place ≡ (table_of seat.old.me.0).base + _offset) }
+        ensures id { seat.new.table_id ≡ seat.old.table_id }
+        ensures done { result ≡ true → seat.new.me ≡ seat.old.me }
+        ensures lost { result ≡ false
+            → seat.new.me ≡ (Table (table_lost (table_of seat.old.me.0) place), seat.old.me.1) }
+    {
+        self.table.shared.load::<SeeDone>(seat, FIRST + place) == DONE
+    }
+
+    /// Whether the place was done. Its piece is then with the seat, in front. Only where it looks done is the word taken.
+    pub(crate) fn fetch(&self, seat: &mut Seat, place: usize, offset: usize) -> bool
+        requires id { (seat.old.table_id ≡ board_id self.now)
+            × (place < (board_id self.now).slots) }
+        requires table { IsTable seat.old.me × (place ≡ (table_of seat.old.me.0).base + offset) }
+        requires state { (state : _)
+            × (get_elem? (table_of seat.old.me.0).states offset ≡ some state) }
+        ensures id { seat.new.table_id ≡ seat.old.table_id }
+        ensures done { result ≡ true → FetchesAt seat.old.me place offset seat.new.me }
+        ensures lost { result ≡ false
+            → seat.new.me ≡ (Table (table_lost (table_of seat.old.me.0) place), seat.old.me.1) }
+    {
+        if !self.looks_done(seat, place, offset) {
+            return false;
+        }
+        self.fetch_done(seat, place, offset)
+    }
+
+    /// Takes the word of the place where it is done.
+    fn fetch_done(&self, seat: &mut Seat, place: usize, _offset: usize) -> bool
         requires id { (seat.old.table_id ≡ board_id self.now)
             × (place < (board_id self.now).slots) }
         requires table { IsTable seat.old.me × (place ≡ (table_of seat.old.me.0).base + _offset) }
@@ -96,9 +141,9 @@ impl Board {
         ensures me { (m : SeatState) → FetchesAt m place _offset seat.old.me
             → seat.new.me ≡ (Table (with_state (table_of m.0) _offset Vacant), (place, Empty) ∷ m.1) }
     {
-        let Content::Done(piece) = self.table.shared.exchange(seat, place, Content::Empty) else {
-            unreachable!()
-        };
+        let slot = seat.slot_mut(&self.table.shared, place);
+        let piece = slot.piece();
+        slot.clear();
         piece
     }
 
@@ -118,8 +163,37 @@ impl Board {
         self.table.shared.store::<TakeUp>(seat, FIRST + place, IDLE);
     }
 
-    /// Whether the place was ready. Its offer is then with the seat, in front.
+    /// Whether the place looks ready, by a plain load. Where not, the worker notes it as lost.
+    pub(crate) fn looks_ready(&self, seat: &mut Seat, place: usize) -> bool
+        requires id { (seat.old.table_id ≡ board_id self.now)
+            × (place < (board_id self.now).slots) }
+        requires free { IsWorker seat.old.me × ((worker_of seat.old.me.0).held ≡ None) }
+        ensures id { seat.new.table_id ≡ seat.old.table_id }
+        ensures ready { result ≡ true → seat.new.me ≡ seat.old.me }
+        ensures lost { result ≡ false
+            → seat.new.me ≡ (Worker (worker_lost (worker_of seat.old.me.0) place), seat.old.me.1) }
+    {
+        self.table.shared.load::<SeeReady>(seat, FIRST + place) == READY
+    }
+
+    /// Whether the place was ready. Its offer is then with the seat, in front. Only where it looks ready is the word taken.
     pub(crate) fn claim(&self, seat: &mut Seat, place: usize) -> bool
+        requires id { (seat.old.table_id ≡ board_id self.now)
+            × (place < (board_id self.now).slots) }
+        requires free { IsWorker seat.old.me × ((worker_of seat.old.me.0).held ≡ None) }
+        ensures id { seat.new.table_id ≡ seat.old.table_id }
+        ensures ready { result ≡ true → Claims seat.old.me place seat.new.me }
+        ensures lost { result ≡ false
+            → seat.new.me ≡ (Worker (worker_lost (worker_of seat.old.me.0) place), seat.old.me.1) }
+    {
+        if !self.looks_ready(seat, place) {
+            return false;
+        }
+        self.claim_ready(seat, place)
+    }
+
+    /// Takes the word of the place where it is ready.
+    fn claim_ready(&self, seat: &mut Seat, place: usize) -> bool
         requires id { (seat.old.table_id ≡ board_id self.now)
             × (place < (board_id self.now).slots) }
         requires free { IsWorker seat.old.me × ((worker_of seat.old.me.0).held ≡ None) }
@@ -134,41 +208,58 @@ impl Board {
             == READY
     }
 
-    /// Takes the ticket and the job that were claimed out of the slot in front.
-    pub(crate) fn take_offer(&self, seat: &mut Seat, place: usize) -> (Ticket, Job)
+    /// Whether the place seems ready now. No seat is asked, and nothing is known of it.
+    pub(crate) fn seems_ready(&self, place: usize) -> bool
+        requires { place < (board_id self.now).slots }
+    {
+        self.table.shared.peek(FIRST + place) == READY
+    }
+
+    /// Claims the place where it is ready, and else changes nothing.
+    pub(crate) fn try_claim(&self, seat: &mut Seat, place: usize) -> bool
+        requires id { (seat.old.table_id ≡ board_id self.now)
+            × (place < (board_id self.now).slots) }
+        requires free { IsWorker seat.old.me × ((worker_of seat.old.me.0).held ≡ None) }
+        ensures id { seat.new.table_id ≡ seat.old.table_id }
+        ensures ready { result ≡ true → Claims seat.old.me place seat.new.me }
+        ensures other { result ≡ false → seat.new.me ≡ seat.old.me }
+    {
+        self.table
+            .shared
+            .compare_exchange::<Try>(seat, FIRST + place, READY, TAKEN)
+            == READY
+    }
+
+    /// Judges the job that was claimed, in its slot in front, and answers its ticket.
+    pub(crate) fn judge<S: RowSource>(
+        &self,
+        seat: &mut Seat,
+        source: &mut S,
+        place: usize,
+    ) -> Ticket
         requires id { seat.old.table_id ≡ board_id self.now }
         requires claimed { (m : SeatState) × Claims m place seat.old.me }
         ensures id { seat.new.table_id ≡ seat.old.table_id }
         ensures me { (m : SeatState) → Claims m place seat.old.me
-            → seat.new.me ≡ (Worker (holding (worker_of m.0) place result.0 result.1), (place, Empty) ∷ m.1) }
+            → Judges m place result seat.new.me }
+        ensures stays { source.new ≡ source.old }
     {
-        let Content::Offer(ticket, job) = self.table.shared.exchange(seat, place, Content::Empty)
-        else {
-            unreachable!()
-        };
-        (ticket, job)
+        let slot = seat.slot_mut(&self.table.shared, place);
+        slot.judge(source)
     }
 
-    /// The piece goes home, and the place is done.
-    pub(crate) fn finish(&self, seat: &mut Seat, place: usize, piece: Piece)
+    /// The piece in front goes home, and the place is done.
+    pub(crate) fn finish(&self, seat: &mut Seat, place: usize, _ticket: Ticket)
         requires id { (seat.old.table_id ≡ board_id self.now)
             × (place < (board_id self.now).slots) }
-        requires held { IsWorker seat.old.me
-            × ((worker_of seat.old.me.0).held
-            ≡ Some (record { place = place; ticket = piece.ticket; job = piece.job })) }
-        requires front { seat.old.me.1 ≡ (place, Empty) ∷ rest seat.old.me.1 }
+        requires judged { (m : SeatState) × Judges m place _ticket seat.old.me }
         ensures id { seat.new.table_id ≡ seat.old.table_id }
-        ensures me { seat.new.me
-            ≡ (
-              Worker (having_finished
-                  (worker_of seat.old.me.0) piece.ticket),
-              rest seat.old.me.1,
-            ) }
-        ensures once { times piece.ticket (worker_of seat.old.me.0).finished ≡ 0 }
+        ensures me { (m : SeatState) → Judges m place _ticket seat.old.me
+            → seat.new.me ≡ (Worker (having_finished (worker_of m.0) _ticket), m.1) }
+        ensures once { (m : SeatState) → Judges m place _ticket seat.old.me
+            → times _ticket (worker_of m.0).finished ≡ 0 }
     {
-        let shared = &self.table.shared;
-        shared.exchange(seat, place, Content::Done(piece));
-        shared.store::<Finish>(seat, FIRST + place, DONE);
+        self.table.shared.store::<Finish>(seat, FIRST + place, DONE);
     }
 
     /// Sets the stop word.

@@ -8,9 +8,32 @@ Exit status:
   3  input or output failed
   4  there was no memory, or no thread";
 
+pub(crate) const WIN_HELP: &str = "\
+Example:
+  riichi_desk win 234m567m345p67s99s on=5s by=ron seat=S round=E
+
+Exit status:
+  0  answered
+  1  the hand was refused
+  2  the words are wrong
+  3  output failed
+  4  there was no memory";
+
+pub(crate) const SHAPE_HELP: &str = "\
+Example:
+  riichi_desk shape 123456789m1134p seen=2222p
+
+Exit status:
+  0  answered
+  1  the hand was refused
+  2  the words are wrong
+  3  output failed
+  4  there was no memory";
+
 pub(crate) const WAITS_HELP: &str = "\
 Example:
   riichi_desk waits 1112345678999m
+  riichi_desk waits 2223456777m open=pon:111z
 
 Exit status:
   0  answered
@@ -22,29 +45,40 @@ Exit status:
 pub(crate) const LINE_HELP: &str = "\
 Example:
   riichi_desk line < club-night.lines
-  riichi_desk line --json < club-night.lines
+  riichi_desk line --json --file club-night.lines
 
 Exit status:
   0  answered
   1  answered, and at least one line was refused
   2  the words are wrong
-  3  input or output failed
+  3  a file can't be opened, or input or output failed
   4  there was no memory";
 
 pub(crate) const EXPLAIN_HELP: &str = "\
 Example:
-  riichi_desk explain 'win 99978m444p567s22s on=9m by=ron seat=S round=E riichi=1'
+  riichi_desk explain win 99978m444p567s22s on=9m by=ron seat=S round=E riichi=1
+  riichi_desk explain --file club-night.lines
 
 Exit status:
   0  answered
   1  answered, and at least one line was refused
   2  the words are wrong
-  3  input or output failed
+  3  a file can't be opened, or input or output failed
   4  there was no memory";
 
 pub(crate) const CODES_HELP: &str = "\
 Example:
   riichi_desk help-codes
+
+Exit status:
+  0  printed
+  2  the words are wrong
+  3  output failed
+  4  there was no memory";
+
+pub(crate) const YAKU_HELP: &str = "\
+Example:
+  riichi_desk help-yaku
 
 Exit status:
   0  printed

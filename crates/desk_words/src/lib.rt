@@ -13,5 +13,5 @@ mod help;
 mod request;
 mod words;
 
-pub use request::{Form, Request, request_of};
+pub use request::{Form, Lines, Request, request_of};
 pub use words::commands;

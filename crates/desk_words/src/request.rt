@@ -6,18 +6,16 @@ use riichi_hand::Rules;
 pub enum Request<'m, 'a> {
     /// The waits of this hand.
     Waits(&'a str),
-    /// The answers to the record lines of standard input in this form, under these rules where the first line sets none.
-    Line {
+    /// The answers to record lines in this form, under these rules where the first line sets none.
+    Lines {
+        lines: Lines<'m, 'a>,
         form: Form,
-        rules: Rules,
-    },
-    /// The same with the reasons for them, of these lines, or of standard input where there are none.
-    Explain {
-        lines: Option<&'m [&'a str]>,
         rules: Rules,
     },
     /// Every code in words.
     HelpCodes,
+    /// Every yaku with its names, its han and its condition.
+    HelpYaku,
     /// The answers to the script of this file.
     Replay(&'a str),
     /// The answers to the record lines of files, each a table, by so many workers.
@@ -35,22 +33,44 @@ pub enum Form {
     Words,
     /// As JSON, an object on a line for each.
     Json,
+    /// In words, with the reasons below each.
+    Reasons,
+}
+
+/// Where record lines come from.
+#[derive(Clone, Copy)]
+pub enum Lines<'m, 'a> {
+    /// From standard input.
+    Input,
+    /// From these files, in turn; `-` is standard input.
+    Files(&'m [&'a str]),
+    /// These words, each a line.
+    Each(&'m [&'a str]),
+    /// These words are one line.
+    One(&'m [&'a str]),
+    /// One line of a job, its hand, and the words behind it.
+    Record {
+        job: &'static str,
+        hand: &'a str,
+        words: &'m [&'a str],
+    },
 }
 
 /// What the words ask for; none where they name no command of ours.
 pub fn request_of<'m, 'a>(matches: &'m ArgMatches<'a>) -> Option<Request<'m, 'a>> {
     if let Some(line) = matches.subcommand_matches("line") {
-        let form = form_in(line);
-        let rules = rules_in(line);
-        return Some(Request::Line { form, rules });
+        let lines = files_or(line, Lines::Input);
+        return Some(lines_request(line, lines, form_in(line)));
     }
     if let Some(explain) = matches.subcommand_matches("explain") {
-        let lines = explain.get_strs("LINE");
-        let rules = rules_in(explain);
-        return Some(Request::Explain { lines, rules });
+        let lines = files_or(explain, told_lines(explain));
+        return Some(lines_request(explain, lines, Form::Reasons));
     }
     if matches.subcommand_matches("help-codes").is_some() {
         return Some(Request::HelpCodes);
+    }
+    if matches.subcommand_matches("help-yaku").is_some() {
+        return Some(Request::HelpYaku);
     }
     if let Some(replay) = matches.subcommand_matches("replay") {
         return Some(Request::Replay(replay.get_str("FILE")?));
@@ -65,9 +85,57 @@ pub fn request_of<'m, 'a>(matches: &'m ArgMatches<'a>) -> Option<Request<'m, 'a>
             rules,
         });
     }
-    let waits = matches.subcommand_matches("waits")?;
-    let hand = waits.get_str("HAND")?;
-    Some(Request::Waits(hand))
+    record_request(matches)
+}
+
+/// What a command asks for that is named by the job of its record: the waits of a hand alone are those of a text of tiles.
+fn record_request<'m, 'a>(matches: &'m ArgMatches<'a>) -> Option<Request<'m, 'a>> {
+    for job in JOBS {
+        if let Some(record) = matches.subcommand_matches(job) {
+            let hand = record.get_str("HAND")?;
+            let words = record.get_strs("WORD").unwrap_or(&[]);
+            if job == "waits" && words.is_empty() {
+                return Some(Request::Waits(hand));
+            }
+            let lines = Lines::Record { job, hand, words };
+            return Some(lines_request(record, lines, Form::Words));
+        }
+    }
+    None
+}
+
+/// The first words of record lines.
+const JOBS: [&str; 3] = ["win", "waits", "shape"];
+
+fn lines_request<'m, 'a>(
+    matches: &'m ArgMatches<'a>,
+    lines: Lines<'m, 'a>,
+    form: Form,
+) -> Request<'m, 'a> {
+    let rules = rules_in(matches);
+    Request::Lines { lines, form, rules }
+}
+
+/// The files of the option, or else other lines.
+fn files_or<'m, 'a>(matches: &'m ArgMatches<'a>, lines: Lines<'m, 'a>) -> Lines<'m, 'a> {
+    match matches.get_strs("file") {
+        Some(files) => Lines::Files(files),
+        None => lines,
+    }
+}
+
+/// The lines that are told as words: one line where the first word is a job, else each word is a line.
+fn told_lines<'m, 'a>(matches: &'m ArgMatches<'a>) -> Lines<'m, 'a> {
+    match matches.get_strs("LINE") {
+        None => Lines::Input,
+        Some(words) => {
+            if words.first().is_some_and(|word| JOBS.contains(word)) {
+                Lines::One(words)
+            } else {
+                Lines::Each(words)
+            }
+        }
+    }
 }
 
 /// The rule profile of this number.

@@ -1,6 +1,7 @@
 //! The commands and their words.
 use crate::help::{
-    CODES_HELP, EXPLAIN_HELP, LINE_HELP, PROGRAM_HELP, REPLAY_HELP, SCORE_HELP, WAITS_HELP,
+    CODES_HELP, EXPLAIN_HELP, LINE_HELP, PROGRAM_HELP, REPLAY_HELP, SCORE_HELP, SHAPE_HELP,
+    WAITS_HELP, WIN_HELP, YAKU_HELP,
 };
 use clap::{Arg, ArgAction, Command, value_parser};
 use std::alloc::{AllocError, Global};
@@ -13,22 +14,67 @@ pub fn commands<'a>(alloc: Global) -> Result<Command<'a>, AllocError> {
         .about("A scoring desk for riichi mahjong: hands in Tenhou notation in, answers out")
         .after_help(PROGRAM_HELP)
         .subcommand_required(true)
+        .subcommand(win_command(alloc)?)?
         .subcommand(waits_command(alloc)?)?
+        .subcommand(shape_command(alloc)?)?
         .subcommand(line_command(alloc)?)?
         .subcommand(explain_command(alloc)?)?
         .subcommand(replay_command(alloc)?)?
         .subcommand(score_command(alloc)?)?
-        .subcommand(codes_command(alloc))
+        .subcommand(codes_command(alloc))?
+        .subcommand(yaku_command(alloc))
+}
+
+fn win_command<'a>(alloc: Global) -> Result<Command<'a>, AllocError> {
+    Command::new(alloc, "win")
+        .about("Prints what a winning hand is worth")
+        .after_help(WIN_HELP)
+        .arg(rules_arg(alloc))?
+        .arg(hand_arg(
+            alloc,
+            "Thirteen tiles before the winning one, such as 234m567m345p67s99s",
+        ))?
+        .arg(words_arg(
+            alloc,
+            "on=, by=, seat= and round=; open=, riichi=, flags=, dora=, ura=, counters=, sticks=",
+        ))
 }
 
 fn waits_command<'a>(alloc: Global) -> Result<Command<'a>, AllocError> {
-    let hand = Arg::new(alloc, "HAND").required(true).help(
-        "Thirteen tiles: digits, then m, p, s or z, such as 1112345678999m",
-    );
     Command::new(alloc, "waits")
-        .about("Prints the kinds of tile that complete a hand of thirteen concealed tiles")
+        .about("Prints the kinds of tile that complete a hand of thirteen tiles")
         .after_help(WAITS_HELP)
-        .arg(hand)
+        .arg(hand_arg(
+            alloc,
+            "Thirteen tiles: digits, then m, p, s or z, such as 1112345678999m",
+        ))?
+        .arg(words_arg(alloc, "open= with the melds"))
+}
+
+fn shape_command<'a>(alloc: Global) -> Result<Command<'a>, AllocError> {
+    Command::new(alloc, "shape")
+        .about("Prints how far a hand is from ready, and which tiles bring it nearer")
+        .after_help(SHAPE_HELP)
+        .arg(hand_arg(
+            alloc,
+            "Thirteen tiles, or fourteen before a discard, such as 123456789m1134p",
+        ))?
+        .arg(words_arg(
+            alloc,
+            "open= with the melds, seen= with tiles that are seen elsewhere",
+        ))
+}
+
+fn hand_arg<'a>(alloc: Global, help: &'static str) -> Arg<'a> {
+    Arg::new(alloc, "HAND").required(true).help(help)
+}
+
+/// The words of a record line behind its hand.
+fn words_arg<'a>(alloc: Global, help: &'static str) -> Arg<'a> {
+    Arg::new(alloc, "WORD")
+        .value_name("KEY=VALUE")
+        .num_args(0..)
+        .help(help)
 }
 
 /// The rules of lines that are given no others.
@@ -43,10 +89,20 @@ fn rules_arg<'a>(alloc: Global) -> Arg<'a> {
 
 fn line_command<'a>(alloc: Global) -> Result<Command<'a>, AllocError> {
     Command::new(alloc, "line")
-        .about("Answers hands from standard input, one a line: wins, waits, shapes")
+        .about("Answers hands from standard input or files, one a line: wins, waits, shapes")
         .after_help(LINE_HELP)
         .arg(rules_arg(alloc))?
+        .arg(file_arg(alloc))?
         .arg(json_arg(alloc))
+}
+
+/// Files in place of standard input.
+fn file_arg<'a>(alloc: Global) -> Arg<'a> {
+    Arg::new(alloc, "file")
+        .long("file")
+        .value_name("FILE")
+        .num_args(1..)
+        .help("Answers the lines of these files in turn, of standard input for -")
 }
 
 /// That answers are wanted as JSON.
@@ -58,13 +114,17 @@ fn json_arg<'a>(alloc: Global) -> Arg<'a> {
 }
 
 fn explain_command<'a>(alloc: Global) -> Result<Command<'a>, AllocError> {
-    let lines = Arg::new(alloc, "LINE").num_args(0..).help(
-        "Hands, each in quotes as one word; without any, the lines of standard input",
-    );
+    let lines = Arg::new(alloc, "LINE")
+        .num_args(0..)
+        .conflicts_with("file")?
+        .help(
+            "The words of one hand, or hands each in quotes; without any, the lines of standard input",
+        );
     Command::new(alloc, "explain")
         .about("Answers hands as the command line does, and says below each answer why it is so")
         .after_help(EXPLAIN_HELP)
         .arg(rules_arg(alloc))?
+        .arg(file_arg(alloc))?
         .arg(lines)
 }
 
@@ -72,6 +132,12 @@ fn codes_command<'a>(alloc: Global) -> Command<'a> {
     Command::new(alloc, "help-codes")
         .about("Prints every refusal, fault and exit status in words")
         .after_help(CODES_HELP)
+}
+
+fn yaku_command<'a>(alloc: Global) -> Command<'a> {
+    Command::new(alloc, "help-yaku")
+        .about("Prints every yaku: its word, its Japanese name, its han and its condition")
+        .after_help(YAKU_HELP)
 }
 
 fn replay_command<'a>(alloc: Global) -> Result<Command<'a>, AllocError> {

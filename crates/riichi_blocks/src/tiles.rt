@@ -5,7 +5,7 @@ ghost use Rattle.riichi_blocks.specs.Kinds as kinds;
 ghost use Rattle.riichi_blocks.specs.Told.{some_in};
 
 use crate::green::are_green;
-use riichi_tiles::HeldKinds;
+use riichi_tiles::KindSet;
 use std::marker::Model;
 
 /// Every tile of a win, seen as the count of each kind.
@@ -13,7 +13,7 @@ use std::marker::Model;
 pub struct AllTiles {
     counts: [u8; 34],
     // Most conditions ask of which kinds there are tiles, and not how many.
-    held: HeldKinds,
+    held: KindSet,
 }
 
 impl Model for AllTiles {
@@ -32,7 +32,7 @@ impl AllTiles {
     pub fn new(counts: [u8; 34]) -> AllTiles
         ensures { result ≡ counts }
     {
-        let held = HeldKinds::of(&counts);
+        let held = KindSet::of(&counts);
         AllTiles { counts, held }
     }
 

@@ -7,7 +7,7 @@ use crate::row_memo::RowMemo;
 use riichi_rows::{RowSource, SuitRow};
 use std::alloc::Global;
 
-/// So many rows are kept in memory, of 48 bytes each.
+/// So many rows are kept in memory, of 67 bytes each.
 const PLACES: usize = 16_384;
 
 /// So many are kept in the value.

@@ -1,7 +1,8 @@
 //! The command `help-codes`: every code that the program can answer with, in words.
+use crate::answers::printed;
 use crate::failure::Failure;
-use desk_score::ScoreFault;
-use std::io::{self, Print};
+use crate::noted::Notes;
+use std::io::Print;
 
 /// Each code with its words. docs/NOTATION.md has the same lines.
 const CODES: &str = "\
@@ -52,9 +53,6 @@ Exit status
 ";
 
 /// Prints every code with its words. No line is refused.
-pub fn print_codes<R: Print>(rt: &R) -> Result<bool, Failure<'static>> {
-    match print!(rt; "{CODES}") {
-        Ok(()) => Ok(false),
-        Err(_) => Err(Failure::Fault(ScoreFault::Write)),
-    }
+pub fn print_codes<'a, R: Print>(rt: &R, notes: &Notes<'a>) -> Result<bool, Failure<'a>> {
+    printed(notes, print!(rt; "{CODES}"))
 }

@@ -79,6 +79,24 @@ impl<'a> From<Error> for Failure<'a> {
     }
 }
 
+impl Failure<'_> {
+    /// Whether the answers could not be written.
+    pub fn is_write(&self) -> bool {
+        match self {
+            Failure::Fault(ScoreFault::Write) | Failure::Explained(DeskFault::Write) => true,
+            _ => false,
+        }
+    }
+
+    /// Whether the input could not be read, or the answers not be written.
+    pub fn is_of_stream(&self) -> bool {
+        match self {
+            Failure::Fault(ScoreFault::Read) | Failure::Explained(DeskFault::Read) => true,
+            _ => self.is_write(),
+        }
+    }
+}
+
 /// Says on standard error why the program stops, and returns its exit status: 2 for a fault of the command line or too much
 /// of something, 3 for input or output, 4 for memory or a thread; 0 where help or the version was asked for.
 pub fn report<R: Print + Eprint>(rt: &R, failure: &Failure<'_>) -> u8

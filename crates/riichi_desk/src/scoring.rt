@@ -1,10 +1,11 @@
 //! The command `score`: files of hands, each a table.
 use crate::failure::Failure;
 use crate::files::open_file;
+use crate::noted::{Notes, Watched};
 use desk_lines::Rules;
 use desk_score::{ScoreFault, score_text};
 use desk_streams::{FromReader, ToWriter};
-use std::io::{self, Print};
+use std::io::{Eprint, Print};
 use std::rt::Files;
 use std::sync::Wait;
 use std::thread::Threads;
@@ -13,8 +14,9 @@ use std::thread::Threads;
 const MOST_FILES: usize = 64;
 
 /// Answers the record lines of files on standard output, table by table: whether a line is refused.
-pub fn score_files<'a, R: Files + Print + Threads + Wait + Sync + AllocGlobal>(
+pub fn score_files<'a, R: Files + Print + Eprint + Threads + Wait + Sync + AllocGlobal>(
     rt: &R,
+    notes: &Notes<'a>,
     files: &[&'a str],
     workers: u32,
     rules: Rules,
@@ -22,20 +24,22 @@ pub fn score_files<'a, R: Files + Print + Threads + Wait + Sync + AllocGlobal>(
     if files.len() > MOST_FILES {
         return Err(Failure::Fault(ScoreFault::Range));
     }
-    let readers = open_files(rt, files)?;
-    let mut writer = ToWriter::new(io::writer(rt));
+    let readers = open_files(rt, notes, rules, files)?;
+    let mut writer = ToWriter::new(notes.output(rt));
     let report = score_text(rt, rt.alloc(), rules, readers, workers, &mut writer)?;
     Ok(report.refused > 0)
 }
 
 /// Opens the files in the order given. The first that can't be opened ends it.
-fn open_files<'a, R: Files + AllocGlobal>(
-    rt: &R,
+fn open_files<'n, 'a, R: Files + Eprint + AllocGlobal>(
+    rt: &'n R,
+    notes: &'n Notes<'a>,
+    rules: Rules,
     files: &[&'a str],
-) -> Result<Vec<FromReader<R::File>>, Failure<'a>> {
+) -> Result<Vec<FromReader<Watched<'n, 'a, R, R::File>>>, Failure<'a>> {
     let mut readers = Vec::new(rt.alloc());
     for file in files {
-        let reader = open_file(rt, *file)?;
+        let reader = notes.lines(rt, *file, rules, open_file(rt, *file)?);
         if readers.push(FromReader::new(reader)).is_err() {
             return Err(Failure::Fault(ScoreFault::Memory));
         }

@@ -1,5 +1,7 @@
 //! The version, and what the program was proved with.
+use crate::answers::printed;
 use crate::failure::Failure;
+use crate::noted::Notes;
 use clap::Error;
 use desk_score::ScoreFault;
 use std::io::{self, Eprint, Print};
@@ -11,10 +13,11 @@ const PROVED: &str = "riichi_desk.proved";
 
 /// Prints the version, which clap gives, and below it what the program was proved with, where the file that says it is
 /// there. No line is refused. Where there is no memory, nothing is printed.
-pub fn print_version<R: Print + Eprint + Files + AllocGlobal>(
+pub fn print_version<'a, R: Print + Eprint + Files + AllocGlobal>(
     rt: &R,
+    notes: &Notes<'a>,
     version: &Error,
-) -> Result<bool, Failure<'static>> {
+) -> Result<bool, Failure<'a>> {
     let text = match proved_with(rt) {
         Ok(text) => text,
         Err(error) => match error.kind() {
@@ -22,10 +25,8 @@ pub fn print_version<R: Print + Eprint + Files + AllocGlobal>(
             _ => String::new(rt.alloc()),
         },
     };
-    if version.print(rt).is_err() || print!(rt; "{text}").is_err() {
-        return Err(Failure::Fault(ScoreFault::Write));
-    }
-    Ok(false)
+    printed(notes, version.print(rt))?;
+    printed(notes, print!(rt; "{text}"))
 }
 
 fn proved_with<R: Files + AllocGlobal>(rt: &R) -> io::Result<String> {

@@ -1,5 +1,5 @@
 -- What rows of fu add up to.
-use Rattle.std.proofs.Common.{◌≡◌, ℕ, ◌+◌, Bool, true, false, cond, eqb, leb, List, [], ◌∷◌, ◌++◌, ◌||◌, refl, ap, ◌∙◌, arith}
+use Rattle.std.proofs.Common.{◌≡◌, ℕ, ◌+◌, ◌<◌, Bool, true, false, cond, eqb, leb, List, [], ◌∷◌, ◌++◌, ◌||◌, refl, ap, ◌∙◌, arith}
 use Rattle.std.specs.List.{sum_by, flat_map}
 use Rattle.std.proofs.lemmas.List.Concat.{flat_map-cons}
 use Rattle.std.proofs.lemmas.List.Sums.{sum_by-append, sum_by-cons}
@@ -7,6 +7,8 @@ use Rattle.std.proofs.lemmas.Bool.Decides.{nat_tests}
 use Rattle.riichi_tiles.specs.declared.block.Block.{Block}
 use Rattle.riichi_tiles.specs.declared.block.Block.TheVariants as block
 use Rattle.riichi_hand.specs.declared.win.WinParts.{WinParts}
+use Rattle.riichi_hand.specs.declared.win.Wind.{Wind}
+use Rattle.riichi_hand.specs.declared.win.Wind.TheVariants.{East, South, West, North}
 use Rattle.riichi_hand.specs.Win.{wind_kind}
 use Rattle.riichi_split.specs.declared.reading.Reading.{Reading}
 use Rattle.riichi_split.specs.declared.reading.Reading.TheVariants.{Standard, SevenPairs, Orphans}
@@ -20,7 +22,7 @@ use Rattle.riichi_score.specs.Fu.{ron_fu, self_draw_fu, block_fu, open_fu, fu_su
 use Rattle.riichi_explain.specs.declared.fu.FuPart.{FuPart}
 use Rattle.riichi_explain.specs.declared.fu.FuPart.TheVariants as part
 use Rattle.riichi_explain.specs.declared.fu.FuRow.{FuRow}
-use Rattle.riichi_explain.specs.Fu.{earned, block_rows, wait_rows, plain_rows, standard_rows, fu_rows, fu_total, fu_from_rows}
+use Rattle.riichi_explain.specs.Fu.{earned, set_rows, rows_if_pair, block_rows, wait_rows, plain_rows, standard_rows, fu_rows, fu_total, fu_from_rows}
 
 -- a row adds what the part earns
 total-earned : (part : FuPart) (fu : ℕ) → fu_total (earned part fu) ≡ fu
@@ -36,25 +38,39 @@ total-two p q a b = omega (arith, total-append (earned p a) (earned q b), total-
 total-three : (p q r : FuPart) (a b c : ℕ) → fu_total (earned p a ++ earned q b ++ earned r c) ≡ a + b + c
 total-three p q r a b c = omega (arith, total-append (earned p a ++ earned q b) (earned r c), total-two p q a b, total-earned r c)
 
-total-block : (win : WinParts) (block : HandBlock) → fu_total (block_rows win block) ≡ block_fu win block
-total-block win (Run low) = refl
-total-block win (Triplet kind concealed) = total-earned (part.Triplet kind concealed) (block_fu win (Triplet kind concealed))
-total-block win (Kong kind concealed) = total-earned (part.Kong kind concealed) (block_fu win (Kong kind concealed))
-total-block win (Pair kind) =
-    total-three (part.DragonPair kind) (part.SeatWindPair kind) (part.PrevalentWindPair kind)
-    (cond (leb white kind) 2 0) (cond (eqb kind (wind_kind win.seat)) 2 0) (cond (eqb kind (wind_kind win.round)) 2 0)
+-- no wind is a dragon
+pub wind_below : (wind : Wind) → wind_kind wind < white
+wind_below East = omega arith
+wind_below South = omega arith
+wind_below West = omega arith
+wind_below North = omega arith
 
-total-blocks : (win : WinParts) (blocks : List HandBlock) → fu_total (flat_map (block_rows win) blocks) ≡ sum_by (block_fu win) blocks
-total-blocks win [] = refl
-total-blocks win (block ∷ blocks) =
+total-set : (win : WinParts) (block : HandBlock) → fu_total (set_rows win block) + fu_total (rows_if_pair win block) ≡ block_fu win block
+total-set win (Run low) = refl
+total-set win (Triplet kind concealed) = omega (arith, total-earned (part.Triplet kind concealed) (block_fu win (Triplet kind concealed)))
+total-set win (Kong kind concealed) = omega (arith, total-earned (part.Kong kind concealed) (block_fu win (Kong kind concealed)))
+total-set win (Pair kind) =
+    let a = cond (leb white kind) 2 0 in
+    let b = cond (eqb kind (wind_kind win.seat)) 2 0 in
+    let c = cond (eqb kind (wind_kind win.round)) 2 0 in
+    omega (arith, total-three (part.DragonPair kind) (part.SeatWindPair kind) (part.PrevalentWindPair kind) a b c)
+
+total-sets : (win : WinParts) (blocks : List HandBlock) → fu_total (flat_map (set_rows win) blocks) + fu_total (flat_map (rows_if_pair win) blocks) ≡ sum_by (block_fu win) blocks
+total-sets win [] = refl
+total-sets win (block ∷ blocks) =
     omega (
       arith,
-      ap fu_total (flat_map-cons (block_rows win) block blocks),
+      ap fu_total (flat_map-cons (set_rows win) block blocks),
+      ap fu_total (flat_map-cons (rows_if_pair win) block blocks),
       sum_by-cons (block_fu win) block blocks,
-      total-append (block_rows win block) (flat_map (block_rows win) blocks),
-      total-block win block,
-      total-blocks win blocks,
+      total-append (set_rows win block) (flat_map (set_rows win) blocks),
+      total-append (rows_if_pair win block) (flat_map (rows_if_pair win) blocks),
+      total-set win block,
+      total-sets win blocks,
     )
+
+total-blocks : (win : WinParts) (blocks : List HandBlock) → fu_total (block_rows win blocks) ≡ sum_by (block_fu win) blocks
+total-blocks win blocks = total-append (flat_map (set_rows win) blocks) (flat_map (rows_if_pair win) blocks) ∙ total-sets win blocks
 
 -- no wait is closed and an edge wait
 one-wait : (low winning : ℕ) (closed edge : Bool) → closed ≡ is_closed_wait low winning → edge ≡ is_edge_wait low winning → cond closed 2 0 + cond edge 2 0 ≡ cond (closed || edge) 2 0
@@ -75,7 +91,7 @@ total-plain blocks reading done win =
     let a = earned part.Base 20 in
     let b = earned part.ConcealedRon (ron_fu win) in
     let c = earned part.SelfDraw (self_draw_fu (is_pinfu blocks reading win) win) in
-    let d = flat_map (block_rows win) blocks in
+    let d = block_rows win blocks in
     let e = wait_rows win.winning done in
     omega (
       arith,

@@ -29,12 +29,23 @@ pair_rows win kind =
     ++ earned (part.SeatWindPair kind) (if kind == wind_kind win.seat then 2 else 0)
     ++ earned (part.PrevalentWindPair kind) (if kind == wind_kind win.round then 2 else 0)
 
--- the rows of a block: a run has none
-abbrev pub block_rows : WinParts → HandBlock → List FuRow
-block_rows win (Run low) = []
-block_rows win (Triplet kind concealed) = earned (part.Triplet kind concealed) (block_fu win (Triplet kind concealed))
-block_rows win (Kong kind concealed) = earned (part.Kong kind concealed) (block_fu win (Kong kind concealed))
-block_rows win (Pair kind) = pair_rows win kind
+-- the row of a triplet or a kong, in hand or called
+abbrev pub set_rows : WinParts → HandBlock → List FuRow
+set_rows win (Run low) = []
+set_rows win (Triplet kind concealed) = earned (part.Triplet kind concealed) (block_fu win (Triplet kind concealed))
+set_rows win (Kong kind concealed) = earned (part.Kong kind concealed) (block_fu win (Kong kind concealed))
+set_rows win (Pair kind) = []
+
+-- the rows of a block that is the pair
+abbrev pub rows_if_pair : WinParts → HandBlock → List FuRow
+rows_if_pair win (Run low) = []
+rows_if_pair win (Triplet kind concealed) = []
+rows_if_pair win (Kong kind concealed) = []
+rows_if_pair win (Pair kind) = pair_rows win kind
+
+-- the triplets and kongs, and then the pair
+abbrev pub block_rows : WinParts → List HandBlock → List FuRow
+block_rows win blocks = flat_map (set_rows win) blocks ++ flat_map (rows_if_pair win) blocks
 
 -- a closed wait, an edge wait, a pair wait: 2
 abbrev pub wait_rows : ℕ → Block → List FuRow
@@ -50,7 +61,7 @@ plain_rows blocks reading done win =
     earned part.Base 20
     ++ earned part.ConcealedRon (ron_fu win)
     ++ earned part.SelfDraw (self_draw_fu (is_pinfu blocks reading win) win)
-    ++ flat_map (block_rows win) blocks
+    ++ block_rows win blocks
     ++ wait_rows win.winning done
 
 -- every row of sets and a pair, in the order of the table

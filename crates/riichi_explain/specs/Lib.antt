@@ -6,3 +6,4 @@ pub mod Payers
 pub mod Win
 pub mod Text
 pub mod Explanation
+pub mod Equality

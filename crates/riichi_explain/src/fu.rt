@@ -39,7 +39,12 @@ pub struct FuRow {
     pub fu: u8,
 }
 
+/// What fills the places of a list that no row has taken.
 impl Default for FuRow {
+    ghost use Rattle.riichi_explain.specs.declared.fu.FuPart.TheVariants.{Base};
+
+    ghost is_default = { λ row. row ≡ record { part = Base; fu = 0 } };
+
     fn default() -> Self {
         FuRow {
             part: FuPart::Base,
@@ -107,7 +112,7 @@ fn push_plain(rows: &mut FuRows, blocks: &Blocks, reading: &Reading, done: &Bloc
         ron_fu(win.melds().concealed(), win),
     );
     push_earned(rows, FuPart::SelfDraw, self_draw_fu(blocks, reading, win));
-    push_rows_of_blocks(rows, blocks, win);
+    push_block_rows(rows, blocks, win);
     push_wait_rows(rows, win.winning(), done);
 }
 
@@ -122,40 +127,74 @@ fn push_earned(rows: &mut FuRows, part: FuPart, fu: u8)
     }
 }
 
-fn push_rows_of_blocks(rows: &mut FuRows, blocks: &Blocks, win: &WinRecord)
+fn push_block_rows(rows: &mut FuRows, blocks: &Blocks, win: &WinRecord)
+    requires few { length blocks.now ≤ 5 }
+    requires room { length rows.old.items ≤ 3 }
+    ensures items { rows.new.items ≡ rows.old.items ++ spec.block_rows win.now blocks.now }
+    ensures most { length rows.new.items ≤ length rows.old.items + 15 }
+{
+    push_set_rows(rows, blocks, win);
+    push_rows_of_pair(rows, blocks, win);
+}
+
+fn push_set_rows(rows: &mut FuRows, blocks: &Blocks, win: &WinRecord)
     requires few { length blocks.now ≤ 5 }
     requires room { length rows.old.items ≤ 3 }
     ensures items { rows.new.items
-        ≡ rows.old.items ++ flat_map (spec.block_rows win.now) blocks.now }
-    ensures most { length rows.new.items ≤ length rows.old.items + 15 }
+        ≡ rows.old.items ++ flat_map (spec.set_rows win.now) blocks.now }
+    ensures most { length rows.new.items ≤ length rows.old.items + 5 }
 {
     for block in blocks.as_slice() {
-        push_block_rows(rows, block, win);
+        push_set_row(rows, block, win);
     }
 }
 
-fn push_block_rows(rows: &mut FuRows, block: &HandBlock, win: &WinRecord)
-    requires { length rows.old.items ≤ 18 }
-    ensures items { rows.new.items ≡ rows.old.items ++ spec.block_rows win.now block.now }
-    ensures most { length rows.new.items ≤ length rows.old.items + 3 }
+fn push_set_row(rows: &mut FuRows, block: &HandBlock, win: &WinRecord)
+    requires { length rows.old.items < 24 }
+    ensures items { rows.new.items ≡ rows.old.items ++ spec.set_rows win.now block.now }
+    ensures most { length rows.new.items ≤ length rows.old.items + 1 }
 {
     let fu = block_fu(win, block);
     match *block {
-        HandBlock::Run(_) => {}
         HandBlock::Triplet { kind, concealed } => {
             push_earned(rows, FuPart::Triplet { kind, concealed }, fu);
         }
         HandBlock::Kong { kind, concealed } => {
             push_earned(rows, FuPart::Kong { kind, concealed }, fu);
         }
-        HandBlock::Pair(kind) => push_pair_rows(rows, kind, win),
+        HandBlock::Run(_) | HandBlock::Pair(_) => {}
     }
 }
 
+fn push_rows_of_pair(rows: &mut FuRows, blocks: &Blocks, win: &WinRecord)
+    requires few { length blocks.now ≤ 5 }
+    requires room { length rows.old.items ≤ 8 }
+    ensures items { rows.new.items
+        ≡ rows.old.items ++ flat_map (spec.rows_if_pair win.now) blocks.now }
+    ensures most { length rows.new.items ≤ length rows.old.items + 10 }
+{
+    for block in blocks.as_slice() {
+        push_rows_if_pair(rows, block, win);
+    }
+}
+
+fn push_rows_if_pair(rows: &mut FuRows, block: &HandBlock, win: &WinRecord)
+    requires { length rows.old.items ≤ 18 }
+    ensures items { rows.new.items ≡ rows.old.items ++ spec.rows_if_pair win.now block.now }
+    ensures most { length rows.new.items ≤ length rows.old.items + 2 }
+{
+    match *block {
+        HandBlock::Pair(kind) => push_pair_rows(rows, kind, win),
+        HandBlock::Run(_) | HandBlock::Triplet { .. } | HandBlock::Kong { .. } => {}
+    }
+}
+
+/// No kind is both a dragon and a wind.
+#[tactic(auto, using(crate::proofs::FuLemmas::wind_below))]
 fn push_pair_rows(rows: &mut FuRows, kind: Kind, win: &WinRecord)
     requires { length rows.old.items ≤ 18 }
     ensures items { rows.new.items ≡ rows.old.items ++ spec.pair_rows win.now kind }
-    ensures most { length rows.new.items ≤ length rows.old.items + 3 }
+    ensures most { length rows.new.items ≤ length rows.old.items + 2 }
 {
     push_earned(
         rows,

@@ -28,7 +28,12 @@ pub struct HanRow {
     pub han: u8,
 }
 
+/// What fills the places of a list that no row has taken.
 impl Default for HanRow {
+    ghost use Rattle.riichi_explain.specs.declared.han.HanPart.TheVariants.{Dora};
+
+    ghost is_default = { λ row. row ≡ record { part = Dora; han = 0 } };
+
     fn default() -> Self {
         HanRow {
             part: HanPart::Dora,

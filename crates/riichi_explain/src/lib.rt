@@ -6,6 +6,7 @@
 #![tactic(auto)]
 
 mod base;
+mod decided;
 mod explaining;
 mod forms;
 mod fu;

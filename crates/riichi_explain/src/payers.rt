@@ -26,7 +26,12 @@ pub struct PayRow {
     pub counters: u32,
 }
 
+/// What fills the places of a list that no row has taken.
 impl Default for PayRow {
+    ghost use Rattle.riichi_explain.specs.declared.payers.Payer.TheVariants.{Discarder};
+
+    ghost is_default = { λ row. row ≡ record { payer = Discarder; points = 0; counters = 0 } };
+
     fn default() -> Self {
         PayRow {
             payer: Payer::Discarder,

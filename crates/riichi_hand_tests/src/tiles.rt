@@ -44,7 +44,7 @@ fn reads_into_empty_counts(rt: HostRuntime) {
 #[test]
 fn tells_which_kinds_are_held(rt: HostRuntime) -> Result<(), Fail> {
     let counts = read_counts(b"119m7z").ok().ok_or("a text of tiles")?;
-    let held = HeldKinds::of(counts.as_array());
+    let held = KindSet::of(counts.as_array());
     same(&rt, (held.first_from(0), held.first_from(1)), (0, 8));
     same(&rt, (held.first_from(9), held.first_from(34)), (33, 34));
     holds(&rt, held.has_some(0, 1) && !held.has_some(1, 8));

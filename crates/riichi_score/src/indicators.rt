@@ -6,7 +6,7 @@ ghost use Rattle.riichi_tiles.specs.Tiles.{IsCounts};
 ghost use Rattle.riichi_score.specs.Dora as spec;
 
 use riichi_hand::{Rules, WinRecord};
-use riichi_tiles::{HeldKinds, Kind, Reds, dora_of};
+use riichi_tiles::{Kind, KindSet, Reds, dora_of};
 
 /// The han of a hand's dora: for each tile of `dora` and `ura` one for each copy of the kind that it
 /// indicates, melds and the winning tile included, and under the second profile one for each red five.
@@ -40,8 +40,8 @@ fn indicator_dora(win: &WinRecord) -> u8
     if left == 0 {
         return 0;
     }
-    let shown = HeldKinds::of(&dora.to_array());
-    let hidden = HeldKinds::of(&ura.to_array());
+    let shown = KindSet::of(&dora.to_array());
+    let hidden = KindSet::of(&ura.to_array());
     let mut sum = 0;
     let mut number = 0;
     while left > 0 {

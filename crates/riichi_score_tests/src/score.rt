@@ -51,6 +51,26 @@ fn runs_and_draws(rt: HostRuntime) -> Result<(), Fail> {
     )
 }
 
+/// Two han with 30 fu: 30 times 16.
+#[test]
+fn base_points_of_a_score(rt: HostRuntime) -> Result<(), Fail> {
+    let line = b"win 234m567m345p67s99s on=5s by=ron seat=S round=E riichi=1";
+    let Ok(Some(Job::Win(win))) = read_line(Rules::One, line) else {
+        return Err("a win".into());
+    };
+    let answer = best(&win);
+    same(
+        &rt,
+        win_text(&answer).as_str(),
+        "won 2 han 30 fu 2000 gain 2000 riichi pinfu",
+    );
+    let WinAnswer::Won(score) = answer else {
+        return Err("a score".into());
+    };
+    same(&rt, score.base, 480);
+    Ok(())
+}
+
 #[test]
 fn open_hands(rt: HostRuntime) -> Result<(), Fail> {
     answers(

@@ -1,14 +1,11 @@
 -- The discards that are kept, and those that they stand for.
-use Rattle.std.proofs.Common.{◌≡◌, ℕ, zero, suc, ◌+◌, ◌*◌, ◌^◌, ◌/◌, ◌%◌, ◌<◌, ◌≤◌, Bool, true, false, cond, Option, Some, None, List, [], ◌∷◌, map, get_or, length, max, refl, sym, ap, ◌∙◌, subst, arith}
+use Rattle.std.proofs.Common.{◌≡◌, ℕ, zero, suc, ◌+◌, ◌*◌, ◌^◌, ◌/◌, ◌%◌, ◌<◌, ◌≤◌, Bool, true, false, cond, Option, Some, None, List, [], ◌∷◌, map, get_or, length, max, refl, sym, ap, ◌∙◌, arith}
 use Rattle.std.proofs.lemmas.Bool.{or_left, or_right, lt-ltb}
 use Rattle.std.proofs.lemmas.List.FromFn.{get_or-map-range_with_len, length-map-range_with_len}
 use Rattle.std.proofs.lemmas.Option.{slice_get-map}
-use Rattle.std.proofs.lemmas.Simd.{mask_l-lt}
 use Rattle.std.specs.List.{list_any}
 use Rattle.std.specs.Prelude.{◌||◌, nat_le, nat_lt, slice_get, slice_index}
 use Rattle.std.specs.Option.{option_map}
-use Rattle.std.specs.Simd.Lanes.{mask_l}
-use Rattle.riichi_tiles.specs.Melds.{every_kind}
 use Rattle.riichi_shape.specs.Discards.{inserted, inserted_by, live_with}
 use Rattle.riichi_shape.specs.KeptDiscards.{AreKept, AreTold, IsKept, all_copies, kept_of, kinds_in, kinds_of, most_copies, told}
 use Rattle.riichi_tiles.specs.HeldKinds.{is_held}
@@ -17,23 +14,14 @@ use Rattle.riichi_shape.specs.LiveCopies.{copies_in, pairs_of}
 use Rattle.riichi_shape.specs.declared.discard.Discard.{Discard}
 use Rattle.riichi_shape.specs.declared.kept_discard.KeptDiscard.{KeptDiscard}
 use Rattle.riichi_shape.proofs.DiscardLemmas.{put_in}
-use Rattle.riichi_shape.proofs.KindLemmas.{among_at, among_same, are_among, few_among, marked_at, same_members}
+use Rattle.riichi_shape.proofs.KindLemmas.{among_at, among_same, are_among, few_among}
+use Rattle.riichi_tiles.proofs.KindSets.{same_members, where_at, where_low}
 use Rattle.riichi_shape.proofs.LiveLemmas.{copies_told}
 
 pub same_discard : {number kind : ℕ} {list other : List (ℕ × ℕ)} → number ≡ kind → list ≡ other → ◌≡◌ {A = Discard} (record { kind = number; accepted = list }) (record { kind = kind; accepted = other })
 same_discard e e' = cc
 
 -- ---- the set of a discard, out of the kinds of its pairs
-
-kinds_low : (pairs : List (ℕ × ℕ)) → kinds_in pairs < 2 ^ 34
-unfolding kinds_in
-kinds_low pairs =
-    subst (λ n. mask_l (map (λ kind. nat_lt 0 (copies_in pairs kind)) every_kind) < 2 ^ n) (length-map-range_with_len (λ kind. nat_lt 0 (copies_in pairs kind)) 0 34)
-    (mask_l-lt (map (λ kind. nat_lt 0 (copies_in pairs kind)) every_kind))
-
-has_kind_in : (pairs : List (ℕ × ℕ)) (kind : ℕ) → kind < 34 → is_held (kinds_in pairs) kind ≡ nat_lt 0 (copies_in pairs kind)
-unfolding kinds_in
-has_kind_in pairs kind low = marked_at (map (λ kind. nat_lt 0 (copies_in pairs kind)) every_kind) kind ∙ get_or-map-range_with_len (λ kind. nat_lt 0 (copies_in pairs kind)) 0 34 kind kind false low (omega arith)
 
 some_at : (h : Bool) (c : ℕ) → (h ≡ true → 0 < c) → nat_lt 0 (cond h c 0) ≡ h
 some_at true c some = lt-ltb 0 c (some refl)
@@ -44,8 +32,8 @@ copies_of copies set kind low = copies_told (copies_among copies set) kind low �
 
 kinds_back : (copies : List ℕ) (set : ℕ) → set < 2 ^ 34 → ((kind : ℕ) → kind < 34 → is_held set kind ≡ true → 0 < slice_index copies kind) → kinds_in (pairs_of (copies_among copies set)) ≡ set
 kinds_back copies set low some =
-    same_members 34 (kinds_in (pairs_of (copies_among copies set))) set (kinds_low (pairs_of (copies_among copies set))) low
-    (λ kind inside. has_kind_in (pairs_of (copies_among copies set)) kind inside ∙ ap (nat_lt 0) (copies_of copies set kind inside) ∙ some_at (is_held set kind) (slice_index copies kind) (some kind inside))
+    same_members 34 (kinds_in (pairs_of (copies_among copies set))) set (where_low (λ kind. nat_lt 0 (copies_in (pairs_of (copies_among copies set)) kind))) low
+    (λ kind inside. where_at (λ kind. nat_lt 0 (copies_in (pairs_of (copies_among copies set)) kind)) kind inside ∙ ap (nat_lt 0) (copies_of copies set kind inside) ∙ some_at (is_held set kind) (slice_index copies kind) (some kind inside))
 
 all_long : (discards : List Discard) → length (all_copies discards) ≡ 34
 unfolding all_copies
@@ -146,7 +134,7 @@ module _ (copies : List ℕ) (order : List KeptDiscard) (are : AreTold copies or
     where
       by_discard : (o : Option Discard) → option_map kept_of o ≡ Some kept → kinds_of kept < 2 ^ 34
       by_discard None e = cc
-      by_discard (Some discard) e = omega (arith, kinds_low discard.accepted, ap (λ (k : KeptDiscard). k.numbers) (same e), ap (λ (k : KeptDiscard). k.honours) (same e))
+      by_discard (Some discard) e = omega (arith, where_low (λ kind. nat_lt 0 (copies_in discard.accepted kind)), ap (λ (k : KeptDiscard). k.numbers) (same e), ap (λ (k : KeptDiscard). k.honours) (same e))
         where
           same : Some (kept_of discard) ≡ Some kept → kept_of discard ≡ kept
           same e = cc

@@ -1,16 +1,10 @@
 -- Sets of kinds as numbers.
-use Rattle.std.proofs.Common.{◌≡◌, ℕ, zero, suc, ◌+◌, ◌-◌, ◌*◌, ◌^◌, ◌<◌, ◌≤◌, Bool, true, false, cond, List, [], ◌∷◌, map, drop, get_or, length, max, min, ltb, refl, sym, ap, ◌∙◌, arith, bit_and}
-use Rattle.std.proofs.lemmas.Bool.Decides.{nat_tests}
-use Rattle.std.proofs.lemmas.List.{ext_get_or, length-drop, length-map}
+use Rattle.std.proofs.Common.{◌≡◌, ℕ, ◌+◌, ◌-◌, ◌*◌, ◌<◌, ◌≤◌, Bool, true, false, cond, List, get_or, length, ltb, refl, sym, ap, ◌∙◌, ⊎_elim, arith, bit_and}
+use Rattle.std.proofs.lemmas.Bool.{cases_lt, lt-ltb, le-ltb}
+use Rattle.std.proofs.lemmas.List.{ext_get_or}
 use Rattle.std.proofs.lemmas.List.FromFn.{get_or-map-range_with_len, length-map-range_with_len}
-use Rattle.std.proofs.lemmas.Nat.Bits.{bit_at-lt, bit_at_and, bit_at_cat_high, bit_at_cat_low, bit_at_ones, bit_at_or, same_from_bits_below}
-use Rattle.std.proofs.lemmas.Simd.{bit_mask_l, mask_l-lt}
-use Rattle.std.proofs.Math.Nat.{pow-le-pow_right}
-use Rattle.std.proofs.Math.Seq.{drop-cons}
-use Rattle.std.specs.Int.{bit_at, from_bool}
-use Rattle.std.specs.Int.RustNames.{bit_or}
-use Rattle.std.specs.Prelude.{◌==◌, ◌&&◌, ◌||◌, nat_lt, slice_index}
-use Rattle.std.specs.Simd.Lanes.{mask_l}
+use Rattle.std.proofs.lemmas.Nat.Bits.{bit_at_cat_high, bit_at_cat_low, bit_at_ones}
+use Rattle.std.specs.Prelude.{◌==◌, ◌&&◌, slice_index}
 use Rattle.riichi_rows.specs.Marks.{has_rank}
 use Rattle.riichi_shape.specs.LackedKinds.{suits_lack}
 use Rattle.riichi_shape.proofs.AcceptedLemmas.{some_few}
@@ -22,57 +16,8 @@ use Rattle.riichi_tiles.specs.declared.suit.Suit.TheVariants.{Characters, Circle
 use Rattle.riichi_tiles.proofs.Suits.{own_suit}
 use Rattle.riichi_rows.specs.declared.rank_set.RankSet.{RankSet}
 use Rattle.riichi_tiles.specs.HeldKinds.{is_held}
+use Rattle.riichi_tiles.proofs.KindSets.{both_at}
 use Rattle.riichi_shape.specs.KindBits.{copies_among, copies_at}
-
--- ---- a bit of two sets, and of marks
-
-is_bit : (b : Bool) → (cond b 1 0 == 1) ≡ b
-is_bit true = refl
-is_bit false = refl
-
-pub marked_at : (marks : List Bool) (kind : ℕ) → is_held (mask_l marks) kind ≡ get_or marks kind false
-marked_at marks kind = ap (λ n. n == 1) (bit_mask_l marks kind) ∙ is_bit (get_or marks kind false)
-
-both_bits : (a b : ℕ) → a < 2 → b < 2 → (min a b == 1) ≡ ((a == 1) && (b == 1))
-both_bits a b low low' = grind (arith, nat_tests)
-
-pub both_at : (a b kind : ℕ) → is_held (bit_and a b) kind ≡ (is_held a kind && is_held b kind)
-both_at a b kind = ap (λ n. n == 1) (bit_at_and a b kind) ∙ both_bits (bit_at a kind) (bit_at b kind) (bit_at-lt a kind) (bit_at-lt b kind)
-
-either_bits : (a b : ℕ) → a < 2 → b < 2 → (max a b == 1) ≡ ((a == 1) || (b == 1))
-either_bits a b low low' = grind (arith, nat_tests)
-
-pub either_at : (a b kind : ℕ) → is_held (bit_or a b) kind ≡ (is_held a kind || is_held b kind)
-either_at a b kind = ap (λ n. n == 1) (bit_at_or a b kind) ∙ either_bits (bit_at a kind) (bit_at b kind) (bit_at-lt a kind) (bit_at-lt b kind)
-
--- ---- marks as bits, from the last kind on
-
-bit_is : (mark : Bool) → from_bool mark ≡ cond mark 1 0
-bit_is true = refl
-bit_is false = refl
-
-module _ (marks : List Bool) (long : length marks ≡ 34) (kind : ℕ) (some : 0 < kind) (most : kind ≤ 34) where
-  pub one_more_mark : (bits next : ℕ) → bits ≡ mask_l (drop kind marks) → next ≡ 2 * bits + from_bool (get_or marks (kind - 1) false) → next ≡ mask_l (drop (kind - 1) marks)
-  one_more_mark bits next so_far next_is =
-      omega (arith, next_is, so_far, bit_is (get_or marks (kind - 1) false), ap mask_l (drop-cons marks (kind - 1) false (omega arith)), ap (λ k. mask_l (drop k marks)) same)
-    where
-      same : suc (kind - 1) ≡ kind
-      same = omega arith
-
-pub few_marks : (marks : List Bool) (kind : ℕ) → length marks ≡ 34 → mask_l (drop kind marks) < 2 ^ 34
-few_marks marks kind long =
-    let low = mask_l-lt (drop kind marks) in
-    let most = pow-le-pow_right {n = 2} (omega arith) {i = length (drop kind marks)} {j = 34} (omega (arith, length-drop kind marks, long)) in
-    omega (arith, low, most)
-
--- the kinds that have copies
-pub live_at : (copies : List ℕ) (kind : ℕ) → get_or (map (nat_lt 0) copies) kind false ≡ nat_lt 0 (slice_index copies kind)
-live_at [] kind = refl
-live_at (live ∷ copies) zero = refl
-live_at (live ∷ copies) (suc kind) = live_at copies kind
-
-pub marks_are : (marks : List Bool) (copies : List ℕ) → length marks ≡ 34 → length copies ≡ 34 → ((kind : ℕ) → kind < 34 → get_or marks kind false ≡ ltb 0 (get_or copies kind 0)) → marks ≡ map (nat_lt 0) copies
-marks_are marks copies long long' each = ext_get_or false marks (map (nat_lt 0) copies) (omega (arith, long, long', length-map copies (nat_lt 0))) (λ kind low. each kind (omega arith) ∙ sym (live_at copies kind))
 
 -- ---- the copies of the kinds of a set
 
@@ -93,25 +38,20 @@ among_same copies others set other each = are_among (copies_among copies set) ot
 pub few_among : (copies : List ℕ) (set : ℕ) → ((kind : ℕ) → slice_index copies kind ≤ 4) → (kind : ℕ) → slice_index (copies_among copies set) kind ≤ 4
 few_among copies set few = some_few (copies_among copies set) copies (is_held set) (among_long copies set) few (among_at copies set)
 
--- ---- two sets with the same members
-
-pub same_members : (size a b : ℕ) → a < 2 ^ size → b < 2 ^ size → ((n : ℕ) → n < size → is_held a n ≡ is_held b n) → a ≡ b
-same_members size a b low low' each = same_from_bits_below size a b low low' (λ n inside. same_bit (bit_at a n) (bit_at b n) (bit_at-lt a n) (bit_at-lt b n) (each n inside))
-  where
-    same_bit : (m n : ℕ) → m < 2 → n < 2 → (m == 1) ≡ (n == 1) → m ≡ n
-    same_bit m n low low' e = grind (arith, nat_tests)
-
 -- ---- the sets of four suits as one
 
 module _ (upper lower n : ℕ) (below : lower < 512) (is : n ≡ upper * 512 + lower) where
   pub in_lower : (kind : ℕ) → kind < 9 → is_held n kind ≡ is_held lower kind
+  unfolding is_held
   in_lower kind low = ap (λ m. is_held m kind) is ∙ ap (λ b. b == 1) (bit_at_cat_low upper 9 lower kind low)
 
   pub in_upper : (kind : ℕ) → 9 ≤ kind → is_held n kind ≡ is_held upper (kind - 9)
+  unfolding is_held
   in_upper kind high = ap (λ m. is_held m kind) is ∙ ap (λ b. b == 1) (bit_at_cat_high upper 9 lower kind below high)
 
 -- seven of nine bits
 in_seven : (n kind : ℕ) → kind < 7 → is_held (bit_and n 127) kind ≡ is_held n kind
+unfolding is_held
 in_seven n kind low = both_at n 127 kind ∙ ap (λ b. is_held n kind && (b == 1)) (bit_at_ones 7 kind low) ∙ and_true (is_held n kind)
   where
     and_true : (b : Bool) → (b && true) ≡ b

@@ -1,7 +1,7 @@
 -- The discards of a hand as they are kept: how many copies of each kind are live stands once for all of them, and beside
 -- each discard the set of the kinds that it accepts.
 use Rattle.std.specs.Prelude.{◌≡◌, ℕ, ◌+◌, ◌*◌, ◌-◌, ◌^◌, ◌<◌, ◌≤◌, ◌%◌, ◌/◌, max, nat_le, nat_lt, Bool, List, [], ◌∷◌, ◌++◌, length, map, replicate, slice_index, take}
-use Rattle.std.specs.Simd.Lanes.{mask_l}
+use Rattle.riichi_tiles.specs.HeldKinds.{kinds_where}
 use Rattle.riichi_tiles.specs.Melds.{every_kind}
 use Rattle.riichi_tiles.specs.declared.meld.Meld.{Meld}
 use Rattle.riichi_shape.specs.Accepted.{AreLiveCopies}
@@ -55,8 +55,8 @@ AreKept copies [] = Unit {0}
 AreKept copies (kept ∷ rest) = IsKept copies kept × AreKept copies rest
 
 -- the kinds of a list of pairs
-unfoldable pub kinds_in : List (ℕ × ℕ) → ℕ
-kinds_in pairs = mask_l (map (λ kind. nat_lt 0 (copies_in pairs kind)) every_kind)
+abbrev pub kinds_in : List (ℕ × ℕ) → ℕ
+kinds_in pairs = kinds_where (λ kind. nat_lt 0 (copies_in pairs kind))
 
 -- what is kept of a discard
 abbrev pub kept_of : Discard → KeptDiscard

@@ -6,12 +6,11 @@ ghost use Rattle.riichi_shape.specs.KindBits.{HaveCopies};
 ghost use Rattle.riichi_shape.specs.LackedKinds.{AreAcceptedBy};
 
 use crate::hand_forms::HandForms;
-use crate::kind_bits::KindBits;
 use crate::lacked_kinds::LackedKinds;
 use crate::live_copies::LiveCopies;
 use crate::live_list::LiveList;
 use riichi_rows::FreshRows;
-use riichi_tiles::{Counts, Melds, meld_tiles};
+use riichi_tiles::{Counts, KindSet, Melds, meld_tiles};
 
 /// The live copies of every kind: those that are in neither the hand nor the melds, and not seen
 /// elsewhere.
@@ -22,20 +21,17 @@ pub(crate) fn live_copies(hand: &Counts, melds: &Melds, seen: &Counts) -> LiveCo
     let melded = meld_tiles(melds);
     let elsewhere = seen.to_array();
     let mut copies = [0; 34];
-    let mut marks = [false; 34];
     for kind in 0..34usize {
-        let live = 4u8.saturating_sub(held[kind] + melded[kind] + elsewhere[kind]);
-        copies[kind] = live;
-        marks[kind] = live > 0;
+        copies[kind] = 4u8.saturating_sub(held[kind] + melded[kind] + elsewhere[kind]);
     }
     LiveCopies {
         copies,
-        kinds: KindBits::marked(&marks),
+        kinds: KindSet::of(&copies),
     }
 }
 
 /// The accepted kinds of a hand: those with live copies that some least winning multiset lacks.
-pub(crate) fn accepted_by(lacked: &LackedKinds, hand: &Counts, live: &LiveCopies) -> KindBits
+pub(crate) fn accepted_by(lacked: &LackedKinds, hand: &Counts, live: &LiveCopies) -> KindSet
     ensures accepted { AreAcceptedBy hand.now lacked.now live.now.copies result }
     ensures live { HaveCopies live.now.copies result }
 {

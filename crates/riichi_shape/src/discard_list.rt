@@ -6,6 +6,7 @@ ghost use Rattle.riichi_shape.specs.KeptDiscards.{AreKept, told};
 
 use crate::discard::Discard;
 use crate::discard_order::DiscardOrder;
+use crate::live_copies::copies_among;
 use std::marker::Model;
 
 /// Discards, at most fourteen, in the order in which they are listed. How many copies of a kind are live does not depend on
@@ -52,7 +53,7 @@ impl DiscardList {
         ensures { result ≡ map (told copies.now) order }
     {
         DiscardList {
-            copies: order.accepted().among(copies),
+            copies: copies_among(copies, order.accepted()),
             order,
         }
     }

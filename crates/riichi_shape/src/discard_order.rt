@@ -6,7 +6,7 @@ ghost use Rattle.riichi_shape.specs.KeptDiscards.{gives_way, kinds_of};
 ghost use Rattle.riichi_tiles.specs.HeldKinds.{is_held};
 
 use crate::kept_discard::KeptDiscard;
-use crate::kind_bits::KindBits;
+use riichi_tiles::KindSet;
 use std::marker::Model;
 
 /// At most fourteen discards, seen as the list of them.
@@ -73,12 +73,12 @@ impl DiscardOrder {
     }
 
     /// The kinds that any of the discards accepts.
-    pub(crate) fn accepted(&self) -> KindBits
+    pub(crate) fn accepted(&self) -> KindSet
         requires { All (λ kept. kinds_of kept < 2 ^ 34) self.now }
         ensures { (kind : ℕ)
             → is_held result kind ≡ list_any (λ kept. is_held (kinds_of kept) kind) self.now }
     {
-        let mut kinds = KindBits::new(0);
+        let mut kinds = KindSet::new();
         for place in 0..self.count as usize {
             kinds = kinds.either(self.places[place].accepted());
         }

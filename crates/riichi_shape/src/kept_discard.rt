@@ -3,9 +3,9 @@ ghost use Rattle.std.specs.Prelude.{ℕ, ◌≡◌, ◌<◌, ◌≤◌, ◌^◌,
 ghost use Rattle.riichi_shape.specs.KeptDiscards.{kinds_of, no_discard, told};
 
 use crate::discard::Discard;
-use crate::kind_bits::KindBits;
+use crate::live_copies::copies_among;
 use crate::live_list::LiveList;
-use riichi_tiles::Kind;
+use riichi_tiles::{Kind, KindSet};
 
 /// A discard without the live copies of the kinds that it accepts, which stand once for all discards of a hand.
 #[derive(Clone, Copy, Debug, PartialEq, Eq)]
@@ -23,7 +23,7 @@ pub(crate) struct KeptDiscard {
 const FIRST_HONOUR: u64 = 1 << 27;
 
 impl KeptDiscard {
-    pub(crate) fn new(kind: Kind, live: u8, accepted: KindBits) -> KeptDiscard
+    pub(crate) fn new(kind: Kind, live: u8, accepted: KindSet) -> KeptDiscard
         ensures kind { result.kind ≡ kind }
         ensures live { result.live ≡ live }
         ensures accepted { kinds_of result ≡ accepted }
@@ -52,11 +52,11 @@ impl KeptDiscard {
     }
 
     /// The kinds that it accepts.
-    pub(crate) fn accepted(&self) -> KindBits
+    pub(crate) fn accepted(&self) -> KindSet
         requires { kinds_of self.now < 2 ^ 34 }
         ensures { result ≡ kinds_of self.now }
     {
-        KindBits::new(self.honours as u64 * FIRST_HONOUR + self.numbers as u64)
+        KindSet::from_bits(self.honours as u64 * FIRST_HONOUR + self.numbers as u64)
     }
 
     /// The discard, beside these live copies.
@@ -68,7 +68,7 @@ impl KeptDiscard {
     {
         Discard {
             kind: self.kind,
-            accepted: LiveList::new(self.accepted().among(copies)),
+            accepted: LiveList::new(copies_among(copies, self.accepted())),
         }
     }
 }

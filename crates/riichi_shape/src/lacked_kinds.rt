@@ -3,9 +3,9 @@ ghost use Rattle.std.specs.Prelude.{slice_index};
 ghost use Rattle.riichi_shape.specs.KindBits.{AreKindsOf};
 ghost use Rattle.riichi_shape.specs.LackedKinds.{lacks_kind};
 
-use crate::kind_bits::KindBits;
 use crate::special::SpecialLacked;
 use crate::suits_lacked::{SuitsLacked, kinds_lacked};
+use riichi_tiles::KindSet;
 
 /// The kinds that some least winning multiset lacks, form by form: one more tile of just these
 /// kinds brings the hand nearer.
@@ -17,7 +17,7 @@ pub(crate) struct LackedKinds {
 
 impl LackedKinds {
     /// The kinds that are lacked by a hand that holds so many of each.
-    pub(crate) fn kinds(&self, held: &[u8; 34]) -> KindBits
+    pub(crate) fn kinds(&self, held: &[u8; 34]) -> KindSet
         ensures { AreKindsOf result (λ kind. lacks_kind self.now kind (slice_index held.now kind)) }
     {
         let kinds = kinds_lacked(&self.suits);

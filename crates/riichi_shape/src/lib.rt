@@ -28,7 +28,6 @@ mod hand_forms;
 mod hand_joins;
 mod hand_rows;
 mod kept_discard;
-mod kind_bits;
 mod lacked_held;
 mod lacked_kinds;
 pub mod laws;

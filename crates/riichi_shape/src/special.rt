@@ -5,12 +5,11 @@ ghost use Rattle.riichi_shape.specs.Accepted.{without_one};
 ghost use Rattle.riichi_shape.specs.KindBits.{AreKindsOf};
 ghost use Rattle.riichi_shape.specs.Special.{AreSpecialForms, AreSpecialLacked, IsSpecialDistance, SpecialLacks, special_lacks};
 
-use crate::kind_bits::KindBits;
 use crate::lacked_held::{LackedHeld, NO_KIND};
 use crate::nearest_form::{FAR, NearestForm};
 use crate::orphans::nearest_orphans;
 use crate::pairs::nearest_pairs;
-use riichi_tiles::{Counts, Kind, Melds};
+use riichi_tiles::{Counts, Kind, KindSet, Melds};
 
 /// How near a hand is to seven pairs and to thirteen orphans. Beside melds neither counts.
 #[derive(Clone, Copy)]
@@ -111,15 +110,15 @@ impl SpecialLacked {
     }
 
     /// The kinds that are lacked by a hand that holds so many of each.
-    pub(crate) fn kinds(&self, held: &[u8; 34]) -> KindBits
+    pub(crate) fn kinds(&self, held: &[u8; 34]) -> KindSet
         ensures { AreKindsOf result (λ kind. special_lacks self.now kind
             (slice_index held.now kind)) }
     {
-        let mut marks = [false; 34];
+        let mut kinds = KindSet::new();
         for number in 0..34u8 {
-            let place = number as usize;
-            marks[place] = self.contains(Kind::at(number), held[place]);
+            let kind = Kind::at(number);
+            kinds.insert_if(kind, self.contains(kind, held[number as usize]));
         }
-        KindBits::marked(&marks)
+        kinds
     }
 }

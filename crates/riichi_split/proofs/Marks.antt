@@ -1,14 +1,12 @@
 -- The marks of the kinds that a hand waits for.
-use Rattle.std.proofs.Common.{Ok, ap, ◌≡◌, ℕ, zero, suc, ◌+◌, ◌*◌, ◌<◌, ◌≤◌, ◌↔◌, subst, Bool, true, false, List, [], ◌∷◌, length, get_or, refl, sym, ◌∙◌, arith, ltb, IsTrue, inl, inr}
-use Rattle.std.specs.List.{list_any}
-use Rattle.std.proofs.lemmas.Bool.{cases_lt, and_parts, and_from, ltb-true, lt-ltb, true_from_ne_false}
+use Rattle.std.proofs.Common.{ap, ◌≡◌, ℕ, ◌+◌, ◌*◌, ◌<◌, ◌≤◌, ◌↔◌, true, false, List, length, get_or, refl, sym, ◌∙◌, arith, ltb, IsTrue, inl, inr}
+use Rattle.std.proofs.lemmas.Bool.{cases_lt, and_parts, and_from, both_ways, ltb-true, lt-ltb}
 use Rattle.std.proofs.lemmas.Bool.Decides.{nat_tests, same_from_decides}
-use Rattle.std.proofs.lemmas.List.{nil_from_length, length-set, get_or_past, ext_get_or}
+use Rattle.std.proofs.lemmas.List.{nil_from_length, length-set}
 use Rattle.std.proofs.lemmas.Grind.{get_or-set_at}
-use Rattle.std.proofs.lemmas.List.FromFn.{length-map-range_with_len, get_or-map-range_with_len}
-use Rattle.riichi_tiles.specs.Tiles.{IsMarked, IsCounts}
-use Rattle.riichi_tiles.specs.Notation.{notation_fault, reading_of}
-use Rattle.riichi_tiles.specs.Printing.{digits, tiles_text, once, ones}
+use Rattle.riichi_tiles.specs.HeldKinds.{is_held, IsMarked}
+use Rattle.riichi_tiles.specs.Tiles.{IsCounts}
+use Rattle.riichi_tiles.proofs.KindSets.{same_set, where_at, where_past}
 use Rattle.riichi_hand.specs.HandParts.{HandParts}
 use Rattle.riichi_hand.proofs.OutcomeLemmas.{no_faults}
 use Rattle.riichi_hand.specs.Hand.{copies_held, size, is_thirteen, has_five_copies, IsHand}
@@ -47,26 +45,24 @@ is_wait-iff hand kind l counts few =
 
 -- ---- all kinds
 
-pub mark_of : (hand : HandParts) (kind : ℕ) → kind < 34 → get_or (waits_of hand) kind false ≡ is_wait hand kind
+pub mark_of : (hand : HandParts) (kind : ℕ) → kind < 34 → is_held (waits_of hand) kind ≡ is_wait hand kind
 unfolding waits_of
-mark_of hand kind l = get_or-map-range_with_len (is_wait hand) 0 34 kind kind false l (omega arith)
+mark_of hand kind l = where_at (is_wait hand) kind l
 
-length-waits_of : (hand : HandParts) → length (waits_of hand) ≡ 34
+past_kinds : (hand : HandParts) (kind : ℕ) → 34 ≤ kind → is_held (waits_of hand) kind ≡ false
 unfolding waits_of
-length-waits_of hand = length-map-range_with_len (is_wait hand) 0 34
+past_kinds hand kind past = where_past (is_wait hand) kind past
 
 pub marked-iff : (hand : HandParts) (kind : ℕ) → IsCounts hand.concealed → length hand.melds ≤ 4 → IsMarked (waits_of hand) kind ↔ IsWait hand kind
 marked-iff hand kind counts few =
     elim (cases_lt kind 34) [
       | inl l ↦ let i = is_wait-iff hand kind l counts few in (λ t. i.0 (sym (mark_of hand kind l) ∙ t), λ w. mark_of hand kind l ∙ i.1 w)
-      | inr g ↦
-          let past : get_or (waits_of hand) kind false ≡ false = get_or_past (waits_of hand) kind false (omega (arith, length-waits_of hand)) in
-          (λ t. absurd (let e : get_or (waits_of hand) kind false ≡ true = t in cc), λ w. absurd (omega (arith, w.of_a_kind)))
+      | inr g ↦ (λ t. absurd (both_ways _ (past_kinds hand kind g) t), λ w. absurd (omega (arith, g, w.of_a_kind)))
     ]
 
--- marks of just the waits
-pub all_marked : (hand : HandParts) (marks : List Bool) → IsCounts hand.concealed → length hand.melds ≤ 4 → length marks ≡ 34 → ((kind : ℕ) → IsMarked marks kind ↔ IsWait hand kind) → marks ≡ waits_of hand
-all_marked hand marks counts few long each = ext_get_or false marks (waits_of hand) (long ∙ sym (length-waits_of hand)) (λ kind l. same_from_decides (get_or marks kind false) (get_or (waits_of hand) kind false) (each kind) (marked-iff hand kind counts few))
+-- a set of just the waits
+pub all_marked : (hand : HandParts) (marks : ℕ) → IsCounts hand.concealed → length hand.melds ≤ 4 → ((kind : ℕ) → IsMarked marks kind ↔ IsWait hand kind) → marks ≡ waits_of hand
+all_marked hand marks counts few each = same_set marks (waits_of hand) (λ kind. same_from_decides (is_held marks kind) (is_held (waits_of hand) kind) (each kind) (marked-iff hand kind counts few))
 
 -- ---- the three shapes
 
@@ -79,11 +75,11 @@ wait-shape hand kind counts =
     )
 
 -- the kinds that complete sets and a pair
-abbrev pub AreStandard : HandParts → List Bool → Type 0
+abbrev pub AreStandard : HandParts → ℕ → Type 0
 AreStandard hand marks = (kind : ℕ) → IsMarked marks kind ↔ ((kind < 34) × (get_or hand.concealed kind 0 < 4) × HasSplit (with_one hand.concealed kind) (length hand.melds))
 
 -- without melds
-pub closed-waits : (hand : HandParts) (old marks : List Bool) → IsCounts hand.concealed → length hand.melds ≡ 0 → AreStandard hand old → AddsSpecial hand.concealed 34 old marks → (kind : ℕ) → IsMarked marks kind ↔ IsWait hand kind
+pub closed-waits : (hand : HandParts) (old marks : ℕ) → IsCounts hand.concealed → length hand.melds ≡ 0 → AreStandard hand old → AddsSpecial hand.concealed 34 old marks → (kind : ℕ) → IsMarked marks kind ↔ IsWait hand kind
 closed-waits hand old marks counts none standard adds kind =
     let s = wait-shape hand kind counts in
     let a = adds.each kind in
@@ -103,61 +99,25 @@ closed-waits hand old marks counts none standard adds kind =
     )
 
 -- beside melds
-pub open-waits : (hand : HandParts) (old marks : List Bool) → IsCounts hand.concealed → 0 < length hand.melds → AreStandard hand old → ((kind : ℕ) → kind < 34 → IsMarked marks kind ↔ (IsMarked old kind × (copies_held hand.concealed hand.melds kind < 4))) → ((kind : ℕ) → 34 ≤ kind → IsMarked marks kind → ⊥) → (kind : ℕ) → IsMarked marks kind ↔ IsWait hand kind
-open-waits hand old marks counts some standard left others kind =
+pub open-waits : (hand : HandParts) (old marks : ℕ) → IsCounts hand.concealed → 0 < length hand.melds → AreStandard hand old → ((kind : ℕ) → IsMarked marks kind ↔ ((kind < 34) × IsMarked old kind × (copies_held hand.concealed hand.melds kind < 4))) → (kind : ℕ) → IsMarked marks kind ↔ IsWait hand kind
+open-waits hand old marks counts some standard left kind =
     let s = wait-shape hand kind counts in
     let o = standard kind in
-    elim (cases_lt kind 34) [
-      | inl l ↦ let i = left kind l in (
-        λ m. let h = i.0 m in let b = o.0 h.0 in s.1 (b.0, h.1, inl b.2),
-        λ w. let h = s.0 w in i.1 (
-          o.1 (
-            h.0,
-            omega (arith, h.1),
-            elim h.2 [
-              | inl split ↦ split
-              | inr special ↦ absurd (elim special [ inl pairs ↦ omega (arith, pairs.0, some) | inr orphans ↦ omega (arith, orphans.0, some) ])
-            ],
-          ),
-          h.1,
+    let i = left kind in (
+      λ m. let h = i.0 m in let b = o.0 h.1 in s.1 (b.0, h.2, inl b.2),
+      λ w. let h = s.0 w in i.1 (
+        h.0,
+        o.1 (
+          h.0,
+          omega (arith, h.1),
+          elim h.2 [
+            | inl split ↦ split
+            | inr special ↦ absurd (elim special [ inl pairs ↦ omega (arith, pairs.0, some) | inr orphans ↦ omega (arith, orphans.0, some) ])
+          ],
         ),
-      )
-      | inr past ↦ (λ m. absurd (others kind past m), λ w. absurd (omega (arith, past, w.of_a_kind)))
-    ]
-
--- ---- the text
-
-none-any : (marks : List Bool) → ((kind : ℕ) → get_or marks kind false ≡ true → ⊥) → list_any (λ mark. mark) marks ≡ false
-none-any [] h = refl
-none-any (true ∷ marks) h = absurd (h 0 refl)
-none-any (false ∷ marks) h = none-any marks (λ kind e. h (suc kind) e)
-
-none-at : (marks : List Bool) → list_any (λ mark. mark) marks ≡ false → (kind : ℕ) → get_or marks kind false ≡ false
-none-at [] e kind = refl
-none-at (true ∷ marks) e kind = absurd (cc)
-none-at (false ∷ marks) e zero = refl
-none-at (false ∷ marks) e (suc kind) = none-at marks e kind
-
--- ---- the text of no kinds is empty, and no other
-
-no-digits : (copies : ℕ → ℕ) (first n : ℕ) → ((kind : ℕ) → copies kind ≡ 0) → digits copies first n ≡ []
-unfolding digits
-no-digits copies first zero none = refl
-no-digits copies first (suc n) none = rw (no-digits copies first n none, none (first + n)) refl
-
-no-text : (marks : List Bool) → list_any (λ mark. mark) marks ≡ false → tiles_text (once marks) ≡ []
-unfolding tiles_text
-no-text marks none =
-    let zeros : (kind : ℕ) → once marks kind ≡ 0 = λ kind. rw (none-at marks none kind) refl in
-    rw (no-digits (once marks) 0 9 zeros, no-digits (once marks) 9 9 zeros, no-digits (once marks) 18 9 zeros, no-digits (once marks) 27 7 zeros) refl
-
-pub empty-none : (marks : List Bool) (text : List ℕ) → length text ≡ 0 → ((kind : ℕ) → IsMarked marks kind → reading_of text ≡ Ok (ones marks)) → list_any (λ mark. mark) marks ≡ false
-unfolding notation_fault
-empty-none marks text empty reads =
-    none-any marks (λ kind m. let read : reading_of [] ≡ Ok (ones marks) = subst (λ (t : List ℕ). reading_of t ≡ Ok (ones marks)) (nil_from_length text empty) (reads kind m) in cc)
-
-pub some-any : (marks : List Bool) → (length (tiles_text (once marks)) ≡ 0 → ⊥) → list_any (λ mark. mark) marks ≡ true
-some-any marks some = true_from_ne_false (list_any (λ mark. mark) marks) (λ none. some (ap length (no-text marks none)))
+        h.1,
+      ),
+    )
 
 pub thirteen_tiles : (hand : HandParts) → IsHand hand → sum hand.concealed + 3 * length hand.melds ≡ 13
 thirteen_tiles hand h =

@@ -57,9 +57,8 @@ fifth-completes-none c kind long four w =
 pub lacked-is : (c : List ℕ) (kind lacked : ℕ) → lacked < 34 → IsTrue (is_orphan lacked) → get_or c lacked 0 ≡ 0 → CompletesOrphans c kind → kind ≡ lacked
 lacked-is c kind lacked l o z h = elim (cases_eq lacked kind) [ inl e ↦ sym e | inr n ↦ absurd (lacked-completed c kind lacked l o z n h) ]
 
-pub adds-both : (c : List ℕ) (old middle marks : List Bool) → Adds (CompletesPairs c) 34 old middle → Adds (CompletesOrphans c) 34 middle marks → AddsSpecial c 34 old marks
+pub adds-both : (c : List ℕ) (old middle marks : ℕ) → Adds (CompletesPairs c) 34 old middle → Adds (CompletesOrphans c) 34 middle marks → AddsSpecial c 34 old marks
 adds-both c old middle marks pairs orphans = record {
-  each_kind = orphans.each_kind ∙ pairs.each_kind;
   each = λ kind. let p = pairs.each kind in let o = orphans.each kind in (
     λ m. elim (o.0 m) [
       | inl b ↦ elim (p.0 b) [ inl a ↦ inl a | inr s ↦ inr (s.0, (s.0, inl s.1)) ]

@@ -1,5 +1,5 @@
 -- The kinds that complete seven pairs or the orphans.
-use Rattle.std.specs.Prelude.{◌⊎◌, ℕ, ◌<◌, List, Bool}
+use Rattle.std.specs.Prelude.{◌⊎◌, ℕ, ◌<◌, List}
 use Rattle.riichi_tiles.specs.Forms.{IsSevenPairs, IsThirteenOrphans}
 pub use Rattle.riichi_split.specs.Marks.{Adds}
 use Rattle.riichi_split.specs.Waits.{with_one}
@@ -17,5 +17,5 @@ abbrev pub IsSpecialWait : List ℕ → ℕ → Type 0
 IsSpecialWait counts kind = (kind < 34) × (CompletesPairs counts kind ⊎ CompletesOrphans counts kind)
 
 -- those that complete one of these shapes
-abbrev pub AddsSpecial : List ℕ → ℕ → List Bool → List Bool → Type 0
+abbrev pub AddsSpecial : List ℕ → ℕ → ℕ → ℕ → Type 0
 AddsSpecial counts number old new = Adds (IsSpecialWait counts) number old new

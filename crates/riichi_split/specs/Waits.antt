@@ -1,7 +1,6 @@
 -- The kinds that a hand waits for.
-use Rattle.std.specs.Prelude.{ℕ, ◌<◌, Bool, ◌&&◌, List, ◌++◌, length, map, if◌then◌else◌, nat_lt, codes}
-use Rattle.std.specs.List.{list_any}
-use Rattle.riichi_tiles.specs.Melds.{every_kind}
+use Rattle.std.specs.Prelude.{ℕ, ◌<◌, Bool, ◌&&◌, ◌==◌, List, ◌++◌, length, if◌then◌else◌, nat_lt, codes}
+use Rattle.riichi_tiles.specs.HeldKinds.{kinds_where}
 pub use Rattle.riichi_tiles.specs.OneTile.{with_one}
 use Rattle.riichi_tiles.specs.Printing.{tiles_text, once}
 use Rattle.riichi_hand.specs.HandParts.{HandParts}
@@ -19,10 +18,10 @@ abbrev pub is_wait : HandParts → ℕ → Bool
 is_wait hand kind =
     nat_lt (copies_held hand.concealed hand.melds kind) 4 && nat_lt 0 (length (readings_of (with_one hand.concealed kind) (length hand.melds) kind))
 
--- a mark for each kind: whether the hand waits for it
-unfoldable pub waits_of : HandParts → List Bool
-waits_of hand = map (is_wait hand) every_kind
+-- the kinds that the hand waits for
+unfoldable pub waits_of : HandParts → ℕ
+waits_of hand = kinds_where (is_wait hand)
 
 -- `waits` and the kinds, or a dash where there are none
-abbrev pub waits_text : List Bool → List ℕ
-waits_text waits = codes "waits " ++ (if list_any (λ mark. mark) waits then tiles_text (once waits) else codes "-")
+abbrev pub waits_text : ℕ → List ℕ
+waits_text waits = codes "waits " ++ (if waits == 0 then codes "-" else tiles_text (once waits))

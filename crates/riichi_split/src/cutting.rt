@@ -4,7 +4,7 @@ ghost use Rattle.riichi_tiles.specs.Kinds.{begins_run};
 ghost use Rattle.riichi_split.specs.Cuts.{may_have_runs, begins, choice_of, begun, cut_from, HoldsAtMost};
 
 use crate::sets::Sets;
-use riichi_tiles::{Block, HeldKinds, Kind};
+use riichi_tiles::{Block, Kind, KindSet};
 
 /// What begins at a kind: a triplet or none, and some runs. `choices` are those for the kinds above.
 #[derive(Clone, Copy)]
@@ -93,7 +93,7 @@ fn begin(sets: &mut Sets, kind: Kind, choice: Choice)
 }
 
 /// The sets that use up the counts, as the choices say. No kind is held but those of `held`.
-pub(crate) fn cut(counts: &[u8; 34], held: HeldKinds, wanted: usize, choices: usize) -> Option<Sets>
+pub(crate) fn cut(counts: &[u8; 34], held: KindSet, wanted: usize, choices: usize) -> Option<Sets>
     requires wanted { wanted ≤ 4 }
     requires held { HoldsAtMost counts.now held }
     ensures { result ≡ cut_from 0 counts.now 0 0 wanted choices }

@@ -9,7 +9,6 @@ use riichi_tiles::{Counts, Kind, KindSet};
 
 /// Marks the kinds that complete seven pairs or the orphans, where no meld stands.
 pub(crate) fn mark_special_waits(tiles: &Counts, marks: &mut KindSet)
-    requires { length marks.old ≡ 34 }
     ensures { spec.AddsSpecial tiles.now 34 marks.old marks.new }
 {
     mark_pair_wait(tiles, marks);
@@ -18,7 +17,6 @@ pub(crate) fn mark_special_waits(tiles: &Counts, marks: &mut KindSet)
 
 /// Marks the kind that completes seven pairs, if one does.
 fn mark_pair_wait(tiles: &Counts, marks: &mut KindSet)
-    requires { length marks.old ≡ 34 }
     ensures { spec.Adds (spec.CompletesPairs tiles.now) 34 marks.old marks.new }
 {
     let single = single_of(tiles.as_array());
@@ -29,7 +27,6 @@ fn mark_pair_wait(tiles: &Counts, marks: &mut KindSet)
 
 /// Marks the kinds that complete the orphans: the one that is lacking, or each where none is.
 fn mark_orphan_waits(tiles: &Counts, marks: &mut KindSet)
-    requires { length marks.old ≡ 34 }
     ensures { spec.Adds (spec.CompletesOrphans tiles.now) 34 marks.old marks.new }
 {
     let counts = tiles.as_array();
@@ -46,7 +43,6 @@ fn mark_orphan_waits(tiles: &Counts, marks: &mut KindSet)
 
 /// Marks a terminal or honour of which no tile is held, where it completes the orphans.
 fn mark_lacking(tiles: &Counts, lacking: Kind, marks: &mut KindSet)
-    requires long { length marks.old ≡ 34 }
     requires orphan { IsTrue (is_orphan lacking) }
     requires none { slice_index tiles.now lacking ≡ 0 }
     ensures { spec.Adds (spec.CompletesOrphans tiles.now) 34 marks.old marks.new }
@@ -57,8 +53,8 @@ fn mark_lacking(tiles: &Counts, lacking: Kind, marks: &mut KindSet)
 }
 
 /// Marks each terminal and honour.
+#[tactic(auto, using(riichi_tiles::proofs::KindSets::kind_sets))]
 fn mark_orphans(marks: &mut KindSet)
-    requires { length marks.old ≡ 34 }
     ensures { spec.Adds (λ kind. IsTrue (is_orphan kind)) 34 marks.old marks.new }
 {
     for number in 0..34u8 {

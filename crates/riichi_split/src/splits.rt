@@ -6,7 +6,7 @@ use crate::cutting::cut;
 use crate::sets::Sets;
 use crate::split::Split;
 use crate::suit::suit_of_pair;
-use riichi_tiles::{Counts, HeldKinds, Kind};
+use riichi_tiles::{Counts, Kind, KindSet};
 use std::iter::FusedIterator;
 use std::marker::Model;
 
@@ -15,7 +15,7 @@ use std::marker::Model;
 pub(crate) struct Splits {
     counts: [u8; 34],
     // No other kind is held.
-    held: HeldKinds,
+    held: KindSet,
     wanted: usize,
     // So many numbers make the choices beside any pair.
     choices: usize,
@@ -98,10 +98,10 @@ impl Iterator for Splits {
 impl FusedIterator for Splits {}
 
 /// The kinds that are held.
-fn held_in(counts: &[u8; 34]) -> HeldKinds
+fn held_in(counts: &[u8; 34]) -> KindSet
     ensures { HoldsAtMost counts.now result }
 {
-    HeldKinds::of(counts)
+    KindSet::of(counts)
 }
 
 fn is_in_doubt(counts: &[u8; 34], kind: usize) -> bool
@@ -149,7 +149,7 @@ fn choices_with(counts: &[u8; 34], pair: Kind, choices: usize) -> usize
 /// The sets that some choices leave beside a pair.
 fn sets_beside(
     counts: &[u8; 34],
-    held: HeldKinds,
+    held: KindSet,
     wanted: usize,
     pair: Kind,
     choices: usize,
@@ -170,7 +170,7 @@ fn sets_beside(
 /// The next sets beside a pair, of the choices below a number.
 fn next_sets(
     counts: &[u8; 34],
-    held: HeldKinds,
+    held: KindSet,
     wanted: usize,
     pair: Kind,
     choices: &mut usize,

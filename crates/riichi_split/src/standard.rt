@@ -2,7 +2,7 @@
 ghost use Rattle.std.specs.Prelude.{◌≡◌, ◌↔◌, ◌+◌, ◌*◌, ◌<◌, ◌≤◌, ℕ, IsTrue, length, slice_index, sum};
 ghost use Rattle.riichi_tiles.specs.Kinds.{first_of, kinds_of};
 ghost use Rattle.riichi_tiles.specs.Suits.{of_suit};
-ghost use Rattle.riichi_tiles.specs.Tiles.{IsMarked};
+ghost use Rattle.riichi_tiles.specs.HeldKinds.{IsMarked};
 ghost use Rattle.riichi_split.specs.SuitTiles as spec;
 ghost use Rattle.riichi_split.specs.Waits.{with_one};
 ghost use Rattle.riichi_split.specs.Winning.{HasSplit};
@@ -111,8 +111,7 @@ impl Suits {
 /// The kinds of which fewer than four are held, and which make sets and a pair of thirteen tiles.
 pub(crate) fn standard_waits(counts: &[u8; 34], melds: usize) -> KindSet
     requires { sum counts.now + 3 * melds ≡ 13 }
-    ensures long { length result ≡ 34 }
-    ensures each { (kind : ℕ) → IsMarked result kind ↔
+    ensures { (kind : ℕ) → IsMarked result kind ↔
         ((kind < 34) × (slice_index counts.now kind < 4) × HasSplit (with_one counts.now kind) melds) }
 {
     let suits = Suits::of(counts);

@@ -1,6 +1,6 @@
 //! The kinds that a hand waits for.
 ghost use Rattle.std.specs.Prelude.{◌≡◌, ◌↔◌, ◌<◌, ◌≤◌, ℕ, length};
-ghost use Rattle.riichi_tiles.specs.Tiles.{IsMarked};
+ghost use Rattle.riichi_tiles.specs.HeldKinds.{IsMarked};
 ghost use Rattle.riichi_hand.specs.Hand.{copies_held};
 ghost use Rattle.riichi_split.specs.Waits as spec;
 
@@ -26,11 +26,10 @@ pub fn waits(hand: &HandRecord) -> KindSet
 }
 
 /// Those of some kinds of which hand and melds hold fewer than four.
+#[tactic(auto, using(riichi_tiles::proofs::KindSets::kind_sets))]
 fn with_tiles_left(kinds: &KindSet, tiles: &Counts, melds: &Melds) -> KindSet
-    ensures long { length result ≡ 34 }
-    ensures each { (kind : ℕ) → kind < 34 → IsMarked result kind ↔
-        (IsMarked kinds.now kind × (copies_held tiles.now melds.now kind < 4)) }
-    ensures others { (kind : ℕ) → 34 ≤ kind → ¬ IsMarked result kind }
+    ensures { (kind : ℕ) → IsMarked result kind ↔ ((kind < 34)
+        × IsMarked kinds.now kind × (copies_held tiles.now melds.now kind < 4)) }
 {
     let mut left = KindSet::new();
     for number in 0..34 {
@@ -48,11 +47,10 @@ pub fn waits_text(waits: KindSet) -> ArrayString<48>
 {
     let mut text = ArrayString::new();
     text.push_str("waits ");
-    let kinds = write_kinds(waits);
-    if kinds.is_empty() {
+    if waits.is_empty() {
         text.push_str("-");
     } else {
-        text.push_str(kinds.as_str());
+        text.push_str(write_kinds(waits).as_str());
     }
     text
 }

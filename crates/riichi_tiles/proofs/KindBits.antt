@@ -44,6 +44,7 @@ one-bit true = refl
 one-bit false = refl
 
 pub mask-held : (counts : List ℕ) → AreHeldOf counts (mask_l (map (nat_lt 0) counts))
+unfolding is_held
 mask-held counts = record {
   each = λ kind. ap (λ n. nat_eq n 1) (bit_mask_l (map (nat_lt 0) counts) kind) ∙ one-bit (get_or (map (nat_lt 0) counts) kind false) ∙ marks counts kind;
 }
@@ -85,6 +86,7 @@ not-one : (n : ℕ) → n ≡ 0 → nat_eq n 1 ≡ false
 not-one n e = ap (λ m. nat_eq m 1) e
 
 pub none-above : (n k other : ℕ) → n / 2 ^ k ≡ 0 → k ≤ other → is_held n other ≡ false
+unfolding is_held
 none-above n k other e h = not-one (bit_at n other) (bit-above n k other h ∙ ap (λ m. bit_at m (other - k)) e ∙ bit_at-zero (other - k))
 
 -- the first bit from one on
@@ -94,6 +96,7 @@ pub record IsFirst (n k first : ℕ) : Type 0 where
   pub held : is_held n (k + first) ≡ true
 
 pub first-above : (n k : ℕ) → n < 2 ^ 34 → 0 < n / 2 ^ k → n / 2 ^ k < 2 ^ 64 → IsFirst n k (trailing_zeros w64 (n / 2 ^ k))
+unfolding is_held
 first-above n k small some fits =
     let above = n / 2 ^ k in
     let first = trailing_zeros w64 above in
@@ -115,6 +118,7 @@ step : (b r : ℕ) → b < 2 → (nat_eq b 1 || not (nat_eq r 0)) ≡ not (nat_e
 step b r h = grind (arith, nat_tests)
 
 pub some-held : (number first n : ℕ) → list_any (is_held n) (range_with_len first number) ≡ not (nat_eq (n / 2 ^ first % 2 ^ number) 0)
+unfolding is_held
 some-held zero first n = ap (λ m. not (nat_eq m 0)) (let none : 0 ≡ n / 2 ^ first % 1 = omega arith in none)
 some-held (suc number) first n =
     let m = n / 2 ^ first in

@@ -1,7 +1,6 @@
 //! Equality of what callers see.
 ghost use Rattle.std.specs.Prelude.{◌≡◌, ◌↔◌, IsTrue};
 ghost use Rattle.std.specs.Bool.{Decides};
-ghost use Rattle.std.specs.Cmp.{booleans_Decides};
 ghost use Rattle.std.proofs.Common.{refl, rules};
 ghost use Rattle.std.proofs.lemmas.Slice.Eq.{slice_eq-Decides};
 ghost use Rattle.riichi_tiles.specs.Equality.{vec_decides};
@@ -9,7 +8,6 @@ ghost use Rattle.riichi_tiles.specs.Equality.{vec_decides};
 use crate::block::Block;
 use crate::by_suit::BySuit;
 use crate::counts::Counts;
-use crate::held_kinds::HeldKinds;
 use crate::kind::Kind;
 use crate::kind_set::KindSet;
 use crate::meld::Meld;
@@ -48,10 +46,6 @@ impl Decided for Counts {
 }
 
 impl Decided for KindSet {
-    ghost decides = { λ a b. slice_eq-Decides booleans_Decides a b (Self.eq a b) refl };
-}
-
-impl Decided for HeldKinds {
     ghost decides = { λ a b. Prim.search rules };
 }
 

@@ -1,8 +1,8 @@
 //! Tiles of riichi mahjong, and the text in which they are written.
 //!
 //! A [`Kind`] is one of the 34 kinds of tile, and belongs to a [`Suit`]; [`BySuit`] has something for each suit.
-//! [`Counts`] says how many of each are held, at most four; a [`KindSet`] is a set of kinds, as the waits of a hand, and
-//! [`HeldKinds`] are those of which a hand has tiles. A [`Meld`] is a set that was called or declared, [`Melds`] the
+//! [`Counts`] says how many of each are held, at most four; a [`KindSet`] is a set of kinds, as the waits of a hand or
+//! the kinds of which it has tiles. A [`Meld`] is a set that was called or declared, [`Melds`] the
 //! melds of one hand, at most four; a [`Block`] is a run, a triplet or a pair within the concealed tiles. Each says how
 //! many tiles of a kind it has, so that hands are added up kind by kind. [`Reds`] counts the red fives of a suit, and
 //! [`dora_of`] is the kind that an indicator makes dora.
@@ -46,7 +46,6 @@ pub use counts::Counts;
 pub use cuts::split_at_mark;
 pub use decided::{Decided, is_same};
 pub use dora::dora_of;
-pub use held_kinds::HeldKinds;
 pub use kind::Kind;
 pub use kind_set::KindSet;
 pub use meld::Meld;

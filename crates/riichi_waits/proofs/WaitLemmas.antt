@@ -8,7 +8,7 @@ use Rattle.std.proofs.Math.Bool.{or-false, or_assoc}
 use Rattle.riichi_split.specs.declared.reading.Reading.{Reading}
 use Rattle.riichi_split.specs.Readings.{IsReading, AreTheReadings}
 use Rattle.riichi_split.specs.ReadingsOf.{readings_of}
-use Rattle.riichi_tiles.specs.Tiles.{IsMarked}
+use Rattle.riichi_tiles.specs.HeldKinds.{is_held}
 use Rattle.riichi_hand.specs.Hand.{copies_held}
 use Rattle.riichi_hand.specs.HandParts.{HandParts}
 use Rattle.riichi_split.specs.Waits.{waits_of, is_wait}
@@ -63,16 +63,14 @@ sorts-of_all c melds w all long few are =
 
 -- ---- the kinds
 
--- a mark of the waits says whether the hand waits for the kind
-pub is_wait-marked : (hand : HandParts) (kinds : List Bool) (kind : ℕ) (held : Bool) → kind < 34 → kinds ≡ waits_of hand → IsTrue held ↔ IsMarked kinds kind → held ≡ is_wait hand kind
-is_wait-marked hand kinds kind held low same member =
-    let marked : get_or kinds kind false ≡ is_wait hand kind = ap (λ (marks : List Bool). get_or marks kind false) same ∙ mark_of hand kind low in
-    same_from_decides held (is_wait hand kind) (λ e. sym marked ∙ member.0 e, λ e. member.1 (marked ∙ e)) (λ e. e, λ e. e)
+-- the set of the waits says whether the hand waits for the kind
+pub is_wait-marked : (hand : HandParts) (kinds kind : ℕ) (held : Bool) → kind < 34 → kinds ≡ waits_of hand → held ≡ is_held kinds kind → held ≡ is_wait hand kind
+is_wait-marked hand kinds kind held low same member = member ∙ ap (λ (set : ℕ). is_held set kind) same ∙ mark_of hand kind low
 
 pub copies-below : (hand : HandParts) (kind : ℕ) → is_wait hand kind ≡ true → copies_held hand.concealed hand.melds kind < 4
 copies-below hand kind e = ltb-true (copies_held hand.concealed hand.melds kind) 4 (and_parts _ _ e).0
 
 -- the rows of a kind, by whether it is marked
-pub waits_at-told : (hand : HandParts) (kinds : List Bool) (kind : ℕ) (held : Bool) → kind < 34 → kinds ≡ waits_of hand → IsTrue held ↔ IsMarked kinds kind → waits_at hand kind ≡ cond held (kind_wait hand kind ∷ []) []
+pub waits_at-told : (hand : HandParts) (kinds kind : ℕ) (held : Bool) → kind < 34 → kinds ≡ waits_of hand → held ≡ is_held kinds kind → waits_at hand kind ≡ cond held (kind_wait hand kind ∷ []) []
 unfolding waits_at
 waits_at-told hand kinds kind held low same member = ap (λ (waits : Bool). cond waits (kind_wait hand kind ∷ []) []) (sym (is_wait-marked hand kinds kind held low same member))

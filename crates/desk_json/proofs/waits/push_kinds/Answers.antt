@@ -1,13 +1,13 @@
-use Rattle.std.proofs.Common.{◌++◌, length, false, sym, ap, ◌∙◌, arith}
-use Rattle.std.specs.Prelude.{slice_index_or}
+use Rattle.std.proofs.Common.{◌++◌, length, sym, ap, ◌∙◌, arith}
+use Rattle.riichi_tiles.specs.HeldKinds.{is_held}
 use Rattle.desk_json.specs.Trees.{kinds_in}
 use Rattle.desk_json.specs.Parts.{comma_if, quoted_kind}
-use Rattle.desk_json.proofs.Chosen.{texts_below, start, with_one, without_one, at_end, unmarked}
+use Rattle.desk_json.proofs.Chosen.{texts_below, start, with_one, without_one, at_end}
 use Rattle.desk_json.proofs.waits.push_kinds.Goals as goal
 use Rattle.desk_json.proofs.waits.push_kinds.Goals.{then-contains, else-contains}
 
 pub loop-number-init : goal.loop-number-init
-loop-number-init c = record { in_range = omega arith; written = start quoted_kind (λ kind. slice_index_or c.args.kinds.now kind false) c.args.text.now.bytes; few = omega arith }
+loop-number-init c = record { in_range = omega arith; written = start quoted_kind (is_held c.args.kinds.now) c.args.text.now.bytes; few = omega arith }
 
 pub loop-number-preserved : goal.loop-number-preserved
 loop-number-preserved c =
@@ -17,15 +17,15 @@ loop-number-preserved c =
     elim c.if-contains.branch [
       | then-contains w ↦ record {
         in_range = omega arith;
-        written = with_one quoted_kind (λ kind. slice_index_or kinds kind false) number c.args.text.now.bytes c.loop-number.text.bytes c.if-contains.text.bytes c.loop-number.later c.if-contains.later
-            (ap (λ k. slice_index_or kinds k false) (sym c.at-kind.ensures) ∙ c.contains.ensures.member.0 w.if-contains.true) so_far.written
+        written = with_one quoted_kind (is_held kinds) number c.args.text.now.bytes c.loop-number.text.bytes c.if-contains.text.bytes c.loop-number.later c.if-contains.later
+            (ap (is_held kinds) (sym c.at-kind.ensures) ∙ sym c.contains.ensures ∙ w.if-contains.true) so_far.written
             (ap (λ t. t.bytes) w.text-is ∙ w.push_one.ensures.bytes ∙ ap (λ k. (c.loop-number.text.bytes ++ comma_if c.loop-number.later) ++ quoted_kind k) c.at-kind.ensures) w.later-is;
         few = omega (arith, ap (λ t. length t.bytes) w.text-is, w.push_one.ensures.len, so_far.few);
       }
       | else-contains w ↦ record {
         in_range = omega arith;
-        written = without_one quoted_kind (λ kind. slice_index_or kinds kind false) number c.args.text.now.bytes c.loop-number.text.bytes c.if-contains.text.bytes c.loop-number.later c.if-contains.later
-            (ap (λ k. slice_index_or kinds k false) (sym c.at-kind.ensures) ∙ unmarked (slice_index_or kinds c.at-kind.result false) c.contains.result c.contains.ensures.member w.if-contains.false)
+        written = without_one quoted_kind (is_held kinds) number c.args.text.now.bytes c.loop-number.text.bytes c.if-contains.text.bytes c.loop-number.later c.if-contains.later
+            (ap (is_held kinds) (sym c.at-kind.ensures) ∙ sym c.contains.ensures ∙ w.if-contains.false)
             so_far.written (ap (λ t. t.bytes) w.text-is) w.later-is;
         few = omega (arith, ap (λ t. length t.bytes) w.text-is, so_far.few);
       }
@@ -34,4 +34,4 @@ loop-number-preserved c =
 pub returns-clause-bytes : goal.returns-clause-bytes
 unfolding texts_below kinds_in
 returns-clause-bytes c =
-    at_end quoted_kind (λ kind. slice_index_or c.args.kinds.now kind false) c.loop-number.number 34 c.args.text.now.bytes c.loop-number.text.bytes c.loop-number.later c.loop-number.invariant.written (omega arith) (omega arith)
+    at_end quoted_kind (is_held c.args.kinds.now) c.loop-number.number 34 c.args.text.now.bytes c.loop-number.text.bytes c.loop-number.later c.loop-number.invariant.written (omega arith) (omega arith)

@@ -6,7 +6,8 @@ use Rattle.riichi_tiles.specs.HeldKinds.{is_held}
 use Rattle.riichi_shape.specs.KindBits.{copies_among}
 use Rattle.riichi_shape.specs.LackedKinds.{lacks_kind}
 use Rattle.riichi_shape.proofs.AcceptedLemmas.{accepted_pairs}
-use Rattle.riichi_shape.proofs.KindLemmas.{among_at, both_at, live_at, marked_at}
+use Rattle.riichi_tiles.proofs.KindSets.{both_at}
+use Rattle.riichi_shape.proofs.KindLemmas.{among_at}
 use Rattle.riichi_shape.proofs.LiveLemmas.{some_live}
 use Rattle.riichi_shape.proofs.Nearer.{accepted_at}
 use Rattle.riichi_shape.proofs.acceptance.accepted_by.Goals as goal
@@ -20,7 +21,7 @@ module _ (c : goal.After-both) where
   has_at k low =
       ap (λ s. is_held s k) c.both.ensures ∙ both_at c.kinds.result c.args.live.now.kinds k
       ∙ ap (λ t. t && is_held c.args.live.now.kinds k) (c.kinds.ensures k low ∙ ap (λ held. lacks_kind c.args.lacked.now k (slice_index held k)) c.to_array.ensures.value)
-      ∙ ap (λ t. lacks_kind c.args.lacked.now k (slice_index c.args.hand.now k) && t) (ap (λ s. is_held s k) c.args.live.now.live ∙ marked_at _ k ∙ live_at c.args.live.now.copies k)
+      ∙ ap (λ t. lacks_kind c.args.lacked.now k (slice_index c.args.hand.now k) && t) (c.args.live.now.live.each k)
 
 pub returns-clause-accepted : goal.returns-clause-accepted
 returns-clause-accepted c = λ melds seen lacked are.

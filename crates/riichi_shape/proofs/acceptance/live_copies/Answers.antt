@@ -1,8 +1,6 @@
-use Rattle.std.proofs.Common.{ap, ◌∙◌, ⊎_elim, arith}
+use Rattle.std.proofs.Common.{⊎_elim, arith}
 use Rattle.std.proofs.lemmas.Bool.{cases_lt}
 use Rattle.std.proofs.lemmas.List.{get_or_past}
-use Rattle.std.specs.Simd.Lanes.{mask_l}
-use Rattle.riichi_shape.proofs.KindLemmas.{marks_are}
 use Rattle.riichi_shape.proofs.acceptance.live_copies.Goals as goal
 
 pub invariant_of-result : goal.invariant_of-result
@@ -11,5 +9,5 @@ invariant_of-result c =
     let known = c.loop-kind.invariant in
     record {
       few = λ k. ⊎_elim (λ low. omega (arith, known.done k (omega arith))) (λ past. (let none = get_or_past copies k 0 (omega (arith, known.long, past)) in omega (arith, none))) (cases_lt k 34);
-      live = c.marked.ensures ∙ ap mask_l (marks_are c.loop-kind.marks copies known.long_marks known.long (λ k low. known.marked k (omega arith)));
+      live = c.of.ensures;
     }

@@ -1,4 +1,4 @@
-use Rattle.std.proofs.Common.{sym, subst, List, Bool, rules}
+use Rattle.std.proofs.Common.{sym, subst, ℕ, rules}
 use Rattle.std.proofs.lemmas.Bool.{iff_false}
 use Rattle.riichi_split.specs.SpecialWaits.{CompletesOrphans, Adds}
 use Rattle.riichi_split.proofs.SpecialKinds.{lacked-is}
@@ -7,9 +7,9 @@ use Rattle.riichi_split.proofs.special_waits.mark_lacking.Goals as goal
 
 pub returns-then-completes_orphans : goal.returns-then-completes_orphans
 returns-then-completes_orphans c =
-    let M : List Bool → Type 0 = λ marks. Adds (CompletesOrphans c.args.tiles.now) 34 c.args.marks.now marks in
+    let M : ℕ → Type 0 = λ marks. Adds (CompletesOrphans c.args.tiles.now) 34 c.args.marks.now marks in
     subst M (sym c.insert.ensures)
-    (adds-one (CompletesOrphans c.args.tiles.now) c.args.lacking c.args.marks.now c.requires.long (search rules) (c.completes_orphans.ensures.0 c.if-completes_orphans.true)
+    (adds-one (CompletesOrphans c.args.tiles.now) c.args.lacking c.args.marks.now (search rules) (c.completes_orphans.ensures.0 c.if-completes_orphans.true)
     (λ kind l o. lacked-is c.args.tiles.now kind c.args.lacking (search rules) c.requires.orphan c.requires.none o))
 
 pub returns-else-completes_orphans : goal.returns-else-completes_orphans

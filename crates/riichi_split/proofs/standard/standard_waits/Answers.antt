@@ -1,4 +1,4 @@
-use Rattle.std.proofs.Common.{rules, replicate, false, sym, subst, arith}
+use Rattle.std.proofs.Common.{rules, sym, subst, arith}
 use Rattle.riichi_tiles.specs.declared.by_suit.BySuit.{BySuit}
 use Rattle.riichi_split.specs.SuitTiles.{OneSuit, Completes}
 use Rattle.riichi_split.proofs.KindMarks.{adds-none, marked-all}
@@ -6,10 +6,10 @@ use Rattle.riichi_split.proofs.SplitSuits.{completes-iff}
 use Rattle.riichi_split.proofs.standard.standard_waits.Goals as goal
 
 pub mark-requires-clause-below : goal.mark-requires-clause-below
-mark-requires-clause-below c = rw c.new-marks.ensures (adds-none (Completes c.of-suits.result.tiles) 0 (replicate 34 false) (λ kind l p. omega (arith, l)))
+mark-requires-clause-below c = rw c.new-marks.ensures (adds-none (Completes c.of-suits.result.tiles) 0 0 (λ kind l p. omega (arith, l)))
 
-pub returns-clause-each : goal.returns-clause-each
-returns-clause-each c = λ kind.
+pub returns : goal.returns
+returns c = λ kind.
     let T : BySuit OneSuit → Type 0 = λ suits. Completes suits kind in
     let m = marked-all (Completes c.of-suits.result.tiles) c.mark-4.new.marks (λ k w. w.of_a_kind) c.mark-4.ensures kind in
     let i = completes-iff c.args.counts.now c.args.melds kind (search rules) c.requires in

@@ -7,14 +7,14 @@ pub returns-then-count-gt0 : goal.returns-then-count-gt0
 returns-then-count-gt0 c =
     let hand = c.args.hand.now in
     let counts : IsCounts hand.concealed = rw c.concealed-tiles.ensures.value at c.as_array.ensures.counts in
-    let standard : AreStandard hand c.standard_waits-waits.result = rw (c.as_array.ensures.value, c.concealed-tiles.ensures.value, c.count.ensures.value, c.melds-melds.ensures.value) at c.standard_waits-waits.ensures.each in
-    let each = open-waits hand c.standard_waits-waits.result c.with_tiles_left.result counts (omega (arith, ap length c.melds-melds.ensures.value, c.if-count-gt0.true, c.count-2.ensures.value)) standard (rw (c.concealed-tiles.ensures.value, c.melds-melds.ensures.value) at c.with_tiles_left.ensures.each) c.with_tiles_left.ensures.others in
-    record { value = all_marked hand c.with_tiles_left.result counts (few_melds hand c.melds-melds.ensures.hand) c.with_tiles_left.ensures.long each; each = each }
+    let standard : AreStandard hand c.standard_waits-waits.result = rw (c.as_array.ensures.value, c.concealed-tiles.ensures.value, c.count.ensures.value, c.melds-melds.ensures.value) at c.standard_waits-waits.ensures in
+    let each = open-waits hand c.standard_waits-waits.result c.with_tiles_left.result counts (omega (arith, ap length c.melds-melds.ensures.value, c.if-count-gt0.true, c.count-2.ensures.value)) standard (rw (c.concealed-tiles.ensures.value, c.melds-melds.ensures.value) at c.with_tiles_left.ensures) in
+    record { value = all_marked hand c.with_tiles_left.result counts (few_melds hand c.melds-melds.ensures.hand) each; each = each }
 
 pub returns : goal.returns
 returns c =
     let hand = c.args.hand.now in
     let counts : IsCounts hand.concealed = rw c.concealed-tiles.ensures.value at c.as_array.ensures.counts in
-    let standard : AreStandard hand c.standard_waits-waits.result = rw (c.as_array.ensures.value, c.concealed-tiles.ensures.value, c.count.ensures.value, c.melds-melds.ensures.value) at c.standard_waits-waits.ensures.each in
+    let standard : AreStandard hand c.standard_waits-waits.result = rw (c.as_array.ensures.value, c.concealed-tiles.ensures.value, c.count.ensures.value, c.melds-melds.ensures.value) at c.standard_waits-waits.ensures in
     let each = closed-waits hand c.standard_waits-waits.result c.mark_special_waits.new.marks counts (omega (arith, ap length c.melds-melds.ensures.value, c.if-count-gt0.false, c.count-2.ensures.value)) standard (rw c.concealed-tiles.ensures.value at c.mark_special_waits.ensures) in
-    record { value = all_marked hand c.mark_special_waits.new.marks counts (few_melds hand c.melds-melds.ensures.hand) (c.mark_special_waits.ensures.each_kind ∙ c.standard_waits-waits.ensures.long) each; each = each }
+    record { value = all_marked hand c.mark_special_waits.new.marks counts (few_melds hand c.melds-melds.ensures.hand) each; each = each }

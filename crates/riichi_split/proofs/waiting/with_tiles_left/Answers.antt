@@ -1,6 +1,6 @@
-use Rattle.std.proofs.Common.{refl, arith}
-use Rattle.riichi_split.proofs.KindMarks.{none-marked}
+use Rattle.std.proofs.Common.{arith}
+use Rattle.riichi_split.proofs.KindMarks.{adds-none}
 use Rattle.riichi_split.proofs.waiting.with_tiles_left.Goals as goal
 
 pub loop-number-init : goal.loop-number-init
-loop-number-init c = rw c.new-left.ensures (record { long = refl; below = λ kind low. absurd (omega (arith, low)); above = λ kind low marked. none-marked 34 kind marked })
+loop-number-init c = rw c.new-left.ensures (adds-none _ 0 0 (λ kind low so. omega (arith, low)))

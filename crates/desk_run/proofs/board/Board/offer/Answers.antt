@@ -17,7 +17,7 @@ offered_at old new state place content e t p =
 pub store-requires : goal.store-requires
 store-requires c =
     let old : SeatState = c.args.seat.now.me in let more : List (ℕ × Content) = rest old.1 in
-    let is = offered_at old c.exchange.new.seat.me c.args._offset c.args.place (Offer c.args.ticket c.args.job.now) (c.exchange.ensures.3 ∙ ap (λ (x : Content). let n : SeatState = (old.0, (c.args.place, x) ∷ more) in n) c.offer.ensures) c.requires.table.0 c.requires.table.1 in (
+    let is = offered_at old c.lay_offer.new.seat.me c.args._offset c.args.place (Offer c.args.ticket c.args.job.now) c.lay_offer.ensures.me c.requires.table.0 c.requires.table.1 in (
       search rules,
       omega arith,
       may_offer _ c.args.self.now.size _ _ _ _ c.args.self.now.keyed c.args.self.now.sized.1 c.args._offset (table_of old.0) c.args.ticket c.args.job.now more is (omega arith) c.requires.vacant c.requires.ticket.0 c.requires.ticket.1,
@@ -26,5 +26,5 @@ store-requires c =
 pub returns-clause-me : goal.returns-clause-me
 returns-clause-me c =
     let old : SeatState = c.args.seat.now.me in let more : List (ℕ × Content) = rest old.1 in
-    let is = offered_at old c.exchange.new.seat.me c.args._offset c.args.place (Offer c.args.ticket c.args.job.now) (c.exchange.ensures.3 ∙ ap (λ (x : Content). let n : SeatState = (old.0, (c.args.place, x) ∷ more) in n) c.offer.ensures) c.requires.table.0 c.requires.table.1 in
-    offered_from c.exchange.new.seat.me _ (table_of old.0) c.args._offset (2 + c.args.place) c.args.ticket c.args.job.now more is (omega arith) c.store.ensures.2
+    let is = offered_at old c.lay_offer.new.seat.me c.args._offset c.args.place (Offer c.args.ticket c.args.job.now) c.lay_offer.ensures.me c.requires.table.0 c.requires.table.1 in
+    offered_from c.lay_offer.new.seat.me _ (table_of old.0) c.args._offset (2 + c.args.place) c.args.ticket c.args.job.now more is (omega arith) c.store.ensures.2

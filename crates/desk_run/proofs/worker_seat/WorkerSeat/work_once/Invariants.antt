@@ -10,5 +10,5 @@ invariant-loop-place g l = record {
   stop : (l.self.knows_stop ≡ l.initial.self.knows_stop) × (l.self.looks ≡ l.initial.self.looks);
   lost : l.self.lost ≡ l.initial.self.lost ++ places_from 0 l.place;
   gate : l.gate ≡ l.initial.gate;
-  cache : l.cache ≡ l.initial.cache;
+  source : l.source ≡ l.initial.source;
 }

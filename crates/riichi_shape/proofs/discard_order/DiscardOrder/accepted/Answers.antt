@@ -1,18 +1,17 @@
 use Rattle.std.proofs.Common.{◌≡◌, ◌^◌, ◌<◌, ap, ◌∙◌, get_or, subst, sym, take, arith}
 use Rattle.std.proofs.lemmas.List.{get_or-take}
 use Rattle.std.proofs.lemmas.List.Folds.{list_any_more}
-use Rattle.std.proofs.lemmas.Nat.Bits.{bit_at-zero}
 use Rattle.std.specs.List.{list_any}
-use Rattle.std.specs.Prelude.{◌==◌, ◌||◌}
+use Rattle.std.specs.Prelude.{◌||◌}
 use Rattle.riichi_shape.specs.KeptDiscards.{kinds_of}
 use Rattle.riichi_tiles.specs.HeldKinds.{is_held}
 use Rattle.riichi_shape.specs.declared.kept_discard.KeptDiscard.{KeptDiscard}
 use Rattle.riichi_shape.proofs.DiscardLemmas.{seen_are}
-use Rattle.riichi_shape.proofs.KindLemmas.{either_at}
+use Rattle.riichi_tiles.proofs.KindSets.{either_at, none_at}
 use Rattle.riichi_shape.proofs.discard_order.DiscardOrder.accepted.Goals as goal
 
 pub loop-place-init : goal.loop-place-init
-loop-place-init c = λ kind. ap (λ s. is_held s kind) c.new-kinds.ensures ∙ ap (λ b. b == 1) (bit_at-zero kind)
+loop-place-init c = λ kind. ap (λ s. is_held s kind) c.new-kinds.ensures ∙ none_at kind
 
 pub accepted-requires : goal.accepted-requires
 accepted-requires c =

@@ -3,7 +3,7 @@ use Rattle.std.specs.Prelude.{slice_index, ◌||◌}
 use Rattle.riichi_tiles.specs.HeldKinds.{is_held}
 use Rattle.riichi_shape.specs.LackedKinds.{suits_lack}
 use Rattle.riichi_shape.specs.Special.{special_lacks}
-use Rattle.riichi_shape.proofs.KindLemmas.{either_at}
+use Rattle.riichi_tiles.proofs.KindSets.{either_at}
 use Rattle.riichi_shape.proofs.lacked_kinds.LackedKinds.kinds.Goals as goal
 
 alone : (a b : Bool) → b ≡ false → a ≡ (a || b)

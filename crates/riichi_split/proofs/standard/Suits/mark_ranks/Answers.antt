@@ -1,5 +1,6 @@
-use Rattle.std.proofs.Common.{◌≡◌, ℕ, ◌+◌, List, Bool, true, false, replicate, set, sym, ap, subst, ◌∙◌, arith}
+use Rattle.std.proofs.Common.{◌≡◌, ℕ, ◌+◌, sym, ap, subst, ◌∙◌, arith}
 use Rattle.std.proofs.lemmas.Bool.{iff_false}
+use Rattle.riichi_tiles.specs.HeldKinds.{with_kind}
 use Rattle.riichi_tiles.specs.Kinds.{first_of, kinds_of}
 use Rattle.riichi_split.specs.SuitTiles.{Completes, MarksBelow}
 use Rattle.riichi_split.proofs.KindMarks.{adds-yes, adds-to}
@@ -16,18 +17,18 @@ pub loop-rank-preserved : goal.loop-rank-preserved
 loop-rank-preserved c =
     let P = Completes c.args.self.now.tiles in
     let kind = first_of c.args.suit + c.loop-rank.rank in
-    let M : List Bool → Type 0 = λ marks. MarksBelow P (kind + 1) marks in
+    let M : ℕ → Type 0 = λ marks. MarksBelow P (kind + 1) marks in
     let N : ℕ → Type 0 = λ n. MarksBelow P n c.if-is_completed_by.marks in
     let more : kind + 1 ≡ first_of c.args.suit + (c.loop-rank.rank + 1) = omega arith in
     let small = a-kind c.args.suit c.loop-rank.rank (omega (arith, c.kinds-rank-end.ensures.value)) in
     subst N more (elim c.if-is_completed_by.branch [
       | then-is_completed_by w ↦
           let at = w.at.ensures ∙ ap (λ n. n + c.loop-rank.rank) w.first.ensures in
-          subst M (sym (w.marks-is ∙ w.insert.ensures ∙ ap (λ k. set c.loop-rank.marks k true) at))
-          (adds-yes P kind (replicate 34 false) c.loop-rank.marks (omega (arith, small, c.loop-rank.invariant.each_kind)) (c.is_completed_by.ensures.0 w.if-is_completed_by.true) c.loop-rank.invariant)
+          subst M (sym (w.marks-is ∙ w.insert.ensures ∙ ap (with_kind c.loop-rank.marks) at))
+          (adds-yes P kind 0 c.loop-rank.marks (c.is_completed_by.ensures.0 w.if-is_completed_by.true) c.loop-rank.invariant)
       | else-is_completed_by w ↦
           subst M (sym w.marks-is)
-          (adds-to P kind (kind + 1) (replicate 34 false) c.loop-rank.marks (omega arith) (λ k low high p. iff_false c.is_completed_by.ensures w.if-is_completed_by.false (subst P (let same : k ≡ kind = omega arith in same) p)) c.loop-rank.invariant)
+          (adds-to P kind (kind + 1) 0 c.loop-rank.marks (omega arith) (λ k low high p. iff_false c.is_completed_by.ensures w.if-is_completed_by.false (subst P (let same : k ≡ kind = omega arith in same) p)) c.loop-rank.invariant)
     ])
 
 pub returns : goal.returns

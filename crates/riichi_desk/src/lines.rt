@@ -1,0 +1,148 @@
+//! Record lines that are answered: those of standard input, of files, or of the command line.
+use crate::failure::Failure;
+use crate::files::open_file;
+use crate::noted::Notes;
+use desk_lines::{
+    DeskFault, DeskReport, Rules, SuitMemo, desk_text_with, explain_text_with, json_text_with,
+};
+use desk_streams::{BytesIn, FromReader, Sink, Source, ToWriter};
+use desk_words::{Form, Lines};
+use std::alloc::{AllocError, Global};
+use std::io::{Eprint, Input, Print};
+use std::rt::Files;
+
+/// The name of the file that is standard input.
+const INPUT: &str = "-";
+
+/// Answers lines: in which form, by which rules where they are given no others, with the rows that are kept, and where to.
+#[derive(Drop)]
+struct Answering<W> {
+    form: Form,
+    rules: Rules,
+    rows: SuitMemo,
+    writer: W,
+}
+
+/// Answers record lines on standard output: whether a line is refused.
+pub fn answer_lines<'a, R: Input + Print + Eprint + Files + AllocGlobal>(
+    rt: &R,
+    notes: &Notes<'a>,
+    lines: Lines<'_, 'a>,
+    form: Form,
+    rules: Rules,
+) -> Result<bool, Failure<'a>> {
+    let mut answering = Answering {
+        form,
+        rules,
+        rows: SuitMemo::new(rt.alloc()),
+        writer: ToWriter::new(notes.output(rt)),
+    };
+    match lines {
+        Lines::Input => answering.input(rt, notes),
+        Lines::Files(files) => answering.files(rt, notes, files),
+        Lines::Each(words) => answering.text(&each_line(rt.alloc(), words)?),
+        Lines::One(words) => answering.text(&one_line(rt.alloc(), words)?),
+        Lines::Record { job, hand, words } => {
+            let mut text = String::from_str(rt.alloc(), job)?;
+            push_word(&mut text, hand)?;
+            push_words(&mut text, words)?;
+            answering.text(&text)
+        }
+    }
+}
+
+impl<W: Sink> Answering<W> {
+    fn input<'a, R: Input + Eprint>(
+        &mut self,
+        rt: &R,
+        notes: &Notes<'a>,
+    ) -> Result<bool, Failure<'a>> {
+        self.source(&mut FromReader::new(notes.lines(
+            rt,
+            "standard input",
+            self.rules,
+            rt.reader(),
+        )))
+    }
+
+    /// Answers the lines of files, each of which may set its own profile. The first that can't be opened or read ends it.
+    fn files<'a, R: Input + Eprint + Files + AllocGlobal>(
+        &mut self,
+        rt: &R,
+        notes: &Notes<'a>,
+        files: &[&'a str],
+    ) -> Result<bool, Failure<'a>> {
+        let mut is_refused = false;
+        for file in files {
+            let file = *file;
+            if file == INPUT {
+                is_refused |= self.input(rt, notes)?;
+            } else {
+                let mut reader = FromReader::new(notes.lines(
+                    rt,
+                    file,
+                    self.rules,
+                    open_file(rt, file)?,
+                ));
+                is_refused |= self.source(&mut reader)?;
+            }
+        }
+        Ok(is_refused)
+    }
+
+    fn text(&mut self, text: &String) -> Result<bool, Failure<'static>> {
+        self.source(&mut BytesIn::new(text.as_bytes(), text.len() + 1, None))
+    }
+
+    /// Answers the lines of a source: whether one is refused.
+    fn source<'a, S: Source>(&mut self, reader: &mut S) -> Result<bool, Failure<'a>> {
+        match self.report(reader) {
+            Ok(report) => Ok(report.refused > 0),
+            Err(fault) => Err(match self.form {
+                Form::Reasons => Failure::Explained(fault),
+                Form::Words | Form::Json => Failure::from(fault),
+            }),
+        }
+    }
+
+    fn report<S: Source>(&mut self, reader: &mut S) -> Result<DeskReport, DeskFault> {
+        let (rows, writer) = (&mut self.rows, &mut self.writer);
+        match self.form {
+            Form::Words => desk_text_with(rows, self.rules, reader, writer),
+            Form::Json => json_text_with(rows, self.rules, reader, writer),
+            Form::Reasons => explain_text_with(rows, self.rules, reader, writer),
+        }
+    }
+}
+
+/// The words, each with its line feed.
+fn each_line(alloc: Global, words: &[&str]) -> Result<String, AllocError> {
+    let mut text = String::new(alloc);
+    for word in words {
+        text.push_str(word)?;
+        text.push('\n')?;
+    }
+    Ok(text)
+}
+
+/// The words, parted by spaces.
+fn one_line(alloc: Global, words: &[&str]) -> Result<String, AllocError> {
+    let mut text = String::new(alloc);
+    push_words(&mut text, words)?;
+    Ok(text)
+}
+
+fn push_words(text: &mut String, words: &[&str]) -> Result<(), AllocError> {
+    for word in words {
+        push_word(text, word)?;
+    }
+    Ok(())
+}
+
+/// A word behind a text, with a space before it where the text has any.
+fn push_word(text: &mut String, word: &str) -> Result<(), AllocError> {
+    if !text.is_empty() {
+        text.push(' ')?;
+    }
+    text.push_str(word)
+}

@@ -1,0 +1,178 @@
+//! What the system said of the stream that failed last.
+use crate::profile::{ProfileWatch, Slip};
+use desk_lines::Rules;
+use std::cell::Cell;
+use std::io::{self, Eprint, ErrorKind, Print, Printer, Read, Write};
+
+/// The failure of a stream: its name, and what the system said.
+#[derive(Clone, Copy)]
+struct Note<'a> {
+    name: &'a str,
+    kind: ErrorKind,
+    code: Option<i32>,
+}
+
+/// The failure that was noted last.
+#[derive(Drop)]
+pub struct Notes<'a> {
+    last: Cell<Option<Note<'a>>>,
+}
+
+/// A stream whose failures are noted under its name.
+#[derive(Drop)]
+pub struct Noted<'n, 'a, T> {
+    stream: T,
+    name: &'a str,
+    notes: &'n Notes<'a>,
+}
+
+impl<'a> Notes<'a> {
+    /// No failure yet.
+    pub fn new() -> Notes<'a> {
+        Notes {
+            last: Cell::new(None),
+        }
+    }
+
+    /// A reader whose failures are noted under this name.
+    pub fn reader<'n, T: Read>(&'n self, name: &'a str, stream: T) -> Noted<'n, 'a, T> {
+        Noted {
+            stream,
+            name,
+            notes: self,
+        }
+    }
+
+    /// Standard output, whose failures are noted.
+    pub fn output<'n, P: Print>(&'n self, rt: &'n P) -> Noted<'n, 'a, Printer<'n, P>> {
+        Noted {
+            stream: io::writer(rt),
+            name: OUTPUT,
+            notes: self,
+        }
+    }
+
+    /// Notes that standard output failed.
+    pub fn output_failed(&self, error: &io::Error) {
+        self.note(OUTPUT, error);
+    }
+
+    fn note(&self, name: &'a str, error: &io::Error) {
+        self.last.set(Some(Note {
+            name,
+            kind: error.kind(),
+            code: error.raw_os_error(),
+        }));
+    }
+
+    /// Whether what failed last is that nobody reads standard output any more.
+    pub fn is_unread(&self) -> bool {
+        match self.last.get() {
+            Some(note) => note.kind == ErrorKind::BrokenPipe,
+            None => false,
+        }
+    }
+
+    /// Says on standard error which stream failed, in the system's words.
+    pub fn tell<R: Eprint>(&self, rt: &R) {
+        if let Some(note) = self.last.get() {
+            let name = note.name;
+            match note.code {
+                Some(code) => {
+                    let error = io::Error::from_raw_os_error(code);
+                    let _ = eprintln!(rt; "riichi_desk: {name}: {error}");
+                }
+                None => {
+                    let kind = note.kind;
+                    let _ = eprintln!(rt; "riichi_desk: {name}: {kind}");
+                }
+            }
+        }
+    }
+}
+
+const OUTPUT: &str = "standard output";
+
+impl<R: Read> Read for Noted<'_, '_, R> {
+    ghost remaining = { λ noted. R.remaining noted.stream };
+
+    fn read(&mut self, buffer: &mut [u8]) -> io::Result<usize> {
+        match self.stream.read(buffer) {
+            Ok(count) => Ok(count),
+            Err(error) => {
+                self.notes.note(self.name, &error);
+                Err(error)
+            }
+        }
+    }
+}
+
+/// A reader of record lines: its failures are noted, and a line that looks like a profile line and is none is told on standard
+/// error.
+#[derive(Drop)]
+pub struct Watched<'n, 'a, R, T> {
+    reader: Noted<'n, 'a, T>,
+    rt: &'n R,
+    watch: ProfileWatch,
+}
+
+impl<'a> Notes<'a> {
+    /// A reader of record lines under this name; these are the rules where the first line sets none.
+    pub fn lines<'n, R: Eprint, T: Read>(
+        &'n self,
+        rt: &'n R,
+        name: &'a str,
+        rules: Rules,
+        stream: T,
+    ) -> Watched<'n, 'a, R, T> {
+        Watched {
+            reader: self.reader(name, stream),
+            rt,
+            watch: ProfileWatch::new(rules),
+        }
+    }
+}
+
+impl<R: Eprint, T: Read> Read for Watched<'_, '_, R, T> {
+    ghost remaining = { λ watched. T.remaining watched.reader.stream };
+
+    fn read(&mut self, buffer: &mut [u8]) -> io::Result<usize> {
+        let count = self.reader.read(buffer)?;
+        if let Some(bytes) = buffer.get(..count) {
+            if let Some(slip) = self.watch.look(bytes) {
+                tell_slip(self.rt, self.reader.name, slip);
+            }
+        }
+        Ok(count)
+    }
+}
+
+/// Says that a line set no profile, and which profile the others have.
+fn tell_slip<R: Eprint>(rt: &R, name: &str, slip: Slip) {
+    let line = slip.line;
+    let profile = match slip.rules {
+        Rules::One => 1,
+        Rules::Two => 2,
+    };
+    let _ = eprintln!(rt;
+        "riichi_desk: {name}: line {line} sets no profile: the lines are answered under profile {profile}; `rules 1` or `rules 2` sets one, alone in the first line"
+    );
+}
+
+impl<W: Write> Write for Noted<'_, '_, W> {
+    ghost contents = { λ noted. W.contents noted.stream };
+
+    fn write(&mut self, bytes: &[u8]) -> io::Result<usize> {
+        match self.stream.write(bytes) {
+            Ok(count) => Ok(count),
+            Err(error) => {
+                self.notes.note(self.name, &error);
+                Err(error)
+            }
+        }
+    }
+
+    fn flush(&mut self) -> io::Result<()> {
+        self.stream.flush()
+    }
+}

@@ -1,9 +1,0 @@
-use Rattle.std.proofs.Common.{◌≡◌, ◌≤◌, ◌+◌, ◌*◌, ◌++◌, length, take}
-use Rattle.std.specs.List.{flat_map}
-use Rattle.riichi_explain.specs.Fu.{block_rows}
-use Rattle.riichi_explain.proofs.fu.push_rows_of_blocks.Given as goal
-
-abbrev pub invariant-loop-block : goal.invariant-loop-block
-invariant-loop-block l =
-    (l.rows.items ≡ l.initial.rows.items ++ flat_map (block_rows l.win) (take l.block-index l.block-items))
-    × (length l.rows.items ≤ length l.initial.rows.items + 3 * l.block-index)

@@ -1,0 +1,198 @@
+"""What a person does with the form of the page, and what it then shows. Each answer is compared with one written here by hand,
+or with that of the command."""
+
+from __future__ import annotations
+
+import json
+import re
+import subprocess
+
+from browser import Browser
+from page_rows import (
+    ANSWER, FAULTY, LINE, MODE, PROGRAM, RAW, TOP, answers_of, choose, fresh, set_choice, tap_tiles, told, type_line,
+)
+
+
+def test_taps(browser: Browser) -> None:
+    fresh(browser)
+    told("nothing is chosen for the person", [], browser.run("[...document.querySelectorAll('#fields input:checked')].map(it => it.name).filter(it => !['round', 'riichi'].includes(it))"))
+    told("what a new hand lacks", "Tap the tiles of the hand: 13 more tiles, the winning tile, ron or self-draw, the seat wind.", browser.run(ANSWER))
+    tap_tiles(browser, "2m 3m 4m 5m 6m 7m 3p 4p 5p 6s 7s 9s 9s 5s")
+    told("a hand without its choices", "Still wanted: ron or self-draw, the seat wind.", browser.run(ANSWER))
+    told("no answer to it", "", browser.run(RAW))
+    told("a fifteenth tile isn't taken", "true", browser.run("document.querySelector(\"[data-kind='1z']\").getAttribute('aria-disabled')"))
+    tap_tiles(browser, "1z")
+    choose(browser, "by", "ron")
+    choose(browser, "seat", "S")
+    told("a hand that was tapped", "win 234567m345p6799s on=5s by=ron seat=S round=E", browser.run(LINE))
+    told("its answer", "won 1 han 30 fu 1000 gain 1000 pinfu", browser.run(RAW))
+    choose(browser, "riichi", "1")
+    choose(browser, "by", "tsumo")
+    choose(browser, "seat", "E")
+    told("a choice in the line", "win 234567m345p6799s on=5s by=tsumo seat=E round=E riichi=1", browser.run(LINE))
+    told("a choice in the answer", "won 3 han 20 fu 1300 all gain 3900 riichi fully-concealed pinfu", browser.run(RAW))
+    told("the points", "3\u202f900 points", browser.run("document.querySelector('#answer .headline').textContent"))
+    browser.tap("#tray button")
+    told("a tile that was taken out", "34567m345p6799s", browser.run(LINE).split()[1])
+    told("what is then lacking", "Still wanted: 1 more tile.", browser.run(ANSWER))
+    browser.tap("#back")
+    told("undone", "234567m345p6799s", browser.run(LINE).split()[1])
+    browser.tap("#tray .winning button")
+    told("the winning tile is taken out", "Still wanted: the winning tile.", browser.run(ANSWER))
+    tap_tiles(browser, "8s")
+    told("another winning tile", "8s", re.search(r"on=(\S+)", browser.run(LINE))[1])
+    browser.tap("[data-number=counters][data-by='1']")
+    browser.tap("[data-number=sticks][data-by='1']")
+    told("counters and sticks", ["counters=1", "sticks=1"], browser.run(LINE).split()[-2:])
+    browser.tap("#new")
+    told("a new hand keeps the round alone", "win round=E", browser.run(LINE))
+
+
+def test_melds(browser: Browser) -> None:
+    fresh(browser)
+    for word, tile in (("chi", "2m"), ("ankan", "1z"), ("pon", "9s")):
+        browser.tap(f"[data-target={word}]")
+        tap_tiles(browser, tile)
+    told("melds by two taps each", "win open=chi:234m,ankan:1111z,pon:999s round=E", browser.run(LINE))
+    browser.tap("[data-target=chi]")
+    told("no run from an eight", "true", browser.run("document.querySelector(\"[data-kind='8s']\").getAttribute('aria-disabled')"))
+    told("nor of honours", "true", browser.run("document.querySelector(\"[data-kind='2z']\").getAttribute('aria-disabled')"))
+    told("what a tap would take", "Chi 3 4 5, from 3 of circles on", browser.run("document.querySelector(\"[data-kind='3p']\").getAttribute('aria-label')"))
+    browser.tap("[data-target=chi]")
+    browser.tap("#tray .meld:last-child button")
+    browser.tap("#tray .meld button")
+    told("melds that were taken out", "win open=ankan:1111z round=E", browser.run(LINE))
+    browser.tap("#new")
+    tap_tiles(browser, "2m 3m 4m 5m 6m 7m 3p 4p 5p 6s 7s 9s 9s")
+    browser.tap("[data-target=chi]")
+    tap_tiles(browser, "2m")
+    told("a run of the hand is turned into a meld", "win 567m345p6799s open=chi:234m round=E", browser.run(LINE))
+    browser.tap("#new")
+    browser.tap("[data-target=dora]")
+    tap_tiles(browser, "1m 1m 1m 1m 1m")
+    told("a kind has four tiles", "win 111m dora=1m round=E".split(), sorted(browser.run(LINE).split(), key=["win", "111m", "dora=1m", "round=E"].index))
+    browser.tap("#dora button")
+    told("an indicator that was taken out", "win 111m round=E", browser.run(LINE))
+
+
+def test_red_fives(browser: Browser) -> None:
+    fresh(browser)
+    told("no red fives under the first profile", True, browser.run("document.getElementById('red').hidden"))
+    set_choice(browser, "rules", "2")
+    browser.tap("#red")
+    told("a red five is named", "red 5 of circles", browser.run("document.querySelector(\"[data-kind='5p']\").getAttribute('aria-label')"))
+    tap_tiles(browser, "5m 1m 2m 3m 4m 6m 7m 8m 9m 2s 2s 3p 4p 2p")
+    choose(browser, "by", "ron")
+    choose(browser, "seat", "S")
+    told("a red five", "won 4 han 30 fu 8000 gain 8000 pinfu pure-straight dora 1", browser.run(RAW))
+    browser.tap("#new")
+    browser.tap("[data-target=pon]")
+    browser.tap("#red")
+    told("the meld is still wanted", "true", browser.run("document.querySelector('[data-target=pon]').getAttribute('aria-pressed')"))
+    tap_tiles(browser, "5s")
+    told("a meld with a red five", "win open=pon:550s round=E", browser.run(LINE))
+
+
+def test_refusals(browser: Browser) -> None:
+    line = "win 234m567m345p67s99s on=5s by=ron seat=S round=E"
+    rows = [
+        ("refused H10", "riichi", "win 567m345p67s88s open=chi:234m on=5s by=ron seat=S round=E riichi=1"),
+        ("refused H11", "flags", f"{line} flags=ippatsu"),
+        ("refused H11", "ura", f"{line} ura=1m"),
+        ("refused H12", "flags", f"{line} flags=rinshan"),
+        ("refused H13", "flags", f"{line.replace('ron', 'tsumo')} flags=chankan"),
+        ("refused H14", "flags", f"{line} flags=chankan,last"),
+        ("refused H15", "flags", f"{line} flags=first"),
+        ("refused N2 hand at 2", "hand", "waits 12x3m"),
+        ("refused N6 dora at 4", "dora", f"{line} dora=11111m"),
+        ("refused H5", "on", f"{line} on=5s"),
+        ("refused H4", "line", "waits 1m tiles=2m"),
+        ("refused H7", "open", "waits 2223456777m open=pon:112z"),
+        ("refused H8", "hand", "waits 123456789m111222z"),
+        ("refused H2", "line", "score 1m"),
+    ]
+    for answer, field, given in rows:
+        type_line(browser, given)
+        told(f"{given}: answer", answer, browser.run(RAW))
+        told(f"{given}: field", field, browser.run(FAULTY))
+        said = subprocess.run([PROGRAM, "explain", given], capture_output=True, text=True, check=False).stdout.splitlines()[1:]
+        words = re.sub(r"^ *(\^ )?", "", said[-1] if " at " in answer else said[0])
+        told(f"{given}: words of the library", True, words in browser.run(ANSWER))
+    type_line(browser, "win 111m234m567p678s9s on=9s by=ron seat=S round=E dora=11m")
+    told("five of a kind", "refused H9", browser.run(RAW))
+
+
+# The discards as they are shown, in the words of the answer.
+DISCARDS = """[...document.querySelectorAll('#answer .discards > li')].map((it) => {
+  const kind = (tile) => tile.querySelector('use').getAttribute('href').slice('#face-'.length);
+  const accepted = [...it.querySelectorAll('.accepted li')].map((one) => ' ' + kind(one) + ':' + one.textContent.slice(1)).join('');
+  return 'discard ' + kind(it) + ' accepts' + (accepted || ' -') + ' live ' + it.children[1].textContent.split(' ')[0];
+})"""
+
+
+def test_shapes(browser: Browser) -> None:
+    lines = ["shape 123456789m11348p", "shape 19m19p19s12345z247m", "shape 11z open=pon:222z,chi:123m,chi:123m,chi:123m", "shape 159m159p159s12345z"]
+    for line in lines:
+        type_line(browser, line)
+        told(f"{line}: the tab", "shape", browser.run(MODE))
+        wanted = re.findall(r"discard .*? live [0-9]+", browser.run(RAW))
+        told(f"{line}: some discards", True, len(wanted) > 0)
+        told(f"{line}: discards as pictures", sorted(wanted), sorted(browser.run(DISCARDS)))
+    type_line(browser, "shape 123456789m1134p seen=2222p")
+    told("what thirteen tiles accept", "5 of circles×4", browser.run(
+        "[...document.querySelectorAll('#answer .accepted li')].map(it => it.firstChild.getAttribute('aria-label') + it.textContent).join()"))
+    type_line(browser, "waits 1112345678999m")
+    told("waits", 9, browser.run("document.querySelectorAll('#answer .accepted .tile').length"))
+
+
+def test_explanations(browser: Browser) -> None:
+    """The rows of an explanation are those of the command `explain`; tiles are drawn, so their text is left out here."""
+    lines = ["win 99978m444p567s22s on=9m by=ron seat=S round=E riichi=1", "win 1133m5577p2288s4z on=4z by=tsumo seat=W round=E counters=1"]
+    lines += ["win 456m22s34p open=chi:123m,chi:678p on=2p by=ron seat=S round=E", "win 123456789m22s34p on=9s by=ron seat=S round=E"]
+    lines += ["shape 123456789m1134p"]
+    for line in lines:
+        type_line(browser, line)
+        said = subprocess.run([PROGRAM, "explain"], input=f"{line}\n", capture_output=True, text=True, check=False).stdout.splitlines()[1:]
+        told(f"{line}: some rows", True, len(said) > 0)
+        wanted = [re.sub(r"([0-9]+[mps]|[1-7]+z)+(?![0-9a-z])", "", " ".join(row.split())) for row in said]
+        told(f"{line}: rows", wanted, browser.run("[...document.querySelectorAll('#answer .why dt')].map(it => it.textContent + ' ' + it.nextSibling.textContent)"))
+
+
+def test_many_lines(browser: Browser) -> None:
+    lines = subprocess.run([TOP / "tests/lines"], check=True, capture_output=True, text=True).stdout
+    wanted = answers_of(lines.splitlines())
+    choose(browser, "mode", "many")
+    browser.run(f"document.getElementById('lines').value = {json.dumps(lines)}; document.getElementById('lines').dispatchEvent(new Event('input'))")
+    told("answers to many lines", wanted, browser.run("[...document.querySelectorAll('#answers .told')].map(it => it.textContent)"))
+    told("the count of many lines", f"{len(wanted)} answers", browser.run("document.getElementById('many-count').textContent").split(",")[0])
+
+
+def test_paste(browser: Browser) -> None:
+    fresh(browser)
+    browser.run("""(() => { const data = new DataTransfer(); data.setData('text/plain', 'rules 2\\nwaits 1112345678999m\\n# no hand\\nwaits 1m\\n');
+      document.getElementById('line').dispatchEvent(new ClipboardEvent('paste', { clipboardData: data, cancelable: true })); })()""")
+    told("lines that were pasted", ["waits 123456789m", "refused H8"], browser.run("[...document.querySelectorAll('#answers .told')].map(it => it.textContent)"))
+    browser.tap("#answers li:last-child button")
+    told("one of them in the form", ["waits 1m", "2"], browser.run(f"[{LINE}, document.getElementById('rules-now').textContent]"))
+
+
+def test_keyboard(browser: Browser) -> None:
+    """A shape by the keys alone, from the start of the page."""
+    fresh(browser)
+    browser.key("Tab")
+    browser.key("ArrowRight", 2)
+    told("a tab by the arrow keys", "shape", browser.run(MODE))
+    browser.key("Tab", 2)
+    told("the picker by Tab", "1m", browser.run("document.activeElement.dataset.kind"))
+    along, across = ("ArrowDown", "ArrowRight") if browser.run("innerWidth < 704") else ("ArrowRight", "ArrowDown")
+    for key, times in (("Enter", 1), (along, 1), ("Enter", 1), (along, 1), ("Enter", 2), (across, 1), ("Home", 1), (" ", 1)):
+        browser.key(key, times)
+    told("tiles by keys", "shape 1233m1p", browser.run(LINE))
+    browser.key("Backspace", 2)
+    told("tiles taken back by a key", "shape 123m", browser.run(LINE))
+    told("the focus stays", "1p", browser.run("document.activeElement.dataset.kind"))
+    for _ in range(20):
+        if browser.run("document.activeElement.id") == "line":
+            break
+        browser.key("Tab")
+    told("the line by Tab", "line", browser.run("document.activeElement.id"))

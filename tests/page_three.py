@@ -1,0 +1,62 @@
+"""The page in Chromium, Firefox and WebKit: 2,000 answers of each are those of the command `line`, a hand that is tapped, a reload,
+and the site without its server."""
+
+from __future__ import annotations
+
+import json
+import subprocess
+from pathlib import Path
+
+from page_kept import READY, served
+from page_rows import LINE, PAGE, RAW, SITE, TOP, answers_of, told
+from webdriver import BROWSERS, Driver, Screen
+
+TAPS = ["2m", "3m", "4m", "5m", "6m", "7m", "3p", "4p", "5p", "6s", "7s", "9s", "9s", "5s"]
+WIN = "win 234567m345p6799s on=5s by=tsumo seat=E round=E riichi=1"
+
+
+def test_lines(driver: Driver) -> None:
+    lines = subprocess.run([TOP / "tests/lines"], check=True, capture_output=True, text=True).stdout
+    told(f"{driver.name}: lines", 2000, lines.count("\n"))
+    driver.tap("label:has(input[value=many])")
+    driver.run(f"(document.getElementById('lines').value = {json.dumps(lines)}, document.getElementById('lines').dispatchEvent(new Event('input')))")
+    told(f"{driver.name}: answers", answers_of(lines.splitlines()), driver.run("[...document.querySelectorAll('#answers .told')].map(it => it.textContent)"))
+
+
+def test_taps(driver: Driver) -> None:
+    driver.tap("label:has(input[name=mode][value=win])")
+    for tile in TAPS:
+        driver.tap(f"#picker [data-kind='{tile}']")
+    for name, value in (("by", "tsumo"), ("seat", "E"), ("riichi", "1")):
+        driver.tap(f"label:has(input[name={name}][value='{value}'])")
+    told(f"{driver.name}: a hand that was tapped", [WIN, answers_of([WIN])[0]], driver.run(f"[{LINE}, {RAW}]"))
+    driver.open(PAGE.as_uri())
+    told(f"{driver.name}: a reload keeps it", WIN, driver.run(LINE))
+    driver.tap("#why")
+    told(f"{driver.name}: the sheet", True, driver.run("document.getElementById('sheet').open && document.querySelector('#sheet .why') !== null"))
+
+
+def test_site(driver: Driver) -> None:
+    server = served(SITE)
+    address = f"http://127.0.0.1:{server.server_port}/"
+    driver.open(address)
+    told(f"{driver.name}: files that are kept", len(list(SITE.iterdir())), driver.run(READY))
+    server.shutdown()
+    server.server_close()
+    driver.open(f"{address}?again#waits%201112345678999m")
+    told(f"{driver.name}: the site without its server", answers_of(["waits 1112345678999m"]), [driver.run(RAW)])
+
+
+def test_three(folder: Path) -> None:
+    with Screen() as screen:
+        for begin in BROWSERS:
+            driver = begin(screen)
+            try:
+                driver.open(PAGE.as_uri())
+                for test in (test_lines, test_taps):
+                    test(driver)
+                driver.picture(folder / f"{driver.name}.png")
+                test_site(driver)
+                print(f"page: {driver.name} {driver.version}")
+            finally:
+                driver.close()

@@ -1,0 +1,91 @@
+// What the page asks the library of hands that aren't whole yet, so that no rule of the game stands here: each function makes
+// lines and looks at how they are refused.
+
+import { state } from "./state.js";
+import { KINDS, range, textOf } from "./tiles.js";
+import { lineOf, textOfMelds, wordsOf } from "./record.js";
+
+// A value of each key that a line may lack. Which one is said is all the same: a lack is refused before any value is looked at.
+const ANY = { on: "1m", by: "ron", seat: "E", round: "E" };
+const MOST_ASKED = 20;
+const known = new Map();
+
+function codeOf(line) {
+  return state.desk.values(line, 1)?.code ?? "";
+}
+
+// The first of so many kinds, one tile each.
+function someTiles(count) {
+  return textOf(KINDS.slice(0, count));
+}
+
+// What `find` finds, once for each question.
+function remembered(question, find) {
+  if (!known.has(question)) known.set(question, find());
+  return known.get(question);
+}
+
+// A line of this job with all that it must have but its own hand and melds.
+function plainLine(job, hand, melds) {
+  const keys = job === "win" ? Object.entries(ANY).map(([key, value]) => `${key}=${value}`) : [];
+  return [job, hand, ...keys, ...(melds === "" ? [] : [`open=${melds}`])].join(" ");
+}
+
+// How many concealed tiles the library takes in a hand of this job beside these melds, smallest first; none where no number is right.
+export function sizesOf(job, melds) {
+  const text = textOfMelds(melds);
+  return remembered(`${job} ${text}`, () => range(1, MOST_ASKED).filter((count) => !["H7", "H8"].includes(codeOf(plainLine(job, someTiles(count), text)))));
+}
+
+// How many indicators the library takes.
+export function mostIndicators() {
+  return remembered("indicators", () => {
+    const line = plainLine("win", someTiles(sizesOf("win", [])[0]), "");
+    return range(1, MOST_ASKED).filter((count) => codeOf(`${line} dora=${someTiles(count)}`) !== "H8").length;
+  });
+}
+
+// Whether the library reads these tiles as a meld of this word.
+export function isMeld(word, tiles) {
+  const text = `${word}:${textOf(tiles)}`;
+  return remembered(text, () => codeOf(`waits 1m open=${text}`) !== "H7");
+}
+
+// The keys that a record must have and hasn't, as the library names them one after another.
+export function missingKeys(record) {
+  const found = [];
+  let line = lineOf({ ...record, hand: ["1m"] });
+  for (let key = missingKey(line); key && !found.includes(key); key = missingKey(line)) {
+    found.push(key);
+    line += ` ${key}=${ANY[key]}`;
+  }
+  return found;
+}
+
+function missingKey(line) {
+  if (codeOf(line) !== "H6") return null;
+  const key = fieldOf(line, 1);
+  return key in ANY ? key : null;
+}
+
+// The field of the form that the refusal of a line speaks of, by its values and the word that its explanation begins with.
+export function fieldOf(line, rules) {
+  const values = state.desk.values(line, rules);
+  if (values.key || values.text) return values.key ?? values.text;
+  const [row = ""] = state.desk.explain(line, rules).map((it) => it.trim());
+  const key = /^([a-z]+)(?:=| is missing)/.exec(row)?.[1];
+  if (key) return key;
+  const { hand } = wordsOf(line);
+  return hand !== "" && row.startsWith(`${hand.slice(0, 60)}`) ? "hand" : "line";
+}
+
+// How many tiles the hand of a record still lacks, and how many it has space for.
+export function lackOfTiles(record) {
+  const sizes = sizesOf(record.job, record.melds);
+  return sizes.length === 0 ? 0 : Math.max(0, sizes[0] - record.hand.length);
+}
+
+export function spaceInHand(record) {
+  const sizes = sizesOf(record.job, record.melds);
+  return sizes.length === 0 ? 0 : Math.max(0, sizes.at(-1) - record.hand.length);
+}

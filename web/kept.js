@@ -1,0 +1,104 @@
+// The list of the last hands, with their answers and names.
+
+import { answerTo } from "./answers.js";
+import { byId, make, say } from "./elements.js";
+import { copyText, handsOfText, printOnly, saveFile, textOfHands } from "./share.js";
+import { handParts, openSheet } from "./sheet.js";
+import { shownAnswer } from "./shown.js";
+import { state } from "./state.js";
+import { addHands, MOST_HANDS, nameHand, putHandsBack, readHands, removeHand } from "./store.js";
+
+let openKept = () => {};
+let before = [];
+
+function handTitle({ name }, at) {
+  return name === "" ? `hand ${at + 1}` : name;
+}
+
+function takeAway(hand) {
+  before = removeHand(hand.id);
+  if (state.handId === hand.id) state.handId = 0;
+  byId("hands-undo").hidden = false;
+  showHands();
+  say("The hand is taken away.");
+  byId("hands-undo").focus();
+}
+
+function handItem(hand, at) {
+  const about = answerTo(hand.line, hand.rules);
+  const title = handTitle(hand, at);
+  const button = (text, label, click) => make("button", { type: "button", "aria-label": `${label} ${title}`, click }, text);
+  const name = make("input", { type: "text", maxlength: "60", "aria-label": `Table and round of ${title}`, placeholder: "Table and round", value: hand.name });
+  name.addEventListener("input", () => nameHand(hand.id, name.value));
+  const profile = hand.rules === 2 ? [make("p", { class: "quiet" }, "Rule profile 2")] : [];
+  return make(
+    "li",
+    { "data-id": String(hand.id) },
+    name,
+    make("p", { class: "raw" }, hand.line),
+    ...profile,
+    make("div", { class: "answer short" }, ...(about.values === null ? [] : shownAnswer(about.values, about))),
+    make(
+      "div",
+      { class: "buttons" },
+      button("Open", "Open", () => openKept(hand)),
+      button("Why", "Why: the answer to", () => openSheet(hand.line, hand.rules, hand.id)),
+      button("Take away", "Take away", () => takeAway(hand)),
+    ),
+  );
+}
+
+export function showHands() {
+  const hands = readHands();
+  byId("hands-count").textContent =
+    hands.length === 0 ? `No hands yet. The last ${MOST_HANDS} that were answered stand here.` : `${hands.length} of the last ${MOST_HANDS} hands, the newest first.`;
+  byId("hand-list").replaceChildren(...hands.map(handItem));
+  for (const id of ["hands-copy", "hands-save", "hands-print"]) byId(id).disabled = hands.length === 0;
+}
+
+// The text of the hands of the chosen profile, oldest first, and what is said of those of the other.
+function textAndRest() {
+  const hands = readHands().reverse();
+  const chosen = hands.filter(({ rules }) => rules === state.rules);
+  const rest = hands.length - chosen.length;
+  return { text: textOfHands(chosen, state.rules), words: `${chosen.length} lines${rest === 0 ? "" : `; the ${rest} of the other rule profile aren't among them`}.` };
+}
+
+async function openHands({ target }) {
+  const [file] = target.files;
+  if (!file) return;
+  const hands = handsOfText((await file.text()).replace(/^\uFEFF/, ""));
+  target.value = "";
+  addHands(hands.reverse());
+  showHands();
+  say(`${hands.length} hands are opened.`);
+}
+
+// The list, as paper shows it.
+export function listParts() {
+  const items = readHands().map((hand) => make("li", {}, ...handParts(hand.line, hand.rules, hand.name)));
+  return [make("h2", {}, "Hands"), make("ol", {}, ...items)];
+}
+
+// `openHand` shows a hand in the form.
+export function listenToHands(openHand) {
+  openKept = openHand;
+  const on = (id, sort, act) => byId(id).addEventListener(sort, act);
+  on("hands-copy", "click", () => {
+    const { text, words } = textAndRest();
+    copyText(text, `Copied: ${words}`);
+  });
+  on("hands-save", "click", () => {
+    const { text, words } = textAndRest();
+    saveFile("riichi-hands.lines", text);
+    say(`Saved: ${words}`);
+  });
+  on("hands-file", "change", openHands);
+  on("hands-print", "click", () => printOnly(...listParts()));
+  on("hands-undo", "click", () => {
+    putHandsBack(before);
+    byId("hands-undo").hidden = true;
+    showHands();
+    say("The hand is back.");
+  });
+}

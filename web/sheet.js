@@ -1,0 +1,77 @@
+// The sheet of one hand: its tiles, the answer and why, large enough to show to others, to be shared and to be printed.
+
+import { answerTo } from "./answers.js";
+import { byId, make, names, tilesDrawn } from "./elements.js";
+import { named, windName } from "./names.js";
+import { recordOf } from "./record.js";
+import { copyText, linkOf, printOnly, share } from "./share.js";
+import { shownWhole } from "./shown.js";
+import { nameHand, readHands } from "./store.js";
+
+let shown = { line: "", rules: 1, id: 0 };
+
+function part(word, ...children) {
+  return [names("dt", {}, word), names("dd", {}, ...children)];
+}
+
+// What was known of the hand, in words and pictures.
+function handShown(line) {
+  const record = recordOf(line);
+  if (record === null) return make("p", { class: "raw" }, line);
+  const list = make("dl", { class: "why", "aria-label": "The hand" }, ...part(named("hand"), tilesDrawn(record.hand)));
+  for (const { word, tiles } of record.melds) list.append(...part(named(word), tilesDrawn(tiles)));
+  for (const key of ["on", "dora", "ura", "seen"]) if (record[key].length > 0) list.append(...part(named(key), tilesDrawn(record[key])));
+  if (record.job === "win") list.append(...circumstancesOf(record).flatMap(([word, text]) => part(word, text)));
+  return list;
+}
+
+function circumstancesOf(record) {
+  const rows = [
+    ["By", record.by && named(record.by)],
+    [named("seat"), record.seat && windName(record.seat)],
+    [named("round"), record.round && windName(record.round)],
+    [named("riichi"), record.riichi !== "0" && named(`riichi${record.riichi}`)],
+    [named("flags"), record.flags.map(named).join(", ")],
+    [named("counters"), Number(record.counters) > 0 && record.counters],
+    [named("sticks"), Number(record.sticks) > 0 && record.sticks],
+  ];
+  return rows.filter(([, text]) => text);
+}
+
+function nameOf(id) {
+  return readHands().find((hand) => hand.id === id)?.name ?? "";
+}
+
+// All of a hand, as the sheet and paper show it.
+export function handParts(line, rules, name = "") {
+  const about = answerTo(line, rules);
+  const head = name === "" ? [] : [make("h3", {}, name)];
+  const answer = about.values === null ? [] : shownWhole(about.values, about);
+  const profile = make("p", { class: "quiet" }, `Rule profile ${rules}${rules === 2 ? ", red fives" : ""}`);
+  return [...head, handShown(line), make("div", { class: "answer" }, ...answer), make("p", { class: "raw" }, line), profile];
+}
+
+export function openSheet(line, rules, id) {
+  shown = { line, rules, id };
+  byId("sheet-hand").replaceChildren(...handParts(line, rules));
+  byId("sheet-name").value = nameOf(id);
+  byId("sheet-name").parentElement.hidden = id === 0;
+  byId("sheet").showModal();
+}
+
+// The hand as a text that others can read and check.
+function textToShare({ line, rules, id }) {
+  const { text, reasons } = answerTo(line, rules);
+  const name = nameOf(id);
+  return [...(name === "" ? [] : [name]), ...(rules === 2 ? ["rules 2"] : []), line, text, ...reasons].join("\n");
+}
+
+export function listenToSheet() {
+  const on = (id, sort, act) => byId(id).addEventListener(sort, act);
+  on("sheet-name", "input", ({ target }) => nameHand(shown.id, target.value));
+  on("sheet-share", "click", () => share("A hand of riichi mahjong", textToShare(shown), linkOf(shown.line, shown.rules)));
+  on("sheet-copy", "click", () => copyText(shown.line, "The line is copied."));
+  on("sheet-link", "click", () => copyText(linkOf(shown.line, shown.rules), "The link is copied."));
+  on("sheet-print", "click", () => printOnly(...handParts(shown.line, shown.rules, nameOf(shown.id))));
+  byId("sheet-link").hidden = linkOf("", 1) === "";
+}

@@ -1,0 +1,48 @@
+// What the page holds: the hand that is made, the choices that last, and the library.
+
+import { emptyRecord, lineOf, recordOf } from "./record.js";
+
+export const state = {
+  record: emptyRecord("win"),
+  line: lineOf(emptyRecord("win")),
+  target: "hand", // where a tapped tile goes
+  isRed: false, // whether the next five is a red one
+  past: [], // what stood before each change
+  handId: 0, // the number of this hand in the list of hands; 0 while it isn't there
+  mode: "win", // the tab: a job, "many" or "hands"
+  rules: 1,
+  names: "english",
+  scheme: "device",
+  desk: null,
+};
+
+const MOST_PAST = 500;
+
+function remember() {
+  const { record, line, target, handId, rules } = state;
+  state.past.push({ record, line, target, handId, rules });
+  if (state.past.length > MOST_PAST) state.past.shift();
+}
+
+// Takes a new record from the form, and makes its line.
+export function setRecord(record, target = "hand") {
+  remember();
+  Object.assign(state, { record, target, isRed: false, line: lineOf(record) });
+}
+
+// Takes a line that was typed: the form holds what it can of it.
+export function setLine(line) {
+  remember();
+  Object.assign(state, { line, record: recordOf(line) ?? state.record, target: "hand", isRed: false });
+}
+
+// Begins another hand of this job: nothing of the last one stays but the round.
+export function setEmpty(job = state.record.job) {
+  setRecord(emptyRecord(job, state.record.round || "E"));
+  state.handId = 0;
+}
+
+export function setBack() {
+  const before = state.past.pop();
+  if (before) Object.assign(state, before, { isRed: false });
+}

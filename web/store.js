@@ -1,0 +1,89 @@
+// What lasts over a reload: the choices, the hand that is made, and the list of hands. A browser that keeps nothing is no fault.
+
+const KEY = "riichi_desk";
+const HANDS = "riichi_desk.hands";
+export const MOST_HANDS = 100;
+
+// What the browser doesn't keep lasts as long as the page.
+const unkept = new Map();
+
+// Whether the browser keeps what the page gives it.
+export function isKept() {
+  try {
+    localStorage.setItem(`${KEY}.kept`, "yes");
+    return localStorage.getItem(`${KEY}.kept`) === "yes";
+  } catch {
+    return false;
+  }
+}
+
+function read(key, other) {
+  try {
+    return JSON.parse(localStorage.getItem(key) ?? unkept.get(key) ?? "null") ?? other;
+  } catch {
+    return JSON.parse(unkept.get(key) ?? "null") ?? other;
+  }
+}
+
+function write(key, value) {
+  const text = JSON.stringify(value);
+  try {
+    localStorage.setItem(key, text);
+  } catch {
+    unkept.set(key, text);
+  }
+}
+
+export function readChoices() {
+  return read(KEY, {});
+}
+
+export function writeChoices(choices) {
+  write(KEY, choices);
+}
+
+function isHand(it) {
+  return typeof it?.id === "number" && typeof it.line === "string" && typeof it.name === "string" && [1, 2].includes(it.rules);
+}
+
+// The hands of the list, the newest first.
+export function readHands() {
+  const hands = read(HANDS, []);
+  return Array.isArray(hands) ? hands.filter(isHand) : [];
+}
+
+function writeHands(hands) {
+  write(HANDS, hands.slice(0, MOST_HANDS));
+}
+
+// Puts a hand into the list, in the place of the one with its number or as a new one; gives its number.
+export function keepHand(id, line, rules) {
+  const hands = readHands();
+  const known = hands.find((hand) => hand.id === id);
+  if (!known) return addHands([{ name: "", line, rules }]);
+  if (known.line !== line || known.rules !== rules) writeHands(hands.map((hand) => (hand.id === id ? { ...hand, line, rules } : hand)));
+  return id;
+}
+
+// Puts hands above the others; gives the number of the first.
+export function addHands(more) {
+  const hands = readHands();
+  const next = Math.max(0, ...hands.map(({ id }) => id)) + 1;
+  const added = more.map((hand, at) => ({ ...hand, id: next + more.length - 1 - at }));
+  writeHands([...added, ...hands]);
+  return added[0]?.id ?? 0;
+}
+
+export function nameHand(id, name) {
+  writeHands(readHands().map((hand) => (hand.id === id ? { ...hand, name } : hand)));
+}
+
+export function removeHand(id) {
+  const hands = readHands();
+  writeHands(hands.filter((hand) => hand.id !== id));
+  return hands;
+}
+
+export function putHandsBack(hands) {
+  writeHands(hands);
+}
