@@ -93,8 +93,11 @@ told 'the help of riichi_desk help-yaku has the exit statuses' 4 "$("$program" h
 told 'the help of riichi_desk help-codes has the exit statuses' 4 "$("$program" help-codes --help | sed -n '/^Exit status:$/,$p' | grep -cE '^  [0-4]  ')"
 told 'the help names the commands' 9 "$("$program" --help | grep -cE '^  (win|waits|shape|line|explain|replay|score|help-codes|help-yaku) ')"
 
-told 'help and a full disk' 'status 3' "$("$program" --help 2>&1 > /dev/full; echo "status $?")"
-told 'the codes and a full disk' $'riichi_desk: fault F2\nstatus 3' "$("$program" help-codes 2>&1 > /dev/full; echo "status $?")"
+for words in --help help-codes; do
+  told "$words and a full disk" "riichi_desk: fault F2
+$full
+status 3" "$("$program" $words 2>&1 > /dev/full; echo "status $?")"
+done
 
 # the command line: no input, a page of lines with its answers, and each example of the rules
 row 0 '' '' line

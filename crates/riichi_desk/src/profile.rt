@@ -44,7 +44,7 @@ impl ProfileWatch {
         let mut slip = None;
         for place in memchr_iter(b'\n', bytes) {
             slip = slip.or(self.next_line(bytes.get(start..place).unwrap_or(&[])));
-            start = place + 1;
+            start = place.saturating_add(1);
         }
         self.keep(bytes.get(start..).unwrap_or(&[]));
         if bytes.is_empty() {
