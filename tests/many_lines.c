@@ -1,105 +1,65 @@
-/* lines SECONDS SEED FILE: asks the calls for many lines of random texts, made of the lines of FILE, in rooms of random sizes,
- * and compares each with calls of one line. Ends at the first difference, with the seed that shows it. */
-#include "lent.h"
+/* Answers the lines of a file by the calls for many lines, in rooms of several sizes, and says `all right` where that is what the
+ * calls for one line answer, one line after the other. */
 #include <riichi_desk.h>
-#include <time.h>
+#include <stdio.h>
+#include <stdlib.h>
+#include <string.h>
 
 typedef size_t one_call(uint32_t, const uint8_t *, size_t, uint8_t *, size_t);
 typedef size_t many_call(uint32_t, const uint8_t *, size_t, uint8_t *, size_t, size_t *);
 
-static uint8_t *given;
-static size_t given_len, lines_given, *starts;
+enum { MOST_TEXT = 1 << 22, MOST = RIICHI_MOST_JSON + 1 };
+static uint8_t text[MOST_TEXT], wanted[1 << 25], told[1 << 25];
 
-static void read_lines(const char *path) {
-    FILE *file = fopen(path, "rb");
-    if (!file) { perror(path); exit(2); }
-    given = malloc(1 << 24);
-    given_len = fread(given, 1, 1 << 24, file);
-    fclose(file);
-    starts = malloc((given_len + 1) * sizeof *starts);
-    for (size_t at = 0; at < given_len; lines_given++) {
-        starts[lines_given] = at;
-        uint8_t *feed = memchr(given + at, '\n', given_len - at);
-        at = feed ? (size_t)(feed - given) + 1 : given_len;
-    }
-    starts[lines_given] = given_len;
-    if (lines_given == 0) exit(2);
+static void fail(const char *why, size_t room) {
+    printf("%s, with a room of %zu bytes\n", why, room);
+    exit(1);
 }
 
-/* A random line behind `text`, with what ends it: how many bytes. */
-static size_t put_line(uint8_t *text) {
-    size_t length = 0;
-    switch (below(12)) {
-    case 0: break;
-    case 1: length = below(20); memset(text, ' ', length); break;
-    case 2: length = 4090 + below(12); memset(text, below(2) ? '#' : 'w', length); break;
-    case 3: length = below(40); for (size_t i = 0; i < length; i++) text[i] = (uint8_t)random_number(); break;
-    case 4: memcpy(text, "rules 2", length = 7); break;
-    default: {
-        size_t line = below(lines_given);
-        length = starts[line + 1] - starts[line];
-        if (length > 5000) length = 5000;
-        memcpy(text, given + starts[line], length);
-        while (length > 0 && (text[length - 1] == '\n' || text[length - 1] == '\r')) length--;
-        for (size_t n = below(8) == 0 ? 1 + below(3) : 0; n > 0 && length > 0; n--) text[below(length)] = (uint8_t)random_number();
+static size_t by_one(one_call *call, one_call *more, uint32_t rules, size_t length) {
+    size_t filled = 0, start = 0;
+    while (start < length) {
+        const uint8_t *line = text + start, *feed = memchr(line, '\n', length - start);
+        size_t size = feed ? (size_t)(feed - line) : length - start;
+        start += size + 1;
+        if (size > 0 && line[size - 1] == '\r') size--;
+        size_t needed = call(rules, line, size, wanted + filled, MOST);
+        if (needed == 0) continue;
+        filled += needed;
+        wanted[filled++] = '\n';
+        if (more) filled += more(rules, line, size, wanted + filled, MOST);
     }
-    }
-    for (size_t n = below(6) == 0 ? 1 + below(2) : 0; n > 0; n--) text[length++] = '\r';
-    text[length++] = '\n';
-    return length;
+    return filled;
 }
 
-/* What one line is answered, with its line feed, and what is behind it where it is explained. */
-static size_t told_of(int kind, uint32_t rules, const uint8_t *line, size_t length, uint8_t *told) {
-    size_t most = RIICHI_MOST_JSON + 1;
-    size_t filled = kind == 1 ? riichi_json(rules, line, length, told, most) : riichi_answer(rules, line, length, told, most);
-    if (filled == 0) return 0;
-    told[filled++] = '\n';
-    return kind == 2 ? filled + riichi_explain(rules, line, length, told + filled, most) : filled;
-}
-
-static void try_text(struct lender *texts, struct lender *rooms) {
-    static uint8_t made[1 << 18], wanted[RIICHI_MOST_JSON * 2 + 2];
-    static many_call *const calls[3] = {riichi_answer_lines, riichi_json_lines, riichi_explain_lines};
-    size_t length = 0;
-    for (size_t n = below(12); n > 0; n--) length += put_line(made + length);
-    if (length > 0 && below(3) == 0) length--;
-    int kind = (int)below(3);
-    uint32_t rules = 1 + (uint32_t)below(2);
-    size_t room_len = below(3) == 0 ? below(20000) : below(3) == 0 ? below(300) : below(100);
-    uint8_t *text = lend(texts, length, 1), *room = lend(rooms, room_len, 1);
-    memcpy(text, made, length);
-    size_t taken = 12345, filled = calls[kind](rules, text, length, room, room_len, &taken);
-    CHECK(memcmp(text, made, length) == 0);
-    CHECK(taken <= length && filled <= room_len && is_untouched(room + filled, room_len - filled));
-    CHECK(taken == 0 || taken == length || made[taken - 1] == '\n');
-    size_t at = 0, told = 0;
-    while (at < length) {
-        uint8_t *feed = memchr(made + at, '\n', length - at);
-        size_t line = feed ? (size_t)(feed - made) - at : length - at, next = at + line + (feed != NULL);
-        if (line > 0 && made[at + line - 1] == '\r') line--;
-        size_t needed = told_of(kind, rules, made + at, line, wanted);
-        if (at == taken) { CHECK(told + needed > room_len); break; }
-        CHECK(told + needed <= filled && memcmp(room + told, wanted, needed) == 0);
-        told += needed, at = next;
+static void compare(many_call *call, uint32_t rules, size_t length, size_t all, size_t room_len) {
+    uint8_t *room = malloc(room_len);
+    size_t filled = 0, start = 0;
+    while (start < length) {
+        size_t taken, more = call(rules, text + start, length - start, room, room_len, &taken);
+        if (taken == 0 || more > room_len) fail("no line is taken", room_len);
+        memcpy(told + filled, room, more);
+        filled += more, start += taken;
     }
-    CHECK(at == taken && told == filled);
-    uint32_t other = below(2) ? 0 : 3 + (uint32_t)random_number() % 1000;
-    memset(room, UNTOUCHED, room_len);
-    CHECK(calls[kind](other, text, length, room, room_len, &taken) == 0 && taken == 0 && is_untouched(room, room_len));
+    if (filled != all || memcmp(told, wanted, all) != 0) fail("other bytes", room_len);
+    free(room);
 }
 
 int main(int count, char **words) {
-    if (count != 4) { fprintf(stderr, "lines SECONDS SEED FILE\n"); return 2; }
-    time_t end = time(NULL) + atoi(words[1]);
-    seed_of_try = strtoull(words[2], NULL, 10);
-    read_lines(words[3]);
-    struct lender texts = new_lender(), rooms = new_lender();
-    unsigned long long tries = 0;
-    for (; tries % 256 != 0 || time(NULL) < end; tries++, seed_of_try++) {
-        state = seed_of_try;
-        try_text(&texts, &rooms);
+    FILE *file = count > 1 ? fopen(words[1], "rb") : NULL;
+    if (!file) return 2;
+    size_t length = fread(text, 1, MOST_TEXT, file), taken = 1;
+    one_call *ones[] = {riichi_answer, riichi_json, riichi_answer}, *more[] = {NULL, NULL, riichi_explain};
+    many_call *many[] = {riichi_answer_lines, riichi_json_lines, riichi_explain_lines};
+    for (int at = 0; at < 3; at++) {
+        for (uint32_t rules = 1; rules <= 2; rules++) {
+            size_t all = by_one(ones[at], more[at], rules, length);
+            for (size_t room = MOST; room < 20000; room += 977) compare(many[at], rules, length, all, room);
+            compare(many[at], rules, length, all, 1 << 20);
+        }
+        if (many[at](3, text, length, told, sizeof told, &taken) != 0 || taken != 0) fail("other rules", 0);
+        if (many[at](1, text, length, told, 0, &taken) != 0) fail("no room", 0);
     }
-    printf("%llu texts, no difference\n", tries);
+    puts("all right");
     return 0;
 }

@@ -50,6 +50,10 @@ else
   skip 'the static library on an old processor' qemu-user-static
 fi
 
+# the calls for many lines, in rooms that are just large enough and larger
+cc -O1 -g -fsanitize=address,undefined -Iinclude tests/many_lines.c "$archive" -o "$shelf/many"
+told 'many lines by one call' 'all right' "$("$shelf/many" "$shelf/few" 2>&1)"
+
 # the wheel, in a new environment
 wheel=$(echo "$packages"/riichi_desk-*x86_64.whl)
 if [ -f "$wheel" ] && /usr/bin/python3 -m venv "$shelf/venv" > /dev/null 2>&1 && "$shelf/venv/bin/pip" install -q --no-index "$wheel" > "$room/said" 2>&1; then
@@ -106,6 +110,8 @@ portable=$packages/riichi_desk_portable.c
 if [ -f "$portable" ]; then
   cc -O1 -Iinclude packaging/anywhere/riichi_desk.c "$portable" -lm -o "$shelf/portable"
   same 'one file of C: line' wanted "$shelf/portable" line
+  cc -O1 -Iinclude tests/many_lines.c "$portable" -lm -o "$shelf/many-portable"
+  told 'one file of C: many lines' 'all right' "$("$shelf/many-portable" "$shelf/few" 2>&1)"
   same 'one file of C: line --json' json "$shelf/portable" line --json
   same 'one file of C: explain' explained "$shelf/portable" explain
   told 'one file of C: waits' 'waits 123456789m' "$("$shelf/portable" waits 1112345678999m)"

@@ -25,6 +25,7 @@ pub enum Rules {
 }
 
 type Call = unsafe extern "C" fn(u32, *const u8, usize, *mut u8, usize) -> usize;
+type CallOfLines = unsafe extern "C" fn(u32, *const u8, usize, *mut u8, usize, *mut usize) -> usize;
 
 /// A place for answers, to be used for one call after another, so that none takes memory. No answer is longer.
 pub struct Room(Box<[u8; calls::MOST_JSON]>);
@@ -77,6 +78,21 @@ pub fn explain(line: impl AsRef<[u8]>, rules: Rules) -> String {
     Room::new().explain(line, rules).to_owned()
 }
 
+/// Answers a text of lines by `call`; each piece of the answers had a room of its own.
+fn answered(call: CallOfLines, most: usize, text: &[u8], rules: Rules) -> String {
+    let (mut told, mut start) = (Vec::new(), 0);
+    while start < text.len() {
+        let (rest, filled) = (&text[start..], told.len());
+        told.resize(filled + rest.len() + most + 1, 0);
+        let (room, mut taken) = (&mut told[filled..], 0);
+        // SAFETY: as in `Room::told`; and `taken` is a place of its own.
+        let more = unsafe { call(rules as u32, rest.as_ptr(), rest.len(), room.as_mut_ptr(), room.len(), &mut taken) };
+        told.truncate(filled + more);
+        start += taken;
+    }
+    String::from_utf8(told).expect("answers are ASCII")
+}
+
 /// The answers to a whole text of lines, as the command `line` writes them: each with a line feed, and nothing for a comment or a
 /// blank line. A line `rules 2` is a line like any other here, and refused.
 ///
@@ -85,14 +101,12 @@ pub fn explain(line: impl AsRef<[u8]>, rules: Rules) -> String {
 /// assert_eq!(answer_lines("waits 123456789m1134p\n# a comment\nwaits 8z\n", Rules::One), "waits 25p\nrefused N5 hand at 0\n");
 /// ```
 pub fn answer_lines(text: impl AsRef<[u8]>, rules: Rules) -> String {
-    let (mut room, mut told) = (Room::new(), String::new());
-    for line in text.as_ref().split(|&byte| byte == b'\n') {
-        if let Some(answer) = room.answer(line.strip_suffix(b"\r").unwrap_or(line), rules) {
-            told.push_str(answer);
-            told.push('\n');
-        }
-    }
-    told
+    answered(calls::riichi_answer_lines, calls::MOST_ANSWER, text.as_ref(), rules)
+}
+
+/// The same, each answer as one object of JSON.
+pub fn json_lines(text: impl AsRef<[u8]>, rules: Rules) -> String {
+    answered(calls::riichi_json_lines, calls::MOST_JSON, text.as_ref(), rules)
 }
 
 /// The name and version of the library.

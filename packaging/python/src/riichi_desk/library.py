@@ -13,12 +13,14 @@ Line = Union[str, bytes, bytearray, memoryview]
 
 MOST = 12288
 """No answer takes more bytes."""
+ROOM = 1 << 20
 
 _SIZE, _AT, _RULES = ctypes.c_size_t, ctypes.c_void_p, ctypes.c_uint32
 CALLS = ctypes.CDLL(os.environ.get("RIICHI_DESK", str(Path(__file__).with_name("libriichi_desk.so"))))
 _ARGUMENTS = {
     "riichi_version": [_AT, _SIZE],
     **dict.fromkeys(("riichi_answer", "riichi_json", "riichi_explain"), [_RULES, ctypes.c_char_p, _SIZE, _AT, _SIZE]),
+    **dict.fromkeys(("riichi_answer_lines", "riichi_json_lines"), [_RULES, _AT, _SIZE, _AT, _SIZE, ctypes.POINTER(_SIZE)]),
 }
 for _name, _types in _ARGUMENTS.items():
     _call = getattr(CALLS, _name)
@@ -29,7 +31,7 @@ class _Rooms(threading.local):
     """For each thread the room that its calls answer into."""
 
     def __init__(self) -> None:
-        self.room = ctypes.create_string_buffer(MOST)
+        self.room = ctypes.create_string_buffer(ROOM)
 
 
 ROOMS = _Rooms()
@@ -42,7 +44,12 @@ def rules_of(rules: int) -> int:
     return rules
 
 
+def raw_bytes_of(line: Line) -> bytes:
+    """The bytes of a line without its line feed."""
+    given = line.encode("utf-8", "surrogateescape") if isinstance(line, str) else bytes(memoryview(line))
+    return given.removesuffix(b"\n")
+
+
 def bytes_of(line: Line) -> bytes:
     """The bytes of a line, as the command `line` takes it from a text."""
-    given = line.encode("utf-8", "surrogateescape") if isinstance(line, str) else bytes(memoryview(line))
-    return given.removesuffix(b"\n").removesuffix(b"\r")
+    return raw_bytes_of(line).removesuffix(b"\r")

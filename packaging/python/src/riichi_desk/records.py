@@ -3,12 +3,15 @@
 from __future__ import annotations
 
 import ctypes
-from collections.abc import Iterable
+import json as json_of
+from collections.abc import Iterable, Iterator
 from typing import Any
 
 from . import values
-from .library import CALLS, MOST, ROOMS, Line, bytes_of, rules_of
+from .library import CALLS, MOST, ROOM, ROOMS, Line, bytes_of, raw_bytes_of, rules_of
 from .values import Answer
+
+_MOST_LINE = 4096
 
 
 def _told(call: Any, line: Line, rules: int) -> str | None:
@@ -54,31 +57,65 @@ def explain(line: Line, rules: int = 1) -> list[str]:
     return (_told(CALLS.riichi_explain, line, rules) or "").splitlines()
 
 
-def texts(lines: Iterable[Line], rules: int = 1) -> list[str | None]:
-    """The answer to each of many lines, as `text` has it.
-
-    >>> texts(["waits 123456789m1134p", "# a comment", "waits 8z"])
-    ['waits 25p', None, 'refused N5 hand at 0']
-    """
-    rules_of(rules)
-    return [text(line, rules) for line in lines]
-
-
-def answers(lines: Iterable[Line], rules: int = 1) -> list[Answer | None]:
-    """The answer to each of many lines as a value, as `answer` has it.
-
-    >>> answers(["waits 123456789m1134p", "# a comment"])
-    [Waits(kinds=('2p', '5p')), None]
-    """
-    rules_of(rules)
-    return [answer(line, rules) for line in lines]
+def _pieces(call: Any, text: bytes, rules: int) -> Iterator[bytes]:
+    """What a call for many lines answers, a room at a time."""
+    room, taken, start = ROOMS.room, ctypes.c_size_t(), 0
+    at = ctypes.cast(ctypes.c_char_p(text), ctypes.c_void_p).value or 0
+    while start < len(text):
+        filled = call(rules, at + start, len(text) - start, room, ROOM, ctypes.byref(taken))
+        yield ctypes.string_at(room, filled)
+        start += taken.value
 
 
 def lines(text: bytes, rules: int = 1) -> bytes:
-    """The answers to a whole text of lines, as the command `line` writes them. A line `rules 2` is a line like any other here, and
-    refused.
+    """The answers to a whole text of lines, as the command `line` writes them. Other threads run meanwhile. A line `rules 2` is
+    a line like any other here, and refused.
 
     >>> lines(b"waits 123456789m1134p\\n# a comment\\nwaits 8z\\n")
     b'waits 25p\\nrefused N5 hand at 0\\n'
     """
-    return "".join(f"{told}\n" for told in texts(text.split(b"\n"), rules) if told is not None).encode("ascii")
+    return b"".join(_pieces(CALLS.riichi_answer_lines, text, rules_of(rules)))
+
+
+def _joined(given: list[Line]) -> bytes:
+    """Lines as one text. A line feed within one would make two of it, so another byte that is refused stands in its place."""
+    if all(isinstance(it, str) for it in given):
+        text = "\n".join(given)  # type: ignore[arg-type]
+        if text.count("\n") == len(given) - 1:
+            return text.encode("utf-8", "surrogateescape")
+    return b"\n".join(raw_bytes_of(it).replace(b"\n", b"\0") for it in given)
+
+
+def _says_nothing(line: Line) -> bool:
+    """Whether a line is a comment or blank, so that it has no answer."""
+    held = bytes_of(line)
+    return len(held) <= _MOST_LINE and (held[:1] == b"#" or not held.strip(b" "))
+
+
+def _many(call: Any, given: list[Line], rules: int) -> list[str | None]:
+    """What a call for many lines answers to each; None to a line that says nothing."""
+    told = b"".join(_pieces(call, _joined(given), rules)).decode("ascii").split("\n")[:-1]
+    if len(told) == len(given):
+        return list(told)
+    rest = iter(told)
+    return [None if _says_nothing(line) else next(rest) for line in given]
+
+
+def texts(lines: Iterable[Line], rules: int = 1) -> list[str | None]:
+    """The answer to each of many lines, as `text` has it, by few calls. Other threads run meanwhile.
+
+    >>> texts(["waits 123456789m1134p", "# a comment", "waits 8z"])
+    ['waits 25p', None, 'refused N5 hand at 0']
+    """
+    return _many(CALLS.riichi_answer_lines, list(lines), rules_of(rules))
+
+
+def answers(lines: Iterable[Line], rules: int = 1) -> list[Answer | None]:
+    """The answer to each of many lines as a value, as `answer` has it, by few calls.
+
+    >>> answers(["waits 123456789m1134p", "# a comment"])
+    [Waits(kinds=('2p', '5p')), None]
+    """
+    told = _many(CALLS.riichi_json_lines, list(lines), rules_of(rules))
+    found = json_of.loads(f"[{','.join(it or 'null' for it in told)}]")
+    return [None if it is None else values.value_of(it) for it in found]

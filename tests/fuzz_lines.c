@@ -1,0 +1,105 @@
+/* fuzz_lines SECONDS SEED FILE: asks the calls for many lines of random texts, made of the lines of FILE, in rooms of random sizes,
+ * and compares each with calls of one line. Ends at the first difference, with the seed that shows it. */
+#include "lent.h"
+#include <riichi_desk.h>
+#include <time.h>
+
+typedef size_t one_call(uint32_t, const uint8_t *, size_t, uint8_t *, size_t);
+typedef size_t many_call(uint32_t, const uint8_t *, size_t, uint8_t *, size_t, size_t *);
+
+static uint8_t *given;
+static size_t given_len, lines_given, *starts;
+
+static void read_lines(const char *path) {
+    FILE *file = fopen(path, "rb");
+    if (!file) { perror(path); exit(2); }
+    given = malloc(1 << 24);
+    given_len = fread(given, 1, 1 << 24, file);
+    fclose(file);
+    starts = malloc((given_len + 1) * sizeof *starts);
+    for (size_t at = 0; at < given_len; lines_given++) {
+        starts[lines_given] = at;
+        uint8_t *feed = memchr(given + at, '\n', given_len - at);
+        at = feed ? (size_t)(feed - given) + 1 : given_len;
+    }
+    starts[lines_given] = given_len;
+    if (lines_given == 0) exit(2);
+}
+
+/* A random line behind `text`, with what ends it: how many bytes. */
+static size_t put_line(uint8_t *text) {
+    size_t length = 0;
+    switch (below(12)) {
+    case 0: break;
+    case 1: length = below(20); memset(text, ' ', length); break;
+    case 2: length = 4090 + below(12); memset(text, below(2) ? '#' : 'w', length); break;
+    case 3: length = below(40); for (size_t i = 0; i < length; i++) text[i] = (uint8_t)random_number(); break;
+    case 4: memcpy(text, "rules 2", length = 7); break;
+    default: {
+        size_t line = below(lines_given);
+        length = starts[line + 1] - starts[line];
+        if (length > 5000) length = 5000;
+        memcpy(text, given + starts[line], length);
+        while (length > 0 && (text[length - 1] == '\n' || text[length - 1] == '\r')) length--;
+        for (size_t n = below(8) == 0 ? 1 + below(3) : 0; n > 0 && length > 0; n--) text[below(length)] = (uint8_t)random_number();
+    }
+    }
+    for (size_t n = below(6) == 0 ? 1 + below(2) : 0; n > 0; n--) text[length++] = '\r';
+    text[length++] = '\n';
+    return length;
+}
+
+/* What one line is answered, with its line feed, and what is behind it where it is explained. */
+static size_t told_of(int kind, uint32_t rules, const uint8_t *line, size_t length, uint8_t *told) {
+    size_t most = RIICHI_MOST_JSON + 1;
+    size_t filled = kind == 1 ? riichi_json(rules, line, length, told, most) : riichi_answer(rules, line, length, told, most);
+    if (filled == 0) return 0;
+    told[filled++] = '\n';
+    return kind == 2 ? filled + riichi_explain(rules, line, length, told + filled, most) : filled;
+}
+
+static void try_text(struct lender *texts, struct lender *rooms) {
+    static uint8_t made[1 << 18], wanted[RIICHI_MOST_JSON * 2 + 2];
+    static many_call *const calls[3] = {riichi_answer_lines, riichi_json_lines, riichi_explain_lines};
+    size_t length = 0;
+    for (size_t n = below(12); n > 0; n--) length += put_line(made + length);
+    if (length > 0 && below(3) == 0) length--;
+    int kind = (int)below(3);
+    uint32_t rules = 1 + (uint32_t)below(2);
+    size_t room_len = below(3) == 0 ? below(20000) : below(3) == 0 ? below(300) : below(100);
+    uint8_t *text = lend(texts, length, 1), *room = lend(rooms, room_len, 1);
+    memcpy(text, made, length);
+    size_t taken = 12345, filled = calls[kind](rules, text, length, room, room_len, &taken);
+    CHECK(memcmp(text, made, length) == 0);
+    CHECK(taken <= length && filled <= room_len && is_untouched(room + filled, room_len - filled));
+    CHECK(taken == 0 || taken == length || made[taken - 1] == '\n');
+    size_t at = 0, told = 0;
+    while (at < length) {
+        uint8_t *feed = memchr(made + at, '\n', length - at);
+        size_t line = feed ? (size_t)(feed - made) - at : length - at, next = at + line + (feed != NULL);
+        if (line > 0 && made[at + line - 1] == '\r') line--;
+        size_t needed = told_of(kind, rules, made + at, line, wanted);
+        if (at == taken) { CHECK(told + needed > room_len); break; }
+        CHECK(told + needed <= filled && memcmp(room + told, wanted, needed) == 0);
+        told += needed, at = next;
+    }
+    CHECK(at == taken && told == filled);
+    uint32_t other = below(2) ? 0 : 3 + (uint32_t)random_number() % 1000;
+    memset(room, UNTOUCHED, room_len);
+    CHECK(calls[kind](other, text, length, room, room_len, &taken) == 0 && taken == 0 && is_untouched(room, room_len));
+}
+
+int main(int count, char **words) {
+    if (count != 4) { fprintf(stderr, "lines SECONDS SEED FILE\n"); return 2; }
+    time_t end = time(NULL) + atoi(words[1]);
+    seed_of_try = strtoull(words[2], NULL, 10);
+    read_lines(words[3]);
+    struct lender texts = new_lender(), rooms = new_lender();
+    unsigned long long tries = 0;
+    for (; tries % 256 != 0 || time(NULL) < end; tries++, seed_of_try++) {
+        state = seed_of_try;
+        try_text(&texts, &rooms);
+    }
+    printf("%llu texts, no difference\n", tries);
+    return 0;
+}
