@@ -40,12 +40,18 @@ fn answers_no_text_and_texts_without_answers(rt: HostRuntime) {
     };
     holds(&rt, fill_answers(Rules::One, b"", &mut []) == none);
     holds(&rt, fill_objects(Rules::One, b"waits 8z", &mut []) == none);
-    holds(&rt, fill_explanations(Rules::One, b"waits 8z", &mut []) == none);
+    holds(
+        &rt,
+        fill_explanations(Rules::One, b"waits 8z", &mut []) == none,
+    );
     let comments = Filled {
         taken: 11,
         filled: 0,
     };
-    holds(&rt, fill_answers(Rules::Two, b"# a\r\n\n   \n#", &mut []) == comments);
+    holds(
+        &rt,
+        fill_answers(Rules::Two, b"# a\r\n\n   \n#", &mut []) == comments,
+    );
 }
 
 #[test]

@@ -14,7 +14,7 @@ pub returns-in-None : goal.returns-in-None
 returns-in-None c =
     let text = c.args.text.now in
     let none : take (length text - length text) (drop (length text) text) ≡ [] =
-        ap (take (length text - length text)) (drop_all (length text) text (omega arith)) ∙ take_all (length text - length text) [] (omega arith) in
+    ap (take (length text - length text)) (drop_all (length text) text (omega arith)) ∙ take_all (length text - length text) [] (omega arith) in
     let some : false ≡ (length text == 0) = c.if-is_empty.ensures in
     let plain : is_plain text ≡ true = c.in-None.ensures in
     rw (none, c.without_return-in-None.ensures) (first-last text (λ is. let yes = eq-eqb (length text) 0 (ap length is) in let no : ⊥ = cc in no) plain)

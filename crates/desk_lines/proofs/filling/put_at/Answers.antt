@@ -13,7 +13,7 @@ returns c =
       put = λ is. (
         omega arith,
         rw c.copy_from_slice.ensures.after (ap (λ n. take filled room ++ (text ++ drop n (drop filled room))) count
-        ∙ ap (λ rest. take filled room ++ (text ++ rest)) (drop-drop (length text) filled room) ∙ sym (append_assoc (take filled room) text (drop (filled + length text) room))),
+            ∙ ap (λ rest. take filled room ++ (text ++ rest)) (drop-drop (length text) filled room) ∙ sym (append_assoc (take filled room) text (drop (filled + length text) room))),
       );
       left = λ is. absurd (let no : ⊥ = cc in no);
     }
