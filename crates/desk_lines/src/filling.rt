@@ -13,7 +13,10 @@ use super::objects::Objects;
 use super::outbox::Outbox;
 use super::responder::Responder;
 use riichi_hand::Rules;
-use riichi_shape::SuitMemo;
+use riichi_shape::FrameMemo;
+
+/// So many rows of suits are kept for the next lines of a text, in the frame of the call.
+const KEPT_ROWS: usize = 1024;
 
 /// How many bytes of a text were answered, and how many bytes of the room the answers fill.
 #[derive(Clone, Copy, Debug, PartialEq, Eq)]
@@ -47,7 +50,7 @@ pub fn fill_explanations(rules: Rules, text: &[u8], room: &mut [u8]) -> Filled
 fn fill<A: Responder>(rules: Rules, text: &[u8], room: &mut [u8]) -> Filled
     ensures { Fills (AreTold A.may_tell rules) text.now room.old room.new result.taken result.filled }
 {
-    let mut memo = SuitMemo::in_value();
+    let mut memo = FrameMemo::<KEPT_ROWS>::new();
     let mut outbox = Outbox::new();
     let mut rest = text;
     let mut filled = 0;
