@@ -9,27 +9,28 @@ const TEXT: &[u8] = b"# c\nwaits 123456789m1134p\r\n\nwaits 8z\nrules 2\nwaits 1
 const ANSWERS: &[u8] = b"waits 25p\nrefused N5 hand at 0\nrefused H2\nrefused H8\n";
 
 /// In a room of this size so many bytes of the text are answered, and their answers fill so many.
-fn fills<const ROOM: usize>(rt: &impl Abort, taken: usize, filled: usize) {
-    let mut room = [7u8; ROOM];
-    let done = fill_answers(Rules::One, TEXT, &mut room);
-    same_in(rt, &ROOM, done.taken, taken);
-    same_in(rt, &ROOM, done.filled, filled);
-    holds(rt, room.get(..filled) == ANSWERS.get(..filled));
-    holds(rt, room.iter().skip(filled).all(|byte| *byte == 7));
+fn fills(rt: &impl Abort, size: usize, taken: usize, filled: usize) {
+    let mut all = [7u8; 90];
+    let (room, _) = all.split_at_mut(size.min(90));
+    let done = fill_answers(Rules::One, TEXT, room);
+    same_in(rt, &size, done.taken, taken);
+    same_in(rt, &size, done.filled, filled);
+    holds(rt, all.get(..filled) == ANSWERS.get(..filled));
+    holds(rt, all.iter().skip(filled).all(|byte| *byte == 7));
 }
 
 #[test]
 fn stops_before_the_first_answer_that_has_no_room(rt: HostRuntime) {
-    fills::<0>(&rt, 4, 0);
-    fills::<9>(&rt, 4, 0);
-    fills::<10>(&rt, 28, 10);
-    fills::<30>(&rt, 28, 10);
-    fills::<31>(&rt, 37, 31);
-    fills::<41>(&rt, 37, 31);
-    fills::<42>(&rt, 45, 42);
-    fills::<52>(&rt, 45, 42);
-    fills::<53>(&rt, 53, 53);
-    fills::<90>(&rt, 53, 53);
+    fills(&rt, 0, 4, 0);
+    fills(&rt, 9, 4, 0);
+    fills(&rt, 10, 28, 10);
+    fills(&rt, 30, 28, 10);
+    fills(&rt, 31, 37, 31);
+    fills(&rt, 41, 37, 31);
+    fills(&rt, 42, 45, 42);
+    fills(&rt, 52, 45, 42);
+    fills(&rt, 53, 53, 53);
+    fills(&rt, 90, 53, 53);
 }
 
 #[test]
