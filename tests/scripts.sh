@@ -257,7 +257,10 @@ status 1" "$(by_hand "$scripts" ./linked-prove | tail -n 4)"
 rm "$kit/wrong"
 : > "$kit/slow"
 (cd "$tree" && HOME=$scripts/home PATH=$kit:$PATH exec ./prove > "$scripts/said" 2>&1) &
-sleep 3
+for ((i = 0; i < 300; i++)); do
+  grep -q '^prove: 2 of' "$scripts/said" 2> /dev/null && break
+  sleep 0.2
+done
 kill -TERM $!
 wait $!
 told 'a proof that is interrupted' "status 130: prove: interrupted at 2 of $count crates; what is proved stays, and the next ./prove goes on from there" \
