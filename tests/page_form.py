@@ -118,7 +118,8 @@ def test_refusals(browser: Browser) -> None:
         told(f"{given}: field", field, browser.run(FAULTY))
         said = subprocess.run([PROGRAM, "explain", given], capture_output=True, text=True, check=False).stdout.splitlines()[1:]
         words = re.sub(r"^ *(\^ )?", "", said[-1] if " at " in answer else said[0])
-        told(f"{given}: words of the library", True, words in browser.run(ANSWER))
+        # (the page shows the first letter as a capital)
+        told(f"{given}: words of the library", True, words in browser.run("document.getElementById('answer').textContent"))
     type_line(browser, "win 111m234m567p678s9s on=9s by=ron seat=S round=E dora=11m")
     told("five of a kind", "refused H9", browser.run(RAW))
 
