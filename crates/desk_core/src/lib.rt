@@ -17,6 +17,7 @@
 
 mod answer;
 mod arrived;
+mod decided;
 mod desk;
 mod entry;
 mod event;

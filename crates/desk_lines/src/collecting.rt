@@ -1,5 +1,5 @@
 //! Collects what the lines of a table ask.
-ghost use Rattle.std.specs.Prelude.{◌≡◌, ◌+◌, ℕ, length, [], ◌∷◌, ◌++◌, Some, Err, OnOk, IfOk, IsErrOf};
+ghost use Rattle.std.specs.Prelude.{◌≡◌, ◌+◌, ℕ, length, [], ◌∷◌, ◌++◌, Some, Err, OnOk, IfOk, IfErr, IsErrOf};
 ghost use Rattle.std.specs.List.{flat_map};
 ghost use Rattle.riichi_hand.specs.Lines.{outcome_of};
 ghost use Rattle.desk_lines.specs.declared.fault.DeskFault.{DeskFault};
@@ -165,9 +165,13 @@ impl Collector {
     }
 }
 
-/// One more line. A count of more lines than a `u64` holds finds no memory.
+/// The most lines of a count.
+const MOST_LINES: u64 = u64::MAX;
+
+/// One more line. Just a count of more lines than a `u64` holds finds no memory.
 fn one_more_line(lines: u64) -> Result<u64, AllocError>
-    ensures { IfOk result (λ more. more ≡ lines + 1) }
+    ensures more { IfOk result (λ more. more ≡ lines + 1) }
+    ensures err { IfErr result (λ _. lines ≡ MOST_LINES) }
 {
     lines.checked_add(1).ok_or(AllocError)
 }

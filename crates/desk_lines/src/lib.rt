@@ -24,6 +24,7 @@
 mod answer_lines;
 mod answering;
 mod collecting;
+mod decided;
 mod explained;
 mod explaining;
 mod fault;

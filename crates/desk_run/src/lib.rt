@@ -21,6 +21,7 @@
 
 mod board;
 mod content;
+mod decided;
 mod gate;
 mod held;
 mod lane_places;

@@ -14,6 +14,7 @@
 //! ```
 #![tactic(auto)]
 
+mod decided;
 mod judging;
 mod round;
 mod rounds;

@@ -1,6 +1,7 @@
 //! The answers to the texts of several readers, each a table of its own.
-ghost use Rattle.std.specs.Prelude.{◌≡◌, ◌≢◌, ◌↔◌, ◌⊎◌, ◌≤◌, ℕ, List, length, IsTrue, IfOk, IfErr, IsErrOf};
+ghost use Rattle.std.specs.Prelude.{◌≡◌, ◌≢◌, ◌↔◌, ◌⊎◌, ◌≤◌, ℕ, List, length, IsTrue, false, Err, IfOk, IfErr, IsErrOf};
 ghost use Rattle.desk_run.specs.Parts.{IsInRange};
+ghost use Rattle.desk_lines.specs.Sheets.{sheets_told};
 ghost use Rattle.desk_lines.specs.Streams.{WritesAll, StopsWriting};
 ghost use Rattle.desk_score.specs.Score.{score_of, score_report, AreWithinLimit, AllGive, StopsReading};
 
@@ -62,6 +63,30 @@ pub fn score_text<H: Threads + Wait + Sync, R: Source + Drop, W: Sink>(
         return Err(ScoreFault::Range);
     }
     let tables = Tables::read(alloc, rules, readers)?;
+    answer_tables(rt, alloc, tables, workers, writer)
+}
+
+/// Has so many workers judge what was read, and writes the answers, where no table has more jobs than it may submit.
+fn answer_tables<H: Threads + Wait + Sync, W: Sink>(
+    rt: &H,
+    alloc: Global,
+    tables: Tables,
+    workers: u32,
+    writer: &mut W,
+) -> Result<DeskReport, ScoreFault>
+    requires workers { (1 ≤ workers) × (workers ≤ 16) }
+    ensures ok { IfOk result (λ report. IsTrue tables.within_limit
+        × WritesAll ⟦<W as Sink>⟧ writer.old writer.new (sheets_told tables.sheets.items)
+        × (report ≡ tables.report)) }
+    ensures range { (result ≡ Err ScoreFault.Range) ↔ (tables.within_limit ≡ false) }
+    ensures not_read { IsErrOf result ScoreFault.Read → ⊥ }
+    ensures no_thread { IsErrOf result ScoreFault.Thread → IsTrue tables.within_limit }
+    ensures unwritten { IfErr result (λ fault. fault ≢ ScoreFault.Write → writer.new ≡ writer.old) }
+    ensures write_failed { IsErrOf result ScoreFault.Write → IsTrue tables.within_limit
+        × StopsWriting ⟦<W as Sink>⟧ writer.old writer.new (sheets_told tables.sheets.items) }
+    ensures told_as_written { (IsErrOf result ScoreFault.Write → ⊥)
+        → W.failures writer.new ≡ W.failures writer.old }
+{
     if !tables.within_limit {
         return Err(ScoreFault::Range);
     }

@@ -1,11 +1,12 @@
 //! What the tables ask, read to the end before anything is answered.
-ghost use Rattle.std.specs.Prelude.{◌≡◌, ◌↔◌, ◌≤◌, ℕ, List, [], ◌∷◌, ◌++◌, ◌+◌, length, IsTrue, OnOk, IfOk, IfErr, IsErrOf};
+ghost use Rattle.std.specs.Prelude.{◌≡◌, ◌↔◌, ◌≤◌, ◌<◌, ◌⊎◌, ℕ, List, [], ◌∷◌, ◌++◌, ◌+◌, length, IsTrue, OnOk, IfOk, IfErr, IsErrOf};
 ghost use Rattle.riichi_hand.specs.declared.win.Rules.{Rules};
 ghost use Rattle.desk_lines.specs.Lines.{lines};
 ghost use Rattle.desk_lines.specs.Outcomes.{jobs_of};
 ghost use Rattle.desk_lines.specs.LineAnswers.{answers, report_on};
 ghost use Rattle.desk_lines.specs.Sheets.{sheets_told};
 ghost use Rattle.desk_lines.specs.Tables.{table_line};
+ghost use Rattle.desk_lines.specs.Streams.{FailsOrGoesOn, GivesAll, IsReadWithin};
 ghost use Rattle.desk_score.specs.Score.{AllGive, StopsReading};
 ghost use Rattle.desk_score.specs.Tables.{AreRead};
 
@@ -60,10 +61,32 @@ impl Tables {
     {
         let mut tables = Tables::new(alloc);
         for mut reader in readers {
-            let collected = collect_text(alloc, rules, tables.count, &mut reader)?;
-            tables.add(collected)?;
+            tables.read_next(alloc, rules, &mut reader)?;
         }
         Ok(tables)
+    }
+
+    /// Reads the reader of the next table to its end, and adds what it asks.
+    fn read_next<R: Source>(
+        &mut self,
+        alloc: Global,
+        rules: Rules,
+        reader: &mut R,
+    ) -> Result<(), ScoreFault>
+        ensures ok { OnOk result ((texts : List (List ℕ)) → AreRead rules texts self.old
+            → (text : List ℕ) × GivesAll ⟦<R as Source>⟧ reader.old reader.new text
+                × AreRead rules (texts ++ text ∷ []) self.new) }
+        ensures read_failed { IsErrOf result ScoreFault.Read
+            → FailsOrGoesOn ⟦<R as Source>⟧ reader.old reader.new }
+        ensures told_as_read { (IsErrOf result ScoreFault.Read → ⊥)
+            → R.failures reader.new ≡ R.failures reader.old }
+        ensures not_write { IsErrOf result ScoreFault.Write → ⊥ }
+        ensures not_range { IsErrOf result ScoreFault.Range → ⊥ }
+        ensures not_thread { IsErrOf result ScoreFault.Thread → ⊥ }
+        ensures reads { IsReadWithin ⟦<R as Source>⟧ reader.old reader.new }
+    {
+        let collected = collect_text(alloc, rules, self.count, reader)?;
+        self.add(collected)
     }
 
     /// Adds what the next table asks. A count that its type doesn't hold finds no memory.
@@ -92,11 +115,19 @@ fn are_within_limit(others: bool, jobs: u64) -> bool
     others && jobs <= u64::from(LIMIT)
 }
 
-/// Two counts together. Where a `u64` doesn't hold them there is no memory.
+/// The most tables of a count.
+const MOST_TABLES: usize = usize::MAX;
+
+/// The most lines of a count.
+const MOST_LINES: u64 = u64::MAX;
+
+/// Two counts together. Just where a `u64` doesn't hold one of them there is no memory.
 fn sum_of(one: DeskReport, other: DeskReport) -> Result<DeskReport, ScoreFault>
     ensures ok { IfOk result (λ sum. (sum.answered ≡ one.answered + other.answered)
         × (sum.refused ≡ one.refused + other.refused)) }
-    ensures err { IfErr result (λ fault. fault ≡ ScoreFault.Memory) }
+    ensures err { IfErr result (λ fault. (fault ≡ ScoreFault.Memory)
+        × ((MOST_LINES < one.answered + other.answered)
+            ⊎ (MOST_LINES < one.refused + other.refused))) }
 {
     match (
         one.answered.checked_add(other.answered),
@@ -107,10 +138,10 @@ fn sum_of(one: DeskReport, other: DeskReport) -> Result<DeskReport, ScoreFault>
     }
 }
 
-/// One table more. Where a `usize` doesn't hold their number there is no memory.
+/// One table more. Just where a `usize` doesn't hold their number there is no memory.
 fn one_more_table(tables: usize) -> Result<usize, ScoreFault>
     ensures ok { IfOk result (λ more. more ≡ tables + 1) }
-    ensures err { IfErr result (λ fault. fault ≡ ScoreFault.Memory) }
+    ensures err { IfErr result (λ fault. (fault ≡ ScoreFault.Memory) × (tables ≡ MOST_TABLES)) }
 {
     match tables.checked_add(1) {
         Some(more) => Ok(more),

@@ -3,3 +3,4 @@ pub mod Scripts
 pub mod Only
 pub mod NameLemmas
 pub mod SeqLemmas
+pub mod OpenedTables

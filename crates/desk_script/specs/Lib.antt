@@ -3,6 +3,7 @@ pub mod Seq
 pub mod Commands
 pub mod Said
 pub mod Asked
+pub mod OpenTables
 pub mod Texts
 pub mod Replay
 pub mod OnlyReplay

@@ -20,6 +20,7 @@ mod action;
 mod asked;
 mod asking;
 mod command;
+mod decided;
 pub mod laws;
 mod names;
 mod refusal;

@@ -1,0 +1,24 @@
+//! Equality of faults and reports.
+ghost use Rattle.std.proofs.Common.{rules};
+
+use crate::fault::DeskFault;
+use crate::filling::Filled;
+use crate::report::DeskReport;
+use crate::unmade_line::UnmadeLine;
+use riichi_tiles::Decided;
+
+impl Decided for DeskFault {
+    ghost decides = { λ a b. Prim.search rules };
+}
+
+impl Decided for DeskReport {
+    ghost decides = { λ a b. Prim.search rules };
+}
+
+impl Decided for Filled {
+    ghost decides = { λ a b. Prim.search rules };
+}
+
+impl Decided for UnmadeLine {
+    ghost decides = { λ a b. Prim.search rules };
+}
