@@ -42,6 +42,16 @@ CONTRAST = """(() => {
   return found;
 })()"""
 
+# Words that don't fit into what they stand in.
+CUT = """[...document.querySelectorAll('button:not(.on-tile), .button, .option span, label, legend, dt, dd, h2, h3, .yaku li, .headline, .raw')]
+  .filter((it) => it.checkVisibility() && it.clientWidth > 0 && (it.scrollWidth > it.clientWidth + 1 || it.scrollHeight > it.clientHeight + 1))
+  .map((it) => `${it.textContent.trim().slice(0, 20)} ${it.scrollWidth} x ${it.scrollHeight} in ${it.clientWidth} x ${it.clientHeight}`)"""
+
+# Controls whose name doesn't hold the words that are seen on them.
+OTHERWISE_NAMED = """[...document.querySelectorAll('button[aria-label], input[aria-label]')]
+  .map((it) => [it.getAttribute('aria-label'), (it.closest('label') ?? it).textContent.trim()])
+  .filter(([name, seen]) => /\\p{L}/u.test(seen) && !name.toLowerCase().includes(seen.toLowerCase()))"""
+
 # What is touched and is smaller than 44 pixels in a direction.
 SMALL = """[...document.querySelectorAll('button, .button, .option, input[type=text], input[type=number], textarea, a, select')]
   .filter((it) => it.checkVisibility() && !it.closest('[inert]') && (!document.querySelector('dialog[open]') || it.closest('dialog[open]')))
@@ -61,6 +71,8 @@ def look(browser: Browser, name: str, folder: Path, whole: bool = False) -> None
     told(f"{name}: nothing is wider than the screen", True, browser.run("document.documentElement.scrollWidth <= innerWidth"))
     told(f"{name}: contrast", [], browser.run(CONTRAST))
     told(f"{name}: targets", [], browser.run(SMALL))
+    told(f"{name}: words that are cut", [], browser.run(CUT))
+    told(f"{name}: controls that are named otherwise than they look", [], browser.run(OTHERWISE_NAMED))
     browser.picture(folder / f"{name.replace(' ', '-')}.png", whole=whole)
 
 
@@ -114,6 +126,7 @@ def test_narrow(browser: Browser) -> None:
         type_line(browser, line)
         told(f"{name} at 320: nothing is wider than the screen", True, browser.run("document.documentElement.scrollWidth <= 320"))
         told(f"{name} at 320: targets", [], browser.run(SMALL))
+        told(f"{name} at 320: words that are cut", [], browser.run(CUT))
 
 
 def test_names_of_controls(browser: Browser) -> None:

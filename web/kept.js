@@ -2,23 +2,25 @@
 
 import { answerTo } from "./answers.js";
 import { byId, make, say } from "./elements.js";
+import { clearAll } from "./form.js";
 import { copyText, handsOfText, printOnly, saveFile, textOfHands } from "./share.js";
 import { handParts, openSheet } from "./sheet.js";
 import { shownAnswer } from "./shown.js";
 import { state } from "./state.js";
-import { addHands, MOST_HANDS, nameHand, putHandsBack, readHands, removeHand } from "./store.js";
+import { addHands, MOST_HANDS, nameHand, putHandBack, readHands, removeHand } from "./store.js";
 
 let openKept = () => {};
-let before = [];
+// Hands that were taken away, the last one at the end.
+const gone = [];
 
 function handTitle({ name }, at) {
   return name === "" ? `hand ${at + 1}` : name;
 }
 
 function takeAway(hand) {
-  before = removeHand(hand.id);
-  if (state.handId === hand.id) state.handId = 0;
-  byId("hands-undo").hidden = false;
+  removeHand(hand.id);
+  gone.push(hand);
+  if (state.handId === hand.id) clearAll();
   showHands();
   say("The hand is taken away.");
   byId("hands-undo").focus();
@@ -54,6 +56,7 @@ export function showHands() {
     hands.length === 0 ? `No hands yet. The last ${MOST_HANDS} that were answered stand here.` : `${hands.length} of the last ${MOST_HANDS} hands, the newest first.`;
   byId("hand-list").replaceChildren(...hands.map(handItem));
   for (const id of ["hands-copy", "hands-save", "hands-print"]) byId(id).disabled = hands.length === 0;
+  byId("hands-undo").hidden = gone.length === 0;
 }
 
 // The text of the hands of the chosen profile, oldest first, and what is said of those of the other.
@@ -67,7 +70,7 @@ function textAndRest() {
 async function openHands({ target }) {
   const [file] = target.files;
   if (!file) return;
-  const hands = handsOfText((await file.text()).replace(/^\uFEFF/, ""));
+  const hands = handsOfText(await file.text());
   target.value = "";
   addHands(hands.reverse());
   showHands();
@@ -96,8 +99,7 @@ export function listenToHands(openHand) {
   on("hands-file", "change", openHands);
   on("hands-print", "click", () => printOnly(...listParts()));
   on("hands-undo", "click", () => {
-    putHandsBack(before);
-    byId("hands-undo").hidden = true;
+    putHandBack(gone.pop());
     showHands();
     say("The hand is back.");
   });
