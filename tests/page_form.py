@@ -216,7 +216,7 @@ def test_keyboard(browser: Browser) -> None:
     told("a tab by the arrow keys", "shape", browser.run(MODE))
     browser.key("Tab", 2)
     told("the picker by Tab", "1m", browser.run("document.activeElement.dataset.kind"))
-    along, across = ("ArrowDown", "ArrowRight") if browser.run("innerWidth < 704") else ("ArrowRight", "ArrowDown")
+    along, across = ("ArrowDown", "ArrowRight") if browser.run("innerWidth < 640") else ("ArrowRight", "ArrowDown")
     for key, times in (("Enter", 1), (along, 1), ("Enter", 1), (along, 1), ("Enter", 2), (across, 1), ("Home", 1), (" ", 1)):
         browser.key(key, times)
     told("tiles by keys", "shape 1233m1p", browser.run(LINE))

@@ -8,7 +8,7 @@ import { state } from "./state.js";
 import { KINDS, SUITS, tileOf } from "./tiles.js";
 
 // On a narrow screen the suits are columns, and the arrow keys go otherwise.
-const isWide = matchMedia("(min-width: 44rem)");
+const isWide = matchMedia("(min-width: 40rem)");
 
 export function makePicker(take, back) {
   const rows = SUITS.map((suit) => KINDS.filter((kind) => kind[1] === suit).map((kind) => pickerButton(kind, take)));
