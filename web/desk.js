@@ -5,7 +5,7 @@ import { facesOfAll } from "./faces.js";
 import { aim, changeLine, choose, clearAll, onChange, openHand, showForm, step, takeBack, takeTile, turnRed } from "./form.js";
 import { listenToHands, listParts, showHands } from "./kept.js";
 import { Desk, lackOfBrowser } from "./library.js";
-import { listenToMany, showMany } from "./many.js";
+import { listenToMany, manyParts, showMany } from "./many.js";
 import { makePicker } from "./picker.js";
 import { JOBS } from "./record.js";
 import { listenToSettings, showSettings } from "./settings.js";
@@ -81,7 +81,8 @@ function pasteLine(event) {
 // Puts on paper what is shown, where the browser's own menu prints the page.
 function fillPaper() {
   if (byId("paper").childElementCount > 0) return;
-  byId("paper").replaceChildren(...(state.mode === "hands" ? listParts() : handParts(state.line, state.rules)));
+  const parts = { many: manyParts, hands: listParts }[state.mode] ?? (() => handParts(state.line, state.rules));
+  byId("paper").replaceChildren(...parts());
 }
 
 function listen() {

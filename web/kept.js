@@ -1,10 +1,10 @@
 // The list of the last hands, with their answers and names.
 
 import { answerTo } from "./answers.js";
-import { byId, make, say } from "./elements.js";
+import { byId, make, say, textWithTiles } from "./elements.js";
 import { clearAll } from "./form.js";
 import { copyText, handsOfText, printOnly, saveFile, textOfHands } from "./share.js";
-import { handParts, openSheet } from "./sheet.js";
+import { openSheet } from "./sheet.js";
 import { shownAnswer } from "./shown.js";
 import { state } from "./state.js";
 import { addHands, MOST_HANDS, nameHand, putHandBack, readHands, removeHand } from "./store.js";
@@ -26,20 +26,24 @@ function takeAway(hand) {
   byId("hands-undo").focus();
 }
 
+// What is said of a hand in the list: its answer, without the reasons.
+function shortAnswer({ line, rules }) {
+  const about = answerTo(line, rules);
+  const profile = rules === 2 ? [make("p", { class: "quiet" }, "Rule profile 2")] : [];
+  return [...profile, make("div", { class: "answer short" }, ...(about.values === null ? [] : shownAnswer(about.values, about)))];
+}
+
 function handItem(hand, at) {
-  const about = answerTo(hand.line, hand.rules);
   const title = handTitle(hand, at);
   const button = (text, label, click) => make("button", { type: "button", "aria-label": `${label} ${title}`, click }, text);
   const name = make("input", { type: "text", maxlength: "60", "aria-label": `Table and round of ${title}`, placeholder: "Table and round", value: hand.name });
   name.addEventListener("input", () => nameHand(hand.id, name.value));
-  const profile = hand.rules === 2 ? [make("p", { class: "quiet" }, "Rule profile 2")] : [];
   return make(
     "li",
     { "data-id": String(hand.id) },
     name,
     make("p", { class: "raw" }, hand.line),
-    ...profile,
-    make("div", { class: "answer short" }, ...(about.values === null ? [] : shownAnswer(about.values, about))),
+    ...shortAnswer(hand),
     make(
       "div",
       { class: "buttons" },
@@ -79,7 +83,10 @@ async function openHands({ target }) {
 
 // The list, as paper shows it.
 export function listParts() {
-  const items = readHands().map((hand) => make("li", {}, ...handParts(hand.line, hand.rules, hand.name)));
+  const items = readHands().map((hand) => {
+    const name = hand.name === "" ? [] : [make("h3", {}, hand.name)];
+    return make("li", {}, ...name, make("p", {}, ...textWithTiles(hand.line)), ...shortAnswer(hand));
+  });
   return [make("h2", {}, "Hands"), make("ol", {}, ...items)];
 }
 

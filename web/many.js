@@ -32,6 +32,12 @@ export function showMany() {
   byId("answers").replaceChildren(...found.slice(0, MOST_SHOWN).map(answerItem));
 }
 
+// The lines and their answers, as paper shows them.
+export function manyParts() {
+  const items = answers().map(({ line, told }) => make("li", {}, make("p", { class: "raw" }, line), make("p", {}, told)));
+  return [make("h2", {}, `Lines, under rule profile ${state.rules}`), make("ol", {}, ...items)];
+}
+
 async function openFile({ target }) {
   const [file] = target.files;
   if (!file) return;
