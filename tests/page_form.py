@@ -46,6 +46,9 @@ def test_taps(browser: Browser) -> None:
     told("counters and sticks", ["counters=1", "sticks=1"], browser.run(LINE).split()[-2:])
     browser.tap("#new")
     told("a new hand keeps the round alone", "win round=E", browser.run(LINE))
+    choose(browser, "mode", "shape")
+    browser.tap("#back")
+    told("the tab goes back too", "win", browser.run(MODE))
 
 
 def test_melds(browser: Browser) -> None:
@@ -91,6 +94,17 @@ def test_red_fives(browser: Browser) -> None:
     told("the meld is still wanted", "true", browser.run("document.querySelector('[data-target=pon]').getAttribute('aria-pressed')"))
     tap_tiles(browser, "5s")
     told("a meld with a red five", "win open=pon:550s round=E", browser.run(LINE))
+    browser.tap("[data-target=chi]")
+    browser.tap("#red")
+    told("what a run with a red five would take", "Chi 3 4 red 5, from 3 of circles on", browser.run("document.querySelector(\"[data-kind='3p']\").getAttribute('aria-label')"))
+    tap_tiles(browser, "3p")
+    told("a run with a red five within", "win open=pon:550s,chi:340p round=E", browser.run(LINE))
+    browser.tap("#new")
+    browser.tap("#red")
+    tap_tiles(browser, "5m 4m 6m 1p 1p 2p 3p 4p 2s 3s 4s 7s 8s")
+    browser.tap("[data-target=chi]")
+    tap_tiles(browser, "4m")
+    told("a run of the hand with a red five is turned into a meld", "win 11234p23478s open=chi:406m round=E", browser.run(LINE))
 
 
 def test_refusals(browser: Browser) -> None:
@@ -118,7 +132,6 @@ def test_refusals(browser: Browser) -> None:
         told(f"{given}: field", field, browser.run(FAULTY))
         said = subprocess.run([PROGRAM, "explain", given], capture_output=True, text=True, check=False).stdout.splitlines()[1:]
         words = re.sub(r"^ *(\^ )?", "", said[-1] if " at " in answer else said[0])
-        # (the page shows the first letter as a capital)
         told(f"{given}: words of the library", True, words in browser.run("document.getElementById('answer').textContent"))
     type_line(browser, "win 111m234m567p678s9s on=9s by=ron seat=S round=E dora=11m")
     told("five of a kind", "refused H9", browser.run(RAW))
@@ -162,21 +175,35 @@ def test_explanations(browser: Browser) -> None:
         told(f"{line}: rows", wanted, browser.run("[...document.querySelectorAll('#answer .why dt')].map(it => it.textContent + ' ' + it.nextSibling.textContent)"))
 
 
+TOLD_ANSWERS = "[...document.querySelectorAll('#answers .told')].map(it => it.textContent)"
+
+
+def many(browser: Browser, lines: str) -> None:
+    browser.run(f"document.getElementById('lines').value = {json.dumps(lines)}; document.getElementById('lines').dispatchEvent(new Event('input'))")
+
+
 def test_many_lines(browser: Browser) -> None:
     fresh(browser)
     lines = subprocess.run([TOP / "tests/lines"], check=True, capture_output=True, text=True).stdout
     wanted = answers_of(lines.splitlines())
     choose(browser, "mode", "many")
-    browser.run(f"document.getElementById('lines').value = {json.dumps(lines)}; document.getElementById('lines').dispatchEvent(new Event('input'))")
-    told("answers to many lines", wanted, browser.run("[...document.querySelectorAll('#answers .told')].map(it => it.textContent)"))
+    many(browser, lines)
+    told("answers to many lines", wanted, browser.run(TOLD_ANSWERS))
     told("the count of many lines", f"{len(wanted)} answers", browser.run("document.getElementById('many-count').textContent").split(",")[0])
+    red = "waits 340m1112345678p"
+    for first in ("rules 1", "rules 2", " rules  2 ", "rules 2\r", "Rules 2", "rules 3", "rules 2 2", "# rules 2", ""):
+        many(browser, f"{first}\n{red}\n# rules 2\nrules 2\n{red}\n")
+        told(f"a first line {first!r}", answers_of([first, red, "# rules 2", "rules 2", red]), browser.run(TOLD_ANSWERS))
+    many(browser, red)
+    set_choice(browser, "rules", "2")
+    told("another profile answers what is shown anew", answers_of([red], "--rules", "2"), browser.run(TOLD_ANSWERS))
 
 
 def test_paste(browser: Browser) -> None:
     fresh(browser)
     browser.run("""(() => { const data = new DataTransfer(); data.setData('text/plain', 'rules 2\\nwaits 1112345678999m\\n# no hand\\nwaits 1m\\n');
       document.getElementById('line').dispatchEvent(new ClipboardEvent('paste', { clipboardData: data, cancelable: true })); })()""")
-    told("lines that were pasted", ["waits 123456789m", "refused H8"], browser.run("[...document.querySelectorAll('#answers .told')].map(it => it.textContent)"))
+    told("lines that were pasted", ["waits 123456789m", "refused H8"], browser.run(TOLD_ANSWERS))
     browser.tap("#answers li:last-child button")
     told("one of them in the form", ["waits 1m", "2"], browser.run(f"[{LINE}, document.getElementById('rules-now').textContent]"))
 
@@ -189,7 +216,7 @@ def test_keyboard(browser: Browser) -> None:
     told("a tab by the arrow keys", "shape", browser.run(MODE))
     browser.key("Tab", 2)
     told("the picker by Tab", "1m", browser.run("document.activeElement.dataset.kind"))
-    along, across = ("ArrowDown", "ArrowRight") if browser.run("innerWidth < 704") else ("ArrowRight", "ArrowDown")
+    along, across = ("ArrowDown", "ArrowRight") if browser.run("innerWidth < 640") else ("ArrowRight", "ArrowDown")
     for key, times in (("Enter", 1), (along, 1), ("Enter", 1), (along, 1), ("Enter", 2), (across, 1), ("Home", 1), (" ", 1)):
         browser.key(key, times)
     told("tiles by keys", "shape 1233m1p", browser.run(LINE))

@@ -46,10 +46,23 @@ def test_list(browser: Browser) -> None:
     browser.tap("#hands-copy")
     told("copied as lines, the oldest first", "".join(f"{it}\n" for it in ["# Table 3, East 2", *lines]), browser.run("window.copied"))
     told("which the command reads", 3, len(answers_of(browser.run("window.copied").splitlines())))
+    browser.run("window.print = () => { window.printed = document.getElementById('paper').innerText; }")
+    browser.tap("#hands-print")
+    told("the list on paper", True, all(it in browser.run("window.printed") for it in ("Table 3, East 2", "Ready", "Waits for 9 kinds", "2\u202f700 points")))
     browser.tap("#hand-list > li:first-child .buttons button:last-child")
     told("a hand that was taken away", lines[1::-1], browser.run(HANDS))
     browser.tap("#hands-undo")
     told("and put back", lines[::-1], browser.run(HANDS))
+    browser.tap("#hand-list > li:first-child .buttons button:last-child")
+    choose(browser, "mode", "waits")
+    told("the form that held it is empty", "waits", browser.run(LINE))
+    type_line(browser, "waits 1112345678999s")
+    choose(browser, "mode", "hands")
+    browser.tap("#hands-undo")
+    told("put back below what was answered since", ["waits 1112345678999s", *lines[::-1]], browser.run(HANDS))
+    browser.tap("#hand-list > li:first-child .buttons button:last-child")
+    browser.reload()
+    told("what is taken away doesn't come back", lines[::-1], browser.run(HANDS))
     browser.run("""(async () => { const data = new DataTransfer(); data.items.add(new File(['rules 2\\n# Table 5\\nwaits 1112345678999p\\n'], 'hands.lines'));
       document.getElementById('hands-file').files = data.files; document.getElementById('hands-file').dispatchEvent(new Event('change')); await new Promise(done => setTimeout(done, 200)); })()""")
     told("hands of a file", ["waits 1112345678999p", *lines[::-1]], browser.run(HANDS))
@@ -109,7 +122,8 @@ def test_names(browser: Browser) -> None:
     for name, wanted in rows.items():
         set_choice(browser, "names", name)
         told(f"yaku: {name}", wanted, browser.run(yaku))
-    told("script has its language", "ja", browser.run("document.querySelector('#answer .yaku li').lang"))
+    told("script has its language", "ja", browser.run("document.querySelector('#answer .yaku [lang]').lang"))
+    told("and nothing else has", "", browser.run("[...document.querySelectorAll('#answer [lang=ja]')].map(it => it.textContent.replace(/[^a-z]/g, '')).join('')"))
     told("a tile in script", "1萬", browser.run("document.querySelector(\"#picker [data-kind='1m']\").getAttribute('aria-label')"))
     words = {"romanised": "menzen tsumo 1", "script": "門前清自摸和 1"}
     for name, wanted in words.items():
@@ -128,6 +142,7 @@ def test_lacking_browser(browser: Browser, folder: Path) -> None:
     rows = {
         "WebAssembly is missing": "delete globalThis.WebAssembly",
         "64-bit numbers (BigInt) are missing": "delete globalThis.BigInt64Array",
+        "Dialogs are missing": "delete globalThis.HTMLDialogElement",
         "its WebAssembly is too old": "WebAssembly.validate = () => false",
     }
     for words, script in rows.items():

@@ -42,6 +42,16 @@ CONTRAST = """(() => {
   return found;
 })()"""
 
+# Words that don't fit into what they stand in.
+CUT = """[...document.querySelectorAll('button:not(.on-tile, .meld button), .button, .option span, label, legend, dt, dd, h2, h3, .yaku li, .headline, .raw')]
+  .filter((it) => it.checkVisibility() && it.clientWidth > 0 && (it.scrollWidth > it.clientWidth + 1 || it.scrollHeight > it.clientHeight + 1))
+  .map((it) => `${it.textContent.trim().slice(0, 20)} ${it.scrollWidth} x ${it.scrollHeight} in ${it.clientWidth} x ${it.clientHeight}`)"""
+
+# Controls whose name doesn't hold the words that are seen on them.
+OTHERWISE_NAMED = """[...document.querySelectorAll('button[aria-label], input[aria-label]')]
+  .map((it) => [it.getAttribute('aria-label'), (it.closest('label') ?? it).textContent.trim()])
+  .filter(([name, seen]) => /\\p{L}/u.test(seen) && !name.toLowerCase().includes(seen.toLowerCase()))"""
+
 # What is touched and is smaller than 44 pixels in a direction.
 SMALL = """[...document.querySelectorAll('button, .button, .option, input[type=text], input[type=number], textarea, a, select')]
   .filter((it) => it.checkVisibility() && !it.closest('[inert]') && (!document.querySelector('dialog[open]') || it.closest('dialog[open]')))
@@ -61,6 +71,8 @@ def look(browser: Browser, name: str, folder: Path, whole: bool = False) -> None
     told(f"{name}: nothing is wider than the screen", True, browser.run("document.documentElement.scrollWidth <= innerWidth"))
     told(f"{name}: contrast", [], browser.run(CONTRAST))
     told(f"{name}: targets", [], browser.run(SMALL))
+    told(f"{name}: words that are cut", [], browser.run(CUT))
+    told(f"{name}: controls that are named otherwise than they look", [], browser.run(OTHERWISE_NAMED))
     browser.picture(folder / f"{name.replace(' ', '-')}.png", whole=whole)
 
 
@@ -114,6 +126,37 @@ def test_narrow(browser: Browser) -> None:
         type_line(browser, line)
         told(f"{name} at 320: nothing is wider than the screen", True, browser.run("document.documentElement.scrollWidth <= 320"))
         told(f"{name} at 320: targets", [], browser.run(SMALL))
+        told(f"{name} at 320: words that are cut", [], browser.run(CUT))
+
+
+# The most space between lines, letters and words that a reader may set.
+SPACED = """(document.adoptedStyleSheets = [new CSSStyleSheet()],
+  document.adoptedStyleSheets[0].replaceSync('* { line-height: 1.5 !important; letter-spacing: 0.12em !important; word-spacing: 0.16em !important } p { margin-block-end: 2em !important }'))"""
+
+
+def test_spaced(browser: Browser) -> None:
+    """With more space between letters no word is cut, in all names."""
+    for width, height in ((320, 568), *SIZES):
+        browser.size(width, height, touch=width < 700)
+        fresh(browser)
+        browser.run(SPACED)
+        for names in ("english", "romanised", "script"):
+            set_choice(browser, "names", names)
+            for name in ("win", "melds", "shape", "refused"):
+                type_line(browser, VIEWS[name])
+                told(f"{name} at {width}, spaced, {names}", [True, []], browser.run(f"[document.documentElement.scrollWidth <= innerWidth, {CUT}]"))
+
+
+def test_lying(browser: Browser) -> None:
+    """On a phone that lies on its side the answer and its buttons are seen with the hand."""
+    for width, height in ((568, 320), (667, 375), (844, 390)):
+        browser.size(width, height, touch=True)
+        fresh(browser)
+        type_line(browser, VIEWS["win"])
+        browser.run("document.activeElement.blur(); scrollTo(0, 0)")
+        told(f"seen at {width}x{height}", [], browser.run(
+            "['#tray', '#answer .headline', '#why', '#new'].filter((it) => document.querySelector(it).getBoundingClientRect().bottom > innerHeight + 0.5)"))
+        told(f"nothing is wider at {width}x{height}", True, browser.run("document.documentElement.scrollWidth <= innerWidth"))
 
 
 def test_names_of_controls(browser: Browser) -> None:

@@ -71,7 +71,7 @@ function missingKey(line) {
 // The field of the form that the refusal of a line speaks of, by its values and the word that its explanation begins with.
 export function fieldOf(line, rules) {
   const values = state.desk.values(line, rules);
-  if (values.key || values.text) return values.key ?? values.text;
+  if (values.text) return values.text;
   const [row = ""] = state.desk.explain(line, rules).map((it) => it.trim());
   const key = /^([a-z]+)(?:=| is missing)/.exec(row)?.[1];
   if (key) return key;

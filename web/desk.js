@@ -5,7 +5,7 @@ import { facesOfAll } from "./faces.js";
 import { aim, changeLine, choose, clearAll, onChange, openHand, showForm, step, takeBack, takeTile, turnRed } from "./form.js";
 import { listenToHands, listParts, showHands } from "./kept.js";
 import { Desk, lackOfBrowser } from "./library.js";
-import { listenToMany, showMany } from "./many.js";
+import { listenToMany, manyParts, showMany } from "./many.js";
 import { makePicker } from "./picker.js";
 import { JOBS } from "./record.js";
 import { listenToSettings, showSettings } from "./settings.js";
@@ -20,39 +20,39 @@ function refuseToRun(words) {
   byId("unable").setAttribute("role", "alert");
 }
 
-function keepChoices() {
-  const { line, mode, rules, names, scheme, handId } = state;
-  writeChoices({ line, mode, rules, names, scheme, handId });
+// Shows a tab: a job, the many lines or the list of hands. All choices are kept.
+function showMode(chosen) {
+  const { line, rules, names, scheme, handId } = state;
+  state.mode = chosen;
+  writeChoices({ line, mode: chosen, rules, names, scheme, handId });
   byId("rules-now").textContent = String(rules);
+  for (const input of document.querySelectorAll("#modes input")) input.checked = input.value === chosen;
+  byId("one").hidden = !JOBS.includes(chosen);
+  byId("many").hidden = chosen !== "many";
+  byId("hands").hidden = chosen !== "hands";
+  if (chosen === "many") showMany();
+  if (chosen === "hands") showHands();
 }
 
-// Shows a tab: a job, the many lines or the list of hands.
-function showMode(mode) {
-  state.mode = mode;
-  for (const input of document.querySelectorAll("#modes input")) input.checked = input.value === mode;
-  byId("one").hidden = !JOBS.includes(mode);
-  byId("many").hidden = mode !== "many";
-  byId("hands").hidden = mode !== "hands";
-  if (mode === "many") showMany();
-  if (mode === "hands") showHands();
+// After a change of the form or of a setting: the tab is that of the form's job, and what another tab shows is answered anew.
+function afterChange() {
+  showMode(JOBS.includes(state.mode) ? state.record.job : state.mode);
 }
 
 function chooseMode({ target: { value } }) {
   if (JOBS.includes(value) && value !== state.record.job) {
     setRecord({ ...state.record, job: value });
     state.handId = 0;
-    showForm();
   }
-  showMode(value);
-  keepChoices();
+  state.mode = value;
+  showForm();
 }
 
 // Shows a hand from elsewhere in the form.
 function showHand(hand) {
+  state.mode = "win";
   openHand(hand);
-  showMode(state.record.job);
   showSettings();
-  keepChoices();
   byId("line").focus({ preventScroll: true });
 }
 
@@ -81,7 +81,8 @@ function pasteLine(event) {
 // Puts on paper what is shown, where the browser's own menu prints the page.
 function fillPaper() {
   if (byId("paper").childElementCount > 0) return;
-  byId("paper").replaceChildren(...(state.mode === "hands" ? listParts() : handParts(state.line, state.rules)));
+  const parts = { many: manyParts, hands: listParts }[state.mode] ?? (() => handParts(state.line, state.rules));
+  byId("paper").replaceChildren(...parts());
 }
 
 function listen() {
@@ -93,10 +94,7 @@ function listen() {
   on("new", "click", clearAll);
   on("why", "click", () => openSheet(state.line, state.rules, state.handId));
   on("line", "keydown", (event) => event.key === "Enter" && event.preventDefault());
-  on("line", "input", ({ target }) => {
-    changeLine(target.value.replaceAll("\n", " "));
-    showMode(state.record.job);
-  });
+  on("line", "input", ({ target }) => changeLine(target.value.replaceAll("\n", " ")));
   on("line", "paste", pasteLine);
   for (const button of document.querySelectorAll("[data-target]")) button.addEventListener("click", aim);
   for (const button of document.querySelectorAll("[data-number]")) button.addEventListener("click", step);
@@ -133,7 +131,7 @@ async function start() {
   listenToHands(showHand);
   takeUp();
   showSettings();
-  onChange(keepChoices);
+  onChange(afterChange);
   showForm();
   openLink();
   byId("unable").hidden = true;

@@ -1,7 +1,17 @@
 // Elements of the page. Text that a person gave is only ever set as text.
 
-import { languageOfNames, tileName } from "./names.js";
+import { tileName } from "./names.js";
 import { tilesIn } from "./tiles.js";
+
+// What is written in Japanese, with a number before it.
+const JAPANESE = /([0-9]*[\p{sc=Han}\p{sc=Hira}\p{sc=Kana}ー・]+(?:[ /]+[\p{sc=Han}\p{sc=Hira}\p{sc=Kana}ー・]+)*)/u;
+
+// A text, or another child; Japanese within a text is marked as such.
+function marked(child) {
+  if (typeof child !== "string" || !JAPANESE.test(child)) return [child];
+  const parts = child.split(JAPANESE).map((part, at) => (at % 2 === 1 ? make("span", { lang: "ja" }, document.createTextNode(part)) : part));
+  return parts.filter((part) => part !== "");
+}
 
 export function make(name, properties = {}, ...children) {
   const element = document.createElement(name);
@@ -9,17 +19,20 @@ export function make(name, properties = {}, ...children) {
     if (typeof value === "function") element.addEventListener(key, value);
     else element.setAttribute(key, value);
   }
-  element.append(...children);
+  element.append(...children.flatMap(marked));
+  return element;
+}
+
+// Gives an element its name: what is read aloud, and what is seen below a mouse.
+export function label(element, name) {
+  element.setAttribute("aria-label", name);
+  element.title = name;
+  element.lang = JAPANESE.test(name) ? "ja" : "en";
   return element;
 }
 
 export function byId(id) {
   return document.getElementById(id);
-}
-
-// A text of names, in the language that they are in.
-export function names(element, properties, ...children) {
-  return make(element, { ...properties, lang: languageOfNames() }, ...children);
 }
 
 // The drawing of a tile, which says nothing to those who can't see it.
@@ -35,14 +48,13 @@ export function drawing(tile) {
 
 // A tile as a picture with its name.
 export function tileImage(tile) {
-  const name = tileName(tile);
-  return names("span", { class: "tile", role: "img", "aria-label": name, title: name, "data-tile": tile }, drawing(tile));
+  return label(make("span", { class: "tile", role: "img" }, drawing(tile)), tileName(tile));
 }
 
 // A button with a tile on it, as large as a thumb.
-export function tileButton(tile, label, press) {
+export function tileButton(tile, name, press) {
   const face = make("span", { class: "tile" }, drawing(tile));
-  return names("button", { type: "button", class: "on-tile", "aria-label": label, title: label, "data-tile": tile, click: press }, face);
+  return label(make("button", { type: "button", class: "on-tile", click: press }, face), name);
 }
 
 // The tiles of a text side by side.
@@ -61,9 +73,8 @@ let wordsEnd = 0;
 export function say(words) {
   const box = document.querySelector("dialog[open] .said") ?? byId("said");
   box.textContent = words;
-  box.hidden = false;
   clearTimeout(wordsEnd);
   wordsEnd = setTimeout(() => {
-    for (const it of document.querySelectorAll(".said")) it.hidden = true;
+    for (const it of document.querySelectorAll(".said")) it.textContent = "";
   }, 4000);
 }

@@ -2,7 +2,7 @@
 
 import { answerTo, lacks } from "./answers.js";
 import { fieldOf, lackOfTiles } from "./asked.js";
-import { byId, drawing, make, names, tileButton } from "./elements.js";
+import { byId, drawing, label, make, tileButton } from "./elements.js";
 import { nextTarget, taken, without, withoutMeld } from "./moves.js";
 import { named, tileName } from "./names.js";
 import { showPicker } from "./picker.js";
@@ -18,8 +18,8 @@ export function onChange(act) {
   changed = act;
 }
 
-export function takeTile(tile) {
-  const record = taken(state.record, state.target, tile);
+export function takeTile(kind) {
+  const record = taken(state.record, state.target, kind, state.isRed);
   if (record === null) return;
   setRecord(record, nextTarget(state.target));
   showForm();
@@ -61,16 +61,16 @@ function tileItem(list, name, tile, at) {
   return make("li", {}, tileButton(tile, `Take out ${tileName(tile)}`, out));
 }
 
-function emptySlot(label = "") {
-  return make("li", { class: "slot", "aria-hidden": "true" }, make("span", {}, label));
+function emptySlot(word = "") {
+  return make("li", { class: "slot", "aria-hidden": "true" }, make("span", {}, word));
 }
 
 function meldItem({ word, tiles }, at) {
-  const label = `Take out ${named(word)}: ${tiles.map(tileName).join(", ")}`;
+  const name = `Take out ${named(word)}: ${tiles.map(tileName).join(", ")}`;
   const faces = tiles.map((tile) => make("span", { class: "tile" }, drawing(tile)));
   const mark = make("span", { class: "meld-word" }, named(word));
   const press = () => takeOut("tray", withoutMeld(state.record, at));
-  return make("li", { class: "meld" }, names("button", { type: "button", "aria-label": label, title: label, click: press }, mark, ...faces));
+  return make("li", { class: "meld" }, label(make("button", { type: "button", click: press }, mark, ...faces), name));
 }
 
 // The hand, the tiles that it still lacks as empty places, the winning tile and the melds.
@@ -123,13 +123,13 @@ function targetHelp() {
 function showAnswer() {
   const { line, rules, record } = state;
   const lacking = lacks();
-  const help = targetHelp() === "" ? [] : [names("p", { class: "lacking" }, targetHelp())];
+  const help = targetHelp() === "" ? [] : [make("p", { class: "lacking" }, targetHelp())];
   const about = answerTo(line, rules);
   byId("why").disabled = lacking.length > 0 || about.values === null;
   showFault("");
   if (lacking.length > 0) {
     const wanted = record.hand.length === 0 ? "Tap the tiles of the hand" : "Still wanted";
-    byId("answer").replaceChildren(...help, names("p", { class: "lacking" }, `${wanted}: ${lacking.join(", ")}.`));
+    byId("answer").replaceChildren(...help, make("p", { class: "lacking" }, `${wanted}: ${lacking.join(", ")}.`));
     return;
   }
   if (about.values === null) {
@@ -189,4 +189,5 @@ export function showNames() {
     it.lang = state.names === "script" ? "ja" : "en";
   }
   for (const it of document.querySelectorAll("[data-target], #red")) it.title = it.textContent;
+  label(byId("dealer"), `${named("E")}, ${named("dealer")}`);
 }

@@ -1,43 +1,49 @@
 // The list of the last hands, with their answers and names.
 
 import { answerTo } from "./answers.js";
-import { byId, make, say } from "./elements.js";
+import { byId, make, say, textWithTiles } from "./elements.js";
+import { clearAll } from "./form.js";
 import { copyText, handsOfText, printOnly, saveFile, textOfHands } from "./share.js";
-import { handParts, openSheet } from "./sheet.js";
+import { openSheet } from "./sheet.js";
 import { shownAnswer } from "./shown.js";
 import { state } from "./state.js";
-import { addHands, MOST_HANDS, nameHand, putHandsBack, readHands, removeHand } from "./store.js";
+import { addHands, MOST_HANDS, nameHand, putHandBack, readHands, removeHand } from "./store.js";
 
 let openKept = () => {};
-let before = [];
+// Hands that were taken away, the last one at the end.
+const gone = [];
 
 function handTitle({ name }, at) {
   return name === "" ? `hand ${at + 1}` : name;
 }
 
 function takeAway(hand) {
-  before = removeHand(hand.id);
-  if (state.handId === hand.id) state.handId = 0;
-  byId("hands-undo").hidden = false;
+  removeHand(hand.id);
+  gone.push(hand);
+  if (state.handId === hand.id) clearAll();
   showHands();
   say("The hand is taken away.");
   byId("hands-undo").focus();
 }
 
+// What is said of a hand in the list: its answer, without the reasons.
+function shortAnswer({ line, rules }) {
+  const about = answerTo(line, rules);
+  const profile = rules === 2 ? [make("p", { class: "quiet" }, "Rule profile 2")] : [];
+  return [...profile, make("div", { class: "answer short" }, ...(about.values === null ? [] : shownAnswer(about.values, about)))];
+}
+
 function handItem(hand, at) {
-  const about = answerTo(hand.line, hand.rules);
   const title = handTitle(hand, at);
   const button = (text, label, click) => make("button", { type: "button", "aria-label": `${label} ${title}`, click }, text);
   const name = make("input", { type: "text", maxlength: "60", "aria-label": `Table and round of ${title}`, placeholder: "Table and round", value: hand.name });
   name.addEventListener("input", () => nameHand(hand.id, name.value));
-  const profile = hand.rules === 2 ? [make("p", { class: "quiet" }, "Rule profile 2")] : [];
   return make(
     "li",
     { "data-id": String(hand.id) },
     name,
     make("p", { class: "raw" }, hand.line),
-    ...profile,
-    make("div", { class: "answer short" }, ...(about.values === null ? [] : shownAnswer(about.values, about))),
+    ...shortAnswer(hand),
     make(
       "div",
       { class: "buttons" },
@@ -54,6 +60,7 @@ export function showHands() {
     hands.length === 0 ? `No hands yet. The last ${MOST_HANDS} that were answered stand here.` : `${hands.length} of the last ${MOST_HANDS} hands, the newest first.`;
   byId("hand-list").replaceChildren(...hands.map(handItem));
   for (const id of ["hands-copy", "hands-save", "hands-print"]) byId(id).disabled = hands.length === 0;
+  byId("hands-undo").hidden = gone.length === 0;
 }
 
 // The text of the hands of the chosen profile, oldest first, and what is said of those of the other.
@@ -67,7 +74,7 @@ function textAndRest() {
 async function openHands({ target }) {
   const [file] = target.files;
   if (!file) return;
-  const hands = handsOfText((await file.text()).replace(/^\uFEFF/, ""));
+  const hands = handsOfText(await file.text());
   target.value = "";
   addHands(hands.reverse());
   showHands();
@@ -76,7 +83,10 @@ async function openHands({ target }) {
 
 // The list, as paper shows it.
 export function listParts() {
-  const items = readHands().map((hand) => make("li", {}, ...handParts(hand.line, hand.rules, hand.name)));
+  const items = readHands().map((hand) => {
+    const name = hand.name === "" ? [] : [make("h3", {}, hand.name)];
+    return make("li", {}, ...name, make("p", {}, ...textWithTiles(hand.line)), ...shortAnswer(hand));
+  });
   return [make("h2", {}, "Hands"), make("ol", {}, ...items)];
 }
 
@@ -96,8 +106,7 @@ export function listenToHands(openHand) {
   on("hands-file", "change", openHands);
   on("hands-print", "click", () => printOnly(...listParts()));
   on("hands-undo", "click", () => {
-    putHandsBack(before);
-    byId("hands-undo").hidden = true;
+    putHandBack(gone.pop());
     showHands();
     say("The hand is back.");
   });

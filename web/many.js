@@ -1,21 +1,17 @@
 // Many lines: each with its answer, as the command `line` gives them.
 
 import { byId, make } from "./elements.js";
+import { linesOf } from "./record.js";
 import { copyText } from "./share.js";
 import { state } from "./state.js";
 
 const MOST_SHOWN = 5000;
 let openLine = () => {};
 
-// The lines of a text that have an answer, with their numbers and answers. A first line can set the profile.
-function answersTo(text, rules) {
-  const lines = text.split("\n").map((line) => line.replace(/\r$/, ""));
-  const profile = /^ *rules +([12]) *$/.exec(lines[0]);
-  const found = lines.map((line, at) => ({ number: at + 1, line, rules: profile ? Number(profile[1]) : rules }));
-  return found
-    .slice(profile ? 1 : 0)
-    .map((each) => ({ ...each, told: state.desk.answer(each.line, each.rules) }))
-    .filter(({ told }) => told !== "");
+// The lines of the text that have an answer, with their numbers and answers.
+function answers() {
+  const { lines, rules, first } = linesOf(byId("lines").value, state.rules);
+  return lines.map((line, at) => ({ number: first + at, line, rules, told: state.desk.answer(line, rules) })).filter(({ told }) => told !== "");
 }
 
 function answerItem({ number, line, told, rules }) {
@@ -29,11 +25,17 @@ function answerItem({ number, line, told, rules }) {
 }
 
 export function showMany() {
-  const answers = answersTo(byId("lines").value, state.rules);
-  const refused = answers.filter(({ told }) => told.startsWith("refused")).length;
-  const more = answers.length > MOST_SHOWN ? `, of which the first ${MOST_SHOWN} are shown` : "";
-  byId("many-count").textContent = answers.length === 0 ? "No lines yet." : `${answers.length} answers${more}, ${refused} refused.`;
-  byId("answers").replaceChildren(...answers.slice(0, MOST_SHOWN).map(answerItem));
+  const found = answers();
+  const refused = found.filter(({ told }) => told.startsWith("refused")).length;
+  const more = found.length > MOST_SHOWN ? `, of which the first ${MOST_SHOWN} are shown` : "";
+  byId("many-count").textContent = found.length === 0 ? "No lines yet." : `${found.length} answers${more}, ${refused} refused.`;
+  byId("answers").replaceChildren(...found.slice(0, MOST_SHOWN).map(answerItem));
+}
+
+// The lines and their answers, as paper shows them.
+export function manyParts() {
+  const items = answers().map(({ line, told }) => make("li", {}, make("p", { class: "raw" }, line), make("p", {}, told)));
+  return [make("h2", {}, `Lines, under rule profile ${state.rules}`), make("ol", {}, ...items)];
 }
 
 async function openFile({ target }) {
@@ -48,5 +50,5 @@ export function listenToMany(openHand) {
   openLine = openHand;
   byId("lines").addEventListener("input", showMany);
   byId("file").addEventListener("change", openFile);
-  byId("copy-answers").addEventListener("click", () => copyText(answersTo(byId("lines").value, state.rules).map(({ told }) => `${told}\n`).join("")));
+  byId("copy-answers").addEventListener("click", () => copyText(answers().map(({ told }) => `${told}\n`).join("")));
 }

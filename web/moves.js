@@ -2,14 +2,14 @@
 
 import { isMeld, mostIndicators, sizesOf, spaceInHand } from "./asked.js";
 import { MELD_WORDS, tilesOf } from "./record.js";
-import { countOf, isFive, kindOf, sorted, tilesWithout } from "./tiles.js";
+import { countOf, isFive, kindOf, parted, sorted, tileOf } from "./tiles.js";
 
-// The tiles of a meld that a tapped tile stands for: of a run it is the lowest. A red five makes one five of it red.
-export function meldTiles(word, tile, isRed = false) {
-  const [digit, suit] = kindOf(tile);
-  const plain = word === "chi" ? [0, 1, 2].map((step) => `${Number(digit) + step}${suit}`) : Array(word === "pon" ? 3 : 4).fill(kindOf(tile));
-  const red = isRed ? plain.findIndex(isFive) : -1;
-  return plain.map((it, at) => (at === red ? `0${suit}` : it));
+// The tiles of a meld that a tapped kind stands for: of a run it is the lowest. One five of it can be a red one.
+export function meldTiles(word, kind, isRed) {
+  const [digit, suit] = kind;
+  const kinds = word === "chi" ? [0, 1, 2].map((step) => `${Number(digit) + step}${suit}`) : Array(word === "pon" ? 3 : 4).fill(kind);
+  const five = kinds.findIndex(isFive);
+  return kinds.map((it, at) => tileOf(it, isRed && at === five));
 }
 
 // Where a tapped tile goes when it isn't said: into the hand while it has space, then to the winning tile.
@@ -24,20 +24,20 @@ function withMeld(record, word, tiles) {
   const melds = [...record.melds, { word, tiles }];
   const room = sizesOf(record.job, melds).at(-1) ?? -1;
   if (record.hand.length <= room) return { ...record, melds };
-  const hand = tilesWithout(record.hand, tiles);
-  return hand !== null && hand.length <= room ? { ...record, hand, melds } : null;
+  const { found, left } = parted(record.hand, tiles) ?? {};
+  return left && left.length <= room ? { ...record, hand: left, melds: [...record.melds, { word, tiles: found }] } : null;
 }
 
-function withTile(record, target, tile) {
-  if (MELD_WORDS.includes(target)) return withMeld(record, target, meldTiles(target, tile, tile[0] === "0"));
+function withTile(record, target, kind, isRed) {
+  if (MELD_WORDS.includes(target)) return withMeld(record, target, meldTiles(target, kind, isRed));
   if (["dora", "ura"].includes(target) && record[target].length >= mostIndicators()) return null;
   const place = target === "hand" ? placeOf(record) : target;
-  return place && { ...record, [place]: sorted([...record[place], tile]) };
+  return place && { ...record, [place]: sorted([...record[place], tileOf(kind, isRed)]) };
 }
 
-// The record after a tap; null where the tap can't be taken: there is no space, or a kind would have a fifth tile.
-export function taken(record, target, tile) {
-  const after = withTile(record, target, tile);
+// The record after a tap on a kind; null where the tap can't be taken: there is no space, or a kind would have a fifth tile.
+export function taken(record, target, kind, isRed) {
+  const after = withTile(record, target, kind, isRed);
   if (after === null) return null;
   const all = tilesOf(after);
   return all.every((it) => countOf(kindOf(it), all) <= 4) ? after : null;

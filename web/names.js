@@ -2,18 +2,13 @@
 
 import { isRed, kindOf } from "./tiles.js";
 
-export const TONGUES = ["english", "romanised", "script"];
+const TONGUES = ["english", "romanised", "script"];
 
 // The chosen tongue; `desk.js` sets it.
 let tongue = "english";
 
 export function speak(name) {
   tongue = TONGUES.includes(name) ? name : "english";
-}
-
-// The languages of names, for a screen reader: romanised words are read as they are.
-export function languageOfNames() {
-  return tongue === "script" ? "ja" : "en";
 }
 
 // Of each yaku: romanised, and in script. The first is the word of the answers.
@@ -69,10 +64,10 @@ const WORDS = {
   tsumo: ["Self-draw", "Tsumo", "ツモ"],
   seat: ["Seat wind", "Jikaze", "自風"],
   round: ["Round wind", "Bakaze", "場風"],
-  E: ["E", "Ton", "東"],
-  S: ["S", "Nan", "南"],
-  W: ["W", "Sha", "西"],
-  N: ["N", "Pei", "北"],
+  E: ["East", "Ton", "東"],
+  S: ["South", "Nan", "南"],
+  W: ["West", "Sha", "西"],
+  N: ["North", "Pei", "北"],
   riichi: ["Riichi", "Riichi", "立直"],
   riichi0: ["No riichi", "No riichi", "立直なし"],
   riichi1: ["Riichi", "Riichi", "立直"],
@@ -95,6 +90,7 @@ const WORDS = {
   sticks: ["Riichi sticks", "Kyoutaku", "供託"],
   on: ["Winning tile", "Agarihai", "和了牌"],
   yakuman: ["Yakuman", "Yakuman", "役満"],
+  kazoe: ["Yakuman", "Kazoe yakuman", "数え役満"],
   mangan: ["Mangan", "Mangan", "満貫"],
   haneman: ["Haneman", "Haneman", "跳満"],
   baiman: ["Baiman", "Baiman", "倍満"],
@@ -113,6 +109,8 @@ const PHRASES = [
   ["concealed ron", "menzen kafu", "門前加符"],
   ["pair of the seat wind", "jantou jikaze", "雀頭 自風"],
   ["pair of the prevalent wind", "jantou bakaze", "雀頭 場風"],
+  ["pair of dragons", "jantou sangenpai", "雀頭 三元牌"],
+  ["raised to mangan", "kiriage mangan", "切り上げ満貫"],
   ["closed wait", "kanchan", "嵌張"],
   ["edge wait", "penchan", "辺張"],
   ["pair wait", "tanki", "単騎"],
@@ -159,16 +157,16 @@ export function named(word) {
   return WORDS[word] ? inTongue(WORDS[word]) : word;
 }
 
+// The number of a tile as it is read aloud.
+export function digitName(tile) {
+  return `${isRed(tile) ? inTongue(RED) : ""}${kindOf(tile)[0]}`;
+}
+
 // The name of a tile as it is read aloud.
 export function tileName(tile) {
   const [digit, suit] = kindOf(tile);
   if (suit === "z") return inTongue(HONOUR_NAMES[digit - 1]);
-  const gap = tongue === "script" ? "" : " ";
-  return `${isRed(tile) ? inTongue(RED) : ""}${digit}${gap}${inTongue(SUIT_NAMES[suit])}`;
-}
-
-export function windName(letter) {
-  return inTongue(HONOUR_NAMES["ESWN".indexOf(letter)]);
+  return `${digitName(tile)}${tongue === "script" ? "" : " "}${inTongue(SUIT_NAMES[suit])}`;
 }
 
 // The word of a yaku, as a person writes it; `by` is how the hand was won.

@@ -1,18 +1,17 @@
 // The picker: a button for each kind of tile. One of them is in the order of the Tab key, and the arrow keys move among them.
 
-import { byId, make, tileButton } from "./elements.js";
+import { byId, label, make, tileButton } from "./elements.js";
 import { meldTiles, taken } from "./moves.js";
-import { named, tileName } from "./names.js";
+import { digitName, named, tileName } from "./names.js";
 import { MELD_WORDS } from "./record.js";
 import { state } from "./state.js";
-import { isFive, KINDS, kindOf, SUITS } from "./tiles.js";
+import { KINDS, SUITS, tileOf } from "./tiles.js";
 
 // On a narrow screen the suits are columns, and the arrow keys go otherwise.
-const isWide = matchMedia("(min-width: 44rem)");
+const isWide = matchMedia("(min-width: 40rem)");
 
 export function makePicker(take, back) {
-  const press = (kind) => take(tileOf(kind));
-  const rows = SUITS.map((suit) => KINDS.filter((kind) => kind[1] === suit).map((kind) => pickerButton(kind, press)));
+  const rows = SUITS.map((suit) => KINDS.filter((kind) => kind[1] === suit).map((kind) => pickerButton(kind, take)));
   byId("picker").prepend(...rows.map((buttons) => make("div", { class: "suit" }, ...buttons)));
   // The seven honours leave space for two buttons.
   document.querySelector("#picker .suit:last-of-type").append(byId("red"), byId("back"));
@@ -29,11 +28,6 @@ function pickerButton(kind, press) {
   button.dataset.kind = kind;
   button.addEventListener("focus", () => makeReachable(button));
   return button;
-}
-
-// The tile that a button stands for now: the next five may be a red one.
-function tileOf(kind) {
-  return state.isRed && isFive(kind) ? `0${kind[1]}` : kind;
 }
 
 function makeReachable(button) {
@@ -69,26 +63,24 @@ function movePicker(event, back) {
   next.focus();
 }
 
-// What a tap on this tile would take, as it is read aloud.
-function labelOf(tile, target) {
-  const name = tileName(tile);
+// What a tap on this kind would take, as it is read aloud.
+function wordsOfTap(kind, { target, isRed }) {
+  const name = tileName(tileOf(kind, isRed));
   if (!MELD_WORDS.includes(target)) return name;
-  const digits = meldTiles(target, tile).map((it) => kindOf(it)[0]).join(" ");
+  const digits = meldTiles(target, kind, isRed).map(digitName).join(" ");
   return target === "chi" ? `${named(target)} ${digits}, from ${name} on` : `${named(target)}: ${name}`;
 }
 
 // Shows what each button would take now, and marks those that can't be taken.
 export function showPicker() {
-  const { record, target } = state;
-  const isMeld = MELD_WORDS.includes(target);
+  const { record, target, isRed } = state;
+  const hasMelds = MELD_WORDS.includes(target);
   for (const button of pickerButtons()) {
-    const tile = tileOf(button.dataset.kind);
-    const isFree = taken(record, target, tile) !== null;
+    const { kind } = button.dataset;
+    const isFree = taken(record, target, kind, isRed) !== null;
     button.setAttribute("aria-disabled", String(!isFree));
-    button.setAttribute("aria-label", labelOf(tile, target));
-    button.title = labelOf(tile, target);
-    button.dataset.meld = isMeld && isFree ? meldTiles(target, tile).map((it) => it[0]).join("") : "";
-    button.dataset.tile = tile;
-    button.querySelector("use").setAttribute("href", `#face-${tile}`);
+    label(button, wordsOfTap(kind, state));
+    button.dataset.meld = hasMelds && isFree ? meldTiles(target, kind, isRed).map((it) => it[0]).join("") : "";
+    button.querySelector("use").setAttribute("href", `#face-${tileOf(kind, isRed)}`);
   }
 }

@@ -54,6 +54,13 @@ export function lineOf(record) {
   return [record.job, textOf(record.hand), ...keys.map(([key, value]) => `${key}=${value}`)].filter((word) => word !== "").join(" ");
 }
 
+// The lines of a text, and the profile that they have: that of its first line, which then isn't among them, or else this one.
+export function linesOf(text, rules) {
+  const lines = text.split("\n").map((line) => line.replace(/\r$/, ""));
+  const profile = /^ *rules +([12]) *$/.exec(lines[0]);
+  return profile ? { lines: lines.slice(1), rules: Number(profile[1]), first: 2 } : { lines, rules, first: 1 };
+}
+
 // The job, the hand and the other words of a line. A line whose hand isn't there yet has its keys behind the job.
 export function wordsOf(line) {
   const [job = "", ...rest] = line.split(" ").filter((word) => word !== "");

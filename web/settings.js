@@ -8,7 +8,7 @@ import { isKept } from "./store.js";
 
 const isDark = matchMedia("(prefers-color-scheme: dark)");
 
-export function showScheme() {
+function showScheme() {
   const scheme = state.scheme === "device" ? (isDark.matches ? "dark" : "light") : state.scheme;
   document.documentElement.dataset.scheme = scheme;
   document.querySelector("meta[name=theme-color]").content = getComputedStyle(document.documentElement).getPropertyValue("--ground").trim();

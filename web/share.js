@@ -1,6 +1,7 @@
 // How hands leave the page and come to it: as links, as texts of lines, by the phone's own sharing, as files, on paper.
 
 import { byId, say } from "./elements.js";
+import { linesOf } from "./record.js";
 
 const MOST_NAME = 60;
 
@@ -12,16 +13,14 @@ export function textOfHands(hands, rules) {
 
 // The hands of such a text: a comment directly above a line is its name.
 export function handsOfText(text) {
-  const [first = "", ...rest] = text.split("\n").map((row) => row.replace(/\r$/, ""));
-  const profile = /^ *rules +([12]) *$/.exec(first);
-  const rows = profile ? rest : [first, ...rest];
-  const nameAbove = (at) => (rows[at - 1]?.startsWith("#") ? rows[at - 1].slice(1).trim().slice(0, MOST_NAME) : "");
-  const hands = rows.map((line, at) => ({ name: nameAbove(at), line: line.trim(), rules: profile ? Number(profile[1]) : 1 }));
+  const { lines, rules } = linesOf(text, 1);
+  const nameAbove = (at) => (lines[at - 1]?.startsWith("#") ? lines[at - 1].slice(1).trim().slice(0, MOST_NAME) : "");
+  const hands = lines.map((line, at) => ({ name: nameAbove(at), line: line.trim(), rules }));
   return hands.filter(({ line }) => line !== "" && !line.startsWith("#"));
 }
 
 // What stands behind the # of a link: the text of the hand, as `line` would take it.
-export function hashOf(line, rules) {
+function hashOf(line, rules) {
   return `#${encodeURI(textOfHands([{ name: "", line }], rules).trim())}`;
 }
 

@@ -1,8 +1,8 @@
 // The sheet of one hand: its tiles, the answer and why, large enough to show to others, to be shared and to be printed.
 
 import { answerTo } from "./answers.js";
-import { byId, make, names, tilesDrawn } from "./elements.js";
-import { named, windName } from "./names.js";
+import { byId, make, tilesDrawn } from "./elements.js";
+import { named } from "./names.js";
 import { recordOf } from "./record.js";
 import { copyText, linkOf, printOnly, share } from "./share.js";
 import { shownWhole } from "./shown.js";
@@ -11,7 +11,7 @@ import { nameHand, readHands } from "./store.js";
 let shown = { line: "", rules: 1, id: 0 };
 
 function part(word, ...children) {
-  return [names("dt", {}, word), names("dd", {}, ...children)];
+  return [make("dt", {}, word), make("dd", {}, ...children)];
 }
 
 // What was known of the hand, in words and pictures.
@@ -28,8 +28,8 @@ function handShown(line) {
 function circumstancesOf(record) {
   const rows = [
     ["By", record.by && named(record.by)],
-    [named("seat"), record.seat && windName(record.seat)],
-    [named("round"), record.round && windName(record.round)],
+    [named("seat"), record.seat && named(record.seat)],
+    [named("round"), record.round && named(record.round)],
     [named("riichi"), record.riichi !== "0" && named(`riichi${record.riichi}`)],
     [named("flags"), record.flags.map(named).join(", ")],
     [named("counters"), Number(record.counters) > 0 && record.counters],

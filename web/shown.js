@@ -1,11 +1,11 @@
 // The answer to one line, as it is shown.
 
 import { fieldOf } from "./asked.js";
-import { make, names, textWithTiles, tileImage } from "./elements.js";
+import { make, textWithTiles, tileImage } from "./elements.js";
 import { named, shantenWords, spoken, yakuName } from "./names.js";
 import { wordsOf } from "./record.js";
 
-export const FIELD_NAMES = {
+const FIELD_NAMES = {
   line: "the line", hand: "the hand", on: "the winning tile", open: "the melds", by: "ron or self-draw", seat: "the seat wind",
   round: "the round wind", riichi: "riichi", flags: "the circumstances", dora: "the dora indicators", ura: "the ura indicators",
   counters: "the counters", sticks: "the riichi sticks", seen: "the tiles seen elsewhere",
@@ -26,19 +26,15 @@ function payWords({ discarder, dealer, each_other: other, each }) {
 function sizeWords({ yakuman, han, fu, limit }) {
   if (yakuman) return named("yakuman");
   const size = `${han} han, ${fu} fu`;
-  return limit ? `${named(limit)}: ${size}` : size;
-}
-
-export function doraWords({ dora }) {
-  return `${named("dora")} ${dora}`;
+  return limit ? `${named(limit === "yakuman" ? "kazoe" : limit)}: ${size}` : size;
 }
 
 function shownWin(answer, { by }) {
-  const yaku = answer.yaku.map(({ word }) => names("li", {}, yakuName(word, by)));
-  if (answer.dora > 0) yaku.push(names("li", {}, doraWords(answer)));
+  const yaku = answer.yaku.map(({ word }) => make("li", {}, yakuName(word, by)));
+  if (answer.dora > 0) yaku.push(make("li", {}, `${named("dora")} ${answer.dora}`));
   return [
     make("p", { class: "headline" }, `${points(answer.gain)} points`),
-    names("p", {}, `${sizeWords(answer)} \u2022 ${payWords(answer.payment)}`),
+    make("p", {}, `${sizeWords(answer)} \u2022 ${payWords(answer.payment)}`),
     make("ul", { class: "yaku", "aria-label": "Yaku" }, ...yaku),
   ];
 }
@@ -63,11 +59,10 @@ function discardItem({ discard, accepts, live }) {
 }
 
 function shownShape({ shanten, discards, accepts, live }) {
-  const head = names("p", { class: "headline" }, shantenWords(shanten));
+  const head = make("p", { class: "headline" }, shantenWords(shanten));
   if (!discards) return [head, make("p", {}, `Accepts ${accepts.length} kinds, ${live} live tiles`), acceptedList(accepts)];
   if (discards.length === 0) return [head];
-  const best = [...discards].sort((one, other) => other.live - one.live);
-  return [head, make("p", {}, "Discard, and what is then accepted:"), make("ol", { class: "discards" }, ...best.map(discardItem))];
+  return [head, make("p", {}, "Discard, and what is then accepted:"), make("ol", { class: "discards" }, ...discards.map(discardItem))];
 }
 
 // The text in which a fault stands, with its place marked.
@@ -98,7 +93,7 @@ function shownReasons({ reasons, by }) {
   const list = make("dl", { class: "why", "aria-label": "Why" });
   for (const row of reasons.flatMap((it) => it.split("; "))) {
     const [, word, text] = /^ *(\S+) *(.*)$/.exec(row) ?? [null, row, ""];
-    list.append(make("dt", {}, ...textWithTiles(word)), names("dd", {}, ...textWithTiles(spoken(text, by))));
+    list.append(make("dt", {}, ...textWithTiles(word)), make("dd", {}, ...textWithTiles(spoken(text, by))));
   }
   return [list];
 }

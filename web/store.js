@@ -19,9 +19,9 @@ export function isKept() {
 
 function read(key, other) {
   try {
-    return JSON.parse(localStorage.getItem(key) ?? unkept.get(key) ?? "null") ?? other;
+    return JSON.parse(unkept.get(key) ?? localStorage.getItem(key)) ?? other;
   } catch {
-    return JSON.parse(unkept.get(key) ?? "null") ?? other;
+    return other;
   }
 }
 
@@ -29,6 +29,7 @@ function write(key, value) {
   const text = JSON.stringify(value);
   try {
     localStorage.setItem(key, text);
+    unkept.delete(key);
   } catch {
     unkept.set(key, text);
   }
@@ -65,10 +66,10 @@ export function keepHand(id, line, rules) {
   return id;
 }
 
-// Puts hands above the others; gives the number of the first.
+// Puts hands above the others; gives the number of the first. A number is the time, and so is never given again.
 export function addHands(more) {
   const hands = readHands();
-  const next = Math.max(0, ...hands.map(({ id }) => id)) + 1;
+  const next = Math.max(Date.now(), ...hands.map(({ id }) => id + 1));
   const added = more.map((hand, at) => ({ ...hand, id: next + more.length - 1 - at }));
   writeHands([...added, ...hands]);
   return added[0]?.id ?? 0;
@@ -79,11 +80,10 @@ export function nameHand(id, name) {
 }
 
 export function removeHand(id) {
-  const hands = readHands();
-  writeHands(hands.filter((hand) => hand.id !== id));
-  return hands;
+  writeHands(readHands().filter((hand) => hand.id !== id));
 }
 
-export function putHandsBack(hands) {
-  writeHands(hands);
+// Puts a hand that was taken away back into its place.
+export function putHandBack(hand) {
+  writeHands([...readHands(), hand].sort((one, other) => other.id - one.id));
 }

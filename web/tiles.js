@@ -20,6 +20,11 @@ export function isRed(tile) {
   return tile[0] === "0";
 }
 
+// The tile of a kind; of a five the red one where that is wanted.
+export function tileOf(kind, isRed) {
+  return isRed && isFive(kind) ? `0${kind[1]}` : kind;
+}
+
 // The place of a tile in the order of a hand; a red five stands behind the other fives.
 function orderOf(tile) {
   return KINDS.indexOf(kindOf(tile)) + (isRed(tile) ? 0.5 : 0);
@@ -29,15 +34,18 @@ export function sorted(tiles) {
   return [...tiles].sort((one, other) => orderOf(one) - orderOf(other));
 }
 
-// The tiles without one of each of `gone`; null where one of these isn't among them.
-export function tilesWithout(tiles, gone) {
+// Tiles like those that are wanted, taken from others, and what is left of these; a red five stands for a five that isn't there,
+// and the other way round. Null where one isn't there either way.
+export function parted(tiles, wanted) {
   const left = [...tiles];
-  for (const tile of gone) {
-    const at = left.indexOf(tile);
+  const found = [];
+  for (const tile of wanted) {
+    const same = left.indexOf(tile);
+    const at = same >= 0 ? same : left.findIndex((other) => kindOf(other) === kindOf(tile));
     if (at < 0) return null;
-    left.splice(at, 1);
+    found.push(...left.splice(at, 1));
   }
-  return left;
+  return { found, left };
 }
 
 // The text of tiles in their order, one letter for each suit.
