@@ -46,6 +46,10 @@ class Crate:
         path = self.folder / "specs" / f"{file}.antt"
         return path.is_file() and re.search(rf"^(?:(?:abbrev|unfoldable|opaque|pub|data|record) )+{name}\b", path.read_text(), re.M) is not None
 
+    def names(self, name: str) -> bool:
+        """Whether a public name is in the sources: of its own, or given again."""
+        return any(re.search(rf"\b(?:fn|struct|enum|trait|type|const|mod) {name}\b|pub use [^;]*\b{name}\b", it) for it in self.files)
+
     def refuses(self, body: str) -> bool:
         return (self.folder / "must-fail" / f"{body}.edit").is_file()
 
@@ -90,6 +94,18 @@ def lacking_definitions(crates: dict[str, Crate], cell: str) -> list[str]:
         elif "specs" in part:
             lacking.append(part)
     return lacking
+
+
+def test_paths(top: Path, pages: list[Path], told: Callable[[str, object, object], None]) -> None:
+    """Files of crates, and names of crates, that any page speaks of."""
+    crates = {it.name: Crate(it) for it in (top / "crates").iterdir() if (it / "src").is_dir()}
+    for page in pages:
+        text = (top / page).read_text()
+        paths = re.findall(rf"({CRATE}/(?:src|specs|proofs|must-fail)/[\w/.-]+\.\w+)", text)
+        names = re.findall(rf"({CRATE})::((?:\w+::)*\w+)", text)
+        bad = [it for it in paths if not (top / "crates" / it).is_file()]
+        bad += [f"{crate}::{name}" for crate, name in names if crate in crates and not crates[crate].names(name.split("::")[-1])]
+        told(f"the files and names of crates in {page}", [], bad)
 
 
 def test_names(top: Path, told: Callable[[str, object, object], None]) -> None:
