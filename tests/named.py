@@ -29,11 +29,12 @@ class Crate:
         *owner, name = path
         found = []
         for text in self.files:
-            for start in re.finditer(rf"^( *)(?:pub(?:\([a-z]+\))? )?(?:const )?(?:extern \"C\" )?fn {name}\b", text, re.M):
-                before = re.findall(r"^(?:impl\b|pub trait|pub\(crate\) trait)[^\n{]*", text[: start.start()], re.M)
+            for start in re.finditer(rf"^( *)(?:pub(?:\([a-z]+\))? )?(?:extern \"C\" )?fn {name}\b", text, re.M):
+                before = re.findall(r"^(?:impl\b|pub(?:\(crate\))? trait)[^\n{]*", text[: start.start()], re.M)
                 within = before[-1] if before and start[1] else ""
                 if not owner or owner[-1][0].islower() or re.search(rf"\b{owner[-1]}\b", within):
-                    found.append(text[start.start() :].split(f"\n{start[1]}{{\n", 1)[0].split(";\n}", 1)[0])
+                    head = text[start.start() :].split(f"\n{start[1]}{{\n", 1)[0]
+                    found.append(re.split(r";\n\}|\n\n    (?:ghost|///)", head, maxsplit=1)[0])
         return found
 
     def has_type(self, name: str) -> bool:
@@ -44,11 +45,13 @@ class Crate:
 
     def defines(self, file: str, name: str) -> bool:
         path = self.folder / "specs" / f"{file}.antt"
-        return path.is_file() and re.search(rf"^(?:(?:abbrev|unfoldable|opaque|pub|data|record) )+{name}\b", path.read_text(), re.M) is not None
+        form = rf"^(?:(?:abbrev|unfoldable|opaque|pub|data|record) )+{name}\b"
+        return path.is_file() and re.search(form, path.read_text(), re.M) is not None
 
     def names(self, name: str) -> bool:
         """Whether a public name is in the sources: of its own, or given again."""
-        return any(re.search(rf"\b(?:fn|struct|enum|trait|type|const|mod) {name}\b|pub use [^;]*\b{name}\b", it) for it in self.files)
+        form = rf"\b(?:fn|struct|enum|trait|type|const|mod) {name}\b|pub use [^;]*\b{name}\b"
+        return any(re.search(form, it) for it in self.files)
 
     def refuses(self, body: str) -> bool:
         return (self.folder / "must-fail" / f"{body}.edit").is_file()
@@ -71,7 +74,8 @@ def lacking_clauses(crates: dict[str, Crate], calls: list[tuple[str, list[str]]]
     """The calls that aren't there, and the clauses that they don't have."""
     lacking, groups = [], [ticked(it) for it in cell.split(";")]
     functions = [(crate, path) for crate, path in calls if path[-1][0].islower()]
-    lacking += [path[-1] for crate, path in calls if path[-1][0].isupper() and not any(it.has_type(path[-1]) for it in crates.values())]
+    types = [path[-1] for _, path in calls if path[-1][0].isupper()]
+    lacking += [name for name in types if not any(it.has_type(name) for it in crates.values())]
     if len(groups) not in (1, len(functions)) and functions:
         return [*lacking, f"{len(groups)} groups of clauses for {len(functions)} calls"]
     for at, (crate, path) in enumerate(functions):
