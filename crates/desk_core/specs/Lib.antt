@@ -10,3 +10,4 @@ pub mod Replies
 pub mod Step
 pub mod Ticketed
 pub mod Value
+pub mod Equality

@@ -39,13 +39,13 @@ impl Decided for Ticket {
 }
 
 impl Decided for Taken {
-    ghost use Rattle.desk_core.specs.contracts.decided.AnswerDecided.TheImpl.Laws.{decides-law as answers_decide};
+    ghost use Rattle.desk_core.specs.Equality.{taken_decide};
 
-    ghost decides = { λ a b. Prim.search (rules, answers_decide) };
+    ghost decides = { taken_decide };
 }
 
 impl Decided for Reply {
-    ghost use Rattle.desk_core.specs.contracts.decided.TakenDecided.TheImpl.Laws.{decides-law as taken_decide};
+    ghost use Rattle.desk_core.specs.Equality.{replies_decide};
 
-    ghost decides = { λ a b. Prim.search (rules, taken_decide) };
+    ghost decides = { replies_decide };
 }

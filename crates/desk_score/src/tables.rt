@@ -75,7 +75,7 @@ impl Tables {
     ) -> Result<(), ScoreFault>
         ensures ok { OnOk result ((texts : List (List ℕ)) → AreRead rules texts self.old
             → (text : List ℕ) × GivesAll ⟦<R as Source>⟧ reader.old reader.new text
-                × AreRead rules (texts ++ text ∷ []) self.new) }
+            × AreRead rules (texts ++ text ∷ []) self.new) }
         ensures read_failed { IsErrOf result ScoreFault.Read
             → FailsOrGoesOn ⟦<R as Source>⟧ reader.old reader.new }
         ensures told_as_read { (IsErrOf result ScoreFault.Read → ⊥)
@@ -127,7 +127,7 @@ fn sum_of(one: DeskReport, other: DeskReport) -> Result<DeskReport, ScoreFault>
         × (sum.refused ≡ one.refused + other.refused)) }
     ensures err { IfErr result (λ fault. (fault ≡ ScoreFault.Memory)
         × ((MOST_LINES < one.answered + other.answered)
-            ⊎ (MOST_LINES < one.refused + other.refused))) }
+        ⊎ (MOST_LINES < one.refused + other.refused))) }
 {
     match (
         one.answered.checked_add(other.answered),

@@ -1,4 +1,5 @@
 -- The names of the open tables are the first 64 that the lines say to open.
+use Rattle.std.proofs.Math.Nat.{min-le_left}
 use Rattle.std.proofs.Common.{◌≡◌, ◌≤◌, ◌<◌, ◌⊎◌, inl, inr, ℕ, ◌+◌, List, [], ◌∷◌, ◌++◌, length, ⊎_elim, refl, sym, ap, ◌∙◌, arith, length-append, append_assoc}
 use Rattle.std.specs.Prelude.{take, position, Option, None, Some, nat_lt, Bool, true, false, if◌then◌else◌}
 use Rattle.std.specs.List.{filter_map, cons_option}
@@ -13,11 +14,11 @@ use Rattle.desk_script.specs.Asked.{names_after, names_by, names_for, names_from
 use Rattle.desk_script.specs.OpenTables.{name_to_open, new_at, new_text, new_texts, open_tables, opened, opened_by}
 
 -- the names with one more, where it has no place among them and there are fewer than 64
-with_name_at : List (List ℕ) → Option (List ℕ) → Option ℕ → List (List ℕ)
+abbrev with_name_at : List (List ℕ) → Option (List ℕ) → Option ℕ → List (List ℕ)
 with_name_at names None place = names
 with_name_at names (Some name) place = take 64 (names ++ new_at place name)
 
-with_name : List (List ℕ) → Option (List ℕ) → List (List ℕ)
+abbrev with_name : List (List ℕ) → Option (List ℕ) → List (List ℕ)
 with_name names None = names
 with_name names (Some name) = take 64 (names ++ new_text names name)
 
@@ -28,7 +29,7 @@ one_more : (names : List (List ℕ)) (name : List ℕ) → length names ≤ 64 �
 one_more names name few = by (cases_lt (length names) 64) where
   by : (length names < 64) ⊎ (64 ≤ length names) → (if nat_lt (length names) 64 then names ++ name ∷ [] else names) ≡ take 64 (names ++ name ∷ [])
   by (inl room) = rw (lt-ltb (length names) 64 room) (sym (take_all 64 (names ++ name ∷ []) (omega (arith, room, length-append names (name ∷ [])))))
-  by (inr full) = rw (le-ltb 64 (length names) full) (sym (take-append-le 64 names (name ∷ []) full ∙ take_all 64 names few))
+  by (inr full) = rw (le-ltb (length names) 64 full) (sym (take-append-le 64 names (name ∷ []) full ∙ take_all 64 names few))
 
 names_for-is : (names : List (List ℕ)) (said : Said) (action : Action) (place : Option ℕ) → length names ≤ 64 → said.action ≡ action → names_for names said place ≡ with_name_at names (name_to_open said.name action) place
 names_for-is names said Open (Some place) few is = same_names names few
@@ -63,11 +64,11 @@ of_line false true names said few = refl
 of_line false false names said few = of_command names said few
 
 names_by-is : (names : List (List ℕ)) (line : List ℕ) → length names ≤ 64 → names_by names line ≡ with_name names (opened line)
-unfolding names_by, opened
+unfolding names_by opened
 names_by-is names line few = of_line (nat_lt 8192 (length line)) (is_blank line) names (command_of line) few
 
 -- the first 64 of the names and the new ones among those that are said to open
-all_names : List (List ℕ) → List (List ℕ) → List (List ℕ)
+abbrev all_names : List (List ℕ) → List (List ℕ) → List (List ℕ)
 all_names names said = take 64 (names ++ new_texts names said)
 
 -- once there are 64 names, no line adds one
@@ -92,7 +93,7 @@ all_names-next names (Some name) said =
 
 few_with_name : (names : List (List ℕ)) (name : Option (List ℕ)) → length names ≤ 64 → length (with_name names name) ≤ 64
 few_with_name names None few = few
-few_with_name names (Some name) few = let size = length-take 64 (names ++ new_text names name) in omega (arith, size, min_le_left 64 (length (names ++ new_text names name)))
+few_with_name names (Some name) few = let size = length-take 64 (names ++ new_text names name) in omega (arith, size, min-le_left 64 (length (names ++ new_text names name)))
 
 names_from-are : (names lines : List (List ℕ)) → length names ≤ 64 → names_from names lines ≡ all_names names (filter_map opened lines)
 names_from-are names [] few = same_names names few

@@ -7,3 +7,4 @@ pub mod OpenTables
 pub mod Texts
 pub mod Replay
 pub mod OnlyReplay
+pub mod Equality

@@ -10,7 +10,7 @@ impl Decided for Refusal {
 }
 
 impl Decided for Told {
-    ghost use Rattle.desk_core.specs.contracts.decided.ReplyDecided.TheImpl.Laws.{decides-law as replies_decide};
+    ghost use Rattle.desk_script.specs.Equality.{told_decide};
 
-    ghost decides = { λ a b. Prim.search (rules, replies_decide) };
+    ghost decides = { told_decide };
 }

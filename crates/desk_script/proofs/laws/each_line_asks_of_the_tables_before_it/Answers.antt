@@ -1,4 +1,4 @@
-use Rattle.std.proofs.Common.{ℕ, List, ◌∷◌, ◌++◌, ap, ◌∙◌}
+use Rattle.std.proofs.Common.{ℕ, List, [], ◌∷◌, ◌++◌, ap, ◌∙◌}
 use Rattle.desk_script.specs.Asked.{asked_by, asked_from, asked_on, names_after, names_by}
 use Rattle.desk_script.proofs.Scripts.{asked_from-append}
 use Rattle.desk_script.proofs.OpenedTables.{names_after-are}

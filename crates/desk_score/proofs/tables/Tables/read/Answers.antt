@@ -1,21 +1,11 @@
-use Rattle.std.proofs.Common.{◌≡◌, ◌∙◌, ℕ, List, [], ◌∷◌, ◌++◌, Err, ap, sym, subst, append_assoc, arith}
+use Rattle.std.proofs.Common.{◌≡◌, ◌∙◌, List, [], ◌∷◌, ◌++◌, Err, ap, sym, subst, append_assoc, arith}
 use Rattle.std.proofs.lemmas.List.{append-nil, nil_from_length}
 use Rattle.std.proofs.lemmas.Result.{err_from_is_err_and}
 use Rattle.std.specs.Vec.Iter.{into_iter_items}
-use Rattle.desk_lines.specs.declared.fault.DeskFault.{DeskFault}
-use Rattle.desk_lines.specs.declared.fault.DeskFault.TheVariants as desk
 use Rattle.desk_score.specs.declared.score_fault.ScoreFault.TheVariants.{Read}
-use Rattle.desk_score.specs.Faults.{desk_fault}
-use Rattle.desk_lines.specs.LineAnswers.{answers}
-use Rattle.desk_lines.specs.Tables.{table_line}
 use Rattle.desk_score.specs.Score.{AllGive}
 use Rattle.desk_score.proofs.ScoreLemmas.{AllGive-last}
 use Rattle.desk_score.proofs.tables.Tables.read.Goals as goal
-
--- only a failed read is reported as one
-was_read : (fault : DeskFault) → desk_fault fault ≡ Read → fault ≡ desk.Read
-was_read desk.Read is = cc
-was_read other is = absurd (let no : ⊥ = cc in no)
 
 pub loop-reader-init : goal.loop-reader-init
 loop-reader-init g c = ([], record { given = tt; read = c.new-tables.ensures c.args.rules; parts = sym c.into_iter-reader-iterator.ensures.into_iter_gives.0 })
@@ -23,29 +13,29 @@ loop-reader-init g c = ([], record { given = tt; read = c.new-tables.ensures c.a
 pub loop-reader-preserved : goal.loop-reader-preserved
 loop-reader-preserved g c =
     let kept = c.loop-reader.invariant in
-    let gave = c.in_ok-collected.ensures.ok in (
+    let gave = c.in_ok-read_next.ensures.ok kept.0 kept.1.read in (
       kept.0 ++ gave.0 ∷ [],
       record {
-        given = AllGive-last g.R.Source c.loop-reader.yielded kept.0 c.in-Some.reader c.collect_text.new.reader gave.0 kept.1.given gave.1 c.collect_text.ensures.reads;
-        read = c.in_ok-add.ensures.ok c.args.rules kept.0 gave.0 kept.1.read (gave.2 ∙ ap (λ (n : ℕ). table_line n ++ answers c.args.rules gave.0) kept.1.read.count) gave.3 gave.4;
+        given = AllGive-last g.R.Source c.loop-reader.yielded kept.0 c.in-Some.reader c.read_next.new.reader gave.0 kept.1.given gave.1 c.read_next.ensures.reads;
+        read = gave.2;
         parts = kept.1.parts ∙ ap (λ rest. c.loop-reader.yielded ++ rest) c.in-Some.ensures.steps.0 ∙ sym (append_assoc c.loop-reader.yielded (c.in-Some.reader ∷ []) (into_iter_items c.next.new.self));
       },
     )
 
-pub returns-in_err-collected-clause-read_failed : goal.returns-in_err-collected-clause-read_failed
-returns-in_err-collected-clause-read_failed g c is =
+pub returns-in_err-read_next-clause-read_failed : goal.returns-in_err-read_next-clause-read_failed
+returns-in_err-read_next-clause-read_failed g c is =
     let kept = c.loop-reader.invariant in
     let p = err_from_is_err_and c.from_residual.result c.from_residual.ensures.1 in
-    let fault = was_read c.in_err-collected.field-0.0 (let given = p.1 in let told = p.2 in cc) in record {
+    let fault : c.in_err-read_next.field-0.0 ≡ Read = (let given = p.1 in let told = p.2 in cc) in record {
       first = c.loop-reader.yielded;
       texts = kept.0;
       reader = c.in-Some.reader;
       others = into_iter_items c.next.new.self;
       parts = kept.1.parts ∙ ap (λ rest. c.loop-reader.yielded ++ rest) c.in-Some.ensures.steps.0;
       given = kept.1.given;
-      last = c.collect_text.new.reader;
-      fails = c.in_err-collected.ensures.read_failed (ap Err fault);
-      within = c.collect_text.ensures.reads;
+      last = c.read_next.new.reader;
+      fails = c.in_err-read_next.ensures.read_failed (ap Err fault);
+      within = c.read_next.ensures.reads;
     }
 
 pub returns-clause-ok : goal.returns-clause-ok
