@@ -34,7 +34,7 @@ NOT_RUN = {
     "bench/": "measures for minutes: the gate measures nothing",
     "cargo build --release --offline": "builds bench/, which the gate doesn't measure",
     "install -D": "writes to /usr/local",
-    "cc -O2 riichi_desk.c": "is of the archives for other systems: tests/packages.sh builds it",
+    "@only ": "is of the archives for other systems: tests/packages.sh builds it",
     "docs/SCALE.md": "tests/cores.sh and tests/machines.sh run its recipes",
 }
 TOOLS = ("cc", "cargo", "rustc", "npm", "npx", "node", "pkg-config")
@@ -137,11 +137,14 @@ class Place:
         if why:
             self.skip(name, why)
             return
+        if "npx " in command and "npm " not in command:
+            command = f"{SET_UP['js']}\n{command}"
         got, status = run(command, self.folder)
         if printed:
             self.told(name, "\n".join(printed), "\n".join(printed) if agrees(printed, got) else got)
         else:
-            self.told(name, "answered", "answered" if status in (0, 1) else got)
+            # (a command that answers ends with 1 where a line is refused)
+            self.told(name, "answered", "answered" if status == 0 or (status == 1 and "\nrefused " in got) else got)
 
     def console(self, block: Block) -> None:
         commands: list[tuple[str, list[str]]] = []
