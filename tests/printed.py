@@ -44,15 +44,16 @@ WANTS = {
     **{"npm ": SCRIPT, "npx ": SCRIPT, "node ": SCRIPT},
     **{"python/bin": "*_x86_64.whl", "cargo ": "*.crate", "portable.c": "*_portable.c"},
 }
-# a program of a language is run so, in a folder that is set up so
+# a program of a language is run so, in a folder that is set up so; what is installed, pages share
 RUNS = {
     "python": ("printed.py", "python/bin/python3 printed.py"),
     "js": ("printed.mjs", "node printed.mjs"),
     "rust": ("printed.rs", "cp printed.rs mine/src/main.rs && cargo run -q --offline --manifest-path mine/Cargo.toml"),
 }
 SET_UP = {
-    "python": "[ -d python ] || { /usr/bin/python3 -m venv python && "
-    "python/bin/pip install -q --no-index packages/riichi_desk-*_x86_64.whl; }",
+    "python": "[ -d ../python ] || { python3 -m venv ../python && "
+    "../python/bin/pip install -q --no-index packages/riichi_desk-*_x86_64.whl; }\n"
+    "[ -d python ] || ln -s ../python python",
     "js": "[ -d node_modules ] || npm install --silent --offline ./packages/riichi_desk-*.tgz",
     "rust": "[ -d mine ] || { tar -xf packages/riichi_desk-*.crate && cargo new -q mine && "
     "cargo add -q --offline --manifest-path mine/Cargo.toml --path riichi_desk-*/; }",
