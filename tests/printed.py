@@ -34,7 +34,7 @@ NOT_RUN = {
     "bench/": "measures for minutes: the gate measures nothing",
     "cargo build --release --offline": "builds bench/, which the gate doesn't measure",
     "install -D": "writes to /usr/local",
-    "cc -O2 riichi_desk.c": "is of the archives for other systems: tests/packages.sh builds it",
+    "@only ": "is of the archives for other systems: tests/packages.sh builds it",
     "docs/SCALE.md": "tests/cores.sh and tests/machines.sh run its recipes",
 }
 TOOLS = ("cc", "cargo", "rustc", "npm", "npx", "node", "pkg-config")
@@ -44,15 +44,16 @@ WANTS = {
     **{"npm ": SCRIPT, "npx ": SCRIPT, "node ": SCRIPT},
     **{"python/bin": "*_x86_64.whl", "cargo ": "*.crate", "portable.c": "*_portable.c"},
 }
-# a program of a language is run so, in a folder that is set up so
+# a program of a language is run so, in a folder that is set up so; what is installed, pages share
 RUNS = {
     "python": ("printed.py", "python/bin/python3 printed.py"),
     "js": ("printed.mjs", "node printed.mjs"),
     "rust": ("printed.rs", "cp printed.rs mine/src/main.rs && cargo run -q --offline --manifest-path mine/Cargo.toml"),
 }
 SET_UP = {
-    "python": "[ -d python ] || { /usr/bin/python3 -m venv python && "
-    "python/bin/pip install -q --no-index packages/riichi_desk-*_x86_64.whl; }",
+    "python": "[ -d ../python ] || { python3 -m venv ../python && "
+    "../python/bin/pip install -q --no-index packages/riichi_desk-*_x86_64.whl; }\n"
+    "[ -d python ] || ln -s ../python python",
     "js": "[ -d node_modules ] || npm install --silent --offline ./packages/riichi_desk-*.tgz",
     "rust": "[ -d mine ] || { tar -xf packages/riichi_desk-*.crate && cargo new -q mine && "
     "cargo add -q --offline --manifest-path mine/Cargo.toml --path riichi_desk-*/; }",
@@ -137,11 +138,14 @@ class Place:
         if why:
             self.skip(name, why)
             return
+        if "npx " in command and "npm " not in command:
+            command = f"{SET_UP['js']}\n{command}"
         got, status = run(command, self.folder)
         if printed:
             self.told(name, "\n".join(printed), "\n".join(printed) if agrees(printed, got) else got)
         else:
-            self.told(name, "answered", "answered" if status in (0, 1) else got)
+            # (a command that answers ends with 1 where a line is refused)
+            self.told(name, "answered", "answered" if status == 0 or (status == 1 and "\nrefused " in got) else got)
 
     def console(self, block: Block) -> None:
         commands: list[tuple[str, list[str]]] = []
