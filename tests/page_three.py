@@ -1,5 +1,5 @@
 """The page in Chromium, Firefox and WebKit: 2,000 answers of each are those of the command `line`, a hand that is tapped, a reload,
-and the site without its server."""
+a narrow window, and the site without its server."""
 
 from __future__ import annotations
 
@@ -8,6 +8,7 @@ import subprocess
 from pathlib import Path
 
 from page_kept import READY, served
+from page_looks import CUT, IN_REACH, SMALL, VIEWS
 from page_rows import LINE, PAGE, RAW, SITE, TOP, answers_of, told
 from webdriver import BROWSERS, Driver, Screen
 
@@ -36,6 +37,14 @@ def test_taps(driver: Driver) -> None:
     told(f"{driver.name}: the sheet", True, driver.run("document.getElementById('sheet').open && document.querySelector('#sheet .why') !== null"))
 
 
+def test_narrow(driver: Driver, folder: Path) -> None:
+    """A window as narrow as the browser makes it: all of a win is in reach, as on a phone."""
+    driver.ask("POST", "window/rect", {"x": 0, "y": 0, "width": 390, "height": 900})
+    driver.run(f"(document.getElementById('line').value = {json.dumps(VIEWS['melds'])}, document.getElementById('line').dispatchEvent(new Event('input')))")
+    told(f"{driver.name}: narrow", [True, [], [], []], driver.run(f"[document.documentElement.scrollWidth <= innerWidth && innerWidth < 640, {CUT}, {SMALL}, {IN_REACH}]"))
+    driver.picture(folder / f"{driver.name}-narrow.png")
+
+
 def test_site(driver: Driver) -> None:
     server = served(SITE)
     address = f"http://127.0.0.1:{server.server_port}/"
@@ -56,6 +65,8 @@ def test_three(folder: Path) -> None:
                 for test in (test_lines, test_taps):
                     test(driver)
                 driver.picture(folder / f"{driver.name}.png")
+                driver.run("document.getElementById('sheet').close()")
+                test_narrow(driver, folder)
                 test_site(driver)
                 print(f"page: {driver.name} {driver.version}")
             finally:

@@ -118,7 +118,7 @@ class Firefox(Driver):
     """Firefox by its own protocol: each message is its length, a colon, and JSON."""
 
     name = "Firefox"
-    COMMANDS = {"execute/sync": "ExecuteScript", "url": "Navigate", "element": "FindElement", "screenshot": "TakeScreenshot"}
+    COMMANDS = {"execute/sync": "ExecuteScript", "url": "Navigate", "element": "FindElement", "screenshot": "TakeScreenshot", "window/rect": "SetWindowRect"}
 
     def __init__(self):
         self.home = tempfile.mkdtemp(prefix="desk-firefox-")
