@@ -86,8 +86,22 @@ function below() {
 
 // The width of a page that is wider than the screen.
 function tooWide() {
-  const { scrollWidth } = document.documentElement;
-  return scrollWidth > innerWidth ? [scrollWidth] : [];
+  const { scrollWidth, clientWidth } = document.documentElement;
+  return scrollWidth > clientWidth ? [scrollWidth] : [];
+}
+
+// Words of controls that stand in two lines.
+function broken() {
+  const range = document.createRange();
+  const isBroken = (node, { index, 0: word }) => {
+    range.setStart(node, index);
+    range.setEnd(node, index + word.length);
+    return new Set([...range.getClientRects()].map((box) => Math.round(box.top))).size > 1;
+  };
+  const wordsOf = (node) => [...node.data.matchAll(/\p{L}+/gu)].filter((word) => isBroken(node, word)).map(([word]) => word);
+  return [...document.querySelectorAll("button:not(.on-tile), .button, .option span, label, legend")]
+    .filter(isShown)
+    .flatMap((it) => [...it.childNodes].filter((node) => node.nodeType === Node.TEXT_NODE).flatMap(wordsOf));
 }
 
 // Where the focus is: its place in the document, whether it is seen and not below something else, and whether it has an outline.

@@ -35,7 +35,7 @@ def sound(browser, about: str, *names: str) -> None:
 
 def look(browser: Browser, name: str, folder: Path) -> None:
     browser.run("document.activeElement.blur(); scrollTo(0, 0)")
-    sound(browser, name, "tooWide", "pale", "small", "cut", "otherwiseNamed")
+    sound(browser, name, "tooWide", "pale", "small", "cut", "broken", "otherwiseNamed")
     browser.picture(folder / f"{name.replace(' ', '-')}.png")
 
 
@@ -88,7 +88,7 @@ def test_narrow(browser: Browser) -> None:
     fresh(browser)
     for name, line in VIEWS.items():
         type_line(browser, line)
-        sound(browser, f"{name} at 320", "tooWide", "small", "cut")
+        sound(browser, f"{name} at 320", "tooWide", "small", "cut", "broken")
 
 
 def test_spaced(browser: Browser) -> None:
@@ -111,7 +111,7 @@ def test_lying(browser: Browser) -> None:
         fresh(browser)
         type_line(browser, VIEWS["win"])
         browser.run("document.activeElement.blur(); scrollTo(0, 0)")
-        sound(browser, f"{width}x{height}", "tooWide", "below", "small", "cut")
+        sound(browser, f"{width}x{height}", "tooWide", "below", "small", "cut", "broken")
 
 
 def test_names_of_controls(browser: Browser) -> None:

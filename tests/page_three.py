@@ -41,7 +41,7 @@ def test_narrow(driver: Driver, folder: Path) -> None:
     driver.ask("POST", "window/rect", {"x": 0, "y": 0, "width": 390, "height": 900})
     fill(driver, "line", VIEWS["melds"])
     told(f"{driver.name}: narrow", True, driver.run("innerWidth < 640"))
-    sound(driver, f"{driver.name}, narrow", "tooWide", "cut", "small", "outOfReach")
+    sound(driver, f"{driver.name}, narrow", "tooWide", "cut", "broken", "small", "outOfReach")
     driver.picture(folder / f"{driver.name}-narrow.png")
 
 
