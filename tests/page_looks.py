@@ -118,7 +118,7 @@ def test_names_of_controls(browser: Browser) -> None:
     """Each control has a name for a screen reader, and so has each tile and answer."""
     fresh(browser)
     type_line(browser, VIEWS["win"])
-    wanted = {"button", "radio", "checkbox", "textbox", "spinbutton", "link", "image", "RadioButton", "dialog"}
+    wanted = {"button", "radio", "checkbox", "textbox", "spinbutton", "link", "image", "radiogroup", "region", "dialog"}
     nodes = [node for node in browser.ask("Accessibility.getFullAXTree")["nodes"] if not node.get("ignored")]
     roles = [(node.get("role", {}).get("value"), node.get("name", {}).get("value", "")) for node in nodes]
     told("controls without a name", [], [role for role, name in roles if role in wanted and not name])
