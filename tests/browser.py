@@ -94,7 +94,8 @@ class Browser:
         )
 
     def size(self, width: int, height: int, touch: bool = False) -> None:
-        self.ask("Emulation.setDeviceMetricsOverride", width=width, height=height, deviceScaleFactor=2 if touch else 1, mobile=touch)
+        finer = 2 if touch else 1
+        self.ask("Emulation.setDeviceMetricsOverride", width=width, height=height, deviceScaleFactor=finer, mobile=touch)
         self.ask("Emulation.setTouchEmulationEnabled", enabled=touch)
 
     def scheme(self, name: str) -> None:
@@ -117,7 +118,8 @@ class Browser:
         script = (
             f"(() => {{ const it = document.querySelector({json.dumps(selector)}); const box = it.getBoundingClientRect();"
             " const [x, y] = [box.x + box.width / 2, box.y + box.height / 2];"
-            " const top = document.elementFromPoint(x, y); return top && (it.contains(top) || top.contains(it)) ? [x, y] : null; })()"
+            " const top = document.elementFromPoint(x, y);"
+            " return top && (it.contains(top) || top.contains(it)) ? [x, y] : null; })()"
         )
         return self.run(script)
 
@@ -150,7 +152,8 @@ class Browser:
         codes |= {"Home": 36, "End": 35, "Escape": 27}
         text = {"Enter": {"text": "\r"}, " ": {"text": " "}}.get(name, {})
         for _ in range(times):
-            about = {"key": name, "code": "Space" if name == " " else name, "windowsVirtualKeyCode": codes[name], "modifiers": 8 if is_back else 0}
+            about = {"key": name, "code": "Space" if name == " " else name}
+            about |= {"windowsVirtualKeyCode": codes[name], "modifiers": 8 if is_back else 0}
             self.ask("Input.dispatchKeyEvent", type="keyDown", **about, **text)
             self.ask("Input.dispatchKeyEvent", type="keyUp", **about)
 

@@ -3,24 +3,26 @@ or with that of the command."""
 
 from __future__ import annotations
 
-import json
 import re
 import subprocess
 
 from browser import Browser
 from page_rows import (
-    ANSWER, FAULTY, LINE, MODE, PROGRAM, RAW, TOP, answers_of, choose, fresh, set_choice, tap_tiles, told, type_line,
+    ANSWER, FAULTY, LINE, MODE, RAW, TOP, answers_of, attribute, choose, fill, fresh, said_of, set_choice, tap_tiles, text, texts,
+    told, type_line,
 )
 
 
 def test_taps(browser: Browser) -> None:
     fresh(browser)
-    told("nothing is chosen for the person", [], browser.run("[...document.querySelectorAll('#fields input:checked')].map(it => it.name).filter(it => !['round', 'riichi'].includes(it))"))
-    told("what a new hand lacks", "Tap the tiles of the hand: 13 more tiles, the winning tile, ron or self-draw, the seat wind.", browser.run(ANSWER))
+    chosen = browser.run("[...document.querySelectorAll('#fields input:checked')].map(it => it.name)")
+    told("nothing is chosen for the person", {"round", "riichi"}, set(chosen))
+    lacking = "13 more tiles, the winning tile, ron or self-draw, the seat wind."
+    told("what a new hand lacks", f"Tap the tiles of the hand: {lacking}", browser.run(ANSWER))
     tap_tiles(browser, "2m 3m 4m 5m 6m 7m 3p 4p 5p 6s 7s 9s 9s 5s")
     told("a hand without its choices", "Still wanted: ron or self-draw, the seat wind.", browser.run(ANSWER))
     told("no answer to it", "", browser.run(RAW))
-    told("a fifteenth tile isn't taken", "true", browser.run("document.querySelector(\"[data-kind='1z']\").getAttribute('aria-disabled')"))
+    told("a fifteenth tile isn't taken", "true", attribute(browser, "[data-kind='1z']", "aria-disabled"))
     tap_tiles(browser, "1z")
     choose(browser, "by", "ron")
     choose(browser, "seat", "S")
@@ -31,7 +33,7 @@ def test_taps(browser: Browser) -> None:
     choose(browser, "seat", "E")
     told("a choice in the line", "win 234567m345p6799s on=5s by=tsumo seat=E round=E riichi=1", browser.run(LINE))
     told("a choice in the answer", "won 3 han 20 fu 1300 all gain 3900 riichi fully-concealed pinfu", browser.run(RAW))
-    told("the points", "3\u202f900 points", browser.run("document.querySelector('#answer .headline').textContent"))
+    told("the points", "3\u202f900 points", text(browser, "#answer .headline"))
     browser.tap("#tray button")
     told("a tile that was taken out", "34567m345p6799s", browser.run(LINE).split()[1])
     told("what is then lacking", "Still wanted: 1 more tile.", browser.run(ANSWER))
@@ -58,9 +60,9 @@ def test_melds(browser: Browser) -> None:
         tap_tiles(browser, tile)
     told("melds by two taps each", "win open=chi:234m,ankan:1111z,pon:999s round=E", browser.run(LINE))
     browser.tap("[data-target=chi]")
-    told("no run from an eight", "true", browser.run("document.querySelector(\"[data-kind='8s']\").getAttribute('aria-disabled')"))
-    told("nor of honours", "true", browser.run("document.querySelector(\"[data-kind='2z']\").getAttribute('aria-disabled')"))
-    told("what a tap would take", "Chi 3 4 5, from 3 of circles on", browser.run("document.querySelector(\"[data-kind='3p']\").getAttribute('aria-label')"))
+    told("no run from an eight", "true", attribute(browser, "[data-kind='8s']", "aria-disabled"))
+    told("nor of honours", "true", attribute(browser, "[data-kind='2z']", "aria-disabled"))
+    told("what a tap would take", "Chi 3 4 5, from 3 of circles on", attribute(browser, "[data-kind='3p']", "aria-label"))
     browser.tap("[data-target=chi]")
     browser.tap("#tray .meld:last-child button")
     browser.tap("#tray .meld button")
@@ -73,7 +75,7 @@ def test_melds(browser: Browser) -> None:
     browser.tap("#new")
     browser.tap("[data-target=dora]")
     tap_tiles(browser, "1m 1m 1m 1m 1m")
-    told("a kind has four tiles", "win 111m dora=1m round=E".split(), sorted(browser.run(LINE).split(), key=["win", "111m", "dora=1m", "round=E"].index))
+    told("a kind has four tiles", sorted("win 111m dora=1m round=E".split()), sorted(browser.run(LINE).split()))
     browser.tap("#dora button")
     told("an indicator that was taken out", "win 111m round=E", browser.run(LINE))
 
@@ -83,7 +85,7 @@ def test_red_fives(browser: Browser) -> None:
     told("no red fives under the first profile", True, browser.run("document.getElementById('red').hidden"))
     set_choice(browser, "rules", "2")
     browser.tap("#red")
-    told("a red five is named", "red 5 of circles", browser.run("document.querySelector(\"[data-kind='5p']\").getAttribute('aria-label')"))
+    told("a red five is named", "red 5 of circles", attribute(browser, "[data-kind='5p']", "aria-label"))
     tap_tiles(browser, "5m 1m 2m 3m 4m 6m 7m 8m 9m 2s 2s 3p 4p 2p")
     choose(browser, "by", "ron")
     choose(browser, "seat", "S")
@@ -91,12 +93,13 @@ def test_red_fives(browser: Browser) -> None:
     browser.tap("#new")
     browser.tap("[data-target=pon]")
     browser.tap("#red")
-    told("the meld is still wanted", "true", browser.run("document.querySelector('[data-target=pon]').getAttribute('aria-pressed')"))
+    told("the meld is still wanted", "true", attribute(browser, "[data-target=pon]", "aria-pressed"))
     tap_tiles(browser, "5s")
     told("a meld with a red five", "win open=pon:550s round=E", browser.run(LINE))
     browser.tap("[data-target=chi]")
     browser.tap("#red")
-    told("what a run with a red five would take", "Chi 3 4 red 5, from 3 of circles on", browser.run("document.querySelector(\"[data-kind='3p']\").getAttribute('aria-label')"))
+    run = "Chi 3 4 red 5, from 3 of circles on"
+    told("what a run with a red five would take", run, attribute(browser, "[data-kind='3p']", "aria-label"))
     tap_tiles(browser, "3p")
     told("a run with a red five within", "win open=pon:550s,chi:340p round=E", browser.run(LINE))
     browser.tap("#new")
@@ -130,9 +133,9 @@ def test_refusals(browser: Browser) -> None:
         type_line(browser, given)
         told(f"{given}: answer", answer, browser.run(RAW))
         told(f"{given}: field", field, browser.run(FAULTY))
-        said = subprocess.run([PROGRAM, "explain", given], capture_output=True, text=True, check=False).stdout.splitlines()[1:]
+        said = said_of("explain", lines=[given])[1:]
         words = re.sub(r"^ *(\^ )?", "", said[-1] if " at " in answer else said[0])
-        told(f"{given}: words of the library", True, words in browser.run("document.getElementById('answer').textContent"))
+        told(f"{given}: words of the library", True, words in text(browser, "#answer"))
     type_line(browser, "win 111m234m567p678s9s on=9s by=ron seat=S round=E dora=11m")
     told("five of a kind", "refused H9", browser.run(RAW))
 
@@ -147,7 +150,8 @@ DISCARDS = """[...document.querySelectorAll('#answer .discards > li')].map((it) 
 
 def test_shapes(browser: Browser) -> None:
     fresh(browser)
-    lines = ["shape 123456789m11348p", "shape 19m19p19s12345z247m", "shape 11z open=pon:222z,chi:123m,chi:123m,chi:123m", "shape 159m159p159s12345z"]
+    lines = ["shape 123456789m11348p", "shape 19m19p19s12345z247m", "shape 159m159p159s12345z"]
+    lines += ["shape 11z open=pon:222z,chi:123m,chi:123m,chi:123m"]
     for line in lines:
         type_line(browser, line)
         told(f"{line}: the tab", "shape", browser.run(MODE))
@@ -155,8 +159,8 @@ def test_shapes(browser: Browser) -> None:
         told(f"{line}: some discards", True, len(wanted) > 0)
         told(f"{line}: discards as pictures", sorted(wanted), sorted(browser.run(DISCARDS)))
     type_line(browser, "shape 123456789m1134p seen=2222p")
-    told("what thirteen tiles accept", "5 of circles×4", browser.run(
-        "[...document.querySelectorAll('#answer .accepted li')].map(it => it.firstChild.getAttribute('aria-label') + it.textContent).join()"))
+    accepted = (attribute(browser, "#answer .accepted .tile", "aria-label"), texts(browser, "#answer .accepted li"))
+    told("what thirteen tiles accept", ("5 of circles", ["×4"]), accepted)
     type_line(browser, "waits 1112345678999m")
     told("waits", 9, browser.run("document.querySelectorAll('#answer .accepted .tile').length"))
 
@@ -164,22 +168,20 @@ def test_shapes(browser: Browser) -> None:
 def test_explanations(browser: Browser) -> None:
     """The rows of an explanation are those of the command `explain`; tiles are drawn, so their text is left out here."""
     fresh(browser)
-    lines = ["win 99978m444p567s22s on=9m by=ron seat=S round=E riichi=1", "win 1133m5577p2288s4z on=4z by=tsumo seat=W round=E counters=1"]
-    lines += ["win 456m22s34p open=chi:123m,chi:678p on=2p by=ron seat=S round=E", "win 123456789m22s34p on=9s by=ron seat=S round=E"]
-    lines += ["shape 123456789m1134p"]
+    lines = [
+        "win 99978m444p567s22s on=9m by=ron seat=S round=E riichi=1",
+        "win 1133m5577p2288s4z on=4z by=tsumo seat=W round=E counters=1",
+        "win 456m22s34p open=chi:123m,chi:678p on=2p by=ron seat=S round=E",
+        "win 123456789m22s34p on=9s by=ron seat=S round=E",
+        "shape 123456789m1134p",
+    ]
     for line in lines:
         type_line(browser, line)
-        said = subprocess.run([PROGRAM, "explain"], input=f"{line}\n", capture_output=True, text=True, check=False).stdout.splitlines()[1:]
+        said = said_of("explain", lines=[line])[1:]
         told(f"{line}: some rows", True, len(said) > 0)
         wanted = [re.sub(r"([0-9]+[mps]|[1-7]+z)+(?![0-9a-z])", "", " ".join(row.split())) for row in said]
-        told(f"{line}: rows", wanted, browser.run("[...document.querySelectorAll('#answer .why dt')].map(it => it.textContent + ' ' + it.nextSibling.textContent)"))
-
-
-TOLD_ANSWERS = "[...document.querySelectorAll('#answers .told')].map(it => it.textContent)"
-
-
-def many(browser: Browser, lines: str) -> None:
-    browser.run(f"document.getElementById('lines').value = {json.dumps(lines)}; document.getElementById('lines').dispatchEvent(new Event('input'))")
+        rows = zip(texts(browser, "#answer .why dt"), texts(browser, "#answer .why dd"), strict=True)
+        told(f"{line}: rows", wanted, [f"{word} {said}" for word, said in rows])
 
 
 def test_many_lines(browser: Browser) -> None:
@@ -187,23 +189,26 @@ def test_many_lines(browser: Browser) -> None:
     lines = subprocess.run([TOP / "tests/lines"], check=True, capture_output=True, text=True).stdout
     wanted = answers_of(lines.splitlines())
     choose(browser, "mode", "many")
-    many(browser, lines)
-    told("answers to many lines", wanted, browser.run(TOLD_ANSWERS))
-    told("the count of many lines", f"{len(wanted)} answers", browser.run("document.getElementById('many-count').textContent").split(",")[0])
+    fill(browser, "lines", lines)
+    told("answers to many lines", wanted, texts(browser, "#answers .told"))
+    told("the count of many lines", f"{len(wanted)} answers", text(browser, "#many-count").split(",")[0])
     red = "waits 340m1112345678p"
     for first in ("rules 1", "rules 2", " rules  2 ", "rules 2\r", "Rules 2", "rules 3", "rules 2 2", "# rules 2", ""):
-        many(browser, f"{first}\n{red}\n# rules 2\nrules 2\n{red}\n")
-        told(f"a first line {first!r}", answers_of([first, red, "# rules 2", "rules 2", red]), browser.run(TOLD_ANSWERS))
-    many(browser, red)
+        fill(browser, "lines", f"{first}\n{red}\n# rules 2\nrules 2\n{red}\n")
+        told(f"a first line {first!r}", answers_of([first, red, "# rules 2", "rules 2", red]), texts(browser, "#answers .told"))
+    fill(browser, "lines", red)
     set_choice(browser, "rules", "2")
-    told("another profile answers what is shown anew", answers_of([red], "--rules", "2"), browser.run(TOLD_ANSWERS))
+    told("another profile answers what is shown anew", answers_of([red], "--rules", "2"), texts(browser, "#answers .told"))
 
 
 def test_paste(browser: Browser) -> None:
     fresh(browser)
-    browser.run("""(() => { const data = new DataTransfer(); data.setData('text/plain', 'rules 2\\nwaits 1112345678999m\\n# no hand\\nwaits 1m\\n');
-      document.getElementById('line').dispatchEvent(new ClipboardEvent('paste', { clipboardData: data, cancelable: true })); })()""")
-    told("lines that were pasted", ["waits 123456789m", "refused H8"], browser.run(TOLD_ANSWERS))
+    browser.run("""(() => {
+      const data = new DataTransfer();
+      data.setData('text/plain', 'rules 2\\nwaits 1112345678999m\\n# no hand\\nwaits 1m\\n');
+      document.getElementById('line').dispatchEvent(new ClipboardEvent('paste', { clipboardData: data, cancelable: true }));
+    })()""")
+    told("lines that were pasted", ["waits 123456789m", "refused H8"], texts(browser, "#answers .told"))
     browser.tap("#answers li:last-child button")
     told("one of them in the form", ["waits 1m", "2"], browser.run(f"[{LINE}, document.getElementById('rules-now').textContent]"))
 

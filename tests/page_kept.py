@@ -1,17 +1,22 @@
-"""What lasts, and what leaves the page: a reload, the list of hands, links, sharing, files, paper, names, a page without network."""
+"""What lasts, and what leaves the page: a reload, the list of hands, links, sharing, files, paper, names, a page without a
+network."""
 
 from __future__ import annotations
 
 import functools
 import http.server
-import json
+import re
 import threading
 from pathlib import Path
 
 from browser import Browser
-from page_rows import ANSWER, LINE, MODE, PAGE, RAW, SITE, answers_of, choose, fresh, set_choice, told, type_line
+from page_rows import (
+    ANSWER, LINE, MODE, PAGE, RAW, SITE, answers_of, choose, fill, fresh, set_choice, text, texts, told, type_line,
+)
 
 WIN = "win 234567m345p6799s on=5s by=tsumo seat=S round=E riichi=1"
+# The hand of the form: its line, profile and tab.
+OPENED = f"[{LINE}, document.getElementById('rules-now').textContent, {MODE}]"
 HANDS = "[...document.querySelectorAll('#hand-list > li > .raw')].map(it => it.textContent)"
 
 
@@ -22,7 +27,7 @@ def test_reload(browser: Browser) -> None:
     set_choice(browser, "names", "romanised")
     browser.reload()
     told("a hand that isn't whole outlasts a reload", "win 234567m345p67s open=pon:999s seat=S round=S", browser.run(LINE))
-    told("so do profile and names", ["2", "Tsumo"], browser.run("[document.getElementById('rules-now').textContent, document.querySelector('[data-name=tsumo]').textContent]"))
+    told("so do profile and names", ("2", "Tsumo"), (text(browser, "#rules-now"), text(browser, "[data-name=tsumo]")))
     choose(browser, "mode", "shape")
     choose(browser, "mode", "hands")
     browser.reload()
@@ -37,18 +42,22 @@ def test_list(browser: Browser) -> None:
         type_line(browser, line)
     choose(browser, "mode", "hands")
     told("hands that were answered", lines[::-1], browser.run(HANDS))
-    told("their answers", ["Ready", "Waits for 9 kinds", "2\u202f700 points"], browser.run("[...document.querySelectorAll('#hand-list .headline')].map(it => it.textContent)"))
-    browser.run("(() => { const it = document.querySelector('#hand-list > li:last-child input'); it.focus(); })()")
+    told("their answers", ["Ready", "Waits for 9 kinds", "2\u202f700 points"], texts(browser, "#hand-list .headline"))
+    name = "document.querySelector('#hand-list > li:last-child input')"
+    browser.run(f"{name}.focus()")
     browser.type("Table 3, East 2")
     browser.reload()
-    told("a name outlasts a reload", "Table 3, East 2", browser.run("document.querySelector('#hand-list > li:last-child input').value"))
+    told("a name outlasts a reload", "Table 3, East 2", browser.run(f"{name}.value"))
     browser.run("navigator.clipboard.writeText = (text) => { window.copied = text; return Promise.resolve(); }")
     browser.tap("#hands-copy")
-    told("copied as lines, the oldest first", "".join(f"{it}\n" for it in ["# Table 3, East 2", *lines]), browser.run("window.copied"))
-    told("which the command reads", 3, len(answers_of(browser.run("window.copied").splitlines())))
+    copied = browser.run("window.copied").splitlines()
+    told("copied as lines, the oldest first", ["# Table 3, East 2", *lines], copied)
+    told("which the command reads", 3, len(answers_of(copied)))
     browser.run("window.print = () => { window.printed = document.getElementById('paper').innerText; }")
     browser.tap("#hands-print")
-    told("the list on paper", True, all(it in browser.run("window.printed") for it in ("Table 3, East 2", "Ready", "Waits for 9 kinds", "2\u202f700 points")))
+    paper = browser.run("window.printed")
+    words = ("Table 3, East 2", "Ready", "Waits for 9 kinds", "2\u202f700 points")
+    told("what the list lacks on paper", [], [it for it in words if it not in paper])
     browser.tap("#hand-list > li:first-child .buttons button:last-child")
     told("a hand that was taken away", lines[1::-1], browser.run(HANDS))
     browser.tap("#hands-undo")
@@ -63,16 +72,22 @@ def test_list(browser: Browser) -> None:
     browser.tap("#hand-list > li:first-child .buttons button:last-child")
     browser.reload()
     told("what is taken away doesn't come back", lines[::-1], browser.run(HANDS))
-    browser.run("""(async () => { const data = new DataTransfer(); data.items.add(new File(['rules 2\\n# Table 5\\nwaits 1112345678999p\\n'], 'hands.lines'));
-      document.getElementById('hands-file').files = data.files; document.getElementById('hands-file').dispatchEvent(new Event('change')); await new Promise(done => setTimeout(done, 200)); })()""")
+    browser.run("""(async () => {
+      const data = new DataTransfer();
+      data.items.add(new File(['rules 2\\n# Table 5\\nwaits 1112345678999p\\n'], 'hands.lines'));
+      const field = document.getElementById('hands-file');
+      field.files = data.files;
+      field.dispatchEvent(new Event('change'));
+      await new Promise(done => setTimeout(done, 200));
+    })()""")
     told("hands of a file", ["waits 1112345678999p", *lines[::-1]], browser.run(HANDS))
     told("with their names", "Table 5", browser.run("document.querySelector('#hand-list > li input').value"))
     browser.tap("#hand-list > li:first-child .buttons button")
-    told("a hand that was opened again", ["waits 1112345678999p", "2", "waits"], browser.run(f"[{LINE}, document.getElementById('rules-now').textContent, {MODE}]"))
+    told("a hand that was opened again", ["waits 1112345678999p", "2", "waits"], browser.run(OPENED))
     many = [f"waits 1112345678999m{' ' * at}" for at in range(120)]
     for line in many:
         browser.run("document.getElementById('new').click()")
-        browser.run(f"(() => {{ const it = document.getElementById('line'); it.value = {json.dumps(line)}; it.dispatchEvent(new Event('input')); }})()")
+        fill(browser, "line", line)
     choose(browser, "mode", "hands")
     told("the last hundred are kept", 100, browser.run("document.querySelectorAll('#hand-list > li').length"))
 
@@ -80,12 +95,13 @@ def test_list(browser: Browser) -> None:
 def test_link(browser: Browser) -> None:
     fresh(browser)
     browser.open(f"{PAGE.as_uri()}#{WIN.replace(' ', '%20')}")
-    told("the hand of a link", [WIN, "1", "2\u202f700 points"], browser.run(f"[{LINE}, document.getElementById('rules-now').textContent, document.querySelector('#answer .headline').textContent]"))
+    told("the hand of a link", [WIN, "1", "win"], browser.run(OPENED))
+    told("its answer", "2\u202f700 points", text(browser, "#answer .headline"))
     browser.tap("#new")
     browser.reload()
     told("a reload doesn't bring it back", "win round=E", browser.run(LINE))
     browser.open(f"{PAGE.as_uri()}#rules%202%0Awaits%20340m1112345678p")
-    told("a link with its profile", ["waits 340m1112345678p", "2", "waits"], browser.run(f"[{LINE}, document.getElementById('rules-now').textContent, {MODE}]"))
+    told("a link with its profile", ["waits 340m1112345678p", "2", "waits"], browser.run(OPENED))
 
 
 def test_sheet(browser: Browser, folder: Path) -> None:
@@ -103,7 +119,8 @@ def test_sheet(browser: Browser, folder: Path) -> None:
     told("paper has the hand", True, browser.run("window.printed.includes('2\u202f700 points')"))
     browser.ask("Emulation.setEmulatedMedia", media="print")
     browser.picture(folder / "paper.png", whole=True)
-    told("nothing else is on paper", ["faces", "paper"], browser.run("[...document.body.children].filter(it => getComputedStyle(it).display !== 'none').map(it => it.id)"))
+    shown = browser.run("[...document.body.children].filter(it => getComputedStyle(it).display !== 'none').map(it => it.id)")
+    told("nothing else is on paper", ["faces", "paper"], shown)
     browser.ask("Emulation.setEmulatedMedia", media="")
     browser.key("Escape")
     told("Escape closes the sheet", False, browser.run("document.getElementById('sheet').open"))
@@ -123,7 +140,7 @@ def test_names(browser: Browser) -> None:
         set_choice(browser, "names", name)
         told(f"yaku: {name}", wanted, browser.run(yaku))
     told("script has its language", "ja", browser.run("document.querySelector('#answer .yaku [lang]').lang"))
-    told("and nothing else has", "", browser.run("[...document.querySelectorAll('#answer [lang=ja]')].map(it => it.textContent.replace(/[^a-z]/g, '')).join('')"))
+    told("and no English has it", [], [it for it in texts(browser, "#answer [lang=ja]") if re.search("[a-z]", it)])
     told("a tile in script", "1萬", browser.run("document.querySelector(\"#picker [data-kind='1m']\").getAttribute('aria-label')"))
     words = {"romanised": "menzen tsumo 1", "script": "門前清自摸和 1"}
     for name, wanted in words.items():
@@ -175,7 +192,8 @@ def served(folder: Path) -> http.server.ThreadingHTTPServer:
 
 
 # Whether the worker has all files of the page.
-READY = "navigator.serviceWorker.ready.then(() => caches.keys()).then((names) => caches.open(names[0])).then((store) => store.keys()).then((keys) => keys.length)"
+STORE = "navigator.serviceWorker.ready.then(() => caches.keys()).then((names) => caches.open(names[0]))"
+READY = f"{STORE}.then((store) => store.keys()).then((keys) => keys.length)"
 
 
 def test_site(browser: Browser) -> None:
@@ -196,5 +214,6 @@ def test_site(browser: Browser) -> None:
     server.server_close()
     browser.reload()
     told("the page without a network", [WIN, answers_of([WIN])[0]], browser.run(f"[{LINE}, {RAW}]"))
-    told("a link without a network", "waits", browser.run(f"location.hash = '#waits%201112345678999m', new Promise(done => setTimeout(() => done({MODE}), 100))"))
+    browser.run("location.hash = '#waits%201112345678999m', new Promise(done => setTimeout(done, 100))")
+    told("a link without a network", "waits", browser.run(MODE))
 

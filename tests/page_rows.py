@@ -30,8 +30,31 @@ def told(name: str, wanted, got) -> None:
 
 def answers_of(lines: list[str], *words: str) -> list[str]:
     """What the command `line` answers."""
-    said = subprocess.run([PROGRAM, "line", *words], input="".join(f"{line}\n" for line in lines), capture_output=True, text=True, check=False)
-    return said.stdout.splitlines()
+    return said_of("line", *words, lines=lines)
+
+
+def said_of(*words: str, lines: list[str]) -> list[str]:
+    """What the program says of these lines."""
+    given = "".join(f"{line}\n" for line in lines)
+    return subprocess.run([PROGRAM, *words], input=given, capture_output=True, text=True, check=False).stdout.splitlines()
+
+
+def text(browser, selector: str) -> str:
+    return browser.run(f"document.querySelector({json.dumps(selector)}).textContent")
+
+
+def texts(browser, selector: str) -> list[str]:
+    return browser.run(f"[...document.querySelectorAll({json.dumps(selector)})].map(it => it.textContent)")
+
+
+def attribute(browser, selector: str, name: str) -> str:
+    return browser.run(f"document.querySelector({json.dumps(selector)}).getAttribute('{name}')")
+
+
+def fill(browser, name: str, value: str) -> None:
+    """Gives a field of this id a text, as if it had been typed."""
+    field = f"document.getElementById('{name}')"
+    browser.run(f"({field}.value = {json.dumps(value)}, {field}.dispatchEvent(new Event('input')))")
 
 
 def fresh(browser: Browser, page: Path | str = PAGE) -> None:

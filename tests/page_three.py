@@ -1,14 +1,14 @@
 """The page in Chromium, Firefox and WebKit: 2,000 answers of each are those of the command `line`, a hand that is tapped, a reload,
-and the site without its server."""
+a narrow window, and the site without its server."""
 
 from __future__ import annotations
 
-import json
 import subprocess
 from pathlib import Path
 
 from page_kept import READY, served
-from page_rows import LINE, PAGE, RAW, SITE, TOP, answers_of, told
+from page_looks import VIEWS, sound
+from page_rows import LINE, PAGE, RAW, SITE, TOP, answers_of, fill, texts, told
 from webdriver import BROWSERS, Driver, Screen
 
 TAPS = ["2m", "3m", "4m", "5m", "6m", "7m", "3p", "4p", "5p", "6s", "7s", "9s", "9s", "5s"]
@@ -19,8 +19,8 @@ def test_lines(driver: Driver) -> None:
     lines = subprocess.run([TOP / "tests/lines"], check=True, capture_output=True, text=True).stdout
     told(f"{driver.name}: lines", 2000, lines.count("\n"))
     driver.tap("label:has(input[value=many])")
-    driver.run(f"(document.getElementById('lines').value = {json.dumps(lines)}, document.getElementById('lines').dispatchEvent(new Event('input')))")
-    told(f"{driver.name}: answers", answers_of(lines.splitlines()), driver.run("[...document.querySelectorAll('#answers .told')].map(it => it.textContent)"))
+    fill(driver, "lines", lines)
+    told(f"{driver.name}: answers", answers_of(lines.splitlines()), texts(driver, "#answers .told"))
 
 
 def test_taps(driver: Driver) -> None:
@@ -33,7 +33,16 @@ def test_taps(driver: Driver) -> None:
     driver.open(PAGE.as_uri())
     told(f"{driver.name}: a reload keeps it", WIN, driver.run(LINE))
     driver.tap("#why")
-    told(f"{driver.name}: the sheet", True, driver.run("document.getElementById('sheet').open && document.querySelector('#sheet .why') !== null"))
+    told(f"{driver.name}: the sheet", True, driver.run("document.querySelector('#sheet[open] .why') !== null"))
+
+
+def test_narrow(driver: Driver, folder: Path) -> None:
+    """A window as narrow as the browser makes it: all of a win is in reach, as on a phone."""
+    driver.ask("POST", "window/rect", {"x": 0, "y": 0, "width": 390, "height": 900})
+    fill(driver, "line", VIEWS["melds"])
+    told(f"{driver.name}: narrow", True, driver.run("innerWidth < 640"))
+    sound(driver, f"{driver.name}, narrow", "tooWide", "cut", "broken", "small", "outOfReach")
+    driver.picture(folder / f"{driver.name}-narrow.png")
 
 
 def test_site(driver: Driver) -> None:
@@ -56,6 +65,8 @@ def test_three(folder: Path) -> None:
                 for test in (test_lines, test_taps):
                     test(driver)
                 driver.picture(folder / f"{driver.name}.png")
+                driver.run("document.getElementById('sheet').close()")
+                test_narrow(driver, folder)
                 test_site(driver)
                 print(f"page: {driver.name} {driver.version}")
             finally:

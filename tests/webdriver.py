@@ -68,7 +68,7 @@ class Driver:
     def open(self, url: str) -> None:
         self.ask("POST", "url", {"url": url})
         end = time.monotonic() + PATIENCE
-        started = "(document.getElementById('desk')?.hidden === false) || document.getElementById('unable')?.getAttribute('role') === 'alert'"
+        started = "document.querySelector('#desk:not([hidden]), #unable[role=alert]') !== null"
         while not self.run(started):
             if time.monotonic() > end:
                 raise RuntimeError(f"{self.name}: the page doesn't start")
@@ -118,12 +118,16 @@ class Firefox(Driver):
     """Firefox by its own protocol: each message is its length, a colon, and JSON."""
 
     name = "Firefox"
-    COMMANDS = {"execute/sync": "ExecuteScript", "url": "Navigate", "element": "FindElement", "screenshot": "TakeScreenshot"}
+    COMMANDS = {
+        "execute/sync": "ExecuteScript", "url": "Navigate", "element": "FindElement", "screenshot": "TakeScreenshot",
+        "window/rect": "SetWindowRect",
+    }
 
     def __init__(self):
         self.home = tempfile.mkdtemp(prefix="desk-firefox-")
         port = free_port()
-        settings = {"marionette.port": port, "browser.shell.checkDefaultBrowser": False, "datareporting.policy.dataSubmissionEnabled": False}
+        settings = {"marionette.port": port, "browser.shell.checkDefaultBrowser": False}
+        settings |= {"datareporting.policy.dataSubmissionEnabled": False}
         rows = [f"user_pref({json.dumps(key)}, {json.dumps(value)});" for key, value in settings.items()]
         Path(self.home, "user.js").write_text("\n".join(rows), "utf-8")
         words = ["firefox-esr", "--headless", "--marionette", "--profile", self.home, "--no-remote", "about:blank"]
@@ -173,7 +177,8 @@ class Firefox(Driver):
 
 def chromium(_: Screen) -> Driver:
     switches = ["--headless=new", "--disable-gpu", "--no-first-run", *(["--no-sandbox"] if os.getuid() == 0 else [])]
-    return ByHttp("Chromium", "chromedriver", {"browserName": "chrome", "goog:chromeOptions": {"binary": shutil.which("chromium"), "args": switches}})
+    options = {"binary": shutil.which("chromium"), "args": switches}
+    return ByHttp("Chromium", "chromedriver", {"browserName": "chrome", "goog:chromeOptions": options})
 
 
 def firefox(_: Screen) -> Driver:
@@ -183,7 +188,8 @@ def firefox(_: Screen) -> Driver:
 def webkit(screen: Screen) -> Driver:
     programs = sorted(Path("/usr/lib").glob("*/webkit2gtk-4.*/MiniBrowser"))
     options = {"binary": str(programs[-1]), "args": ["--automation"]}
-    environment = {"DISPLAY": screen.name, "GDK_BACKEND": "x11", "WEBKIT_DISABLE_COMPOSITING_MODE": "1", "LIBGL_ALWAYS_SOFTWARE": "1"}
+    environment = {"DISPLAY": screen.name, "GDK_BACKEND": "x11"}
+    environment |= {"WEBKIT_DISABLE_COMPOSITING_MODE": "1", "LIBGL_ALWAYS_SOFTWARE": "1"}
     return ByHttp("WebKit", "WebKitWebDriver", {"webkitgtk:browserOptions": options}, environment)
 
 

@@ -31,10 +31,12 @@ function plainLine(job, hand, melds) {
   return [job, hand, ...keys, ...(melds === "" ? [] : [`open=${melds}`])].join(" ");
 }
 
-// How many concealed tiles the library takes in a hand of this job beside these melds, smallest first; none where no number is right.
+// How many concealed tiles the library takes in a hand of this job beside these melds, smallest first; none where no number is
+// right.
 export function sizesOf(job, melds) {
   const text = textOfMelds(melds);
-  return remembered(`${job} ${text}`, () => range(1, MOST_ASKED).filter((count) => !["H7", "H8"].includes(codeOf(plainLine(job, someTiles(count), text)))));
+  const isTaken = (count) => !["H7", "H8"].includes(codeOf(plainLine(job, someTiles(count), text)));
+  return remembered(`${job} ${text}`, () => range(1, MOST_ASKED).filter(isTaken));
 }
 
 // How many indicators the library takes.

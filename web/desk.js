@@ -98,7 +98,9 @@ function listen() {
   on("line", "paste", pasteLine);
   for (const button of document.querySelectorAll("[data-target]")) button.addEventListener("click", aim);
   for (const button of document.querySelectorAll("[data-number]")) button.addEventListener("click", step);
-  for (const button of document.querySelectorAll("dialog .close")) button.addEventListener("click", () => button.closest("dialog").close());
+  for (const dialog of document.querySelectorAll("dialog")) {
+    dialog.querySelector(".close").addEventListener("click", () => dialog.close());
+  }
   addEventListener("hashchange", openLink);
   addEventListener("beforeprint", fillPaper);
   addEventListener("afterprint", () => byId("paper").replaceChildren());
@@ -136,7 +138,7 @@ async function start() {
   openLink();
   byId("unable").hidden = true;
   byId("desk").hidden = false;
-  if (document.documentElement.dataset.site !== undefined && "serviceWorker" in navigator) navigator.serviceWorker.register("worker.js");
+  if (document.documentElement.dataset.site !== undefined) navigator.serviceWorker?.register("worker.js");
 }
 
 start();

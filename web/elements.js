@@ -9,7 +9,8 @@ const JAPANESE = /([0-9]*[\p{sc=Han}\p{sc=Hira}\p{sc=Kana}ー・]+(?:[ /]+[\p{sc
 // A text, or another child; Japanese within a text is marked as such.
 function marked(child) {
   if (typeof child !== "string" || !JAPANESE.test(child)) return [child];
-  const parts = child.split(JAPANESE).map((part, at) => (at % 2 === 1 ? make("span", { lang: "ja" }, document.createTextNode(part)) : part));
+  const inJapanese = (part) => make("span", { lang: "ja" }, document.createTextNode(part));
+  const parts = child.split(JAPANESE).map((part, at) => (at % 2 === 1 ? inJapanese(part) : part));
   return parts.filter((part) => part !== "");
 }
 

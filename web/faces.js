@@ -20,7 +20,8 @@ const HONOURS = [
   "M6.5 14.5H23.5M8 20H22V34.5H8ZM12.7 14.5V22Q12.7 26 9.5 27.5M17.3 14.5V26Q17.3 27.8 19 27.8H20.8",
   "M12.2 13V35.5M7 21H12M6.5 32.5L12 29.8M18 13V32Q18 34.5 20.5 34.5H23.5V31M23 18L18 22",
   "M7 13H23V35.5H7ZM10 16H20V32.5H10Z",
-  "M8 14H13.5Q12.5 19 6.5 22.5M9.5 17L12 19M22.5 13.5L19.5 16.5M17 13Q18.5 19 24 22.5M10.5 23.5H20M8 27.5H22M13 23.5V27.5Q12.5 33 8 36M17.5 23.5V33Q17.5 35.5 20 35.5H23V32.5",
+  "M8 14H13.5Q12.5 19 6.5 22.5M9.5 17L12 19M22.5 13.5L19.5 16.5M17 13Q18.5 19 24 22.5" +
+    "M10.5 23.5H20M8 27.5H22M13 23.5V27.5Q12.5 33 8 36M17.5 23.5V33Q17.5 35.5 20 35.5H23V32.5",
   "M8 18H22V27.5H8ZM15 12V36",
 ];
 const HONOUR_INDEXES = ["E", "S", "W", "N", "Wh", "Gr", "Rd"];
@@ -53,7 +54,8 @@ const CANES = [
 
 // A stroke of this ink.
 function stroke(path, ink, width) {
-  return `<path d="${path}" fill="none" stroke="var(--ink-${ink})" stroke-width="${width}" stroke-linecap="round" stroke-linejoin="round"/>`;
+  const line = `fill="none" stroke="var(--ink-${ink})" stroke-width="${width}" stroke-linecap="round" stroke-linejoin="round"`;
+  return `<path d="${path}" ${line}/>`;
 }
 
 function ring(across, down, radius, ink) {
@@ -112,6 +114,7 @@ function face(tile) {
 
 // The faces of all tiles, as symbols that the page draws by their names.
 export function facesOfAll() {
-  const symbols = [...KINDS, "0m", "0p", "0s"].map((tile) => `<symbol id="face-${tile}" viewBox="0 0 30 40">${face(tile)}</symbol>`);
+  const symbol = (tile) => `<symbol id="face-${tile}" viewBox="0 0 30 40">${face(tile)}</symbol>`;
+  const symbols = [...KINDS, "0m", "0p", "0s"].map(symbol);
   return `<svg width="0" height="0" aria-hidden="true" focusable="false">${symbols.join("")}</svg>`;
 }

@@ -53,7 +53,8 @@ function takeOut(list, record) {
   setRecord(record, state.target === "seen" ? "seen" : "hand");
   showForm();
   const left = byId(list).querySelectorAll("button");
-  if (at >= 0) (left[Math.min(at, left.length - 1)] ?? document.querySelector("#picker [tabindex='0']")).focus({ preventScroll: true });
+  const next = left[Math.min(at, left.length - 1)] ?? document.querySelector("#picker [tabindex='0']");
+  if (at >= 0) next.focus({ preventScroll: true });
 }
 
 function tileItem(list, name, tile, at) {
@@ -86,7 +87,9 @@ function showTray() {
   }
   const melds = record.melds.map(meldItem);
   byId("tray").replaceChildren(...hand, ...lacking, ...(record.job === "win" ? winning : []), ...melds);
-  for (const name of ["dora", "ura", "seen"]) byId(name).replaceChildren(...record[name].map((tile, at) => tileItem(name, name, tile, at)));
+  for (const name of ["dora", "ura", "seen"]) {
+    byId(name).replaceChildren(...record[name].map((tile, at) => tileItem(name, name, tile, at)));
+  }
 }
 
 // Sets each choice to what the record says, and hides what its job doesn't ask for.
@@ -96,7 +99,9 @@ function showChoices() {
   for (const input of document.querySelectorAll("#fields input[type=radio]")) input.checked = record[input.name] === input.value;
   for (const input of document.querySelectorAll("input[name=flags]")) input.checked = record.flags.includes(input.value);
   for (const name of ["counters", "sticks"]) if (Number(byId(name).value) !== Number(record[name])) byId(name).value = record[name];
-  for (const button of document.querySelectorAll("[data-target]")) button.setAttribute("aria-pressed", String(button.dataset.target === target));
+  for (const button of document.querySelectorAll("[data-target]")) {
+    button.setAttribute("aria-pressed", String(button.dataset.target === target));
+  }
   byId("red").hidden = state.rules !== 2;
   byId("red").setAttribute("aria-pressed", String(state.isRed));
   byId("back").setAttribute("aria-disabled", String(state.past.length === 0));

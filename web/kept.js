@@ -36,7 +36,8 @@ function shortAnswer({ line, rules }) {
 function handItem(hand, at) {
   const title = handTitle(hand, at);
   const button = (text, label, click) => make("button", { type: "button", "aria-label": `${label} ${title}`, click }, text);
-  const name = make("input", { type: "text", maxlength: "60", "aria-label": `Table and round of ${title}`, placeholder: "Table and round", value: hand.name });
+  const about = { "aria-label": `Table and round of ${title}`, placeholder: "Table and round", value: hand.name };
+  const name = make("input", { type: "text", maxlength: "60", ...about });
   name.addEventListener("input", () => nameHand(hand.id, name.value));
   return make(
     "li",
@@ -56,8 +57,9 @@ function handItem(hand, at) {
 
 export function showHands() {
   const hands = readHands();
-  byId("hands-count").textContent =
-    hands.length === 0 ? `No hands yet. The last ${MOST_HANDS} that were answered stand here.` : `${hands.length} of the last ${MOST_HANDS} hands, the newest first.`;
+  const none = `No hands yet. The last ${MOST_HANDS} that were answered stand here.`;
+  const some = `${hands.length} of the last ${MOST_HANDS} hands, the newest first.`;
+  byId("hands-count").textContent = hands.length === 0 ? none : some;
   byId("hand-list").replaceChildren(...hands.map(handItem));
   for (const id of ["hands-copy", "hands-save", "hands-print"]) byId(id).disabled = hands.length === 0;
   byId("hands-undo").hidden = gone.length === 0;
@@ -68,7 +70,8 @@ function textAndRest() {
   const hands = readHands().reverse();
   const chosen = hands.filter(({ rules }) => rules === state.rules);
   const rest = hands.length - chosen.length;
-  return { text: textOfHands(chosen, state.rules), words: `${chosen.length} lines${rest === 0 ? "" : `; the ${rest} of the other rule profile aren't among them`}.` };
+  const others = rest === 0 ? "" : `; the ${rest} of the other rule profile aren't among them`;
+  return { text: textOfHands(chosen, state.rules), words: `${chosen.length} lines${others}.` };
 }
 
 async function openHands({ target }) {

@@ -8,8 +8,9 @@ export function lackOfBrowser() {
   if (typeof WebAssembly !== "object") {
     return "WebAssembly is missing. On an iPhone or iPad Lockdown Mode turns it off; elsewhere a newer browser has it.";
   }
-  if (typeof BigInt64Array !== "function") return "64-bit numbers (BigInt) are missing. Browsers have them since 2020: a newer version runs the desk.";
-  if (typeof HTMLDialogElement !== "function") return "Dialogs are missing. Browsers have them since 2022: a newer version runs the desk.";
+  const newer = "a newer version runs the desk.";
+  if (typeof BigInt64Array !== "function") return `64-bit numbers (BigInt) are missing. Browsers have them since 2020: ${newer}`;
+  if (typeof HTMLDialogElement !== "function") return `Dialogs are missing. Browsers have them since 2022: ${newer}`;
   return "";
 }
 

@@ -11,16 +11,18 @@ let openLine = () => {};
 // The lines of the text that have an answer, with their numbers and answers.
 function answers() {
   const { lines, rules, first } = linesOf(byId("lines").value, state.rules);
-  return lines.map((line, at) => ({ number: first + at, line, rules, told: state.desk.answer(line, rules) })).filter(({ told }) => told !== "");
+  const found = lines.map((line, at) => ({ number: first + at, line, rules, told: state.desk.answer(line, rules) }));
+  return found.filter(({ told }) => told !== "");
 }
 
 function answerItem({ number, line, told, rules }) {
+  const open = () => openLine({ line, rules, id: 0 });
   return make(
     "li",
     told.startsWith("refused") ? { class: "is-refused" } : {},
     make("span", { class: "number" }, String(number)),
     make("div", {}, make("div", { class: "raw" }, line), make("div", { class: "told" }, told)),
-    make("button", { type: "button", "aria-label": `Open line ${number} in the form`, click: () => openLine({ line, rules, id: 0 }) }, "Open"),
+    make("button", { type: "button", "aria-label": `Open line ${number} in the form`, click: open }, "Open"),
   );
 }
 

@@ -7,7 +7,8 @@ import { countOf, isFive, kindOf, parted, sorted, tileOf } from "./tiles.js";
 // The tiles of a meld that a tapped kind stands for: of a run it is the lowest. One five of it can be a red one.
 export function meldTiles(word, kind, isRed) {
   const [digit, suit] = kind;
-  const kinds = word === "chi" ? [0, 1, 2].map((step) => `${Number(digit) + step}${suit}`) : Array(word === "pon" ? 3 : 4).fill(kind);
+  const run = [0, 1, 2].map((step) => `${Number(digit) + step}${suit}`);
+  const kinds = word === "chi" ? run : Array(word === "pon" ? 3 : 4).fill(kind);
   const five = kinds.findIndex(isFive);
   return kinds.map((it, at) => tileOf(it, isRed && at === five));
 }

@@ -51,7 +51,8 @@ function valueOf(record, key) {
 
 export function lineOf(record) {
   const keys = KEYS_OF[record.job].map((key) => [key, valueOf(record, key)]).filter(([, value]) => value !== "");
-  return [record.job, textOf(record.hand), ...keys.map(([key, value]) => `${key}=${value}`)].filter((word) => word !== "").join(" ");
+  const words = [record.job, textOf(record.hand), ...keys.map(([key, value]) => `${key}=${value}`)];
+  return words.filter((word) => word !== "").join(" ");
 }
 
 // The lines of a text, and the profile that they have: that of its first line, which then isn't among them, or else this one.
@@ -61,11 +62,13 @@ export function linesOf(text, rules) {
   return profile ? { lines: lines.slice(1), rules: Number(profile[1]), first: 2 } : { lines, rules, first: 1 };
 }
 
-// The job, the hand and the other words of a line. A line whose hand isn't there yet has its keys behind the job.
+// The job, the hand and the other words of a line, each as its key and value, which is null where it has no =. A line whose hand
+// isn't there yet has its keys behind the job.
 export function wordsOf(line) {
   const [job = "", ...rest] = line.split(" ").filter((word) => word !== "");
   const hand = rest[0] && !rest[0].includes("=") ? rest.shift() : "";
-  return { job, hand, keys: rest.map((word) => [word.split("=", 1)[0], word.includes("=") ? word.slice(word.indexOf("=") + 1) : null]) };
+  const keys = rest.map((word) => /^([^=]*)(?:=(.*))?$/.exec(word)).map(([, key, value = null]) => [key, value]);
+  return { job, hand, keys };
 }
 
 function meldsIn(text) {

@@ -11,7 +11,8 @@ const isDark = matchMedia("(prefers-color-scheme: dark)");
 function showScheme() {
   const scheme = state.scheme === "device" ? (isDark.matches ? "dark" : "light") : state.scheme;
   document.documentElement.dataset.scheme = scheme;
-  document.querySelector("meta[name=theme-color]").content = getComputedStyle(document.documentElement).getPropertyValue("--ground").trim();
+  const ground = getComputedStyle(document.documentElement).getPropertyValue("--ground").trim();
+  document.querySelector("meta[name=theme-color]").content = ground;
 }
 
 // Takes the state's choices for the whole page.
@@ -20,7 +21,8 @@ export function showSettings() {
   showScheme();
   showNames();
   for (const name of ["rules", "names", "scheme"]) {
-    for (const input of document.querySelectorAll(`#settings input[name=${name}]`)) input.checked = input.value === String(state[name]);
+    const chosen = String(state[name]);
+    for (const input of document.querySelectorAll(`#settings input[name=${name}]`)) input.checked = input.value === chosen;
   }
   byId("rules-now").textContent = String(state.rules);
 }
@@ -37,7 +39,8 @@ function fact(word, text) {
 
 export function listenToSettings() {
   const about = byId("about");
-  const kept = isKept() ? "in this browser alone, over a reload" : "not kept: this browser doesn't allow it, so a reload loses them";
+  const unkept = "not kept: this browser doesn't allow it, so a reload loses them";
+  const kept = isKept() ? "in this browser alone, over a reload" : unkept;
   about.prepend(...fact("Version", state.desk.version()), ...fact("Hands and settings", kept));
   byId("open-settings").addEventListener("click", () => {
     showSettings();

@@ -61,7 +61,8 @@ function copyByHand(text) {
 // Shares by the phone's own sheet; where there is none, the text is copied.
 export async function share(title, text, url) {
   const parts = { title, text, ...(url === "" ? {} : { url }) };
-  if (!navigator.share) return copyText([text, url].filter((it) => it !== "").join("\n"), "Copied, since this browser can't share.");
+  const whole = [text, url].filter((it) => it !== "").join("\n");
+  if (!navigator.share) return copyText(whole, "Copied, since this browser can't share.");
   try {
     await navigator.share(parts);
   } catch (failure) {

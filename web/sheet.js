@@ -20,7 +20,9 @@ function handShown(line) {
   if (record === null) return make("p", { class: "raw" }, line);
   const list = make("dl", { class: "why", "aria-label": "The hand" }, ...part(named("hand"), tilesDrawn(record.hand)));
   for (const { word, tiles } of record.melds) list.append(...part(named(word), tilesDrawn(tiles)));
-  for (const key of ["on", "dora", "ura", "seen"]) if (record[key].length > 0) list.append(...part(named(key), tilesDrawn(record[key])));
+  for (const key of ["on", "dora", "ura", "seen"].filter((it) => record[it].length > 0)) {
+    list.append(...part(named(key), tilesDrawn(record[key])));
+  }
   if (record.job === "win") list.append(...circumstancesOf(record).flatMap(([word, text]) => part(word, text)));
   return list;
 }

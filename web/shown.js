@@ -62,7 +62,8 @@ function shownShape({ shanten, discards, accepts, live }) {
   const head = make("p", { class: "headline" }, shantenWords(shanten));
   if (!discards) return [head, make("p", {}, `Accepts ${accepts.length} kinds, ${live} live tiles`), acceptedList(accepts)];
   if (discards.length === 0) return [head];
-  return [head, make("p", {}, "Discard, and what is then accepted:"), make("ol", { class: "discards" }, ...discards.map(discardItem))];
+  const list = make("ol", { class: "discards" }, ...discards.map(discardItem));
+  return [head, make("p", {}, "Discard, and what is then accepted:"), list];
 }
 
 // The text in which a fault stands, with its place marked.

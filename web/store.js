@@ -59,10 +59,9 @@ function writeHands(hands) {
 
 // Puts a hand into the list, in the place of the one with its number or as a new one; gives its number.
 export function keepHand(id, line, rules) {
-  const hands = readHands();
-  const known = hands.find((hand) => hand.id === id);
+  const known = readHands().find((hand) => hand.id === id);
   if (!known) return addHands([{ name: "", line, rules }]);
-  if (known.line !== line || known.rules !== rules) writeHands(hands.map((hand) => (hand.id === id ? { ...hand, line, rules } : hand)));
+  if (known.line !== line || known.rules !== rules) changeHand(id, { line, rules });
   return id;
 }
 
@@ -75,8 +74,12 @@ export function addHands(more) {
   return added[0]?.id ?? 0;
 }
 
+function changeHand(id, changes) {
+  writeHands(readHands().map((hand) => (hand.id === id ? { ...hand, ...changes } : hand)));
+}
+
 export function nameHand(id, name) {
-  writeHands(readHands().map((hand) => (hand.id === id ? { ...hand, name } : hand)));
+  changeHand(id, { name });
 }
 
 export function removeHand(id) {
