@@ -108,9 +108,9 @@ fi
 # one file of C
 portable=$packages/riichi_desk_portable.c
 if [ -f "$portable" ]; then
-  cc -O1 -Iinclude packaging/anywhere/riichi_desk.c "$portable" -lm -o "$shelf/portable"
+  cc -O1 -Iinclude packaging/anywhere/riichi_desk.c "$portable" -o "$shelf/portable"
   same 'one file of C: line' wanted "$shelf/portable" line
-  cc -O1 -Iinclude tests/many_lines.c "$portable" -lm -o "$shelf/many-portable"
+  cc -O1 -Iinclude tests/many_lines.c "$portable" -o "$shelf/many-portable"
   told 'one file of C: many lines' 'all right' "$("$shelf/many-portable" "$shelf/few" 2>&1)"
   same 'one file of C: line --json' json "$shelf/portable" line --json
   same 'one file of C: explain' explained "$shelf/portable" explain
