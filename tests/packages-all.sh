@@ -25,6 +25,24 @@ if has wine; then
   same 'one file of C on Windows' few-wanted env WINEDEBUG=-all WINEPREFIX="$shelf/wine" wine "$shelf/portable.exe" line
 fi
 
+# without the vectors of GNU's C, lane by lane
+cc -O2 -DRIICHI_DESK_NO_VECTORS -Iinclude packaging/anywhere/riichi_desk.c "$portable" -o "$shelf/by-lanes"
+same 'one file of C, lane by lane' wanted "$shelf/by-lanes" line
+
+# the package for JavaScript in browsers, and in an engine without vectors
+if has chromium firefox-esr WebKitWebDriver Xvfb; then
+  sum=$(sha256sum < "$shelf/wanted" | cut -d' ' -f1)
+  told 'the package in browsers' "$(printf '%s\n' "Chromium $sum" "Firefox $sum" "WebKit $sum")" \
+    "$(python3 -B tests/module_in_browsers.py "$shelf/node/node_modules/riichi_desk" "$shelf/lines" 2>&1)"
+else
+  skip 'the package in browsers' 'chromium-driver, firefox-esr, webkit2gtk-driver or xvfb'
+fi
+if has node; then
+  sed 's/WebAssembly.validate(.*)$/false/' "$shelf/node/node_modules/riichi_desk/riichi_desk.js" > "$shelf/node/node_modules/riichi_desk/plain.js"
+  sed 's|"./riichi_desk.js"|"./plain.js"|' "$shelf/node/node_modules/riichi_desk/command.js" > "$shelf/node/node_modules/riichi_desk/by-plain.js"
+  same 'Node without vectors' wanted node "$shelf/node/node_modules/riichi_desk/by-plain.js" line
+fi
+
 # Debian's packages, and the wheel, on an empty root
 debs=$shelf/debs
 if has debootstrap lintian && [ -n "$(ls releases/*.deb 2> /dev/null)" ]; then
