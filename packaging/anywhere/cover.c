@@ -10,7 +10,7 @@ enum { MOST_LINE = 4200, MOST_TEXT = TOLD - GIVEN, ROOM = TAKEN - TOLD };
 static uint8_t *memory(void) {
     if (!is_ready) {
         Z_desk_init_module();
-        Z_desk_instantiate(&module);
+        Z_desk_instantiate(&module, NULL); /* (vectors need no state) */
         is_ready = 1;
     }
     return Z_deskZ_memory(&module)->data;

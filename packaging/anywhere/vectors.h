@@ -35,8 +35,10 @@ typedef s64 s64_lanes LANES;
     static inline v128 name(v128 x, v128 y) { return __builtin_shufflevector(x, y, __VA_ARGS__); }
 #elif defined(__x86_64__) && !defined(__SSSE3__)
 typedef unsigned __int128 whole LANES;
+#define KEPT(vector, low, high) ((v128)(vector) & (v128)(u64_lanes){low, high})
 #define MOVED(vector, places, low, high) \
-    ((v128)((places) < 0 ? (whole)vector >> (-8 * (places) & 127) : (whole)vector << (8 * (places) & 127)) & (v128)(u64_lanes){low, high})
+    KEPT((places) < 0 ? (whole)vector >> (-8 * (places) & 127) : (whole)vector << (8 * (places) & 127), low, high)
+#define REPEATED(vector, lane, low, high) KEPT((v128){0} + vector[lane], low, high)
 #define SHUFFLE(name, moved, ...) \
     static inline v128 name(v128 x, v128 y) { return (void)x, (void)y, moved; }
 #else
@@ -83,6 +85,7 @@ typedef struct { u8 bytes[16]; } v128;
 
 #define NO_VECTOR {0}
 static const v128 zeros = NO_VECTOR;
+enum { MOST = 255 };
 
 static inline v128 v128_load(const wasm_rt_memory_t *memory, u64 at) {
     v128 told;
@@ -96,7 +99,7 @@ OF_TWO(v128_and, u64, a & b)
 OF_TWO(v128_andnot, u64, a & ~b)
 OF_TWO(v128_or, u64, a | b)
 OF_TWO(v128_xor, u64, a ^ b)
-static inline v128 v128_not(v128 x) { return v128_andnot(v128_or(v128_xor(x, x), x), x); }
+static inline v128 v128_bitselect(v128 x, v128 y, v128 mask) { return v128_or(v128_and(mask, x), v128_andnot(y, mask)); }
 static inline u32 v128_any_true(v128 x) { return (LANE(u64, x, 0) | LANE(u64, x, 1)) != 0; }
 
 /* The instructions that each width of lanes has. */
@@ -124,9 +127,38 @@ OF_WIDTH(i8x16, u8, s8, u32)
 OF_WIDTH(i16x8, u16, s16, u32)
 OF_WIDTH(i32x4, u32, s32, u32)
 OF_WIDTH(i64x2, u64, s64, u64)
+static inline v128 v128_not(v128 x) { return i64x2_eq(v128_and(x, zeros), zeros); }
+OF_TWO(i8x16_add_sat_u, u8, a + EITHER(u8, b < MOST - a, b, (MOST - a)))
+OF_TWO(i8x16_sub_sat_u, u8, a - EITHER(u8, b < a, b, a))
 static inline u32 i8x16_extract_lane_u(v128 x, u32 at) { return LANE(u8, x, at); }
 static inline u32 i16x8_extract_lane_u(v128 x, u32 at) { return LANE(u16, x, at); }
 static inline u32 i32x4_extract_lane(v128 x, u32 at) { return LANE(u32, x, at); }
 static inline u64 i64x2_extract_lane(v128 x, u32 at) { return LANE(u64, x, at); }
 static inline v128 i64x2_const(u64 low, u64 high) { return i64x2_replace_lane(i64x2_splat(low), high, 1); }
 static inline v128 i64x2_alone(u64 low) { return i64x2_replace_lane(zeros, low, 0); }
+
+/* The highest bit of each lane of eight. */
+static inline u32 highest_bits(u64 lanes) { return (u32)((lanes & 0x8080808080808080) * 0x02040810204081 >> 56); }
+static inline u32 i8x16_bitmask(v128 x) { return highest_bits(LANE(u64, x, 0)) | highest_bits(LANE(u64, x, 1)) << 8; }
+
+/* The lower half of the lanes, each twice as wide. */
+#define WIDER(name, narrow, shape, count) \
+    static inline v128 name(v128 x) { \
+        v128 told = NO_VECTOR; \
+        for (u32 at = 0; at < count; at++) told = shape##_replace_lane(told, LANE(narrow, x, at), at); \
+        return told; \
+    }
+WIDER(i16x8_extend_low_i8x16_u, u8, i16x8, 8)
+WIDER(i32x4_extend_low_i16x8_u, u16, i32x4, 4)
+
+/* Lanes from memory, each a number of that width. */
+#define LOAD_LANE(bits, shape) \
+    static inline v128 v128_load##bits##_lane(const wasm_rt_memory_t *memory, u32 place, v128 x, u32 offset, u32 at) { \
+        u##bits lane; \
+        memcpy(&lane, memory->data + (u64)place + offset, sizeof lane); \
+        return shape##_replace_lane(x, lane, at); \
+    }
+LOAD_LANE(8, i8x16)
+LOAD_LANE(16, i16x8)
+LOAD_LANE(32, i32x4)
+LOAD_LANE(64, i64x2)
