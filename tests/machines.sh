@@ -20,8 +20,8 @@ by_dask() {
   sha256sum < "$shelf/by-dask"
 }
 if /usr/bin/python3 -c 'import dask.distributed' 2> /dev/null; then
-  told 'Dask' "$(sha256sum < "$shelf/wanted")" "$(by_dask "$shelf/lines")"
-  told 'Dask, a first line of rules' "$wanted" "$(by_dask "$shelf/text")"
+  [ -z "$all" ] || told 'Dask, with no first line of rules' "$(sha256sum < "$shelf/wanted")" "$(by_dask "$shelf/lines")"
+  told 'Dask' "$wanted" "$(by_dask "$shelf/text")"
 else
   skip Dask python3-distributed
 fi

@@ -1,4 +1,4 @@
-import { answer, answers, explain, text, type Answer } from "riichi_desk";
+import { answer, answerLines, answers, explain, text, type Answer } from "riichi_desk";
 
 function told(it: Answer): string {
   switch (it.answer) {
@@ -11,4 +11,4 @@ function told(it: Answer): string {
 }
 
 const one = answer("waits 123456789m1134p");
-console.log(one && told(one), text("shape 123456789m1134p"), explain("waits 1m").join("\n"), answers(["waits 1m"]).length);
+console.log(one && told(one), text("shape 123456789m1134p"), explain("waits 1m").join("\n"), answers(["waits 1m"]).length, answerLines("waits 1m\n").length);

@@ -7,9 +7,9 @@ told 'built once more, to the byte' "$(cd "$packages" && sha256sum -- riichi_des
 
 # by clang, at the highest level, with each access tested
 if has clang; then
-  clang -O3 -Iinclude packaging/anywhere/riichi_desk.c "$portable" -lm -o "$shelf/by-clang"
+  clang -O3 -Iinclude packaging/anywhere/riichi_desk.c "$portable" -o "$shelf/by-clang"
   same 'one file of C by clang' wanted "$shelf/by-clang" line
-  clang -O1 -g -fsanitize=address,undefined -fno-sanitize=shift -Iinclude packaging/anywhere/riichi_desk.c "$portable" -lm -o "$shelf/checked"
+  clang -O1 -g -fsanitize=address,undefined -fno-sanitize=shift -Iinclude packaging/anywhere/riichi_desk.c "$portable" -o "$shelf/checked"
   same 'one file of C, with each access tested' wanted "$shelf/checked" line
 else
   skip 'one file of C by clang' clang
@@ -17,12 +17,30 @@ fi
 if has qemu-aarch64-static; then
   same 'ARM64, all lines' wanted qemu-aarch64-static "$packages/riichi_desk-linux-arm64" line
   same 'ARM64, explanations' explained qemu-aarch64-static "$packages/riichi_desk-linux-arm64" explain
-  aarch64-linux-gnu-gcc -O1 -static -Iinclude packaging/anywhere/riichi_desk.c "$portable" -lm -o "$shelf/portable-arm64"
+  aarch64-linux-gnu-gcc -O1 -static -Iinclude packaging/anywhere/riichi_desk.c "$portable" -o "$shelf/portable-arm64"
   same 'one file of C on ARM64' few-wanted qemu-aarch64-static "$shelf/portable-arm64" line
 fi
 if has wine; then
-  x86_64-w64-mingw32-gcc -O1 -Iinclude packaging/anywhere/riichi_desk.c "$portable" -lm -o "$shelf/portable.exe"
+  x86_64-w64-mingw32-gcc -O1 -Iinclude packaging/anywhere/riichi_desk.c "$portable" -o "$shelf/portable.exe"
   same 'one file of C on Windows' few-wanted env WINEDEBUG=-all WINEPREFIX="$shelf/wine" wine "$shelf/portable.exe" line
+fi
+
+# without the vectors of GNU's C, lane by lane
+cc -O2 -DRIICHI_DESK_NO_VECTORS -Iinclude packaging/anywhere/riichi_desk.c "$portable" -o "$shelf/by-lanes"
+same 'one file of C, lane by lane' wanted "$shelf/by-lanes" line
+
+# the package for JavaScript in browsers, and in an engine without vectors
+if has chromium firefox-esr WebKitWebDriver Xvfb; then
+  sum=$(sha256sum < "$shelf/wanted" | cut -d' ' -f1)
+  told 'the package in browsers' "$(printf '%s\n' "Chromium $sum" "Firefox $sum" "WebKit $sum")" \
+    "$(python3 -B tests/module_in_browsers.py "$shelf/node/node_modules/riichi_desk" "$shelf/lines" 2>&1)"
+else
+  skip 'the package in browsers' 'chromium-driver, firefox-esr, webkit2gtk-driver or xvfb'
+fi
+if has node; then
+  sed 's/WebAssembly.validate(.*)$/false/' "$shelf/node/node_modules/riichi_desk/riichi_desk.js" > "$shelf/node/node_modules/riichi_desk/plain.js"
+  sed 's|"./riichi_desk.js"|"./plain.js"|' "$shelf/node/node_modules/riichi_desk/command.js" > "$shelf/node/node_modules/riichi_desk/by-plain.js"
+  same 'Node without vectors' wanted node "$shelf/node/node_modules/riichi_desk/by-plain.js" line
 fi
 
 # Debian's packages, and the wheel, on an empty root

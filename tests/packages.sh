@@ -22,12 +22,10 @@ same() {
 # has COMMAND..: whether all are here
 has() { for command in "$@"; do command -v "$command" > /dev/null || return 1; done; }
 
+# (they are built beside the rows that don't want them)
+building=
 if [ ! -d "$packages" ]; then
-  packaging/build-packages "$program" "$archive" "$packages" > "$shelf/said" 2>&1
-  built=$?
-  # (127: a tool isn't here)
-  [ $built = 127 ] || told 'the packages are built' 0 $built
-  tail -n 20 "$shelf/said"
+  packaging/build-packages "$program" "$archive" "$packages" > "$shelf/built" 2>&1 & building=$!
 fi
 
 # the shared library
@@ -53,6 +51,19 @@ fi
 # the calls for many lines, in rooms that are just large enough and larger
 cc -O1 -g -fsanitize=address,undefined -Iinclude tests/many_lines.c "$archive" -o "$shelf/many"
 told 'many lines by one call' 'all right' "$("$shelf/many" "$shelf/few" 2>&1)"
+
+if [ -n "$building" ]; then
+  wait "$building"
+  built=$?
+  # (127: a tool isn't here)
+  [ $built = 127 ] || told 'the packages are built' 0 $built
+  tail -n 20 "$shelf/built"
+fi
+# what takes long runs beside the rows that don't want it: a compiler over one file of C, and the first start of wine
+portable=$packages/riichi_desk_portable.c
+[ ! -f "$portable" ] || cc -O1 -Iinclude -c "$portable" -o "$shelf/portable.o" & compiling=$!
+by_wine() { WINEDEBUG=-all WINEPREFIX=$shelf/wine wine "$packages/riichi_desk-windows-x86_64.exe" "$@"; }
+! has wine || by_wine --version > /dev/null 2>&1 & starting=$!
 
 # the wheel, in a new environment
 wheel=$(echo "$packages"/riichi_desk-*x86_64.whl)
@@ -106,11 +117,11 @@ else
 fi
 
 # one file of C
-portable=$packages/riichi_desk_portable.c
 if [ -f "$portable" ]; then
-  cc -O1 -Iinclude packaging/anywhere/riichi_desk.c "$portable" -lm -o "$shelf/portable"
+  wait $compiling
+  cc -O1 -Iinclude packaging/anywhere/riichi_desk.c "$shelf/portable.o" -o "$shelf/portable"
   same 'one file of C: line' wanted "$shelf/portable" line
-  cc -O1 -Iinclude tests/many_lines.c "$portable" -lm -o "$shelf/many-portable"
+  cc -O1 -Iinclude tests/many_lines.c "$shelf/portable.o" -o "$shelf/many-portable"
   told 'one file of C: many lines' 'all right' "$("$shelf/many-portable" "$shelf/few" 2>&1)"
   same 'one file of C: line --json' json "$shelf/portable" line --json
   same 'one file of C: explain' explained "$shelf/portable" explain
@@ -128,8 +139,7 @@ else
   skip 'ARM64' qemu-user-static
 fi
 if [ -f "$packages/riichi_desk-windows-x86_64.exe" ] && has wine; then
-    by_wine() { WINEDEBUG=-all WINEPREFIX=$shelf/wine wine "$packages/riichi_desk-windows-x86_64.exe" "$@"; }
-  by_wine --version > /dev/null 2>&1
+  wait $starting
   same 'Windows: line' wanted by_wine line
   same 'Windows: line --json' json by_wine line --json
   same 'Windows: explain' explained by_wine explain

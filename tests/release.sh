@@ -17,7 +17,6 @@ mkdir "$shop/bin/packages"
 for package in "riichi_desk-$version"{.tgz,.crate,-py3-none-manylinux_2_17_x86_64.whl} riichi_desk_portable.c riichi_desk-{windows-x86_64.exe,linux-arm64} libriichi_desk_c-{windows-x86_64,linux-arm64}.a; do
   echo "$package" > "$shop/bin/packages/$package"
 done
-"$shop/packaging/sources" > "$shop/bin/packages/sources"
 debs=
 if command -v dpkg-deb > /dev/null; then
   debs=$(printf 'release: releases/%s_%s_amd64.deb\n' libriichi-desk-dev "$version" libriichi-desk0 "$version" riichi-desk "$version")$'\n'
@@ -27,11 +26,11 @@ fi
 others="release: releases/riichi_desk-$version-windows-x86_64.zip
 release: releases/riichi_desk-$version-linux-arm64.tar.gz
 $debs"
-echo another > "$shop/bin/desk.html.sources"
-told 'a release, and a page of other sources' "release: no page of these sources lies in bin; ./page builds it
-${others}release: releases/$name.tar.gz
-status 0 0" "$(by_hand "$shop" ./release) $(tar -tf "$shop/releases/$name.tar.gz" | grep -c 'desk.html$')"
+echo another | tee "$shop/bin/desk.html.sources" > "$shop/bin/packages/sources"
+told 'a release, with page and packages of other sources' "release: without packages for other languages and systems
+release: no page of these sources lies in bin; ./page builds it 0" "$(by_hand "$shop" ./release | grep -E ': (without|no page)') $(tar -tf "$shop/releases/$name.tar.gz" | grep -cE 'desk.html$|whl$|crate$')"
 "$shop/web/sources" > "$shop/bin/desk.html.sources"
+"$shop/packaging/sources" > "$shop/bin/packages/sources"
 told 'a release' "${others}release: releases/$name.tar.gz
 status 0" "$(by_hand "$shop" ./release)"
 first=$(cd "$shop/releases" && sha256sum -- *)
@@ -42,10 +41,6 @@ told 'the release once more, to the byte' "$first" "$(by_hand "$shop" ./release 
 told 'what is in the archive for Windows' 'LICENSE NOTATION.md README.md RULES.md SHA256SUMS answer.schema.json examples libriichi_desk_c.a licences riichi_desk.c riichi_desk.exe riichi_desk.h' \
   "$(unzip -l "$shop/releases/riichi_desk-$version-windows-x86_64.zip" | sed -n "s|.* riichi_desk-$version-windows-x86_64/\([^/]*\).*|\1|p" | sort -u | xargs)"
 told 'how it is called there' 3 "$(unzip -p "$shop/releases/riichi_desk-$version-windows-x86_64.zip" '*/README.md' | grep -cF '$ .\riichi_desk.exe ')"
-told 'a release without packages' 'release: without packages for other languages and systems' \
-  "$(echo another > "$shop/bin/packages/sources"; by_hand "$shop" ./release | grep without)"
-"$shop/packaging/sources" > "$shop/bin/packages/sources"
-by_hand "$shop" ./release > /dev/null
 tar -C "$scripts" -xf "$shop/releases/$name.tar.gz"
 unpacked=$scripts/$name
 told 'what is in the release' 'LICENSE NOTATION.md README.md RULES.md SHA256SUMS answer.schema.json completions desk.html examples library libriichi_desk_c.a licences packages riichi_desk riichi_desk.1 riichi_desk.h riichi_desk.proved' \

@@ -1,5 +1,5 @@
 /* riichi_desk where the proved program has no home: the commands explain, line and waits over riichi_desk.h, in C99 with its library
- * alone. Link it with the static library for the system, or with riichi_desk_portable.c.
+ * and `read`. Link it with the static library for the system, or with riichi_desk_portable.c.
  */
 #include "riichi_desk.h"
 #include <stdio.h>
@@ -7,6 +7,9 @@
 #ifdef _WIN32
 #include <fcntl.h>
 #include <io.h>
+#define read _read
+#else
+#include <unistd.h>
 #endif
 
 static const char help[] =
@@ -20,27 +23,31 @@ static const char help[] =
     "A first line `rules 2` of standard input sets the rules too.\n"
     "Exit status: 0 answered, 1 answered and something was refused, 2 wrong words, 3 input or output failed\n";
 
-/* A line of more than 4096 bytes is refused whatever follows, so more of it is not kept. */
-enum { MOST_LINE = 4200 };
+typedef size_t answer_call(uint32_t, const uint8_t *, size_t, uint8_t *, size_t, size_t *);
 
-typedef size_t answer_call(uint32_t, const uint8_t *, size_t, uint8_t *, size_t);
+static struct { uint32_t rules; answer_call *call; int refused; } asked = {RIICHI_RULES_ONE, riichi_answer_lines, 0};
 
-static struct { uint32_t rules; int json, explains, refused; } asked = {RIICHI_RULES_ONE, 0, 0, 0};
-
-static void answer(const uint8_t *line, size_t length) {
-    static uint8_t room[RIICHI_MOST_JSON];
-    static const char json[] = "{\"answer\":\"refused\"", text[] = "refused";
-    answer_call *call = asked.json ? riichi_json : riichi_answer;
-    size_t needed = call(asked.rules, line, length, room, sizeof room);
-    if (needed > 0) {
-        fwrite(room, 1, needed, stdout);
-        putchar('\n');
-        asked.refused |= needed >= 7 && memcmp(room, text, 7) == 0;
-        asked.refused |= needed >= sizeof json - 1 && memcmp(room, json, sizeof json - 1) == 0;
+/* Whether an answer among these is a refusal. */
+static int has_refused(const uint8_t *answers, size_t length) {
+    static const char text[] = "refused", json[] = "{\"answer\":\"refused\"";
+    size_t at = 0;
+    while (at < length) {
+        const uint8_t *line = answers + at, *feed = memchr(line, '\n', length - at);
+        size_t size = (size_t)(feed - line);
+        if (size >= sizeof text - 1 && memcmp(line, text, sizeof text - 1) == 0) return 1;
+        if (size >= sizeof json - 1 && memcmp(line, json, sizeof json - 1) == 0) return 1;
+        at += size + 1;
     }
-    if (asked.explains) {
-        needed = riichi_explain(asked.rules, line, length, room, sizeof room);
-        fwrite(room, 1, needed, stdout);
+    return 0;
+}
+
+static void answer(const uint8_t *text, size_t length) {
+    static uint8_t room[1 << 18];
+    size_t taken;
+    for (; length > 0; text += taken, length -= taken) {
+        size_t filled = asked.call(asked.rules, text, length, room, sizeof room, &taken);
+        asked.refused = asked.refused || has_refused(room, filled);
+        fwrite(room, 1, filled, stdout);
     }
 }
 
@@ -58,21 +65,36 @@ static int is_profile(const uint8_t *line, size_t length) {
     return 1;
 }
 
-static void answer_input(void) {
-    static uint8_t line[MOST_LINE];
-    int is_first = 1, byte;
+/* How many bytes of a text its first line takes, with its line feed, where that is a profile; else 0. */
+static size_t profile_of(const uint8_t *text, size_t length) {
+    const uint8_t *feed = memchr(text, '\n', length);
+    size_t size = feed ? (size_t)(feed - text) : length;
+    size_t kept = size > 0 && text[size - 1] == '\r' ? size - 1 : size;
+    if (kept > 4096 || !is_profile(text, kept)) return 0;
+    return feed ? size + 1 : size;
+}
+
+/* A line of more than 4096 bytes is refused whatever follows, so more of it is not kept. */
+enum { MOST_LINE = 4200, MOST_TEXT = 1 << 16 };
+
+/* Answers the lines of standard input as they come; whether it could be read. */
+static int answer_input(void) {
+    static uint8_t text[MOST_TEXT];
+    size_t held = 0;
+    int is_first = 1, more;
     do {
-        size_t length = 0, kept;
-        while ((byte = getchar()) != EOF && byte != '\n') {
-            if (length < MOST_LINE) line[length] = (uint8_t)byte;
-            length++;
-        }
-        kept = length < MOST_LINE ? length : MOST_LINE;
-        if (kept == length && length > 0 && line[length - 1] == '\r') kept--;
-        if (byte == EOF && length == 0) break;
-        if (!is_first || kept > 4096 || !is_profile(line, kept)) answer(line, kept);
-        is_first = 0;
-    } while (byte != EOF);
+        more = (int)read(0, text + held, sizeof text - held);
+        if (more < 0) return 0;
+        size_t length = held + (size_t)more, whole = length, start = 0;
+        while (more > 0 && whole > 0 && text[whole - 1] != '\n') whole--;
+        if (is_first && whole > 0) start = profile_of(text, whole), is_first = 0;
+        answer(text + start, whole - start);
+        fflush(stdout);
+        held = length - whole;
+        memmove(text, text + whole, held);
+        if (held == sizeof text) held = MOST_LINE;
+    } while (more > 0);
+    return 1;
 }
 
 static int version(void) {
@@ -105,19 +127,20 @@ int main(int count, char **words) {
     if (strcmp(command, "--version") == 0) return version();
     if (strcmp(command, "--help") == 0) return fputs(help, stdout) < 0 || fflush(stdout) ? 3 : 0;
     if (strcmp(command, "waits") == 0 && count == 3) return waits(words[2]) | (fflush(stdout) ? 3 : 0);
-    asked.explains = strcmp(command, "explain") == 0;
-    if (!asked.explains && strcmp(command, "line") != 0) return wrong(command);
+    int explains = strcmp(command, "explain") == 0, is_read = 1;
+    if (!explains && strcmp(command, "line") != 0) return wrong(command);
+    if (explains) asked.call = riichi_explain_lines;
     for (; at < count && words[at][0] == '-'; at++) {
-        if (strcmp(words[at], "--json") == 0 && !asked.explains) {
-            asked.json = 1;
+        if (strcmp(words[at], "--json") == 0 && !explains) {
+            asked.call = riichi_json_lines;
         } else if (strcmp(words[at], "--rules") == 0 && at + 1 < count && strlen(words[at + 1]) == 1 && strchr("12", words[at + 1][0])) {
             asked.rules = (uint32_t)(words[++at][0] - '0');
         } else {
             return wrong(words[at]);
         }
     }
-    if (at < count && !asked.explains) return wrong(words[at]);
-    if (at == count) answer_input();
+    if (at < count && !explains) return wrong(words[at]);
+    if (at == count) is_read = answer_input();
     for (; at < count; at++) answer((const uint8_t *)words[at], strlen(words[at]));
-    return ferror(stdin) || fflush(stdout) || ferror(stdout) ? 3 : asked.refused;
+    return !is_read || fflush(stdout) || ferror(stdout) ? 3 : asked.refused;
 }

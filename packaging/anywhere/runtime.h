@@ -1,7 +1,6 @@
 /* What the translated module asks of its surroundings: one memory. That each access lies in it is proved of the sources, as for the
  * library itself, so none is looked at. A trap can't come either; where a translation is wrong and one does, the process ends. */
 #include <assert.h>
-#include <math.h>
 #include <stdbool.h>
 #include <stddef.h>
 #include <stdint.h>
@@ -32,9 +31,9 @@
 #define WASM_RT_MEMCHECK_SIGNAL_HANDLER 1 /* wasm2c: no look at an access */
 #define WASM_RT_USE_STACK_DEPTH_COUNT 0
 
-enum { PAGE = 65536, PAGES = @pages@, SPACE = (PAGES + 2) * PAGE };
+/* Behind the module's own pages lie those for what a call is given, and those for its answer. */
+enum { PAGE = 65536, PAGES = @pages@, PAGES_GIVEN = 1, PAGES_TOLD = 4, SPACE = (PAGES + PAGES_GIVEN + PAGES_TOLD) * PAGE };
 
-/* Behind the module's own pages lie one for the line, or what else a call is given, and one for its answer. */
 typedef struct { uint8_t data[SPACE]; uint32_t size; } wasm_rt_memory_t;
 
 static void wasm_rt_allocate_memory(wasm_rt_memory_t *memory, uint32_t pages, uint32_t most) {
@@ -44,14 +43,6 @@ static void wasm_rt_allocate_memory(wasm_rt_memory_t *memory, uint32_t pages, ui
 
 static void wasm_rt_free_memory(wasm_rt_memory_t *memory) { (void)memory; }
 
-/* wasm2c names these whether or not a module has tables; this one has none. */
-typedef void (*wasm_rt_function_ptr_t)(void);
-typedef struct { uint32_t func_type; wasm_rt_function_ptr_t func; void *module_instance; } wasm_rt_funcref_t;
-typedef struct { wasm_rt_funcref_t *data; uint32_t max_size, size; } wasm_rt_funcref_table_t;
-typedef void *wasm_rt_externref_t;
-typedef struct { wasm_rt_externref_t *data; uint32_t max_size, size; } wasm_rt_externref_table_t;
-static const wasm_rt_externref_t wasm_rt_externref_null_value = NULL;
-enum { WASM_RT_I32, WASM_RT_I64, WASM_RT_F32, WASM_RT_F64 };
 #define wasm_rt_register_func_type(...) 0
 #define wasm_rt_is_initialized() true
 

@@ -1,7 +1,7 @@
 #!/usr/bin/env node
 // riichi-desk line|explain|waits, as the program of Linux has them, wherever Node runs.
 import { readFileSync, writeSync } from "node:fs";
-import { explain, json, text, version } from "./riichi_desk.js";
+import { answerLines, explainLines, jsonLines, version } from "./riichi_desk.js";
 
 const HELP = `Usage: riichi-desk COMMAND
 
@@ -15,6 +15,8 @@ Commands:
 A first line \`rules 2\` of standard input sets the rules too.
 Exit status: 0 answered, 1 answered and something was refused, 2 wrong words, 3 input or output failed
 `;
+
+const MOST_PIECE = 1 << 20; // bytes of lines that are answered before the answers are written
 
 function stop(status, words) {
   process.stderr.write(words);
@@ -33,18 +35,12 @@ function wordsOf(words, allowed) {
   return told;
 }
 
-// The lines of standard input as bytes, and the rules that the first of them sets.
+// Standard input, without its first line where that sets the rules, and these.
 function input(rules) {
-  const bytes = readFileSync(0);
-  const lines = [];
-  for (let start = 0; start < bytes.length; ) {
-    const feed = bytes.indexOf(10, start);
-    const end = feed < 0 ? bytes.length : feed;
-    lines.push(bytes.subarray(start, end));
-    start = end + 1;
-  }
-  const named = /^ *rules +([12]) *\r?$/.exec(lines[0]?.toString("latin1") ?? "");
-  return named ? { lines: lines.slice(1), rules: Number(named[1]) } : { lines, rules };
+  const text = readFileSync(0);
+  const end = text.indexOf(10) + 1 || text.length;
+  const [, line, named] = /^( *rules +([12]) *)\r?\n?$/.exec(text.latin1Slice(0, end)) ?? [];
+  return named && line.length <= 4096 ? { text: text.subarray(end), rules: Number(named) } : { text, rules };
 }
 
 function write(words) {
@@ -52,45 +48,32 @@ function write(words) {
   for (let at = 0; at < bytes.length; ) at += writeSync(1, bytes, at);
 }
 
-// Writes what `told` says of each line; the status is 1 where one was refused.
-function tell(lines, told) {
+// Writes what `call` answers to the lines of a text, a piece at a time; the status is 1 where one was refused.
+function tell(call, text, rules) {
   let isRefused = false;
-  let held = "";
-  for (const line of lines) {
-    const words = told(line);
-    if (words === null) continue;
-    isRefused ||= words.startsWith("refused") || words.startsWith('{"answer":"refused"');
-    held += `${words}\n`;
-    if (held.length > 1 << 16) {
-      write(held);
-      held = "";
-    }
+  for (let start = 0, end; start < text.length; start = end) {
+    end = text.indexOf(10, start + MOST_PIECE) + 1 || text.length;
+    const told = call(text.subarray(start, end), rules);
+    isRefused ||= /^(refused|\{"answer":"refused")/m.test(told);
+    write(told);
   }
-  write(held);
   return Number(isRefused);
-}
-
-function explained(rules) {
-  return (line) => {
-    const answer = text(line, rules);
-    return answer === null ? null : [answer, ...explain(line, rules)].join("\n");
-  };
 }
 
 const [command, ...words] = process.argv.slice(2);
 let status = 0;
 try {
   if (command === "line") {
-    const { rest, ...options } = wordsOf(words, ["--json"]);
+    const { rest, rules: given, json } = wordsOf(words, ["--json"]);
     if (rest.length > 0) stop(2, `riichi-desk: ${rest[0]}?\n${HELP}`);
-    const { lines, rules } = input(options.rules);
-    status = tell(lines, (line) => (options.json ? json : text)(line, rules));
+    const { text, rules } = input(given);
+    status = tell(json ? jsonLines : answerLines, text, rules);
   } else if (command === "explain") {
     const { rest, rules: given } = wordsOf(words, []);
-    const { lines, rules } = rest.length > 0 ? { lines: rest, rules: given } : input(given);
-    status = tell(lines, explained(rules));
+    const { text, rules } = rest.length > 0 ? { text: Buffer.from(rest.join("\n")), rules: given } : input(given);
+    status = tell(explainLines, text, rules);
   } else if (command === "waits" && words.length === 1) {
-    status = tell(words, (hand) => text(`waits ${hand}`));
+    status = tell(answerLines, Buffer.from(`waits ${words[0]}`), 1);
   } else if (command === "--version") {
     write(`${version()}\n`);
   } else if (command === "--help") {

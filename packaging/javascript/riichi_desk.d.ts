@@ -42,5 +42,12 @@ export function texts(lines: Iterable<Line>, rules?: Rules): (string | null)[];
 export function json(line: Line, rules?: Rules): string | null;
 /** The lines that say why a line is answered as it is. */
 export function explain(line: Line, rules?: Rules): string[];
+/** The answers to a whole text of lines, as the command `line` writes them: each with a line feed, and nothing for a comment or a
+ * blank line. A line `rules 2` is a line like any other here, and refused. By few calls: the quickest way to many answers. */
+export function answerLines(text: Line, rules?: Rules): string;
+/** The same, each answer as one line of JSON. */
+export function jsonLines(text: Line, rules?: Rules): string;
+/** The same as `answerLines`, and behind each answer the lines that explain it. */
+export function explainLines(text: Line, rules?: Rules): string;
 /** The name and version of the library. */
 export function version(): string;

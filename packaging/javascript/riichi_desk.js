@@ -1,7 +1,9 @@
 // The proved library for browsers and for Node: import { answer } from "riichi_desk". The modules lie beside this file.
 
 const MOST_LINE = 4200; // a line of more than 4096 bytes is refused whatever follows
-const MOST_ANSWER = 1 << 16;
+const PAGE = 65536;
+const MOST_TEXT = PAGE;
+const MOST_ANSWER = 4 * PAGE - 8;
 
 // A module with nothing but an instruction on vectors. An engine that has none takes the module without them, which is slower.
 const OF_VECTORS = [0, 97, 115, 109, 1, 0, 0, 0, 1, 5, 1, 96, 0, 1, 123, 3, 2, 1, 0, 10, 10, 1, 8, 0, 65, 0, 253, 15, 253, 98, 11];
@@ -21,9 +23,11 @@ async function bytesOfModule() {
 
 const { instance } = await WebAssembly.instantiate(await bytesOfModule(), {});
 const calls = instance.exports;
-const LINE = calls.memory.grow(2) * 65536;
-const ROOM = LINE + 65536;
+const LINE = calls.memory.grow(5) * PAGE;
+const ROOM = LINE + MOST_TEXT;
+const TAKEN = ROOM + MOST_ANSWER;
 const memory = new Uint8Array(calls.memory.buffer); // a call takes no memory, so it stays this one
+const view = new DataView(calls.memory.buffer);
 const lineRoom = memory.subarray(LINE, LINE + MOST_LINE);
 const encoder = new TextEncoder();
 const decoder = new TextDecoder();
@@ -46,8 +50,12 @@ function put(line) {
   return front.length;
 }
 
-function ask(call, line, rules) {
+function tested(rules) {
   if (rules !== 1 && rules !== 2) throw new RangeError(`rules is 1 or 2, and not ${rules}`);
+}
+
+function ask(call, line, rules) {
+  tested(rules);
   const needed = call(rules, AT[0], BigInt(put(line)), AT[1], AT[2]);
   return needed > 0n ? read(needed) : null;
 }
@@ -74,6 +82,39 @@ export function answers(lines, rules = 1) {
 
 export function explain(line, rules = 1) {
   return (ask(calls.riichi_explain, line, rules) ?? "").split("\n").filter((it) => it !== "");
+}
+
+// How much of a text one call is given: whole lines; of a line that is longer than its room, so much that it is refused.
+function frontOf(text) {
+  if (text.length <= MOST_TEXT) return text.length;
+  return text.lastIndexOf(10, MOST_TEXT - 1) + 1 || MOST_LINE;
+}
+
+function askLines(call, text, rules) {
+  tested(rules);
+  let rest = typeof text === "string" ? encoder.encode(text) : text;
+  const pieces = [];
+  while (rest.length > 0) {
+    const front = frontOf(rest);
+    memory.set(rest.subarray(0, front), LINE);
+    pieces.push(read(call(rules, AT[0], BigInt(front), AT[1], AT[2], BigInt(TAKEN))));
+    let taken = Number(view.getBigUint64(TAKEN, true));
+    if (rest[taken - 1] !== 10) taken = rest.indexOf(10, taken) + 1 || rest.length;
+    rest = rest.subarray(taken);
+  }
+  return pieces.join("");
+}
+
+export function answerLines(text, rules = 1) {
+  return askLines(calls.riichi_answer_lines, text, rules);
+}
+
+export function jsonLines(text, rules = 1) {
+  return askLines(calls.riichi_json_lines, text, rules);
+}
+
+export function explainLines(text, rules = 1) {
+  return askLines(calls.riichi_explain_lines, text, rules);
 }
 
 export function version() {

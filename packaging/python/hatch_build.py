@@ -18,7 +18,7 @@ class LibraryHook(BuildHookInterface):
         library = root / "src" / "riichi_desk" / "libriichi_desk.so"
         if not library.is_file():
             compiler = os.environ.get("CC", "cc").split()
-            words = ["-O2", "-fPIC", "-shared", f"-I{root}", f"{root}/riichi_desk_portable.c", "-lm", "-o", f"{library}"]
+            words = ["-O2", "-fPIC", "-shared", f"-I{root}", f"{root}/riichi_desk_portable.c", "-o", f"{library}"]
             subprocess.run([*compiler, *words], check=True)
         at_hand = sysconfig.get_platform().replace("-", "_").replace(".", "_")
         build_data["pure_python"] = False
