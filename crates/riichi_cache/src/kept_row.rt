@@ -66,20 +66,24 @@ impl KeptRow {
     }
 }
 
-/// The row of a key: the one at its place, or a new one, which takes that place.
+/// The row of a key: one of the two that stand at its place and behind it, or a new one. The newer of the two stands
+/// first, and the older gives way.
 pub(crate) fn row_at(places: &mut [KeptRow], key: RowKey) -> SuitRow
     requires some { 0 < length places.old }
     requires caps { (r : ℕ) → r < 9 → slice_index key.caps r ≤ 4 }
     ensures row { IsMarkedRow key.runs key.counts key.caps result }
     ensures places { length places.new ≡ length places.old }
 {
-    let place = key.place(places.len());
-    match places[place].row_of(&key) {
-        Some(row) => row,
-        None => {
-            let made = KeptRow::new(key);
-            places[place] = made;
-            made.row()
-        }
+    let newer = key.place(places.len());
+    let older = (newer + 1).min(places.len() - 1);
+    if let Some(row) = places[newer].row_of(&key) {
+        return row;
     }
+    if let Some(row) = places[older].row_of(&key) {
+        return row;
+    }
+    let made = KeptRow::new(key);
+    places[older] = places[newer];
+    places[newer] = made;
+    made.row()
 }

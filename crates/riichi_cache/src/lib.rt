@@ -4,9 +4,9 @@
 //! that key. Each row that one keeps is by its type the row of its key, so it answers as
 //! `FreshRows` does, whatever it was asked before. None fails.
 //!
-//! - `RowMemo` has a place for each of so many rows, and finds the place of a row by its counts and
-//!   caps. Where the place has that very row, it is the answer; else the row is made, and takes the
-//!   place of the other. It is the fastest.
+//! - `RowMemo` has a place for each of so many rows, in pairs, and finds the pair of a row by its counts and
+//!   caps. Where one of the two is that very row, it is the answer; else the row is made, and the older of
+//!   the two gives way. It is the fastest.
 //! - `FrameMemo` is the same of `N` places in the value itself: it takes no memory.
 //! - `RowCache` keeps the rows that it was asked for last, up to its capacity. A row for which there
 //!   is no memory is not kept.

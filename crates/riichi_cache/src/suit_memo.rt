@@ -8,7 +8,7 @@ use riichi_rows::{RowSource, SuitRow};
 use std::alloc::Global;
 
 /// So many rows are kept in memory, of 67 bytes each.
-const PLACES: usize = 16_384;
+const PLACES: usize = 32_768;
 
 /// So many are kept in the value.
 const FEW_PLACES: usize = 1_024;

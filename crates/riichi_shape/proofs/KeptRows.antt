@@ -1,6 +1,5 @@
 -- A tile changes the row of its own suit alone.
-use Rattle.std.proofs.Common.{◌≡◌, ◌≢◌, ℕ, ◌+◌, ◌<◌, ◌≤◌, List, slice_set, get_or-set_other, inl, inr, refl, subst, sym, ◌∙◌, arith}
-use Rattle.std.specs.Prelude.{slice_index}
+use Rattle.std.proofs.Common.{◌≢◌, ℕ, ◌+◌, List, slice_set, get_or-set_other, inl, inr, refl, subst, sym, ◌∙◌, arith}
 use Rattle.riichi_rows.specs.declared.row.SuitRow.{SuitRow}
 use Rattle.riichi_tiles.specs.declared.meld.Meld.{Meld}
 use Rattle.riichi_tiles.specs.Kinds.{IsOfSuit, first_of, suit_of}

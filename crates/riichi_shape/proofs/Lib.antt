@@ -12,6 +12,7 @@ pub mod KeptLemmas
 pub mod KeptRows
 pub mod KindLemmas
 pub mod LackedRows
+pub mod LeastLeft
 pub mod LiveLemmas
 pub mod Members
 pub mod Nearer

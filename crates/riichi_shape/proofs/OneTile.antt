@@ -7,7 +7,7 @@ use Rattle.riichi_shape.specs.Special.{SpecialLacks}
 use Rattle.riichi_shape.proofs.AcceptedLemmas.{held_inside}
 use Rattle.riichi_shape.proofs.OneMore.{hand_falls}
 
-one_less : (more fewer : List ℕ) (kind n : ℕ) → kind < length more → fewer ≡ slice_set more kind n → n + 1 ≡ slice_index more kind → IsOneMore kind fewer more
+pub one_less : (more fewer : List ℕ) (kind n : ℕ) → kind < length more → fewer ≡ slice_set more kind n → n + 1 ≡ slice_index more kind → IsOneMore kind fewer more
 one_less more fewer kind n inside e n_is = record {
   here = rw e (let set = get_or-set_same more kind n 0 inside in omega (arith, set, n_is));
   elsewhere = λ other ne. rw e (sym (get_or-set_other more kind other n 0 ne));

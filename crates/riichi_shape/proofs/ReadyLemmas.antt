@@ -41,14 +41,14 @@ orphans_tiles wanted is =
     all_of : (n : ℕ) → n ≡ n - 0
     all_of n = omega arith
 
-tiles_of_winning : (melds : List Meld) (wanted : List ℕ) → length melds ≤ 4 → IsWinning melds wanted → spread (slice_index wanted) 0 34 + 3 * length melds ≡ 14
+pub tiles_of_winning : (melds : List Meld) (wanted : List ℕ) → length melds ≤ 4 → IsWinning melds wanted → spread (slice_index wanted) 0 34 + 3 * length melds ≡ 14
 tiles_of_winning melds wanted few is =
     ⊎_elim (λ standard. omega (arith, standard_tiles (4 - length melds) wanted standard, few))
     (λ special. ⊎_elim (λ pairs. omega (arith, pairs.0, pairs.1.fourteen, sum_range (slice_index wanted) 0 34)) (λ orphans. omega (arith, orphans.0, orphans_tiles wanted orphans.1)) special) is.form
 
 -- ---- what is lacked, and what is left over
 
-balance : (w h : ℕ → ℕ) (a n : ℕ) → spread (λ k. w k - h k) a n + spread h a n ≡ spread (λ k. h k - w k) a n + spread w a n
+pub balance : (w h : ℕ → ℕ) (a n : ℕ) → spread (λ k. w k - h k) a n + spread h a n ≡ spread (λ k. h k - w k) a n + spread w a n
 balance w h a n =
     let left = spread_sum (λ k. w k - h k) h (λ k. (w k - h k) + h k) (λ k. refl) a n in
     let right = spread_sum (λ k. h k - w k) w (λ k. (w k - h k) + h k) (λ k. greater (w k) (h k)) a n in

@@ -2,10 +2,9 @@
 use Rattle.std.proofs.Common.{◌≡◌, ℕ, ◌<◌, ◌≤◌, ℤ, true, false, List, ap, ◌∙◌, arith}
 use Rattle.std.proofs.lemmas.Bool.{ltb-false}
 use Rattle.std.proofs.lemmas.Bool.Decides.{nat_tests}
-use Rattle.std.specs.List.{sum}
 use Rattle.std.specs.Prelude.{nat_lt, ◌==◌, ◌||◌}
 use Rattle.riichi_tiles.specs.Melds.{every_kind, tiles}
-use Rattle.riichi_hand.specs.Hand.{IsShape, copies_with, has_five_seen, is_thirteen, is_thirteen_or_more, size}
+use Rattle.riichi_hand.specs.Hand.{IsShape, copies_with, has_five_seen, is_thirteen, is_thirteen_or_more}
 use Rattle.riichi_hand.specs.HandParts.{ShapeParts}
 use Rattle.riichi_tiles.specs.declared.meld.Meld.{Meld}
 use Rattle.riichi_shape.specs.Accepted.{accepted_of}
@@ -19,16 +18,16 @@ use Rattle.riichi_shape.specs.declared.shape_answer.ShapeAnswer.{ShapeAnswer}
 use Rattle.riichi_hand.proofs.OutcomeLemmas.{no_faults}
 use Rattle.riichi_tiles.proofs.Members.{in-range, none-in}
 
-either_size : (n : ℕ) → ((n == 13) || (n == 14)) ≡ true → n ≤ 14
-either_size n e = grind (arith, nat_tests)
+pub either_size : (n : ℕ) → ((n == 13) || (n == 14)) ≡ true → (n ≡ 13 → ⊥) → n ≡ 14
+either_size n e not = grind (arith, nat_tests)
 
 module _ (parts : ShapeParts) (is : IsShape parts) where
   pub copies_few : (kind : ℕ) → kind < 34 → copies_with parts kind ≤ 4
   copies_few kind low =
       ltb-false 4 (copies_with parts kind) (none-in (λ kind. nat_lt 4 (copies_with parts kind)) every_kind (no_faults (is_thirteen_or_more parts.tiles parts.melds) (has_five_seen parts) is).1 kind (in-range 34 0 kind (omega arith) (omega arith)))
 
-  pub tiles_few : sum parts.tiles ≤ 14
-  tiles_few = omega (arith, either_size (size parts.tiles parts.melds) (no_faults (is_thirteen_or_more parts.tiles parts.melds) (has_five_seen parts) is).0)
+  pub is_sized : is_thirteen_or_more parts.tiles parts.melds ≡ true
+  is_sized = (no_faults (is_thirteen_or_more parts.tiles parts.melds) (has_five_seen parts) is).0
 
   pub melds_few : (kind : ℕ) → kind < 34 → tiles parts.melds kind ≤ 4
   melds_few kind low = omega (arith, copies_few kind low)

@@ -1,5 +1,5 @@
 -- Which tile to discard from a hand of fourteen, and what it then accepts.
-use Rattle.std.specs.Prelude.{◌≡◌, ℕ, ◌<◌, ◌≤◌, ◌&&◌, Bool, nat_le, if◌then◌else◌, List, [], ◌∷◌, map, filter, slice_index}
+use Rattle.std.specs.Prelude.{ℕ, ◌&&◌, Bool, nat_le, if◌then◌else◌, List, [], ◌∷◌, map, filter}
 use Rattle.std.specs.List.{list_all}
 use Rattle.riichi_tiles.specs.Tiles.{has_tile}
 use Rattle.riichi_tiles.specs.Melds.{every_kind}
@@ -16,19 +16,6 @@ distance_without hand melds kind = distance_of (without_one hand kind) melds
 -- no other removal leaves a lesser distance
 abbrev pub is_best : List ℕ → List Meld → ℕ → Bool
 is_best hand melds kind = list_all (λ other. nat_le (distance_without hand melds kind) (distance_without hand melds other)) (filter (has_tile hand) every_kind)
-
--- for each kind of the hand the distance without it, and 255 for another
-pub record AreDistancesWithout (hand : List ℕ) (melds : List Meld) (distances : List ℕ) : Type 0 where
-  pub held : (kind : ℕ) → kind < 34 → 0 < slice_index hand kind → slice_index distances kind ≡ distance_without hand melds kind
-  pub few : (kind : ℕ) → kind < 34 → 0 < slice_index hand kind → slice_index distances kind ≤ 14
-  pub others : (kind : ℕ) → kind < 34 → slice_index hand kind ≡ 0 → slice_index distances kind ≡ 255
-
--- the least of 34 numbers
-pub record IsLeastOf (distances : List ℕ) (least : ℕ) : Type 0 where
-  pub bound : (kind : ℕ) → kind < 34 → least ≤ slice_index distances kind
-  pub place : ℕ
-  pub is_kind : place < 34
-  pub reached : least ≡ slice_index distances place
 
 -- a discard has the accepted list of the hand without its tile, which is then seen
 abbrev pub discard_of : List ℕ → List Meld → List ℕ → ℕ → Discard

@@ -7,7 +7,7 @@ use Rattle.riichi_rows.specs.Lacked.{ChoiceLacks, IsOneMore}
 use Rattle.riichi_rows.specs.Suit.{IsSuitRow}
 use Rattle.riichi_shape.specs.Distance.{IsDistance, OrphansReached, PairsReached}
 use Rattle.riichi_tiles.specs.Forms.{HasWinningForm, IsSetsAndPair, IsSevenPairs, IsThirteenOrphans}
-use Rattle.riichi_tiles.specs.Kinds.{first_of, has_runs, is_orphan, kinds_of, rank_of, suit_of}
+use Rattle.riichi_tiles.specs.Kinds.{has_runs, is_orphan, rank_of, suit_of}
 use Rattle.riichi_tiles.specs.declared.suit.Suit.{Suit}
 use Rattle.riichi_shape.specs.Suits.{IsSuitOf}
 use Rattle.riichi_shape.specs.Winning.{WithinFour, lacking}

@@ -1,8 +1,7 @@
 //! The answer of a shape record.
-ghost use Rattle.std.specs.Prelude.{true, false, ℕ, ◌≡◌, ◌<◌, ◌≤◌, slice_index};
-ghost use Rattle.std.specs.List.{sum};
+ghost use Rattle.std.specs.Prelude.{true, ℕ, ◌≡◌, ◌<◌, ◌≤◌, slice_index};
 ghost use Rattle.riichi_tiles.specs.Melds.{tiles};
-ghost use Rattle.riichi_hand.specs.Hand.{is_thirteen};
+ghost use Rattle.riichi_hand.specs.Hand.{is_thirteen, size};
 ghost use Rattle.riichi_shape.specs.Answer.{shape_of};
 ghost use Rattle.riichi_shape.specs.Choosing.{HasDiscards};
 
@@ -47,16 +46,16 @@ fn shape_of_fourteen<R: RowSource>(
     seen: &Counts,
 ) -> ShapeAnswer
     requires melded { (k : ℕ) → k < 34 → tiles melds.now k ≤ 4 }
-    requires few { sum hand.now ≤ 14 }
-    requires fourteen { is_thirteen hand.now melds.now ≡ false }
+    requires fourteen { size hand.now melds.now ≡ 14 }
     ensures shape { result
         ≡ shape_of (record { tiles = hand.now; melds = melds.now; seen = seen.now }) }
     ensures stays { source.new ≡ source.old }
 {
     let forms = HandForms::new(source, hand, melds);
+    let distance = forms.distance(melds);
     ShapeAnswer {
-        shanten: shanten_at(forms.distance(melds)),
-        accepts: Accepts::Fourteen(discards_by(source, &forms, hand, melds, seen)),
+        shanten: shanten_at(distance),
+        accepts: Accepts::Fourteen(discards_by(source, &forms, distance, hand, melds, seen)),
     }
 }
 

@@ -1,11 +1,11 @@
 //! Which tile to discard from a hand of fourteen.
-ghost use Rattle.std.specs.Prelude.{ℕ, ◌≡◌, ◌<◌, ◌≤◌, slice_index};
-ghost use Rattle.std.specs.List.{sum};
+ghost use Rattle.std.specs.Prelude.{ℕ, ◌≡◌, ◌≢◌, ◌<◌, ◌≤◌, MatchOption, slice_index};
+ghost use Rattle.riichi_hand.specs.Hand.{size};
 ghost use Rattle.riichi_tiles.specs.Melds.{tiles};
 ghost use Rattle.riichi_shape.specs.Discards as spec;
+ghost use Rattle.riichi_shape.specs.EveryWinning.{distance_of};
 ghost use Rattle.riichi_shape.specs.KeptDiscards.{IsKept, IsToldOf};
 ghost use Rattle.riichi_shape.specs.Rows.{AreFormsOf};
-ghost use Rattle.riichi_shape.specs.Special.{SpecialLacks};
 ghost use Rattle.riichi_shape.specs.Suits.{AreHandCaps};
 
 use crate::acceptance::{accepted_by, live_copies};
@@ -20,70 +20,7 @@ use crate::live_copies::LiveCopies;
 use riichi_rows::RowSource;
 use riichi_tiles::{Counts, Kind, Melds};
 
-/// The distance of the hand without one tile of the kind.
-fn distance_without<R: RowSource>(
-    source: &mut R,
-    forms: &HandForms,
-    caps: &HandCaps,
-    floor: u8,
-    hand: &Counts,
-    melds: &Melds,
-    kind: Kind,
-) -> u8
-    requires melded { (k : ℕ) → k < 34 → tiles melds.now k ≤ 4 }
-    requires forms { AreFormsOf hand.now melds.now forms.now }
-    requires caps { AreHandCaps melds.now caps.now }
-    requires floor { SpecialLacks hand.now melds.now floor }
-    requires held { 0 < slice_index hand.now kind }
-    ensures value { result ≡ spec.distance_without hand.now melds.now kind }
-    ensures few { result ≤ 14 }
-    ensures stays { source.new ≡ source.old }
-{
-    let mut rest = *hand;
-    rest.remove(kind);
-    let row = row_at(source, &rest, caps, kind);
-    distance_with(&forms.joins, floor, kind, &row, &rest, melds)
-}
-
-/// The distance of the hand without each of its kinds. For another kind it is more than any.
-fn distances_without<R: RowSource>(
-    source: &mut R,
-    forms: &HandForms,
-    caps: &HandCaps,
-    hand: &Counts,
-    melds: &Melds,
-) -> [u8; 34]
-    requires melded { (k : ℕ) → k < 34 → tiles melds.now k ≤ 4 }
-    requires forms { AreFormsOf hand.now melds.now forms.now }
-    requires caps { AreHandCaps melds.now caps.now }
-    ensures distances { spec.AreDistancesWithout hand.now melds.now result }
-    ensures stays { source.new ≡ source.old }
-{
-    let floor = forms.special.distance();
-    let mut distances = [u8::MAX; 34];
-    for number in 0..34u8 {
-        let kind = Kind::at(number);
-        if hand.get(kind) > 0 {
-            distances[number as usize] = distance_without(
-                source, forms, caps, floor, hand, melds, kind,
-            );
-        }
-    }
-    distances
-}
-
-/// The least of the distances.
-fn least_of(distances: &[u8; 34]) -> u8
-    ensures { spec.IsLeastOf distances.now result }
-{
-    let mut least = distances[0];
-    for distance in distances {
-        least = least.min(*distance);
-    }
-    least
-}
-
-/// The discard of a kind that leaves so many tiles lacking, and what is accepted after it. The tile
+/// The discard of a kind and what is accepted after it, where it leaves just so many tiles lacking. The tile
 /// that is discarded is seen, so as many copies of each kind are live as were before.
 fn discard_of<R: RowSource>(
     source: &mut R,
@@ -94,48 +31,55 @@ fn discard_of<R: RowSource>(
     melds: &Melds,
     live: &LiveCopies,
     kind: Kind,
-) -> KeptDiscard
+) -> Option<KeptDiscard>
     requires melded { (k : ℕ) → k < 34 → tiles melds.now k ≤ 4 }
     requires forms { AreFormsOf hand.now melds.now forms.now }
     requires held { 0 < slice_index hand.now kind }
-    requires least { least ≡ spec.distance_without hand.now melds.now kind }
-    requires few { least ≤ 14 }
     requires caps { AreHandCaps melds.now caps.now }
-    ensures told { IsToldOf hand.now melds.now kind live.now.copies result }
-    ensures kept { IsKept live.now.copies result }
+    ensures kept { MatchOption result (spec.distance_without hand.now melds.now kind ≢ least)
+        (λ kept. (spec.distance_without hand.now melds.now kind ≡ least)
+        × IsToldOf hand.now melds.now kind live.now.copies kept × IsKept live.now.copies kept) }
     ensures stays { source.new ≡ source.old }
 {
     let mut rest = *hand;
     rest.remove(kind);
     let row = row_at(source, &rest, caps, kind);
+    let floor = forms.special.distance();
+    if distance_with(&forms.joins, floor, kind, &row, &rest, melds) != least {
+        return None;
+    }
     let lacked = forms.lacked_without(hand, melds, kind, &row, least);
     let accepted = accepted_by(&lacked, &rest, live);
-    KeptDiscard::new(kind, live.among(accepted), accepted)
+    Some(KeptDiscard::new(kind, live.among(accepted), accepted))
 }
 
-/// The kinds whose removal leaves the least distance, each with what it then accepts.
+/// The kinds whose removal leaves the least distance, each with what it then accepts. From a hand that is not
+/// complete some tile can go without loss; a complete one lacks a tile after any discard.
 pub(crate) fn discards_by<R: RowSource>(
     source: &mut R,
     forms: &HandForms,
+    distance: u8,
     hand: &Counts,
     melds: &Melds,
     seen: &Counts,
 ) -> DiscardList
     requires melded { (k : ℕ) → k < 34 → tiles melds.now k ≤ 4 }
     requires forms { AreFormsOf hand.now melds.now forms.now }
-    requires few { sum hand.now ≤ 14 }
+    requires distance { distance ≡ distance_of hand.now melds.now }
+    requires fourteen { size hand.now melds.now ≡ 14 }
     ensures discards { result ≡ spec.discards_of hand.now melds.now seen.now }
     ensures stays { source.new ≡ source.old }
 {
     let caps = hand_caps_of(melds);
-    let distances = distances_without(source, forms, &caps, hand, melds);
-    let least = least_of(&distances);
+    let least = distance.max(1);
     let live = live_copies(hand, melds, seen);
     let mut order = DiscardOrder::new();
     for number in (0..34u8).rev() {
         let kind = Kind::at(number);
-        if hand.get(kind) > 0 && distances[number as usize] == least {
-            order.insert(discard_of(source, forms, &caps, least, hand, melds, &live, kind));
+        if hand.get(kind) > 0 {
+            if let Some(kept) = discard_of(source, forms, &caps, least, hand, melds, &live, kind) {
+                order.insert(kept);
+            }
         }
     }
     DiscardList::new(&live.copies, order)

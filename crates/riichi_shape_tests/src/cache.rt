@@ -2,7 +2,7 @@
 ghost use Rattle.std.specs.Prelude.{◌≤◌};
 
 use crate::facts::{holds, same};
-use riichi_cache::{FrameMemo, Memory, RowCache, RowMemo};
+use riichi_cache::{FrameMemo, Memory, RowCache, RowMemo, SuitMemo};
 use riichi_rows::{FreshRows, RowSource, SuitRow};
 use std::alloc::Global;
 use std::process::Abort;
@@ -61,6 +61,12 @@ fn rows_of_a_memo(rt: HostRuntime) -> Result<(), Fail> {
         .or_else(|_| RowMemo::new(rt.alloc(), 4))
         .map_err(|_| "no memory twice")?;
     check_keys_that_are_alike(&rt, &mut memo)
+}
+
+/// It is there whether its memory can be had or not.
+#[test]
+fn rows_of_a_suit_memo(rt: HostRuntime) -> Result<(), Fail> {
+    check_keys_that_are_alike(&rt, &mut SuitMemo::new(rt.alloc()))
 }
 
 /// Of a single place, and of a number that is no power of two.

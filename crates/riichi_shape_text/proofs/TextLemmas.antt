@@ -1,15 +1,16 @@
 -- The text of the accepted kinds and of the discards.
-use Rattle.std.proofs.Common.{◌≡◌, ℕ, zero, suc, ◌+◌, ◌≤◌, Bool, true, false, cond, List, [], ◌∷◌, ◌++◌, map, length, take, length-set, ◌%◌, ltb, refl, sym, ap, ◌∙◌, arith}
+use Rattle.std.proofs.Common.{◌≡◌, ℕ, zero, suc, ◌+◌, ◌-◌, ◌<◌, ◌≤◌, Bool, true, false, cond, List, [], ◌∷◌, ◌++◌, map, length, take, length-set, ◌%◌, ltb, refl, sym, ap, ◌∙◌, arith}
+use Rattle.std.proofs.lemmas.Bool.{lt-ltb, le-ltb, ltb-false, ltb-true}
 use Rattle.std.proofs.lemmas.List.{append-nil, flat_map_more}
 use Rattle.std.specs.Str.{IsAscii}
 use Rattle.std.proofs.lemmas.Str.Ascii.{IsAscii-cons, IsAscii-nil}
 use Rattle.std.proofs.lemmas.Str.{IsAscii-append}
 use Rattle.std.proofs.lemmas.Grind.{take-set_at}
-use Rattle.std.proofs.lemmas.List.{take-set-le}
 use Rattle.std.specs.Result.{IsOk, MatchResult}
 use Rattle.std.proofs.Common.{Result, Ok, Err}
 use Rattle.std.specs.List.{filter, flat_map, range_with_len}
 use Rattle.std.specs.Prelude.{nat_lt, slice_index, slice_set}
+use Rattle.riichi_tiles.specs.HeldKinds.{AreHeldOf, is_held}
 use Rattle.riichi_tiles.specs.Melds.{every_kind}
 use Rattle.riichi_shape.specs.LiveCopies.{pairs_of}
 use Rattle.riichi_text.specs.Tiles.{letter_of}
@@ -60,13 +61,36 @@ pairs_more copies n =
     same : (n : ℕ) → 0 + n ≡ n
     same n = omega arith
 
-pub text_with : (copies : List ℕ) (n : ℕ) → flat_map pair_text (pairs_below copies n) ++ cond (ltb 0 (slice_index copies n)) (pair_text (n, slice_index copies n)) [] ≡ flat_map pair_text (pairs_below copies (n + 1))
-text_with copies n = by_test (ltb 0 (slice_index copies n)) (pairs_more copies n)
+pub text_with : (copies : List ℕ) (n : ℕ) → 0 < slice_index copies n → flat_map pair_text (pairs_below copies n) ++ pair_text (n, slice_index copies n) ≡ flat_map pair_text (pairs_below copies (n + 1))
+text_with copies n live =
+    flat_map_more pair_text [] (pairs_below copies n) (n, slice_index copies n)
+    ∙ sym (ap (λ ps. flat_map pair_text ps) (pairs_more copies n ∙ ap (λ t. pairs_below copies n ++ cond t ((n, slice_index copies n) ∷ []) []) (lt-ltb 0 (slice_index copies n) live)))
+
+-- the kinds from one to another have no live copies
+pub pairs_past : (copies : List ℕ) (n more : ℕ) → ((kind : ℕ) → n ≤ kind → kind < n + more → slice_index copies kind ≤ 0) → pairs_below copies (n + more) ≡ pairs_below copies n
+pairs_past copies n zero none = ap (pairs_below copies) (same n)
   where
-    by_test : (t : Bool) → pairs_below copies (n + 1) ≡ pairs_below copies n ++ cond t ((n, slice_index copies n) ∷ []) [] →
-        flat_map pair_text (pairs_below copies n) ++ cond t (pair_text (n, slice_index copies n)) [] ≡ flat_map pair_text (pairs_below copies (n + 1))
-    by_test true e = flat_map_more pair_text [] (pairs_below copies n) (n, slice_index copies n) ∙ sym (ap (λ ps. flat_map pair_text ps) e)
-    by_test false e = append-nil (flat_map pair_text (pairs_below copies n)) ∙ sym (ap (λ ps. flat_map pair_text ps) (e ∙ append-nil (pairs_below copies n)))
+    same : (n : ℕ) → n + 0 ≡ n
+    same n = omega arith
+pairs_past copies n (suc more) none =
+    ap (pairs_below copies) (next n more) ∙ pairs_more copies (n + more)
+    ∙ ap (λ t. pairs_below copies (n + more) ++ cond t ((n + more, slice_index copies (n + more)) ∷ []) []) (le-ltb 0 (slice_index copies (n + more)) (none (n + more) (omega arith) (omega arith)))
+    ∙ append-nil (pairs_below copies (n + more)) ∙ pairs_past copies n more (λ kind low high. none kind low (omega arith))
+  where
+    next : (n more : ℕ) → n + suc more ≡ n + more + 1
+    next n more = omega arith
+
+-- a set of the kinds that have live copies
+module _ (copies : List ℕ) (set : ℕ) (live : AreHeldOf copies set) where
+  pub live_at : (kind : ℕ) → is_held set kind ≡ true → 0 < slice_index copies kind
+  live_at kind held = ltb-true 0 (slice_index copies kind) (sym (live.each kind) ∙ held)
+
+  pub next_live : (n m : ℕ) → n ≤ m → ((kind : ℕ) → n ≤ kind → kind < m → is_held set kind ≡ false) → pairs_below copies m ≡ pairs_below copies n
+  next_live n m up none =
+      ap (pairs_below copies) (parts n m up) ∙ pairs_past copies n (m - n) (λ kind low high. ltb-false 0 (slice_index copies kind) (sym (live.each kind) ∙ none kind low (omega (arith, up))))
+    where
+      parts : (n m : ℕ) → n ≤ m → m ≡ n + (m - n)
+      parts n m up = omega arith
 
 -- ---- the text is ASCII
 
@@ -105,12 +129,6 @@ written bytes at a b c d e room =
     ∙ ap (λ t. t ++ c ∷ []) (take-set_at with_a (at + 1) (at + 2) b (omega arith) (omega (arith, length-set bytes at a, room))
     ∙ ap (λ t. t ++ b ∷ []) (take-set_at bytes at (at + 1) a (omega arith) (omega (arith, room))))))
     ∙ five_bytes (take at bytes) a b c d e
-
--- what is written there leaves the bytes before it
-pub kept_before : (bytes : List ℕ) (at a b c d e : ℕ) →
-    take at (slice_set (slice_set (slice_set (slice_set (slice_set bytes at a) (at + 1) b) (at + 2) c) (at + 3) d) (at + 4) e) ≡ take at bytes
-kept_before bytes at a b c d e =
-    take-set-le at _ (at + 4) e (omega arith) ∙ take-set-le at _ (at + 3) d (omega arith) ∙ take-set-le at _ (at + 2) c (omega arith) ∙ take-set-le at _ (at + 1) b (omega arith) ∙ take-set-le at bytes at a (omega arith)
 
 -- of no error a value is left
 pub ok_unless : {T E : Type 0} (P : T → Type 0) (Q : E → Type 0) (r : Result T E) → MatchResult r P Q → ((e : E) → Q e → ⊥) → IsOk r

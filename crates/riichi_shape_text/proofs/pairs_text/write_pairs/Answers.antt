@@ -1,27 +1,35 @@
-use Rattle.std.proofs.Common.{◌≡◌, ◌++◌, [], get_or, if◌then◌else◌, nat_lt, sym, ap, ◌∙◌, arith}
+use Rattle.std.proofs.Common.{◌≡◌, ◌+◌, ◌++◌, get_or, sym, ap, ◌∙◌, arith}
 use Rattle.std.specs.List.{flat_map}
 use Rattle.riichi_shape_text.specs.Text.{pair_text}
-use Rattle.riichi_shape_text.proofs.TextLemmas.{pairs_all, pairs_below, pairs_none, text_with}
+use Rattle.riichi_shape_text.proofs.TextLemmas.{live_at, next_live, pairs_all, pairs_below, pairs_none, text_with}
 use Rattle.riichi_shape_text.proofs.pairs_text.write_pairs.Goals as goal
 
 pub loop-kind-init : goal.loop-kind-init
-loop-kind-init c = record {
-  text = sym (ap (λ ps. flat_map pair_text ps) (pairs_none c.args.copies.now));
-  few = omega arith;
-}
+loop-kind-init c =
+    let copies = c.args.copies.now in
+    let first = c.first_from-kind in
+    record {
+      text = sym (ap (λ ps. flat_map pair_text ps) (next_live copies c.of-live.result c.of-live.ensures 0 first.result (omega arith) first.ensures.none ∙ pairs_none copies));
+      few = omega arith;
+      most = first.ensures.end;
+      live = λ inside. live_at copies c.of-live.result c.of-live.ensures first.result (first.ensures.held inside);
+    }
 
 pub loop-kind-preserved : goal.loop-kind-preserved
 loop-kind-preserved c =
     let copies = c.args.copies.now in
     let kind = c.loop-kind.kind in
-    let live = get_or copies kind 0 in
+    let next = c.first_from-kind-in-loop-kind in
     let so_far = c.loop-kind.invariant in
     record {
-      text = c.write_pair-end.ensures.text ∙ ap (λ t. t ++ (if nat_lt 0 live then pair_text (kind, live) else [])) so_far.text ∙ text_with copies kind;
-      few = omega (arith, c.write_pair-end.ensures.most, so_far.few);
+      text = c.write_pair.ensures ∙ ap (λ t. t ++ pair_text (kind, get_or copies kind 0)) so_far.text ∙ text_with copies kind (so_far.live c.loop-kind-test.true)
+          ∙ sym (ap (λ ps. flat_map pair_text ps) (next_live copies c.of-live.result c.of-live.ensures (kind + 1) next.result next.ensures.from next.ensures.none));
+      few = omega (arith, so_far.few, next.ensures.from);
+      most = next.ensures.end;
+      live = λ inside. live_at copies c.of-live.result c.of-live.ensures next.result (next.ensures.held inside);
     }
 
 pub returns-clause-text : goal.returns-clause-text
 returns-clause-text c =
-    let all : c.loop-kind.kind ≡ 34 = omega arith in
+    let all : c.loop-kind.kind ≡ 34 = omega (arith, c.loop-kind.invariant.most, c.loop-kind-test.false) in
     c.loop-kind.invariant.text ∙ ap (λ n. flat_map pair_text (pairs_below c.args.copies.now n)) all ∙ ap (λ ps. flat_map pair_text ps) (pairs_all c.args.copies.now)

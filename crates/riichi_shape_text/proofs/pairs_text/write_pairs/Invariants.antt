@@ -1,4 +1,4 @@
-use Rattle.std.proofs.Common.{◌≡◌, ◌*◌, ◌≤◌, take}
+use Rattle.std.proofs.Common.{◌≡◌, ◌*◌, ◌-◌, ◌<◌, ◌≤◌, get_or, take}
 use Rattle.std.specs.List.{flat_map}
 use Rattle.riichi_shape_text.specs.Text.{pair_text}
 use Rattle.riichi_shape_text.proofs.TextLemmas.{pairs_below}
@@ -8,4 +8,9 @@ abbrev pub invariant-loop-kind : goal.invariant-loop-kind
 invariant-loop-kind l = record {
   text : take l.end l.bytes ≡ flat_map pair_text (pairs_below l.copies l.kind);
   few : l.end ≤ 5 * l.kind;
+  most : l.kind ≤ 34;
+  live : l.kind < 34 → 0 < get_or l.copies l.kind 0;
 }
+
+abbrev pub decreases-loop-kind : goal.decreases-loop-kind
+decreases-loop-kind l = 34 - l.kind
