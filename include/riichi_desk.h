@@ -23,7 +23,7 @@ extern "C" {
 #define RIICHI_MOST_JSON 12288
 
 /* No explanation takes more bytes. */
-#define RIICHI_MOST_EXPLANATION 3072
+#define RIICHI_MOST_EXPLANATION 4608
 
 /* The rule profiles, as docs/RULES.md has them. */
 #define RIICHI_RULES_ONE 1

@@ -124,7 +124,7 @@ explains "$room/rules.lines" "$room/rules.wanted"
 explains "$room/rules-two.lines" "$room/rules-two.wanted"
 disputed='win 99978m444p567s22s on=9m by=ron seat=S round=E riichi=1'
 why=$'won 1 han 50 fu 1600 gain 1600 riichi\n  reading 789m 999m 444p 567s 22s, 9m completes 789m\n  han     riichi 1
-  fu      20 base, 10 concealed ron, 8 concealed triplet 999m, 4 concealed triplet 444p: 42, rounded to 50
+  fu      20 base, 10 concealed ron (menzen kafu), 8 concealed triplet 999m (ankou), 4 concealed triplet 444p (ankou): 42, rounded to 50
   base    50 x 2^3 = 400\n  pays    discarder 1600\n  gain    1600'
 row 0 "$why" '' explain "$disputed"
 row 1 "$why"$'\nrefused N5 hand at 0\n  8z\n  ^ honours are 1z to 7z' '' explain "$disputed" 'waits 8z'
@@ -183,10 +183,10 @@ status 3" "$("$program" explain < "$room" 2>&1; echo "status $?")"
 printf '# table three\nwaits 123456789m1134p\n\nwaits 8z\r\nwait 1m' > "$room/input"
 row 1 $'{"answer":"waits","kinds":["2p","5p"]}\n{"answer":"refused","code":"N5","text":"hand","place":0}\n{"answer":"refused","code":"H2"}' '' line --json
 cp examples/club-night.lines "$room/input"
-pinfu='{"number":4,"word":"pinfu"}' concealed='{"number":3,"word":"fully-concealed"}'
+pinfu='{"number":4,"word":"pinfu","japanese":"pinfu"}' concealed='{"number":3,"word":"fully-concealed","japanese":"menzen tsumo"}'
 row 1 '{"answer":"won","yakuman":false,"han":2,"fu":20,"dora":0,"base":320,"limit":null,"payment":{"dealer":700,"each_other":400},"gain":1500,"yaku":['$concealed,$pinfu']}
-{"answer":"won","yakuman":false,"han":3,"fu":40,"dora":0,"base":1280,"limit":null,"payment":{"discarder":5200},"gain":5200,"yaku":[{"number":27,"word":"twice-pure-double-chow"}]}
-{"answer":"won","yakuman":false,"han":4,"fu":60,"dora":1,"base":2000,"limit":"mangan","payment":{"dealer":4000,"each_other":2000},"gain":8000,"yaku":['$concealed',{"number":11,"word":"prevalent-wind"},{"number":12,"word":"after-a-kong"}]}
+{"answer":"won","yakuman":false,"han":3,"fu":40,"dora":0,"base":1280,"limit":null,"payment":{"discarder":5200},"gain":5200,"yaku":[{"number":27,"word":"twice-pure-double-chow","japanese":"ryanpeikou"}]}
+{"answer":"won","yakuman":false,"han":4,"fu":60,"dora":1,"base":2000,"limit":"mangan","payment":{"dealer":4000,"each_other":2000},"gain":8000,"yaku":['$concealed',{"number":11,"word":"prevalent-wind","japanese":"yakuhai bakaze"},{"number":12,"word":"after-a-kong","japanese":"rinshan kaiho"}]}
 {"answer":"no yaku"}
 {"answer":"waits","kinds":["1m","2m","3m","4m","5m","6m","7m","8m"]}
 {"answer":"shape","shanten":0,"discards":[{"discard":"8p","accepts":[{"kind":"2p","live":4},{"kind":"5p","live":4}],"live":8}]}
@@ -194,11 +194,11 @@ row 1 '{"answer":"won","yakuman":false,"han":2,"fu":20,"dora":0,"base":320,"limi
 printf '%s\n' 'win 123406789m22s34p on=2p by=ron seat=S round=E' 'win 19m19p19s1234567z on=1m by=ron seat=E round=E' \
   'win 234m567m345p67s99s on=5s by=tsumo seat=E round=E counters=2 sticks=1' 'win 123456789m22s34p on=9s by=ron seat=S round=E' \
   'shape 123456789m1134p' > "$room/input"
-rest='{"answer":"won","yakuman":true,"han":0,"fu":0,"dora":0,"base":8000,"limit":"yakuman","payment":{"discarder":48000},"gain":48000,"yaku":[{"number":29,"word":"thirteen-orphans"}]}
+rest='{"answer":"won","yakuman":true,"han":0,"fu":0,"dora":0,"base":8000,"limit":"yakuman","payment":{"discarder":48000},"gain":48000,"yaku":[{"number":29,"word":"thirteen-orphans","japanese":"kokushi musou"}]}
 {"answer":"won","yakuman":false,"han":2,"fu":20,"dora":0,"base":320,"limit":null,"payment":{"each":900},"gain":3700,"yaku":['$concealed,$pinfu']}
 {"answer":"no win"}
 {"answer":"shape","shanten":0,"accepts":[{"kind":"2p","live":4},{"kind":"5p","live":4}],"live":8}'
-straight='"payment":{"discarder":%s},"gain":%s,"yaku":['$pinfu',{"number":16,"word":"pure-straight"}]}'
+straight='"payment":{"discarder":%s},"gain":%s,"yaku":['$pinfu',{"number":16,"word":"pure-straight","japanese":"ittsu"}]}'
 row 0 '{"answer":"won","yakuman":false,"han":4,"fu":30,"dora":1,"base":2000,"limit":"mangan",'"${straight//%s/8000}
 $rest" '' line --json --rules 2
 row 0 '{"answer":"won","yakuman":false,"han":3,"fu":30,"dora":0,"base":960,"limit":null,'"${straight//%s/3900}

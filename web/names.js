@@ -118,6 +118,7 @@ const PHRASES = [
   ["two pairs", "shanpon", "双碰"],
   ["self-draw", "tsumo", "ツモ"],
   ["red fives", "aka dora", "赤ドラ"],
+  ["red five", "aka dora", "赤ドラ"],
   ["riichi sticks", "kyoutaku", "供託"],
   ["sanbaiman", "sanbaiman", "三倍満"],
   ["haneman", "haneman", "跳満"],
@@ -184,13 +185,15 @@ export function shantenWords(shanten) {
   return shanten === 1 && tongue !== "english" ? inTongue(["", "Iishanten", "一向聴"]) : away;
 }
 
-// A row of an explanation in the chosen tongue: its yaku and phrases, and nothing else, are said by their other names.
+// A row of an explanation in the chosen tongue: its yaku and phrases, and nothing else, are said by their other names. The
+// Japanese names that stand in brackets go.
 export function spoken(row, by) {
   if (tongue === "english") return row;
+  const plain = row.replaceAll(/ \([a-z ]+\)/g, "");
   const words = Object.keys(YAKU).sort((one, other) => other.length - one.length);
   const all = [...words, ...words.map((word) => word.replaceAll("-", " ")), ...PHRASES.map(([phrase]) => phrase)];
   const pattern = new RegExp(`(?<![a-z-])(?:${all.join("|")})(?![a-z-])`, "g");
-  return row.replace(pattern, (found) => {
+  return plain.replace(pattern, (found) => {
     const phrase = PHRASES.find(([english]) => english === found);
     return phrase ? inTongue(phrase) : yakuName(found.replaceAll(" ", "-"), by).toLowerCase();
   });

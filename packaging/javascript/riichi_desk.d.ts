@@ -4,7 +4,7 @@ export type Rules = 1 | 2;
 export type Line = string | Uint8Array;
 /** A kind of tile, as its digit and its letter: "5m", "7z". */
 export type Kind = `${1 | 2 | 3 | 4 | 5 | 6 | 7 | 8 | 9}${"m" | "p" | "s"}` | `${1 | 2 | 3 | 4 | 5 | 6 | 7}z`;
-export interface Yaku { number: number; word: string }
+export interface Yaku { number: number; word: string; japanese: string }
 /** What each payer pays, in points. */
 export type Payment = { discarder: number } | { dealer: number; each_other: number } | { each: number };
 /** What a win is worth. Of a yakuman `han`, `fu` and `dora` are 0. */

@@ -14,23 +14,23 @@ struct Row {
 const WINS: [Row; 7] = [
     Row {
         line: "win 234m567m345p67s99s on=5s by=tsumo seat=S round=E",
-        text: "{\"answer\":\"won\",\"yakuman\":false,\"han\":2,\"fu\":20,\"dora\":0,\"base\":320,\"limit\":null,\"payment\":{\"dealer\":700,\"each_other\":400},\"gain\":1500,\"yaku\":[{\"number\":3,\"word\":\"fully-concealed\"},{\"number\":4,\"word\":\"pinfu\"}]}",
+        text: "{\"answer\":\"won\",\"yakuman\":false,\"han\":2,\"fu\":20,\"dora\":0,\"base\":320,\"limit\":null,\"payment\":{\"dealer\":700,\"each_other\":400},\"gain\":1500,\"yaku\":[{\"number\":3,\"word\":\"fully-concealed\",\"japanese\":\"menzen tsumo\"},{\"number\":4,\"word\":\"pinfu\",\"japanese\":\"pinfu\"}]}",
     },
     Row {
         line: "win 234m567m345p67s99s on=5s by=tsumo seat=E round=E counters=2 sticks=1",
-        text: "{\"answer\":\"won\",\"yakuman\":false,\"han\":2,\"fu\":20,\"dora\":0,\"base\":320,\"limit\":null,\"payment\":{\"each\":900},\"gain\":3700,\"yaku\":[{\"number\":3,\"word\":\"fully-concealed\"},{\"number\":4,\"word\":\"pinfu\"}]}",
+        text: "{\"answer\":\"won\",\"yakuman\":false,\"han\":2,\"fu\":20,\"dora\":0,\"base\":320,\"limit\":null,\"payment\":{\"each\":900},\"gain\":3700,\"yaku\":[{\"number\":3,\"word\":\"fully-concealed\",\"japanese\":\"menzen tsumo\"},{\"number\":4,\"word\":\"pinfu\",\"japanese\":\"pinfu\"}]}",
     },
     Row {
         line: "win 234m567m34p99s open=ankan:1111z on=2p by=tsumo seat=S round=E flags=rinshan dora=1p",
-        text: "{\"answer\":\"won\",\"yakuman\":false,\"han\":4,\"fu\":60,\"dora\":1,\"base\":2000,\"limit\":\"mangan\",\"payment\":{\"dealer\":4000,\"each_other\":2000},\"gain\":8000,\"yaku\":[{\"number\":3,\"word\":\"fully-concealed\"},{\"number\":11,\"word\":\"prevalent-wind\"},{\"number\":12,\"word\":\"after-a-kong\"}]}",
+        text: "{\"answer\":\"won\",\"yakuman\":false,\"han\":4,\"fu\":60,\"dora\":1,\"base\":2000,\"limit\":\"mangan\",\"payment\":{\"dealer\":4000,\"each_other\":2000},\"gain\":8000,\"yaku\":[{\"number\":3,\"word\":\"fully-concealed\",\"japanese\":\"menzen tsumo\"},{\"number\":11,\"word\":\"prevalent-wind\",\"japanese\":\"yakuhai bakaze\"},{\"number\":12,\"word\":\"after-a-kong\",\"japanese\":\"rinshan kaiho\"}]}",
     },
     Row {
         line: "win 223344m556677m8m on=8m by=ron seat=S round=E riichi=1 dora=1m",
-        text: "{\"answer\":\"won\",\"yakuman\":false,\"han\":14,\"fu\":30,\"dora\":2,\"base\":8000,\"limit\":\"yakuman\",\"payment\":{\"discarder\":32000},\"gain\":32000,\"yaku\":[{\"number\":0,\"word\":\"riichi\"},{\"number\":4,\"word\":\"pinfu\"},{\"number\":6,\"word\":\"all-simples\"},{\"number\":27,\"word\":\"twice-pure-double-chow\"},{\"number\":28,\"word\":\"full-flush\"}]}",
+        text: "{\"answer\":\"won\",\"yakuman\":false,\"han\":14,\"fu\":30,\"dora\":2,\"base\":8000,\"limit\":\"yakuman\",\"payment\":{\"discarder\":32000},\"gain\":32000,\"yaku\":[{\"number\":0,\"word\":\"riichi\",\"japanese\":\"riichi\"},{\"number\":4,\"word\":\"pinfu\",\"japanese\":\"pinfu\"},{\"number\":6,\"word\":\"all-simples\",\"japanese\":\"tanyao\"},{\"number\":27,\"word\":\"twice-pure-double-chow\",\"japanese\":\"ryanpeikou\"},{\"number\":28,\"word\":\"full-flush\",\"japanese\":\"chinitsu\"}]}",
     },
     Row {
         line: "win 19m19p19s1234567z on=1m by=ron seat=E round=E",
-        text: "{\"answer\":\"won\",\"yakuman\":true,\"han\":0,\"fu\":0,\"dora\":0,\"base\":8000,\"limit\":\"yakuman\",\"payment\":{\"discarder\":48000},\"gain\":48000,\"yaku\":[{\"number\":29,\"word\":\"thirteen-orphans\"}]}",
+        text: "{\"answer\":\"won\",\"yakuman\":true,\"han\":0,\"fu\":0,\"dora\":0,\"base\":8000,\"limit\":\"yakuman\",\"payment\":{\"discarder\":48000},\"gain\":48000,\"yaku\":[{\"number\":29,\"word\":\"thirteen-orphans\",\"japanese\":\"kokushi musou\"}]}",
     },
     Row {
         line: "win 123456789m22s34p on=9s by=ron seat=S round=E",

@@ -15,29 +15,30 @@ use Rattle.riichi_shape.specs.declared.accepts.Accepts.{Accepts}
 use Rattle.riichi_shape.specs.declared.accepts.Accepts.TheVariants.{Thirteen, Fourteen}
 use Rattle.riichi_shape.specs.declared.discard.Discard.{Discard}
 use Rattle.riichi_shape.specs.declared.shape_answer.ShapeAnswer.{ShapeAnswer}
+use Rattle.riichi_names.specs.Names.{japanese}
 use Rattle.riichi_yaku.specs.declared.table.Yaku.{Yaku}
 use Rattle.riichi_yaku.specs.Table as table
 use Rattle.riichi_yaku.specs.YakuSets.{is_yakuman, yaku_in}
 use Rattle.desk_core.specs.declared.answer.Answer.TheVariants as answer
 use Rattle.desk_json.specs.Parts as parts
-use Rattle.desk_json.specs.Parts.{yaku_text, limit_text, truth_text, payment_text, worth_text, points_text, score_text, yaku_list_text, quoted_kind, live_text, pairs_text, accepted_text, discard_text, discards_text, accepts_text, shape_text}
+use Rattle.desk_json.specs.Parts.{yaku_text, names_text, limit_text, truth_text, payment_text, worth_text, points_text, score_text, yaku_list_text, quoted_kind, live_text, pairs_text, accepted_text, discard_text, discards_text, accepts_text, shape_text}
 use Rattle.desk_json.specs.Text.{answer_text}
 use Rattle.desk_json.specs.Trees.{answer_tree, members_of, object_of, natural, kind_tree, yaku_tree, limit_tree, payment_tree, score_tree, win_tree, kinds_in, waits_tree, live_tree, accepted_members, discard_tree, accepts_members, shape_tree}
 use Rattle.desk_json.proofs.Lists.{items_joined}
-use Rattle.desk_json.proofs.WordLemmas.{escape_kind, escape_word}
+use Rattle.desk_json.proofs.WordLemmas.{escape_kind, escape_name, escape_word}
 use Rattle.desk_json.proofs.Written.{written, members_written, text_written}
 
 -- ---- wins
 
-yaku_with : (n : ℕ) (word : List ℕ) → escape word ≡ word
-    → written (object_of ((codes "number", natural n) ∷ (codes "word", string word) ∷ []))
-    ≡ codes "{\"number\":" ++ decimal n ++ codes ",\"word\":\"" ++ word ++ codes "\"}"
+yaku_with : (n : ℕ) (word name : List ℕ) → escape word ≡ word → escape name ≡ name
+    → written (object_of ((codes "number", natural n) ∷ (codes "word", string word) ∷ (codes "japanese", string name) ∷ []))
+    ≡ codes "{\"number\":" ++ decimal n ++ (codes ",\"word\":\"" ++ word ++ codes "\",\"japanese\":\"" ++ name ++ codes "\"}")
 unfolding written escape_byte
-yaku_with n word same = simp (append_assoc, same)
+yaku_with n word name same same_name = simp (append_assoc, same, same_name)
 
 pub yaku_written : (yaku : Yaku) → written (yaku_tree yaku) ≡ yaku_text yaku
-unfolding yaku_tree yaku_text
-yaku_written yaku = yaku_with (table.number yaku) (table.word yaku) (escape_word yaku)
+unfolding yaku_tree yaku_text names_text
+yaku_written yaku = yaku_with (table.number yaku) (table.word yaku) (japanese yaku) (escape_word yaku) (escape_name yaku)
 
 limit_written : (base : ℕ) → written (limit_tree base) ≡ limit_text base
 unfolding written escape_byte limit_tree

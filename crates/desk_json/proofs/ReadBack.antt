@@ -33,7 +33,7 @@ items_numbers tree P each (x ∷ xs) h = (each x h.0, items_numbers tree P each 
 
 yaku_numbers : (yaku : Yaku) → HasNumbers (yaku_tree yaku)
 unfolding yaku_tree
-yaku_numbers yaku = (IsNumber-decimal (table.number yaku) (omega (arith, below_41 yaku)), (tt, tt))
+yaku_numbers yaku = (IsNumber-decimal (table.number yaku) (omega (arith, below_41 yaku)), (tt, (tt, tt)))
 
 limit_numbers : (base : ℕ) → HasNumbers (limit_tree base)
 unfolding limit_tree

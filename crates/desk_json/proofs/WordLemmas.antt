@@ -8,6 +8,7 @@ use Rattle.json.specs.Print.{escape, escape_byte}
 use Rattle.json.proofs.Printed.Strings.{escape_byte_plain}
 use Rattle.riichi_text.specs.Tiles.{kind_text, letter_of}
 use Rattle.riichi_text.proofs.Letters.{letter_high}
+use Rattle.riichi_names.specs.Names.{japanese}
 use Rattle.riichi_yaku.specs.declared.table.Yaku.{Yaku}
 use Rattle.riichi_yaku.specs.declared.table.Yaku.TheVariants.{Riichi}
 use Rattle.riichi_yaku.specs.Table.{word}
@@ -26,6 +27,13 @@ word_plain other = refl
 
 pub escape_word : (yaku : Yaku) → escape (word yaku) ≡ word yaku
 escape_word yaku = escape_same (word yaku) (word_plain yaku)
+
+name_plain : (yaku : Yaku) → list_all is_plain (japanese yaku) ≡ true
+name_plain Riichi = refl
+name_plain other = refl
+
+pub escape_name : (yaku : Yaku) → escape (japanese yaku) ≡ japanese yaku
+escape_name yaku = escape_same (japanese yaku) (name_plain yaku)
 
 pub escape_kind : (kind : ℕ) → escape (kind_text kind) ≡ kind_text kind
 escape_kind kind =

@@ -4,6 +4,7 @@ use Rattle.std.specs.Fmt.{signed_decimal}
 use Rattle.riichi_hand.specs.FaultTexts.{line_code_text, notation_code_text, name_text}
 use Rattle.riichi_hand.specs.declared.fault.LineFault.{LineFault}
 use Rattle.riichi_hand.specs.declared.fault.LineFault.TheVariants.{Line, Notation}
+use Rattle.riichi_names.specs.Names.{japanese}
 use Rattle.riichi_yaku.specs.declared.table.Yaku.{Yaku}
 use Rattle.riichi_yaku.specs.Table.{number, word}
 use Rattle.riichi_yaku.specs.YakuSets.{is_yakuman, yaku_in}
@@ -32,8 +33,12 @@ listed texts = joined (codes ",") texts
 
 -- ---- wins
 
+-- the printed word and the Japanese name of a yaku, with the brace that ends its object
+unfoldable pub names_text : Yaku → List ℕ
+names_text yaku = codes ",\"word\":\"" ++ word yaku ++ codes "\",\"japanese\":\"" ++ japanese yaku ++ codes "\"}"
+
 unfoldable pub yaku_text : Yaku → List ℕ
-yaku_text yaku = codes "{\"number\":" ++ decimal (number yaku) ++ codes ",\"word\":\"" ++ word yaku ++ codes "\"}"
+yaku_text yaku = codes "{\"number\":" ++ decimal (number yaku) ++ names_text yaku
 
 abbrev pub yaku_list_text : ℕ → List ℕ
 yaku_list_text set = listed (map yaku_text (yaku_in set))

@@ -7,6 +7,7 @@ use Rattle.riichi_tiles.specs.Melds.{every_kind}
 use Rattle.riichi_hand.specs.FaultTexts.{line_code_text, notation_code_text, name_text}
 use Rattle.riichi_hand.specs.declared.fault.LineFault.{LineFault}
 use Rattle.riichi_hand.specs.declared.fault.LineFault.TheVariants.{Line, Notation}
+use Rattle.riichi_names.specs.Names.{japanese}
 use Rattle.riichi_yaku.specs.declared.table.Yaku.{Yaku}
 use Rattle.riichi_yaku.specs.Table as table
 use Rattle.riichi_yaku.specs.YakuSets.{is_yakuman, yaku_in}
@@ -58,9 +59,13 @@ kind_tree kind = string (kind_text kind)
 
 -- ---- wins
 
--- a yaku, by its number and its word
+-- a yaku, by its number, its word and its Japanese name
 unfoldable pub yaku_tree : Yaku → Json
-yaku_tree yaku = object_of ((codes "number", natural (table.number yaku)) ∷ (codes "word", string (table.word yaku)) ∷ [])
+yaku_tree yaku = object_of (
+    (codes "number", natural (table.number yaku))
+    ∷ (codes "word", string (table.word yaku))
+    ∷ (codes "japanese", string (japanese yaku))
+    ∷ [])
 
 -- the name of a limit by its base points
 unfoldable pub limit_tree : ℕ → Json

@@ -10,7 +10,7 @@ use riichi_score::{Payment, Score, WinAnswer};
 
 #[tactic(auto, unfolding(crate::specs::Parts::win_text))]
 pub(crate) fn push_win(text: &mut JsonText, answer: &WinAnswer)
-    requires { array_string_len text.old + 2610 ≤ 12288 }
+    requires { array_string_len text.old + 3840 ≤ 12288 }
     ensures { text.new.bytes ≡ text.old.bytes ++ spec.win_text answer.now }
 {
     match answer {
@@ -22,7 +22,7 @@ pub(crate) fn push_win(text: &mut JsonText, answer: &WinAnswer)
 
 #[tactic(auto, unfolding(crate::specs::Parts::score_text))]
 fn push_score(text: &mut JsonText, score: &Score)
-    requires { array_string_len text.old + 2610 ≤ 12288 }
+    requires { array_string_len text.old + 3840 ≤ 12288 }
     ensures { text.new.bytes ≡ text.old.bytes ++ spec.score_text score.now }
 {
     push_worth(text, score);

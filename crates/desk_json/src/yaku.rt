@@ -5,13 +5,14 @@ ghost use Rattle.desk_json.specs.Parts as spec;
 
 use crate::number::{push_after, push_comma_if};
 use crate::text::JsonText;
+use riichi_names::japanese;
 use riichi_yaku::{Yaku, YakuSet};
 
 /// The yaku of a set in the order of their numbers, each as an object.
 pub(crate) fn push_yaku(text: &mut JsonText, set: YakuSet)
-    requires { array_string_len text.old + 2340 ≤ 12288 }
+    requires { array_string_len text.old + 3567 ≤ 12288 }
     ensures bytes { text.new.bytes ≡ text.old.bytes ++ spec.yaku_list_text set }
-    ensures len { array_string_len text.new ≤ array_string_len text.old + 2340 }
+    ensures len { array_string_len text.new ≤ array_string_len text.old + 3567 }
 {
     let mut later = false;
     for yaku in set.iter() {
@@ -23,13 +24,25 @@ pub(crate) fn push_yaku(text: &mut JsonText, set: YakuSet)
 /// One yaku, behind a comma where it is not the first.
 #[tactic(auto, unfolding(crate::specs::Parts::yaku_text))]
 fn push_one(text: &mut JsonText, later: bool, yaku: Yaku)
-    requires { array_string_len text.old + 57 ≤ 12288 }
+    requires { array_string_len text.old + 87 ≤ 12288 }
     ensures bytes { text.new.bytes ≡ text.old.bytes ++ spec.comma_if later ++ spec.yaku_text yaku }
-    ensures len { array_string_len text.new ≤ array_string_len text.old + 57 }
+    ensures len { array_string_len text.new ≤ array_string_len text.old + 87 }
 {
     push_comma_if(text, later);
     push_after(text, "{\"number\":", u32::from(yaku.number()));
+    push_names(text, yaku);
+}
+
+/// The printed word and the Japanese name, with the brace that ends the object.
+#[tactic(auto, unfolding(crate::specs::Parts::names_text))]
+fn push_names(text: &mut JsonText, yaku: Yaku)
+    requires { array_string_len text.old + 66 ≤ 12288 }
+    ensures bytes { text.new.bytes ≡ text.old.bytes ++ spec.names_text yaku }
+    ensures len { array_string_len text.new ≤ array_string_len text.old + 66 }
+{
     text.push_str(",\"word\":\"");
     text.push_str(yaku.word());
+    text.push_str("\",\"japanese\":\"");
+    text.push_str(japanese(yaku));
     text.push_str("\"}");
 }

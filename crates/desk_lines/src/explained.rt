@@ -83,9 +83,9 @@ fn put_win(win: &WinRecord, outbox: &mut Outbox)
     outbox.text.clear();
     push_win(&mut outbox.text, &explanation.answer());
     outbox.put_text();
-    outbox.text.clear();
-    push_win_lines(&mut outbox.text, explanation, win);
-    outbox.put_lines();
+    outbox.why.clear();
+    push_win_lines(&mut outbox.why, explanation, win);
+    outbox.put_why();
 }
 
 fn put_kinds(hand: &HandRecord, outbox: &mut Outbox)
@@ -94,9 +94,9 @@ fn put_kinds(hand: &HandRecord, outbox: &mut Outbox)
         ++ ((waits_text (waits_of hand.now) ++ 10 ∷ []) ++ waits_line (kind_waits hand.now)) }
 {
     put_waits(hand, outbox);
-    outbox.text.clear();
-    push_waits_line(&mut outbox.text, explain_waits(hand).as_slice());
-    outbox.put_lines();
+    outbox.why.clear();
+    push_waits_line(&mut outbox.why, explain_waits(hand).as_slice());
+    outbox.put_why();
 }
 
 fn put_forms<S: RowSource>(tiles: &ShapeRecord, outbox: &mut Outbox, source: &mut S)
@@ -105,9 +105,9 @@ fn put_forms<S: RowSource>(tiles: &ShapeRecord, outbox: &mut Outbox, source: &mu
         × (outbox.new.bytes.items ≡ outbox.old.bytes.items ++ ((spec_shape.text_of (shape_of tiles.now) ++ 10 ∷ []) ++ why)) }
 {
     put_shape(tiles, outbox, source);
-    outbox.text.clear();
-    push_shanten_line(&mut outbox.text, &explain_shape(tiles));
-    outbox.put_lines();
+    outbox.why.clear();
+    push_shanten_line(&mut outbox.why, &explain_shape(tiles));
+    outbox.put_why();
 }
 
 fn put_refusal(line: &[u8], refusal: &Refusal<'_>, outbox: &mut Outbox)

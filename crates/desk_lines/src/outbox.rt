@@ -10,16 +10,17 @@ use desk_streams::Sink;
 /// Room for many answer lines, so that they are written in large pieces.
 const ROOM: usize = 65_536;
 
-/// The longest answer: an object of 12,288 bytes and a line feed. A text of 3,096 bytes and a line feed, and the 3,072
+/// The longest answer: an object of 12,288 bytes and a line feed. A text of 3,096 bytes and a line feed, and the 4,608
 /// bytes that may explain it, are fewer.
 const LONGEST_ANSWER: usize = 12_289;
 
-/// Answer lines that were not written yet, and room for the text of the next one: to make it anew for
-/// each line takes as long as to fill it.
+/// Answer lines that were not written yet, and room for the text of the next one and for what explains it: to make it
+/// anew for each line takes as long as to fill it.
 #[derive(Drop)]
 pub(crate) struct Outbox {
     bytes: ArrayVec<u8, ROOM>,
     pub(crate) text: ArrayString<3072>,
+    pub(crate) why: ArrayString<4608>,
     pub(crate) object: JsonText,
 }
 
@@ -32,6 +33,7 @@ impl Outbox {
         Outbox {
             bytes: ArrayVec::new(),
             text: ArrayString::new(),
+            why: ArrayString::new(),
             object: JsonText::new(),
         }
     }
@@ -89,6 +91,16 @@ impl Outbox {
     {
         self.bytes
             .try_extend_from_slice(self.text.as_str().as_bytes())
+            .unwrap();
+    }
+
+    /// Adds the lines that stand in the room of explanations, each with its line feed.
+    pub(crate) fn put_why(&mut self)
+        requires { length self.old.bytes.items + 4608 ≤ ROOM }
+        ensures { self.new.bytes.items ≡ self.old.bytes.items ++ self.old.why.bytes }
+    {
+        self.bytes
+            .try_extend_from_slice(self.why.as_str().as_bytes())
             .unwrap();
     }
 

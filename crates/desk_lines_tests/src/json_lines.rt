@@ -15,7 +15,7 @@ wait 1112345678999m
 shape 123456789m11348p";
 
 const OBJECTS: &[u8] =
-    b"{\"answer\":\"won\",\"yakuman\":false,\"han\":4,\"fu\":30,\"dora\":1,\"base\":2000,\"limit\":\"mangan\",\"payment\":{\"discarder\":8000},\"gain\":8000,\"yaku\":[{\"number\":4,\"word\":\"pinfu\"},{\"number\":16,\"word\":\"pure-straight\"}]}
+    b"{\"answer\":\"won\",\"yakuman\":false,\"han\":4,\"fu\":30,\"dora\":1,\"base\":2000,\"limit\":\"mangan\",\"payment\":{\"discarder\":8000},\"gain\":8000,\"yaku\":[{\"number\":4,\"word\":\"pinfu\",\"japanese\":\"pinfu\"},{\"number\":16,\"word\":\"pure-straight\",\"japanese\":\"ittsu\"}]}
 {\"answer\":\"refused\",\"code\":\"N5\",\"text\":\"hand\",\"place\":0}
 {\"answer\":\"waits\",\"kinds\":[\"2p\",\"5p\"]}
 {\"answer\":\"refused\",\"code\":\"H2\"}

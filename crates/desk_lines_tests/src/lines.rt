@@ -459,7 +459,7 @@ refused N5 hand at 0
   8z
   ^ honours are 1z to 7z
 waits 25p
-  2p 4 left, two-sided; 5p 4 left, two-sided
+  2p 4 left, two-sided (ryanmen); 5p 4 left, two-sided (ryanmen)
 shanten 0 accepts 2p:4 5p:4 live 8
   shanten sets and a pair 0, seven pairs 5, thirteen orphans 9
 ";

@@ -20,7 +20,7 @@ use riichi_waits::{explain_waits, push_waits_line};
 #[unsafe(no_mangle)]
 pub extern "C" fn riichi_explain(rules: u32, line: &[u8], room: &mut [u8]) -> usize
     ensures placed { PlacesReason rules line.now result room.old room.new }
-    ensures most { result ≤ 3072 }
+    ensures most { result ≤ 4608 }
 {
     let Some(rules) = rules_numbered(rules) else {
         return place(b"refused rules", room);
@@ -32,7 +32,7 @@ pub extern "C" fn riichi_explain(rules: u32, line: &[u8], room: &mut [u8]) -> us
     }
 }
 
-fn job_lines(job: &Job) -> ArrayString<3072>
+fn job_lines(job: &Job) -> ArrayString<4608>
     ensures { IsJobText job.now result.bytes }
 {
     let mut text = ArrayString::new();

@@ -83,13 +83,13 @@ fn answers_as_json(rt: HostRuntime) {
 fn explains_a_line(rt: HostRuntime) {
     let line = b"shape 123456789m1134p";
     let why = b"  shanten sets and a pair 0, seven pairs 5, thirteen orphans 9\n".as_slice();
-    let mut room = [7u8; 3072];
+    let mut room = [7u8; 256];
     let needed = riichi_explain(1, line, &mut room);
     holds(&rt, room.get(..needed) == Some(why));
     let mut small = [7u8; 8];
     holds(&rt, riichi_explain(1, line, &mut small) == needed);
     holds(&rt, small == [7u8; 8]);
-    let waits = b"  2p 4 left, two-sided; 5p 4 left, two-sided\n".as_slice();
+    let waits = b"  2p 4 left, two-sided (ryanmen); 5p 4 left, two-sided (ryanmen)\n".as_slice();
     let needed = riichi_explain(1, b"waits 123456789m1134p", &mut room);
     holds(&rt, room.get(..needed) == Some(waits));
     let none = b"  no tile that is left completes the hand\n".as_slice();
@@ -142,7 +142,9 @@ fn answers_the_lines_of_a_text_as_json_and_with_reasons(rt: HostRuntime) {
     holds(
         &rt,
         room.get(..filled)
-            == Some(b"waits 25p\n  2p 4 left, two-sided; 5p 4 left, two-sided\n".as_slice()),
+            == Some(
+                b"waits 25p\n  2p 4 left, two-sided (ryanmen); 5p 4 left, two-sided (ryanmen)\n".as_slice(),
+            ),
     );
     holds(&rt, riichi_json_lines(0, text, &mut room, &mut taken) == 0);
     holds(&rt, taken == 0);

@@ -19,6 +19,9 @@ use Rattle.riichi_explain.specs.declared.base.BaseRule.{BaseRule}
 use Rattle.riichi_explain.specs.declared.base.BaseRule.TheVariants.{Product, Capped, Raised, Limited}
 use Rattle.riichi_explain.specs.declared.base.Limit.{Limit}
 use Rattle.riichi_explain.specs.declared.base.Limit.TheVariants as limit
+use Rattle.riichi_explain.specs.declared.dora.DoraPart.{DoraPart}
+use Rattle.riichi_explain.specs.declared.dora.DoraPart.TheVariants as dora
+use Rattle.riichi_explain.specs.declared.dora.DoraRow.{DoraRow}
 use Rattle.riichi_explain.specs.declared.fu.FuPart.{FuPart}
 use Rattle.riichi_explain.specs.declared.fu.FuPart.TheVariants as fu
 use Rattle.riichi_explain.specs.declared.fu.FuRow.{FuRow}
@@ -31,7 +34,10 @@ use Rattle.riichi_explain.specs.declared.payers.PayRow.{PayRow}
 use Rattle.riichi_explain.specs.declared.win.WonHand.{WonHand}
 use Rattle.riichi_explain.specs.declared.win.WinExplanation.{WinExplanation}
 use Rattle.riichi_explain.specs.declared.win.WinExplanation.TheVariants.{Won, NoYaku, NoWin}
+use Rattle.riichi_explain.specs.declared.missed.MissedWin.{MissedWin}
+use Rattle.riichi_explain.specs.Dora.{dora_total}
 use Rattle.riichi_explain.specs.Fu.{fu_total}
+use Rattle.riichi_explain.specs.Missed.{missed_waits, missed_lines}
 use Rattle.riichi_explain.specs.Explanation.{win_lines, IsJobText, IsOutcomeText}
 use Rattle.riichi_explain.specs.Forms.{shanten_text, form_text, other_text, shanten_line}
 use Rattle.riichi_explain.specs.Text as text
@@ -43,7 +49,7 @@ use Rattle.riichi_text.specs.Lists.{joined}
 use Rattle.riichi_text.specs.Tiles.{kind_text, letter_of, digit_of, run_text, two_text, three_text, four_text, block_text, meld_text}
 use Rattle.riichi_explain.proofs.RefusalLines.{refusal_lines-lines}
 use Rattle.riichi_text.proofs.Letters.{letter_high}
-use Rattle.riichi_explain.proofs.PlainTexts.{plain, after, after3, after4, after5, byte-plain, flat_map-plain, joined-plain, decimal-plain, kind_text-plain, tiles_text-plain, word-plain, are_indented, pass, lines-append, flat_map-lines}
+use Rattle.riichi_explain.proofs.PlainTexts.{plain, after, after3, after4, after5, byte-plain, flat_map-plain, joined-plain, decimal-plain, kind_text-plain, tiles_text-plain, named-plain, are_indented, pass, lines-append, flat_map-lines}
 
 -- ---- tiles
 
@@ -123,17 +129,15 @@ sum_text-plain rows sum = elim (nat_lt 1 rows) as (λ test. plain (cond test (co
 
 han_part_text-plain : (part : HanPart) → plain (text.han_part_text part) ≡ true
 unfolding text.han_part_text
-han_part_text-plain (han.Yaku yaku) = word-plain yaku
-han_part_text-plain (han.Yakuman yaku) = word-plain yaku
+han_part_text-plain (han.Yaku yaku) = named-plain yaku
+han_part_text-plain (han.Yakuman yaku) = named-plain yaku
 han_part_text-plain han.Dora = refl
-han_part_text-plain han.RedFives = refl
 
 han_number-plain : (part : HanPart) (number : ℕ) → plain (text.han_number part number) ≡ true
 unfolding text.han_number
 han_number-plain (han.Yaku yaku) number = decimal-plain number
 han_number-plain (han.Yakuman yaku) number = refl
 han_number-plain han.Dora number = decimal-plain number
-han_number-plain han.RedFives number = decimal-plain number
 
 han_text-plain : (row : HanRow) → plain (text.han_text row) ≡ true
 unfolding text.han_text
@@ -153,15 +157,36 @@ han_line-lines false number rows =
     let sum = text.han_sum false (length rows) number in
     pass (joined (codes ", ") (map text.han_text rows) ++ sum) text.line_feed (after (joined (codes ", ") (map text.han_text rows)) sum (joined-plain (codes ", ") text.han_text rows refl han_text-plain) (han_sum-plain false (length rows) number))
 
+dora_part_text-plain : (part : DoraPart) (number : ℕ) → plain (text.dora_part_text part number) ≡ true
+unfolding text.dora_part_text
+dora_part_text-plain dora.Indicated number = refl
+dora_part_text-plain dora.Below number = refl
+dora_part_text-plain dora.RedFives number = elim (nat_eq number 1) as (λ test. plain (cond test (codes " red five") (codes " red fives")) ≡ true) [ true ↦ refl | false ↦ refl ]
+
+dora_text-plain : (row : DoraRow) → plain (text.dora_text row) ≡ true
+unfolding text.dora_text
+dora_text-plain row = after (decimal row.han) (text.dora_part_text row.part row.han) (decimal-plain row.han) (dora_part_text-plain row.part row.han)
+
+dora_line-lines : (rows : List DoraRow) → are_indented (text.dora_line rows) ≡ true
+unfolding text.dora_line
+dora_line-lines rows =
+    let parts = joined (codes ", ") (map text.dora_text rows) in
+    pass (decimal (dora_total rows) ++ codes ": " ++ parts) text.line_feed (after3 (decimal (dora_total rows)) (codes ": ") parts (decimal-plain (dora_total rows)) refl (joined-plain (codes ", ") text.dora_text rows refl dora_text-plain))
+
+dora_line_if-lines : (rows : List DoraRow) → are_indented (text.dora_line_if rows) ≡ true
+unfolding text.dora_line_if
+dora_line_if-lines [] = refl
+dora_line_if-lines (row ∷ rows) = dora_line-lines (row ∷ rows)
+
 triplet_words-plain : (kind : ℕ) (concealed : Bool) → plain (text.triplet_words kind concealed) ≡ true
-unfolding text.triplet_words text.shown_text
-triplet_words-plain kind true = three_text-plain kind
-triplet_words-plain kind false = three_text-plain kind
+unfolding text.triplet_words text.shown_text text.triplet_name
+triplet_words-plain kind true = after (three_text kind) (codes " (ankou)") (three_text-plain kind) refl
+triplet_words-plain kind false = after (three_text kind) (codes " (minkou)") (three_text-plain kind) refl
 
 kong_words-plain : (kind : ℕ) (concealed : Bool) → plain (text.kong_words kind concealed) ≡ true
-unfolding text.kong_words text.shown_text
-kong_words-plain kind true = four_text-plain kind
-kong_words-plain kind false = four_text-plain kind
+unfolding text.kong_words text.shown_text text.kong_name
+kong_words-plain kind true = after (four_text kind) (codes " (ankan)") (four_text-plain kind) refl
+kong_words-plain kind false = after (four_text kind) (codes " (minkan)") (four_text-plain kind) refl
 
 fu_part_text-plain : (part : FuPart) → plain (text.fu_part_text part) ≡ true
 unfolding text.fu_part_text
@@ -223,7 +248,7 @@ base_text-plain : (rule : BaseRule) (han fu : ℕ) → plain (text.base_text rul
 unfolding text.base_text
 base_text-plain (Product product) han fu = product_text-plain han fu product
 base_text-plain (Capped product) han fu = after (text.product_text han fu product) (codes ", mangan 2000") (product_text-plain han fu product) refl
-base_text-plain (Raised product) han fu = after (text.product_text han fu product) (codes ", raised to mangan 2000") (product_text-plain han fu product) refl
+base_text-plain (Raised product) han fu = after (text.product_text han fu product) (codes ", raised to mangan 2000 (kiriage)") (product_text-plain han fu product) refl
 base_text-plain (Limited which) han fu = after (text.han_words han) (text.limit_text which) (han_words-plain han) (limit_text-plain which)
 
 base_line-lines : (rule : BaseRule) (han fu : ℕ) → are_indented (text.base_line rule han fu) ≡ true
@@ -275,13 +300,16 @@ won_hand_text-lines hand =
     let yakuman = is_yakuman hand.score.yaku in
     let reading = text.reading_line hand.reading hand.win in
     let han = text.han_line yakuman hand.score.han hand.han.items in
+    let dora = text.dora_line_if hand.dora.items in
     let fu = text.fu_line_if yakuman hand.fu.items hand.score.fu in
     let base = text.base_line hand.base hand.score.han hand.score.fu in
     let pay = text.pay_line hand.payers.items in
-    lines-append (reading ++ han ++ fu ++ base ++ pay) (text.gain_line hand.score.gain hand.win.sticks)
-    (lines-append (reading ++ han ++ fu ++ base) pay
-    (lines-append (reading ++ han ++ fu) base
-    (lines-append (reading ++ han) fu (lines-append reading han (reading_line-lines hand.reading hand.win) (han_line-lines yakuman hand.score.han hand.han.items))
+    lines-append (reading ++ han ++ dora ++ fu ++ base ++ pay) (text.gain_line hand.score.gain hand.win.sticks)
+    (lines-append (reading ++ han ++ dora ++ fu ++ base) pay
+    (lines-append (reading ++ han ++ dora ++ fu) base
+    (lines-append (reading ++ han ++ dora) fu
+    (lines-append (reading ++ han) dora (lines-append reading han (reading_line-lines hand.reading hand.win) (han_line-lines yakuman hand.score.han hand.han.items))
+    (dora_line_if-lines hand.dora.items))
     (fu_line_if-lines yakuman hand.fu.items hand.score.fu))
     (base_line-lines hand.base hand.score.han hand.score.fu))
     (pay_line-lines hand.payers.items))
@@ -321,18 +349,18 @@ word_if-plain false word p = refl
 run_words-plain : (sorts : WaitSorts) → plain (waits.run_words sorts) ≡ true
 unfolding waits.run_words
 run_words-plain sorts =
-    let two_sided = waits.word_if sorts.two_sided (codes ", two-sided") in
-    let closed = waits.word_if sorts.closed (codes ", closed") in
-    let edge = waits.word_if sorts.edge (codes ", edge") in
-    after3 two_sided closed edge (word_if-plain sorts.two_sided (codes ", two-sided") refl) (word_if-plain sorts.closed (codes ", closed") refl) (word_if-plain sorts.edge (codes ", edge") refl)
+    let two_sided = waits.word_if sorts.two_sided (codes ", two-sided (ryanmen)") in
+    let closed = waits.word_if sorts.closed (codes ", closed (kanchan)") in
+    let edge = waits.word_if sorts.edge (codes ", edge (penchan)") in
+    after3 two_sided closed edge (word_if-plain sorts.two_sided (codes ", two-sided (ryanmen)") refl) (word_if-plain sorts.closed (codes ", closed (kanchan)") refl) (word_if-plain sorts.edge (codes ", edge (penchan)") refl)
 
 other_words-plain : (sorts : WaitSorts) → plain (waits.other_words sorts) ≡ true
 unfolding waits.other_words
 other_words-plain sorts =
-    let pair = waits.word_if sorts.pair (codes ", pair") in
-    let two_pairs = waits.word_if sorts.two_pairs (codes ", two pairs") in
+    let pair = waits.word_if sorts.pair (codes ", pair (tanki)") in
+    let two_pairs = waits.word_if sorts.two_pairs (codes ", two pairs (shanpon)") in
     let orphans = waits.word_if sorts.orphans (codes ", thirteen orphans") in
-    after3 pair two_pairs orphans (word_if-plain sorts.pair (codes ", pair") refl) (word_if-plain sorts.two_pairs (codes ", two pairs") refl) (word_if-plain sorts.orphans (codes ", thirteen orphans") refl)
+    after3 pair two_pairs orphans (word_if-plain sorts.pair (codes ", pair (tanki)") refl) (word_if-plain sorts.two_pairs (codes ", two pairs (shanpon)") refl) (word_if-plain sorts.orphans (codes ", thirteen orphans") refl)
 
 left_text-plain : (kind left : ℕ) → plain (waits.left_text kind left) ≡ true
 unfolding waits.left_text
@@ -349,12 +377,22 @@ waits_line-lines [] = refl
 waits_line-lines (row ∷ rows) =
     pass (joined (codes "; ") (map waits.wait_text (row ∷ rows))) (10 ∷ []) (joined-plain (codes "; ") waits.wait_text (row ∷ rows) refl wait_text-plain)
 
+missed_waits-lines : (rows : List KindWait) → are_indented (missed_waits rows) ≡ true
+unfolding missed_waits
+missed_waits-lines [] = refl
+missed_waits-lines (row ∷ rows) =
+    pass (codes "waits   " ++ joined (codes "; ") (map waits.wait_text (row ∷ rows))) (10 ∷ []) (joined-plain (codes "; ") waits.wait_text (row ∷ rows) refl wait_text-plain)
+
+missed_lines-lines : (missed : MissedWin) → are_indented (missed_lines missed) ≡ true
+unfolding missed_lines
+missed_lines-lines missed = lines-append (shanten_line missed.forms) (missed_waits missed.waits.items) (shanten_line-lines missed.forms) (missed_waits-lines missed.waits.items)
+
 -- ---- every explanation
 
 win_lines-lines : (explanation : WinExplanation) (win : WinParts) → are_indented (win_lines explanation win) ≡ true
 win_lines-lines (Won hand) win = won_hand_text-lines hand
 win_lines-lines (NoYaku readings) win = flat_map-lines (λ (read : Reading). text.no_yaku_line read win) (take 12 readings) (λ read. no_yaku_line-lines read win)
-win_lines-lines (NoWin forms) win = shanten_line-lines forms
+win_lines-lines (NoWin missed) win = missed_lines-lines missed
 
 pub job_text-lines : (job : Job) (said : List ℕ) → IsJobText job said → are_indented said ≡ true
 job_text-lines (job.Win win) said is = ap are_indented is.text_is ∙ win_lines-lines is.explanation win

@@ -8,11 +8,11 @@ use Rattle.riichi_hand.specs.declared.win.WinParts.{WinParts}
 use Rattle.riichi_yaku.specs.declared.table.Yaku.{Yaku}
 use Rattle.riichi_yaku.specs.Table as table
 use Rattle.riichi_yaku.specs.YakuSets.{han_of, is_yakuman, yaku_in}
-use Rattle.riichi_score.specs.Dora.{red_dora, dora_of}
+use Rattle.riichi_score.specs.Dora.{dora_of}
 use Rattle.riichi_explain.specs.declared.han.HanPart.{HanPart}
-use Rattle.riichi_explain.specs.declared.han.HanPart.TheVariants.{Dora, RedFives}
+use Rattle.riichi_explain.specs.declared.han.HanPart.TheVariants.{Dora}
 use Rattle.riichi_explain.specs.declared.han.HanRow.{HanRow}
-use Rattle.riichi_explain.specs.Han.{yaku_row, yakuman_row, counted_row, indicated_dora, dora_rows, han_rows, han_total}
+use Rattle.riichi_explain.specs.Han.{yaku_row, yakuman_row, counted_row, dora_row, han_rows, han_total}
 
 total-append : (xs ys : List HanRow) → han_total (xs ++ ys) ≡ han_total xs + han_total ys
 total-append xs ys = sum_by-append (λ (row : HanRow). row.han) xs ys
@@ -36,16 +36,13 @@ total-yaku : (set : ℕ) (concealed : Bool) → han_total (map (yaku_row conceal
 unfolding han_of
 total-yaku set concealed = total-rows concealed (yaku_in set)
 
-total-dora : (win : WinParts) → han_total (dora_rows win) ≡ dora_of win
-unfolding dora_of
-total-dora win =
-    let reds = red_dora win.rules win.reds in
-    omega (arith, total-append (counted_row Dora (indicated_dora win)) (counted_row RedFives reds), total-counted Dora (indicated_dora win), total-counted RedFives reds)
+total-dora : (win : WinParts) → han_total (dora_row win) ≡ dora_of win
+total-dora win = total-counted Dora (dora_of win)
 
 -- the rows of a counted hand add up to its han
-pub rows_give_han : (set : ℕ) (win : WinParts) → han_total (map (yaku_row (are_concealed win.melds)) (yaku_in set) ++ dora_rows win) ≡ han_of set (are_concealed win.melds) + dora_of win
+pub rows_give_han : (set : ℕ) (win : WinParts) → han_total (map (yaku_row (are_concealed win.melds)) (yaku_in set) ++ dora_row win) ≡ han_of set (are_concealed win.melds) + dora_of win
 rows_give_han set win =
-    omega (arith, total-append (map (yaku_row (are_concealed win.melds)) (yaku_in set)) (dora_rows win), total-yaku set (are_concealed win.melds), total-dora win)
+    omega (arith, total-append (map (yaku_row (are_concealed win.melds)) (yaku_in set)) (dora_row win), total-yaku set (are_concealed win.melds), total-dora win)
 
 -- those of a yakuman have no han
 pub total-yakuman : (yaku : List Yaku) → han_total (map yakuman_row yaku) ≡ 0
@@ -54,13 +51,13 @@ total-yakuman (first ∷ rest) = omega (arith, total-yakuman rest)
 
 -- ---- both
 
-pub han_rows-counted : (set : ℕ) (win : WinParts) → is_yakuman set ≡ false → map (yaku_row (are_concealed win.melds)) (yaku_in set) ++ dora_rows win ≡ han_rows set win
+pub han_rows-counted : (set : ℕ) (win : WinParts) → is_yakuman set ≡ false → map (yaku_row (are_concealed win.melds)) (yaku_in set) ++ dora_row win ≡ han_rows set win
 unfolding han_rows
 han_rows-counted set win counted =
-    sym (ap (λ yakuman. cond yakuman (map yakuman_row (yaku_in set)) (map (yaku_row (are_concealed win.melds)) (yaku_in set) ++ dora_rows win)) counted)
+    sym (ap (λ yakuman. cond yakuman (map yakuman_row (yaku_in set)) (map (yaku_row (are_concealed win.melds)) (yaku_in set) ++ dora_row win)) counted)
 
 total-cases : (set : ℕ) (win : WinParts) (yakuman : Bool) →
-    han_total (cond yakuman (map yakuman_row (yaku_in set)) (map (yaku_row (are_concealed win.melds)) (yaku_in set) ++ dora_rows win))
+    han_total (cond yakuman (map yakuman_row (yaku_in set)) (map (yaku_row (are_concealed win.melds)) (yaku_in set) ++ dora_row win))
     ≡ cond yakuman 0 (han_of set (are_concealed win.melds) + dora_of win)
 total-cases set win true = total-yakuman (yaku_in set)
 total-cases set win false = rows_give_han set win

@@ -1,5 +1,7 @@
 pub mod FuLemmas
+pub mod MissedLemmas
 pub mod HanLemmas
+pub mod DoraLemmas
 pub mod WinLemmas
 pub mod TextLemmas
 pub mod FormLemmas

@@ -1,6 +1,6 @@
 -- Texts without a line feed, and lines that begin with two spaces.
 use Rattle.std.proofs.Common.{◌≡◌, ℕ, zero, suc, ◌+◌, ◌<◌, ◌%◌, ◌/◌, List, [], ◌∷◌, ◌++◌, Bool, true, false, cond, nat_eq, nat_lt, map, replicate, refl, ap, ◌∙◌, arith}
-use Rattle.std.specs.Prelude.{not, ◌&&◌, decimal}
+use Rattle.std.specs.Prelude.{not, ◌&&◌, codes, decimal}
 use Rattle.std.specs.Fmt.{digits, digits_onto, digit_glyph}
 use Rattle.std.specs.List.{list_all, flat_map}
 use Rattle.std.proofs.lemmas.Bool.{ne_eqb}
@@ -12,6 +12,7 @@ use Rattle.riichi_text.specs.Tiles.{kind_text, letter_of}
 use Rattle.riichi_text.proofs.Letters.{letter_high}
 use Rattle.riichi_yaku.specs.declared.table.Yaku.{Yaku}
 use Rattle.riichi_yaku.specs.declared.table.Yaku.TheVariants.{Riichi}
+use Rattle.riichi_names.specs.Names.{japanese, is_japanese, name_beside, named}
 use Rattle.riichi_yaku.specs.Table.{word}
 
 abbrev pub plain : List ℕ → Bool
@@ -97,9 +98,27 @@ tiles_text-plain copies =
 
 -- ---- the words of the yaku
 
-pub word-plain : (yaku : Yaku) → plain (word yaku) ≡ true
+word-plain : (yaku : Yaku) → plain (word yaku) ≡ true
 word-plain Riichi = refl
 word-plain other = refl
+
+japanese-plain : (yaku : Yaku) → plain (japanese yaku) ≡ true
+japanese-plain Riichi = refl
+japanese-plain other = refl
+
+name_beside-plain : (yaku : Yaku) → plain (name_beside yaku) ≡ true
+unfolding name_beside
+name_beside-plain yaku = after3 (codes " (") (japanese yaku) (codes ")") refl (japanese-plain yaku) refl
+
+pub either-plain : (test : Bool) (a b : List ℕ) → plain a ≡ true → plain b ≡ true → plain (cond test a b) ≡ true
+either-plain true a b p q = p
+either-plain false a b p q = q
+
+-- a word with its name in brackets
+pub named-plain : (yaku : Yaku) → plain (named yaku) ≡ true
+unfolding named
+named-plain yaku =
+    either-plain (is_japanese yaku) (word yaku) (word yaku ++ name_beside yaku) (word-plain yaku) (after (word yaku) (name_beside yaku) (word-plain yaku) (name_beside-plain yaku))
 
 -- ---- lines that begin with two spaces, each with its line feed
 

@@ -17,11 +17,7 @@ use Rattle.riichi_hand.specs.Places.{from_with, key_of}
 use Rattle.riichi_faults.specs.LineWords.{word_at_fault, text_word}
 use Rattle.riichi_faults.specs.Refusal.{named_word, word_line, byte_lines, foreign_lines, missing_key, missing_line, line_lines, place_in, notation_lines, refusal_lines}
 use Rattle.riichi_faults.specs.Shown.{hex_digit, byte_text, shown, around, shown_line, mark_line, marked_lines}
-use Rattle.riichi_explain.proofs.PlainTexts.{plain, after, after3, byte-plain, flat_map-plain, replicate-plain, are_indented, pass, lines-append}
-
-either : (test : Bool) (a b : List ℕ) → plain a ≡ true → plain b ≡ true → plain (cond test a b) ≡ true
-either true a b p q = p
-either false a b p q = q
+use Rattle.riichi_explain.proofs.PlainTexts.{plain, after, after3, either-plain, byte-plain, flat_map-plain, replicate-plain, are_indented, pass, lines-append}
 
 -- ---- what is shown of a line
 
@@ -74,31 +70,31 @@ notation_words-plain = elim [ N1 ↦ refl | N2 ↦ refl | N3 ↦ refl | N4 ↦ r
 
 first_word_words-plain : (word : Option (List ℕ)) → plain (first_word_words word) ≡ true
 first_word_words-plain None = refl
-first_word_words-plain (Some word) = either (starts_with nat_eq word (codes "rules")) _ _ refl refl
+first_word_words-plain (Some word) = either-plain (starts_with nat_eq word (codes "rules")) _ _ refl refl
 
 keys_words-plain : (job : List ℕ) → plain (keys_words job) ≡ true
-keys_words-plain job = either (starts_with nat_eq job (codes "waits")) _ _ refl (either (starts_with nat_eq job (codes "shape")) _ _ refl refl)
+keys_words-plain job = either-plain (starts_with nat_eq job (codes "waits")) _ _ refl (either-plain (starts_with nat_eq job (codes "shape")) _ _ refl refl)
 
 win_words-plain : (word : List ℕ) → plain (win_words word) ≡ true
 win_words-plain word =
-    either (starts_with nat_eq word (codes "by=")) _ _ refl
-    (either (starts_with nat_eq word (codes "seat=")) _ _ refl
-    (either (starts_with nat_eq word (codes "round=")) _ _ refl
-    (either (starts_with nat_eq word (codes "riichi=")) _ _ refl
-    (either (starts_with nat_eq word (codes "flags=")) _ _ refl
-    (either (starts_with nat_eq word (codes "counters=")) _ _ refl
-    (either (starts_with nat_eq word (codes "sticks=")) _ _ refl (keys_words-plain (codes "win"))))))))
+    either-plain (starts_with nat_eq word (codes "by=")) _ _ refl
+    (either-plain (starts_with nat_eq word (codes "seat=")) _ _ refl
+    (either-plain (starts_with nat_eq word (codes "round=")) _ _ refl
+    (either-plain (starts_with nat_eq word (codes "riichi=")) _ _ refl
+    (either-plain (starts_with nat_eq word (codes "flags=")) _ _ refl
+    (either-plain (starts_with nat_eq word (codes "counters=")) _ _ refl
+    (either-plain (starts_with nat_eq word (codes "sticks=")) _ _ refl (keys_words-plain (codes "win"))))))))
 
 entry_words-plain : (job word : Option (List ℕ)) → plain (entry_words job word) ≡ true
 unfolding entry_words
 entry_words-plain None word = refl
 entry_words-plain (Some job) None = refl
-entry_words-plain (Some job) (Some word) = either (starts_with nat_eq job (codes "win")) (win_words word) (keys_words job) (win_words-plain word) (keys_words-plain job)
+entry_words-plain (Some job) (Some word) = either-plain (starts_with nat_eq job (codes "win")) (win_words word) (keys_words job) (win_words-plain word) (keys_words-plain job)
 
 byte_words-plain : (line : List ℕ) (place : ℕ) → plain (byte_words line place) ≡ true
 unfolding byte_words
 byte_words-plain line place =
-    either (starts_with nat_eq line (239 ∷ 187 ∷ 191 ∷ [])) _ _ refl (either (nat_eq (slice_index_or line place 0) 9) _ _ refl refl)
+    either-plain (starts_with nat_eq line (239 ∷ 187 ∷ 191 ∷ [])) _ _ refl (either-plain (nat_eq (slice_index_or line place 0) 9) _ _ refl refl)
 
 -- ---- the lines
 
@@ -124,8 +120,8 @@ foreign_lines-lines line = elim (nat_lt 4096 (length line)) as (λ test. are_ind
 
 missing_key-plain : (line : List ℕ) → plain (missing_key line) ≡ true
 missing_key-plain line =
-    either (is_some (from_with (codes "on=") 0 line)) _ _
-    (either (is_some (from_with (codes "by=") 0 line)) _ _ (either (is_some (from_with (codes "seat=") 0 line)) _ _ refl refl) refl) refl
+    either-plain (is_some (from_with (codes "on=") 0 line)) _ _
+    (either-plain (is_some (from_with (codes "by=") 0 line)) _ _ (either-plain (is_some (from_with (codes "seat=") 0 line)) _ _ refl refl) refl) refl
 
 missing_line-lines : (line : List ℕ) → are_indented (missing_line line) ≡ true
 unfolding missing_line

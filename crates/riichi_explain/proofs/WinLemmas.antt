@@ -22,10 +22,12 @@ use Rattle.riichi_explain.specs.declared.base.Limit.TheVariants.{Mangan, Haneman
 use Rattle.riichi_explain.specs.declared.payers.PayRow.{PayRow}
 use Rattle.riichi_explain.specs.declared.win.WonHand.{WonHand}
 use Rattle.riichi_explain.specs.Base.{counted_rule, base_rule, points_by}
+use Rattle.riichi_explain.specs.Dora.{dora_total}
 use Rattle.riichi_explain.specs.Fu.{fu_from_rows}
 use Rattle.riichi_explain.specs.Han.{han_rows, han_total}
 use Rattle.riichi_explain.specs.Payers.{rows_by, pay_rows, pay_total}
-use Rattle.riichi_explain.specs.Win.{counted_fu, IsWonHand}
+use Rattle.riichi_explain.specs.Win.{counted_dora, counted_fu, IsWonHand}
+use Rattle.riichi_explain.proofs.DoraLemmas.{rows_give_dora}
 use Rattle.riichi_explain.proofs.FuLemmas.{rows_give_fu}
 use Rattle.riichi_explain.proofs.HanLemmas.{han_rows-total}
 
@@ -96,6 +98,10 @@ han-of : (r : Reading) (w : WinParts) (s : Score) (yakuman : Bool) → yakuman �
 han-of r w s true e h = sym (ap (λ (x : Score). x.han) (h.yakuman (sym e)))
 han-of r w s false e h = sym (ap (λ (x : Score). x.han) (h.counted (sym e)))
 
+dora-of : (r : Reading) (w : WinParts) (s : Score) (yakuman : Bool) → yakuman ≡ is_yakuman s.yaku → IsCounted r w s → dora_total (counted_dora yakuman w) ≡ s.dora
+dora-of r w s true e h = sym (ap (λ (x : Score). x.dora) (h.yakuman (sym e)))
+dora-of r w s false e h = rows_give_dora w ∙ sym (ap (λ (x : Score). x.dora) (h.counted (sym e)))
+
 no-rows : (r : Reading) → fu_from_rows r [] ≡ 0
 no-rows (Standard sets pair done) = refl
 no-rows SevenPairs = refl
@@ -126,9 +132,9 @@ gain-of r w s false e h = subst (λ (x : Score). gain_of (payment_of x.base w) w
 -- ---- the whole
 
 pub won_hand_explains : (w : WinParts) (hand : WonHand) → hand.win ≡ w → IsReadingOf w hand.reading → score_of hand.reading w ≡ Some hand.score →
-    hand.han.items ≡ han_rows hand.score.yaku w → hand.fu.items ≡ counted_fu (is_yakuman hand.score.yaku) hand.reading w →
+    hand.han.items ≡ han_rows hand.score.yaku w → hand.dora.items ≡ counted_dora (is_yakuman hand.score.yaku) w → hand.fu.items ≡ counted_fu (is_yakuman hand.score.yaku) hand.reading w →
     hand.base ≡ base_rule (is_yakuman hand.score.yaku) w.rules hand.score.han hand.score.fu → hand.payers.items ≡ pay_rows hand.score.base w → IsWonHand w hand
-won_hand_explains w hand same reading scored han fu base payers =
+won_hand_explains w hand same reading scored han dora fu base payers =
     let s = hand.score in
     let r = hand.reading in
     let yakuman = is_yakuman s.yaku in
@@ -138,10 +144,12 @@ won_hand_explains w hand same reading scored han fu base payers =
       is_reading = reading;
       has_score = scored;
       han_are = han;
+      dora_are = dora;
       fu_are = fu;
       base_is = base;
       payers_are = payers;
       han_add_up = ap han_total han ∙ han_rows-total s.yaku w ∙ han-of r w s yakuman refl known;
+      dora_adds_up = ap dora_total dora ∙ dora-of r w s yakuman refl known;
       fu_add_up = ap (fu_from_rows r) fu ∙ fu-of r w s yakuman refl known;
       base_adds_up = ap points_by base ∙ base-by r w s yakuman refl known;
       payers_add_up = ap (λ (rows : List PayRow). pay_total rows + 1000 * w.sticks) payers ∙ pays s.base w.by (is_dealer w.seat) w.counters w.sticks ∙ gain-of r w s yakuman refl known;

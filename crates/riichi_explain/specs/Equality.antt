@@ -10,7 +10,7 @@ use Rattle.riichi_explain.specs.declared.fu.FuPart.{FuPart}
 use Rattle.riichi_explain.specs.declared.fu.FuPart.TheVariants.{Base, ConcealedRon, SelfDraw, Triplet, Kong, DragonPair, SeatWindPair, PrevalentWindPair, ClosedWait, EdgeWait, PairWait, OpenRon, SevenPairs}
 use Rattle.riichi_explain.specs.declared.fu.FuRow.{FuRow}
 use Rattle.riichi_explain.specs.declared.han.HanPart.{HanPart}
-use Rattle.riichi_explain.specs.declared.han.HanPart.TheVariants.{Yaku, Yakuman, Dora, RedFives}
+use Rattle.riichi_explain.specs.declared.han.HanPart.TheVariants.{Yaku, Yakuman, Dora}
 use Rattle.riichi_explain.specs.declared.han.HanRow.{HanRow}
 use Rattle.riichi_explain.specs.contracts.fu.FuPartPartialEq.TheImpl.{ghosts as part}
 use Rattle.riichi_explain.specs.contracts.fu.FuPartEq.TheImpl.Laws.{laws-law as equiv}
@@ -51,7 +51,6 @@ same_han : (a b : HanPart) → han_part.eq a b ≡ true → a ≡ b
 same_han (Yaku yaku) (Yaku other) h = ap Yaku ((yaku_decides yaku other).0 h)
 same_han (Yakuman yaku) (Yakuman other) h = ap Yakuman ((yaku_decides yaku other).0 h)
 same_han Dora Dora h = refl
-same_han RedFives RedFives h = refl
 same_han a b h = absurd (false≢true h)
 
 pub han_parts_decide : (a b : HanPart) → Decides (han_part.eq a b) (a ≡ b)

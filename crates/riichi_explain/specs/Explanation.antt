@@ -15,6 +15,7 @@ use Rattle.riichi_explain.specs.declared.win.WinExplanation.{WinExplanation}
 use Rattle.riichi_explain.specs.declared.win.WinExplanation.TheVariants.{Won, NoYaku, NoWin}
 use Rattle.riichi_faults.specs.Refusal.{refusal_lines}
 use Rattle.riichi_explain.specs.Forms.{AreFormDistances, shanten_line}
+use Rattle.riichi_explain.specs.Missed.{missed_lines}
 use Rattle.riichi_explain.specs.Text.{won_hand_text, no_yaku_line}
 use Rattle.riichi_waits.specs.Waits.{kind_waits, waits_line}
 use Rattle.riichi_explain.specs.Win.{Explains, answer_of}
@@ -26,7 +27,7 @@ no_yaku_lines readings win = flat_map (λ reading. no_yaku_line reading win) (ta
 abbrev pub win_lines : WinExplanation → WinParts → List ℕ
 win_lines (Won hand) win = won_hand_text hand
 win_lines (NoYaku readings) win = no_yaku_lines readings win
-win_lines (NoWin forms) win = shanten_line forms
+win_lines (NoWin missed) win = missed_lines missed
 
 -- The text says why a win is worth what it is.
 pub record IsWinText (win : WinParts) (text : List ℕ) : Type 0 where

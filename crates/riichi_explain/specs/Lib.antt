@@ -1,6 +1,8 @@
 pub mod Forms
+pub mod Missed
 pub mod Fu
 pub mod Han
+pub mod Dora
 pub mod Base
 pub mod Payers
 pub mod Win

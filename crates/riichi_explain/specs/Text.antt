@@ -8,13 +8,16 @@ use Rattle.riichi_tiles.specs.declared.meld.Meld.{Meld}
 use Rattle.riichi_hand.specs.declared.win.WinParts.{WinParts}
 use Rattle.riichi_split.specs.declared.reading.Reading.{Reading}
 use Rattle.riichi_split.specs.declared.reading.Reading.TheVariants as reading
-use Rattle.riichi_yaku.specs.Table.{word}
+use Rattle.riichi_names.specs.Names.{named}
 use Rattle.riichi_yaku.specs.YakuSets.{is_yakuman}
 use Rattle.riichi_score.specs.Scores.{hand_of}
 use Rattle.riichi_explain.specs.declared.base.BaseRule.{BaseRule}
 use Rattle.riichi_explain.specs.declared.base.BaseRule.TheVariants.{Product, Capped, Raised, Limited}
 use Rattle.riichi_explain.specs.declared.base.Limit.{Limit}
 use Rattle.riichi_explain.specs.declared.base.Limit.TheVariants as limit
+use Rattle.riichi_explain.specs.declared.dora.DoraPart.{DoraPart}
+use Rattle.riichi_explain.specs.declared.dora.DoraPart.TheVariants as dora
+use Rattle.riichi_explain.specs.declared.dora.DoraRow.{DoraRow}
 use Rattle.riichi_explain.specs.declared.fu.FuPart.{FuPart}
 use Rattle.riichi_explain.specs.declared.fu.FuPart.TheVariants as fu
 use Rattle.riichi_explain.specs.declared.fu.FuRow.{FuRow}
@@ -26,6 +29,7 @@ use Rattle.riichi_explain.specs.declared.payers.Payer.TheVariants as payer
 use Rattle.riichi_explain.specs.declared.payers.PayRow.{PayRow}
 use Rattle.riichi_explain.specs.declared.win.WonHand.{WonHand}
 use Rattle.riichi_explain.specs.Base.{limit_points}
+use Rattle.riichi_explain.specs.Dora.{dora_total}
 use Rattle.riichi_explain.specs.Fu.{fu_total}
 use Rattle.riichi_text.specs.Lists.{joined}
 use Rattle.riichi_text.specs.Tiles.{kind_text, block_text, meld_text, two_text, three_text, four_text}
@@ -71,17 +75,15 @@ unfoldable pub sum_text : ℕ → ℕ → List ℕ
 sum_text rows sum = if nat_lt 1 rows then codes ": " ++ decimal sum else []
 
 unfoldable pub han_part_text : HanPart → List ℕ
-han_part_text (han.Yaku yaku) = word yaku
-han_part_text (han.Yakuman yaku) = word yaku
+han_part_text (han.Yaku yaku) = named yaku
+han_part_text (han.Yakuman yaku) = named yaku
 han_part_text han.Dora = codes "dora"
-han_part_text han.RedFives = codes "red fives"
 
 -- a yakuman has no number of han
 unfoldable pub han_number : HanPart → ℕ → List ℕ
 han_number (han.Yaku yaku) han = codes " " ++ decimal han
 han_number (han.Yakuman yaku) han = []
 han_number han.Dora han = codes " " ++ decimal han
-han_number han.RedFives han = codes " " ++ decimal han
 
 unfoldable pub han_text : HanRow → List ℕ
 han_text row = han_part_text row.part ++ han_number row.part row.han
@@ -96,27 +98,50 @@ unfoldable pub han_line : Bool → ℕ → List HanRow → List ℕ
 han_line yakuman han rows =
     han_label yakuman ++ joined (codes ", ") (map han_text rows) ++ han_sum yakuman (length rows) han ++ line_feed
 
+unfoldable pub dora_part_text : DoraPart → ℕ → List ℕ
+dora_part_text dora.Indicated han = codes " indicated"
+dora_part_text dora.Below han = codes " below (ura)"
+dora_part_text dora.RedFives han = if han == 1 then codes " red five" else codes " red fives"
+
+unfoldable pub dora_text : DoraRow → List ℕ
+dora_text row = decimal row.han ++ dora_part_text row.part row.han
+
+-- how many dora there are, and where they come from
+unfoldable pub dora_line : List DoraRow → List ℕ
+dora_line rows = codes "  dora    " ++ decimal (dora_total rows) ++ codes ": " ++ joined (codes ", ") (map dora_text rows) ++ line_feed
+
+-- where there are none, there is no line
+unfoldable pub dora_line_if : List DoraRow → List ℕ
+dora_line_if [] = []
+dora_line_if (row ∷ rows) = dora_line (row ∷ rows)
+
 unfoldable pub shown_text : Bool → List ℕ
 shown_text concealed = if concealed then codes "concealed " else codes "open "
 
+unfoldable pub triplet_name : Bool → List ℕ
+triplet_name concealed = if concealed then codes " (ankou)" else codes " (minkou)"
+
 unfoldable pub triplet_words : ℕ → Bool → List ℕ
-triplet_words kind concealed = shown_text concealed ++ codes "triplet " ++ three_text kind
+triplet_words kind concealed = shown_text concealed ++ codes "triplet " ++ three_text kind ++ triplet_name concealed
+
+unfoldable pub kong_name : Bool → List ℕ
+kong_name concealed = if concealed then codes " (ankan)" else codes " (minkan)"
 
 unfoldable pub kong_words : ℕ → Bool → List ℕ
-kong_words kind concealed = shown_text concealed ++ codes "kong " ++ four_text kind
+kong_words kind concealed = shown_text concealed ++ codes "kong " ++ four_text kind ++ kong_name concealed
 
 unfoldable pub fu_part_text : FuPart → List ℕ
 fu_part_text fu.Base = codes "base"
-fu_part_text fu.ConcealedRon = codes "concealed ron"
-fu_part_text fu.SelfDraw = codes "self-draw"
+fu_part_text fu.ConcealedRon = codes "concealed ron (menzen kafu)"
+fu_part_text fu.SelfDraw = codes "self-draw (tsumo)"
 fu_part_text (fu.Triplet kind concealed) = triplet_words kind concealed
 fu_part_text (fu.Kong kind concealed) = kong_words kind concealed
 fu_part_text (fu.DragonPair kind) = codes "pair of dragons " ++ two_text kind
 fu_part_text (fu.SeatWindPair kind) = codes "pair of the seat wind " ++ two_text kind
 fu_part_text (fu.PrevalentWindPair kind) = codes "pair of the prevalent wind " ++ two_text kind
-fu_part_text fu.ClosedWait = codes "closed wait"
-fu_part_text fu.EdgeWait = codes "edge wait"
-fu_part_text fu.PairWait = codes "pair wait"
+fu_part_text fu.ClosedWait = codes "closed wait (kanchan)"
+fu_part_text fu.EdgeWait = codes "edge wait (penchan)"
+fu_part_text fu.PairWait = codes "pair wait (tanki)"
 fu_part_text fu.OpenRon = codes "open ron of 20"
 fu_part_text fu.SevenPairs = codes "seven pairs"
 
@@ -155,7 +180,7 @@ han_words han = if han == 0 then [] else decimal han ++ codes " han, "
 unfoldable pub base_text : BaseRule → ℕ → ℕ → List ℕ
 base_text (Product product) han fu = product_text han fu product
 base_text (Capped product) han fu = product_text han fu product ++ codes ", mangan 2000"
-base_text (Raised product) han fu = product_text han fu product ++ codes ", raised to mangan 2000"
+base_text (Raised product) han fu = product_text han fu product ++ codes ", raised to mangan 2000 (kiriage)"
 base_text (Limited which) han fu = han_words han ++ limit_text which
 
 unfoldable pub base_line : BaseRule → ℕ → ℕ → List ℕ
@@ -203,6 +228,7 @@ won_hand_text hand =
     let yakuman = is_yakuman hand.score.yaku in
     reading_line hand.reading hand.win
     ++ han_line yakuman hand.score.han hand.han.items
+    ++ dora_line_if hand.dora.items
     ++ fu_line_if yakuman hand.fu.items hand.score.fu
     ++ base_line hand.base hand.score.han hand.score.fu
     ++ pay_line hand.payers.items

@@ -2,6 +2,7 @@
 ghost use Rattle.std.proofs.Common.{rules};
 
 use crate::base::{BaseRule, Limit};
+use crate::dora::{DoraPart, DoraRow};
 use crate::fu::{FuPart, FuRow};
 use crate::han::{HanPart, HanRow};
 use crate::payers::{PayRow, Payer};
@@ -44,5 +45,13 @@ impl Decided for Payer {
 }
 
 impl Decided for PayRow {
+    ghost decides = { λ a b. Prim.search rules };
+}
+
+impl Decided for DoraPart {
+    ghost decides = { λ a b. Prim.search rules };
+}
+
+impl Decided for DoraRow {
     ghost decides = { λ a b. Prim.search rules };
 }

@@ -5,7 +5,7 @@ ghost use Rattle.arrayvec.specs.ArrayString.{array_string_len};
 ghost use Rattle.riichi_explain.specs.Explanation as spec;
 ghost use Rattle.riichi_explain.specs.Text.{no_yaku_line};
 
-use crate::forms::push_shanten_line;
+use crate::missed::push_missed_lines;
 use crate::reading_text::push_no_yaku;
 use crate::win::WinExplanation;
 use crate::win_text::push_won_hand;
@@ -17,20 +17,20 @@ use riichi_split::Readings;
 const MOST_READINGS: usize = 12;
 
 /// Writes the lines that say why a win is worth what it is: those of a hand that scores, a line for each reading
-/// without yaku, twelve at most, or how far a hand that is no win is from each form.
-pub fn push_win_lines(text: &mut ArrayString<3072>, explanation: WinExplanation, win: &WinRecord)
-    requires { array_string_len text.old + 2930 ≤ 3072 }
+/// without yaku, twelve at most, or how far a hand that is no win is from each form, and what it waits for.
+pub fn push_win_lines(text: &mut ArrayString<4608>, explanation: WinExplanation, win: &WinRecord)
+    requires { array_string_len text.old + 4210 ≤ 4608 }
     ensures { text.new.bytes ≡ text.old.bytes ++ spec.win_lines explanation win.now }
 {
     match explanation {
         WinExplanation::Won(hand) => push_won_hand(text, &hand),
         WinExplanation::NoYaku(readings) => push_no_yaku_lines(text, readings, win),
-        WinExplanation::NoWin(forms) => push_shanten_line(text, &forms),
+        WinExplanation::NoWin(missed) => push_missed_lines(text, &missed),
     }
 }
 
-fn push_no_yaku_lines(text: &mut ArrayString<3072>, readings: Readings, win: &WinRecord)
-    requires { array_string_len text.old + 2640 ≤ 3072 }
+fn push_no_yaku_lines(text: &mut ArrayString<4608>, readings: Readings, win: &WinRecord)
+    requires { array_string_len text.old + 2640 ≤ 4608 }
     ensures { text.new.bytes ≡ text.old.bytes ++ spec.no_yaku_lines readings win.now }
 {
     let mut rest = readings;

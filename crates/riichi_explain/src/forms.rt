@@ -29,8 +29,8 @@ pub(crate) fn win_forms(win: &WinRecord) -> FormDistances
 
 /// Writes the line of the shanten by each form.
 #[tactic(auto, unfolding(crate::specs::Forms::shanten_line))]
-pub fn push_shanten_line(text: &mut ArrayString<3072>, forms: &FormDistances)
-    requires { array_string_len text.old + 80 ≤ 3072 }
+pub fn push_shanten_line(text: &mut ArrayString<4608>, forms: &FormDistances)
+    requires { array_string_len text.old + 80 ≤ 4608 }
     ensures bytes { text.new.bytes ≡ text.old.bytes ++ spec.shanten_line forms.now }
     ensures len { array_string_len text.new ≤ array_string_len text.old + 80 }
 {
@@ -42,9 +42,9 @@ pub fn push_shanten_line(text: &mut ArrayString<3072>, forms: &FormDistances)
 }
 
 #[tactic(auto, unfolding(crate::specs::Forms::form_text))]
-fn push_form(text: &mut ArrayString<3072>, name: &str, lack: u8)
+fn push_form(text: &mut ArrayString<4608>, name: &str, lack: u8)
     requires few { length name.now ≤ 19 }
-    requires room { array_string_len text.old + 22 ≤ 3072 }
+    requires room { array_string_len text.old + 22 ≤ 4608 }
     ensures bytes { text.new.bytes ≡ text.old.bytes ++ spec.form_text name.now lack }
     ensures len { array_string_len text.new ≤ array_string_len text.old + length name.now + 3 }
 {
@@ -54,9 +54,9 @@ fn push_form(text: &mut ArrayString<3072>, name: &str, lack: u8)
 
 /// A form that stands beside no meld.
 #[tactic(auto, unfolding(crate::specs::Forms::other_text))]
-fn push_other(text: &mut ArrayString<3072>, name: &str, lack: Option<u8>)
+fn push_other(text: &mut ArrayString<4608>, name: &str, lack: Option<u8>)
     requires few { length name.now ≤ 19 }
-    requires room { array_string_len text.old + 22 ≤ 3072 }
+    requires room { array_string_len text.old + 22 ≤ 4608 }
     ensures bytes { text.new.bytes ≡ text.old.bytes ++ spec.other_text name.now lack }
     ensures len { array_string_len text.new ≤ array_string_len text.old + length name.now + 3 }
 {
@@ -67,8 +67,8 @@ fn push_other(text: &mut ArrayString<3072>, name: &str, lack: Option<u8>)
 
 /// One less than the tiles that are lacking.
 #[tactic(auto, unfolding(crate::specs::Forms::shanten_text))]
-fn push_shanten(text: &mut ArrayString<3072>, lack: u8)
-    requires { array_string_len text.old + 3 ≤ 3072 }
+fn push_shanten(text: &mut ArrayString<4608>, lack: u8)
+    requires { array_string_len text.old + 3 ≤ 4608 }
     ensures bytes { text.new.bytes ≡ text.old.bytes ++ spec.shanten_text lack }
     ensures len { array_string_len text.new ≤ array_string_len text.old + 3 }
 {

@@ -2,12 +2,12 @@
 ghost use Rattle.std.specs.Prelude.{◌≡◌, ◌+◌, ◌<◌, ◌≤◌, ◌++◌, [], length, map, true, false};
 ghost use Rattle.riichi_yaku.specs.YakuSets.{han_of, is_yakuman, yaku_in};
 ghost use Rattle.riichi_tiles.specs.Melds.{are_concealed};
-ghost use Rattle.riichi_score.specs.Dora as dora_spec;
+ghost use Rattle.riichi_score.specs.Dora.{dora_of};
 ghost use Rattle.riichi_explain.specs.Han as spec;
 
 use arrayvec::ArrayVec;
 use riichi_hand::WinRecord;
-use riichi_score::{YakuSet, dora, red_dora};
+use riichi_score::{YakuSet, dora};
 use riichi_yaku::Yaku;
 
 /// What earns han.
@@ -16,9 +16,8 @@ pub enum HanPart {
     Yaku(Yaku),
     /// A yaku that is worth the limit, without han.
     Yakuman(Yaku),
-    /// What the indicators make dora.
+    /// Every dora; [`dora_rows`](crate::dora_rows) tells them apart.
     Dora,
-    RedFives,
 }
 
 /// A row of the han: what earns it, and how many.
@@ -43,14 +42,14 @@ impl Default for HanRow {
 }
 
 /// Rows of han: the yaku in the order of their table, then the dora.
-pub type HanRows = ArrayVec<HanRow, 43>;
+pub type HanRows = ArrayVec<HanRow, 42>;
 
 /// The rows of a win that has this set of yaku. Those of a counted hand add up to its han.
 #[tactic(auto, unfolding(crate::specs::Han::han_rows))]
 pub fn han_rows(set: YakuSet, win: &WinRecord) -> HanRows
     ensures value { result.items ≡ spec.han_rows set win.now }
     ensures counted { is_yakuman set ≡ false → spec.han_total result.items
-        ≡ han_of set (are_concealed win.now.melds) + dora_spec.dora_of win.now }
+        ≡ han_of set (are_concealed win.now.melds) + dora_of win.now }
     ensures yakuman { is_yakuman set ≡ true → spec.han_total result.items ≡ 0 }
 {
     let mut rows = ArrayVec::new();
@@ -58,7 +57,7 @@ pub fn han_rows(set: YakuSet, win: &WinRecord) -> HanRows
         push_yakuman_rows(&mut rows, set);
     } else {
         push_yaku_rows(&mut rows, set, win.melds().concealed());
-        push_dora_rows(&mut rows, win);
+        push_dora_row(&mut rows, win);
     }
     rows
 }
@@ -85,28 +84,16 @@ fn push_yaku_rows(rows: &mut HanRows, set: YakuSet, concealed: bool)
     }
 }
 
-/// The dora of the indicators, and apart from them the red fives.
-fn push_dora_rows(rows: &mut HanRows, win: &WinRecord)
+fn push_dora_row(rows: &mut HanRows, win: &WinRecord)
     requires { length rows.old.items ≤ 41 }
-    ensures { rows.new.items ≡ rows.old.items ++ spec.dora_rows win.now }
+    ensures { rows.new.items ≡ rows.old.items ++ spec.dora_row win.now }
 {
-    let reds = red_dora(win.rules(), &win.reds());
-    push_counted(rows, HanPart::Dora, indicated_dora(win, reds));
-    push_counted(rows, HanPart::RedFives, reds);
-}
-
-/// The dora without so many red fives.
-#[tactic(auto, unfolding(riichi_score::specs::Dora::dora_of))]
-fn indicated_dora(win: &WinRecord, reds: u8) -> u8
-    requires { reds ≡ dora_spec.red_dora win.now.rules win.now.reds }
-    ensures { result ≡ spec.indicated_dora win.now }
-{
-    dora(win) - reds
+    push_counted(rows, HanPart::Dora, dora(win));
 }
 
 /// A row, where there is any.
 fn push_counted(rows: &mut HanRows, part: HanPart, han: u8)
-    requires { length rows.old.items < 43 }
+    requires { length rows.old.items < 42 }
     ensures items { rows.new.items ≡ rows.old.items ++ spec.counted_row part han }
     ensures most { length rows.new.items ≤ length rows.old.items + 1 }
 {

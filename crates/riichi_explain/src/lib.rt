@@ -7,10 +7,12 @@
 
 mod base;
 mod decided;
+mod dora;
 mod explaining;
 mod forms;
 mod fu;
 mod han;
+mod missed;
 mod payers;
 mod points_text;
 mod reading_text;
@@ -19,10 +21,12 @@ mod win;
 mod win_text;
 
 pub use base::{BaseRule, Limit, base_rule};
+pub use dora::{DoraPart, DoraRow, DoraRows, dora_rows};
 pub use explaining::push_win_lines;
 pub use forms::{explain_shape, push_shanten_line};
 pub use fu::{FuPart, FuRow, FuRows, fu_rows, fu_total};
 pub use han::{HanPart, HanRow, HanRows, han_rows};
+pub use missed::MissedWin;
 pub use payers::{PayRow, PayRows, Payer, pay_rows};
 pub use reading_text::push_no_yaku;
 pub use win::{WinExplanation, WonHand, explain_win};

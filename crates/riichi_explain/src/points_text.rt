@@ -11,10 +11,10 @@ use riichi_text::{ListItem, push_list, push_number};
 
 /// Writes the line of the base points.
 #[tactic(auto, unfolding(crate::specs::Text::base_line))]
-pub(crate) fn push_base_line(text: &mut ArrayString<3072>, rule: &BaseRule, han: u8, fu: u8)
-    requires { array_string_len text.old + 70 ≤ 3072 }
+pub(crate) fn push_base_line(text: &mut ArrayString<4608>, rule: &BaseRule, han: u8, fu: u8)
+    requires { array_string_len text.old + 80 ≤ 4608 }
     ensures bytes { text.new.bytes ≡ text.old.bytes ++ spec.base_line rule.now han fu }
-    ensures len { array_string_len text.new ≤ array_string_len text.old + 70 }
+    ensures len { array_string_len text.new ≤ array_string_len text.old + 80 }
 {
     text.push_str("  base    ");
     push_base(text, rule, han, fu);
@@ -22,10 +22,10 @@ pub(crate) fn push_base_line(text: &mut ArrayString<3072>, rule: &BaseRule, han:
 }
 
 #[tactic(auto, unfolding(crate::specs::Text::base_text))]
-fn push_base(text: &mut ArrayString<3072>, rule: &BaseRule, han: u8, fu: u8)
-    requires { array_string_len text.old + 58 ≤ 3072 }
+fn push_base(text: &mut ArrayString<4608>, rule: &BaseRule, han: u8, fu: u8)
+    requires { array_string_len text.old + 68 ≤ 4608 }
     ensures bytes { text.new.bytes ≡ text.old.bytes ++ spec.base_text rule.now han fu }
-    ensures len { array_string_len text.new ≤ array_string_len text.old + 58 }
+    ensures len { array_string_len text.new ≤ array_string_len text.old + 68 }
 {
     match rule {
         BaseRule::Product { product } => push_product(text, han, fu, *product),
@@ -35,7 +35,7 @@ fn push_base(text: &mut ArrayString<3072>, rule: &BaseRule, han: u8, fu: u8)
         }
         BaseRule::Raised { product } => {
             push_product(text, han, fu, *product);
-            text.push_str(", raised to mangan 2000");
+            text.push_str(", raised to mangan 2000 (kiriage)");
         }
         BaseRule::Limited(limit) => {
             push_han_words(text, han);
@@ -45,8 +45,8 @@ fn push_base(text: &mut ArrayString<3072>, rule: &BaseRule, han: u8, fu: u8)
 }
 
 #[tactic(auto, unfolding(crate::specs::Text::product_text))]
-fn push_product(text: &mut ArrayString<3072>, han: u8, fu: u8, product: u32)
-    requires { array_string_len text.old + 35 ≤ 3072 }
+fn push_product(text: &mut ArrayString<4608>, han: u8, fu: u8, product: u32)
+    requires { array_string_len text.old + 35 ≤ 4608 }
     ensures bytes { text.new.bytes ≡ text.old.bytes ++ spec.product_text han fu product }
     ensures len { array_string_len text.new ≤ array_string_len text.old + 35 }
 {
@@ -59,8 +59,8 @@ fn push_product(text: &mut ArrayString<3072>, han: u8, fu: u8, product: u32)
 
 /// A yakuman has no number of han.
 #[tactic(auto, unfolding(crate::specs::Text::han_words))]
-fn push_han_words(text: &mut ArrayString<3072>, han: u8)
-    requires { array_string_len text.old + 9 ≤ 3072 }
+fn push_han_words(text: &mut ArrayString<4608>, han: u8)
+    requires { array_string_len text.old + 9 ≤ 4608 }
     ensures bytes { text.new.bytes ≡ text.old.bytes ++ spec.han_words han }
     ensures len { array_string_len text.new ≤ array_string_len text.old + 9 }
 {
@@ -71,8 +71,8 @@ fn push_han_words(text: &mut ArrayString<3072>, han: u8)
 }
 
 #[tactic(auto, unfolding(crate::specs::Text::limit_text))]
-fn push_limit(text: &mut ArrayString<3072>, limit: Limit)
-    requires { array_string_len text.old + 20 ≤ 3072 }
+fn push_limit(text: &mut ArrayString<4608>, limit: Limit)
+    requires { array_string_len text.old + 20 ≤ 4608 }
     ensures bytes { text.new.bytes ≡ text.old.bytes ++ spec.limit_text limit }
     ensures len { array_string_len text.new ≤ array_string_len text.old + 20 }
 {
@@ -82,8 +82,8 @@ fn push_limit(text: &mut ArrayString<3072>, limit: Limit)
 }
 
 #[tactic(auto, unfolding(crate::specs::Text::limit_name))]
-fn push_limit_name(text: &mut ArrayString<3072>, limit: Limit)
-    requires { array_string_len text.old + 9 ≤ 3072 }
+fn push_limit_name(text: &mut ArrayString<4608>, limit: Limit)
+    requires { array_string_len text.old + 9 ≤ 4608 }
     ensures bytes { text.new.bytes ≡ text.old.bytes ++ spec.limit_name limit }
     ensures len { array_string_len text.new ≤ array_string_len text.old + 9 }
 {
@@ -110,9 +110,9 @@ fn limit_points(limit: Limit) -> u32
 
 /// Writes the line of who pays what.
 #[tactic(auto, unfolding(crate::specs::Text::pay_line))]
-pub(crate) fn push_pay_line(text: &mut ArrayString<3072>, rows: &[PayRow])
+pub(crate) fn push_pay_line(text: &mut ArrayString<4608>, rows: &[PayRow])
     requires few { length rows.now ≤ 2 }
-    requires room { array_string_len text.old + 210 ≤ 3072 }
+    requires room { array_string_len text.old + 210 ≤ 4608 }
     ensures bytes { text.new.bytes ≡ text.old.bytes ++ spec.pay_line rows.now }
     ensures len { array_string_len text.new ≤ array_string_len text.old + 210 }
 {
@@ -121,7 +121,7 @@ pub(crate) fn push_pay_line(text: &mut ArrayString<3072>, rows: &[PayRow])
     text.push_str("\n");
 }
 
-impl ListItem<3072> for PayRow {
+impl ListItem<4608> for PayRow {
     ghost use Rattle.riichi_explain.specs.Text.{pay_text};
 
     ghost item_text = { pay_text };
@@ -129,7 +129,7 @@ impl ListItem<3072> for PayRow {
     ghost most = { 91 };
 
     #[tactic(auto, unfolding(crate::specs::Text::pay_text))]
-    fn push(&self, text: &mut ArrayString<3072>) {
+    fn push(&self, text: &mut ArrayString<4608>) {
         push_payer(text, self.payer);
         push_added(text, " for counters = ", self.points, self.counters);
         push_each(text, self.payer);
@@ -137,8 +137,8 @@ impl ListItem<3072> for PayRow {
 }
 
 #[tactic(auto, unfolding(crate::specs::Text::payer_name))]
-fn push_payer(text: &mut ArrayString<3072>, payer: Payer)
-    requires { array_string_len text.old + 13 ≤ 3072 }
+fn push_payer(text: &mut ArrayString<4608>, payer: Payer)
+    requires { array_string_len text.old + 13 ≤ 4608 }
     ensures bytes { text.new.bytes ≡ text.old.bytes ++ spec.payer_name payer }
     ensures len { array_string_len text.new ≤ array_string_len text.old + 13 }
 {
@@ -151,8 +151,8 @@ fn push_payer(text: &mut ArrayString<3072>, payer: Payer)
 }
 
 #[tactic(auto, unfolding(crate::specs::Text::each_text))]
-fn push_each(text: &mut ArrayString<3072>, payer: Payer)
-    requires { array_string_len text.old + 5 ≤ 3072 }
+fn push_each(text: &mut ArrayString<4608>, payer: Payer)
+    requires { array_string_len text.old + 5 ≤ 4608 }
     ensures bytes { text.new.bytes ≡ text.old.bytes ++ spec.each_text payer }
     ensures len { array_string_len text.new ≤ array_string_len text.old + 5 }
 {
@@ -164,9 +164,9 @@ fn push_each(text: &mut ArrayString<3072>, payer: Payer)
 
 /// An amount, and what is added to it.
 #[tactic(auto, unfolding(crate::specs::Text::added_text))]
-fn push_added(text: &mut ArrayString<3072>, what: &str, points: u32, more: u32)
+fn push_added(text: &mut ArrayString<4608>, what: &str, points: u32, more: u32)
     requires few { length what.now ≤ 16 }
-    requires room { array_string_len text.old + 60 ≤ 3072 }
+    requires room { array_string_len text.old + 60 ≤ 4608 }
     ensures bytes { text.new.bytes ≡ text.old.bytes ++ spec.added_text what.now points more }
     ensures len { array_string_len text.new ≤ array_string_len text.old + 60 }
 {
@@ -178,9 +178,9 @@ fn push_added(text: &mut ArrayString<3072>, what: &str, points: u32, more: u32)
 }
 
 #[tactic(auto, unfolding(crate::specs::Text::sum_of_two))]
-fn push_sum_of_two(text: &mut ArrayString<3072>, what: &str, points: u32, more: u32)
+fn push_sum_of_two(text: &mut ArrayString<4608>, what: &str, points: u32, more: u32)
     requires few { length what.now ≤ 16 }
-    requires room { array_string_len text.old + 60 ≤ 3072 }
+    requires room { array_string_len text.old + 60 ≤ 4608 }
     ensures bytes { text.new.bytes ≡ text.old.bytes ++ spec.sum_of_two what.now points more }
     ensures len { array_string_len text.new ≤ array_string_len text.old + 60 }
 {
@@ -193,8 +193,8 @@ fn push_sum_of_two(text: &mut ArrayString<3072>, what: &str, points: u32, more: 
 
 /// Writes the line of the gain: what is paid, and the riichi sticks.
 #[tactic(auto, unfolding(crate::specs::Text::gain_line))]
-pub(crate) fn push_gain_line(text: &mut ArrayString<3072>, gain: u32, sticks: u8)
-    requires { array_string_len text.old + 75 ≤ 3072 }
+pub(crate) fn push_gain_line(text: &mut ArrayString<4608>, gain: u32, sticks: u8)
+    requires { array_string_len text.old + 75 ≤ 4608 }
     ensures bytes { text.new.bytes ≡ text.old.bytes ++ spec.gain_line gain sticks }
     ensures len { array_string_len text.new ≤ array_string_len text.old + 75 }
 {

@@ -13,8 +13,8 @@ use riichi_tiles::{Block, Kind, Meld, Melds, write_counts};
 
 /// Writes the line of a reading that has no yaku.
 #[tactic(auto, unfolding(crate::specs::Text::no_yaku_line))]
-pub fn push_no_yaku(text: &mut ArrayString<3072>, reading: &Reading, win: &WinRecord)
-    requires { array_string_len text.old + 220 ≤ 3072 }
+pub fn push_no_yaku(text: &mut ArrayString<4608>, reading: &Reading, win: &WinRecord)
+    requires { array_string_len text.old + 220 ≤ 4608 }
     ensures bytes { text.new.bytes ≡ text.old.bytes ++ spec.no_yaku_line reading.now win.now }
     ensures len { array_string_len text.new ≤ array_string_len text.old + 220 }
 {
@@ -26,8 +26,8 @@ pub fn push_no_yaku(text: &mut ArrayString<3072>, reading: &Reading, win: &WinRe
 
 /// Writes the line of the reading that scores.
 #[tactic(auto, unfolding(crate::specs::Text::reading_line))]
-pub(crate) fn push_reading_line(text: &mut ArrayString<3072>, reading: &Reading, win: &WinRecord)
-    requires { array_string_len text.old + 220 ≤ 3072 }
+pub(crate) fn push_reading_line(text: &mut ArrayString<4608>, reading: &Reading, win: &WinRecord)
+    requires { array_string_len text.old + 220 ≤ 4608 }
     ensures bytes { text.new.bytes ≡ text.old.bytes ++ spec.reading_line reading.now win.now }
     ensures len { array_string_len text.new ≤ array_string_len text.old + 220 }
 {
@@ -37,8 +37,8 @@ pub(crate) fn push_reading_line(text: &mut ArrayString<3072>, reading: &Reading,
 }
 
 #[tactic(auto, unfolding(crate::specs::Text::reading_text))]
-fn push_reading(text: &mut ArrayString<3072>, reading: &Reading, win: &WinRecord)
-    requires { array_string_len text.old + 190 ≤ 3072 }
+fn push_reading(text: &mut ArrayString<4608>, reading: &Reading, win: &WinRecord)
+    requires { array_string_len text.old + 190 ≤ 4608 }
     ensures bytes { text.new.bytes ≡ text.old.bytes ++ spec.reading_text reading.now win.now }
     ensures len { array_string_len text.new ≤ array_string_len text.old + 190 }
 {
@@ -63,8 +63,8 @@ fn push_reading(text: &mut ArrayString<3072>, reading: &Reading, win: &WinRecord
     }
 }
 
-fn push_set_texts(text: &mut ArrayString<3072>, sets: &Sets)
-    requires { array_string_len text.old + 20 ≤ 3072 }
+fn push_set_texts(text: &mut ArrayString<4608>, sets: &Sets)
+    requires { array_string_len text.old + 20 ≤ 4608 }
     ensures bytes { text.new.bytes ≡ text.old.bytes ++ flat_map spec.set_text sets.now }
     ensures len { array_string_len text.new ≤ array_string_len text.old + 20 }
 {
@@ -74,8 +74,8 @@ fn push_set_texts(text: &mut ArrayString<3072>, sets: &Sets)
 }
 
 #[tactic(auto, unfolding(crate::specs::Text::set_text))]
-fn push_set(text: &mut ArrayString<3072>, set: &Block)
-    requires { array_string_len text.old + 5 ≤ 3072 }
+fn push_set(text: &mut ArrayString<4608>, set: &Block)
+    requires { array_string_len text.old + 5 ≤ 4608 }
     ensures bytes { text.new.bytes ≡ text.old.bytes ++ spec.set_text set.now }
     ensures len { array_string_len text.new ≤ array_string_len text.old + 5 }
 {
@@ -83,8 +83,8 @@ fn push_set(text: &mut ArrayString<3072>, set: &Block)
     text.push_str(" ");
 }
 
-fn push_spaced_melds(text: &mut ArrayString<3072>, melds: &Melds)
-    requires { array_string_len text.old + 48 ≤ 3072 }
+fn push_spaced_melds(text: &mut ArrayString<4608>, melds: &Melds)
+    requires { array_string_len text.old + 48 ≤ 4608 }
     ensures bytes { text.new.bytes ≡ text.old.bytes ++ flat_map spec.spaced_meld melds.now }
     ensures len { array_string_len text.new ≤ array_string_len text.old + 48 }
 {
@@ -96,8 +96,8 @@ fn push_spaced_melds(text: &mut ArrayString<3072>, melds: &Melds)
 }
 
 #[tactic(auto, unfolding(crate::specs::Text::spaced_meld))]
-fn push_spaced(text: &mut ArrayString<3072>, meld: &Meld)
-    requires { array_string_len text.old + 12 ≤ 3072 }
+fn push_spaced(text: &mut ArrayString<4608>, meld: &Meld)
+    requires { array_string_len text.old + 12 ≤ 4608 }
     ensures bytes { text.new.bytes ≡ text.old.bytes ++ spec.spaced_meld meld.now }
     ensures len { array_string_len text.new ≤ array_string_len text.old + 12 }
 {
@@ -107,8 +107,8 @@ fn push_spaced(text: &mut ArrayString<3072>, meld: &Meld)
 
 /// The winning tile, and the block that it completes.
 #[tactic(auto, unfolding(crate::specs::Text::completes_text))]
-fn push_completes(text: &mut ArrayString<3072>, winning: Kind, done: &Block)
-    requires { array_string_len text.old + 19 ≤ 3072 }
+fn push_completes(text: &mut ArrayString<4608>, winning: Kind, done: &Block)
+    requires { array_string_len text.old + 19 ≤ 4608 }
     ensures bytes { text.new.bytes ≡ text.old.bytes ++ spec.completes_text winning done.now }
     ensures len { array_string_len text.new ≤ array_string_len text.old + 19 }
 {
@@ -120,8 +120,8 @@ fn push_completes(text: &mut ArrayString<3072>, winning: Kind, done: &Block)
 
 /// The concealed tiles with the winning tile.
 #[tactic(auto, unfolding(crate::specs::Text::hand_text))]
-fn push_hand(text: &mut ArrayString<3072>, win: &WinRecord)
-    requires { array_string_len text.old + 140 ≤ 3072 }
+fn push_hand(text: &mut ArrayString<4608>, win: &WinRecord)
+    requires { array_string_len text.old + 140 ≤ 4608 }
     ensures bytes { text.new.bytes ≡ text.old.bytes ++ spec.hand_text win.now }
     ensures len { array_string_len text.new ≤ array_string_len text.old + 140 }
 {

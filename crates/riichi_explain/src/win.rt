@@ -6,14 +6,14 @@ ghost use Rattle.riichi_score.specs.Scores.{score_of, IsReadingOf};
 ghost use Rattle.riichi_explain.specs.Win as spec;
 
 use crate::base::{BaseRule, base_rule};
-use crate::forms::win_forms;
+use crate::dora::{DoraRows, dora_rows};
 use crate::fu::{FuRows, fu_rows};
 use crate::han::{HanRows, han_rows};
+use crate::missed::{MissedWin, missed_win};
 use crate::payers::{PayRows, pay_rows};
 use arrayvec::ArrayVec;
 use riichi_hand::WinRecord;
 use riichi_score::{BestReading, Score, WinAnswer, best_reading, hand_of};
-use riichi_shape::FormDistances;
 use riichi_split::{Reading, Readings};
 
 /// A win that scores: a reading that has its score, and the rows that give it.
@@ -24,6 +24,8 @@ pub struct WonHand {
     pub score: Score,
     /// Each yaku, and the dora. Of a yakuman the names alone.
     pub han: HanRows,
+    /// Where the dora come from. A yakuman has none.
+    pub dora: DoraRows,
     /// None of a yakuman.
     pub fu: FuRows,
     pub base: BaseRule,
@@ -36,8 +38,8 @@ pub enum WinExplanation {
     Won(WonHand),
     /// Every reading of the hand: none has a yaku.
     NoYaku(Readings),
-    /// The hand has no reading: so far is it from each form of a winning hand.
-    NoWin(FormDistances),
+    /// The hand has no reading: how far it is from each form, and what it waits for.
+    NoWin(MissedWin),
 }
 
 impl WinExplanation {
@@ -66,7 +68,7 @@ pub fn explain_win(win: &WinRecord) -> WinExplanation
             let hand = hand_of(win);
             WinExplanation::NoYaku(Readings::new(&hand, &win.melds(), win.winning()))
         }
-        BestReading::NoWin => WinExplanation::NoWin(win_forms(win)),
+        BestReading::NoWin => WinExplanation::NoWin(missed_win(win)),
     }
 }
 
@@ -78,6 +80,7 @@ fn won_hand(win: &WinRecord, reading: Reading, score: Score) -> WonHand
 {
     let yakuman = score.yaku.is_yakuman();
     let han = han_rows(score.yaku, win);
+    let dora = counted_dora(yakuman, win);
     let fu = counted_fu(yakuman, &reading, win);
     let base = base_rule(yakuman, win.rules(), score.han, score.fu);
     let payers = pay_rows(score.base, win);
@@ -86,9 +89,21 @@ fn won_hand(win: &WinRecord, reading: Reading, score: Score) -> WonHand
         reading,
         score,
         han,
+        dora,
         fu,
         base,
         payers,
+    }
+}
+
+/// The rows of dora, of which a yakuman counts none.
+fn counted_dora(yakuman: bool, win: &WinRecord) -> DoraRows
+    ensures { result.items ≡ spec.counted_dora yakuman win.now }
+{
+    if !yakuman {
+        dora_rows(win)
+    } else {
+        ArrayVec::new()
     }
 }
 

@@ -6,13 +6,13 @@ ghost use Rattle.riichi_explain.specs.Text as spec;
 use crate::fu::FuRow;
 use crate::points_text::{push_base_line, push_gain_line, push_pay_line};
 use crate::reading_text::push_reading_line;
-use crate::rows_text::{push_fu_line, push_han_line};
+use crate::rows_text::{push_dora_line_if, push_fu_line, push_han_line};
 use crate::win::WonHand;
 use arrayvec::ArrayString;
 
 /// The lines of a hand that scores, each after two spaces and ended by a line feed: the reading, the
-/// han, the fu, the base points, who pays, and the gain.
-pub fn won_hand_text(hand: &WonHand) -> ArrayString<3072>
+/// han, the dora, the fu, the base points, who pays, and the gain.
+pub fn won_hand_text(hand: &WonHand) -> ArrayString<4608>
     ensures { result.bytes ≡ spec.won_hand_text hand.now }
 {
     let mut text = ArrayString::new();
@@ -22,13 +22,14 @@ pub fn won_hand_text(hand: &WonHand) -> ArrayString<3072>
 
 /// Writes these lines behind a text. A text that is kept need not be made anew for each hand.
 #[tactic(auto, unfolding(crate::specs::Text::won_hand_text))]
-pub fn push_won_hand(text: &mut ArrayString<3072>, hand: &WonHand)
-    requires { array_string_len text.old + 2930 ≤ 3072 }
+pub fn push_won_hand(text: &mut ArrayString<4608>, hand: &WonHand)
+    requires { array_string_len text.old + 3780 ≤ 4608 }
     ensures { text.new.bytes ≡ text.old.bytes ++ spec.won_hand_text hand.now }
 {
     let yakuman = hand.score.yaku.is_yakuman();
     push_reading_line(text, &hand.reading, &hand.win);
     push_han_line(text, yakuman, hand.score.han, hand.han.as_slice());
+    push_dora_line_if(text, hand.dora.as_slice());
     push_fu_line_if(text, yakuman, hand.fu.as_slice(), hand.score.fu);
     push_base_line(text, &hand.base, hand.score.han, hand.score.fu);
     push_pay_line(text, hand.payers.as_slice());
@@ -37,9 +38,9 @@ pub fn push_won_hand(text: &mut ArrayString<3072>, hand: &WonHand)
 
 /// A yakuman counts no fu.
 #[tactic(auto, unfolding(crate::specs::Text::fu_line_if))]
-fn push_fu_line_if(text: &mut ArrayString<3072>, yakuman: bool, rows: &[FuRow], fu: u8)
+fn push_fu_line_if(text: &mut ArrayString<4608>, yakuman: bool, rows: &[FuRow], fu: u8)
     requires few { length rows.now ≤ 24 }
-    requires room { array_string_len text.old + 950 ≤ 3072 }
+    requires room { array_string_len text.old + 950 ≤ 4608 }
     ensures bytes { text.new.bytes ≡ text.old.bytes ++ spec.fu_line_if yakuman rows.now fu }
     ensures len { array_string_len text.new ≤ array_string_len text.old + 950 }
 {

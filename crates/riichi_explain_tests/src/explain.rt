@@ -8,7 +8,7 @@ use riichi_waits::{KindWaits, explain_waits, push_waits_line};
 use std::process::Abort;
 use std::test::Fail;
 
-fn text_of(job: &Job) -> ArrayString<3072> {
+fn text_of(job: &Job) -> ArrayString<4608> {
     match job {
         Job::Win(win) => win_text(win),
         Job::Shape(shape) => forms_text(&explain_shape(shape)),
@@ -16,19 +16,19 @@ fn text_of(job: &Job) -> ArrayString<3072> {
     }
 }
 
-fn win_text(win: &WinRecord) -> ArrayString<3072> {
+fn win_text(win: &WinRecord) -> ArrayString<4608> {
     let mut text = ArrayString::new();
     push_win_lines(&mut text, explain_win(win), win);
     text
 }
 
-fn forms_text(forms: &FormDistances) -> ArrayString<3072> {
+fn forms_text(forms: &FormDistances) -> ArrayString<4608> {
     let mut text = ArrayString::new();
     push_shanten_line(&mut text, forms);
     text
 }
 
-fn waits_text(kinds: &KindWaits) -> ArrayString<3072> {
+fn waits_text(kinds: &KindWaits) -> ArrayString<4608> {
     let mut text = ArrayString::new();
     push_waits_line(&mut text, kinds.as_slice());
     text
@@ -48,7 +48,7 @@ const RUNS: [(&str, &str); 4] = [
     (
         "win 234m567m345p67s99s on=5s by=tsumo seat=S round=E",
         "  reading 234m 567m 345p 567s 99s, 5s completes 567s
-  han     fully-concealed 1, pinfu 1: 2
+  han     fully-concealed (menzen tsumo) 1, pinfu 1: 2
   fu      20 base
   base    20 x 2^4 = 320
   pays    dealer 700, two others 400 each
@@ -58,7 +58,7 @@ const RUNS: [(&str, &str); 4] = [
     (
         "win 234m567m345p67s99s on=5s by=tsumo seat=E round=E counters=2 sticks=1",
         "  reading 234m 567m 345p 567s 99s, 5s completes 567s
-  han     fully-concealed 1, pinfu 1: 2
+  han     fully-concealed (menzen tsumo) 1, pinfu 1: 2
   fu      20 base
   base    20 x 2^4 = 320
   pays    three others 700 + 200 for counters = 900 each
@@ -69,7 +69,7 @@ const RUNS: [(&str, &str); 4] = [
         "win 234m567m345p67s99s on=5s by=ron seat=S round=E counters=3 sticks=2",
         "  reading 234m 567m 345p 567s 99s, 5s completes 567s
   han     pinfu 1
-  fu      20 base, 10 concealed ron: 30
+  fu      20 base, 10 concealed ron (menzen kafu): 30
   base    30 x 2^3 = 240
   pays    discarder 1000 + 900 for counters = 1900
   gain    1900 + 2000 for sticks = 3900
@@ -78,7 +78,7 @@ const RUNS: [(&str, &str); 4] = [
     (
         "win 567m345p67s88s open=chi:234m on=5s by=ron seat=S round=E",
         "  reading 567m 345p 567s 88s chi:234m, 5s completes 567s
-  han     all-simples 1
+  han     all-simples (tanyao) 1
   fu      20 base, 10 open ron of 20: 30
   base    30 x 2^3 = 240
   pays    discarder 1000
@@ -102,7 +102,7 @@ fn pairs(rt: HostRuntime) -> Result<(), Fail> {
                 "win 234m567m345p67s11z on=8s by=ron seat=E round=E riichi=1",
                 "  reading 234m 567m 345p 678s 11z, 8s completes 678s
   han     riichi 1
-  fu      20 base, 10 concealed ron, 2 pair of the seat wind 11z, 2 pair of the prevalent wind 11z: 34, rounded to 40
+  fu      20 base, 10 concealed ron (menzen kafu), 2 pair of the seat wind 11z, 2 pair of the prevalent wind 11z: 34, rounded to 40
   base    40 x 2^3 = 320
   pays    discarder 2000
   gain    2000
@@ -112,7 +112,7 @@ fn pairs(rt: HostRuntime) -> Result<(), Fail> {
                 "win 234m567m345p67s77z on=8s by=ron seat=S round=E riichi=1",
                 "  reading 234m 567m 345p 678s 77z, 8s completes 678s
   han     riichi 1
-  fu      20 base, 10 concealed ron, 2 pair of dragons 77z: 32, rounded to 40
+  fu      20 base, 10 concealed ron (menzen kafu), 2 pair of dragons 77z: 32, rounded to 40
   base    40 x 2^3 = 320
   pays    discarder 1300
   gain    1300
@@ -121,7 +121,7 @@ fn pairs(rt: HostRuntime) -> Result<(), Fail> {
             (
                 "win 1133m5577p2288s4z on=4z by=tsumo seat=W round=E counters=1",
                 "  reading seven pairs 1133m5577p2288s44z, 4z completes 44z
-  han     fully-concealed 1, seven-pairs 2: 3
+  han     fully-concealed (menzen tsumo) 1, seven-pairs (chiitoitsu) 2: 3
   fu      25 seven pairs
   base    25 x 2^5 = 800
   pays    dealer 1600 + 100 for counters = 1700, two others 800 + 100 for counters = 900 each
@@ -142,7 +142,7 @@ fn waits_of_one_tile(rt: HostRuntime) -> Result<(), Fail> {
                 "win 24567m345p678s99s on=3m by=ron seat=S round=E riichi=1",
                 "  reading 234m 567m 345p 678s 99s, 3m completes 234m
   han     riichi 1
-  fu      20 base, 10 concealed ron, 2 closed wait: 32, rounded to 40
+  fu      20 base, 10 concealed ron (menzen kafu), 2 closed wait (kanchan): 32, rounded to 40
   base    40 x 2^3 = 320
   pays    discarder 1300
   gain    1300
@@ -152,7 +152,7 @@ fn waits_of_one_tile(rt: HostRuntime) -> Result<(), Fail> {
                 "win 12567m345p678s99s on=3m by=ron seat=S round=E riichi=1",
                 "  reading 123m 567m 345p 678s 99s, 3m completes 123m
   han     riichi 1
-  fu      20 base, 10 concealed ron, 2 edge wait: 32, rounded to 40
+  fu      20 base, 10 concealed ron (menzen kafu), 2 edge wait (penchan): 32, rounded to 40
   base    40 x 2^3 = 320
   pays    discarder 1300
   gain    1300
@@ -162,7 +162,7 @@ fn waits_of_one_tile(rt: HostRuntime) -> Result<(), Fail> {
                 "win 3567m345p234789s on=3m by=ron seat=S round=E riichi=1",
                 "  reading 567m 345p 234s 789s 33m, 3m completes 33m
   han     riichi 1
-  fu      20 base, 10 concealed ron, 2 pair wait: 32, rounded to 40
+  fu      20 base, 10 concealed ron (menzen kafu), 2 pair wait (tanki): 32, rounded to 40
   base    40 x 2^3 = 320
   pays    discarder 1300
   gain    1300
@@ -177,7 +177,7 @@ const TRIPLETS_AND_KONGS: [(&str, &str); 4] = [
         "win 99978m444p567s22s on=9m by=ron seat=S round=E riichi=1",
         "  reading 789m 999m 444p 567s 22s, 9m completes 789m
   han     riichi 1
-  fu      20 base, 10 concealed ron, 8 concealed triplet 999m, 4 concealed triplet 444p: 42, rounded to 50
+  fu      20 base, 10 concealed ron (menzen kafu), 8 concealed triplet 999m (ankou), 4 concealed triplet 444p (ankou): 42, rounded to 50
   base    50 x 2^3 = 400
   pays    discarder 1600
   gain    1600
@@ -186,8 +186,9 @@ const TRIPLETS_AND_KONGS: [(&str, &str); 4] = [
     (
         "win 234m567m34p99s open=ankan:1111z on=2p by=tsumo seat=S round=E flags=rinshan dora=1p",
         "  reading 234m 567m 234p 99s ankan:1111z, 2p completes 234p
-  han     fully-concealed 1, prevalent-wind 1, after-a-kong 1, dora 1: 4
-  fu      20 base, 2 self-draw, 32 concealed kong 1111z: 54, rounded to 60
+  han     fully-concealed (menzen tsumo) 1, prevalent-wind (yakuhai bakaze) 1, after-a-kong (rinshan kaiho) 1, dora 1: 4
+  dora    1: 1 indicated
+  fu      20 base, 2 self-draw (tsumo), 32 concealed kong 1111z (ankan): 54, rounded to 60
   base    60 x 2^6 = 3840, mangan 2000
   pays    dealer 4000, two others 2000 each
   gain    8000
@@ -196,8 +197,8 @@ const TRIPLETS_AND_KONGS: [(&str, &str); 4] = [
     (
         "win 234m567m34p99s open=kan:5555z on=2p by=ron seat=S round=E",
         "  reading 234m 567m 234p 99s kan:5555z, 2p completes 234p
-  han     white-dragon 1
-  fu      20 base, 16 open kong 5555z: 36, rounded to 40
+  han     white-dragon (yakuhai haku) 1
+  fu      20 base, 16 open kong 5555z (minkan): 36, rounded to 40
   base    40 x 2^3 = 320
   pays    discarder 1300
   gain    1300
@@ -206,8 +207,8 @@ const TRIPLETS_AND_KONGS: [(&str, &str); 4] = [
     (
         "win 11223m789p99s open=pon:111z on=3m by=ron seat=S round=E",
         "  reading 123m 123m 789p 99s pon:111z, 3m completes 123m
-  han     prevalent-wind 1, outside-hand 1: 2
-  fu      20 base, 4 open triplet 111z, 2 edge wait: 26, rounded to 30
+  han     prevalent-wind (yakuhai bakaze) 1, outside-hand (chanta) 1: 2
+  fu      20 base, 4 open triplet 111z (minkou), 2 edge wait (penchan): 26, rounded to 30
   base    30 x 2^4 = 480
   pays    discarder 2000
   gain    2000
@@ -224,8 +225,8 @@ const LIMIT_HANDS: [(&str, &str); 7] = [
     (
         "win 222m444p666s33m88s on=8s by=ron seat=S round=E",
         "  reading 222m 444p 666s 888s 33m, 8s completes 888s
-  han     all-simples 1, all-pungs 2, three-concealed-pungs 2: 5
-  fu      20 base, 10 concealed ron, 4 concealed triplet 222m, 4 concealed triplet 444p, 4 concealed triplet 666s, 2 open triplet 888s: 44, rounded to 50
+  han     all-simples (tanyao) 1, all-pungs (toitoi) 2, three-concealed-pungs (sanankou) 2: 5
+  fu      20 base, 10 concealed ron (menzen kafu), 4 concealed triplet 222m (ankou), 4 concealed triplet 444p (ankou), 4 concealed triplet 666s (ankou), 2 open triplet 888s (minkou): 44, rounded to 50
   base    5 han, mangan 2000
   pays    discarder 8000
   gain    8000
@@ -234,8 +235,8 @@ const LIMIT_HANDS: [(&str, &str); 7] = [
     (
         "win 111222333p78m99s on=9m by=ron seat=S round=E riichi=1",
         "  reading 789m 123p 123p 123p 99s, 9m completes 789m
-  han     riichi 1, pinfu 1, pure-double-chow 1, terminals-in-all-sets 3: 6
-  fu      20 base, 10 concealed ron: 30
+  han     riichi 1, pinfu 1, pure-double-chow (iipeiko) 1, terminals-in-all-sets (junchan) 3: 6
+  fu      20 base, 10 concealed ron (menzen kafu): 30
   base    6 han, haneman 3000
   pays    discarder 12000
   gain    12000
@@ -244,8 +245,8 @@ const LIMIT_HANDS: [(&str, &str); 7] = [
     (
         "win 2233445678999m on=1m by=ron seat=S round=E",
         "  reading 123m 234m 456m 789m 99m, 1m completes 123m
-  han     pinfu 1, pure-straight 2, full-flush 6: 9
-  fu      20 base, 10 concealed ron: 30
+  han     pinfu 1, pure-straight (ittsu) 2, full-flush (chinitsu) 6: 9
+  fu      20 base, 10 concealed ron (menzen kafu): 30
   base    9 han, baiman 4000
   pays    discarder 16000
   gain    16000
@@ -254,8 +255,8 @@ const LIMIT_HANDS: [(&str, &str); 7] = [
     (
         "win 2233445678999m on=1m by=ron seat=E round=E riichi=2",
         "  reading 123m 234m 456m 789m 99m, 1m completes 123m
-  han     double-riichi 2, pinfu 1, pure-straight 2, full-flush 6: 11
-  fu      20 base, 10 concealed ron: 30
+  han     double-riichi 2, pinfu 1, pure-straight (ittsu) 2, full-flush (chinitsu) 6: 11
+  fu      20 base, 10 concealed ron (menzen kafu): 30
   base    11 han, sanbaiman 6000
   pays    discarder 36000
   gain    36000
@@ -264,8 +265,8 @@ const LIMIT_HANDS: [(&str, &str); 7] = [
     (
         "win 2233445678999m on=1m by=ron seat=S round=E riichi=2 flags=ippatsu,last",
         "  reading 123m 234m 456m 789m 99m, 1m completes 123m
-  han     double-riichi 2, ippatsu 1, pinfu 1, last-tile 1, pure-straight 2, full-flush 6: 13
-  fu      20 base, 10 concealed ron: 30
+  han     double-riichi 2, ippatsu 1, pinfu 1, last-tile (haitei or houtei) 1, pure-straight (ittsu) 2, full-flush (chinitsu) 6: 13
+  fu      20 base, 10 concealed ron (menzen kafu): 30
   base    13 han, yakuman 8000
   pays    discarder 32000
   gain    32000
@@ -274,7 +275,7 @@ const LIMIT_HANDS: [(&str, &str); 7] = [
     (
         "win 222m444p666s33m88s on=8s by=tsumo seat=S round=E",
         "  reading 222m 444p 666s 888s 33m, 8s completes 888s
-  yakuman four-concealed-pungs
+  yakuman four-concealed-pungs (suuankou)
   base    yakuman 8000
   pays    dealer 16000, two others 8000 each
   gain    32000
@@ -283,7 +284,7 @@ const LIMIT_HANDS: [(&str, &str); 7] = [
     (
         "win 19m19p19s1234567z on=1m by=ron seat=E round=E",
         "  reading thirteen orphans 119m19p19s1234567z, won by 1m
-  yakuman thirteen-orphans
+  yakuman thirteen-orphans (kokushi musou)
   base    yakuman 8000
   pays    discarder 48000
   gain    48000
@@ -305,9 +306,10 @@ fn the_second_profile(rt: HostRuntime) -> Result<(), Fail> {
             (
                 "win 123406789m22s34p on=2p by=ron seat=S round=E",
                 "  reading 123m 456m 789m 234p 22s, 2p completes 234p
-  han     pinfu 1, pure-straight 2, red fives 1: 4
-  fu      20 base, 10 concealed ron: 30
-  base    30 x 2^6 = 1920, raised to mangan 2000
+  han     pinfu 1, pure-straight (ittsu) 2, dora 1: 4
+  dora    1: 1 red five
+  fu      20 base, 10 concealed ron (menzen kafu): 30
+  base    30 x 2^6 = 1920, raised to mangan 2000 (kiriage)
   pays    discarder 8000
   gain    8000
 ",
@@ -315,14 +317,34 @@ fn the_second_profile(rt: HostRuntime) -> Result<(), Fail> {
             (
                 "win 234m067m345p67s99s on=0s by=ron seat=S round=E dora=1m",
                 "  reading 234m 567m 345p 567s 99s, 5s completes 567s
-  han     pinfu 1, dora 1, red fives 2: 4
-  fu      20 base, 10 concealed ron: 30
-  base    30 x 2^6 = 1920, raised to mangan 2000
+  han     pinfu 1, dora 3: 4
+  dora    3: 1 indicated, 2 red fives
+  fu      20 base, 10 concealed ron (menzen kafu): 30
+  base    30 x 2^6 = 1920, raised to mangan 2000 (kiriage)
   pays    discarder 8000
   gain    8000
 ",
             ),
         ],
+    )
+}
+
+#[test]
+fn dora_of_every_sort(rt: HostRuntime) -> Result<(), Fail> {
+    explains(
+        &rt,
+        Rules::Two,
+        &[(
+            "win 234m067m345p67s99s on=8s by=ron seat=S round=E riichi=1 dora=1m ura=4p",
+            "  reading 234m 567m 345p 678s 99s, 8s completes 678s
+  han     riichi 1, pinfu 1, dora 3: 5
+  dora    3: 1 indicated, 1 below (ura), 1 red five
+  fu      20 base, 10 concealed ron (menzen kafu): 30
+  base    5 han, mangan 2000
+  pays    discarder 8000
+  gain    8000
+",
+        )],
     )
 }
 
@@ -338,7 +360,11 @@ fn without_yaku(rt: HostRuntime) -> Result<(), Fail> {
             ),
             (
                 "win 123456789m22s34p on=9s by=ron seat=S round=E",
-                "  shanten sets and a pair 0, seven pairs 5, thirteen orphans 10\n",
+                "  shanten sets and a pair 0, seven pairs 5, thirteen orphans 10\n  waits   2p 4 left, two-sided (ryanmen); 5p 4 left, two-sided (ryanmen)\n",
+            ),
+            (
+                "win 147m258p369s1234z on=5z by=ron seat=S round=E",
+                "  shanten sets and a pair 8, seven pairs 6, thirteen orphans 6\n",
             ),
         ],
     )
@@ -374,22 +400,22 @@ fn kinds_that_are_waited_for(rt: HostRuntime) -> Result<(), Fail> {
         &[
             (
                 "waits 123456789m1134p",
-                "  2p 4 left, two-sided; 5p 4 left, two-sided\n",
+                "  2p 4 left, two-sided (ryanmen); 5p 4 left, two-sided (ryanmen)\n",
             ),
-            ("waits 13m456m789p234s88s", "  2m 4 left, closed\n"),
-            ("waits 456m88m89p234567s", "  7p 4 left, edge\n"),
-            ("waits 1133m5577p2288s4z", "  4z 3 left, pair\n"),
+            ("waits 13m456m789p234s88s", "  2m 4 left, closed (kanchan)\n"),
+            ("waits 456m88m89p234567s", "  7p 4 left, edge (penchan)\n"),
+            ("waits 1133m5577p2288s4z", "  4z 3 left, pair (tanki)\n"),
             (
                 "waits 234m567m345p99s55z",
-                "  9s 2 left, two pairs; 5z 2 left, two pairs\n",
+                "  9s 2 left, two pairs (shanpon); 5z 2 left, two pairs (shanpon)\n",
             ),
             (
                 "waits 99978m444p567s22s",
-                "  6m 4 left, two-sided; 9m 1 left, two-sided, two pairs; 2s 2 left, two pairs\n",
+                "  6m 4 left, two-sided (ryanmen); 9m 1 left, two-sided (ryanmen), two pairs (shanpon); 2s 2 left, two pairs (shanpon)\n",
             ),
             (
                 "waits 23m567p99s open=pon:111m,kan:4444m",
-                "  1m 1 left, two-sided\n",
+                "  1m 1 left, two-sided (ryanmen)\n",
             ),
             (
                 "waits 123456789m1111z",

@@ -85,10 +85,10 @@ unfoldable pub word_if : Bool → List ℕ → List ℕ
 word_if there word = if there then word else []
 
 unfoldable pub run_words : WaitSorts → List ℕ
-run_words sorts = word_if sorts.two_sided (codes ", two-sided") ++ word_if sorts.closed (codes ", closed") ++ word_if sorts.edge (codes ", edge")
+run_words sorts = word_if sorts.two_sided (codes ", two-sided (ryanmen)") ++ word_if sorts.closed (codes ", closed (kanchan)") ++ word_if sorts.edge (codes ", edge (penchan)")
 
 unfoldable pub other_words : WaitSorts → List ℕ
-other_words sorts = word_if sorts.pair (codes ", pair") ++ word_if sorts.two_pairs (codes ", two pairs") ++ word_if sorts.orphans (codes ", thirteen orphans")
+other_words sorts = word_if sorts.pair (codes ", pair (tanki)") ++ word_if sorts.two_pairs (codes ", two pairs (shanpon)") ++ word_if sorts.orphans (codes ", thirteen orphans")
 
 unfoldable pub left_text : ℕ → ℕ → List ℕ
 left_text kind left = kind_text kind ++ codes " " ++ decimal left ++ codes " left"

@@ -6,7 +6,7 @@
 //!
 //! ```text
 //! waits 123456789m1134p
-//!   2p 4 left, two-sided; 5p 4 left, two-sided
+//!   2p 4 left, two-sided (ryanmen); 5p 4 left, two-sided (ryanmen)
 //! ```
 #![tactic(auto)]
 

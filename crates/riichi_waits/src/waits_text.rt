@@ -11,9 +11,9 @@ use riichi_tiles::Kind;
 /// Writes the line of the kinds that a hand waits for: of each how many are left, and the sorts of wait. Where there are
 /// none, it says so.
 #[tactic(auto, unfolding(crate::specs::Waits::waits_line))]
-pub fn push_waits_line(text: &mut ArrayString<3072>, rows: &[KindWait])
+pub fn push_waits_line(text: &mut ArrayString<4608>, rows: &[KindWait])
     requires few { length rows.now ≤ 34 }
-    requires room { array_string_len text.old + 2930 ≤ 3072 }
+    requires room { array_string_len text.old + 4120 ≤ 4608 }
     ensures { text.new.bytes ≡ text.old.bytes ++ spec.waits_line rows.now }
 {
     if rows.is_empty() {
@@ -25,15 +25,15 @@ pub fn push_waits_line(text: &mut ArrayString<3072>, rows: &[KindWait])
     }
 }
 
-impl ListItem<3072> for KindWait {
+impl ListItem<4608> for KindWait {
     ghost use Rattle.riichi_waits.specs.Waits.{wait_text};
 
     ghost item_text = { wait_text };
 
-    ghost most = { 78 };
+    ghost most = { 119 };
 
     #[tactic(auto, unfolding(crate::specs::Waits::wait_text))]
-    fn push(&self, text: &mut ArrayString<3072>) {
+    fn push(&self, text: &mut ArrayString<4608>) {
         push_left(text, self.kind, self.left);
         push_run_words(text, &self.sorts);
         push_other_words(text, &self.sorts);
@@ -41,8 +41,8 @@ impl ListItem<3072> for KindWait {
 }
 
 #[tactic(auto, unfolding(crate::specs::Waits::left_text))]
-fn push_left(text: &mut ArrayString<3072>, kind: Kind, left: u8)
-    requires { array_string_len text.old + 11 ≤ 3072 }
+fn push_left(text: &mut ArrayString<4608>, kind: Kind, left: u8)
+    requires { array_string_len text.old + 11 ≤ 4608 }
     ensures bytes { text.new.bytes ≡ text.old.bytes ++ spec.left_text kind left }
     ensures len { array_string_len text.new ≤ array_string_len text.old + 11 }
 {
@@ -53,30 +53,30 @@ fn push_left(text: &mut ArrayString<3072>, kind: Kind, left: u8)
 }
 
 #[tactic(auto, unfolding(crate::specs::Waits::run_words))]
-fn push_run_words(text: &mut ArrayString<3072>, sorts: &WaitSorts)
-    requires { array_string_len text.old + 30 ≤ 3072 }
+fn push_run_words(text: &mut ArrayString<4608>, sorts: &WaitSorts)
+    requires { array_string_len text.old + 55 ≤ 4608 }
     ensures bytes { text.new.bytes ≡ text.old.bytes ++ spec.run_words sorts.now }
-    ensures len { array_string_len text.new ≤ array_string_len text.old + 30 }
+    ensures len { array_string_len text.new ≤ array_string_len text.old + 55 }
 {
-    push_if(text, sorts.two_sided, ", two-sided");
-    push_if(text, sorts.closed, ", closed");
-    push_if(text, sorts.edge, ", edge");
+    push_if(text, sorts.two_sided, ", two-sided (ryanmen)");
+    push_if(text, sorts.closed, ", closed (kanchan)");
+    push_if(text, sorts.edge, ", edge (penchan)");
 }
 
 #[tactic(auto, unfolding(crate::specs::Waits::other_words))]
-fn push_other_words(text: &mut ArrayString<3072>, sorts: &WaitSorts)
-    requires { array_string_len text.old + 37 ≤ 3072 }
+fn push_other_words(text: &mut ArrayString<4608>, sorts: &WaitSorts)
+    requires { array_string_len text.old + 53 ≤ 4608 }
     ensures bytes { text.new.bytes ≡ text.old.bytes ++ spec.other_words sorts.now }
-    ensures len { array_string_len text.new ≤ array_string_len text.old + 37 }
+    ensures len { array_string_len text.new ≤ array_string_len text.old + 53 }
 {
-    push_if(text, sorts.pair, ", pair");
-    push_if(text, sorts.two_pairs, ", two pairs");
+    push_if(text, sorts.pair, ", pair (tanki)");
+    push_if(text, sorts.two_pairs, ", two pairs (shanpon)");
     push_if(text, sorts.orphans, ", thirteen orphans");
 }
 
 #[tactic(auto, unfolding(crate::specs::Waits::word_if))]
-fn push_if(text: &mut ArrayString<3072>, there: bool, word: &str)
-    requires { array_string_len text.old + length word.now ≤ 3072 }
+fn push_if(text: &mut ArrayString<4608>, there: bool, word: &str)
+    requires { array_string_len text.old + length word.now ≤ 4608 }
     ensures bytes { text.new.bytes ≡ text.old.bytes ++ spec.word_if there word.now }
     ensures len { array_string_len text.new ≤ array_string_len text.old + length word.now }
 {

@@ -8,5 +8,5 @@ invariant-loop-yaku l = record {
   parts : l.initial.yaku-iterator ≡ l.yielded ++ l.yaku-iterator;
   bytes : l.text.bytes ≡ l.fn.text.bytes ++ listed (map yaku_text l.yielded);
   begun : l.later ≡ is_begun l.yielded;
-  few : length l.text.bytes ≤ length l.fn.text.bytes + 57 * length l.yielded;
+  few : length l.text.bytes ≤ length l.fn.text.bytes + 87 * length l.yielded;
 }

@@ -1,7 +1,7 @@
 use Rattle.std.proofs.Common.{Bool, List, ◌++◌, map, sym, ap, ◌∙◌}
 use Rattle.riichi_tiles.specs.Melds.{are_concealed}
 use Rattle.riichi_yaku.specs.YakuSets.{yaku_in}
-use Rattle.riichi_explain.specs.Han.{yaku_row, dora_rows, han_total}
+use Rattle.riichi_explain.specs.Han.{yaku_row, dora_row, han_total}
 use Rattle.riichi_explain.specs.declared.han.HanRow.{HanRow}
 use Rattle.riichi_explain.proofs.HanLemmas.{han_rows-counted, rows_give_han, total-yakuman}
 use Rattle.riichi_explain.proofs.han.han_rows.Goals as goal
@@ -14,7 +14,7 @@ returns-else-is_yakuman-clause-value c =
     let w = c.args.win.now in
     let concealed = c.concealed.ensures ∙ ap are_concealed c.melds.ensures in
     let yaku = c.push_yaku_rows.ensures.items ∙ ap (λ (b : Bool). map (yaku_row b) (yaku_in c.args.set)) concealed in
-    c.push_dora_rows.ensures ∙ ap (λ (x : List HanRow). x ++ dora_rows w) yaku
+    c.push_dora_row.ensures ∙ ap (λ (x : List HanRow). x ++ dora_row w) yaku
     ∙ han_rows-counted c.args.set w (sym c.is_yakuman.ensures ∙ c.if-is_yakuman.false)
 
 pub returns-else-is_yakuman-clause-counted : goal.returns-else-is_yakuman-clause-counted
@@ -22,4 +22,4 @@ returns-else-is_yakuman-clause-counted c =
     let w = c.args.win.now in
     let concealed = c.concealed.ensures ∙ ap are_concealed c.melds.ensures in
     let yaku = c.push_yaku_rows.ensures.items ∙ ap (λ (b : Bool). map (yaku_row b) (yaku_in c.args.set)) concealed in
-    λ _. ap han_total (c.push_dora_rows.ensures ∙ ap (λ (x : List HanRow). x ++ dora_rows w) yaku) ∙ rows_give_han c.args.set w
+    λ _. ap han_total (c.push_dora_row.ensures ∙ ap (λ (x : List HanRow). x ++ dora_row w) yaku) ∙ rows_give_han c.args.set w

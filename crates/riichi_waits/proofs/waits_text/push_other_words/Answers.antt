@@ -7,5 +7,5 @@ pub returns-clause-bytes : goal.returns-clause-bytes
 unfolding other_words
 returns-clause-bytes c =
     let sorts = c.args.sorts.now in
-    pushed-three c.args.text.now.bytes (word_if sorts.pair (codes ", pair")) (word_if sorts.two_pairs (codes ", two pairs")) (word_if sorts.orphans (codes ", thirteen orphans"))
+    pushed-three c.args.text.now.bytes (word_if sorts.pair (codes ", pair (tanki)")) (word_if sorts.two_pairs (codes ", two pairs (shanpon)")) (word_if sorts.orphans (codes ", thirteen orphans"))
     c.push_if.ensures.bytes c.push_if-2.ensures.bytes c.push_if-3.ensures.bytes

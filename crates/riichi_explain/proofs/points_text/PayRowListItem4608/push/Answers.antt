@@ -1,7 +1,7 @@
 use Rattle.std.proofs.Common.{codes}
 use Rattle.riichi_explain.specs.Text.{payer_name, added_text, each_text, pay_text}
 use Rattle.riichi_text.proofs.Pieces.{pushed-three}
-use Rattle.riichi_explain.proofs.points_text.PayRowListItem3072.push.Goals as goal
+use Rattle.riichi_explain.proofs.points_text.PayRowListItem4608.push.Goals as goal
 
 pub returns-clause-bytes : goal.returns-clause-bytes
 unfolding pay_text

@@ -1,0 +1,68 @@
+//! Why a hand is no win: how far it is from each form, and what its tiles wait for without the last one.
+ghost use Rattle.std.specs.Prelude.{◌≡◌, ◌+◌, ◌≤◌, ◌++◌, length};
+ghost use Rattle.arrayvec.specs.ArrayString.{array_string_len};
+ghost use Rattle.riichi_hand.specs.Win.{IsWinRecord};
+ghost use Rattle.riichi_score.specs.Scores.{hand_of};
+ghost use Rattle.riichi_waits.specs.Waits.{kind_waits};
+ghost use Rattle.riichi_explain.specs.Forms.{AreFormDistances};
+ghost use Rattle.riichi_explain.specs.Missed as spec;
+
+use crate::forms::{push_shanten_line, win_forms};
+use arrayvec::{ArrayString, ArrayVec};
+use riichi_hand::{HandRecord, WinRecord};
+use riichi_shape::FormDistances;
+use riichi_text::push_list;
+use riichi_waits::{KindWait, KindWaits, explain_waits};
+
+/// A hand that has no reading.
+#[derive(Drop)]
+pub struct MissedWin {
+    /// How far the hand is from each form, the winning tile among its tiles.
+    pub forms: FormDistances,
+    /// The kinds that it waits for before the winning tile: none where it isn't ready.
+    pub waits: KindWaits,
+}
+
+pub(crate) fn missed_win(win: &WinRecord) -> MissedWin
+    ensures forms { AreFormDistances (hand_of win.now) win.now.melds result.forms }
+    ensures waits { result.waits.items ≡ kind_waits (spec.waiting_hand win.now) }
+{
+    MissedWin {
+        forms: win_forms(win),
+        waits: waits_before(win),
+    }
+}
+
+/// The kinds that the hand waits for before the winning tile.
+fn waits_before(win: &WinRecord) -> KindWaits
+    ensures { result.items ≡ kind_waits (spec.waiting_hand win.now) }
+{
+    let parts = win.parts();
+    match HandRecord::new(parts.concealed, parts.melds) {
+        Ok(hand) => explain_waits(&hand),
+        Err(_) => ArrayVec::new(),
+    }
+}
+
+/// Writes the line of the shanten by each form, and below it the kinds that the hand waits for.
+#[tactic(auto, unfolding(crate::specs::Missed::missed_lines))]
+pub(crate) fn push_missed_lines(text: &mut ArrayString<4608>, missed: &MissedWin)
+    requires { array_string_len text.old + 4210 ≤ 4608 }
+    ensures { text.new.bytes ≡ text.old.bytes ++ spec.missed_lines missed.now }
+{
+    push_shanten_line(text, &missed.forms);
+    push_missed_waits(text, missed.waits.as_slice());
+}
+
+#[tactic(auto, unfolding(crate::specs::Missed::missed_waits))]
+fn push_missed_waits(text: &mut ArrayString<4608>, rows: &[KindWait])
+    requires few { length rows.now ≤ 34 }
+    requires room { array_string_len text.old + 4125 ≤ 4608 }
+    ensures { text.new.bytes ≡ text.old.bytes ++ spec.missed_waits rows.now }
+{
+    if !rows.is_empty() {
+        text.push_str("  waits   ");
+        push_list(text, "; ", rows);
+        text.push_str("\n");
+    }
+}
