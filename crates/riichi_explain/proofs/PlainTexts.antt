@@ -98,7 +98,7 @@ tiles_text-plain copies =
 
 -- ---- the words of the yaku
 
-word-plain : (yaku : Yaku) → plain (word yaku) ≡ true
+pub word-plain : (yaku : Yaku) → plain (word yaku) ≡ true
 word-plain Riichi = refl
 word-plain other = refl
 

@@ -59,11 +59,11 @@ fn push_dora_rows(rows: &mut DoraRows, win: &WinRecord)
 {
     push_counted(rows, DoraPart::Indicated, shown_dora(&win.dora(), win));
     push_counted(rows, DoraPart::Below, shown_dora(&win.ura(), win));
-    push_counted(rows, DoraPart::RedFives, reds_of(win));
+    push_counted(rows, DoraPart::RedFives, red_fives(win));
 }
 
 /// The han of the red fives.
-fn reds_of(win: &WinRecord) -> u32
+fn red_fives(win: &WinRecord) -> u32
     ensures { result ≡ red_dora win.now.rules win.now.reds }
 {
     u32::from(red_dora(win.rules(), &win.reds()))

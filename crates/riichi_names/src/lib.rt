@@ -4,8 +4,9 @@
 //! word with that name beside it.
 #![tactic(auto)]
 
-ghost use Rattle.std.specs.Prelude.{◌≡◌, ◌+◌, ◌≤◌, ◌++◌, length};
+ghost use Rattle.std.specs.Prelude.{◌≡◌, ◌+◌, ◌≤◌, ◌++◌, length, true};
 ghost use Rattle.arrayvec.specs.ArrayString.{array_string_len};
+ghost use Rattle.riichi_yaku.specs.Table.{is_a_yakuman};
 ghost use Rattle.riichi_names.specs.Names as spec;
 
 use arrayvec::ArrayString;
@@ -46,6 +47,15 @@ pub fn japanese(yaku: Yaku) -> &'static str
         Yaku::TerminalsInAllSets => "junchan",
         Yaku::TwicePureDoubleChow => "ryanpeikou",
         Yaku::FullFlush => "chinitsu",
+        yakuman => japanese_of_yakuman(yakuman),
+    }
+}
+
+fn japanese_of_yakuman(yaku: Yaku) -> &'static str
+    ensures value { is_a_yakuman yaku ≡ true → result.now ≡ spec.japanese yaku }
+    ensures short { length result.now ≤ 16 }
+{
+    match yaku {
         Yaku::ThirteenOrphans => "kokushi musou",
         Yaku::NineGates => "chuuren poutou",
         Yaku::FourConcealedPungs => "suuankou",
@@ -58,6 +68,7 @@ pub fn japanese(yaku: Yaku) -> &'static str
         Yaku::FourKongs => "suukantsu",
         Yaku::BlessingOfHeaven => "tenhou",
         Yaku::BlessingOfEarth => "chiihou",
+        _ => "",
     }
 }
 
