@@ -25,6 +25,12 @@ if /usr/bin/python3 -c 'import dask.distributed' 2> /dev/null; then
 else
   skip Dask python3-distributed
 fi
+if /usr/bin/python3 -c 'import dask.dataframe' 2> /dev/null; then
+  told 'a table in Dask' "$(sha256sum < "$shelf/wanted")" "$(PYTHONPATH=$PWD/packaging/python/src RIICHI_DESK=$lib/libriichi_desk.so \
+    /usr/bin/python3 -B tests/table_by_dask.py "$shelf/lines" 2> "$room/said" | sha256sum)"
+else
+  skip 'a table in Dask' 'python3-dask or python3-pandas'
+fi
 
 # Slurm, an array of tasks on this machine alone, by daemons of its own in a folder of its own
 slurm=$room/slurm daemons=()

@@ -11,12 +11,15 @@ tests/mixed-lines 20000 > "$shelf/lines"
 "$program" explain < "$shelf/lines" > "$shelf/explained"
 head -n 2000 "$shelf/lines" > "$shelf/few"
 "$program" line < "$shelf/few" > "$shelf/few-wanted"
+# the few, and among them a line that is longer than any room
+{ cat "$shelf/few"; printf '%0200000d\n' 0; head -n 9 "$shelf/few"; } > "$shelf/long"
+"$program" line < "$shelf/long" > "$shelf/long-wanted"
 told 'mixed lines' 20000 "$(wc -l < "$shelf/lines")"
-# same NAME WANTED WORDS..: WORDS answer the mixed lines, or the few, as the file WANTED
+# same NAME WANTED WORDS..: WORDS answer the mixed lines as the file WANTED, or the lines whose answers it has by its name
 same() {
   local name=$1 wanted=$shelf/$2 lines=$shelf/lines
   shift 2
-  [[ $wanted != *few* ]] || lines=$shelf/few
+  [[ $wanted != *-wanted ]] || lines=${wanted%-wanted}
   told "$name" "$(sha256sum < "$wanted")" "$("$@" < "$lines" 2> "$room/said" | sha256sum)"
 }
 # has COMMAND..: whether all are here
@@ -50,7 +53,7 @@ fi
 
 # the calls for many lines, in rooms that are just large enough and larger
 cc -O1 -g -fsanitize=address,undefined -Iinclude tests/many_lines.c "$archive" -o "$shelf/many"
-told 'many lines by one call' 'all right' "$("$shelf/many" "$shelf/few" 2>&1)"
+told 'many lines by one call' 'all right' "$("$shelf/many" "$shelf/long" 2>&1)"
 
 if [ -n "$building" ]; then
   wait "$building"
@@ -101,6 +104,7 @@ if [ -f "$script" ] && has npm node; then
   mkdir -p "$shelf/node" && (cd "$shelf/node" && npm init -y && npm install --offline "$script") > "$room/said" 2>&1
   command=$shelf/node/node_modules/.bin/riichi-desk
   same 'Node: line' wanted "$command" line
+  same 'Node: a long line' long-wanted "$command" line
   same 'Node: line --json' json "$command" line --json
   same 'Node: explain' explained "$command" explain
   told 'Node: waits' 'waits 123456789m' "$("$command" waits 1112345678999m)"
@@ -122,7 +126,8 @@ if [ -f "$portable" ]; then
   cc -O1 -Iinclude packaging/anywhere/riichi_desk.c "$shelf/portable.o" -o "$shelf/portable"
   same 'one file of C: line' wanted "$shelf/portable" line
   cc -O1 -Iinclude tests/many_lines.c "$shelf/portable.o" -o "$shelf/many-portable"
-  told 'one file of C: many lines' 'all right' "$("$shelf/many-portable" "$shelf/few" 2>&1)"
+  told 'one file of C: many lines' 'all right' "$("$shelf/many-portable" "$shelf/long" 2>&1)"
+  same 'one file of C: a long line' long-wanted "$shelf/portable" line
   same 'one file of C: line --json' json "$shelf/portable" line --json
   same 'one file of C: explain' explained "$shelf/portable" explain
   told 'one file of C: waits' 'waits 123456789m' "$("$shelf/portable" waits 1112345678999m)"

@@ -1,5 +1,5 @@
-/* riichi_desk where the proved program has no home: the commands explain, line and waits over riichi_desk.h, in C99 with its library
- * and `read`. Link it with the static library for the system, or with riichi_desk_portable.c.
+/* riichi_desk where the proved program has no home: the commands explain, line and waits over riichi_desk.h, in C99 with its
+ * library and `read`. Link it with the static library for the system, or with riichi_desk_portable.c.
  */
 #include "riichi_desk.h"
 #include <stdio.h>
@@ -133,7 +133,8 @@ int main(int count, char **words) {
     for (; at < count && words[at][0] == '-'; at++) {
         if (strcmp(words[at], "--json") == 0 && !explains) {
             asked.call = riichi_json_lines;
-        } else if (strcmp(words[at], "--rules") == 0 && at + 1 < count && strlen(words[at + 1]) == 1 && strchr("12", words[at + 1][0])) {
+        } else if (strcmp(words[at], "--rules") == 0 && at + 1 < count && strlen(words[at + 1]) == 1
+            && strchr("12", words[at + 1][0])) {
             asked.rules = (uint32_t)(words[++at][0] - '0');
         } else {
             return wrong(words[at]);

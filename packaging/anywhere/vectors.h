@@ -1,5 +1,5 @@
-/* WebAssembly's vectors, 16 bytes each, and its instructions on them, by their names there: by the vectors of GNU's C where a compiler
- * has them, as gcc and clang do, and else lane by lane. RIICHI_DESK_NO_VECTORS has all done lane by lane. */
+/* WebAssembly's vectors, 16 bytes each, and its instructions on them, by their names there: by the vectors of GNU's C where a
+ * compiler has them, as gcc and clang do, and else lane by lane. */
 #if defined(__GNUC__) && !defined(RIICHI_DESK_NO_VECTORS)
 
 #define LANES __attribute__((vector_size(16)))
@@ -12,7 +12,8 @@ typedef s8 s8_lanes LANES;
 typedef s16 s16_lanes LANES;
 typedef s32 s32_lanes LANES;
 typedef s64 s64_lanes LANES;
-/* Of two vectors, or of one and a number, a vector whose lanes are RESULT: there `a` and `b` are all lanes at once. */
+/* Of two vectors, or of one and a number, a vector whose lanes are RESULT of theirs: `a`, `b` and `n`. Here `a` and `b` are all lanes
+ * at once. */
 #define OF_TWO(name, type, result) \
     static inline v128 name(v128 x, v128 y) { \
         type##_lanes a = (type##_lanes)x, b = (type##_lanes)y; \
@@ -85,7 +86,7 @@ typedef struct { u8 bytes[16]; } v128;
 
 #define NO_VECTOR {0}
 static const v128 zeros = NO_VECTOR;
-enum { MOST = 255 };
+enum { MOST = 255 }; /* of a byte */
 
 static inline v128 v128_load(const wasm_rt_memory_t *memory, u64 at) {
     v128 told;
