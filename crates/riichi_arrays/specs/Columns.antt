@@ -22,12 +22,12 @@ use Rattle.riichi_tiles.specs.Melds.{every_kind}
 abbrev pub IsFilled : {A : Type 0} → (ℕ → A) → ℕ → List A → List A → Type 0
 IsFilled value rows before after = after ≡ map value (range_with_len 0 rows) ++ drop rows before
 
--- the hand of a row; where there are no more rows of melds or of seen tiles, there are none
+-- the hand of a row; where an array has no more rows, the row has no melds or no tiles
 abbrev pub shape_at : List (List ℕ) → List (List ℕ) → List (List ℕ) → ℕ → Option ShapeParts
-shape_at counts melds seen row = shape_in (slice_index_or counts row []) (slice_index_or melds row no_melds) (slice_index_or seen row no_tiles)
+shape_at counts melds seen row = shape_in (slice_index_or counts row no_tiles) (slice_index_or melds row no_melds) (slice_index_or seen row no_tiles)
 
 abbrev pub hand_at : List (List ℕ) → List (List ℕ) → ℕ → Option HandParts
-hand_at counts melds row = hand_in (slice_index_or counts row []) (slice_index_or melds row no_melds)
+hand_at counts melds row = hand_in (slice_index_or counts row no_tiles) (slice_index_or melds row no_melds)
 
 -- ---- the shanten
 

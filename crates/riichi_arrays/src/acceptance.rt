@@ -3,10 +3,10 @@ ghost use Rattle.std.specs.Prelude.{ℕ, ◌≡◌, ◌≤◌, ◌<◌, length, 
 ghost use Rattle.riichi_arrays.specs.Columns.{IsFilled, no_shape, shape_at, shape_by, shape_told};
 ghost use Rattle.riichi_shape.specs.KeptDiscards.{kinds_in};
 
-use crate::distance::NO_HAND;
+use crate::distance::{FEW_HANDS, NO_HAND};
 use crate::hands::shape_at;
 use crate::kept_rows::KeptRows;
-use riichi_shape::{Accepts, LiveList, RowSource, ShapeAnswer, shape_with};
+use riichi_shape::{Accepts, FreshRows, LiveList, RowSource, ShapeAnswer, shape_with};
 use riichi_tiles::KindSet;
 
 /// What is told of a hand of thirteen tiles.
@@ -53,7 +53,6 @@ fn shape_row<R: RowSource>(
     seen: &[[u8; 34]],
     row: usize,
 ) -> ShapeRow
-    requires { row < length counts.now }
     ensures shape { result ≡ shape_by (shape_at counts.now melds.now seen.now row) }
     ensures stays { source.new ≡ source.old }
 {
@@ -61,6 +60,61 @@ fn shape_row<R: RowSource>(
         Some(hand) => shape_told(&shape_with(source, &hand)),
         None => NO_SHAPE,
     }
+}
+
+fn fill_shapes<R: RowSource>(
+    source: &mut R,
+    counts: &[[u8; 34]],
+    melds: &[[u8; 4]],
+    seen: &[[u8; 34]],
+    shantens: &mut [i8],
+    accepts: &mut [u64],
+    live: &mut [[u8; 34]],
+    rows: usize,
+)
+    requires shantens { rows ≤ length shantens.old }
+    requires accepts { rows ≤ length accepts.old }
+    requires live { rows ≤ length live.old }
+    ensures shantens { IsFilled (λ row. (shape_by (shape_at counts.now melds.now seen.now row)).shanten)
+        rows shantens.old shantens.new }
+    ensures accepts { IsFilled (λ row. (shape_by (shape_at counts.now melds.now seen.now row)).accepts)
+        rows accepts.old accepts.new }
+    ensures live { IsFilled (λ row. (shape_by (shape_at counts.now melds.now seen.now row)).live)
+        rows live.old live.new }
+{
+    for row in 0..rows {
+        let told = shape_row(source, counts, melds, seen, row);
+        let copies = told.live;
+        shantens[row] = told.shanten;
+        accepts[row] = told.accepts;
+        live[row] = copies;
+    }
+}
+
+#[inline(never)]
+fn fill_many(
+    counts: &[[u8; 34]],
+    melds: &[[u8; 4]],
+    seen: &[[u8; 34]],
+    shantens: &mut [i8],
+    accepts: &mut [u64],
+    live: &mut [[u8; 34]],
+    rows: usize,
+)
+    requires shantens { rows ≤ length shantens.old }
+    requires accepts { rows ≤ length accepts.old }
+    requires live { rows ≤ length live.old }
+    ensures shantens { IsFilled (λ row. (shape_by (shape_at counts.now melds.now seen.now row)).shanten)
+        rows shantens.old shantens.new }
+    ensures accepts { IsFilled (λ row. (shape_by (shape_at counts.now melds.now seen.now row)).accepts)
+        rows accepts.old accepts.new }
+    ensures live { IsFilled (λ row. (shape_by (shape_at counts.now melds.now seen.now row)).live)
+        rows live.old live.new }
+{
+    let mut kept = KeptRows::new();
+    fill_shapes(
+        &mut kept, counts, melds, seen, shantens, accepts, live, rows,
+    );
 }
 
 /// Of each hand of thirteen tiles its shanten, the kinds that bring it nearer, a bit for each, and the live copies of these kinds.
@@ -86,13 +140,19 @@ pub fn shapes(
     let rows = counts
         .len()
         .min(shantens.len().min(accepts.len().min(live.len())));
-    let mut source = KeptRows::of_hands(rows);
-    for row in 0..rows {
-        let told = shape_row(&mut source, counts, melds, seen, row);
-        let copies = told.live;
-        shantens[row] = told.shanten;
-        accepts[row] = told.accepts;
-        live[row] = copies;
+    if rows < FEW_HANDS {
+        fill_shapes(
+            &mut FreshRows,
+            counts,
+            melds,
+            seen,
+            shantens,
+            accepts,
+            live,
+            rows,
+        );
+    } else {
+        fill_many(counts, melds, seen, shantens, accepts, live, rows);
     }
     rows
 }

@@ -2,6 +2,7 @@
 ghost use Rattle.std.specs.Prelude.{◌≡◌, ◌<◌, ◌≤◌, ◌+◌, ℕ, [], slice_index, slice_index_or, slice_set, length};
 ghost use Rattle.riichi_arrays.specs.Columns.{hand_at, shape_at};
 ghost use Rattle.riichi_arrays.specs.Hands as spec;
+ghost use Rattle.riichi_arrays.specs.Hands.{no_melds, no_tiles};
 
 use riichi_hand::{HandRecord, ShapeRecord};
 use riichi_tiles::{Counts, Kind, Meld, Melds};
@@ -70,6 +71,28 @@ fn melds_in(row: &[u8; 4]) -> Option<Melds>
     Some(melds)
 }
 
+/// The melds of a row of some, none where there are no more rows.
+fn melds_at(melds: &[[u8; 4]], row: usize) -> Option<Melds>
+    ensures { result ≡ spec.melds_in (slice_index_or melds.now row no_melds) }
+{
+    if row < melds.len() {
+        melds_in(&melds[row])
+    } else {
+        Some(Melds::new())
+    }
+}
+
+/// The tiles of a row of some, none where there are no more rows.
+fn tiles_at(rows: &[[u8; 34]], row: usize) -> Option<Counts>
+    ensures { result ≡ spec.counts_in (slice_index_or rows.now row no_tiles) }
+{
+    if row < rows.len() {
+        counts_in(&rows[row])
+    } else {
+        Some(Counts::new())
+    }
+}
+
 /// The hand of thirteen or fourteen tiles that stands in a row.
 pub(crate) fn shape_at(
     counts: &[[u8; 34]],
@@ -77,28 +100,19 @@ pub(crate) fn shape_at(
     seen: &[[u8; 34]],
     row: usize,
 ) -> Option<ShapeRecord>
-    requires { row < length counts.now }
     ensures { result ≡ shape_at counts.now melds.now seen.now row }
 {
-    let tiles = counts_in(&counts[row])?;
-    let melds = melds_in(&row_or(melds, row, [0; 4]))?;
-    let seen = counts_in(&row_or(seen, row, [0; 34]))?;
+    let tiles = tiles_at(counts, row)?;
+    let melds = melds_at(melds, row)?;
+    let seen = tiles_at(seen, row)?;
     ShapeRecord::new(tiles, melds, seen).ok()
 }
 
 /// The hand of thirteen tiles that stands in a row.
 pub(crate) fn hand_at(counts: &[[u8; 34]], melds: &[[u8; 4]], row: usize) -> Option<HandRecord>
-    requires { row < length counts.now }
     ensures { result ≡ hand_at counts.now melds.now row }
 {
-    let tiles = counts_in(&counts[row])?;
-    let melds = melds_in(&row_or(melds, row, [0; 4]))?;
+    let tiles = tiles_at(counts, row)?;
+    let melds = melds_at(melds, row)?;
     HandRecord::new(tiles, melds).ok()
-}
-
-/// A row of some, or another where there are no more.
-fn row_or<const N: usize>(rows: &[[u8; N]], row: usize, other: [u8; N]) -> [u8; N]
-    ensures { result ≡ slice_index_or rows.now row other.entry }
-{
-    if row < rows.len() { rows[row] } else { other }
 }

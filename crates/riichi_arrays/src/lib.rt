@@ -21,6 +21,3 @@ pub use acceptance::shapes;
 pub use distance::{NO_HAND, shantens};
 pub use removal::discards;
 pub use waiting::{NO_WAITS, waits};
-
-#[cfg(test)]
-mod tests;

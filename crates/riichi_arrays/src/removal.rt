@@ -9,8 +9,11 @@ use crate::acceptance::kinds_in;
 use crate::distance::NO_HAND;
 use crate::hands::shape_at;
 use crate::kept_rows::KeptRows;
-use riichi_shape::{Accepts, Discard, DiscardList, RowSource, ShapeAnswer, shape_with};
+use riichi_shape::{Accepts, Discard, DiscardList, FreshRows, RowSource, ShapeAnswer, shape_with};
 use riichi_tiles::KindSet;
+
+/// For fewer hands the rows that are kept cost more than they save.
+const FEW_HANDS: usize = 16;
 
 /// What is told of a hand of fourteen tiles.
 #[derive(Clone, Copy)]
@@ -86,7 +89,6 @@ fn row_of<R: RowSource>(
     seen: &[[u8; 34]],
     row: usize,
 ) -> DiscardsRow
-    requires { row < length counts.now }
     ensures discards { result ≡ discards_by (shape_at counts.now melds.now seen.now row) }
     ensures stays { source.new ≡ source.old }
 {
@@ -94,6 +96,71 @@ fn row_of<R: RowSource>(
         Some(hand) => discards_told(&shape_with(source, &hand)),
         None => DiscardsRow::none(NO_HAND),
     }
+}
+
+fn fill_discards<R: RowSource>(
+    source: &mut R,
+    counts: &[[u8; 34]],
+    melds: &[[u8; 4]],
+    seen: &[[u8; 34]],
+    shantens: &mut [i8],
+    kinds: &mut [u64],
+    accepts: &mut [[u64; 34]],
+    live: &mut [[u8; 34]],
+    rows: usize,
+)
+    requires shantens { rows ≤ length shantens.old }
+    requires kinds { rows ≤ length kinds.old }
+    requires accepts { rows ≤ length accepts.old }
+    requires live { rows ≤ length live.old }
+    ensures shantens { IsFilled (λ row. (discards_by (shape_at counts.now melds.now seen.now row)).shanten)
+        rows shantens.old shantens.new }
+    ensures kinds { IsFilled (λ row. (discards_by (shape_at counts.now melds.now seen.now row)).kinds)
+        rows kinds.old kinds.new }
+    ensures accepts { IsFilled (λ row. (discards_by (shape_at counts.now melds.now seen.now row)).accepts)
+        rows accepts.old accepts.new }
+    ensures live { IsFilled (λ row. (discards_by (shape_at counts.now melds.now seen.now row)).live)
+        rows live.old live.new }
+{
+    for row in 0..rows {
+        let told = row_of(source, counts, melds, seen, row);
+        let accepted = told.accepts;
+        let copies = told.live;
+        shantens[row] = told.shanten;
+        kinds[row] = told.kinds.bits();
+        accepts[row] = accepted;
+        live[row] = copies;
+    }
+}
+
+#[inline(never)]
+fn fill_many(
+    counts: &[[u8; 34]],
+    melds: &[[u8; 4]],
+    seen: &[[u8; 34]],
+    shantens: &mut [i8],
+    kinds: &mut [u64],
+    accepts: &mut [[u64; 34]],
+    live: &mut [[u8; 34]],
+    rows: usize,
+)
+    requires shantens { rows ≤ length shantens.old }
+    requires kinds { rows ≤ length kinds.old }
+    requires accepts { rows ≤ length accepts.old }
+    requires live { rows ≤ length live.old }
+    ensures shantens { IsFilled (λ row. (discards_by (shape_at counts.now melds.now seen.now row)).shanten)
+        rows shantens.old shantens.new }
+    ensures kinds { IsFilled (λ row. (discards_by (shape_at counts.now melds.now seen.now row)).kinds)
+        rows kinds.old kinds.new }
+    ensures accepts { IsFilled (λ row. (discards_by (shape_at counts.now melds.now seen.now row)).accepts)
+        rows accepts.old accepts.new }
+    ensures live { IsFilled (λ row. (discards_by (shape_at counts.now melds.now seen.now row)).live)
+        rows live.old live.new }
+{
+    let mut kept = KeptRows::new();
+    fill_discards(
+        &mut kept, counts, melds, seen, shantens, kinds, accepts, live, rows,
+    );
 }
 
 /// Of each hand of fourteen tiles its shanten and the kinds whose discard leaves the least, a bit for each; and for each of
@@ -122,15 +189,20 @@ pub fn discards(
 {
     let places = kinds.len().min(accepts.len().min(live.len()));
     let rows = counts.len().min(shantens.len().min(places));
-    let mut source = KeptRows::of_hands(rows);
-    for row in 0..rows {
-        let told = row_of(&mut source, counts, melds, seen, row);
-        let accepted = told.accepts;
-        let copies = told.live;
-        shantens[row] = told.shanten;
-        kinds[row] = told.kinds.bits();
-        accepts[row] = accepted;
-        live[row] = copies;
+    if rows < FEW_HANDS {
+        fill_discards(
+            &mut FreshRows,
+            counts,
+            melds,
+            seen,
+            shantens,
+            kinds,
+            accepts,
+            live,
+            rows,
+        );
+    } else {
+        fill_many(counts, melds, seen, shantens, kinds, accepts, live, rows);
     }
     rows
 }

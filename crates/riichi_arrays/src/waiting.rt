@@ -8,7 +8,6 @@ use crate::hands::hand_at;
 pub const NO_WAITS: u64 = u64::MAX;
 
 fn waits_in(counts: &[[u8; 34]], melds: &[[u8; 4]], row: usize) -> u64
-    requires { row < length counts.now }
     ensures { result ≡ waits_by (hand_at counts.now melds.now row) }
 {
     match hand_at(counts, melds, row) {

@@ -3,10 +3,10 @@ use Rattle.std.proofs.Common as width
 use Rattle.riichi_arrays.specs.Columns.{shape_at, shape_by}
 use Rattle.riichi_arrays.specs.declared.acceptance.ShapeRow.{ShapeRow}
 use Rattle.riichi_arrays.proofs.ColumnLemmas.{fill_next}
-use Rattle.riichi_arrays.proofs.acceptance.shapes.Goals as goal
+use Rattle.riichi_arrays.proofs.acceptance.fill_shapes.Goals as goal
 
 pub loop-row-preserved : goal.loop-row-preserved
-loop-row-preserved c =
+loop-row-preserved g c =
     let told = c.shape_row-told.result in
     let same : to_z width.w8 (of_z width.w8 told.shanten) ≡ told.shanten = search rules in
     let is = c.shape_row-told.ensures.shape in record {

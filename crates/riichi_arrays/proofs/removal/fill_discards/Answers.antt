@@ -3,10 +3,10 @@ use Rattle.std.proofs.Common as width
 use Rattle.riichi_arrays.specs.Columns.{discards_by, shape_at}
 use Rattle.riichi_arrays.specs.declared.removal.DiscardsRow.{DiscardsRow}
 use Rattle.riichi_arrays.proofs.ColumnLemmas.{fill_next}
-use Rattle.riichi_arrays.proofs.removal.discards.Goals as goal
+use Rattle.riichi_arrays.proofs.removal.fill_discards.Goals as goal
 
 pub loop-row-preserved : goal.loop-row-preserved
-loop-row-preserved c =
+loop-row-preserved g c =
     let told = c.row_of-told.result in
     let same : to_z width.w8 (of_z width.w8 told.shanten) ≡ told.shanten = search rules in
     let is = c.row_of-told.ensures.discards in record {
