@@ -8,11 +8,13 @@
 ghost use Rattle.std.specs.Prelude.{◌≡◌, ◌≤◌, ◌<◌, ◌++◌, length, drop, codes};
 ghost use Rattle.riichi_desk_c.specs.Replies.{reply_to, rules_numbered};
 
+mod arrays;
 mod json;
 mod lines;
 mod placing;
 mod reasons;
 
+pub use arrays::{riichi_discards, riichi_shantens, riichi_shapes, riichi_waits_of};
 use desk_core::{answer_text, judge};
 pub use json::riichi_json;
 pub use lines::{riichi_answer_lines, riichi_explain_lines, riichi_json_lines};
