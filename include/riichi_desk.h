@@ -95,6 +95,24 @@ size_t riichi_json_lines(
 size_t riichi_explain_lines(
     uint32_t rules, const uint8_t *text, size_t text_len, uint8_t *room, size_t room_len, size_t *taken);
 
+/* Answers the rows of an array of texts, one line each: the answer of each, without a line feed, and no bytes for a comment or a blank
+ * line. Both arrays lie as Arrow's large_utf8 and large_binary do (polars, pyarrow, DuckDB, pandas' Arrow strings): row i of n has the
+ * bytes from offsets[i] to offsets[i + 1], so there are n + 1 offsets.
+ *
+ *   rules     RIICHI_RULES_ONE or RIICHI_RULES_TWO. Under any other number each row is answered by `refused rules`.
+ *   bytes     The texts, one behind the other. A row is a line without its line feed: with one in it, or a carriage return, it is refused.
+ *   offsets   n + 1 numbers; `offsets_len` 0 or 1 is no row.
+ *   room      Where the answers go, one behind the other.
+ *   answer_offsets   Where each answer begins, and the last one ends: one place more than rows to be answered. The first is set to 0.
+ *
+ * Returns how many rows are answered, from the first on. Where these are fewer than n and than `answer_offsets_len` - 1, the next answer
+ * has no room, or the next two offsets go back or beyond `bytes_len`. In a room with RIICHI_MOST_ANSWER bytes left it is the second. A call
+ * with `offsets + rows` and another room goes on: what each call fills is an array of its own, a chunk. What is null by a validity
+ * bitmap is the caller's matter.
+ */
+size_t riichi_answer_rows(uint32_t rules, const uint8_t *bytes, size_t bytes_len, const int64_t *offsets, size_t offsets_len,
+    uint8_t *room, size_t room_len, int64_t *answer_offsets, size_t answer_offsets_len);
+
 /* ---- Many hands as arrays
  *
  * These calls answer many hands at once, without any text: what `shape` and `waits` say of each, in columns.

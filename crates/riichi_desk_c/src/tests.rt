@@ -1,9 +1,9 @@
 mod facts;
 
 use super::{
-    riichi_answer, riichi_answer_lines, riichi_discards, riichi_explain, riichi_explain_lines,
-    riichi_json, riichi_json_lines, riichi_shantens, riichi_shapes, riichi_version,
-    riichi_waits_of,
+    riichi_answer, riichi_answer_lines, riichi_answer_rows, riichi_discards, riichi_explain,
+    riichi_explain_lines, riichi_json, riichi_json_lines, riichi_shantens, riichi_shapes,
+    riichi_version, riichi_waits_of,
 };
 use facts::holds;
 
@@ -215,4 +215,26 @@ fn tells_the_discards_of_rows(rt: HostRuntime) {
     holds(&rt, accepts[0][33] == WAITS);
     holds(&rt, live[0][33] == 8);
     holds(&rt, accepts[0][0] == 0);
+}
+
+#[test]
+fn answers_the_rows_of_an_array_of_texts(rt: HostRuntime) {
+    let bytes = b"waits 123456789m1134p# cwaits 8z";
+    let offsets = [0, 21, 24, 32, 31];
+    let mut room = [7u8; 30];
+    let mut places = [9u64; 6];
+    let rows = riichi_answer_rows(1, bytes, &offsets, &mut room, &mut places);
+    holds(&rt, rows == 3);
+    holds(&rt, places == [0, 9, 9, 28, 9, 9]);
+    holds(
+        &rt,
+        room.get(..28) == Some(b"waits 25prefused N5 hand at 0".as_slice()),
+    );
+    let mut small = [7u8; 20];
+    let rows = riichi_answer_rows(1, bytes, &offsets, &mut small, &mut places);
+    holds(&rt, rows == 2);
+    holds(
+        &rt,
+        riichi_answer_rows(1, bytes, &offsets, &mut small, &mut []) == 0,
+    );
 }
