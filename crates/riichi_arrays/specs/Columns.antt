@@ -53,6 +53,10 @@ abbrev pub shape_by : Option ShapeParts → ShapeRow
 shape_by None = no_shape
 shape_by (Some parts) = shape_told (shape_of parts).shanten (shape_of parts).accepts
 
+-- what is told of a row
+abbrev pub told_shape : List (List ℕ) → List (List ℕ) → List (List ℕ) → ℕ → ShapeRow
+told_shape counts melds seen row = shape_by (shape_at counts melds seen row)
+
 -- ---- the discards of fourteen tiles
 
 -- what is accepted after the discard of a kind, if that is one of these discards
@@ -79,6 +83,9 @@ discards_told shanten (Fourteen discards) = discards_row shanten discards
 abbrev pub discards_by : Option ShapeParts → DiscardsRow
 discards_by None = discards_row no_hand []
 discards_by (Some parts) = discards_told (shape_of parts).shanten (shape_of parts).accepts
+
+abbrev pub told_discards : List (List ℕ) → List (List ℕ) → List (List ℕ) → ℕ → DiscardsRow
+told_discards counts melds seen row = discards_by (shape_at counts melds seen row)
 
 -- ---- waits
 

@@ -1,6 +1,6 @@
 //! What many hands of thirteen tiles accept.
 ghost use Rattle.std.specs.Prelude.{ℕ, ◌≡◌, ◌≤◌, ◌<◌, length, min};
-ghost use Rattle.riichi_arrays.specs.Columns.{IsFilled, no_shape, shape_at, shape_by, shape_told};
+ghost use Rattle.riichi_arrays.specs.Columns.{IsFilled, shape_told, told_shape};
 ghost use Rattle.riichi_shape.specs.KeptDiscards.{kinds_in};
 
 use crate::distance::{FEW_HANDS, NO_HAND};
@@ -53,7 +53,7 @@ fn shape_row<R: RowSource>(
     seen: &[[u8; 34]],
     row: usize,
 ) -> ShapeRow
-    ensures shape { result ≡ shape_by (shape_at counts.now melds.now seen.now row) }
+    ensures shape { result ≡ told_shape counts.now melds.now seen.now row }
     ensures stays { source.new ≡ source.old }
 {
     match shape_at(counts, melds, seen, row) {
@@ -75,11 +75,11 @@ fn fill_shapes<R: RowSource>(
     requires shantens { rows ≤ length shantens.old }
     requires accepts { rows ≤ length accepts.old }
     requires live { rows ≤ length live.old }
-    ensures shantens { IsFilled (λ row. (shape_by (shape_at counts.now melds.now seen.now row)).shanten)
+    ensures shantens { IsFilled (λ row. (told_shape counts.now melds.now seen.now row).shanten)
         rows shantens.old shantens.new }
-    ensures accepts { IsFilled (λ row. (shape_by (shape_at counts.now melds.now seen.now row)).accepts)
+    ensures accepts { IsFilled (λ row. (told_shape counts.now melds.now seen.now row).accepts)
         rows accepts.old accepts.new }
-    ensures live { IsFilled (λ row. (shape_by (shape_at counts.now melds.now seen.now row)).live)
+    ensures live { IsFilled (λ row. (told_shape counts.now melds.now seen.now row).live)
         rows live.old live.new }
 {
     for row in 0..rows {
@@ -104,11 +104,11 @@ fn fill_many(
     requires shantens { rows ≤ length shantens.old }
     requires accepts { rows ≤ length accepts.old }
     requires live { rows ≤ length live.old }
-    ensures shantens { IsFilled (λ row. (shape_by (shape_at counts.now melds.now seen.now row)).shanten)
+    ensures shantens { IsFilled (λ row. (told_shape counts.now melds.now seen.now row).shanten)
         rows shantens.old shantens.new }
-    ensures accepts { IsFilled (λ row. (shape_by (shape_at counts.now melds.now seen.now row)).accepts)
+    ensures accepts { IsFilled (λ row. (told_shape counts.now melds.now seen.now row).accepts)
         rows accepts.old accepts.new }
-    ensures live { IsFilled (λ row. (shape_by (shape_at counts.now melds.now seen.now row)).live)
+    ensures live { IsFilled (λ row. (told_shape counts.now melds.now seen.now row).live)
         rows live.old live.new }
 {
     let mut kept = KeptRows::new();
@@ -129,12 +129,13 @@ pub fn shapes(
     live: &mut [[u8; 34]],
 ) -> usize
     ensures rows { result
-        ≡ min (length counts.now) (min (length shantens.old) (min (length accepts.old) (length live.old))) }
-    ensures shantens { IsFilled (λ row. (shape_by (shape_at counts.now melds.now seen.now row)).shanten)
+        ≡ min (length counts.now)
+        (min (length shantens.old) (min (length accepts.old) (length live.old))) }
+    ensures shantens { IsFilled (λ row. (told_shape counts.now melds.now seen.now row).shanten)
         result shantens.old shantens.new }
-    ensures accepts { IsFilled (λ row. (shape_by (shape_at counts.now melds.now seen.now row)).accepts)
+    ensures accepts { IsFilled (λ row. (told_shape counts.now melds.now seen.now row).accepts)
         result accepts.old accepts.new }
-    ensures live { IsFilled (λ row. (shape_by (shape_at counts.now melds.now seen.now row)).live)
+    ensures live { IsFilled (λ row. (told_shape counts.now melds.now seen.now row).live)
         result live.old live.new }
 {
     let rows = counts

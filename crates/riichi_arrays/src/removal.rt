@@ -1,6 +1,6 @@
 //! The discards of many hands of fourteen tiles.
 ghost use Rattle.std.specs.Prelude.{ℕ, ◌≡◌, ◌≤◌, ◌<◌, [], length, min, slice_set};
-ghost use Rattle.riichi_arrays.specs.Columns.{IsFilled, discards_by, discards_row, discards_told, shape_at};
+ghost use Rattle.riichi_arrays.specs.Columns.{IsFilled, discards_row, discards_told, told_discards};
 ghost use Rattle.riichi_shape.specs.KeptDiscards.{kinds_in};
 ghost use Rattle.riichi_shape.specs.LiveCopies.{live_in};
 ghost use Rattle.riichi_tiles.specs.HeldKinds.{with_kind};
@@ -89,7 +89,7 @@ fn row_of<R: RowSource>(
     seen: &[[u8; 34]],
     row: usize,
 ) -> DiscardsRow
-    ensures discards { result ≡ discards_by (shape_at counts.now melds.now seen.now row) }
+    ensures discards { result ≡ told_discards counts.now melds.now seen.now row }
     ensures stays { source.new ≡ source.old }
 {
     match shape_at(counts, melds, seen, row) {
@@ -113,13 +113,13 @@ fn fill_discards<R: RowSource>(
     requires kinds { rows ≤ length kinds.old }
     requires accepts { rows ≤ length accepts.old }
     requires live { rows ≤ length live.old }
-    ensures shantens { IsFilled (λ row. (discards_by (shape_at counts.now melds.now seen.now row)).shanten)
+    ensures shantens { IsFilled (λ row. (told_discards counts.now melds.now seen.now row).shanten)
         rows shantens.old shantens.new }
-    ensures kinds { IsFilled (λ row. (discards_by (shape_at counts.now melds.now seen.now row)).kinds)
+    ensures kinds { IsFilled (λ row. (told_discards counts.now melds.now seen.now row).kinds)
         rows kinds.old kinds.new }
-    ensures accepts { IsFilled (λ row. (discards_by (shape_at counts.now melds.now seen.now row)).accepts)
+    ensures accepts { IsFilled (λ row. (told_discards counts.now melds.now seen.now row).accepts)
         rows accepts.old accepts.new }
-    ensures live { IsFilled (λ row. (discards_by (shape_at counts.now melds.now seen.now row)).live)
+    ensures live { IsFilled (λ row. (told_discards counts.now melds.now seen.now row).live)
         rows live.old live.new }
 {
     for row in 0..rows {
@@ -148,13 +148,13 @@ fn fill_many(
     requires kinds { rows ≤ length kinds.old }
     requires accepts { rows ≤ length accepts.old }
     requires live { rows ≤ length live.old }
-    ensures shantens { IsFilled (λ row. (discards_by (shape_at counts.now melds.now seen.now row)).shanten)
+    ensures shantens { IsFilled (λ row. (told_discards counts.now melds.now seen.now row).shanten)
         rows shantens.old shantens.new }
-    ensures kinds { IsFilled (λ row. (discards_by (shape_at counts.now melds.now seen.now row)).kinds)
+    ensures kinds { IsFilled (λ row. (told_discards counts.now melds.now seen.now row).kinds)
         rows kinds.old kinds.new }
-    ensures accepts { IsFilled (λ row. (discards_by (shape_at counts.now melds.now seen.now row)).accepts)
+    ensures accepts { IsFilled (λ row. (told_discards counts.now melds.now seen.now row).accepts)
         rows accepts.old accepts.new }
-    ensures live { IsFilled (λ row. (discards_by (shape_at counts.now melds.now seen.now row)).live)
+    ensures live { IsFilled (λ row. (told_discards counts.now melds.now seen.now row).live)
         rows live.old live.new }
 {
     let mut kept = KeptRows::new();
@@ -177,14 +177,15 @@ pub fn discards(
     live: &mut [[u8; 34]],
 ) -> usize
     ensures rows { result ≡ min (length counts.now)
-        (min (length shantens.old) (min (length kinds.old) (min (length accepts.old) (length live.old)))) }
-    ensures shantens { IsFilled (λ row. (discards_by (shape_at counts.now melds.now seen.now row)).shanten)
+        (min (length shantens.old)
+        (min (length kinds.old) (min (length accepts.old) (length live.old)))) }
+    ensures shantens { IsFilled (λ row. (told_discards counts.now melds.now seen.now row).shanten)
         result shantens.old shantens.new }
-    ensures kinds { IsFilled (λ row. (discards_by (shape_at counts.now melds.now seen.now row)).kinds)
+    ensures kinds { IsFilled (λ row. (told_discards counts.now melds.now seen.now row).kinds)
         result kinds.old kinds.new }
-    ensures accepts { IsFilled (λ row. (discards_by (shape_at counts.now melds.now seen.now row)).accepts)
+    ensures accepts { IsFilled (λ row. (told_discards counts.now melds.now seen.now row).accepts)
         result accepts.old accepts.new }
-    ensures live { IsFilled (λ row. (discards_by (shape_at counts.now melds.now seen.now row)).live)
+    ensures live { IsFilled (λ row. (told_discards counts.now melds.now seen.now row).live)
         result live.old live.new }
 {
     let places = kinds.len().min(accepts.len().min(live.len()));

@@ -1,6 +1,6 @@
 //! Many hands as arrays, without text.
 ghost use Rattle.std.specs.Prelude.{◌≡◌, ◌≤◌, [], length, min};
-ghost use Rattle.riichi_arrays.specs.Columns.{IsFilled, discards_by, hand_at, shanten_by, shape_at, shape_by, waits_by};
+ghost use Rattle.riichi_arrays.specs.Columns.{IsFilled, hand_at, shanten_by, shape_at, told_discards, told_shape, waits_by};
 
 use riichi_arrays::{discards, shantens, shapes, waits};
 
@@ -31,12 +31,13 @@ pub extern "C" fn riichi_shapes(
     live: &mut [[u8; 34]],
 ) -> usize
     ensures rows { result
-        ≡ min (length counts.now) (min (length shanten.old) (min (length accepts.old) (length live.old))) }
-    ensures shanten { IsFilled (λ row. (shape_by (shape_at counts.now melds.now seen.now row)).shanten)
+        ≡ min (length counts.now)
+        (min (length shanten.old) (min (length accepts.old) (length live.old))) }
+    ensures shanten { IsFilled (λ row. (told_shape counts.now melds.now seen.now row).shanten)
         result shanten.old shanten.new }
-    ensures accepts { IsFilled (λ row. (shape_by (shape_at counts.now melds.now seen.now row)).accepts)
+    ensures accepts { IsFilled (λ row. (told_shape counts.now melds.now seen.now row).accepts)
         result accepts.old accepts.new }
-    ensures live { IsFilled (λ row. (shape_by (shape_at counts.now melds.now seen.now row)).live)
+    ensures live { IsFilled (λ row. (told_shape counts.now melds.now seen.now row).live)
         result live.old live.new }
 {
     shapes(counts, melds, seen, shanten, accepts, live)
@@ -56,14 +57,15 @@ pub extern "C" fn riichi_discards(
     live: &mut [[u8; 34]],
 ) -> usize
     ensures rows { result ≡ min (length counts.now)
-        (min (length shanten.old) (min (length kinds.old) (min (length accepts.old) (length live.old)))) }
-    ensures shanten { IsFilled (λ row. (discards_by (shape_at counts.now melds.now seen.now row)).shanten)
+        (min (length shanten.old)
+        (min (length kinds.old) (min (length accepts.old) (length live.old)))) }
+    ensures shanten { IsFilled (λ row. (told_discards counts.now melds.now seen.now row).shanten)
         result shanten.old shanten.new }
-    ensures kinds { IsFilled (λ row. (discards_by (shape_at counts.now melds.now seen.now row)).kinds)
+    ensures kinds { IsFilled (λ row. (told_discards counts.now melds.now seen.now row).kinds)
         result kinds.old kinds.new }
-    ensures accepts { IsFilled (λ row. (discards_by (shape_at counts.now melds.now seen.now row)).accepts)
+    ensures accepts { IsFilled (λ row. (told_discards counts.now melds.now seen.now row).accepts)
         result accepts.old accepts.new }
-    ensures live { IsFilled (λ row. (discards_by (shape_at counts.now melds.now seen.now row)).live)
+    ensures live { IsFilled (λ row. (told_discards counts.now melds.now seen.now row).live)
         result live.old live.new }
 {
     discards(counts, melds, seen, shanten, kinds, accepts, live)
