@@ -1,5 +1,5 @@
-/* time_arrays LINES13 LINES14 COUNTS13 COUNTS14: what a hand costs in C by each kind of call, as `NAME NANOSECONDS` lines. The files have
- * the same hands as lines and as 34 bytes each. Each figure is the least processor time of RUNS. */
+/* time_arrays LINES13 LINES14 COUNTS13 COUNTS14: what a hand costs in C by each kind of call, as `NAME NANOSECONDS` lines. The files
+ * have the same hands as lines and as 34 bytes each. Each figure is the least processor time of RUNS. */
 #include <riichi_desk.h>
 #include <stdio.h>
 #include <stdlib.h>
@@ -55,7 +55,10 @@ static void call_a_hand(void) {
 static void shantens(void) { riichi_shantens(counts, hands, melds, 0, shanten, hands); }
 static void waits(void) { riichi_waits_of(counts, hands, melds, 0, kinds, hands); }
 static void shapes(void) { riichi_shapes(counts, hands, melds, 0, seen, 0, shanten, hands, kinds, hands, live, hands); }
-static void discards(void) { riichi_discards(counts, hands, melds, 0, seen, 0, shanten, hands, kinds, hands, after, hands, live, hands); }
+
+static void discards(void) {
+    riichi_discards(counts, hands, melds, 0, seen, 0, shanten, hands, kinds, hands, after, hands, live, hands);
+}
 
 static void tell(const char *name, void (*work)(void)) {
     double least = 1e30;

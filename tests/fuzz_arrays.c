@@ -1,5 +1,6 @@
-/* fuzz_arrays SECONDS SEED: asks the calls for hands as arrays of random rows, hands and what is none, in arrays of random lengths, and
- * compares each row with the answer to the line that says the same. Ends at the first difference, with the seed that shows it. */
+/* fuzz_arrays SECONDS SEED: asks the calls for hands as arrays of random rows, hands and what is none, in arrays of random lengths,
+ * and compares each row with the answer to the line that says the same. Ends at the first difference, with the seed that shows it.
+ * In no second it makes sixteen calls of each. */
 #include "lent.h"
 #include <riichi_desk.h>
 #include <time.h>
@@ -180,7 +181,8 @@ static struct lender lenders[7];
 static const uint8_t (*counts)[34], (*melds)[4], (*seen)[34];
 
 static void lend_rows(size_t hands) {
-    uint8_t *at = lend(&lenders[0], hands * 34, 1), *of_melds = lend(&lenders[1], melds_given * 4, 1), *of_seen = lend(&lenders[2], seen_given * 34, 1);
+    uint8_t *at = lend(&lenders[0], hands * 34, 1), *of_melds = lend(&lenders[1], melds_given * 4, 1);
+    uint8_t *of_seen = lend(&lenders[2], seen_given * 34, 1);
     for (size_t i = 0; i < hands; i++) memcpy(at + i * 34, rows[i].counts, 34);
     for (size_t i = 0; i < melds_given; i++) memcpy(of_melds + i * 4, rows[i % (hands + 1)].melds, 4);
     for (size_t i = 0; i < seen_given; i++) memcpy(of_seen + i * 34, rows[i % (hands + 1)].seen, 34);
@@ -230,7 +232,9 @@ static void try_discards(size_t hands) {
     int8_t *shanten = lend(&lenders[3], n[0], 1);
     uint64_t *kinds = lend(&lenders[4], n[1] * 8, 8), (*accepts)[34] = lend(&lenders[5], n[2] * 34 * 8, 8);
     uint8_t (*live)[34] = lend(&lenders[6], n[3] * 34, 1);
-    CHECK(riichi_discards(counts, hands, melds, melds_given, seen, seen_given, shanten, n[0], kinds, n[1], accepts, n[2], live, n[3]) == done);
+    size_t told_rows = riichi_discards(
+        counts, hands, melds, melds_given, seen, seen_given, shanten, n[0], kinds, n[1], accepts, n[2], live, n[3]);
+    CHECK(told_rows == done);
     for (size_t i = 0; i < done; i++) {
         const struct told *told = &wanted[i];
         int is = told->is_shape && told->tiles == 14;
@@ -238,7 +242,8 @@ static void try_discards(size_t hands) {
         CHECK(memcmp(accepts[i], told->after, sizeof told->after) == 0 && memcmp(live[i], told->live, 34) == 0);
     }
     CHECK(is_untouched((uint8_t *)shanten + done, n[0] - done) && is_untouched((uint8_t *)(kinds + done), (n[1] - done) * 8));
-    CHECK(is_untouched((uint8_t *)(accepts + done), (n[2] - done) * 34 * 8) && is_untouched((uint8_t *)(live + done), (n[3] - done) * 34));
+    CHECK(is_untouched((uint8_t *)(accepts + done), (n[2] - done) * 34 * 8));
+    CHECK(is_untouched((uint8_t *)(live + done), (n[3] - done) * 34));
 }
 
 static void try_rows(void) {
@@ -261,7 +266,7 @@ int main(int count, char **words) {
     seed_of_try = strtoull(words[2], NULL, 10);
     for (int i = 0; i < 7; i++) lenders[i] = new_lender();
     unsigned long long tries = 0;
-    for (; tries % 16 != 0 || time(NULL) < end; tries++, seed_of_try++) {
+    for (; tries == 0 || tries % 16 != 0 || time(NULL) < end; tries++, seed_of_try++) {
         state = seed_of_try;
         try_rows();
     }

@@ -1,5 +1,5 @@
-/* fuzz_lines SECONDS SEED FILE: asks the calls for many lines, and that for rows, of random texts, made of the lines of FILE, in rooms of
- * random sizes, and compares each with calls of one line. Ends at the first difference, with the seed that shows it. */
+/* fuzz_lines SECONDS SEED FILE: asks the calls for many lines, and that for rows, of random texts, made of the lines of FILE, in
+ * rooms of random sizes, and compares each with calls of one line. Ends at the first difference, with the seed that shows it. */
 #include "lent.h"
 #include <riichi_desk.h>
 #include <time.h>
@@ -132,7 +132,7 @@ int main(int count, char **words) {
     struct lender texts = new_lender(), rooms = new_lender(), of_rows[4];
     for (int i = 0; i < 4; i++) of_rows[i] = new_lender();
     unsigned long long tries = 0;
-    for (; tries % 256 != 0 || time(NULL) < end; tries++, seed_of_try++) {
+    for (; tries == 0 || tries % 256 != 0 || time(NULL) < end; tries++, seed_of_try++) {
         state = seed_of_try;
         try_text(&texts, &rooms);
         try_rows(of_rows);

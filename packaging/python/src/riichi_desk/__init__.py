@@ -1,8 +1,7 @@
 """What a hand of riichi mahjong is worth and why, its waits, and how far it is from a win. The answers are proved.
 
-One line a call: `text`, `answer`, `json`, `explain`. Many: `texts`, `answers`, `lines`. Many hands without text: `shanten`, `shapes`,
-`discards`, `waits`, over buffers of counts. The package has the shared library inside;
-RIICHI_DESK in the environment names another one.
+One line a call: `text`, `answer`, `json`, `explain`. Many: `texts`, `answers`, `lines`. Many hands without text: `shanten`,
+`shapes`, `discards`, `waits`, over buffers of counts. The package has the shared library inside; RIICHI_DESK in the environment names another one.
 """
 
 from __future__ import annotations

@@ -1,7 +1,7 @@
 """Many hands a call, as arrays, without text: shanten, accepted kinds, discards and waits.
 
-A hand is 34 bytes, the counts of the kinds 1m to 9m, 1p to 9p, 1s to 9s, East, South, West, North, white, green, red; so the kind of
-2p is 10, and bit 10 of a set of kinds says that 2p is in it. Hands lie one behind the other in any buffer of bytes: bytes, a
+A hand is 34 bytes, the counts of the kinds 1m to 9m, 1p to 9p, 1s to 9s, East, South, West, North, white, green, red; so the kind
+of 2p is 10, and bit 10 of a set of kinds says that 2p is in it. Hands lie one behind the other in any buffer of bytes: bytes, a
 bytearray, a memoryview, an array of numpy (uint8, C-contiguous). A buffer that can be written to is lent to the library as it is,
 and so are bytes; another one that can't be written to is copied. Columns come back as views, which `numpy.asarray` takes without
 a copy. Other threads run during a call.
@@ -19,7 +19,7 @@ if TYPE_CHECKING:
 
 KINDS = 34
 NO_HAND = -128
-"""The shanten of a row that is no hand: a count above four, a meld that is none, another number of tiles, a fifth tile of a kind."""
+"""The shanten of a row that is no hand: a count above four, no meld, another number of tiles, a fifth tile of a kind."""
 NO_WAITS = 2**64 - 1
 """The waits of such a row."""
 
