@@ -225,10 +225,10 @@ fn answers_the_rows_of_an_array_of_texts(rt: HostRuntime) {
     let mut places = [9u64; 6];
     let rows = riichi_answer_rows(1, bytes, &offsets, &mut room, &mut places);
     holds(&rt, rows == 3);
-    holds(&rt, places == [0, 9, 9, 28, 9, 9]);
+    holds(&rt, places == [0, 9, 9, 29, 9, 9]);
     holds(
         &rt,
-        room.get(..28) == Some(b"waits 25prefused N5 hand at 0".as_slice()),
+        room.get(..29) == Some(b"waits 25prefused N5 hand at 0".as_slice()),
     );
     let mut small = [7u8; 20];
     let rows = riichi_answer_rows(1, bytes, &offsets, &mut small, &mut places);
