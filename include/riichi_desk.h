@@ -1,4 +1,4 @@
-/* riichi_desk for C and C++: the answers of the command `line`, a line or many lines a call.
+/* riichi_desk for C and C++: the answers of the command `line`, a line or many lines a call, and many hands a call as arrays.
  *
  * Link with libriichi_desk_c.a and the C library: they run on every processor of x86-64 under Linux. No call keeps anything or takes memory, so any thread may make any of
  * them at any time. Of the C library they use memcpy, memmove and memset alone.
@@ -94,6 +94,90 @@ size_t riichi_json_lines(
  * `explain` writes. A room of RIICHI_MOST_ANSWER + 1 + RIICHI_MOST_EXPLANATION bytes always takes one line further. */
 size_t riichi_explain_lines(
     uint32_t rules, const uint8_t *text, size_t text_len, uint8_t *room, size_t room_len, size_t *taken);
+
+/* Answers the rows of an array of texts, one line each: the answer of each, without a line feed, and no bytes for a comment or a blank
+ * line. Both arrays lie as Arrow's large_utf8 and large_binary do (polars, pyarrow, DuckDB, pandas' Arrow strings): row i of n has the
+ * bytes from offsets[i] to offsets[i + 1], so there are n + 1 offsets.
+ *
+ *   rules     RIICHI_RULES_ONE or RIICHI_RULES_TWO. Under any other number each row is answered by `refused rules`.
+ *   bytes     The texts, one behind the other. A row is a line without its line feed: with one in it, or a carriage return, it is refused.
+ *   offsets   n + 1 numbers; `offsets_len` 0 or 1 is no row.
+ *   room      Where the answers go, one behind the other.
+ *   answer_offsets   Where each answer begins, and the last one ends: one place more than rows to be answered. The first is set to 0.
+ *
+ * Returns how many rows are answered, from the first on. Where these are fewer than n and than `answer_offsets_len` - 1, the next answer
+ * has no room, or the next two offsets go back or beyond `bytes_len`. In a room with RIICHI_MOST_ANSWER bytes left it is the second. A call
+ * with `offsets + rows` and another room goes on: what each call fills is an array of its own, a chunk. What is null by a validity
+ * bitmap is the caller's matter.
+ */
+size_t riichi_answer_rows(uint32_t rules, const uint8_t *bytes, size_t bytes_len, const int64_t *offsets, size_t offsets_len,
+    uint8_t *room, size_t room_len, int64_t *answer_offsets, size_t answer_offsets_len);
+
+/* ---- Many hands as arrays
+ *
+ * These calls answer many hands at once, without any text: what `shape` and `waits` say of each, in columns.
+ *
+ * A hand is 34 counts, one for each kind: 1m to 9m, 1p to 9p, 1s to 9s, then East, South, West, North, white, green, red. So the
+ * kind of 2p is 10, and bit 10 of a set of kinds says that 2p is in it. Counts are those of the concealed tiles: a meld counts
+ * as three tiles, so beside one meld ten tiles are a hand of thirteen.
+ *
+ *   counts    The hands.
+ *   melds     Four bytes for each hand, each a meld (RIICHI_CHI and so on) or 0 for none. Which tiles are melded counts: it
+ *             says how many of a kind are left. Hands past the end have no melds, so `melds_len` 0 says that none has any.
+ *   seen      34 counts for each hand, of the tiles seen elsewhere; none of its own tiles or melds. Past the end none is seen.
+ *
+ * Each length counts rows, not bytes. As many hands are answered as `counts` and each array that is filled have rows, from the
+ * first on; the call returns how many, and leaves what lies behind them. A row that is no hand (a count above four, a meld that is
+ * none, another number of tiles, a fifth tile of a kind) says so by a value of its own, and the others are answered all the same.
+ *
+ * A call for many hands keeps what it finds of a suit for the next hands, in some 560 kB on its stack: one call for a thousand hands is
+ * several times faster than a thousand calls.
+ */
+
+/* What a row that is no hand has for its shanten, and for its waits. */
+#define RIICHI_NO_HAND (-128)
+#define RIICHI_NO_WAITS UINT64_MAX
+
+/* A meld as a byte: a chow by its lowest kind, a pung, an open kong, a concealed kong. */
+#define RIICHI_CHI(kind) ((uint8_t)(1 + (kind)))
+#define RIICHI_PON(kind) ((uint8_t)(65 + (kind)))
+#define RIICHI_KAN(kind) ((uint8_t)(129 + (kind)))
+#define RIICHI_ANKAN(kind) ((uint8_t)(193 + (kind)))
+
+/* The shanten of hands of thirteen or fourteen tiles: -1 of a complete one, 0 of one that is ready, up to 6.
+ *
+ *     const uint8_t counts[1][34] = {{1, 1, 1, 1, 1, 1, 1, 1, 1, 2, 0, 1, 1}};      123456789m1134p
+ *     const uint8_t melds[1][4] = {{0}};
+ *     int8_t shanten[1];
+ *     riichi_shantens(counts, 1, melds, 0, shanten, 1);                             shanten[0] is 0
+ */
+size_t riichi_shantens(const uint8_t (*counts)[34], size_t counts_len, const uint8_t (*melds)[4], size_t melds_len,
+    int8_t *shanten, size_t shanten_len);
+
+/* What hands of thirteen tiles accept.
+ *
+ *   shanten   As above; RIICHI_NO_HAND also where the row has fourteen tiles.
+ *   accepts   The kinds that bring the hand nearer and of which a tile is left, a bit for each; 0 where the row is no hand.
+ *   live      For each of these kinds how many tiles are neither in the hand, nor melded, nor seen; 0 for every other.
+ */
+size_t riichi_shapes(const uint8_t (*counts)[34], size_t counts_len, const uint8_t (*melds)[4], size_t melds_len,
+    const uint8_t (*seen)[34], size_t seen_len, int8_t *shanten, size_t shanten_len, uint64_t *accepts, size_t accepts_len,
+    uint8_t (*live)[34], size_t live_len);
+
+/* Which tile to discard from hands of fourteen tiles.
+ *
+ *   shanten   As above; RIICHI_NO_HAND also where the row has thirteen tiles.
+ *   kinds     The kinds whose discard leaves the least shanten, a bit for each; 0 where the row is no hand.
+ *   accepts   For each of these kinds, at its place, the kinds that the rest then accepts, a bit for each; 0 for every other.
+ *   live      For each of these kinds how many tiles of those are left in all; 0 for every other.
+ */
+size_t riichi_discards(const uint8_t (*counts)[34], size_t counts_len, const uint8_t (*melds)[4], size_t melds_len,
+    const uint8_t (*seen)[34], size_t seen_len, int8_t *shanten, size_t shanten_len, uint64_t *kinds, size_t kinds_len,
+    uint64_t (*accepts)[34], size_t accepts_len, uint8_t (*live)[34], size_t live_len);
+
+/* The kinds that hands of thirteen tiles wait for, a bit for each; RIICHI_NO_WAITS where the row is no such hand. */
+size_t riichi_waits_of(const uint8_t (*counts)[34], size_t counts_len, const uint8_t (*melds)[4], size_t melds_len,
+    uint64_t *kinds, size_t kinds_len);
 
 /* The name and version, such as `riichi_desk 0.1.0`, into the room as above. Returns how many bytes it takes. */
 size_t riichi_version(uint8_t *room, size_t room_len);

@@ -1,5 +1,5 @@
-/* fuzz_lines SECONDS SEED FILE: asks the calls for many lines of random texts, made of the lines of FILE, in rooms of random sizes,
- * and compares each with calls of one line. Ends at the first difference, with the seed that shows it. */
+/* fuzz_lines SECONDS SEED FILE: asks the calls for many lines, and that for rows, of random texts, made of the lines of FILE, in
+ * rooms of random sizes, and compares each with calls of one line. Ends at the first difference, with the seed that shows it. */
 #include "lent.h"
 #include <riichi_desk.h>
 #include <time.h>
@@ -89,16 +89,53 @@ static void try_text(struct lender *texts, struct lender *rooms) {
     CHECK(calls[kind](other, text, length, room, room_len, &taken) == 0 && taken == 0 && is_untouched(room, room_len));
 }
 
+/* Rows with their offsets, some of which go back or beyond the bytes. */
+static void try_rows(struct lender *lenders) {
+    static uint8_t made[1 << 18], wanted[RIICHI_MOST_ANSWER + 1];
+    int64_t offsets[16] = {0};
+    size_t length = 0, rows = below(12), left = below(4) == 0 ? below(5) : 0;
+    for (size_t i = 0; i < rows; i++) {
+        length += put_line(made + length);
+        if (below(8)) length--;
+        offsets[i + 1] = (int64_t)length;
+    }
+    if (below(3) == 0) offsets[below(rows + 1)] = below(2) ? (int64_t)random_number() : (int64_t)below(length + 3) - 1;
+    size_t given_offsets = below(10) == 0 ? 0 : rows + 1, places = below(3) ? rows + 1 + left : below(rows + 2);
+    size_t room_len = below(3) == 0 ? below(20000) : below(3) == 0 ? below(300) : below(100);
+    uint32_t rules = (uint32_t)below(4);
+    uint8_t *bytes = lend(&lenders[0], length, 1), *room = lend(&lenders[1], room_len, 1);
+    int64_t *lent = lend(&lenders[2], given_offsets * 8, 8), *told = lend(&lenders[3], places * 8, 8);
+    memcpy(bytes, made, length);
+    memcpy(lent, offsets, given_offsets * 8);
+    size_t done = riichi_answer_rows(rules, bytes, length, lent, given_offsets, room, room_len, told, places);
+    CHECK(memcmp(bytes, made, length) == 0 && memcmp(lent, offsets, given_offsets * 8) == 0);
+    size_t filled = 0, row = 0;
+    if (places > 0) CHECK(told[0] == 0);
+    for (; row + 1 < given_offsets && row + 1 < places; row++) {
+        int64_t from = offsets[row], to = offsets[row + 1];
+        if (from < 0 || to < from || (uint64_t)to > length) break;
+        size_t needed = riichi_answer(rules, made + from, (size_t)(to - from), wanted, sizeof wanted);
+        if (needed > room_len - filled) break;
+        CHECK(row < done && memcmp(room + filled, wanted, needed) == 0);
+        filled += needed;
+        CHECK(told[row + 1] == (int64_t)filled);
+    }
+    CHECK(row == done && is_untouched(room + filled, room_len - filled));
+    if (places > 0) CHECK(is_untouched((uint8_t *)(told + done + 1), (places - done - 1) * 8));
+}
+
 int main(int count, char **words) {
     if (count != 4) { fprintf(stderr, "lines SECONDS SEED FILE\n"); return 2; }
     time_t end = time(NULL) + atoi(words[1]);
     seed_of_try = strtoull(words[2], NULL, 10);
     read_lines(words[3]);
-    struct lender texts = new_lender(), rooms = new_lender();
+    struct lender texts = new_lender(), rooms = new_lender(), of_rows[4];
+    for (int i = 0; i < 4; i++) of_rows[i] = new_lender();
     unsigned long long tries = 0;
-    for (; tries % 256 != 0 || time(NULL) < end; tries++, seed_of_try++) {
+    for (; tries == 0 || tries % 256 != 0 || time(NULL) < end; tries++, seed_of_try++) {
         state = seed_of_try;
         try_text(&texts, &rooms);
+        try_rows(of_rows);
     }
     printf("%llu texts, no difference\n", tries);
     return 0;

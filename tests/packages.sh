@@ -68,6 +68,12 @@ portable=$packages/riichi_desk_portable.c
 by_wine() { WINEDEBUG=-all WINEPREFIX=$shelf/wine wine "$packages/riichi_desk-windows-x86_64.exe" "$@"; }
 ! has wine || by_wine --version > /dev/null 2>&1 & starting=$!
 
+# hands as arrays, and rows of texts, against lines
+cc -O1 -g -fsanitize=address,undefined -Iinclude tests/fuzz_arrays.c "$archive" -o "$shelf/arrays"
+told 'hands as arrays' '16 calls of each, no difference' "$("$shelf/arrays" 0 1 2>&1)"
+cc -O1 -g -fsanitize=address,undefined -Iinclude tests/fuzz_lines.c "$archive" -o "$shelf/rows"
+told 'texts and rows at random' '256 texts, no difference' "$("$shelf/rows" 0 1 "$shelf/few" 2>&1)"
+
 # the wheel, in a new environment
 wheel=$(echo "$packages"/riichi_desk-*x86_64.whl)
 if [ -f "$wheel" ] && /usr/bin/python3 -m venv "$shelf/venv" > /dev/null 2>&1 && "$shelf/venv/bin/pip" install -q --no-index "$wheel" > "$room/said" 2>&1; then
@@ -75,6 +81,7 @@ if [ -f "$wheel" ] && /usr/bin/python3 -m venv "$shelf/venv" > /dev/null 2>&1 &&
   same 'the wheel, a call a line' wanted "$python" examples/python/answer.py
   same 'the wheel, a call a text' wanted "$python" -c 'import riichi_desk, sys; sys.stdout.buffer.write(riichi_desk.lines(sys.stdin.buffer.read()))'
   same 'the wheel, values' wanted "$python" tests/typed_answers.py
+  told 'the wheel, arrays' 'all right' "$("$python" tests/array_answers.py 2>&1)"
   told 'its edges' 'all right' "$("$python" tests/module_edges.py "$shelf/lines" 2>&1)"
   told 'its licences' "$(unzip -l "$wheel" | grep -c 'licenses/.*LICENSE')" "$(tar -tf "$packages/riichi_desk-$version.crate" | grep -c LICENSE)"
   if has mypy; then

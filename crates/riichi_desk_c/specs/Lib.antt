@@ -2,3 +2,4 @@ pub mod Replies
 pub mod JsonReplies
 pub mod Reasons
 pub mod ManyLines
+pub mod Rows

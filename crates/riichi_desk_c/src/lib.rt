@@ -8,17 +8,21 @@
 ghost use Rattle.std.specs.Prelude.{◌≡◌, ◌≤◌, ◌<◌, ◌++◌, length, drop, codes};
 ghost use Rattle.riichi_desk_c.specs.Replies.{reply_to, rules_numbered};
 
+mod arrays;
 mod json;
 mod lines;
 mod placing;
 mod reasons;
+mod rows;
 
+pub use arrays::{riichi_discards, riichi_shantens, riichi_shapes, riichi_waits_of};
 use desk_core::{answer_text, judge};
 pub use json::riichi_json;
 pub use lines::{riichi_answer_lines, riichi_explain_lines, riichi_json_lines};
 use placing::place;
 pub use reasons::riichi_explain;
 use riichi_hand::{Rules, fault_text, read_line};
+pub use rows::riichi_answer_rows;
 
 /// Answers one line, without its line feed and a carriage return before that, under the profile of this number, 1 or 2: the bytes that the answer takes, 0
 /// where the line is no record. They are put at the start of the room if all of them fit there. Under any other number the

@@ -1,8 +1,9 @@
 mod facts;
 
 use super::{
-    riichi_answer, riichi_answer_lines, riichi_explain, riichi_explain_lines, riichi_json,
-    riichi_json_lines, riichi_version,
+    riichi_answer, riichi_answer_lines, riichi_answer_rows, riichi_discards, riichi_explain,
+    riichi_explain_lines, riichi_json, riichi_json_lines, riichi_shantens, riichi_shapes,
+    riichi_version, riichi_waits_of,
 };
 use facts::holds;
 
@@ -153,4 +154,89 @@ fn answers_the_lines_of_a_text_as_json_and_with_reasons(rt: HostRuntime) {
         riichi_explain_lines(0, text, &mut room, &mut taken) == 0,
     );
     holds(&rt, taken == 0);
+}
+
+/// The counts of 123456789m1134p, which waits for 2p and 5p.
+const READY: [u8; 34] = [
+    1, 1, 1, 1, 1, 1, 1, 1, 1, 2, 0, 1, 1, 0, 0, 0, 0, 0, 0, 0, 0, 0, 0, 0, 0, 0, 0, 0, 0, 0, 0, 0,
+    0, 0,
+];
+
+/// The bits of 2p and 5p.
+const WAITS: u64 = (1 << 10) + (1 << 13);
+
+#[test]
+fn tells_the_shanten_and_the_waits_of_rows(rt: HostRuntime) {
+    let counts = [READY, [0; 34]];
+    let mut shanten = [7i8; 3];
+    holds(&rt, riichi_shantens(&counts, &[], &mut shanten) == 2);
+    holds(&rt, shanten == [0, -128, 7]);
+    let mut kinds = [7u64; 3];
+    holds(&rt, riichi_waits_of(&counts, &[], &mut kinds) == 2);
+    holds(&rt, kinds == [WAITS, u64::MAX, 7]);
+}
+
+#[test]
+fn tells_what_rows_accept(rt: HostRuntime) {
+    let counts = [READY];
+    let mut shanten = [7i8; 1];
+    let mut accepts = [7u64; 1];
+    let mut live = [[7u8; 34]; 2];
+    holds(
+        &rt,
+        riichi_shapes(&counts, &[], &[], &mut shanten, &mut accepts, &mut live) == 1,
+    );
+    holds(&rt, shanten[0] == 0);
+    holds(&rt, accepts[0] == WAITS);
+    holds(&rt, live[0][10] == 4);
+    holds(&rt, live[0][9] == 0);
+    holds(&rt, live[1][9] == 7);
+}
+
+#[test]
+fn tells_the_discards_of_rows(rt: HostRuntime) {
+    let mut fourteen = READY;
+    fourteen[33] = 1;
+    let counts = [fourteen];
+    let mut shanten = [7i8; 1];
+    let mut kinds = [7u64; 1];
+    let mut accepts = [[7u64; 34]; 1];
+    let mut live = [[7u8; 34]; 1];
+    let rows = riichi_discards(
+        &counts,
+        &[],
+        &[],
+        &mut shanten,
+        &mut kinds,
+        &mut accepts,
+        &mut live,
+    );
+    holds(&rt, rows == 1);
+    holds(&rt, shanten[0] == 0);
+    holds(&rt, kinds[0] == 1 << 33);
+    holds(&rt, accepts[0][33] == WAITS);
+    holds(&rt, live[0][33] == 8);
+    holds(&rt, accepts[0][0] == 0);
+}
+
+#[test]
+fn answers_the_rows_of_an_array_of_texts(rt: HostRuntime) {
+    let bytes = b"waits 123456789m1134p# cwaits 8z";
+    let offsets = [0, 21, 24, 32, 31];
+    let mut room = [7u8; 30];
+    let mut places = [9u64; 6];
+    let rows = riichi_answer_rows(1, bytes, &offsets, &mut room, &mut places);
+    holds(&rt, rows == 3);
+    holds(&rt, places == [0, 9, 9, 29, 9, 9]);
+    holds(
+        &rt,
+        room.get(..29) == Some(b"waits 25prefused N5 hand at 0".as_slice()),
+    );
+    let mut small = [7u8; 20];
+    let rows = riichi_answer_rows(1, bytes, &offsets, &mut small, &mut places);
+    holds(&rt, rows == 2);
+    holds(
+        &rt,
+        riichi_answer_rows(1, bytes, &offsets, &mut small, &mut []) == 0,
+    );
 }

@@ -24,4 +24,50 @@ extern "C" {
         room_len: usize,
         taken: *mut usize,
     ) -> usize;
+    pub fn riichi_shantens(
+        counts: *const [u8; 34],
+        counts_len: usize,
+        melds: *const [u8; 4],
+        melds_len: usize,
+        shanten: *mut i8,
+        shanten_len: usize,
+    ) -> usize;
+    pub fn riichi_shapes(
+        counts: *const [u8; 34],
+        counts_len: usize,
+        melds: *const [u8; 4],
+        melds_len: usize,
+        seen: *const [u8; 34],
+        seen_len: usize,
+        shanten: *mut i8,
+        shanten_len: usize,
+        accepts: *mut u64,
+        accepts_len: usize,
+        live: *mut [u8; 34],
+        live_len: usize,
+    ) -> usize;
+    pub fn riichi_discards(
+        counts: *const [u8; 34],
+        counts_len: usize,
+        melds: *const [u8; 4],
+        melds_len: usize,
+        seen: *const [u8; 34],
+        seen_len: usize,
+        shanten: *mut i8,
+        shanten_len: usize,
+        kinds: *mut u64,
+        kinds_len: usize,
+        accepts: *mut [u64; 34],
+        accepts_len: usize,
+        live: *mut [u8; 34],
+        live_len: usize,
+    ) -> usize;
+    pub fn riichi_waits_of(
+        counts: *const [u8; 34],
+        counts_len: usize,
+        melds: *const [u8; 4],
+        melds_len: usize,
+        kinds: *mut u64,
+        kinds_len: usize,
+    ) -> usize;
 }

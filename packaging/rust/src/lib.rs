@@ -10,9 +10,12 @@
 //! }
 //! ```
 //!
+//! Many hands without text are answered by [`arrays`].
+//!
 //! A line is a `&str` or bytes, without its line feed and a carriage return before that. Every call may be made by any thread.
 use std::str;
 
+pub mod arrays;
 mod calls;
 
 /// The rule profiles, as RULES.md of the release has them.

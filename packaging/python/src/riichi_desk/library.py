@@ -21,6 +21,9 @@ _ARGUMENTS = {
     "riichi_version": [_AT, _SIZE],
     **dict.fromkeys(("riichi_answer", "riichi_json", "riichi_explain"), [_RULES, ctypes.c_char_p, _SIZE, _AT, _SIZE]),
     **dict.fromkeys(("riichi_answer_lines", "riichi_json_lines"), [_RULES, _AT, _SIZE, _AT, _SIZE, ctypes.POINTER(_SIZE)]),
+    **dict.fromkeys(("riichi_shantens", "riichi_waits_of"), [_AT, _SIZE] * 3),
+    "riichi_shapes": [_AT, _SIZE] * 6,
+    "riichi_discards": [_AT, _SIZE] * 7,
 }
 for _name, _types in _ARGUMENTS.items():
     _call = getattr(CALLS, _name)

@@ -1,0 +1,4 @@
+pub mod ColumnLemmas
+pub mod DiscardLemmas
+pub mod KindLemmas
+pub mod TileLemmas

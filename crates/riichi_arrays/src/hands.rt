@@ -1,0 +1,118 @@
+//! The hand of a row.
+ghost use Rattle.std.specs.Prelude.{◌≡◌, ◌<◌, ◌≤◌, ◌+◌, ℕ, [], slice_index, slice_index_or, slice_set, length};
+ghost use Rattle.riichi_arrays.specs.Columns.{hand_at, shape_at};
+ghost use Rattle.riichi_arrays.specs.Hands as spec;
+ghost use Rattle.riichi_arrays.specs.Hands.{no_melds, no_tiles};
+
+use riichi_hand::{HandRecord, ShapeRecord};
+use riichi_tiles::{Counts, Kind, Meld, Melds};
+
+/// The counts of a row, none where one is above four.
+fn counts_in(row: &[u8; 34]) -> Option<Counts>
+    ensures { result ≡ spec.counts_in row.now }
+{
+    let mut counts = Counts::new();
+    for number in 0..34u8 {
+        let held = row[number as usize];
+        if held > 4 {
+            return None;
+        }
+        add_copies(&mut counts, Kind::at(number), held);
+    }
+    Some(counts)
+}
+
+/// So many tiles of a kind of which there are none yet.
+fn add_copies(counts: &mut Counts, kind: Kind, held: u8)
+    requires kind { kind < 34 }
+    requires long { length counts.old ≡ 34 }
+    requires none { slice_index counts.old kind ≡ 0 }
+    requires few { held ≤ 4 }
+    ensures { counts.new ≡ slice_set counts.old kind held }
+{
+    for _copy in 0..held {
+        counts.add(kind);
+    }
+}
+
+/// The meld of a byte.
+fn meld_in(byte: u8) -> Option<Meld>
+    ensures { result ≡ spec.meld_in byte }
+{
+    let place = byte % 64;
+    if place == 0 || place > 34 {
+        return None;
+    }
+    let meld = meld_sorted(byte / 64, Kind::at(place - 1));
+    if meld.is_proper() { Some(meld) } else { None }
+}
+
+fn meld_sorted(sort: u8, kind: Kind) -> Meld
+    ensures { result ≡ spec.meld_sorted sort kind }
+{
+    match sort {
+        0 => Meld::Chi(kind),
+        1 => Meld::Pon(kind),
+        2 => Meld::Kan(kind),
+        _ => Meld::Ankan(kind),
+    }
+}
+
+/// The melds of a row, none where a byte is no meld.
+fn melds_in(row: &[u8; 4]) -> Option<Melds>
+    ensures { result ≡ spec.melds_in row.now }
+{
+    let mut melds = Melds::new();
+    for byte in row {
+        if *byte != 0 {
+            melds.push(meld_in(*byte)?);
+        }
+    }
+    Some(melds)
+}
+
+/// The melds of a row of some, none where there are no more rows.
+fn melds_at(melds: &[[u8; 4]], row: usize) -> Option<Melds>
+    ensures { result ≡ spec.melds_in (slice_index_or melds.now row no_melds) }
+{
+    if row < melds.len() {
+        melds_in(&melds[row])
+    } else {
+        Some(Melds::new())
+    }
+}
+
+/// The tiles of a row of some, none where there are no more rows.
+fn tiles_at(rows: &[[u8; 34]], row: usize) -> Option<Counts>
+    ensures { result ≡ spec.counts_in (slice_index_or rows.now row no_tiles) }
+{
+    if row < rows.len() {
+        counts_in(&rows[row])
+    } else {
+        Some(Counts::new())
+    }
+}
+
+/// The hand of thirteen or fourteen tiles that stands in a row.
+pub(crate) fn shape_at(
+    counts: &[[u8; 34]],
+    melds: &[[u8; 4]],
+    seen: &[[u8; 34]],
+    row: usize,
+) -> Option<ShapeRecord>
+    ensures { result ≡ shape_at counts.now melds.now seen.now row }
+{
+    let tiles = tiles_at(counts, row)?;
+    let melds = melds_at(melds, row)?;
+    let seen = tiles_at(seen, row)?;
+    ShapeRecord::new(tiles, melds, seen).ok()
+}
+
+/// The hand of thirteen tiles that stands in a row.
+pub(crate) fn hand_at(counts: &[[u8; 34]], melds: &[[u8; 4]], row: usize) -> Option<HandRecord>
+    ensures { result ≡ hand_at counts.now melds.now row }
+{
+    let tiles = tiles_at(counts, row)?;
+    let melds = melds_at(melds, row)?;
+    HandRecord::new(tiles, melds).ok()
+}

@@ -1,0 +1,209 @@
+//! The discards of many hands of fourteen tiles.
+ghost use Rattle.std.specs.Prelude.{ℕ, ◌≡◌, ◌≤◌, ◌<◌, [], length, min, slice_set};
+ghost use Rattle.riichi_arrays.specs.Columns.{IsFilled, discards_row, discards_told, told_discards};
+ghost use Rattle.riichi_shape.specs.KeptDiscards.{kinds_in};
+ghost use Rattle.riichi_shape.specs.LiveCopies.{live_in};
+ghost use Rattle.riichi_tiles.specs.HeldKinds.{with_kind};
+
+use crate::acceptance::kinds_in;
+use crate::distance::NO_HAND;
+use crate::hands::shape_at;
+use crate::kept_rows::KeptRows;
+use riichi_shape::{Accepts, Discard, DiscardList, FreshRows, RowSource, ShapeAnswer, shape_with};
+use riichi_tiles::KindSet;
+
+/// For fewer hands the rows that are kept cost more than they save.
+const FEW_HANDS: usize = 16;
+
+/// What is told of a hand of fourteen tiles.
+#[derive(Clone, Copy)]
+pub(crate) struct DiscardsRow {
+    pub(crate) shanten: i8,
+    /// The kinds that may be discarded.
+    pub(crate) kinds: KindSet,
+    /// After the discard of each kind, a bit for each that is accepted.
+    pub(crate) accepts: [u64; 34],
+    /// How many copies of these are live in all.
+    pub(crate) live: [u8; 34],
+}
+
+impl DiscardsRow {
+    /// Without a discard.
+    fn none(shanten: i8) -> DiscardsRow
+        ensures { result ≡ discards_row shanten [] }
+    {
+        DiscardsRow {
+            shanten,
+            kinds: KindSet::new(),
+            accepts: [0; 34],
+            live: [0; 34],
+        }
+    }
+
+    /// With one more discard.
+    fn put(&mut self, discard: &Discard)
+        ensures kind { discard.now.kind < 34 }
+        ensures value { self.new ≡ record {
+          shanten = self.old.shanten;
+          kinds = with_kind self.old.kinds discard.now.kind;
+          accepts = slice_set self.old.accepts discard.now.kind (kinds_in discard.now.accepted);
+          live = slice_set self.old.live discard.now.kind (live_in discard.now.accepted);
+        } }
+    {
+        let place = discard.kind.index();
+        self.kinds.insert(discard.kind);
+        self.accepts[place] = kinds_in(&discard.accepted);
+        self.live[place] = discard.accepted.live() as u8;
+    }
+}
+
+/// The discards of a list by their kinds. The first of a kind counts, so they are put from the last on.
+fn discards_row(shanten: i8, discards: &DiscardList) -> DiscardsRow
+    ensures { result ≡ discards_row shanten discards.now }
+{
+    let mut told = DiscardsRow::none(shanten);
+    let mut place = discards.len();
+    while place > 0 {
+        place -= 1;
+        let Some(discard) = discards.get(place) else {
+            unreachable!()
+        };
+        told.put(&discard);
+    }
+    told
+}
+
+fn discards_told(answer: &ShapeAnswer) -> DiscardsRow
+    ensures { result ≡ discards_told answer.now.shanten answer.now.accepts }
+{
+    match &answer.accepts {
+        Accepts::Thirteen(_) => DiscardsRow::none(NO_HAND),
+        Accepts::Fourteen(discards) => discards_row(answer.shanten, discards),
+    }
+}
+
+fn row_of<R: RowSource>(
+    source: &mut R,
+    counts: &[[u8; 34]],
+    melds: &[[u8; 4]],
+    seen: &[[u8; 34]],
+    row: usize,
+) -> DiscardsRow
+    ensures discards { result ≡ told_discards counts.now melds.now seen.now row }
+    ensures stays { source.new ≡ source.old }
+{
+    match shape_at(counts, melds, seen, row) {
+        Some(hand) => discards_told(&shape_with(source, &hand)),
+        None => DiscardsRow::none(NO_HAND),
+    }
+}
+
+fn fill_discards<R: RowSource>(
+    source: &mut R,
+    counts: &[[u8; 34]],
+    melds: &[[u8; 4]],
+    seen: &[[u8; 34]],
+    shantens: &mut [i8],
+    kinds: &mut [u64],
+    accepts: &mut [[u64; 34]],
+    live: &mut [[u8; 34]],
+    rows: usize,
+)
+    requires shantens { rows ≤ length shantens.old }
+    requires kinds { rows ≤ length kinds.old }
+    requires accepts { rows ≤ length accepts.old }
+    requires live { rows ≤ length live.old }
+    ensures shantens { IsFilled (λ row. (told_discards counts.now melds.now seen.now row).shanten)
+        rows shantens.old shantens.new }
+    ensures kinds { IsFilled (λ row. (told_discards counts.now melds.now seen.now row).kinds)
+        rows kinds.old kinds.new }
+    ensures accepts { IsFilled (λ row. (told_discards counts.now melds.now seen.now row).accepts)
+        rows accepts.old accepts.new }
+    ensures live { IsFilled (λ row. (told_discards counts.now melds.now seen.now row).live)
+        rows live.old live.new }
+{
+    for row in 0..rows {
+        let told = row_of(source, counts, melds, seen, row);
+        let accepted = told.accepts;
+        let copies = told.live;
+        shantens[row] = told.shanten;
+        kinds[row] = told.kinds.bits();
+        accepts[row] = accepted;
+        live[row] = copies;
+    }
+}
+
+#[inline(never)]
+fn fill_many(
+    counts: &[[u8; 34]],
+    melds: &[[u8; 4]],
+    seen: &[[u8; 34]],
+    shantens: &mut [i8],
+    kinds: &mut [u64],
+    accepts: &mut [[u64; 34]],
+    live: &mut [[u8; 34]],
+    rows: usize,
+)
+    requires shantens { rows ≤ length shantens.old }
+    requires kinds { rows ≤ length kinds.old }
+    requires accepts { rows ≤ length accepts.old }
+    requires live { rows ≤ length live.old }
+    ensures shantens { IsFilled (λ row. (told_discards counts.now melds.now seen.now row).shanten)
+        rows shantens.old shantens.new }
+    ensures kinds { IsFilled (λ row. (told_discards counts.now melds.now seen.now row).kinds)
+        rows kinds.old kinds.new }
+    ensures accepts { IsFilled (λ row. (told_discards counts.now melds.now seen.now row).accepts)
+        rows accepts.old accepts.new }
+    ensures live { IsFilled (λ row. (told_discards counts.now melds.now seen.now row).live)
+        rows live.old live.new }
+{
+    let mut kept = KeptRows::new();
+    fill_discards(
+        &mut kept, counts, melds, seen, shantens, kinds, accepts, live, rows,
+    );
+}
+
+/// Of each hand of fourteen tiles its shanten and the kinds whose discard leaves the least, a bit for each; and for each of
+/// these kinds what the rest then accepts, a bit for each kind, and how many copies of those are live in all. A row that is no
+/// such hand has the shanten [`NO_HAND`] and no discards. As many are answered as `counts` and the columns have rows, which it
+/// returns.
+pub fn discards(
+    counts: &[[u8; 34]],
+    melds: &[[u8; 4]],
+    seen: &[[u8; 34]],
+    shantens: &mut [i8],
+    kinds: &mut [u64],
+    accepts: &mut [[u64; 34]],
+    live: &mut [[u8; 34]],
+) -> usize
+    ensures rows { result ≡ min (length counts.now)
+        (min (length shantens.old)
+        (min (length kinds.old) (min (length accepts.old) (length live.old)))) }
+    ensures shantens { IsFilled (λ row. (told_discards counts.now melds.now seen.now row).shanten)
+        result shantens.old shantens.new }
+    ensures kinds { IsFilled (λ row. (told_discards counts.now melds.now seen.now row).kinds)
+        result kinds.old kinds.new }
+    ensures accepts { IsFilled (λ row. (told_discards counts.now melds.now seen.now row).accepts)
+        result accepts.old accepts.new }
+    ensures live { IsFilled (λ row. (told_discards counts.now melds.now seen.now row).live)
+        result live.old live.new }
+{
+    let places = kinds.len().min(accepts.len().min(live.len()));
+    let rows = counts.len().min(shantens.len().min(places));
+    if rows < FEW_HANDS {
+        fill_discards(
+            &mut FreshRows,
+            counts,
+            melds,
+            seen,
+            shantens,
+            kinds,
+            accepts,
+            live,
+            rows,
+        );
+    } else {
+        fill_many(counts, melds, seen, shantens, kinds, accepts, live, rows);
+    }
+    rows
+}

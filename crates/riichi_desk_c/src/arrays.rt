@@ -1,0 +1,87 @@
+//! Many hands as arrays, without text.
+ghost use Rattle.std.specs.Prelude.{◌≡◌, ◌≤◌, [], length, min};
+ghost use Rattle.riichi_arrays.specs.Columns.{IsFilled, hand_at, shanten_by, shape_at, told_discards, told_shape, waits_by};
+
+use riichi_arrays::{discards, shantens, shapes, waits};
+
+/// The shanten of each hand of thirteen or fourteen tiles, -128 of a row that is none: of as many as both `counts` and `shantens`
+/// have rows, which it returns.
+#[unsafe(no_mangle)]
+pub extern "C" fn riichi_shantens(
+    counts: &[[u8; 34]],
+    melds: &[[u8; 4]],
+    shanten: &mut [i8],
+) -> usize
+    ensures rows { result ≡ min (length counts.now) (length shanten.old) }
+    ensures shanten { IsFilled (λ row. shanten_by (shape_at counts.now melds.now [] row)) result
+        shanten.old shanten.new }
+{
+    shantens(counts, melds, shanten)
+}
+
+/// Of each hand of thirteen tiles its shanten, the kinds that it accepts, a bit for each, and their live copies: of as many as
+/// `counts` and the columns have rows, which it returns. A row that is none has the shanten -128 and accepts nothing.
+#[unsafe(no_mangle)]
+pub extern "C" fn riichi_shapes(
+    counts: &[[u8; 34]],
+    melds: &[[u8; 4]],
+    seen: &[[u8; 34]],
+    shanten: &mut [i8],
+    accepts: &mut [u64],
+    live: &mut [[u8; 34]],
+) -> usize
+    ensures rows { result
+        ≡ min (length counts.now)
+        (min (length shanten.old) (min (length accepts.old) (length live.old))) }
+    ensures shanten { IsFilled (λ row. (told_shape counts.now melds.now seen.now row).shanten)
+        result shanten.old shanten.new }
+    ensures accepts { IsFilled (λ row. (told_shape counts.now melds.now seen.now row).accepts)
+        result accepts.old accepts.new }
+    ensures live { IsFilled (λ row. (told_shape counts.now melds.now seen.now row).live)
+        result live.old live.new }
+{
+    shapes(counts, melds, seen, shanten, accepts, live)
+}
+
+/// Of each hand of fourteen tiles its shanten and the kinds whose discard leaves the least, a bit for each; and for each of these
+/// what the rest then accepts, a bit for each kind, and how many copies of those are live in all: of as many as `counts` and the
+/// columns have rows, which it returns. A row that is none has the shanten -128 and no discards.
+#[unsafe(no_mangle)]
+pub extern "C" fn riichi_discards(
+    counts: &[[u8; 34]],
+    melds: &[[u8; 4]],
+    seen: &[[u8; 34]],
+    shanten: &mut [i8],
+    kinds: &mut [u64],
+    accepts: &mut [[u64; 34]],
+    live: &mut [[u8; 34]],
+) -> usize
+    ensures rows { result ≡ min (length counts.now)
+        (min (length shanten.old)
+        (min (length kinds.old) (min (length accepts.old) (length live.old)))) }
+    ensures shanten { IsFilled (λ row. (told_discards counts.now melds.now seen.now row).shanten)
+        result shanten.old shanten.new }
+    ensures kinds { IsFilled (λ row. (told_discards counts.now melds.now seen.now row).kinds)
+        result kinds.old kinds.new }
+    ensures accepts { IsFilled (λ row. (told_discards counts.now melds.now seen.now row).accepts)
+        result accepts.old accepts.new }
+    ensures live { IsFilled (λ row. (told_discards counts.now melds.now seen.now row).live)
+        result live.old live.new }
+{
+    discards(counts, melds, seen, shanten, kinds, accepts, live)
+}
+
+/// The kinds that each hand of thirteen tiles waits for, a bit for each, all bits of a row that is none: of as many as both
+/// `counts` and `kinds` have rows, which it returns.
+#[unsafe(no_mangle)]
+pub extern "C" fn riichi_waits_of(
+    counts: &[[u8; 34]],
+    melds: &[[u8; 4]],
+    kinds: &mut [u64],
+) -> usize
+    ensures rows { result ≡ min (length counts.now) (length kinds.old) }
+    ensures kinds { IsFilled (λ row. waits_by (hand_at counts.now melds.now row)) result
+        kinds.old kinds.new }
+{
+    waits(counts, melds, kinds)
+}
