@@ -402,7 +402,10 @@ fn kinds_that_are_waited_for(rt: HostRuntime) -> Result<(), Fail> {
                 "waits 123456789m1134p",
                 "  2p 4 left, two-sided (ryanmen); 5p 4 left, two-sided (ryanmen)\n",
             ),
-            ("waits 13m456m789p234s88s", "  2m 4 left, closed (kanchan)\n"),
+            (
+                "waits 13m456m789p234s88s",
+                "  2m 4 left, closed (kanchan)\n",
+            ),
             ("waits 456m88m89p234567s", "  7p 4 left, edge (penchan)\n"),
             ("waits 1133m5577p2288s4z", "  4z 3 left, pair (tanki)\n"),
             (
