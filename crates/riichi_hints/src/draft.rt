@@ -59,7 +59,9 @@ impl Draft {
     pub(crate) fn put(&mut self, key: Key, value: &[u8]) {
         match key {
             Key::Hand => add_tiles(&mut self.hand, value),
-            Key::On => add_tiles(&mut self.on, value),
+            Key::On => if self.on.is_empty() {
+                add_tiles(&mut self.on, value);
+            },
             Key::By => self.by = by_of(value),
             Key::Seat => self.seat = wind_of(value),
             Key::Round => self.round = wind_of(value),
@@ -68,8 +70,8 @@ impl Draft {
             Key::Flags => {}
             Key::Dora => add_tiles(&mut self.dora, value),
             Key::Ura => add_tiles(&mut self.ura, value),
-            Key::Counters => add_all(&mut self.counters, number_of(value)),
-            Key::Sticks => add_all(&mut self.sticks, number_of(value)),
+            Key::Counters => put_first(&mut self.counters, number_of(value)),
+            Key::Sticks => put_first(&mut self.sticks, number_of(value)),
             Key::Seen => add_tiles(&mut self.seen, value),
         }
     }
@@ -112,6 +114,13 @@ impl Draft {
             Flag::Last => self.flags.last = true,
             Flag::First => self.flags.first = true,
         }
+    }
+}
+
+/// Puts a value where none stands yet.
+fn put_first(part: &mut Part, value: &[u8]) {
+    if part.is_empty() {
+        add_all(part, value);
     }
 }
 
