@@ -227,8 +227,22 @@ while IFS='|' read -r _ code line said; do
   words=$(sed -n "s/^  $code  *//p" "$room/codes")
   got=$("$program" explain "$line")
   told "the code of $line" "refused $code" "$(sed -nE '1s/^(refused [A-Z][0-9]+).*/\1/p' <<< "$got")"
-  told "the word at fault of $line" "$(printf '%b' "${said/'{}'/$words}")" "$(tail -n +2 <<< "$got")"
+  told "the word at fault of $line" "$(printf '%b' "${said/'{}'/$words}")" "$(tail -n +2 <<< "$got" | grep -v '^  try: ')"
 done < <(sed 's/^/|/' tests/refused.lines)
+
+# what beginners type, behind `> `, and what they are shown; each line to try is answered, under both profiles, and not refused
+sed -n 's/^> //p' tests/beginners.lines > "$room/input"
+"$program" explain < "$room/input" > "$room/shown" 2> "$room/said"
+status=$?
+told 'what beginners are shown' "status 1
+$(grep -v -e '^> ' -e '^# ' -e '^$' tests/beginners.lines)" "status $status
+$(cat "$room/shown")"
+sed -n 's/^  try: //p' "$room/shown" > "$room/tried"
+for rules in 1 2; do
+  "$program" line --rules "$rules" < "$room/tried" > "$room/answers" 2> "$room/said"
+  status=$?
+  told "what beginners are to try, under profile $rules" "status 0, $(wc -l < "$room/tried") answers" "status $status, $(grep -vc '^refused' "$room/answers") answers"
+done
 
 # someone types: the answer to a line comes before the next line is sent
 coproc desk { "$program" line; }

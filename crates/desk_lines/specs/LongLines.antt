@@ -1,5 +1,5 @@
 -- Lines of more than 4,096 bytes, of which only a front is held: they set no profile, and are all answered alike.
-use Rattle.std.specs.Prelude.{◌≡◌, ℕ, ◌<◌, List, Bool, length, Option, Some, None, Result, Ok, Err, ◌||◌, if◌then◌else◌}
+use Rattle.std.specs.Prelude.{◌≡◌, ℕ, ◌<◌, List, ◌++◌, Bool, length, codes, Option, Some, None, Result, Ok, Err, ◌||◌, if◌then◌else◌}
 use Rattle.std.specs.List.{list_any}
 use Rattle.std.proofs.Common.{sym, subst, ap, ◌∙◌}
 use Rattle.std.proofs.lemmas.Bool.{lt-ltb}
@@ -16,6 +16,7 @@ use Rattle.riichi_hand.specs.Texts.{texts_of}
 use Rattle.riichi_hand.specs.Words.{words_of}
 use Rattle.riichi_explain.specs.Explanation.{IsOutcomeText, IsExplanation}
 use Rattle.riichi_faults.specs.Refusal.{long_refusals_alike}
+use Rattle.riichi_hints.specs.Hint.{IsRefusalText, told_line}
 use Rattle.desk_lines.specs.Explained.{IsToldWithWhy, IsExplained}
 use Rattle.desk_lines.specs.Profile.{profile_of, profile_of_words}
 use Rattle.desk_lines.specs.LineAnswer.{answer_of, outcome_text, IsBy}
@@ -46,12 +47,23 @@ answers_alike rules line other told long long_other is = is ∙ long_answer rule
 
 -- ---- their explanations
 
+-- their refusals are told alike, whatever is tried below
+refusal_kept : (line other why : List ℕ) → 4096 < length line → 4096 < length other → IsRefusalText line (Line H1) why → IsRefusalText other (Line H1) why
+refusal_kept line other why long long_other said =
+    let below = told_line (codes "  ") said.note ++ told_line (codes "  try: ") said.hint in record {
+      note = said.note;
+      is_note = said.is_note;
+      hint = said.hint;
+      is_hint = said.is_hint;
+      text_is = said.text_is ∙ ap (λ (front : List ℕ). front ++ below) (long_refusals_alike line other long long_other);
+    }
+
 explanation_kept : (rules : Rules) (line other why : List ℕ) → 4096 < length line → 4096 < length other → IsExplanation rules line why → IsExplanation rules other why
 unfolding IsExplanation
 explanation_kept rules line other why long long_other is =
     let said = subst (λ (outcome : Result (Option Job) LineFault). IsOutcomeText line outcome why) (long_outcome rules line long) is in
     subst (λ (outcome : Result (Option Job) LineFault). IsOutcomeText other outcome why) (sym (long_outcome rules other long_other))
-    (said ∙ long_refusals_alike line other long long_other)
+    (refusal_kept line other why long long_other said)
 
 told_alike : (rules : Rules) (line other : List ℕ) (answer : Option (List ℕ)) (told : Option (List ℕ)) → 4096 < length line → 4096 < length other
     → IsToldWithWhy rules line answer told → IsToldWithWhy rules other answer told

@@ -5,7 +5,7 @@ ghost use Rattle.desk_core.specs.Value.{value_of};
 ghost use Rattle.riichi_explain.specs.Explanation.{IsJobText, IsWinText, IsShapeText};
 ghost use Rattle.riichi_hand.specs.FaultTexts.{fault_text};
 ghost use Rattle.riichi_hand.specs.Places.{fault_from};
-ghost use Rattle.riichi_faults.specs.Refusal.{refusal_lines};
+ghost use Rattle.riichi_hints.specs.Hint.{IsRefusalText};
 ghost use Rattle.riichi_score.specs.Best.{best_of};
 ghost use Rattle.riichi_score.specs.Text as spec_win;
 ghost use Rattle.riichi_shape.specs.Answer.{shape_of};
@@ -19,10 +19,10 @@ use super::line_kind::LineKind;
 use super::outbox::Outbox;
 use super::responder::Responder;
 use riichi_explain::{explain_shape, explain_win, push_shanten_line, push_win_lines};
-use riichi_faults::push_refusal_lines;
 use riichi_hand::{
     HandRecord, Job, Refusal, Rules, ShapeRecord, WinRecord, fault_text, read_placed,
 };
+use riichi_hints::push_refusal;
 use riichi_score::push_win;
 use riichi_shape::RowSource;
 use riichi_waits::{explain_waits, push_waits_line};
@@ -113,11 +113,12 @@ fn put_forms<S: RowSource>(tiles: &ShapeRecord, outbox: &mut Outbox, source: &mu
 fn put_refusal(line: &[u8], refusal: &Refusal<'_>, outbox: &mut Outbox)
     requires room { HasRoom outbox.old }
     requires from { option_map (λ from. from.now) refusal.now.from ≡ fault_from refusal.now.fault line.now }
-    ensures { outbox.new.bytes.items ≡ outbox.old.bytes.items
-        ++ ((fault_text refusal.now.fault ++ 10 ∷ []) ++ refusal_lines line.now refusal.now.fault) }
+    ensures { (why : List ℕ) × IsRefusalText line.now refusal.now.fault why
+        × (outbox.new.bytes.items ≡ outbox.old.bytes.items
+        ++ ((fault_text refusal.now.fault ++ 10 ∷ []) ++ why)) }
 {
     outbox.put_line(fault_text(&refusal.fault).as_str().as_bytes());
     outbox.text.clear();
-    push_refusal_lines(&mut outbox.text, line, refusal);
+    push_refusal(&mut outbox.text, line, refusal);
     outbox.put_lines();
 }

@@ -2,15 +2,15 @@
 ghost use Rattle.std.specs.Prelude.{◌≡◌, ◌≤◌, option_map};
 ghost use Rattle.riichi_explain.specs.Explanation.{IsJobText};
 ghost use Rattle.riichi_hand.specs.Places.{fault_from};
-ghost use Rattle.riichi_faults.specs.Refusal.{refusal_lines};
+ghost use Rattle.riichi_hints.specs.Hint.{IsRefusalText};
 ghost use Rattle.riichi_desk_c.specs.Reasons.{PlacesReason};
 
 use super::placing::place;
 use super::rules_numbered;
 use arrayvec::ArrayString;
 use riichi_explain::{explain_shape, explain_win, push_shanten_line, push_win_lines};
-use riichi_faults::push_refusal_lines;
 use riichi_hand::{Job, Refusal, read_placed};
+use riichi_hints::push_refusal;
 use riichi_waits::{explain_waits, push_waits_line};
 
 /// Says why one line is answered as it is, under the profile of this number, 1 or 2: the bytes that the text takes, 0 where the
@@ -46,9 +46,9 @@ fn job_lines(job: &Job) -> ArrayString<4608>
 
 fn refusal_text(line: &[u8], refusal: &Refusal<'_>) -> ArrayString<3072>
     requires { option_map (λ from. from.now) refusal.now.from ≡ fault_from refusal.now.fault line.now }
-    ensures { result.bytes ≡ refusal_lines line.now refusal.now.fault }
+    ensures { IsRefusalText line.now refusal.now.fault result.bytes }
 {
     let mut text = ArrayString::new();
-    push_refusal_lines(&mut text, line, refusal);
+    push_refusal(&mut text, line, refusal);
     text
 }

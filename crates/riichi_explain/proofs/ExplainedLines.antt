@@ -47,7 +47,7 @@ use Rattle.riichi_waits.specs.declared.waits.KindWait.{KindWait}
 use Rattle.riichi_waits.specs.declared.waits.WaitSorts.{WaitSorts}
 use Rattle.riichi_text.specs.Lists.{joined}
 use Rattle.riichi_text.specs.Tiles.{kind_text, letter_of, digit_of, run_text, two_text, three_text, four_text, block_text, meld_text}
-use Rattle.riichi_explain.proofs.RefusalLines.{refusal_lines-lines}
+use Rattle.riichi_explain.proofs.RefusalLines.{refusal_text-lines}
 use Rattle.riichi_text.proofs.Letters.{letter_high}
 use Rattle.riichi_explain.proofs.PlainTexts.{plain, after, after3, after4, after5, byte-plain, flat_map-plain, joined-plain, decimal-plain, kind_text-plain, tiles_text-plain, named-plain, are_indented, pass, lines-append, flat_map-lines}
 
@@ -404,4 +404,4 @@ job_text-lines (job.Shape shape) said is = ap are_indented is.text_is ∙ shante
 pub outcome_text-lines : (line : List ℕ) (outcome : Result (Option Job) LineFault) (said : List ℕ) → IsOutcomeText line outcome said → are_indented said ≡ true
 outcome_text-lines line (Ok None) said is = ap are_indented is
 outcome_text-lines line (Ok (Some job)) said is = job_text-lines job said is
-outcome_text-lines line (Err fault) said is = ap are_indented is ∙ refusal_lines-lines line fault
+outcome_text-lines line (Err fault) said is = refusal_text-lines line fault said is

@@ -1,7 +1,7 @@
 -- The lines of a refusal begin with two spaces, and each ends with its line feed.
-use Rattle.std.proofs.Common.{◌≡◌, ℕ, ◌+◌, ◌-◌, ◌/◌, ◌%◌, ◌<◌, List, [], length, ◌∷◌, ◌++◌, Bool, true, false, cond, nat_eq, nat_lt, take, replicate, Option, Some, None, refl, arith}
-use Rattle.std.specs.Prelude.{codes, ◌||◌, slice_index_or, unwrap_or, is_some}
-use Rattle.std.specs.List.{starts_with, position}
+use Rattle.std.proofs.Common.{◌≡◌, ℕ, ◌+◌, ◌-◌, ◌/◌, ◌%◌, ◌<◌, List, [], length, ◌∷◌, ◌++◌, Bool, true, false, cond, nat_eq, nat_lt, take, replicate, Option, Some, None, refl, ap, ◌∙◌, arith}
+use Rattle.std.specs.Prelude.{codes, ◌||◌, slice_index_or, unwrap_or, is_some, IfSome}
+use Rattle.std.specs.List.{starts_with, position, list_any}
 use Rattle.std.proofs.lemmas.Bool.Decides.{nat_tests}
 use Rattle.riichi_tiles.specs.declared.notation.NotationCode.{NotationCode}
 use Rattle.riichi_tiles.specs.declared.notation.NotationCode.TheVariants.{N1, N2, N3, N4, N5, N6}
@@ -18,6 +18,11 @@ use Rattle.riichi_faults.specs.LineWords.{word_at_fault, text_word}
 use Rattle.riichi_faults.specs.Refusal.{named_word, word_line, byte_lines, foreign_lines, missing_key, missing_line, line_lines, place_in, notation_lines, refusal_lines}
 use Rattle.riichi_faults.specs.Shown.{hex_digit, byte_text, shown, around, shown_line, mark_line, marked_lines}
 use Rattle.riichi_explain.proofs.PlainTexts.{plain, after, after3, either-plain, byte-plain, flat_map-plain, replicate-plain, are_indented, pass, lines-append}
+use Rattle.riichi_hints.specs.Hint.{IsNote, IsAnswered, IsPrintable, told_line, IsRefusalText}
+
+neither : (a b : Bool) → (a || b) ≡ false → (a ≡ false) × (b ≡ false)
+neither true b p = absurd (cc)
+neither false b p = (refl, p)
 
 -- ---- what is shown of a line
 
@@ -158,8 +163,31 @@ notation_lines-lines : (place : ℕ) (key word words : List ℕ) → plain words
 unfolding notation_lines
 notation_lines-lines place key word words p = marked_lines-lines 36 (place_in place key word) word words p
 
-pub refusal_lines-lines : (line : List ℕ) (fault : LineFault) → are_indented (refusal_lines line fault) ≡ true
+refusal_lines-lines : (line : List ℕ) (fault : LineFault) → are_indented (refusal_lines line fault) ≡ true
 unfolding refusal_lines
 refusal_lines-lines line (Line code) = line_lines-lines code line
 refusal_lines-lines line (Notation name fault) =
     notation_lines-lines fault.place (key_of name) (unwrap_or (text_word name line) []) (notation_words fault.code) (notation_words-plain fault.code)
+
+-- ---- what is told below them
+
+printable-plain : (text : List ℕ) → IsPrintable text → plain text ≡ true
+printable-plain [] p = refl
+printable-plain (byte ∷ text) p =
+    let parts = neither (is_other_byte byte) (list_any is_other_byte text) p in
+    byte-plain byte text (printable-big byte (neither (nat_lt byte 32) (nat_lt 126 byte) parts.0).0) (printable-plain text parts.1)
+
+note-lines : (P : List ℕ → Type 0) (note : Option (List ℕ)) → IfSome note (λ words. P words × IsPrintable words) → are_indented (told_line (codes "  ") note) ≡ true
+note-lines P None p = refl
+note-lines P (Some words) p = pass words (10 ∷ []) (printable-plain words p.1)
+
+hint-lines : (P : List ℕ → Type 0) (hint : Option (List ℕ)) → IfSome hint (λ words. P words × IsPrintable words) → are_indented (told_line (codes "  try: ") hint) ≡ true
+hint-lines P None p = refl
+hint-lines P (Some words) p = pass (codes "try: " ++ words) (10 ∷ []) (after (codes "try: ") words refl (printable-plain words p.1))
+
+pub refusal_text-lines : (line : List ℕ) (fault : LineFault) (said : List ℕ) → IsRefusalText line fault said → are_indented said ≡ true
+refusal_text-lines line fault said is =
+    let note = told_line (codes "  ") is.note in
+    let hint = told_line (codes "  try: ") is.hint in
+    let below = lines-append note hint (note-lines (IsNote fault line) is.note is.is_note) (hint-lines IsAnswered is.hint is.is_hint) in
+    ap are_indented is.text_is ∙ lines-append (refusal_lines line fault) (note ++ hint) (refusal_lines-lines line fault) below

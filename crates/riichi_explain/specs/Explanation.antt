@@ -13,7 +13,7 @@ use Rattle.riichi_score.specs.Best.{best_of}
 use Rattle.riichi_shape.specs.declared.forms.FormDistances.{FormDistances}
 use Rattle.riichi_explain.specs.declared.win.WinExplanation.{WinExplanation}
 use Rattle.riichi_explain.specs.declared.win.WinExplanation.TheVariants.{Won, NoYaku, NoWin}
-use Rattle.riichi_faults.specs.Refusal.{refusal_lines}
+use Rattle.riichi_hints.specs.Hint.{IsRefusalText}
 use Rattle.riichi_explain.specs.Forms.{AreFormDistances, shanten_line}
 use Rattle.riichi_explain.specs.Missed.{missed_lines}
 use Rattle.riichi_explain.specs.Text.{won_hand_text, no_yaku_line}
@@ -51,7 +51,7 @@ IsJobText (job.Shape shape) text = IsShapeText shape text
 abbrev pub IsOutcomeText : List ℕ → Result (Option Job) LineFault → List ℕ → Type 0
 IsOutcomeText line (Ok None) text = text ≡ []
 IsOutcomeText line (Ok (Some job)) text = IsJobText job text
-IsOutcomeText line (Err fault) text = text ≡ refusal_lines line fault
+IsOutcomeText line (Err fault) text = IsRefusalText line fault text
 
 -- The text says why a line is answered as it is.
 unfoldable pub IsExplanation : Rules → List ℕ → List ℕ → Type 0

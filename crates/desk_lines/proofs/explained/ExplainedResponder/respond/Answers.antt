@@ -15,5 +15,6 @@ returns-in-Ok-Some g c =
 
 pub returns-in-Err : goal.returns-in-Err
 returns-in-Err g c =
-    puts-said c.args.rules c.args.line.now c.args.outbox.now.bytes.items c.put_refusal.new.outbox.bytes.items _ _ (Err c.in-Err.refusal.fault) true
-    c.in-Err.ensures.0 refl (is_refusal-fault c.in-Err.refusal.fault) refl c.put_refusal.ensures
+    let put = c.put_refusal.ensures in
+    puts-said c.args.rules c.args.line.now c.args.outbox.now.bytes.items c.put_refusal.new.outbox.bytes.items put.0 _ (Err c.in-Err.refusal.fault) true
+    c.in-Err.ensures.0 refl (is_refusal-fault c.in-Err.refusal.fault) put.1 put.2

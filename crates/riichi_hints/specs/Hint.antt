@@ -1,0 +1,70 @@
+-- What follows a refusal: the word at fault and what may stand there, a note, and a line that is answered, where one was found.
+use Rattle.std.specs.Prelude.{◌≡◌, ℕ, ◌<◌, ◌==◌, ◌+◌, List, [], ◌∷◌, ◌++◌, Bool, true, false, ◌&&◌, Option, None, Some, Result, Ok, Err, IfSome, codes, if◌then◌else◌}
+use Rattle.std.specs.List.{list_any}
+use Rattle.riichi_tiles.specs.Notation.{is_digit}
+use Rattle.riichi_hand.specs.declared.fault.LineCode.TheVariants.{H9}
+use Rattle.riichi_hand.specs.declared.fault.LineFault.{LineFault}
+use Rattle.riichi_hand.specs.declared.fault.LineFault.TheVariants.{Line}
+use Rattle.riichi_hand.specs.declared.job.Job.{Job}
+use Rattle.riichi_hand.specs.declared.win.Rules.{Rules}
+use Rattle.riichi_hand.specs.Lines.{outcome_of, is_other_byte}
+use Rattle.riichi_faults.specs.Refusal.{refusal_lines}
+
+-- ---- a line that is answered
+
+abbrev pub is_record : Result (Option Job) LineFault → Bool
+is_record (Ok (Some job)) = true
+is_record outcome = false
+
+-- Under both profiles the line is a record, without a fault: it is answered.
+abbrev pub IsAnswered : List ℕ → Type 0
+IsAnswered line = (rules : Rules) → is_record (outcome_of rules line) ≡ true
+
+-- ---- the tiles of a line
+
+-- the first byte that is no digit, 0 where there is none: a digit is of the suit with the letter behind it
+abbrev pub letter_in : List ℕ → ℕ
+letter_in [] = 0
+letter_in (byte ∷ rest) = if is_digit byte then letter_in rest else byte
+
+-- a `0` is a five
+abbrev pub digit_of : ℕ → ℕ
+digit_of byte = if byte == 48 then 53 else byte
+
+abbrev pub is_tile : ℕ → ℕ → ℕ → List ℕ → Bool
+is_tile digit suit byte rest = is_digit byte && ((digit_of byte == digit) && (letter_in rest == suit))
+
+-- how many copies of a tile a line has, in all its words
+abbrev pub copies_in : ℕ → ℕ → List ℕ → ℕ
+copies_in digit suit [] = 0
+copies_in digit suit (byte ∷ rest) = (if is_tile digit suit byte rest then 1 else 0) + copies_in digit suit rest
+
+-- The note begins with a tile of which the line has more than four copies.
+pub record IsCrowdNote (line note : List ℕ) : Type 0 where
+  pub digit : ℕ
+  pub suit : ℕ
+  pub more : List ℕ
+  pub note_is : note ≡ digit ∷ suit ∷ more
+  pub crowded : 4 < copies_in digit suit line
+
+abbrev pub IsNote : LineFault → List ℕ → List ℕ → Type 0
+IsNote (Line H9) line note = IsCrowdNote line note
+IsNote fault line note = Unit {0}
+
+-- ---- the text
+
+abbrev pub IsPrintable : List ℕ → Type 0
+IsPrintable text = list_any is_other_byte text ≡ false
+
+-- a line of words, where there are any
+abbrev pub told_line : List ℕ → Option (List ℕ) → List ℕ
+told_line before None = []
+told_line before (Some words) = before ++ words ++ codes "\n"
+
+-- The text says why a line is refused, and shows a line that is answered, or none.
+pub record IsRefusalText (line : List ℕ) (fault : LineFault) (text : List ℕ) : Type 0 where
+  pub note : Option (List ℕ)
+  pub is_note : IfSome note (λ words. IsNote fault line words × IsPrintable words)
+  pub hint : Option (List ℕ)
+  pub is_hint : IfSome hint (λ other. IsAnswered other × IsPrintable other)
+  pub text_is : text ≡ refusal_lines line fault ++ (told_line (codes "  ") note ++ told_line (codes "  try: ") hint)

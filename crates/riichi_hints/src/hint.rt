@@ -1,0 +1,88 @@
+//! The lines that follow a refusal, and among them a line that is answered.
+ghost use Rattle.std.specs.Prelude.{◌≡◌, ◌+◌, ◌≤◌, ◌++◌, ℕ, List, Option, Some, IfSome, length, codes, option_map};
+ghost use Rattle.arrayvec.specs.ArrayString.{array_string_len};
+ghost use Rattle.riichi_hand.specs.Lines.{outcome_of};
+ghost use Rattle.riichi_hand.specs.Places.{fault_from};
+ghost use Rattle.riichi_hints.specs.Hint.{is_record, IsNote, IsAnswered, IsPrintable, told_line, IsRefusalText};
+
+use crate::draft::Draft;
+use crate::notes::note_of;
+use crate::plain::plain_line;
+use crate::text::{Line, MOST};
+use arrayvec::ArrayString;
+use riichi_faults::push_refusal_lines;
+use riichi_hand::{Refusal, Rules, has_other_byte, read_line};
+
+/// Writes the lines that follow a refusal: the word at fault and what may stand there, a note where more can be said, and a
+/// line like the refused one that is answered, where one is found.
+pub fn push_refusal(text: &mut ArrayString<3072>, line: &[u8], refusal: &Refusal<'_>)
+    requires room { array_string_len text.old + 2930 ≤ 3072 }
+    requires from { option_map (λ from. from.now) refusal.now.from ≡ fault_from refusal.now.fault line.now }
+    ensures { (said : List ℕ) × IsRefusalText line.now refusal.now.fault said
+        × (text.new.bytes ≡ text.old.bytes ++ said) }
+{
+    push_refusal_lines(text, line, refusal);
+    push_note(text, line, refusal);
+    push_hint(text, line);
+}
+
+fn push_note(text: &mut ArrayString<3072>, line: &[u8], refusal: &Refusal<'_>)
+    ensures { let fault = refusal.now.fault in
+        (note : Option (List ℕ)) × IfSome note (λ words. IsNote fault line.now words × IsPrintable words)
+        × (text.new.bytes ≡ text.old.bytes ++ told_line (codes "  ") note) }
+{
+    if let Some(note) = note_of(line, refusal) {
+        push_line(text, "  ", note.as_slice());
+    }
+}
+
+fn push_hint(text: &mut ArrayString<3072>, line: &[u8])
+    ensures { (hint : Option (List ℕ)) × IfSome hint (λ other. IsAnswered other × IsPrintable other)
+        × (text.new.bytes ≡ text.old.bytes ++ told_line (codes "  try: ") hint) }
+{
+    if let Some(hint) = hint_of(line) {
+        push_line(text, "  try: ", hint.as_slice());
+    }
+}
+
+/// A line like this one that is answered, where one is found: what a loose reading of its words makes of it.
+pub fn hint_of(line: &[u8]) -> Option<Line>
+    ensures { IfSome result (λ hint. IsAnswered hint.items) }
+{
+    if line.len() > MOST {
+        return None;
+    }
+    let mut draft = Draft::read(plain_line(line).as_slice());
+    draft.mend();
+    let hint = draft.line();
+    if is_answered(Rules::One, hint.as_slice()) && is_answered(Rules::Two, hint.as_slice()) {
+        Some(hint)
+    } else {
+        None
+    }
+}
+
+fn is_answered(rules: Rules, line: &[u8]) -> bool
+    ensures { result ≡ is_record (outcome_of rules line.now) }
+{
+    match read_line(rules, line) {
+        Ok(Some(_)) => true,
+        _ => false,
+    }
+}
+
+/// Writes a line of words where they are printable and there is room.
+fn push_line(text: &mut ArrayString<3072>, before: &str, words: &[u8])
+    requires { length before.now ≤ 8 }
+    ensures { (told : Option (List ℕ)) × IfSome told (λ line. (line ≡ words.now) × IsPrintable line)
+        × (text.new.bytes ≡ text.old.bytes ++ told_line before.now told) }
+{
+    if has_other_byte(words) || text.remaining_capacity() < words.len() + 9 {
+        return;
+    }
+    if let Ok(words) = std::str::from_utf8(words) {
+        text.push_str(before);
+        text.push_str(words);
+        text.push_str("\n");
+    }
+}

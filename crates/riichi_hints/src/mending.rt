@@ -1,0 +1,104 @@
+//! What a draft says that can't be, set right.
+ghost use Rattle.std.specs.Prelude.{◌≤◌};
+
+use crate::draft::Draft;
+use crate::names::Job;
+use crate::text::add;
+use crate::tiles::{last_tile, tile_count, without, without_all};
+
+impl Draft {
+    /// Sets right the job, the number of tiles and the circumstances of a win.
+    pub(crate) fn mend(&mut self) {
+        let job = self.likely_job();
+        self.job = Some(job);
+        self.mend_hand();
+        if job == Job::Win {
+            self.mend_on();
+            self.mend_circumstances();
+        }
+    }
+
+    /// Fourteen tiles have no waits; who names a winning tile, a seat or how it was won asks for a win.
+    fn likely_job(&self) -> Job {
+        let is_whole = tile_count(self.hand.as_slice()) % 3 == 2;
+        match self.job {
+            Some(Job::Waits) | None => if self.job.is_none() && self.names_win() {
+                Job::Win
+            } else if is_whole {
+                Job::Shape
+            } else {
+                Job::Waits
+            },
+            Some(job) => job,
+        }
+    }
+
+    fn names_win(&self) -> bool {
+        !self.on.is_empty() || !self.by.is_empty() || !self.seat.is_empty()
+    }
+
+    fn wanted(&self) -> usize
+        ensures { result ≤ 13 }
+    {
+        wanted_beside(usize::from(self.meld_count))
+    }
+
+    fn hand_count(&self) -> usize {
+        tile_count(self.hand.as_slice())
+    }
+
+    /// Takes the tiles of the melds out of a hand that counted them.
+    fn mend_hand(&mut self) {
+        if self.hand_count() > self.wanted() + 1 {
+            self.hand = without_all(self.hand.as_slice(), self.called.as_slice());
+        }
+    }
+
+    /// Takes the winning tile out of a hand that counted it: its last tile, where none is named.
+    fn mend_on(&mut self) {
+        if self.hand_count() == self.wanted() + 1 {
+            let named = last_tile(self.on.as_slice());
+            if let Some(tile) = named.or(last_tile(self.hand.as_slice())) {
+                self.hand = without(self.hand.as_slice(), tile);
+                self.on.clear();
+                add(&mut self.on, tile.digit);
+                add(&mut self.on, tile.suit);
+            }
+        }
+    }
+
+    /// What a win must tell, and what its flags ask for.
+    fn mend_circumstances(&mut self) {
+        if self.by.is_empty() || self.flags.chankan {
+            self.by = "ron";
+        }
+        if self.flags.rinshan || self.flags.first {
+            self.by = "tsumo";
+        }
+        if self.seat.is_empty() {
+            self.seat = "S";
+        }
+        if self.round.is_empty() {
+            self.round = "E";
+        }
+        self.mend_riichi();
+    }
+
+    /// Ippatsu and ura dora are of riichi, which an open hand can't have.
+    fn mend_riichi(&mut self) {
+        if self.is_open {
+            self.riichi = 0;
+            self.flags.ippatsu = false;
+            self.ura.clear();
+        } else if self.riichi == 0 && (self.flags.ippatsu || !self.ura.is_empty()) {
+            self.riichi = 1;
+        }
+    }
+}
+
+/// How many tiles stand in a hand beside so many melds, before the last is drawn.
+pub(crate) fn wanted_beside(melds: usize) -> usize
+    ensures { result ≤ 13 }
+{
+    13usize.saturating_sub(melds.saturating_mul(3))
+}

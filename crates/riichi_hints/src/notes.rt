@@ -1,0 +1,185 @@
+//! What more can be said of a refused line: the numbers of its tiles, the tile that is there too often, the nearest key.
+ghost use Rattle.std.specs.Prelude.{IfSome};
+ghost use Rattle.riichi_hints.specs.Hint.{IsNote, IsCrowdNote};
+
+use crate::mending::wanted_beside;
+use crate::names::{Key, Meaning, nearest_meaning};
+use crate::text::{Part, add_all};
+use crate::tiles::{Tile, copies_in, crowded_tile, last_tile, tile_count};
+use crate::words::cut_name;
+use arrayvec::ArrayString;
+use riichi_hand::{LineCode, LineFault, Refusal, from_with, next_word, word_of};
+use riichi_text::push_number;
+
+/// The note on a refused line. That of H9 begins with a tile that the line has more than four times.
+pub(crate) fn note_of(line: &[u8], refusal: &Refusal<'_>) -> Option<Part>
+    ensures { IfSome result (λ note. IsNote refusal.now.fault line.now note.items) }
+{
+    match refusal.fault {
+        LineFault::Line(LineCode::H4) => key_note(refusal.from),
+        LineFault::Line(LineCode::H8) => number_note(line, refusal.from),
+        LineFault::Line(LineCode::H9) => crowd_note(line),
+        _ => None,
+    }
+}
+
+/// The key whose name is nearest to that of a word, where it is another.
+fn key_note(from: Option<&[u8]>) -> Option<Part> {
+    let (name, _) = cut_name(word_of(from?))?;
+    let key = key_text(nearest_meaning(name)?);
+    if key.is_empty() || key.as_bytes() == name {
+        return None;
+    }
+    let mut note = Part::new();
+    add_all(&mut note, b"the nearest key is ");
+    add_all(&mut note, key.as_bytes());
+    Some(note)
+}
+
+/// A key as a line names it.
+fn key_text(meaning: Meaning) -> &'static str {
+    match meaning {
+        Meaning::Key(Key::On) => "on",
+        Meaning::Key(Key::Seat) => "seat",
+        Meaning::Key(Key::Round) => "round",
+        Meaning::Key(Key::Open) | Meaning::Meld => "open",
+        Meaning::Key(Key::Riichi) | Meaning::DoubleRiichi => "riichi",
+        Meaning::Key(Key::Flags) | Meaning::Flag(_) => "flags",
+        Meaning::Key(Key::Dora) => "dora",
+        Meaning::Key(Key::Ura) => "ura",
+        Meaning::Key(Key::Counters) => "counters",
+        Meaning::Key(Key::Sticks) => "sticks",
+        Meaning::Key(Key::Seen) => "seen",
+        Meaning::Key(Key::By) | Meaning::By(_) => "by",
+        Meaning::Key(Key::Hand) | Meaning::Job(_) => "",
+    }
+}
+
+/// How many tiles a word has and how many are wanted.
+fn number_note(line: &[u8], from: Option<&[u8]>) -> Option<Part> {
+    let word = word_of(from?);
+    let mut note = Part::new();
+    match cut_name(word) {
+        Some((name, tiles)) => {
+            add_all(&mut note, name);
+            add_count(&mut note, " has ", tile_count(tiles), "tile");
+            add_all(
+                &mut note,
+                if name == b"on".as_slice() {
+                    b": 1 wanted"
+                } else {
+                    b": at most 5 wanted"
+                },
+            );
+        }
+        None => {
+            add_count(&mut note, "hand has ", tile_count(word), "tile");
+            add_hand_words(&mut note, line, tile_count(word));
+        }
+    }
+    Some(note)
+}
+
+/// The melds, and how many tiles are wanted beside them.
+fn add_hand_words(note: &mut Part, line: &[u8], tiles: usize) {
+    let melds = meld_count(line);
+    let wanted = wanted_beside(melds);
+    add_count(note, " and ", melds, "meld");
+    add_all(note, b": ");
+    add_number(note, wanted);
+    match word_of(line) {
+        b"shape" => {
+            add_all(note, b" or ");
+            add_number(note, wanted + 1);
+            add_all(note, b" wanted");
+        }
+        b"win" => {
+            add_all(note, b" wanted beside the winning tile of on=");
+            if tiles == wanted + 1 && holds_winning_tile(line) {
+                add_all(note, b", which may stand in the hand too");
+            }
+        }
+        _ => add_all(note, b" wanted"),
+    }
+}
+
+/// Whether the hand has the tile of `on=` too.
+fn holds_winning_tile(line: &[u8]) -> bool {
+    let Some(on) = from_with(b"on=", 0, line) else {
+        return false;
+    };
+    let hand = from_with(b"", 2, line);
+    match (last_tile(word_of(on)), hand) {
+        (Some(tile), Some(hand)) => copies_in(word_of(hand), tile) > 0,
+        _ => false,
+    }
+}
+
+/// How many melds a line spells.
+fn meld_count(line: &[u8]) -> usize {
+    match from_with(b"open=", 0, line) {
+        Some(from) => word_of(from).iter().filter(|byte| **byte == b':').count(),
+        None => 0,
+    }
+}
+
+/// The tile of which there are more than four, how many there are, and where.
+fn crowd_note(line: &[u8]) -> Option<Part>
+    ensures { IfSome result (λ note. IsCrowdNote line.now note.items) }
+{
+    let tile = crowded_tile(line)?;
+    let mut note = Part::new();
+    note.push(tile.digit);
+    note.push(tile.suit);
+    add_all(&mut note, crowd_words(line, tile).as_slice());
+    Some(note)
+}
+
+fn crowd_words(line: &[u8], tile: Tile) -> Part {
+    let mut words = Part::new();
+    add_count(&mut words, " stands ", copies_in(line, tile), "time");
+    let mut mark = ": ";
+    let mut rest = line;
+    while let Some((word, after)) = next_word(rest) {
+        let copies = copies_in(word, tile);
+        if copies > 0 {
+            add_all(&mut words, mark.as_bytes());
+            add_number(&mut words, copies);
+            add_place(&mut words, word);
+            mark = ", ";
+        }
+        rest = after;
+    }
+    words
+}
+
+fn add_place(words: &mut Part, word: &[u8]) {
+    match cut_name(word) {
+        Some((name, _)) => {
+            add_all(words, b" in ");
+            add_all(words, name);
+        }
+        None => add_all(words, b" in the hand"),
+    }
+}
+
+/// Adds a number of things: `no tile`, `1 tile`, `2 tiles`.
+fn add_count(note: &mut Part, before: &str, count: usize, thing: &str) {
+    add_all(note, before.as_bytes());
+    if count == 0 {
+        add_all(note, b"no");
+    } else {
+        add_number(note, count);
+    }
+    add_all(note, b" ");
+    add_all(note, thing.as_bytes());
+    if count > 1 {
+        add_all(note, b"s");
+    }
+}
+
+fn add_number(note: &mut Part, number: usize) {
+    let mut text = ArrayString::<20>::new();
+    push_number(&mut text, number);
+    add_all(note, text.as_str().as_bytes());
+}

@@ -1,0 +1,107 @@
+//! The words of a line, loosely read.
+use crate::draft::Draft;
+use crate::names::{Key, Meaning, meaning_of, nearest_meaning};
+use crate::tiles::are_tiles;
+use crate::values::is_no;
+use riichi_hand::next_word;
+
+impl Draft {
+    /// What the words of a line seem to say, up to a note.
+    pub(crate) fn read(line: &[u8]) -> Draft {
+        let mut draft = Draft::new();
+        let mut rest = line;
+        while let Some((word, after)) = next_word(rest) {
+            if let [b'#', ..] | [b'-', b'-'] = word {
+                return draft;
+            }
+            draft.read_word(word);
+            rest = after;
+        }
+        draft
+    }
+
+    fn read_word(&mut self, word: &[u8]) {
+        match word {
+            [b'+', tiles @ ..] => self.read_added(tiles),
+            _ => self.read_entry(word),
+        }
+    }
+
+    /// A word behind `+` is the winning tile, or one more flag.
+    fn read_added(&mut self, word: &[u8]) {
+        if are_tiles(word) && self.on.is_empty() {
+            self.put(Key::On, word);
+        } else {
+            self.read_entry(word);
+        }
+    }
+
+    fn read_entry(&mut self, word: &[u8]) {
+        match cut_name(word) {
+            None => self.read_bare(word),
+            Some((name, value)) => match nearest_meaning(name) {
+                None => {}
+                Some(Meaning::Key(key)) => self.read_value(key, value),
+                Some(Meaning::Meld) => self.put_meld(name, value),
+                Some(Meaning::Job(_)) => self.put(Key::On, value),
+                Some(meaning) => self.read_answer(meaning, value),
+            },
+        }
+    }
+
+    /// A word with the winning tile as its value, or with yes or no.
+    fn read_answer(&mut self, meaning: Meaning, value: &[u8]) {
+        if are_tiles(value) {
+            self.put(Key::On, value);
+        }
+        if !is_no(value) {
+            self.take(meaning);
+        }
+    }
+
+    /// The value of `open` or `flags` is a word of its own.
+    fn read_value(&mut self, key: Key, value: &[u8]) {
+        self.key = Some(key);
+        match cut_name(value) {
+            Some((name, tiles)) => self.put_meld(name, tiles),
+            None => match (key, meaning_of(value)) {
+                (Key::Flags | Key::Open, Some(meaning)) => self.take(meaning),
+                _ => self.put(key, value),
+            },
+        }
+    }
+
+    /// A word without a key.
+    fn read_bare(&mut self, word: &[u8]) {
+        match meaning_of(word) {
+            Some(Meaning::Key(Key::Riichi)) => self.riichi = self.riichi.max(1),
+            Some(meaning) => self.take(meaning),
+            None => self.read_loose(word),
+        }
+    }
+
+    /// A word without a name is the value of the key before it, or belongs to the hand.
+    fn read_loose(&mut self, word: &[u8]) {
+        match self.key {
+            Some(Key::By | Key::Seat | Key::Round | Key::Counters | Key::Sticks) | None =>
+                if are_tiles(word) {
+                    self.read_hand(word);
+                },
+            Some(key) => if are_tiles(word) {
+                self.put(key, word);
+            },
+        }
+    }
+
+    fn read_hand(&mut self, word: &[u8]) {
+        if self.key.is_none() || self.hand.is_empty() {
+            self.put(Key::Hand, word);
+        }
+    }
+}
+
+/// The name before the first `=` or `:`, and what comes after it.
+pub(crate) fn cut_name(word: &[u8]) -> Option<(&[u8], &[u8])> {
+    let at = word.iter().position(|byte| *byte == b'=' || *byte == b':')?;
+    Some((&word[..at], &word[at + 1..]))
+}
