@@ -115,7 +115,8 @@ size_t riichi_answer_rows(uint32_t rules, const uint8_t *bytes, size_t bytes_len
 
 /* ---- Many hands as arrays
  *
- * These calls answer many hands at once, without any text: what `shape` and `waits` say of each, in columns.
+ * These calls answer many hands at once, without any text: what `shape` and `waits` say of each, in columns. The libraries have
+ * them; riichi_desk_portable.c has none of them, nor riichi_answer_rows.
  *
  * A hand is 34 counts, one for each kind: 1m to 9m, 1p to 9p, 1s to 9s, then East, South, West, North, white, green, red. So the
  * kind of 2p is 10, and bit 10 of a set of kinds says that 2p is in it. Counts are those of the concealed tiles: a meld counts
