@@ -129,7 +129,7 @@ fn answers_the_lines_of_a_text(rt: HostRuntime) {
 #[test]
 fn answers_the_lines_of_a_text_as_json_and_with_reasons(rt: HostRuntime) {
     let text = b"waits 123456789m1134p\n";
-    let mut room = [7u8; 64];
+    let mut room = [7u8; 128];
     let mut taken = 0;
     let filled = riichi_json_lines(1, text, &mut room, &mut taken);
     holds(&rt, taken == text.len());
