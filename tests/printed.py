@@ -8,6 +8,7 @@ block of no language that begins with a record line has its answers below it.
 from __future__ import annotations
 
 import ast
+import os
 import re
 import shutil
 import subprocess
@@ -92,9 +93,10 @@ def parts(top: Path, page: Path) -> tuple[list[Block], str]:
 
 
 def run(command: str, place: Path) -> tuple[str, int]:
-    """What a command writes on either stream, and its status."""
+    """What a command writes on either stream, and its status. Pages of installed packages find the program on the path."""
     words = ["bash", "-c", command]
-    done = subprocess.run(words, cwd=place, stdout=-1, stderr=-2, stdin=subprocess.DEVNULL, check=False, timeout=300)
+    path = {**os.environ, "PATH": f"{os.environ['PATH']}:{place}"}
+    done = subprocess.run(words, cwd=place, env=path, stdout=-1, stderr=-2, stdin=subprocess.DEVNULL, check=False, timeout=300)
     return done.stdout.decode(errors="replace"), done.returncode
 
 
