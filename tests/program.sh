@@ -184,9 +184,9 @@ printf '# table three\nwaits 123456789m1134p\n\nwaits 8z\r\nwait 1m' > "$room/in
 row 1 $'{"answer":"waits","kinds":["2p","5p"]}\n{"answer":"refused","code":"N5","text":"hand","place":0}\n{"answer":"refused","code":"H2"}' '' line --json
 cp examples/club-night.lines "$room/input"
 pinfu='{"number":4,"word":"pinfu","japanese":"pinfu"}' concealed='{"number":3,"word":"fully-concealed","japanese":"menzen tsumo"}'
-row 1 '{"answer":"won","yakuman":false,"han":2,"fu":20,"dora":0,"base":320,"limit":null,"payment":{"dealer":700,"each_other":400},"gain":1500,"yaku":['$concealed,$pinfu']}
+row 1 '{"answer":"won","yakuman":false,"han":2,"fu":20,"dora":0,"base":320,"limit":null,"payment":{"dealer":700,"each_other":400},"gain":1500,"yaku":['"$concealed,$pinfu"']}
 {"answer":"won","yakuman":false,"han":3,"fu":40,"dora":0,"base":1280,"limit":null,"payment":{"discarder":5200},"gain":5200,"yaku":[{"number":27,"word":"twice-pure-double-chow","japanese":"ryanpeikou"}]}
-{"answer":"won","yakuman":false,"han":4,"fu":60,"dora":1,"base":2000,"limit":"mangan","payment":{"dealer":4000,"each_other":2000},"gain":8000,"yaku":['$concealed',{"number":11,"word":"prevalent-wind","japanese":"yakuhai bakaze"},{"number":12,"word":"after-a-kong","japanese":"rinshan kaiho"}]}
+{"answer":"won","yakuman":false,"han":4,"fu":60,"dora":1,"base":2000,"limit":"mangan","payment":{"dealer":4000,"each_other":2000},"gain":8000,"yaku":['"$concealed"',{"number":11,"word":"prevalent-wind","japanese":"yakuhai bakaze"},{"number":12,"word":"after-a-kong","japanese":"rinshan kaiho"}]}
 {"answer":"no yaku"}
 {"answer":"waits","kinds":["1m","2m","3m","4m","5m","6m","7m","8m"]}
 {"answer":"shape","shanten":0,"discards":[{"discard":"8p","accepts":[{"kind":"2p","live":4},{"kind":"5p","live":4}],"live":8}]}
