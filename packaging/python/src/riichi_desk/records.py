@@ -92,6 +92,13 @@ def _says_nothing(line: Line) -> bool:
     return len(held) <= _MOST_LINE and (held[:1] == b"#" or not held.strip(b" "))
 
 
+def _listed(lines: Iterable[Line]) -> list[Line]:
+    """The lines as a list. One line alone would be taken for many, one for each of its letters."""
+    if isinstance(lines, (str, bytes, bytearray)):
+        raise TypeError("many lines are wanted, and this is one text: pass a list of lines, or split it by splitlines()")
+    return list(lines)
+
+
 def _many(call: Any, given: list[Line], rules: int) -> list[str | None]:
     """What a call for many lines answers to each; None to a line that says nothing."""
     told = b"".join(_pieces(call, _joined(given), rules)).decode("ascii").split("\n")[:-1]
@@ -102,12 +109,13 @@ def _many(call: Any, given: list[Line], rules: int) -> list[str | None]:
 
 
 def texts(lines: Iterable[Line], rules: int = 1) -> list[str | None]:
-    """The answer to each of many lines, as `text` has it, by few calls. Other threads run meanwhile.
+    """The answer to each of many lines, as `text` has it, by few calls. Other threads run meanwhile. The number alone says the
+    profile: a line `rules 2` is refused, here and in `answers`.
 
     >>> texts(["waits 123456789m1134p", "# a comment", "waits 8z"])
     ['waits 25p', None, 'refused N5 hand at 0']
     """
-    return _many(CALLS.riichi_answer_lines, list(lines), rules_of(rules))
+    return _many(CALLS.riichi_answer_lines, _listed(lines), rules_of(rules))
 
 
 def answers(lines: Iterable[Line], rules: int = 1) -> list[Answer | None]:
@@ -116,6 +124,6 @@ def answers(lines: Iterable[Line], rules: int = 1) -> list[Answer | None]:
     >>> answers(["waits 123456789m1134p", "# a comment"])
     [Waits(kinds=('2p', '5p')), None]
     """
-    told = _many(CALLS.riichi_json_lines, list(lines), rules_of(rules))
+    told = _many(CALLS.riichi_json_lines, _listed(lines), rules_of(rules))
     found = json_of.loads(f"[{','.join(it or 'null' for it in told)}]")
     return [None if it is None else values.value_of(it) for it in found]

@@ -36,10 +36,11 @@ class Table(Mapping[str, V]):
 
 @dataclass(frozen=True)
 class Yaku:
-    """A yaku by its number, 0 to 40, and its word."""
+    """A yaku by its number, 0 to 40, its word, and the Japanese name by which players know it."""
 
     number: int
     word: str
+    japanese: str
 
 
 @dataclass(frozen=True)
@@ -122,7 +123,7 @@ def value_of(told: dict[str, Any]) -> Answer:
     """The answer that an object of JSON is."""
     sort = told.pop("answer")
     if sort == "won":
-        yaku = tuple(Yaku(each["number"], each["word"]) for each in told["yaku"])
+        yaku = tuple(Yaku(each["number"], each["word"], each["japanese"]) for each in told["yaku"])
         told |= {"payment": Table(told["payment"]), "yaku": yaku}
         return Won(**told)
     if sort == "waits":
