@@ -1,10 +1,11 @@
 /* riichi_desk for C and C++: the answers of the command `line`, a line or many lines a call, and many hands a call as arrays.
  *
- * Link with libriichi_desk_c.a and the C library: they run on every processor of x86-64 under Linux. No call keeps anything or takes memory, so any thread may make any of
- * them at any time. Of the C library they use memcpy, memmove and memset alone.
+ * Link with libriichi_desk_c.a and the C library: they run on every processor of x86-64 under Linux. No call keeps anything or takes
+ * memory, so any thread may make any of them at any time, where what it fills is its own and its stack has the space that the call
+ * names. Of the C library they use memcpy, memmove and memset alone.
  *
- * Each pointer must be valid for as many bytes as its length says, and not null even where that is 0; `line` and `room`
- * must not overlap. The library can't test these.
+ * Each pointer must be valid for as many bytes, or rows of an array, as its length says, and not null even where that is 0. What a
+ * call fills must overlap nothing else that is lent, and no other thread may use it meanwhile. The library can't test these.
  */
 #ifndef RIICHI_DESK_H
 #define RIICHI_DESK_H
