@@ -64,7 +64,7 @@ if [ -n "$building" ]; then
 fi
 # what takes long runs beside the rows that don't want it: a compiler over one file of C, and the first start of wine
 portable=$packages/riichi_desk_portable.c
-[ ! -f "$portable" ] || cc -O1 -Iinclude -c "$portable" -o "$shelf/portable.o" & compiling=$!
+[ ! -f "$portable" ] || cc -O1 -fPIC -Iinclude -c "$portable" -o "$shelf/portable.o" & compiling=$!
 by_wine() { WINEDEBUG=-all WINEPREFIX=$shelf/wine wine "$packages/riichi_desk-windows-x86_64.exe" "$@"; }
 ! has wine || by_wine --version > /dev/null 2>&1 & starting=$!
 
@@ -134,6 +134,15 @@ if [ -f "$portable" ]; then
   same 'one file of C: line' wanted "$shelf/portable" line
   cc -O1 -Iinclude tests/many_lines.c "$shelf/portable.o" -o "$shelf/many-portable"
   told 'one file of C: many lines' 'all right' "$("$shelf/many-portable" "$shelf/long" 2>&1)"
+  cc -O1 -Iinclude tests/fuzz_arrays.c "$shelf/portable.o" -o "$shelf/arrays-portable"
+  told 'one file of C: hands as arrays' '16 calls of each, no difference' "$("$shelf/arrays-portable" 0 1 2>&1)"
+  cc -O1 -Iinclude tests/fuzz_lines.c "$shelf/portable.o" -o "$shelf/rows-portable"
+  told 'one file of C: texts and rows at random' '256 texts, no difference' "$("$shelf/rows-portable" 0 1 "$shelf/few" 2>&1)"
+  cc -shared "$shelf/portable.o" -o "$shelf/portable.so"
+  told 'one file of C: its calls' "$(grep -oE '\briichi_[a-z_]+\(' include/riichi_desk.h | tr -d '(' | sort -u | xargs)" \
+    "$(nm -D --defined-only "$shelf/portable.so" | sed -n 's/.* T \(riichi_.*\)/\1/p' | sort | xargs)"
+  told 'one file of C: arrays in Python' 'all right' \
+    "$(RIICHI_DESK=$shelf/portable.so PYTHONPATH=packaging/python/src /usr/bin/python3 -B tests/array_answers.py 2>&1)"
   same 'one file of C: a long line' long-wanted "$shelf/portable" line
   same 'one file of C: line --json' json "$shelf/portable" line --json
   same 'one file of C: explain' explained "$shelf/portable" explain
