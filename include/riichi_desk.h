@@ -116,8 +116,7 @@ size_t riichi_answer_rows(uint32_t rules, const uint8_t *bytes, size_t bytes_len
 
 /* ---- Many hands as arrays
  *
- * These calls answer many hands at once, without any text: what `shape` and `waits` say of each, in columns. The libraries have
- * them; riichi_desk_portable.c has none of them, nor riichi_answer_rows.
+ * These calls answer many hands at once, without any text: what `shape` and `waits` say of each, in columns.
  *
  * A hand is 34 counts, one for each kind: 1m to 9m, 1p to 9p, 1s to 9s, then East, South, West, North, white, green, red. So the
  * kind of 2p is 10, and bit 10 of a set of kinds says that 2p is in it. Counts are those of the concealed tiles: a meld counts
@@ -132,8 +131,10 @@ size_t riichi_answer_rows(uint32_t rules, const uint8_t *bytes, size_t bytes_len
  * first on; the call returns how many, and leaves what lies behind them. A row that is no hand (a count above four, a meld that is
  * none, another number of tiles, a fifth tile of a kind) says so by a value of its own, and the others are answered all the same.
  *
- * A call for many hands keeps what it finds of a suit for the next hands, in some 560 kB on its stack: one call for a thousand hands is
- * several times faster than a thousand calls.
+ * A call of riichi_shantens or riichi_shapes for 128 hands or more, or of riichi_discards for 16 or more, keeps what it finds of a
+ * suit for the next hands: one call for a thousand hands is several times faster than a thousand calls. For that it has some 1.7 MB
+ * on its stack, which is more than a thread of Windows has unless it is told otherwise; calls for fewer hands have 10 kB.
+ * riichi_desk_portable.c keeps nothing from hand to hand.
  */
 
 /* What a row that is no hand has for its shanten, and for its waits. */
