@@ -89,10 +89,10 @@ function shownRefusal(answer, { line, rules, reasons }) {
   return [box];
 }
 
-// Rows of an explanation: a word, and what it tells. Each kind that a hand waits for has a row.
+// Rows of an explanation: a word, and what it tells. Each kind that a hand waits for has a row; where it is no win, they stand in one.
 function shownReasons({ reasons, by }) {
   const list = make("dl", { class: "why", "aria-label": "Why" });
-  for (const row of reasons.flatMap((it) => it.split("; "))) {
+  for (const row of reasons.flatMap((it) => (/^ *waits /.test(it) ? it : it.split("; ")))) {
     const [, word, text] = /^ *(\S+) *(.*)$/.exec(row) ?? [null, row, ""];
     list.append(make("dt", {}, ...textWithTiles(word)), make("dd", {}, ...textWithTiles(spoken(text, by))));
   }
