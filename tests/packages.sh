@@ -1,5 +1,5 @@
-# Rows of packaging/: each package is installed where a user would, and answers 20,000 mixed lines by the bytes of `line`. ./test
-# reads this after tests/programs.sh, and tests/packages alone; they give `program`, `archive`, an empty folder `room`, the folder
+# Rows of packaging/: each package is installed where a user would, and answers 20,000 mixed lines by the bytes of `line`. ./test and
+# tests/packages read this; they give `program`, `archive`, an empty folder `room`, the folder
 # `packages` where packaging/build-packages builds or has built, and `all`, which says whether rows that take minutes are tried too.
 
 shelf=$room/shelf

@@ -1,8 +1,6 @@
 # Rows of the built program, read by ./test: it gives `program`, an empty folder `room`, and the counts `passed`,
 # `failed` and `skipped`.
 
-source tests/counts.sh
-
 # row STATUS OUTPUT ERRORS WORDS..: runs the program on WORDS with the file `room/input` as its input, and compares.
 # ERRORS is a text that must stand in what it says on standard error; an empty one means that it says nothing.
 : > "$room/input"

@@ -1,11 +1,10 @@
-# Rows of the static library for other languages, read by ./test after tests/program.sh, whose words it uses. Programs in
-# C, Python and Rust answer the same lines as the command `line`, byte by byte.
+# Rows of the static library for other languages, read by ./test, which gives `program`, `archive` and how tests/static-library,
+# which built that, ended. Programs in C, Python and Rust answer the same lines as the command `line`, byte by byte.
 
-archive=$PWD/crates/riichi_desk_c/out/libriichi_desk_c.a made=$room/programs
+made=$room/programs
 mkdir -p "$made"
-tests/static-library riichi_desk_c > "$room/said" 2>&1
-told 'the static library' 0 "$?"
-[ -f "$archive" ] || tail -n 20 "$room/said"
+told 'the static library' 0 "$made_archive"
+[ -f "$archive" ] || tail -n 20 "$(dirname "$room")/archive"
 tests/lines > "$made/lines"
 "$program" line < "$made/lines" > "$made/wanted"
 told 'lines for programs' 2000 "$(wc -l < "$made/lines")"

@@ -1,5 +1,5 @@
-# Rows of ./release, read by ./test after tests/scripts.sh and tests/programs.sh, whose folder `scripts`, words and `archive` it
-# uses. The release is made in a copy of the tree from the built program, and unpacked beside it.
+# Rows of ./release, read by ./test after tests/scripts.sh, whose folder `scripts` and words it uses, and `archive`. It
+# is made in a copy of the tree from the built program, and unpacked beside it.
 
 shop=$scripts/shop
 mkdir -p "$shop/docs" "$shop/bin"

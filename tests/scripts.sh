@@ -1,4 +1,4 @@
-# Rows of ./sources, ./desk and ./prove, read by ./test after tests/program.sh, whose words it uses. They run in a copy
+# Rows of ./sources, ./desk and ./prove, read by ./test. They run in a copy
 # of the tree, with a stand-in for the program, and one for the kit.
 
 scripts=$room/scripts tree=$room/scripts/tree kit=$room/scripts/kit
