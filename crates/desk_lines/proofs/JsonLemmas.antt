@@ -74,15 +74,16 @@ parts_brace (Notation name fault) = refl
 pub fault_brace : (fault : LineFault) → codes "{" ++ drop 1 (fault_text fault) ≡ fault_text fault
 fault_brace fault = brace_of (fault_text fault) (fault_parts fault) (fault_written fault) (parts_brace fault)
 
--- the members of an object were put, or none
-pub members_puts : (rules : Rules) (line before after object : List ℕ) (outcome : Result (Option Job) LineFault) (refused : Bool) → outcome_of rules line ≡ outcome → outcome_json outcome ≡ Some object
-    → codes "{" ++ drop 1 object ≡ object → is_refusal object ≡ refused → after ≡ before ++ (drop 1 object ++ 10 ∷ []) → Puts are_of_refusal (IsMembers rules line) (cond refused Refused Answered) before after
+-- the object of an outcome was made, and its members put
+pub members_puts : (rules : Rules) (line before same after made object : List ℕ) (outcome : Result (Option Job) LineFault) (refused : Bool) → outcome_of rules line ≡ outcome → outcome_json outcome ≡ Some object
+    → codes "{" ++ drop 1 object ≡ object → is_refusal object ≡ refused → same ≡ before → made ≡ object → after ≡ same ++ (drop 1 made ++ 10 ∷ [])
+    → Puts are_of_refusal (IsMembers rules line) (cond refused Refused Answered) before after
 unfolding json_of
-members_puts rules line before after object outcome refused is said brace tested put = record {
+members_puts rules line before same after made object outcome refused is said brace tested kept made_is put = record {
   told = Some (drop 1 object);
   may_be_told = ap Some brace ∙ sym said ∙ ap outcome_json (sym is);
   kind_is = ap (λ (r : Bool). cond r Refused Answered) (sym (ap is_refusal brace ∙ tested));
-  put = put;
+  put = put ∙ ap (λ (text : List ℕ). same ++ (drop 1 text ++ 10 ∷ [])) made_is ∙ ap (λ (front : List ℕ). front ++ (drop 1 object ++ 10 ∷ [])) kept;
 }
 
 pub members_none : (rules : Rules) (line before : List ℕ) → outcome_of rules line ≡ Ok None → Puts are_of_refusal (IsMembers rules line) NoRecord before before

@@ -1,6 +1,7 @@
 -- Numbered answers once one more line is answered.
-use Rattle.std.proofs.Common.{◌≡◌, ◌≢◌, ℕ, suc, ◌+◌, List, [], ◌∷◌, ◌++◌, Bool, true, false, cond, Option, Some, None, refl, sym, subst, ◌∙◌, ap, append_assoc, length, map, arith}
+use Rattle.std.proofs.Common.{◌≡◌, ◌≢◌, ℕ, suc, ◌+◌, List, [], ◌∷◌, ◌++◌, Bool, true, false, cond, Option, Some, None, refl, sym, subst, ◌∙◌, ap, append_assoc, length, take, map, arith}
 use Rattle.std.proofs.lemmas.List.{append-nil}
+use Rattle.std.proofs.Math.Seq.{take-append_seam}
 use Rattle.std.specs.Prelude.{is_some, unwrap_or}
 use Rattle.riichi_hand.specs.declared.win.Rules.{Rules}
 use Rattle.desk_lines.specs.LongLines.{AreAlike}
@@ -94,3 +95,10 @@ pub put_behind : (refuses : List ℕ → Bool) (front : ℕ → List ℕ) (numbe
 put_behind refuses front number None before some = absurd (some refl)
 put_behind refuses front number (Some answer) before some =
     append_assoc before (front number) (answer ++ 10 ∷ []) ∙ ap (λ (rest : List ℕ). before ++ rest) (sym (append_assoc (front number) answer (10 ∷ [])))
+
+-- without an answer the front is dropped
+pub nothing_behind : (front : ℕ → List ℕ) (number : ℕ) (answer : Option (List ℕ)) (before : List ℕ) → answer ≡ None
+    → take (length before) ((before ++ front number) ++ line_by (λ text. text) answer) ≡ before ++ line_by (λ told. front told.0 ++ told.1) (with_number number answer)
+nothing_behind front number None before none =
+    ap (take (length before)) (append-nil (before ++ front number)) ∙ take-append_seam before (front number) ∙ sym (append-nil before)
+nothing_behind front number (Some answer) before none = absurd (let no : ⊥ = cc in no)

@@ -55,8 +55,8 @@ mod told;
 mod unmade_line;
 mod waits;
 
-pub use collecting::{Collected, collect_text};
 pub use answering::Plain;
+pub use collecting::{Collected, collect_text};
 pub use explained::Explained;
 pub use explaining::explain_text_with;
 pub use fault::DeskFault;

@@ -1,7 +1,8 @@
 //! A text over streams, with the numbers of the lines.
-ghost use Rattle.std.specs.Prelude.{◌≡◌, ◌++◌, ℕ, List, IfOk, IsErrOf};
+ghost use Rattle.std.specs.Prelude.{◌≡◌, ◌++◌, ℕ, List, map, IfOk, IsErrOf};
 ghost use Rattle.desk_lines.specs.Lines.{ended_lines, lines};
 ghost use Rattle.desk_lines.specs.Numbered.{NumberRecords};
+ghost use Rattle.desk_lines.specs.Records.{AnswerRecords};
 ghost use Rattle.desk_lines.specs.Streams.{Gives, GivesAll, WritesAll, StopsWriting, AreWhole, FailsOrGoesOn, IsReadWithin};
 ghost use Rattle.desk_lines.specs.Telling.{text_by, report_by};
 
@@ -22,10 +23,12 @@ pub fn numbered_text_with<A: Numbers, S: RowSource, R: Source, W: Sink>(
     reader: &mut R,
     writer: &mut W,
 ) -> Result<DeskReport, DeskFault>
-    // The reader was read to its end, and the answers to what it gave were written with the numbers of their lines.
+    // The reader was read to its end, and the answers to what it gave were written with the numbers of their lines. Without
+    // these they are the answers of that kind.
     ensures ok { IfOk result (λ report. (text : List ℕ) × (told : List (ℕ × List ℕ))
         × GivesAll ⟦<R as Source>⟧ reader.old reader.new text
         × NumberRecords A.may_tell rules (lines text) told
+        × AnswerRecords A.may_tell rules (lines text) (map (λ told. told.1) told)
         × WritesAll ⟦<W as Sink>⟧ writer.old writer.new (text_by (λ told. A.front told.0 ++ told.1) told)
         × (report ≡ report_by (λ told. A.refuses told.1) told)) }
 

@@ -126,7 +126,9 @@ impl<W: Sink> Answering<W> {
         let (rows, rules, writer) = (&mut self.rows, self.rules, &mut self.writer);
         match self.form {
             Form::Words => numbered_text_with::<Plain, SuitMemo, S, W>(rows, rules, reader, writer),
-            Form::Json => numbered_text_with::<Members, SuitMemo, S, W>(rows, rules, reader, writer),
+            Form::Json => numbered_text_with::<Members, SuitMemo, S, W>(
+                rows, rules, reader, writer,
+            ),
             Form::Reasons => {
                 numbered_text_with::<Explained, SuitMemo, S, W>(rows, rules, reader, writer)
             }

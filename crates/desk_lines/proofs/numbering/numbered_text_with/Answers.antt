@@ -3,6 +3,7 @@ use Rattle.std.proofs.lemmas.Result.{MatchResult-weaker}
 use Rattle.riichi_hand.specs.declared.win.Rules.{Rules}
 use Rattle.desk_lines.specs.Lines.{lines, ended_lines}
 use Rattle.desk_lines.specs.Numbered.{NumberRecords}
+use Rattle.desk_lines.proofs.NumberLemmas.{without_numbers_told}
 use Rattle.desk_lines.proofs.numbering.numbered_text_with.Goals as goal
 
 pub answer_lines-requires-clause-new : goal.answer_lines-requires-clause-new
@@ -11,7 +12,7 @@ answer_lines-requires-clause-new g c = (refl, (c.new-numbered.ensures.rules, ref
 pub returns-clause-ok : goal.returns-clause-ok
 returns-clause-ok g c = MatchResult-weaker c.answer_lines.result c.answer_lines.ensures.ok (λ report ok.
     let told = subst (λ (r : Rules). NumberRecords g.A.Responder.may_tell r (lines ok.0) ok.1) (ok.3.0 ∙ c.new-numbered.ensures.given) ok.3.1.1 in
-    (ok.0, ok.1, ok.2, told, ok.4, ok.5))
+    (ok.0, ok.1, ok.2, told, without_numbers_told g.A.Responder.may_tell c.args.rules (lines ok.0) ok.1 told, ok.4, ok.5))
     (λ fault told. told)
 
 pub returns-clause-read_failed : goal.returns-clause-read_failed
