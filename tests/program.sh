@@ -212,6 +212,32 @@ told 'line --json and a folder' "riichi_desk: fault F1
 $folder
 status 3" "$("$program" line --json < "$room" 2>&1; echo "status $?")"
 
+# the numbers of lines: notes, empty lines and the line of the profile count, and each file begins with 1
+printf '# table three\nwaits 123456789m1134p\n\nwaits 8z\r\nwait 1m' > "$room/input"
+row 1 $'2:waits 25p\n4:refused N5 hand at 0\n5:refused H2' '' line --number
+row 1 $'{"line":2,"answer":"waits","kinds":["2p","5p"]}\n{"line":4,"answer":"refused","code":"N5","text":"hand","place":0}
+{"line":5,"answer":"refused","code":"H2"}' '' line --number --json
+row 1 $'2:waits 25p\n  2p 4 left, two-sided (ryanmen); 5p 4 left, two-sided (ryanmen)\n4:refused N5 hand at 0\n  8z\n  ^ honours are 1z to 7z
+5:refused H2\n  wait: the first word is win, waits or shape' '' explain --number
+printf 'rules 2\nwaits 123456789m1134p\n' > "$room/profiled"
+row 1 $'2:waits 25p\n2:waits 25p\n4:refused N5 hand at 0\n5:refused H2\n2:waits 25p' '' line --number --file "$room/profiled" - "$room/profiled"
+row 0 $'2:waits 25p\n3:waits 25p' '' line --number --file <(cat "$room/profiled" <(echo 'waits 123456789m1134p'))
+told 'explain --number of lines in words' $'1:waits 4z\n2:refused N5 hand at 0' \
+  "$("$program" explain --number 'waits 1133m5577p2288s4z' 'waits 8z' | grep -v '^  ')"
+row 2 '' "unexpected argument '--number' found" waits --number 1112345678999m
+row 2 '' "unexpected argument '--number' found" replay --number file
+told 'line --number and a full disk' "riichi_desk: fault F2
+$full
+status 3" "$("$program" line --number < examples/club-night.lines 2>&1 > /dev/full; echo "status $?")"
+# without their numbers the answers are those without --number, and the numbers are those that grep gives the records
+cat examples/club-night.lines examples/rules.lines > "$room/input"
+for form in 'line' 'line --json' 'explain'; do
+  told "$form --number" "$("$program" $form < "$room/input" | sha256sum)" \
+    "$("$program" $form --number < "$room/input" | sed 's/^{"line":[0-9]*,/{/; s/^[0-9]*://' | sha256sum)"
+  told "the numbers of $form --number" "$(grep -nvE '^(#|rules |$)' "$room/input" | cut -d : -f 1)" \
+    "$("$program" $form --number < "$room/input" | sed -nE 's/^(\{"line":)?([0-9]+)[,:].*/\2/p')"
+done
+
 # the yaku, as docs/RULES.md has them
 told 'help-yaku' "$(awk -F ' \\| ' '{ gsub(/`/, "") } /^\| (No|[0-9]+) \| [a-zW]/ {
     sub(/^\| /, "", $1); sub(/ \|$/, "", $NF); gsub(/[^ -~]/, "", $3); sub(/[ ,]+$/, "", $3)

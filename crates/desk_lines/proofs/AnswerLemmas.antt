@@ -66,22 +66,32 @@ records_long : (given : Rules) (rules : Option Rules) (line : List ℕ) → 4096
 records_long given None line long = rw (long_profile line long) refl
 records_long given (Some rules) line long = refl
 
-told_as : (Answers : AnswerKind) → AreAlike Answers → (given : Rules) (rules : Option Rules) (line next : List ℕ) (answer : Option (List ℕ)) → IsToldAs 4096 line next
+pub told_as : (Answers : AnswerKind) → AreAlike Answers → (given : Rules) (rules : Option Rules) (line next : List ℕ) (answer : Option (List ℕ)) → IsToldAs 4096 line next
     → IsToldBy Answers given rules line answer → IsToldBy Answers given rules next answer
 told_as Answers alike given rules line next answer (inl same) is = subst (λ (l : List ℕ). IsToldBy Answers given rules l answer) same is
 told_as Answers alike given rules line next answer (inr long) is =
     let kept = same_as_told (record_rules given rules) (records_long given rules) line next (inr long) in
     subst (λ (r : Option Rules). IsToldUnder Answers r next answer) kept (alike_under Answers alike (record_rules given rules line) line next answer long.0 long.1 is)
 
+-- the profile once one more line was read
+pub rules_read : {A : Type 0} (old new : Records A) (line next : List ℕ) (lines : List (List ℕ)) → IsToldAs 4096 line next → old.rules ≡ rules_after old.given lines
+    → new.given ≡ old.given → new.rules ≡ Some (rules_by old.given old.rules line) → new.rules ≡ rules_after new.given (lines ++ next ∷ [])
+rules_read old new line next lines as_this before given rules =
+    rules ∙ ap (λ r. Some (rules_by old.given r line)) before ∙ ap Some (same_as_told (rules_by old.given (rules_after old.given lines)) (rules_long old.given (rules_after old.given lines)) line next as_this)
+    ∙ sym (rules_after-last old.given lines next) ∙ ap (λ (g : Rules). rules_after g (lines ++ next ∷ [])) (sym given)
+
+-- the answer to a line is one to the next line
+pub told_next : {A : Type 0} (Answers : AnswerKind) → AreAlike Answers → (old : Records A) (line next : List ℕ) (answer : Option (List ℕ)) (lines : List (List ℕ)) → IsToldAs 4096 line next → old.rules ≡ rules_after old.given lines
+    → IsToldBy Answers old.given old.rules line answer → IsToldBy Answers old.given (rules_after old.given lines) next answer
+told_next Answers alike old line next answer lines as_this before is =
+    told_as Answers alike old.given (rules_after old.given lines) line next answer as_this (subst (λ (r : Option Rules). IsToldBy Answers old.given r line answer) before is)
+
 -- one more line was answered as its records are
 pub TellsRecords-line : {A : Type 0} (Answers : AnswerKind) → AreAlike Answers → (old new : Records A) (line next : List ℕ) (answer : Option (List ℕ)) (lines told : List (List ℕ)) → IsToldAs 4096 line next → TellsRecords Answers old lines told
     → new.given ≡ old.given → new.rules ≡ Some (rules_by old.given old.rules line) → IsToldBy Answers old.given old.rules line answer → TellsRecords Answers new (lines ++ next ∷ []) (told ++ answers_in answer)
 TellsRecords-line Answers alike old new line next answer lines told as_this tells given rules is =
-    let before = rules_after old.given lines in
-    let so = subst (λ (r : Option Rules). IsToldBy Answers old.given r line answer) tells.0 is in
-    let front = AnswerRecords-last Answers old.given lines next told answer tells.1 (told_as Answers alike old.given before line next answer as_this so) in (
-      rules ∙ ap (λ r. Some (rules_by old.given r line)) tells.0 ∙ ap Some (same_as_told (rules_by old.given before) (rules_long old.given before) line next as_this) ∙ sym (rules_after-last old.given lines next)
-          ∙ ap (λ (g : Rules). rules_after g (lines ++ next ∷ [])) (sym given),
+    let front = AnswerRecords-last Answers old.given lines next told answer tells.1 (told_next Answers alike old line next answer lines as_this tells.0 is) in (
+      rules_read old new line next lines as_this tells.0 given rules,
       subst (λ (g : Rules). AnswerRecords Answers g (lines ++ next ∷ []) (told ++ answers_in answer)) (sym given) front,
     )
 

@@ -1,5 +1,7 @@
 -- Which objects are refusals: those of faults, and no others. So they are as many as among the plain answers.
-use Rattle.std.proofs.Common.{◌≡◌, ℕ, List, [], ◌∷◌, true, false, Option, Some, None, Result, Ok, Err, map, refl, sym, ap, ◌∙◌}
+use Rattle.std.proofs.Common.{◌≡◌, ℕ, List, [], ◌∷◌, ◌++◌, Bool, true, false, cond, drop, Option, Some, None, Result, Ok, Err, map, refl, sym, ap, ◌∙◌}
+use Rattle.std.specs.Prelude.{codes}
+use Rattle.std.proofs.lemmas.List.{append-nil}
 use Rattle.std.specs.List.{filter_map, cons_option}
 use Rattle.riichi_hand.specs.declared.fault.LineFault.{LineFault}
 use Rattle.riichi_hand.specs.declared.fault.LineFault.TheVariants.{Line, Notation}
@@ -15,9 +17,11 @@ use Rattle.desk_json.specs.Parts.{worth_text, score_text, win_text, waits_text, 
 use Rattle.desk_json.specs.Text.{answer_text, fault_text}
 use Rattle.desk_json.proofs.Faults.{fault_written}
 use Rattle.desk_json.proofs.Pieces.{win_written, waits_written, shape_written}
-use Rattle.desk_lines.specs.JsonLine.{is_refusal, json_of, json_on, outcome_json}
+use Rattle.desk_lines.specs.JsonLine.{is_refusal, json_of, json_on, outcome_json, IsMembers, are_of_refusal}
 use Rattle.desk_lines.specs.LineAnswer.{answer_of, outcome_text}
 use Rattle.desk_lines.specs.LineAnswers.{answers_on, report_on}
+use Rattle.desk_lines.specs.declared.line_kind.LineKind.TheVariants.{NoRecord, Answered, Refused}
+use Rattle.desk_lines.specs.Records.{Puts}
 use Rattle.desk_lines.specs.Profile.{rules_of, record_lines}
 use Rattle.desk_lines.specs.Telling.{is_refusal as is_told_refusal, report_by}
 use Rattle.desk_lines.proofs.KindLemmas.{is_refusal-fault as told-fault, is_refusal-answer as told-answer}
@@ -44,6 +48,52 @@ is_refusal-answer (answer.Waits marks) = ap is_refusal (waits_written marks)
 is_refusal-answer (answer.Shape shape) = ap is_refusal (shape_written shape)
 
 pub ruleset kinds = (is_refusal-fault, is_refusal-answer)
+
+-- ---- members: an object is a brace and what stands behind it
+
+brace_of : (text parts : List ℕ) → text ≡ parts → codes "{" ++ drop 1 parts ≡ parts → codes "{" ++ drop 1 text ≡ text
+brace_of text parts is brace = ap (λ (all : List ℕ). codes "{" ++ drop 1 all) is ∙ brace ∙ sym is
+
+win_brace : (win : WinAnswer) → codes "{" ++ drop 1 (win_text win) ≡ win_text win
+unfolding win_text score_text worth_text
+win_brace (Won score) = refl
+win_brace NoYaku = refl
+win_brace NoWin = refl
+
+pub answer_brace : (told : Answer) → codes "{" ++ drop 1 (answer_text told) ≡ answer_text told
+unfolding waits_text shape_text
+answer_brace (answer.Win win) = brace_of (answer_text (answer.Win win)) (win_text win) (win_written win) (win_brace win)
+answer_brace (answer.Waits marks) = brace_of (answer_text (answer.Waits marks)) (waits_text marks) (waits_written marks) refl
+answer_brace (answer.Shape shape) = brace_of (answer_text (answer.Shape shape)) (shape_text shape) (shape_written shape) refl
+
+parts_brace : (fault : LineFault) → codes "{" ++ drop 1 (fault_parts fault) ≡ fault_parts fault
+unfolding fault_parts
+parts_brace (Line code) = refl
+parts_brace (Notation name fault) = refl
+
+pub fault_brace : (fault : LineFault) → codes "{" ++ drop 1 (fault_text fault) ≡ fault_text fault
+fault_brace fault = brace_of (fault_text fault) (fault_parts fault) (fault_written fault) (parts_brace fault)
+
+-- the object of an outcome was made, and its members put
+pub members_puts : (rules : Rules) (line before same after made object : List ℕ) (outcome : Result (Option Job) LineFault) (refused : Bool) → outcome_of rules line ≡ outcome → outcome_json outcome ≡ Some object
+    → codes "{" ++ drop 1 object ≡ object → is_refusal object ≡ refused → same ≡ before → made ≡ object → after ≡ same ++ (drop 1 made ++ 10 ∷ [])
+    → Puts are_of_refusal (IsMembers rules line) (cond refused Refused Answered) before after
+unfolding json_of
+members_puts rules line before same after made object outcome refused is said brace tested kept made_is put = record {
+  told = Some (drop 1 object);
+  may_be_told = ap Some brace ∙ sym said ∙ ap outcome_json (sym is);
+  kind_is = ap (λ (r : Bool). cond r Refused Answered) (sym (ap is_refusal brace ∙ tested));
+  put = put ∙ ap (λ (text : List ℕ). same ++ (drop 1 text ++ 10 ∷ [])) made_is ∙ ap (λ (front : List ℕ). front ++ (drop 1 object ++ 10 ∷ [])) kept;
+}
+
+pub members_none : (rules : Rules) (line before : List ℕ) → outcome_of rules line ≡ Ok None → Puts are_of_refusal (IsMembers rules line) NoRecord before before
+unfolding json_of
+members_none rules line before is = record {
+  told = None;
+  may_be_told = ap outcome_json (sym is);
+  kind_is = refl;
+  put = sym (append-nil before);
+}
 
 -- ---- how many
 

@@ -9,16 +9,20 @@ use Rattle.std.proofs.lemmas.Bool.{cases_lt}
 use Rattle.desk_lines.specs.declared.report.DeskReport.{DeskReport}
 use Rattle.desk_lines.specs.declared.line_kind.LineKind.TheVariants.{Answered, Refused}
 use Rattle.desk_lines.specs.Lines.{without_return}
-use Rattle.desk_lines.specs.Telling.{text_of, with_line_feed, report_by, report_with, answers_in, kind_by, IsToldAs}
+use Rattle.desk_lines.specs.Telling.{text_by, text_of, line_by, with_line_feed, report_by, report_with, answers_in, kind_by, IsToldAs}
 
 pub text_of-append : (answers more : List (List ℕ)) → text_of (answers ++ more) ≡ text_of answers ++ text_of more
 text_of-append answers more = flat_map-append (λ answer. answer ++ 10 ∷ []) answers more
 
-pub text_of-more : (answers : List (List ℕ)) (answer : Option (List ℕ)) → text_of (answers ++ answers_in answer) ≡ text_of answers ++ with_line_feed answer
-text_of-more answers None = ap text_of (append-nil answers) ∙ sym (append-nil (text_of answers))
-text_of-more answers (Some answer) = text_of-append answers (answer ∷ []) ∙ ap (λ more. text_of answers ++ more) (append-nil (answer ++ 10 ∷ []))
+pub text_by-more : {A : Type 0} (written : A → List ℕ) (answers : List A) (answer : Option A) → text_by written (answers ++ answers_in answer) ≡ text_by written answers ++ line_by written answer
+text_by-more written answers None = ap (text_by written) (append-nil answers) ∙ sym (append-nil (text_by written answers))
+text_by-more written answers (Some answer) =
+    flat_map-append (λ answer. written answer ++ 10 ∷ []) answers (answer ∷ []) ∙ ap (λ more. text_by written answers ++ more) (append-nil (written answer ++ 10 ∷ []))
 
-counted-last : (test : List ℕ → Bool) (answers : List (List ℕ)) (answer : List ℕ) → count_by test (answers ++ answer ∷ []) ≡ count_by test answers + cond (test answer) 1 0
+pub text_of-more : (answers : List (List ℕ)) (answer : Option (List ℕ)) → text_of (answers ++ answers_in answer) ≡ text_of answers ++ with_line_feed answer
+text_of-more answers answer = text_by-more (λ text. text) answers answer
+
+counted-last : {A : Type 0} (test : A → Bool) (answers : List A) (answer : A) → count_by test (answers ++ answer ∷ []) ≡ count_by test answers + cond (test answer) 1 0
 counted-last test answers answer =
     sum_by-append (λ answer. cond (test answer) 1 0) answers (answer ∷ []) ∙ ap (λ n. count_by test answers + n) (zero-add (cond (test answer) 1 0))
 
@@ -29,7 +33,7 @@ counted_so true report = ap (λ (n : ℕ). let counted : DeskReport = record { a
 counted_so false report = ap (λ (n : ℕ). let counted : DeskReport = record { answered = report.answered + 1; refused = n } in counted) (add-zero report.refused)
 
 -- one more answer is counted
-pub report_by-more : (refuses : List ℕ → Bool) (answers : List (List ℕ)) (answer : Option (List ℕ)) → report_by refuses (answers ++ answers_in answer) ≡ report_with (report_by refuses answers) (kind_by refuses answer)
+pub report_by-more : {A : Type 0} (refuses : A → Bool) (answers : List A) (answer : Option A) → report_by refuses (answers ++ answers_in answer) ≡ report_with (report_by refuses answers) (kind_by refuses answer)
 report_by-more refuses answers None = ap (report_by refuses) (append-nil answers)
 report_by-more refuses answers (Some answer) =
     let answered = counted-last (λ text. not (refuses text)) answers answer in

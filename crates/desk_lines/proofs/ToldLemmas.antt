@@ -1,5 +1,5 @@
 -- The answers to a stream once one more line of it is answered.
-use Rattle.std.proofs.Common.{◌≡◌, ℕ, List, [], ◌∷◌, ◌++◌, refl, sym, subst, ◌∙◌, ap, append_assoc}
+use Rattle.std.proofs.Common.{◌≡◌, ℕ, ◌+◌, List, [], ◌∷◌, ◌++◌, refl, sym, subst, ◌∙◌, ap, append_assoc, length, length-append, arith}
 use Rattle.std.proofs.lemmas.List.{append-nil}
 use Rattle.desk_streams.specs.declared.sink.Sink.{Ghosts as OfSink}
 use Rattle.desk_lines.specs.declared.told.Told.{Told}
@@ -7,38 +7,40 @@ use Rattle.desk_lines.specs.declared.teller.Teller.{Ghosts as OfTeller}
 use Rattle.desk_lines.specs.declared.fault.DeskFault.{DeskFault}
 use Rattle.desk_lines.specs.declared.fault.DeskFault.TheVariants.{Write, Memory}
 use Rattle.desk_lines.specs.declared.line_kind.LineKind.{LineKind}
-use Rattle.desk_lines.specs.Told.{Stands, Stops, WantsNext, StopsTelling}
+use Rattle.desk_lines.specs.Told.{Stands, Stops, WantsNext, StopsTelling, lines_of}
 use Rattle.desk_lines.specs.Streams.{WritesAll, StopsWriting}
-use Rattle.desk_lines.specs.Telling.{text_of, with_line_feed, report_by, report_with, answers_in, AnswersLine, IsToldAs}
-use Rattle.desk_lines.proofs.TellingLemmas.{text_of-more, report_by-more}
+use Rattle.desk_lines.specs.Telling.{text_by, line_by, report_by, report_with, answers_in, count_of, AnswersLine, IsToldAs}
+use Rattle.desk_lines.proofs.TellingLemmas.{text_by-more, report_by-more}
 use Rattle.desk_lines.proofs.StreamLemmas.{WritesAll-nil, WritesAll-trans, StopsWriting-after}
 
 module _ {W A : Type 0} (sink : OfSink W) (teller : OfTeller A) (start : W) (first : A) where
   -- before the first line
-  pub Stands-new : (new : Told) → teller.tells first first [] [] → new.report ≡ report_by teller.refuses [] → new.outbox.bytes.items ≡ [] → Stands sink teller start first [] first new start
-  Stands-new new tells report none = record { answers = []; tells = tells; report = report; sent = []; writes = WritesAll-nil sink start; text = none }
+  pub Stands-new : (new : Told) → teller.tells first first [] [] → new.report ≡ report_by teller.refuses [] → new.unanswered ≡ 0 → new.outbox.bytes.items ≡ [] → Stands sink teller start first [] first new start
+  Stands-new new tells report unread none = record { answers = []; tells = tells; count = omega (arith, ap count_of report, unread); report = report; sent = []; writes = WritesAll-nil sink start; text = none }
 
   -- a line was answered
   pub Stands-line : (lines : List (List ℕ)) (old new : A) (before after : Told) (writer : W) (line next : List ℕ) (kind : LineKind) → IsToldAs teller.most line next → Stands sink teller start first lines old before writer
-      → AnswersLine teller.refuses teller.most teller.tells old new line kind before.outbox.bytes.items after.outbox.bytes.items → after.report ≡ report_with before.report kind
+      → AnswersLine teller.written teller.refuses teller.most teller.tells old new (lines_of before + 1) line kind before.outbox.bytes.items after.outbox.bytes.items → after.report ≡ report_with before.report kind → lines_of after ≡ lines_of before + 1
       → Stands sink teller start first (lines ++ next ∷ []) new after writer
-  Stands-line lines old new before after writer line next kind as_this stands answered counted = record {
+  Stands-line lines old new before after writer line next kind as_this stands answered counted more = record {
     answers = stands.answers ++ answers_in answered.answer;
-    tells = answered.tells_more first lines stands.answers next as_this stands.tells;
+    tells = answered.tells_more first lines stands.answers next (ap (λ n. n + 1) stands.count) as_this stands.tells;
+    count = omega (arith, more, stands.count, length-append lines (next ∷ []));
     report = counted ∙ ap (λ report. report_with report kind) stands.report ∙ ap (report_with (report_by teller.refuses stands.answers)) answered.kind_is ∙ sym (report_by-more teller.refuses stands.answers answered.answer);
     sent = stands.sent;
     writes = stands.writes;
-    text = ap (λ all. stands.sent ++ all) answered.put ∙ sym (append_assoc stands.sent before.outbox.bytes.items (with_line_feed answered.answer))
-        ∙ ap (λ all. all ++ with_line_feed answered.answer) stands.text ∙ sym (text_of-more stands.answers answered.answer);
+    text = ap (λ all. stands.sent ++ all) answered.put ∙ sym (append_assoc stands.sent before.outbox.bytes.items (line_by teller.written answered.answer))
+        ∙ ap (λ all. all ++ line_by teller.written answered.answer) stands.text ∙ sym (text_by-more teller.written stands.answers answered.answer);
   }
 
   -- all that stood in the outbox was written
   pub Stands-flushed : (lines : List (List ℕ)) (now : A) (before after : Told) (writer written : W) → Stands sink teller start first lines now before writer
-      → WritesAll sink writer written before.outbox.bytes.items → after.report ≡ before.report → after.outbox.bytes.items ≡ [] → Stands sink teller start first lines now after written
-  Stands-flushed lines now before after writer written stands writes report empty = record {
+      → WritesAll sink writer written before.outbox.bytes.items → (after.report ≡ before.report) × (after.unanswered ≡ before.unanswered) → after.outbox.bytes.items ≡ [] → Stands sink teller start first lines now after written
+  Stands-flushed lines now before after writer written stands writes same empty = record {
     answers = stands.answers;
     tells = stands.tells;
-    report = report ∙ stands.report;
+    count = omega (arith, ap count_of same.0, same.1, stands.count);
+    report = same.0 ∙ stands.report;
     sent = stands.sent ++ before.outbox.bytes.items;
     writes = WritesAll-trans sink start writer written stands.sent before.outbox.bytes.items stands.writes writes;
     text = ap (λ rest. (stands.sent ++ before.outbox.bytes.items) ++ rest) empty ∙ append-nil (stands.sent ++ before.outbox.bytes.items) ∙ stands.text;
@@ -46,12 +48,12 @@ module _ {W A : Type 0} (sink : OfSink W) (teller : OfTeller A) (start : W) (fir
 
   -- all was written
   pub Stands-written : (lines : List (List ℕ)) (now : A) (answered : Told) (writer : W) (stands : Stands sink teller start first lines now answered writer) → answered.outbox.bytes.items ≡ []
-      → WritesAll sink start writer (text_of stands.answers)
+      → WritesAll sink start writer (text_by teller.written stands.answers)
   Stands-written lines now answered writer stands empty =
       subst (λ (all : List ℕ). WritesAll sink start writer all) (sym (ap (λ rest. stands.sent ++ rest) empty ∙ append-nil stands.sent) ∙ stands.text) stands.writes
 
   -- these lines were answered and others were not, and the writing of the last answers stopped
-  given_up : (after : W) (lines others : List (List ℕ)) (now : A) (answered : Told) (writer : W) (fault : DeskFault) (stands : Stands sink teller start first lines now answered writer) → Stops sink start after fault (text_of stands.answers)
+  given_up : (after : W) (lines others : List (List ℕ)) (now : A) (answered : Told) (writer : W) (fault : DeskFault) (stands : Stands sink teller start first lines now answered writer) → Stops sink start after fault (text_by teller.written stands.answers)
       → (fault ≡ Memory → WantsNext teller now others) → StopsTelling sink teller start after first fault (lines ++ others)
   given_up after lines others now answered writer fault stands stops wanted = record {
     first = lines;

@@ -1,5 +1,5 @@
 -- The answer to one line as JSON, and the answers to the lines of a stream.
-use Rattle.std.specs.Prelude.{ℕ, List, Bool, Option, Result, codes, nat_eq}
+use Rattle.std.specs.Prelude.{◌≡◌, ℕ, List, ◌++◌, Bool, Option, Result, codes, nat_eq, option_map}
 use Rattle.std.specs.List.{starts_with}
 use Rattle.std.proofs.Common.{sym, ap, ◌∙◌}
 use Rattle.riichi_hand.specs.declared.win.Rules.{Rules}
@@ -26,6 +26,20 @@ json_alike rules line other told long long_other is = is ∙ ap outcome_json (lo
 -- an object begins as those of faults do, and those of answers don't
 abbrev pub is_refusal : List ℕ → Bool
 is_refusal object = starts_with nat_eq object (codes "{\"answer\":\"refused\"")
+
+-- ---- members
+
+-- these are the members of the object that answers a line: behind a brace they are the object
+abbrev pub IsMembers : Rules → List ℕ → Option (List ℕ) → Type 0
+IsMembers rules line members = option_map (λ text. codes "{" ++ text) members ≡ json_of rules line
+
+pub members_alike : AreAlike IsMembers
+unfolding json_of
+members_alike rules line other told long long_other is = is ∙ ap outcome_json (long_outcome rules line long ∙ sym (long_outcome rules other long_other))
+
+-- these are the members of a refusal
+abbrev pub are_of_refusal : List ℕ → Bool
+are_of_refusal members = is_refusal (codes "{" ++ members)
 
 -- ---- streams
 

@@ -6,20 +6,27 @@ use Rattle.desk_lines.specs.declared.line_kind.LineKind.{LineKind}
 use Rattle.desk_lines.specs.declared.line_kind.LineKind.TheVariants.{NoRecord, Answered, Refused}
 
 -- answers as they are written
+abbrev pub text_by : {A : Type 0} → (A → List ℕ) → List A → List ℕ
+text_by written answers = flat_map (λ answer. written answer ++ 10 ∷ []) answers
+
+-- answers that are texts
 abbrev pub text_of : List (List ℕ) → List ℕ
-text_of answers = flat_map (λ answer. answer ++ 10 ∷ []) answers
+text_of answers = text_by (λ answer. answer) answers
 
 -- Each kind of answer has a test for those that are refusals. Of plain answers these begin with `refused`.
 abbrev pub is_refusal : List ℕ → Bool
 is_refusal answer = starts_with nat_eq answer (codes "refused")
 
 -- what is written for the answer to a line
+abbrev pub line_by : {A : Type 0} → (A → List ℕ) → Option A → List ℕ
+line_by written None = []
+line_by written (Some answer) = written answer ++ 10 ∷ []
+
 abbrev pub with_line_feed : Option (List ℕ) → List ℕ
-with_line_feed None = []
-with_line_feed (Some answer) = answer ++ 10 ∷ []
+with_line_feed answer = line_by (λ text. text) answer
 
 -- how many answers are refusals by a test, and how many are not
-abbrev pub report_by : (List ℕ → Bool) → List (List ℕ) → DeskReport
+abbrev pub report_by : {A : Type 0} → (A → Bool) → List A → DeskReport
 report_by refuses answers = record {
   answered = count_by (λ answer. not (refuses answer)) answers;
   refused = count_by refuses answers;
@@ -40,11 +47,11 @@ report_with report Answered = record { answered = report.answered + 1; refused =
 report_with report Refused = record { answered = report.answered; refused = report.refused + 1 }
 
 -- the answers to a line: one or none
-abbrev pub answers_in : Option (List ℕ) → List (List ℕ)
+abbrev pub answers_in : {A : Type 0} → Option A → List A
 answers_in answer = cons_option answer []
 
 -- what a line with this answer is, by a test for refusals
-abbrev pub kind_by : (List ℕ → Bool) → Option (List ℕ) → LineKind
+abbrev pub kind_by : {A : Type 0} → (A → Bool) → Option A → LineKind
 kind_by refuses None = NoRecord
 kind_by refuses (Some answer) = if refuses answer then Refused else Answered
 
@@ -55,9 +62,10 @@ kind_of answer = kind_by is_refusal answer
 abbrev pub IsToldAs : ℕ → List ℕ → List ℕ → Type 0
 IsToldAs most line other = (line ≡ other) ⊎ ((most < length line) × (most < length other))
 
--- The next line was answered so, and any that may have its answer: the answer was put behind the text that stood there.
-pub record AnswersLine {T : Type 0} (refuses : List ℕ → Bool) (most : ℕ) (tells : T → T → List (List ℕ) → List (List ℕ) → Type 0) (old new : T) (line : List ℕ) (kind : LineKind) (before after : List ℕ) : Type 0 where
-  pub answer : Option (List ℕ)
+-- The line of this number was answered so, and any that may have its answer: the answer was put behind the text that stood there.
+pub record AnswersLine {T A : Type 0} (written : A → List ℕ) (refuses : A → Bool) (most : ℕ) (tells : T → T → List (List ℕ) → List A → Type 0) (old new : T) (number : ℕ) (line : List ℕ) (kind : LineKind) (before after : List ℕ) : Type 0 where
+  pub answer : Option A
   pub kind_is : kind ≡ kind_by refuses answer
-  pub put : after ≡ before ++ with_line_feed answer
-  pub tells_more : (first : T) (lines told : List (List ℕ)) (next : List ℕ) → IsToldAs most line next → tells first old lines told → tells first new (lines ++ next ∷ []) (told ++ answers_in answer)
+  pub put : after ≡ before ++ line_by written answer
+  pub tells_more : (first : T) (lines : List (List ℕ)) (told : List A) (next : List ℕ) → number ≡ length lines + 1 → IsToldAs most line next → tells first old lines told
+      → tells first new (lines ++ next ∷ []) (told ++ answers_in answer)

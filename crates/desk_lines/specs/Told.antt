@@ -1,21 +1,26 @@
 -- The answers to a stream so far.
-use Rattle.std.specs.Prelude.{◌≡◌, ℕ, List, ◌∷◌, ◌++◌}
+use Rattle.std.specs.Prelude.{◌≡◌, ℕ, ◌+◌, List, ◌∷◌, ◌++◌, length}
 use Rattle.desk_streams.specs.declared.sink.Sink.{Ghosts as OfSink}
 use Rattle.desk_lines.specs.declared.fault.DeskFault.{DeskFault}
 use Rattle.desk_lines.specs.declared.fault.DeskFault.TheVariants.{Read, Write, Memory}
 use Rattle.desk_lines.specs.declared.teller.Teller.{Ghosts as OfTeller}
 use Rattle.desk_lines.specs.declared.told.Told.{Told}
-use Rattle.desk_lines.specs.Telling.{text_of, report_by, IsToldAs}
+use Rattle.desk_lines.specs.Telling.{text_by, report_by, count_of, IsToldAs}
 use Rattle.desk_lines.specs.Streams.{WritesAll, StopsWriting}
+
+-- how many lines were read
+abbrev pub lines_of : Told → ℕ
+lines_of told = count_of told.report + told.unanswered
 
 -- These lines were answered. What of the answers was not written since the start is in the outbox.
 pub record Stands {W T : Type 0} (sink : OfSink W) (teller : OfTeller T) (start : W) (first : T) (lines : List (List ℕ)) (now : T) (told : Told) (writer : W) : Type 0 where
-  pub answers : List (List ℕ)
+  pub answers : List teller.Answer
   pub tells : teller.tells first now lines answers
+  pub count : lines_of told ≡ length lines
   pub report : told.report ≡ report_by teller.refuses answers
   pub sent : List ℕ
   pub writes : WritesAll sink start writer sent
-  pub text : sent ++ told.outbox.bytes.items ≡ text_of answers
+  pub text : sent ++ told.outbox.bytes.items ≡ text_by teller.written answers
 
 -- a front of the text was written where the writer failed, and all of it where memory was wanted
 abbrev pub Stops : {W : Type 0} → OfSink W → W → W → DeskFault → List ℕ → Type 0
@@ -34,7 +39,7 @@ pub record StopsTelling {W T : Type 0} (sink : OfSink W) (teller : OfTeller T) (
   pub others : List (List ℕ)
   pub parts : lines ≡ first ++ others
   pub last : T
-  pub answers : List (List ℕ)
+  pub answers : List teller.Answer
   pub tells : teller.tells first_state last first answers
-  pub stops : Stops sink start new fault (text_of answers)
+  pub stops : Stops sink start new fault (text_by teller.written answers)
   pub wanted : fault ≡ Memory → WantsNext teller last others

@@ -12,6 +12,7 @@ ghost use Rattle.desk_lines.specs.Outbox.{HasRoom};
 ghost use Rattle.desk_lines.specs.Telling.{with_line_feed, kind_of};
 
 use super::line_kind::LineKind;
+use super::numbered::Numbers;
 use super::outbox::Outbox;
 use super::responder::Responder;
 use riichi_hand::{HandRecord, Job, Rules, ShapeRecord, WinRecord, fault_text, read_line};
@@ -21,7 +22,7 @@ use riichi_shape_text::push_shape;
 use riichi_split::{waits, waits_text};
 
 /// The plain answers: a line for each record.
-pub(crate) struct Plain;
+pub struct Plain;
 
 impl Responder for Plain {
     ghost use Rattle.desk_lines.specs.LineAnswer.{answer_of, IsBy};
@@ -41,6 +42,16 @@ impl Responder for Plain {
         source: &mut S,
     ) -> LineKind {
         put_answer(rules, line, outbox, source)
+    }
+}
+
+impl Numbers for Plain {
+    ghost use Rattle.desk_lines.specs.Numbered.{words_front};
+
+    ghost front = { words_front };
+
+    fn put_number(number: u64, outbox: &mut Outbox) {
+        outbox.put_number("", number, ":")
     }
 }
 

@@ -1,5 +1,5 @@
 //! Collects what the lines of a table ask.
-ghost use Rattle.std.specs.Prelude.{◌≡◌, ◌+◌, ℕ, length, [], ◌∷◌, ◌++◌, Some, Err, OnOk, IfOk, IfErr, IsErrOf};
+ghost use Rattle.std.specs.Prelude.{◌≡◌, ◌+◌, ℕ, List, length, [], ◌∷◌, ◌++◌, Some, Err, OnOk, IfOk, IfErr, IsErrOf};
 ghost use Rattle.std.specs.List.{flat_map};
 ghost use Rattle.riichi_hand.specs.Lines.{outcome_of};
 ghost use Rattle.desk_lines.specs.declared.fault.DeskFault.{DeskFault};
@@ -180,6 +180,10 @@ impl Teller for Collector {
     ghost use Rattle.desk_lines.specs.Collector.{CollectsUntold};
     ghost use Rattle.desk_lines.specs.Telling.{is_refusal};
 
+    ghost Answer = { List ℕ };
+
+    ghost written = { λ text. text };
+
     ghost refuses = { is_refusal };
 
     ghost most = { 4096 };
@@ -190,6 +194,7 @@ impl Teller for Collector {
 
     fn tell<S: RowSource>(
         &mut self,
+        _number: u64,
         line: &[u8],
         _outbox: &mut Outbox,
         _source: &mut S,

@@ -16,6 +16,7 @@ ghost use Rattle.desk_lines.specs.Outbox.{HasRoom};
 
 use super::answering::{put_shape, put_waits};
 use super::line_kind::LineKind;
+use super::numbered::Numbers;
 use super::outbox::Outbox;
 use super::responder::Responder;
 use riichi_explain::{explain_shape, explain_win, push_shanten_line, push_win_lines};
@@ -28,7 +29,7 @@ use riichi_shape::RowSource;
 use riichi_waits::{explain_waits, push_waits_line};
 
 /// The explained answers: that of a line, and behind it lines that begin with two spaces and say why it is so.
-pub(crate) struct Explained;
+pub struct Explained;
 
 impl Responder for Explained {
     ghost use Rattle.desk_lines.specs.Explained.{IsExplained};
@@ -58,6 +59,16 @@ impl Responder for Explained {
                 LineKind::Refused
             }
         }
+    }
+}
+
+impl Numbers for Explained {
+    ghost use Rattle.desk_lines.specs.Numbered.{words_front};
+
+    ghost front = { words_front };
+
+    fn put_number(number: u64, outbox: &mut Outbox) {
+        outbox.put_number("", number, ":")
     }
 }
 

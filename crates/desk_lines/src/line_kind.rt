@@ -2,7 +2,7 @@
 
 /// What a line of a stream was answered.
 #[derive(Clone, Copy)]
-pub(crate) enum LineKind {
+pub enum LineKind {
     /// Nothing: it is no record.
     NoRecord,
     /// A text that doesn't begin with `refused`.

@@ -1,5 +1,5 @@
 //! The answer to one line as JSON.
-ghost use Rattle.std.specs.Prelude.{◌≡◌, ◌∷◌, ◌++◌, []};
+ghost use Rattle.std.specs.Prelude.{◌≡◌, ◌++◌};
 ghost use Rattle.desk_core.specs.Value.{value_of};
 ghost use Rattle.desk_json.specs.Text as spec;
 ghost use Rattle.desk_lines.specs.JsonLine.{json_of, is_refusal};
@@ -7,6 +7,7 @@ ghost use Rattle.desk_lines.specs.Outbox.{HasRoom};
 ghost use Rattle.desk_lines.specs.Telling.{kind_by, with_line_feed};
 
 use super::line_kind::LineKind;
+use super::numbered::Numbers;
 use super::outbox::Outbox;
 use super::responder::Responder;
 use desk_core::judge_with;
@@ -53,32 +54,76 @@ fn put_json<S: RowSource>(
     match read_line(rules, line) {
         Ok(None) => LineKind::NoRecord,
         Ok(Some(job)) => {
-            put_job(&job, outbox, source);
+            make_object(&job, outbox, source);
+            outbox.put_object();
             LineKind::Answered
         }
         Err(fault) => {
-            put_fault(&fault, outbox);
+            make_fault(&fault, outbox);
+            outbox.put_object();
             LineKind::Refused
         }
     }
 }
 
-fn put_job<S: RowSource>(job: &Job, outbox: &mut Outbox, source: &mut S)
-    requires { HasRoom outbox.old }
-    ensures { outbox.new.bytes.items ≡
-        outbox.old.bytes.items ++ (spec.answer_text (value_of job.now) ++ 10 ∷ []) }
+/// The answers as JSON without the brace before the first member, so that another one may stand there.
+pub struct Members;
+
+impl Responder for Members {
+    ghost use Rattle.desk_lines.specs.JsonLine.{IsMembers, are_of_refusal, members_alike};
+
+    ghost may_tell = { IsMembers };
+
+    ghost refuses = { are_of_refusal };
+
+    ghost alike = { members_alike };
+
+    fn respond<S: RowSource>(
+        rules: Rules,
+        line: &[u8],
+        outbox: &mut Outbox,
+        source: &mut S,
+    ) -> LineKind {
+        match read_line(rules, line) {
+            Ok(None) => LineKind::NoRecord,
+            Ok(Some(job)) => {
+                make_object(&job, outbox, source);
+                outbox.put_members();
+                LineKind::Answered
+            }
+            Err(fault) => {
+                make_fault(&fault, outbox);
+                outbox.put_members();
+                LineKind::Refused
+            }
+        }
+    }
+}
+
+impl Numbers for Members {
+    ghost use Rattle.desk_lines.specs.Numbered.{object_front};
+
+    ghost front = { object_front };
+
+    fn put_number(number: u64, outbox: &mut Outbox) {
+        outbox.put_number("{\"line\":", number, ",")
+    }
+}
+
+/// Makes the object of a job.
+fn make_object<S: RowSource>(job: &Job, outbox: &mut Outbox, source: &mut S)
+    ensures object { outbox.new.object.bytes ≡ spec.answer_text (value_of job.now) }
+    ensures same { outbox.new.bytes ≡ outbox.old.bytes }
 {
     outbox.object.clear();
     push_answer(&mut outbox.object, &judge_with(source, job));
-    outbox.put_object();
 }
 
-fn put_fault(fault: &LineFault, outbox: &mut Outbox)
-    requires { HasRoom outbox.old }
-    ensures { outbox.new.bytes.items ≡
-        outbox.old.bytes.items ++ (spec.fault_text fault.now ++ 10 ∷ []) }
+/// Makes the object of a fault.
+fn make_fault(fault: &LineFault, outbox: &mut Outbox)
+    ensures object { outbox.new.object.bytes ≡ spec.fault_text fault.now }
+    ensures same { outbox.new.bytes ≡ outbox.old.bytes }
 {
     outbox.object.clear();
     push_fault(&mut outbox.object, fault);
-    outbox.put_object();
 }

@@ -1,11 +1,12 @@
 //! Answer lines on their way to the writer.
-ghost use Rattle.std.specs.Prelude.{◌≡◌, ◌+◌, ◌<◌, ◌≤◌, [], ◌∷◌, ◌++◌, length, IsTrue, ◌↔◌, OnOk};
+ghost use Rattle.std.specs.Prelude.{◌≡◌, ◌+◌, ◌<◌, ◌≤◌, [], ◌∷◌, ◌++◌, length, take, decimal, drop, IsTrue, ◌↔◌, OnOk};
 ghost use Rattle.desk_lines.specs.Streams.{Writes};
 
 use super::fault::DeskFault;
 use arrayvec::{ArrayString, ArrayVec};
 use desk_json::JsonText;
 use desk_streams::Sink;
+use riichi_text::push_number;
 
 /// Room for many answer lines, so that they are written in large pieces.
 const ROOM: usize = 65_536;
@@ -14,10 +15,13 @@ const ROOM: usize = 65_536;
 /// bytes that may explain it, are fewer.
 const LONGEST_ANSWER: usize = 12_289;
 
+/// The most that stands before an answer: its line's number, of twenty digits, and nine bytes beside it.
+const LONGEST_FRONT: usize = 29;
+
 /// Answer lines that were not written yet, and room for the text of the next one and for what explains it: to make it
 /// anew for each line takes as long as to fill it.
 #[derive(Drop)]
-pub(crate) struct Outbox {
+pub struct Outbox {
     bytes: ArrayVec<u8, ROOM>,
     pub(crate) text: ArrayString<3072>,
     pub(crate) why: ArrayString<4608>,
@@ -25,7 +29,7 @@ pub(crate) struct Outbox {
 }
 
 impl Outbox {
-    ghost use Rattle.desk_lines.specs.Outbox.{HasRoom};
+    ghost use Rattle.desk_lines.specs.Outbox.{HasRoom, HasRoomForLine};
 
     pub(crate) fn new() -> Outbox
         ensures { result.bytes.items ≡ [] }
@@ -50,11 +54,40 @@ impl Outbox {
         self.bytes.clear();
     }
 
-    /// Whether any answer fits.
+    /// Whether any answer fits, behind the number of its line.
     pub(crate) fn has_room(&self) -> bool
-        ensures { IsTrue result ↔ HasRoom self.now }
+        ensures { IsTrue result ↔ HasRoomForLine self.now }
     {
-        self.bytes.remaining_capacity() >= LONGEST_ANSWER
+        self.bytes.remaining_capacity() >= LONGEST_ANSWER + LONGEST_FRONT
+    }
+
+    /// How many bytes are here.
+    pub(crate) fn len(&self) -> usize
+        ensures { result ≡ length self.now.bytes.items }
+    {
+        self.bytes.len()
+    }
+
+    /// Drops what stands behind the first bytes.
+    pub(crate) fn truncate(&mut self, len: usize)
+        ensures { self.new.bytes.items ≡ take len self.old.bytes.items }
+    {
+        self.bytes.truncate(len);
+    }
+
+    /// Adds a number between two texts, in front of an answer.
+    pub(crate) fn put_number(&mut self, before: &str, number: u64, behind: &str)
+        requires room { HasRoomForLine self.old }
+        requires short { length before.now + length behind.now ≤ 9 }
+        ensures told { self.new.bytes.items
+            ≡ self.old.bytes.items ++ (before.now ++ (decimal number ++ behind.now)) }
+        ensures room { HasRoom self.new }
+    {
+        self.text.clear();
+        self.text.push_str(before);
+        push_number(&mut self.text, number);
+        self.text.push_str(behind);
+        self.put_lines();
     }
 
     /// Adds a line with this text.
@@ -82,6 +115,16 @@ impl Outbox {
             ≡ self.old.bytes.items ++ (self.old.object.bytes ++ 10 ∷ []) }
     {
         push_line(&mut self.bytes, self.object.as_str().as_bytes());
+    }
+
+    /// Adds a line with the members of the object that stands in its room: the object without its first byte, a brace.
+    pub(crate) fn put_members(&mut self)
+        requires room { HasRoom self.old }
+        ensures { self.new.bytes.items
+            ≡ self.old.bytes.items ++ (drop 1 self.old.object.bytes ++ 10 ∷ []) }
+    {
+        let object = self.object.as_str().as_bytes();
+        push_line(&mut self.bytes, object.get(1..).unwrap_or(&[]));
     }
 
     /// Adds the lines that stand in its room, each with its line feed.

@@ -1,5 +1,5 @@
 //! Answers the record lines of a stream one by one.
-ghost use Rattle.std.specs.Prelude.{◌≡◌, Some, None};
+ghost use Rattle.std.specs.Prelude.{◌≡◌, ℕ, List, Some, None};
 ghost use Rattle.desk_lines.specs.Outbox.{HasRoom};
 ghost use Rattle.desk_lines.specs.Records.{Puts, IsToldBy};
 ghost use Rattle.desk_lines.specs.Profile.{rules_by};
@@ -38,7 +38,7 @@ impl<A: Responder> Records<A> {
     }
 
     /// Answers the next line.
-    fn put_line<S: RowSource>(
+    pub(crate) fn put_line<S: RowSource>(
         &mut self,
         line: &[u8],
         outbox: &mut Outbox,
@@ -61,6 +61,10 @@ impl<A: Responder> Records<A> {
 impl<A: Responder> Teller for Records<A> {
     ghost use Rattle.desk_lines.specs.Records.{TellsRecords};
 
+    ghost Answer = { List ℕ };
+
+    ghost written = { λ text. text };
+
     ghost refuses = { A.refuses };
 
     ghost most = { 4096 };
@@ -71,6 +75,7 @@ impl<A: Responder> Teller for Records<A> {
 
     fn tell<S: RowSource>(
         &mut self,
+        _number: u64,
         line: &[u8],
         outbox: &mut Outbox,
         source: &mut S,

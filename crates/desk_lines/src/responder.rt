@@ -11,7 +11,7 @@ use riichi_hand::Rules;
 use riichi_shape::RowSource;
 
 /// What answers one record line: a kind of answer.
-pub(crate) trait Responder {
+pub trait Responder {
     /// A record line may be answered by this text under a profile, or by none.
     ghost may_tell: { Rules → List ℕ → Option (List ℕ) → Type 0 };
 

@@ -1,5 +1,5 @@
 //! Answers the lines of a script one by one.
-ghost use Rattle.std.specs.Prelude.{◌≡◌, ◌≤◌, ◌++◌, Some, length};
+ghost use Rattle.std.specs.Prelude.{◌≡◌, ◌≤◌, ◌++◌, ℕ, List, Some, length};
 ghost use Rattle.desk_lines.specs.Outbox.{HasRoom};
 ghost use Rattle.desk_lines.specs.Telling.{with_line_feed, kind_of};
 
@@ -14,6 +14,10 @@ impl Teller for Script {
     ghost use Rattle.desk_lines.specs.Scripts.{TellsScript};
     ghost use Rattle.desk_lines.specs.Telling.{is_refusal};
 
+    ghost Answer = { List ℕ };
+
+    ghost written = { λ text. text };
+
     ghost refuses = { is_refusal };
 
     ghost most = { 8192 };
@@ -24,6 +28,7 @@ impl Teller for Script {
 
     fn tell<S: RowSource>(
         &mut self,
+        _number: u64,
         line: &[u8],
         outbox: &mut Outbox,
         source: &mut S,

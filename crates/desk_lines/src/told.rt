@@ -1,15 +1,16 @@
 //! The answers to a stream so far.
 ghost use Rattle.std.specs.Prelude.{◌≡◌, ◌+◌, ◌<◌, ◌≤◌, ◌^◌, ℕ, List, [], ◌∷◌, ◌++◌, length, OnOk, OnErr, IfOk, IfErr};
 ghost use Rattle.desk_lines.specs.declared.line_kind.LineKind.{LineKind};
-ghost use Rattle.desk_lines.specs.Told.{Stands, StopsTelling};
+ghost use Rattle.desk_lines.specs.Told.{Stands, StopsTelling, lines_of};
 ghost use Rattle.desk_lines.specs.Lines.{cut_of, ended_lines};
-ghost use Rattle.desk_lines.specs.Outbox.{HasRoom};
+ghost use Rattle.desk_lines.specs.Outbox.{HasRoomForLine};
 ghost use Rattle.desk_lines.specs.Reading.{AreToldAs};
 ghost use Rattle.desk_lines.specs.Streams.{Writes};
-ghost use Rattle.desk_lines.specs.Telling.{report_of, report_with, count_of, AnswersLine, IsToldAs};
+ghost use Rattle.desk_lines.specs.Telling.{report_of, report_with, AnswersLine, IsToldAs};
 
 use super::fault::DeskFault;
 use super::first_line::first_line;
+use super::line_kind::LineKind;
 use super::outbox::Outbox;
 use super::report::DeskReport;
 use super::teller::Teller;
@@ -17,16 +18,18 @@ use desk_streams::Sink;
 use riichi_shape::RowSource;
 use std::alloc::AllocError;
 
-/// The answers to a stream so far: a count of them, and those that are not written yet.
+/// The answers to a stream so far: a count of them and of the lines that have none, and those that are not written yet.
 #[derive(Drop)]
 pub(crate) struct Told {
     report: DeskReport,
+    unanswered: u64,
     outbox: Outbox,
 }
 
 impl Told {
     pub(crate) fn new() -> Told
         ensures report { result.report ≡ report_of [] }
+        ensures none { result.unanswered ≡ 0 }
         ensures outbox { result.outbox.bytes.items ≡ [] }
     {
         Told {
@@ -34,6 +37,7 @@ impl Told {
                 answered: 0,
                 refused: 0,
             },
+            unanswered: 0,
             outbox: Outbox::new(),
         }
     }
@@ -52,7 +56,7 @@ impl Told {
         source: &mut S,
         writer: &mut W,
     ) -> Result<&'a [u8], DeskFault>
-        requires count { count_of self.old.report + length text.now < 2 ^ 64 }
+        requires count { lines_of self.old + length text.now < 2 ^ 64 }
         ensures stands { OnOk result ((start : W) (first : T) (lines next : List (List ℕ))
             → AreToldAs T.most (ended_lines text.now) next
             → Stands ⟦<W as Sink>⟧ ⟦<T as Teller>⟧ start first lines teller.old self.old writer.old
@@ -62,7 +66,7 @@ impl Told {
             → AreToldAs T.most (ended_lines text.now) next
             → Stands ⟦<W as Sink>⟧ ⟦<T as Teller>⟧ start first lines teller.old self.old writer.old
             → StopsTelling ⟦<W as Sink>⟧ ⟦<T as Teller>⟧ start writer.new first fault (lines ++ next)) }
-        ensures count { count_of self.new.report ≤ count_of self.old.report + length text.now }
+        ensures count { lines_of self.new ≤ lines_of self.old + length text.now }
     {
         let mut rest = text;
         while let Some((line, after)) = first_line(rest) {
@@ -81,7 +85,7 @@ impl Told {
         source: &mut S,
         writer: &mut W,
     ) -> Result<(), DeskFault>
-        requires { count_of self.old.report + 1 < 2 ^ 64 }
+        requires { lines_of self.old + 1 < 2 ^ 64 }
         ensures stands { OnOk result ((start : W) (first : T) (lines : List (List ℕ)) (next : List ℕ)
             → IsToldAs T.most line.now next
             → Stands ⟦<W as Sink>⟧ ⟦<T as Teller>⟧ start first lines teller.old self.old writer.old
@@ -90,7 +94,7 @@ impl Told {
             → IsToldAs T.most line.now next
             → Stands ⟦<W as Sink>⟧ ⟦<T as Teller>⟧ start first lines teller.old self.old writer.old
             → StopsTelling ⟦<W as Sink>⟧ ⟦<T as Teller>⟧ start writer.new first fault (lines ++ next ∷ [])) }
-        ensures count { count_of self.new.report ≤ count_of self.old.report + 1 }
+        ensures count { lines_of self.new ≤ lines_of self.old + 1 }
     {
         if !self.outbox.has_room() {
             self.flush(writer)?;
@@ -108,7 +112,7 @@ impl Told {
     pub(crate) fn flush<W: Sink>(&mut self, writer: &mut W) -> Result<(), DeskFault>
         ensures writes { Writes ⟦<W as Sink>⟧ writer.old writer.new result self.old.outbox.bytes.items }
         ensures empty { OnOk result (self.new.outbox.bytes.items ≡ []) }
-        ensures report { self.new.report ≡ self.old.report }
+        ensures report { (self.new.report ≡ self.old.report) × (self.new.unanswered ≡ self.old.unanswered) }
     {
         self.outbox.flush(writer)
     }
@@ -120,17 +124,33 @@ impl Told {
         teller: &mut T,
         source: &mut S,
     ) -> Result<(), AllocError>
-        requires room { HasRoom self.old.outbox }
-        requires count { count_of self.old.report + 1 < 2 ^ 64 }
+        requires room { HasRoomForLine self.old.outbox }
+        requires count { lines_of self.old + 1 < 2 ^ 64 }
         ensures told { OnOk result ((kind : LineKind)
-            × AnswersLine T.refuses T.most T.tells teller.old teller.new line.now kind self.old.outbox.bytes.items self.new.outbox.bytes.items
-            × (self.new.report ≡ report_with self.old.report kind)) }
+            × AnswersLine T.written T.refuses T.most T.tells teller.old teller.new (lines_of self.old + 1) line.now kind self.old.outbox.bytes.items self.new.outbox.bytes.items
+            × (self.new.report ≡ report_with self.old.report kind)
+            × (lines_of self.new ≡ lines_of self.old + 1)) }
         ensures err { OnErr result ((self.new.outbox.bytes.items ≡ self.old.outbox.bytes.items)
             × T.wants_memory teller.old line.now) }
-        ensures count { count_of self.new.report ≤ count_of self.old.report + 1 }
+        ensures count { lines_of self.new ≤ lines_of self.old + 1 }
     {
-        let kind = teller.tell(line, &mut self.outbox, source)?;
-        self.report.count(kind);
+        let number = self.report.answered + self.report.refused + self.unanswered + 1;
+        let kind = teller.tell(number, line, &mut self.outbox, source)?;
+        self.count(kind);
         Ok(())
+    }
+
+    /// Counts one more line.
+    fn count(&mut self, kind: LineKind)
+        requires { lines_of self.old + 1 < 2 ^ 64 }
+        ensures report { self.new.report ≡ report_with self.old.report kind }
+        ensures lines { lines_of self.new ≡ lines_of self.old + 1 }
+        ensures outbox { self.new.outbox ≡ self.old.outbox }
+    {
+        match kind {
+            LineKind::NoRecord => self.unanswered += 1,
+            LineKind::Answered => self.report.answered += 1,
+            LineKind::Refused => self.report.refused += 1,
+        }
     }
 }

@@ -14,6 +14,8 @@ mod laws;
 #[cfg(test)]
 mod lines;
 #[cfg(test)]
+mod numbering;
+#[cfg(test)]
 mod ready;
 #[cfg(test)]
 mod replay;

@@ -11,6 +11,8 @@ pub enum Request<'m, 'a> {
         lines: Lines<'m, 'a>,
         form: Form,
         rules: Rules,
+        /// Whether each stands behind the number of its line.
+        is_numbered: bool,
     },
     /// Every code in words.
     HelpCodes,
@@ -112,8 +114,12 @@ fn lines_request<'m, 'a>(
     lines: Lines<'m, 'a>,
     form: Form,
 ) -> Request<'m, 'a> {
-    let rules = rules_in(matches);
-    Request::Lines { lines, form, rules }
+    Request::Lines {
+        lines,
+        form,
+        rules: rules_in(matches),
+        is_numbered: matches.get_flag("number"),
+    }
 }
 
 /// The files of the option, or else other lines.

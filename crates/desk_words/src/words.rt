@@ -93,6 +93,7 @@ fn line_command<'a>(alloc: Global) -> Result<Command<'a>, AllocError> {
         .after_help(LINE_HELP)
         .arg(rules_arg(alloc))?
         .arg(file_arg(alloc))?
+        .arg(number_arg(alloc))?
         .arg(json_arg(alloc))
 }
 
@@ -103,6 +104,14 @@ fn file_arg<'a>(alloc: Global) -> Arg<'a> {
         .value_name("FILE")
         .num_args(1..)
         .help("Answers the lines of these files in turn, of standard input for -")
+}
+
+/// That the numbers of lines are wanted.
+fn number_arg<'a>(alloc: Global) -> Arg<'a> {
+    Arg::new(alloc, "number")
+        .long("number")
+        .action(ArgAction::SetTrue)
+        .help("Puts the number of its line before each answer, from 1 in each file")
 }
 
 /// That answers are wanted as JSON.
@@ -125,6 +134,7 @@ fn explain_command<'a>(alloc: Global) -> Result<Command<'a>, AllocError> {
         .after_help(EXPLAIN_HELP)
         .arg(rules_arg(alloc))?
         .arg(file_arg(alloc))?
+        .arg(number_arg(alloc))?
         .arg(lines)
 }
 

@@ -72,9 +72,14 @@ fn answer_words<'a, R: Input + Print + Eprint + Files + Threads + Wait + Sync + 
     };
     match request_of(&matches) {
         Some(Request::Waits(hand)) => print_waits(rt, notes, hand),
-        Some(Request::Lines { lines, form, rules }) => {
-            answer_lines(rt, notes, lines, form, rules)
-        }
+        Some(
+            Request::Lines {
+                lines,
+                form,
+                rules,
+                is_numbered,
+            },
+        ) => answer_lines(rt, notes, lines, form, rules, is_numbered),
         Some(Request::HelpCodes) => print_codes(rt, notes),
         Some(Request::HelpYaku) => print_yaku(rt, notes),
         Some(Request::Replay(file)) => replay_file(rt, notes, file),

@@ -3,7 +3,8 @@ use crate::failure::Failure;
 use crate::files::open_file;
 use crate::noted::Notes;
 use desk_lines::{
-    DeskFault, DeskReport, Rules, SuitMemo, desk_text_with, explain_text_with, json_text_with,
+    DeskFault, DeskReport, Explained, Members, Plain, Rules, SuitMemo, desk_text_with,
+    explain_text_with, json_text_with, numbered_text_with,
 };
 use desk_streams::{BytesIn, FromReader, Sink, Source, ToWriter};
 use desk_words::{Form, Lines};
@@ -14,10 +15,12 @@ use std::rt::Files;
 /// The name of the file that is standard input.
 const INPUT: &str = "-";
 
-/// Answers lines: in which form, by which rules where they are given no others, with the rows that are kept, and where to.
+/// Answers lines: in which form, behind their numbers or not, by which rules where they are given no others, with the rows that
+/// are kept, and where to.
 #[derive(Drop)]
 struct Answering<W> {
     form: Form,
+    is_numbered: bool,
     rules: Rules,
     rows: SuitMemo,
     writer: W,
@@ -30,9 +33,11 @@ pub fn answer_lines<'a, R: Input + Print + Eprint + Files + AllocGlobal>(
     lines: Lines<'_, 'a>,
     form: Form,
     rules: Rules,
+    is_numbered: bool,
 ) -> Result<bool, Failure<'a>> {
     let mut answering = Answering {
         form,
+        is_numbered,
         rules,
         rows: SuitMemo::new(rt.alloc()),
         writer: ToWriter::new(notes.output(rt)),
@@ -106,11 +111,27 @@ impl<W: Sink> Answering<W> {
     }
 
     fn report<S: Source>(&mut self, reader: &mut S) -> Result<DeskReport, DeskFault> {
+        if self.is_numbered {
+            return self.numbered(reader);
+        }
         let (rows, writer) = (&mut self.rows, &mut self.writer);
         match self.form {
             Form::Words => desk_text_with(rows, self.rules, reader, writer),
             Form::Json => json_text_with(rows, self.rules, reader, writer),
             Form::Reasons => explain_text_with(rows, self.rules, reader, writer),
+        }
+    }
+
+    fn numbered<S: Source>(&mut self, reader: &mut S) -> Result<DeskReport, DeskFault> {
+        let (rows, rules, writer) = (&mut self.rows, self.rules, &mut self.writer);
+        match self.form {
+            Form::Words => numbered_text_with::<Plain, SuitMemo, S, W>(rows, rules, reader, writer),
+            Form::Json => numbered_text_with::<Members, SuitMemo, S, W>(
+                rows, rules, reader, writer,
+            ),
+            Form::Reasons => {
+                numbered_text_with::<Explained, SuitMemo, S, W>(rows, rules, reader, writer)
+            }
         }
     }
 }

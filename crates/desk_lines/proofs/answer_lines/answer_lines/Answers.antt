@@ -22,12 +22,12 @@ loop-turn-init g c =
       record {
         gives = record { appended = sym (append-nil (source.given c.args.reader.now)); taken = Consumes-nil (source.left c.args.reader.now) };
         held = c.new-held.ensures;
-        stands = Stands-new g.W.Sink g.T.Teller c.args.writer.now c.args.teller.now c.new-told.result c.requires.new c.new-told.ensures.report c.new-told.ensures.outbox;
+        stands = Stands-new g.W.Sink g.T.Teller c.args.writer.now c.args.teller.now c.new-told.result c.requires.new c.new-told.ensures.report c.new-told.ensures.none c.new-told.ensures.outbox;
         empty = c.new-told.ensures.outbox;
         reads = refl;
         calls = omega arith;
         ends = refl;
-        count = let none = ap count_of c.new-told.ensures.report in omega arith;
+        count = let none = ap count_of c.new-told.ensures.report in let unread = c.new-told.ensures.none in omega arith;
       },
     )
 
@@ -128,6 +128,6 @@ loop-turn-preserved g c =
         reads = read.not_failed ∙ so_far.reads;
         calls = let more = c.read_behind.ensures.calls in let before = so_far.calls in omega arith;
         ends = read.end ∙ so_far.ends;
-        count = let more = c.add_lines.ensures.count in let before = so_far.count in let same = ap count_of c.flush.ensures.report in let lengths = length-take c.in_ok-len.len c.read_behind.new.room in let within = c.in_ok-len.ensures.read.0 in omega arith;
+        count = let more = c.add_lines.ensures.count in let before = so_far.count in let same = ap count_of c.flush.ensures.report.0 in let unread = c.flush.ensures.report.1 in let lengths = length-take c.in_ok-len.len c.read_behind.new.room in let within = c.in_ok-len.ensures.read.0 in omega arith;
       },
     )

@@ -1,9 +1,8 @@
 use Rattle.std.proofs.Common.{◌≡◌, ℕ, ◌+◌, ◌*◌, ◌≤◌, List, []}
-use Rattle.desk_lines.specs.Told.{Stands}
+use Rattle.desk_lines.specs.Told.{Stands, lines_of}
 use Rattle.desk_lines.specs.Lines.{ended_lines}
 use Rattle.desk_lines.specs.Reading.{kept}
 use Rattle.desk_lines.specs.Streams.{Gives}
-use Rattle.desk_lines.specs.Telling.{count_of}
 use Rattle.desk_lines.proofs.answer_lines.answer_lines.Given as goal
 
 -- the lines of the text that the reader has given are answered, the front of what follows is held, and no call has failed
@@ -18,5 +17,5 @@ invariant-loop-turn g l =
       reads : source.failures l.reader ≡ source.failures l.fn.reader;
       calls : source.calls l.reader ≡ source.calls l.fn.reader + l.turn;
       ends : source.ends l.reader ≡ source.ends l.fn.reader;
-      count : count_of l.told.report ≤ 73730 * l.turn;
+      count : lines_of l.told ≤ 73730 * l.turn;
     }

@@ -9,7 +9,7 @@ returns-clause-told g c =
       answer = None;
       kind_is = refl;
       put = sym (append-nil c.args._outbox.now.bytes.items);
-      tells_more = λ first lines told next as_this tells. (
+      tells_more = λ first lines told next counted as_this tells. (
         took.given.0 ∙ tells.0,
         took.given.1 ∙ tells.1,
         Collects-line c.args.self.now c.take_line.new.self c.args.line.now next lines as_this tells.2 took.given.0 took.given.1 took.rules took.told took.answered took.refused,

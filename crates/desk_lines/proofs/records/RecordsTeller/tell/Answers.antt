@@ -8,7 +8,7 @@ returns-clause-told g c =
       answer = puts.told;
       kind_is = puts.kind_is;
       put = puts.put;
-      tells_more = λ first lines told next as_this tells. (
+      tells_more = λ first lines told next counted as_this tells. (
         c.put_line.ensures.given ∙ tells.0,
         TellsRecords-line g.A.Responder.may_tell g.met.A.Responder.alike c.args.self.now c.put_line.new.self c.args.line.now next puts.told lines told as_this tells.1
             c.put_line.ensures.given c.put_line.ensures.rules puts.may_be_told,

@@ -13,7 +13,7 @@ returns-in-None-clause-told g c =
       answer = bytes_of c.in_ok-answer_with.field-0;
       kind_is = ap (λ (text : Option ArrayString). kind_of (bytes_of text)) (sym is);
       put = sym (append-nil items) ∙ ap (λ (text : Option ArrayString). items ++ with_line_feed (bytes_of text)) (sym is);
-      tells_more = λ first lines answers next as_this tells.
+      tells_more = λ first lines answers next counted as_this tells.
           TellsScript-line c.args.self.now c.answer_with.new.self lines answers c.args.line.now next (bytes_of c.in_ok-answer_with.field-0) as_this c.in_ok-answer_with.ensures.told tells;
     }
 
@@ -25,6 +25,6 @@ returns-in-Some-clause-told g c =
       answer = bytes_of c.in_ok-answer_with.field-0;
       kind_is = c.put_text.ensures.kind ∙ ap (λ (bytes : List ℕ). kind_of (Some bytes)) whole ∙ ap (λ (text : Option ArrayString). kind_of (bytes_of text)) (sym is);
       put = c.put_text.ensures.told ∙ ap (λ (bytes : List ℕ). items ++ with_line_feed (Some bytes)) whole ∙ ap (λ (text : Option ArrayString). items ++ with_line_feed (bytes_of text)) (sym is);
-      tells_more = λ first lines answers next as_this tells.
+      tells_more = λ first lines answers next counted as_this tells.
           TellsScript-line c.args.self.now c.answer_with.new.self lines answers c.args.line.now next (bytes_of c.in_ok-answer_with.field-0) as_this c.in_ok-answer_with.ensures.told tells;
     }

@@ -27,7 +27,7 @@ returns-in_err-flush-clause-stops g c =
 pub returns-in-Ok-clause-stands : goal.returns-in-Ok-clause-stands
 returns-in-Ok-clause-stands g c start first lines next as_this stands =
     let told = c.in-Ok.ensures.told in
-    Stands-line g.W.Sink g.T.Teller start first lines c.args.teller.now c.take.new.teller c.if-not-has_room.self c.take.new.self c.if-not-has_room.writer c.args.line.now next told.0 as_this (stood g (goal.at.returns-in-Ok-clause-stands g c).After-take start first lines stands) told.1 told.2
+    Stands-line g.W.Sink g.T.Teller start first lines c.args.teller.now c.take.new.teller c.if-not-has_room.self c.take.new.self c.if-not-has_room.writer c.args.line.now next told.0 as_this (stood g (goal.at.returns-in-Ok-clause-stands g c).After-take start first lines stands) told.1 told.2 told.3
 
 -- memory was wanted, and then the answers before could not be written
 pub returns-in_err-flush-in-Err-clause-stops : goal.returns-in_err-flush-in-Err-clause-stops

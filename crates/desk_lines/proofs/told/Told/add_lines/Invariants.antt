@@ -1,8 +1,7 @@
 use Rattle.std.proofs.Common.{◌≡◌, ℕ, ◌+◌, ◌≤◌, List, ◌++◌, length}
-use Rattle.desk_lines.specs.Told.{Stands}
+use Rattle.desk_lines.specs.Told.{Stands, lines_of}
 use Rattle.desk_lines.specs.Lines.{cut_of, ended_lines}
 use Rattle.desk_lines.specs.Reading.{AreToldAs}
-use Rattle.desk_lines.specs.Telling.{count_of}
 use Rattle.desk_lines.proofs.told.Told.add_lines.Given as goal
 
 -- the lines before the rest are answered
@@ -12,7 +11,7 @@ invariant-loop-line g l = (done : List (List ℕ)) × record {
   rest : (cut_of l.text).rest ≡ (cut_of l.rest).rest;
   stands : (start : g.row.W.Denot) (first : g.row.T.Denot) (lines next : List (List ℕ)) → AreToldAs g.T.Teller.most done next → Stands g.W.Sink g.T.Teller start first lines l.fn.teller l.fn.self l.fn.writer
       → Stands g.W.Sink g.T.Teller start first (lines ++ next) l.teller l.self l.writer;
-  count : count_of l.self.report + length l.rest ≤ count_of l.fn.self.report + length l.text;
+  count : lines_of l.self + length l.rest ≤ lines_of l.fn.self + length l.text;
 }
 
 abbrev pub decreases-loop-line : goal.decreases-loop-line
