@@ -61,6 +61,7 @@ pub use json_lines::json_text_with;
 pub use ready::is_ready;
 pub use replay::replay_text;
 pub use report::DeskReport;
+pub use riichi_explain::Shown;
 pub use riichi_hand::Rules;
 pub use riichi_shape::SuitMemo;
 pub use sheet::Sheet;

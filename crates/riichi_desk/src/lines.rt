@@ -3,7 +3,7 @@ use crate::failure::Failure;
 use crate::files::open_file;
 use crate::noted::Notes;
 use desk_lines::{
-    DeskFault, DeskReport, Rules, SuitMemo, desk_text_with, explain_text_with, json_text_with,
+    DeskFault, DeskReport, Rules, Shown, SuitMemo, desk_text_with, explain_text_with, json_text_with,
 };
 use desk_streams::{BytesIn, FromReader, Sink, Source, ToWriter};
 use desk_words::{Form, Lines};
@@ -99,7 +99,7 @@ impl<W: Sink> Answering<W> {
         match self.report(reader) {
             Ok(report) => Ok(report.refused > 0),
             Err(fault) => Err(match self.form {
-                Form::Reasons => Failure::Explained(fault),
+                Form::Reasons | Form::AllReasons => Failure::Explained(fault),
                 Form::Words | Form::Json => Failure::from(fault),
             }),
         }
@@ -110,7 +110,12 @@ impl<W: Sink> Answering<W> {
         match self.form {
             Form::Words => desk_text_with(rows, self.rules, reader, writer),
             Form::Json => json_text_with(rows, self.rules, reader, writer),
-            Form::Reasons => explain_text_with(rows, self.rules, reader, writer),
+            Form::Reasons => {
+                explain_text_with(rows, self.rules, Shown::BestReading, reader, writer)
+            }
+            Form::AllReasons => {
+                explain_text_with(rows, self.rules, Shown::EveryReading, reader, writer)
+            }
         }
     }
 }
