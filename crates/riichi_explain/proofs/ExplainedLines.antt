@@ -12,6 +12,7 @@ use Rattle.riichi_hand.specs.declared.job.Job.TheVariants as job
 use Rattle.riichi_hand.specs.declared.win.WinParts.{WinParts}
 use Rattle.riichi_split.specs.declared.reading.Reading.{Reading}
 use Rattle.riichi_split.specs.declared.reading.Reading.TheVariants as reading
+use Rattle.riichi_split.specs.contracts.reading.ReadingPartialEq.TheImpl.{ghosts as readings}
 use Rattle.riichi_shape.specs.declared.forms.FormDistances.{FormDistances}
 use Rattle.riichi_yaku.specs.YakuSets.{is_yakuman}
 use Rattle.riichi_score.specs.Scores.{hand_of}
@@ -46,7 +47,7 @@ use Rattle.riichi_explain.specs.Explanation.{win_lines, AreOthers, IsBestText, I
 use Rattle.riichi_explain.specs.Han.{han_rows}
 use Rattle.riichi_explain.specs.Others.{scored_text, ranked_text, other_text, fitting, more_line, more_if}
 use Rattle.riichi_explain.specs.Win.{counted_fu}
-use Rattle.riichi_explain.specs.Forms.{shanten_text, form_text, other_text, shanten_line}
+use Rattle.riichi_explain.specs.Forms.{shanten_text, form_text, other_text as other_form, shanten_line}
 use Rattle.riichi_explain.specs.Text as text
 use Rattle.riichi_waits.specs.Waits as waits
 use Rattle.riichi_waits.specs.Waits.{kind_waits}
@@ -336,19 +337,19 @@ form_text-plain : (name : List ℕ) (lack : ℕ) → plain name ≡ true → pla
 unfolding form_text
 form_text-plain name lack p = after name (shanten_text lack) p (shanten_text-plain lack)
 
-other_text-plain : (name : List ℕ) (lack : Option ℕ) → plain name ≡ true → plain (other_text name lack) ≡ true
-unfolding other_text
-other_text-plain name None p = refl
-other_text-plain name (Some lack) p = form_text-plain name lack p
+other_form-plain : (name : List ℕ) (lack : Option ℕ) → plain name ≡ true → plain (other_form name lack) ≡ true
+unfolding other_form
+other_form-plain name None p = refl
+other_form-plain name (Some lack) p = form_text-plain name lack p
 
 shanten_line-lines : (forms : FormDistances) → are_indented (shanten_line forms) ≡ true
 unfolding shanten_line
 shanten_line-lines forms =
-    let pairs = other_text (codes ", seven pairs ") forms.seven_pairs in
-    let orphans = other_text (codes ", thirteen orphans ") forms.thirteen_orphans in
+    let pairs = other_form (codes ", seven pairs ") forms.seven_pairs in
+    let orphans = other_form (codes ", thirteen orphans ") forms.thirteen_orphans in
     let standard = form_text (codes "sets and a pair ") forms.sets_and_pair in
     pass (standard ++ pairs ++ orphans) (10 ∷ []) (after3 standard pairs orphans (form_text-plain (codes "sets and a pair ") forms.sets_and_pair refl)
-    (other_text-plain (codes ", seven pairs ") forms.seven_pairs refl) (other_text-plain (codes ", thirteen orphans ") forms.thirteen_orphans refl))
+    (other_form-plain (codes ", seven pairs ") forms.seven_pairs refl) (other_form-plain (codes ", thirteen orphans ") forms.thirteen_orphans refl))
 
 -- ---- waits
 
@@ -427,7 +428,7 @@ fitting-lines shown win last room (one ∷ ranked) p =
     let lines = other_text shown win one in
     let more = fitting last (room - length lines) (map (other_text shown win) ranked) in
     elim (nat_le (length lines + 60) room) as (λ test. are_indented (cond test (lines ++ more) more_line) ≡ true) [
-      | true ↦ lines-append lines more (unless-lines _ _ (ranked_text-lines win one.reading one.score)) (fitting-lines shown win last (room - length lines) ranked p)
+      | true ↦ lines-append lines more (unless-lines (readings.eq one.reading shown) (ranked_text win one.reading one.score) (ranked_text-lines win one.reading one.score)) (fitting-lines shown win last (room - length lines) ranked p)
       | false ↦ refl
     ]
 
@@ -438,7 +439,7 @@ more_if-lines false = refl
 others-lines : (explanation : WinExplanation) (win : WinParts) (said : List ℕ) → AreOthers explanation win said → are_indented said ≡ true
 others-lines (Won hand) win said are =
     ap are_indented are.text_is ∙ fitting-lines hand.reading win _ 4608 are.ranking.ranked.items (more_if-lines (nat_lt 0 (length are.ranking.rest)))
-others-lines (NoYaku readings) win said are = ap are_indented are
+others-lines (NoYaku all) win said are = ap are_indented are
 others-lines (NoWin missed) win said are = ap are_indented are
 
 -- ---- every explanation

@@ -1,7 +1,7 @@
 -- What is kept where one more reading is ranked.
-use Rattle.std.proofs.Common.{◌≡◌, ℕ, ◌+◌, ◌-◌, ◌<◌, ◌≤◌, Bool, true, false, Option, Some, None, List, [], ◌∷◌, ◌++◌, length, get_or, map, take, sym, ap, ◌∙◌, subst, inl, inr, arith, refl}
+use Rattle.std.proofs.Common.{◌≡◌, ℕ, ◌+◌, ◌-◌, ◌<◌, ◌≤◌, true, false, Option, List, [], ◌∷◌, ◌++◌, length, get_or, map, take, drop, sym, ap, ◌∙◌, inl, inr, arith, refl}
 use Rattle.std.specs.Prelude.{All, IsPermutation}
-use Rattle.std.specs.List.{insert}
+use Rattle.std.specs.List.{insert, AllByRecursion}
 use Rattle.std.specs.declared.cmp.Ordering.{Ordering}
 use Rattle.std.specs.declared.cmp.Ordering.TheVariants.{Less, Equal, Greater}
 use Rattle.std.specs.Ordering.{is_gt, ordering_reverse, nat_cmp}
@@ -9,14 +9,18 @@ use Rattle.std.specs.Cmp.Lexicographic.{slice_cmp}
 use Rattle.std.proofs.lemmas.Bool.{cases_lt, cases_eq}
 use Rattle.std.proofs.lemmas.Cmp.{nat_list_cmp_total}
 use Rattle.std.proofs.lemmas.List.Edits.{length-insert, get_or-insert_below, get_or-insert_at, get_or-insert_above}
-use Rattle.std.proofs.lemmas.List.Elements.{All-cons}
+use Rattle.std.proofs.lemmas.List.Elements.{All-cons, All-head, All-same, All-drop, All-take, All-from_recursion, recursion_from_All}
 use Rattle.std.proofs.lemmas.List.Sorted.{IsPermutation-insert, IsPermutation-map, IsPermutation-push_more, All-permutation}
 use Rattle.riichi_hand.specs.declared.win.WinParts.{WinParts}
 use Rattle.riichi_split.specs.declared.reading.Reading.{Reading}
+use Rattle.riichi_split.specs.declared.reading.Reading.TheVariants.{Standard, SevenPairs, Orphans}
 use Rattle.riichi_score.specs.declared.score.Score.{Score}
-use Rattle.riichi_score.specs.Scores.{score_of}
+use Rattle.riichi_score.specs.Fu.{HasFourSets}
+use Rattle.riichi_score.specs.Scores.{score_of, IsReadingOf}
+use Rattle.riichi_score.proofs.Greatest.{AreReadingsOf}
 use Rattle.riichi_explain.specs.declared.ranked.RankedReading.{RankedReading}
-use Rattle.riichi_explain.specs.Ranked.{rank_if, is_worth_more, AreInOrder}
+use Rattle.riichi_explain.specs.declared.ranked.Ranking.{Ranking}
+use Rattle.riichi_explain.specs.Ranked.{rank_if, is_worth_more, AreInOrder, AreRanked}
 
 -- ---- one of two readings at most is worth more than the other
 
@@ -85,3 +89,25 @@ pub scored-insert : (win : WinParts) (ranked : List RankedReading) (place : ℕ)
 scored-insert win ranked place x is h =
     let scored = λ (one : RankedReading). one.score ≡ score_of one.reading win in
     All-permutation scored (x ∷ ranked) (insert ranked place x) (IsPermutation-insert ranked place x) (All-cons scored x ranked is h)
+
+-- ---- the next reading of the hand
+
+four_sets : (win : WinParts) (read : Reading) → IsReadingOf win read → HasFourSets read win
+four_sets win (Standard sets pair done) h = h.0.four
+four_sets win SevenPairs h = tt
+four_sets win Orphans h = tt
+
+pub next_four_sets : (win : WinParts) (readings rest : List Reading) (turn : ℕ) (next : Reading) → AreReadingsOf win readings → drop turn readings ≡ next ∷ rest → HasFourSets next win
+next_four_sets win readings rest turn next are is =
+    four_sets win next (All-head (IsReadingOf win) next rest (All-same (IsReadingOf win) (next ∷ rest) (drop turn readings) (sym is) (All-drop (IsReadingOf win) turn readings are.sound)))
+
+pub ranked_four_sets : (win : WinParts) (ranking : Ranking) → AreRanked win ranking → All (λ one. HasFourSets one.reading win) ranking.ranked.items
+ranked_four_sets win ranking are =
+    let ranked = ranking.ranked.items in
+    let sound = All-take (IsReadingOf win) 12 are.readings are.are_all.sound in
+    let all = All-permutation (IsReadingOf win) (take 12 are.readings) (readings_in ranked) are.each_once sound in
+    All-from_recursion (λ one. HasFourSets one.reading win) ranked (each ranked (recursion_from_All (IsReadingOf win) (readings_in ranked) all))
+  where
+    each : (ranked : List RankedReading) → AllByRecursion (IsReadingOf win) (readings_in ranked) → AllByRecursion (λ one. HasFourSets one.reading win) ranked
+    each [] h = tt
+    each (one ∷ ranked) h = (four_sets win one.reading h.0, each ranked h.1)
