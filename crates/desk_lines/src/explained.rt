@@ -2,8 +2,8 @@
 ghost use Rattle.std.specs.Prelude.{◌≡◌, ℕ, ◌+◌, ◌≤◌, List, ◌∷◌, ◌++◌, [], length, option_map};
 ghost use Rattle.desk_core.specs.AnswerText.{answer_text};
 ghost use Rattle.desk_core.specs.Value.{value_of};
-ghost use Rattle.riichi_explain.specs.Explanation.{IsJobText, IsWinText, IsShapeText};
-ghost use Rattle.riichi_explain.specs.Others.{IsOthersText};
+ghost use Rattle.riichi_explain.specs.Explanation.{IsJobText, IsWinText, IsBestText, AreOthers, IsShapeText};
+ghost use Rattle.riichi_explain.specs.Win.{reading_of};
 ghost use Rattle.riichi_hand.specs.FaultTexts.{fault_text};
 ghost use Rattle.riichi_hand.specs.Places.{fault_from};
 ghost use Rattle.riichi_hints.specs.Hint.{IsRefusalText};
@@ -127,28 +127,43 @@ fn put_win(shown: Shown, win: &WinRecord, outbox: &mut Outbox)
     ensures { (why : List ℕ) × IsWinText shown win.now why
         × (outbox.new.bytes.items ≡ outbox.old.bytes.items ++ ((spec_win.text_of (best_of win.now) ++ 10 ∷ []) ++ why)) }
 {
-    let explanation = explain_win(win);
-    outbox.text.clear();
-    push_win(&mut outbox.text, &explanation.answer());
-    outbox.put_text();
-    let best = explanation.reading();
-    outbox.why.clear();
-    push_win_lines(&mut outbox.why, explanation, win);
-    outbox.put_why();
-    if let (Shown::EveryReading, Some(best)) = (shown, best) {
-        put_others(&best, win, outbox);
+    let best = put_best(win, outbox);
+    match shown {
+        Shown::BestReading => {}
+        Shown::EveryReading => put_others(&best, win, outbox),
     }
 }
 
-/// Puts the lines of the readings beside the best one into the outbox.
-fn put_others(best: &Reading, win: &WinRecord, outbox: &mut Outbox)
+/// Puts the answer to a win into the outbox, and why it is so: the reading that scores.
+fn put_best(win: &WinRecord, outbox: &mut Outbox) -> Option<Reading>
+    requires { HasRoom outbox.old }
+    ensures told { (why : List ℕ) × (best : IsBestText win.now why)
+        × (outbox.new.bytes.items ≡ outbox.old.bytes.items ++ ((spec_win.text_of (best_of win.now) ++ 10 ∷ []) ++ why))
+        × (result ≡ reading_of best.explanation) }
+    ensures room { length outbox.new.bytes.items ≤ length outbox.old.bytes.items + 7681 }
+{
+    let explanation = explain_win(win);
+    let best = explanation.reading();
+    outbox.text.clear();
+    push_win(&mut outbox.text, &explanation.answer());
+    outbox.put_text();
+    outbox.why.clear();
+    push_win_lines(&mut outbox.why, explanation, win);
+    outbox.put_why();
+    best
+}
+
+/// Puts the lines of the readings beside the one that scores into the outbox.
+fn put_others(best: &Option<Reading>, win: &WinRecord, outbox: &mut Outbox)
     requires { length outbox.old.bytes.items + 4608 ≤ 65536 }
-    ensures { (others : List ℕ) × IsOthersText best.now win.now others
+    ensures { (others : List ℕ) × AreOthers best.now win.now others
         × (outbox.new.bytes.items ≡ outbox.old.bytes.items ++ others) }
 {
-    outbox.why.clear();
-    push_other_readings(&mut outbox.why, best, win);
-    outbox.put_why();
+    if let Some(best) = best {
+        outbox.why.clear();
+        push_other_readings(&mut outbox.why, best, win);
+        outbox.put_why();
+    }
 }
 
 fn put_kinds(hand: &HandRecord, outbox: &mut Outbox)

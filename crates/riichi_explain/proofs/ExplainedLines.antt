@@ -46,7 +46,7 @@ use Rattle.riichi_explain.specs.declared.ranked.RankedReading.{RankedReading}
 use Rattle.riichi_explain.specs.Explanation.{win_lines, AreOthers, IsBestText, IsWinText, IsJobText, IsOutcomeText}
 use Rattle.riichi_explain.specs.Han.{han_rows}
 use Rattle.riichi_explain.specs.Others.{scored_text, ranked_text, other_text, fitting, more_line, more_if}
-use Rattle.riichi_explain.specs.Win.{counted_fu}
+use Rattle.riichi_explain.specs.Win.{counted_fu, reading_of}
 use Rattle.riichi_explain.specs.Forms.{shanten_text, form_text, other_text as other_form, shanten_line}
 use Rattle.riichi_explain.specs.Text as text
 use Rattle.riichi_waits.specs.Waits as waits
@@ -436,11 +436,10 @@ more_if-lines : (has_more : Bool) → are_indented (more_if has_more) ≡ true
 more_if-lines true = refl
 more_if-lines false = refl
 
-others-lines : (explanation : WinExplanation) (win : WinParts) (said : List ℕ) → AreOthers explanation win said → are_indented said ≡ true
-others-lines (Won hand) win said are =
-    ap are_indented are.text_is ∙ fitting-lines hand.reading win _ 4608 are.ranking.ranked.items (more_if-lines (nat_lt 0 (length are.ranking.rest)))
-others-lines (NoYaku all) win said are = ap are_indented are
-others-lines (NoWin missed) win said are = ap are_indented are
+others-lines : (best : Option Reading) (win : WinParts) (said : List ℕ) → AreOthers best win said → are_indented said ≡ true
+others-lines None win said are = ap are_indented are
+others-lines (Some best) win said are =
+    ap are_indented are.text_is ∙ fitting-lines best win _ 4608 are.ranking.ranked.items (more_if-lines (nat_lt 0 (length are.ranking.rest)))
 
 -- ---- every explanation
 
@@ -455,7 +454,7 @@ best_text-lines win said is = ap are_indented is.text_is ∙ win_lines-lines is.
 win_text-lines : (shown : Shown) (win : WinParts) (said : List ℕ) → IsWinText shown win said → are_indented said ≡ true
 win_text-lines BestReading win said is = best_text-lines win said is
 win_text-lines EveryReading win said is =
-    ap are_indented is.text_is ∙ lines-append is.best is.others (best_text-lines win is.best is.is_best) (others-lines is.is_best.explanation win is.others is.are_others)
+    ap are_indented is.text_is ∙ lines-append is.best is.others (best_text-lines win is.best is.is_best) (others-lines (reading_of is.is_best.explanation) win is.others is.are_others)
 
 pub job_text-lines : (shown : Shown) (job : Job) (said : List ℕ) → IsJobText shown job said → are_indented said ≡ true
 job_text-lines shown (job.Win win) said is = win_text-lines shown win said is

@@ -21,7 +21,7 @@ use Rattle.riichi_explain.specs.Missed.{missed_lines}
 use Rattle.riichi_explain.specs.Others.{IsOthersText}
 use Rattle.riichi_explain.specs.Text.{won_hand_text, no_yaku_line}
 use Rattle.riichi_waits.specs.Waits.{kind_waits, waits_line}
-use Rattle.riichi_explain.specs.Win.{Explains, answer_of}
+use Rattle.riichi_explain.specs.Win.{Explains, answer_of, reading_of}
 
 -- the lines of readings without yaku: of the first twelve
 abbrev pub no_yaku_lines : List Reading → WinParts → List ℕ
@@ -39,18 +39,17 @@ pub record IsBestText (win : WinParts) (text : List ℕ) : Type 0 where
   pub explains : Explains win explanation
   pub text_is : text ≡ win_lines explanation win
 
--- the lines of the other readings of a hand that scores
-abbrev pub AreOthers : WinExplanation → WinParts → List ℕ → Type 0
-AreOthers (Won hand) win text = IsOthersText hand.reading win text
-AreOthers (NoYaku readings) win text = text ≡ []
-AreOthers (NoWin missed) win text = text ≡ []
+-- the lines of the readings beside the one that scores, if there is one
+abbrev pub AreOthers : Option Reading → WinParts → List ℕ → Type 0
+AreOthers None win text = text ≡ []
+AreOthers (Some best) win text = IsOthersText best win text
 
 -- The same, and what each other reading is worth.
 pub record IsEveryText (win : WinParts) (text : List ℕ) : Type 0 where
   pub best : List ℕ
   pub is_best : IsBestText win best
   pub others : List ℕ
-  pub are_others : AreOthers is_best.explanation win others
+  pub are_others : AreOthers (reading_of is_best.explanation) win others
   pub text_is : text ≡ best ++ others
 
 abbrev pub IsWinText : Shown → WinParts → List ℕ → Type 0
