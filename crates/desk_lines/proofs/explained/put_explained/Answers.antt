@@ -1,4 +1,4 @@
-use Rattle.std.proofs.Common.{Ok, Err, Some, true, false, refl, sym, ap, ◌∙◌}
+use Rattle.std.proofs.Common.{Ok, Err, Some, true, false, refl, ap, ◌∙◌}
 use Rattle.desk_lines.proofs.KindLemmas.{is_refusal-answer, is_refusal-fault}
 use Rattle.desk_lines.proofs.ExplainedPuts.{puts-none, puts-said}
 use Rattle.desk_lines.proofs.explained.put_explained.Goals as goal
