@@ -43,6 +43,9 @@ explains() {
   "$program" explain < "$1" > "$room/answers" 2> "$room/said"
   got=$?
   told "explain < $1" "status $status: $(sha256sum < "$2")" "status $got: $(grep -v '^  ' "$room/answers" | sha256sum)"
+  # with every reading: the same text, once the lines from each `other` to the next answer are dropped
+  told "explain --all < $1" "status $got: $(sha256sum < "$room/answers")" \
+    "$("$program" explain --all < "$1" 2> "$room/said" > "$room/every"; echo "status $?: $(awk '/^  other / { drops = 1 } /^[^ ]/ { drops = 0 } !drops' "$room/every" | sha256sum)")"
 }
 
 # what the system says of a full disk, and of a folder in place of standard input
@@ -127,6 +130,14 @@ why=$'won 1 han 50 fu 1600 gain 1600 riichi\n  reading 789m 999m 444p 567s 22s, 
 row 0 "$why" '' explain "$disputed"
 row 1 "$why"$'\nrefused N5 hand at 0\n  8z\n  ^ honours are 1z to 7z' '' explain "$disputed" 'waits 8z'
 row 0 "$why" '' explain $disputed
+other=$'\n  other   789m 999m 444p 567s 22s, 9m completes 999m\n  han     riichi 1
+  fu      20 base, 10 concealed ron (menzen kafu), 4 open triplet 999m (minkou), 4 concealed triplet 444p (ankou): 38, rounded to 40
+  gain    1300'
+row 0 "$why$other" '' explain --all "$disputed"
+row 0 "$why$other"$'\nwaits 25p\n  2p 4 left, two-sided (ryanmen); 5p 4 left, two-sided (ryanmen)' '' explain --all "$disputed" 'waits 123456789m1134p'
+row 2 '' "unexpected argument '--all' found" line --all
+# a hand of eight readings, which is the most that is known
+told 'explain --all of eight readings' '1 7' "$("$program" explain --all 'win 6667778888999m on=7m by=ron seat=S round=E riichi=1' | awk '/^  reading / { best++ } /^  other / { others++ } END { print best, others }')"
 # files in place of standard input, each with its own profile
 echo "$disputed" > "$room/one"
 printf 'rules 2\nwin 123406789m22s34p on=2p by=ron seat=S round=E\n' > "$room/two"

@@ -5,6 +5,7 @@ use Rattle.std.specs.List.{filter_map, cons_option}
 use Rattle.std.proofs.lemmas.Bool.{cases_Bool, eqb-true}
 use Rattle.riichi_hand.specs.declared.win.Rules.{Rules}
 use Rattle.riichi_hand.specs.Lines.{outcome_of}
+use Rattle.riichi_explain.specs.declared.explaining.Shown.{Shown}
 use Rattle.riichi_explain.specs.Explanation.{IsExplanation}
 use Rattle.riichi_explain.proofs.PlainTexts.{are_indented, within, and_both}
 use Rattle.riichi_explain.proofs.ExplainedLines.{outcome_text-lines}
@@ -103,34 +104,34 @@ last_feed false byte (one ∷ text) p feed =
     let more = last_feed (nat_eq one 10) one text p (eqb-true one 10) in
     (byte ∷ more.0, ap (λ (all : List ℕ). byte ∷ all) more.1)
 
-pub why-lines : (rules : Rules) (line why : List ℕ) → IsExplanation rules line why → are_indented why ≡ true
+pub why-lines : (shown : Shown) (rules : Rules) (line why : List ℕ) → IsExplanation shown rules line why → are_indented why ≡ true
 unfolding IsExplanation
-why-lines rules line why is = outcome_text-lines line (outcome_of rules line) why is
+why-lines shown rules line why is = outcome_text-lines shown line (outcome_of rules line) why is
 
 -- one answer and its explanation, without the lines of this
-told-left : (rules : Rules) (line : List ℕ) (outcome : Option (List ℕ)) (told : Option (List ℕ)) (rest : List ℕ) → IsToldWithWhy rules line outcome told
+told-left : (shown : Shown) (rules : Rules) (line : List ℕ) (outcome : Option (List ℕ)) (told : Option (List ℕ)) (rest : List ℕ) → IsToldWithWhy shown rules line outcome told
     → ((answer : List ℕ) → outcome ≡ Some answer → (is_plain answer ≡ true) × (is_indented answer ≡ false))
     → without_indented (with_line_feed told ++ rest) ≡ with_line_feed outcome ++ without_indented rest
-told-left rules line None told rest is plain = ap (λ (t : Option (List ℕ)). without_indented (with_line_feed t ++ rest)) is
-told-left rules line (Some answer) None rest is plain = absurd is
-told-left rules line (Some answer) (Some text) rest is plain =
+told-left shown rules line None told rest is plain = ap (λ (t : Option (List ℕ)). without_indented (with_line_feed t ++ rest)) is
+told-left shown rules line (Some answer) None rest is plain = absurd is
+told-left shown rules line (Some answer) (Some text) rest is plain =
     let parts = plain answer refl in
     let written : text ++ 10 ∷ [] ≡ answer ++ 10 ∷ is.why = ap (λ (t : List ℕ). t ++ 10 ∷ []) is.text_is ∙ append_assoc answer is.more (10 ∷ []) ∙ ap (λ (more : List ℕ). answer ++ more) is.more_is in
     ap (λ (t : List ℕ). without_indented (t ++ rest)) written ∙ ap without_indented (append_assoc answer (10 ∷ is.why) rest)
     ∙ without_indented-first answer (is.why ++ rest) parts.0 parts.1
-    ∙ ap (λ (t : List ℕ). answer ++ 10 ∷ t) (without_indented-lines is.why rest (why-lines rules line is.why is.explains))
+    ∙ ap (λ (t : List ℕ). answer ++ 10 ∷ t) (without_indented-lines is.why rest (why-lines shown rules line is.why is.explains))
     ∙ sym (append_assoc answer (10 ∷ []) (without_indented rest))
 
 answer-plain-of : (r : Rules) (l : List ℕ) (answer : List ℕ) → answer_of r l ≡ Some answer → (is_plain answer ≡ true) × (is_indented answer ≡ false)
 unfolding answer_of
 answer-plain-of r l answer is = (answer-plain (outcome_of r l) answer is, answer-not_indented (outcome_of r l) answer is)
 
-explained-left : (rules : Rules) (lines told : List (List ℕ)) → AreTold IsExplained rules lines told → without_indented (text_of told) ≡ text_of (filter_map (answer_of rules) lines)
-explained-left rules [] told are = ap (λ (t : List (List ℕ)). without_indented (text_of t)) are
-explained-left rules (line ∷ lines) told are =
+explained-left : (shown : Shown) (rules : Rules) (lines told : List (List ℕ)) → AreTold (IsExplained shown) rules lines told → without_indented (text_of told) ≡ text_of (filter_map (answer_of rules) lines)
+explained-left shown rules [] told are = ap (λ (t : List (List ℕ)). without_indented (text_of t)) are
+explained-left shown rules (line ∷ lines) told are =
     ap (λ (t : List (List ℕ)). without_indented (text_of t)) are.3 ∙ ap without_indented (text_front are.0 are.1)
-    ∙ told-left rules line (answer_of rules line) are.0 (text_of are.1) are.2 (answer-plain-of rules line)
-    ∙ ap (λ (t : List ℕ). with_line_feed (answer_of rules line) ++ t) (explained-left rules lines are.1 are.4)
+    ∙ told-left shown rules line (answer_of rules line) are.0 (text_of are.1) are.2 (answer-plain-of rules line)
+    ∙ ap (λ (t : List ℕ). with_line_feed (answer_of rules line) ++ t) (explained-left shown rules lines are.1 are.4)
     ∙ sym (text_cons (answer_of rules line) (filter_map (answer_of rules) lines))
   where
     text_front : (answer : Option (List ℕ)) (others : List (List ℕ)) → text_of (answers_in answer ++ others) ≡ with_line_feed answer ++ text_of others
@@ -141,26 +142,26 @@ explained-left rules (line ∷ lines) told are =
     text_cons None others = refl
     text_cons (Some answer) others = refl
 
-pub explained-answers : (given : Rules) (lines told : List (List ℕ)) → AnswerRecords IsExplained given lines told → without_indented (text_of told) ≡ answers_to given lines
-explained-answers given lines told are = explained-left (rules_of given lines) (record_lines lines) told are
+pub explained-answers : (shown : Shown) (given : Rules) (lines told : List (List ℕ)) → AnswerRecords (IsExplained shown) given lines told → without_indented (text_of told) ≡ answers_to given lines
+explained-answers shown given lines told are = explained-left shown (rules_of given lines) (record_lines lines) told are
 
 -- ---- how many
 
-told-refusal : (rules : Rules) (line : List ℕ) (answer told : List ℕ) → IsToldWithWhy rules line (Some answer) (Some told) → answer_of rules line ≡ Some answer → is_refusal told ≡ is_refusal answer
+told-refusal : (shown : Shown) (rules : Rules) (line : List ℕ) (answer told : List ℕ) → IsToldWithWhy shown rules line (Some answer) (Some told) → answer_of rules line ≡ Some answer → is_refusal told ≡ is_refusal answer
 unfolding answer_of
-told-refusal rules line answer told is so = ap is_refusal is.text_is ∙ is_refusal-more (outcome_of rules line) answer is.more so
+told-refusal shown rules line answer told is so = ap is_refusal is.text_is ∙ is_refusal-more (outcome_of rules line) answer is.more so
 
-one_refusal : (rules : Rules) (line : List ℕ) (outcome answer : Option (List ℕ)) (others answers : List (List ℕ)) → answer_of rules line ≡ outcome → IsToldWithWhy rules line outcome answer
+one_refusal : (shown : Shown) (rules : Rules) (line : List ℕ) (outcome answer : Option (List ℕ)) (others answers : List (List ℕ)) → answer_of rules line ≡ outcome → IsToldWithWhy shown rules line outcome answer
     → map is_refusal others ≡ map is_refusal answers → map is_refusal (answers_in answer ++ others) ≡ map is_refusal (cons_option outcome answers)
-one_refusal rules line None answer others answers so is rest = ap (λ (a : Option (List ℕ)). map is_refusal (answers_in a ++ others)) is ∙ rest
-one_refusal rules line (Some said) None others answers so is rest = absurd is
-one_refusal rules line (Some said) (Some text) others answers so is rest = λ i. told-refusal rules line said text is so i ∷ rest i
+one_refusal shown rules line None answer others answers so is rest = ap (λ (a : Option (List ℕ)). map is_refusal (answers_in a ++ others)) is ∙ rest
+one_refusal shown rules line (Some said) None others answers so is rest = absurd is
+one_refusal shown rules line (Some said) (Some text) others answers so is rest = λ i. told-refusal shown rules line said text is so i ∷ rest i
 
 -- the explained answers that are refusals are those of the plain answers that are
-same_refusals : (rules : Rules) (lines told : List (List ℕ)) → AreTold IsExplained rules lines told → map is_refusal told ≡ map is_refusal (filter_map (answer_of rules) lines)
-same_refusals rules [] told are = ap (map is_refusal) are
-same_refusals rules (line ∷ lines) told are =
-    ap (map is_refusal) are.3 ∙ one_refusal rules line (answer_of rules line) are.0 are.1 (filter_map (answer_of rules) lines) refl are.2 (same_refusals rules lines are.1 are.4)
+same_refusals : (shown : Shown) (rules : Rules) (lines told : List (List ℕ)) → AreTold (IsExplained shown) rules lines told → map is_refusal told ≡ map is_refusal (filter_map (answer_of rules) lines)
+same_refusals shown rules [] told are = ap (map is_refusal) are
+same_refusals shown rules (line ∷ lines) told are =
+    ap (map is_refusal) are.3 ∙ one_refusal shown rules line (answer_of rules line) are.0 are.1 (filter_map (answer_of rules) lines) refl are.2 (same_refusals shown rules lines are.1 are.4)
 
-pub explained-report : (given : Rules) (lines told : List (List ℕ)) → AnswerRecords IsExplained given lines told → report_by is_refusal told ≡ report_on given lines
-explained-report given lines told are = report_by-same is_refusal is_refusal told (answers_on given lines) (same_refusals (rules_of given lines) (record_lines lines) told are)
+pub explained-report : (shown : Shown) (given : Rules) (lines told : List (List ℕ)) → AnswerRecords (IsExplained shown) given lines told → report_by is_refusal told ≡ report_on given lines
+explained-report shown given lines told are = report_by-same is_refusal is_refusal told (answers_on given lines) (same_refusals shown (rules_of given lines) (record_lines lines) told are)

@@ -14,6 +14,7 @@ use Rattle.riichi_hand.specs.Lines.{outcome_of, is_no_record, is_other_byte, fau
 use Rattle.riichi_hand.specs.Parts.{parts_of}
 use Rattle.riichi_hand.specs.Texts.{texts_of}
 use Rattle.riichi_hand.specs.Words.{words_of}
+use Rattle.riichi_explain.specs.declared.explaining.Shown.{Shown}
 use Rattle.riichi_explain.specs.Explanation.{IsOutcomeText, IsExplanation}
 use Rattle.riichi_faults.specs.Refusal.{long_refusals_alike}
 use Rattle.riichi_hints.specs.Hint.{IsRefusalText, told_line}
@@ -58,26 +59,26 @@ refusal_kept line other why long long_other said =
       text_is = said.text_is ∙ ap (λ (front : List ℕ). front ++ below) (long_refusals_alike line other long long_other);
     }
 
-explanation_kept : (rules : Rules) (line other why : List ℕ) → 4096 < length line → 4096 < length other → IsExplanation rules line why → IsExplanation rules other why
+explanation_kept : (shown : Shown) (rules : Rules) (line other why : List ℕ) → 4096 < length line → 4096 < length other → IsExplanation shown rules line why → IsExplanation shown rules other why
 unfolding IsExplanation
-explanation_kept rules line other why long long_other is =
-    let said = subst (λ (outcome : Result (Option Job) LineFault). IsOutcomeText line outcome why) (long_outcome rules line long) is in
-    subst (λ (outcome : Result (Option Job) LineFault). IsOutcomeText other outcome why) (sym (long_outcome rules other long_other))
+explanation_kept shown rules line other why long long_other is =
+    let said = subst (λ (outcome : Result (Option Job) LineFault). IsOutcomeText shown line outcome why) (long_outcome rules line long) is in
+    subst (λ (outcome : Result (Option Job) LineFault). IsOutcomeText shown other outcome why) (sym (long_outcome rules other long_other))
     (refusal_kept line other why long long_other said)
 
-told_alike : (rules : Rules) (line other : List ℕ) (answer : Option (List ℕ)) (told : Option (List ℕ)) → 4096 < length line → 4096 < length other
-    → IsToldWithWhy rules line answer told → IsToldWithWhy rules other answer told
-told_alike rules line other None told long long_other is = is
-told_alike rules line other (Some answer) None long long_other is = is
-told_alike rules line other (Some answer) (Some text) long long_other is = record {
+told_alike : (shown : Shown) (rules : Rules) (line other : List ℕ) (answer : Option (List ℕ)) (told : Option (List ℕ)) → 4096 < length line → 4096 < length other
+    → IsToldWithWhy shown rules line answer told → IsToldWithWhy shown rules other answer told
+told_alike shown rules line other None told long long_other is = is
+told_alike shown rules line other (Some answer) None long long_other is = is
+told_alike shown rules line other (Some answer) (Some text) long long_other is = record {
   why = is.why;
-  explains = explanation_kept rules line other is.why long long_other is.explains;
+  explains = explanation_kept shown rules line other is.why long long_other is.explains;
   more = is.more;
   text_is = is.text_is;
   more_is = is.more_is;
 }
 
-pub explanations_alike : AreAlike IsExplained
-explanations_alike rules line other told long long_other is =
-    subst (λ (answer : Option (List ℕ)). IsToldWithWhy rules other answer told) (long_answer rules line long ∙ sym (long_answer rules other long_other))
-    (told_alike rules line other (answer_of rules line) told long long_other is)
+pub explanations_alike : (shown : Shown) → AreAlike (IsExplained shown)
+explanations_alike shown rules line other told long long_other is =
+    subst (λ (answer : Option (List ℕ)). IsToldWithWhy shown rules other answer told) (long_answer rules line long ∙ sym (long_answer rules other long_other))
+    (told_alike shown rules line other (answer_of rules line) told long long_other is)

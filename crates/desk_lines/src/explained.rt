@@ -1,8 +1,9 @@
 //! The answer to one line, and why it is so.
-ghost use Rattle.std.specs.Prelude.{◌≡◌, ℕ, List, ◌∷◌, ◌++◌, [], option_map};
+ghost use Rattle.std.specs.Prelude.{◌≡◌, ℕ, ◌+◌, ◌≤◌, List, ◌∷◌, ◌++◌, [], length, option_map};
 ghost use Rattle.desk_core.specs.AnswerText.{answer_text};
 ghost use Rattle.desk_core.specs.Value.{value_of};
-ghost use Rattle.riichi_explain.specs.Explanation.{IsJobText, IsWinText, IsShapeText};
+ghost use Rattle.riichi_explain.specs.Explanation.{IsJobText, IsWinText, IsBestText, AreOthers, IsShapeText};
+ghost use Rattle.riichi_explain.specs.Win.{reading_of};
 ghost use Rattle.riichi_hand.specs.FaultTexts.{fault_text};
 ghost use Rattle.riichi_hand.specs.Places.{fault_from};
 ghost use Rattle.riichi_hints.specs.Hint.{IsRefusalText};
@@ -12,35 +13,45 @@ ghost use Rattle.riichi_shape.specs.Answer.{shape_of};
 ghost use Rattle.riichi_shape_text.specs.Text as spec_shape;
 ghost use Rattle.riichi_split.specs.Waits.{waits_of, waits_text};
 ghost use Rattle.riichi_waits.specs.Waits.{kind_waits, waits_line};
+ghost use Rattle.desk_lines.specs.Explained.{IsExplained};
 ghost use Rattle.desk_lines.specs.Outbox.{HasRoom};
+ghost use Rattle.desk_lines.specs.Records.{Puts};
+ghost use Rattle.desk_lines.specs.Telling.{is_refusal};
 
 use super::answering::{put_shape, put_waits};
 use super::line_kind::LineKind;
 use super::numbered::Numbers;
 use super::outbox::Outbox;
 use super::responder::Responder;
-use riichi_explain::{explain_shape, explain_win, push_shanten_line, push_win_lines};
+use riichi_explain::{
+    Shown, explain_shape, explain_win, push_other_readings, push_shanten_line, push_win_lines,
+};
 use riichi_hand::{
     HandRecord, Job, Refusal, Rules, ShapeRecord, WinRecord, fault_text, read_placed,
 };
 use riichi_hints::push_refusal;
 use riichi_score::push_win;
 use riichi_shape::RowSource;
+use riichi_split::Reading;
 use riichi_waits::{explain_waits, push_waits_line};
 
 /// The explained answers: that of a line, and behind it lines that begin with two spaces and say why it is so.
 pub struct Explained;
 
+/// The same, with every reading of a hand that scores.
+pub struct EveryReading;
+
 impl Responder for Explained {
+    ghost use Rattle.riichi_explain.specs.declared.explaining.Shown.TheVariants.{BestReading};
     ghost use Rattle.desk_lines.specs.Explained.{IsExplained};
     ghost use Rattle.desk_lines.specs.LongLines.{explanations_alike};
     ghost use Rattle.desk_lines.specs.Telling.{is_refusal};
 
-    ghost may_tell = { IsExplained };
+    ghost may_tell = { IsExplained BestReading };
 
     ghost refuses = { is_refusal };
 
-    ghost alike = { explanations_alike };
+    ghost alike = { explanations_alike BestReading };
 
     fn respond<S: RowSource>(
         rules: Rules,
@@ -48,16 +59,63 @@ impl Responder for Explained {
         outbox: &mut Outbox,
         source: &mut S,
     ) -> LineKind {
-        match read_placed(rules, line) {
-            Ok(None) => LineKind::NoRecord,
-            Ok(Some(job)) => {
-                put_job(&job, outbox, source);
-                LineKind::Answered
-            }
-            Err(refusal) => {
-                put_refusal(line, &refusal, outbox);
-                LineKind::Refused
-            }
+        put_explained(Shown::BestReading, rules, line, outbox, source)
+    }
+}
+
+impl Responder for EveryReading {
+    ghost use Rattle.riichi_explain.specs.declared.explaining.Shown.TheVariants as shown;
+    ghost use Rattle.desk_lines.specs.Explained.{IsExplained};
+    ghost use Rattle.desk_lines.specs.LongLines.{explanations_alike};
+    ghost use Rattle.desk_lines.specs.Telling.{is_refusal};
+
+    ghost may_tell = { IsExplained shown.EveryReading };
+
+    ghost refuses = { is_refusal };
+
+    ghost alike = { explanations_alike shown.EveryReading };
+
+    fn respond<S: RowSource>(
+        rules: Rules,
+        line: &[u8],
+        outbox: &mut Outbox,
+        source: &mut S,
+    ) -> LineKind {
+        put_explained(Shown::EveryReading, rules, line, outbox, source)
+    }
+}
+
+impl Numbers for EveryReading {
+    ghost use Rattle.desk_lines.specs.Numbered.{words_front};
+
+    ghost front = { words_front };
+
+    fn put_number(number: u64, outbox: &mut Outbox) {
+        outbox.put_number("", number, ":")
+    }
+}
+
+/// Puts the answer to a line into the outbox, and why it is so.
+fn put_explained<S: RowSource>(
+    shown: Shown,
+    rules: Rules,
+    line: &[u8],
+    outbox: &mut Outbox,
+    source: &mut S,
+) -> LineKind
+    requires { HasRoom outbox.old }
+    ensures { Puts is_refusal
+        (IsExplained shown rules line.now) result outbox.old.bytes.items outbox.new.bytes.items }
+{
+    match read_placed(rules, line) {
+        Ok(None) => LineKind::NoRecord,
+        Ok(Some(job)) => {
+            put_job(shown, &job, outbox, source);
+            LineKind::Answered
+        }
+        Err(refusal) => {
+            put_refusal(line, &refusal, outbox);
+            LineKind::Refused
         }
     }
 }
@@ -73,30 +131,60 @@ impl Numbers for Explained {
 }
 
 /// Puts the answer to a job into the outbox, and why it is so.
-fn put_job<S: RowSource>(job: &Job, outbox: &mut Outbox, source: &mut S)
+fn put_job<S: RowSource>(shown: Shown, job: &Job, outbox: &mut Outbox, source: &mut S)
     requires { HasRoom outbox.old }
-    ensures { (why : List ℕ) × IsJobText job.now why
+    ensures { (why : List ℕ) × IsJobText shown job.now why
         × (outbox.new.bytes.items ≡ outbox.old.bytes.items ++ ((answer_text (value_of job.now) ++ 10 ∷ []) ++ why)) }
 {
     match job {
-        Job::Win(win) => put_win(win, outbox),
+        Job::Win(win) => put_win(shown, win, outbox),
         Job::Waits(hand) => put_kinds(hand, outbox),
         Job::Shape(tiles) => put_forms(tiles, outbox, source),
     }
 }
 
-fn put_win(win: &WinRecord, outbox: &mut Outbox)
+fn put_win(shown: Shown, win: &WinRecord, outbox: &mut Outbox)
     requires { HasRoom outbox.old }
-    ensures { (why : List ℕ) × IsWinText win.now why
+    ensures { (why : List ℕ) × IsWinText shown win.now why
         × (outbox.new.bytes.items ≡ outbox.old.bytes.items ++ ((spec_win.text_of (best_of win.now) ++ 10 ∷ []) ++ why)) }
 {
+    let best = put_best(win, outbox);
+    match shown {
+        Shown::BestReading => {}
+        Shown::EveryReading => put_others(&best, win, outbox),
+    }
+}
+
+/// Puts the answer to a win into the outbox, and why it is so: the reading that scores.
+fn put_best(win: &WinRecord, outbox: &mut Outbox) -> Option<Reading>
+    requires { HasRoom outbox.old }
+    ensures told { (why : List ℕ) × (best : IsBestText win.now why)
+        × (outbox.new.bytes.items ≡ outbox.old.bytes.items ++ ((spec_win.text_of (best_of win.now) ++ 10 ∷ []) ++ why))
+        × (result ≡ reading_of best.explanation) }
+    ensures room { length outbox.new.bytes.items ≤ length outbox.old.bytes.items + 7681 }
+{
     let explanation = explain_win(win);
+    let best = explanation.reading();
     outbox.text.clear();
     push_win(&mut outbox.text, &explanation.answer());
     outbox.put_text();
     outbox.why.clear();
     push_win_lines(&mut outbox.why, explanation, win);
     outbox.put_why();
+    best
+}
+
+/// Puts the lines of the readings beside the one that scores into the outbox.
+fn put_others(best: &Option<Reading>, win: &WinRecord, outbox: &mut Outbox)
+    requires { length outbox.old.bytes.items + 4608 ≤ 65536 }
+    ensures { (others : List ℕ) × AreOthers best.now win.now others
+        × (outbox.new.bytes.items ≡ outbox.old.bytes.items ++ others) }
+{
+    if let Some(best) = best {
+        outbox.why.clear();
+        push_other_readings(&mut outbox.why, best, win);
+        outbox.put_why();
+    }
 }
 
 fn put_kinds(hand: &HandRecord, outbox: &mut Outbox)

@@ -1,5 +1,6 @@
 //! The lines of a text in memory, answered into a room.
 ghost use Rattle.std.specs.Prelude.{◌≡◌, ◌+◌, ◌≤◌, ◌<◌, [], ◌++◌, true, false, length, take, drop, MatchOption};
+ghost use Rattle.riichi_explain.specs.declared.explaining.Shown.TheVariants.{BestReading};
 ghost use Rattle.desk_lines.specs.Explained.{IsExplained};
 ghost use Rattle.desk_lines.specs.Filling.{IsFirstLine, AreAnswersBy, Fills};
 ghost use Rattle.desk_lines.specs.JsonLine.{json_of};
@@ -42,7 +43,7 @@ pub fn fill_objects(rules: Rules, text: &[u8], room: &mut [u8]) -> Filled
 
 /// The same, with the lines behind each answer that explain it.
 pub fn fill_explanations(rules: Rules, text: &[u8], room: &mut [u8]) -> Filled
-    ensures { Fills (AreTold IsExplained rules) text.now room.old room.new result.taken result.filled }
+    ensures { Fills (AreTold (IsExplained BestReading) rules) text.now room.old room.new result.taken result.filled }
 {
     fill::<Explained>(rules, text, room)
 }

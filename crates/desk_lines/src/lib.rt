@@ -3,7 +3,8 @@
 //! [`desk_text`] answers the record lines that a `desk_streams::Source` gives, one line for each, and
 //! writes the answers into a `desk_streams::Sink`. It returns a [`DeskReport`] of how many were answered
 //! and how many refused, or the [`DeskFault`] for which it gave up. [`json_text_with`] answers the same lines by objects of
-//! JSON, [`explain_text_with`] with the reasons, and [`numbered_text_with`] each of these behind the number of its line. [`replay_text`] does so with the commands of a
+//! JSON, [`explain_text_with`] with the reasons, and [`numbered_text_with`] in any of these ways behind the number of each line.
+//! [`replay_text`] does so with the commands of a
 //! script, over a desk of 64 tables. [`collect_text`] takes a text apart into [`Sheet`]s of answer lines that are
 //! not made yet, [`texts_of`] makes them once their jobs have answers, and [`write_texts`] writes them.
 //! `waits_answer` answers one hand, as the command `waits` prints it.
@@ -57,7 +58,7 @@ mod waits;
 
 pub use answering::Plain;
 pub use collecting::{Collected, collect_text};
-pub use explained::Explained;
+pub use explained::{EveryReading, Explained};
 pub use explaining::explain_text_with;
 pub use fault::DeskFault;
 pub use filling::{Filled, fill_answers, fill_explanations, fill_objects};
@@ -67,6 +68,7 @@ pub use objects::Members;
 pub use ready::is_ready;
 pub use replay::replay_text;
 pub use report::DeskReport;
+pub use riichi_explain::Shown;
 pub use riichi_hand::Rules;
 pub use riichi_shape::SuitMemo;
 pub use sheet::Sheet;

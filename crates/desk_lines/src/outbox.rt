@@ -11,8 +11,8 @@ use riichi_text::push_number;
 /// Room for many answer lines, so that they are written in large pieces.
 const ROOM: usize = 65_536;
 
-/// The longest answer: an object of 12,288 bytes and a line feed. A text of 3,096 bytes and a line feed, and the 4,608
-/// bytes that may explain it, are fewer.
+/// The longest answer: an object of 12,288 bytes and a line feed. A text of 3,072 bytes and a line feed, and twice the 4,608
+/// bytes that may explain it, are as many.
 const LONGEST_ANSWER: usize = 12_289;
 
 /// The most that stands before an answer: its line's number, of twenty digits, and nine bytes beside it.
@@ -140,7 +140,8 @@ impl Outbox {
     /// Adds the lines that stand in the room of explanations, each with its line feed.
     pub(crate) fn put_why(&mut self)
         requires { length self.old.bytes.items + 4608 ≤ ROOM }
-        ensures { self.new.bytes.items ≡ self.old.bytes.items ++ self.old.why.bytes }
+        ensures told { self.new.bytes.items ≡ self.old.bytes.items ++ self.old.why.bytes }
+        ensures room { length self.new.bytes.items ≤ length self.old.bytes.items + 4608 }
     {
         self.bytes
             .try_extend_from_slice(self.why.as_str().as_bytes())

@@ -468,6 +468,7 @@ shanten 0 accepts 2p:4 5p:4 live 8
     let report = explain_text_with(
         &mut SuitMemo::in_value(),
         Rules::One,
+        Shown::BestReading,
         &mut reader,
         &mut writer,
     );

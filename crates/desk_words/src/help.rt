@@ -57,6 +57,7 @@ Exit status:
 pub(crate) const EXPLAIN_HELP: &str = "\
 Example:
   riichi_desk explain win 99978m444p567s22s on=9m by=ron seat=S round=E riichi=1
+  riichi_desk explain --all win 1122334m556677s on=4m by=ron seat=S round=E
   riichi_desk explain --file club-night.lines
 
 Exit status:

@@ -37,6 +37,8 @@ pub enum Form {
     Json,
     /// In words, with the reasons below each.
     Reasons,
+    /// The same, with every reading of a win.
+    AllReasons,
 }
 
 /// Where record lines come from.
@@ -66,7 +68,7 @@ pub fn request_of<'m, 'a>(matches: &'m ArgMatches<'a>) -> Option<Request<'m, 'a>
     }
     if let Some(explain) = matches.subcommand_matches("explain") {
         let lines = files_or(explain, told_lines(explain));
-        return Some(lines_request(explain, lines, Form::Reasons));
+        return Some(lines_request(explain, lines, reasons_in(explain)));
     }
     if matches.subcommand_matches("help-codes").is_some() {
         return Some(Request::HelpCodes);
@@ -158,5 +160,14 @@ fn form_in(matches: &ArgMatches<'_>) -> Form {
         Form::Json
     } else {
         Form::Words
+    }
+}
+
+/// How many reasons are wanted.
+fn reasons_in(matches: &ArgMatches<'_>) -> Form {
+    if matches.get_flag("all") {
+        Form::AllReasons
+    } else {
+        Form::Reasons
     }
 }

@@ -122,6 +122,14 @@ fn json_arg<'a>(alloc: Global) -> Arg<'a> {
         .help("Answers each hand by one object of JSON, what is refused too")
 }
 
+/// That every reading of a win is wanted.
+fn all_arg<'a>(alloc: Global) -> Arg<'a> {
+    Arg::new(alloc, "all")
+        .long("all")
+        .action(ArgAction::SetTrue)
+        .help("Says below a win what each other reading of the hand is worth")
+}
+
 fn explain_command<'a>(alloc: Global) -> Result<Command<'a>, AllocError> {
     let lines = Arg::new(alloc, "LINE")
         .num_args(0..)
@@ -133,6 +141,7 @@ fn explain_command<'a>(alloc: Global) -> Result<Command<'a>, AllocError> {
         .about("Answers hands as the command line does, and says below each answer why it is so")
         .after_help(EXPLAIN_HELP)
         .arg(rules_arg(alloc))?
+        .arg(all_arg(alloc))?
         .arg(file_arg(alloc))?
         .arg(number_arg(alloc))?
         .arg(lines)

@@ -3,7 +3,7 @@ use crate::failure::Failure;
 use crate::files::open_file;
 use crate::noted::Notes;
 use desk_lines::{
-    DeskFault, DeskReport, Explained, Members, Plain, Rules, SuitMemo, desk_text_with,
+    DeskFault, DeskReport, EveryReading, Explained, Members, Plain, Rules, Shown, SuitMemo, desk_text_with,
     explain_text_with, json_text_with, numbered_text_with,
 };
 use desk_streams::{BytesIn, FromReader, Sink, Source, ToWriter};
@@ -104,7 +104,7 @@ impl<W: Sink> Answering<W> {
         match self.report(reader) {
             Ok(report) => Ok(report.refused > 0),
             Err(fault) => Err(match self.form {
-                Form::Reasons => Failure::Explained(fault),
+                Form::Reasons | Form::AllReasons => Failure::Explained(fault),
                 Form::Words | Form::Json => Failure::from(fault),
             }),
         }
@@ -118,7 +118,12 @@ impl<W: Sink> Answering<W> {
         match self.form {
             Form::Words => desk_text_with(rows, self.rules, reader, writer),
             Form::Json => json_text_with(rows, self.rules, reader, writer),
-            Form::Reasons => explain_text_with(rows, self.rules, reader, writer),
+            Form::Reasons => {
+                explain_text_with(rows, self.rules, Shown::BestReading, reader, writer)
+            }
+            Form::AllReasons => {
+                explain_text_with(rows, self.rules, Shown::EveryReading, reader, writer)
+            }
         }
     }
 
@@ -131,6 +136,9 @@ impl<W: Sink> Answering<W> {
             ),
             Form::Reasons => {
                 numbered_text_with::<Explained, SuitMemo, S, W>(rows, rules, reader, writer)
+            }
+            Form::AllReasons => {
+                numbered_text_with::<EveryReading, SuitMemo, S, W>(rows, rules, reader, writer)
             }
         }
     }

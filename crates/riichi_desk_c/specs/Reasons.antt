@@ -1,12 +1,13 @@
 -- Why a program is answered as it is.
 use Rattle.std.specs.Prelude.{◌≡◌, ◌≤◌, ◌<◌, ◌++◌, ℕ, List, Option, None, Some, length, drop, codes}
 use Rattle.riichi_hand.specs.declared.win.Rules.{Rules}
+use Rattle.riichi_explain.specs.declared.explaining.Shown.TheVariants.{BestReading}
 use Rattle.riichi_explain.specs.Explanation.{IsExplanation}
 use Rattle.riichi_desk_c.specs.Replies.{rules_numbered}
 
 abbrev pub IsReasonUnder : Option Rules → List ℕ → List ℕ → Type 0
 IsReasonUnder None line text = text ≡ codes "refused rules"
-IsReasonUnder (Some rules) line text = IsExplanation rules line text
+IsReasonUnder (Some rules) line text = IsExplanation BestReading rules line text
 
 -- The text says why a line is answered as it is under the profile of this number.
 abbrev pub IsReason : ℕ → List ℕ → List ℕ → Type 0

@@ -1,4 +1,5 @@
 //! The lines of a text, many by one call.
+ghost use Rattle.riichi_explain.specs.declared.explaining.Shown.TheVariants.{BestReading};
 ghost use Rattle.desk_lines.specs.Explained.{IsExplained};
 ghost use Rattle.desk_lines.specs.Filling.{AreAnswersBy};
 ghost use Rattle.desk_lines.specs.JsonLine.{json_of};
@@ -65,7 +66,7 @@ pub extern "C" fn riichi_explain_lines(
     room: &mut [u8],
     taken: &mut usize,
 ) -> usize
-    ensures { FillsUnder (AreTold IsExplained) rules text.now room.old room.new taken.new result }
+    ensures { FillsUnder (AreTold (IsExplained BestReading)) rules text.now room.old room.new taken.new result }
 {
     match rules_numbered(rules) {
         Some(rules) => {

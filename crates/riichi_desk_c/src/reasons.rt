@@ -1,5 +1,6 @@
 //! Why a line is answered as it is.
 ghost use Rattle.std.specs.Prelude.{◌≡◌, ◌≤◌, option_map};
+ghost use Rattle.riichi_explain.specs.declared.explaining.Shown.TheVariants.{BestReading};
 ghost use Rattle.riichi_explain.specs.Explanation.{IsJobText};
 ghost use Rattle.riichi_hand.specs.Places.{fault_from};
 ghost use Rattle.riichi_hints.specs.Hint.{IsRefusalText};
@@ -33,7 +34,7 @@ pub extern "C" fn riichi_explain(rules: u32, line: &[u8], room: &mut [u8]) -> us
 }
 
 fn job_lines(job: &Job) -> ArrayString<4608>
-    ensures { IsJobText job.now result.bytes }
+    ensures { IsJobText BestReading job.now result.bytes }
 {
     let mut text = ArrayString::new();
     match job {

@@ -1,5 +1,5 @@
 -- The lines of an explanation begin with two spaces, and each ends with its line feed.
-use Rattle.std.proofs.Common.{◌≡◌, ℕ, ◌+◌, ◌-◌, ◌*◌, List, [], ◌∷◌, ◌++◌, Bool, true, false, cond, nat_eq, nat_lt, length, map, take, Option, Some, None, Result, Ok, Err, refl, ap, ◌∙◌, arith}
+use Rattle.std.proofs.Common.{◌≡◌, ℕ, ◌+◌, ◌-◌, ◌*◌, List, [], ◌∷◌, ◌++◌, Bool, true, false, cond, nat_eq, nat_lt, nat_le, length, map, take, Option, Some, None, Result, Ok, Err, refl, ap, ◌∙◌, arith}
 use Rattle.std.specs.Prelude.{codes, decimal, slice_index}
 use Rattle.std.specs.List.{flat_map}
 use Rattle.riichi_tiles.specs.declared.block.Block.{Block}
@@ -12,9 +12,11 @@ use Rattle.riichi_hand.specs.declared.job.Job.TheVariants as job
 use Rattle.riichi_hand.specs.declared.win.WinParts.{WinParts}
 use Rattle.riichi_split.specs.declared.reading.Reading.{Reading}
 use Rattle.riichi_split.specs.declared.reading.Reading.TheVariants as reading
+use Rattle.riichi_split.specs.contracts.reading.ReadingPartialEq.TheImpl.{ghosts as readings}
 use Rattle.riichi_shape.specs.declared.forms.FormDistances.{FormDistances}
 use Rattle.riichi_yaku.specs.YakuSets.{is_yakuman}
 use Rattle.riichi_score.specs.Scores.{hand_of}
+use Rattle.riichi_score.specs.declared.score.Score.{Score}
 use Rattle.riichi_explain.specs.declared.base.BaseRule.{BaseRule}
 use Rattle.riichi_explain.specs.declared.base.BaseRule.TheVariants.{Product, Capped, Raised, Limited}
 use Rattle.riichi_explain.specs.declared.base.Limit.{Limit}
@@ -38,8 +40,14 @@ use Rattle.riichi_explain.specs.declared.missed.MissedWin.{MissedWin}
 use Rattle.riichi_explain.specs.Dora.{dora_total}
 use Rattle.riichi_explain.specs.Fu.{fu_total}
 use Rattle.riichi_explain.specs.Missed.{missed_waits, missed_lines}
-use Rattle.riichi_explain.specs.Explanation.{win_lines, IsJobText, IsOutcomeText}
-use Rattle.riichi_explain.specs.Forms.{shanten_text, form_text, other_text, shanten_line}
+use Rattle.riichi_explain.specs.declared.explaining.Shown.{Shown}
+use Rattle.riichi_explain.specs.declared.explaining.Shown.TheVariants.{BestReading, EveryReading}
+use Rattle.riichi_explain.specs.declared.ranked.RankedReading.{RankedReading}
+use Rattle.riichi_explain.specs.Explanation.{win_lines, AreOthers, IsBestText, IsWinText, IsJobText, IsOutcomeText}
+use Rattle.riichi_explain.specs.Han.{han_rows}
+use Rattle.riichi_explain.specs.Others.{scored_text, ranked_text, other_text, fitting, more_line, more_if}
+use Rattle.riichi_explain.specs.Win.{counted_fu, reading_of}
+use Rattle.riichi_explain.specs.Forms.{shanten_text, form_text, other_text as other_form, shanten_line}
 use Rattle.riichi_explain.specs.Text as text
 use Rattle.riichi_waits.specs.Waits as waits
 use Rattle.riichi_waits.specs.Waits.{kind_waits}
@@ -114,12 +122,16 @@ reading_text-plain reading.SevenPairs win =
 reading_text-plain reading.Orphans win = after4 (codes "thirteen orphans ") (text.hand_text win) (codes ", won by ") (kind_text win.winning) refl (hand_text-plain win) refl (kind_text-plain win.winning)
 
 reading_line-lines : (read : Reading) (win : WinParts) → are_indented (text.reading_line read win) ≡ true
-unfolding text.reading_line
-reading_line-lines read win = pass (text.reading_text read win) text.line_feed (reading_text-plain read win)
+unfolding text.labelled_line
+reading_line-lines read win = pass (text.reading_text read win ++ []) text.line_feed (after (text.reading_text read win) [] (reading_text-plain read win) refl)
 
 no_yaku_line-lines : (read : Reading) (win : WinParts) → are_indented (text.no_yaku_line read win) ≡ true
-unfolding text.no_yaku_line
+unfolding text.labelled_line
 no_yaku_line-lines read win = pass (text.reading_text read win ++ codes ": no yaku") text.line_feed (after (text.reading_text read win) (codes ": no yaku") (reading_text-plain read win) refl)
+
+other_line-lines : (said : List ℕ) (read : Reading) (win : WinParts) → plain said ≡ true → are_indented (text.other_line said read win) ≡ true
+unfolding text.labelled_line
+other_line-lines said read win p = pass (text.reading_text read win ++ said) text.line_feed (after (text.reading_text read win) said (reading_text-plain read win) p)
 
 -- ---- rows
 
@@ -325,19 +337,19 @@ form_text-plain : (name : List ℕ) (lack : ℕ) → plain name ≡ true → pla
 unfolding form_text
 form_text-plain name lack p = after name (shanten_text lack) p (shanten_text-plain lack)
 
-other_text-plain : (name : List ℕ) (lack : Option ℕ) → plain name ≡ true → plain (other_text name lack) ≡ true
-unfolding other_text
-other_text-plain name None p = refl
-other_text-plain name (Some lack) p = form_text-plain name lack p
+other_form-plain : (name : List ℕ) (lack : Option ℕ) → plain name ≡ true → plain (other_form name lack) ≡ true
+unfolding other_form
+other_form-plain name None p = refl
+other_form-plain name (Some lack) p = form_text-plain name lack p
 
 shanten_line-lines : (forms : FormDistances) → are_indented (shanten_line forms) ≡ true
 unfolding shanten_line
 shanten_line-lines forms =
-    let pairs = other_text (codes ", seven pairs ") forms.seven_pairs in
-    let orphans = other_text (codes ", thirteen orphans ") forms.thirteen_orphans in
+    let pairs = other_form (codes ", seven pairs ") forms.seven_pairs in
+    let orphans = other_form (codes ", thirteen orphans ") forms.thirteen_orphans in
     let standard = form_text (codes "sets and a pair ") forms.sets_and_pair in
     pass (standard ++ pairs ++ orphans) (10 ∷ []) (after3 standard pairs orphans (form_text-plain (codes "sets and a pair ") forms.sets_and_pair refl)
-    (other_text-plain (codes ", seven pairs ") forms.seven_pairs refl) (other_text-plain (codes ", thirteen orphans ") forms.thirteen_orphans refl))
+    (other_form-plain (codes ", seven pairs ") forms.seven_pairs refl) (other_form-plain (codes ", thirteen orphans ") forms.thirteen_orphans refl))
 
 -- ---- waits
 
@@ -387,6 +399,48 @@ missed_lines-lines : (missed : MissedWin) → are_indented (missed_lines missed)
 unfolding missed_lines
 missed_lines-lines missed = lines-append (shanten_line missed.forms) (missed_waits missed.waits.items) (shanten_line-lines missed.forms) (missed_waits-lines missed.waits.items)
 
+-- ---- the other readings
+
+scored_text-lines : (read : Reading) (score : Score) (win : WinParts) → are_indented (scored_text read score win) ≡ true
+unfolding scored_text
+scored_text-lines read score win =
+    let yakuman = is_yakuman score.yaku in
+    let line = text.other_line [] read win in
+    let han = text.han_line yakuman score.han (han_rows score.yaku win) in
+    let fu = text.fu_line_if yakuman (counted_fu yakuman read win) score.fu in
+    lines-append (line ++ han ++ fu) (text.gain_line score.gain win.sticks)
+    (lines-append (line ++ han) fu (lines-append line han (other_line-lines [] read win refl) (han_line-lines yakuman score.han (han_rows score.yaku win)))
+    (fu_line_if-lines yakuman (counted_fu yakuman read win) score.fu))
+    (gain_line-lines score.gain win.sticks)
+
+ranked_text-lines : (win : WinParts) (read : Reading) (score : Option Score) → are_indented (ranked_text win read score) ≡ true
+unfolding ranked_text
+ranked_text-lines win read None = other_line-lines (codes ": no yaku") read win refl
+ranked_text-lines win read (Some score) = scored_text-lines read score win
+
+unless-lines : (is_shown : Bool) (lines : List ℕ) → are_indented lines ≡ true → are_indented (cond is_shown [] lines) ≡ true
+unless-lines true lines p = refl
+unless-lines false lines p = p
+
+fitting-lines : (shown : Reading) (win : WinParts) (last : List ℕ) (room : ℕ) (ranked : List RankedReading) → are_indented last ≡ true → are_indented (fitting last room (map (other_text shown win) ranked)) ≡ true
+fitting-lines shown win last room [] p = p
+fitting-lines shown win last room (one ∷ ranked) p =
+    let lines = other_text shown win one in
+    let more = fitting last (room - length lines) (map (other_text shown win) ranked) in
+    elim (nat_le (length lines + 60) room) as (λ test. are_indented (cond test (lines ++ more) more_line) ≡ true) [
+      | true ↦ lines-append lines more (unless-lines (readings.eq one.reading shown) (ranked_text win one.reading one.score) (ranked_text-lines win one.reading one.score)) (fitting-lines shown win last (room - length lines) ranked p)
+      | false ↦ refl
+    ]
+
+more_if-lines : (has_more : Bool) → are_indented (more_if has_more) ≡ true
+more_if-lines true = refl
+more_if-lines false = refl
+
+others-lines : (best : Option Reading) (win : WinParts) (said : List ℕ) → AreOthers best win said → are_indented said ≡ true
+others-lines None win said are = ap are_indented are
+others-lines (Some best) win said are =
+    ap are_indented are.text_is ∙ fitting-lines best win _ 4608 are.ranking.ranked.items (more_if-lines (nat_lt 0 (length are.ranking.rest)))
+
 -- ---- every explanation
 
 win_lines-lines : (explanation : WinExplanation) (win : WinParts) → are_indented (win_lines explanation win) ≡ true
@@ -394,14 +448,22 @@ win_lines-lines (Won hand) win = won_hand_text-lines hand
 win_lines-lines (NoYaku readings) win = flat_map-lines (λ (read : Reading). text.no_yaku_line read win) (take 12 readings) (λ read. no_yaku_line-lines read win)
 win_lines-lines (NoWin missed) win = missed_lines-lines missed
 
-pub job_text-lines : (job : Job) (said : List ℕ) → IsJobText job said → are_indented said ≡ true
-job_text-lines (job.Win win) said is = ap are_indented is.text_is ∙ win_lines-lines is.explanation win
-job_text-lines (job.Waits hand) said is = ap are_indented is ∙ waits_line-lines (kind_waits hand)
-job_text-lines (job.Shape shape) said is = ap are_indented is.text_is ∙ shanten_line-lines is.forms
+best_text-lines : (win : WinParts) (said : List ℕ) → IsBestText win said → are_indented said ≡ true
+best_text-lines win said is = ap are_indented is.text_is ∙ win_lines-lines is.explanation win
+
+win_text-lines : (shown : Shown) (win : WinParts) (said : List ℕ) → IsWinText shown win said → are_indented said ≡ true
+win_text-lines BestReading win said is = best_text-lines win said is
+win_text-lines EveryReading win said is =
+    ap are_indented is.text_is ∙ lines-append is.best is.others (best_text-lines win is.best is.is_best) (others-lines (reading_of is.is_best.explanation) win is.others is.are_others)
+
+pub job_text-lines : (shown : Shown) (job : Job) (said : List ℕ) → IsJobText shown job said → are_indented said ≡ true
+job_text-lines shown (job.Win win) said is = win_text-lines shown win said is
+job_text-lines shown (job.Waits hand) said is = ap are_indented is ∙ waits_line-lines (kind_waits hand)
+job_text-lines shown (job.Shape shape) said is = ap are_indented is.text_is ∙ shanten_line-lines is.forms
 
 -- ---- any outcome
 
-pub outcome_text-lines : (line : List ℕ) (outcome : Result (Option Job) LineFault) (said : List ℕ) → IsOutcomeText line outcome said → are_indented said ≡ true
-outcome_text-lines line (Ok None) said is = ap are_indented is
-outcome_text-lines line (Ok (Some job)) said is = job_text-lines job said is
-outcome_text-lines line (Err fault) said is = refusal_text-lines line fault said is
+pub outcome_text-lines : (shown : Shown) (line : List ℕ) (outcome : Result (Option Job) LineFault) (said : List ℕ) → IsOutcomeText shown line outcome said → are_indented said ≡ true
+outcome_text-lines shown line (Ok None) said is = ap are_indented is
+outcome_text-lines shown line (Ok (Some job)) said is = job_text-lines shown job said is
+outcome_text-lines shown line (Err fault) said is = refusal_text-lines line fault said is

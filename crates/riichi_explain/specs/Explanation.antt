@@ -1,5 +1,5 @@
 -- The lines that follow an answer and say why it is what it is.
-use Rattle.std.specs.Prelude.{◌≡◌, ℕ, List, [], Option, None, Some, Result, Ok, Err, take}
+use Rattle.std.specs.Prelude.{◌≡◌, ℕ, List, [], ◌++◌, Option, None, Some, Result, Ok, Err, take}
 use Rattle.std.specs.List.{flat_map}
 use Rattle.riichi_hand.specs.declared.win.WinParts.{WinParts}
 use Rattle.riichi_hand.specs.declared.win.Rules.{Rules}
@@ -11,14 +11,17 @@ use Rattle.riichi_hand.specs.Lines.{outcome_of}
 use Rattle.riichi_split.specs.declared.reading.Reading.{Reading}
 use Rattle.riichi_score.specs.Best.{best_of}
 use Rattle.riichi_shape.specs.declared.forms.FormDistances.{FormDistances}
+use Rattle.riichi_explain.specs.declared.explaining.Shown.{Shown}
+use Rattle.riichi_explain.specs.declared.explaining.Shown.TheVariants.{BestReading, EveryReading}
 use Rattle.riichi_explain.specs.declared.win.WinExplanation.{WinExplanation}
 use Rattle.riichi_explain.specs.declared.win.WinExplanation.TheVariants.{Won, NoYaku, NoWin}
 use Rattle.riichi_hints.specs.Hint.{IsRefusalText}
 use Rattle.riichi_explain.specs.Forms.{AreFormDistances, shanten_line}
 use Rattle.riichi_explain.specs.Missed.{missed_lines}
+use Rattle.riichi_explain.specs.Others.{IsOthersText}
 use Rattle.riichi_explain.specs.Text.{won_hand_text, no_yaku_line}
 use Rattle.riichi_waits.specs.Waits.{kind_waits, waits_line}
-use Rattle.riichi_explain.specs.Win.{Explains, answer_of}
+use Rattle.riichi_explain.specs.Win.{Explains, answer_of, reading_of}
 
 -- the lines of readings without yaku: of the first twelve
 abbrev pub no_yaku_lines : List Reading → WinParts → List ℕ
@@ -29,12 +32,29 @@ win_lines (Won hand) win = won_hand_text hand
 win_lines (NoYaku readings) win = no_yaku_lines readings win
 win_lines (NoWin missed) win = missed_lines missed
 
--- The text says why a win is worth what it is.
-pub record IsWinText (win : WinParts) (text : List ℕ) : Type 0 where
+-- The text says why a win is worth what it is, by the best reading of a hand that scores.
+pub record IsBestText (win : WinParts) (text : List ℕ) : Type 0 where
   pub explanation : WinExplanation
   pub answer : answer_of explanation ≡ best_of win
   pub explains : Explains win explanation
   pub text_is : text ≡ win_lines explanation win
+
+-- the lines of the readings beside the one that scores, if there is one
+abbrev pub AreOthers : Option Reading → WinParts → List ℕ → Type 0
+AreOthers None win text = text ≡ []
+AreOthers (Some best) win text = IsOthersText best win text
+
+-- The same, and what each other reading is worth.
+pub record IsEveryText (win : WinParts) (text : List ℕ) : Type 0 where
+  pub best : List ℕ
+  pub is_best : IsBestText win best
+  pub others : List ℕ
+  pub are_others : AreOthers (reading_of is_best.explanation) win others
+  pub text_is : text ≡ best ++ others
+
+abbrev pub IsWinText : Shown → WinParts → List ℕ → Type 0
+IsWinText BestReading win text = IsBestText win text
+IsWinText EveryReading win text = IsEveryText win text
 
 -- The text says how far a shape is from each form.
 pub record IsShapeText (shape : ShapeParts) (text : List ℕ) : Type 0 where
@@ -42,17 +62,17 @@ pub record IsShapeText (shape : ShapeParts) (text : List ℕ) : Type 0 where
   pub distances : AreFormDistances shape.tiles shape.melds forms
   pub text_is : text ≡ shanten_line forms
 
-abbrev pub IsJobText : Job → List ℕ → Type 0
-IsJobText (job.Win win) text = IsWinText win text
-IsJobText (job.Waits hand) text = text ≡ waits_line (kind_waits hand)
-IsJobText (job.Shape shape) text = IsShapeText shape text
+abbrev pub IsJobText : Shown → Job → List ℕ → Type 0
+IsJobText shown (job.Win win) text = IsWinText shown win text
+IsJobText shown (job.Waits hand) text = text ≡ waits_line (kind_waits hand)
+IsJobText shown (job.Shape shape) text = IsShapeText shape text
 
 -- The text says why a line with this outcome is answered as it is.
-abbrev pub IsOutcomeText : List ℕ → Result (Option Job) LineFault → List ℕ → Type 0
-IsOutcomeText line (Ok None) text = text ≡ []
-IsOutcomeText line (Ok (Some job)) text = IsJobText job text
-IsOutcomeText line (Err fault) text = IsRefusalText line fault text
+abbrev pub IsOutcomeText : Shown → List ℕ → Result (Option Job) LineFault → List ℕ → Type 0
+IsOutcomeText shown line (Ok None) text = text ≡ []
+IsOutcomeText shown line (Ok (Some job)) text = IsJobText shown job text
+IsOutcomeText shown line (Err fault) text = IsRefusalText line fault text
 
 -- The text says why a line is answered as it is.
-unfoldable pub IsExplanation : Rules → List ℕ → List ℕ → Type 0
-IsExplanation rules line text = IsOutcomeText line (outcome_of rules line) text
+unfoldable pub IsExplanation : Shown → Rules → List ℕ → List ℕ → Type 0
+IsExplanation shown rules line text = IsOutcomeText shown line (outcome_of rules line) text

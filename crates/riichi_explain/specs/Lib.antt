@@ -7,5 +7,7 @@ pub mod Base
 pub mod Payers
 pub mod Win
 pub mod Text
+pub mod Ranked
+pub mod Others
 pub mod Explanation
 pub mod Equality

@@ -61,12 +61,20 @@ reading_text (reading.Standard sets pair done) win =
 reading_text reading.SevenPairs win = codes "seven pairs " ++ hand_text win ++ completes_text win.winning (block.Pair win.winning)
 reading_text reading.Orphans win = codes "thirteen orphans " ++ hand_text win ++ codes ", won by " ++ kind_text win.winning
 
-unfoldable pub reading_line : Reading → WinParts → List ℕ
-reading_line read win = codes "  reading " ++ reading_text read win ++ line_feed
+-- a reading behind its label, and what is said of it
+unfoldable pub labelled_line : List ℕ → List ℕ → Reading → WinParts → List ℕ
+labelled_line label said read win = label ++ reading_text read win ++ said ++ line_feed
+
+abbrev pub reading_line : Reading → WinParts → List ℕ
+reading_line read win = labelled_line (codes "  reading ") [] read win
 
 -- the line of a reading that has no yaku
-unfoldable pub no_yaku_line : Reading → WinParts → List ℕ
-no_yaku_line read win = codes "  reading " ++ reading_text read win ++ codes ": no yaku" ++ line_feed
+abbrev pub no_yaku_line : Reading → WinParts → List ℕ
+no_yaku_line read win = labelled_line (codes "  reading ") (codes ": no yaku") read win
+
+-- the line of a reading that isn't the one that is shown
+abbrev pub other_line : List ℕ → Reading → WinParts → List ℕ
+other_line said read win = labelled_line (codes "  other   ") said read win
 
 -- ---- rows
 

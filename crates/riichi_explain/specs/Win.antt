@@ -1,5 +1,5 @@
 -- The explanation of a win.
-use Rattle.std.specs.Prelude.{◌≡◌, ◌+◌, ◌*◌, Bool, Some, None, List, [], length, if◌then◌else◌}
+use Rattle.std.specs.Prelude.{◌≡◌, ◌+◌, ◌*◌, Bool, Option, Some, None, List, [], length, if◌then◌else◌}
 use Rattle.riichi_hand.specs.declared.win.WinParts.{WinParts}
 use Rattle.riichi_split.specs.declared.reading.Reading.{Reading}
 use Rattle.riichi_split.specs.Readings.{AreTheReadings}
@@ -67,3 +67,9 @@ abbrev pub answer_of : WinExplanation → WinAnswer
 answer_of (Won hand) = answer.Won hand.score
 answer_of (NoYaku readings) = answer.NoYaku
 answer_of (NoWin missed) = answer.NoWin
+
+-- the reading that scores
+abbrev pub reading_of : WinExplanation → Option Reading
+reading_of (Won hand) = Some hand.reading
+reading_of (NoYaku readings) = None
+reading_of (NoWin missed) = None

@@ -6,6 +6,7 @@ ghost use Rattle.riichi_explain.specs.Explanation as spec;
 ghost use Rattle.riichi_explain.specs.Text.{no_yaku_line};
 
 use crate::missed::push_missed_lines;
+use crate::ranked::MOST_READINGS;
 use crate::reading_text::push_no_yaku;
 use crate::win::WinExplanation;
 use crate::win_text::push_won_hand;
@@ -13,8 +14,12 @@ use arrayvec::ArrayString;
 use riichi_hand::WinRecord;
 use riichi_split::Readings;
 
-/// The most readings without yaku that are shown.
-const MOST_READINGS: usize = 12;
+/// Which readings of a hand that scores are told.
+#[derive(Clone, Copy)]
+pub enum Shown {
+    BestReading,
+    EveryReading,
+}
 
 /// Writes the lines that say why a win is worth what it is: those of a hand that scores, a line for each reading
 /// without yaku, twelve at most, or how far a hand that is no win is from each form, and what it waits for.

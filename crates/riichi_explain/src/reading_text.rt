@@ -1,5 +1,5 @@
-//! The line of a reading.
-ghost use Rattle.std.specs.Prelude.{◌≡◌, ◌+◌, ◌≤◌, ◌++◌};
+//! The lines of readings.
+ghost use Rattle.std.specs.Prelude.{◌≡◌, ◌+◌, ◌≤◌, ◌++◌, length};
 ghost use Rattle.std.specs.List.{flat_map};
 ghost use Rattle.arrayvec.specs.ArrayString.{array_string_len};
 ghost use Rattle.riichi_explain.specs.Text as spec;
@@ -12,27 +12,58 @@ use riichi_text::{push_block, push_kind, push_meld, push_two};
 use riichi_tiles::{Block, Kind, Meld, Melds, write_counts};
 
 /// Writes the line of a reading that has no yaku.
-#[tactic(auto, unfolding(crate::specs::Text::no_yaku_line))]
 pub fn push_no_yaku(text: &mut ArrayString<4608>, reading: &Reading, win: &WinRecord)
     requires { array_string_len text.old + 220 ≤ 4608 }
     ensures bytes { text.new.bytes ≡ text.old.bytes ++ spec.no_yaku_line reading.now win.now }
     ensures len { array_string_len text.new ≤ array_string_len text.old + 220 }
 {
-    text.push_str("  reading ");
-    push_reading(text, reading, win);
-    text.push_str(": no yaku");
-    text.push_str("\n");
+    push_labelled(text, "  reading ", ": no yaku", reading, win);
 }
 
 /// Writes the line of the reading that scores.
-#[tactic(auto, unfolding(crate::specs::Text::reading_line))]
 pub(crate) fn push_reading_line(text: &mut ArrayString<4608>, reading: &Reading, win: &WinRecord)
     requires { array_string_len text.old + 220 ≤ 4608 }
     ensures bytes { text.new.bytes ≡ text.old.bytes ++ spec.reading_line reading.now win.now }
     ensures len { array_string_len text.new ≤ array_string_len text.old + 220 }
 {
-    text.push_str("  reading ");
+    push_labelled(text, "  reading ", "", reading, win);
+}
+
+/// Writes the line of a reading that isn't the one that is shown, with what is said of it.
+pub(crate) fn push_other_line(
+    text: &mut ArrayString<4608>,
+    said: &str,
+    reading: &Reading,
+    win: &WinRecord,
+)
+    requires few { length said.now ≤ 9 }
+    requires room { array_string_len text.old + 220 ≤ 4608 }
+    ensures bytes { text.new.bytes
+        ≡ text.old.bytes ++ spec.other_line said.now reading.now win.now }
+    ensures len { array_string_len text.new ≤ array_string_len text.old + 220 }
+{
+    push_labelled(text, "  other   ", said, reading, win);
+}
+
+/// A reading behind its label, and what is said of it.
+#[tactic(auto, unfolding(crate::specs::Text::labelled_line))]
+fn push_labelled(
+    text: &mut ArrayString<4608>,
+    label: &str,
+    said: &str,
+    reading: &Reading,
+    win: &WinRecord,
+)
+    requires short { length label.now ≤ 10 }
+    requires few { length said.now ≤ 9 }
+    requires room { array_string_len text.old + 220 ≤ 4608 }
+    ensures bytes { text.new.bytes ≡ text.old.bytes
+        ++ spec.labelled_line label.now said.now reading.now win.now }
+    ensures len { array_string_len text.new ≤ array_string_len text.old + 220 }
+{
+    text.push_str(label);
     push_reading(text, reading, win);
+    text.push_str(said);
     text.push_str("\n");
 }
 

@@ -43,7 +43,7 @@ pub enum WinExplanation {
 }
 
 impl WinExplanation {
-    ghost use Rattle.riichi_explain.specs.Win.{answer_of};
+    ghost use Rattle.riichi_explain.specs.Win.{answer_of, reading_of};
 
     /// The answer that is explained.
     pub fn answer(&self) -> WinAnswer
@@ -53,6 +53,16 @@ impl WinExplanation {
             WinExplanation::Won(hand) => WinAnswer::Won(hand.score),
             WinExplanation::NoYaku(_) => WinAnswer::NoYaku,
             WinExplanation::NoWin(_) => WinAnswer::NoWin,
+        }
+    }
+
+    /// The reading that scores.
+    pub fn reading(&self) -> Option<Reading>
+        ensures { result ≡ reading_of self.now }
+    {
+        match self {
+            WinExplanation::Won(hand) => Some(hand.reading),
+            WinExplanation::NoYaku(_) | WinExplanation::NoWin(_) => None,
         }
     }
 }
@@ -108,7 +118,7 @@ fn counted_dora(yakuman: bool, win: &WinRecord) -> DoraRows
 }
 
 /// The rows of fu, of which a yakuman counts none.
-fn counted_fu(yakuman: bool, reading: &Reading, win: &WinRecord) -> FuRows
+pub(crate) fn counted_fu(yakuman: bool, reading: &Reading, win: &WinRecord) -> FuRows
     requires { HasFourSets reading.now win.now }
     ensures { result.items ≡ spec.counted_fu yakuman reading.now win.now }
 {

@@ -38,7 +38,7 @@ pub fn push_won_hand(text: &mut ArrayString<4608>, hand: &WonHand)
 
 /// A yakuman counts no fu.
 #[tactic(auto, unfolding(crate::specs::Text::fu_line_if))]
-fn push_fu_line_if(text: &mut ArrayString<4608>, yakuman: bool, rows: &[FuRow], fu: u8)
+pub(crate) fn push_fu_line_if(text: &mut ArrayString<4608>, yakuman: bool, rows: &[FuRow], fu: u8)
     requires few { length rows.now ≤ 24 }
     requires room { array_string_len text.old + 950 ≤ 4608 }
     ensures bytes { text.new.bytes ≡ text.old.bytes ++ spec.fu_line_if yakuman rows.now fu }

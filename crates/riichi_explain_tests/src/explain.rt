@@ -22,6 +22,15 @@ fn win_text(win: &WinRecord) -> ArrayString<4608> {
     text
 }
 
+/// The lines of the readings beside the one that scores.
+fn others_text(win: &WinRecord) -> ArrayString<4608> {
+    let mut text = ArrayString::new();
+    if let Some(best) = explain_win(win).reading() {
+        push_other_readings(&mut text, &best, win);
+    }
+    text
+}
+
 fn forms_text(forms: &FormDistances) -> ArrayString<4608> {
     let mut text = ArrayString::new();
     push_shanten_line(&mut text, forms);
@@ -443,4 +452,65 @@ fn is_without_yaku(job: &Job) -> bool {
         Job::Win(win) => explain_win(win).answer() == WinAnswer::NoYaku,
         _ => false,
     }
+}
+
+const OTHERS: [(&str, &str); 6] = [
+    // why not seven pairs, and why no pinfu of the other sets
+    (
+        "win 1122334m556677s on=4m by=ron seat=S round=E",
+        "  other   123m 123m 567s 567s 44m, 4m completes 44m
+  han     twice-pure-double-chow (ryanpeikou) 3
+  fu      20 base, 10 concealed ron (menzen kafu), 2 pair wait (tanki): 32, rounded to 40
+  gain    5200
+  other   seven pairs 11223344m556677s, 4m completes 44m
+  han     seven-pairs (chiitoitsu) 2
+  fu      25 seven pairs
+  gain    1600
+",
+    ),
+    // why 50 fu and not 40
+    (
+        "win 99978m444p567s22s on=9m by=ron seat=S round=E riichi=1",
+        "  other   789m 999m 444p 567s 22s, 9m completes 999m
+  han     riichi 1
+  fu      20 base, 10 concealed ron (menzen kafu), 4 open triplet 999m (minkou), 4 concealed triplet 444p (ankou): 38, rounded to 40
+  gain    1300
+",
+    ),
+    // why no pinfu: four han 20 fu are less than four han 40 fu
+    (
+        "win 11222333m567p99s on=1m by=tsumo seat=S round=E riichi=1 sticks=1",
+        "  other   123m 123m 123m 567p 99s, 1m completes 123m
+  han     riichi 1, fully-concealed (menzen tsumo) 1, pinfu 1, pure-double-chow (iipeiko) 1: 4
+  fu      20 base
+  gain    5200 + 1000 for sticks = 6200
+",
+    ),
+    // a reading without yaku
+    (
+        "win 11222333m567p99s on=1m by=ron seat=S round=E",
+        "  other   111m 222m 333m 567p 99s, 1m completes 111m: no yaku
+",
+    ),
+    // a yakuman, and what the hand is worth without it
+    (
+        "win 111222333m99p44s on=9p by=tsumo seat=S round=E dora=1s",
+        "  other   123m 123m 123m 999p 44s, 9p completes 999p
+  han     fully-concealed (menzen tsumo) 1, pure-double-chow (iipeiko) 1: 2
+  fu      20 base, 2 self-draw (tsumo), 8 concealed triplet 999p (ankou): 30
+  gain    2000
+",
+    ),
+    ("win 234m567m345p67s99s on=5s by=ron seat=S round=E", ""),
+];
+
+#[test]
+fn other_readings_the_best_first(rt: HostRuntime) -> Result<(), Fail> {
+    for (line, text) in OTHERS {
+        match read_line(Rules::One, line.as_bytes()) {
+            Ok(Some(Job::Win(win))) => same_in(&rt, &line, others_text(&win).as_str(), text),
+            _ => return Err("a line that tells no win")?,
+        }
+    }
+    Ok(())
 }

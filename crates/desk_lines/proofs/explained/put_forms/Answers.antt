@@ -12,6 +12,6 @@ returns g c =
     let pushed = c.push_shanten_line.ensures.bytes ∙ ap (λ (t : List ℕ). t ++ shanten_line forms) c.clear.ensures in (
       shanten_line forms,
       record { forms = forms; distances = c.explain_shape.ensures.forms; text_is = refl },
-      c.put_why.ensures ∙ ap (λ (t : List ℕ). t ++ c.push_shanten_line.new.text.bytes) c.put_shape.ensures.told
+      c.put_why.ensures.told ∙ ap (λ (t : List ℕ). t ++ c.push_shanten_line.new.text.bytes) c.put_shape.ensures.told
           ∙ append_assoc before answer c.push_shanten_line.new.text.bytes ∙ ap (λ (why : List ℕ). before ++ (answer ++ why)) pushed,
     )

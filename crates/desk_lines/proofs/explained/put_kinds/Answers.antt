@@ -9,5 +9,5 @@ returns c =
     let answer = waits_text (waits_of c.args.hand.now) ++ 10 ∷ [] in
     let pushed = c.push_waits_line.ensures ∙ ap (λ (t : List ℕ). t ++ waits_line c.as_slice.result.now) c.clear.ensures in
     let shown = pushed ∙ ap waits_line (c.as_slice.ensures.value ∙ c.explain_waits.ensures) in
-    c.put_why.ensures ∙ ap (λ (t : List ℕ). t ++ c.push_waits_line.new.text.bytes) c.put_waits.ensures.told
+    c.put_why.ensures.told ∙ ap (λ (t : List ℕ). t ++ c.push_waits_line.new.text.bytes) c.put_waits.ensures.told
     ∙ append_assoc before answer c.push_waits_line.new.text.bytes ∙ ap (λ (why : List ℕ). before ++ (answer ++ why)) shown

@@ -1,9 +1,7 @@
-use Rattle.std.proofs.Common.{◌≡◌, ◌∙◌, ◌+◌, ◌-◌, ◌<◌, ◌≤◌, inl, inr, ℕ, List, [], ◌∷◌, ◌++◌, Option, Some, None, refl, sym, subst, ap, length, length-append, take, drop, append_assoc, arith}
+use Rattle.std.proofs.Common.{◌≡◌, ◌∙◌, ◌+◌, inl, inr, ℕ, List, [], ◌++◌, refl, sym, subst, ap, length, length-append, drop, arith}
 use Rattle.desk_lines.specs.Lines.{lines}
-use Rattle.desk_lines.specs.Filling.{IsCutBehindLine, HasNoRoom}
-use Rattle.desk_lines.specs.Records.{AnswerKind, AreTold}
+use Rattle.desk_lines.specs.Records.{AreTold}
 use Rattle.desk_lines.specs.Telling.{text_of, with_line_feed, answers_in}
-use Rattle.riichi_hand.specs.declared.win.Rules.{Rules}
 use Rattle.desk_lines.proofs.AnswerLemmas.{AreTold-last}
 use Rattle.desk_lines.proofs.FillingLemmas.{front-longer, no_room, longer_room}
 use Rattle.desk_lines.proofs.TellingLemmas.{text_of-more}

@@ -1,6 +1,5 @@
 use Rattle.std.proofs.Common.{◌≡◌, ◌∙◌, ◌+◌, ◌-◌, ◌++◌, ap, sym, length, take, drop, append_assoc, arith}
 use Rattle.std.proofs.lemmas.List.{drop-drop}
-use borrow.Rule.Slice.PartMut.{put_mid, post_of}
 use Rattle.desk_lines.proofs.filling.put_at.Goals as goal
 
 pub returns : goal.returns

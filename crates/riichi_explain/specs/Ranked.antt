@@ -1,0 +1,35 @@
+-- The readings of a win by what they are worth.
+use Rattle.std.specs.Prelude.{◌≡◌, ℕ, Bool, Option, None, Some, List, [], length, map, take, drop, All}
+use Rattle.std.specs.List.Sorted.{IsPermutation, IsSortedBy}
+use Rattle.std.specs.Ordering.{is_gt, nat_cmp}
+use Rattle.std.specs.Cmp.Lexicographic.{slice_cmp}
+use Rattle.riichi_hand.specs.declared.win.WinParts.{WinParts}
+use Rattle.riichi_split.specs.declared.reading.Reading.{Reading}
+use Rattle.riichi_split.specs.Readings.{AreTheReadings}
+use Rattle.riichi_score.specs.declared.score.Score.{Score}
+use Rattle.riichi_score.specs.Best.{rank}
+use Rattle.riichi_score.specs.Scores.{score_of, hand_of}
+use Rattle.riichi_explain.specs.declared.ranked.RankedReading.{RankedReading}
+use Rattle.riichi_explain.specs.declared.ranked.Ranking.{Ranking}
+
+-- what readings are compared by: the numbers by which scores are, and none where there is no yaku
+abbrev pub rank_if : Option Score → List ℕ
+rank_if None = []
+rank_if (Some score) = rank score
+
+-- at the first difference the former has the greater number, or it has a yaku and the latter none
+abbrev pub is_worth_more : Option Score → Option Score → Bool
+is_worth_more score other = is_gt (slice_cmp nat_cmp (rank_if score) (rank_if other))
+
+-- none is worth more than the one before it
+abbrev pub AreInOrder : List RankedReading → Type 0
+AreInOrder ranked = IsSortedBy (λ one other. is_worth_more one.score other.score) ranked
+
+-- Each reading of the hand stands there once with its score, the first twelve in the order of what they are worth, the others behind them.
+pub record AreRanked (win : WinParts) (ranking : Ranking) : Type 0 where
+  pub readings : List Reading
+  pub are_all : AreTheReadings (hand_of win) (length win.melds) win.winning readings
+  pub each_once : IsPermutation (take 12 readings) (map (λ one. one.reading) ranking.ranked.items)
+  pub rest_is : ranking.rest ≡ drop 12 readings
+  pub scored : All (λ one. one.score ≡ score_of one.reading win) ranking.ranked.items
+  pub in_order : AreInOrder ranking.ranked.items

@@ -1,0 +1,159 @@
+//! The readings of a win by what they are worth.
+ghost use Rattle.std.specs.Prelude.{◌≡◌, ◌+◌, ◌<◌, ◌≤◌, ℕ, true, false, length, slice_index_or};
+ghost use Rattle.std.specs.List.{insert};
+ghost use Rattle.riichi_score.specs.Best as best_spec;
+ghost use Rattle.riichi_score.specs.Dora.{dora_of};
+ghost use Rattle.riichi_score.specs.Fu.{HasFourSets};
+ghost use Rattle.riichi_score.specs.Scores as score_spec;
+ghost use Rattle.riichi_explain.specs.Ranked as spec;
+ghost use Rattle.riichi_explain.specs.declared.ranked.RankedReading.{RankedReading};
+
+use arrayvec::ArrayVec;
+use riichi_hand::WinRecord;
+use riichi_score::{Score, YakuSet, base_points, dora, fu, gain, han, hand_of, payment, yaku};
+use riichi_split::{Reading, Readings};
+
+/// The most readings that are ranked or shown. No hand has more than eight, as far as anyone knows.
+pub(crate) const MOST_READINGS: usize = 12;
+
+/// A reading of a hand, and its score where it has a yaku.
+#[derive(Clone, Copy)]
+pub struct RankedReading {
+    pub reading: Reading,
+    pub score: Option<Score>,
+}
+
+/// What fills the places of a list that no reading has taken.
+impl Default for RankedReading {
+    ghost use Rattle.std.specs.Prelude.{None};
+    ghost use Rattle.riichi_split.specs.declared.reading.Reading.TheVariants.{SevenPairs};
+
+    ghost is_default = { λ one. one ≡ record { reading = SevenPairs; score = None } };
+
+    fn default() -> Self {
+        RankedReading {
+            reading: Reading::SevenPairs,
+            score: None,
+        }
+    }
+}
+
+/// The readings of a win, the best first.
+#[derive(Drop)]
+pub struct Ranking {
+    pub ranked: ArrayVec<RankedReading, MOST_READINGS>,
+    /// Those behind the first twelve that were found.
+    pub rest: Readings,
+}
+
+/// Every reading of a win with its score, none worth more than the one before it.
+pub fn ranked_readings(win: &WinRecord) -> Ranking
+    ensures { spec.AreRanked win.now result }
+{
+    let mut rest = Readings::new(&hand_of(win), &win.melds(), win.winning());
+    let mut ranked = ArrayVec::new();
+    for turn in 0..MOST_READINGS {
+        if let Some(reading) = rest.next() {
+            insert(&mut ranked, reading, win);
+        }
+    }
+    Ranking { ranked, rest }
+}
+
+/// Puts a reading behind those that are worth as much.
+fn insert(ranked: &mut ArrayVec<RankedReading, MOST_READINGS>, reading: Reading, win: &WinRecord)
+    requires sets { HasFourSets reading win.now }
+    requires room { length ranked.old.items < 12 }
+    requires in_order { spec.AreInOrder ranked.old.items }
+    ensures items { (place : ℕ) × (ranked.new.items ≡ insert ranked.old.items place
+        (record { reading = reading; score = score_spec.score_of reading win.now })) }
+    ensures in_order { spec.AreInOrder ranked.new.items }
+    ensures len { length ranked.new.items ≡ length ranked.old.items + 1 }
+{
+    let score = score_of(&reading, win);
+    let place = place_of(ranked.as_slice(), &score);
+    ranked.insert(place, RankedReading { reading, score });
+}
+
+/// The place before the first that is worth less.
+fn place_of(ranked: &[RankedReading], score: &Option<Score>) -> usize
+    ensures within { result ≤ length ranked.now }
+    ensures before { (other : RankedReading) (last : ℕ) → last + 1 ≡ result
+        → spec.is_worth_more score.now (slice_index_or ranked.now last other).score ≡ false }
+    ensures after { (other : RankedReading) → result < length ranked.now
+        → spec.is_worth_more score.now (slice_index_or ranked.now result other).score ≡ true }
+{
+    for place in 0..ranked.len() {
+        if is_worth_more(score, &ranked[place].score) {
+            return place;
+        }
+    }
+    ranked.len()
+}
+
+fn is_worth_more(score: &Option<Score>, other: &Option<Score>) -> bool
+    ensures { result ≡ spec.is_worth_more score.now other.now }
+{
+    match (score, other) {
+        (Some(score), Some(other)) => rank(score).cmp(&rank(other)).is_gt(),
+        (Some(_), None) => true,
+        (None, _) => false,
+    }
+}
+
+/// What scores are compared by.
+fn rank(score: &Score) -> [u64; 5]
+    ensures { result ≡ best_spec.rank score.now }
+{
+    [
+        u64::from(score.base),
+        u64::from(score.yaku.is_yakuman()),
+        u64::from(score.han),
+        u64::from(score.fu),
+        score.yaku.bits(),
+    ]
+}
+
+/// The score of a reading, if it has a yaku.
+#[tactic(auto, unfolding(riichi_score::specs::Scores::score_of))]
+fn score_of(reading: &Reading, win: &WinRecord) -> Option<Score>
+    requires { HasFourSets reading.now win.now }
+    ensures { result ≡ score_spec.score_of reading.now win.now }
+{
+    let yaku = yaku(reading, win);
+    if yaku.is_empty() {
+        None
+    } else if yaku.is_yakuman() {
+        Some(with_base(8000, 0, 0, yaku, 0, win))
+    } else {
+        Some(counted(yaku, fu(reading, win), win))
+    }
+}
+
+/// The score of a counted hand.
+fn counted(yaku: YakuSet, fu: u8, win: &WinRecord) -> Score
+    ensures { result ≡ score_spec.counted yaku fu (dora_of win.now) win.now }
+{
+    let dora = dora(win);
+    let han = han(yaku, win.melds().concealed(), dora);
+    let base = base_points(win.rules(), han, fu);
+    with_base(base, han, fu, yaku, dora, win)
+}
+
+/// A score of so many base points, with what is paid for it.
+fn with_base(base: u32, han: u8, fu: u8, yaku: YakuSet, dora: u8, win: &WinRecord) -> Score
+    requires { base ≤ 8000 }
+    ensures { result ≡ score_spec.with_base base han fu yaku dora win.now }
+{
+    let payment = payment(base, win);
+    let gain = gain(&payment, win.sticks());
+    Score {
+        han,
+        fu,
+        base,
+        yaku,
+        dora,
+        payment,
+        gain,
+    }
+}
