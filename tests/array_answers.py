@@ -69,6 +69,8 @@ def try_hands(draw: random.Random, size: int, hands: int) -> None:
 
 # ---- wins
 
+AFTER_ALL_WORDS = [f"H{number}" for number in range(9, 17)]
+"""The faults of a line whose words can all be written as a row: of the others H8 may be two winning tiles."""
 SORTS = {"chi": riichi_desk.chi, "pon": riichi_desk.pon, "kan": riichi_desk.kan, "ankan": riichi_desk.ankan}
 
 
@@ -88,6 +90,7 @@ def kinds_in(text: str) -> list[int]:
 
 
 def win_of(line: str) -> riichi_desk.Win:
+    """The row of a line whose words can all be read."""
     _, hand, *pairs = line.split()
     said = dict(pair.split("=") for pair in pairs)
     melds = [it.split(":") for it in said.get("open", "").split(",") if it]
@@ -134,9 +137,12 @@ def try_wins(rules: int) -> None:
     rows, wanted = [], []
     for name in "rules", "rules-two", "club-night":
         for line in (TOP / f"examples/{name}.lines").read_text().splitlines():
-            if line.startswith("win "):
+            answer = riichi_desk.answer(line, rules)
+            has_row = not isinstance(answer, riichi_desk.Refused) or answer.code in AFTER_ALL_WORDS
+            if line.startswith("win ") and has_row:
                 rows.append(win_of(line))
-                wanted.append(told_by(riichi_desk.answer(line, rules)))
+                wanted.append(told_by(answer))
+    assert len(rows) > 100
     given = (riichi_desk.Win * len(rows))(*rows)
     for buffer in given, bytes(given), memoryview(given), array.array("B", bytes(given)):
         assert [told_in(score) for score in riichi_desk.wins(buffer, rules)] == wanted

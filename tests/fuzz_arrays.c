@@ -389,10 +389,13 @@ static struct riichi_score score_of(uint32_t rules, const struct riichi_win *win
     size_t length = put_win_line(line, win, &reds_over);
     score.told = 4;
     if (length == 0) return score;
+    if (line[4] == ' ') { /* (no line has an empty hand) */
+        if (win->riichi <= 2 && win->counters <= 99 && win->sticks <= 99) score.told = 8;
+        return score;
+    }
     object[riichi_json(rules, (const uint8_t *)line, length, (uint8_t *)object, RIICHI_MOST_JSON)] = 0;
     if ((score.told = (uint8_t)number_at(object, "\"code\":\"H")) > 0) return score;
-    if (strstr(object, "\"N1\"")) score.told = 8; /* (no line has an empty hand) */
-    else if (reds_over > 0 && rules == RIICHI_RULES_TWO) score.told = 16;
+    if (reds_over > 0 && rules == RIICHI_RULES_TWO) score.told = 16;
     else if (strstr(object, "no win")) score.told = RIICHI_NO_WIN;
     else if (strstr(object, "no yaku")) score.told = RIICHI_NO_YAKU;
     else CHECK(strstr(object, "\"won\""));

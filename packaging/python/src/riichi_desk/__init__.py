@@ -12,7 +12,7 @@ from .arrays import NO_HAND, NO_WAITS, Discards, Shapes, ankan, chi, discards, k
 from .library import CALLS, ROOMS
 from .records import answer, answers, explain, json, lines, text, texts
 from .values import Accepted, Answer, NoWin, NoYaku, Refused, Shape, Table, Waits, Won, Yaku
-from .wins import NO_WIN, NO_YAKU, WON, Score, Win, wins
+from .scores import NO_WIN, NO_YAKU, WON, Score, Win, wins
 
 __all__ = [
     *["Accepted", "Answer", "NoWin", "NoYaku", "Refused", "Shape", "Table", "Waits", "Won", "Yaku"],

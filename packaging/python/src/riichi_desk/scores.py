@@ -13,7 +13,7 @@ from .arrays import lend
 from .library import CALLS, rules_of
 
 if TYPE_CHECKING:
-    from .arrays import Buffer
+    from _typeshed import ReadableBuffer as Buffer
 
 _BYTE, _WORD = ctypes.c_uint8, ctypes.c_uint32
 
