@@ -1,5 +1,5 @@
-/* time_arrays LINES13 LINES14 COUNTS13 COUNTS14: what a hand costs in C by each kind of call, as `NAME NANOSECONDS` lines. The files
- * have the same hands as lines and as 34 bytes each. Each figure is the least processor time of RUNS. */
+/* time_arrays LINES13 LINES14 WINLINES COUNTS13 COUNTS14 WINS: what a hand costs in C by each kind of call, as `NAME NANOSECONDS` lines.
+ * The files have the same hands as lines and as 34 bytes each, and the same wins as lines and as 64 bytes each. Each figure is the least processor time of RUNS. */
 #include <riichi_desk.h>
 #include <stdio.h>
 #include <stdlib.h>
@@ -60,6 +60,14 @@ static void discards(void) {
     riichi_discards(counts, hands, melds, 0, seen, 0, shanten, hands, kinds, hands, after, hands, live, hands);
 }
 
+static struct riichi_score *scores;
+
+static void win_a_call(void) {
+    for (size_t i = 0; i < hands; i++) riichi_wins(RIICHI_RULES_ONE, (const struct riichi_win *)counts + i, 1, scores + i, 1);
+}
+
+static void wins(void) { riichi_wins(RIICHI_RULES_ONE, (const struct riichi_win *)counts, hands, scores, hands); }
+
 static void tell(const char *name, void (*work)(void)) {
     double least = 1e30;
     for (int run = 0; run < RUNS; run++) {
@@ -71,27 +79,33 @@ static void tell(const char *name, void (*work)(void)) {
     printf("%s\t%.1f\n", name, least / (double)hands);
 }
 
-static void use(const char *lines, const char *bytes) {
+static void use(const char *lines, const char *bytes, size_t width) {
     struct file rows = read_file(bytes);
     text = read_file(lines);
     counts = (const void *)rows.bytes;
-    hands = rows.length / 34;
+    hands = rows.length / width;
+    scores = malloc(hands * sizeof *scores);
     shanten = malloc(hands), kinds = malloc(hands * 8), live = malloc(hands * 34), after = malloc(hands * 34 * 8);
 }
 
 int main(int count, char **words) {
-    if (count != 5) { fprintf(stderr, "time_arrays LINES13 LINES14 COUNTS13 COUNTS14\n"); return 2; }
-    use(words[1], words[3]);
+    if (count != 7) { fprintf(stderr, "time_arrays LINES13 LINES14 WINLINES COUNTS13 COUNTS14 WINS\n"); return 2; }
+    use(words[1], words[4], 34);
     tell("C, lines of 13 tiles, a call each", call_a_line);
     tell("C, lines of 13 tiles, one call", many_lines);
     tell("C, shapes of 13 tiles, a call each", call_a_hand);
     tell("C, shapes of 13 tiles, one call", shapes);
     tell("C, shanten of 13 tiles, one call", shantens);
     tell("C, waits of 13 tiles, one call", waits);
-    use(words[2], words[4]);
+    use(words[2], words[5], 34);
     tell("C, lines of 14 tiles, a call each", call_a_line);
     tell("C, lines of 14 tiles, one call", many_lines);
     tell("C, discards of 14 tiles, one call", discards);
     tell("C, shanten of 14 tiles, one call", shantens);
+    use(words[3], words[6], sizeof(struct riichi_win));
+    tell("C, lines of wins, a call each", call_a_line);
+    tell("C, lines of wins, one call", many_lines);
+    tell("C, wins, a call each", win_a_call);
+    tell("C, wins, one call", wins);
     return 0;
 }

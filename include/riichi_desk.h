@@ -1,4 +1,4 @@
-/* riichi_desk for C and C++: the answers of the command `line`, a line or many lines a call, and many hands a call as arrays.
+/* riichi_desk for C and C++: the answers of the command `line`, a line or many lines a call, and many hands or wins a call as arrays.
  *
  * Link with libriichi_desk_c.a and the C library: they run on every processor of x86-64 under Linux. No call keeps anything or takes
  * memory, so any thread may make any of them at any time, where what it fills is its own and its stack has the space that the call
@@ -181,6 +181,79 @@ size_t riichi_discards(const uint8_t (*counts)[34], size_t counts_len, const uin
 /* The kinds that hands of thirteen tiles wait for, a bit for each; RIICHI_NO_WAITS where the row is no such hand. */
 size_t riichi_waits_of(const uint8_t (*counts)[34], size_t counts_len, const uint8_t (*melds)[4], size_t melds_len,
     uint64_t *kinds, size_t kinds_len);
+
+/* ---- Many wins as arrays
+ *
+ * What wins are worth, as `win` says it of a line, many a call and without any text.
+ */
+
+/* A kind as one of a win's indicators. */
+#define RIICHI_INDICATOR(kind) ((uint8_t)(1 + (kind)))
+
+/* A win: 64 bytes. What isn't said is 0, so a win begins as `struct riichi_win win = {0};`. */
+struct riichi_win {
+    uint8_t concealed[34]; /* How many tiles of each kind are concealed, without the winning tile. */
+    uint8_t melds[4];      /* RIICHI_CHI and so on; 0 for none. */
+    uint8_t winning;       /* The kind of the winning tile. */
+    uint8_t by;            /* RIICHI_RON or RIICHI_TSUMO. */
+    uint8_t seat;          /* The winner's wind, RIICHI_EAST and so on; East is the dealer. */
+    uint8_t round;         /* The prevalent wind. */
+    uint8_t riichi;        /* 1, or 2 for double riichi. */
+    uint8_t ippatsu;       /* Each of these five is set where it isn't 0: */
+    uint8_t rinshan;       /*   on the tile drawn after a kong; */
+    uint8_t chankan;       /*   on the tile that another player adds to a triplet for a kong; */
+    uint8_t last;          /*   on the last tile drawn or discarded; */
+    uint8_t first;         /*   on the first draw, before any call. */
+    uint8_t counters;      /* On the table, 0 to 99, each worth 300 points. */
+    uint8_t sticks;        /* The riichi sticks on the table, 0 to 99. */
+    uint8_t reds[3];       /* The red fives of m, p and s among all its tiles; those are counted above as well. */
+    uint8_t dora[5];       /* The dora indicators, RIICHI_INDICATOR(kind) each; 0 for none. */
+    uint8_t ura[5];        /* The indicators under them. */
+    uint8_t zero;          /* Always 0. */
+};
+
+#define RIICHI_RON 0
+#define RIICHI_TSUMO 1
+#define RIICHI_EAST 0
+#define RIICHI_SOUTH 1
+#define RIICHI_WEST 2
+#define RIICHI_NORTH 3
+
+/* What is told of a win: 32 bytes. All but `told` is 0 where that isn't RIICHI_WON. */
+struct riichi_score {
+    uint64_t yaku;      /* Bit n for the yaku with number n (docs/RULES.md, "Yaku" and "Yakuman"). */
+    uint32_t base;      /* The base points; 8000 of a yakuman, whose han, fu and dora are 0. */
+    uint32_t gain;      /* All that the winner gains, in points, with counters and sticks. */
+    uint32_t discarder; /* What the discarder pays; 0 by self-draw. */
+    uint32_t dealer;    /* What the dealer pays for another's self-draw; else 0. */
+    uint32_t other;     /* What each who isn't the dealer pays for a self-draw; else 0. */
+    uint8_t told;       /* RIICHI_WON, RIICHI_NO_YAKU, RIICHI_NO_WIN, or n where the row is refused as `refused Hn`. */
+    uint8_t han;        /* With the dora. */
+    uint8_t fu;
+    uint8_t dora;       /* How many of the han are dora. */
+};
+
+/* A win; a hand that is complete and has no yaku; one that isn't complete. */
+#define RIICHI_WON 100
+#define RIICHI_NO_YAKU 101
+#define RIICHI_NO_WIN 102
+
+/* What wins are worth: of as many as both arrays have rows, from the first on; it returns how many, and leaves what lies behind them.
+ *
+ *   rules     RIICHI_RULES_ONE or RIICHI_RULES_TWO. Under any other number no row is answered.
+ *   wins      The wins. A row is refused for the same faults as a line (docs/NOTATION.md, H8 to H16), and with 4 where a number is
+ *             in no table: a count above four, a byte that is no meld, a kind above 33, riichi above 2, counters above 99, five
+ *             equal indicators, a last byte that isn't 0. The others are answered all the same.
+ *   scores    What is told of each.
+ *
+ * Each call has some 10 kB on the stack.
+ *
+ *     struct riichi_win win = {{1, 1, 1, 1, 1, 1, 1, 1, 1, [11] = 1, 1, [19] = 2}, .winning = 10, .seat = RIICHI_SOUTH};
+ *     struct riichi_score score;                                                    123456789m22s34p on=2p by=ron
+ *     riichi_wins(RIICHI_RULES_ONE, &win, 1, &score, 1);                            score.han is 3, score.gain 3900
+ */
+size_t riichi_wins(
+    uint32_t rules, const struct riichi_win *wins, size_t wins_len, struct riichi_score *scores, size_t scores_len);
 
 /* The name and version, such as `riichi_desk 0.1.0`, into the room as above. Returns how many bytes it takes. */
 size_t riichi_version(uint8_t *room, size_t room_len);

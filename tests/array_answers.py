@@ -1,12 +1,15 @@
 #!/usr/bin/env python3
-"""tests/array_answers.py: asks the Python package for hands as arrays, from each sort of buffer, and compares each row with the
-answer to the line that says the same. Ends with `all right`.
+"""tests/array_answers.py: asks the Python package for hands and wins as arrays, from each sort of buffer, and compares each row with
+the answer to the line that says the same. Ends with `all right`.
 """
 
 import array
 import random
+from pathlib import Path
 
 import riichi_desk
+
+TOP = Path(__file__).resolve().parent.parent
 
 KINDS = [f"{rank + 1}{suit}" for suit in "mpsz" for rank in range(7 if suit == "z" else 9)]
 WALL = [kind for kind in range(34) for _ in range(4)]
@@ -64,6 +67,90 @@ def try_hands(draw: random.Random, size: int, hands: int) -> None:
             assert discards.live[row, kind] == (told.live if told else 0)
 
 
+# ---- wins
+
+AFTER_ALL_WORDS = [f"H{number}" for number in range(9, 17)]
+"""The faults of a line whose words can all be written as a row: of the others H8 may be two winning tiles."""
+SORTS = {"chi": riichi_desk.chi, "pon": riichi_desk.pon, "kan": riichi_desk.kan, "ankan": riichi_desk.ankan}
+
+
+def tiles_of(text: str) -> list[str]:
+    tiles, digits = [], ""
+    for letter in text:
+        if letter.isdigit():
+            digits += letter
+            continue
+        tiles += [digit + letter for digit in digits]
+        digits = ""
+    return tiles
+
+
+def kinds_in(text: str) -> list[int]:
+    return [KINDS.index(tile.replace("0", "5")) for tile in tiles_of(text)]
+
+
+def win_of(line: str) -> riichi_desk.Win:
+    """The row of a line whose words can all be read."""
+    _, hand, *pairs = line.split()
+    said = dict(pair.split("=") for pair in pairs)
+    melds = [it.split(":") for it in said.get("open", "").split(",") if it]
+    win = riichi_desk.Win(winning=kinds_in(said["on"])[0], by=["ron", "tsumo"].index(said["by"]))
+    win.seat, win.round = "ESWN".index(said["seat"]), "ESWN".index(said["round"])
+    for kind in kinds_in(hand):
+        win.concealed[kind] += 1
+    for place, (sort, text) in enumerate(melds):
+        win.melds[place] = SORTS[sort](min(kinds_in(text)))
+    for place, suit in enumerate("mps"):
+        win.reds[place] = sum(tiles_of(text).count("0" + suit) for text in (hand, said["on"], *(text for _, text in melds)))
+    for name in "riichi", "counters", "sticks":
+        setattr(win, name, int(said.get(name, 0)))
+    for name in filter(None, said.get("flags", "").split(",")):
+        setattr(win, name, 1)
+    for place, kind in enumerate(kinds_in(said.get("dora", ""))):
+        win.dora[place] = kind + 1
+    for place, kind in enumerate(kinds_in(said.get("ura", ""))):
+        win.ura[place] = kind + 1
+    return win
+
+
+def told_by(answer: object) -> dict[str, int]:
+    """What a score has that isn't 0."""
+    if isinstance(answer, riichi_desk.Refused):
+        return {"told": int(answer.code[1:])}
+    if not isinstance(answer, riichi_desk.Won):
+        return {"told": riichi_desk.NO_YAKU if isinstance(answer, riichi_desk.NoYaku) else riichi_desk.NO_WIN}
+    paid = answer.payment
+    told = {
+        **{"told": riichi_desk.WON, "yaku": sum(1 << yaku.number for yaku in answer.yaku), "base": answer.base},
+        **{"han": answer.han, "fu": answer.fu, "dora": answer.dora, "gain": answer.gain},
+        **{"discarder": paid.get("discarder", 0), "dealer": paid.get("dealer", 0)},
+        "other": paid.get("each_other", paid.get("each", 0)),
+    }
+    return {name: number for name, number in told.items() if number}
+
+
+def told_in(score: riichi_desk.Score) -> dict[str, int]:
+    return {name: getattr(score, name) for name, _ in score._fields_ if getattr(score, name)}
+
+
+def try_wins(rules: int) -> None:
+    rows, wanted = [], []
+    for name in "rules", "rules-two", "club-night":
+        for line in (TOP / f"examples/{name}.lines").read_text().splitlines():
+            answer = riichi_desk.answer(line, rules)
+            has_row = not isinstance(answer, riichi_desk.Refused) or answer.code in AFTER_ALL_WORDS
+            if line.startswith("win ") and has_row:
+                rows.append(win_of(line))
+                wanted.append(told_by(answer))
+    assert len(rows) > 100
+    given = (riichi_desk.Win * len(rows))(*rows)
+    for buffer in given, bytes(given), memoryview(given), array.array("B", bytes(given)):
+        assert [told_in(score) for score in riichi_desk.wins(buffer, rules)] == wanted
+    assert memoryview(riichi_desk.wins(given, rules)).nbytes == 32 * len(rows)
+    strange = riichi_desk.Win.from_buffer_copy(bytes([5] * 64))
+    assert [told_in(score) for score in riichi_desk.wins((riichi_desk.Win * 2)(strange, rows[0]), rules)] == [{"told": 4}, wanted[0]]
+
+
 def refused(*given: object) -> bool:
     try:
         riichi_desk.shanten(*given)  # type: ignore[arg-type]
@@ -80,6 +167,9 @@ def main() -> None:
     assert riichi_desk.shanten(b"").tolist() == [] and riichi_desk.discards(b"").accepts.tolist() == []
     assert riichi_desk.shanten(bytes(34)).tolist() == [riichi_desk.NO_HAND]
     assert refused(bytes(33)) and refused(bytes(68), bytes(4)) and refused(array.array("H", bytes(68)))
+    try_wins(1)
+    try_wins(2)
+    assert len(riichi_desk.wins(b"")) == 0
     print("all right")
 
 

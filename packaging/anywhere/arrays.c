@@ -95,6 +95,19 @@ size_t riichi_waits_of(const uint8_t (*counts)[34], size_t counts_len, const uin
     return ask_rows(waits_of, MOST_HANDS, given, columns, 1);
 }
 
+size_t riichi_wins(
+    uint32_t rules, const struct riichi_win *wins, size_t wins_len, struct riichi_score *scores, size_t scores_len) {
+    uint8_t *own = memory();
+    size_t rows = lesser(wins_len, scores_len);
+    for (size_t start = 0, some; start < rows; start += some) {
+        some = lesser(rows - start, MOST_HANDS);
+        memcpy(own + COUNTS, wins + start, some * sizeof *wins);
+        if (Z_deskZ_riichi_wins(&module, rules, COUNTS, some, COLUMN_0, some) < some) return start;
+        memcpy(scores + start, own + COLUMN_0, some * sizeof *scores);
+    }
+    return rows;
+}
+
 size_t riichi_answer_rows(uint32_t rules, const uint8_t *bytes, size_t bytes_len, const int64_t *offsets, size_t offsets_len,
     uint8_t *room, size_t room_len, int64_t *answer_offsets, size_t answer_offsets_len) {
     if (answer_offsets_len == 0) return 0;

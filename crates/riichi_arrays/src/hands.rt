@@ -8,7 +8,7 @@ use riichi_hand::{HandRecord, ShapeRecord};
 use riichi_tiles::{Counts, Kind, Meld, Melds};
 
 /// The counts of a row, none where one is above four.
-fn counts_in(row: &[u8; 34]) -> Option<Counts>
+pub fn counts_in(row: &[u8; 34]) -> Option<Counts>
     ensures { result ≡ spec.counts_in row.now }
 {
     let mut counts = Counts::new();
@@ -59,7 +59,7 @@ fn meld_sorted(sort: u8, kind: Kind) -> Meld
 }
 
 /// The melds of a row, none where a byte is no meld.
-fn melds_in(row: &[u8; 4]) -> Option<Melds>
+pub fn melds_in(row: &[u8; 4]) -> Option<Melds>
     ensures { result ≡ spec.melds_in row.now }
 {
     let mut melds = Melds::new();

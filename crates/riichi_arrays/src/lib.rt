@@ -3,7 +3,7 @@
 //! A hand is a row of 34 counts, one for each kind. Its melds are a row of four bytes, one for each meld, 0 where there is none:
 //! the sort of the meld (0 a chow, 1 a pung, 2 an open kong, 3 a concealed kong) times 64, and one more than its kind, which of
 //! a chow is the lowest. The tiles that are seen elsewhere are another row of 34 counts. Rows of melds or seen tiles that
-//! aren't there stand for none.
+//! aren't there stand for none. [`counts_in`] and [`melds_in`] read one row.
 //!
 //! Each call answers as many hands as each of the others of its arrays has places for, and says how many. A row that is no hand
 //! is told by a value that no hand has ([`NO_HAND`], [`NO_WAITS`]), and the others are answered all the same. No call takes
@@ -19,5 +19,6 @@ mod waiting;
 
 pub use acceptance::shapes;
 pub use distance::{NO_HAND, shantens};
+pub use hands::{counts_in, melds_in};
 pub use removal::discards;
 pub use waiting::{NO_WAITS, waits};

@@ -3,3 +3,4 @@ pub mod JsonReplies
 pub mod Reasons
 pub mod ManyLines
 pub mod Rows
+pub mod WinRows

@@ -14,6 +14,7 @@ mod lines;
 mod placing;
 mod reasons;
 mod rows;
+mod wins;
 
 pub use arrays::{riichi_discards, riichi_shantens, riichi_shapes, riichi_waits_of};
 use desk_core::{answer_text, judge};
@@ -23,6 +24,7 @@ use placing::place;
 pub use reasons::riichi_explain;
 use riichi_hand::{Rules, fault_text, read_line};
 pub use rows::riichi_answer_rows;
+pub use wins::riichi_wins;
 
 /// Answers one line, without its line feed and a carriage return before that, under the profile of this number, 1 or 2: the bytes that the answer takes, 0
 /// where the line is no record. They are put at the start of the room if all of them fit there. Under any other number the

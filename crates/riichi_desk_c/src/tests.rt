@@ -1,4 +1,5 @@
 mod facts;
+mod wins;
 
 use super::{
     riichi_answer, riichi_answer_lines, riichi_answer_rows, riichi_discards, riichi_explain,

@@ -1,9 +1,9 @@
-//! Many hands a call, as arrays.
+//! Many hands or wins a call, as arrays.
 //!
 //! A hand is 34 counts, one for each kind: 1m to 9m, 1p to 9p, 1s to 9s, East, South, West, North, white, green, red. Its melds are
 //! four bytes, each a meld ([`chi`] and so on) or 0; a meld counts as three tiles. Rows of melds or of seen tiles that aren't there
 //! stand for none. In a set of kinds bit k is for the kind k.
-use crate::calls;
+use crate::{calls, Rules};
 
 /// The counts of a hand.
 pub type Counts = [u8; 34];
@@ -55,6 +55,99 @@ pub struct Discards {
     pub accepts: Vec<[u64; 34]>,
     /// How many tiles of those are left in all.
     pub live: Vec<Counts>,
+}
+
+/// A win. What isn't said is 0, as in [`Win::default`]; a flag is set where it isn't 0.
+#[repr(C)]
+#[derive(Clone, Copy, Debug, PartialEq, Eq)]
+pub struct Win {
+    /// How many tiles of each kind are concealed, without the winning tile.
+    pub concealed: Counts,
+    pub melds: Melds,
+    /// The kind of the winning tile.
+    pub winning: u8,
+    /// 0 by ron, 1 by self-draw.
+    pub by: u8,
+    /// The winner's wind: 0 East, who is the dealer, to 3 North.
+    pub seat: u8,
+    /// The prevalent wind.
+    pub round: u8,
+    /// 1, or 2 for double riichi.
+    pub riichi: u8,
+    pub ippatsu: u8,
+    pub rinshan: u8,
+    pub chankan: u8,
+    pub last: u8,
+    pub first: u8,
+    /// On the table, 0 to 99, each worth 300 points.
+    pub counters: u8,
+    /// The riichi sticks on the table, 0 to 99.
+    pub sticks: u8,
+    /// The red fives of m, p and s among all its tiles.
+    pub reds: [u8; 3],
+    /// The dora indicators, of each one more than its kind; 0 for none.
+    pub dora: [u8; 5],
+    /// The indicators under them.
+    pub ura: [u8; 5],
+    /// Always 0.
+    pub zero: u8,
+}
+
+impl Default for Win {
+    fn default() -> Self {
+        Win {
+            concealed: [0; 34],
+            melds: [0; 4],
+            winning: 0,
+            by: 0,
+            seat: 0,
+            round: 0,
+            riichi: 0,
+            ippatsu: 0,
+            rinshan: 0,
+            chankan: 0,
+            last: 0,
+            first: 0,
+            counters: 0,
+            sticks: 0,
+            reds: [0; 3],
+            dora: [0; 5],
+            ura: [0; 5],
+            zero: 0,
+        }
+    }
+}
+
+/// The [`Score::told`] of a win with a yaku.
+pub const WON: u8 = 100;
+/// That of a complete hand without one.
+pub const NO_YAKU: u8 = 101;
+/// That of a hand that isn't complete.
+pub const NO_WIN: u8 = 102;
+
+/// What is told of a win. All but `told` is 0 where that isn't [`WON`].
+#[repr(C)]
+#[derive(Clone, Copy, Debug, Default, PartialEq, Eq)]
+pub struct Score {
+    /// Bit n for the yaku with number n.
+    pub yaku: u64,
+    /// The base points; 8000 of a yakuman, whose han, fu and dora are 0.
+    pub base: u32,
+    /// All that the winner gains, in points, with counters and sticks.
+    pub gain: u32,
+    /// What the discarder pays; 0 by self-draw.
+    pub discarder: u32,
+    /// What the dealer pays for another's self-draw; else 0.
+    pub dealer: u32,
+    /// What each who isn't the dealer pays for a self-draw; else 0.
+    pub other: u32,
+    /// [`WON`], [`NO_YAKU`], [`NO_WIN`], or n where the win is refused as `refused Hn`; 4 where a number is in no table.
+    pub told: u8,
+    /// With the dora.
+    pub han: u8,
+    pub fu: u8,
+    /// How many of the han are dora.
+    pub dora: u8,
 }
 
 /// The shanten of each hand of thirteen or fourteen tiles: -1 of a complete one, 0 of one that is ready, [`NO_HAND`] of a row that
@@ -134,4 +227,24 @@ pub fn waits(counts: &[Counts], melds: &[Melds]) -> Vec<u64> {
         calls::riichi_waits_of(counts.as_ptr(), counts.len(), melds.as_ptr(), melds.len(), kinds.as_mut_ptr(), kinds.len());
     }
     kinds
+}
+
+/// What each win is worth.
+///
+/// ```
+/// use riichi_desk::arrays::{wins, Win};
+/// let mut win = Win { winning: 10, seat: 1, ..Win::default() }; // win 123456789m22s34p on=2p by=ron seat=S round=E
+/// win.concealed[..9].fill(1);
+/// win.concealed[11..13].fill(1);
+/// win.concealed[19] = 2;
+/// let score = wins(&[win], riichi_desk::Rules::One)[0];
+/// assert_eq!((score.han, score.fu, score.gain), (3, 30, 3900));
+/// ```
+pub fn wins(wins: &[Win], rules: Rules) -> Vec<Score> {
+    let mut scores = vec![Score::default(); wins.len()];
+    // SAFETY: as in `shanten`; both structs lie as C has them.
+    unsafe {
+        calls::riichi_wins(rules as u32, wins.as_ptr(), wins.len(), scores.as_mut_ptr(), scores.len());
+    }
+    scores
 }

@@ -1,4 +1,5 @@
 //! The calls of `riichi_desk.h`, as they are.
+use crate::arrays::{Score, Win};
 
 pub const MOST_ANSWER: usize = 3072;
 pub const MOST_JSON: usize = 12288;
@@ -70,4 +71,5 @@ extern "C" {
         kinds: *mut u64,
         kinds_len: usize,
     ) -> usize;
+    pub fn riichi_wins(rules: u32, wins: *const Win, wins_len: usize, scores: *mut Score, scores_len: usize) -> usize;
 }

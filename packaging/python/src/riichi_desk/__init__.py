@@ -1,7 +1,7 @@
 """What a hand of riichi mahjong is worth and why, its waits, and how far it is from a win. The answers are proved.
 
 One line a call: `text`, `answer`, `json`, `explain`. Many: `texts`, `answers`, `lines`. Many hands without text: `shanten`,
-`shapes`, `discards`, `waits`, over buffers of counts. The package has the shared library inside; RIICHI_DESK in the environment names another one.
+`shapes`, `discards`, `waits`, over buffers of counts; many wins: `wins`. The package has the shared library inside; RIICHI_DESK in the environment names another one.
 """
 
 from __future__ import annotations
@@ -12,12 +12,14 @@ from .arrays import NO_HAND, NO_WAITS, Discards, Shapes, ankan, chi, discards, k
 from .library import CALLS, ROOMS
 from .records import answer, answers, explain, json, lines, text, texts
 from .values import Accepted, Answer, NoWin, NoYaku, Refused, Shape, Table, Waits, Won, Yaku
+from .scores import NO_WIN, NO_YAKU, WON, Score, Win, wins
 
 __all__ = [
     *["Accepted", "Answer", "NoWin", "NoYaku", "Refused", "Shape", "Table", "Waits", "Won", "Yaku"],
     *["answer", "answers", "explain", "json", "lines", "text", "texts", "version"],
     *["NO_HAND", "NO_WAITS", "Discards", "Shapes", "discards", "shanten", "shapes", "waits"],
     *["ankan", "chi", "kan", "pon"],
+    *["NO_WIN", "NO_YAKU", "WON", "Score", "Win", "wins"],
 ]
 
 

@@ -70,12 +70,12 @@ def ankan(kind: int) -> int:
     return 193 + kind
 
 
-def _lent(given: Buffer | None, width: int, hands: int | None = None) -> tuple[Any, int]:
-    """What a call is given of a buffer with rows of so many bytes, and how many rows these are."""
+def lend(given: Buffer | None, width: int, hands: int | None = None, size: int = 1) -> tuple[Any, int]:
+    """What a call is given of a buffer with rows of so many bytes, which may be items of this size, and how many rows these are."""
     if given is None:
         return _NOTHING, 0
     view = memoryview(given)
-    if view.itemsize != 1 or not view.c_contiguous or view.nbytes % width:
+    if view.itemsize not in (1, size) or not view.c_contiguous or view.nbytes % width:
         raise ValueError(f"not rows of {width} bytes, one behind the other")
     rows = view.nbytes // width
     if hands is not None and rows != hands:
@@ -104,10 +104,10 @@ def shanten(counts: Buffer, melds: Buffer | None = None) -> memoryview:
     >>> shanten(ready + bytes(34)).tolist()
     [0, -128]
     """
-    lent, hands = _lent(counts, KINDS)
-    melded, beside = _lent(melds, 4, hands)
+    rows, hands = lend(counts, KINDS)
+    melded, beside = lend(melds, 4, hands)
     filled, column = _column("b", 1, hands)
-    CALLS.riichi_shantens(lent, hands, melded, beside, filled, hands)
+    CALLS.riichi_shantens(rows, hands, melded, beside, filled, hands)
     return column
 
 
@@ -119,13 +119,13 @@ def shapes(counts: Buffer, melds: Buffer | None = None, seen: Buffer | None = No
     >>> told.shanten[0], told.accepts[0] == 1 << 10 | 1 << 13, told.live[0, 10]
     (0, True, 4)
     """
-    lent, hands = _lent(counts, KINDS)
-    melded, beside = _lent(melds, 4, hands)
-    elsewhere, known = _lent(seen, KINDS, hands)
+    rows, hands = lend(counts, KINDS)
+    melded, beside = lend(melds, 4, hands)
+    elsewhere, known = lend(seen, KINDS, hands)
     distance, shanten = _column("b", 1, hands)
     kinds, accepts = _column("Q", 8, hands)
     copies, live = _column("B", 1, hands, KINDS)
-    CALLS.riichi_shapes(lent, hands, melded, beside, elsewhere, known, distance, hands, kinds, hands, copies, hands)
+    CALLS.riichi_shapes(rows, hands, melded, beside, elsewhere, known, distance, hands, kinds, hands, copies, hands)
     return Shapes(shanten, accepts, live)
 
 
@@ -136,15 +136,15 @@ def discards(counts: Buffer, melds: Buffer | None = None, seen: Buffer | None = 
     >>> told.kinds[0] == 1 << 33, told.accepts[0, 33] == 1 << 10 | 1 << 13, told.live[0, 33]
     (True, True, 8)
     """
-    lent, hands = _lent(counts, KINDS)
-    melded, beside = _lent(melds, 4, hands)
-    elsewhere, known = _lent(seen, KINDS, hands)
+    rows, hands = lend(counts, KINDS)
+    melded, beside = lend(melds, 4, hands)
+    elsewhere, known = lend(seen, KINDS, hands)
     distance, shanten = _column("b", 1, hands)
     best, kinds = _column("Q", 8, hands)
     after, accepts = _column("Q", 8, hands, KINDS)
     copies, live = _column("B", 1, hands, KINDS)
     CALLS.riichi_discards(
-        *[lent, hands, melded, beside, elsewhere, known],
+        *[rows, hands, melded, beside, elsewhere, known],
         *[distance, hands, best, hands, after, hands, copies, hands],
     )
     return Discards(shanten, kinds, accepts, live)
@@ -156,8 +156,8 @@ def waits(counts: Buffer, melds: Buffer | None = None) -> memoryview:
     >>> waits(bytes([1, 1, 1, 1, 1, 1, 1, 1, 1, 2, 0, 1, 1] + [0] * 21))[0] == 1 << 10 | 1 << 13
     True
     """
-    lent, hands = _lent(counts, KINDS)
-    melded, beside = _lent(melds, 4, hands)
+    rows, hands = lend(counts, KINDS)
+    melded, beside = lend(melds, 4, hands)
     kinds, column = _column("Q", 8, hands)
-    CALLS.riichi_waits_of(lent, hands, melded, beside, kinds, hands)
+    CALLS.riichi_waits_of(rows, hands, melded, beside, kinds, hands)
     return column

@@ -24,6 +24,7 @@ _ARGUMENTS = {
     **dict.fromkeys(("riichi_shantens", "riichi_waits_of"), [_AT, _SIZE] * 3),
     "riichi_shapes": [_AT, _SIZE] * 6,
     "riichi_discards": [_AT, _SIZE] * 7,
+    "riichi_wins": [_RULES, *[_AT, _SIZE] * 2],
 }
 for _name, _types in _ARGUMENTS.items():
     _call = getattr(CALLS, _name)

@@ -1,0 +1,2 @@
+pub mod IndicatorLemmas
+pub mod TellingLemmas

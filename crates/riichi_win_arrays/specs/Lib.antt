@@ -1,0 +1,3 @@
+pub mod WinRows
+pub mod ScoreRows
+pub mod Wins
