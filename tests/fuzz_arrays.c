@@ -5,7 +5,7 @@
 #include <riichi_desk.h>
 #include <time.h>
 
-#define MOST_ROWS 300
+#define MOST_ROWS 600
 
 struct row {
     uint8_t counts[34], melds[4], seen[34];

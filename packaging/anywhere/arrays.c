@@ -1,8 +1,8 @@
 
-/* The calls of riichi_desk.h for arrays. Each row is answered alone, so they are answered piece by piece. A piece has too few hands
- * for the library to keep what it finds of them: the module's stack has no room for that. */
+/* The calls of riichi_desk.h for arrays. Each row is answered alone, so they are answered piece by piece, as many rows as the places
+ * below have room for. */
 
-enum { MOST_HANDS = 127, MOST_DISCARDS = 15 };
+enum { MOST_HANDS = 480, MOST_DISCARDS = 240 };
 /* Each array has a place of its own, which is large enough for a piece of it. */
 enum { COUNTS = GIVEN, PLACE_GIVEN = PAGE / 4, MELDS = COUNTS + PLACE_GIVEN, SEEN = MELDS + PLACE_GIVEN };
 enum { COLUMN_0 = TOLD, COLUMN_1 = TOLD + PAGE, COLUMN_2 = COLUMN_1 + PAGE, COLUMN_3 = COLUMN_2 + PAGE };

@@ -152,6 +152,8 @@ static inline u32 i8x16_bitmask(v128 x) { return highest_bits(LANE(u64, x, 0)) |
 WIDER(i16x8_extend_low_i8x16_u, u8, i16x8, 8)
 WIDER(i32x4_extend_low_i16x8_u, u16, i32x4, 4)
 WIDER(i64x2_extend_low_i32x4_u, u32, i64x2, 2)
+WIDER(i16x8_extend_low_i8x16_s, s8, i16x8, 8)
+WIDER(i32x4_extend_low_i16x8_s, s16, i32x4, 4)
 
 /* Lanes from memory, each a number of that width. */
 #define LOAD_LANE(bits, shape) \

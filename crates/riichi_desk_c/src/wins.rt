@@ -1,7 +1,7 @@
 //! Many wins as rows, without text.
 ghost use Rattle.std.specs.Prelude.{◌≡◌, length, min};
 ghost use Rattle.riichi_desk_c.specs.Replies.{rules_numbered};
-ghost use Rattle.riichi_desk_c.specs.WinRows.{AreToldUnder, rows_under};
+ghost use Rattle.riichi_desk_c.specs.WinRows.{AreScoredUnder, rows_under};
 
 use crate::rules_numbered;
 use riichi_win_arrays::{ScoreRow, WinRow};
@@ -12,7 +12,7 @@ use riichi_win_arrays::{ScoreRow, WinRow};
 pub extern "C" fn riichi_wins(rules: u32, wins: &[WinRow], scores: &mut [ScoreRow]) -> usize
     ensures rows { result
         ≡ rows_under (rules_numbered rules) (min (length wins.now) (length scores.old)) }
-    ensures scores { AreToldUnder (rules_numbered rules) result wins.now scores.old scores.new }
+    ensures scores { AreScoredUnder (rules_numbered rules) result wins.now scores.old scores.new }
 {
     match rules_numbered(rules) {
         Some(rules) => riichi_win_arrays::wins(rules, wins, scores),

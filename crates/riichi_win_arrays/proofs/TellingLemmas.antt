@@ -5,12 +5,12 @@ use Rattle.std.proofs.lemmas.List.{length-map, length-take, map-append}
 use Rattle.std.specs.Prelude.{slice_set}
 use Rattle.riichi_arrays.proofs.ColumnLemmas.{put_next}
 use Rattle.riichi_hand.specs.declared.win.Rules.{Rules}
-use Rattle.riichi_win_arrays.specs.Wins.{AreTold, told_win}
+use Rattle.riichi_win_arrays.specs.Wins.{AreScored, told_win}
 use Rattle.riichi_win_arrays.specs.declared.score_row.ScoreRow.{ScoreRow}
 use Rattle.riichi_win_arrays.specs.declared.win_row.WinRow.{WinRow}
 
-pub told_next : (rules : Rules) (place : ℕ) (rows : List WinRow) (before after : List ScoreRow) (none : WinRow) (next : ScoreRow) → AreTold rules place rows before after → place < length rows → place < length before →
-    next ≡ told_win rules (get_or rows place none) → AreTold rules (place + 1) rows before (slice_set after place next)
+pub told_next : (rules : Rules) (place : ℕ) (rows : List WinRow) (before after : List ScoreRow) (none : WinRow) (next : ScoreRow) → AreScored rules place rows before after → place < length rows → place < length before →
+    next ≡ told_win rules (get_or rows place none) → AreScored rules (place + 1) rows before (slice_set after place next)
 told_next rules place rows before after none next is inside low same =
     let front = map (told_win rules) (take place rows) in
     let long : length front ≡ place = omega (arith, length-map (take place rows) (told_win rules), length-take place rows, inside) in

@@ -26,20 +26,20 @@ are_indicators bytes = are_kinds bytes && are_counts (shown bytes)
 abbrev pub indicators_in : List ℕ → Option (List ℕ)
 indicators_in bytes = if are_indicators bytes then Some (shown bytes) else None
 
-abbrev pub by_of : ℕ → By
-by_of byte = if byte == 0 then Ron else Tsumo
+abbrev pub by_numbered : ℕ → By
+by_numbered byte = if byte == 0 then Ron else Tsumo
 
 abbrev pub by_in : ℕ → Option By
-by_in byte = if nat_lt byte 2 then Some (by_of byte) else None
+by_in byte = if nat_lt byte 2 then Some (by_numbered byte) else None
 
-abbrev pub wind_of : ℕ → Wind
-wind_of byte = if byte == 0 then East else if byte == 1 then South else if byte == 2 then West else North
+abbrev pub wind_numbered : ℕ → Wind
+wind_numbered byte = if byte == 0 then East else if byte == 1 then South else if byte == 2 then West else North
 
 abbrev pub wind_in : ℕ → Option Wind
-wind_in byte = if nat_lt byte 4 then Some (wind_of byte) else None
+wind_in byte = if nat_lt byte 4 then Some (wind_numbered byte) else None
 
-abbrev pub flags_in : WinRow → Flags
-flags_in row = record {
+abbrev pub flags_set : WinRow → Flags
+flags_set row = record {
   ippatsu = not (row.ippatsu == 0);
   rinshan = not (row.rinshan == 0);
   chankan = not (row.chankan == 0);
@@ -53,17 +53,17 @@ is_sound row =
     (row.zero == 0) && are_counts row.concealed && is_some (melds_in row.melds) && nat_lt row.winning 34 && nat_lt row.by 2
     && nat_lt row.seat 4 && nat_lt row.round 4 && are_indicators row.dora && are_indicators row.ura && are_counts row.reds
 
-abbrev pub parts_of : Rules → WinRow → WinParts
-parts_of rules row = record {
+abbrev pub row_parts : Rules → WinRow → WinParts
+row_parts rules row = record {
   rules = rules;
   concealed = row.concealed;
   melds = unwrap_or (melds_in row.melds) [];
   winning = row.winning;
-  by = by_of row.by;
-  seat = wind_of row.seat;
-  round = wind_of row.round;
+  by = by_numbered row.by;
+  seat = wind_numbered row.seat;
+  round = wind_numbered row.round;
   riichi = row.riichi;
-  flags = flags_in row;
+  flags = flags_set row;
   dora = shown row.dora;
   ura = shown row.ura;
   counters = row.counters;
@@ -71,5 +71,5 @@ parts_of rules row = record {
   reds = row.reds;
 }
 
-abbrev pub parts_in : Rules → WinRow → Option WinParts
-parts_in rules row = if is_sound row then Some (parts_of rules row) else None
+abbrev pub parts_in_row : Rules → WinRow → Option WinParts
+parts_in_row rules row = if is_sound row then Some (row_parts rules row) else None

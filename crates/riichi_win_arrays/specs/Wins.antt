@@ -9,7 +9,7 @@ use Rattle.riichi_hand.specs.declared.win.WinParts.{WinParts}
 use Rattle.riichi_score.specs.Best.{best_of}
 use Rattle.riichi_score.specs.declared.answer.WinAnswer.{WinAnswer}
 use Rattle.riichi_win_arrays.specs.ScoreRows.{score_row}
-use Rattle.riichi_win_arrays.specs.WinRows.{parts_in}
+use Rattle.riichi_win_arrays.specs.WinRows.{parts_in_row}
 use Rattle.riichi_win_arrays.specs.declared.score_row.ScoreRow.{ScoreRow}
 use Rattle.riichi_win_arrays.specs.declared.win_row.WinRow.{WinRow}
 
@@ -23,11 +23,11 @@ answer_by None = Err (Line H4)
 answer_by (Some parts) = worth_of (win_of parts)
 
 abbrev pub answer_to : Rules → WinRow → Result WinAnswer LineFault
-answer_to rules row = answer_by (parts_in rules row)
+answer_to rules row = answer_by (parts_in_row rules row)
 
 abbrev pub told_win : Rules → WinRow → ScoreRow
 told_win rules row = score_row (answer_to rules row)
 
 -- The first places have what is told of the wins, the others what they had.
-abbrev pub AreTold : Rules → ℕ → List WinRow → List ScoreRow → List ScoreRow → Type 0
-AreTold rules rows wins before after = after ≡ map (told_win rules) (take rows wins) ++ drop rows before
+abbrev pub AreScored : Rules → ℕ → List WinRow → List ScoreRow → List ScoreRow → Type 0
+AreScored rules rows wins before after = after ≡ map (told_win rules) (take rows wins) ++ drop rows before

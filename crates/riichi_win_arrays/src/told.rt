@@ -3,7 +3,7 @@ ghost use Rattle.std.specs.Prelude.{◌≡◌, length, min};
 ghost use Rattle.riichi_win_arrays.specs.Wins as spec;
 
 use crate::score_row::ScoreRow;
-use crate::win_row::{WinRow, parts_in};
+use crate::win_row::WinRow;
 use riichi_hand::{LineCode, LineFault, Rules, WinRecord};
 use riichi_score::{WinAnswer, best};
 
@@ -11,7 +11,7 @@ use riichi_score::{WinAnswer, best};
 fn answer_to(rules: Rules, row: &WinRow) -> Result<WinAnswer, LineFault>
     ensures { result ≡ spec.answer_to rules row.now }
 {
-    match parts_in(rules, row) {
+    match row.parts(rules) {
         None => Err(LineFault::Line(LineCode::H4)),
         Some(parts) => Ok(best(&WinRecord::new(parts)?)),
     }
@@ -20,7 +20,7 @@ fn answer_to(rules: Rules, row: &WinRow) -> Result<WinAnswer, LineFault>
 /// What each win is worth: of as many as both `rows` and `scores` have, which it returns.
 pub fn wins(rules: Rules, rows: &[WinRow], scores: &mut [ScoreRow]) -> usize
     ensures rows { result ≡ min (length rows.now) (length scores.old) }
-    ensures scores { spec.AreTold rules result rows.now scores.old scores.new }
+    ensures scores { spec.AreScored rules result rows.now scores.old scores.new }
 {
     let answered = rows.len().min(scores.len());
     for place in 0..answered {

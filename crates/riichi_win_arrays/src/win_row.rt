@@ -43,29 +43,43 @@ pub struct WinRow {
     pub zero: u8,
 }
 
-/// The parts of a row's win, none where a byte says nothing.
-pub(crate) fn parts_in(rules: Rules, row: &WinRow) -> Option<WinParts>
-    ensures { result ≡ spec.parts_in rules row.now }
-{
-    if row.zero != 0 {
-        return None;
+impl WinRow {
+    /// The parts of the win, none where a byte says nothing.
+    pub(crate) fn parts(&self, rules: Rules) -> Option<WinParts>
+        ensures { result ≡ spec.parts_in_row rules self.now }
+    {
+        if self.zero != 0 {
+            return None;
+        }
+        Some(WinParts {
+            rules,
+            concealed: counts_in(&self.concealed)?,
+            melds: melds_in(&self.melds)?,
+            winning: Kind::new(self.winning)?,
+            by: by_in(self.by)?,
+            seat: wind_in(self.seat)?,
+            round: wind_in(self.round)?,
+            riichi: self.riichi,
+            flags: self.flags(),
+            dora: indicators_in(&self.dora)?,
+            ura: indicators_in(&self.ura)?,
+            counters: self.counters,
+            sticks: self.sticks,
+            reds: reds_in(&self.reds)?,
+        })
     }
-    Some(WinParts {
-        rules,
-        concealed: counts_in(&row.concealed)?,
-        melds: melds_in(&row.melds)?,
-        winning: Kind::new(row.winning)?,
-        by: by_in(row.by)?,
-        seat: wind_in(row.seat)?,
-        round: wind_in(row.round)?,
-        riichi: row.riichi,
-        flags: flags_in(row),
-        dora: indicators_in(&row.dora)?,
-        ura: indicators_in(&row.ura)?,
-        counters: row.counters,
-        sticks: row.sticks,
-        reds: reds_in(&row.reds)?,
-    })
+
+    fn flags(&self) -> Flags
+        ensures { result ≡ spec.flags_set self.now }
+    {
+        Flags {
+            ippatsu: self.ippatsu != 0,
+            rinshan: self.rinshan != 0,
+            chankan: self.chankan != 0,
+            last: self.last != 0,
+            first: self.first != 0,
+        }
+    }
 }
 
 fn by_in(byte: u8) -> Option<By>
@@ -87,18 +101,6 @@ fn wind_in(byte: u8) -> Option<Wind>
         2 => Some(Wind::West),
         3 => Some(Wind::North),
         _ => None,
-    }
-}
-
-fn flags_in(row: &WinRow) -> Flags
-    ensures { result ≡ spec.flags_in row.now }
-{
-    Flags {
-        ippatsu: row.ippatsu != 0,
-        rinshan: row.rinshan != 0,
-        chankan: row.chankan != 0,
-        last: row.last != 0,
-        first: row.first != 0,
     }
 }
 
