@@ -96,7 +96,7 @@ fn add_hand_words(note: &mut Part, line: &[u8], tiles: usize) {
         b"win" => {
             add_all(note, b" wanted beside the winning tile of on=");
             if tiles == wanted + 1 && holds_winning_tile(line) {
-                add_all(note, b", which may stand in the hand too");
+                add_all(note, b"; it may have been counted in the hand too");
             }
         }
         _ => add_all(note, b" wanted"),
