@@ -1,14 +1,16 @@
 -- What follows a refusal: the word at fault and what may stand there, a note, and a line that is answered, where one was found.
-use Rattle.std.specs.Prelude.{◌≡◌, ℕ, ◌<◌, ◌==◌, ◌+◌, List, [], ◌∷◌, ◌++◌, Bool, true, false, ◌&&◌, Option, None, Some, Result, Ok, Err, IfSome, codes, if◌then◌else◌}
+use Rattle.std.specs.Prelude.{◌≡◌, ℕ, ◌<◌, ◌==◌, ◌+◌, List, [], ◌∷◌, ◌++◌, Bool, true, false, ◌&&◌, Option, None, Some, Result, Ok, IfSome, codes, if◌then◌else◌}
 use Rattle.std.specs.List.{list_any}
 use Rattle.riichi_tiles.specs.Notation.{is_digit}
-use Rattle.riichi_hand.specs.declared.fault.LineCode.TheVariants.{H9}
+use Rattle.riichi_hand.specs.declared.fault.LineCode.TheVariants.{H4, H9}
 use Rattle.riichi_hand.specs.declared.fault.LineFault.{LineFault}
 use Rattle.riichi_hand.specs.declared.fault.LineFault.TheVariants.{Line}
 use Rattle.riichi_hand.specs.declared.job.Job.{Job}
 use Rattle.riichi_hand.specs.declared.win.Rules.{Rules}
 use Rattle.riichi_hand.specs.Lines.{outcome_of, is_other_byte}
+use Rattle.riichi_hand.specs.Places.{fault_from}
 use Rattle.riichi_faults.specs.Refusal.{refusal_lines}
+use Rattle.riichi_hints.specs.Near.{IsKeyNote}
 
 -- ---- a line that is answered
 
@@ -48,6 +50,7 @@ pub record IsCrowdNote (line note : List ℕ) : Type 0 where
   pub crowded : 4 < copies_in digit suit line
 
 abbrev pub IsNote : LineFault → List ℕ → List ℕ → Type 0
+IsNote (Line H4) line note = IsKeyNote (fault_from (Line H4) line) note
 IsNote (Line H9) line note = IsCrowdNote line note
 IsNote fault line note = Unit {0}
 

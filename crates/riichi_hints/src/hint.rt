@@ -27,6 +27,7 @@ pub fn push_refusal(text: &mut ArrayString<3072>, line: &[u8], refusal: &Refusal
 }
 
 fn push_note(text: &mut ArrayString<3072>, line: &[u8], refusal: &Refusal<'_>)
+    requires { option_map (λ from. from.now) refusal.now.from ≡ fault_from refusal.now.fault line.now }
     ensures { let fault = refusal.now.fault in
         (note : Option (List ℕ)) × IfSome note (λ words. IsNote fault line.now words × IsPrintable words)
         × (text.new.bytes ≡ text.old.bytes ++ told_line (codes "  ") note) }

@@ -1,5 +1,11 @@
 //! What players call the jobs, the keys and their values.
-use crate::text::{Part, add};
+ghost use Rattle.std.specs.Prelude.{◌≡◌, IfSome, IfNone, map};
+ghost use Rattle.std.specs.Bool.{Decides};
+ghost use Rattle.std.specs.List.{All};
+ghost use Rattle.riichi_hints.specs.Near as spec;
+ghost use Rattle.riichi_hints.specs.Near.{IsWithin, IsReached, IsNearest};
+
+use crate::text::Part;
 use riichi_hand::By;
 
 /// What a line asks.
@@ -144,26 +150,29 @@ const NAMES: [(&str, Meaning); 89] = [
 
 /// What a word means that is one of the names.
 pub(crate) fn meaning_of(word: &[u8]) -> Option<Meaning> {
-    near_meaning(0, name_of(word).as_slice())
+    near_meaning(&NAMES, 0, name_of(word)?.as_slice())
 }
 
-/// What the name nearest to a word means, where two edits lead there, or one if the word is short.
-pub(crate) fn nearest_meaning(word: &[u8]) -> Option<Meaning> {
-    let name = name_of(word);
-    let most = name.len().saturating_sub(1) / 2;
-    for edits in 0..3 {
-        if edits <= most {
-            if let Some(meaning) = near_meaning(edits, name.as_slice()) {
-                return Some(meaning);
-            }
+/// What the name nearest to a word means, where at most two edits lead there, fewer than half of the word's letters.
+pub(crate) fn nearest_meaning(word: &[u8]) -> Option<Meaning>
+    ensures { IfSome result (λ meaning. IsNearest (spec.plain_name word.now) meaning) }
+{
+    let name = name_of(word)?;
+    for edits in 0..name.len().div_ceil(2).min(3) {
+        if let Some(meaning) = near_meaning(&NAMES, edits, name.as_slice()) {
+            return Some(meaning);
         }
     }
     None
 }
 
-/// What the first name means that at most so many edits lead to.
-fn near_meaning(edits: usize, name: &[u8]) -> Option<Meaning> {
-    for (known, meaning) in &NAMES {
+/// What the first of the names means that at most so many edits lead to.
+fn near_meaning(names: &[(&str, Meaning)], edits: usize, name: &[u8]) -> Option<Meaning>
+    requires { map (λ row. (row.0.now, row.1)) names.now ≡ spec.names }
+    ensures some { IfSome result (λ meaning. IsReached edits name.now meaning) }
+    ensures none { IfNone result (All (λ row. IsWithin edits row.0 name.now → ⊥) spec.names) }
+{
+    for (known, meaning) in names {
         if is_near(edits, known.as_bytes(), name) {
             return Some(*meaning);
         }
@@ -171,28 +180,45 @@ fn near_meaning(edits: usize, name: &[u8]) -> Option<Meaning> {
     None
 }
 
-/// The word in small letters, without what joins its parts.
-fn name_of(word: &[u8]) -> Part {
+/// The word in small letters, without what joins its parts; none where it is longer than any name.
+fn name_of(word: &[u8]) -> Option<Part>
+    ensures { IfSome result (λ name. name.items ≡ spec.plain_name word.now) }
+{
     let mut name = Part::new();
     for byte in word {
-        match *byte {
-            b'-' | b'_' | b'.' | b'!' => {}
-            b'A'..=b'Z' => add(&mut name, *byte + 32),
-            _ => add(&mut name, *byte),
+        if let Some(letter) = small_letter(*byte) {
+            if name.is_full() {
+                return None;
+            }
+            name.push(letter);
         }
     }
-    name
+    Some(name)
+}
+
+fn small_letter(byte: u8) -> Option<u8>
+    ensures { result ≡ spec.small_letter byte }
+{
+    match byte {
+        b'-' | b'_' | b'.' | b'!' => None,
+        b'A'..=b'Z' => Some(byte + 32),
+        _ => Some(byte),
+    }
 }
 
 /// Whether at most so many letters put in or left out make one word the other.
-fn is_near(edits: usize, word: &[u8], other: &[u8]) -> bool {
-    match (word, other) {
-        ([], _) => other.len() <= edits,
-        (_, []) => word.len() <= edits,
-        ([first, after @ ..], [second, rest @ ..]) => if first == second {
-            is_near(edits, after, rest)
-        } else {
-            edits > 0 && (is_near(edits - 1, after, other) || is_near(edits - 1, word, rest))
+fn is_near(edits: usize, word: &[u8], other: &[u8]) -> bool
+    ensures { Decides result (IsWithin edits word.now other.now) }
+{
+    match word {
+        [] => other.len() <= edits,
+        [first, after @ ..] => match other {
+            [] => word.len() <= edits,
+            [second, rest @ ..] => if first == second {
+                is_near(edits, after, rest)
+            } else {
+                edits > 0 && (is_near(edits - 1, after, other) || is_near(edits - 1, word, rest))
+            },
         },
     }
 }

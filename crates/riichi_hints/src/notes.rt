@@ -1,6 +1,8 @@
 //! What more can be said of a refused line: the numbers of its tiles, the tile that is there too often, the nearest key.
-ghost use Rattle.std.specs.Prelude.{IfSome};
+ghost use Rattle.std.specs.Prelude.{◌≡◌, ◌≤◌, IfSome, length, option_map};
+ghost use Rattle.riichi_hand.specs.Places.{fault_from};
 ghost use Rattle.riichi_hints.specs.Hint.{IsNote, IsCrowdNote};
+ghost use Rattle.riichi_hints.specs.Near.{IsKeyNote, said_under};
 
 use crate::mending::wanted_beside;
 use crate::names::{Key, Meaning, nearest_meaning};
@@ -13,6 +15,7 @@ use riichi_text::push_number;
 
 /// The note on a refused line. That of H9 begins with a tile that the line has more than four times.
 pub(crate) fn note_of(line: &[u8], refusal: &Refusal<'_>) -> Option<Part>
+    requires { option_map (λ from. from.now) refusal.now.from ≡ fault_from refusal.now.fault line.now }
     ensures { IfSome result (λ note. IsNote refusal.now.fault line.now note.items) }
 {
     match refusal.fault {
@@ -24,10 +27,12 @@ pub(crate) fn note_of(line: &[u8], refusal: &Refusal<'_>) -> Option<Part>
 }
 
 /// The key whose name is nearest to that of a word, where it is another.
-fn key_note(from: Option<&[u8]>) -> Option<Part> {
+fn key_note(from: Option<&[u8]>) -> Option<Part>
+    ensures { IfSome result (λ note. IsKeyNote (option_map (λ word. word.now) from.entry) note.items) }
+{
     let (name, _) = cut_name(word_of(from?))?;
-    let key = key_text(nearest_meaning(name)?);
-    if key.is_empty() || key.as_bytes() == name {
+    let key = key_text(nearest_meaning(name)?)?;
+    if key.as_bytes() == name {
         return None;
     }
     let mut note = Part::new();
@@ -36,22 +41,25 @@ fn key_note(from: Option<&[u8]>) -> Option<Part> {
     Some(note)
 }
 
-/// A key as a line names it.
-fn key_text(meaning: Meaning) -> &'static str {
+/// The key under which a line says this.
+fn key_text(meaning: Meaning) -> Option<&'static str>
+    ensures value { option_map (λ key. key.now) result ≡ said_under meaning }
+    ensures short { IfSome result (λ key. length key.now ≤ 8) }
+{
     match meaning {
-        Meaning::Key(Key::On) => "on",
-        Meaning::Key(Key::Seat) => "seat",
-        Meaning::Key(Key::Round) => "round",
-        Meaning::Key(Key::Open) | Meaning::Meld => "open",
-        Meaning::Key(Key::Riichi) | Meaning::DoubleRiichi => "riichi",
-        Meaning::Key(Key::Flags) | Meaning::Flag(_) => "flags",
-        Meaning::Key(Key::Dora) => "dora",
-        Meaning::Key(Key::Ura) => "ura",
-        Meaning::Key(Key::Counters) => "counters",
-        Meaning::Key(Key::Sticks) => "sticks",
-        Meaning::Key(Key::Seen) => "seen",
-        Meaning::Key(Key::By) | Meaning::By(_) => "by",
-        Meaning::Key(Key::Hand) | Meaning::Job(_) => "",
+        Meaning::Key(Key::On) => Some("on"),
+        Meaning::Key(Key::By) | Meaning::By(_) => Some("by"),
+        Meaning::Key(Key::Seat) => Some("seat"),
+        Meaning::Key(Key::Round) => Some("round"),
+        Meaning::Key(Key::Open) | Meaning::Meld => Some("open"),
+        Meaning::Key(Key::Riichi) | Meaning::DoubleRiichi => Some("riichi"),
+        Meaning::Key(Key::Flags) | Meaning::Flag(_) => Some("flags"),
+        Meaning::Key(Key::Dora) => Some("dora"),
+        Meaning::Key(Key::Ura) => Some("ura"),
+        Meaning::Key(Key::Counters) => Some("counters"),
+        Meaning::Key(Key::Sticks) => Some("sticks"),
+        Meaning::Key(Key::Seen) => Some("seen"),
+        Meaning::Key(Key::Hand) | Meaning::Job(_) => None,
     }
 }
 
@@ -96,7 +104,7 @@ fn add_hand_words(note: &mut Part, line: &[u8], tiles: usize) {
         b"win" => {
             add_all(note, b" wanted beside the winning tile of on=");
             if tiles == wanted + 1 && holds_winning_tile(line) {
-                add_all(note, b", which may stand in the hand too");
+                add_all(note, b"; it may have been counted in the hand too");
             }
         }
         _ => add_all(note, b" wanted"),

@@ -1,5 +1,5 @@
 //! Texts of limited length. What has no room is left out.
-ghost use Rattle.std.specs.Prelude.{◌≡◌, ◌++◌, ℕ, List};
+ghost use Rattle.std.specs.Prelude.{◌≡◌, ◌≤◌, ◌+◌, ◌++◌, ℕ, List, length};
 
 use arrayvec::ArrayVec;
 
@@ -19,7 +19,8 @@ pub(crate) fn add<const N: usize>(text: &mut ArrayVec<u8, N>, byte: u8) {
 
 /// Adds bytes, where there is room for all.
 pub(crate) fn add_all<const N: usize>(text: &mut ArrayVec<u8, N>, bytes: &[u8])
-    ensures { (more : List ℕ) × (text.new.items ≡ text.old.items ++ more) }
+    ensures more { (more : List ℕ) × (text.new.items ≡ text.old.items ++ more) }
+    ensures all { length text.old.items + length bytes.now ≤ N → text.new.items ≡ text.old.items ++ bytes.now }
 {
     let _ = text.try_extend_from_slice(bytes);
 }

@@ -1,4 +1,8 @@
 //! The words of a line, loosely read.
+ghost use Rattle.std.specs.Prelude.{◌≡◌, IfSome};
+ghost use Rattle.std.specs.List.{position};
+ghost use Rattle.riichi_hints.specs.Near.{is_mark, before_mark};
+
 use crate::draft::Draft;
 use crate::names::{Key, Meaning, meaning_of, nearest_meaning};
 use crate::tiles::are_tiles;
@@ -101,7 +105,15 @@ impl Draft {
 }
 
 /// The name before the first `=` or `:`, and what comes after it.
-pub(crate) fn cut_name(word: &[u8]) -> Option<(&[u8], &[u8])> {
-    let at = word.iter().position(|byte| *byte == b'=' || *byte == b':')?;
+pub(crate) fn cut_name(word: &[u8]) -> Option<(&[u8], &[u8])>
+    ensures { IfSome result (λ cut. cut.0.now ≡ before_mark word.now) }
+{
+    let at = mark_at(word)?;
     Some((&word[..at], &word[at + 1..]))
+}
+
+fn mark_at(word: &[u8]) -> Option<usize>
+    ensures { result ≡ position is_mark word.now }
+{
+    word.iter().position(|byte| *byte == b'=' || *byte == b':')
 }

@@ -1,0 +1,94 @@
+-- Which name is nearest to a word.
+use Rattle.std.specs.Prelude.{◌≡◌, ◌⊎◌, ℕ, ◌==◌, ◌+◌, ◌*◌, ◌<◌, ◌≤◌, List, [], ◌∷◌, ◌++◌, Bool, ◌&&◌, ◌||◌, Option, None, Some, length, nat_le, map, take, unwrap_or, codes, if◌then◌else◌}
+use Rattle.std.specs.List.{Any, filter_map, position_or_len}
+use Rattle.riichi_hand.specs.Words.{word_of}
+use Rattle.riichi_hints.specs.declared.names.Key.{Key}
+use Rattle.riichi_hints.specs.declared.names.Key.TheVariants as key
+use Rattle.riichi_hints.specs.declared.names.Meaning.{Meaning}
+use Rattle.riichi_hints.specs.declared.names.Meaning.TheVariants as meaning
+use Rattle.riichi_hints.specs.declared.names.TheConstants.{NAMES}
+
+-- ---- how near two words are
+
+-- the letters of a part stand in a word, in their order
+abbrev pub IsPart : List ℕ → List ℕ → Type 0
+IsPart [] word = Unit {0}
+IsPart (letter ∷ part) [] = ⊥
+IsPart (letter ∷ part) (first ∷ word) = ((letter ≡ first) × IsPart part word) ⊎ IsPart (letter ∷ part) word
+
+-- Where at most so many letters are left out, of one word or of both, the same is left.
+pub record IsWithin (edits : ℕ) (word other : List ℕ) : Type 0 where
+  pub left : List ℕ
+  pub in_word : IsPart left word
+  pub in_other : IsPart left other
+  pub few : length word + length other ≤ edits + 2 * length left
+
+-- ---- the names
+
+-- `=` or `:`
+abbrev pub is_mark : ℕ → Bool
+is_mark byte = (byte == 61) || (byte == 58)
+
+-- a hyphen, `_`, `.` or `!`
+abbrev pub is_joint : ℕ → Bool
+is_joint byte = (byte == 45) || (byte == 95) || (byte == 46) || (byte == 33)
+
+-- a letter in small, none for what joins the parts of a name
+abbrev pub small_letter : ℕ → Option ℕ
+small_letter byte =
+    if is_joint byte then None else Some (if nat_le 65 byte && nat_le byte 90 then byte + 32 else byte)
+
+abbrev pub plain_name : List ℕ → List ℕ
+plain_name word = filter_map small_letter word
+
+-- what stands before the first mark
+abbrev pub before_mark : List ℕ → List ℕ
+before_mark word = take (position_or_len is_mark word) word
+
+-- the names that players use, each with what it means
+abbrev pub names : List (List ℕ × Meaning)
+names = map (λ row. (row.0.now, row.1)) NAMES
+
+-- A name that means this is within so many edits.
+abbrev pub IsReached : ℕ → List ℕ → Meaning → Type 0
+IsReached edits name meaning = Any (λ row. (row.1 ≡ meaning) × IsWithin edits row.0 name) names
+
+-- So many edits reach a name that means this, and fewer reach none.
+pub record IsNearest (name : List ℕ) (meaning : Meaning) : Type 0 where
+  pub edits : ℕ
+  pub reached : IsReached edits name meaning
+  pub least : (fewer : ℕ) (other : Meaning) → fewer < edits → IsReached fewer name other → ⊥
+
+-- ---- the keys
+
+abbrev pub key_name : Key → Option (List ℕ)
+key_name key.Hand = None
+key_name key.On = Some (codes "on")
+key_name key.By = Some (codes "by")
+key_name key.Seat = Some (codes "seat")
+key_name key.Round = Some (codes "round")
+key_name key.Open = Some (codes "open")
+key_name key.Riichi = Some (codes "riichi")
+key_name key.Flags = Some (codes "flags")
+key_name key.Dora = Some (codes "dora")
+key_name key.Ura = Some (codes "ura")
+key_name key.Counters = Some (codes "counters")
+key_name key.Sticks = Some (codes "sticks")
+key_name key.Seen = Some (codes "seen")
+
+-- the key under which a line says this, where there is one
+abbrev pub said_under : Meaning → Option (List ℕ)
+said_under (meaning.Job job) = None
+said_under (meaning.Key key) = key_name key
+said_under (meaning.By by) = Some (codes "by")
+said_under (meaning.Flag flag) = Some (codes "flags")
+said_under meaning.DoubleRiichi = Some (codes "riichi")
+said_under meaning.Meld = Some (codes "open")
+
+-- The note names the key of a name than which none is nearer to that of the word.
+pub record IsKeyNote (from : Option (List ℕ)) (note : List ℕ) : Type 0 where
+  pub meaning : Meaning
+  pub nearest : IsNearest (plain_name (before_mark (word_of (unwrap_or from [])))) meaning
+  pub key : List ℕ
+  pub key_is : said_under meaning ≡ Some key
+  pub note_is : note ≡ codes "the nearest key is " ++ key
