@@ -1,8 +1,9 @@
 //! Why an answer is what it is.
 //!
 //! [`explain_win`] gives the reading of a win that scores and the rows of it, which add up; [`explain_shape`] how far a shape is
-//! from each form. [`push_win_lines`] and [`push_shanten_line`] write their lines, which begin with two spaces. Why a hand waits
-//! for a kind, `riichi_waits` says. No call takes memory.
+//! from each form. [`push_win_lines`] and [`push_shanten_line`] write their lines, which begin with two spaces.
+//! [`ranked_readings`] gives every reading of a win with its score, the best first, and [`push_other_readings`] writes what
+//! those are worth that aren't the best. Why a hand waits for a kind, `riichi_waits` says. No call takes memory.
 #![tactic(auto)]
 
 mod base;
