@@ -4,13 +4,13 @@ use Rattle.std.specs.List.{zip, filter_map}
 use Rattle.std.proofs.lemmas.List.Elements.{filter_map-append}
 use Rattle.desk_core.specs.History.{IsLegal}
 use Rattle.desk_script.specs.declared.told.Told.{Told}
-use Rattle.desk_script.specs.Asked.{asked_on, events_of}
+use Rattle.desk_script.specs.Asked.{asked_by, asked_on, events_of, opens}
 use Rattle.desk_script.specs.Texts.{told_text}
 use Rattle.desk_script.specs.Replay.{ScriptState, Tells, Replays, AnswersLine as AnswersScript}
-use Rattle.desk_script.proofs.Scripts.{Tells-alike}
+use Rattle.desk_script.proofs.Scripts.{Tells-alike, opens_none-long}
 use Rattle.desk_script.proofs.Continued.{replay_goes_on}
 use Rattle.desk_lines.specs.Telling.{answers_in, IsToldAs}
-use Rattle.desk_lines.specs.Scripts.{TellsScript}
+use Rattle.desk_lines.specs.Scripts.{OpensTable, RunsOut, TellsScript}
 
 -- a line may have the answer of this one
 Tells-as : (script : ScriptState) (lines : List (List ℕ)) (told : List Told) (line next : List ℕ) → IsToldAs 8192 line next → Tells script (lines ++ line ∷ []) told → Tells script (lines ++ next ∷ []) told
@@ -47,3 +47,22 @@ replays_whole script lines first others answers parts tells =
 -- before the first line
 pub replays_none : Replays [] []
 replays_none = record { replies = []; replied = record { count = refl; legal = tt }; answers_are = refl }
+
+-- a line that opens a table has no other's answer
+opens_as : (names : List (List ℕ)) (line next : List ℕ) → IsToldAs 8192 line next → asked_by names line ≡ opens names → asked_by names next ≡ opens names
+opens_as names line next (inl same) asks = subst (λ (l : List ℕ). asked_by names l ≡ opens names) same asks
+opens_as names line next (inr long) asks = absurd (opens_none-long names line long.0 asks)
+
+-- memory was wanted at the next line, which opens a table
+pub runs_out : (script : ScriptState) (whole first others answers : List (List ℕ)) → whole ≡ first ++ others → TellsScript script first answers
+    → (line next : List ℕ) × (rest : List (List ℕ)) × (others ≡ next ∷ rest) × IsToldAs 8192 line next × OpensTable script line → RunsOut whole answers
+runs_out script whole first others answers parts tells wanted =
+    let asks = opens_as script.names wanted.0 wanted.1 wanted.4 wanted.5 in
+    inr (
+      first,
+      wanted.1,
+      wanted.2,
+      parts ∙ ap (λ (more : List (List ℕ)). first ++ more) wanted.3,
+      replays script first answers tells,
+      subst (λ (names : List (List ℕ)). asked_by names wanted.1 ≡ opens names) tells.1.names asks,
+    )

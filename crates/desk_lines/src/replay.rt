@@ -3,6 +3,7 @@ ghost use Rattle.std.specs.Prelude.{◌≡◌, ◌++◌, ℕ, List, IfOk, IsErrO
 ghost use Rattle.desk_script.specs.Replay.{Replays};
 ghost use Rattle.desk_script.specs.OnlyReplay.{IsOnlyReplay};
 ghost use Rattle.desk_lines.specs.Lines.{ended_lines, lines};
+ghost use Rattle.desk_lines.specs.Scripts.{RunsOut};
 ghost use Rattle.desk_lines.specs.Telling.{text_of, report_of};
 ghost use Rattle.desk_lines.specs.Streams.{Gives, GivesAll, WritesAll, StopsWriting, AreWhole, FailsOrGoesOn, IsReadWithin};
 
@@ -47,12 +48,14 @@ pub fn replay_text<R: Source, W: Sink>(
         × Replays whole answers
         × StopsWriting ⟦<W as Sink>⟧ writer.old writer.new (text_of answers) }
 
-    // Memory ran out: there are answers to all whole lines that the reader gave, and the first of them were written.
+    // Memory ran out, for the desk or the name of a new table: there are answers to all whole lines that the reader gave, and
+    // those to the lines before it were written.
     ensures no_memory { IsErrOf result DeskFault.Memory
         → (text : List ℕ) × (whole first others : List (List ℕ))
         × Gives ⟦<R as Source>⟧ reader.old reader.new text
         × AreWhole (R.is_ended reader.new) text whole
         × Replays whole (first ++ others)
+        × RunsOut whole first
         × WritesAll ⟦<W as Sink>⟧ writer.old writer.new (text_of first) }
 
     // A failed read is told as such, whatever comes after it. So what is said of a failed read is so before each read.

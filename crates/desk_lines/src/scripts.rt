@@ -11,7 +11,7 @@ use riichi_shape::RowSource;
 use std::alloc::AllocError;
 
 impl Teller for Script {
-    ghost use Rattle.desk_lines.specs.Scripts.{TellsScript};
+    ghost use Rattle.desk_lines.specs.Scripts.{OpensTable, TellsScript};
     ghost use Rattle.desk_lines.specs.Telling.{is_refusal};
 
     ghost Answer = { List ℕ };
@@ -24,7 +24,7 @@ impl Teller for Script {
 
     ghost tells = { λ _ now lines told. TellsScript now lines told };
 
-    ghost wants_memory = { λ _ _. Unit {0} };
+    ghost wants_memory = { OpensTable };
 
     fn tell<S: RowSource>(
         &mut self,

@@ -1,5 +1,5 @@
 //! A round of sheets, judged by the workers of a board.
-ghost use Rattle.std.specs.Prelude.{◌≡◌, ◌≢◌, ◌≤◌, [], length, Err, IfOk, IsErrOf};
+ghost use Rattle.std.specs.Prelude.{◌≡◌, ◌≢◌, ◌≤◌, ◌⊎◌, [], length, Ok, Err, IfOk, IsErrOf};
 ghost use Rattle.std.specs.List.{flat_map};
 ghost use Rattle.desk_run.specs.Runs.{AreValues, IsRunnable};
 ghost use Rattle.desk_score.specs.Rounds.{judged_told, round_told};
@@ -85,7 +85,24 @@ pub(crate) fn judge<H: Threads + Wait + Sync>(
             ensures values { IfOk result (λ answers. AreValues jobs.entry.now answers.items) }
         { run_tables(rt, alloc, jobs, workers, places) },
     );
+    let (texts, answers) = both_made(texts, answers)?;
+    Ok((texts, Judged { lines, answers }))
+}
+
+/// The texts and the answers where both were made. Else the fault of the texts, or that of the answers.
+fn both_made(
+    texts: Result<Vec<Vec<u8>>, AllocError>,
+    answers: Result<Vec<Vec<Answer>>, RunFault>,
+) -> Result<(Vec<Vec<u8>>, Vec<Vec<Answer>>), ScoreFault>
+    ensures ok { IfOk result (λ made. (texts ≡ Ok made.0) × (answers ≡ Ok made.1)) }
+    ensures memory { IsErrOf result ScoreFault.Memory
+        → IfOk texts (λ _. ⊥) ⊎ (answers ≡ Err RunFault.Memory) }
+    ensures thread { IsErrOf result ScoreFault.Thread → answers ≡ Err RunFault.Thread }
+    ensures range { IsErrOf result ScoreFault.Range → answers ≡ Err RunFault.Range }
+    ensures not_read { IsErrOf result ScoreFault.Read → ⊥ }
+    ensures not_write { IsErrOf result ScoreFault.Write → ⊥ }
+{
     let texts = texts?;
     let answers = answers?;
-    Ok((texts, Judged { lines, answers }))
+    Ok((texts, answers))
 }

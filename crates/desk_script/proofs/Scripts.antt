@@ -1,8 +1,8 @@
 -- What one more line of a script changes.
-use Rattle.std.proofs.Common.{◌≡◌, ℕ, ◌+◌, ◌<◌, List, [], ◌∷◌, ◌++◌, length, refl, sym, subst, ap, ◌∙◌, arith, length-append}
+use Rattle.std.proofs.Common.{◌≡◌, ℕ, ◌+◌, ◌<◌, List, [], ◌∷◌, ◌++◌, length, Bool, true, false, refl, sym, subst, ap, ◌∙◌, arith, length-append}
 use Rattle.std.specs.List.{zip}
 use Rattle.std.proofs.lemmas.List.Elements.{filter_map-append}
-use Rattle.std.proofs.lemmas.Bool.{lt-ltb}
+use Rattle.std.proofs.lemmas.Bool.{lt-ltb, false≢true}
 use Rattle.desk_core.specs.Desk.{DeskStandsFor, IsDeskRun}
 use Rattle.desk_core.specs.declared.event.Event.{Event}
 use Rattle.desk_core.specs.declared.reply.Reply.{Reply}
@@ -11,7 +11,7 @@ use Rattle.desk_script.specs.declared.told.Told.{Told}
 use Rattle.desk_script.specs.declared.told.Told.TheVariants as tell
 use Rattle.desk_script.specs.declared.asked.Asked.{Asked}
 use Rattle.desk_script.specs.declared.asked.Asked.TheVariants as ask
-use Rattle.desk_script.specs.Asked.{asked_by, names_by, names_from, asked_from, names_after, asked_on, event_in, events_of, refused}
+use Rattle.desk_script.specs.Asked.{asked_by, names_by, names_from, asked_from, names_after, asked_on, event_in, events_of, opens, refused}
 use Rattle.desk_script.specs.Replay.{told_with, ScriptState, Tells}
 use Rattle.desk_core.proofs.Lists.{zip-append}
 
@@ -61,6 +61,14 @@ Tells-line old new lines before line asked more told tells asks names as_many is
 asked_by-long : (names : List (List ℕ)) (line : List ℕ) → 8192 < length line → asked_by names line ≡ refused NoCommand
 unfolding asked_by
 asked_by-long names line long = rw (lt-ltb 8192 (length line) long) refl
+
+abbrev is_table : Asked → Bool
+is_table (ask.Told (tell.Table number)) = true
+is_table asked = false
+
+-- such a line opens no table
+pub opens_none-long : (names : List (List ℕ)) (line : List ℕ) → 8192 < length line → asked_by names line ≡ opens names → ⊥
+opens_none-long names line long asks = false≢true (ap is_table (sym (asked_by-long names line long) ∙ asks))
 
 names_by-long : (names : List (List ℕ)) (line : List ℕ) → 8192 < length line → names_by names line ≡ names
 unfolding names_by

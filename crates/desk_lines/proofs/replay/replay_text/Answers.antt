@@ -8,7 +8,7 @@ use Rattle.desk_lines.specs.Streams.{StopsWriting}
 use Rattle.desk_lines.specs.Telling.{text_of}
 use Rattle.desk_lines.proofs.StreamLemmas.{WritesAll-nil, StopsWriting-more}
 use Rattle.desk_lines.proofs.TellingLemmas.{text_of-append}
-use Rattle.desk_lines.proofs.ScriptLemmas.{replays, replays_whole, replays_none}
+use Rattle.desk_lines.proofs.ScriptLemmas.{replays, replays_whole, replays_none, runs_out}
 use Rattle.desk_lines.proofs.replay.replay_text.Goals as goal
 
 pub answer_lines-requires-clause-new : goal.answer_lines-requires-clause-new
@@ -23,6 +23,7 @@ returns-in-Err-clause-no_memory g c is = (
   record { appended = sym (append-nil (g.R.Source.given c.args.reader.now)); taken = Consumes-nil (g.R.Source.left c.args.reader.now) },
   inl refl,
   replays_none,
+  inl refl,
   WritesAll-nil g.W.Sink c.args.writer.now,
 )
 
@@ -58,4 +59,5 @@ returns-clause-no_memory g c is =
     let stopped = c.answer_lines.ensures.no_memory is in
     let stops = stopped.4 in
     let all = replays_whole stops.last stopped.1 stops.first stops.others stops.answers stops.parts stops.tells in
-    (stopped.0, stopped.1, stops.answers, all.0, stopped.2, stopped.3, all.1, stops.stops)
+    let out = runs_out stops.last stopped.1 stops.first stops.others stops.answers stops.parts stops.tells (stops.wanted refl) in
+    (stopped.0, stopped.1, stops.answers, all.0, stopped.2, stopped.3, all.1, out, stops.stops)
