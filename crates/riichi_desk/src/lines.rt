@@ -3,8 +3,8 @@ use crate::failure::Failure;
 use crate::files::open_file;
 use crate::noted::Notes;
 use desk_lines::{
-    DeskFault, DeskReport, EveryReading, Explained, Members, Plain, Rules, Shown, SuitMemo, desk_text_with,
-    explain_text_with, json_text_with, numbered_text_with,
+    DeskFault, DeskReport, EveryReading, Explained, Members, Plain, Rules, Shown, SuitMemo,
+    desk_text_with, explain_text_with, json_text_with, numbered_text_with,
 };
 use desk_streams::{BytesIn, FromReader, Sink, Source, ToWriter};
 use desk_words::{Form, Lines};
