@@ -199,7 +199,7 @@ struct riichi_win {
     uint8_t seat;          /* The winner's wind, RIICHI_EAST and so on; East is the dealer. */
     uint8_t round;         /* The prevalent wind. */
     uint8_t riichi;        /* 1, or 2 for double riichi. */
-    uint8_t ippatsu;       /* Each of these five is set where it isn't 0: */
+    uint8_t ippatsu;       /* Each of these five is set where it isn't 0: within a turn of riichi; */
     uint8_t rinshan;       /*   on the tile drawn after a kong; */
     uint8_t chankan;       /*   on the tile that another player adds to a triplet for a kong; */
     uint8_t last;          /*   on the last tile drawn or discarded; */

@@ -9,7 +9,6 @@ use Rattle.desk_lines.specs.Numbered.{AreNumbered, NumberRecords, TellsNumbered,
 use Rattle.desk_lines.specs.Profile.{profile_of, rules_of, record_lines, rules_by}
 use Rattle.desk_lines.specs.Records.{rules_after, AnswerKind, IsToldUnder, IsToldBy, AreTold, AnswerRecords}
 use Rattle.desk_lines.specs.Telling.{answers_in, kind_by, line_by, IsToldAs}
-use Rattle.desk_lines.specs.declared.line_kind.LineKind.{LineKind}
 use Rattle.desk_lines.specs.declared.line_kind.LineKind.TheVariants.{NoRecord, Answered, Refused}
 use Rattle.desk_lines.specs.declared.records.Records.{Records}
 use Rattle.desk_lines.proofs.AnswerLemmas.{record_lines-more, rules_read, told_next}

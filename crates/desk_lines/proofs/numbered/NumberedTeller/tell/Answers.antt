@@ -1,5 +1,4 @@
-use Rattle.std.proofs.Common.{◌≡◌, ◌≢◌, ℕ, List, ◌++◌, Option, None, sym, subst, ap, ◌∙◌, take, length}
-use Rattle.std.proofs.lemmas.List.{append-nil}
+use Rattle.std.proofs.Common.{◌≢◌, ℕ, List, ◌++◌, sym, ap, ◌∙◌, take, length}
 use Rattle.desk_lines.specs.Numbered.{with_number}
 use Rattle.desk_lines.specs.Telling.{line_by, kind_by}
 use Rattle.desk_lines.specs.declared.line_kind.LineKind.TheVariants.{NoRecord}
