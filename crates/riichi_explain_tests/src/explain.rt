@@ -23,7 +23,14 @@ fn win_text(win: &WinRecord) -> ArrayString<4608> {
 }
 
 /// The lines of the readings beside the one that scores.
-fn others_text(win: &WinRecord) -> ArrayString<4608> {
+fn others_text(job: &Job) -> ArrayString<4608> {
+    match job {
+        Job::Win(win) => others_of_win(win),
+        _ => ArrayString::new(),
+    }
+}
+
+fn others_of_win(win: &WinRecord) -> ArrayString<4608> {
     let mut text = ArrayString::new();
     if let Some(best) = explain_win(win).reading() {
         push_other_readings(&mut text, &best, win);
@@ -508,8 +515,8 @@ const OTHERS: [(&str, &str); 6] = [
 fn other_readings_the_best_first(rt: HostRuntime) -> Result<(), Fail> {
     for (line, text) in OTHERS {
         match read_line(Rules::One, line.as_bytes()) {
-            Ok(Some(Job::Win(win))) => same_in(&rt, &line, others_text(&win).as_str(), text),
-            _ => return Err("a line that tells no win")?,
+            Ok(Some(job)) => same_in(&rt, &line, others_text(&job).as_str(), text),
+            _ => return Err("a line that tells no job")?,
         }
     }
     Ok(())
