@@ -2,7 +2,6 @@
 ghost use Rattle.std.specs.Prelude.{◌≡◌, ◌+◌, ◌<◌, ◌≤◌, ℕ, true, false, length, slice_index_or};
 ghost use Rattle.std.specs.List.{insert};
 ghost use Rattle.riichi_score.specs.Best as best_spec;
-ghost use Rattle.riichi_score.specs.Dora.{dora_of};
 ghost use Rattle.riichi_score.specs.Fu.{HasFourSets};
 ghost use Rattle.riichi_score.specs.Scores as score_spec;
 ghost use Rattle.riichi_explain.specs.Ranked as spec;
@@ -10,7 +9,7 @@ ghost use Rattle.riichi_explain.specs.declared.ranked.RankedReading.{RankedReadi
 
 use arrayvec::ArrayVec;
 use riichi_hand::WinRecord;
-use riichi_score::{Score, YakuSet, base_points, dora, fu, gain, han, hand_of, payment, yaku};
+use riichi_score::{Score, hand_of, score_of};
 use riichi_split::{Reading, Readings};
 
 /// The most readings that are ranked or shown. No hand has more than eight, as far as anyone knows.
@@ -112,48 +111,4 @@ fn rank(score: &Score) -> [u64; 5]
         u64::from(score.fu),
         score.yaku.bits(),
     ]
-}
-
-/// The score of a reading, if it has a yaku.
-#[tactic(auto, unfolding(riichi_score::specs::Scores::score_of))]
-fn score_of(reading: &Reading, win: &WinRecord) -> Option<Score>
-    requires { HasFourSets reading.now win.now }
-    ensures { result ≡ score_spec.score_of reading.now win.now }
-{
-    let yaku = yaku(reading, win);
-    if yaku.is_empty() {
-        None
-    } else if yaku.is_yakuman() {
-        Some(with_base(8000, 0, 0, yaku, 0, win))
-    } else {
-        Some(counted(yaku, fu(reading, win), win))
-    }
-}
-
-/// The score of a counted hand.
-fn counted(yaku: YakuSet, fu: u8, win: &WinRecord) -> Score
-    ensures { result ≡ score_spec.counted yaku fu (dora_of win.now) win.now }
-{
-    let dora = dora(win);
-    let han = han(yaku, win.melds().concealed(), dora);
-    let base = base_points(win.rules(), han, fu);
-    with_base(base, han, fu, yaku, dora, win)
-}
-
-/// A score of so many base points, with what is paid for it.
-fn with_base(base: u32, han: u8, fu: u8, yaku: YakuSet, dora: u8, win: &WinRecord) -> Score
-    requires { base ≤ 8000 }
-    ensures { result ≡ score_spec.with_base base han fu yaku dora win.now }
-{
-    let payment = payment(base, win);
-    let gain = gain(&payment, win.sticks());
-    Score {
-        han,
-        fu,
-        base,
-        yaku,
-        dora,
-        payment,
-        gain,
-    }
 }

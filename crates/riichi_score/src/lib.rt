@@ -33,3 +33,4 @@ pub use riichi_yaku::{Yaku, YakuSet, yaku_of as yaku};
 pub use score::Score;
 pub use settlement::{payment, up};
 pub use text::{push_win, win_text};
+pub use worth::score_of;

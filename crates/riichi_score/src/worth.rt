@@ -10,8 +10,8 @@ ghost use Rattle.riichi_score.specs.Worths as spec;
 
 use crate::points::fu_among;
 use crate::score::Score;
-use crate::{base_points, gain, han, payment};
-use riichi_blocks::{AllTiles, Blocks, push_blocks};
+use crate::{base_points, dora, gain, han, payment};
+use riichi_blocks::{AllTiles, Blocks, all_tiles, push_blocks};
 use riichi_hand::WinRecord;
 use riichi_split::Reading;
 use riichi_yaku::{YakuSet, yaku_among};
@@ -63,6 +63,15 @@ impl Worth {
             gain,
         }
     }
+}
+
+/// The score of a reading of the win, whose sets and melds are four, if it has a yaku.
+pub fn score_of(reading: &Reading, win: &WinRecord) -> Option<Score>
+    requires { HasFourSets reading.now win.now }
+    ensures { result ≡ score_of reading.now win.now }
+{
+    let worth = worth_of(reading, &all_tiles(win), win, dora(win))?;
+    Some(worth.score(win))
 }
 
 /// What a reading is worth, if it has a yaku. All tiles and the dora are those of the win.

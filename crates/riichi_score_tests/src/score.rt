@@ -2,6 +2,7 @@ use crate::facts::{holds, same, same_in};
 use arrayvec::ArrayString;
 use riichi_hand::{Job, Rules, read_line};
 use riichi_score::*;
+use riichi_split::Reading;
 use riichi_tiles::Reds;
 use std::process::Abort;
 use std::test::Fail;
@@ -141,6 +142,26 @@ fn several_readings(rt: HostRuntime) -> Result<(), Fail> {
             ),
         ],
     )
+}
+
+fn as_seven_pairs(job: &Job) -> Option<Score> {
+    match job {
+        Job::Win(win) => score_of(&Reading::SevenPairs, win),
+        _ => None,
+    }
+}
+
+#[test]
+fn a_reading_that_is_not_the_best(rt: HostRuntime) -> Result<(), Fail> {
+    let line = b"win 112233m556677p9s on=9s by=ron seat=S round=E";
+    match read_line(Rules::One, line) {
+        Ok(Some(job)) => {
+            let score = as_seven_pairs(&job).ok_or("a yaku")?;
+            same(&rt, (score.han, score.fu, score.gain), (2, 25, 1600));
+            Ok(())
+        }
+        _ => Err("a line that tells no job")?,
+    }
 }
 
 #[test]
