@@ -87,6 +87,16 @@ Exit status:
   3  output failed
   4  there was no memory";
 
+pub(crate) const RULES_HELP: &str = "\
+Example:
+  riichi_desk help-rules
+
+Exit status:
+  0  printed
+  2  the words are wrong
+  3  output failed
+  4  there was no memory";
+
 pub(crate) const REPLAY_HELP: &str = "\
 Example:
   riichi_desk replay evening.lines

@@ -11,7 +11,9 @@
 
 mod help;
 mod request;
+mod rules;
 mod words;
 
 pub use request::{Form, Lines, Request, request_of};
+pub use rules::{nearest_rule, rules_named};
 pub use words::commands;

@@ -1,9 +1,12 @@
 //! What the words of a command line ask for.
+use crate::rules::rules_named;
 use clap::ArgMatches;
 use riichi_hand::Rules;
 
 /// What the command line asks for.
 pub enum Request<'m, 'a> {
+    /// Rules that there aren't: this word names none.
+    UnknownRules(&'a str),
     /// The waits of this hand.
     Waits(&'a str),
     /// The answers to record lines in this form, under these rules where the first line sets none.
@@ -16,6 +19,8 @@ pub enum Request<'m, 'a> {
     },
     /// Every code in words.
     HelpCodes,
+    /// Every rule that a house may choose.
+    HelpRules,
     /// Every yaku with its names, its han and its condition.
     HelpYaku,
     /// The answers to the script of this file.
@@ -73,6 +78,9 @@ pub fn request_of<'m, 'a>(matches: &'m ArgMatches<'a>) -> Option<Request<'m, 'a>
     if matches.subcommand_matches("help-codes").is_some() {
         return Some(Request::HelpCodes);
     }
+    if matches.subcommand_matches("help-rules").is_some() {
+        return Some(Request::HelpRules);
+    }
     if matches.subcommand_matches("help-yaku").is_some() {
         return Some(Request::HelpYaku);
     }
@@ -82,11 +90,13 @@ pub fn request_of<'m, 'a>(matches: &'m ArgMatches<'a>) -> Option<Request<'m, 'a>
     if let Some(score) = matches.subcommand_matches("score") {
         let files = score.get_strs("FILE")?;
         let workers = score.get_one("workers")?;
-        let rules = rules_in(score);
-        return Some(Request::Score {
-            files,
-            workers,
-            rules,
+        return Some(match rules_in(score) {
+            Ok(rules) => Request::Score {
+                files,
+                workers,
+                rules,
+            },
+            Err(word) => Request::UnknownRules(word),
         });
     }
     record_request(matches)
@@ -116,11 +126,14 @@ fn lines_request<'m, 'a>(
     lines: Lines<'m, 'a>,
     form: Form,
 ) -> Request<'m, 'a> {
-    Request::Lines {
-        lines,
-        form,
-        rules: rules_in(matches),
-        is_numbered: matches.get_flag("number"),
+    match rules_in(matches) {
+        Ok(rules) => Request::Lines {
+            lines,
+            form,
+            rules,
+            is_numbered: matches.get_flag("number"),
+        },
+        Err(word) => Request::UnknownRules(word),
     }
 }
 
@@ -146,11 +159,11 @@ fn told_lines<'m, 'a>(matches: &'m ArgMatches<'a>) -> Lines<'m, 'a> {
     }
 }
 
-/// The rule profile of this number.
-fn rules_in(matches: &ArgMatches<'_>) -> Rules {
-    match matches.get_one("rules") {
-        Some(2u32) => Rules::Two,
-        _ => Rules::One,
+/// The rules of the option, or the word in it that names none.
+fn rules_in<'a>(matches: &ArgMatches<'a>) -> Result<Rules, &'a str> {
+    match matches.get_str("rules") {
+        Some(text) => rules_named(text),
+        None => Ok(Rules::One),
     }
 }
 

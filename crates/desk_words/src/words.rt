@@ -1,7 +1,7 @@
 //! The commands and their words.
 use crate::help::{
-    CODES_HELP, EXPLAIN_HELP, LINE_HELP, PROGRAM_HELP, REPLAY_HELP, SCORE_HELP, SHAPE_HELP,
-    WAITS_HELP, WIN_HELP, YAKU_HELP,
+    CODES_HELP, EXPLAIN_HELP, LINE_HELP, PROGRAM_HELP, REPLAY_HELP, RULES_HELP, SCORE_HELP,
+    SHAPE_HELP, WAITS_HELP, WIN_HELP, YAKU_HELP,
 };
 use clap::{Arg, ArgAction, Command, value_parser};
 use std::alloc::{AllocError, Global};
@@ -22,6 +22,7 @@ pub fn commands<'a>(alloc: Global) -> Result<Command<'a>, AllocError> {
         .subcommand(replay_command(alloc)?)?
         .subcommand(score_command(alloc)?)?
         .subcommand(codes_command(alloc))?
+        .subcommand(rules_command(alloc))?
         .subcommand(yaku_command(alloc))
 }
 
@@ -81,10 +82,11 @@ fn words_arg<'a>(alloc: Global, help: &'static str) -> Arg<'a> {
 fn rules_arg<'a>(alloc: Global) -> Arg<'a> {
     Arg::new(alloc, "rules")
         .long("rules")
-        .value_name("N")
-        .value_parser(value_parser!(u32).range(1..=2))
+        .value_name("RULES")
         .default_value("1")
-        .help("The rule profile, 1 or 2, where the first line sets none")
+        .help(
+            "The rules where the first line sets none: 1, 2, or with changes, as 1+red-fives-ura (see help-rules)",
+        )
 }
 
 fn line_command<'a>(alloc: Global) -> Result<Command<'a>, AllocError> {
@@ -157,6 +159,12 @@ fn yaku_command<'a>(alloc: Global) -> Command<'a> {
     Command::new(alloc, "help-yaku")
         .about("Prints every yaku: its word, its Japanese name, its han and its condition")
         .after_help(YAKU_HELP)
+}
+
+fn rules_command<'a>(alloc: Global) -> Command<'a> {
+    Command::new(alloc, "help-rules")
+        .about("Prints every rule that a table may choose, and which the profiles have")
+        .after_help(RULES_HELP)
 }
 
 fn replay_command<'a>(alloc: Global) -> Result<Command<'a>, AllocError> {

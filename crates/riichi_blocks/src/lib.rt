@@ -35,7 +35,7 @@ pub use hand_block::HandBlock;
 pub use held::all_tiles;
 pub use joining::{blocks_of, push_blocks};
 pub use kinds::{EAST, GREEN, KINDS, RED, WHITE, is_dragon, is_of_suit, is_wind};
-pub use pairs::{has_plain_pair, pair_fu};
+pub use pairs::{has_plain_pair, has_prevalent_fu, pair_fu};
 pub use reading_shapes::{is_seven_pairs, is_standard, is_thirteen_orphans};
 pub use tiles::AllTiles;
 pub use waits::{has_two_sided_wait, is_closed_wait, is_edge_wait, wait_fu};

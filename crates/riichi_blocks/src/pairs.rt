@@ -8,14 +8,23 @@ use crate::kinds::WHITE;
 use riichi_hand::WinRecord;
 use riichi_tiles::Kind;
 
-/// The fu of a pair of this kind. One that is both the seat wind and the prevalent wind earns 4.
+/// Whether a pair of this kind has fu as one of the prevalent wind. That which is of the seat wind too has them where the
+/// rules say so.
+pub fn has_prevalent_fu(win: &WinRecord, kind: Kind) -> bool
+    ensures { result ≡ spec.has_prevalent_fu win.now kind }
+{
+    kind == win.round().kind()
+        && (kind != win.seat().kind() || win.rules().house().double_wind_pair)
+}
+
+/// The fu of a pair of this kind. One that is both the seat wind and the prevalent wind earns 4, or 2 where the rules say so.
 pub fn pair_fu(win: &WinRecord, kind: Kind) -> u8
     ensures value { result ≡ spec.pair_fu win.now kind }
     ensures most { result ≤ 6 }
 {
     let dragon = if kind.index() >= WHITE { 2 } else { 0 };
     let seat = if kind == win.seat().kind() { 2 } else { 0 };
-    let round = if kind == win.round().kind() { 2 } else { 0 };
+    let round = if has_prevalent_fu(win, kind) { 2 } else { 0 };
     dragon + seat + round
 }
 

@@ -4,6 +4,7 @@ use crate::failure::{Failure, report};
 use crate::files::open_file;
 use crate::lines::answer_lines;
 use crate::noted::Notes;
+use crate::rules::print_rules;
 use crate::scoring::score_files;
 use crate::version::print_version;
 use crate::yaku::print_yaku;
@@ -11,7 +12,8 @@ use clap::error::ErrorKind;
 use desk_lines::{replay_text, waits_answer};
 use desk_score::ScoreFault;
 use desk_streams::{FromReader, ToWriter};
-use desk_words::{Request, commands, request_of};
+use desk_words::{Request, commands, nearest_rule, request_of};
+use std::alloc::{AllocError, Global};
 use std::env::{self, Env};
 use std::io::{self, Eprint, Input, Print};
 use std::rt::Files;
@@ -81,7 +83,9 @@ fn answer_words<'a, R: Input + Print + Eprint + Files + Threads + Wait + Sync + 
             },
         ) => answer_lines(rt, notes, lines, form, rules, is_numbered),
         Some(Request::HelpCodes) => print_codes(rt, notes),
+        Some(Request::HelpRules) => print_rules(rt, notes),
         Some(Request::HelpYaku) => print_yaku(rt, notes),
+        Some(Request::UnknownRules(word)) => Err(unknown_rule(rt.alloc(), word)?),
         Some(Request::Replay(file)) => replay_file(rt, notes, file),
         Some(
             Request::Score {
@@ -92,6 +96,15 @@ fn answer_words<'a, R: Input + Print + Eprint + Files + Threads + Wait + Sync + 
         ) => score_files(rt, notes, files, workers, rules),
         None => Err(Failure::Text),
     }
+}
+
+/// That no rule has this name, and which one is near.
+fn unknown_rule<'a>(alloc: Global, word: &'a str) -> Result<Failure<'a>, AllocError> {
+    let word = word.split('+').next().unwrap_or(word);
+    Ok(Failure::UnknownRule {
+        word,
+        nearest: nearest_rule(alloc, word)?,
+    })
 }
 
 /// What a print answers: no line is refused, or the failure of standard output, which is noted.

@@ -8,6 +8,7 @@ use clap::Error;
 use clap::error::ErrorKind;
 use desk_lines::DeskFault;
 use desk_score::ScoreFault;
+use riichi_hand::Switch;
 use std::alloc::AllocError;
 use std::io::{Eprint, Print};
 
@@ -18,6 +19,11 @@ pub enum Failure<'a> {
     Words(Error),
     /// The words aren't text.
     Text,
+    /// No rule that a house may choose has this name; one that is near.
+    UnknownRule {
+        word: &'a str,
+        nearest: Option<Switch>,
+    },
     /// This file can't be opened.
     CannotOpen(&'a str),
     /// Input, output, memory or a thread failed, or there is too much.
@@ -97,6 +103,20 @@ impl Failure<'_> {
     }
 }
 
+fn tell_unknown_rule<R: Eprint>(rt: &R, word: &str, nearest: Option<Switch>) {
+    let _ = match nearest {
+        Some(switch) => {
+            let near = switch.word();
+            eprintln!(rt;
+                "error: --rules has no rule `{word}`; `{near}` is near (help-rules lists all)"
+            )
+        }
+        None => eprintln!(rt;
+            "error: --rules has no rule `{word}`; 1 or 2 stands first, and behind it + or - and a rule of help-rules"
+        ),
+    };
+}
+
 /// Says on standard error why the program stops, and returns its exit status: 2 for a fault of the command line or too much
 /// of something, 3 for input or output, 4 for memory or a thread; 0 where help or the version was asked for.
 pub fn report<R: Print + Eprint>(rt: &R, failure: &Failure<'_>) -> u8
@@ -115,6 +135,10 @@ pub fn report<R: Print + Eprint>(rt: &R, failure: &Failure<'_>) -> u8
         }
         Failure::Text => {
             let _ = eprintln!(rt; "error: the words of the command line aren't UTF-8 text");
+            2
+        }
+        Failure::UnknownRule { word, nearest } => {
+            tell_unknown_rule(rt, *word, *nearest);
             2
         }
         Failure::CannotOpen(file) => {

@@ -151,11 +151,12 @@ impl<R: Eprint, T: Read> Read for Watched<'_, '_, R, T> {
 fn tell_slip<R: Eprint>(rt: &R, name: &str, slip: Slip) {
     let line = slip.line;
     let profile = match slip.rules {
-        Rules::One => 1,
-        Rules::Two => 2,
+        Rules::One => "profile 1",
+        Rules::Two => "profile 2",
+        Rules::House(_) => "the rules of the command line",
     };
     let _ = eprintln!(rt;
-        "riichi_desk: {name}: line {line} sets no profile: the lines are answered under profile {profile}; `rules 1` or `rules 2` sets one, alone in the first line"
+        "riichi_desk: {name}: line {line} sets no profile: the lines are answered under {profile}; `rules 1` or `rules 2` sets one, alone in the first line"
     );
 }
 

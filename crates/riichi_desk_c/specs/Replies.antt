@@ -1,12 +1,34 @@
 -- What a program is answered.
-use Rattle.std.specs.Prelude.{ℕ, List, [], Option, None, Some, unwrap_or, ◌==◌, if◌then◌else◌, codes}
+use Rattle.std.specs.Prelude.{ℕ, ◌/◌, ◌%◌, List, [], Option, None, Some, Bool, ◌&&◌, nat_le, nat_lt, unwrap_or, ◌==◌, if◌then◌else◌, codes}
 use Rattle.riichi_hand.specs.declared.win.Rules.{Rules}
-use Rattle.riichi_hand.specs.declared.win.Rules.TheVariants.{One, Two}
+use Rattle.riichi_hand.specs.declared.house.House.{House}
+use Rattle.riichi_hand.specs.declared.win.Rules.TheVariants as rules
 use Rattle.desk_lines.specs.LineAnswer.{answer_of}
 
--- the profile of this number
+-- the bit of this value is set in a number
+abbrev pub has_bit : ℕ → ℕ → Bool
+has_bit value number = (number / value) % 2 == 1
+
+-- the rules whose bits are set: a bit for each, in the order of the table
+abbrev pub house_numbered : ℕ → House
+house_numbered number = record {
+  red_fives = has_bit 1 number;
+  raise = has_bit 2 number;
+  counted_yakuman = has_bit 4 number;
+  double_wind_pair = has_bit 8 number;
+  kong_draw_fu = has_bit 16 number;
+  open_simples = has_bit 32 number;
+  open_pinfu_fu = has_bit 64 number;
+  ippatsu = has_bit 128 number;
+  ura = has_bit 256 number;
+}
+
+-- the rules of this number: 1 and 2 are the profiles, 65536 and more the rules of a house
 abbrev pub rules_numbered : ℕ → Option Rules
-rules_numbered number = if number == 1 then Some One else if number == 2 then Some Two else None
+rules_numbered number =
+    if number == 1 then Some rules.One
+    else if number == 2 then Some rules.Two
+    else if nat_le 65536 number && nat_lt number 66048 then Some (rules.House (house_numbered number)) else None
 
 -- no bytes for a line that is no record
 abbrev pub reply_under : Option Rules → List ℕ → List ℕ

@@ -6,7 +6,7 @@
 #![tactic(auto)]
 
 ghost use Rattle.std.specs.Prelude.{◌≡◌, ◌≤◌, ◌<◌, ◌++◌, length, drop, codes};
-ghost use Rattle.riichi_desk_c.specs.Replies.{reply_to, rules_numbered};
+ghost use Rattle.riichi_desk_c.specs.Replies.{reply_to};
 
 mod arrays;
 mod json;
@@ -14,6 +14,7 @@ mod lines;
 mod placing;
 mod reasons;
 mod rows;
+mod rules;
 mod wins;
 
 pub use arrays::{riichi_discards, riichi_shantens, riichi_shapes, riichi_waits_of};
@@ -22,12 +23,13 @@ pub use json::riichi_json;
 pub use lines::{riichi_answer_lines, riichi_explain_lines, riichi_json_lines};
 use placing::place;
 pub use reasons::riichi_explain;
-use riichi_hand::{Rules, fault_text, read_line};
+use riichi_hand::{fault_text, read_line};
 pub use rows::riichi_answer_rows;
+use rules::rules_numbered;
 pub use wins::riichi_wins;
 
-/// Answers one line, without its line feed and a carriage return before that, under the profile of this number, 1 or 2: the bytes that the answer takes, 0
-/// where the line is no record. They are put at the start of the room if all of them fit there. Under any other number the
+/// Answers one line, without its line feed and a carriage return before that, under the rules of this number: the bytes that the answer takes, 0
+/// where the line is no record. They are put at the start of the room if all of them fit there. Under a number that is none of any rules the
 /// answer is `refused rules`.
 #[tactic(auto, unfolding(crate::specs::Replies::reply_to, desk_lines::specs::LineAnswer::answer_of))]
 #[unsafe(no_mangle)]
@@ -57,16 +59,6 @@ pub extern "C" fn riichi_version(room: &mut [u8]) -> usize
     ensures untouched { length room.old < length (codes "riichi_desk 0.1.0") → room.new ≡ room.old }
 {
     place(b"riichi_desk 0.1.0", room)
-}
-
-fn rules_numbered(number: u32) -> Option<Rules>
-    ensures { result ≡ rules_numbered number }
-{
-    match number {
-        1 => Some(Rules::One),
-        2 => Some(Rules::Two),
-        _ => None,
-    }
 }
 
 #[cfg(test)]

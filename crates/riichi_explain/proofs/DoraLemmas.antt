@@ -8,7 +8,7 @@ use Rattle.riichi_tiles.specs.Melds.{every_kind}
 use Rattle.riichi_tiles.specs.Dora.{indicated}
 use Rattle.riichi_hand.specs.Win.{copies_won}
 use Rattle.riichi_hand.specs.declared.win.WinParts.{WinParts}
-use Rattle.riichi_score.specs.Dora.{kind_dora, red_dora, dora_of}
+use Rattle.riichi_score.specs.Dora.{counted_ura, kind_dora, red_dora, dora_of}
 use Rattle.riichi_explain.specs.declared.dora.DoraPart.{DoraPart}
 use Rattle.riichi_explain.specs.declared.dora.DoraPart.TheVariants.{Indicated, Below, RedFives}
 use Rattle.riichi_explain.specs.declared.dora.DoraRow.{DoraRow}
@@ -25,15 +25,15 @@ both : (shown below copies : ℕ) → (shown + below) * copies ≡ shown * copie
 both shown below copies = grind arith
 
 -- the indicators of both sorts, over some kinds
-split : (win : WinParts) (kinds : List ℕ) → sum_by (kind_dora win) kinds ≡ sum_by (dora_by win.dora win) kinds + sum_by (dora_by win.ura win) kinds
+split : (win : WinParts) (kinds : List ℕ) → sum_by (kind_dora win) kinds ≡ sum_by (dora_by win.dora win) kinds + sum_by (dora_by (counted_ura win) win) kinds
 split win [] = refl
 split win (kind ∷ kinds) =
     omega (
       arith,
       sum_by-cons (kind_dora win) kind kinds,
       sum_by-cons (dora_by win.dora win) kind kinds,
-      sum_by-cons (dora_by win.ura win) kind kinds,
-      both (slice_index win.dora kind) (slice_index win.ura kind) (copies_won win (indicated kind)),
+      sum_by-cons (dora_by (counted_ura win) win) kind kinds,
+      both (slice_index win.dora kind) (slice_index (counted_ura win) kind) (copies_won win (indicated kind)),
       split win kinds,
     )
 
@@ -48,4 +48,4 @@ parts-total shown below reds =
 pub rows_give_dora : (win : WinParts) → dora_total (dora_rows win) ≡ dora_of win
 unfolding dora_rows dora_of
 rows_give_dora win =
-    parts-total (shown_dora win.dora win) (shown_dora win.ura win) (red_dora win.rules win.reds) ∙ ap (λ (n : ℕ). n + red_dora win.rules win.reds) (sym (split win every_kind))
+    parts-total (shown_dora win.dora win) (shown_dora (counted_ura win) win) (red_dora win.rules win.reds) ∙ ap (λ (n : ℕ). n + red_dora win.rules win.reds) (sym (split win every_kind))

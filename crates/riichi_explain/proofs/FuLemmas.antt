@@ -17,6 +17,7 @@ use Rattle.riichi_blocks.specs.declared.hand_block.HandBlock.{HandBlock}
 use Rattle.riichi_blocks.specs.declared.hand_block.HandBlock.TheVariants.{Run, Triplet, Kong, Pair}
 use Rattle.riichi_blocks.specs.HandBlocks.{blocks_of}
 use Rattle.riichi_blocks.specs.Kinds.{white}
+use Rattle.riichi_blocks.specs.Pairs.{has_prevalent_fu}
 use Rattle.riichi_blocks.specs.Waits.{is_closed_wait, is_edge_wait, wait_fu}
 use Rattle.riichi_yaku.specs.Runs.{is_pinfu}
 use Rattle.riichi_score.specs.Fu.{ron_fu, self_draw_fu, block_fu, open_fu, fu_sum, fu_of, up_to_ten}
@@ -53,7 +54,7 @@ total-set win (Kong kind concealed) = omega (arith, total-earned (part.Kong kind
 total-set win (Pair kind) =
     let a = cond (leb white kind) 2 0 in
     let b = cond (eqb kind (wind_kind win.seat)) 2 0 in
-    let c = cond (eqb kind (wind_kind win.round)) 2 0 in
+    let c = cond (has_prevalent_fu win kind) 2 0 in
     zero-add (fu_total (pair_rows win kind)) ∙ total-three (part.DragonPair kind) (part.SeatWindPair kind) (part.PrevalentWindPair kind) a b c
 
 total-sets : (win : WinParts) (blocks : List HandBlock) → fu_total (flat_map (set_rows win) blocks) + fu_total (flat_map (rows_if_pair win) blocks) ≡ sum_by (block_fu win) blocks

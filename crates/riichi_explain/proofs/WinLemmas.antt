@@ -5,6 +5,7 @@ use Rattle.riichi_tiles.specs.Melds.{are_concealed}
 use Rattle.riichi_hand.specs.declared.win.By.{By}
 use Rattle.riichi_hand.specs.declared.win.By.TheVariants.{Ron, Tsumo}
 use Rattle.riichi_hand.specs.declared.win.Rules.{Rules}
+use Rattle.riichi_hand.specs.Rules.{house_of}
 use Rattle.riichi_hand.specs.declared.win.WinParts.{WinParts}
 use Rattle.riichi_split.specs.declared.reading.Reading.{Reading}
 use Rattle.riichi_split.specs.declared.reading.Reading.TheVariants.{Standard, SevenPairs, Orphans}
@@ -38,33 +39,36 @@ low-points true above product e = refl
 low-points false true product e = grind (arith, nat_tests)
 low-points false false product e = grind (arith, nat_tests)
 
-counted-cases : (four five seven ten twelve raised above : Bool) (product : ℕ) → above ≡ ltb 2000 product →
+counted-cases : (four five seven ten twelve counted raised above : Bool) (product : ℕ) → above ≡ ltb 2000 product →
     points_by (cond four (cond raised (Raised product) (cond above (Capped product) (Product product)))
-    (cond five (Limited Mangan) (cond seven (Limited Haneman) (cond ten (Limited Baiman) (cond twelve (Limited Sanbaiman) (Limited Yakuman))))))
-    ≡ cond four (cond raised 2000 (min 2000 product)) (cond five 2000 (cond seven 3000 (cond ten 4000 (cond twelve 6000 8000))))
-counted-cases true five seven ten twelve raised above product e = low-points raised above product e
-counted-cases false true seven ten twelve raised above product e = refl
-counted-cases false false true ten twelve raised above product e = refl
-counted-cases false false false true twelve raised above product e = refl
-counted-cases false false false false true raised above product e = refl
-counted-cases false false false false false raised above product e = refl
+    (cond five (Limited Mangan) (cond seven (Limited Haneman) (cond ten (Limited Baiman) (cond twelve (Limited Sanbaiman) (Limited (cond counted Yakuman Sanbaiman)))))))
+    ≡ cond four (cond raised 2000 (min 2000 product)) (cond five 2000 (cond seven 3000 (cond ten 4000 (cond twelve 6000 (cond counted 8000 6000)))))
+counted-cases true five seven ten twelve counted raised above product e = low-points raised above product e
+counted-cases false true seven ten twelve counted raised above product e = refl
+counted-cases false false true ten twelve counted raised above product e = refl
+counted-cases false false false true twelve counted raised above product e = refl
+counted-cases false false false false true counted raised above product e = refl
+counted-cases false false false false false true raised above product e = refl
+counted-cases false false false false false false raised above product e = refl
 
 -- a counted hand's rule gives the points of the table
 counted-points : (rules : Rules) (han fu : ℕ) → points_by (counted_rule rules han fu) ≡ base_of rules han fu
 counted-points rules han fu =
-    counted-cases (leb han 4) (leb han 5) (leb han 7) (leb han 10) (leb han 12) (is_raised rules han fu) (ltb 2000 (product_of han fu)) (product_of han fu) refl
+    counted-cases (leb han 4) (leb han 5) (leb han 7) (leb han 10) (leb han 12) (house_of rules).counted_yakuman (is_raised rules han fu) (ltb 2000 (product_of han fu)) (product_of han fu) refl
 
-base-cases : (four five seven ten twelve raised : Bool) (product : ℕ) → cond four (cond raised 2000 (min 2000 product)) (cond five 2000 (cond seven 3000 (cond ten 4000 (cond twelve 6000 8000)))) ≤ 8000
-base-cases true five seven ten twelve true product = omega arith
-base-cases true five seven ten twelve false product = omega arith
-base-cases false true seven ten twelve raised product = omega arith
-base-cases false false true ten twelve raised product = omega arith
-base-cases false false false true twelve raised product = omega arith
-base-cases false false false false true raised product = omega arith
-base-cases false false false false false raised product = omega arith
+base-cases : (four five seven ten twelve counted raised : Bool) (product : ℕ)
+    → cond four (cond raised 2000 (min 2000 product)) (cond five 2000 (cond seven 3000 (cond ten 4000 (cond twelve 6000 (cond counted 8000 6000))))) ≤ 8000
+base-cases true five seven ten twelve counted true product = omega arith
+base-cases true five seven ten twelve counted false product = omega arith
+base-cases false true seven ten twelve counted raised product = omega arith
+base-cases false false true ten twelve counted raised product = omega arith
+base-cases false false false true twelve counted raised product = omega arith
+base-cases false false false false true counted raised product = omega arith
+base-cases false false false false false true raised product = omega arith
+base-cases false false false false false false raised product = omega arith
 
 base-most : (rules : Rules) (han fu : ℕ) → base_of rules han fu ≤ 8000
-base-most rules han fu = base-cases (leb han 4) (leb han 5) (leb han 7) (leb han 10) (leb han 12) (is_raised rules han fu) (product_of han fu)
+base-most rules han fu = base-cases (leb han 4) (leb han 5) (leb han 7) (leb han 10) (leb han 12) (house_of rules).counted_yakuman (is_raised rules han fu) (product_of han fu)
 
 -- ---- payments
 

@@ -1,6 +1,7 @@
 -- How base points come from han and fu.
 use Rattle.std.specs.Prelude.{ℕ, Bool, nat_le, nat_lt, if◌then◌else◌}
 use Rattle.riichi_hand.specs.declared.win.Rules.{Rules}
+use Rattle.riichi_hand.specs.Rules.{house_of}
 use Rattle.riichi_score.specs.Base.{is_raised, product_of}
 use Rattle.riichi_explain.specs.declared.base.Limit.{Limit}
 use Rattle.riichi_explain.specs.declared.base.Limit.TheVariants.{Mangan, Haneman, Baiman, Sanbaiman, Yakuman}
@@ -13,7 +14,11 @@ low_rule rules han fu =
     if is_raised rules han fu then Raised (product_of han fu)
     else (if nat_lt 2000 (product_of han fu) then Capped (product_of han fu) else Product (product_of han fu))
 
--- of a counted hand: 5 han are a mangan, 6 and 7 a haneman, 8 to 10 a baiman, 11 and 12 a sanbaiman, 13 and more a yakuman
+-- 13 han and more are a yakuman where the rules say so, else as 12
+abbrev pub most_limit : Rules → Limit
+most_limit rules = if (house_of rules).counted_yakuman then Yakuman else Sanbaiman
+
+-- of a counted hand: 5 han are a mangan, 6 and 7 a haneman, 8 to 10 a baiman, 11 and 12 a sanbaiman
 abbrev pub counted_rule : Rules → ℕ → ℕ → BaseRule
 counted_rule rules han fu =
     if nat_le han 4 then low_rule rules han fu
@@ -21,7 +26,7 @@ counted_rule rules han fu =
     else (if nat_le han 7 then Limited Haneman
     else (if nat_le han 10 then Limited Baiman
     else (if nat_le han 12 then Limited Sanbaiman
-    else Limited Yakuman))))
+    else Limited (most_limit rules)))))
 
 abbrev pub base_rule : Bool → Rules → ℕ → ℕ → BaseRule
 base_rule yakuman rules han fu = if yakuman then Limited Yakuman else counted_rule rules han fu

@@ -5,7 +5,7 @@ use Rattle.riichi_tiles.specs.Dora.{indicated}
 use Rattle.riichi_tiles.specs.Melds.{every_kind}
 use Rattle.riichi_hand.specs.declared.win.WinParts.{WinParts}
 use Rattle.riichi_hand.specs.Win.{copies_won}
-use Rattle.riichi_score.specs.Dora.{red_dora}
+use Rattle.riichi_score.specs.Dora.{counted_ura, red_dora}
 use Rattle.riichi_explain.specs.declared.dora.DoraPart.{DoraPart}
 use Rattle.riichi_explain.specs.declared.dora.DoraPart.TheVariants as part
 use Rattle.riichi_explain.specs.declared.dora.DoraRow.{DoraRow}
@@ -26,7 +26,7 @@ counted_dora part han = if han == 0 then [] else record { part = part; han = han
 unfoldable pub dora_rows : WinParts → List DoraRow
 dora_rows win =
     counted_dora part.Indicated (shown_dora win.dora win)
-    ++ counted_dora part.Below (shown_dora win.ura win)
+    ++ counted_dora part.Below (shown_dora (counted_ura win) win)
     ++ counted_dora part.RedFives (red_dora win.rules win.reds)
 
 -- what rows add up to

@@ -11,6 +11,7 @@ use Rattle.riichi_blocks.specs.declared.hand_block.HandBlock.{HandBlock}
 use Rattle.riichi_blocks.specs.declared.hand_block.HandBlock.TheVariants.{Run, Triplet, Kong, Pair}
 use Rattle.riichi_blocks.specs.HandBlocks.{blocks_of}
 use Rattle.riichi_blocks.specs.Kinds.{is_dragon}
+use Rattle.riichi_blocks.specs.Pairs.{has_prevalent_fu}
 use Rattle.riichi_blocks.specs.Waits.{is_closed_wait, is_edge_wait}
 use Rattle.riichi_yaku.specs.Runs.{is_pinfu}
 use Rattle.riichi_score.specs.Fu.{ron_fu, self_draw_fu, block_fu, open_fu, fu_sum, up_to_ten}
@@ -22,12 +23,12 @@ use Rattle.riichi_explain.specs.declared.fu.FuRow.{FuRow}
 abbrev pub earned : FuPart → ℕ → List FuRow
 earned part fu = if fu == 0 then [] else record { part = part; fu = fu } ∷ []
 
--- a pair of dragons, of the seat wind, of the prevalent wind: 2 each
+-- a pair of dragons, of the seat wind, of the prevalent wind: 2 each, but for that of both winds where the rules give it 2 in all
 abbrev pub pair_rows : WinParts → ℕ → List FuRow
 pair_rows win kind =
     earned (part.DragonPair kind) (if is_dragon kind then 2 else 0)
     ++ earned (part.SeatWindPair kind) (if kind == wind_kind win.seat then 2 else 0)
-    ++ earned (part.PrevalentWindPair kind) (if kind == wind_kind win.round then 2 else 0)
+    ++ earned (part.PrevalentWindPair kind) (if has_prevalent_fu win kind then 2 else 0)
 
 -- the row of a triplet or a kong, in hand or called
 abbrev pub set_rows : WinParts → HandBlock → List FuRow

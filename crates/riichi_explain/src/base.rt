@@ -22,7 +22,7 @@ pub enum BaseRule {
     Product { product: u32 },
     /// Such a product above a mangan, which counts as one.
     Capped { product: u32 },
-    /// Such a product that the second profile raises to a mangan.
+    /// Such a product that the rules raise to a mangan.
     Raised { product: u32 },
     /// Five han or more, or a yakuman.
     Limited(Limit),
@@ -48,7 +48,18 @@ fn counted_rule(rules: Rules, han: u8, fu: u8) -> BaseRule
         6..=7 => BaseRule::Limited(Limit::Haneman),
         8..=10 => BaseRule::Limited(Limit::Baiman),
         11..=12 => BaseRule::Limited(Limit::Sanbaiman),
-        _ => BaseRule::Limited(Limit::Yakuman),
+        _ => BaseRule::Limited(most_limit(rules)),
+    }
+}
+
+/// What 13 han and more are.
+fn most_limit(rules: Rules) -> Limit
+    ensures { result ≡ spec.most_limit rules }
+{
+    if rules.house().counted_yakuman {
+        Limit::Yakuman
+    } else {
+        Limit::Sanbaiman
     }
 }
 

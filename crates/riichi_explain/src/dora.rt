@@ -5,7 +5,7 @@ ghost use Rattle.riichi_explain.specs.Dora as spec;
 
 use arrayvec::ArrayVec;
 use riichi_hand::WinRecord;
-use riichi_score::red_dora;
+use riichi_score::{counted_ura, red_dora};
 use riichi_tiles::{Counts, Kind, dora_of};
 
 /// Where dora come from.
@@ -58,7 +58,7 @@ fn push_dora_rows(rows: &mut DoraRows, win: &WinRecord)
     ensures { rows.new.items ≡ spec.dora_rows win.now }
 {
     push_counted(rows, DoraPart::Indicated, shown_dora(&win.dora(), win));
-    push_counted(rows, DoraPart::Below, shown_dora(&win.ura(), win));
+    push_counted(rows, DoraPart::Below, shown_dora(&counted_ura(win), win));
     push_counted(rows, DoraPart::RedFives, red_fives(win));
 }
 

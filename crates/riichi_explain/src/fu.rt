@@ -5,7 +5,9 @@ ghost use Rattle.riichi_score.specs.Fu.{HasFourSets, fu_of};
 ghost use Rattle.riichi_explain.specs.Fu as spec;
 
 use arrayvec::ArrayVec;
-use riichi_blocks::{Blocks, HandBlock, WHITE, blocks_of, is_closed_wait, is_edge_wait};
+use riichi_blocks::{
+    Blocks, HandBlock, WHITE, blocks_of, has_prevalent_fu, is_closed_wait, is_edge_wait,
+};
 use riichi_hand::WinRecord;
 use riichi_score::{block_fu, open_fu, ron_fu, self_draw_fu};
 use riichi_split::Reading;
@@ -209,7 +211,7 @@ fn push_pair_rows(rows: &mut FuRows, kind: Kind, win: &WinRecord)
     push_earned(
         rows,
         FuPart::PrevalentWindPair(kind),
-        two_if(kind == win.round().kind()),
+        two_if(has_prevalent_fu(win, kind)),
     );
 }
 

@@ -14,14 +14,14 @@ use Rattle.riichi_hand.specs.declared.fault.TextName.{TextName}
 use Rattle.riichi_hand.specs.declared.fault.TextName.TheVariants as text
 use Rattle.riichi_hand.specs.declared.line.key.Key.TheVariants.{On, Dora, Ura, Seen, Open}
 use Rattle.riichi_hand.specs.declared.win.Rules.{Rules}
-use Rattle.riichi_hand.specs.declared.win.Rules.TheVariants.{One, Two}
 use Rattle.riichi_hand.specs.declared.win.WinParts.{WinParts}
 use Rattle.riichi_hand.specs.declared.job.Job.{Job}
 use Rattle.riichi_hand.specs.declared.job.Job.TheVariants as jobs
 use Rattle.riichi_hand.specs.declared.fault.LineCode.TheVariants.{H7, H8, H9}
 use Rattle.riichi_hand.specs.FaultTexts.{line_code_text}
 use Rattle.riichi_hand.specs.Faults.{coded, first_fault, fault_or, IsStep}
-use Rattle.riichi_hand.specs.Win.{is_two, no_reds, kept_under, win_faults, win_of}
+use Rattle.riichi_hand.specs.Rules.{house_of}
+use Rattle.riichi_hand.specs.Win.{no_reds, without_reds, kept_under, win_faults, win_of}
 use Rattle.riichi_hand.specs.Words.{words_of}
 use Rattle.riichi_hand.specs.Parts.{LineParts, parts_of, value}
 use Rattle.riichi_hand.specs.Texts.{texts_of, text_fault, melds_in}
@@ -110,15 +110,22 @@ outcome-ok rules line parts job short some are none is =
     read ∙ sym (outcome_from rules line parts short some are ∙ ap (λ first. fault_or first (job_of rules parts (texts_of parts) parts.job)) none)
 
 -- the parts with the red fives that the rules keep
-pub kept_parts : (rules : Rules) (win : WinParts) (kept : List ℕ) → kept ≡ (if is_two rules then win.reds else no_reds) → record win { reds = kept } ≡ kept_under rules win
-kept_parts One win kept is = rw is refl
-kept_parts Two win kept is = rw is refl
+kept_if : (keeps : Bool) (win : WinParts) (kept : List ℕ) → kept ≡ (if keeps then win.reds else no_reds) → record win { reds = kept } ≡ (if keeps then win else without_reds win)
+kept_if true win kept is = rw is refl
+kept_if false win kept is = rw is refl
+
+pub kept_parts : (rules : Rules) (win : WinParts) (kept : List ℕ) → kept ≡ (if (house_of rules).red_fives then win.reds else no_reds) → record win { reds = kept } ≡ kept_under rules win
+kept_parts rules win kept is = kept_if (house_of rules).red_fives win kept is
 
 -- these have the faults of the parts
-pub win_of_kept : (rules : Rules) (win : WinParts) → win.rules ≡ rules → win_of (kept_under rules win) ≡ fault_or (first_fault (win_faults win)) (kept_under rules win)
+win_if : (keeps : Bool) (win : WinParts) → (house_of win.rules).red_fives ≡ keeps
+    → win_of (if keeps then win else without_reds win) ≡ fault_or (first_fault (win_faults win)) (if keeps then win else without_reds win)
 unfolding win_of
-win_of_kept One win is = rw is refl
-win_of_kept Two win is = rw is refl
+win_if true win is = rw is refl
+win_if false win is = rw is refl
+
+pub win_of_kept : (rules : Rules) (win : WinParts) → win.rules ≡ rules → win_of (kept_under rules win) ≡ fault_or (first_fault (win_faults win)) (kept_under rules win)
+win_of_kept rules win is = win_if (house_of rules).red_fives win (ap (λ r. (house_of r).red_fives) is)
 
 -- the step of a win that has one winning tile and its keys
 pub win_step : (only : Option ℕ) (line : Option WinParts) (rules : Rules) (winning : ℕ) (win : WinParts) (result : Result WinParts LineFault) → only ≡ Some winning → line ≡ Some win

@@ -12,7 +12,8 @@ use Rattle.riichi_hand.specs.declared.line.key.Key.TheVariants.{Open}
 use Rattle.riichi_hand.specs.declared.win.Rules.{Rules}
 use Rattle.riichi_hand.specs.declared.win.WinParts.{WinParts}
 use Rattle.riichi_hand.specs.Faults.{coded, first_fault, fault_or}
-use Rattle.riichi_hand.specs.Win.{is_two, has_too_many_reds, win_faults}
+use Rattle.riichi_hand.specs.Rules.{house_of}
+use Rattle.riichi_hand.specs.Win.{has_too_many_reds, win_faults}
 use Rattle.riichi_hand.specs.Words.{words_of}
 use Rattle.riichi_hand.specs.Parts.{LineParts, parts_of, value}
 use Rattle.riichi_hand.specs.Texts.{texts_of, melds_in, only_kind}
@@ -26,15 +27,16 @@ after_melds : (spelled : Bool) (faults : List (Option LineFault)) → first_faul
 after_melds true faults is = (refl, is)
 after_melds false faults is = absurd (cc)
 
-not_two : (two many : Bool) → many ≡ false → (two && many) ≡ false
-not_two true many few = few
-not_two false many few = refl
+not_many : (keeps many : Bool) → many ≡ false → (keeps && many) ≡ false
+not_many true many few = few
+not_many false many few = refl
 
 win_not : (win : WinParts) → has_too_many_reds win ≡ false → first_fault (win_faults win) ≡ Some (Line H16) → ⊥
 win_not win few is =
-    let reds = is_two win.rules && has_too_many_reds win in
+    let keeps = (house_of win.rules).red_fives in
+    let reds = keeps && has_too_many_reds win in
     let last = after_others H16 ((H4, _) ∷ (H8, _) ∷ (H9, _) ∷ (H10, _) ∷ (H11, _) ∷ (H12, _) ∷ (H13, _) ∷ (H14, _) ∷ (H15, _) ∷ []) (coded H16 reds ∷ []) refl is in
-    let none : None ≡ Some (Line H16) = rw (not_two (is_two win.rules) (has_too_many_reds win) few) at last in cc
+    let none : None ≡ Some (Line H16) = rw (not_many keeps (has_too_many_reds win) few) at last in cc
 
 win_told : (rules : Rules) (parts : LineParts) (only : Option ℕ) (keys : Option WinKeys) → is_some (melds_in (value Open parts)) ≡ true → only_kind (texts_of parts).on ≡ only
     → first_fault (coded H8 (not (is_some only)) ∷ faults_of_win (and_then only (λ winning. option_map (win_parts rules parts (texts_of parts) winning) keys))) ≡ Some (Line H16) → ⊥

@@ -21,9 +21,9 @@ use Rattle.riichi_hand.specs.declared.line.key.Key.TheVariants.{On, Dora, Ura, S
 use Rattle.riichi_hand.specs.declared.fault.TextName.TheVariants as text
 use Rattle.riichi_hand.specs.declared.fault.LineCode.TheVariants.{H4, H7, H8, H9}
 use Rattle.riichi_hand.specs.declared.fault.LineFault.{LineFault}
-use Rattle.riichi_hand.specs.declared.win.Rules.TheVariants.{One, Two}
 use Rattle.riichi_hand.specs.Faults.{coded, first_fault, fault_or}
-use Rattle.riichi_hand.specs.Win.{is_two, no_reds, kept_under, copies_won, copies_in, is_out_of_range, has_wrong_size, has_five_in, has_too_many_reds, win_faults, win_of}
+use Rattle.riichi_hand.specs.Rules.{house_of}
+use Rattle.riichi_hand.specs.Win.{no_reds, without_reds, kept_under, copies_won, copies_in, is_out_of_range, has_wrong_size, has_five_in, has_too_many_reds, win_faults, win_of}
 use Rattle.riichi_hand.specs.Parts.{LineParts, value}
 use Rattle.riichi_hand.specs.Texts.{texts_of, text_fault, counts_in, melds_in, only_kind, zeros_in, reds, joined_reds}
 use Rattle.riichi_hand.specs.Jobs.{win_parts}
@@ -207,14 +207,14 @@ five_copies_first true b later others one other = refl
 five_copies_first false true later others one other = refl
 five_copies_first false false later others one other = refl
 
-win_of_cut : (win : WinParts) (cut : List ℕ) → win.rules ≡ Two → (has_five_in win ≡ false → cut ≡ win.reds) → win_of (record win { reds = cut }) ≡ fault_or (first_fault (win_faults win)) win
+win_of_cut : (win : WinParts) (cut : List ℕ) → (house_of win.rules).red_fives ≡ true → (has_five_in win ≡ false → cut ≡ win.reds) → win_of (record win { reds = cut }) ≡ fault_or (first_fault (win_faults win)) win
 unfolding win_of
-win_of_cut win cut two same =
+win_of_cut win cut keeps same =
     let given : WinParts = record win { reds = cut } in
     elim (cases_Bool (has_five_in win)) [
       | inl five ↦ rw five (five_copies_first (is_out_of_range win) (has_wrong_size win) _ _ _ win)
       | inr four ↦ (let told : given ≡ win = ap (λ (held : List ℕ). record win { reds = held }) (same four) in
-          ap (λ (w : WinParts). fault_or (first_fault (win_faults w)) (kept_under w.rules w)) told ∙ rw two refl)
+          ap (λ (w : WinParts). fault_or (first_fault (win_faults w)) (kept_under w.rules w)) told ∙ rw keeps refl)
     ]
 
 -- where no text has a fault the melds are spelled
@@ -233,32 +233,44 @@ melds_spelled parts none =
     melds_last (text_fault text.Hand (Some parts.hand)) (text_fault text.On (value On parts)) (text_fault text.Dora (value Dora parts)) (text_fault text.Ura (value Ura parts))
     (text_fault text.Seen (value Seen parts)) (is_some (melds_in (value Open parts))) none
 
-win_of_line_here : (rules : Rules) (parts : LineParts) (winning : ℕ) (keys : WinKeys) (kept : List ℕ) → only_kind (texts_of parts).on ≡ Some winning
-    → is_some (melds_in (value Open parts)) ≡ true → kept ≡ (if is_two rules then joined_reds parts else no_reds)
-    → win_of (record (win_parts rules parts (texts_of parts) winning keys) { reds = kept })
-    ≡ fault_or (first_fault (win_faults (win_parts rules parts (texts_of parts) winning keys))) (kept_under rules (win_parts rules parts (texts_of parts) winning keys))
-win_of_line_here One parts winning keys kept only some is =
-    let win = win_parts One parts (texts_of parts) winning keys in
-    ap win_of (kept_parts One win kept is) ∙ win_of_kept One win refl
-win_of_line_here Two parts winning keys kept only some is =
-    let win = win_parts Two parts (texts_of parts) winning keys in
-    let room = room_of_line Two parts winning keys only some in
+-- where there are no five copies of a kind, no red five is over
+joined_where_few : (rules : Rules) (parts : LineParts) (winning : ℕ) (keys : WinKeys) → only_kind (texts_of parts).on ≡ Some winning
+    → is_some (melds_in (value Open parts)) ≡ true → has_five_in (win_parts rules parts (texts_of parts) winning keys) ≡ false → joined_reds parts ≡ reds parts
+joined_where_few rules parts winning keys only some none =
+    let win = win_parts rules parts (texts_of parts) winning keys in
+    let room = room_of_line rules parts winning keys only some in
     let hand = parts.hand in
     let on = unwrap_or (value On parts) [] in
     let melds = unwrap_or (value Open parts) [] in
-    let plain : (letter kind : ℕ) → kind < 34 → zeros_in parts letter ≤ copies_won win kind → has_five_in win ≡ false
+    let plain : (letter kind : ℕ) → kind < 34 → zeros_in parts letter ≤ copies_won win kind
     → capped (capped (capped (zeros letter hand) + capped (zeros letter on)) + capped (zeros letter melds)) ≡ zeros_in parts letter =
-    λ letter kind near few none. joined_few (zeros letter hand) (zeros letter on) (zeros letter melds) (omega (arith, few, four_at_most win kind near none)) in
-    let same : has_five_in win ≡ false → joined_reds parts ≡ reds parts = λ none. rw (
-      plain 109 4 (omega arith) room.characters none,
-      plain 112 13 (omega arith) room.circles none,
-      plain 115 22 (omega arith) room.bamboos none,
-    ) refl in
-    ap (λ (held : List ℕ). win_of (record win { reds = held })) is ∙ win_of_cut win (joined_reds parts) refl same
+    λ letter kind near few. joined_few (zeros letter hand) (zeros letter on) (zeros letter melds) (omega (arith, few, four_at_most win kind near none)) in
+    rw (
+      plain 109 4 (omega arith) room.characters,
+      plain 112 13 (omega arith) room.circles,
+      plain 115 22 (omega arith) room.bamboos,
+    ) refl
+
+win_of_line_here : (rules : Rules) (parts : LineParts) (winning : ℕ) (keys : WinKeys) (kept : List ℕ) → only_kind (texts_of parts).on ≡ Some winning
+    → is_some (melds_in (value Open parts)) ≡ true → kept ≡ (if (house_of rules).red_fives then joined_reds parts else no_reds)
+    → win_of (record (win_parts rules parts (texts_of parts) winning keys) { reds = kept })
+    ≡ fault_or (first_fault (win_faults (win_parts rules parts (texts_of parts) winning keys))) (kept_under rules (win_parts rules parts (texts_of parts) winning keys))
+win_of_line_here rules parts winning keys kept only some is =
+    let win = win_parts rules parts (texts_of parts) winning keys in
+    elim (cases_Bool (house_of rules).red_fives) [
+      | inl keeps ↦
+          let is_joined : kept ≡ joined_reds parts = rw keeps at is in
+          let cut = win_of_cut win (joined_reds parts) keeps (joined_where_few rules parts winning keys only some) in
+          ap (λ (held : List ℕ). win_of (record win { reds = held })) is_joined ∙ cut
+          ∙ ap (λ (b : Bool). fault_or (first_fault (win_faults win)) (if b then win else without_reds win)) (sym keeps)
+      | inr drops ↦
+          let is_none : kept ≡ no_reds = rw drops at is in
+          ap win_of (kept_parts rules win kept (is_none ∙ ap (λ (b : Bool). if b then win.reds else no_reds) (sym drops))) ∙ win_of_kept rules win refl
+    ]
 
 -- the same of texts that are those of the line
 pub win_of_line_reds : (rules : Rules) (parts : LineParts) (texts : Texts) (winning : ℕ) (keys : WinKeys) (kept : List ℕ) → texts ≡ texts_of parts → only_kind texts.on ≡ Some winning
-    → first_fault (text_faults parts) ≡ None → kept ≡ (if is_two rules then joined_reds parts else no_reds)
+    → first_fault (text_faults parts) ≡ None → kept ≡ (if (house_of rules).red_fives then joined_reds parts else no_reds)
     → win_of (record (win_parts rules parts texts winning keys) { reds = kept })
     ≡ fault_or (first_fault (win_faults (win_parts rules parts texts winning keys))) (kept_under rules (win_parts rules parts texts winning keys))
 win_of_line_reds rules parts texts winning keys kept are only none is =

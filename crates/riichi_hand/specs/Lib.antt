@@ -2,6 +2,7 @@ pub mod HandParts
 pub mod Faults
 pub mod FaultTexts
 pub mod Hand
+pub mod Rules
 pub mod Win
 pub mod Words
 pub mod Values
@@ -11,5 +12,6 @@ pub mod Parts
 pub mod Texts
 pub mod Jobs
 pub mod Lines
+pub mod Houses
 pub mod Equality
 pub mod Places

@@ -7,13 +7,13 @@ use Rattle.riichi_hand.specs.declared.fault.LineFault.{LineFault}
 use Rattle.riichi_hand.specs.declared.win.By.{By}
 use Rattle.riichi_hand.specs.declared.win.By.TheVariants.{Ron, Tsumo}
 use Rattle.riichi_hand.specs.declared.win.Rules.{Rules}
-use Rattle.riichi_hand.specs.declared.win.Rules.TheVariants.{One, Two}
 use Rattle.riichi_hand.specs.declared.win.Flags.{Flags}
 use Rattle.riichi_hand.specs.declared.win.Wind.{Wind}
 use Rattle.riichi_hand.specs.declared.win.Wind.TheVariants.{East, South, West, North}
 use Rattle.riichi_hand.specs.declared.win.WinParts.{WinParts}
 use Rattle.riichi_hand.specs.Faults.{coded, first_fault, fault_or}
 use Rattle.riichi_hand.specs.Hand.{is_thirteen}
+use Rattle.riichi_hand.specs.Rules.{house_of}
 
 abbrev pub no_flags : Flags
 no_flags = record { ippatsu = false; rinshan = false; chankan = false; last = false; first = false }
@@ -28,10 +28,6 @@ wind_kind East = 27
 wind_kind South = 28
 wind_kind West = 29
 wind_kind North = 30
-
-abbrev pub is_two : Rules → Bool
-is_two One = false
-is_two Two = true
 
 -- the copies of a kind among hand, melds and the winning tile
 abbrev pub copies_won : WinParts → ℕ → ℕ
@@ -82,7 +78,7 @@ win_faults parts =
     ∷ coded H13 (parts.flags.chankan && not (is_ron parts.by))
     ∷ coded H14 (are_exclusive parts.flags)
     ∷ coded H15 (has_wrong_first parts)
-    ∷ coded H16 (is_two parts.rules && has_too_many_reds parts)
+    ∷ coded H16 ((house_of parts.rules).red_fives && has_too_many_reds parts)
     ∷ []
 
 abbrev pub no_reds : List ℕ
@@ -107,12 +103,11 @@ without_reds parts = record {
   reds = no_reds;
 }
 
--- what is kept: under the first profile no red five
+-- what is kept: without the rule of red fives none of them
 abbrev pub kept_under : Rules → WinParts → WinParts
-kept_under One parts = without_reds parts
-kept_under Two parts = parts
+kept_under rules parts = if (house_of rules).red_fives then parts else without_reds parts
 
--- The parts of a win record: they have no fault, and under the first profile no red five. Whether the hand wins is another matter.
+-- The parts of a win record: they have no fault, and without the rule of red fives none of them. Whether the hand wins is another matter.
 pub record IsWinRecord (parts : WinParts) : Type 0 where
   pub no_fault : first_fault (win_faults parts) ≡ None
   pub kept : kept_under parts.rules parts ≡ parts

@@ -3,13 +3,26 @@ ghost use Rattle.std.proofs.Common.{rules};
 
 use crate::fault::{LineCode, LineFault, TextName};
 use crate::hand::HandRecord;
+use crate::house::{House, Switch};
 use crate::job::Job;
 use crate::shape::ShapeRecord;
 use crate::win::{By, Flags, Rules, WinParts, WinRecord, Wind};
 use riichi_tiles::Decided;
 
-impl Decided for Rules {
+impl Decided for House {
+    ghost use Rattle.riichi_hand.specs.Houses.{houses_decide};
+
+    ghost decides = { houses_decide };
+}
+
+impl Decided for Switch {
     ghost decides = { λ a b. Prim.search rules };
+}
+
+impl Decided for Rules {
+    ghost use Rattle.riichi_hand.specs.Houses.{houses_decide};
+
+    ghost decides = { λ a b. Prim.search (rules, houses_decide) };
 }
 
 impl Decided for By {

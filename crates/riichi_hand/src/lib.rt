@@ -23,6 +23,7 @@
 mod decided;
 mod fault;
 mod hand;
+mod house;
 mod job;
 mod line;
 mod shape;
@@ -32,6 +33,7 @@ pub use fault::{
     LineCode, LineFault, TextName, fault_text, line_code_text, name_text, notation_code_text,
 };
 pub use hand::HandRecord;
+pub use house::{House, Switch};
 pub use job::Job;
 pub use line::{
     MOST_LINE, Place, Refusal, from_with, has_other_byte, is_other_byte, key_of, next_word,

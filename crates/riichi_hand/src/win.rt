@@ -2,10 +2,13 @@
 ghost use Rattle.std.specs.Prelude.{◌≡◌, ◌≤◌, ◌+◌, ℕ, slice_index, nat_eq, if◌then◌else◌};
 ghost use Rattle.riichi_tiles.specs.Melds.{tiles};
 ghost use Rattle.riichi_hand.specs.Faults.{first_fault};
+ghost use Rattle.riichi_hand.specs.Rules as rules_spec;
+ghost use Rattle.riichi_hand.specs.Rules.{house_of};
 ghost use Rattle.riichi_hand.specs.Win as spec;
 
 use crate::fault::{LineCode, LineFault};
 use crate::hand::is_thirteen;
+use crate::house::House;
 use riichi_tiles::{Counts, Kind, Melds, Reds, meld_tiles};
 use std::marker::Model;
 
@@ -16,6 +19,41 @@ pub enum Rules {
     One,
     /// Each red five is one han of dora, and four han with 30 fu, or three with 60, are a mangan.
     Two,
+    /// Each rule as a house has chosen it.
+    House(House),
+}
+
+impl Rules {
+    /// The rules one by one: those of the first and of the second profile are a choice among others.
+    pub fn house(self) -> House
+        ensures { result ≡ house_of self }
+    {
+        match self {
+            Rules::One => first_profile(),
+            Rules::Two => House {
+                red_fives: true,
+                raise: true,
+                ..first_profile()
+            },
+            Rules::House(house) => house,
+        }
+    }
+}
+
+fn first_profile() -> House
+    ensures { result ≡ rules_spec.first_profile }
+{
+    House {
+        red_fives: false,
+        raise: false,
+        counted_yakuman: true,
+        double_wind_pair: true,
+        kong_draw_fu: true,
+        open_simples: true,
+        open_pinfu_fu: true,
+        ippatsu: true,
+        ura: true,
+    }
 }
 
 /// How a hand is won.
@@ -131,8 +169,8 @@ impl Model for WinRecord {
 }
 
 impl WinRecord {
-    /// The record of the parts, or the first of their faults: H4 for a number out of range, then H8 to H15, and under the second
-    /// profile H16. Under the first profile no red five is kept.
+    /// The record of the parts, or the first of their faults: H4 for a number out of range, then H8 to H15, and with red fives
+    /// H16. Under rules without red fives none is kept.
     #[tactic(auto, unfolding(crate::specs::Win::win_of))]
     pub fn new(parts: WinParts) -> Result<WinRecord, LineFault>
         ensures { result ≡ spec.win_of parts }
@@ -140,15 +178,16 @@ impl WinRecord {
         if let Some(fault) = fault_of(&parts) {
             return Err(fault);
         }
-        match parts.rules {
-            Rules::One => Ok(WinRecord {
+        if parts.rules.house().red_fives {
+            Ok(WinRecord { parts })
+        } else {
+            Ok(WinRecord {
                 parts: without_reds(parts),
-            }),
-            Rules::Two => Ok(WinRecord { parts }),
+            })
         }
     }
 
-    /// All that the win was made of, without the red fives under the first profile.
+    /// All that the win was made of, without the red fives under rules that have none.
     pub fn parts(&self) -> WinParts
         ensures value { result ≡ self.now }
         ensures win { spec.IsWinRecord self.now }
@@ -255,7 +294,7 @@ impl WinRecord {
         self.parts.sticks
     }
 
-    /// The red fives among hand, melds and winning tile; none under the first profile.
+    /// The red fives among hand, melds and winning tile; none under rules that have none.
     pub fn reds(&self) -> Reds
         ensures { result ≡ self.now.reds }
     {
@@ -295,19 +334,10 @@ fn fault_of(parts: &WinParts) -> Option<LineFault>
     if has_wrong_first(parts) {
         return Some(LineFault::Line(LineCode::H15));
     }
-    if is_two(parts.rules) && has_too_many_reds(parts) {
+    if parts.rules.house().red_fives && has_too_many_reds(parts) {
         return Some(LineFault::Line(LineCode::H16));
     }
     None
-}
-
-fn is_two(rules: Rules) -> bool
-    ensures { result ≡ spec.is_two rules }
-{
-    match rules {
-        Rules::One => false,
-        Rules::Two => true,
-    }
 }
 
 /// Riichi over 2, or counters or sticks over 99.

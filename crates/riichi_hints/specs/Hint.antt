@@ -6,7 +6,7 @@ use Rattle.riichi_hand.specs.declared.fault.LineCode.TheVariants.{H4, H9}
 use Rattle.riichi_hand.specs.declared.fault.LineFault.{LineFault}
 use Rattle.riichi_hand.specs.declared.fault.LineFault.TheVariants.{Line}
 use Rattle.riichi_hand.specs.declared.job.Job.{Job}
-use Rattle.riichi_hand.specs.declared.win.Rules.{Rules}
+use Rattle.riichi_hand.specs.declared.win.Rules.TheVariants.{One, Two}
 use Rattle.riichi_hand.specs.Lines.{outcome_of, is_other_byte}
 use Rattle.riichi_hand.specs.Places.{fault_from}
 use Rattle.riichi_faults.specs.Refusal.{refusal_lines}
@@ -18,9 +18,9 @@ abbrev pub is_record : Result (Option Job) LineFault → Bool
 is_record (Ok (Some job)) = true
 is_record outcome = false
 
--- Under both profiles the line is a record, without a fault: it is answered.
+-- Under both profiles with a number the line is a record, without a fault: it is answered.
 abbrev pub IsAnswered : List ℕ → Type 0
-IsAnswered line = (rules : Rules) → is_record (outcome_of rules line) ≡ true
+IsAnswered line = (is_record (outcome_of One line) ≡ true) × (is_record (outcome_of Two line) ≡ true)
 
 -- ---- the tiles of a line
 

@@ -4,12 +4,15 @@ use Rattle.std.proofs.lemmas.Bool.{ltb-false, false_from_ne_true, true≢false}
 use Rattle.std.proofs.lemmas.Bool.Decides.{nat_tests}
 use Rattle.std.proofs.lemmas.List.Folds.{list_any_at}
 use Rattle.std.proofs.lemmas.List.FromFn.{get_or-range_with_len, length-range_with_len}
+use Rattle.std.specs.Prelude.{replicate, if◌then◌else◌}
 use Rattle.std.specs.List.{sum, list_any, range_with_len}
 use Rattle.riichi_tiles.specs.Melds.{tiles}
 use Rattle.riichi_hand.specs.declared.fault.LineCode.TheVariants.{H4, H8, H9}
 use Rattle.riichi_hand.specs.declared.fault.LineFault.{LineFault}
 use Rattle.riichi_hand.specs.declared.win.WinParts.{WinParts}
 use Rattle.riichi_hand.specs.Faults.{coded, first_fault}
+use Rattle.riichi_hand.specs.Rules.{house_of}
+use Rattle.riichi_score.specs.Dora.{counted_ura}
 use Rattle.riichi_hand.specs.Win.{IsWinRecord, win_faults, copies_in, has_five_in, has_wrong_size, is_out_of_range}
 
 -- none of the first three faults
@@ -33,6 +36,14 @@ few a dora ura h = grind (arith, nat_tests)
 -- at most ten indicators
 pub ten_indicators : (win : WinParts) → IsWinRecord win → sum win.dora + sum win.ura ≤ 10
 ten_indicators win h = few _ (sum win.dora) (sum win.ura) (is_clear win h).size
+
+no_more : (counts : Bool) (ura : List ℕ) → sum (if counts then ura else replicate 34 0) ≤ sum ura
+no_more true ura = omega arith
+no_more false ura = omega arith
+
+-- at most ten that count
+pub ten_counted : (win : WinParts) → IsWinRecord win → sum win.dora + sum (counted_ura win) ≤ 10
+ten_counted win h = omega (arith, ten_indicators win h, no_more (house_of win.rules).ura win.ura)
 
 thirteen : (held melds : ℕ) (b c : Bool) → (not (eqb (held + 3 * melds) 13) || b || c) ≡ false → melds ≤ 4
 thirteen held melds b c h = grind (arith, nat_tests)

@@ -3,6 +3,7 @@ use Rattle.std.specs.Prelude.{ℕ, ◌≡◌, ◌+◌, ◌*◌, ◌/◌, Bool, n
 use Rattle.std.specs.List.{sum_by}
 use Rattle.riichi_tiles.specs.Melds.{are_concealed}
 use Rattle.riichi_tiles.specs.declared.block.Block.{Block}
+use Rattle.riichi_hand.specs.Rules.{house_of}
 use Rattle.riichi_hand.specs.Win.{is_ron}
 use Rattle.riichi_hand.specs.declared.win.WinParts.{WinParts}
 use Rattle.riichi_split.specs.declared.reading.Reading.{Reading}
@@ -19,9 +20,13 @@ use Rattle.riichi_blocks.specs.Waits.{wait_fu}
 abbrev pub ron_fu : WinParts → ℕ
 ron_fu win = if are_concealed win.melds && is_ron win.by then 10 else 0
 
--- a self-draw, on the tile after a kong too, unless the hand has pinfu: 2
+-- a draw after a kong has no fu, where the rules say so
+abbrev pub is_bare_draw : WinParts → Bool
+is_bare_draw win = win.flags.rinshan && not (house_of win.rules).kong_draw_fu
+
+-- a self-draw, unless the hand has pinfu: 2
 abbrev pub self_draw_fu : Bool → WinParts → ℕ
-self_draw_fu pinfu win = if is_ron win.by || pinfu then 0 else 2
+self_draw_fu pinfu win = if is_ron win.by || pinfu || is_bare_draw win then 0 else 2
 
 -- a triplet of simples: open 2, concealed 4; of terminals or honours 4, 8
 abbrev pub triplet_fu : ℕ → Bool → ℕ
@@ -39,9 +44,9 @@ abbrev pub fu_sum : List HandBlock → Reading → Block → WinParts → ℕ
 fu_sum blocks reading done win =
     20 + ron_fu win + self_draw_fu (is_pinfu blocks reading win) win + sum_by (block_fu win) blocks + wait_fu win.winning done
 
--- an open hand won by ron whose sum is 20: 10 more
+-- an open hand won by ron whose sum is 20: 10 more, where the rules say so
 abbrev pub open_fu : WinParts → ℕ → ℕ
-open_fu win sum = if not (are_concealed win.melds) && is_ron win.by && (sum == 20) then 10 else 0
+open_fu win sum = if not (are_concealed win.melds) && is_ron win.by && (sum == 20) && (house_of win.rules).open_pinfu_fu then 10 else 0
 
 -- rounded up to the next ten
 abbrev pub up_to_ten : ℕ → ℕ

@@ -14,8 +14,8 @@ pub fn han(yaku: YakuSet, concealed: bool, dora: u8) -> u8
     yaku.han(concealed) + dora
 }
 
-/// The base points of a counted hand. Under the second profile four han 30 fu and three han 60 fu
-/// are raised to 2000.
+/// The base points of a counted hand. The rules say whether four han 30 fu and three han 60 fu are raised to 2000, and whether
+/// 13 han are a yakuman.
 pub fn base_points(rules: Rules, han: u8, fu: u8) -> u32
     ensures value { result ≡ spec.base_of rules han fu }
     ensures most { result ≤ 8000 }
@@ -26,7 +26,18 @@ pub fn base_points(rules: Rules, han: u8, fu: u8) -> u32
         6..=7 => 3000,
         8..=10 => 4000,
         11..=12 => 6000,
-        _ => 8000,
+        _ => most_base(rules),
+    }
+}
+
+/// The base points of 13 han and more.
+fn most_base(rules: Rules) -> u32
+    ensures { result ≡ spec.most_base rules }
+{
+    if rules.house().counted_yakuman {
+        8000
+    } else {
+        6000
     }
 }
 
@@ -57,12 +68,9 @@ pub fn product_of(han: u8, fu: u8) -> u32
     u32::from(fu) * factor
 }
 
-/// Whether the second profile raises so many han and fu to a mangan.
+/// Whether the rules raise so many han and fu to a mangan.
 pub fn is_raised(rules: Rules, han: u8, fu: u8) -> bool
     ensures { result ≡ spec.is_raised rules han fu }
 {
-    match rules {
-        Rules::One => false,
-        Rules::Two => (han == 4 && fu == 30) || (han == 3 && fu == 60),
-    }
+    rules.house().raise && ((han == 4 && fu == 30) || (han == 3 && fu == 60))
 }

@@ -6,10 +6,10 @@ ghost use Rattle.riichi_tiles.specs.Tiles.{IsCounts};
 ghost use Rattle.riichi_score.specs.Dora as spec;
 
 use riichi_hand::{Rules, WinRecord};
-use riichi_tiles::{Kind, KindSet, Reds, dora_of};
+use riichi_tiles::{Counts, Kind, KindSet, Reds, dora_of};
 
 /// The han of a hand's dora: for each tile of `dora` and `ura` one for each copy of the kind that it
-/// indicates, melds and the winning tile included, and under the second profile one for each red five.
+/// indicates, melds and the winning tile included, and one for each red five, where the rules count these.
 #[tactic(auto, unfolding(crate::specs::Dora::dora_of))]
 pub fn dora(win: &WinRecord) -> u8
     ensures value { result ≡ spec.dora_of win.now }
@@ -18,14 +18,26 @@ pub fn dora(win: &WinRecord) -> u8
     indicator_dora(win) + red_dora(win.rules(), &win.reds())
 }
 
-/// The han of the red fives, which earn some under the second profile alone.
+/// The han of the red fives, which are plain fives under rules that have none.
 pub fn red_dora(rules: Rules, reds: &Reds) -> u8
     ensures value { result ≡ spec.red_dora rules reds.now }
     ensures most { result ≤ 12 }
 {
-    match rules {
-        Rules::One => 0,
-        Rules::Two => reds.total(),
+    if rules.house().red_fives {
+        reds.total()
+    } else {
+        0
+    }
+}
+
+/// The indicators below, none under rules that don't count them.
+pub fn counted_ura(win: &WinRecord) -> Counts
+    ensures { result ≡ spec.counted_ura win.now }
+{
+    if win.rules().house().ura {
+        win.ura()
+    } else {
+        Counts::new()
     }
 }
 
@@ -35,7 +47,7 @@ fn indicator_dora(win: &WinRecord) -> u8
 {
     let _told = win.parts();
     let dora = win.dora();
-    let ura = win.ura();
+    let ura = counted_ura(win);
     let mut left = dora.total() + ura.total();
     if left == 0 {
         return 0;

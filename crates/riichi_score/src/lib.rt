@@ -25,7 +25,7 @@ mod worth;
 
 pub use answer::{WinAnswer, best, hand_of};
 pub use base::{base_points, han, is_raised, product_of};
-pub use indicators::{dora, red_dora};
+pub use indicators::{counted_ura, dora, red_dora};
 pub use payers::{Payment, gain};
 pub use points::{block_fu, fu, open_fu, ron_fu, self_draw_fu};
 pub use read::{BestReading, best_reading};

@@ -85,11 +85,18 @@ pub fn self_draw_fu(blocks: &Blocks, reading: &Reading, win: &WinRecord) -> u8
     ensures value { result ≡ spec.self_draw_fu (is_pinfu blocks.now reading.now win.now) win.now }
     ensures most { result ≤ 2 }
 {
-    if is_ron(win.by()) || is_pinfu(blocks, reading, win) {
+    if is_ron(win.by()) || is_pinfu(blocks, reading, win) || is_bare_draw(win) {
         0
     } else {
         2
     }
+}
+
+/// Whether the win is on the draw after a kong, under rules that give it no fu.
+fn is_bare_draw(win: &WinRecord) -> bool
+    ensures { result ≡ spec.is_bare_draw win.now }
+{
+    win.flags().rinshan && !win.rules().house().kong_draw_fu
 }
 
 fn blocks_fu(blocks: &Blocks, win: &WinRecord) -> u8
@@ -131,7 +138,7 @@ pub fn open_fu(concealed: bool, win: &WinRecord, sum: u32) -> u8
     ensures value { result ≡ spec.open_fu win.now sum }
     ensures most { result ≤ 10 }
 {
-    if !concealed && is_ron(win.by()) && sum == 20 {
+    if !concealed && is_ron(win.by()) && sum == 20 && win.rules().house().open_pinfu_fu {
         10
     } else {
         0

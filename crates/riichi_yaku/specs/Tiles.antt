@@ -1,14 +1,21 @@
 -- The yaku of every tile of the hand, by the count of each kind. They hold of a standard reading and of seven pairs. 18, seven pairs, is the reading itself. The number before each is its number in the table of yaku (`Table.antt`).
 use Rattle.std.specs.Prelude.{ℕ, Bool, not, ◌&&◌, ◌||◌, List}
 use Rattle.std.specs.List.{list_any, range_with_len}
+use Rattle.riichi_tiles.specs.Melds.{are_concealed}
+use Rattle.riichi_hand.specs.declared.win.WinParts.{WinParts}
+use Rattle.riichi_hand.specs.Rules.{house_of}
 use Rattle.riichi_split.specs.declared.reading.Reading.{Reading}
 use Rattle.riichi_blocks.specs.HandBlocks.{is_thirteen_orphans}
 use Rattle.riichi_blocks.specs.Held.{every, some}
 use Rattle.riichi_blocks.specs.Kinds.{is_honour, is_orphan, is_simple, is_of_suit}
 
+-- an open hand may have all simples, where the rules say so
+abbrev pub may_be_all_simples : WinParts → Bool
+may_be_all_simples parts = are_concealed parts.melds || (house_of parts.rules).open_simples
+
 -- 6: every tile is a simple
-abbrev pub is_all_simples : Reading → List ℕ → Bool
-is_all_simples reading tiles = not (is_thirteen_orphans reading) && every is_simple tiles
+abbrev pub is_all_simples : Reading → List ℕ → WinParts → Bool
+is_all_simples reading tiles parts = not (is_thirteen_orphans reading) && every is_simple tiles && may_be_all_simples parts
 
 -- 24: every tile is a terminal or honour
 abbrev pub is_all_terminals_and_honours : Reading → List ℕ → Bool

@@ -69,7 +69,7 @@ fn others_among(blocks: &Blocks, reading: &Reading, tiles: &AllTiles, win: &WinR
         .with(Yaku::FullyConcealed, is_fully_concealed(win))
         .with(Yaku::Pinfu, is_pinfu(blocks, reading, win))
         .with(Yaku::PureDoubleChow, is_pure_double_chow(blocks, win))
-        .with(Yaku::AllSimples, is_all_simples(reading, tiles))
+        .with(Yaku::AllSimples, is_all_simples(reading, tiles, win))
         .with(Yaku::WhiteDragon, is_white_dragon(blocks))
         .with(Yaku::GreenDragon, is_green_dragon(blocks))
         .with(Yaku::RedDragon, is_red_dragon(blocks))

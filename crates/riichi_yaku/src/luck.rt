@@ -19,7 +19,7 @@ pub(crate) fn is_double_riichi(win: &WinRecord) -> bool
 pub(crate) fn is_ippatsu(win: &WinRecord) -> bool
     ensures { result ≡ spec.is_ippatsu win.now }
 {
-    win.flags().ippatsu
+    win.flags().ippatsu && win.rules().house().ippatsu
 }
 
 pub(crate) fn is_fully_concealed(win: &WinRecord) -> bool

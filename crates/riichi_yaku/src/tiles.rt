@@ -3,12 +3,19 @@ ghost use Rattle.std.specs.Prelude.{◌≡◌, ◌<◌};
 ghost use Rattle.riichi_yaku.specs.Tiles as spec;
 
 use riichi_blocks::{AllTiles, is_thirteen_orphans};
+use riichi_hand::WinRecord;
 use riichi_split::Reading;
 
-pub(crate) fn is_all_simples(reading: &Reading, tiles: &AllTiles) -> bool
-    ensures { result ≡ spec.is_all_simples reading.now tiles.now }
+pub(crate) fn is_all_simples(reading: &Reading, tiles: &AllTiles, win: &WinRecord) -> bool
+    ensures { result ≡ spec.is_all_simples reading.now tiles.now win.now }
 {
-    !is_thirteen_orphans(reading) && tiles.are_simples()
+    !is_thirteen_orphans(reading) && tiles.are_simples() && may_be_all_simples(win)
+}
+
+fn may_be_all_simples(win: &WinRecord) -> bool
+    ensures { result ≡ spec.may_be_all_simples win.now }
+{
+    win.melds().concealed() || win.rules().house().open_simples
 }
 
 pub(crate) fn is_all_terminals_and_honours(reading: &Reading, tiles: &AllTiles) -> bool

@@ -1,6 +1,7 @@
 //! The job of a line whose texts are read.
 ghost use Rattle.std.specs.Prelude.{◌≡◌, None, Some, if◌then◌else◌};
-ghost use Rattle.riichi_hand.specs.Win.{is_two, no_reds, kept_under};
+ghost use Rattle.riichi_hand.specs.Rules.{house_of};
+ghost use Rattle.riichi_hand.specs.Win.{no_reds, kept_under};
 ghost use Rattle.riichi_hand.specs.Faults.{IsStep, first_fault};
 ghost use Rattle.riichi_hand.specs.Lines.{text_faults, job_faults};
 ghost use Rattle.riichi_hand.specs.Parts.{parts_in};
@@ -96,11 +97,12 @@ fn only_kind(counts: &Counts) -> Option<Kind>
 /// The red fives that the rules keep.
 fn reds_under(rules: Rules, words: &Words<'_>, fields: &Fields<'_>) -> Reds
     requires { Holds fields.now (parts_in words.now).entries }
-    ensures { result ≡ (if is_two rules then joined_reds (parts_in words.now) else no_reds) }
+    ensures { result ≡ (if (house_of rules).red_fives then joined_reds (parts_in words.now) else no_reds) }
 {
-    match rules {
-        Rules::One => Reds::none(),
-        Rules::Two => reds_of_line(words, fields),
+    if rules.house().red_fives {
+        reds_of_line(words, fields)
+    } else {
+        Reds::none()
     }
 }
 

@@ -1,0 +1,132 @@
+//! The rules that a table may choose.
+ghost use Rattle.std.specs.Prelude.{◌≡◌};
+ghost use Rattle.riichi_hand.specs.Rules as spec;
+
+/// The rules of a house, each on or off. docs/RULES.md has each with a hand that it changes.
+#[derive(Clone, Copy, Debug, PartialEq, Eq)]
+pub struct House {
+    /// A `0` is a red five, and one han of dora; off, it is a plain five.
+    pub red_fives: bool,
+    /// Four han with 30 fu and three han with 60 are raised to a mangan (kiriage mangan).
+    pub raise: bool,
+    /// 13 han and more pay a yakuman (kazoe yakuman); off, as much as 11 and 12 han.
+    pub counted_yakuman: bool,
+    /// A pair both of the seat wind and of the prevalent wind has 4 fu; off, 2.
+    pub double_wind_pair: bool,
+    /// The draw after a kong has the 2 fu of any self-draw.
+    pub kong_draw_fu: bool,
+    /// All simples holds for an open hand too (kuitan).
+    pub open_simples: bool,
+    /// An open hand won by ron whose fu are 20 counts 30; off, 20.
+    pub open_pinfu_fu: bool,
+    /// A win within one turn of riichi has the yaku ippatsu.
+    pub ippatsu: bool,
+    /// The indicators below count.
+    pub ura: bool,
+}
+
+/// One of these rules, by its name.
+#[derive(Clone, Copy, Debug, PartialEq, Eq)]
+pub enum Switch {
+    RedFives,
+    Raise,
+    CountedYakuman,
+    DoubleWindPair,
+    KongDrawFu,
+    OpenSimples,
+    OpenPinfuFu,
+    Ippatsu,
+    Ura,
+}
+
+impl Switch {
+    /// Every one, in the order of the table in docs/RULES.md.
+    pub const ALL: [Switch; 9] = [
+        Switch::RedFives,
+        Switch::Raise,
+        Switch::CountedYakuman,
+        Switch::DoubleWindPair,
+        Switch::KongDrawFu,
+        Switch::OpenSimples,
+        Switch::OpenPinfuFu,
+        Switch::Ippatsu,
+        Switch::Ura,
+    ];
+
+    /// Its word on a command line.
+    pub fn word(self) -> &'static str
+        ensures { result.now ≡ spec.switch_word self }
+    {
+        match self {
+            Switch::RedFives => "red-fives",
+            Switch::Raise => "raise",
+            Switch::CountedYakuman => "counted-yakuman",
+            Switch::DoubleWindPair => "double-wind-pair",
+            Switch::KongDrawFu => "kong-draw-fu",
+            Switch::OpenSimples => "open-simples",
+            Switch::OpenPinfuFu => "open-pinfu-fu",
+            Switch::Ippatsu => "ippatsu",
+            Switch::Ura => "ura",
+        }
+    }
+}
+
+impl House {
+    /// Whether a rule is on.
+    pub fn has(&self, switch: Switch) -> bool
+        ensures { result ≡ spec.is_on switch self.now }
+    {
+        match switch {
+            Switch::RedFives => self.red_fives,
+            Switch::Raise => self.raise,
+            Switch::CountedYakuman => self.counted_yakuman,
+            Switch::DoubleWindPair => self.double_wind_pair,
+            Switch::KongDrawFu => self.kong_draw_fu,
+            Switch::OpenSimples => self.open_simples,
+            Switch::OpenPinfuFu => self.open_pinfu_fu,
+            Switch::Ippatsu => self.ippatsu,
+            Switch::Ura => self.ura,
+        }
+    }
+
+    /// The same rules with one of them on or off.
+    pub fn with(self, switch: Switch, is_on: bool) -> House
+        ensures { result ≡ spec.with_switch switch is_on self }
+    {
+        match switch {
+            Switch::RedFives => House {
+                red_fives: is_on,
+                ..self
+            },
+            Switch::Raise => House {
+                raise: is_on,
+                ..self
+            },
+            Switch::CountedYakuman => House {
+                counted_yakuman: is_on,
+                ..self
+            },
+            Switch::DoubleWindPair => House {
+                double_wind_pair: is_on,
+                ..self
+            },
+            Switch::KongDrawFu => House {
+                kong_draw_fu: is_on,
+                ..self
+            },
+            Switch::OpenSimples => House {
+                open_simples: is_on,
+                ..self
+            },
+            Switch::OpenPinfuFu => House {
+                open_pinfu_fu: is_on,
+                ..self
+            },
+            Switch::Ippatsu => House {
+                ippatsu: is_on,
+                ..self
+            },
+            Switch::Ura => House { ura: is_on, ..self },
+        }
+    }
+}
