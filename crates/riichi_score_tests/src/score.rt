@@ -1,6 +1,6 @@
 use crate::facts::{holds, same, same_in};
 use arrayvec::ArrayString;
-use riichi_hand::{Job, Rules, read_line};
+use riichi_hand::{Job, Rules, Switch, read_line};
 use riichi_score::*;
 use riichi_split::Reading;
 use riichi_tiles::Reds;
@@ -142,6 +142,81 @@ fn several_readings(rt: HostRuntime) -> Result<(), Fail> {
             ),
         ],
     )
+}
+
+/// The first profile, with one rule turned.
+fn first_with(switch: Switch, is_on: bool) -> Rules {
+    Rules::House(Rules::One.house().with(switch, is_on))
+}
+
+#[test]
+fn the_rules_of_a_house(rt: HostRuntime) -> Result<(), Fail> {
+    let rows = [
+        (
+            first_with(Switch::RedFives, true),
+            "win 123406789m22s34p on=2p by=ron seat=S round=E",
+            "won 4 han 30 fu 7700 gain 7700 pinfu pure-straight dora 1",
+        ),
+        (
+            first_with(Switch::Raise, true),
+            "win 123456789m22s34p on=2p by=ron seat=S round=E dora=1p",
+            "won 4 han 30 fu 8000 gain 8000 pinfu pure-straight dora 1",
+        ),
+        (
+            first_with(Switch::CountedYakuman, false),
+            "win 223344m556677m8m on=8m by=ron seat=S round=E riichi=1 dora=1m",
+            "won 14 han 30 fu 24000 gain 24000 riichi pinfu all-simples twice-pure-double-chow full-flush dora 2",
+        ),
+        (
+            first_with(Switch::DoubleWindPair, false),
+            "win 234m567m999p67s11z on=5s by=ron seat=E round=E riichi=1",
+            "won 1 han 40 fu 2000 gain 2000 riichi",
+        ),
+        (
+            first_with(Switch::KongDrawFu, false),
+            "win 567m345p68s99s open=kan:2222m on=7s by=tsumo seat=S round=E flags=rinshan",
+            "won 1 han 30 fu 300/500 gain 1100 after-a-kong",
+        ),
+        (
+            first_with(Switch::OpenSimples, false),
+            "win 567m345p67s88s open=chi:234m on=5s by=tsumo seat=S round=E",
+            "no yaku",
+        ),
+        (
+            first_with(Switch::OpenPinfuFu, false),
+            "win 567m345p67s88s open=chi:234m on=5s by=ron seat=S round=E",
+            "won 1 han 20 fu 700 gain 700 all-simples",
+        ),
+        (
+            first_with(Switch::Ippatsu, false),
+            "win 234m567m345p67s99s on=5s by=ron seat=S round=E riichi=1 flags=ippatsu",
+            "won 2 han 30 fu 2000 gain 2000 riichi pinfu",
+        ),
+        (
+            first_with(Switch::Ura, false),
+            "win 234m567m345p67s99s on=5s by=ron seat=S round=E riichi=1 ura=1m",
+            "won 2 han 30 fu 2000 gain 2000 riichi pinfu",
+        ),
+    ];
+    for (rules, line, text) in rows {
+        answers(&rt, rules, &[(line, text)])?;
+    }
+    Ok(())
+}
+
+#[test]
+fn profiles_are_rules_of_a_house(rt: HostRuntime) -> Result<(), Fail> {
+    let second = Rules::One
+        .house()
+        .with(Switch::RedFives, true)
+        .with(Switch::Raise, true);
+    holds(&rt, second == Rules::Two.house());
+    for switch in Switch::ALL {
+        holds(&rt, !second.with(switch, false).has(switch));
+        holds(&rt, second.with(switch, true).has(switch));
+        holds(&rt, switch.word().len() > 2);
+    }
+    Ok(())
 }
 
 fn as_seven_pairs(job: &Job) -> Option<Score> {

@@ -1,5 +1,5 @@
-use Rattle.std.proofs.Common.{◌≡◌, ◌+◌, length, map, refl, sym, subst, arith, ◌∙◌}
-use Rattle.desk_core.specs.LaneState.{LaneState}
+use Rattle.std.proofs.Common.{◌≡◌, ◌+◌, false, length, map, refl, sym, subst, arith, ◌∙◌}
+use Rattle.desk_core.specs.LaneState.{LaneState, AcceptsJob}
 use Rattle.std.specs.Prelude.{◌≢◌}
 use Rattle.std.proofs.lemmas.Bool.{false≢true}
 use Rattle.std.proofs.lemmas.List.{length-map, map-append}
@@ -34,4 +34,26 @@ returns-clause-step c =
       | in-Err w ↦
           rw (← c.self.view_is, w.result-is, w.in-Err.ensures.items)
           (IsStep-from_own lane _ _ _ refl refl (submit_without_memory lane c.args.job c.if-self.false room))
+    ]
+
+-- the table has not closed, and may submit more
+accepts : (lane now : LaneState) → lane ≡ now → lane.closed ≡ false → now.next + length now.window ≢ 1000000 → AcceptsJob now
+accepts lane now is not_closed room = (subst (λ (l : LaneState). l.closed ≡ false) is not_closed, room)
+
+pub returns-clause-fault : goal.returns-clause-fault
+returns-clause-fault c =
+    let room : c.args.self.now.next + length c.args.self.now.window ≢ 1000000 = λ full. false≢true (sym c.if-full.false ∙ c.full.ensures.value.1 full) in
+    let free = accepts (the_view c.self.inside) c.args.self.now c.self.view_is c.if-self.false room in
+    elim c.match-push_back.branch [
+      | in-Ok w ↦ rw w.result-is tt
+      | in-Err w ↦ rw w.result-is free
+    ]
+
+pub returns-clause-accepts : goal.returns-clause-accepts
+returns-clause-accepts c =
+    let room : c.args.self.now.next + length c.args.self.now.window ≢ 1000000 = λ full. false≢true (sym c.if-full.false ∙ c.full.ensures.value.1 full) in
+    let free = accepts (the_view c.self.inside) c.args.self.now c.self.view_is c.if-self.false room in
+    elim c.match-push_back.branch [
+      | in-Ok w ↦ rw w.result-is free
+      | in-Err w ↦ rw w.result-is tt
     ]
