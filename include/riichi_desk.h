@@ -30,9 +30,24 @@ extern "C" {
 #define RIICHI_RULES_ONE 1
 #define RIICHI_RULES_TWO 2
 
+/* The rules of a house: RIICHI_HOUSE and each of these that is on, joined by |. docs/RULES.md has each with a hand. Those of the
+ * first profile are RIICHI_HOUSE_ONE, so RIICHI_HOUSE_ONE | RIICHI_RED_FIVES is the first profile with red fives, and
+ * RIICHI_HOUSE_ONE & ~RIICHI_URA the first without the indicators below. */
+#define RIICHI_HOUSE            0x10000
+#define RIICHI_RED_FIVES        0x001
+#define RIICHI_RAISE            0x002
+#define RIICHI_COUNTED_YAKUMAN  0x004
+#define RIICHI_DOUBLE_WIND_PAIR 0x008
+#define RIICHI_KONG_DRAW_FU     0x010
+#define RIICHI_OPEN_SIMPLES     0x020
+#define RIICHI_OPEN_PINFU_FU    0x040
+#define RIICHI_IPPATSU          0x080
+#define RIICHI_URA              0x100
+#define RIICHI_HOUSE_ONE        0x101FC
+
 /* Answers one line: a win, a hand's waits or a shape, as docs/NOTATION.md says them.
  *
- *   rules     RIICHI_RULES_ONE or RIICHI_RULES_TWO. Any other number is answered by `refused rules`.
+ *   rules     RIICHI_RULES_ONE, RIICHI_RULES_TWO or rules of a house. Any other number is answered by `refused rules`.
  *   line      The bytes of the line, without its line feed and a carriage return before that. Any bytes are answered, those
  *             of no hand by `refused ..`.
  *   room      Where the answer goes, without a line feed and without a final zero.
@@ -64,7 +79,7 @@ size_t riichi_explain(uint32_t rules, const uint8_t *line, size_t line_len, uint
 /* Answers the lines of a text, from its start, as many as have room: each answer with a line feed behind it, and nothing for a
  * comment or a blank line. So what stands in the room is what the command `line` writes of these lines.
  *
- *   rules     RIICHI_RULES_ONE or RIICHI_RULES_TWO. Under any other number no line is answered.
+ *   rules     RIICHI_RULES_ONE, RIICHI_RULES_TWO or rules of a house. Under any other number no line is answered.
  *   text      Lines, each ended by a line feed, the last maybe by the end of the text; one carriage return before that is no
  *             part of the line. A caller that reads in pieces cuts them behind a line feed. Unlike `line`, which takes the
  *             profile from a first line `rules 2`, the number alone says the profile here: such a line is refused.
@@ -100,7 +115,7 @@ size_t riichi_explain_lines(
  * line. Both arrays lie as Arrow's large_utf8 and large_binary do (polars, pyarrow, DuckDB, pandas' Arrow strings): row i of n has the
  * bytes from offsets[i] to offsets[i + 1], so there are n + 1 offsets.
  *
- *   rules     RIICHI_RULES_ONE or RIICHI_RULES_TWO. Under any other number each row is answered by `refused rules`.
+ *   rules     RIICHI_RULES_ONE, RIICHI_RULES_TWO or rules of a house. Under any other number each row is answered by `refused rules`.
  *   bytes     The texts, one behind the other. A row is a line without its line feed: with one in it, or a carriage return, it is refused.
  *   offsets   n + 1 numbers; `offsets_len` 0 or 1 is no row.
  *   room      Where the answers go, one behind the other.
@@ -240,7 +255,7 @@ struct riichi_score {
 
 /* What wins are worth: of as many as both arrays have rows, from the first on; it returns how many, and leaves what lies behind them.
  *
- *   rules     RIICHI_RULES_ONE or RIICHI_RULES_TWO. Under any other number no row is answered.
+ *   rules     RIICHI_RULES_ONE, RIICHI_RULES_TWO or rules of a house. Under any other number no row is answered.
  *   wins      The wins. A row is refused for the same faults as a line (docs/NOTATION.md, H8 to H16), and with 4 where a number is
  *             in no table: a count above four, a byte that is no meld, a kind above 33, riichi above 2, counters above 99, five
  *             equal indicators, a last byte that isn't 0. The others are answered all the same.

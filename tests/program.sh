@@ -92,7 +92,8 @@ for command in '' win waits shape line explain replay score; do
 done
 told 'the help of riichi_desk help-yaku has the exit statuses' 4 "$("$program" help-yaku --help | sed -n '/^Exit status:$/,$p' | grep -cE '^  [0-4]  ')"
 told 'the help of riichi_desk help-codes has the exit statuses' 4 "$("$program" help-codes --help | sed -n '/^Exit status:$/,$p' | grep -cE '^  [0-4]  ')"
-told 'the help names the commands' 9 "$("$program" --help | grep -cE '^  (win|waits|shape|line|explain|replay|score|help-codes|help-yaku) ')"
+told 'the help of riichi_desk help-rules has the exit statuses' 4 "$("$program" help-rules --help | sed -n '/^Exit status:$/,$p' | grep -cE '^  [0-4]  ')"
+told 'the help names the commands' 10 "$("$program" --help | grep -cE '^  (win|waits|shape|line|explain|replay|score|help-codes|help-rules|help-yaku) ')"
 
 for words in --help help-codes; do
   told "$words and a full disk" "riichi_desk: fault F2
@@ -165,8 +166,10 @@ told 'explain --rules 2' 'won 4 han 30 fu 8000 gain 8000 pinfu pure-straight dor
 { echo 'rules 1'; cat "$room/input"; } > "$room/own"
 cp "$room/own" "$room/input"
 row 0 'won 3 han 30 fu 3900 gain 3900 pinfu pure-straight' '' line --rules 2
-row 2 '' "invalid value '3' for '--rules <N>'" line --rules 3
-row 2 '' "invalid value '0' for '--rules <N>'" line --rules 0
+row 2 '' 'error: --rules has no rule `3`; 1 or 2 stands first' line --rules 3
+row 2 '' 'error: --rules has no rule `x`' line --rules 2x
+row 2 '' '`red-fives` is near' explain --rules 1+red-five+ura
+row 2 '' 'error: --rules has no rule ``' score --rules 2-ippatsu- "$room/input"
 # a line that looks like a profile line and is none is told on standard error, with the profile of the other lines
 ready=$'waits 123456789m'
 printf '\xef\xbb\xbfrules 2\nwaits 1112345678999m\n' > "$room/input"
@@ -255,6 +258,9 @@ for form in 'line' 'line --json' 'explain'; do
 done
 
 # the yaku, as docs/RULES.md has them
+# the rules that a table may choose, as docs/RULES.md has them: word, first profile, second profile
+told 'help-rules' "$(sed -nE 's/^\| `([a-z-]+)`[^|]* \| (on|off) \| (on|off) \| .*/\1 \2 \3/p' docs/RULES.md)" \
+  "$("$program" help-rules | sed -nE 's/^  ([a-z-]+) +(on|off) +(on|off)  .*/\1 \2 \3/p')"
 told 'help-yaku' "$(awk -F ' \\| ' '{ gsub(/`/, "") } /^\| (No|[0-9]+) \| [a-zW]/ {
     sub(/^\| /, "", $1); sub(/ \|$/, "", $NF); gsub(/[^ -~]/, "", $3); sub(/[ ,]+$/, "", $3)
     if (NF == 6) printf "%2s|%s|%s|%s|%s|%s\n", $1, $2, $3, $4, $5, $6; else if (NF == 4) printf "%2s|%s|%s|%s\n", $1, $2, $3, $4 }' docs/RULES.md)" \

@@ -19,8 +19,7 @@ pub fn rules_named<'a>(text: &'a str) -> Result<Rules, &'a str> {
 }
 
 /// The rules with these changes, each of which takes a byte at least.
-fn changed<'a>(house: House, changes: &'a str) -> Result<House, &'a str> {
-    let mut house = house;
+fn changed<'a>(mut house: House, changes: &'a str) -> Result<House, &'a str> {
     let mut rest = changes;
     for turn in 0..changes.len() {
         if rest.is_empty() {
@@ -54,13 +53,10 @@ fn switch_before<'a>(text: &'a str) -> Option<(Switch, &'a str)> {
     None
 }
 
-/// Of so many letters at most a word may be changed that is near to another.
-const NEAR: usize = 4;
-
-/// The rule whose word is nearest to this one, where one is near.
+/// The rule whose word is nearest to this one, where one is near: less than a letter in three is another.
 pub fn nearest_rule(alloc: Global, word: &str) -> Result<Option<Switch>, AllocError> {
     let mut nearest = None;
-    let mut least = NEAR;
+    let mut least = word.len() / 3 + 1;
     for switch in Switch::ALL {
         let changes = levenshtein(alloc, word, switch.word())?;
         if changes < least {
