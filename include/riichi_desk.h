@@ -36,14 +36,16 @@ extern "C" {
 #define RIICHI_HOUSE            0x10000
 #define RIICHI_RED_FIVES        0x001
 #define RIICHI_RAISE            0x002
-#define RIICHI_COUNTED_YAKUMAN  0x004
-#define RIICHI_DOUBLE_WIND_PAIR 0x008
-#define RIICHI_KONG_DRAW_FU     0x010
-#define RIICHI_OPEN_SIMPLES     0x020
-#define RIICHI_OPEN_PINFU_FU    0x040
-#define RIICHI_IPPATSU          0x080
-#define RIICHI_URA              0x100
-#define RIICHI_HOUSE_ONE        0x101FC
+#define RIICHI_ADD_YAKUMAN      0x004
+#define RIICHI_DOUBLE_YAKUMAN   0x008
+#define RIICHI_COUNTED_YAKUMAN  0x010
+#define RIICHI_DOUBLE_WIND_PAIR 0x020
+#define RIICHI_KONG_DRAW_FU     0x040
+#define RIICHI_OPEN_SIMPLES     0x080
+#define RIICHI_OPEN_PINFU_FU    0x100
+#define RIICHI_IPPATSU          0x200
+#define RIICHI_URA              0x400
+#define RIICHI_HOUSE_ONE        0x107f0
 
 /* Answers one line: a win, a hand's waits or a shape, as docs/NOTATION.md says them.
  *

@@ -1,5 +1,5 @@
 -- The text of each answer's tree is made of the pieces that are written.
-use Rattle.std.proofs.Common.{◌≡◌, ℕ, Bool, true, false, cond, List, [], ◌∷◌, ◌++◌, refl, ap, ◌∙◌, append_assoc, decimal}
+use Rattle.std.proofs.Common.{◌≡◌, ℕ, Bool, true, false, cond, List, [], ◌∷◌, ◌++◌, refl, ap, ◌∙◌, append_assoc, decimal, nat_le}
 use Rattle.std.specs.Prelude.{codes, ◌==◌}
 use Rattle.std.specs.Fmt.{signed_decimal}
 use Rattle.json.specs.Json.{Json, string}
@@ -42,7 +42,7 @@ yaku_written yaku = yaku_with (table.number yaku) (table.word yaku) (japanese ya
 
 limit_written : (base : ℕ) → written (limit_tree base) ≡ limit_text base
 unfolding written escape_byte limit_tree
-limit_written base = by_tests (base == 2000) (base == 3000) (base == 4000) (base == 6000) (base == 8000)
+limit_written base = by_tests (base == 2000) (base == 3000) (base == 4000) (base == 6000) (nat_le 8000 base)
   where
     by_tests : (a b c d e : Bool) →
         written (cond a (string (codes "mangan")) (cond b (string (codes "haneman")) (cond c (string (codes "baiman")) (cond d (string (codes "sanbaiman")) (cond e (string (codes "yakuman")) Json.null)))))

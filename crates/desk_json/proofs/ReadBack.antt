@@ -1,5 +1,5 @@
 -- A reader gets the tree of an answer back from its text.
-use Rattle.std.proofs.Common.{◌≡◌, ℕ, ◌≤◌, Bool, false, cond, List, [], ◌∷◌, Some, sym, ap, ◌∙◌, arith}
+use Rattle.std.proofs.Common.{◌≡◌, ℕ, ◌≤◌, Bool, false, cond, List, [], ◌∷◌, Some, sym, ap, ◌∙◌, arith, nat_le}
 use Rattle.std.specs.Prelude.{codes, ◌==◌}
 use Rattle.std.proofs.lemmas.Option.{same_Some}
 use Rattle.json.specs.Json.{Json, null, string, document}
@@ -37,7 +37,7 @@ yaku_numbers yaku = (IsNumber-decimal (table.number yaku) (omega (arith, below_4
 
 limit_numbers : (base : ℕ) → HasNumbers (limit_tree base)
 unfolding limit_tree
-limit_numbers base = by_tests (base == 2000) (base == 3000) (base == 4000) (base == 6000) (base == 8000)
+limit_numbers base = by_tests (base == 2000) (base == 3000) (base == 4000) (base == 6000) (nat_le 8000 base)
   where
     by_tests : (a b c d e : Bool) →
         HasNumbers (cond a (string (codes "mangan")) (cond b (string (codes "haneman")) (cond c (string (codes "baiman")) (cond d (string (codes "sanbaiman")) (cond e (string (codes "yakuman")) null)))))
@@ -103,7 +103,7 @@ yaku_shallow yaku = omega arith
 
 limit_shallow : (base : ℕ) → depth (limit_tree base) ≤ 0
 unfolding limit_tree
-limit_shallow base = by_tests (base == 2000) (base == 3000) (base == 4000) (base == 6000) (base == 8000)
+limit_shallow base = by_tests (base == 2000) (base == 3000) (base == 4000) (base == 6000) (nat_le 8000 base)
   where
     by_tests : (a b c d e : Bool) →
         depth (cond a (string (codes "mangan")) (cond b (string (codes "haneman")) (cond c (string (codes "baiman")) (cond d (string (codes "sanbaiman")) (cond e (string (codes "yakuman")) null))))) ≤ 0

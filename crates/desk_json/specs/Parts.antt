@@ -1,5 +1,5 @@
 -- The pieces that the texts of the answers are written from.
-use Rattle.std.specs.Prelude.{ℕ, ◌==◌, Bool, List, [], ◌++◌, if◌then◌else◌, codes, decimal, map}
+use Rattle.std.specs.Prelude.{ℕ, ◌==◌, Bool, List, [], ◌++◌, if◌then◌else◌, codes, decimal, map, nat_le}
 use Rattle.std.specs.Fmt.{signed_decimal}
 use Rattle.riichi_hand.specs.FaultTexts.{line_code_text, notation_code_text, name_text}
 use Rattle.riichi_hand.specs.declared.fault.LineFault.{LineFault}
@@ -49,7 +49,7 @@ limit_text base =
     else (if base == 3000 then codes "\"haneman\""
     else (if base == 4000 then codes "\"baiman\""
     else (if base == 6000 then codes "\"sanbaiman\""
-    else (if base == 8000 then codes "\"yakuman\""
+    else (if nat_le 8000 base then codes "\"yakuman\""
     else codes "null"))))
 
 abbrev pub truth_text : Bool → List ℕ

@@ -1,5 +1,5 @@
 -- The answers as values of JSON.
-use Rattle.std.specs.Prelude.{ℕ, Bool, List, [], ◌∷◌, ◌==◌, if◌then◌else◌, codes, decimal, filter}
+use Rattle.std.specs.Prelude.{ℕ, Bool, List, [], ◌∷◌, ◌==◌, if◌then◌else◌, codes, decimal, filter, nat_le}
 use Rattle.std.specs.Fmt.{signed_decimal}
 use Rattle.json.specs.Json.{Json, null, boolean, number, string, array, object, Items, no_items, item, Members, no_members, member}
 use Rattle.riichi_tiles.specs.HeldKinds.{is_held}
@@ -74,7 +74,7 @@ limit_tree base =
     else (if base == 3000 then string (codes "haneman")
     else (if base == 4000 then string (codes "baiman")
     else (if base == 6000 then string (codes "sanbaiman")
-    else (if base == 8000 then string (codes "yakuman")
+    else (if nat_le 8000 base then string (codes "yakuman")
     else null))))
 
 -- what each payer pays

@@ -100,7 +100,7 @@ fn limit_text(base: u32) -> &'static str
         3000 => "\"haneman\"",
         4000 => "\"baiman\"",
         6000 => "\"sanbaiman\"",
-        8000 => "\"yakuman\"",
+        8000.. => "\"yakuman\"",
         _ => "null",
     }
 }

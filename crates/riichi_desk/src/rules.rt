@@ -10,6 +10,9 @@ Rules
   Word              1    2    On means
   red-fives         off  on   a 0 is a red five (aka dora), and one han; off, it is a plain five
   raise             off  on   four han 30 fu and three han 60 fu are a mangan (kiriage mangan)
+  add-yakuman       off  off  several yakuman pay a limit each; off, one limit
+  double-yakuman    off  off  four concealed pungs completed in the pair, thirteen orphans on thirteen waits, nine gates on
+                              nine waits and big four winds pay two limits
   counted-yakuman   on   on   13 han and more pay a yakuman (kazoe yakuman); off, as 11 and 12
   double-wind-pair  on   on   a pair of both the seat wind and the prevalent wind has 4 fu; off, 2
   kong-draw-fu      on   on   the draw after a kong has the 2 fu of any self-draw

@@ -14,13 +14,15 @@ abbrev pub house_numbered : ℕ → House
 house_numbered number = record {
   red_fives = has_bit 1 number;
   raise = has_bit 2 number;
-  counted_yakuman = has_bit 4 number;
-  double_wind_pair = has_bit 8 number;
-  kong_draw_fu = has_bit 16 number;
-  open_simples = has_bit 32 number;
-  open_pinfu_fu = has_bit 64 number;
-  ippatsu = has_bit 128 number;
-  ura = has_bit 256 number;
+  add_yakuman = has_bit 4 number;
+  double_yakuman = has_bit 8 number;
+  counted_yakuman = has_bit 16 number;
+  double_wind_pair = has_bit 32 number;
+  kong_draw_fu = has_bit 64 number;
+  open_simples = has_bit 128 number;
+  open_pinfu_fu = has_bit 256 number;
+  ippatsu = has_bit 512 number;
+  ura = has_bit 1024 number;
 }
 
 -- the rules of this number: 1 and 2 are the profiles, 65536 and more the rules of a house
@@ -28,7 +30,7 @@ abbrev pub rules_numbered : ℕ → Option Rules
 rules_numbered number =
     if number == 1 then Some rules.One
     else if number == 2 then Some rules.Two
-    else if nat_le 65536 number && nat_lt number 66048 then Some (rules.House (house_numbered number)) else None
+    else if nat_le 65536 number && nat_lt number 67584 then Some (rules.House (house_numbered number)) else None
 
 -- no bytes for a line that is no record
 abbrev pub reply_under : Option Rules → List ℕ → List ℕ

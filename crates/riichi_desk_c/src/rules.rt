@@ -11,7 +11,7 @@ pub(crate) fn rules_numbered(number: u32) -> Option<Rules>
     match number {
         1 => Some(Rules::One),
         2 => Some(Rules::Two),
-        0x1_0000..=0x1_01FF => Some(Rules::House(house_numbered(number))),
+        0x1_0000..=0x1_07FF => Some(Rules::House(house_numbered(number))),
         _ => None,
     }
 }
@@ -22,13 +22,15 @@ fn house_numbered(number: u32) -> House
     House {
         red_fives: has_bit(1, number),
         raise: has_bit(2, number),
-        counted_yakuman: has_bit(4, number),
-        double_wind_pair: has_bit(8, number),
-        kong_draw_fu: has_bit(16, number),
-        open_simples: has_bit(32, number),
-        open_pinfu_fu: has_bit(64, number),
-        ippatsu: has_bit(128, number),
-        ura: has_bit(256, number),
+        add_yakuman: has_bit(4, number),
+        double_yakuman: has_bit(8, number),
+        counted_yakuman: has_bit(16, number),
+        double_wind_pair: has_bit(32, number),
+        kong_draw_fu: has_bit(64, number),
+        open_simples: has_bit(128, number),
+        open_pinfu_fu: has_bit(256, number),
+        ippatsu: has_bit(512, number),
+        ura: has_bit(1024, number),
     }
 }
 

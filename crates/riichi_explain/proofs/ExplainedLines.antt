@@ -1,6 +1,6 @@
 -- The lines of an explanation begin with two spaces, and each ends with its line feed.
 use Rattle.std.proofs.Common.{◌≡◌, ℕ, ◌+◌, ◌-◌, ◌*◌, List, [], ◌∷◌, ◌++◌, Bool, true, false, cond, nat_eq, nat_lt, nat_le, length, map, take, Option, Some, None, Result, Ok, Err, refl, ap, ◌∙◌, arith}
-use Rattle.std.specs.Prelude.{codes, decimal, slice_index}
+use Rattle.std.specs.Prelude.{◌==◌, codes, decimal, slice_index}
 use Rattle.std.specs.List.{flat_map}
 use Rattle.riichi_tiles.specs.declared.block.Block.{Block}
 use Rattle.riichi_tiles.specs.declared.block.Block.TheVariants as block
@@ -18,7 +18,7 @@ use Rattle.riichi_yaku.specs.YakuSets.{is_yakuman}
 use Rattle.riichi_score.specs.Scores.{hand_of}
 use Rattle.riichi_score.specs.declared.score.Score.{Score}
 use Rattle.riichi_explain.specs.declared.base.BaseRule.{BaseRule}
-use Rattle.riichi_explain.specs.declared.base.BaseRule.TheVariants.{Product, Capped, Raised, Limited}
+use Rattle.riichi_explain.specs.declared.base.BaseRule.TheVariants.{Product, Capped, Raised, Limited, OfYakuman}
 use Rattle.riichi_explain.specs.declared.base.Limit.{Limit}
 use Rattle.riichi_explain.specs.declared.base.Limit.TheVariants as limit
 use Rattle.riichi_explain.specs.declared.dora.DoraPart.{DoraPart}
@@ -57,7 +57,7 @@ use Rattle.riichi_text.specs.Lists.{joined}
 use Rattle.riichi_text.specs.Tiles.{kind_text, letter_of, digit_of, run_text, two_text, three_text, four_text, block_text, meld_text}
 use Rattle.riichi_explain.proofs.RefusalLines.{refusal_text-lines}
 use Rattle.riichi_text.proofs.Letters.{letter_high}
-use Rattle.riichi_explain.proofs.PlainTexts.{plain, after, after3, after4, after5, byte-plain, flat_map-plain, joined-plain, decimal-plain, kind_text-plain, tiles_text-plain, named-plain, are_indented, pass, lines-append, flat_map-lines}
+use Rattle.riichi_explain.proofs.PlainTexts.{plain, after, after3, after4, after5, byte-plain, flat_map-plain, joined-plain, decimal-plain, kind_text-plain, tiles_text-plain, named-plain, are_indented, either-plain, pass, lines-append, flat_map-lines}
 
 -- ---- tiles
 
@@ -256,12 +256,20 @@ han_words-plain : (han : ℕ) → plain (text.han_words han) ≡ true
 unfolding text.han_words
 han_words-plain han = elim (nat_eq han 0) as (λ test. plain (cond test [] (decimal han ++ codes " han, ")) ≡ true) [ true ↦ refl | false ↦ after (decimal han) (codes " han, ") (decimal-plain han) refl ]
 
+limits_text-plain : (limits : ℕ) → plain (text.limits_text limits) ≡ true
+unfolding text.limits_text
+limits_text-plain limits =
+    let often = after (decimal limits) (codes " x ") (decimal-plain limits) refl in
+    after3 (cond (limits == 1) [] (decimal limits ++ codes " x ")) (codes "yakuman ") (decimal (8000 * limits))
+    (either-plain (limits == 1) [] (decimal limits ++ codes " x ") refl often) refl (decimal-plain (8000 * limits))
+
 base_text-plain : (rule : BaseRule) (han fu : ℕ) → plain (text.base_text rule han fu) ≡ true
 unfolding text.base_text
 base_text-plain (Product product) han fu = product_text-plain han fu product
 base_text-plain (Capped product) han fu = after (text.product_text han fu product) (codes ", mangan 2000") (product_text-plain han fu product) refl
 base_text-plain (Raised product) han fu = after (text.product_text han fu product) (codes ", raised to mangan 2000 (kiriage)") (product_text-plain han fu product) refl
 base_text-plain (Limited which) han fu = after (text.han_words han) (text.limit_text which) (han_words-plain han) (limit_text-plain which)
+base_text-plain (OfYakuman limits) han fu = limits_text-plain limits
 
 base_line-lines : (rule : BaseRule) (han fu : ℕ) → are_indented (text.base_line rule han fu) ≡ true
 unfolding text.base_line

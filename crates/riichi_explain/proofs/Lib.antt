@@ -1,5 +1,4 @@
 pub mod FuLemmas
-pub mod MissedLemmas
 pub mod HanLemmas
 pub mod DoraLemmas
 pub mod WinLemmas

@@ -15,6 +15,8 @@ use Rattle.riichi_yaku.specs.YakuSets.{han_of, is_yakuman}
 use Rattle.riichi_score.specs.Base.{is_raised, product_of, base_of}
 use Rattle.riichi_score.specs.Dora.{dora_of}
 use Rattle.riichi_score.specs.Fu.{fu_of}
+use Rattle.riichi_score.specs.Limits.{limits_of}
+use Rattle.riichi_score.proofs.LimitLemmas.{few_limits}
 use Rattle.riichi_score.specs.Payment.{payment_of, paid_for, gain_of}
 use Rattle.riichi_score.specs.Scores.{score_of, counted, yakuman_score, IsReadingOf}
 use Rattle.riichi_score.specs.declared.score.Score.{Score}
@@ -83,12 +85,12 @@ pays base Tsumo false counters sticks = omega arith
 -- a score of a counted hand, or of a yakuman
 pub record IsCounted (r : Reading) (w : WinParts) (s : Score) : Type 0 where
   pub counted : is_yakuman s.yaku ≡ false → s ≡ counted s.yaku (fu_of r w) (dora_of w) w
-  pub yakuman : is_yakuman s.yaku ≡ true → s ≡ yakuman_score s.yaku w
+  pub yakuman : is_yakuman s.yaku ≡ true → s ≡ yakuman_score (limits_of r w s.yaku) s.yaku w
 
-counted-score : (r : Reading) (w : WinParts) (yaku : ℕ) (none yakuman : Bool) (s : Score) → none ≡ eqb yaku 0 → yakuman ≡ is_yakuman yaku → cond none None (cond yakuman (Some (yakuman_score yaku w)) (Some (counted yaku (fu_of r w) (dora_of w) w))) ≡ Some s → IsCounted r w s
+counted-score : (r : Reading) (w : WinParts) (yaku : ℕ) (none yakuman : Bool) (s : Score) → none ≡ eqb yaku 0 → yakuman ≡ is_yakuman yaku → cond none None (cond yakuman (Some (yakuman_score (limits_of r w yaku) yaku w)) (Some (counted yaku (fu_of r w) (dora_of w) w))) ≡ Some s → IsCounted r w s
 counted-score r w yaku true yakuman s a b e = absurd (cc)
 counted-score r w yaku false true s a b e =
-    let same : yakuman_score yaku w ≡ s = cc in
+    let same : yakuman_score (limits_of r w yaku) yaku w ≡ s = cc in
     subst (λ (x : Score). IsCounted r w x) same (record { counted = λ h. absurd (cc); yakuman = λ h. refl })
 counted-score r w yaku false false s a b e =
     let same : counted yaku (fu_of r w) (dora_of w) w ≡ s = cc in
@@ -115,18 +117,18 @@ fu-of : (r : Reading) (w : WinParts) (s : Score) (yakuman : Bool) → yakuman �
 fu-of r w s true e h = no-rows r ∙ sym (ap (λ (x : Score). x.fu) (h.yakuman (sym e)))
 fu-of r w s false e h = rows_give_fu r w ∙ sym (ap (λ (x : Score). x.fu) (h.counted (sym e)))
 
-base-by : (r : Reading) (w : WinParts) (s : Score) (yakuman : Bool) → yakuman ≡ is_yakuman s.yaku → IsCounted r w s → points_by (base_rule yakuman w.rules s.han s.fu) ≡ s.base
+base-by : (r : Reading) (w : WinParts) (s : Score) (yakuman : Bool) → yakuman ≡ is_yakuman s.yaku → IsCounted r w s → points_by (base_rule yakuman (limits_of r w s.yaku) w.rules s.han s.fu) ≡ s.base
 base-by r w s true e h = sym (ap (λ (x : Score). x.base) (h.yakuman (sym e)))
 base-by r w s false e h =
     counted-points w.rules s.han s.fu ∙ subst (λ (x : Score). base_of w.rules x.han x.fu ≡ x.base) (sym (h.counted (sym e))) refl
 
-base-small : (r : Reading) (w : WinParts) (s : Score) (yakuman : Bool) → yakuman ≡ is_yakuman s.yaku → IsCounted r w s → s.base ≤ 8000
-base-small r w s true e h = omega (arith, ap (λ (x : Score). x.base) (h.yakuman (sym e)))
+base-small : (r : Reading) (w : WinParts) (s : Score) (yakuman : Bool) → yakuman ≡ is_yakuman s.yaku → IsCounted r w s → s.base ≤ 656000
+base-small r w s true e h = omega (arith, ap (λ (x : Score). x.base) (h.yakuman (sym e)), few_limits r w s.yaku)
 base-small r w s false e h =
     let same : s.base ≡ base_of w.rules s.han s.fu = subst (λ (x : Score). x.base ≡ base_of w.rules x.han x.fu) (sym (h.counted (sym e))) refl in
     omega (arith, same, base-most w.rules s.han s.fu)
 
-pub score-base : (r : Reading) (w : WinParts) (s : Score) → score_of r w ≡ Some s → s.base ≤ 8000
+pub score-base : (r : Reading) (w : WinParts) (s : Score) → score_of r w ≡ Some s → s.base ≤ 656000
 score-base r w s e = base-small r w s (is_yakuman s.yaku) refl (is_counted r w s e)
 
 gain-of : (r : Reading) (w : WinParts) (s : Score) (yakuman : Bool) → yakuman ≡ is_yakuman s.yaku → IsCounted r w s → gain_of (payment_of s.base w) w.sticks ≡ s.gain
@@ -137,7 +139,7 @@ gain-of r w s false e h = subst (λ (x : Score). gain_of (payment_of x.base w) w
 
 pub won_hand_explains : (w : WinParts) (hand : WonHand) → hand.win ≡ w → IsReadingOf w hand.reading → score_of hand.reading w ≡ Some hand.score →
     hand.han.items ≡ han_rows hand.score.yaku w → hand.dora.items ≡ counted_dora (is_yakuman hand.score.yaku) w → hand.fu.items ≡ counted_fu (is_yakuman hand.score.yaku) hand.reading w →
-    hand.base ≡ base_rule (is_yakuman hand.score.yaku) w.rules hand.score.han hand.score.fu → hand.payers.items ≡ pay_rows hand.score.base w → IsWonHand w hand
+    hand.base ≡ base_rule (is_yakuman hand.score.yaku) (limits_of hand.reading w hand.score.yaku) w.rules hand.score.han hand.score.fu → hand.payers.items ≡ pay_rows hand.score.base w → IsWonHand w hand
 won_hand_explains w hand same reading scored han dora fu base payers =
     let s = hand.score in
     let r = hand.reading in

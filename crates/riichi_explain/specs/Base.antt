@@ -1,12 +1,12 @@
 -- How base points come from han and fu.
-use Rattle.std.specs.Prelude.{ℕ, Bool, nat_le, nat_lt, if◌then◌else◌}
+use Rattle.std.specs.Prelude.{ℕ, ◌*◌, Bool, nat_le, nat_lt, if◌then◌else◌}
 use Rattle.riichi_hand.specs.declared.win.Rules.{Rules}
 use Rattle.riichi_hand.specs.Rules.{house_of}
 use Rattle.riichi_score.specs.Base.{is_raised, product_of}
 use Rattle.riichi_explain.specs.declared.base.Limit.{Limit}
 use Rattle.riichi_explain.specs.declared.base.Limit.TheVariants.{Mangan, Haneman, Baiman, Sanbaiman, Yakuman}
 use Rattle.riichi_explain.specs.declared.base.BaseRule.{BaseRule}
-use Rattle.riichi_explain.specs.declared.base.BaseRule.TheVariants.{Product, Capped, Raised, Limited}
+use Rattle.riichi_explain.specs.declared.base.BaseRule.TheVariants.{Product, Capped, Raised, Limited, OfYakuman}
 
 -- at most four han: the product, but no more than a mangan
 abbrev pub low_rule : Rules → ℕ → ℕ → BaseRule
@@ -28,8 +28,9 @@ counted_rule rules han fu =
     else (if nat_le han 12 then Limited Sanbaiman
     else Limited (most_limit rules)))))
 
-abbrev pub base_rule : Bool → Rules → ℕ → ℕ → BaseRule
-base_rule yakuman rules han fu = if yakuman then Limited Yakuman else counted_rule rules han fu
+-- of a yakuman its limits
+abbrev pub base_rule : Bool → ℕ → Rules → ℕ → ℕ → BaseRule
+base_rule yakuman limits rules han fu = if yakuman then OfYakuman limits else counted_rule rules han fu
 
 abbrev pub limit_points : Limit → ℕ
 limit_points Mangan = 2000
@@ -44,3 +45,4 @@ points_by (Product product) = product
 points_by (Capped product) = 2000
 points_by (Raised product) = 2000
 points_by (Limited limit) = limit_points limit
+points_by (OfYakuman limits) = 8000 * limits

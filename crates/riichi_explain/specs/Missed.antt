@@ -1,16 +1,10 @@
 -- A hand that has no reading: what it waits for, and the lines that say so.
 use Rattle.std.specs.Prelude.{ℕ, List, [], ◌∷◌, ◌++◌, map, codes}
-use Rattle.riichi_hand.specs.HandParts.{HandParts}
-use Rattle.riichi_hand.specs.declared.win.WinParts.{WinParts}
 use Rattle.riichi_text.specs.Lists.{joined}
 use Rattle.riichi_waits.specs.declared.waits.KindWait.{KindWait}
 use Rattle.riichi_waits.specs.Waits.{wait_text}
 use Rattle.riichi_explain.specs.declared.missed.MissedWin.{MissedWin}
 use Rattle.riichi_explain.specs.Forms.{shanten_line}
-
--- the hand before the winning tile
-abbrev pub waiting_hand : WinParts → HandParts
-waiting_hand win = record { concealed = win.concealed; melds = win.melds }
 
 -- the kinds that the hand waits for, where there are any
 unfoldable pub missed_waits : List KindWait → List ℕ

@@ -12,7 +12,7 @@ use Rattle.riichi_names.specs.Names.{named}
 use Rattle.riichi_yaku.specs.YakuSets.{is_yakuman}
 use Rattle.riichi_score.specs.Scores.{hand_of}
 use Rattle.riichi_explain.specs.declared.base.BaseRule.{BaseRule}
-use Rattle.riichi_explain.specs.declared.base.BaseRule.TheVariants.{Product, Capped, Raised, Limited}
+use Rattle.riichi_explain.specs.declared.base.BaseRule.TheVariants.{Product, Capped, Raised, Limited, OfYakuman}
 use Rattle.riichi_explain.specs.declared.base.Limit.{Limit}
 use Rattle.riichi_explain.specs.declared.base.Limit.TheVariants as limit
 use Rattle.riichi_explain.specs.declared.dora.DoraPart.{DoraPart}
@@ -181,6 +181,10 @@ limit_name limit.Yakuman = codes "yakuman"
 unfoldable pub limit_text : Limit → List ℕ
 limit_text which = limit_name which ++ codes " " ++ decimal (limit_points which)
 
+-- how often the limit of a yakuman is paid, where that is more than once
+unfoldable pub limits_text : ℕ → List ℕ
+limits_text limits = (if limits == 1 then [] else decimal limits ++ codes " x ") ++ codes "yakuman " ++ decimal (8000 * limits)
+
 -- a yakuman has no number of han
 unfoldable pub han_words : ℕ → List ℕ
 han_words han = if han == 0 then [] else decimal han ++ codes " han, "
@@ -190,6 +194,7 @@ base_text (Product product) han fu = product_text han fu product
 base_text (Capped product) han fu = product_text han fu product ++ codes ", mangan 2000"
 base_text (Raised product) han fu = product_text han fu product ++ codes ", raised to mangan 2000 (kiriage)"
 base_text (Limited which) han fu = han_words han ++ limit_text which
+base_text (OfYakuman limits) han fu = limits_text limits
 
 unfoldable pub base_line : BaseRule → ℕ → ℕ → List ℕ
 base_line rule han fu = codes "  base    " ++ base_text rule han fu ++ line_feed

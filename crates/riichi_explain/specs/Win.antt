@@ -19,7 +19,7 @@ use Rattle.riichi_explain.specs.Forms.{AreFormDistances}
 use Rattle.riichi_explain.specs.Dora.{dora_rows, dora_total}
 use Rattle.riichi_explain.specs.Fu.{fu_rows, fu_from_rows}
 use Rattle.riichi_explain.specs.Han.{han_rows, han_total}
-use Rattle.riichi_explain.specs.Missed.{waiting_hand}
+use Rattle.riichi_score.specs.Limits.{limits_of, waiting_hand}
 use Rattle.riichi_explain.specs.Payers.{pay_rows, pay_total}
 
 -- the fu that count: of a yakuman none
@@ -38,7 +38,7 @@ pub record IsWonHand (win : WinParts) (hand : WonHand) : Type 0 where
   pub han_are : hand.han.items ≡ han_rows hand.score.yaku win
   pub dora_are : hand.dora.items ≡ counted_dora (is_yakuman hand.score.yaku) win
   pub fu_are : hand.fu.items ≡ counted_fu (is_yakuman hand.score.yaku) hand.reading win
-  pub base_is : hand.base ≡ base_rule (is_yakuman hand.score.yaku) win.rules hand.score.han hand.score.fu
+  pub base_is : hand.base ≡ base_rule (is_yakuman hand.score.yaku) (limits_of hand.reading win hand.score.yaku) win.rules hand.score.han hand.score.fu
   pub payers_are : hand.payers.items ≡ pay_rows hand.score.base win
   pub han_add_up : han_total hand.han.items ≡ hand.score.han
   pub dora_adds_up : dora_total hand.dora.items ≡ hand.score.dora

@@ -1,9 +1,12 @@
 //! How base points come from han and fu.
 ghost use Rattle.std.specs.Prelude.{◌≡◌, ◌≤◌};
+ghost use Rattle.riichi_yaku.specs.YakuSets.{is_yakuman};
+ghost use Rattle.riichi_score.specs.Limits.{limits_of};
 ghost use Rattle.riichi_explain.specs.Base as spec;
 
-use riichi_hand::Rules;
-use riichi_score::{is_raised, product_of};
+use riichi_hand::{Rules, WinRecord};
+use riichi_score::{Score, is_raised, product_of, yakuman_limits};
+use riichi_split::Reading;
 
 /// A limit hand.
 #[derive(Clone, Copy, Debug, PartialEq, Eq)]
@@ -24,18 +27,23 @@ pub enum BaseRule {
     Capped { product: u32 },
     /// Such a product that the rules raise to a mangan.
     Raised { product: u32 },
-    /// Five han or more, or a yakuman.
+    /// Five han or more.
     Limited(Limit),
+    /// A yakuman, which pays so many limits.
+    OfYakuman { limits: u32 },
 }
 
-/// What gives the base points of so many han and fu, or of a yakuman.
-pub fn base_rule(yakuman: bool, rules: Rules, han: u8, fu: u8) -> BaseRule
-    ensures { result ≡ spec.base_rule yakuman rules han fu }
+/// What gives the base points of a reading that has this score.
+pub fn base_rule(reading: &Reading, score: &Score, win: &WinRecord) -> BaseRule
+    ensures { result ≡ spec.base_rule (is_yakuman score.now.yaku) (limits_of reading.now win.now score.now.yaku)
+        win.now.rules score.now.han score.now.fu }
 {
-    if yakuman {
-        BaseRule::Limited(Limit::Yakuman)
+    if score.yaku.is_yakuman() {
+        BaseRule::OfYakuman {
+            limits: yakuman_limits(reading, win, score.yaku),
+        }
     } else {
-        counted_rule(rules, han, fu)
+        counted_rule(win.rules(), score.han, score.fu)
     }
 }
 

@@ -2,6 +2,7 @@
 ghost use Rattle.std.specs.Prelude.{◌≡◌, ◌+◌, ◌≤◌, ◌++◌, length};
 ghost use Rattle.arrayvec.specs.ArrayString.{array_string_len};
 ghost use Rattle.riichi_hand.specs.Win.{IsWinRecord};
+ghost use Rattle.riichi_score.specs.Limits.{waiting_hand};
 ghost use Rattle.riichi_score.specs.Scores.{hand_of};
 ghost use Rattle.riichi_waits.specs.Waits.{kind_waits};
 ghost use Rattle.riichi_explain.specs.Forms.{AreFormDistances};
@@ -25,7 +26,7 @@ pub struct MissedWin {
 
 pub(crate) fn missed_win(win: &WinRecord) -> MissedWin
     ensures forms { AreFormDistances (hand_of win.now) win.now.melds result.forms }
-    ensures waits { result.waits.items ≡ kind_waits (spec.waiting_hand win.now) }
+    ensures waits { result.waits.items ≡ kind_waits (waiting_hand win.now) }
 {
     MissedWin {
         forms: win_forms(win),
@@ -35,7 +36,7 @@ pub(crate) fn missed_win(win: &WinRecord) -> MissedWin
 
 /// The kinds that the hand waits for before the winning tile.
 fn waits_before(win: &WinRecord) -> KindWaits
-    ensures { result.items ≡ kind_waits (spec.waiting_hand win.now) }
+    ensures { result.items ≡ kind_waits (waiting_hand win.now) }
 {
     let parts = win.parts();
     match HandRecord::new(parts.concealed, parts.melds) {

@@ -41,7 +41,23 @@ fn push_base(text: &mut ArrayString<4608>, rule: &BaseRule, han: u8, fu: u8)
             push_han_words(text, han);
             push_limit(text, *limit);
         }
+        BaseRule::OfYakuman { limits } => push_limits(text, *limits),
     }
+}
+
+/// How often the limit of a yakuman is paid, and the points.
+#[tactic(auto, unfolding(crate::specs::Text::limits_text))]
+fn push_limits(text: &mut ArrayString<4608>, limits: u32)
+    requires { array_string_len text.old + 45 ≤ 4608 }
+    ensures bytes { text.new.bytes ≡ text.old.bytes ++ spec.limits_text limits }
+    ensures len { array_string_len text.new ≤ array_string_len text.old + 45 }
+{
+    if limits != 1 {
+        push_number(text, limits);
+        text.push_str(" x ");
+    }
+    text.push_str("yakuman ");
+    push_number(text, 8000 * u64::from(limits));
 }
 
 #[tactic(auto, unfolding(crate::specs::Text::product_text))]

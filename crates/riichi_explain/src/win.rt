@@ -92,7 +92,7 @@ fn won_hand(win: &WinRecord, reading: Reading, score: Score) -> WonHand
     let han = han_rows(score.yaku, win);
     let dora = counted_dora(yakuman, win);
     let fu = counted_fu(yakuman, &reading, win);
-    let base = base_rule(yakuman, win.rules(), score.han, score.fu);
+    let base = base_rule(&reading, &score, win);
     let payers = pay_rows(score.base, win);
     WonHand {
         win: *win,

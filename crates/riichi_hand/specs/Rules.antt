@@ -10,6 +10,8 @@ abbrev pub first_profile : House
 first_profile = record {
   red_fives = false;
   raise = false;
+  add_yakuman = false;
+  double_yakuman = false;
   counted_yakuman = true;
   double_wind_pair = true;
   kong_draw_fu = true;
@@ -33,6 +35,8 @@ house_of (rules.House house) = house
 abbrev pub switch_word : Switch → List ℕ
 switch_word switch.RedFives = codes "red-fives"
 switch_word switch.Raise = codes "raise"
+switch_word switch.AddYakuman = codes "add-yakuman"
+switch_word switch.DoubleYakuman = codes "double-yakuman"
 switch_word switch.CountedYakuman = codes "counted-yakuman"
 switch_word switch.DoubleWindPair = codes "double-wind-pair"
 switch_word switch.KongDrawFu = codes "kong-draw-fu"
@@ -44,6 +48,8 @@ switch_word switch.Ura = codes "ura"
 abbrev pub is_on : Switch → House → Bool
 is_on switch.RedFives house = house.red_fives
 is_on switch.Raise house = house.raise
+is_on switch.AddYakuman house = house.add_yakuman
+is_on switch.DoubleYakuman house = house.double_yakuman
 is_on switch.CountedYakuman house = house.counted_yakuman
 is_on switch.DoubleWindPair house = house.double_wind_pair
 is_on switch.KongDrawFu house = house.kong_draw_fu
@@ -56,6 +62,8 @@ is_on switch.Ura house = house.ura
 abbrev pub with_switch : Switch → Bool → House → House
 with_switch switch.RedFives on house = record house { red_fives = on }
 with_switch switch.Raise on house = record house { raise = on }
+with_switch switch.AddYakuman on house = record house { add_yakuman = on }
+with_switch switch.DoubleYakuman on house = record house { double_yakuman = on }
 with_switch switch.CountedYakuman on house = record house { counted_yakuman = on }
 with_switch switch.DoubleWindPair on house = record house { double_wind_pair = on }
 with_switch switch.KongDrawFu on house = record house { kong_draw_fu = on }

@@ -9,6 +9,11 @@ pub struct House {
     pub red_fives: bool,
     /// Four han with 30 fu and three han with 60 are raised to a mangan (kiriage mangan).
     pub raise: bool,
+    /// Several yakuman pay a limit each; off, one limit.
+    pub add_yakuman: bool,
+    /// Big four winds, four concealed pungs completed in the pair, thirteen orphans on thirteen waits and nine gates on nine
+    /// pay two limits (double yakuman).
+    pub double_yakuman: bool,
     /// 13 han and more pay a yakuman (kazoe yakuman); off, as much as 11 and 12 han.
     pub counted_yakuman: bool,
     /// A pair both of the seat wind and of the prevalent wind has 4 fu; off, 2.
@@ -30,6 +35,8 @@ pub struct House {
 pub enum Switch {
     RedFives,
     Raise,
+    AddYakuman,
+    DoubleYakuman,
     CountedYakuman,
     DoubleWindPair,
     KongDrawFu,
@@ -41,9 +48,11 @@ pub enum Switch {
 
 impl Switch {
     /// Every one, in the order of the table in docs/RULES.md.
-    pub const ALL: [Switch; 9] = [
+    pub const ALL: [Switch; 11] = [
         Switch::RedFives,
         Switch::Raise,
+        Switch::AddYakuman,
+        Switch::DoubleYakuman,
         Switch::CountedYakuman,
         Switch::DoubleWindPair,
         Switch::KongDrawFu,
@@ -60,6 +69,8 @@ impl Switch {
         match self {
             Switch::RedFives => "red-fives",
             Switch::Raise => "raise",
+            Switch::AddYakuman => "add-yakuman",
+            Switch::DoubleYakuman => "double-yakuman",
             Switch::CountedYakuman => "counted-yakuman",
             Switch::DoubleWindPair => "double-wind-pair",
             Switch::KongDrawFu => "kong-draw-fu",
@@ -79,6 +90,8 @@ impl House {
         match switch {
             Switch::RedFives => self.red_fives,
             Switch::Raise => self.raise,
+            Switch::AddYakuman => self.add_yakuman,
+            Switch::DoubleYakuman => self.double_yakuman,
             Switch::CountedYakuman => self.counted_yakuman,
             Switch::DoubleWindPair => self.double_wind_pair,
             Switch::KongDrawFu => self.kong_draw_fu,
@@ -100,6 +113,14 @@ impl House {
             },
             Switch::Raise => House {
                 raise: is_on,
+                ..self
+            },
+            Switch::AddYakuman => House {
+                add_yakuman: is_on,
+                ..self
+            },
+            Switch::DoubleYakuman => House {
+                double_yakuman: is_on,
                 ..self
             },
             Switch::CountedYakuman => House {

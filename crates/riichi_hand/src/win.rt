@@ -46,6 +46,8 @@ fn first_profile() -> House
     House {
         red_fives: false,
         raise: false,
+        add_yakuman: false,
+        double_yakuman: false,
         counted_yakuman: true,
         double_wind_pair: true,
         kong_draw_fu: true,

@@ -1,5 +1,5 @@
 -- A win has one best answer.
-use Rattle.std.proofs.Common.{◌≡◌, ℕ, Bool, true, false, cond, Some, None, List, [], ◌∷◌, length, refl, sym, ap, ◌∙◌, subst, ltb, eqb, arith}
+use Rattle.std.proofs.Common.{◌≡◌, ℕ, ◌*◌, Bool, true, false, cond, Some, None, List, [], ◌∷◌, length, refl, sym, ap, ◌∙◌, subst, ltb, eqb, arith}
 use Rattle.std.proofs.lemmas.Bool.Decides.{nat_tests}
 use Rattle.riichi_hand.specs.declared.win.WinParts.{WinParts}
 use Rattle.riichi_split.specs.declared.reading.Reading.{Reading}
@@ -10,6 +10,7 @@ use Rattle.riichi_score.specs.declared.answer.WinAnswer.{WinAnswer}
 use Rattle.riichi_score.specs.declared.answer.WinAnswer.TheVariants.{Won, NoYaku, NoWin}
 use Rattle.riichi_score.specs.Dora.{dora_of}
 use Rattle.riichi_score.specs.Fu.{fu_of}
+use Rattle.riichi_score.specs.Limits.{limits_of}
 use Rattle.riichi_score.specs.Scores.{with_base, yakuman_score, counted, score_of}
 use Rattle.riichi_score.specs.Best.{rank, is_above, IsBest}
 
@@ -19,26 +20,26 @@ use Rattle.riichi_score.specs.Best.{rank, is_above, IsBest}
 abbrev told : WinParts → ℕ → ℕ → ℕ → ℕ → Score
 told w base han fu yaku = with_base base han fu yaku (cond (is_yakuman yaku) 0 (dora_of w)) w
 
-told-limit : (yaku : ℕ) (w : WinParts) → is_yakuman yaku ≡ true → yakuman_score yaku w ≡ told w 8000 0 0 yaku
-told-limit yaku w h = ap (λ b. with_base 8000 0 0 yaku (cond b 0 (dora_of w)) w) (sym h)
+told-limit : (limits yaku : ℕ) (w : WinParts) → is_yakuman yaku ≡ true → yakuman_score limits yaku w ≡ told w (8000 * limits) 0 0 yaku
+told-limit limits yaku w h = ap (λ b. with_base (8000 * limits) 0 0 yaku (cond b 0 (dora_of w)) w) (sym h)
 
 told-counted : (yaku fu : ℕ) (w : WinParts) → is_yakuman yaku ≡ false → counted yaku fu (dora_of w) w ≡ (let s = counted yaku fu (dora_of w) w in told w s.base s.han s.fu s.yaku)
 told-counted yaku fu w h =
     let s = counted yaku fu (dora_of w) w in
     ap (λ b. with_base s.base s.han s.fu s.yaku (cond b 0 (dora_of w)) w) (sym h)
 
-scored-told : (yaku fu : ℕ) (w : WinParts) (none yakuman : Bool) (s : Score) → none ≡ eqb yaku 0 → yakuman ≡ is_yakuman yaku → cond none None (cond yakuman (Some (yakuman_score yaku w)) (Some (counted yaku fu (dora_of w) w))) ≡ Some s → s ≡ told w s.base s.han s.fu s.yaku
-scored-told yaku fu w true yakuman s a b e = absurd (cc)
-scored-told yaku fu w false true s a b e =
-    let same : yakuman_score yaku w ≡ s = cc in
-    subst (λ (x : Score). x ≡ told w x.base x.han x.fu x.yaku) same (told-limit yaku w (sym b))
-scored-told yaku fu w false false s a b e =
+scored-told : (limits yaku fu : ℕ) (w : WinParts) (none yakuman : Bool) (s : Score) → none ≡ eqb yaku 0 → yakuman ≡ is_yakuman yaku → cond none None (cond yakuman (Some (yakuman_score limits yaku w)) (Some (counted yaku fu (dora_of w) w))) ≡ Some s → s ≡ told w s.base s.han s.fu s.yaku
+scored-told limits yaku fu w true yakuman s a b e = absurd (cc)
+scored-told limits yaku fu w false true s a b e =
+    let same : yakuman_score limits yaku w ≡ s = cc in
+    subst (λ (x : Score). x ≡ told w x.base x.han x.fu x.yaku) same (told-limit limits yaku w (sym b))
+scored-told limits yaku fu w false false s a b e =
     let same : counted yaku fu (dora_of w) w ≡ s = cc in
     subst (λ (x : Score). x ≡ told w x.base x.han x.fu x.yaku) same (told-counted yaku fu w (sym b))
 
 score-told : (r : Reading) (w : WinParts) (s : Score) → score_of r w ≡ Some s → s ≡ told w s.base s.han s.fu s.yaku
 unfolding score_of
-score-told r w s e = scored-told (yaku_of r w) (fu_of r w) w (eqb (yaku_of r w) 0) (is_yakuman (yaku_of r w)) s refl refl e
+score-told r w s e = scored-told (limits_of r w (yaku_of r w)) (yaku_of r w) (fu_of r w) w (eqb (yaku_of r w) 0) (is_yakuman (yaku_of r w)) s refl refl e
 
 -- where neither list is above the other their first numbers are the same, and neither rest is above the other
 level : (x y : ℕ) (a b : Bool) → cond (ltb y x) true (cond (ltb x y) false a) ≡ false → cond (ltb x y) true (cond (ltb y x) false b) ≡ false → (x ≡ y) × (a ≡ false) × (b ≡ false)

@@ -2,6 +2,7 @@ pub mod Base
 pub mod Dora
 pub mod Payment
 pub mod Fu
+pub mod Limits
 pub mod Scores
 pub mod Best
 pub mod Text

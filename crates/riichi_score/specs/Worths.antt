@@ -1,5 +1,5 @@
 -- What a reading is worth, without what is paid for it. No public clause cites this.
-use Rattle.std.specs.Prelude.{ℕ, ◌+◌, ◌==◌, List, [], ◌∷◌, Option, Some, None, if◌then◌else◌}
+use Rattle.std.specs.Prelude.{ℕ, ◌+◌, ◌*◌, ◌==◌, List, [], ◌∷◌, Option, Some, None, if◌then◌else◌}
 use Rattle.riichi_tiles.specs.Melds.{are_concealed}
 use Rattle.riichi_hand.specs.declared.win.WinParts.{WinParts}
 use Rattle.riichi_yaku.specs.YakuSets.{han_of, is_yakuman}
@@ -13,8 +13,8 @@ use Rattle.riichi_score.specs.Base.{base_of}
 use Rattle.riichi_score.specs.Scores.{with_base}
 
 -- a yakuman, and a counted hand
-abbrev pub limit_worth : ℕ → Worth
-limit_worth yaku = record { han = 0; fu = 0; base = 8000; yaku = yaku; dora = 0 }
+abbrev pub limit_worth : ℕ → ℕ → Worth
+limit_worth limits yaku = record { han = 0; fu = 0; base = 8000 * limits; yaku = yaku; dora = 0 }
 
 abbrev pub counted_worth : ℕ → ℕ → ℕ → WinParts → Worth
 counted_worth yaku fu dora win =
@@ -22,10 +22,10 @@ counted_worth yaku fu dora win =
     record { han = han; fu = fu; base = base_of win.rules han fu; yaku = yaku; dora = dora }
 
 -- a reading with an empty set has none
-abbrev pub worth_if : ℕ → ℕ → ℕ → WinParts → Option Worth
-worth_if yaku fu dora win =
+abbrev pub worth_if : ℕ → ℕ → ℕ → ℕ → WinParts → Option Worth
+worth_if limits yaku fu dora win =
     if yaku == 0 then None
-    else (if is_yakuman yaku then Some (limit_worth yaku) else Some (counted_worth yaku fu dora win))
+    else (if is_yakuman yaku then Some (limit_worth limits yaku) else Some (counted_worth yaku fu dora win))
 
 -- what scores are compared by
 abbrev pub rank_of : Worth → List ℕ

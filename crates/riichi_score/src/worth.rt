@@ -5,9 +5,11 @@ ghost use Rattle.riichi_blocks.specs.Held.{all_tiles};
 ghost use Rattle.riichi_score.specs.Best as best_spec;
 ghost use Rattle.riichi_score.specs.Dora.{dora_of};
 ghost use Rattle.riichi_score.specs.Fu.{HasFourSets};
+ghost use Rattle.riichi_score.specs.Limits.{limits_of};
 ghost use Rattle.riichi_score.specs.Scores.{score_of};
 ghost use Rattle.riichi_score.specs.Worths as spec;
 
+use crate::limits::yakuman_limits;
 use crate::points::fu_among;
 use crate::score::Score;
 use crate::{base_points, dora, gain, han, payment};
@@ -48,7 +50,7 @@ impl Worth {
 
     /// The whole score.
     pub(crate) fn score(self, win: &WinRecord) -> Score
-        requires { self.base ≤ 8000 }
+        requires { self.base ≤ 656000 }
         ensures { result ≡ spec.score_with self win.now }
     {
         let payment = payment(self.base, win);
@@ -87,39 +89,48 @@ pub(crate) fn worth_of(
     requires dora { dora ≡ dora_of win.now }
     requires most { dora ≤ 52 }
     ensures value { spec.score_if result win.now ≡ score_of reading.now win.now }
-    ensures most { spec.base_if result ≤ 8000 }
+    ensures most { spec.base_if result ≤ 656000 }
 {
     let mut blocks = Blocks::new();
     push_blocks(&mut blocks, reading, win);
     let yaku = yaku_among(&blocks, reading, tiles, win);
     let concealed = win.melds().concealed();
     let fu = fu_among(&blocks, reading, concealed, win);
-    valued(yaku, fu, dora, concealed, win)
+    valued(reading, yaku, fu, dora, concealed, win)
 }
 
-fn valued(yaku: YakuSet, fu: u8, dora: u8, concealed: bool, win: &WinRecord) -> Option<Worth>
+fn valued(
+    reading: &Reading,
+    yaku: YakuSet,
+    fu: u8,
+    dora: u8,
+    concealed: bool,
+    win: &WinRecord,
+) -> Option<Worth>
     requires most { dora ≤ 52 }
     requires concealed { concealed ≡ are_concealed win.now.melds }
-    ensures value { result ≡ spec.worth_if yaku fu dora win.now }
-    ensures most { spec.base_if result ≤ 8000 }
+    ensures value { result ≡ spec.worth_if (limits_of reading.now win.now yaku) yaku fu dora win.now }
+    ensures most { spec.base_if result ≤ 656000 }
 {
     if yaku.is_empty() {
         None
     } else if yaku.is_yakuman() {
-        Some(yakuman_worth(yaku))
+        Some(yakuman_worth(yakuman_limits(reading, win, yaku), yaku))
     } else {
         Some(counted(yaku, fu, dora, concealed, win))
     }
 }
 
-/// A yakuman, one or several.
-fn yakuman_worth(yaku: YakuSet) -> Worth
-    ensures { result ≡ spec.limit_worth yaku }
+/// A yakuman, one or several, of so many limits.
+fn yakuman_worth(limits: u32, yaku: YakuSet) -> Worth
+    requires { limits ≤ 82 }
+    ensures value { result ≡ spec.limit_worth limits yaku }
+    ensures most { result.base ≤ 656000 }
 {
     Worth {
         han: 0,
         fu: 0,
-        base: 8000,
+        base: 8000 * limits,
         yaku,
         dora: 0,
     }
@@ -130,7 +141,7 @@ fn counted(yaku: YakuSet, fu: u8, dora: u8, concealed: bool, win: &WinRecord) ->
     requires most { dora ≤ 52 }
     requires concealed { concealed ≡ are_concealed win.now.melds }
     ensures value { result ≡ spec.counted_worth yaku fu dora win.now }
-    ensures most { result.base ≤ 8000 }
+    ensures most { result.base ≤ 656000 }
 {
     let han = han(yaku, concealed, dora);
     Worth {

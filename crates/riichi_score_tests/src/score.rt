@@ -163,6 +163,31 @@ fn the_rules_of_a_house(rt: HostRuntime) -> Result<(), Fail> {
             "won 4 han 30 fu 8000 gain 8000 pinfu pure-straight dora 1",
         ),
         (
+            first_with(Switch::AddYakuman, true),
+            "win 111z222z33z444z99m on=3z by=tsumo seat=S round=E",
+            "won yakuman 16000/32000 gain 64000 four-concealed-pungs big-four-winds",
+        ),
+        (
+            first_with(Switch::DoubleYakuman, true),
+            "win 1112345678999m on=5m by=ron seat=S round=E",
+            "won yakuman 64000 gain 64000 nine-gates",
+        ),
+        (
+            first_with(Switch::DoubleYakuman, true),
+            "win 1112345678899m on=9m by=ron seat=S round=E",
+            "won yakuman 32000 gain 32000 nine-gates",
+        ),
+        (
+            first_with(Switch::DoubleYakuman, true),
+            "win 19m19p19s1234567z on=1m by=ron seat=S round=E",
+            "won yakuman 64000 gain 64000 thirteen-orphans",
+        ),
+        (
+            first_with(Switch::DoubleYakuman, true),
+            "win 111m222p333s9m444z on=9m by=ron seat=S round=E",
+            "won yakuman 64000 gain 64000 four-concealed-pungs",
+        ),
+        (
             first_with(Switch::CountedYakuman, false),
             "win 223344m556677m8m on=8m by=ron seat=S round=E riichi=1 dora=1m",
             "won 14 han 30 fu 24000 gain 24000 riichi pinfu all-simples twice-pure-double-chow full-flush dora 2",

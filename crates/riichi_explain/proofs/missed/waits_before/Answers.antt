@@ -4,8 +4,8 @@ use Rattle.riichi_hand.specs.HandParts.{HandParts}
 use Rattle.riichi_hand.specs.declared.fault.LineFault.{LineFault}
 use Rattle.riichi_hand.specs.declared.win.WinParts.{WinParts}
 use Rattle.riichi_waits.specs.Waits.{kind_waits}
-use Rattle.riichi_explain.specs.Missed.{waiting_hand}
-use Rattle.riichi_explain.proofs.MissedLemmas.{hand_before}
+use Rattle.riichi_score.specs.Limits.{waiting_hand}
+use Rattle.riichi_score.proofs.HandBefore.{hand_before}
 use Rattle.riichi_explain.proofs.missed.waits_before.Goals as goal
 
 -- the constructor answers the hand

@@ -1,7 +1,4 @@
 use Rattle.std.proofs.Common.{Bool, refl, ap, ◌∙◌}
-use Rattle.riichi_hand.specs.declared.win.Rules.{Rules}
-use Rattle.riichi_yaku.specs.YakuSets.{is_yakuman}
-use Rattle.riichi_explain.specs.Base.{base_rule}
 use Rattle.riichi_explain.specs.Win.{counted_dora, counted_fu}
 use Rattle.riichi_explain.proofs.WinLemmas.{score-base, won_hand_explains}
 use Rattle.riichi_explain.proofs.win.won_hand.Goals as goal
@@ -12,10 +9,7 @@ pay_rows-payers-requires c = score-base c.args.reading c.args.win.now c.args.sco
 pub returns-clause-explains : goal.returns-clause-explains
 returns-clause-explains c =
     let w = c.args.win.now in
-    let s = c.args.score in
     let yakuman = c.is_yakuman-yakuman.ensures in
     let fu = c.counted_fu-fu.ensures ∙ ap (λ (b : Bool). counted_fu b c.args.reading w) yakuman in
     let dora = c.counted_dora-dora.ensures ∙ ap (λ (b : Bool). counted_dora b w) yakuman in
-    let base = c.base_rule-base.ensures ∙ ap (λ (b : Bool). base_rule b c.rules.result s.han s.fu) yakuman
-    ∙ ap (λ (x : Rules). base_rule (is_yakuman s.yaku) x s.han s.fu) c.rules.ensures in
-    won_hand_explains w _ refl c.requires.reading c.requires.score c.han_rows-han.ensures.value dora fu base c.pay_rows-payers.ensures.value
+    won_hand_explains w _ refl c.requires.reading c.requires.score c.han_rows-han.ensures.value dora fu c.base_rule-base.ensures c.pay_rows-payers.ensures.value

@@ -10,7 +10,7 @@ use Rattle.riichi_hand.specs.declared.win.WinParts.{WinParts}
 use Rattle.riichi_hand.specs.Faults.{coded, first_fault}
 use Rattle.riichi_hand.specs.Hand.{hand_of, copies_held, has_five_copies, is_thirteen}
 use Rattle.riichi_hand.specs.Win.{IsWinRecord, win_faults, copies_in, has_five_in, has_wrong_size, is_out_of_range}
-use Rattle.riichi_explain.specs.Missed.{waiting_hand}
+use Rattle.riichi_score.specs.Limits.{waiting_hand}
 
 clear : (range size copies : Bool) (later : List (Option LineFault)) → first_fault (coded H4 range ∷ coded H8 size ∷ coded H9 copies ∷ later) ≡ None → (size ≡ false) × (copies ≡ false)
 clear false false false later h = (refl, refl)
