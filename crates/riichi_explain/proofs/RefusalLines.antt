@@ -1,6 +1,6 @@
 -- The lines of a refusal begin with two spaces, and each ends with its line feed.
 use Rattle.std.proofs.Common.{◌≡◌, ℕ, ◌+◌, ◌-◌, ◌/◌, ◌%◌, ◌<◌, List, [], ◌∷◌, ◌++◌, Bool, true, false, cond, nat_lt, take, replicate, Option, Some, None, refl, ap, ◌∙◌, arith}
-use Rattle.std.specs.Prelude.{◌==◌, codes, ◌||◌, unwrap_or, IfSome}
+use Rattle.std.specs.Prelude.{codes, ◌||◌, unwrap_or, IfSome}
 use Rattle.std.specs.List.{list_all, list_any}
 use Rattle.std.proofs.lemmas.Bool.{and_parts, or_parts, not-true}
 use Rattle.std.proofs.lemmas.Bool.Decides.{nat_tests}
@@ -65,8 +65,8 @@ quiet-plain : (text : List ℕ) → quiet text ≡ true → plain text ≡ true
 quiet-plain [] p = refl
 quiet-plain (byte ∷ text) p =
     let parts = and_parts (is_quiet byte) (list_all is_quiet text) p in
-    let none = or_parts (byte == 34) _ (not-true _ parts.0) in
-    byte-plain byte text (printable-big byte (or_parts (byte == 92) _ none.1).1) (quiet-plain text parts.1)
+    let none = or_parts _ (nat_lt byte 32) (not-true _ parts.0) in
+    byte-plain byte text (printable-big byte none.1) (quiet-plain text parts.1)
 
 -- ---- the lines
 
