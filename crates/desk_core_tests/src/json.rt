@@ -177,12 +177,13 @@ fn lines_that_are_too_long(rt: HostRuntime) -> Result<(), Fail> {
 #[test]
 fn in_a_text_that_is_kept(rt: HostRuntime) -> Result<(), Fail> {
     let line = b"waits 8z";
-    if let Err(refusal) = read_placed(Rules::One, line) {
-        let mut text = JsonText::new();
-        push_refusal(&mut text, line, &refusal);
-        text.clear();
-        push_refusal(&mut text, line, &refusal);
-        same(&rt, text.as_str(), refused(line)?.as_str());
-    }
+    let Err(refusal) = read_placed(Rules::One, line) else {
+        return Err("not refused")?;
+    };
+    let mut text = JsonText::new();
+    push_refusal(&mut text, line, &refusal);
+    text.clear();
+    push_refusal(&mut text, line, &refusal);
+    same(&rt, text.as_str(), refused(line)?.as_str());
     Ok(())
 }
