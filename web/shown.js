@@ -73,10 +73,10 @@ function placeShown({ place, at, length }, line) {
 }
 
 // What a refusal says: what may stand there, behind the word at fault where its place isn't shown, and what else is known of the line.
-function saidOf({ at, length, place, words }, { line, reasons }) {
-  const word = at === undefined || place !== undefined ? "" : `${line.slice(at, at + length)}: `;
+function saidOf({ at = 0, length = 0, place, words }, { line, reasons }) {
+  const word = place === undefined ? line.slice(at, at + length).trim() : "";
   const known = reasons.slice(reasons.findIndex((row) => row.endsWith(words)) + 1);
-  return [`${word}${words}`, ...known.map((row) => row.trim())];
+  return [word === "" ? words : `${word}: ${words}`, ...known.map((row) => row.trim())];
 }
 
 function shownRefusal(answer, about) {
