@@ -66,8 +66,11 @@ size_t riichi_answer(uint32_t rules, const uint8_t *line, size_t line_len, uint8
  *   {"answer":"waits","kinds":["2p","5p"]}
  *
  * docs/NOTATION.md says what each member means, and docs/answer.schema.json is the JSON Schema. What is refused is an
- * object too, with the code: `{"answer":"refused","code":"rules"}` where `rules` is no profile's number. Sizes and returns
- * are as above.
+ * object too, with the code, the key and the place of the line that are at fault where it has them, and what may stand there:
+ *
+ *   {"answer":"refused","code":"H4","key":"seat","at":44,"length":6,"words":"a seat is E, S, W or N"}
+ *
+ * Where `rules` is no profile's number it is `{"answer":"refused","code":"rules"}`. Sizes and returns are as above.
  */
 size_t riichi_json(uint32_t rules, const uint8_t *line, size_t line_len, uint8_t *room, size_t room_len);
 

@@ -5,7 +5,7 @@ function told(it: Answer): string {
     case "won": return `${it.gain} ${it.limit ?? ""} ${"discarder" in it.payment ? it.payment.discarder : ""}`;
     case "waits": return it.kinds.join(" ");
     case "shape": return "discards" in it ? it.discards[0].discard : `${it.shanten} ${it.live}`;
-    case "refused": return it.code;
+    case "refused": return `${it.code} ${it.key ?? ""} ${it.at ?? 0} ${it.words}`;
     case "no yaku": case "no win": return it.answer;
   }
 }

@@ -198,7 +198,7 @@ status 3" "$("$program" explain < "$room" 2>&1; echo "status $?")"
 
 # the same lines as JSON: what is refused too, each job, each payment, a yakuman; a profile from the command line
 printf '# table three\nwaits 123456789m1134p\n\nwaits 8z\r\nwait 1m' > "$room/input"
-row 1 $'{"answer":"waits","kinds":["2p","5p"]}\n{"answer":"refused","code":"N5","text":"hand","place":0}\n{"answer":"refused","code":"H2"}' '' line --json
+row 1 $'{"answer":"waits","kinds":["2p","5p"]}\n{"answer":"refused","code":"N5","text":"hand","place":0,"key":"hand","at":6,"length":2,"words":"honours are 1z to 7z"}\n{"answer":"refused","code":"H2","at":0,"length":4,"words":"the first word is win, waits or shape"}' '' line --json
 cp examples/club-night.lines "$room/input"
 pinfu='{"number":4,"word":"pinfu","japanese":"pinfu"}' concealed='{"number":3,"word":"fully-concealed","japanese":"menzen tsumo"}'
 row 1 '{"answer":"won","yakuman":false,"han":2,"fu":20,"dora":0,"base":320,"limit":null,"payment":{"dealer":700,"each_other":400},"gain":1500,"yaku":['"$concealed,$pinfu"']}
@@ -207,7 +207,7 @@ row 1 '{"answer":"won","yakuman":false,"han":2,"fu":20,"dora":0,"base":320,"limi
 {"answer":"no yaku"}
 {"answer":"waits","kinds":["1m","2m","3m","4m","5m","6m","7m","8m"]}
 {"answer":"shape","shanten":0,"discards":[{"discard":"8p","accepts":[{"kind":"2p","live":4},{"kind":"5p","live":4}],"live":8}]}
-{"answer":"refused","code":"H8"}' '' line --json
+{"answer":"refused","code":"H8","key":"hand","at":6,"length":14,"words":"a hand has 13 tiles, a shape 13 or 14, three fewer for each meld; on has one tile, dora and ura at most five"}' '' line --json
 printf '%s\n' 'win 123406789m22s34p on=2p by=ron seat=S round=E' 'win 19m19p19s1234567z on=1m by=ron seat=E round=E' \
   'win 234m567m345p67s99s on=5s by=tsumo seat=E round=E counters=2 sticks=1' 'win 123456789m22s34p on=9s by=ron seat=S round=E' \
   'shape 123456789m1134p' > "$room/input"
@@ -234,8 +234,8 @@ status 3" "$("$program" line --json < "$room" 2>&1; echo "status $?")"
 # the numbers of lines: notes, empty lines and the line of the profile count, and each file begins with 1
 printf '# table three\nwaits 123456789m1134p\n\nwaits 8z\r\nwait 1m' > "$room/input"
 row 1 $'2:waits 25p\n4:refused N5 hand at 0\n5:refused H2' '' line --number
-row 1 $'{"line":2,"answer":"waits","kinds":["2p","5p"]}\n{"line":4,"answer":"refused","code":"N5","text":"hand","place":0}
-{"line":5,"answer":"refused","code":"H2"}' '' line --number --json
+row 1 $'{"line":2,"answer":"waits","kinds":["2p","5p"]}\n{"line":4,"answer":"refused","code":"N5","text":"hand","place":0,"key":"hand","at":6,"length":2,"words":"honours are 1z to 7z"}
+{"line":5,"answer":"refused","code":"H2","at":0,"length":4,"words":"the first word is win, waits or shape"}' '' line --number --json
 row 1 $'2:waits 25p\n  2p 4 left, two-sided (ryanmen); 5p 4 left, two-sided (ryanmen)\n4:refused N5 hand at 0\n  8z\n  ^ honours are 1z to 7z
 5:refused H2\n  wait: the first word is win, waits or shape' '' explain --number
 printf 'rules 2\nwaits 123456789m1134p\n' > "$room/profiled"
@@ -274,6 +274,8 @@ while IFS='|' read -r _ code line said; do
   got=$("$program" explain "$line")
   told "the code of $line" "refused $code" "$(sed -nE '1s/^(refused [A-Z][0-9]+).*/\1/p' <<< "$got")"
   told "the word at fault of $line" "$(printf '%b' "${said/'{}'/$words}")" "$(tail -n +2 <<< "$got" | grep -v '^  try: ')"
+  words=$("$program" line --json <<< "$line" 2> "$room/said" | sed -nE 's/.*,"words":"([^"]+)"\}$/\1/p')
+  told "the words of the JSON of $line" 1 "$(grep -cF -- "${words:-none}" <<< "$got")"
 done < <(sed 's/^/|/' tests/refused.lines)
 
 # what beginners type, behind `> `, and what they are shown; each line to try is answered, under both profiles, and not refused

@@ -3,15 +3,16 @@
 
 import { state } from "./state.js";
 import { KINDS, range, textOf } from "./tiles.js";
-import { lineOf, textOfMelds, wordsOf } from "./record.js";
+import { lineOf, textOfMelds } from "./record.js";
 
 // A value of each key that a line may lack. Which one is said is all the same: a lack is refused before any value is looked at.
 const ANY = { on: "1m", by: "ron", seat: "E", round: "E" };
 const MOST_ASKED = 20;
 const known = new Map();
 
-function codeOf(line) {
-  return state.desk.values(line, 1)?.code ?? "";
+// The key at which a line is refused; "" where it is refused at no key, or answered.
+function keyOf(line) {
+  return state.desk.values(line, 1)?.key ?? "";
 }
 
 // The first of so many kinds, one tile each.
@@ -35,7 +36,7 @@ function plainLine(job, hand, melds) {
 // right.
 export function sizesOf(job, melds) {
   const text = textOfMelds(melds);
-  const isTaken = (count) => !["H7", "H8"].includes(codeOf(plainLine(job, someTiles(count), text)));
+  const isTaken = (count) => !["open", "hand"].includes(keyOf(plainLine(job, someTiles(count), text)));
   return remembered(`${job} ${text}`, () => range(1, MOST_ASKED).filter(isTaken));
 }
 
@@ -43,14 +44,14 @@ export function sizesOf(job, melds) {
 export function mostIndicators() {
   return remembered("indicators", () => {
     const line = plainLine("win", someTiles(sizesOf("win", [])[0]), "");
-    return range(1, MOST_ASKED).filter((count) => codeOf(`${line} dora=${someTiles(count)}`) !== "H8").length;
+    return range(1, MOST_ASKED).filter((count) => keyOf(`${line} dora=${someTiles(count)}`) !== "dora").length;
   });
 }
 
 // Whether the library reads these tiles as a meld of this word.
 export function isMeld(word, tiles) {
   const text = `${word}:${textOf(tiles)}`;
-  return remembered(text, () => codeOf(`waits 1m open=${text}`) !== "H7");
+  return remembered(text, () => keyOf(`waits 1m open=${text}`) !== "open");
 }
 
 // The keys that a record must have and hasn't, as the library names them one after another.
@@ -64,21 +65,10 @@ export function missingKeys(record) {
   return found;
 }
 
+// A key at fault of which no word is told is missing.
 function missingKey(line) {
-  if (codeOf(line) !== "H6") return null;
-  const key = fieldOf(line, 1);
-  return key in ANY ? key : null;
-}
-
-// The field of the form that the refusal of a line speaks of, by its values and the word that its explanation begins with.
-export function fieldOf(line, rules) {
-  const values = state.desk.values(line, rules);
-  if (values.text) return values.text;
-  const [row = ""] = state.desk.explain(line, rules).map((it) => it.trim());
-  const key = /^([a-z]+)(?:=| is missing)/.exec(row)?.[1];
-  if (key) return key;
-  const { hand } = wordsOf(line);
-  return hand !== "" && row.startsWith(`${hand.slice(0, 60)}`) ? "hand" : "line";
+  const { key, at } = state.desk.values(line, 1) ?? {};
+  return at === undefined && key in ANY ? key : null;
 }
 
 // How many tiles the hand of a record still lacks, and how many it has space for.

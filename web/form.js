@@ -1,7 +1,7 @@
 // The form: the hand that is made, and what the person does to it.
 
 import { answerTo, lacks } from "./answers.js";
-import { fieldOf, lackOfTiles } from "./asked.js";
+import { lackOfTiles } from "./asked.js";
 import { byId, drawing, label, make, tileButton } from "./elements.js";
 import { nextTarget, taken, without, withoutMeld } from "./moves.js";
 import { named, tileName } from "./names.js";
@@ -143,7 +143,7 @@ function showAnswer() {
   }
   byId("answer").replaceChildren(...help, ...shownWhole(about.values, about));
   if (about.values.answer !== "refused") state.handId = keepHand(state.handId, line, rules);
-  else showFault(document.querySelector(`[data-field="${fieldOf(line, rules)}"]`) ? fieldOf(line, rules) : "line");
+  else showFault(document.querySelector(`[data-field="${about.values.key}"]`) ? about.values.key : "line");
 }
 
 export function showForm() {

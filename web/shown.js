@@ -1,9 +1,7 @@
 // The answer to one line, as it is shown.
 
-import { fieldOf } from "./asked.js";
 import { make, textWithTiles, tileImage } from "./elements.js";
 import { named, shantenWords, spoken, yakuName } from "./names.js";
-import { wordsOf } from "./record.js";
 
 const FIELD_NAMES = {
   line: "the line", hand: "the hand", on: "the winning tile", open: "the melds", by: "ron or self-draw", seat: "the seat wind",
@@ -66,26 +64,26 @@ function shownShape({ shanten, discards, accepts, live }) {
   return [head, make("p", {}, "Discard, and what is then accepted:"), list];
 }
 
-// The text in which a fault stands, with its place marked.
-function placeShown({ text: field, place }, line) {
-  const { hand, keys } = wordsOf(line);
-  const text = field === "hand" ? hand : (keys.find(([key]) => key === field)?.[1] ?? "");
+// The text of tiles in which a fault stands, with its place marked.
+function placeShown({ place, at, length }, line) {
+  const word = line.slice(at, at + length);
+  const text = word.slice(word.indexOf("=") + 1);
   const mark = make("span", { class: "place" }, text.slice(place, place + 1) || "its end");
   return make("p", { class: "raw" }, text.slice(0, place), mark, text.slice(place + 1));
 }
 
-// What a refusal says, without the mark under a place: the page shows the place of a text of tiles itself.
-function saidOf(answer, reasons) {
-  const rows = reasons.map((row) => row.trim().replace(/^\^ /, ""));
-  return answer.place === undefined ? rows : rows.slice(1);
+// What a refusal says: what may stand there, behind the word at fault where its place isn't shown, and what else is known of the line.
+function saidOf({ at = 0, length = 0, place, words }, { line, reasons }) {
+  const word = place === undefined ? line.slice(at, at + length).trim() : "";
+  const known = reasons.slice(reasons.findIndex((row) => row.endsWith(words)) + 1);
+  return [word === "" ? words : `${word}: ${words}`, ...known.map((row) => row.trim())];
 }
 
-function shownRefusal(answer, { line, rules, reasons }) {
-  const field = fieldOf(line, rules);
+function shownRefusal(answer, about) {
   const box = make("div", { class: "refused" }, make("p", { class: "headline" }, "Refused"));
-  box.append(...saidOf(answer, reasons).map((row) => make("p", { class: "reason" }, row)));
-  box.append(make("p", {}, `Look at ${FIELD_NAMES[field] ?? FIELD_NAMES.line}.`));
-  if (answer.place !== undefined) box.append(placeShown(answer, line));
+  box.append(...saidOf(answer, about).map((row) => make("p", { class: "reason" }, row)));
+  box.append(make("p", {}, `Look at ${FIELD_NAMES[answer.key ?? "line"]}.`));
+  if (answer.place !== undefined) box.append(placeShown(answer, about.line));
   return [box];
 }
 

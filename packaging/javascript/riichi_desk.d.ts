@@ -22,6 +22,11 @@ export interface Won {
 }
 /** The kinds that bring a hand nearer, each with its live copies, and how many these are in all. */
 export interface Accepted { accepts: { kind: Kind; live: number }[]; live: number }
+/** A key of a line, or its hand. */
+export type Key = "hand" | "on" | "by" | "seat" | "round" | "open" | "riichi" | "flags" | "dora" | "ura" | "counters" | "sticks" | "seen";
+/** Why a line is refused: `text` and `place` where one of its texts of tiles is; the key at fault, where it is one; `at` and `length`
+ * in bytes where one word of the line is at fault; and what may stand there. */
+export interface Refused { answer: "refused"; code: string; text?: Key; place?: number; key?: Key; at?: number; length?: number; words: string }
 export type Answer =
   | Won
   | { answer: "no yaku" }
@@ -29,7 +34,7 @@ export type Answer =
   | { answer: "waits"; kinds: Kind[] }
   | ({ answer: "shape"; shanten: number } & Accepted)
   | { answer: "shape"; shanten: number; discards: ({ discard: Kind } & Accepted)[] }
-  | { answer: "refused"; code: string; text?: string; place?: number };
+  | Refused;
 /** The answer to one line, such as `waits 1112345678999m`; null where it is a comment or blank. */
 export function answer(line: Line, rules?: Rules): Answer | null;
 /** The answer to each of many lines. */

@@ -1,8 +1,8 @@
 //! Worked lines and their answers.
 use crate::facts::same;
 use desk_core::{Answer, judge};
-use desk_json::{JsonText, answer_text, fault_text, push_fault};
-use riichi_hand::{LineFault, Rules, read_line};
+use desk_json::{JsonText, answer_text, push_refusal, refusal_text};
+use riichi_hand::{Rules, read_line, read_placed};
 use std::process::Abort;
 use std::test::Fail;
 
@@ -69,18 +69,58 @@ const HANDS: [Row; 6] = [
     },
 ];
 
-const FAULTS: [Row; 3] = [
+const REFUSALS: [Row; 13] = [
     Row {
         line: "waits 8z",
-        text: "{\"answer\":\"refused\",\"code\":\"N5\",\"text\":\"hand\",\"place\":0}",
+        text: "{\"answer\":\"refused\",\"code\":\"N5\",\"text\":\"hand\",\"place\":0,\"key\":\"hand\",\"at\":6,\"length\":2,\"words\":\"honours are 1z to 7z\"}",
     },
     Row {
         line: "waits 12x3m",
-        text: "{\"answer\":\"refused\",\"code\":\"N2\",\"text\":\"hand\",\"place\":2}",
+        text: "{\"answer\":\"refused\",\"code\":\"N2\",\"text\":\"hand\",\"place\":2,\"key\":\"hand\",\"at\":6,\"length\":5,\"words\":\"a digit or one of m p s z stands here\"}",
     },
     Row {
-        line: "wait 1112345678999m",
-        text: "{\"answer\":\"refused\",\"code\":\"H2\"}",
+        line: "  wait 1112345678999m",
+        text: "{\"answer\":\"refused\",\"code\":\"H2\",\"at\":2,\"length\":4,\"words\":\"the first word is win, waits or shape\"}",
+    },
+    Row {
+        line: "waits 1m\t",
+        text: "{\"answer\":\"refused\",\"code\":\"H1\",\"at\":8,\"length\":1,\"words\":\"a tab stands here: words are parted by spaces\"}",
+    },
+    Row {
+        line: "win",
+        text: "{\"answer\":\"refused\",\"code\":\"H3\",\"key\":\"hand\",\"words\":\"the second word is the hand, and has no =\"}",
+    },
+    Row {
+        line: "win on=5s",
+        text: "{\"answer\":\"refused\",\"code\":\"H3\",\"key\":\"on\",\"at\":4,\"length\":5,\"words\":\"the second word is the hand, and has no =\"}",
+    },
+    Row {
+        line: "win 1m by=ron seat=s",
+        text: "{\"answer\":\"refused\",\"code\":\"H4\",\"key\":\"seat\",\"at\":14,\"length\":6,\"words\":\"a seat is E, S, W or N\"}",
+    },
+    Row {
+        line: "win 1m place=2",
+        text: "{\"answer\":\"refused\",\"code\":\"H4\",\"at\":7,\"length\":7,\"words\":\"after the hand of win stand on=, by=, seat=, round=, open=, riichi=, flags=, dora=, ura=, counters= and sticks= alone\"}",
+    },
+    Row {
+        line: "win 234m567m345p67s99s on=5s by=ron seat=S round=E on=5s",
+        text: "{\"answer\":\"refused\",\"code\":\"H5\",\"key\":\"on\",\"at\":51,\"length\":5,\"words\":\"no key stands twice\"}",
+    },
+    Row {
+        line: "win 1m on=1m by=ron seat=S",
+        text: "{\"answer\":\"refused\",\"code\":\"H6\",\"key\":\"round\",\"words\":\"a win tells on, by, seat and round\"}",
+    },
+    Row {
+        line: "waits 123456789m111z",
+        text: "{\"answer\":\"refused\",\"code\":\"H8\",\"key\":\"hand\",\"at\":6,\"length\":14,\"words\":\"a hand has 13 tiles, a shape 13 or 14, three fewer for each meld; on has one tile, dora and ura at most five\"}",
+    },
+    Row {
+        line: "win 111m234m567p678s9s on=9s by=ron seat=S round=E dora=11m",
+        text: "{\"answer\":\"refused\",\"code\":\"H9\",\"words\":\"there are four tiles of a kind in all\"}",
+    },
+    Row {
+        line: "win 234m567m345p67s99s on=5s by=ron seat=S round=E flags=chankan,last",
+        text: "{\"answer\":\"refused\",\"code\":\"H14\",\"key\":\"flags\",\"at\":51,\"length\":18,\"words\":\"rinshan goes with neither last nor ippatsu, chankan not with last\"}",
     },
 ];
 
@@ -110,30 +150,40 @@ fn answers_of_hands_and_shapes(rt: HostRuntime) -> Result<(), Fail> {
     Ok(())
 }
 
-fn fault_of(line: &str) -> Option<LineFault> {
-    read_line(Rules::One, line.as_bytes()).err()
+fn refused(line: &[u8]) -> Result<JsonText, Fail> {
+    match read_placed(Rules::One, line) {
+        Ok(_) => Err("not refused".into()),
+        Err(refusal) => Ok(refusal_text(line, &refusal)),
+    }
 }
 
 #[test]
 fn what_is_refused(rt: HostRuntime) -> Result<(), Fail> {
-    for row in &FAULTS {
-        let fault = fault_of(row.line).ok_or("not refused")?;
-        same(&rt, fault_text(&fault).as_str(), row.text);
+    for row in &REFUSALS {
+        same(&rt, refused(row.line.as_bytes())?.as_str(), row.text);
     }
     Ok(())
 }
 
 #[test]
+fn lines_that_are_too_long(rt: HostRuntime) -> Result<(), Fail> {
+    let told =
+        "{\"answer\":\"refused\",\"code\":\"H1\",\"words\":\"a line has at most 4096 bytes, all of them printable ASCII\"}";
+    same(&rt, refused(&[b'w'; 4097])?.as_str(), told);
+    same(&rt, refused(&[0; 5000])?.as_str(), told);
+    Ok(())
+}
+
+#[test]
 fn in_a_text_that_is_kept(rt: HostRuntime) -> Result<(), Fail> {
-    let fault = fault_of("waits 8z").ok_or("not refused")?;
+    let line = b"waits 8z";
+    let Err(refusal) = read_placed(Rules::One, line) else {
+        return Err("not refused")?;
+    };
     let mut text = JsonText::new();
-    push_fault(&mut text, &fault);
+    push_refusal(&mut text, line, &refusal);
     text.clear();
-    push_fault(&mut text, &fault);
-    same(
-        &rt,
-        text.as_str(),
-        "{\"answer\":\"refused\",\"code\":\"N5\",\"text\":\"hand\",\"place\":0}",
-    );
+    push_refusal(&mut text, line, &refusal);
+    same(&rt, text.as_str(), refused(line)?.as_str());
     Ok(())
 }

@@ -7,9 +7,6 @@ three t a b c = simp append_assoc
 pub five : (t a b c d e : List ℕ) → ((((t ++ a) ++ b) ++ c) ++ d) ++ e ≡ t ++ ((((a ++ b) ++ c) ++ d) ++ e)
 five t a b c d e = simp append_assoc
 
-pub seven : (t a b c d e f g : List ℕ) → ((((((t ++ a) ++ b) ++ c) ++ d) ++ e) ++ f) ++ g ≡ t ++ ((((((a ++ b) ++ c) ++ d) ++ e) ++ f) ++ g)
-seven t a b c d e f g = simp append_assoc
-
 pub eight : (t a b c d e f g h : List ℕ)
     → (((((((t ++ a) ++ b) ++ c) ++ d) ++ e) ++ f) ++ g) ++ h ≡ t ++ (((((((a ++ b) ++ c) ++ d) ++ e) ++ f) ++ g) ++ h)
 eight t a b c d e f g h = simp append_assoc

@@ -4,7 +4,7 @@ pub mod Lists
 pub mod Chosen
 pub mod WordLemmas
 pub mod Pieces
-pub mod Faults
+pub mod Refusals
 pub mod Same
 pub mod ReadBack
 pub mod Seen

@@ -1,9 +1,11 @@
 -- The pieces that the texts of the answers are written from.
-use Rattle.std.specs.Prelude.{ℕ, ◌==◌, Bool, List, [], ◌++◌, if◌then◌else◌, codes, decimal, map, nat_le}
+use Rattle.std.specs.Prelude.{ℕ, ◌==◌, Bool, List, [], ◌++◌, Option, None, Some, if◌then◌else◌, codes, decimal, map, nat_le}
 use Rattle.std.specs.Fmt.{signed_decimal}
 use Rattle.riichi_hand.specs.FaultTexts.{line_code_text, notation_code_text, name_text}
 use Rattle.riichi_hand.specs.declared.fault.LineFault.{LineFault}
 use Rattle.riichi_hand.specs.declared.fault.LineFault.TheVariants.{Line, Notation}
+use Rattle.riichi_hand.specs.declared.line.record.Place.{Place}
+use Rattle.riichi_faults.specs.Meaning.{refusal_key, refusal_place, refusal_words}
 use Rattle.riichi_names.specs.Names.{japanese}
 use Rattle.riichi_yaku.specs.declared.table.Yaku.{Yaku}
 use Rattle.riichi_yaku.specs.Table.{number, word}
@@ -115,10 +117,28 @@ accepts_text (Fourteen discards) = codes "\"discards\":[" ++ discards_text disca
 unfoldable pub shape_text : ShapeAnswer → List ℕ
 shape_text shape = codes "{\"answer\":\"shape\",\"shanten\":" ++ signed_decimal shape.shanten ++ codes "," ++ accepts_text shape.accepts
 
--- ---- faults
+-- ---- refusals
 
-unfoldable pub fault_parts : LineFault → List ℕ
-fault_parts (Line code) = codes "{\"answer\":\"refused\",\"code\":\"" ++ line_code_text code ++ codes "\"}"
-fault_parts (Notation name fault) =
+unfoldable pub code_text : LineFault → List ℕ
+code_text (Line code) = codes "{\"answer\":\"refused\",\"code\":\"" ++ line_code_text code ++ codes "\""
+code_text (Notation name fault) =
     codes "{\"answer\":\"refused\",\"code\":\"" ++ notation_code_text fault.code ++ codes "\",\"text\":\"" ++ name_text name
-    ++ codes "\",\"place\":" ++ decimal fault.place ++ codes "}"
+    ++ codes "\",\"place\":" ++ decimal fault.place
+
+unfoldable pub key_text : Option (List ℕ) → List ℕ
+key_text None = []
+key_text (Some key) = codes ",\"key\":\"" ++ key ++ codes "\""
+
+unfoldable pub place_text : Option Place → List ℕ
+place_text None = []
+place_text (Some place) = codes ",\"at\":" ++ decimal place.at ++ codes ",\"length\":" ++ decimal place.length
+
+-- with the brace that ends the object
+unfoldable pub words_text : List ℕ → List ℕ
+words_text words = codes ",\"words\":\"" ++ words ++ codes "\"}"
+
+abbrev pub refused_text : LineFault → Option (List ℕ) → Option Place → List ℕ → List ℕ
+refused_text fault key place words = code_text fault ++ key_text key ++ place_text place ++ words_text words
+
+unfoldable pub refusal_parts : List ℕ → LineFault → List ℕ
+refusal_parts line fault = refused_text fault (refusal_key line fault) (refusal_place line fault) (refusal_words line fault)

@@ -1,11 +1,15 @@
 -- The text of a value of JSON.
-use Rattle.std.specs.Prelude.{ℕ, List}
+use Rattle.std.specs.Prelude.{◌≡◌, ℕ, ◌<◌, List, length}
+use Rattle.std.proofs.Common.{ap}
 use Rattle.json.specs.Json.{Json}
 use Rattle.json.specs.Print.{print}
 use Rattle.json.specs.Tree.{json_tokens}
+use Rattle.riichi_hand.specs.declared.fault.LineCode.TheVariants.{H1}
 use Rattle.riichi_hand.specs.declared.fault.LineFault.{LineFault}
+use Rattle.riichi_hand.specs.declared.fault.LineFault.TheVariants.{Line}
+use Rattle.riichi_faults.specs.Meaning.{long_keys_alike, long_places_alike, long_words_alike}
 use Rattle.desk_core.specs.declared.answer.Answer.{Answer}
-use Rattle.desk_json.specs.Trees.{answer_tree, fault_tree}
+use Rattle.desk_json.specs.Trees.{answer_tree, refused_tree, refusal_tree}
 
 -- with no space and no line's end
 unfoldable pub text_of : Json → List ℕ
@@ -14,5 +18,17 @@ text_of json = print (json_tokens json)
 abbrev pub answer_text : Answer → List ℕ
 answer_text answer = text_of (answer_tree answer)
 
-abbrev pub fault_text : LineFault → List ℕ
-fault_text fault = text_of (fault_tree fault)
+abbrev pub refusal_text : List ℕ → LineFault → List ℕ
+refusal_text line fault = text_of (refusal_tree line fault)
+
+-- lines of more than 4,096 bytes are refused alike
+long_trees_alike : (line other : List ℕ) → 4096 < length line → 4096 < length other → refusal_tree line (Line H1) ≡ refusal_tree other (Line H1)
+unfolding refusal_tree
+long_trees_alike line other long long_other =
+    let keys = long_keys_alike line other in
+    let places = long_places_alike line other long long_other in
+    let words = long_words_alike line other long long_other in
+    λ i. refused_tree (Line H1) (keys i) (places i) (words i)
+
+pub long_texts_alike : (line other : List ℕ) → 4096 < length line → 4096 < length other → refusal_text line (Line H1) ≡ refusal_text other (Line H1)
+long_texts_alike line other long long_other = ap text_of (long_trees_alike line other long long_other)

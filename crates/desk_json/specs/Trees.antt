@@ -1,5 +1,5 @@
 -- The answers as values of JSON.
-use Rattle.std.specs.Prelude.{ℕ, Bool, List, [], ◌∷◌, ◌==◌, if◌then◌else◌, codes, decimal, filter, nat_le}
+use Rattle.std.specs.Prelude.{ℕ, List, [], ◌∷◌, ◌++◌, ◌==◌, Option, None, Some, if◌then◌else◌, codes, decimal, filter, nat_le}
 use Rattle.std.specs.Fmt.{signed_decimal}
 use Rattle.json.specs.Json.{Json, null, boolean, number, string, array, object, Items, no_items, item, Members, no_members, member}
 use Rattle.riichi_tiles.specs.HeldKinds.{is_held}
@@ -7,6 +7,8 @@ use Rattle.riichi_tiles.specs.Melds.{every_kind}
 use Rattle.riichi_hand.specs.FaultTexts.{line_code_text, notation_code_text, name_text}
 use Rattle.riichi_hand.specs.declared.fault.LineFault.{LineFault}
 use Rattle.riichi_hand.specs.declared.fault.LineFault.TheVariants.{Line, Notation}
+use Rattle.riichi_hand.specs.declared.line.record.Place.{Place}
+use Rattle.riichi_faults.specs.Meaning.{refusal_key, refusal_place, refusal_words}
 use Rattle.riichi_names.specs.Names.{japanese}
 use Rattle.riichi_yaku.specs.declared.table.Yaku.{Yaku}
 use Rattle.riichi_yaku.specs.Table as table
@@ -137,11 +139,29 @@ answer_tree (answer.Win win) = win_tree win
 answer_tree (answer.Waits kinds) = waits_tree kinds
 answer_tree (answer.Shape shape) = shape_tree shape
 
--- what is refused: the code, and for a notation text its name and the place
-unfoldable pub fault_tree : LineFault → Json
-fault_tree (Line code) = answer_of_sort (codes "refused") ((codes "code", string (line_code_text code)) ∷ [])
-fault_tree (Notation name fault) = answer_of_sort (codes "refused") (
+-- ---- refusals
+
+-- the code, and for a notation text its name and the place in it
+abbrev pub code_members : LineFault → List Named
+code_members (Line code) = (codes "code", string (line_code_text code)) ∷ []
+code_members (Notation name fault) =
     (codes "code", string (notation_code_text fault.code))
     ∷ (codes "text", string (name_text name))
     ∷ (codes "place", natural fault.place)
-    ∷ [])
+    ∷ []
+
+abbrev pub key_members : Option (List ℕ) → List Named
+key_members None = []
+key_members (Some key) = (codes "key", string key) ∷ []
+
+abbrev pub place_members : Option Place → List Named
+place_members None = []
+place_members (Some place) = (codes "at", natural place.at) ∷ (codes "length", natural place.length) ∷ []
+
+-- a fault with the key and the place of the line that are at fault, and what may stand there
+abbrev pub refused_tree : LineFault → Option (List ℕ) → Option Place → List ℕ → Json
+refused_tree fault key place words =
+    answer_of_sort (codes "refused") (code_members fault ++ key_members key ++ place_members place ++ (codes "words", string words) ∷ [])
+
+unfoldable pub refusal_tree : List ℕ → LineFault → Json
+refusal_tree line fault = refused_tree fault (refusal_key line fault) (refusal_place line fault) (refusal_words line fault)

@@ -13,10 +13,10 @@ use Rattle.riichi_score.specs.declared.answer.WinAnswer.TheVariants.{Won, NoYaku
 use Rattle.desk_core.specs.declared.answer.Answer.{Answer}
 use Rattle.desk_core.specs.declared.answer.Answer.TheVariants as answer
 use Rattle.desk_core.specs.Value.{value_of}
-use Rattle.desk_json.specs.Parts.{worth_text, score_text, win_text, waits_text, shape_text, fault_parts}
-use Rattle.desk_json.specs.Text.{answer_text, fault_text}
-use Rattle.desk_json.proofs.Faults.{fault_written}
+use Rattle.desk_json.specs.Parts.{worth_text, score_text, win_text, waits_text, shape_text, code_text, refusal_parts}
+use Rattle.desk_json.specs.Text.{answer_text, refusal_text}
 use Rattle.desk_json.proofs.Pieces.{win_written, waits_written, shape_written}
+use Rattle.desk_json.proofs.Refusals.{refusal_written}
 use Rattle.desk_lines.specs.JsonLine.{is_refusal, json_of, json_on, outcome_json, IsMembers, are_of_refusal}
 use Rattle.desk_lines.specs.LineAnswer.{answer_of, outcome_text}
 use Rattle.desk_lines.specs.LineAnswers.{answers_on, report_on}
@@ -27,13 +27,13 @@ use Rattle.desk_lines.specs.Telling.{is_refusal as is_told_refusal, report_by}
 use Rattle.desk_lines.proofs.KindLemmas.{is_refusal-fault as told-fault, is_refusal-answer as told-answer}
 use Rattle.desk_lines.proofs.TellingLemmas.{report_by-same}
 
-parts_refuse : (fault : LineFault) → is_refusal (fault_parts fault) ≡ true
-unfolding fault_parts
-parts_refuse (Line code) = refl
-parts_refuse (Notation name fault) = refl
+parts_refuse : (line : List ℕ) (fault : LineFault) → is_refusal (refusal_parts line fault) ≡ true
+unfolding refusal_parts code_text
+parts_refuse line (Line code) = refl
+parts_refuse line (Notation name fault) = refl
 
-pub is_refusal-fault : (fault : LineFault) → is_refusal (fault_text fault) ≡ true
-is_refusal-fault fault = ap is_refusal (fault_written fault) ∙ parts_refuse fault
+pub is_refusal-fault : (line : List ℕ) (fault : LineFault) → is_refusal (refusal_text line fault) ≡ true
+is_refusal-fault line fault = ap is_refusal (refusal_written line fault) ∙ parts_refuse line fault
 
 no_win_refuses : (win : WinAnswer) → is_refusal (win_text win) ≡ false
 unfolding win_text score_text worth_text
@@ -66,22 +66,22 @@ answer_brace (answer.Win win) = brace_of (answer_text (answer.Win win)) (win_tex
 answer_brace (answer.Waits marks) = brace_of (answer_text (answer.Waits marks)) (waits_text marks) (waits_written marks) refl
 answer_brace (answer.Shape shape) = brace_of (answer_text (answer.Shape shape)) (shape_text shape) (shape_written shape) refl
 
-parts_brace : (fault : LineFault) → codes "{" ++ drop 1 (fault_parts fault) ≡ fault_parts fault
-unfolding fault_parts
-parts_brace (Line code) = refl
-parts_brace (Notation name fault) = refl
+parts_brace : (line : List ℕ) (fault : LineFault) → codes "{" ++ drop 1 (refusal_parts line fault) ≡ refusal_parts line fault
+unfolding refusal_parts code_text
+parts_brace line (Line code) = refl
+parts_brace line (Notation name fault) = refl
 
-pub fault_brace : (fault : LineFault) → codes "{" ++ drop 1 (fault_text fault) ≡ fault_text fault
-fault_brace fault = brace_of (fault_text fault) (fault_parts fault) (fault_written fault) (parts_brace fault)
+pub fault_brace : (line : List ℕ) (fault : LineFault) → codes "{" ++ drop 1 (refusal_text line fault) ≡ refusal_text line fault
+fault_brace line fault = brace_of (refusal_text line fault) (refusal_parts line fault) (refusal_written line fault) (parts_brace line fault)
 
 -- the object of an outcome was made, and its members put
-pub members_puts : (rules : Rules) (line before same after made object : List ℕ) (outcome : Result (Option Job) LineFault) (refused : Bool) → outcome_of rules line ≡ outcome → outcome_json outcome ≡ Some object
+pub members_puts : (rules : Rules) (line before same after made object : List ℕ) (outcome : Result (Option Job) LineFault) (refused : Bool) → outcome_of rules line ≡ outcome → outcome_json line outcome ≡ Some object
     → codes "{" ++ drop 1 object ≡ object → is_refusal object ≡ refused → same ≡ before → made ≡ object → after ≡ same ++ (drop 1 made ++ 10 ∷ [])
     → Puts are_of_refusal (IsMembers rules line) (cond refused Refused Answered) before after
 unfolding json_of
 members_puts rules line before same after made object outcome refused is said brace tested kept made_is put = record {
   told = Some (drop 1 object);
-  may_be_told = ap Some brace ∙ sym said ∙ ap outcome_json (sym is);
+  may_be_told = ap Some brace ∙ sym said ∙ ap (outcome_json line) (sym is);
   kind_is = ap (λ (r : Bool). cond r Refused Answered) (sym (ap is_refusal brace ∙ tested));
   put = put ∙ ap (λ (text : List ℕ). same ++ (drop 1 text ++ 10 ∷ [])) made_is ∙ ap (λ (front : List ℕ). front ++ (drop 1 object ++ 10 ∷ [])) kept;
 }
@@ -90,24 +90,24 @@ pub members_none : (rules : Rules) (line before : List ℕ) → outcome_of rules
 unfolding json_of
 members_none rules line before is = record {
   told = None;
-  may_be_told = ap outcome_json (sym is);
+  may_be_told = ap (outcome_json line) (sym is);
   kind_is = refl;
   put = sym (append-nil before);
 }
 
 -- ---- how many
 
-one_refusal : (outcome : Result (Option Job) LineFault) (objects answers : List (List ℕ)) → map is_refusal objects ≡ map is_told_refusal answers
-    → map is_refusal (cons_option (outcome_json outcome) objects) ≡ map is_told_refusal (cons_option (outcome_text outcome) answers)
-one_refusal (Ok None) objects answers rest = rest
-one_refusal (Ok (Some job)) objects answers rest = λ i. (is_refusal-answer (value_of job) ∙ sym (told-answer (value_of job))) i ∷ rest i
-one_refusal (Err fault) objects answers rest = λ i. (is_refusal-fault fault ∙ sym (told-fault fault)) i ∷ rest i
+one_refusal : (line : List ℕ) (outcome : Result (Option Job) LineFault) (objects answers : List (List ℕ)) → map is_refusal objects ≡ map is_told_refusal answers
+    → map is_refusal (cons_option (outcome_json line outcome) objects) ≡ map is_told_refusal (cons_option (outcome_text outcome) answers)
+one_refusal line (Ok None) objects answers rest = rest
+one_refusal line (Ok (Some job)) objects answers rest = λ i. (is_refusal-answer (value_of job) ∙ sym (told-answer (value_of job))) i ∷ rest i
+one_refusal line (Err fault) objects answers rest = λ i. (is_refusal-fault line fault ∙ sym (told-fault fault)) i ∷ rest i
 
 -- the objects that are refusals are those of the plain answers that are
 same_refusals : (rules : Rules) (lines : List (List ℕ)) → map is_refusal (filter_map (json_of rules) lines) ≡ map is_told_refusal (filter_map (answer_of rules) lines)
 unfolding json_of answer_of
 same_refusals rules [] = refl
-same_refusals rules (line ∷ lines) = one_refusal (outcome_of rules line) (filter_map (json_of rules) lines) (filter_map (answer_of rules) lines) (same_refusals rules lines)
+same_refusals rules (line ∷ lines) = one_refusal line (outcome_of rules line) (filter_map (json_of rules) lines) (filter_map (answer_of rules) lines) (same_refusals rules lines)
 
 pub json_report : (given : Rules) (lines : List (List ℕ)) → report_by is_refusal (json_on given lines) ≡ report_on given lines
 json_report given lines = report_by-same is_refusal is_told_refusal (json_on given lines) (answers_on given lines) (same_refusals (rules_of given lines) (record_lines lines))

@@ -1,27 +1,31 @@
 -- The answer to one line as JSON, and the answers to the lines of a stream.
-use Rattle.std.specs.Prelude.{◌≡◌, ℕ, List, ◌++◌, Bool, Option, Result, codes, nat_eq, option_map}
+use Rattle.std.specs.Prelude.{◌≡◌, ℕ, ◌<◌, List, ◌++◌, Bool, Option, Some, Result, length, codes, nat_eq, option_map}
 use Rattle.std.specs.List.{starts_with}
 use Rattle.std.proofs.Common.{sym, ap, ◌∙◌}
 use Rattle.riichi_hand.specs.declared.win.Rules.{Rules}
 use Rattle.riichi_hand.specs.declared.fault.LineFault.{LineFault}
 use Rattle.riichi_hand.specs.declared.job.Job.{Job}
 use Rattle.riichi_hand.specs.Lines.{outcome_of}
-use Rattle.desk_json.specs.Text.{answer_text, fault_text}
+use Rattle.desk_json.specs.Text.{answer_text, refusal_text, long_texts_alike}
 use Rattle.desk_lines.specs.LineAnswer.{outcome_told, IsBy}
 use Rattle.desk_lines.specs.LineAnswers.{answers_by}
 use Rattle.desk_lines.specs.LongLines.{AreAlike, long_outcome}
 use Rattle.desk_lines.specs.Telling.{text_of}
 
-abbrev pub outcome_json : Result (Option Job) LineFault → Option (List ℕ)
-outcome_json outcome = outcome_told answer_text fault_text outcome
+abbrev pub outcome_json : List ℕ → Result (Option Job) LineFault → Option (List ℕ)
+outcome_json line outcome = outcome_told answer_text (refusal_text line) outcome
 
 -- the answer to a line as JSON
 unfoldable pub json_of : Rules → List ℕ → Option (List ℕ)
-json_of rules line = outcome_json (outcome_of rules line)
+json_of rules line = outcome_json line (outcome_of rules line)
+
+long_objects : (rules : Rules) (line other : List ℕ) → 4096 < length line → 4096 < length other → json_of rules line ≡ json_of rules other
+unfolding json_of
+long_objects rules line other long long_other =
+    ap (outcome_json line) (long_outcome rules line long) ∙ ap Some (long_texts_alike line other long long_other) ∙ ap (outcome_json other) (sym (long_outcome rules other long_other))
 
 pub json_alike : AreAlike (IsBy json_of)
-unfolding json_of
-json_alike rules line other told long long_other is = is ∙ ap outcome_json (long_outcome rules line long ∙ sym (long_outcome rules other long_other))
+json_alike rules line other told long long_other is = is ∙ long_objects rules line other long long_other
 
 -- an object begins as those of faults do, and those of answers don't
 abbrev pub is_refusal : List ℕ → Bool
@@ -34,8 +38,7 @@ abbrev pub IsMembers : Rules → List ℕ → Option (List ℕ) → Type 0
 IsMembers rules line members = option_map (λ text. codes "{" ++ text) members ≡ json_of rules line
 
 pub members_alike : AreAlike IsMembers
-unfolding json_of
-members_alike rules line other told long long_other is = is ∙ ap outcome_json (long_outcome rules line long ∙ sym (long_outcome rules other long_other))
+members_alike rules line other told long long_other is = is ∙ long_objects rules line other long long_other
 
 -- these are the members of a refusal
 abbrev pub are_of_refusal : List ℕ → Bool

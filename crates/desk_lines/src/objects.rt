@@ -1,7 +1,8 @@
 //! The answer to one line as JSON.
-ghost use Rattle.std.specs.Prelude.{◌≡◌, ◌++◌};
+ghost use Rattle.std.specs.Prelude.{◌≡◌, ◌++◌, option_map};
 ghost use Rattle.desk_core.specs.Value.{value_of};
 ghost use Rattle.desk_json.specs.Text as spec;
+ghost use Rattle.riichi_hand.specs.Places.{fault_from};
 ghost use Rattle.desk_lines.specs.JsonLine.{json_of, is_refusal};
 ghost use Rattle.desk_lines.specs.Outbox.{HasRoom};
 ghost use Rattle.desk_lines.specs.Telling.{kind_by, with_line_feed};
@@ -11,8 +12,8 @@ use super::numbered::Numbers;
 use super::outbox::Outbox;
 use super::responder::Responder;
 use desk_core::judge_with;
-use desk_json::{push_answer, push_fault};
-use riichi_hand::{Job, LineFault, Rules, read_line};
+use desk_json::{push_answer, push_refusal};
+use riichi_hand::{Job, Refusal, Rules, read_placed};
 use riichi_shape::RowSource;
 
 /// The answers as JSON: an object on a line for each record.
@@ -51,15 +52,15 @@ fn put_json<S: RowSource>(
     ensures told { outbox.new.bytes.items ≡
         outbox.old.bytes.items ++ with_line_feed (json_of rules line.now) }
 {
-    match read_line(rules, line) {
+    match read_placed(rules, line) {
         Ok(None) => LineKind::NoRecord,
         Ok(Some(job)) => {
             make_object(&job, outbox, source);
             outbox.put_object();
             LineKind::Answered
         }
-        Err(fault) => {
-            make_fault(&fault, outbox);
+        Err(refusal) => {
+            make_refusal(line, &refusal, outbox);
             outbox.put_object();
             LineKind::Refused
         }
@@ -84,15 +85,15 @@ impl Responder for Members {
         outbox: &mut Outbox,
         source: &mut S,
     ) -> LineKind {
-        match read_line(rules, line) {
+        match read_placed(rules, line) {
             Ok(None) => LineKind::NoRecord,
             Ok(Some(job)) => {
                 make_object(&job, outbox, source);
                 outbox.put_members();
                 LineKind::Answered
             }
-            Err(fault) => {
-                make_fault(&fault, outbox);
+            Err(refusal) => {
+                make_refusal(line, &refusal, outbox);
                 outbox.put_members();
                 LineKind::Refused
             }
@@ -119,11 +120,12 @@ fn make_object<S: RowSource>(job: &Job, outbox: &mut Outbox, source: &mut S)
     push_answer(&mut outbox.object, &judge_with(source, job));
 }
 
-/// Makes the object of a fault.
-fn make_fault(fault: &LineFault, outbox: &mut Outbox)
-    ensures object { outbox.new.object.bytes ≡ spec.fault_text fault.now }
+/// Makes the object of a refusal.
+fn make_refusal(line: &[u8], refusal: &Refusal<'_>, outbox: &mut Outbox)
+    requires { option_map (λ from. from.now) refusal.now.from ≡ fault_from refusal.now.fault line.now }
+    ensures object { outbox.new.object.bytes ≡ spec.refusal_text line.now refusal.now.fault }
     ensures same { outbox.new.bytes ≡ outbox.old.bytes }
 {
     outbox.object.clear();
-    push_fault(&mut outbox.object, fault);
+    push_refusal(&mut outbox.object, line, refusal);
 }

@@ -16,9 +16,9 @@ shape 123456789m11348p";
 
 const OBJECTS: &[u8] =
     b"{\"answer\":\"won\",\"yakuman\":false,\"han\":4,\"fu\":30,\"dora\":1,\"base\":2000,\"limit\":\"mangan\",\"payment\":{\"discarder\":8000},\"gain\":8000,\"yaku\":[{\"number\":4,\"word\":\"pinfu\",\"japanese\":\"pinfu\"},{\"number\":16,\"word\":\"pure-straight\",\"japanese\":\"ittsu\"}]}
-{\"answer\":\"refused\",\"code\":\"N5\",\"text\":\"hand\",\"place\":0}
+{\"answer\":\"refused\",\"code\":\"N5\",\"text\":\"hand\",\"place\":0,\"key\":\"hand\",\"at\":6,\"length\":2,\"words\":\"honours are 1z to 7z\"}
 {\"answer\":\"waits\",\"kinds\":[\"2p\",\"5p\"]}
-{\"answer\":\"refused\",\"code\":\"H2\"}
+{\"answer\":\"refused\",\"code\":\"H2\",\"at\":0,\"length\":4,\"words\":\"the first word is win, waits or shape\"}
 {\"answer\":\"shape\",\"shanten\":0,\"discards\":[{\"discard\":\"8p\",\"accepts\":[{\"kind\":\"2p\",\"live\":4},{\"kind\":\"5p\",\"live\":4}],\"live\":8}]}
 ";
 

@@ -5,8 +5,8 @@ ghost use Rattle.riichi_desk_c.specs.JsonReplies.{json_reply_to};
 use crate::placing::place;
 use crate::rules_numbered;
 use desk_core::judge;
-use desk_json::{JsonText, push_answer, push_fault};
-use riichi_hand::read_line;
+use desk_json::{JsonText, push_answer, push_refusal};
+use riichi_hand::read_placed;
 
 /// Answers one line as `riichi_answer` does, but as one object of JSON, which docs/NOTATION.md and
 /// docs/answer.schema.json have: the bytes that it takes, 0 where the line is no record. They are
@@ -26,10 +26,10 @@ pub extern "C" fn riichi_json(rules: u32, line: &[u8], room: &mut [u8]) -> usize
         return place(b"{\"answer\":\"refused\",\"code\":\"rules\"}", room);
     };
     let mut text = JsonText::new();
-    match read_line(rules, line) {
+    match read_placed(rules, line) {
         Ok(None) => {}
         Ok(Some(job)) => push_answer(&mut text, &judge(&job)),
-        Err(fault) => push_fault(&mut text, &fault),
+        Err(refusal) => push_refusal(&mut text, line, &refusal),
     }
     place(text.as_str().as_bytes(), room)
 }

@@ -59,7 +59,7 @@ fn tells_its_version(rt: HostRuntime) {
 
 #[test]
 fn answers_as_json(rt: HostRuntime) {
-    let mut room = [7u8; 64];
+    let mut room = [7u8; 128];
     let needed = riichi_json(1, b"waits 123456789m1134p", &mut room);
     holds(
         &rt,
@@ -70,7 +70,7 @@ fn answers_as_json(rt: HostRuntime) {
         &rt,
         room.get(..needed)
             == Some(
-                b"{\"answer\":\"refused\",\"code\":\"N5\",\"text\":\"hand\",\"place\":0}".as_slice(),
+                b"{\"answer\":\"refused\",\"code\":\"N5\",\"text\":\"hand\",\"place\":0,\"key\":\"hand\",\"at\":6,\"length\":2,\"words\":\"honours are 1z to 7z\"}".as_slice(),
             ),
     );
     let needed = riichi_json(3, b"waits 8z", &mut room);

@@ -1,28 +1,22 @@
 -- The lines of a refusal begin with two spaces, and each ends with its line feed.
-use Rattle.std.proofs.Common.{◌≡◌, ℕ, ◌+◌, ◌-◌, ◌/◌, ◌%◌, ◌<◌, List, [], length, ◌∷◌, ◌++◌, Bool, true, false, cond, nat_eq, nat_lt, take, replicate, Option, Some, None, refl, ap, ◌∙◌, arith}
-use Rattle.std.specs.Prelude.{codes, ◌||◌, slice_index_or, unwrap_or, is_some, IfSome}
-use Rattle.std.specs.List.{starts_with, position, list_any}
+use Rattle.std.proofs.Common.{◌≡◌, ℕ, ◌+◌, ◌-◌, ◌/◌, ◌%◌, ◌<◌, List, [], ◌∷◌, ◌++◌, Bool, true, false, cond, nat_lt, take, replicate, Option, Some, None, refl, ap, ◌∙◌, arith}
+use Rattle.std.specs.Prelude.{codes, ◌||◌, unwrap_or, IfSome}
+use Rattle.std.specs.List.{list_all, list_any}
+use Rattle.std.proofs.lemmas.Bool.{and_parts, or_parts, not-true}
 use Rattle.std.proofs.lemmas.Bool.Decides.{nat_tests}
-use Rattle.riichi_tiles.specs.declared.notation.NotationCode.{NotationCode}
-use Rattle.riichi_tiles.specs.declared.notation.NotationCode.TheVariants.{N1, N2, N3, N4, N5, N6}
 use Rattle.riichi_hand.specs.declared.fault.LineCode.{LineCode}
-use Rattle.riichi_hand.specs.declared.fault.LineCode.TheVariants.{H1, H2, H3, H4, H5, H6, H7, H8, H9, H10, H11, H12, H13, H14, H15, H16}
+use Rattle.riichi_hand.specs.declared.fault.LineCode.TheVariants.{H1, H6}
 use Rattle.riichi_hand.specs.declared.fault.LineFault.{LineFault}
 use Rattle.riichi_hand.specs.declared.fault.LineFault.TheVariants.{Line, Notation}
-use Rattle.riichi_hand.specs.Entries.{first_of}
 use Rattle.riichi_hand.specs.Lines.{is_other_byte}
-use Rattle.riichi_hand.specs.Words.{words_of}
-use Rattle.riichi_faults.specs.Faults.{line_words, notation_words, first_word_words, keys_words, win_words, entry_words, byte_words}
-use Rattle.riichi_hand.specs.Places.{from_with, key_of}
+use Rattle.riichi_hand.specs.Places.{key_of}
 use Rattle.riichi_faults.specs.LineWords.{word_at_fault, text_word}
-use Rattle.riichi_faults.specs.Refusal.{named_word, word_line, byte_lines, foreign_lines, missing_key, missing_line, line_lines, place_in, notation_lines, refusal_lines}
+use Rattle.riichi_faults.specs.Meaning.{is_long, foreign_at, missing_key, refusal_words}
+use Rattle.riichi_faults.specs.Refusal.{named_word, word_line, foreign_lines, missing_line, code_lines, place_in, notation_lines, fault_lines, refusal_lines}
 use Rattle.riichi_faults.specs.Shown.{hex_digit, byte_text, shown, around, shown_line, mark_line, marked_lines}
-use Rattle.riichi_explain.proofs.PlainTexts.{plain, after, after3, either-plain, byte-plain, flat_map-plain, replicate-plain, are_indented, pass, lines-append}
+use Rattle.riichi_faults.proofs.QuietWords.{is_quiet, quiet, refusal_words-quiet, missing_key-quiet}
+use Rattle.riichi_explain.proofs.PlainTexts.{plain, after, after3, byte-plain, flat_map-plain, replicate-plain, are_indented, pass, lines-append}
 use Rattle.riichi_hints.specs.Hint.{IsNote, IsAnswered, IsPrintable, told_line, IsRefusalText}
-
-neither : (a b : Bool) → (a || b) ≡ false → (a ≡ false) × (b ≡ false)
-neither true b p = absurd (cc)
-neither false b p = (refl, p)
 
 -- ---- what is shown of a line
 
@@ -67,39 +61,12 @@ marked_lines-lines more place text words p =
 
 -- ---- what may stand in a place
 
-line_words-plain : (code : LineCode) → plain (line_words code) ≡ true
-line_words-plain = elim [ H1 ↦ refl | H2 ↦ refl | H3 ↦ refl | H4 ↦ refl | H5 ↦ refl | H6 ↦ refl | H7 ↦ refl | H8 ↦ refl | H9 ↦ refl | H10 ↦ refl | H11 ↦ refl | H12 ↦ refl | H13 ↦ refl | H14 ↦ refl | H15 ↦ refl | H16 ↦ refl ]
-
-notation_words-plain : (code : NotationCode) → plain (notation_words code) ≡ true
-notation_words-plain = elim [ N1 ↦ refl | N2 ↦ refl | N3 ↦ refl | N4 ↦ refl | N5 ↦ refl | N6 ↦ refl ]
-
-first_word_words-plain : (word : Option (List ℕ)) → plain (first_word_words word) ≡ true
-first_word_words-plain None = refl
-first_word_words-plain (Some word) = either-plain (starts_with nat_eq word (codes "rules")) _ _ refl refl
-
-keys_words-plain : (job : List ℕ) → plain (keys_words job) ≡ true
-keys_words-plain job = either-plain (starts_with nat_eq job (codes "waits")) _ _ refl (either-plain (starts_with nat_eq job (codes "shape")) _ _ refl refl)
-
-win_words-plain : (word : List ℕ) → plain (win_words word) ≡ true
-win_words-plain word =
-    either-plain (starts_with nat_eq word (codes "by=")) _ _ refl
-    (either-plain (starts_with nat_eq word (codes "seat=")) _ _ refl
-    (either-plain (starts_with nat_eq word (codes "round=")) _ _ refl
-    (either-plain (starts_with nat_eq word (codes "riichi=")) _ _ refl
-    (either-plain (starts_with nat_eq word (codes "flags=")) _ _ refl
-    (either-plain (starts_with nat_eq word (codes "counters=")) _ _ refl
-    (either-plain (starts_with nat_eq word (codes "sticks=")) _ _ refl (keys_words-plain (codes "win"))))))))
-
-entry_words-plain : (job word : Option (List ℕ)) → plain (entry_words job word) ≡ true
-unfolding entry_words
-entry_words-plain None word = refl
-entry_words-plain (Some job) None = refl
-entry_words-plain (Some job) (Some word) = either-plain (starts_with nat_eq job (codes "win")) (win_words word) (keys_words job) (win_words-plain word) (keys_words-plain job)
-
-byte_words-plain : (line : List ℕ) (place : ℕ) → plain (byte_words line place) ≡ true
-unfolding byte_words
-byte_words-plain line place =
-    either-plain (starts_with nat_eq line (239 ∷ 187 ∷ 191 ∷ [])) _ _ refl (either-plain (nat_eq (slice_index_or line place 0) 9) _ _ refl refl)
+quiet-plain : (text : List ℕ) → quiet text ≡ true → plain text ≡ true
+quiet-plain [] p = refl
+quiet-plain (byte ∷ text) p =
+    let parts = and_parts (is_quiet byte) (list_all is_quiet text) p in
+    let none = or_parts _ (nat_lt byte 32) (not-true _ parts.0) in
+    byte-plain byte text (printable-big byte none.1) (quiet-plain text parts.1)
 
 -- ---- the lines
 
@@ -112,70 +79,44 @@ word_line-lines : (word : Option (List ℕ)) (words : List ℕ) → plain words 
 unfolding word_line
 word_line-lines word words p = pass (named_word word ++ words) (10 ∷ []) (after (named_word word) words (named_word-plain word) p)
 
-byte_lines-lines : (line : List ℕ) → are_indented (byte_lines line) ≡ true
-unfolding byte_lines
-byte_lines-lines line =
-    let place = unwrap_or (position is_other_byte line) 0 in
-    marked_lines-lines 9 place line (byte_words line place) (byte_words-plain line place)
-
-foreign_lines-lines : (line : List ℕ) → are_indented (foreign_lines line) ≡ true
+foreign_lines-lines : (line words : List ℕ) → plain words ≡ true → are_indented (foreign_lines line words) ≡ true
 unfolding foreign_lines
-foreign_lines-lines line = elim (nat_lt 4096 (length line)) as (λ test. are_indented (cond test (word_line None (line_words H1)) (byte_lines line)) ≡ true)
-    [ true ↦ word_line-lines None (line_words H1) refl | false ↦ byte_lines-lines line ]
+foreign_lines-lines line words p =
+    let place = unwrap_or (foreign_at line) 0 in
+    elim (is_long line) as (λ test. are_indented (cond test (word_line None words) (marked_lines 9 place line words)) ≡ true)
+    [ true ↦ word_line-lines None words p | false ↦ marked_lines-lines 9 place line words p ]
 
-missing_key-plain : (line : List ℕ) → plain (missing_key line) ≡ true
-missing_key-plain line =
-    either-plain (is_some (from_with (codes "on=") 0 line)) _ _
-    (either-plain (is_some (from_with (codes "by=") 0 line)) _ _ (either-plain (is_some (from_with (codes "seat=") 0 line)) _ _ refl refl) refl) refl
-
-missing_line-lines : (line : List ℕ) → are_indented (missing_line line) ≡ true
+missing_line-lines : (line words : List ℕ) → plain words ≡ true → are_indented (missing_line line words) ≡ true
 unfolding missing_line
-missing_line-lines line =
-    pass (missing_key line) (codes " is missing: a win tells on, by, seat and round\n") (missing_key-plain line)
+missing_line-lines line words p =
+    pass (missing_key line ++ codes " is missing: " ++ words) (10 ∷ []) (after3 (missing_key line) (codes " is missing: ") words (quiet-plain (missing_key line) (missing_key-quiet line)) refl p)
 
-abbrev said_lines : LineCode → List ℕ → List ℕ
-said_lines code line = word_line (word_at_fault code line) (line_words code)
-
-said-lines : (code : LineCode) (line : List ℕ) → are_indented (said_lines code line) ≡ true
-said-lines code line = word_line-lines (word_at_fault code line) (line_words code) (line_words-plain code)
-
-line_lines-lines : (code : LineCode) (line : List ℕ) → are_indented (line_lines code line) ≡ true
-unfolding line_lines
-line_lines-lines H1 line = foreign_lines-lines line
-line_lines-lines H2 line = word_line-lines (word_at_fault H2 line) (first_word_words (word_at_fault H2 line)) (first_word_words-plain (word_at_fault H2 line))
-line_lines-lines H3 line = said-lines H3 line
-line_lines-lines H4 line =
-    word_line-lines (word_at_fault H4 line) (entry_words (first_of (words_of line)) (word_at_fault H4 line)) (entry_words-plain (first_of (words_of line)) (word_at_fault H4 line))
-line_lines-lines H5 line = said-lines H5 line
-line_lines-lines H6 line = missing_line-lines line
-line_lines-lines H7 line = said-lines H7 line
-line_lines-lines H8 line = said-lines H8 line
-line_lines-lines H9 line = said-lines H9 line
-line_lines-lines H10 line = said-lines H10 line
-line_lines-lines H11 line = said-lines H11 line
-line_lines-lines H12 line = said-lines H12 line
-line_lines-lines H13 line = said-lines H13 line
-line_lines-lines H14 line = said-lines H14 line
-line_lines-lines H15 line = said-lines H15 line
-line_lines-lines H16 line = said-lines H16 line
+code_lines-lines : (code : LineCode) (line words : List ℕ) → plain words ≡ true → are_indented (code_lines code line words) ≡ true
+unfolding code_lines
+code_lines-lines H1 line words p = foreign_lines-lines line words p
+code_lines-lines H6 line words p = missing_line-lines line words p
+code_lines-lines code line words p = word_line-lines (word_at_fault code line) words p
 
 notation_lines-lines : (place : ℕ) (key word words : List ℕ) → plain words ≡ true → are_indented (notation_lines place key word words) ≡ true
 unfolding notation_lines
 notation_lines-lines place key word words p = marked_lines-lines 36 (place_in place key word) word words p
 
+fault_lines-lines : (line words : List ℕ) (fault : LineFault) → plain words ≡ true → are_indented (fault_lines line fault words) ≡ true
+unfolding fault_lines
+fault_lines-lines line words (Line code) p = code_lines-lines code line words p
+fault_lines-lines line words (Notation name fault) p = notation_lines-lines fault.place (key_of name) (unwrap_or (text_word name line) []) words p
+
 refusal_lines-lines : (line : List ℕ) (fault : LineFault) → are_indented (refusal_lines line fault) ≡ true
 unfolding refusal_lines
-refusal_lines-lines line (Line code) = line_lines-lines code line
-refusal_lines-lines line (Notation name fault) =
-    notation_lines-lines fault.place (key_of name) (unwrap_or (text_word name line) []) (notation_words fault.code) (notation_words-plain fault.code)
+refusal_lines-lines line fault = fault_lines-lines line (refusal_words line fault) fault (quiet-plain (refusal_words line fault) (refusal_words-quiet line fault))
 
 -- ---- what is told below them
 
 printable-plain : (text : List ℕ) → IsPrintable text → plain text ≡ true
 printable-plain [] p = refl
 printable-plain (byte ∷ text) p =
-    let parts = neither (is_other_byte byte) (list_any is_other_byte text) p in
-    byte-plain byte text (printable-big byte (neither (nat_lt byte 32) (nat_lt 126 byte) parts.0).0) (printable-plain text parts.1)
+    let parts = or_parts (is_other_byte byte) (list_any is_other_byte text) p in
+    byte-plain byte text (printable-big byte (or_parts (nat_lt byte 32) (nat_lt 126 byte) parts.0).0) (printable-plain text parts.1)
 
 note-lines : (P : List ℕ → Type 0) (note : Option (List ℕ)) → IfSome note (λ words. P words × IsPrintable words) → are_indented (told_line (codes "  ") note) ≡ true
 note-lines P None p = refl

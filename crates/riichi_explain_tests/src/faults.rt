@@ -203,3 +203,16 @@ fn words_by_name(rt: HostRuntime) -> Result<(), Fail> {
     same(&rt, words, "a red five is one of the fives");
     Ok(())
 }
+
+#[test]
+fn what_programs_are_told(rt: HostRuntime) -> Result<(), Fail> {
+    let line = b"win 1m by=ron seat=s";
+    let Err(refusal) = read_placed(Rules::One, line) else {
+        return Err("a line without a fault")?;
+    };
+    same(&rt, refusal_key(line, &refusal), Some("seat"));
+    same(&rt, refusal_words(line, &refusal), "a seat is E, S, W or N");
+    let place = refusal_place(line, &refusal).ok_or("no place")?;
+    same(&rt, (place.at, place.length), (14, 6));
+    Ok(())
+}

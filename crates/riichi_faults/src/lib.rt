@@ -1,6 +1,8 @@
 //! What is wrong with a line, in words: the word of the line that is at fault, and what may stand there.
 //!
-//! [`push_refusal_lines`] writes the lines that follow a refusal. [`fault_words`] says what holds of every line without the fault.
+//! [`push_refusal_lines`] writes the lines that follow a refusal. [`refusal_key`], [`refusal_place`] and [`refusal_words`] say the
+//! same to programs: which key is at fault, where it stands, and what may stand there. [`fault_words`] says what holds of every line
+//! without the fault.
 //! What is shown of a line is printable: another byte stands as `\xNN`. No call takes memory.
 //!
 //! ```text
@@ -12,9 +14,11 @@
 //! ```
 #![tactic(auto)]
 
+mod meaning;
 mod refusal;
 mod shown;
 mod words;
 
+pub use meaning::{refusal_key, refusal_place, refusal_words};
 pub use refusal::push_refusal_lines;
 pub use words::fault_words;

@@ -1,5 +1,5 @@
 -- At which word of a line a fault stands. A place is the text of the line from there on.
-use Rattle.std.specs.Prelude.{ℕ, List, [], ◌∷◌, ◌++◌, Bool, ◌&&◌, Option, None, Some, nat_eq, nat_le, drop, count_by, codes, if◌then◌else◌}
+use Rattle.std.specs.Prelude.{ℕ, ◌-◌, List, [], ◌∷◌, ◌++◌, Bool, ◌&&◌, Option, None, Some, option_map, nat_eq, nat_le, drop, length, count_by, codes, if◌then◌else◌}
 use Rattle.std.specs.List.{find, starts_with}
 use Rattle.riichi_tiles.specs.Notation.{is_digit}
 use Rattle.riichi_hand.specs.declared.fault.LineCode.{LineCode}
@@ -9,6 +9,7 @@ use Rattle.riichi_hand.specs.declared.fault.LineFault.TheVariants.{Line, Notatio
 use Rattle.riichi_hand.specs.declared.fault.TextName.{TextName}
 use Rattle.riichi_hand.specs.declared.fault.TextName.TheVariants.{Hand, On, Dora, Ura, Seen}
 use Rattle.riichi_hand.specs.declared.line.job_name.JobName.{JobName}
+use Rattle.riichi_hand.specs.declared.line.record.Place.{Place}
 use Rattle.riichi_hand.specs.Words.{from_words, word_of, words_of}
 use Rattle.riichi_hand.specs.Entries.{is_bad, entries_of, first_of}
 use Rattle.riichi_hand.specs.Parts.{parts_of}
@@ -101,3 +102,7 @@ code_from H16 line = None
 abbrev pub fault_from : LineFault → List ℕ → Option (List ℕ)
 fault_from (Line code) line = code_from code line
 fault_from (Notation name fault) line = text_from name line
+
+-- where that word stands, in bytes
+abbrev pub place_of : LineFault → List ℕ → Option Place
+place_of fault line = option_map (λ from. record { at = length line - length from; length = length (word_of from) }) (fault_from fault line)

@@ -2,7 +2,7 @@
 ghost use Rattle.std.specs.Prelude.{◌≡◌, ◌≢◌, ◌==◌, [], None, Some, true, Ok, Err, IfErr, MatchOption, MatchResult, option_map, take, drop};
 ghost use Rattle.std.specs.List.{list_all};
 ghost use Rattle.riichi_hand.specs.Lines.{outcome_of, is_no_record, has_bad_word};
-ghost use Rattle.riichi_hand.specs.Places.{entry_from, fault_from};
+ghost use Rattle.riichi_hand.specs.Places.{entry_from, fault_from, place_of};
 ghost use Rattle.riichi_hand.specs.Entries.{entries_of, Holds};
 ghost use Rattle.riichi_hand.specs.Parts.{parts_of};
 ghost use Rattle.riichi_hand.specs.Texts.{no_texts};
@@ -41,7 +41,8 @@ impl Refusal<'_> {
     /// Where the word at fault stands in the line that was refused.
     pub fn place(&self, line: &[u8]) -> Option<Place>
         requires { option_map (λ from. from.now) self.now.from ≡ fault_from self.now.fault line.now }
-        ensures { let from = fault_from self.now.fault line.now in
+        ensures place { result ≡ place_of self.now.fault line.now }
+        ensures word { let from = fault_from self.now.fault line.now in
             MatchOption result (from ≡ None) (λ place.
             (from ≡ Some (drop place.at line.now))
             × (take place.length (drop place.at line.now) ≡ word_of (drop place.at line.now))) }

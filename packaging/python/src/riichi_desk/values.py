@@ -96,11 +96,16 @@ class Shape:
 
 @dataclass(frozen=True)
 class Refused:
-    """Why a line is refused; `text` and `place` where one of its texts of tiles is."""
+    """Why a line is refused: `text` and `place` where one of its texts of tiles is; the key at fault, as `seat`, where it is one;
+    `at` and `length` in bytes where one word of the line is at fault; and what may stand there."""
 
     code: str
     text: str | None
     place: int | None
+    key: str | None
+    at: int | None
+    length: int | None
+    words: str
 
 
 Answer = Union[Won, NoYaku, NoWin, Waits, Shape, Refused]
@@ -115,6 +120,8 @@ def read(text: str) -> Answer:
 
     >>> read('{"answer":"waits","kinds":["2p","5p"]}')
     Waits(kinds=('2p', '5p'))
+    >>> read('{"answer":"refused","code":"H6","key":"by","words":"a win tells on, by, seat and round"}').key
+    'by'
     """
     return value_of(json.loads(text))
 
@@ -133,5 +140,6 @@ def value_of(told: dict[str, Any]) -> Answer:
         discards = {each["discard"]: _accepted(each) for each in told.get("discards", ())}
         return Shape(told["shanten"], accepts, Table(discards))
     if sort == "refused":
-        return Refused(told["code"], told.get("text"), told.get("place"))
+        members = ("text", "place", "key", "at", "length")
+        return Refused(told["code"], *map(told.get, members), told["words"])
     return NoYaku() if sort == "no yaku" else NoWin()

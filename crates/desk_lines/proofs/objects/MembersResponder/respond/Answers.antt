@@ -1,23 +1,24 @@
-use Rattle.std.proofs.Common.{Ok, Err, Some, true, false, refl, sym, ap, ◌∙◌}
+use Rattle.std.proofs.Common.{Ok, Err, Some, true, false, refl, ap, ◌∙◌}
 use Rattle.desk_core.specs.Value.{value_of}
-use Rattle.desk_json.specs.Text.{answer_text, fault_text}
+use Rattle.desk_json.specs.Text.{answer_text, refusal_text}
 use Rattle.desk_lines.proofs.JsonLemmas.{is_refusal-answer, is_refusal-fault, answer_brace, fault_brace, members_puts, members_none}
 use Rattle.desk_lines.proofs.objects.MembersResponder.respond.Goals as goal
 
 pub returns-in-Ok-None : goal.returns-in-Ok-None
 returns-in-Ok-None g c =
-    members_none c.args.rules c.args.line.now c.args.outbox.now.bytes.items (sym c.in-Ok-None.ensures.value ∙ ap Ok c.in-Ok-None.field-0-is)
+    members_none c.args.rules c.args.line.now c.args.outbox.now.bytes.items (c.in-Ok-None.ensures ∙ ap Ok c.in-Ok-None.field-0-is)
 
 pub returns-in-Ok-Some : goal.returns-in-Ok-Some
 returns-in-Ok-Some g c =
     let told = value_of c.in-Ok-Some.job in
     let made = c.make_object in
     members_puts c.args.rules c.args.line.now c.args.outbox.now.bytes.items made.new.outbox.bytes.items c.put_members.new.self.bytes.items made.new.outbox.object.bytes (answer_text told) (Ok (Some c.in-Ok-Some.job)) false
-    (sym c.in-Ok-Some.ensures.value ∙ ap Ok c.in-Ok-Some.field-0-is) refl (answer_brace told) (is_refusal-answer told) (ap (λ bytes. bytes.items) made.ensures.same) made.ensures.object c.put_members.ensures
+    (c.in-Ok-Some.ensures ∙ ap Ok c.in-Ok-Some.field-0-is) refl (answer_brace told) (is_refusal-answer told) (ap (λ bytes. bytes.items) made.ensures.same) made.ensures.object c.put_members.ensures
 
 pub returns-in-Err : goal.returns-in-Err
 returns-in-Err g c =
-    let fault = c.in-Err.fault in
-    let made = c.make_fault in
-    members_puts c.args.rules c.args.line.now c.args.outbox.now.bytes.items made.new.outbox.bytes.items c.put_members-in-Err.new.self.bytes.items made.new.outbox.object.bytes (fault_text fault) (Err fault) true
-    (sym c.in-Err.ensures.value) refl (fault_brace fault) (is_refusal-fault fault) (ap (λ bytes. bytes.items) made.ensures.same) made.ensures.object c.put_members-in-Err.ensures
+    let line = c.args.line.now in
+    let fault = c.in-Err.refusal.fault in
+    let made = c.make_refusal in
+    members_puts c.args.rules line c.args.outbox.now.bytes.items made.new.outbox.bytes.items c.put_members-in-Err.new.self.bytes.items made.new.outbox.object.bytes (refusal_text line fault) (Err fault) true
+    c.in-Err.ensures.0 refl (fault_brace line fault) (is_refusal-fault line fault) (ap (λ bytes. bytes.items) made.ensures.same) made.ensures.object c.put_members-in-Err.ensures

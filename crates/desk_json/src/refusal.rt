@@ -1,0 +1,97 @@
+//! Why a line is refused.
+ghost use Rattle.std.specs.Prelude.{◌≡◌, ◌≤◌, ◌+◌, ◌++◌, IfSome, length, option_map};
+ghost use Rattle.arrayvec.specs.ArrayString.{array_string_len};
+ghost use Rattle.riichi_hand.specs.Places.{fault_from};
+ghost use Rattle.desk_json.specs.Parts as parts;
+ghost use Rattle.desk_json.specs.Text as spec;
+
+use crate::text::JsonText;
+use riichi_faults::{refusal_key, refusal_place, refusal_words};
+use riichi_hand::{LineFault, Place, Refusal, line_code_text, name_text, notation_code_text};
+use riichi_text::push_number;
+
+/// The refusal of a line as one object, without the line's end.
+pub fn refusal_text(line: &[u8], refusal: &Refusal<'_>) -> JsonText
+    requires { option_map (λ from. from.now) refusal.now.from ≡ fault_from refusal.now.fault line.now }
+    ensures { result.bytes ≡ spec.refusal_text line.now refusal.now.fault }
+{
+    let mut text = JsonText::new();
+    push_refusal(&mut text, line, refusal);
+    text
+}
+
+/// Writes the refusal of a line behind a text, without the line's end: its code, the key and the place of the line that are at
+/// fault, and what may stand there.
+pub fn push_refusal(text: &mut JsonText, line: &[u8], refusal: &Refusal<'_>)
+    requires room { array_string_len text.old + 300 ≤ 12288 }
+    requires from { option_map (λ from. from.now) refusal.now.from ≡ fault_from refusal.now.fault line.now }
+    ensures { text.new.bytes ≡ text.old.bytes ++ spec.refusal_text line.now refusal.now.fault }
+{
+    push_code(text, &refusal.fault);
+    push_key(text, refusal_key(line, refusal));
+    push_place(text, refusal_place(line, refusal));
+    push_words(text, refusal_words(line, refusal));
+}
+
+/// The code, and for a text of tiles its name and the place in it.
+#[tactic(auto, unfolding(crate::specs::Parts::code_text))]
+fn push_code(text: &mut JsonText, fault: &LineFault)
+    requires { array_string_len text.old + 80 ≤ 12288 }
+    ensures bytes { text.new.bytes ≡ text.old.bytes ++ parts.code_text fault.now }
+    ensures len { array_string_len text.new ≤ array_string_len text.old + 80 }
+{
+    text.push_str("{\"answer\":\"refused\",\"code\":\"");
+    match fault {
+        LineFault::Line(code) => {
+            text.push_str(line_code_text(*code));
+            text.push_str("\"");
+        }
+        LineFault::Notation(name, fault) => {
+            text.push_str(notation_code_text(fault.code));
+            text.push_str("\",\"text\":\"");
+            text.push_str(name_text(*name));
+            text.push_str("\",\"place\":");
+            push_number(text, fault.place);
+        }
+    }
+}
+
+#[tactic(auto, unfolding(crate::specs::Parts::key_text))]
+fn push_key(text: &mut JsonText, key: Option<&str>)
+    requires room { array_string_len text.old + 20 ≤ 12288 }
+    requires short { IfSome key (λ key. length key.now ≤ 8) }
+    ensures bytes { text.new.bytes ≡ text.old.bytes ++ parts.key_text (option_map (λ key. key.now) key.entry) }
+    ensures len { array_string_len text.new ≤ array_string_len text.old + 20 }
+{
+    if let Some(key) = key {
+        text.push_str(",\"key\":\"");
+        text.push_str(key);
+        text.push_str("\"");
+    }
+}
+
+#[tactic(auto, unfolding(crate::specs::Parts::place_text))]
+fn push_place(text: &mut JsonText, place: Option<Place>)
+    requires { array_string_len text.old + 60 ≤ 12288 }
+    ensures bytes { text.new.bytes ≡ text.old.bytes ++ parts.place_text place }
+    ensures len { array_string_len text.new ≤ array_string_len text.old + 60 }
+{
+    if let Some(place) = place {
+        text.push_str(",\"at\":");
+        push_number(text, place.at);
+        text.push_str(",\"length\":");
+        push_number(text, place.length);
+    }
+}
+
+/// What may stand at the fault, and the brace that ends the object.
+#[tactic(auto, unfolding(crate::specs::Parts::words_text))]
+fn push_words(text: &mut JsonText, words: &str)
+    requires room { array_string_len text.old + 140 ≤ 12288 }
+    requires short { length words.now ≤ 120 }
+    ensures { text.new.bytes ≡ text.old.bytes ++ parts.words_text words.now }
+{
+    text.push_str(",\"words\":\"");
+    text.push_str(words);
+    text.push_str("\"}");
+}
