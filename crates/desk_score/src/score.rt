@@ -75,10 +75,11 @@ pub fn score_text_with<H: Threads + Wait + Sync, R: Source + Drop, W: Sink>(
     writer: &mut W,
 ) -> Result<DeskReport, ScoreFault>
     // The readers were read to their ends, and the answers to what they gave were written.
-    ensures ok { IfOk result (λ report. (texts : List (List ℕ))
+    ensures ok { let told = option_map (λ names. map (λ name. name.now) names.now) names.entry in
+        IfOk result (λ report. (texts : List (List ℕ))
         × AllGive ⟦<R as Source>⟧ readers.items texts
         × AreWithinLimit rules texts
-        × WritesAll ⟦<W as Sink>⟧ writer.old writer.new (score_by (option_map (λ names. map (λ name. name.now) names.now) names.entry) rules texts)
+        × WritesAll ⟦<W as Sink>⟧ writer.old writer.new (score_by told rules texts)
         × (report ≡ score_report rules texts)) }
 
     // Numbers of readers and workers are tested before anything is read, numbers of jobs once all is read,
@@ -95,10 +96,11 @@ pub fn score_text_with<H: Threads + Wait + Sync, R: Source + Drop, W: Sink>(
 
     // Nothing was written but where a write failed, and then a front of the answers.
     ensures unwritten { IfErr result (λ fault. fault ≢ ScoreFault.Write → writer.new ≡ writer.old) }
-    ensures write_failed { IsErrOf result ScoreFault.Write → (texts : List (List ℕ))
+    ensures write_failed { let told = option_map (λ names. map (λ name. name.now) names.now) names.entry in
+        IsErrOf result ScoreFault.Write → (texts : List (List ℕ))
         × AllGive ⟦<R as Source>⟧ readers.items texts
         × AreWithinLimit rules texts
-        × StopsWriting ⟦<W as Sink>⟧ writer.old writer.new (score_by (option_map (λ names. map (λ name. name.now) names.now) names.entry) rules texts) }
+        × StopsWriting ⟦<W as Sink>⟧ writer.old writer.new (score_by told rules texts) }
 {
     if !in_range(readers.len(), workers) {
         return Err(ScoreFault::Range);

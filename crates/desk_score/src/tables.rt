@@ -52,9 +52,9 @@ impl Tables {
         names: Option<&[&str]>,
         readers: Vec<R>,
     ) -> Result<Tables, ScoreFault>
-        ensures ok { IfOk result (λ tables. (texts : List (List ℕ))
-            × AllGive ⟦<R as Source>⟧ readers.items texts
-            × AreRead (option_map (λ names. map (λ name. name.now) names.now) names.entry) rules texts tables) }
+        ensures ok { let told = option_map (λ names. map (λ name. name.now) names.now) names.entry in
+            IfOk result (λ tables. (texts : List (List ℕ))
+            × AllGive ⟦<R as Source>⟧ readers.items texts × AreRead told rules texts tables) }
         ensures read_failed { IsErrOf result ScoreFault.Read
             → StopsReading ⟦<R as Source>⟧ readers.items }
         ensures not_write { IsErrOf result ScoreFault.Write → ⊥ }
@@ -117,7 +117,8 @@ impl Tables {
 
 /// The name of a table, where names are given. One that isn't among them is empty.
 fn name_at<'a>(names: Option<&'a [&'a str]>, number: usize) -> Option<&'a str>
-    ensures { option_map (λ name. name.now) result ≡ name_of (option_map (λ names. map (λ name. name.now) names.now) names.entry) number }
+    ensures { option_map (λ name. name.now) result
+        ≡ name_of (option_map (λ names. map (λ name. name.now) names.now) names.entry) number }
 {
     match names?.get(number) {
         Some(name) => Some(*name),
