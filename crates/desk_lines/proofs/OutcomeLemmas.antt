@@ -127,10 +127,6 @@ answers_shown-last true given lines line =
     ∙ flat_map-append (λ told. with_front told ++ 10 ∷ []) (numbered_on given lines) (answers_in (with_number number (answer_under rules line)))
     ∙ ap (λ more. text_by with_front (numbered_on given lines) ++ more) (answer_shown number rules line)
 
-pub no_answers_shown : (is_numbered : Bool) (given : Rules) → answers_shown is_numbered given [] ≡ []
-no_answers_shown false given = refl
-no_answers_shown true given = refl
-
 -- a line that is longer than any record is refused, whatever it holds
 outcome_long : (given : Rules) (rules : Option Rules) (line : List ℕ) → 4096 < length line → outcome_by given rules line ≡ Err (Line H1) ∷ []
 outcome_long given None line long = rw (long_profile line long) (ap (λ o. o ∷ []) (long_outcome given line long))
