@@ -9,6 +9,7 @@ tests/mixed-lines 20000 > "$shelf/lines"
 "$program" line < "$shelf/lines" > "$shelf/wanted"
 "$program" line --json < "$shelf/lines" > "$shelf/json"
 "$program" explain < "$shelf/lines" > "$shelf/explained"
+for form in 'line' 'line --json' 'explain'; do "$program" $form --number < "$shelf/lines" > "$shelf/numbered-${form##* }"; done
 head -n 2000 "$shelf/lines" > "$shelf/few"
 "$program" line < "$shelf/few" > "$shelf/few-wanted"
 # the few, and among them a line that is longer than any room
@@ -114,6 +115,8 @@ if [ -f "$script" ] && has npm node; then
   same 'Node: a long line' long-wanted "$command" line
   same 'Node: line --json' json "$command" line --json
   same 'Node: explain' explained "$command" explain
+  for form in 'line' 'line --json' 'explain'; do same "Node: $form --number" "numbered-${form##* }" "$command" $form --number; done
+  told 'Node: numbers behind a line of rules' "$("$program" line --number < examples/rules-two.lines)" "$("$command" line --number < examples/rules-two.lines)"
   told 'Node: waits' 'waits 123456789m' "$("$command" waits 1112345678999m)"
   told 'Node: rules' "$("$program" line --rules 2 < examples/rules.lines | sha256sum)" "$("$command" line --rules 2 < examples/rules.lines | sha256sum)"
   told 'Node: a first line of rules' "$(cat examples/rules-two.answers)" "$("$command" line < examples/rules-two.lines)"
@@ -146,6 +149,8 @@ if [ -f "$portable" ]; then
   same 'one file of C: a long line' long-wanted "$shelf/portable" line
   same 'one file of C: line --json' json "$shelf/portable" line --json
   same 'one file of C: explain' explained "$shelf/portable" explain
+  for form in 'line' 'line --json' 'explain'; do same "one file of C: $form --number" "numbered-${form##* }" "$shelf/portable" $form --number; done
+  told 'one file of C: numbers behind a line of rules' "$("$program" line --number < examples/rules-two.lines)" "$("$shelf/portable" line --number < examples/rules-two.lines)"
   told 'one file of C: waits' 'waits 123456789m' "$("$shelf/portable" waits 1112345678999m)"
   told 'one file of C: rules' "$("$program" line --rules 2 < examples/rules.lines | sha256sum)" "$("$shelf/portable" line --rules 2 < examples/rules.lines | sha256sum)"
   told 'one file of C: a first line of rules' "$(cat examples/rules-two.answers)" "$("$shelf/portable" line < examples/rules-two.lines)"

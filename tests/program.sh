@@ -357,6 +357,16 @@ row 1 "$two" '' score --workers 16 "$room/first" "$room/second"
 row 0 $'table 0\ntable 1\nwon 4 han 30 fu 8000 gain 8000 pinfu pure-straight dora 1' '' score "$room/second" "$room/third"
 row 3 '' "riichi_desk: cannot open $room/none" score "$room/first" "$room/none" "$room/neither"
 row 3 '' 'riichi_desk: fault F1' score "$room/first" "$room"
+# with names and numbers: notes, empty lines and the line of the profile count; a name with a space, and one that isn't ASCII
+printf 'rules 2\n\n# east\nwaits 8z\r\nwaits 123456789m1134p' > "$room/fourth"
+row 1 "table 0 $room/first"$'\n1:waits 123456789m\n2:refused N5 hand at 0\n'"table 1 $room/second"$'\n'"table 2 $room/fourth"$'\n4:refused N5 hand at 0\n5:waits 25p' '' \
+  score --number "$room/first" "$room/second" "$room/fourth"
+for workers in 1 16; do
+  told "score --number by $workers workers" "$("$program" score --number "$room/first" "$room/fourth")" "$("$program" score --number --workers $workers "$room/first" "$room/fourth")"
+done
+mkdir "$room/east wind" && cp "$room/second" "$room/east wind/東.txt"
+row 0 "table 0 $room/east wind/???.txt" '' score --number "$room/east wind/東.txt"
+row 3 '' "riichi_desk: cannot open $room/none" score --number "$room/first" "$room/none"
 many=()
 for ((i = 0; i < 64; i++)); do many+=("$room/second"); done
 row 0 "$(for ((i = 0; i < 64; i++)); do echo "table $i"; done)" '' score "${many[@]}"
@@ -389,6 +399,11 @@ for ((i = 0; i < 350; i++)); do cat examples/rules.lines; done > "$room/long"
   echo 'table 2'
   cat examples/rules-two.answers
 } > "$room/wanted"
+# without names and numbers a score is the same, and behind the name of each file stand the lines of `line --number`
+told 'score --number without them' "$(sha256sum < "$room/wanted")" \
+  "$("$program" score --number examples/club-night.lines "$room/long" examples/rules-two.lines 2> "$room/said" | sed -E 's/^[0-9]+://; s/^(table [0-9]+) .*/\1/' | sha256sum)"
+told 'score --number and line --number' "$({ echo "table 0 $room/long"; "$program" line --number --file "$room/long"; } 2> "$room/said" | sha256sum)" \
+  "$("$program" score --number "$room/long" 2> "$room/said" | sha256sum)"
 for workers in 1 4 16; do
   "$program" score --workers $workers examples/club-night.lines "$room/long" examples/rules-two.lines > "$room/answers" 2> "$room/said"
   told "score of the examples by $workers workers" "$(sha256sum < "$room/wanted")" "$(sha256sum < "$room/answers")"

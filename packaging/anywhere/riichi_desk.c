@@ -15,9 +15,10 @@
 static const char help[] =
     "Usage: riichi_desk COMMAND\n\n"
     "Commands:\n"
-    "  explain [--rules N] [LINE..]     answers lines, and says below each answer why it is so\n"
-    "  line [--json] [--rules N]        answers the lines of standard input\n"
-    "  waits HAND                       prints the kinds that complete a hand\n\n"
+    "  explain [--number] [--rules N] [LINE..]   answers lines, and says below each answer why it is so\n"
+    "  line [--json] [--number] [--rules N]      answers the lines of standard input\n"
+    "  waits HAND                                prints the kinds that complete a hand\n\n"
+    "  --number    puts the number of its line before each answer\n"
     "  --rules N   the rules of lines that are given no others, 1 or 2\n"
     "  --version   the name and version of the library\n"
     "A first line `rules 2` of standard input sets the rules too.\n"
@@ -25,7 +26,9 @@ static const char help[] =
 
 typedef size_t answer_call(uint32_t, const uint8_t *, size_t, uint8_t *, size_t, size_t *);
 
-static struct { uint32_t rules; answer_call *call; int refused; } asked = {RIICHI_RULES_ONE, riichi_answer_lines, 0};
+/* What is asked for; `line` is the number of the next line. */
+static struct { uint32_t rules; answer_call *call; int refused, is_numbered; unsigned long line; } asked =
+    {RIICHI_RULES_ONE, riichi_answer_lines, 0, 0, 1};
 
 /* Whether an answer among these is a refusal. */
 static int has_refused(const uint8_t *answers, size_t length) {
@@ -41,13 +44,26 @@ static int has_refused(const uint8_t *answers, size_t length) {
     return 0;
 }
 
+/* How many bytes of a text its first line takes, with its line feed. */
+static size_t first_line(const uint8_t *text, size_t length) {
+    const uint8_t *feed = memchr(text, '\n', length);
+    return feed ? (size_t)(feed - text) + 1 : length;
+}
+
+/* Answers lines; where answers are numbered one a call, of an object the number is the first member. */
 static void answer(const uint8_t *text, size_t length) {
     static uint8_t room[1 << 18];
     size_t taken;
     for (; length > 0; text += taken, length -= taken) {
-        size_t filled = asked.call(asked.rules, text, length, room, sizeof room, &taken);
+        size_t size = asked.is_numbered ? first_line(text, length) : length;
+        size_t filled = asked.call(asked.rules, text, size, room, sizeof room, &taken), brace = 0;
         asked.refused = asked.refused || has_refused(room, filled);
-        fwrite(room, 1, filled, stdout);
+        if (asked.is_numbered && filled > 0) {
+            brace = asked.call == riichi_json_lines;
+            printf(brace ? "{\"line\":%lu," : "%lu:", asked.line);
+        }
+        fwrite(room + brace, 1, filled - brace, stdout);
+        if (asked.is_numbered) asked.line++;
     }
 }
 
@@ -67,11 +83,12 @@ static int is_profile(const uint8_t *line, size_t length) {
 
 /* How many bytes of a text its first line takes, with its line feed, where that is a profile; else 0. */
 static size_t profile_of(const uint8_t *text, size_t length) {
-    const uint8_t *feed = memchr(text, '\n', length);
-    size_t size = feed ? (size_t)(feed - text) : length;
-    size_t kept = size > 0 && text[size - 1] == '\r' ? size - 1 : size;
+    size_t size = first_line(text, length);
+    size_t kept = size > 0 && text[size - 1] == '\n' ? size - 1 : size;
+    if (kept > 0 && text[kept - 1] == '\r') kept--;
     if (kept > 4096 || !is_profile(text, kept)) return 0;
-    return feed ? size + 1 : size;
+    asked.line = 2;
+    return size;
 }
 
 /* A line of more than 4096 bytes is refused whatever follows, so more of it is not kept. */
@@ -133,6 +150,8 @@ int main(int count, char **words) {
     for (; at < count && words[at][0] == '-'; at++) {
         if (strcmp(words[at], "--json") == 0 && !explains) {
             asked.call = riichi_json_lines;
+        } else if (strcmp(words[at], "--number") == 0) {
+            asked.is_numbered = 1;
         } else if (strcmp(words[at], "--rules") == 0 && at + 1 < count && strlen(words[at + 1]) == 1
             && strchr("12", words[at + 1][0])) {
             asked.rules = (uint32_t)(words[++at][0] - '0');

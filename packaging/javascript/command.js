@@ -6,10 +6,11 @@ import { answerLines, explainLines, jsonLines, version } from "./riichi_desk.js"
 const HELP = `Usage: riichi-desk COMMAND
 
 Commands:
-  explain [--rules N] [LINE..]     answers lines, and says below each answer why it is so
-  line [--json] [--rules N]        answers the lines of standard input
-  waits HAND                       prints the kinds that complete a hand
+  explain [--number] [--rules N] [LINE..]   answers lines, and says below each answer why it is so
+  line [--json] [--number] [--rules N]      answers the lines of standard input
+  waits HAND                                prints the kinds that complete a hand
 
+  --number    puts the number of its line before each answer
   --rules N   the rules of lines that are given no others, 1 or 2
   --version   the name and version of the library
 A first line \`rules 2\` of standard input sets the rules too.
@@ -25,9 +26,10 @@ function stop(status, words) {
 
 // The words of a command without its options, and these.
 function wordsOf(words, allowed) {
-  const told = { rules: 1, json: false, rest: [] };
+  const told = { rules: 1, json: false, isNumbered: false, rest: [] };
   for (let at = 0; at < words.length; at++) {
     if (words[at] === "--json" && allowed.includes("--json")) told.json = true;
+    else if (words[at] === "--number") told.isNumbered = true;
     else if (words[at] === "--rules" && /^[12]$/.test(words[at + 1] ?? "")) told.rules = Number(words[++at]);
     else if (words[at].startsWith("-")) stop(2, `riichi-desk: ${words[at]}?\n${HELP}`);
     else told.rest.push(words[at]);
@@ -35,17 +37,31 @@ function wordsOf(words, allowed) {
   return told;
 }
 
-// Standard input, without its first line where that sets the rules, and these.
+// Standard input, without its first line where that sets the rules, and these; and the number of the first line that is left.
 function input(rules) {
   const text = readFileSync(0);
   const end = text.indexOf(10) + 1 || text.length;
   const [, line, named] = /^( *rules +([12]) *)\r?\n?$/.exec(text.latin1Slice(0, end)) ?? [];
-  return named && line.length <= 4096 ? { text: text.subarray(end), rules: Number(named) } : { text, rules };
+  return named && line.length <= 4096 ? { text: text.subarray(end), rules: Number(named), first: 2 } : { text, rules, first: 1 };
 }
 
 function write(words) {
   const bytes = Buffer.from(words);
   for (let at = 0; at < bytes.length; ) at += writeSync(1, bytes, at);
+}
+
+// `call`, with the number of its line before each answer: of an object inside, as its first member. The next line has this number.
+function numbered(call, number) {
+  const behind = (answer) => (call === jsonLines ? `{"line":${number},${answer.slice(1)}` : `${number}:${answer}`);
+  return (text, rules) => {
+    const told = [];
+    for (let start = 0, end; start < text.length; start = end, number++) {
+      end = text.indexOf(10, start) + 1 || text.length;
+      const answer = call(text.subarray(start, end), rules);
+      if (answer !== "") told.push(behind(answer));
+    }
+    return told.join("");
+  };
 }
 
 // Writes what `call` answers to the lines of a text, a piece at a time; the status is 1 where one was refused.
@@ -54,7 +70,7 @@ function tell(call, text, rules) {
   for (let start = 0, end; start < text.length; start = end) {
     end = text.indexOf(10, start + MOST_PIECE) + 1 || text.length;
     const told = call(text.subarray(start, end), rules);
-    isRefused ||= /^(refused|\{"answer":"refused")/m.test(told);
+    isRefused ||= /^((\d+:)?refused|\{("line":\d+,)?"answer":"refused")/m.test(told);
     write(told);
   }
   return Number(isRefused);
@@ -64,14 +80,16 @@ const [command, ...words] = process.argv.slice(2);
 let status = 0;
 try {
   if (command === "line") {
-    const { rest, rules: given, json } = wordsOf(words, ["--json"]);
+    const { rest, rules: given, json, isNumbered } = wordsOf(words, ["--json"]);
     if (rest.length > 0) stop(2, `riichi-desk: ${rest[0]}?\n${HELP}`);
-    const { text, rules } = input(given);
-    status = tell(json ? jsonLines : answerLines, text, rules);
+    const { text, rules, first } = input(given);
+    const call = json ? jsonLines : answerLines;
+    status = tell(isNumbered ? numbered(call, first) : call, text, rules);
   } else if (command === "explain") {
-    const { rest, rules: given } = wordsOf(words, []);
-    const { text, rules } = rest.length > 0 ? { text: Buffer.from(rest.join("\n")), rules: given } : input(given);
-    status = tell(explainLines, text, rules);
+    const { rest, rules: given, isNumbered } = wordsOf(words, []);
+    const told = { text: Buffer.from(rest.join("\n")), rules: given, first: 1 };
+    const { text, rules, first } = rest.length > 0 ? told : input(given);
+    status = tell(isNumbered ? numbered(explainLines, first) : explainLines, text, rules);
   } else if (command === "waits" && words.length === 1) {
     status = tell(answerLines, Buffer.from(`waits ${words[0]}`), 1);
   } else if (command === "--version") {

@@ -41,7 +41,7 @@ next_number : (first : List ℕ) (lines : List (List ℕ)) → length (first ∷
 next_number first lines =
     elim (is_some (profile_of first)) as (λ test. length (first ∷ lines) + 1 ≡ cond test 2 1 + length (cond test lines (first ∷ lines))) [ true ↦ omega arith | false ↦ omega arith ]
 
-NumberRecords-last : (Answers : AnswerKind) (given : Rules) (lines : List (List ℕ)) (line : List ℕ) (told : List (ℕ × List ℕ)) (answer : Option (List ℕ)) → NumberRecords Answers given lines told
+pub NumberRecords-last : (Answers : AnswerKind) (given : Rules) (lines : List (List ℕ)) (line : List ℕ) (told : List (ℕ × List ℕ)) (answer : Option (List ℕ)) → NumberRecords Answers given lines told
     → IsToldBy Answers given (rules_after given lines) line answer → NumberRecords Answers given (lines ++ line ∷ []) (told ++ answers_in (with_number (length lines + 1) answer))
 NumberRecords-last Answers given [] line told answer are is = first_numbered Answers given line told answer (profile_of line) are is
 NumberRecords-last Answers given (first ∷ lines) line told answer are is =

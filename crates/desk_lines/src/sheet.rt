@@ -1,19 +1,18 @@
 //! Some answer lines of a score, before they are made.
 ghost use Rattle.std.specs.Prelude.{◌≡◌, ◌+◌, ◌<◌, ◌≤◌, ◌↔◌, [], ◌∷◌, ◌++◌, length, IsTrue, OnOk};
-ghost use Rattle.riichi_hand.specs.FaultTexts.{fault_text};
 ghost use Rattle.desk_core.specs.AnswerText.{answer_text};
 ghost use Rattle.desk_core.specs.Value.{value_of};
-ghost use Rattle.desk_lines.specs.Tables.{count_jobs, line_told, table_line};
+ghost use Rattle.desk_lines.specs.Tables.{count_jobs, line_told};
 
 use super::unmade_line::UnmadeLine;
-use riichi_hand::{Job, LineFault};
+use riichi_hand::Job;
 use std::alloc::{AllocError, Global};
 
 /// The most lines of a sheet.
 const LINES: usize = 4096;
 
-/// At most 4,096 answer lines, one after the other, before they are made: what each of them is made of, and
-/// the jobs whose answers are among them.
+/// At most 4,096 answer lines or parts of them, one after the other, before they are made: what each of them is made of,
+/// and the jobs whose answers are among them.
 #[derive(Drop)]
 pub struct Sheet {
     lines: Vec<UnmadeLine>,
@@ -45,14 +44,6 @@ impl Sheet {
         self.lines.len() >= LINES
     }
 
-    /// Adds the line that stands before the answers of a table.
-    pub(crate) fn add_table(&mut self, number: usize) -> Result<(), AllocError>
-        requires { length self.old.lines.items < LINES }
-        ensures { OnOk result (sheet_told self.new ≡ sheet_told self.old ++ table_line number) }
-    {
-        self.add_line(UnmadeLine::Table(number))
-    }
-
     /// Adds the answer to a job.
     pub(crate) fn add_job(&mut self, job: Job) -> Result<(), AllocError>
         requires { length self.old.lines.items < LINES }
@@ -66,17 +57,8 @@ impl Sheet {
         Ok(())
     }
 
-    /// Adds the fault of a line.
-    pub(crate) fn add_refusal(&mut self, fault: LineFault) -> Result<(), AllocError>
-        requires { length self.old.lines.items < LINES }
-        ensures { OnOk result (sheet_told self.new
-            ≡ sheet_told self.old ++ (fault_text fault ++ 10 ∷ [])) }
-    {
-        self.add_line(UnmadeLine::Refusal(fault))
-    }
-
-    /// Adds a line that wants no answer.
-    fn add_line(&mut self, line: UnmadeLine) -> Result<(), AllocError>
+    /// Adds a line that wants no answer, or a part of one.
+    pub(crate) fn add_line(&mut self, line: UnmadeLine) -> Result<(), AllocError>
         requires room { length self.old.lines.items < LINES }
         requires alone { count_jobs (line ∷ []) ≡ 0 }
         ensures { OnOk result (sheet_told self.new ≡ sheet_told self.old ++ line_told line []) }

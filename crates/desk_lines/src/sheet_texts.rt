@@ -1,6 +1,7 @@
 //! The texts of answer lines, made and written.
-ghost use Rattle.std.specs.Prelude.{◌≡◌, ◌++◌, map, IfOk, OnOk};
+ghost use Rattle.std.specs.Prelude.{◌≡◌, [], ◌++◌, map, IfOk, OnOk};
 ghost use Rattle.std.specs.List.{flat_map};
+ghost use Rattle.desk_lines.specs.declared.unmade_line.UnmadeLine.TheVariants.{NextJob};
 ghost use Rattle.desk_lines.specs.Sheets.{lists_told};
 ghost use Rattle.desk_lines.specs.Tables.{line_told, answers_after, told, first_answers, other_answers};
 ghost use Rattle.desk_lines.specs.Streams.{Writes};
@@ -61,7 +62,7 @@ fn text_of(alloc: Global, lines: &[UnmadeLine], answers: &[Answer]) -> Result<Ve
     Ok(text)
 }
 
-/// Adds an answer line, which is made in a room, and returns the answers that are still to be written.
+/// Adds an answer line or a part of one, made in a room, and returns the answers that are still to be written.
 fn add_line<'a>(
     text: &mut Vec<u8>,
     room: &mut ArrayString<3072>,
@@ -73,24 +74,44 @@ fn add_line<'a>(
         ≡ text.old.items ++ line_told line.now answers.now) }
 {
     room.clear();
-    let mut rest = answers;
     match line {
         UnmadeLine::Table(number) => {
             room.push_str("table ");
             push_number(room, *number);
         }
-        UnmadeLine::Refusal(fault) => room.push_str(fault_text(fault).as_str()),
-        UnmadeLine::NextJob => {
-            let Some((answer, after)) = answers.split_first() else {
-                return Ok(answers);
-            };
-            push_answer(room, answer);
-            rest = after;
+        UnmadeLine::Byte(byte) => text.push(*byte)?,
+        UnmadeLine::Number(number) => {
+            push_number(room, *number);
+            room.push_str(":");
         }
+        UnmadeLine::Refusal(fault) => {
+            room.push_str(fault_text(fault).as_str());
+            room.push_str("\n");
+        }
+        UnmadeLine::NextJob => return add_answer(text, room, answers),
     }
     text.extend_from_slice(room.as_str().as_bytes())?;
+    Ok(answers)
+}
+
+/// Adds the first answer, made in a room that is empty, and returns the others.
+fn add_answer<'a>(
+    text: &mut Vec<u8>,
+    room: &mut ArrayString<3072>,
+    answers: &'a [Answer],
+) -> Result<&'a [Answer], AllocError>
+    requires { room.old.bytes ≡ [] }
+    ensures rest { IfOk result (λ rest. rest.now ≡ answers_after NextJob answers.now) }
+    ensures text { OnOk result (text.new.items
+        ≡ text.old.items ++ line_told NextJob answers.now) }
+{
+    let Some((answer, after)) = answers.split_first() else {
+        return Ok(answers);
+    };
+    push_answer(room, answer);
+    text.extend_from_slice(room.as_str().as_bytes())?;
     text.push(b'\n')?;
-    Ok(rest)
+    Ok(after)
 }
 
 /// Writes texts, one after the other. Any failed write ends it.

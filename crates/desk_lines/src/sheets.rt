@@ -1,13 +1,14 @@
 //! The answer lines of a table, on sheets.
-ghost use Rattle.std.specs.Prelude.{◌≡◌, ◌<◌, [], ◌∷◌, ◌++◌, length, OnOk, IfOk};
-ghost use Rattle.riichi_hand.specs.FaultTexts.{fault_text};
+ghost use Rattle.std.specs.Prelude.{◌≡◌, ◌<◌, [], ◌∷◌, ◌++◌, length, OnOk, IfOk, option_map};
 ghost use Rattle.desk_core.specs.AnswerText.{answer_text};
 ghost use Rattle.desk_core.specs.Value.{value_of};
+ghost use Rattle.desk_lines.specs.Numbered.{front_shown};
 ghost use Rattle.desk_lines.specs.Sheets.{sheets_told, told_on};
-ghost use Rattle.desk_lines.specs.Tables.{table_line};
+ghost use Rattle.desk_lines.specs.Tables.{count_jobs, head_line, line_told, name_behind, shown_byte};
 
 use super::sheet::Sheet;
-use riichi_hand::{Job, LineFault};
+use super::unmade_line::UnmadeLine;
+use riichi_hand::Job;
 use std::alloc::{AllocError, Global};
 use std::mem::replace;
 
@@ -30,12 +31,40 @@ impl Sheets {
         }
     }
 
-    /// Adds the line that stands before the answers of a table.
-    pub(crate) fn add_table(&mut self, number: usize) -> Result<(), AllocError>
-        ensures { OnOk result (told_on self.new ≡ told_on self.old ++ table_line number) }
+    /// Adds the line that stands before the answers of a table, with its name where that is told.
+    pub(crate) fn add_head(&mut self, number: usize, name: Option<&str>) -> Result<(), AllocError>
+        ensures { OnOk result (told_on self.new
+            ≡ told_on self.old ++ head_line number (option_map (λ name. name.now) name.entry)) }
     {
-        self.make_room()?;
-        self.last.add_table(number)
+        self.add_line(UnmadeLine::Table(number))?;
+        self.add_name(name)?;
+        self.add_line(UnmadeLine::Byte(b'\n'))
+    }
+
+    /// Adds the name of a table behind its number, where it is told.
+    fn add_name(&mut self, name: Option<&str>) -> Result<(), AllocError>
+        ensures { OnOk result (told_on self.new
+            ≡ told_on self.old ++ name_behind (option_map (λ name. name.now) name.entry)) }
+    {
+        let Some(name) = name else {
+            return Ok(());
+        };
+        self.add_line(UnmadeLine::Byte(b' '))?;
+        for byte in name.as_bytes() {
+            self.add_line(UnmadeLine::Byte(printable(*byte)))?;
+        }
+        Ok(())
+    }
+
+    /// Adds the number of a line before its answer, where answers are numbered.
+    pub(crate) fn add_number(&mut self, is_numbered: bool, number: u64) -> Result<(), AllocError>
+        ensures { OnOk result (told_on self.new
+            ≡ told_on self.old ++ front_shown is_numbered number) }
+    {
+        if is_numbered {
+            return self.add_line(UnmadeLine::Number(number));
+        }
+        Ok(())
     }
 
     /// Adds the answer to a job.
@@ -47,13 +76,13 @@ impl Sheets {
         self.last.add_job(job)
     }
 
-    /// Adds the fault of a line.
-    pub(crate) fn add_refusal(&mut self, fault: LineFault) -> Result<(), AllocError>
-        ensures { OnOk result (told_on self.new
-            ≡ told_on self.old ++ (fault_text fault ++ 10 ∷ [])) }
+    /// Adds a line that wants no answer, or a part of one.
+    pub(crate) fn add_line(&mut self, line: UnmadeLine) -> Result<(), AllocError>
+        requires { count_jobs (line ∷ []) ≡ 0 }
+        ensures { OnOk result (told_on self.new ≡ told_on self.old ++ line_told line []) }
     {
         self.make_room()?;
-        self.last.add_refusal(fault)
+        self.last.add_line(line)
     }
 
     /// Begins a sheet where the last one is full.
@@ -75,5 +104,15 @@ impl Sheets {
         let Sheets { mut full, last, .. } = self;
         full.push(last)?;
         Ok(full)
+    }
+}
+
+/// A byte of a name as it is shown: `?` in place of one that isn't printed ASCII.
+fn printable(byte: u8) -> u8
+    ensures { result ≡ shown_byte byte }
+{
+    match byte {
+        b' '..=b'~' => byte,
+        _ => b'?',
     }
 }

@@ -1,13 +1,17 @@
-//! What an answer line of a score is made of.
+//! What the answer lines of a score are made of.
 use riichi_hand::LineFault;
 
-/// What an answer line of a score is made of.
+/// What an answer line of a score is made of, or a part of one.
 #[derive(Clone, Copy, Debug, PartialEq, Eq)]
 pub enum UnmadeLine {
-    /// The number of a table, before its answers.
+    /// The word `table` and the number of a table.
     Table(usize),
-    /// The answer to the next job.
+    /// A byte behind it.
+    Byte(u8),
+    /// The number of a line and a colon, before its answer.
+    Number(u64),
+    /// The answer to the next job, with its line feed.
     NextJob,
-    /// The fault of a line.
+    /// The fault of a line, with its line feed.
     Refusal(LineFault),
 }

@@ -5,6 +5,7 @@ use desk_lines::*;
 use desk_streams::{BytesIn, BytesOut, FromReader, ToWriter};
 use riichi_hand::{LineCode, LineFault, TextName};
 use riichi_tiles::{NotationCode, NotationFault};
+use std::alloc::Global;
 use std::process::Abort;
 use std::test::Fail;
 
@@ -357,41 +358,70 @@ fn stops_at_each_failing_write(rt: HostRuntime) {
     same(&rt, writer.bytes(), b"waits 123".as_slice());
 }
 
-/// What a text asks, behind the number of its table: the answers to its jobs, and the fault of a line in its place
-/// between them.
-#[test]
-fn a_text_taken_apart(rt: HostRuntime) -> Result<(), Fail> {
+/// What a text asks, behind the number of its table and its name where it has one.
+fn taken_apart(rt: &impl Abort, alloc: Global, name: Option<&str>, expected: &[UnmadeLine]) {
     let mut reader = BytesIn::new(TEXT, 1, None);
-    let Ok(mut collected) = collect_text(rt.alloc(), Rules::One, 7, &mut reader) else {
-        holds_in(&rt, &"not collected", false);
-        return Ok(());
+    let Ok(mut collected) = collect_text(alloc, Rules::One, 7, name, &mut reader) else {
+        holds_in(rt, &"not collected", false);
+        return;
     };
     let report = DeskReport {
         answered: 2,
         refused: 1,
     };
-    holds(&rt, collected.report == report);
-    same(&rt, collected.sheets.len(), 1);
+    holds(rt, collected.report == report);
+    same(rt, collected.sheets.len(), 1);
     let Some(sheet) = collected.sheets.pop() else {
-        return Ok(());
+        return;
     };
     let (asked, jobs) = sheet.into_parts();
-    same(&rt, jobs.len(), 2);
-    let fault = NotationFault {
-        code: NotationCode::N5,
-        place: 0,
-    };
-    let expected = [
-        UnmadeLine::Table(7),
-        UnmadeLine::NextJob,
-        UnmadeLine::Refusal(LineFault::Notation(TextName::Hand, fault)),
-        UnmadeLine::NextJob,
-    ];
-    holds(&rt, asked.as_slice() == expected.as_slice());
-    Ok(())
+    same(rt, jobs.len(), 2);
+    holds(rt, asked.as_slice() == expected);
 }
 
-/// A sheet has 4,096 lines: the number of the table and 4,095 answers; two more answers need another.
+/// The fault of the line that is refused.
+const FAULT: UnmadeLine = UnmadeLine::Refusal(LineFault::Notation(
+    TextName::Hand,
+    NotationFault {
+        code: NotationCode::N5,
+        place: 0,
+    },
+));
+
+/// The answers to jobs, and the fault of a line in its place between them.
+#[test]
+fn a_text_taken_apart(rt: HostRuntime) {
+    let expected = [
+        UnmadeLine::Table(7),
+        UnmadeLine::Byte(b'\n'),
+        UnmadeLine::NextJob,
+        FAULT,
+        UnmadeLine::NextJob,
+    ];
+    taken_apart(&rt, rt.alloc(), None, expected.as_slice());
+}
+
+/// Behind the number of the table its name, of which a bell isn't shown, and before each answer the number of its line.
+#[test]
+fn a_text_with_a_name(rt: HostRuntime) {
+    let expected = [
+        UnmadeLine::Table(7),
+        UnmadeLine::Byte(b' '),
+        UnmadeLine::Byte(b'o'),
+        UnmadeLine::Byte(b' '),
+        UnmadeLine::Byte(b'?'),
+        UnmadeLine::Byte(b'\n'),
+        UnmadeLine::Number(2),
+        UnmadeLine::NextJob,
+        UnmadeLine::Number(4),
+        FAULT,
+        UnmadeLine::Number(5),
+        UnmadeLine::NextJob,
+    ];
+    taken_apart(&rt, rt.alloc(), Some("o \u{7}"), expected.as_slice());
+}
+
+/// A sheet has 4,096 parts: the number of the table, its line feed and 4,094 answers; three more answers need another.
 #[test]
 fn a_sheet_that_is_full(rt: HostRuntime) -> Result<(), Fail> {
     let alloc = rt.alloc();
@@ -400,12 +430,12 @@ fn a_sheet_that_is_full(rt: HostRuntime) -> Result<(), Fail> {
         text.push_str("waits 8z\n")?;
     }
     let mut reader = BytesIn::new(text.as_bytes(), 1000, None);
-    let Ok(mut collected) = collect_text(alloc, Rules::One, 0, &mut reader) else {
+    let Ok(mut collected) = collect_text(alloc, Rules::One, 0, None, &mut reader) else {
         holds_in(&rt, &"not collected", false);
         return Ok(());
     };
     same(&rt, collected.sheets.len(), 2);
-    for lines in [2, 4096] {
+    for lines in [3, 4096] {
         if let Some(sheet) = collected.sheets.pop() {
             same(&rt, sheet.into_parts().0.len(), lines);
         }
@@ -419,9 +449,12 @@ fn lists_without_answers(rt: HostRuntime) -> Result<(), Fail> {
     let alloc = rt.alloc();
     let mut first = Vec::new(alloc);
     first.push(UnmadeLine::Table(0))?;
+    first.push(UnmadeLine::Byte(b'\n'))?;
+    first.push(UnmadeLine::Number(3))?;
     first.push(UnmadeLine::Refusal(LineFault::Line(LineCode::H8)))?;
     let mut second = Vec::new(alloc);
     second.push(UnmadeLine::Table(1))?;
+    second.push(UnmadeLine::Byte(b'\n'))?;
     let mut lists = Vec::new(alloc);
     lists.push(first)?;
     lists.push(second)?;
@@ -431,7 +464,7 @@ fn lists_without_answers(rt: HostRuntime) -> Result<(), Fail> {
     same(
         &rt,
         writer.bytes(),
-        b"table 0\nrefused H8\ntable 1\n".as_slice(),
+        b"table 0\n3:refused H8\ntable 1\n".as_slice(),
     );
     Ok(())
 }

@@ -1,17 +1,18 @@
 -- One more reader, and what its text is answered.
-use Rattle.std.proofs.Common.{◌≡◌, ℕ, ◌+◌, suc, List, [], ◌∷◌, ◌++◌, map, length, sym, ◌∙◌, ap, append_assoc, arith}
+use Rattle.std.proofs.Common.{◌≡◌, ℕ, ◌+◌, suc, List, [], ◌∷◌, ◌++◌, map, length, refl, sym, ◌∙◌, ap, append_assoc, arith}
 use Rattle.std.proofs.lemmas.List.{append-nil, length-map, map-append}
 use Rattle.std.proofs.lemmas.List.Elements.{All-append, All-cons, All-head, All-tail}
 use Rattle.std.proofs.lemmas.List.Sums.{sum_by_push}
-use Rattle.std.specs.Prelude.{All}
+use Rattle.std.specs.Prelude.{All, Option, None, Some, is_some}
 use Rattle.desk_streams.specs.declared.source.Source.{Ghosts as OfSource}
 use Rattle.riichi_hand.specs.declared.win.Rules.{Rules}
 use Rattle.desk_lines.specs.declared.report.DeskReport.{DeskReport}
-use Rattle.desk_lines.specs.LineAnswers.{answers, report_on}
+use Rattle.desk_lines.specs.LineAnswers.{report_on}
 use Rattle.desk_lines.specs.Lines.{lines}
+use Rattle.desk_lines.specs.Numbered.{answers_shown}
 use Rattle.desk_lines.specs.Streams.{GivesAll, IsReadWithin}
-use Rattle.desk_lines.specs.Tables.{table_line, tables_from}
-use Rattle.desk_score.specs.Score.{score_of, score_report, AllGive}
+use Rattle.desk_lines.specs.Tables.{tables_from}
+use Rattle.desk_score.specs.Score.{score_by, head_of, name_of, score_report, AllGive}
 
 module _ {R : Type 0} (source : OfSource R) where
   pub AllGive-last : (readers : List R) (texts : List (List ℕ)) (reader ended : R) (text : List ℕ) → AllGive source readers texts → GivesAll source reader ended text → IsReadWithin source reader ended
@@ -22,20 +23,27 @@ module _ {R : Type 0} (source : OfSource R) where
   AllGive-last (first ∷ readers) (its ∷ texts) reader ended text all given within = (all.0, AllGive-last readers texts reader ended text all.1 given within)
 
 -- the answers of one more table
-tables_from-last : (number : ℕ) (tables : List (List ℕ)) (told : List ℕ) → tables_from number (tables ++ told ∷ []) ≡ tables_from number tables ++ (table_line (length tables + number) ++ told)
-tables_from-last number [] told = append-nil (table_line number ++ told) ∙ ap (λ n. table_line n ++ told) (omega arith)
-tables_from-last number (first ∷ tables) told =
-    let before = table_line number ++ first in
+tables_from-last : (head : ℕ → List ℕ) (number : ℕ) (tables : List (List ℕ)) (told : List ℕ) → tables_from head number (tables ++ told ∷ []) ≡ tables_from head number tables ++ (head (length tables + number) ++ told)
+tables_from-last head number [] told = append-nil (head number ++ told) ∙ ap (λ n. head n ++ told) (omega arith)
+tables_from-last head number (first ∷ tables) told =
+    let before = head number ++ first in
     let place : length tables + suc number ≡ suc (length tables) + number = omega arith in
-    ap (λ rest. before ++ rest) (tables_from-last (suc number) tables told)
-    ∙ sym (append_assoc before (tables_from (suc number) tables) (table_line (length tables + suc number) ++ told))
-    ∙ ap (λ n. (before ++ tables_from (suc number) tables) ++ (table_line n ++ told)) place
+    ap (λ rest. before ++ rest) (tables_from-last head (suc number) tables told)
+    ∙ sym (append_assoc before (tables_from head (suc number) tables) (head (length tables + suc number) ++ told))
+    ∙ ap (λ n. (before ++ tables_from head (suc number) tables) ++ (head n ++ told)) place
 
-pub score_of-last : (rules : Rules) (texts : List (List ℕ)) (text : List ℕ) → score_of rules (texts ++ text ∷ []) ≡ score_of rules texts ++ (table_line (length texts) ++ answers rules text)
-score_of-last rules texts text =
-    let place : length (map (answers rules) texts) + 0 ≡ length texts = (let many = length-map texts (answers rules) in omega arith) in
-    ap (tables_from 0) (map-append (answers rules) texts (text ∷ [])) ∙ tables_from-last 0 (map (answers rules) texts) (answers rules text)
-    ∙ ap (λ n. score_of rules texts ++ (table_line n ++ answers rules text)) place
+pub score_by-last : (names : Option (List (List ℕ))) (rules : Rules) (texts : List (List ℕ)) (text : List ℕ)
+    → score_by names rules (texts ++ text ∷ []) ≡ score_by names rules texts ++ (head_of names (length texts) ++ answers_shown (is_some names) rules (lines text))
+score_by-last names rules texts text =
+    let answers = (λ (text : List ℕ). answers_shown (is_some names) rules (lines text)) in
+    let place : length (map answers texts) + 0 ≡ length texts = (let many = length-map texts answers in omega arith) in
+    ap (tables_from (head_of names) 0) (map-append answers texts (text ∷ [])) ∙ tables_from-last (head_of names) 0 (map answers texts) (answers text)
+    ∙ ap (λ n. score_by names rules texts ++ (head_of names n ++ answers text)) place
+
+-- each table has a name where names are told
+pub name_of-is_some : (names : Option (List (List ℕ))) (number : ℕ) → is_some (name_of names number) ≡ is_some names
+name_of-is_some None number = refl
+name_of-is_some (Some names) number = refl
 
 -- what holds of all holds of those before the last one, and of the last one
 module _ {X : Type 0} (P : X → Type 0) where

@@ -1,5 +1,5 @@
 -- What a score over several readers writes and reports.
-use Rattle.std.specs.Prelude.{◌≡◌, ℕ, ◌≤◌, List, [], ◌∷◌, ◌++◌, All, length, map}
+use Rattle.std.specs.Prelude.{◌≡◌, ℕ, ◌≤◌, List, [], ◌∷◌, ◌++◌, All, length, map, get_or, Option, is_some, option_map}
 use Rattle.std.specs.List.{sum_by}
 use Rattle.desk_streams.specs.declared.source.Source.{Ghosts as OfSource}
 use Rattle.riichi_hand.specs.declared.win.Rules.{Rules}
@@ -7,13 +7,26 @@ use Rattle.desk_core.specs.declared.lane.TheConstants.{LIMIT}
 use Rattle.desk_lines.specs.declared.report.DeskReport.{DeskReport}
 use Rattle.desk_lines.specs.Lines.{lines}
 use Rattle.desk_lines.specs.LineAnswers.{answers, report_on}
+use Rattle.desk_lines.specs.Numbered.{answers_shown}
 use Rattle.desk_lines.specs.Outcomes.{jobs_of}
 use Rattle.desk_lines.specs.Streams.{GivesAll, FailsOrGoesOn, IsReadWithin}
-use Rattle.desk_lines.specs.Tables.{tables_text}
+use Rattle.desk_lines.specs.Tables.{head_line, tables_from, tables_text}
 
 -- the answers to each text, behind the number of its table; a text that sets no profile has the given one
 abbrev pub score_of : Rules → List (List ℕ) → List ℕ
 score_of given texts = tables_text (map (answers given) texts)
+
+-- the name of a table, where the names of tables are told; one that isn't among them is empty
+abbrev pub name_of : Option (List (List ℕ)) → ℕ → Option (List ℕ)
+name_of names number = option_map (λ names. get_or names number []) names
+
+-- the line that stands before the answers of a table
+abbrev pub head_of : Option (List (List ℕ)) → ℕ → List ℕ
+head_of names number = head_line number (name_of names number)
+
+-- the same where the names of the tables may be told: each then stands behind the number of its table, and before each answer the number of its line
+abbrev pub score_by : Option (List (List ℕ)) → Rules → List (List ℕ) → List ℕ
+score_by names given texts = tables_from (head_of names) 0 (map (λ text. answers_shown (is_some names) given (lines text)) texts)
 
 -- the answer lines of all texts that don't begin with `refused`, and those that do
 abbrev pub score_report : Rules → List (List ℕ) → DeskReport

@@ -1,9 +1,9 @@
 //! The answers to the texts of several readers, each a table of its own.
-ghost use Rattle.std.specs.Prelude.{◌≡◌, ◌≢◌, ◌↔◌, ◌⊎◌, ◌≤◌, ℕ, List, length, IsTrue, false, Err, IfOk, IfErr, IsErrOf};
+ghost use Rattle.std.specs.Prelude.{◌≡◌, ◌≢◌, ◌↔◌, ◌⊎◌, ◌≤◌, ℕ, List, length, map, option_map, IsTrue, false, Err, IfOk, IfErr, IsErrOf};
 ghost use Rattle.desk_run.specs.Parts.{IsInRange};
 ghost use Rattle.desk_lines.specs.Sheets.{sheets_told};
 ghost use Rattle.desk_lines.specs.Streams.{WritesAll, StopsWriting};
-ghost use Rattle.desk_score.specs.Score.{score_of, score_report, AreWithinLimit, AllGive, StopsReading};
+ghost use Rattle.desk_score.specs.Score.{score_by, score_of, score_report, AreWithinLimit, AllGive, StopsReading};
 
 use crate::rounds::texts_by;
 use crate::score_fault::ScoreFault;
@@ -59,10 +59,53 @@ pub fn score_text<H: Threads + Wait + Sync, R: Source + Drop, W: Sink>(
         × AreWithinLimit rules texts
         × StopsWriting ⟦<W as Sink>⟧ writer.old writer.new (score_of rules texts) }
 {
+    score_text_with(rt, alloc, rules, None, readers, workers, writer)
+}
+
+/// The same, where the tables may be named: one name for each reader, in their order. Of each table the name then stands
+/// behind its number, with `?` in place of each byte that isn't printed ASCII, and each answer behind the number of its line
+/// and a colon, as `numbered_text_with` writes it.
+pub fn score_text_with<H: Threads + Wait + Sync, R: Source + Drop, W: Sink>(
+    rt: &H,
+    alloc: Global,
+    rules: Rules,
+    names: Option<&[&str]>,
+    readers: Vec<R>,
+    workers: u32,
+    writer: &mut W,
+) -> Result<DeskReport, ScoreFault>
+    // The readers were read to their ends, and the answers to what they gave were written.
+    ensures ok { let told = option_map (λ names. map (λ name. name.now) names.now) names.entry in
+        IfOk result (λ report. (texts : List (List ℕ))
+        × AllGive ⟦<R as Source>⟧ readers.items texts
+        × AreWithinLimit rules texts
+        × WritesAll ⟦<W as Sink>⟧ writer.old writer.new (score_by told rules texts)
+        × (report ≡ score_report rules texts)) }
+
+    // Numbers of readers and workers are tested before anything is read, numbers of jobs once all is read,
+    // before a worker is started.
+    ensures first_range { ¬ IsInRange (length readers.items) workers 8
+        → result ≡ Err ScoreFault.Range }
+    ensures range { IsErrOf result ScoreFault.Range → (¬ IsInRange (length readers.items) workers 8)
+        ⊎ ((texts : List (List ℕ)) × AllGive ⟦<R as Source>⟧ readers.items texts × (¬ AreWithinLimit rules texts)) }
+    ensures no_thread { IsErrOf result ScoreFault.Thread → (texts : List (List ℕ))
+        × AllGive ⟦<R as Source>⟧ readers.items texts
+        × AreWithinLimit rules texts }
+    ensures read_failed { IsErrOf result ScoreFault.Read
+        → StopsReading ⟦<R as Source>⟧ readers.items }
+
+    // Nothing was written but where a write failed, and then a front of the answers.
+    ensures unwritten { IfErr result (λ fault. fault ≢ ScoreFault.Write → writer.new ≡ writer.old) }
+    ensures write_failed { let told = option_map (λ names. map (λ name. name.now) names.now) names.entry in
+        IsErrOf result ScoreFault.Write → (texts : List (List ℕ))
+        × AllGive ⟦<R as Source>⟧ readers.items texts
+        × AreWithinLimit rules texts
+        × StopsWriting ⟦<W as Sink>⟧ writer.old writer.new (score_by told rules texts) }
+{
     if !in_range(readers.len(), workers) {
         return Err(ScoreFault::Range);
     }
-    let tables = Tables::read(alloc, rules, readers)?;
+    let tables = Tables::read(alloc, rules, names, readers)?;
     answer_tables(rt, alloc, tables, workers, writer)
 }
 

@@ -1,13 +1,13 @@
 //! What the tables ask, read to the end before anything is answered.
-ghost use Rattle.std.specs.Prelude.{◌≡◌, ◌↔◌, ◌≤◌, ◌<◌, ◌⊎◌, ℕ, List, [], ◌∷◌, ◌++◌, ◌+◌, length, IsTrue, OnOk, IfOk, IfErr, IsErrOf};
+ghost use Rattle.std.specs.Prelude.{◌≡◌, ◌↔◌, ◌≤◌, ◌<◌, ◌⊎◌, ℕ, List, [], ◌∷◌, ◌++◌, ◌+◌, length, IsTrue, OnOk, IfOk, IfErr, IsErrOf, Option, is_some, map, option_map};
 ghost use Rattle.riichi_hand.specs.declared.win.Rules.{Rules};
 ghost use Rattle.desk_lines.specs.Lines.{lines};
 ghost use Rattle.desk_lines.specs.Outcomes.{jobs_of};
-ghost use Rattle.desk_lines.specs.LineAnswers.{answers, report_on};
+ghost use Rattle.desk_lines.specs.LineAnswers.{report_on};
+ghost use Rattle.desk_lines.specs.Numbered.{answers_shown};
 ghost use Rattle.desk_lines.specs.Sheets.{sheets_told};
-ghost use Rattle.desk_lines.specs.Tables.{table_line};
 ghost use Rattle.desk_lines.specs.Streams.{FailsOrGoesOn, GivesAll, IsReadWithin};
-ghost use Rattle.desk_score.specs.Score.{AllGive, StopsReading};
+ghost use Rattle.desk_score.specs.Score.{AllGive, StopsReading, head_of, name_of};
 ghost use Rattle.desk_score.specs.Tables.{AreRead};
 
 use crate::score_fault::ScoreFault;
@@ -32,7 +32,7 @@ pub(crate) struct Tables {
 
 impl Tables {
     fn new(alloc: Global) -> Tables
-        ensures { (given : Rules) → AreRead given [] result }
+        ensures { (names : Option (List (List ℕ))) (given : Rules) → AreRead names given [] result }
     {
         Tables {
             sheets: Vec::new(alloc),
@@ -45,14 +45,16 @@ impl Tables {
         }
     }
 
-    /// Reads each reader to its end.
+    /// Reads each reader to its end. Where names are given, the tables have these.
     pub(crate) fn read<R: Source + Drop>(
         alloc: Global,
         rules: Rules,
+        names: Option<&[&str]>,
         readers: Vec<R>,
     ) -> Result<Tables, ScoreFault>
-        ensures ok { IfOk result (λ tables. (texts : List (List ℕ))
-            × AllGive ⟦<R as Source>⟧ readers.items texts × AreRead rules texts tables) }
+        ensures ok { let told = option_map (λ names. map (λ name. name.now) names.now) names.entry in
+            IfOk result (λ tables. (texts : List (List ℕ))
+            × AllGive ⟦<R as Source>⟧ readers.items texts × AreRead told rules texts tables) }
         ensures read_failed { IsErrOf result ScoreFault.Read
             → StopsReading ⟦<R as Source>⟧ readers.items }
         ensures not_write { IsErrOf result ScoreFault.Write → ⊥ }
@@ -61,7 +63,7 @@ impl Tables {
     {
         let mut tables = Tables::new(alloc);
         for mut reader in readers {
-            tables.read_next(alloc, rules, &mut reader)?;
+            tables.read_next(alloc, rules, names, &mut reader)?;
         }
         Ok(tables)
     }
@@ -71,11 +73,13 @@ impl Tables {
         &mut self,
         alloc: Global,
         rules: Rules,
+        names: Option<&[&str]>,
         reader: &mut R,
     ) -> Result<(), ScoreFault>
-        ensures ok { OnOk result ((texts : List (List ℕ)) → AreRead rules texts self.old
+        ensures ok { let told = option_map (λ names. map (λ name. name.now) names.now) names.entry in
+            OnOk result ((texts : List (List ℕ)) → AreRead told rules texts self.old
             → (text : List ℕ) × GivesAll ⟦<R as Source>⟧ reader.old reader.new text
-            × AreRead rules (texts ++ text ∷ []) self.new) }
+            × AreRead told rules (texts ++ text ∷ []) self.new) }
         ensures read_failed { IsErrOf result ScoreFault.Read
             → FailsOrGoesOn ⟦<R as Source>⟧ reader.old reader.new }
         ensures told_as_read { (IsErrOf result ScoreFault.Read → ⊥)
@@ -85,18 +89,21 @@ impl Tables {
         ensures not_thread { IsErrOf result ScoreFault.Thread → ⊥ }
         ensures reads { IsReadWithin ⟦<R as Source>⟧ reader.old reader.new }
     {
-        let collected = collect_text(alloc, rules, self.count, reader)?;
+        let name = name_at(names, self.count);
+        let collected = collect_text(alloc, rules, self.count, name, reader)?;
         self.add(collected)
     }
 
     /// Adds what the next table asks. A count that its type doesn't hold finds no memory.
     fn add(&mut self, collected: Collected) -> Result<(), ScoreFault>
-        ensures ok { OnOk result ((given : Rules) (texts : List (List ℕ)) (text : List ℕ)
-            → AreRead given texts self.old
-            → sheets_told collected.sheets.items ≡ table_line (length texts) ++ answers given text
+        ensures ok { OnOk result ((names : Option (List (List ℕ))) (given : Rules)
+            (texts : List (List ℕ)) (text : List ℕ)
+            → AreRead names given texts self.old
+            → sheets_told collected.sheets.items
+            ≡ head_of names (length texts) ++ answers_shown (is_some names) given (lines text)
             → collected.report ≡ report_on given (lines text)
             → collected.report.answered ≡ length (jobs_of given (lines text))
-            → AreRead given (texts ++ text ∷ []) self.new) }
+            → AreRead names given (texts ++ text ∷ []) self.new) }
         ensures err { IfErr result (λ fault. fault ≡ ScoreFault.Memory) }
     {
         let Collected { mut sheets, report } = collected;
@@ -105,6 +112,17 @@ impl Tables {
         self.within_limit = are_within_limit(self.within_limit, report.answered);
         self.sheets.append(&mut sheets)?;
         Ok(())
+    }
+}
+
+/// The name of a table, where names are given. One that isn't among them is empty.
+fn name_at<'a>(names: Option<&'a [&'a str]>, number: usize) -> Option<&'a str>
+    ensures { option_map (λ name. name.now) result
+        ≡ name_of (option_map (λ names. map (λ name. name.now) names.now) names.entry) number }
+{
+    match names?.get(number) {
+        Some(name) => Some(*name),
+        None => Some(""),
     }
 }
 

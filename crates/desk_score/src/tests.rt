@@ -82,6 +82,34 @@ fn two_tables(rt: HostRuntime) -> Result<(), Fail> {
     Ok(())
 }
 
+/// With names: each behind the number of its table, and each answer behind the number of its line, of which all count. What isn't
+/// printed ASCII is a question mark, and a table beyond the names has an empty one.
+#[test]
+fn named_tables(rt: HostRuntime) -> Result<(), Fail> {
+    let alloc = rt.alloc();
+    let second = b"rules 2\n\n# east\nwaits 8z\r\n";
+    let answers =
+        b"table 0 east round\n1:waits 123456789m\n2:refused N5 hand at 0\ntable 1 a?b\n4:refused N5 hand at 0\n";
+    let beyond =
+        b"table 0 east round\n1:waits 123456789m\n2:refused N5 hand at 0\ntable 1 \n4:refused N5 hand at 0\n";
+    let names = ["east round", "a\tb"];
+    for (names, answers) in [
+        (names.as_slice(), answers.as_slice()),
+        (&names[..1], beyond.as_slice()),
+    ] {
+        let readers = two_readers(alloc, FIRST, second)?;
+        let mut writer: BytesOut<2048> = BytesOut::new(1000, None);
+        let told = score_text_with(&rt, alloc, Rules::One, Some(names), readers, 2, &mut writer);
+        let report = DeskReport {
+            answered: 1,
+            refused: 2,
+        };
+        holds(&rt, told == Ok(report));
+        same(&rt, writer.bytes(), answers);
+    }
+    Ok(())
+}
+
 #[test]
 fn numbers_of_readers(rt: HostRuntime) -> Result<(), Fail> {
     let alloc = rt.alloc();

@@ -111,6 +111,7 @@ Exit status:
 pub(crate) const SCORE_HELP: &str = "\
 Example:
   riichi_desk score --workers 2 table-one.lines table-two.lines
+  riichi_desk score --number table-one.lines table-two.lines
 
 Exit status:
   0  answered

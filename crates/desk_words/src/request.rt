@@ -30,6 +30,8 @@ pub enum Request<'m, 'a> {
         files: &'m [&'a str],
         workers: u32,
         rules: Rules,
+        /// Whether the files are named, and each answer stands behind the number of its line.
+        is_numbered: bool,
     },
 }
 
@@ -95,6 +97,7 @@ pub fn request_of<'m, 'a>(matches: &'m ArgMatches<'a>) -> Option<Request<'m, 'a>
                 files,
                 workers,
                 rules,
+                is_numbered: score.get_flag("number"),
             },
             Err(word) => Request::UnknownRules(word),
         });

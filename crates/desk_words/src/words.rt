@@ -191,6 +191,9 @@ fn score_command<'a>(alloc: Global) -> Result<Command<'a>, AllocError> {
         .about("Answers hands from files, table by table, with many threads")
         .after_help(SCORE_HELP)
         .arg(rules_arg(alloc))?
+        .arg(number_arg(alloc).help(
+            "Puts the number of its line before each answer, and behind each table its file's name",
+        ))?
         .arg(workers)?
         .arg(files)
 }

@@ -92,8 +92,9 @@ fn answer_words<'a, R: Input + Print + Eprint + Files + Threads + Wait + Sync + 
                 files,
                 workers,
                 rules,
+                is_numbered,
             },
-        ) => score_files(rt, notes, files, workers, rules),
+        ) => score_files(rt, notes, files, workers, rules, is_numbered),
         None => Err(Failure::Text),
     }
 }

@@ -3,7 +3,7 @@ use crate::failure::Failure;
 use crate::files::open_file;
 use crate::noted::{Notes, Watched};
 use desk_lines::Rules;
-use desk_score::{ScoreFault, score_text};
+use desk_score::{ScoreFault, score_text_with};
 use desk_streams::{FromReader, ToWriter};
 use std::io::{Eprint, Print};
 use std::rt::Files;
@@ -13,20 +13,23 @@ use std::thread::Threads;
 /// The most files. That there are more is reported before any is opened.
 const MOST_FILES: usize = 64;
 
-/// Answers the record lines of files on standard output, table by table: whether a line is refused.
+/// Answers the record lines of files on standard output, table by table, where it is wanted with the names of the files and
+/// the numbers of their lines: whether a line is refused.
 pub fn score_files<'a, R: Files + Print + Eprint + Threads + Wait + Sync + AllocGlobal>(
     rt: &R,
     notes: &Notes<'a>,
     files: &[&'a str],
     workers: u32,
     rules: Rules,
+    is_numbered: bool,
 ) -> Result<bool, Failure<'a>> {
     if files.len() > MOST_FILES {
         return Err(Failure::Fault(ScoreFault::Range));
     }
     let readers = open_files(rt, notes, rules, files)?;
     let mut writer = ToWriter::new(notes.output(rt));
-    let report = score_text(rt, rt.alloc(), rules, readers, workers, &mut writer)?;
+    let names = if is_numbered { Some(files) } else { None };
+    let report = score_text_with(rt, rt.alloc(), rules, names, readers, workers, &mut writer)?;
     Ok(report.refused > 0)
 }
 

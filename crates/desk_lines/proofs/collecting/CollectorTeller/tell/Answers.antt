@@ -10,9 +10,7 @@ returns-clause-told g c =
       kind_is = refl;
       put = sym (append-nil c.args._outbox.now.bytes.items);
       tells_more = λ first lines told next counted as_this tells. (
-        took.given.0 ∙ tells.0,
-        took.given.1 ∙ tells.1,
-        Collects-line c.args.self.now c.take_line.new.self c.args.line.now next lines as_this tells.2 took.given.0 took.given.1 took.rules took.told took.answered took.refused,
-        append-nil told ∙ tells.3,
+        Collects-line first c.args.self.now c.take_line.new.self c.args.number c.args.line.now next lines counted as_this tells.0 took.given.0 took.given.1 took.rules took.told took.answered took.refused,
+        append-nil told ∙ tells.1,
       );
     }

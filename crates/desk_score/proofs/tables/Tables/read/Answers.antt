@@ -1,4 +1,4 @@
-use Rattle.std.proofs.Common.{◌≡◌, ◌∙◌, List, [], ◌∷◌, ◌++◌, Err, ap, sym, subst, append_assoc, arith}
+use Rattle.std.proofs.Common.{◌≡◌, ◌∙◌, List, [], ◌∷◌, ◌++◌, Err, ap, sym, subst, append_assoc, map, option_map, arith}
 use Rattle.std.proofs.lemmas.List.{append-nil, nil_from_length}
 use Rattle.std.proofs.lemmas.Result.{err_from_is_err_and}
 use Rattle.std.specs.Vec.Iter.{into_iter_items}
@@ -8,7 +8,7 @@ use Rattle.desk_score.proofs.ScoreLemmas.{AllGive-last}
 use Rattle.desk_score.proofs.tables.Tables.read.Goals as goal
 
 pub loop-reader-init : goal.loop-reader-init
-loop-reader-init g c = ([], record { given = tt; read = c.new-tables.ensures c.args.rules; parts = sym c.into_iter-reader-iterator.ensures.into_iter_gives.0 })
+loop-reader-init g c = ([], record { given = tt; read = c.new-tables.ensures (option_map (λ names. map (λ name. name.now) names.now) c.args.names) c.args.rules; parts = sym c.into_iter-reader-iterator.ensures.into_iter_gives.0 })
 
 pub loop-reader-preserved : goal.loop-reader-preserved
 loop-reader-preserved g c =

@@ -1,4 +1,4 @@
-use Rattle.std.proofs.Common.{◌≡◌, ℕ, List, ◌++◌}
+use Rattle.std.proofs.Common.{◌≡◌, ℕ, List, ◌++◌, map, option_map}
 use Rattle.std.specs.Vec.Iter.{into_iter_items}
 use Rattle.desk_score.specs.Score.{AllGive}
 use Rattle.desk_score.specs.Tables.{AreRead}
@@ -9,6 +9,6 @@ abbrev pub invariant-loop-reader : goal.invariant-loop-reader
 invariant-loop-reader g l =
     (texts : List (List ℕ)) × record {
       given : AllGive g.R.Source l.yielded texts;
-      read : AreRead l.rules texts l.tables;
+      read : AreRead (option_map (λ names. map (λ name. name.now) names.now) l.fn.names) l.rules texts l.tables;
       parts : l.fn.readers.items ≡ l.yielded ++ into_iter_items l.reader-iterator;
     }

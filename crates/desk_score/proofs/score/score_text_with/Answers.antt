@@ -1,8 +1,8 @@
-use Rattle.std.proofs.Common.{◌≡◌, ◌∙◌, ℕ, List, inr, subst, sym}
+use Rattle.std.proofs.Common.{◌∙◌, ℕ, List, inr, subst, sym}
 use Rattle.std.proofs.lemmas.Bool.{false≢true}
 use Rattle.std.proofs.lemmas.Result.{IfOk-weaker}
 use Rattle.desk_lines.specs.Streams.{WritesAll}
-use Rattle.desk_score.proofs.score.score_text.Goals as goal
+use Rattle.desk_score.proofs.score.score_text_with.Goals as goal
 
 pub returns-clause-ok : goal.returns-clause-ok
 returns-clause-ok g c =
