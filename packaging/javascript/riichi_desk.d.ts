@@ -1,5 +1,22 @@
-/** The rule profiles, as RULES.md of the release has them. */
-export type Rules = 1 | 2;
+/** The rules, as RULES.md of the release has them: a profile, or what `house` makes of the rules of a house. */
+export type Rules = 1 | 2 | HouseRules;
+/** The number of the rules of a house. */
+export type HouseRules = number & { readonly house: unique symbol };
+/** Each rule that a table may choose. */
+export type Rule =
+  | "redFives"
+  | "raise"
+  | "addYakuman"
+  | "doubleYakuman"
+  | "countedYakuman"
+  | "doubleWindPair"
+  | "kongDrawFu"
+  | "openSimples"
+  | "openPinfuFu"
+  | "ippatsu"
+  | "ura";
+/** The first profile with these rules on or off: `house({ redFives: true, ura: false })`. */
+export function house(changes?: Partial<Record<Rule, boolean>>): HouseRules;
 /** A line as a text, or its bytes. A line feed at its end is no part of it, nor a carriage return before that. */
 export type Line = string | Uint8Array;
 /** A kind of tile, as its digit and its letter: "5m", "7z". */

@@ -50,8 +50,35 @@ function put(line) {
   return front.length;
 }
 
+// The rules of a house in the order of their bits, and those that are on in the first profile.
+const RULES = [
+  "redFives",
+  "raise",
+  "addYakuman",
+  "doubleYakuman",
+  "countedYakuman",
+  "doubleWindPair",
+  "kongDrawFu",
+  "openSimples",
+  "openPinfuFu",
+  "ippatsu",
+  "ura",
+];
+const HOUSE = 0x10000;
+const FIRST = 0x7f0;
+
+export function house(changes = {}) {
+  const strange = Object.keys(changes).find((name) => !RULES.includes(name));
+  if (strange !== undefined) throw new RangeError(`no rule has the name ${strange}`);
+  return RULES.reduce((bits, name, place) => {
+    const bit = 1 << place;
+    return (changes[name] ?? Boolean(FIRST & bit)) ? bits | bit : bits;
+  }, HOUSE);
+}
+
 function tested(rules) {
-  if (rules !== 1 && rules !== 2) throw new RangeError(`rules is 1 or 2, and not ${rules}`);
+  if (rules === 1 || rules === 2 || (Number.isInteger(rules) && rules >= HOUSE && rules < HOUSE + (1 << RULES.length))) return;
+  throw new RangeError(`rules is 1, 2 or house({..}), and not ${rules}`);
 }
 
 function ask(call, line, rules) {

@@ -244,7 +244,7 @@ pub fn wins(wins: &[Win], rules: Rules) -> Vec<Score> {
     let mut scores = vec![Score::default(); wins.len()];
     // SAFETY: as in `shanten`; both structs lie as C has them.
     unsafe {
-        calls::riichi_wins(rules as u32, wins.as_ptr(), wins.len(), scores.as_mut_ptr(), scores.len());
+        calls::riichi_wins(rules.number(), wins.as_ptr(), wins.len(), scores.as_mut_ptr(), scores.len());
     }
     scores
 }

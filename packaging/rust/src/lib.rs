@@ -17,15 +17,9 @@ use std::str;
 
 pub mod arrays;
 mod calls;
+mod rules;
 
-/// The rule profiles, as RULES.md of the release has them.
-#[derive(Clone, Copy, Debug, PartialEq, Eq, Hash, Default)]
-#[repr(u32)]
-pub enum Rules {
-    #[default]
-    One = 1,
-    Two = 2,
-}
+pub use rules::{House, Rules};
 
 type Call = unsafe extern "C" fn(u32, *const u8, usize, *mut u8, usize) -> usize;
 type CallOfLines = unsafe extern "C" fn(u32, *const u8, usize, *mut u8, usize, *mut usize) -> usize;
@@ -40,7 +34,7 @@ impl Room {
 
     fn told(&mut self, call: Call, line: &[u8], rules: Rules) -> &str {
         // SAFETY: the pointers are those of slices, so they are valid for their lengths and not null, and a `&mut` overlaps nothing.
-        let needed = unsafe { call(rules as u32, line.as_ptr(), line.len(), self.0.as_mut_ptr(), self.0.len()) };
+        let needed = unsafe { call(rules.number(), line.as_ptr(), line.len(), self.0.as_mut_ptr(), self.0.len()) };
         str::from_utf8(&self.0[..needed]).expect("answers are ASCII")
     }
 
@@ -89,7 +83,7 @@ fn answered(call: CallOfLines, most: usize, text: &[u8], rules: Rules) -> String
         told.resize(filled + rest.len() + most + 1, 0);
         let (room, mut taken) = (&mut told[filled..], 0);
         // SAFETY: as in `Room::told`; and `taken` is a place of its own.
-        let more = unsafe { call(rules as u32, rest.as_ptr(), rest.len(), room.as_mut_ptr(), room.len(), &mut taken) };
+        let more = unsafe { call(rules.number(), rest.as_ptr(), rest.len(), room.as_mut_ptr(), room.len(), &mut taken) };
         told.truncate(filled + more);
         start += taken;
     }

@@ -10,12 +10,13 @@ import ctypes
 
 from .arrays import NO_HAND, NO_WAITS, Discards, Shapes, ankan, chi, discards, kan, pon, shanten, shapes, waits
 from .library import CALLS, ROOMS
+from .rules import Rules
 from .records import answer, answers, explain, json, lines, text, texts
 from .values import Accepted, Answer, NoWin, NoYaku, Refused, Shape, Table, Waits, Won, Yaku
 from .scores import NO_WIN, NO_YAKU, WON, Score, Win, wins
 
 __all__ = [
-    *["Accepted", "Answer", "NoWin", "NoYaku", "Refused", "Shape", "Table", "Waits", "Won", "Yaku"],
+    *["Accepted", "Answer", "NoWin", "NoYaku", "Refused", "Rules", "Shape", "Table", "Waits", "Won", "Yaku"],
     *["answer", "answers", "explain", "json", "lines", "text", "texts", "version"],
     *["NO_HAND", "NO_WAITS", "Discards", "Shapes", "discards", "shanten", "shapes", "waits"],
     *["ankan", "chi", "kan", "pon"],

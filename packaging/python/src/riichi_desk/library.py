@@ -41,13 +41,6 @@ class _Rooms(threading.local):
 ROOMS = _Rooms()
 
 
-def rules_of(rules: int) -> int:
-    """The number of a profile."""
-    if rules not in (1, 2):
-        raise ValueError(f"rules is 1 or 2, and not {rules}")
-    return rules
-
-
 def raw_bytes_of(line: Line) -> bytes:
     """The bytes of a line without its line feed."""
     given = line.encode("utf-8", "surrogateescape") if isinstance(line, str) else bytes(memoryview(line))

@@ -8,20 +8,21 @@ from collections.abc import Iterable, Iterator
 from typing import Any
 
 from . import values
-from .library import CALLS, MOST, ROOM, ROOMS, Line, bytes_of, raw_bytes_of, rules_of
+from .library import CALLS, MOST, ROOM, ROOMS, Line, bytes_of, raw_bytes_of
+from .rules import Profile, rules_of
 from .values import Answer
 
 _MOST_LINE = 4096
 
 
-def _told(call: Any, line: Line, rules: int) -> str | None:
+def _told(call: Any, line: Line, rules: Profile) -> str | None:
     given, room = bytes_of(line), ROOMS.room
     needed = call(rules_of(rules), given, len(given), room, MOST)
     return ctypes.string_at(room, needed).decode("ascii") if needed else None
 
 
-def text(line: Line, rules: int = 1) -> str | None:
-    """The answer to one line under a profile, 1 or 2, in the words of the command `line`; None where the line is a comment or blank.
+def text(line: Line, rules: Profile = 1) -> str | None:
+    """The answer to one line under the rules (1, 2 or `Rules(..)`), in the words of the command `line`; None where the line is a comment or blank.
 
     >>> text("waits 1112345678999m")
     'waits 123456789m'
@@ -29,7 +30,7 @@ def text(line: Line, rules: int = 1) -> str | None:
     return _told(CALLS.riichi_answer, line, rules)
 
 
-def json(line: Line, rules: int = 1) -> str | None:
+def json(line: Line, rules: Profile = 1) -> str | None:
     """The same answer as one line of JSON.
 
     >>> json("waits 123456789m1134p")
@@ -38,7 +39,7 @@ def json(line: Line, rules: int = 1) -> str | None:
     return _told(CALLS.riichi_json, line, rules)
 
 
-def answer(line: Line, rules: int = 1) -> Answer | None:
+def answer(line: Line, rules: Profile = 1) -> Answer | None:
     """The same answer as a value.
 
     >>> answer("waits 1112345678999m")
@@ -48,7 +49,7 @@ def answer(line: Line, rules: int = 1) -> Answer | None:
     return values.read(told) if told is not None else None
 
 
-def explain(line: Line, rules: int = 1) -> list[str]:
+def explain(line: Line, rules: Profile = 1) -> list[str]:
     """The lines that say why one line is answered as it is; none for a comment or a blank line.
 
     >>> explain("shape 123456789m1134p")
@@ -67,7 +68,7 @@ def _pieces(call: Any, text: bytes, rules: int) -> Iterator[bytes]:
         start += taken.value
 
 
-def lines(text: bytes, rules: int = 1) -> bytes:
+def lines(text: bytes, rules: Profile = 1) -> bytes:
     """The answers to a whole text of lines, as the command `line` writes them. Other threads run meanwhile. A line `rules 2` is
     a line like any other here, and refused.
 
@@ -108,7 +109,7 @@ def _many(call: Any, given: list[Line], rules: int) -> list[str | None]:
     return [None if _says_nothing(line) else next(rest) for line in given]
 
 
-def texts(lines: Iterable[Line], rules: int = 1) -> list[str | None]:
+def texts(lines: Iterable[Line], rules: Profile = 1) -> list[str | None]:
     """The answer to each of many lines, as `text` has it, by few calls. Other threads run meanwhile. The number alone says the
     profile: a line `rules 2` is refused, here and in `answers`.
 
@@ -118,7 +119,7 @@ def texts(lines: Iterable[Line], rules: int = 1) -> list[str | None]:
     return _many(CALLS.riichi_answer_lines, _listed(lines), rules_of(rules))
 
 
-def answers(lines: Iterable[Line], rules: int = 1) -> list[Answer | None]:
+def answers(lines: Iterable[Line], rules: Profile = 1) -> list[Answer | None]:
     """The answer to each of many lines as a value, as `answer` has it, by few calls.
 
     >>> answers(["waits 123456789m1134p", "# a comment"])

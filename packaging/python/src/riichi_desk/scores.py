@@ -10,7 +10,8 @@ import ctypes
 from typing import TYPE_CHECKING
 
 from .arrays import lend
-from .library import CALLS, rules_of
+from .library import CALLS
+from .rules import Profile, rules_of
 
 if TYPE_CHECKING:
     from _typeshed import ReadableBuffer as Buffer
@@ -98,7 +99,7 @@ class Score(ctypes.Structure):
     """How many of the han are dora."""
 
 
-def wins(rows: Buffer, rules: int = 1) -> ctypes.Array[Score]:
+def wins(rows: Buffer, rules: Profile = 1) -> ctypes.Array[Score]:
     """What each win is worth.
 
     >>> straight = Win(concealed=(1, 1, 1, 1, 1, 1, 1, 1, 1, 0, 0, 1, 1, 0, 0, 0, 0, 0, 0, 2), winning=10, seat=1)
