@@ -8,8 +8,11 @@ ghost use Rattle.riichi_tiles.specs.HeldKinds.{with_kind};
 use crate::acceptance::kinds_in;
 use crate::distance::NO_HAND;
 use crate::hands::shape_at;
-use crate::kept_rows::KeptRows;
-use riichi_shape::{Accepts, Discard, DiscardList, FreshRows, RowSource, ShapeAnswer, shape_with};
+use crate::kept_rows::{ROWS, UPPERS};
+use riichi_shape::{
+    Accepts, Discard, DiscardList, FreshRows, KeptRow, KeptUpper, LentMemo, RowSource, ShapeAnswer,
+    shape_with,
+};
 use riichi_tiles::KindSet;
 
 /// For fewer hands the rows that are kept cost more than they save.
@@ -157,7 +160,9 @@ fn fill_many(
     ensures live { IsFilled (λ row. (told_discards counts.now melds.now seen.now row).live)
         rows live.old live.new }
 {
-    let mut kept = KeptRows::new();
+    let mut rows_kept = [KeptRow::of_nothing(); ROWS];
+    let mut uppers_kept = [KeptUpper::of_nothing(); UPPERS];
+    let mut kept = LentMemo::new(&mut rows_kept, &mut uppers_kept);
     fill_discards(
         &mut kept, counts, melds, seen, shantens, kinds, accepts, live, rows,
     );
