@@ -46,7 +46,7 @@ mod suits_lacked;
 pub use acceptance::accepted;
 pub use accepts::Accepts;
 pub use answering::{shape, shape_with};
-pub use discard::Discard;
+pub use discard::{Discard, ShortDiscard};
 pub use discard_list::DiscardList;
 pub use distance::{shanten, shanten_with};
 pub use forms::{FormDistances, form_distances};
