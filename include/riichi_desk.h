@@ -152,7 +152,7 @@ size_t riichi_answer_rows(uint32_t rules, const uint8_t *bytes, size_t bytes_len
  * none, another number of tiles, a fifth tile of a kind) says so by a value of its own, and the others are answered all the same.
  *
  * A call of riichi_shantens or riichi_shapes for 128 hands or more, or of riichi_discards for 16 or more, keeps what it finds of a
- * suit for the next hands: one call for a thousand hands is several times faster than a thousand calls. For that it has some 420 kB
+ * suit for the next hands: one call for a thousand hands is several times faster than a thousand calls. For that it has some 440 kB
  * on its stack, which is more than a thread of musl has unless it is told otherwise; calls for fewer hands have 10 kB.
  * riichi_desk_portable.c answers by pieces of 480 hands, or 240 with discards, and keeps nothing for the next piece.
  */

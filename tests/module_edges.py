@@ -53,11 +53,14 @@ def try_many(text: bytes) -> None:
     told = [riichi_desk.text(it) for it in given]
     assert riichi_desk.texts(given) == told and riichi_desk.texts(iter(given)) == told
     assert riichi_desk.texts(it.decode("utf-8", "surrogateescape") for it in given) == told
+    assert riichi_desk.texts([WAITS, b"waits 8z"]) == [riichi_desk.text(WAITS), "refused N5 hand at 0"]
+    assert riichi_desk.texts([WAITS] * 100_000) == [riichi_desk.text(WAITS)] * 100_000  # more than a room holds
     assert riichi_desk.texts([]) == [] and riichi_desk.texts([""]) == [None]
     wanted = "".join(f"{it}\n" for it in told if it is not None).encode()
     assert riichi_desk.lines(text) == wanted and riichi_desk.lines(b"") == b""
     within = b"waits 1m\nwaits 2m"
     assert riichi_desk.texts([within, WAITS]) == [riichi_desk.text(within), riichi_desk.text(WAITS)]
+    assert riichi_desk.texts([within.decode(), WAITS]) == riichi_desk.texts([within, WAITS])
     assert riichi_desk.answers([within, WAITS]) == [riichi_desk.answer(within), riichi_desk.answer(WAITS)]
     with ThreadPoolExecutor(4) as pool:
         assert list(pool.map(riichi_desk.lines, [text] * 8)) == [wanted] * 8

@@ -1,11 +1,13 @@
 -- What is told of discards, one by one.
-use Rattle.std.proofs.Common.{◌≡◌, ◌≢◌, ℕ, zero, suc, ◌+◌, ◌-◌, ◌<◌, ◌≤◌, ℤ, Bool, true, false, cond, Option, Some, None, List, [], ◌∷◌, map, length, drop, refl, sym, ap, ◌∙◌, inl, inr, add-one, eq-eqb, arith}
+use Rattle.std.proofs.Common.{◌≡◌, ◌≢◌, ℕ, zero, suc, ◌-◌, ◌<◌, ℤ, Bool, true, false, cond, Option, Some, None, List, [], ◌∷◌, map, drop, refl, subst, sym, ap, ◌∙◌, inl, inr, eq-eqb, arith}
 use Rattle.std.proofs.lemmas.Bool.{cases_eq, cases_lt}
 use Rattle.std.proofs.lemmas.Bool.Decides.{nat_tests}
 use Rattle.std.specs.Prelude.{◌==◌, ◌||◌, nat_lt, slice_get, slice_set}
-use Rattle.riichi_shape.specs.KeptDiscards.{kinds_in}
+use Rattle.std.specs.Option.{option_map}
+use Rattle.riichi_shape.specs.KeptDiscards.{kinds_in, short_of}
 use Rattle.riichi_shape.specs.LiveCopies.{copies_in, live_in}
 use Rattle.riichi_shape.specs.declared.discard.Discard.{Discard}
+use Rattle.riichi_shape.specs.declared.discard.ShortDiscard.{ShortDiscard}
 use Rattle.riichi_tiles.specs.HeldKinds.{is_held, kinds_where, with_kind}
 use Rattle.riichi_tiles.specs.Melds.{every_kind}
 use Rattle.riichi_tiles.proofs.KindSets.{none_at, past_at, same_members, same_set, where_at, where_low, with_kind_other, with_kind_same}
@@ -85,3 +87,19 @@ one_more_told shanten discards place discard before after some there low is put 
     ∙ ap (λ (row : DiscardsRow). let told : DiscardsRow = record { shanten = row.shanten; kinds = with_kind row.kinds discard.kind; accepts = slice_set row.accepts discard.kind (kinds_in discard.accepted); live = slice_set row.live discard.kind (live_in discard.accepted) } in told) is
     ∙ same_row refl (sym (kinds_more discard rest low)) (column_more discard rest low kinds_in) (column_more discard rest low live_in)
     ∙ ap (discards_row shanten) (sym (drop_at discards (place - 1) discard there ∙ ap (λ n. discard ∷ drop n discards) (let next : suc (place - 1) ≡ place = omega arith in next)))
+
+abbrev pub with_short : DiscardsRow → ShortDiscard → DiscardsRow
+with_short before short = record { shanten = before.shanten; kinds = with_kind before.kinds short.kind; accepts = slice_set before.accepts short.kind short.accepts; live = slice_set before.live short.kind short.live }
+
+-- the same in short
+pub one_more_short : (shanten : ℤ) (discards : List Discard) (place : ℕ) (short : ShortDiscard) (before after : DiscardsRow) → 0 < place → option_map short_of (slice_get discards (place - 1)) ≡ Some short → short.kind < 34 →
+    before ≡ discards_row shanten (drop place discards) → after ≡ with_short before short → after ≡ discards_row shanten (drop (place - 1) discards)
+one_more_short shanten discards place short before after some there low is put = by_discard (slice_get discards (place - 1)) refl there
+  where
+    by_discard : (o : Option Discard) → slice_get discards (place - 1) ≡ o → option_map short_of o ≡ Some short → after ≡ discards_row shanten (drop (place - 1) discards)
+    by_discard None e at = cc
+    by_discard (Some discard) e at =
+        one_more_told shanten discards place discard before after some e (subst (λ (s : ShortDiscard). s.kind < 34) (sym (same at)) low) is (put ∙ ap (with_short before) (sym (same at)))
+      where
+        same : Some (short_of discard) ≡ Some short → short_of discard ≡ short
+        same e' = cc

@@ -1,4 +1,3 @@
 pub mod ColumnLemmas
 pub mod DiscardLemmas
 pub mod KindLemmas
-pub mod TileLemmas

@@ -1,7 +1,6 @@
 -- What is told of the hands of some rows, a column for each part.
-use Rattle.std.specs.Prelude.{◌≡◌, ℕ, Bool, ◌-◌, ◌^◌, ◌==◌, if◌then◌else◌, ℤ, negsuc, List, [], ◌∷◌, ◌++◌, Option, Some, None, drop, map, min, replicate, slice_index_or}
+use Rattle.std.specs.Prelude.{◌≡◌, ℕ, Bool, ◌-◌, ◌^◌, ◌==◌, if◌then◌else◌, ℤ, negsuc, List, [], ◌∷◌, ◌++◌, Option, Some, None, drop, map, slice_index_or}
 use Rattle.std.specs.List.{list_any, range_with_len}
-use Rattle.std.specs.Option.{option_map}
 use Rattle.riichi_arrays.specs.Hands.{hand_in, no_melds, no_tiles, shape_in}
 use Rattle.riichi_arrays.specs.declared.acceptance.ShapeRow.{ShapeRow}
 use Rattle.riichi_arrays.specs.declared.removal.DiscardsRow.{DiscardsRow}
@@ -13,7 +12,6 @@ use Rattle.riichi_shape.specs.LiveCopies.{copies_from, live_in}
 use Rattle.riichi_shape.specs.declared.accepts.Accepts.{Accepts}
 use Rattle.riichi_shape.specs.declared.accepts.Accepts.TheVariants.{Thirteen, Fourteen}
 use Rattle.riichi_shape.specs.declared.discard.Discard.{Discard}
-use Rattle.riichi_shape.specs.declared.shape_answer.ShapeAnswer.{ShapeAnswer}
 use Rattle.riichi_split.specs.Waits.{waits_of}
 use Rattle.riichi_tiles.specs.HeldKinds.{kinds_where}
 use Rattle.riichi_tiles.specs.Melds.{every_kind}

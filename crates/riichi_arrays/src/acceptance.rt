@@ -5,8 +5,10 @@ ghost use Rattle.riichi_shape.specs.KeptDiscards.{kinds_in};
 
 use crate::distance::{FEW_HANDS, NO_HAND};
 use crate::hands::shape_at;
-use crate::kept_rows::KeptRows;
-use riichi_shape::{Accepts, FreshRows, LiveList, RowSource, ShapeAnswer, shape_with};
+use crate::kept_rows::{ROWS, UPPERS};
+use riichi_shape::{
+    Accepts, FreshRows, KeptRow, KeptUpper, LentMemo, LiveList, RowSource, ShapeAnswer, shape_with,
+};
 use riichi_tiles::KindSet;
 
 /// What is told of a hand of thirteen tiles.
@@ -111,7 +113,9 @@ fn fill_many(
     ensures live { IsFilled (λ row. (told_shape counts.now melds.now seen.now row).live)
         rows live.old live.new }
 {
-    let mut kept = KeptRows::new();
+    let mut rows_kept = [KeptRow::of_nothing(); ROWS];
+    let mut uppers_kept = [KeptUpper::of_nothing(); UPPERS];
+    let mut kept = LentMemo::new(&mut rows_kept, &mut uppers_kept);
     fill_shapes(
         &mut kept, counts, melds, seen, shantens, accepts, live, rows,
     );

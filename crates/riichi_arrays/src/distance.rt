@@ -3,8 +3,8 @@ ghost use Rattle.std.specs.Prelude.{ℕ, ◌≡◌, ◌≤◌, ◌<◌, [], leng
 ghost use Rattle.riichi_arrays.specs.Columns.{IsFilled, shanten_by, shape_at};
 
 use crate::hands::shape_at;
-use crate::kept_rows::KeptRows;
-use riichi_shape::{FreshRows, RowSource, shanten_with};
+use crate::kept_rows::{ROWS, UPPERS};
+use riichi_shape::{FreshRows, KeptRow, KeptUpper, LentMemo, RowSource, shanten_with};
 
 /// The shanten that a row has which is no hand.
 pub const NO_HAND: i8 = -128;
@@ -49,7 +49,9 @@ fn fill_many(counts: &[[u8; 34]], melds: &[[u8; 4]], shantens: &mut [i8], rows: 
     ensures { IsFilled (λ row. shanten_by (shape_at counts.now melds.now [] row)) rows
         shantens.old shantens.new }
 {
-    let mut kept = KeptRows::new();
+    let mut rows_kept = [KeptRow::of_nothing(); ROWS];
+    let mut uppers_kept = [KeptUpper::of_nothing(); UPPERS];
+    let mut kept = LentMemo::new(&mut rows_kept, &mut uppers_kept);
     fill_shantens(&mut kept, counts, melds, shantens, rows);
 }
 

@@ -1,5 +1,5 @@
 //! The hand of a row.
-ghost use Rattle.std.specs.Prelude.{◌≡◌, ◌<◌, ◌≤◌, ◌+◌, ℕ, [], slice_index, slice_index_or, slice_set, length};
+ghost use Rattle.std.specs.Prelude.{◌≡◌, slice_index_or};
 ghost use Rattle.riichi_arrays.specs.Columns.{hand_at, shape_at};
 ghost use Rattle.riichi_arrays.specs.Hands as spec;
 ghost use Rattle.riichi_arrays.specs.Hands.{no_melds, no_tiles};
@@ -11,28 +11,7 @@ use riichi_tiles::{Counts, Kind, Meld, Melds};
 pub fn counts_in(row: &[u8; 34]) -> Option<Counts>
     ensures { result ≡ spec.counts_in row.now }
 {
-    let mut counts = Counts::new();
-    for number in 0..34u8 {
-        let held = row[number as usize];
-        if held > 4 {
-            return None;
-        }
-        add_copies(&mut counts, Kind::at(number), held);
-    }
-    Some(counts)
-}
-
-/// So many tiles of a kind of which there are none yet.
-fn add_copies(counts: &mut Counts, kind: Kind, held: u8)
-    requires kind { kind < 34 }
-    requires long { length counts.old ≡ 34 }
-    requires none { slice_index counts.old kind ≡ 0 }
-    requires few { held ≤ 4 }
-    ensures { counts.new ≡ slice_set counts.old kind held }
-{
-    for _copy in 0..held {
-        counts.add(kind);
-    }
+    Counts::of(row)
 }
 
 /// The meld of a byte.

@@ -1,15 +1,15 @@
 //! The discards of many hands of fourteen tiles.
 ghost use Rattle.std.specs.Prelude.{ℕ, ◌≡◌, ◌≤◌, ◌<◌, [], length, min, slice_set};
 ghost use Rattle.riichi_arrays.specs.Columns.{IsFilled, discards_row, discards_told, told_discards};
-ghost use Rattle.riichi_shape.specs.KeptDiscards.{kinds_in};
-ghost use Rattle.riichi_shape.specs.LiveCopies.{live_in};
 ghost use Rattle.riichi_tiles.specs.HeldKinds.{with_kind};
 
-use crate::acceptance::kinds_in;
 use crate::distance::NO_HAND;
 use crate::hands::shape_at;
-use crate::kept_rows::KeptRows;
-use riichi_shape::{Accepts, Discard, DiscardList, FreshRows, RowSource, ShapeAnswer, shape_with};
+use crate::kept_rows::{ROWS, UPPERS};
+use riichi_shape::{
+    Accepts, DiscardList, FreshRows, KeptRow, KeptUpper, LentMemo, RowSource, ShapeAnswer,
+    ShortDiscard, shape_with,
+};
 use riichi_tiles::KindSet;
 
 /// For fewer hands the rows that are kept cost more than they save.
@@ -41,19 +41,19 @@ impl DiscardsRow {
     }
 
     /// With one more discard.
-    fn put(&mut self, discard: &Discard)
+    fn put(&mut self, discard: &ShortDiscard)
         ensures kind { discard.now.kind < 34 }
         ensures value { self.new ≡ record {
           shanten = self.old.shanten;
           kinds = with_kind self.old.kinds discard.now.kind;
-          accepts = slice_set self.old.accepts discard.now.kind (kinds_in discard.now.accepted);
-          live = slice_set self.old.live discard.now.kind (live_in discard.now.accepted);
+          accepts = slice_set self.old.accepts discard.now.kind discard.now.accepts;
+          live = slice_set self.old.live discard.now.kind discard.now.live;
         } }
     {
         let place = discard.kind.index();
         self.kinds.insert(discard.kind);
-        self.accepts[place] = kinds_in(&discard.accepted);
-        self.live[place] = discard.accepted.live() as u8;
+        self.accepts[place] = discard.accepts.bits();
+        self.live[place] = discard.live;
     }
 }
 
@@ -65,7 +65,7 @@ fn discards_row(shanten: i8, discards: &DiscardList) -> DiscardsRow
     let mut place = discards.len();
     while place > 0 {
         place -= 1;
-        let Some(discard) = discards.get(place) else {
+        let Some(discard) = discards.short_at(place) else {
             unreachable!()
         };
         told.put(&discard);
@@ -157,7 +157,9 @@ fn fill_many(
     ensures live { IsFilled (λ row. (told_discards counts.now melds.now seen.now row).live)
         rows live.old live.new }
 {
-    let mut kept = KeptRows::new();
+    let mut rows_kept = [KeptRow::of_nothing(); ROWS];
+    let mut uppers_kept = [KeptUpper::of_nothing(); UPPERS];
+    let mut kept = LentMemo::new(&mut rows_kept, &mut uppers_kept);
     fill_discards(
         &mut kept, counts, melds, seen, shantens, kinds, accepts, live, rows,
     );

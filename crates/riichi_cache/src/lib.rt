@@ -1,6 +1,6 @@
 //! Suit rows that are kept.
 //!
-//! Three sources of rows that keep what they make, and make a row anew only where they keep none of
+//! Sources of rows that keep what they make, and make a row anew only where they keep none of
 //! that key. Each row that one keeps is by its type the row of its key, so it answers as
 //! `FreshRows` does, whatever it was asked before. None fails.
 //!
@@ -8,6 +8,8 @@
 //!   caps. Where one of the two is that very row, it is the answer; else the row is made, and the older of
 //!   the two gives way. It is the fastest.
 //! - `FrameMemo` is the same of `N` places in the value itself: it takes no memory.
+//! - `LentMemo` is the same in arrays that the caller lends, and beside the rows it keeps their upper ranks (`KeptUpper`), which
+//!   many suits have in common: a row that isn't there is made over them in half the time.
 //! - `RowCache` keeps the rows that it was asked for last, up to its capacity. A row for which there
 //!   is no memory is not kept.
 //! - `SuitMemo` is a `RowMemo`, or a `FrameMemo` where there is no memory for that.
@@ -21,6 +23,8 @@
 
 mod frame_memo;
 mod kept_row;
+mod kept_upper;
+mod lent_memo;
 mod memory;
 mod place;
 mod row_cache;
@@ -29,6 +33,9 @@ mod row_memo;
 mod suit_memo;
 
 pub use frame_memo::FrameMemo;
+pub use kept_row::KeptRow;
+pub use kept_upper::KeptUpper;
+pub use lent_memo::LentMemo;
 pub use memory::Memory;
 pub use row_cache::RowCache;
 pub use row_memo::RowMemo;

@@ -1,5 +1,5 @@
 //! What a row is kept under.
-ghost use Rattle.std.specs.Prelude.{◌≡◌, ◌∷◌, IsTrue};
+ghost use Rattle.std.specs.Prelude.{ℕ, ◌≡◌, ◌<◌, ◌≤◌, ◌∷◌, IsTrue, drop, slice_index};
 ghost use Rattle.std.proofs.Common.{rules};
 ghost use Rattle.std.specs.Hash as fed;
 ghost use Rattle.std.specs.Cmp.Rules.{hashing};
@@ -39,7 +39,32 @@ fn are_same(some: &[u8; 9], others: &[u8; 9]) -> bool
     first == other_first && last == other_last
 }
 
+/// The ranks from the fifth on, and 0 for those before.
+#[inline(always)]
+fn from_fifth(ranks: &[u8; 9]) -> [u8; 9]
+    ensures same { drop 4 result ≡ drop 4 ranks.now }
+    ensures few { ((r : ℕ) → r < 9 → slice_index ranks.now r ≤ 4) → (r : ℕ) → r < 9 → slice_index result r ≤ 4 }
+{
+    let [_, _, _, _, fifth, sixth, seventh, eighth, ninth] = *ranks;
+    [0, 0, 0, 0, fifth, sixth, seventh, eighth, ninth]
+}
+
 impl RowKey {
+    /// The key of its upper ranks alone.
+    #[inline(always)]
+    pub(crate) fn upper(&self) -> RowKey
+        ensures counts { drop 4 result.counts ≡ drop 4 self.now.counts }
+        ensures caps { drop 4 result.caps ≡ drop 4 self.now.caps }
+        ensures runs { result.runs ≡ self.now.runs }
+        ensures few { ((r : ℕ) → r < 9 → slice_index self.now.caps r ≤ 4) → (r : ℕ) → r < 9 → slice_index result.caps r ≤ 4 }
+    {
+        RowKey {
+            counts: from_fifth(&self.counts),
+            caps: from_fifth(&self.caps),
+            runs: self.runs,
+        }
+    }
+
     #[inline(always)]
     pub(crate) fn new(counts: &[u8; 9], caps: &[u8; 9], runs: bool) -> RowKey
         ensures { result ≡ record { counts = counts.now; caps = caps.now; runs = runs } }

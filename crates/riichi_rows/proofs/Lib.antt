@@ -15,3 +15,4 @@ pub mod Spread
 pub mod Steps
 pub mod Tables
 pub mod WholeSuit
+pub mod UpperRanks

@@ -7,11 +7,12 @@ use Rattle.std.specs.List.{list_any}
 use Rattle.std.specs.Prelude.{◌||◌, nat_le, nat_lt, slice_get, slice_index}
 use Rattle.std.specs.Option.{option_map}
 use Rattle.riichi_shape.specs.Discards.{inserted, inserted_by, live_with}
-use Rattle.riichi_shape.specs.KeptDiscards.{AreKept, AreTold, IsKept, all_copies, kept_of, kinds_in, kinds_of, most_copies, told}
+use Rattle.riichi_shape.specs.KeptDiscards.{AreKept, AreTold, IsKept, all_copies, kept_of, kinds_in, kinds_of, most_copies, short_of, told}
 use Rattle.riichi_tiles.specs.HeldKinds.{is_held}
 use Rattle.riichi_shape.specs.KindBits.{copies_among, copies_at}
 use Rattle.riichi_shape.specs.LiveCopies.{copies_in, pairs_of}
 use Rattle.riichi_shape.specs.declared.discard.Discard.{Discard}
+use Rattle.riichi_shape.specs.declared.discard.ShortDiscard.{ShortDiscard}
 use Rattle.riichi_shape.specs.declared.kept_discard.KeptDiscard.{KeptDiscard}
 use Rattle.riichi_shape.proofs.DiscardLemmas.{put_in}
 use Rattle.riichi_shape.proofs.KindLemmas.{among_at, among_same, are_among, few_among}
@@ -141,6 +142,24 @@ module _ (copies : List ℕ) (order : List KeptDiscard) (are : AreTold copies or
 
   pub kept_told : slice_get (map (told copies) order) place ≡ Some (told copies kept)
   kept_told = slice_get-map (told copies) order place ∙ ap (option_map (told copies)) there
+
+  kept_same : kept_of (told copies kept) ≡ kept
+  kept_same = same (sym (slice_get-map kept_of (map (told copies) order) place ∙ ap (option_map kept_of) kept_told) ∙ ap (λ ks. slice_get ks place) (sym are.order_is) ∙ there)
+    where
+      same : Some (kept_of (told copies kept)) ≡ Some kept → kept_of (told copies kept) ≡ kept
+      same e = cc
+
+  pub kept_short : (accepts : ℕ) → accepts ≡ kinds_of kept → ◌≡◌ {A = ShortDiscard} (record { kind = kept.kind; accepts = accepts; live = kept.live }) (short_of (told copies kept))
+  kept_short accepts is = same_short (is ∙ sym (ap kinds_of kept_same) ∙ whole) (sym (ap (λ (k : KeptDiscard). k.live) kept_same))
+    where
+      set : ℕ
+      set = kinds_in (told copies kept).accepted
+
+      whole : set / 2 ^ 27 * 2 ^ 27 + set % 2 ^ 27 ≡ set
+      whole = omega arith
+
+      same_short : {kinds set live all : ℕ} → kinds ≡ set → live ≡ all → ◌≡◌ {A = ShortDiscard} (record { kind = kept.kind; accepts = kinds; live = live }) (record { kind = kept.kind; accepts = set; live = all })
+      same_short e e' = cc
 
 pub none_told : (copies : List ℕ) (order : List KeptDiscard) (place : ℕ) → slice_get order place ≡ None → slice_get (map (told copies) order) place ≡ None
 none_told copies order place e = slice_get-map (told copies) order place ∙ ap (option_map (told copies)) e

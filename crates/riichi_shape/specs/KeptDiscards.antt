@@ -9,6 +9,7 @@ use Rattle.riichi_shape.specs.Discards.{discard_of, live_with}
 use Rattle.riichi_shape.specs.KindBits.{HaveCopies, copies_among}
 use Rattle.riichi_shape.specs.LiveCopies.{copies_in, pairs_of}
 use Rattle.riichi_shape.specs.declared.discard.Discard.{Discard}
+use Rattle.riichi_shape.specs.declared.discard.ShortDiscard.{ShortDiscard}
 use Rattle.riichi_shape.specs.declared.kept_discard.KeptDiscard.{KeptDiscard}
 
 -- the kinds that it accepts: those of the suits with numbers, and from bit 27 on the honours
@@ -61,6 +62,10 @@ kinds_in pairs = kinds_where (λ kind. nat_lt 0 (copies_in pairs kind))
 -- what is kept of a discard
 abbrev pub kept_of : Discard → KeptDiscard
 kept_of discard = record { numbers = kinds_in discard.accepted % 2 ^ 27; honours = kinds_in discard.accepted / 2 ^ 27; kind = discard.kind; live = live_with discard }
+
+-- a discard in short
+abbrev pub short_of : Discard → ShortDiscard
+short_of discard = record { kind = discard.kind; accepts = kinds_in discard.accepted; live = live_with discard }
 
 -- the live copies of a kind, where some discard accepts it
 unfoldable pub most_copies : List Discard → ℕ → ℕ

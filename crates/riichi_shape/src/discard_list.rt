@@ -1,10 +1,11 @@
 //! The discards of a hand of fourteen tiles.
 ghost use Rattle.std.specs.Prelude.{ℕ, ◌≡◌, ◌≤◌, length, map, slice_get, slice_index};
 ghost use Rattle.std.specs.Cmp.{decided, partial_equiv_from_equiv};
+ghost use Rattle.std.specs.Option.{option_map};
 ghost use Rattle.riichi_shape.specs.Equality.{discards_decide, discards_eq};
-ghost use Rattle.riichi_shape.specs.KeptDiscards.{AreKept, told};
+ghost use Rattle.riichi_shape.specs.KeptDiscards.{AreKept, short_of, told};
 
-use crate::discard::Discard;
+use crate::discard::{Discard, ShortDiscard};
 use crate::discard_order::DiscardOrder;
 use crate::live_copies::copies_among;
 use std::marker::Model;
@@ -72,6 +73,20 @@ impl DiscardList {
     {
         match self.order.get(place) {
             Some(kept) => Some(kept.told(&self.copies)),
+            None => None,
+        }
+    }
+
+    /// The same in short, as it is kept: no list of live copies is made.
+    pub fn short_at(&self, place: usize) -> Option<ShortDiscard>
+        ensures { result ≡ option_map short_of (slice_get self.now place) }
+    {
+        match self.order.get(place) {
+            Some(kept) => Some(ShortDiscard {
+                kind: kept.kind,
+                accepts: kept.accepted(),
+                live: kept.live,
+            }),
             None => None,
         }
     }

@@ -28,10 +28,6 @@ impl LackedHeld {
     pub(crate) fn contains(&self, held: u8) -> bool
         ensures { result ≡ lacks_held self.now held }
     {
-        match held {
-            0 => self.missing,
-            1 => self.single,
-            _ => false,
-        }
+        (held == 0) & self.missing | (held == 1) & self.single
     }
 }

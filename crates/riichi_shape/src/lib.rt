@@ -46,11 +46,13 @@ mod suits_lacked;
 pub use acceptance::accepted;
 pub use accepts::Accepts;
 pub use answering::{shape, shape_with};
-pub use discard::Discard;
+pub use discard::{Discard, ShortDiscard};
 pub use discard_list::DiscardList;
 pub use distance::{shanten, shanten_with};
 pub use forms::{FormDistances, form_distances};
 pub use live_list::LiveList;
-pub use riichi_cache::{FrameMemo, Memory, RowCache, RowMemo, SuitMemo};
+pub use riichi_cache::{
+    FrameMemo, KeptRow, KeptUpper, LentMemo, Memory, RowCache, RowMemo, SuitMemo,
+};
 pub use riichi_rows::{FreshRows, RowSource, SuitRow, join_rows, suit_row};
 pub use shape_answer::ShapeAnswer;

@@ -106,7 +106,7 @@ impl SpecialLacked {
     pub(crate) fn contains(&self, kind: Kind, held: u8) -> bool
         ensures { result ≡ special_lacks self.now kind held }
     {
-        self.pairs.contains(held) || self.orphans.contains(held) && kind.is_orphan()
+        self.pairs.contains(held) | self.orphans.contains(held) & kind.is_orphan()
     }
 
     /// The kinds that are lacked by a hand that holds so many of each.

@@ -2,7 +2,7 @@
 ghost use Rattle.std.specs.Prelude.{◌≤◌};
 
 use crate::facts::{holds, same};
-use riichi_cache::{FrameMemo, Memory, RowCache, RowMemo, SuitMemo};
+use riichi_cache::{FrameMemo, KeptRow, KeptUpper, LentMemo, Memory, RowCache, RowMemo, SuitMemo};
 use riichi_rows::{FreshRows, RowSource, SuitRow};
 use std::alloc::Global;
 use std::process::Abort;
@@ -74,4 +74,18 @@ fn rows_of_a_suit_memo(rt: HostRuntime) -> Result<(), Fail> {
 fn rows_of_a_memo_in_the_frame(rt: HostRuntime) -> Result<(), Fail> {
     check_keys_that_are_alike(&rt, &mut FrameMemo::<1>::new())?;
     check_keys_that_are_alike(&rt, &mut FrameMemo::<6>::new())
+}
+
+/// Rows over the same upper ranks, by few places for these and by one.
+#[test]
+fn rows_of_a_memo_in_lent_places(rt: HostRuntime) -> Result<(), Fail> {
+    let mut rows = [KeptRow::of_nothing(); 8];
+    let mut uppers = [KeptUpper::of_nothing(); 3];
+    let mut memo = LentMemo::new(&mut rows, &mut uppers);
+    check_keys_that_are_alike(&rt, &mut memo)?;
+    let mut one = [KeptUpper::of_nothing(); 1];
+    let mut memo = LentMemo::new(&mut rows, &mut one);
+    check(&rt, &mut memo, [1, 1, 1, 0, 2, 0, 1, 1, 1], 4, true)?;
+    check(&rt, &mut memo, [0, 3, 0, 1, 2, 0, 1, 1, 1], 4, true)?;
+    check(&rt, &mut memo, [0, 3, 0, 1, 2, 0, 1, 1, 1], 3, true)
 }

@@ -221,6 +221,11 @@ fn parts_of_an_answer(rt: HostRuntime) -> Result<(), Fail> {
     same(&rt, second.kind, Kind::at(27));
     holds(&rt, second.accepted.is_empty());
     holds(&rt, discards.get(2).is_none());
+    let short = discards.short_at(0).ok_or("no discard")?;
+    same(&rt, short.kind, Kind::at(28));
+    same(&rt, short.live, 3);
+    same(&rt, short.accepts.bits(), 1 << 27);
+    holds(&rt, discards.short_at(2).is_none());
     Ok(())
 }
 
@@ -235,6 +240,18 @@ fn thirteen_tiles(rt: HostRuntime) -> Result<(), Fail> {
     }
     same(&rt, accepted(&hand, &melds, &Counts::new()).live(), 8);
     same(&rt, shanten(&Counts::new(), &melds), 13);
+    Ok(())
+}
+
+#[test]
+fn counts_of_a_row(rt: HostRuntime) -> Result<(), Fail> {
+    let mut held = [0; 34];
+    held[33] = 4;
+    let counts = Counts::of(&held).ok_or("five of a kind")?;
+    same(&rt, counts.get(Kind::at(33)), 4);
+    same(&rt, counts.total(), 4);
+    held[33] = 5;
+    holds(&rt, Counts::of(&held).is_none());
     Ok(())
 }
 

@@ -5,6 +5,7 @@ from __future__ import annotations
 import ctypes
 import json as json_of
 from collections.abc import Iterable, Iterator
+from contextlib import suppress
 from typing import Any
 
 from . import values
@@ -58,13 +59,13 @@ def explain(line: Line, rules: Profile = 1) -> list[str]:
     return (_told(CALLS.riichi_explain, line, rules) or "").splitlines()
 
 
-def _pieces(call: Any, text: bytes, rules: int) -> Iterator[bytes]:
-    """What a call for many lines answers, a room at a time."""
+def _pieces(call: Any, text: bytes, rules: int) -> Iterator[memoryview]:
+    """What a call for many lines answers, a room at a time: the next piece overwrites it."""
     room, taken, start = ROOMS.room, ctypes.c_size_t(), 0
     at = ctypes.cast(ctypes.c_char_p(text), ctypes.c_void_p).value or 0
     while start < len(text):
         filled = call(rules, at + start, len(text) - start, room, ROOM, ctypes.byref(taken))
-        yield ctypes.string_at(room, filled)
+        yield memoryview(room)[:filled]
         start += taken.value
 
 
@@ -75,15 +76,14 @@ def lines(text: bytes, rules: Profile = 1) -> bytes:
     >>> lines(b"waits 123456789m1134p\\n# a comment\\nwaits 8z\\n")
     b'waits 25p\\nrefused N5 hand at 0\\n'
     """
-    return b"".join(_pieces(CALLS.riichi_answer_lines, text, rules_of(rules)))
+    return b"".join(map(bytes, _pieces(CALLS.riichi_answer_lines, text, rules_of(rules))))
 
 
 def _joined(given: list[Line]) -> bytes:
     """Lines as one text. A line feed within one would make two of it, so another byte that is refused stands in its place."""
-    if all(isinstance(it, str) for it in given):
-        text = "\n".join(given)  # type: ignore[arg-type]
-        if text.count("\n") == len(given) - 1:
-            return text.encode("utf-8", "surrogateescape")
+    with suppress(TypeError):  # not all of them are texts
+        if "\n" not in "".join(given):  # type: ignore[arg-type]
+            return "\n".join(given).encode("utf-8", "surrogateescape")  # type: ignore[arg-type]
     return b"\n".join(raw_bytes_of(it).replace(b"\n", b"\0") for it in given)
 
 
@@ -102,9 +102,12 @@ def _listed(lines: Iterable[Line]) -> list[Line]:
 
 def _many(call: Any, given: list[Line], rules: int) -> list[str | None]:
     """What a call for many lines answers to each; None to a line that says nothing."""
-    told = b"".join(_pieces(call, _joined(given), rules)).decode("ascii").split("\n")[:-1]
+    told: list[str | None] = []
+    for piece in _pieces(call, _joined(given), rules):
+        told += str(piece, "ascii").split("\n")
+        told.pop()
     if len(told) == len(given):
-        return list(told)
+        return told
     rest = iter(told)
     return [None if _says_nothing(line) else next(rest) for line in given]
 

@@ -1,0 +1,15 @@
+use Rattle.std.proofs.Common.{subst}
+use Rattle.riichi_cache.specs.declared.row_key.RowKey.{RowKey}
+use Rattle.riichi_cache.proofs.Uppers.{AreUpper, told_of}
+use Rattle.riichi_cache.proofs.kept_upper.upper_at.Goals as goal
+
+pub returns-in-Some-clause-upper : goal.returns-in-Some-clause-upper
+returns-in-Some-clause-upper c =
+    let own = c.upper-own.ensures in
+    told_of c.upper-own.result c.args.key.now c.in-Some.upper own.counts own.caps own.runs c.in-Some.ensures
+
+pub returns-clause-upper : goal.returns-clause-upper
+returns-clause-upper c =
+    let own = c.upper-own.ensures in
+    told_of c.upper-own.result c.args.key.now c.upper.result own.counts own.caps own.runs
+    (subst (λ (k : RowKey). AreUpper k c.upper.result) c.new-made.ensures c.upper.ensures)
