@@ -25,3 +25,4 @@ mod yaku;
 
 pub use fault::{fault_text, push_fault};
 pub use text::{JsonText, answer_text, push_answer};
+pub use win::push_open_win;
