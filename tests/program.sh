@@ -218,7 +218,7 @@ $rest" '' line --json
 : > "$room/input"
 row 0 '' '' line --json
 row 2 '' "unexpected argument '--json' found" score --json file
-row 2 '' "unexpected argument '--json' found" explain --json
+row 0 '' '' explain --json
 told 'line --json and a full disk' "riichi_desk: fault F2
 $full
 status 3" "$("$program" line --json < examples/club-night.lines 2>&1 > /dev/full; echo "status $?")"
