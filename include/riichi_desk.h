@@ -74,6 +74,15 @@ size_t riichi_answer(uint32_t rules, const uint8_t *line, size_t line_len, uint8
  */
 size_t riichi_json(uint32_t rules, const uint8_t *line, size_t line_len, uint8_t *room, size_t room_len);
 
+/* Answers one line as `riichi_json` does, and says of a win why it is answered so: its object has one member more at its end,
+ *
+ *   {"answer":"no win","why":{"waits":["2p","5p"],"shanten":{"standard":0,"seven_pairs":5,"thirteen_orphans":10}}}
+ *
+ * docs/NOTATION.md has the members of `why`, of a hand that scores the reading, the rows that add up to its score, and what each
+ * other reading is worth. Sizes and returns are as above, and no object takes more than RIICHI_MOST_JSON bytes.
+ */
+size_t riichi_explain_json(uint32_t rules, const uint8_t *line, size_t line_len, uint8_t *room, size_t room_len);
+
 /* Says why one line is answered as it is: the lines that the command `explain` writes behind its answer, each of which begins
  * with two spaces and ends with a line feed (docs/NOTATION.md, "Explanations"). Rules, line and room are those of `riichi_answer`.
  *
@@ -114,6 +123,10 @@ size_t riichi_json_lines(
 /* The same as `riichi_answer_lines`, and behind each answer the lines that explain it (`riichi_explain`): what the command
  * `explain` writes. A room of RIICHI_MOST_ANSWER + 1 + RIICHI_MOST_EXPLANATION bytes always takes one line further. */
 size_t riichi_explain_lines(
+    uint32_t rules, const uint8_t *text, size_t text_len, uint8_t *room, size_t room_len, size_t *taken);
+
+/* The same as `riichi_json_lines`, and each win with its reasons (`riichi_explain_json`): what `explain --json` writes. */
+size_t riichi_explain_json_lines(
     uint32_t rules, const uint8_t *text, size_t text_len, uint8_t *room, size_t room_len, size_t *taken);
 
 /* Answers the rows of an array of texts, one line each: the answer of each, without a line feed, and no bytes for a comment or a blank

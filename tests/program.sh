@@ -144,6 +144,9 @@ row 0 "$why$other"$'\nwaits 25p\n  2p 4 left, two-sided (ryanmen); 5p 4 left, tw
 row 2 '' "unexpected argument '--all' found" line --all
 # a hand of eight readings, which is the most that is known
 told 'explain --all of eight readings' '1 7' "$("$program" explain --all 'win 6667778888999m on=7m by=ron seat=S round=E riichi=1' | awk '/^  reading / { best++ } /^  other / { others++ } END { print best, others }')"
+# the same as JSON: of the four disputes the figures of `explain --all`, and of any other line the object of `line --json`
+row 2 '' "unexpected argument '--all' found" line --json --all
+told 'explain --json has what explain --all says' 'the same' "$(python3 -B tests/reasons_agree.py "$program" 2>&1)"
 # files in place of standard input, each with its own profile
 echo "$disputed" > "$room/one"
 printf 'rules 2\nwin 123406789m22s34p on=2p by=ron seat=S round=E\n' > "$room/two"
@@ -223,7 +226,7 @@ $rest" '' line --json
 : > "$room/input"
 row 0 '' '' line --json
 row 2 '' "unexpected argument '--json' found" score --json file
-row 2 '' "unexpected argument '--json' found" explain --json
+row 0 '' '' explain --json
 told 'line --json and a full disk' "riichi_desk: fault F2
 $full
 status 3" "$("$program" line --json < examples/club-night.lines 2>&1 > /dev/full; echo "status $?")"

@@ -35,6 +35,10 @@ size_t riichi_json(uint32_t rules, const uint8_t *line, size_t line_len, uint8_t
     return ask(Z_deskZ_riichi_json, rules, line, line_len, room, room_len);
 }
 
+size_t riichi_explain_json(uint32_t rules, const uint8_t *line, size_t line_len, uint8_t *room, size_t room_len) {
+    return ask(Z_deskZ_riichi_explain_json, rules, line, line_len, room, room_len);
+}
+
 size_t riichi_explain(uint32_t rules, const uint8_t *line, size_t line_len, uint8_t *room, size_t room_len) {
     return ask(Z_deskZ_riichi_explain, rules, line, line_len, room, room_len);
 }
@@ -85,6 +89,11 @@ size_t riichi_answer_lines(
 size_t riichi_json_lines(
     uint32_t rules, const uint8_t *text, size_t text_len, uint8_t *room, size_t room_len, size_t *taken) {
     return ask_lines(Z_deskZ_riichi_json_lines, rules, text, text_len, room, room_len, taken);
+}
+
+size_t riichi_explain_json_lines(
+    uint32_t rules, const uint8_t *text, size_t text_len, uint8_t *room, size_t room_len, size_t *taken) {
+    return ask_lines(Z_deskZ_riichi_explain_json_lines, rules, text, text_len, room, room_len, taken);
 }
 
 size_t riichi_explain_lines(

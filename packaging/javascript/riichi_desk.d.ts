@@ -62,6 +62,25 @@ export function text(line: Line, rules?: Rules): string | null;
 export function texts(lines: Iterable<Line>, rules?: Rules): (string | null)[];
 /** The answer as one line of JSON. */
 export function json(line: Line, rules?: Rules): string | null;
+export type Reading =
+  | { form: "standard"; sets: string[]; pair: string; completed: string }
+  | { form: "seven pairs" }
+  | { form: "thirteen orphans" };
+export type Earned = { part: string; japanese?: string };
+export type Other = { reading: Reading; han?: number; fu?: number; gain?: number };
+export type Why =
+  | {
+      reading: Reading;
+      han: (Earned & { han?: number })[];
+      dora: (Earned & { han: number })[];
+      fu: (Earned & { kind?: Kind; fu: number })[];
+      payments: { payer: string; points: number; counters: number }[];
+      others: Other[];
+    }
+  | { others: Other[] }
+  | { waits: Kind[]; shanten: { standard: number; seven_pairs?: number; thirteen_orphans?: number } };
+/** The answer to one line, of a win with why it is so. */
+export function why(line: Line, rules?: Rules): (Answer & { why?: Why }) | null;
 /** The lines that say why a line is answered as it is. */
 export function explain(line: Line, rules?: Rules): string[];
 /** The answers to a whole text of lines, as the command `line` writes them: each with a line feed, and nothing for a comment or a

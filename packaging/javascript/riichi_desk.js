@@ -107,6 +107,10 @@ export function answers(lines, rules = 1) {
   return Array.from(lines, (line) => answer(line, rules));
 }
 
+export function why(line, rules = 1) {
+  return JSON.parse(ask(calls.riichi_explain_json, line, rules) ?? "null");
+}
+
 export function explain(line, rules = 1) {
   return (ask(calls.riichi_explain, line, rules) ?? "").split("\n").filter((it) => it !== "");
 }

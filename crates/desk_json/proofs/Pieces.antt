@@ -73,10 +73,10 @@ same_score score t t' l l' p p' y y' e f g h = cc
 
 grouped : (a t b h c f d o e s g l i p j n k y x z : List ℕ)
     → a ++ (t ++ (b ++ (h ++ (c ++ (f ++ (d ++ (o ++ (e ++ (s ++ (g ++ (l ++ (i ++ (p ++ (j ++ (n ++ (k ++ ((y ++ x) ++ z)))))))))))))))))
-    ≡ ((((((((((a ++ t) ++ b) ++ h) ++ c) ++ f) ++ d) ++ o) ++ (((((((e ++ s) ++ g) ++ l) ++ i) ++ p) ++ j) ++ n)) ++ k) ++ y) ++ (x ++ z)
+    ≡ (((((((((((a ++ t) ++ b) ++ h) ++ c) ++ f) ++ d) ++ o) ++ (((((((e ++ s) ++ g) ++ l) ++ i) ++ p) ++ j) ++ n)) ++ k) ++ y) ++ x) ++ z
 grouped a t b h c f d o e s g l i p j n k y x z = simp append_assoc
 
-score_written : (score : Score) → written (score_tree score) ≡ score_text score
+score_written : (score : Score) → written (score_tree score) ≡ score_text score ++ codes "}"
 unfolding written escape_byte score_tree score_text worth_text points_text score_with
 score_written score =
     same_score score _ (truth_text (is_yakuman score.yaku)) _ (limit_text score.base) _ (payment_text score.payment) _ (yaku_list_text score.yaku ++ codes "]")
@@ -86,7 +86,7 @@ score_written score =
     (codes ",\"payment\":") (payment_text score.payment) (codes ",\"gain\":") (decimal score.gain) (codes ",\"yaku\":[") (yaku_list_text score.yaku) (codes "]") (codes "}")
 
 pub win_written : (win : WinAnswer) → answer_text (answer.Win win) ≡ parts.win_text win
-unfolding answer_tree win_tree parts.win_text written escape_byte
+unfolding answer_tree win_tree parts.win_text parts.open_win_text written escape_byte
 win_written (Won score) = text_written (score_tree score) ∙ score_written score
 win_written NoYaku = text_written (win_tree NoYaku)
 win_written NoWin = text_written (win_tree NoWin)

@@ -73,13 +73,17 @@ points_text score =
     codes ",\"base\":" ++ decimal score.base ++ codes ",\"limit\":" ++ limit_text score.base
     ++ codes ",\"payment\":" ++ payment_text score.payment ++ codes ",\"gain\":" ++ decimal score.gain
 
+-- without the brace at its end
 unfoldable pub score_text : Score → List ℕ
-score_text score = worth_text score ++ points_text score ++ codes ",\"yaku\":[" ++ yaku_list_text score.yaku ++ codes "]}"
+score_text score = worth_text score ++ points_text score ++ codes ",\"yaku\":[" ++ yaku_list_text score.yaku ++ codes "]"
+
+unfoldable pub open_win_text : WinAnswer → List ℕ
+open_win_text (Won score) = score_text score
+open_win_text NoYaku = codes "{\"answer\":\"no yaku\""
+open_win_text NoWin = codes "{\"answer\":\"no win\""
 
 unfoldable pub win_text : WinAnswer → List ℕ
-win_text (Won score) = score_text score
-win_text NoYaku = codes "{\"answer\":\"no yaku\"}"
-win_text NoWin = codes "{\"answer\":\"no win\"}"
+win_text win = open_win_text win ++ codes "}"
 
 -- ---- waits
 

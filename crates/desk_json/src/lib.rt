@@ -25,3 +25,4 @@ mod yaku;
 
 pub use refusal::{push_refusal, refusal_text};
 pub use text::{JsonText, answer_text, push_answer};
+pub use win::push_open_win;

@@ -1,35 +1,57 @@
 //! What a win is worth.
-ghost use Rattle.std.specs.Prelude.{◌≡◌, ◌≤◌, ◌+◌, ◌++◌, length};
+ghost use Rattle.std.specs.Prelude.{◌≡◌, ◌≤◌, ◌+◌, ◌++◌, codes, length};
 ghost use Rattle.arrayvec.specs.ArrayString.{array_string_len};
+ghost use Rattle.desk_core.specs.declared.answer.Answer.TheVariants.{Win};
 ghost use Rattle.desk_json.specs.Parts as spec;
+ghost use Rattle.desk_json.specs.Text.{answer_text};
 
 use crate::number::push_after;
 use crate::text::JsonText;
 use crate::yaku::push_yaku;
 use riichi_score::{Payment, Score, WinAnswer};
 
-#[tactic(auto, unfolding(crate::specs::Parts::win_text))]
+#[tactic(auto, using(crate::proofs::Pieces::win_written))]
 pub(crate) fn push_win(text: &mut JsonText, answer: &WinAnswer)
     requires { array_string_len text.old + 3840 ≤ 12288 }
-    ensures { text.new.bytes ≡ text.old.bytes ++ spec.win_text answer.now }
+    ensures { text.new.bytes ≡ text.old.bytes ++ answer_text (Win answer.now) }
+{
+    push_open_win(text, answer);
+    text.push_str("}");
+}
+
+/// Writes the object of a win's answer behind a text, without the brace that ends it, so that more members may stand there.
+pub fn push_open_win(text: &mut JsonText, answer: &WinAnswer)
+    requires { array_string_len text.old + 3839 ≤ 12288 }
+    ensures bytes { text.new.bytes ++ codes "}" ≡ text.old.bytes ++ answer_text (Win answer.now) }
+    ensures len { array_string_len text.new ≤ array_string_len text.old + 3839 }
+{
+    push_members(text, answer);
+}
+
+#[tactic(auto, unfolding(crate::specs::Parts::open_win_text))]
+fn push_members(text: &mut JsonText, answer: &WinAnswer)
+    requires { array_string_len text.old + 3839 ≤ 12288 }
+    ensures bytes { text.new.bytes ≡ text.old.bytes ++ spec.open_win_text answer.now }
+    ensures len { array_string_len text.new ≤ array_string_len text.old + 3839 }
 {
     match answer {
         WinAnswer::Won(score) => push_score(text, score),
-        WinAnswer::NoYaku => text.push_str("{\"answer\":\"no yaku\"}"),
-        WinAnswer::NoWin => text.push_str("{\"answer\":\"no win\"}"),
+        WinAnswer::NoYaku => text.push_str("{\"answer\":\"no yaku\""),
+        WinAnswer::NoWin => text.push_str("{\"answer\":\"no win\""),
     }
 }
 
 #[tactic(auto, unfolding(crate::specs::Parts::score_text))]
 fn push_score(text: &mut JsonText, score: &Score)
-    requires { array_string_len text.old + 3840 ≤ 12288 }
-    ensures { text.new.bytes ≡ text.old.bytes ++ spec.score_text score.now }
+    requires { array_string_len text.old + 3839 ≤ 12288 }
+    ensures bytes { text.new.bytes ≡ text.old.bytes ++ spec.score_text score.now }
+    ensures len { array_string_len text.new ≤ array_string_len text.old + 3839 }
 {
     push_worth(text, score);
     push_points(text, score);
     text.push_str(",\"yaku\":[");
     push_yaku(text, score.yaku);
-    text.push_str("]}");
+    text.push_str("]");
 }
 
 /// The han with the fu and the dora.

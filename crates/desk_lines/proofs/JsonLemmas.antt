@@ -13,7 +13,7 @@ use Rattle.riichi_score.specs.declared.answer.WinAnswer.TheVariants.{Won, NoYaku
 use Rattle.desk_core.specs.declared.answer.Answer.{Answer}
 use Rattle.desk_core.specs.declared.answer.Answer.TheVariants as answer
 use Rattle.desk_core.specs.Value.{value_of}
-use Rattle.desk_json.specs.Parts.{worth_text, score_text, win_text, waits_text, shape_text, code_text, refusal_parts}
+use Rattle.desk_json.specs.Parts.{worth_text, score_text, open_win_text, win_text, waits_text, shape_text, code_text, refusal_parts}
 use Rattle.desk_json.specs.Text.{answer_text, refusal_text}
 use Rattle.desk_json.proofs.Pieces.{win_written, waits_written, shape_written}
 use Rattle.desk_json.proofs.Refusals.{refusal_written}
@@ -36,7 +36,7 @@ pub is_refusal-fault : (line : List ℕ) (fault : LineFault) → is_refusal (ref
 is_refusal-fault line fault = ap is_refusal (refusal_written line fault) ∙ parts_refuse line fault
 
 no_win_refuses : (win : WinAnswer) → is_refusal (win_text win) ≡ false
-unfolding win_text score_text worth_text
+unfolding win_text open_win_text score_text worth_text
 no_win_refuses (Won score) = refl
 no_win_refuses NoYaku = refl
 no_win_refuses NoWin = refl
@@ -55,7 +55,7 @@ brace_of : (text parts : List ℕ) → text ≡ parts → codes "{" ++ drop 1 pa
 brace_of text parts is brace = ap (λ (all : List ℕ). codes "{" ++ drop 1 all) is ∙ brace ∙ sym is
 
 win_brace : (win : WinAnswer) → codes "{" ++ drop 1 (win_text win) ≡ win_text win
-unfolding win_text score_text worth_text
+unfolding win_text open_win_text score_text worth_text
 win_brace (Won score) = refl
 win_brace NoYaku = refl
 win_brace NoWin = refl

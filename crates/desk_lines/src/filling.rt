@@ -5,6 +5,7 @@ ghost use Rattle.desk_lines.specs.Explained.{IsExplained};
 ghost use Rattle.desk_lines.specs.Filling.{IsFirstLine, AreAnswersBy, Fills};
 ghost use Rattle.desk_lines.specs.JsonLine.{json_of};
 ghost use Rattle.desk_lines.specs.LineAnswer.{answer_of};
+ghost use Rattle.desk_lines.specs.Reasoned.{IsReasoned};
 ghost use Rattle.desk_lines.specs.Records.{AreTold};
 
 use super::answering::Plain;
@@ -12,6 +13,7 @@ use super::explained::Explained;
 use super::first_line::{cut_text, without_return};
 use super::objects::Objects;
 use super::outbox::Outbox;
+use super::reasoned::Reasoned;
 use super::responder::Responder;
 use riichi_hand::Rules;
 use riichi_shape::FrameMemo;
@@ -46,6 +48,13 @@ pub fn fill_explanations(rules: Rules, text: &[u8], room: &mut [u8]) -> Filled
     ensures { Fills (AreTold (IsExplained BestReading) rules) text.now room.old room.new result.taken result.filled }
 {
     fill::<Explained>(rules, text, room)
+}
+
+/// Each answer as an object of JSON, that of a win with its reasons.
+pub fn fill_explained_objects(rules: Rules, text: &[u8], room: &mut [u8]) -> Filled
+    ensures { Fills (AreTold IsReasoned rules) text.now room.old room.new result.taken result.filled }
+{
+    fill::<Reasoned>(rules, text, room)
 }
 
 fn fill<A: Responder>(rules: Rules, text: &[u8], room: &mut [u8]) -> Filled

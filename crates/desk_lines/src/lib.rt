@@ -3,7 +3,7 @@
 //! [`desk_text`] answers the record lines that a `desk_streams::Source` gives, one line for each, and
 //! writes the answers into a `desk_streams::Sink`. It returns a [`DeskReport`] of how many were answered
 //! and how many refused, or the [`DeskFault`] for which it gave up. [`json_text_with`] answers the same lines by objects of
-//! JSON, [`explain_text_with`] with the reasons, and [`numbered_text_with`] in any of these ways behind the number of each line.
+//! JSON, [`explain_text_with`] with the reasons, [`explain_json_text_with`] with these in the objects, and [`numbered_text_with`] in any of these ways behind the number of each line.
 //! [`replay_text`] does so with the commands of a
 //! script, over a desk of 64 tables. [`collect_text`] takes a text apart into [`Sheet`]s of answer lines that are
 //! not made yet, [`texts_of`] makes them once their jobs have answers, and [`write_texts`] writes them.
@@ -41,6 +41,8 @@ mod objects;
 mod outbox;
 mod profile;
 mod ready;
+mod reasoned;
+mod reasoned_lines;
 mod records;
 mod replay;
 mod report;
@@ -61,11 +63,13 @@ pub use collecting::{Collected, collect_text};
 pub use explained::{EveryReading, Explained};
 pub use explaining::explain_text_with;
 pub use fault::DeskFault;
-pub use filling::{Filled, fill_answers, fill_explanations, fill_objects};
+pub use filling::{Filled, fill_answers, fill_explained_objects, fill_explanations, fill_objects};
 pub use json_lines::json_text_with;
 pub use numbering::numbered_text_with;
 pub use objects::Members;
 pub use ready::is_ready;
+pub use reasoned::{ReasonedMembers, win_in};
+pub use reasoned_lines::explain_json_text_with;
 pub use replay::replay_text;
 pub use report::DeskReport;
 pub use riichi_explain::Shown;

@@ -41,7 +41,7 @@ impl Responder for Objects {
 
 /// Puts the answer to a line into the outbox, where it has one.
 #[tactic(auto, using(crate::proofs::JsonLemmas::kinds), unfolding(crate::specs::JsonLine::json_of))]
-fn put_json<S: RowSource>(
+pub(crate) fn put_json<S: RowSource>(
     rules: Rules,
     line: &[u8],
     outbox: &mut Outbox,

@@ -58,7 +58,7 @@ pub(crate) const EXPLAIN_HELP: &str = "\
 Example:
   riichi_desk explain win 99978m444p567s22s on=9m by=ron seat=S round=E riichi=1
   riichi_desk explain --all win 1122334m556677s on=4m by=ron seat=S round=E
-  riichi_desk explain --file club-night.lines
+  riichi_desk explain --json --file club-night.lines
 
 Exit status:
   0  answered

@@ -46,6 +46,8 @@ pub enum Form {
     Reasons,
     /// The same, with every reading of a win.
     AllReasons,
+    /// As JSON, with the reasons of a win, by every reading.
+    JsonReasons,
 }
 
 /// Where record lines come from.
@@ -179,9 +181,11 @@ fn form_in(matches: &ArgMatches<'_>) -> Form {
     }
 }
 
-/// How many reasons are wanted.
+/// How many reasons are wanted, and how they are written. As JSON they are all.
 fn reasons_in(matches: &ArgMatches<'_>) -> Form {
-    if matches.get_flag("all") {
+    if matches.get_flag("json") {
+        Form::JsonReasons
+    } else if matches.get_flag("all") {
         Form::AllReasons
     } else {
         Form::Reasons

@@ -96,7 +96,10 @@ fn line_command<'a>(alloc: Global) -> Result<Command<'a>, AllocError> {
         .arg(rules_arg(alloc))?
         .arg(file_arg(alloc))?
         .arg(number_arg(alloc))?
-        .arg(json_arg(alloc))
+        .arg(json_arg(
+            alloc,
+            "Answers each hand by one object of JSON, what is refused too",
+        ))
 }
 
 /// Files in place of standard input.
@@ -117,11 +120,11 @@ fn number_arg<'a>(alloc: Global) -> Arg<'a> {
 }
 
 /// That answers are wanted as JSON.
-fn json_arg<'a>(alloc: Global) -> Arg<'a> {
+fn json_arg<'a>(alloc: Global, help: &'static str) -> Arg<'a> {
     Arg::new(alloc, "json")
         .long("json")
         .action(ArgAction::SetTrue)
-        .help("Answers each hand by one object of JSON, what is refused too")
+        .help(help)
 }
 
 /// That every reading of a win is wanted.
@@ -146,6 +149,10 @@ fn explain_command<'a>(alloc: Global) -> Result<Command<'a>, AllocError> {
         .arg(all_arg(alloc))?
         .arg(file_arg(alloc))?
         .arg(number_arg(alloc))?
+        .arg(json_arg(
+            alloc,
+            "Answers each hand by one object of JSON, of a win with the member why, by every reading",
+        ))?
         .arg(lines)
 }
 

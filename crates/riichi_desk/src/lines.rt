@@ -3,8 +3,9 @@ use crate::failure::Failure;
 use crate::files::open_file;
 use crate::noted::Notes;
 use desk_lines::{
-    DeskFault, DeskReport, EveryReading, Explained, Members, Plain, Rules, Shown, SuitMemo,
-    desk_text_with, explain_text_with, json_text_with, numbered_text_with,
+    DeskFault, DeskReport, EveryReading, Explained, Members, Plain, ReasonedMembers, Rules, Shown,
+    SuitMemo, desk_text_with, explain_json_text_with, explain_text_with, json_text_with,
+    numbered_text_with,
 };
 use desk_streams::{BytesIn, FromReader, Sink, Source, ToWriter};
 use desk_words::{Form, Lines};
@@ -104,7 +105,7 @@ impl<W: Sink> Answering<W> {
         match self.report(reader) {
             Ok(report) => Ok(report.refused > 0),
             Err(fault) => Err(match self.form {
-                Form::Reasons | Form::AllReasons => Failure::Explained(fault),
+                Form::Reasons | Form::AllReasons | Form::JsonReasons => Failure::Explained(fault),
                 Form::Words | Form::Json => Failure::from(fault),
             }),
         }
@@ -124,6 +125,7 @@ impl<W: Sink> Answering<W> {
             Form::AllReasons => {
                 explain_text_with(rows, self.rules, Shown::EveryReading, reader, writer)
             }
+            Form::JsonReasons => explain_json_text_with(rows, self.rules, reader, writer),
         }
     }
 
@@ -140,6 +142,9 @@ impl<W: Sink> Answering<W> {
             Form::AllReasons => {
                 numbered_text_with::<EveryReading, SuitMemo, S, W>(rows, rules, reader, writer)
             }
+            Form::JsonReasons => numbered_text_with::<ReasonedMembers, SuitMemo, S, W>(
+                rows, rules, reader, writer,
+            ),
         }
     }
 }

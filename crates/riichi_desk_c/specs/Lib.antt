@@ -4,3 +4,4 @@ pub mod Reasons
 pub mod ManyLines
 pub mod Rows
 pub mod WinRows
+pub mod JsonReasons

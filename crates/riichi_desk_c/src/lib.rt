@@ -10,6 +10,7 @@ ghost use Rattle.riichi_desk_c.specs.Replies.{reply_to};
 
 mod arrays;
 mod json;
+mod json_reasons;
 mod lines;
 mod placing;
 mod reasons;
@@ -20,7 +21,10 @@ mod wins;
 pub use arrays::{riichi_discards, riichi_shantens, riichi_shapes, riichi_waits_of};
 use desk_core::{answer_text, judge};
 pub use json::riichi_json;
-pub use lines::{riichi_answer_lines, riichi_explain_lines, riichi_json_lines};
+pub use json_reasons::riichi_explain_json;
+pub use lines::{
+    riichi_answer_lines, riichi_explain_json_lines, riichi_explain_lines, riichi_json_lines,
+};
 use placing::place;
 pub use reasons::riichi_explain;
 use riichi_hand::{fault_text, read_line};

@@ -4,11 +4,12 @@ ghost use Rattle.desk_lines.specs.Explained.{IsExplained};
 ghost use Rattle.desk_lines.specs.Filling.{AreAnswersBy};
 ghost use Rattle.desk_lines.specs.JsonLine.{json_of};
 ghost use Rattle.desk_lines.specs.LineAnswer.{answer_of};
+ghost use Rattle.desk_lines.specs.Reasoned.{IsReasoned};
 ghost use Rattle.desk_lines.specs.Records.{AreTold};
 ghost use Rattle.riichi_desk_c.specs.ManyLines.{FillsUnder};
 
 use crate::rules_numbered;
-use desk_lines::{fill_answers, fill_explanations, fill_objects};
+use desk_lines::{fill_answers, fill_explained_objects, fill_explanations, fill_objects};
 
 /// Answers the lines of a text from its start, as many as have room, each answer with a line feed behind it, under the profile
 /// of this number: the bytes that the answers fill. `taken` is set to the bytes of the text that are answered, always whole
@@ -71,6 +72,29 @@ pub extern "C" fn riichi_explain_lines(
     match rules_numbered(rules) {
         Some(rules) => {
             let done = fill_explanations(rules, text, room);
+            *taken = done.taken;
+            done.filled
+        }
+        None => {
+            *taken = 0;
+            0
+        }
+    }
+}
+
+/// The same as `riichi_json_lines`, and each win with its reasons, as `riichi_explain_json` answers it.
+#[unsafe(no_mangle)]
+pub extern "C" fn riichi_explain_json_lines(
+    rules: u32,
+    text: &[u8],
+    room: &mut [u8],
+    taken: &mut usize,
+) -> usize
+    ensures { FillsUnder (AreTold IsReasoned) rules text.now room.old room.new taken.new result }
+{
+    match rules_numbered(rules) {
+        Some(rules) => {
+            let done = fill_explained_objects(rules, text, room);
             *taken = done.taken;
             done.filled
         }

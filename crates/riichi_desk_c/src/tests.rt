@@ -3,8 +3,8 @@ mod wins;
 
 use super::{
     riichi_answer, riichi_answer_lines, riichi_answer_rows, riichi_discards, riichi_explain,
-    riichi_explain_lines, riichi_json, riichi_json_lines, riichi_shantens, riichi_shapes,
-    riichi_version, riichi_waits_of,
+    riichi_explain_json, riichi_explain_json_lines, riichi_explain_lines, riichi_json,
+    riichi_json_lines, riichi_shantens, riichi_shapes, riichi_version, riichi_waits_of,
 };
 use facts::holds;
 
@@ -79,6 +79,30 @@ fn answers_as_json(rt: HostRuntime) {
         room.get(..needed) == Some(b"{\"answer\":\"refused\",\"code\":\"rules\"}".as_slice()),
     );
     holds(&rt, riichi_json(1, b"# table three", &mut room) == 0);
+}
+
+#[test]
+fn explains_as_json(rt: HostRuntime) {
+    let line = b"win 456m22s34p open=chi:123m,chi:678p on=2p by=ron seat=S round=E";
+    let object =
+        b"{\"answer\":\"no yaku\",\"why\":{\"others\":[{\"reading\":{\"form\":\"standard\",\"sets\":[\"456m\",\"234p\"],\"pair\":\"22s\",\"completed\":\"234p\"}}]}}".as_slice();
+    let mut room = [7u8; 256];
+    let needed = riichi_explain_json(1, line, &mut room);
+    holds(&rt, room.get(..needed) == Some(object));
+    let mut small = [7u8; 8];
+    holds(&rt, riichi_explain_json(1, line, &mut small) == needed);
+    holds(&rt, small == [7u8; 8]);
+    let waits = b"{\"answer\":\"waits\",\"kinds\":[\"2p\",\"5p\"]}".as_slice();
+    let needed = riichi_explain_json(1, b"waits 123456789m1134p", &mut room);
+    holds(&rt, room.get(..needed) == Some(waits));
+    let rules = b"{\"answer\":\"refused\",\"code\":\"rules\"}".as_slice();
+    let needed = riichi_explain_json(3, line, &mut room);
+    holds(&rt, room.get(..needed) == Some(rules));
+    let mut taken = 0;
+    let filled = riichi_explain_json_lines(1, line, &mut room, &mut taken);
+    holds(&rt, taken == line.len());
+    holds(&rt, filled == object.len() + 1);
+    holds(&rt, room.get(..object.len()) == Some(object));
 }
 
 #[test]

@@ -49,6 +49,7 @@ use Rattle.riichi_explain.specs.Others.{scored_text, ranked_text, other_text, fi
 use Rattle.riichi_explain.specs.Win.{counted_fu, reading_of}
 use Rattle.riichi_explain.specs.Forms.{shanten_text, form_text, other_text as other_form, shanten_line}
 use Rattle.riichi_explain.specs.Text as text
+use Rattle.riichi_explain.specs.Words.{dora_words, dora_japanese, fu_words, fu_japanese, payer_words}
 use Rattle.riichi_waits.specs.Waits as waits
 use Rattle.riichi_waits.specs.Waits.{kind_waits}
 use Rattle.riichi_waits.specs.declared.waits.KindWait.{KindWait}
@@ -170,10 +171,10 @@ han_line-lines false number rows =
     pass (joined (codes ", ") (map text.han_text rows) ++ sum) text.line_feed (after (joined (codes ", ") (map text.han_text rows)) sum (joined-plain (codes ", ") text.han_text rows refl han_text-plain) (han_sum-plain false (length rows) number))
 
 dora_part_text-plain : (part : DoraPart) (number : ℕ) → plain (text.dora_part_text part number) ≡ true
-unfolding text.dora_part_text
+unfolding text.dora_part_text text.dora_part_words text.beside dora_words dora_japanese
 dora_part_text-plain dora.Indicated number = refl
 dora_part_text-plain dora.Below number = refl
-dora_part_text-plain dora.RedFives number = elim (nat_eq number 1) as (λ test. plain (cond test (codes " red five") (codes " red fives")) ≡ true) [ true ↦ refl | false ↦ refl ]
+dora_part_text-plain dora.RedFives number = elim (nat_eq number 1) as (λ test. plain (cond test (codes " red five") (text.dora_part_words dora.RedFives)) ≡ true) [ true ↦ refl | false ↦ refl ]
 
 dora_text-plain : (row : DoraRow) → plain (text.dora_text row) ≡ true
 unfolding text.dora_text
@@ -190,26 +191,18 @@ unfolding text.dora_line_if
 dora_line_if-lines [] = refl
 dora_line_if-lines (row ∷ rows) = dora_line-lines (row ∷ rows)
 
-triplet_words-plain : (kind : ℕ) (concealed : Bool) → plain (text.triplet_words kind concealed) ≡ true
-unfolding text.triplet_words text.shown_text text.triplet_name
-triplet_words-plain kind true = after (three_text kind) (codes " (ankou)") (three_text-plain kind) refl
-triplet_words-plain kind false = after (three_text kind) (codes " (minkou)") (three_text-plain kind) refl
-
-kong_words-plain : (kind : ℕ) (concealed : Bool) → plain (text.kong_words kind concealed) ≡ true
-unfolding text.kong_words text.shown_text text.kong_name
-kong_words-plain kind true = after (four_text kind) (codes " (ankan)") (four_text-plain kind) refl
-kong_words-plain kind false = after (four_text kind) (codes " (minkan)") (four_text-plain kind) refl
-
 fu_part_text-plain : (part : FuPart) → plain (text.fu_part_text part) ≡ true
-unfolding text.fu_part_text
+unfolding text.fu_part_text text.fu_tiles text.beside fu_words fu_japanese
 fu_part_text-plain fu.Base = refl
 fu_part_text-plain fu.ConcealedRon = refl
 fu_part_text-plain fu.SelfDraw = refl
-fu_part_text-plain (fu.Triplet kind concealed) = triplet_words-plain kind concealed
-fu_part_text-plain (fu.Kong kind concealed) = kong_words-plain kind concealed
-fu_part_text-plain (fu.DragonPair kind) = two_text-plain kind
-fu_part_text-plain (fu.SeatWindPair kind) = two_text-plain kind
-fu_part_text-plain (fu.PrevalentWindPair kind) = two_text-plain kind
+fu_part_text-plain (fu.Triplet kind true) = after (three_text kind) (codes " (ankou)") (three_text-plain kind) refl
+fu_part_text-plain (fu.Triplet kind false) = after (three_text kind) (codes " (minkou)") (three_text-plain kind) refl
+fu_part_text-plain (fu.Kong kind true) = after (four_text kind) (codes " (ankan)") (four_text-plain kind) refl
+fu_part_text-plain (fu.Kong kind false) = after (four_text kind) (codes " (minkan)") (four_text-plain kind) refl
+fu_part_text-plain (fu.DragonPair kind) = after (two_text kind) [] (two_text-plain kind) refl
+fu_part_text-plain (fu.SeatWindPair kind) = after (two_text kind) [] (two_text-plain kind) refl
+fu_part_text-plain (fu.PrevalentWindPair kind) = after (two_text kind) [] (two_text-plain kind) refl
 fu_part_text-plain fu.ClosedWait = refl
 fu_part_text-plain fu.EdgeWait = refl
 fu_part_text-plain fu.PairWait = refl
@@ -284,7 +277,7 @@ added_text-plain what points more p =
     ]
 
 payer_name-plain : (who : Payer) → plain (text.payer_name who) ≡ true
-unfolding text.payer_name
+unfolding text.payer_name payer_words
 payer_name-plain payer.Discarder = refl
 payer_name-plain payer.Dealer = refl
 payer_name-plain payer.TwoOthers = refl

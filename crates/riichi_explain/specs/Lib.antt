@@ -6,6 +6,7 @@ pub mod Dora
 pub mod Base
 pub mod Payers
 pub mod Win
+pub mod Words
 pub mod Text
 pub mod Ranked
 pub mod Others

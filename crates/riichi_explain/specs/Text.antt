@@ -31,6 +31,7 @@ use Rattle.riichi_explain.specs.declared.win.WonHand.{WonHand}
 use Rattle.riichi_explain.specs.Base.{limit_points}
 use Rattle.riichi_explain.specs.Dora.{dora_total}
 use Rattle.riichi_explain.specs.Fu.{fu_total}
+use Rattle.riichi_explain.specs.Words.{dora_words, dora_japanese, fu_words, fu_japanese, payer_words}
 use Rattle.riichi_text.specs.Lists.{joined}
 use Rattle.riichi_text.specs.Tiles.{kind_text, block_text, meld_text, two_text, three_text, four_text}
 
@@ -106,10 +107,18 @@ unfoldable pub han_line : Bool → ℕ → List HanRow → List ℕ
 han_line yakuman han rows =
     han_label yakuman ++ joined (codes ", ") (map han_text rows) ++ han_sum yakuman (length rows) han ++ line_feed
 
+-- a Japanese name in brackets, where there is one
+unfoldable pub beside : List ℕ → List ℕ
+beside [] = []
+beside (byte ∷ bytes) = codes " (" ++ (byte ∷ bytes) ++ codes ")"
+
+unfoldable pub dora_part_words : DoraPart → List ℕ
+dora_part_words part = codes " " ++ dora_words part ++ beside (dora_japanese part)
+
 unfoldable pub dora_part_text : DoraPart → ℕ → List ℕ
-dora_part_text dora.Indicated han = codes " indicated"
-dora_part_text dora.Below han = codes " below (ura)"
-dora_part_text dora.RedFives han = if han == 1 then codes " red five" else codes " red fives"
+dora_part_text dora.Indicated han = dora_part_words dora.Indicated
+dora_part_text dora.Below han = dora_part_words dora.Below
+dora_part_text dora.RedFives han = if han == 1 then codes " red five" else dora_part_words dora.RedFives
 
 unfoldable pub dora_text : DoraRow → List ℕ
 dora_text row = decimal row.han ++ dora_part_text row.part row.han
@@ -123,35 +132,24 @@ unfoldable pub dora_line_if : List DoraRow → List ℕ
 dora_line_if [] = []
 dora_line_if (row ∷ rows) = dora_line (row ∷ rows)
 
-unfoldable pub shown_text : Bool → List ℕ
-shown_text concealed = if concealed then codes "concealed " else codes "open "
-
-unfoldable pub triplet_name : Bool → List ℕ
-triplet_name concealed = if concealed then codes " (ankou)" else codes " (minkou)"
-
-unfoldable pub triplet_words : ℕ → Bool → List ℕ
-triplet_words kind concealed = shown_text concealed ++ codes "triplet " ++ three_text kind ++ triplet_name concealed
-
-unfoldable pub kong_name : Bool → List ℕ
-kong_name concealed = if concealed then codes " (ankan)" else codes " (minkan)"
-
-unfoldable pub kong_words : ℕ → Bool → List ℕ
-kong_words kind concealed = shown_text concealed ++ codes "kong " ++ four_text kind ++ kong_name concealed
+-- the tiles of what earns fu, where these are of one kind
+unfoldable pub fu_tiles : FuPart → List ℕ
+fu_tiles fu.Base = []
+fu_tiles fu.ConcealedRon = []
+fu_tiles fu.SelfDraw = []
+fu_tiles (fu.Triplet kind concealed) = codes " " ++ three_text kind
+fu_tiles (fu.Kong kind concealed) = codes " " ++ four_text kind
+fu_tiles (fu.DragonPair kind) = codes " " ++ two_text kind
+fu_tiles (fu.SeatWindPair kind) = codes " " ++ two_text kind
+fu_tiles (fu.PrevalentWindPair kind) = codes " " ++ two_text kind
+fu_tiles fu.ClosedWait = []
+fu_tiles fu.EdgeWait = []
+fu_tiles fu.PairWait = []
+fu_tiles fu.OpenRon = []
+fu_tiles fu.SevenPairs = []
 
 unfoldable pub fu_part_text : FuPart → List ℕ
-fu_part_text fu.Base = codes "base"
-fu_part_text fu.ConcealedRon = codes "concealed ron (menzen kafu)"
-fu_part_text fu.SelfDraw = codes "self-draw (tsumo)"
-fu_part_text (fu.Triplet kind concealed) = triplet_words kind concealed
-fu_part_text (fu.Kong kind concealed) = kong_words kind concealed
-fu_part_text (fu.DragonPair kind) = codes "pair of dragons " ++ two_text kind
-fu_part_text (fu.SeatWindPair kind) = codes "pair of the seat wind " ++ two_text kind
-fu_part_text (fu.PrevalentWindPair kind) = codes "pair of the prevalent wind " ++ two_text kind
-fu_part_text fu.ClosedWait = codes "closed wait (kanchan)"
-fu_part_text fu.EdgeWait = codes "edge wait (penchan)"
-fu_part_text fu.PairWait = codes "pair wait (tanki)"
-fu_part_text fu.OpenRon = codes "open ron of 20"
-fu_part_text fu.SevenPairs = codes "seven pairs"
+fu_part_text part = fu_words part ++ fu_tiles part ++ beside (fu_japanese part)
 
 unfoldable pub fu_text : FuRow → List ℕ
 fu_text row = decimal row.fu ++ codes " " ++ fu_part_text row.part
@@ -202,10 +200,7 @@ base_line rule han fu = codes "  base    " ++ base_text rule han fu ++ line_feed
 -- ---- payments
 
 unfoldable pub payer_name : Payer → List ℕ
-payer_name payer.Discarder = codes "discarder "
-payer_name payer.Dealer = codes "dealer "
-payer_name payer.TwoOthers = codes "two others "
-payer_name payer.ThreeOthers = codes "three others "
+payer_name payer = payer_words payer ++ codes " "
 
 unfoldable pub each_text : Payer → List ℕ
 each_text payer.Discarder = []

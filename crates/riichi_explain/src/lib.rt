@@ -22,6 +22,7 @@ mod reading_text;
 mod rows_text;
 mod win;
 mod win_text;
+mod words;
 
 pub use base::{BaseRule, Limit, base_rule};
 pub use dora::{DoraPart, DoraRow, DoraRows, dora_rows};
@@ -36,3 +37,4 @@ pub use ranked::{RankedReading, Ranking, ranked_readings};
 pub use reading_text::push_no_yaku;
 pub use win::{WinExplanation, WonHand, explain_win};
 pub use win_text::{push_won_hand, won_hand_text};
+pub use words::{dora_japanese, dora_words, fu_japanese, fu_words, payer_words};

@@ -6,6 +6,7 @@ ghost use Rattle.riichi_explain.specs.Text as spec;
 
 use crate::base::{BaseRule, Limit};
 use crate::payers::{PayRow, Payer};
+use crate::words::payer_words;
 use arrayvec::ArrayString;
 use riichi_text::{ListItem, push_list, push_number};
 
@@ -158,12 +159,8 @@ fn push_payer(text: &mut ArrayString<4608>, payer: Payer)
     ensures bytes { text.new.bytes ≡ text.old.bytes ++ spec.payer_name payer }
     ensures len { array_string_len text.new ≤ array_string_len text.old + 13 }
 {
-    match payer {
-        Payer::Discarder => text.push_str("discarder "),
-        Payer::Dealer => text.push_str("dealer "),
-        Payer::TwoOthers => text.push_str("two others "),
-        Payer::ThreeOthers => text.push_str("three others "),
-    }
+    text.push_str(payer_words(payer));
+    text.push_str(" ");
 }
 
 #[tactic(auto, unfolding(crate::specs::Text::each_text))]

@@ -2,15 +2,14 @@
 ghost use Rattle.std.specs.Prelude.{◌≡◌, ◌+◌, ◌≤◌, ◌++◌, length};
 ghost use Rattle.arrayvec.specs.ArrayString.{array_string_len};
 ghost use Rattle.riichi_explain.specs.Text as spec;
-ghost use Rattle.riichi_text.specs.Tiles.{two_text};
 
 use crate::dora::{DoraPart, DoraRow, dora_total};
 use crate::fu::{FuPart, FuRow, fu_total};
 use crate::han::{HanPart, HanRow};
+use crate::words::{dora_japanese, dora_words, fu_japanese, fu_words};
 use arrayvec::ArrayString;
 use riichi_names::push_named;
 use riichi_text::{ListItem, push_four, push_list, push_number, push_three, push_two};
-use riichi_tiles::Kind;
 
 /// Writes the line of the rows of han. That of a yakuman has its names alone.
 #[tactic(auto, unfolding(crate::specs::Text::han_line))]
@@ -109,9 +108,9 @@ fn push_han_number(text: &mut ArrayString<4608>, part: &HanPart, han: u8)
 #[tactic(auto, unfolding(crate::specs::Text::dora_line_if))]
 pub(crate) fn push_dora_line_if(text: &mut ArrayString<4608>, rows: &[DoraRow])
     requires few { length rows.now ≤ 3 }
-    requires room { array_string_len text.old + 115 ≤ 4608 }
+    requires room { array_string_len text.old + 125 ≤ 4608 }
     ensures bytes { text.new.bytes ≡ text.old.bytes ++ spec.dora_line_if rows.now }
-    ensures len { array_string_len text.new ≤ array_string_len text.old + 115 }
+    ensures len { array_string_len text.new ≤ array_string_len text.old + 125 }
 {
     if !rows.is_empty() {
         push_dora_line(text, rows);
@@ -121,9 +120,9 @@ pub(crate) fn push_dora_line_if(text: &mut ArrayString<4608>, rows: &[DoraRow])
 #[tactic(auto, unfolding(crate::specs::Text::dora_line))]
 fn push_dora_line(text: &mut ArrayString<4608>, rows: &[DoraRow])
     requires few { length rows.now ≤ 3 }
-    requires room { array_string_len text.old + 115 ≤ 4608 }
+    requires room { array_string_len text.old + 125 ≤ 4608 }
     ensures bytes { text.new.bytes ≡ text.old.bytes ++ spec.dora_line rows.now }
-    ensures len { array_string_len text.new ≤ array_string_len text.old + 115 }
+    ensures len { array_string_len text.new ≤ array_string_len text.old + 125 }
 {
     let total = dora_total(rows);
     text.push_str("  dora    ");
@@ -138,7 +137,7 @@ impl ListItem<4608> for DoraRow {
 
     ghost item_text = { dora_text };
 
-    ghost most = { 22 };
+    ghost most = { 26 };
 
     #[tactic(auto, unfolding(crate::specs::Text::dora_text))]
     fn push(&self, text: &mut ArrayString<4608>) {
@@ -149,15 +148,38 @@ impl ListItem<4608> for DoraRow {
 
 #[tactic(auto, unfolding(crate::specs::Text::dora_part_text))]
 fn push_dora_part(text: &mut ArrayString<4608>, part: DoraPart, han: u32)
-    requires { array_string_len text.old + 12 ≤ 4608 }
+    requires { array_string_len text.old + 16 ≤ 4608 }
     ensures bytes { text.new.bytes ≡ text.old.bytes ++ spec.dora_part_text part han }
-    ensures len { array_string_len text.new ≤ array_string_len text.old + 12 }
+    ensures len { array_string_len text.new ≤ array_string_len text.old + 16 }
 {
     match part {
-        DoraPart::Indicated => text.push_str(" indicated"),
-        DoraPart::Below => text.push_str(" below (ura)"),
         DoraPart::RedFives if han == 1 => text.push_str(" red five"),
-        DoraPart::RedFives => text.push_str(" red fives"),
+        _ => push_dora_words(text, part),
+    }
+}
+
+#[tactic(auto, unfolding(crate::specs::Text::dora_part_words))]
+fn push_dora_words(text: &mut ArrayString<4608>, part: DoraPart)
+    requires { array_string_len text.old + 16 ≤ 4608 }
+    ensures bytes { text.new.bytes ≡ text.old.bytes ++ spec.dora_part_words part }
+    ensures len { array_string_len text.new ≤ array_string_len text.old + 16 }
+{
+    text.push_str(" ");
+    text.push_str(dora_words(part));
+    push_beside(text, dora_japanese(part));
+}
+
+/// A Japanese name in brackets, where there is one.
+#[tactic(auto, unfolding(crate::specs::Text::beside))]
+fn push_beside(text: &mut ArrayString<4608>, name: &str)
+    requires { array_string_len text.old + length name.now + 3 ≤ 4608 }
+    ensures bytes { text.new.bytes ≡ text.old.bytes ++ spec.beside name.now }
+    ensures len { array_string_len text.new ≤ array_string_len text.old + length name.now + 3 }
+{
+    if !name.is_empty() {
+        text.push_str(" (");
+        text.push_str(name);
+        text.push_str(")");
     }
 }
 
@@ -165,9 +187,9 @@ fn push_dora_part(text: &mut ArrayString<4608>, part: DoraPart, han: u32)
 #[tactic(auto, unfolding(crate::specs::Text::fu_line))]
 pub(crate) fn push_fu_line(text: &mut ArrayString<4608>, rows: &[FuRow], fu: u8)
     requires few { length rows.now ≤ 24 }
-    requires room { array_string_len text.old + 950 ≤ 4608 }
+    requires room { array_string_len text.old + 1290 ≤ 4608 }
     ensures bytes { text.new.bytes ≡ text.old.bytes ++ spec.fu_line rows.now fu }
-    ensures len { array_string_len text.new ≤ array_string_len text.old + 950 }
+    ensures len { array_string_len text.new ≤ array_string_len text.old + 1290 }
 {
     let sum = fu_total(rows);
     text.push_str("  fu      ");
@@ -203,7 +225,7 @@ impl ListItem<4608> for FuRow {
 
     ghost item_text = { fu_text };
 
-    ghost most = { 35 };
+    ghost most = { 50 };
 
     #[tactic(auto, unfolding(crate::specs::Text::fu_text))]
     fn push(&self, text: &mut ArrayString<4608>) {
@@ -215,96 +237,35 @@ impl ListItem<4608> for FuRow {
 
 #[tactic(auto, unfolding(crate::specs::Text::fu_part_text))]
 fn push_fu_part(text: &mut ArrayString<4608>, part: &FuPart)
-    requires { array_string_len text.old + 31 ≤ 4608 }
+    requires { array_string_len text.old + 46 ≤ 4608 }
     ensures bytes { text.new.bytes ≡ text.old.bytes ++ spec.fu_part_text part.now }
-    ensures len { array_string_len text.new ≤ array_string_len text.old + 31 }
+    ensures len { array_string_len text.new ≤ array_string_len text.old + 46 }
+{
+    text.push_str(fu_words(part));
+    push_fu_tiles(text, part);
+    push_beside(text, fu_japanese(part));
+}
+
+/// The tiles of what earns fu, where these are of one kind.
+#[tactic(auto, unfolding(crate::specs::Text::fu_tiles))]
+fn push_fu_tiles(text: &mut ArrayString<4608>, part: &FuPart)
+    requires { array_string_len text.old + 6 ≤ 4608 }
+    ensures bytes { text.new.bytes ≡ text.old.bytes ++ spec.fu_tiles part.now }
+    ensures len { array_string_len text.new ≤ array_string_len text.old + 6 }
 {
     match *part {
-        FuPart::Triplet { kind, concealed } => push_triplet(text, kind, concealed),
-        FuPart::Kong { kind, concealed } => push_kong(text, kind, concealed),
-        FuPart::DragonPair(kind) => push_pair(text, "pair of dragons ", kind),
-        FuPart::SeatWindPair(kind) => push_pair(text, "pair of the seat wind ", kind),
-        FuPart::PrevalentWindPair(kind) => push_pair(text, "pair of the prevalent wind ", kind),
-        FuPart::Base => text.push_str("base"),
-        FuPart::ConcealedRon => text.push_str("concealed ron (menzen kafu)"),
-        FuPart::SelfDraw => text.push_str("self-draw (tsumo)"),
-        FuPart::ClosedWait => text.push_str("closed wait (kanchan)"),
-        FuPart::EdgeWait => text.push_str("edge wait (penchan)"),
-        FuPart::PairWait => text.push_str("pair wait (tanki)"),
-        FuPart::OpenRon => text.push_str("open ron of 20"),
-        FuPart::SevenPairs => text.push_str("seven pairs"),
-    }
-}
-
-fn push_pair(text: &mut ArrayString<4608>, what: &str, kind: Kind)
-    requires few { length what.now ≤ 27 }
-    requires room { array_string_len text.old + 30 ≤ 4608 }
-    ensures bytes { text.new.bytes ≡ text.old.bytes ++ (what.now ++ two_text kind) }
-    ensures len { array_string_len text.new ≤ array_string_len text.old + 30 }
-{
-    text.push_str(what);
-    push_two(text, kind);
-}
-
-#[tactic(auto, unfolding(crate::specs::Text::shown_text))]
-fn push_openness(text: &mut ArrayString<4608>, concealed: bool)
-    requires { array_string_len text.old + 10 ≤ 4608 }
-    ensures bytes { text.new.bytes ≡ text.old.bytes ++ spec.shown_text concealed }
-    ensures len { array_string_len text.new ≤ array_string_len text.old + 10 }
-{
-    if concealed {
-        text.push_str("concealed ");
-    } else {
-        text.push_str("open ");
-    }
-}
-
-#[tactic(auto, unfolding(crate::specs::Text::triplet_words))]
-fn push_triplet(text: &mut ArrayString<4608>, kind: Kind, concealed: bool)
-    requires { array_string_len text.old + 31 ≤ 4608 }
-    ensures bytes { text.new.bytes ≡ text.old.bytes ++ spec.triplet_words kind concealed }
-    ensures len { array_string_len text.new ≤ array_string_len text.old + 31 }
-{
-    push_openness(text, concealed);
-    text.push_str("triplet ");
-    push_three(text, kind);
-    push_triplet_name(text, concealed);
-}
-
-#[tactic(auto, unfolding(crate::specs::Text::kong_words))]
-fn push_kong(text: &mut ArrayString<4608>, kind: Kind, concealed: bool)
-    requires { array_string_len text.old + 29 ≤ 4608 }
-    ensures bytes { text.new.bytes ≡ text.old.bytes ++ spec.kong_words kind concealed }
-    ensures len { array_string_len text.new ≤ array_string_len text.old + 29 }
-{
-    push_openness(text, concealed);
-    text.push_str("kong ");
-    push_four(text, kind);
-    push_kong_name(text, concealed);
-}
-
-#[tactic(auto, unfolding(crate::specs::Text::triplet_name))]
-fn push_triplet_name(text: &mut ArrayString<4608>, concealed: bool)
-    requires { array_string_len text.old + 9 ≤ 4608 }
-    ensures bytes { text.new.bytes ≡ text.old.bytes ++ spec.triplet_name concealed }
-    ensures len { array_string_len text.new ≤ array_string_len text.old + 9 }
-{
-    if concealed {
-        text.push_str(" (ankou)");
-    } else {
-        text.push_str(" (minkou)");
-    }
-}
-
-#[tactic(auto, unfolding(crate::specs::Text::kong_name))]
-fn push_kong_name(text: &mut ArrayString<4608>, concealed: bool)
-    requires { array_string_len text.old + 9 ≤ 4608 }
-    ensures bytes { text.new.bytes ≡ text.old.bytes ++ spec.kong_name concealed }
-    ensures len { array_string_len text.new ≤ array_string_len text.old + 9 }
-{
-    if concealed {
-        text.push_str(" (ankan)");
-    } else {
-        text.push_str(" (minkan)");
+        FuPart::Triplet { kind, .. } => {
+            text.push_str(" ");
+            push_three(text, kind);
+        }
+        FuPart::Kong { kind, .. } => {
+            text.push_str(" ");
+            push_four(text, kind);
+        }
+        FuPart::DragonPair(kind) | FuPart::SeatWindPair(kind) | FuPart::PrevalentWindPair(kind) => {
+            text.push_str(" ");
+            push_two(text, kind);
+        }
+        _ => {}
     }
 }

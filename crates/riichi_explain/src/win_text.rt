@@ -23,7 +23,7 @@ pub fn won_hand_text(hand: &WonHand) -> ArrayString<4608>
 /// Writes these lines behind a text. A text that is kept need not be made anew for each hand.
 #[tactic(auto, unfolding(crate::specs::Text::won_hand_text))]
 pub fn push_won_hand(text: &mut ArrayString<4608>, hand: &WonHand)
-    requires { array_string_len text.old + 3780 ≤ 4608 }
+    requires { array_string_len text.old + 4130 ≤ 4608 }
     ensures { text.new.bytes ≡ text.old.bytes ++ spec.won_hand_text hand.now }
 {
     let yakuman = hand.score.yaku.is_yakuman();
@@ -40,9 +40,9 @@ pub fn push_won_hand(text: &mut ArrayString<4608>, hand: &WonHand)
 #[tactic(auto, unfolding(crate::specs::Text::fu_line_if))]
 pub(crate) fn push_fu_line_if(text: &mut ArrayString<4608>, yakuman: bool, rows: &[FuRow], fu: u8)
     requires few { length rows.now ≤ 24 }
-    requires room { array_string_len text.old + 950 ≤ 4608 }
+    requires room { array_string_len text.old + 1290 ≤ 4608 }
     ensures bytes { text.new.bytes ≡ text.old.bytes ++ spec.fu_line_if yakuman rows.now fu }
-    ensures len { array_string_len text.new ≤ array_string_len text.old + 950 }
+    ensures len { array_string_len text.new ≤ array_string_len text.old + 1290 }
 {
     if !yakuman {
         push_fu_line(text, rows, fu);

@@ -8,6 +8,7 @@ extern "C" {
     pub fn riichi_answer(rules: u32, line: *const u8, line_len: usize, room: *mut u8, room_len: usize) -> usize;
     pub fn riichi_json(rules: u32, line: *const u8, line_len: usize, room: *mut u8, room_len: usize) -> usize;
     pub fn riichi_explain(rules: u32, line: *const u8, line_len: usize, room: *mut u8, room_len: usize) -> usize;
+    pub fn riichi_explain_json(rules: u32, line: *const u8, line_len: usize, room: *mut u8, room_len: usize) -> usize;
     pub fn riichi_version(room: *mut u8, room_len: usize) -> usize;
     pub fn riichi_answer_lines(
         rules: u32,

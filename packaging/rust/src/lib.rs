@@ -48,6 +48,11 @@ impl Room {
         Some(self.told(calls::riichi_json, line.as_ref(), rules)).filter(|it| !it.is_empty())
     }
 
+    /// The same object, of a win with the member `why` at its end: why it is answered so.
+    pub fn explain_json(&mut self, line: impl AsRef<[u8]>, rules: Rules) -> Option<&str> {
+        Some(self.told(calls::riichi_explain_json, line.as_ref(), rules)).filter(|it| !it.is_empty())
+    }
+
     /// Why the line is answered as it is: lines, each with its line feed; none of a comment or a blank line.
     pub fn explain(&mut self, line: impl AsRef<[u8]>, rules: Rules) -> &str {
         self.told(calls::riichi_explain, line.as_ref(), rules)
@@ -68,6 +73,11 @@ pub fn answer(line: impl AsRef<[u8]>, rules: Rules) -> Option<String> {
 /// The same answer as one object of JSON.
 pub fn json(line: impl AsRef<[u8]>, rules: Rules) -> Option<String> {
     Room::new().json(line, rules).map(str::to_owned)
+}
+
+/// The same object, of a win with the member `why` at its end: why it is answered so.
+pub fn explain_json(line: impl AsRef<[u8]>, rules: Rules) -> Option<String> {
+    Room::new().explain_json(line, rules).map(str::to_owned)
 }
 
 /// Why the line is answered as it is: lines, each with its line feed.

@@ -1,6 +1,6 @@
 """What a hand of riichi mahjong is worth and why, its waits, and how far it is from a win. The answers are proved.
 
-One line a call: `text`, `answer`, `json`, `explain`. Many: `texts`, `answers`, `lines`. Many hands without text: `shanten`,
+One line a call: `text`, `answer`, `json`, `explain`, `why`. Many: `texts`, `answers`, `lines`. Many hands without text: `shanten`,
 `shapes`, `discards`, `waits`, over buffers of counts; many wins: `wins`. The package has the shared library inside; RIICHI_DESK in the environment names another one.
 """
 
@@ -10,14 +10,14 @@ import ctypes
 
 from .arrays import NO_HAND, NO_WAITS, Discards, Shapes, ankan, chi, discards, kan, pon, shanten, shapes, waits
 from .library import CALLS, ROOMS
+from .records import answer, answers, explain, json, lines, text, texts, why
 from .rules import Rules
-from .records import answer, answers, explain, json, lines, text, texts
 from .values import Accepted, Answer, NoWin, NoYaku, Refused, Shape, Table, Waits, Won, Yaku
 from .scores import NO_WIN, NO_YAKU, WON, Score, Win, wins
 
 __all__ = [
     *["Accepted", "Answer", "NoWin", "NoYaku", "Refused", "Rules", "Shape", "Table", "Waits", "Won", "Yaku"],
-    *["answer", "answers", "explain", "json", "lines", "text", "texts", "version"],
+    *["answer", "answers", "explain", "json", "lines", "text", "texts", "version", "why"],
     *["NO_HAND", "NO_WAITS", "Discards", "Shapes", "discards", "shanten", "shapes", "waits"],
     *["ankan", "chi", "kan", "pon"],
     *["NO_WIN", "NO_YAKU", "WON", "Score", "Win", "wins"],

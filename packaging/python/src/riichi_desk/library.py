@@ -19,7 +19,7 @@ _SIZE, _AT, _RULES = ctypes.c_size_t, ctypes.c_void_p, ctypes.c_uint32
 CALLS = ctypes.CDLL(os.environ.get("RIICHI_DESK", str(Path(__file__).with_name("libriichi_desk.so"))))
 _ARGUMENTS = {
     "riichi_version": [_AT, _SIZE],
-    **dict.fromkeys(("riichi_answer", "riichi_json", "riichi_explain"), [_RULES, ctypes.c_char_p, _SIZE, _AT, _SIZE]),
+    **dict.fromkeys(("riichi_answer", "riichi_json", "riichi_explain", "riichi_explain_json"), [_RULES, ctypes.c_char_p, _SIZE, _AT, _SIZE]),
     **dict.fromkeys(("riichi_answer_lines", "riichi_json_lines"), [_RULES, _AT, _SIZE, _AT, _SIZE, ctypes.POINTER(_SIZE)]),
     **dict.fromkeys(("riichi_shantens", "riichi_waits_of"), [_AT, _SIZE] * 3),
     "riichi_shapes": [_AT, _SIZE] * 6,

@@ -50,6 +50,16 @@ def answer(line: Line, rules: Profile = 1) -> Answer | None:
     return values.read(told) if told is not None else None
 
 
+def why(line: Line, rules: Profile = 1) -> dict[str, Any] | None:
+    """The same answer as the object of JSON, which says of a win why it is so: its member `why` has the reading and its rows.
+
+    >>> why("win 456m22s34p open=chi:123m,chi:678p on=2p by=ron seat=S round=E")["why"]["others"][0]["reading"]["pair"]
+    '22s'
+    """
+    told = _told(CALLS.riichi_explain_json, line, rules)
+    return json_of.loads(told) if told is not None else None
+
+
 def explain(line: Line, rules: Profile = 1) -> list[str]:
     """The lines that say why one line is answered as it is; none for a comment or a blank line.
 

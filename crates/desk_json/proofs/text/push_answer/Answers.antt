@@ -1,10 +1,10 @@
 use Rattle.std.proofs.Common.{◌++◌, sym, ap, ◌∙◌}
 use Rattle.desk_json.specs.Text.{answer_text}
-use Rattle.desk_json.proofs.Pieces.{win_written, waits_written, shape_written}
+use Rattle.desk_json.proofs.Pieces.{waits_written, shape_written}
 use Rattle.desk_json.proofs.text.push_answer.Goals as goal
 
 pub returns-in-Win : goal.returns-in-Win
-returns-in-Win c = c.push_win.ensures ∙ ap (λ t. c.args.text.now.bytes ++ t) (sym (win_written c.in-Win.win)) ∙ ap (λ a. c.args.text.now.bytes ++ answer_text a) (sym c.in-Win.is)
+returns-in-Win c = c.push_win.ensures ∙ ap (λ a. c.args.text.now.bytes ++ answer_text a) (sym c.in-Win.is)
 
 pub returns-in-Waits : goal.returns-in-Waits
 returns-in-Waits c = c.push_waits.ensures ∙ ap (λ t. c.args.text.now.bytes ++ t) (sym (waits_written c.in-Waits.kinds)) ∙ ap (λ a. c.args.text.now.bytes ++ answer_text a) (sym c.in-Waits.is)

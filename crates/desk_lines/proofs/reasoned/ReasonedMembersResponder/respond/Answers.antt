@@ -1,0 +1,10 @@
+use Rattle.std.proofs.Common.{◌++◌, ◌∷◌, [], drop, ap, sym, ◌∙◌}
+use Rattle.desk_lines.proofs.ReasonLemmas.{puts_members}
+use Rattle.desk_lines.proofs.reasoned.ReasonedMembersResponder.respond.Goals as goal
+
+pub returns-in-Some : goal.returns-in-Some
+returns-in-Some g c =
+    let made = c.make_explained in
+    puts_members c.args.rules c.args.line.now c.args.outbox.now.bytes.items c.put_members.new.self.bytes.items made.new.outbox.object.bytes c.in-Some.win
+    (sym c.in-Some.is ∙ c.win_in.ensures) made.ensures.object
+    (c.put_members.ensures ∙ ap (λ bytes. bytes.items ++ (drop 1 made.new.outbox.object.bytes ++ 10 ∷ [])) made.ensures.same)

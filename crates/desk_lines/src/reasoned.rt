@@ -1,0 +1,112 @@
+//! The answer to one line as JSON, which says of a win why it is so.
+ghost use Rattle.std.specs.Prelude.{◌≡◌, Ok, Some};
+ghost use Rattle.riichi_hand.specs.Lines.{outcome_of};
+ghost use Rattle.desk_reasons.specs.Reasons.{IsExplainedWin};
+ghost use Rattle.desk_lines.specs.Reasoned.{win_in};
+
+use super::line_kind::LineKind;
+use super::numbered::Numbers;
+use super::objects::{Members, put_json};
+use super::outbox::Outbox;
+use super::responder::Responder;
+use desk_reasons::push_explained_win;
+use riichi_hand::{Job, Rules, WinRecord, read_line};
+use riichi_shape::RowSource;
+
+/// The answers as JSON, of a win with the member `why` at the end of its object.
+pub(crate) struct Reasoned;
+
+impl Responder for Reasoned {
+    ghost use Rattle.desk_lines.specs.JsonLine.{is_refusal};
+    ghost use Rattle.desk_lines.specs.Reasoned.{IsReasoned, reasoned_alike};
+
+    ghost may_tell = { IsReasoned };
+
+    ghost refuses = { is_refusal };
+
+    ghost alike = { reasoned_alike };
+
+    fn respond<S: RowSource>(
+        rules: Rules,
+        line: &[u8],
+        outbox: &mut Outbox,
+        source: &mut S,
+    ) -> LineKind {
+        match win_in(rules, line) {
+            None => put_json(rules, line, outbox, source),
+            Some(win) => {
+                make_explained(&win, outbox);
+                outbox.put_object();
+                LineKind::Answered
+            }
+        }
+    }
+}
+
+/// The same without the brace before the first member, so that another one may stand there.
+pub struct ReasonedMembers;
+
+impl Responder for ReasonedMembers {
+    ghost use Rattle.desk_lines.specs.JsonLine.{are_of_refusal};
+    ghost use Rattle.desk_lines.specs.Reasoned.{AreReasoned, reasoned_members_alike};
+
+    ghost may_tell = { AreReasoned };
+
+    ghost refuses = { are_of_refusal };
+
+    ghost alike = { reasoned_members_alike };
+
+    fn respond<S: RowSource>(
+        rules: Rules,
+        line: &[u8],
+        outbox: &mut Outbox,
+        source: &mut S,
+    ) -> LineKind {
+        match win_in(rules, line) {
+            None => Members::respond(rules, line, outbox, source),
+            Some(win) => {
+                make_explained(&win, outbox);
+                outbox.put_members();
+                LineKind::Answered
+            }
+        }
+    }
+}
+
+impl Numbers for ReasonedMembers {
+    ghost use Rattle.desk_lines.specs.Numbered.{object_front};
+
+    ghost front = { object_front };
+
+    fn put_number(number: u64, outbox: &mut Outbox) {
+        Members::put_number(number, outbox)
+    }
+}
+
+/// The win that a line is, if it is one.
+pub fn win_in(rules: Rules, line: &[u8]) -> Option<WinRecord>
+    ensures { result ≡ win_in (outcome_of rules line.now) }
+{
+    match read_line(rules, line) {
+        Ok(Some(job)) => win_of(&job),
+        Ok(None) | Err(_) => None,
+    }
+}
+
+fn win_of(job: &Job) -> Option<WinRecord>
+    ensures { result ≡ win_in (Ok (Some job.now)) }
+{
+    match job {
+        Job::Win(win) => Some(*win),
+        Job::Waits(_) | Job::Shape(_) => None,
+    }
+}
+
+/// Makes the object of a win with its reasons.
+fn make_explained(win: &WinRecord, outbox: &mut Outbox)
+    ensures object { IsExplainedWin win.now outbox.new.object.bytes }
+    ensures same { outbox.new.bytes ≡ outbox.old.bytes }
+{
+    outbox.object.clear();
+    push_explained_win(&mut outbox.object, win);
+}

@@ -1,0 +1,56 @@
+//! A text over streams, answered as JSON with the reasons.
+ghost use Rattle.std.specs.Prelude.{◌≡◌, ◌++◌, ℕ, List, IfOk, IsErrOf};
+ghost use Rattle.desk_lines.specs.JsonLine.{is_refusal};
+ghost use Rattle.desk_lines.specs.Lines.{ended_lines, lines};
+ghost use Rattle.desk_lines.specs.Reasoned.{IsReasoned};
+ghost use Rattle.desk_lines.specs.Records.{AnswerRecords};
+ghost use Rattle.desk_lines.specs.Streams.{Gives, GivesAll, WritesAll, StopsWriting, AreWhole, FailsOrGoesOn, IsReadWithin};
+ghost use Rattle.desk_lines.specs.Telling.{report_by, text_of};
+
+use super::fault::DeskFault;
+use super::reasoned::Reasoned;
+use super::report::DeskReport;
+use super::responding::respond_text;
+use desk_streams::{Sink, Source};
+use riichi_hand::Rules;
+use riichi_shape::RowSource;
+
+/// Answers the record lines that a reader gives as `json_text_with` does, and says of each win why it is answered so: its
+/// object has one member more at its end. It takes no memory, and has no limit on the number of lines.
+pub fn explain_json_text_with<S: RowSource, R: Source, W: Sink>(
+    source: &mut S,
+    rules: Rules,
+    reader: &mut R,
+    writer: &mut W,
+) -> Result<DeskReport, DeskFault>
+    // The reader was read to its end, and the objects of what it gave were written with their reasons.
+    ensures ok { IfOk result (λ report. (text : List ℕ) × (told : List (List ℕ))
+        × GivesAll ⟦<R as Source>⟧ reader.old reader.new text
+        × AnswerRecords IsReasoned rules (lines text) told
+        × WritesAll ⟦<W as Sink>⟧ writer.old writer.new (text_of told)
+        × (report ≡ report_by is_refusal told)) }
+
+    // A read failed, or there were too many: the answers to the lines that had ended were written.
+    ensures read_failed { IsErrOf result DeskFault.Read
+        → FailsOrGoesOn ⟦<R as Source>⟧ reader.old reader.new
+        × ((text : List ℕ) × (told : List (List ℕ))
+        × Gives ⟦<R as Source>⟧ reader.old reader.new text
+        × AnswerRecords IsReasoned rules (ended_lines text) told
+        × WritesAll ⟦<W as Sink>⟧ writer.old writer.new (text_of told)) }
+
+    // A write failed: a front of the answers to the first of the whole lines that the reader gave was written.
+    ensures write_failed { IsErrOf result DeskFault.Write
+        → (text : List ℕ) × (whole first others told : List (List ℕ))
+        × Gives ⟦<R as Source>⟧ reader.old reader.new text
+        × AreWhole (R.is_ended reader.new) text whole
+        × (whole ≡ first ++ others)
+        × AnswerRecords IsReasoned rules first told
+        × StopsWriting ⟦<W as Sink>⟧ writer.old writer.new (text_of told) }
+
+    ensures no_memory { IsErrOf result DeskFault.Memory → ⊥ }
+    // A failed read is told as such, whatever comes after it. So what is said of a failed read is so before each read.
+    ensures told_as_read { (IsErrOf result DeskFault.Read → ⊥) → R.failures reader.new ≡ R.failures reader.old }
+    ensures reads { IsReadWithin ⟦<R as Source>⟧ reader.old reader.new }
+{
+    respond_text::<Reasoned, S, R, W>(source, rules, reader, writer)
+}

@@ -1,0 +1,32 @@
+use Rattle.std.proofs.Common.{◌++◌, codes, refl, sym, ap, ◌∙◌}
+use Rattle.riichi_text.proofs.Pieces.{pushed-three}
+use Rattle.desk_core.specs.declared.answer.Answer.TheVariants as answer
+use Rattle.desk_json.specs.Text.{text_of, answer_text}
+use Rattle.desk_json.specs.Trees.{Named}
+use Rattle.desk_reasons.specs.Trees.{why_tree}
+use Rattle.desk_reasons.proofs.Members.{why_member, win_more}
+use Rattle.desk_reasons.proofs.why.push_explained_win.Goals as goal
+
+pub returns : goal.returns
+returns c =
+    let old = c.args.text.now.bytes in
+    let opened = c.push_open_win.new.text.bytes in
+    let explained = c.explain_win-explanation in
+    let ranking = c.ranked_readings-ranking in
+    let tree = why_tree explained.result ranking.result.ranked.items in
+    let named : Named = (codes "why", tree) in
+    let whole = c.push_open_win.ensures.bytes ∙ ap (λ win. old ++ answer_text (answer.Win win)) (c.answer.ensures ∙ explained.ensures.answer) in
+    let why = c.push_why.ensures.bytes ∙ ap (λ ranked. c.push_str.new.self.bytes ++ text_of (why_tree explained.result ranked)) c.as_slice.ensures.value in (
+      _,
+      record {
+        explanation = explained.result;
+        answer = explained.ensures.answer;
+        explains = explained.ensures.explains;
+        ranking = ranking.result;
+        are_ranked = ranking.ensures;
+        object_is = refl;
+      },
+      pushed-three opened (codes ",\"why\":") (text_of tree) (codes "}") c.push_str.ensures.bytes why c.push_str-2.ensures.bytes
+          ∙ ap (λ t. opened ++ (t ++ codes "}")) (sym (why_member tree))
+          ∙ win_more old opened _ named whole,
+    )

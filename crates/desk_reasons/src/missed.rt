@@ -1,0 +1,78 @@
+//! What a hand waits for that is no win, and how far it is from each form.
+ghost use Rattle.std.specs.Prelude.{◌≡◌, ◌≤◌, ◌+◌, ◌++◌, length};
+ghost use Rattle.arrayvec.specs.ArrayString.{array_string_len};
+ghost use Rattle.desk_reasons.specs.Parts as spec;
+
+use crate::values::{Value, push_rows};
+use desk_json::JsonText;
+use riichi_explain::MissedWin;
+use riichi_shape::FormDistances;
+use riichi_text::{push_kind, push_number};
+use riichi_waits::KindWait;
+
+#[tactic(auto, unfolding(crate::specs::Parts::missed_text))]
+pub(crate) fn push_missed(text: &mut JsonText, missed: &MissedWin)
+    requires { array_string_len text.old + 300 ≤ 12288 }
+    ensures bytes { text.new.bytes ≡ text.old.bytes ++ spec.missed_text missed.now }
+    ensures len { array_string_len text.new ≤ array_string_len text.old + 300 }
+{
+    push_rows(text, "{\"waits\":[", missed.waits.as_slice());
+    text.push_str("],\"shanten\":");
+    push_forms(text, &missed.forms);
+    text.push_str("}");
+}
+
+/// How far the hand is from each form that it may have.
+#[tactic(auto, unfolding(crate::specs::Parts::forms_text))]
+fn push_forms(text: &mut JsonText, forms: &FormDistances)
+    requires { array_string_len text.old + 70 ≤ 12288 }
+    ensures bytes { text.new.bytes ≡ text.old.bytes ++ spec.forms_text forms.now }
+    ensures len { array_string_len text.new ≤ array_string_len text.old + 70 }
+{
+    push_shanten(text, "{\"standard\":", forms.sets_and_pair);
+    push_shanten_if(text, ",\"seven_pairs\":", forms.seven_pairs);
+    push_shanten_if(text, ",\"thirteen_orphans\":", forms.thirteen_orphans);
+    text.push_str("}");
+}
+
+/// One less than the tiles that are lacking.
+#[tactic(auto, unfolding(crate::specs::Parts::shanten_of, riichi_explain::specs::Forms::shanten_text))]
+fn push_shanten(text: &mut JsonText, before: &str, lack: u8)
+    requires { array_string_len text.old + length before.now + 3 ≤ 12288 }
+    ensures bytes { text.new.bytes ≡ text.old.bytes ++ spec.shanten_of before.now lack }
+    ensures len { array_string_len text.new ≤ array_string_len text.old + length before.now + 3 }
+{
+    text.push_str(before);
+    if lack == 0 {
+        text.push_str("-1");
+    } else {
+        push_number(text, lack - 1);
+    }
+}
+
+/// A form that stands beside no meld.
+#[tactic(auto, unfolding(crate::specs::Parts::shanten_if))]
+fn push_shanten_if(text: &mut JsonText, before: &str, lack: Option<u8>)
+    requires { array_string_len text.old + length before.now + 3 ≤ 12288 }
+    ensures bytes { text.new.bytes ≡ text.old.bytes ++ spec.shanten_if before.now lack }
+    ensures len { array_string_len text.new ≤ array_string_len text.old + length before.now + 3 }
+{
+    if let Some(lack) = lack {
+        push_shanten(text, before, lack);
+    }
+}
+
+impl Value for KindWait {
+    ghost use Rattle.desk_reasons.specs.Parts.{wait_text};
+
+    ghost value_text = { wait_text };
+
+    ghost most = { 4 };
+
+    #[tactic(auto, unfolding(crate::specs::Parts::wait_text))]
+    fn push(&self, text: &mut JsonText) {
+        text.push_str("\"");
+        push_kind(text, self.kind);
+        text.push_str("\"");
+    }
+}

@@ -1,0 +1,34 @@
+//! What earns han, dora or fu.
+ghost use Rattle.std.specs.Prelude.{◌≡◌, ◌≤◌, ◌+◌, ◌++◌, length};
+ghost use Rattle.arrayvec.specs.ArrayString.{array_string_len};
+ghost use Rattle.desk_reasons.specs.Parts as spec;
+
+use desk_json::JsonText;
+
+/// What earns something, in words, and its Japanese name where it has one. The object is left open.
+#[tactic(auto, unfolding(crate::specs::Parts::part_text))]
+pub(crate) fn push_part(text: &mut JsonText, words: &str, japanese: &str)
+    requires { array_string_len text.old + length words.now + length japanese.now + 25 ≤ 12288 }
+    ensures bytes { text.new.bytes ≡ text.old.bytes ++ spec.part_text words.now japanese.now }
+    ensures len { array_string_len text.new
+        ≤ array_string_len text.old + length words.now + length japanese.now + 25 }
+{
+    text.push_str("{\"part\":\"");
+    text.push_str(words);
+    text.push_str("\"");
+    push_japanese(text, japanese);
+}
+
+#[tactic(auto, unfolding(crate::specs::Parts::japanese_text))]
+fn push_japanese(text: &mut JsonText, japanese: &str)
+    requires { array_string_len text.old + length japanese.now + 15 ≤ 12288 }
+    ensures bytes { text.new.bytes ≡ text.old.bytes ++ spec.japanese_text japanese.now }
+    ensures len { array_string_len text.new
+        ≤ array_string_len text.old + length japanese.now + 15 }
+{
+    if !japanese.is_empty() {
+        text.push_str(",\"japanese\":\"");
+        text.push_str(japanese);
+        text.push_str("\"");
+    }
+}

@@ -1,0 +1,63 @@
+//! How a hand is read.
+ghost use Rattle.std.specs.Prelude.{◌≡◌, ◌≤◌, ◌+◌, ◌++◌};
+ghost use Rattle.arrayvec.specs.ArrayString.{array_string_len};
+ghost use Rattle.desk_reasons.specs.Parts as spec;
+
+use crate::values::{Value, push_rows};
+use desk_json::JsonText;
+use riichi_split::{Reading, Sets};
+use riichi_text::{push_block, push_two};
+use riichi_tiles::{Block, Kind};
+
+#[tactic(auto, unfolding(crate::specs::Parts::reading_text))]
+pub(crate) fn push_reading(text: &mut JsonText, reading: &Reading)
+    requires { array_string_len text.old + 100 ≤ 12288 }
+    ensures bytes { text.new.bytes ≡ text.old.bytes ++ spec.reading_text reading.now }
+    ensures len { array_string_len text.new ≤ array_string_len text.old + 100 }
+{
+    match reading {
+        Reading::Standard { sets, pair, done } => push_standard(text, sets, *pair, done),
+        Reading::SevenPairs => text.push_str("{\"form\":\"seven pairs\"}"),
+        Reading::Orphans => text.push_str("{\"form\":\"thirteen orphans\"}"),
+    }
+}
+
+/// The sets in hand, the pair, and the block that the winning tile completes.
+#[tactic(auto, unfolding(crate::specs::Parts::standard_text))]
+fn push_standard(text: &mut JsonText, sets: &Sets, pair: Kind, done: &Block)
+    requires { array_string_len text.old + 100 ≤ 12288 }
+    ensures bytes { text.new.bytes
+        ≡ text.old.bytes ++ spec.standard_text sets.now pair done.now }
+    ensures len { array_string_len text.new ≤ array_string_len text.old + 100 }
+{
+    push_rows(text, "{\"form\":\"standard\",\"sets\":[", sets.as_slice());
+    push_pair(text, pair);
+    done.push(text);
+    text.push_str("}");
+}
+
+#[tactic(auto, unfolding(crate::specs::Parts::pair_text))]
+fn push_pair(text: &mut JsonText, pair: Kind)
+    requires { array_string_len text.old + 28 ≤ 12288 }
+    ensures bytes { text.new.bytes ≡ text.old.bytes ++ spec.pair_text pair }
+    ensures len { array_string_len text.new ≤ array_string_len text.old + 28 }
+{
+    text.push_str("],\"pair\":\"");
+    push_two(text, pair);
+    text.push_str("\",\"completed\":");
+}
+
+impl Value for Block {
+    ghost use Rattle.desk_reasons.specs.Parts.{quoted_block};
+
+    ghost value_text = { quoted_block };
+
+    ghost most = { 6 };
+
+    #[tactic(auto, unfolding(crate::specs::Parts::quoted_block))]
+    fn push(&self, text: &mut JsonText) {
+        text.push_str("\"");
+        push_block(text, self);
+        text.push_str("\"");
+    }
+}

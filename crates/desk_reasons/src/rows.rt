@@ -1,0 +1,154 @@
+//! The rows of han, dora, fu and payments.
+ghost use Rattle.std.specs.Prelude.{◌≡◌, ◌≤◌, ◌+◌, ◌++◌, length};
+ghost use Rattle.arrayvec.specs.ArrayString.{array_string_len};
+ghost use Rattle.desk_reasons.specs.Parts as spec;
+ghost use Rattle.desk_reasons.specs.Rows.{han_words, han_japanese, fu_kind};
+
+use crate::counts::{push_count, push_small};
+use crate::part::push_part;
+use crate::values::Value;
+use desk_json::JsonText;
+use riichi_explain::{
+    DoraRow, FuPart, FuRow, HanPart, HanRow, PayRow, Payer, dora_japanese, dora_words, fu_japanese,
+    fu_words, payer_words,
+};
+use riichi_names::japanese;
+use riichi_text::push_kind;
+use riichi_tiles::Kind;
+
+impl Value for HanRow {
+    ghost use Rattle.desk_reasons.specs.Parts.{han_text};
+
+    ghost value_text = { han_text };
+
+    ghost most = { 79 };
+
+    #[tactic(auto, unfolding(crate::specs::Parts::han_text))]
+    fn push(&self, text: &mut JsonText) {
+        push_part(text, han_words(&self.part), han_japanese(&self.part));
+        push_han(text, &self.part, self.han);
+        text.push_str("}");
+    }
+}
+
+/// The printed word of a yaku, or that of the dora.
+#[tactic(auto, unfolding(crate::specs::Rows::han_words))]
+fn han_words(part: &HanPart) -> &'static str
+    ensures value { result.now ≡ han_words part.now }
+    ensures short { length result.now ≤ 26 }
+{
+    match part {
+        HanPart::Yaku(yaku) | HanPart::Yakuman(yaku) => yaku.word(),
+        HanPart::Dora => "dora",
+    }
+}
+
+/// The Japanese name of a yaku.
+#[tactic(auto, unfolding(crate::specs::Rows::han_japanese))]
+fn han_japanese(part: &HanPart) -> &'static str
+    ensures value { result.now ≡ han_japanese part.now }
+    ensures short { length result.now ≤ 16 }
+{
+    match part {
+        HanPart::Yaku(yaku) | HanPart::Yakuman(yaku) => japanese(*yaku),
+        HanPart::Dora => "",
+    }
+}
+
+/// A yakuman has no number of han.
+#[tactic(auto, unfolding(crate::specs::Parts::han_number))]
+fn push_han(text: &mut JsonText, part: &HanPart, han: u8)
+    requires { array_string_len text.old + 10 ≤ 12288 }
+    ensures bytes { text.new.bytes ≡ text.old.bytes ++ spec.han_number part.now han }
+    ensures len { array_string_len text.new ≤ array_string_len text.old + 10 }
+{
+    match part {
+        HanPart::Yakuman(_) => {}
+        HanPart::Yaku(_) | HanPart::Dora => push_small(text, ",\"han\":", han),
+    }
+}
+
+impl Value for DoraRow {
+    ghost use Rattle.desk_reasons.specs.Parts.{dora_text};
+
+    ghost value_text = { dora_text };
+
+    ghost most = { 55 };
+
+    #[tactic(auto, unfolding(crate::specs::Parts::dora_text))]
+    fn push(&self, text: &mut JsonText) {
+        push_part(text, dora_words(self.part), dora_japanese(self.part));
+        push_count(text, ",\"han\":", self.han);
+        text.push_str("}");
+    }
+}
+
+impl Value for FuRow {
+    ghost use Rattle.desk_reasons.specs.Parts.{fu_text};
+
+    ghost value_text = { fu_text };
+
+    ghost most = { 84 };
+
+    #[tactic(auto, unfolding(crate::specs::Parts::fu_text))]
+    fn push(&self, text: &mut JsonText) {
+        push_part(text, fu_words(&self.part), fu_japanese(&self.part));
+        push_kind_if(text, fu_kind(&self.part));
+        push_small(text, ",\"fu\":", self.fu);
+        text.push_str("}");
+    }
+}
+
+/// The kind of the tiles that earn fu, where these are of one.
+#[tactic(auto, unfolding(crate::specs::Rows::fu_kind))]
+fn fu_kind(part: &FuPart) -> Option<Kind>
+    ensures { result ≡ fu_kind part.now }
+{
+    match *part {
+        FuPart::Triplet { kind, .. } | FuPart::Kong { kind, .. } => Some(kind),
+        FuPart::DragonPair(kind) | FuPart::SeatWindPair(kind) | FuPart::PrevalentWindPair(kind) => {
+            Some(kind)
+        }
+        _ => None,
+    }
+}
+
+#[tactic(auto, unfolding(crate::specs::Parts::kind_if))]
+fn push_kind_if(text: &mut JsonText, kind: Option<Kind>)
+    requires { array_string_len text.old + 12 ≤ 12288 }
+    ensures bytes { text.new.bytes ≡ text.old.bytes ++ spec.kind_if kind }
+    ensures len { array_string_len text.new ≤ array_string_len text.old + 12 }
+{
+    if let Some(kind) = kind {
+        text.push_str(",\"kind\":\"");
+        push_kind(text, kind);
+        text.push_str("\"");
+    }
+}
+
+impl Value for PayRow {
+    ghost use Rattle.desk_reasons.specs.Parts.{pay_text};
+
+    ghost value_text = { pay_text };
+
+    ghost most = { 67 };
+
+    #[tactic(auto, unfolding(crate::specs::Parts::pay_text))]
+    fn push(&self, text: &mut JsonText) {
+        push_payer(text, self.payer);
+        push_count(text, ",\"points\":", self.points);
+        push_count(text, ",\"counters\":", self.counters);
+        text.push_str("}");
+    }
+}
+
+#[tactic(auto, unfolding(crate::specs::Parts::payer_text))]
+fn push_payer(text: &mut JsonText, payer: Payer)
+    requires { array_string_len text.old + 23 ≤ 12288 }
+    ensures bytes { text.new.bytes ≡ text.old.bytes ++ spec.payer_text payer }
+    ensures len { array_string_len text.new ≤ array_string_len text.old + 23 }
+{
+    text.push_str("{\"payer\":\"");
+    text.push_str(payer_words(payer));
+    text.push_str("\"");
+}

@@ -1,0 +1,94 @@
+//! The object of a win, with the reasons at its end.
+ghost use Rattle.std.specs.Prelude.{◌≡◌, ◌≤◌, ◌+◌, ◌++◌, ℕ, List, length};
+ghost use Rattle.arrayvec.specs.ArrayString.{array_string_len};
+ghost use Rattle.desk_json.specs.Text.{text_of};
+ghost use Rattle.desk_reasons.specs.Parts as spec;
+ghost use Rattle.desk_reasons.specs.Reasons.{IsExplainedWin};
+ghost use Rattle.desk_reasons.specs.Trees.{why_tree};
+
+use crate::missed::push_missed;
+use crate::others::others_of;
+use crate::reading::push_reading;
+use crate::values::push_rows;
+use desk_json::{JsonText, push_open_win};
+use riichi_explain::{RankedReading, WinExplanation, WonHand, explain_win, ranked_readings};
+use riichi_hand::WinRecord;
+
+/// Writes the object that answers a win behind a text, with the member `why` at its end, without a line's end.
+pub fn push_explained_win(text: &mut JsonText, win: &WinRecord)
+    requires { array_string_len text.old + 11570 ≤ 12288 }
+    ensures { (object : List ℕ) × IsExplainedWin win.now object
+        × (text.new.bytes ≡ text.old.bytes ++ object) }
+{
+    let explanation = explain_win(win);
+    let ranking = ranked_readings(win);
+    push_open_win(text, &explanation.answer());
+    text.push_str(",\"why\":");
+    push_why(text, &explanation, ranking.ranked.as_slice());
+    text.push_str("}");
+}
+
+/// Why a win is answered so.
+fn push_why(text: &mut JsonText, explanation: &WinExplanation, ranked: &[RankedReading])
+    requires few { length ranked.now ≤ 12 }
+    requires room { array_string_len text.old + 7720 ≤ 12288 }
+    ensures bytes { text.new.bytes ≡ text.old.bytes ++ text_of (why_tree explanation.now ranked.now) }
+    ensures len { array_string_len text.new ≤ array_string_len text.old + 7720 }
+{
+    match explanation {
+        WinExplanation::Won(hand) => {
+            push_won(text, hand, others_of(&hand.reading, ranked).as_slice());
+        }
+        WinExplanation::NoYaku(_) => push_readings(text, ranked),
+        WinExplanation::NoWin(missed) => push_missed(text, missed),
+    }
+}
+
+/// The reading that scores, its rows, and the other readings.
+#[tactic(auto, unfolding(crate::specs::Parts::won_text))]
+fn push_won(text: &mut JsonText, hand: &WonHand, others: &[RankedReading])
+    requires few { length others.now ≤ 12 }
+    requires room { array_string_len text.old + 7720 ≤ 12288 }
+    ensures bytes { text.new.bytes ≡ text.old.bytes ++ spec.won_text hand.now others.now }
+    ensures len { array_string_len text.new ≤ array_string_len text.old + 7720 }
+{
+    push_earned(text, hand);
+    push_paid(text, hand, others);
+}
+
+#[tactic(auto, unfolding(crate::specs::Parts::earned_text))]
+fn push_earned(text: &mut JsonText, hand: &WonHand)
+    requires { array_string_len text.old + 3660 ≤ 12288 }
+    ensures bytes { text.new.bytes ≡ text.old.bytes ++ spec.earned_text hand.now }
+    ensures len { array_string_len text.new ≤ array_string_len text.old + 3660 }
+{
+    text.push_str("{\"reading\":");
+    push_reading(text, &hand.reading);
+    push_rows(text, ",\"han\":[", hand.han.as_slice());
+    push_rows(text, "],\"dora\":[", hand.dora.as_slice());
+}
+
+#[tactic(auto, unfolding(crate::specs::Parts::paid_text))]
+fn push_paid(text: &mut JsonText, hand: &WonHand, others: &[RankedReading])
+    requires few { length others.now ≤ 12 }
+    requires room { array_string_len text.old + 4060 ≤ 12288 }
+    ensures bytes { text.new.bytes ≡ text.old.bytes ++ spec.paid_text hand.now others.now }
+    ensures len { array_string_len text.new ≤ array_string_len text.old + 4060 }
+{
+    push_rows(text, "],\"fu\":[", hand.fu.as_slice());
+    push_rows(text, "],\"payments\":[", hand.payers.as_slice());
+    push_rows(text, "],\"others\":[", others);
+    text.push_str("]}");
+}
+
+/// The readings of a hand without yaku.
+#[tactic(auto, unfolding(crate::specs::Parts::readings_text))]
+fn push_readings(text: &mut JsonText, ranked: &[RankedReading])
+    requires few { length ranked.now ≤ 12 }
+    requires room { array_string_len text.old + 1830 ≤ 12288 }
+    ensures bytes { text.new.bytes ≡ text.old.bytes ++ spec.readings_text ranked.now }
+    ensures len { array_string_len text.new ≤ array_string_len text.old + 1830 }
+{
+    push_rows(text, "{\"others\":[", ranked);
+    text.push_str("]}");
+}
