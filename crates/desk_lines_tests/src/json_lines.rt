@@ -103,9 +103,9 @@ fn stops_at_each_failing_read(rt: HostRuntime) {
         let told = match failing {
             0..58 => 0,
             58..83 => 240,
-            83..105 => 297,
-            105..125 => 336,
-            _ => 369,
+            83..105 => 359,
+            105..125 => 398,
+            _ => 497,
         };
         same_in(&rt, &failing, writer.bytes(), &OBJECTS[..told]);
     }
@@ -113,7 +113,7 @@ fn stops_at_each_failing_read(rt: HostRuntime) {
 
 #[test]
 fn stops_at_each_failing_write(rt: HostRuntime) {
-    for failing in 1..498u64 {
+    for failing in 1..626u64 {
         let mut reader = BytesIn::new(TEXT, 5, None);
         let mut writer: BytesOut<1024> = BytesOut::new(1, Some(failing));
         holds_in(

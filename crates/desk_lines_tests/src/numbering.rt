@@ -18,7 +18,7 @@ const WORDS: &[u8] = b"2:won 4 han 30 fu 8000 gain 8000 pinfu pure-straight dora
 
 const OBJECTS: &[u8] =
     b"{\"line\":2,\"answer\":\"won\",\"yakuman\":false,\"han\":4,\"fu\":30,\"dora\":1,\"base\":2000,\"limit\":\"mangan\",\"payment\":{\"discarder\":8000},\"gain\":8000,\"yaku\":[{\"number\":4,\"word\":\"pinfu\",\"japanese\":\"pinfu\"},{\"number\":16,\"word\":\"pure-straight\",\"japanese\":\"ittsu\"}]}
-{\"line\":5,\"answer\":\"refused\",\"code\":\"N5\",\"text\":\"hand\",\"place\":0}
+{\"line\":5,\"answer\":\"refused\",\"code\":\"N5\",\"text\":\"hand\",\"place\":0,\"key\":\"hand\",\"at\":6,\"length\":2,\"words\":\"honours are 1z to 7z\"}
 {\"line\":6,\"answer\":\"waits\",\"kinds\":[\"2p\",\"5p\"]}
 ";
 
