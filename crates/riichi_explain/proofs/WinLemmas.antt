@@ -122,13 +122,13 @@ base-by r w s true e h = sym (ap (λ (x : Score). x.base) (h.yakuman (sym e)))
 base-by r w s false e h =
     counted-points w.rules s.han s.fu ∙ subst (λ (x : Score). base_of w.rules x.han x.fu ≡ x.base) (sym (h.counted (sym e))) refl
 
-base-small : (r : Reading) (w : WinParts) (s : Score) (yakuman : Bool) → yakuman ≡ is_yakuman s.yaku → IsCounted r w s → s.base ≤ 656000
+base-small : (r : Reading) (w : WinParts) (s : Score) (yakuman : Bool) → yakuman ≡ is_yakuman s.yaku → IsCounted r w s → s.base ≤ 800000
 base-small r w s true e h = omega (arith, ap (λ (x : Score). x.base) (h.yakuman (sym e)), few_limits r w s.yaku)
 base-small r w s false e h =
     let same : s.base ≡ base_of w.rules s.han s.fu = subst (λ (x : Score). x.base ≡ base_of w.rules x.han x.fu) (sym (h.counted (sym e))) refl in
     omega (arith, same, base-most w.rules s.han s.fu)
 
-pub score-base : (r : Reading) (w : WinParts) (s : Score) → score_of r w ≡ Some s → s.base ≤ 656000
+pub score-base : (r : Reading) (w : WinParts) (s : Score) → score_of r w ≡ Some s → s.base ≤ 800000
 score-base r w s e = base-small r w s (is_yakuman s.yaku) refl (is_counted r w s e)
 
 gain-of : (r : Reading) (w : WinParts) (s : Score) (yakuman : Bool) → yakuman ≡ is_yakuman s.yaku → IsCounted r w s → gain_of (payment_of s.base w) w.sticks ≡ s.gain

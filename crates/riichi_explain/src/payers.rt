@@ -46,7 +46,7 @@ pub type PayRows = ArrayVec<PayRow, 2>;
 
 /// What is paid for a win of so many base points.
 pub fn pay_rows(base: u32, win: &WinRecord) -> PayRows
-    requires { base ≤ 656000 }
+    requires { base ≤ 800000 }
     ensures value { result.items ≡ spec.pay_rows base win.now }
     ensures most { length result.items ≤ 2 }
 {
@@ -60,7 +60,7 @@ pub fn pay_rows(base: u32, win: &WinRecord) -> PayRows
 }
 
 fn push_ron(rows: &mut PayRows, base: u32, dealer: bool, counters: u8)
-    requires base { base ≤ 656000 }
+    requires base { base ≤ 800000 }
     requires empty { rows.old.items ≡ [] }
     ensures { rows.new.items ≡ spec.ron_rows base dealer counters }
 {
@@ -73,7 +73,7 @@ fn push_ron(rows: &mut PayRows, base: u32, dealer: bool, counters: u8)
 }
 
 fn push_tsumo(rows: &mut PayRows, base: u32, dealer: bool, counters: u8)
-    requires base { base ≤ 656000 }
+    requires base { base ≤ 800000 }
     requires empty { rows.old.items ≡ [] }
     ensures { rows.new.items ≡ spec.tsumo_rows base dealer counters }
 {

@@ -19,12 +19,12 @@ limits-most reading win [] = omega arith
 limits-most reading win (one ∷ more) =
     omega (arith, two (is_double reading win one), limits-most reading win more, sum_by-cons (limits_in reading win) one more)
 
-of_set : (add double : Bool) (sum : ℕ) → sum ≤ 82 → cond add sum (cond double 2 1) ≤ 82
+of_set : (add double : Bool) (sum : ℕ) → sum ≤ 100 → cond add sum (cond double 2 1) ≤ 100
 of_set true double sum few = few
 of_set false double sum few = omega (arith, two double)
 
 -- a set has at most 41 yaku
-pub few_limits : (reading : Reading) (win : WinParts) (set : ℕ) → limits_of reading win set ≤ 82
+pub few_limits : (reading : Reading) (win : WinParts) (set : ℕ) → limits_of reading win set ≤ 100
 unfolding limits_of yaku_in
 few_limits reading win set =
     let yaku = filter (contains set) every_yaku in

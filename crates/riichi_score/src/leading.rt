@@ -21,12 +21,12 @@ pub(crate) enum Leading {
 impl Leading {
     /// The greater of this and what one more reading is worth.
     pub(crate) fn better(self, worth: Option<Worth>) -> Leading
-        requires most { spec.leading_base self ≤ 656000 }
-        requires worth { spec.base_if worth ≤ 656000 }
+        requires most { spec.leading_base self ≤ 800000 }
+        requires worth { spec.base_if worth ≤ 800000 }
         ensures value { (win : WinParts)
             → spec.answer_of result win
             ≡ best_spec.better (spec.answer_of self win) (spec.score_if worth win) }
-        ensures most { spec.leading_base result ≤ 656000 }
+        ensures most { spec.leading_base result ≤ 800000 }
     {
         match (self, worth) {
             (Leading::Won(best), Some(worth)) => {
@@ -44,7 +44,7 @@ impl Leading {
 
     /// The answer, with what is paid.
     pub(crate) fn answer(self, win: &WinRecord) -> WinAnswer
-        requires { spec.leading_base self ≤ 656000 }
+        requires { spec.leading_base self ≤ 800000 }
         ensures { result ≡ spec.answer_of self win.now }
     {
         match self {

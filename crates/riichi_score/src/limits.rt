@@ -14,7 +14,7 @@ use riichi_yaku::{Yaku, YakuSet};
 #[tactic(auto, unfolding(crate::specs::Limits::limits_of))]
 pub fn yakuman_limits(reading: &Reading, win: &WinRecord, yaku: YakuSet) -> u32
     ensures value { result ≡ spec.limits_of reading.now win.now yaku }
-    ensures most { result ≤ 82 }
+    ensures most { result ≤ 100 }
 {
     if win.rules().house().add_yakuman {
         all_limits(reading, win, yaku)
@@ -27,7 +27,7 @@ pub fn yakuman_limits(reading: &Reading, win: &WinRecord, yaku: YakuSet) -> u32
 
 fn all_limits(reading: &Reading, win: &WinRecord, yaku: YakuSet) -> u32
     ensures value { result ≡ sum_by (spec.limits_in reading.now win.now) (yaku_in yaku) }
-    ensures most { result ≤ 82 }
+    ensures most { result ≤ 100 }
 {
     let mut sum = 0;
     for yaku in yaku.iter() {

@@ -46,11 +46,11 @@ impl LeadingReading {
 
     /// The greater of this and one more reading.
     fn better(self, reading: Reading, worth: Option<Worth>) -> LeadingReading
-        requires most { leading_base self.best ≤ 656000 }
-        requires worth { base_if worth ≤ 656000 }
+        requires most { leading_base self.best ≤ 800000 }
+        requires worth { base_if worth ≤ 800000 }
         ensures value { (win : WinParts) → answer_of result.best win
             ≡ best_spec.better (answer_of self.best win) (score_if worth win) }
-        ensures most { leading_base result.best ≤ 656000 }
+        ensures most { leading_base result.best ≤ 800000 }
         ensures scored { (win : WinParts) → IsReadingOf win reading
             → score_if worth win ≡ score_of reading win
             → spec.IsScored win self.reading self.best → spec.IsScored win result.reading result.best }
@@ -86,7 +86,7 @@ impl LeadingReading {
 
     /// The answer, with what is paid.
     fn answer(self, win: &WinRecord) -> BestReading
-        requires { leading_base self.best ≤ 656000 }
+        requires { leading_base self.best ≤ 800000 }
         ensures value { spec.answer_in result ≡ answer_of self.best win.now }
         ensures reading { spec.IsScored win.now self.reading self.best
             → spec.HasItsScore win.now result }

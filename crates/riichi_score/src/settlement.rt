@@ -8,9 +8,9 @@ use riichi_hand::{By, WinRecord};
 
 /// What is paid for a win of so many base points: East is the dealer, and each counter adds 300 points in all.
 pub fn payment(base: u32, win: &WinRecord) -> Payment
-    requires { base ≤ 656000 }
+    requires { base ≤ 800000 }
     ensures value { result ≡ spec.payment_of base win.now }
-    ensures most { spec.paid result ≤ 4100000 }
+    ensures most { spec.paid result ≤ 5000000 }
 {
     let dealer = is_dealer(win.seat());
     match win.by() {
@@ -20,9 +20,9 @@ pub fn payment(base: u32, win: &WinRecord) -> Payment
 }
 
 fn by_ron(base: u32, dealer: bool, counters: u8) -> Payment
-    requires { base ≤ 656000 }
+    requires { base ≤ 800000 }
     ensures value { result ≡ spec.by_ron base dealer counters }
-    ensures most { spec.paid result ≤ 4100000 }
+    ensures most { spec.paid result ≤ 5000000 }
 {
     let times = if dealer { 6 } else { 4 };
     Payment::Ron {
@@ -31,9 +31,9 @@ fn by_ron(base: u32, dealer: bool, counters: u8) -> Payment
 }
 
 fn by_tsumo(base: u32, dealer: bool, counters: u8) -> Payment
-    requires { base ≤ 656000 }
+    requires { base ≤ 800000 }
     ensures value { result ≡ spec.by_tsumo base dealer counters }
-    ensures most { spec.paid result ≤ 4100000 }
+    ensures most { spec.paid result ≤ 5000000 }
 {
     let counters = 100 * u32::from(counters);
     let double = up(2 * base) + counters;
@@ -49,7 +49,7 @@ fn by_tsumo(base: u32, dealer: bool, counters: u8) -> Payment
 
 /// Rounded up to the next hundred.
 pub fn up(points: u32) -> u32
-    requires { points ≤ 3936000 }
+    requires { points ≤ 4800000 }
     ensures value { result ≡ spec.up points }
     ensures most { result ≤ points + 99 }
 {

@@ -50,7 +50,7 @@ impl Worth {
 
     /// The whole score.
     pub(crate) fn score(self, win: &WinRecord) -> Score
-        requires { self.base ≤ 656000 }
+        requires { self.base ≤ 800000 }
         ensures { result ≡ spec.score_with self win.now }
     {
         let payment = payment(self.base, win);
@@ -89,7 +89,7 @@ pub(crate) fn worth_of(
     requires dora { dora ≡ dora_of win.now }
     requires most { dora ≤ 52 }
     ensures value { spec.score_if result win.now ≡ score_of reading.now win.now }
-    ensures most { spec.base_if result ≤ 656000 }
+    ensures most { spec.base_if result ≤ 800000 }
 {
     let mut blocks = Blocks::new();
     push_blocks(&mut blocks, reading, win);
@@ -110,7 +110,7 @@ fn valued(
     requires most { dora ≤ 52 }
     requires concealed { concealed ≡ are_concealed win.now.melds }
     ensures value { result ≡ spec.worth_if (limits_of reading.now win.now yaku) yaku fu dora win.now }
-    ensures most { spec.base_if result ≤ 656000 }
+    ensures most { spec.base_if result ≤ 800000 }
 {
     if yaku.is_empty() {
         None
@@ -123,9 +123,9 @@ fn valued(
 
 /// A yakuman, one or several, of so many limits.
 fn yakuman_worth(limits: u32, yaku: YakuSet) -> Worth
-    requires { limits ≤ 82 }
+    requires { limits ≤ 100 }
     ensures value { result ≡ spec.limit_worth limits yaku }
-    ensures most { result.base ≤ 656000 }
+    ensures most { result.base ≤ 800000 }
 {
     Worth {
         han: 0,
@@ -141,7 +141,7 @@ fn counted(yaku: YakuSet, fu: u8, dora: u8, concealed: bool, win: &WinRecord) ->
     requires most { dora ≤ 52 }
     requires concealed { concealed ≡ are_concealed win.now.melds }
     ensures value { result ≡ spec.counted_worth yaku fu dora win.now }
-    ensures most { result.base ≤ 656000 }
+    ensures most { result.base ≤ 800000 }
 {
     let han = han(yaku, concealed, dora);
     Worth {

@@ -7,5 +7,5 @@ use Rattle.riichi_score.proofs.read.best_reading.Given as goal
 abbrev pub invariant-loop-reading : goal.invariant-loop-reading
 invariant-loop-reading l =
     IsSoFar l.win l.initial.reading-iterator l.yielded l.reading-iterator (answer_of l.leading.best l.win)
-    × (leading_base l.leading.best ≤ 656000)
+    × (leading_base l.leading.best ≤ 800000)
     × IsScored l.win l.leading.reading l.leading.best
