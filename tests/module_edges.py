@@ -38,6 +38,12 @@ def try_rules() -> None:
             except ValueError:
                 continue
             raise AssertionError(rules)
+    line = "win 123406789m22s34p on=2p by=ron seat=S round=E"
+    house = riichi_desk.Rules(red_fives=True)
+    assert riichi_desk.text(line, house) == "won 4 han 30 fu 7700 gain 7700 pinfu pure-straight dora 1"
+    for changes, profile in ({}, 1), ({"red_fives": True, "raised": True}, 2):
+        house = riichi_desk.Rules(**changes)
+        assert riichi_desk.texts([line], house) == riichi_desk.texts([line], profile), changes
 
 
 def try_values() -> None:

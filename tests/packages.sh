@@ -119,6 +119,9 @@ if [ -f "$script" ] && has npm node; then
   told 'Node: numbers behind a line of rules' "$("$program" line --number < examples/rules-two.lines)" "$("$command" line --number < examples/rules-two.lines)"
   told 'Node: waits' 'waits 123456789m' "$("$command" waits 1112345678999m)"
   told 'Node: rules' "$("$program" line --rules 2 < examples/rules.lines | sha256sum)" "$("$command" line --rules 2 < examples/rules.lines | sha256sum)"
+  told 'Node: rules of a house' 'won 4 han 30 fu 7700 gain 7700 pinfu pure-straight dora 1' "$(cd "$shelf/node" && node --input-type=module -e '
+    import { house, text } from "riichi_desk";
+    console.log(text("win 123406789m22s34p on=2p by=ron seat=S round=E", house({ redFives: true })));')"
   told 'Node: a first line of rules' "$(cat examples/rules-two.answers)" "$("$command" line < examples/rules-two.lines)"
   if has tsc; then
     cp tests/module_types.ts "$shelf/node"

@@ -39,6 +39,20 @@ fn answers_under_the_profile_of_the_number(rt: HostRuntime) {
 }
 
 #[test]
+fn answers_under_the_rules_of_a_house(rt: HostRuntime) {
+    let line = b"win 123406789m22s34p on=2p by=ron seat=S round=E";
+    let mut room = [0u8; 64];
+    let needed = riichi_answer(0x1_07F1, line, &mut room);
+    holds(
+        &rt,
+        room.get(..needed)
+            == Some(b"won 4 han 30 fu 7700 gain 7700 pinfu pure-straight dora 1".as_slice()),
+    );
+    let needed = riichi_answer(0x1_0800, line, &mut room);
+    holds(&rt, room.get(..needed) == Some(b"refused rules".as_slice()));
+}
+
+#[test]
 fn tells_of_a_comment_and_of_a_fault(rt: HostRuntime) {
     let mut room = [0u8; 64];
     holds(&rt, riichi_answer(1, b"# table three", &mut room) == 0);
