@@ -103,51 +103,22 @@ impl House {
     }
 
     /// The same rules with one of them on or off.
-    pub fn with(self, switch: Switch, is_on: bool) -> House
+    pub fn with(mut self, switch: Switch, is_on: bool) -> House
         ensures { result ≡ spec.with_switch switch is_on self }
     {
         match switch {
-            Switch::RedFives => House {
-                red_fives: is_on,
-                ..self
-            },
-            Switch::Raise => House {
-                raise: is_on,
-                ..self
-            },
-            Switch::AddYakuman => House {
-                add_yakuman: is_on,
-                ..self
-            },
-            Switch::DoubleYakuman => House {
-                double_yakuman: is_on,
-                ..self
-            },
-            Switch::CountedYakuman => House {
-                counted_yakuman: is_on,
-                ..self
-            },
-            Switch::DoubleWindPair => House {
-                double_wind_pair: is_on,
-                ..self
-            },
-            Switch::KongDrawFu => House {
-                kong_draw_fu: is_on,
-                ..self
-            },
-            Switch::OpenSimples => House {
-                open_simples: is_on,
-                ..self
-            },
-            Switch::OpenPinfuFu => House {
-                open_pinfu_fu: is_on,
-                ..self
-            },
-            Switch::Ippatsu => House {
-                ippatsu: is_on,
-                ..self
-            },
-            Switch::Ura => House { ura: is_on, ..self },
+            Switch::RedFives => self.red_fives = is_on,
+            Switch::Raise => self.raise = is_on,
+            Switch::AddYakuman => self.add_yakuman = is_on,
+            Switch::DoubleYakuman => self.double_yakuman = is_on,
+            Switch::CountedYakuman => self.counted_yakuman = is_on,
+            Switch::DoubleWindPair => self.double_wind_pair = is_on,
+            Switch::KongDrawFu => self.kong_draw_fu = is_on,
+            Switch::OpenSimples => self.open_simples = is_on,
+            Switch::OpenPinfuFu => self.open_pinfu_fu = is_on,
+            Switch::Ippatsu => self.ippatsu = is_on,
+            Switch::Ura => self.ura = is_on,
         }
+        self
     }
 }

@@ -144,89 +144,118 @@ fn several_readings(rt: HostRuntime) -> Result<(), Fail> {
     )
 }
 
-/// The first profile, with one rule turned.
-fn first_with(switch: Switch, is_on: bool) -> Rules {
-    Rules::House(Rules::One.house().with(switch, is_on))
+/// The answers under the first profile with one rule turned.
+fn answers_with(rt: &impl Abort, rows: &[(Switch, bool, &str, &str)]) -> Result<(), Fail> {
+    for (switch, is_on, line, text) in rows {
+        let house = Rules::One.house().with(*switch, *is_on);
+        answers(rt, Rules::House(house), &[(*line, *text)])?;
+    }
+    Ok(())
 }
 
 #[test]
-fn the_rules_of_a_house(rt: HostRuntime) -> Result<(), Fail> {
+fn rules_of_base_points(rt: HostRuntime) -> Result<(), Fail> {
     let rows = [
         (
-            first_with(Switch::RedFives, true),
+            Switch::RedFives,
+            true,
             "win 123406789m22s34p on=2p by=ron seat=S round=E",
             "won 4 han 30 fu 7700 gain 7700 pinfu pure-straight dora 1",
         ),
         (
-            first_with(Switch::Raise, true),
+            Switch::Raise,
+            true,
             "win 123456789m22s34p on=2p by=ron seat=S round=E dora=1p",
             "won 4 han 30 fu 8000 gain 8000 pinfu pure-straight dora 1",
         ),
         (
-            first_with(Switch::AddYakuman, true),
-            "win 111z222z33z444z99m on=3z by=tsumo seat=S round=E",
-            "won yakuman 16000/32000 gain 64000 four-concealed-pungs big-four-winds",
-        ),
-        (
-            first_with(Switch::DoubleYakuman, true),
-            "win 1112345678999m on=5m by=ron seat=S round=E",
-            "won yakuman 64000 gain 64000 nine-gates",
-        ),
-        (
-            first_with(Switch::DoubleYakuman, true),
-            "win 1112345678899m on=9m by=ron seat=S round=E",
-            "won yakuman 32000 gain 32000 nine-gates",
-        ),
-        (
-            first_with(Switch::DoubleYakuman, true),
-            "win 19m19p19s1234567z on=1m by=ron seat=S round=E",
-            "won yakuman 64000 gain 64000 thirteen-orphans",
-        ),
-        (
-            first_with(Switch::DoubleYakuman, true),
-            "win 111m222p333s9m444z on=9m by=ron seat=S round=E",
-            "won yakuman 64000 gain 64000 four-concealed-pungs",
-        ),
-        (
-            first_with(Switch::CountedYakuman, false),
+            Switch::CountedYakuman,
+            false,
             "win 223344m556677m8m on=8m by=ron seat=S round=E riichi=1 dora=1m",
             "won 14 han 30 fu 24000 gain 24000 riichi pinfu all-simples twice-pure-double-chow full-flush dora 2",
         ),
         (
-            first_with(Switch::DoubleWindPair, false),
-            "win 234m567m999p67s11z on=5s by=ron seat=E round=E riichi=1",
-            "won 1 han 40 fu 2000 gain 2000 riichi",
-        ),
-        (
-            first_with(Switch::KongDrawFu, false),
-            "win 567m345p68s99s open=kan:2222m on=7s by=tsumo seat=S round=E flags=rinshan",
-            "won 1 han 30 fu 300/500 gain 1100 after-a-kong",
-        ),
-        (
-            first_with(Switch::OpenSimples, false),
-            "win 567m345p67s88s open=chi:234m on=5s by=tsumo seat=S round=E",
-            "no yaku",
-        ),
-        (
-            first_with(Switch::OpenPinfuFu, false),
-            "win 567m345p67s88s open=chi:234m on=5s by=ron seat=S round=E",
-            "won 1 han 20 fu 700 gain 700 all-simples",
-        ),
-        (
-            first_with(Switch::Ippatsu, false),
+            Switch::Ippatsu,
+            false,
             "win 234m567m345p67s99s on=5s by=ron seat=S round=E riichi=1 flags=ippatsu",
             "won 2 han 30 fu 2000 gain 2000 riichi pinfu",
         ),
         (
-            first_with(Switch::Ura, false),
+            Switch::Ura,
+            false,
             "win 234m567m345p67s99s on=5s by=ron seat=S round=E riichi=1 ura=1m",
             "won 2 han 30 fu 2000 gain 2000 riichi pinfu",
         ),
     ];
-    for (rules, line, text) in rows {
-        answers(&rt, rules, &[(line, text)])?;
-    }
-    Ok(())
+    answers_with(&rt, &rows)
+}
+
+#[test]
+fn rules_of_yakuman(rt: HostRuntime) -> Result<(), Fail> {
+    let rows = [
+        (
+            Switch::AddYakuman,
+            true,
+            "win 111z222z33z444z99m on=3z by=tsumo seat=S round=E",
+            "won yakuman 16000/32000 gain 64000 four-concealed-pungs big-four-winds",
+        ),
+        (
+            Switch::DoubleYakuman,
+            true,
+            "win 1112345678999m on=5m by=ron seat=S round=E",
+            "won yakuman 64000 gain 64000 nine-gates",
+        ),
+        (
+            Switch::DoubleYakuman,
+            true,
+            "win 1112345678899m on=9m by=ron seat=S round=E",
+            "won yakuman 32000 gain 32000 nine-gates",
+        ),
+        (
+            Switch::DoubleYakuman,
+            true,
+            "win 19m19p19s1234567z on=1m by=ron seat=S round=E",
+            "won yakuman 64000 gain 64000 thirteen-orphans",
+        ),
+        (
+            Switch::DoubleYakuman,
+            true,
+            "win 111m222p333s9m444z on=9m by=ron seat=S round=E",
+            "won yakuman 64000 gain 64000 four-concealed-pungs",
+        ),
+    ];
+    answers_with(&rt, &rows)
+}
+
+#[test]
+fn rules_of_fu_and_open_hands(rt: HostRuntime) -> Result<(), Fail> {
+    let rows = [
+        (
+            Switch::DoubleWindPair,
+            false,
+            "win 234m567m999p67s11z on=5s by=ron seat=E round=E riichi=1",
+            "won 1 han 40 fu 2000 gain 2000 riichi",
+        ),
+        (
+            Switch::KongDrawFu,
+            false,
+            "win 567m345p68s99s open=kan:2222m on=7s by=tsumo seat=S round=E flags=rinshan",
+            "won 1 han 30 fu 300/500 gain 1100 after-a-kong",
+        ),
+        (
+            Switch::OpenSimples,
+            false,
+            "win 567m345p67s88s open=chi:234m on=5s by=tsumo seat=S round=E",
+            "no yaku",
+        ),
+        (
+            Switch::OpenPinfuFu,
+            false,
+            "win 567m345p67s88s open=chi:234m on=5s by=ron seat=S round=E",
+            "won 1 han 20 fu 700 gain 700 all-simples",
+        ),
+    ];
+    answers_with(&rt, &rows)
 }
 
 #[test]
