@@ -201,6 +201,33 @@ def test_many_lines(browser: Browser) -> None:
     told("another profile answers what is shown anew", answers_of([red], "--rules", "2"), texts(browser, "#answers .told"))
 
 
+# a win with a red five, an open hand of simples, one with an indicator below
+HOUSE = "1+red-fives-open-simples-ura"
+HOUSE_HANDS = [
+    "win 123406789m22s34p on=2p by=ron seat=S round=E",
+    "win 567m345p67s88s open=chi:234m on=5s by=tsumo seat=S round=E",
+    "win 234m567m345p67s99s on=5s by=ron seat=S round=E riichi=1 ura=1m",
+]
+
+
+def test_house(browser: Browser) -> None:
+    fresh(browser)
+    choose(browser, "mode", "many")
+    fill(browser, "lines", "\n".join(HOUSE_HANDS))
+    set_choice(browser, "rules", "house")
+    told("the rules of a house begin as the profile", answers_of(HOUSE_HANDS), texts(browser, "#answers .told"))
+    for rule in "red-fives", "open-simples", "ura":
+        browser.run(f"document.querySelector('#house [data-rule={rule}]').click()")
+    wanted = answers_of(HOUSE_HANDS, "--rules", HOUSE)
+    told("the rules of a house", wanted, texts(browser, "#answers .told"))
+    told("the rules on the button", "own", text(browser, "#rules-now"))
+    set_choice(browser, "rules", "2")
+    fill(browser, "lines", "\n".join([f"# --rules {HOUSE}", *HOUSE_HANDS]))
+    told("the rules of a house above a text", wanted, texts(browser, "#answers .told"))
+    fill(browser, "lines", "\n".join(["# --rules 1+red-five", *HOUSE_HANDS]))
+    told("a word that names no rule", answers_of(HOUSE_HANDS, "--rules", "2"), texts(browser, "#answers .told"))
+
+
 def test_paste(browser: Browser) -> None:
     fresh(browser)
     browser.run("""(() => {

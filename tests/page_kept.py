@@ -102,6 +102,10 @@ def test_link(browser: Browser) -> None:
     told("a reload doesn't bring it back", "win round=E", browser.run(LINE))
     browser.open(f"{PAGE.as_uri()}#rules%202%0Awaits%20340m1112345678p")
     told("a link with its profile", ["waits 340m1112345678p", "2", "waits"], browser.run(OPENED))
+    browser.open(f"{PAGE.as_uri()}##%20--rules%201+red-fives%0Awaits%20340m1112345678p")
+    told("a link with the rules of a house", ["waits 340m1112345678p", "own", "waits"], browser.run(OPENED))
+    browser.reload()
+    told("a reload keeps them", ["own", False, True], browser.run("[document.getElementById('rules-now').textContent, document.getElementById('house').hidden, document.querySelector('[data-rule=red-fives]').checked]"))
 
 
 def test_sheet(browser: Browser, folder: Path) -> None:

@@ -8,6 +8,7 @@ import { Desk, lackOfBrowser } from "./library.js";
 import { listenToMany, manyParts, showMany } from "./many.js";
 import { makePicker } from "./picker.js";
 import { JOBS } from "./record.js";
+import { areRules, rulesShort } from "./rules.js";
 import { listenToSettings, showSettings } from "./settings.js";
 import { handOfHash } from "./share.js";
 import { handParts, listenToSheet, openSheet } from "./sheet.js";
@@ -25,7 +26,7 @@ function showMode(chosen) {
   const { line, rules, names, scheme, handId } = state;
   state.mode = chosen;
   writeChoices({ line, mode: chosen, rules, names, scheme, handId });
-  byId("rules-now").textContent = String(rules);
+  byId("rules-now").textContent = rulesShort(rules);
   for (const input of document.querySelectorAll("#modes input")) input.checked = input.value === chosen;
   byId("one").hidden = !JOBS.includes(chosen);
   byId("many").hidden = chosen !== "many";
@@ -109,7 +110,7 @@ function listen() {
 // What the last visit left.
 function takeUp() {
   const { line, mode, rules, names, scheme, handId } = readChoices();
-  if ([1, 2].includes(rules)) state.rules = rules;
+  if (areRules(rules)) state.rules = rules;
   Object.assign(state, { names: names ?? state.names, scheme: scheme ?? state.scheme });
   if (typeof line === "string") openHand({ line, rules: state.rules, id: Number(handId) || 0 });
   else setEmpty("win");

@@ -7,6 +7,7 @@ import { nextTarget, taken, without, withoutMeld } from "./moves.js";
 import { named, tileName } from "./names.js";
 import { showPicker } from "./picker.js";
 import { MELD_WORDS } from "./record.js";
+import { hasReds } from "./rules.js";
 import { shownWhole } from "./shown.js";
 import { setBack, setEmpty, setLine, setRecord, state } from "./state.js";
 import { keepHand } from "./store.js";
@@ -102,7 +103,7 @@ function showChoices() {
   for (const button of document.querySelectorAll("[data-target]")) {
     button.setAttribute("aria-pressed", String(button.dataset.target === target));
   }
-  byId("red").hidden = state.rules !== 2;
+  byId("red").hidden = !hasReds(state.rules);
   byId("red").setAttribute("aria-pressed", String(state.isRed));
   byId("back").setAttribute("aria-disabled", String(state.past.length === 0));
   for (const part of document.querySelectorAll("[data-jobs]")) part.hidden = !part.dataset.jobs.split(" ").includes(record.job);

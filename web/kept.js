@@ -3,6 +3,7 @@
 import { answerTo } from "./answers.js";
 import { byId, make, say, textWithTiles } from "./elements.js";
 import { clearAll } from "./form.js";
+import { rulesWords } from "./rules.js";
 import { copyText, handsOfText, printOnly, saveFile, textOfHands } from "./share.js";
 import { openSheet } from "./sheet.js";
 import { shownAnswer } from "./shown.js";
@@ -29,7 +30,7 @@ function takeAway(hand) {
 // What is said of a hand in the list: its answer, without the reasons.
 function shortAnswer({ line, rules }) {
   const about = answerTo(line, rules);
-  const profile = rules === 2 ? [make("p", { class: "quiet" }, "Rule profile 2")] : [];
+  const profile = rules === 1 ? [] : [make("p", { class: "quiet" }, rulesWords(rules))];
   return [...profile, make("div", { class: "answer short" }, ...(about.values === null ? [] : shownAnswer(about.values, about)))];
 }
 

@@ -2,6 +2,7 @@
 
 import { byId, make } from "./elements.js";
 import { linesOf } from "./record.js";
+import { isHouse, rulesText } from "./rules.js";
 import { copyText } from "./share.js";
 import { state } from "./state.js";
 
@@ -37,7 +38,7 @@ export function showMany() {
 // The lines and their answers, as paper shows them.
 export function manyParts() {
   const items = answers().map(({ line, told }) => make("li", {}, make("p", { class: "raw" }, line), make("p", {}, told)));
-  return [make("h2", {}, `Lines, under rule profile ${state.rules}`), make("ol", {}, ...items)];
+  return [make("h2", {}, isHouse(state.rules) ? `Lines, under the rules ${rulesText(state.rules)}` : `Lines, under rule profile ${state.rules}`), make("ol", {}, ...items)];
 }
 
 async function openFile({ target }) {

@@ -1,5 +1,6 @@
 // A record: what is asked of the desk, as the form holds it, and its line.
 
+import { rulesOfText } from "./rules.js";
 import { textOf, tilesIn } from "./tiles.js";
 
 export const JOBS = ["win", "waits", "shape"];
@@ -58,8 +59,9 @@ export function lineOf(record) {
 // The lines of a text, and the profile that they have: that of its first line, which then isn't among them, or else this one.
 export function linesOf(text, rules) {
   const lines = text.split("\n").map((line) => line.replace(/\r$/, ""));
-  const profile = /^ *rules +([12]) *$/.exec(lines[0]);
-  return profile ? { lines: lines.slice(1), rules: Number(profile[1]), first: 2 } : { lines, rules, first: 1 };
+  const profile = /^ *rules +([12]) *$/.exec(lines[0]) ?? /^# --rules (\S+)$/.exec(lines[0]);
+  const set = profile ? rulesOfText(profile[1]) : undefined;
+  return set ? { lines: lines.slice(1), rules: set, first: 2 } : { lines, rules, first: 1 };
 }
 
 // The job, the hand and the other words of a line, each as its key and value, which is null where it has no =. A line whose hand

@@ -3,6 +3,7 @@
 import { byId, make } from "./elements.js";
 import { showForm, showNames } from "./form.js";
 import { speak } from "./names.js";
+import { hasRule, houseOf, isHouse, RULES, rulesShort, withRule } from "./rules.js";
 import { state } from "./state.js";
 import { isKept } from "./store.js";
 
@@ -20,15 +21,32 @@ export function showSettings() {
   speak(state.names);
   showScheme();
   showNames();
-  for (const name of ["rules", "names", "scheme"]) {
-    const chosen = String(state[name]);
-    for (const input of document.querySelectorAll(`#settings input[name=${name}]`)) input.checked = input.value === chosen;
+  const chosen = { rules: isHouse(state.rules) ? "house" : String(state.rules), names: state.names, scheme: state.scheme };
+  for (const [name, value] of Object.entries(chosen)) {
+    for (const input of document.querySelectorAll(`#settings input[name=${name}]`)) input.checked = input.value === value;
   }
-  byId("rules-now").textContent = String(state.rules);
+  byId("house").hidden = !isHouse(state.rules);
+  for (const input of document.querySelectorAll("#house input")) input.checked = hasRule(state.rules, Number(input.value));
+  byId("rules-now").textContent = rulesShort(state.rules);
 }
 
-function chooseSetting({ target: { name, value } }) {
-  state[name] = name === "rules" ? Number(value) : value;
+// A box for each rule that a house may choose.
+function ruleBoxes() {
+  return RULES.map(([word, says], place) => {
+    const box = make("input", { type: "checkbox", name: "rule", value: String(place), "data-rule": word });
+    return make("label", { class: "rule" }, box, make("span", {}, says));
+  });
+}
+
+const chosenRules = {
+  rules: (value) => (value === "house" ? houseOf(state.rules) : Number(value)),
+  rule: (value, isOn) => withRule(state.rules, Number(value), isOn),
+};
+
+function chooseSetting({ target: { name, value, checked } }) {
+  const choose = chosenRules[name];
+  if (choose) state.rules = choose(value, checked);
+  else state[name] = value;
   showSettings();
   showForm();
 }
@@ -38,6 +56,7 @@ function fact(word, text) {
 }
 
 export function listenToSettings() {
+  byId("house").append(...ruleBoxes());
   const about = byId("about");
   const unkept = "not kept: this browser doesn't allow it, so a reload loses them";
   const kept = isKept() ? "in this browser alone, over a reload" : unkept;

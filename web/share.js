@@ -2,13 +2,14 @@
 
 import { byId, say } from "./elements.js";
 import { linesOf } from "./record.js";
+import { rulesLines } from "./rules.js";
 
 const MOST_NAME = 60;
 
 // The lines of hands, for the command `line`: the profile, and above each hand its name as a comment.
 export function textOfHands(hands, rules) {
   const rows = hands.flatMap(({ name, line }) => [...(name === "" ? [] : [`# ${name}`]), line]);
-  return [...(rules === 1 ? [] : [`rules ${rules}`]), ...rows].map((row) => `${row}\n`).join("");
+  return [...rulesLines(rules), ...rows].map((row) => `${row}\n`).join("");
 }
 
 // The hands of such a text: a comment directly above a line is its name.

@@ -4,6 +4,7 @@ import { answerTo } from "./answers.js";
 import { byId, make, tilesDrawn } from "./elements.js";
 import { named } from "./names.js";
 import { recordOf } from "./record.js";
+import { rulesLines, rulesWords } from "./rules.js";
 import { copyText, linkOf, printOnly, share } from "./share.js";
 import { shownWhole } from "./shown.js";
 import { nameHand, readHands } from "./store.js";
@@ -49,7 +50,7 @@ export function handParts(line, rules, name = "") {
   const about = answerTo(line, rules);
   const head = name === "" ? [] : [make("h3", {}, name)];
   const answer = about.values === null ? [] : shownWhole(about.values, about);
-  const profile = make("p", { class: "quiet" }, `Rule profile ${rules}${rules === 2 ? ", red fives" : ""}`);
+  const profile = make("p", { class: "quiet" }, `${rulesWords(rules)}${rules === 2 ? ", red fives" : ""}`);
   return [...head, handShown(line), make("div", { class: "answer" }, ...answer), make("p", { class: "raw" }, line), profile];
 }
 
@@ -65,7 +66,7 @@ export function openSheet(line, rules, id) {
 function textToShare({ line, rules, id }) {
   const { text, reasons } = answerTo(line, rules);
   const name = nameOf(id);
-  return [...(name === "" ? [] : [name]), ...(rules === 2 ? ["rules 2"] : []), line, text, ...reasons].join("\n");
+  return [...(name === "" ? [] : [name]), ...rulesLines(rules), line, text, ...reasons].join("\n");
 }
 
 export function listenToSheet() {

@@ -1,5 +1,7 @@
 // What lasts over a reload: the choices, the hand that is made, and the list of hands. A browser that keeps nothing is no fault.
 
+import { areRules } from "./rules.js";
+
 const KEY = "riichi_desk";
 const HANDS = "riichi_desk.hands";
 export const MOST_HANDS = 100;
@@ -44,7 +46,7 @@ export function writeChoices(choices) {
 }
 
 function isHand(it) {
-  return typeof it?.id === "number" && typeof it.line === "string" && typeof it.name === "string" && [1, 2].includes(it.rules);
+  return typeof it?.id === "number" && typeof it.line === "string" && typeof it.name === "string" && areRules(it.rules);
 }
 
 // The hands of the list, the newest first.

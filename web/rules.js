@@ -1,0 +1,87 @@
+// The rules that a table plays by: a profile, 1 or 2, or the rules of a house, a bit each, as the library takes them.
+// What a rule means is asked of the library; here stand their words.
+
+const HOUSE = 0x10000;
+const PROFILES = { 1: HOUSE + 0x7f0, 2: HOUSE + 0x7f3 };
+
+// In the order of their bits: the word of the command line, and what is on where it is.
+export const RULES = [
+  ["red-fives", "Red fives (aka dora)"],
+  ["raise", "Four han 30 fu and three han 60 fu are a mangan (kiriage mangan)"],
+  ["add-yakuman", "Several yakuman pay a limit each"],
+  ["double-yakuman", "Rarer forms of yakuman pay two limits"],
+  ["counted-yakuman", "13 han pay a yakuman (kazoe yakuman)"],
+  ["double-wind-pair", "A pair of both winds has 4 fu"],
+  ["kong-draw-fu", "The draw after a kong has 2 fu"],
+  ["open-simples", "All simples in an open hand (kuitan)"],
+  ["open-pinfu-fu", "An open hand of 20 fu won by ron counts 30"],
+  ["ippatsu", "Ippatsu"],
+  ["ura", "Indicators below count (ura dora)"],
+];
+
+export function isHouse(rules) {
+  return rules >= HOUSE;
+}
+
+export function areRules(rules) {
+  return rules === 1 || rules === 2 || (Number.isInteger(rules) && rules >= HOUSE && rules < HOUSE + 2 ** RULES.length);
+}
+
+// The same rules, a bit each.
+export function houseOf(rules) {
+  return PROFILES[rules] ?? rules;
+}
+
+export function hasRule(rules, place) {
+  return (houseOf(rules) & (1 << place)) !== 0;
+}
+
+// The first of them.
+export function hasReds(rules) {
+  return hasRule(rules, 0);
+}
+
+export function withRule(rules, place, isOn) {
+  const bit = 1 << place;
+  return isOn ? houseOf(rules) | bit : houseOf(rules) & ~bit;
+}
+
+// As the option --rules of the program takes them.
+export function rulesText(rules) {
+  if (!isHouse(rules)) return String(rules);
+  const changes = RULES.map(([word], place) => {
+    const isOn = hasRule(rules, place);
+    if (isOn === hasRule(1, place)) return "";
+    return (isOn ? "+" : "-") + word;
+  });
+  return `1${changes.join("")}`;
+}
+
+// The rules of such a text; undefined where it is none.
+export function rulesOfText(text) {
+  let rules = Number(text[0]);
+  let rest = text.slice(1);
+  if (!areRules(rules)) return undefined;
+  while (rest !== "") {
+    const place = RULES.findIndex(([word]) => /^[+-]/.test(rest) && new RegExp(`^${word}([+-]|$)`).test(rest.slice(1)));
+    if (place < 0) return undefined;
+    rules = withRule(rules, place, rest[0] === "+");
+    rest = rest.slice(1 + RULES[place][0].length);
+  }
+  return rules;
+}
+
+// On a button, and in a sentence.
+export function rulesShort(rules) {
+  return isHouse(rules) ? "own" : String(rules);
+}
+
+export function rulesWords(rules) {
+  return isHouse(rules) ? `Rules ${rulesText(rules)}` : `Rule profile ${rules}`;
+}
+
+// The line above the hands of a text: of the rules of a house a comment, since no line sets them for the program.
+export function rulesLines(rules) {
+  if (rules === 1) return [];
+  return [isHouse(rules) ? `# --rules ${rulesText(rules)}` : `rules ${rules}`];
+}
