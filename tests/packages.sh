@@ -119,6 +119,7 @@ if [ -f "$script" ] && has npm node; then
   told 'Node: numbers behind a line of rules' "$("$program" line --number < examples/rules-two.lines)" "$("$command" line --number < examples/rules-two.lines)"
   told 'Node: waits' 'waits 123456789m' "$("$command" waits 1112345678999m)"
   told 'Node: rules' "$("$program" line --rules 2 < examples/rules.lines | sha256sum)" "$("$command" line --rules 2 < examples/rules.lines | sha256sum)"
+  told 'Node: rules with changes' "$("$program" line --rules 2-ura+double-yakuman < examples/rules.lines | sha256sum)" "$("$command" line --rules 2-ura+double-yakuman < examples/rules.lines | sha256sum)"
   told 'Node: rules of a house' 'won 4 han 30 fu 7700 gain 7700 pinfu pure-straight dora 1' "$(cd "$shelf/node" && node --input-type=module -e '
     import { house, text } from "riichi_desk";
     console.log(text("win 123406789m22s34p on=2p by=ron seat=S round=E", house({ redFives: true })));')"
@@ -156,6 +157,8 @@ if [ -f "$portable" ]; then
   told 'one file of C: numbers behind a line of rules' "$("$program" line --number < examples/rules-two.lines)" "$("$shelf/portable" line --number < examples/rules-two.lines)"
   told 'one file of C: waits' 'waits 123456789m' "$("$shelf/portable" waits 1112345678999m)"
   told 'one file of C: rules' "$("$program" line --rules 2 < examples/rules.lines | sha256sum)" "$("$shelf/portable" line --rules 2 < examples/rules.lines | sha256sum)"
+  told 'one file of C: rules with changes' "$("$program" line --rules 2-ura+double-yakuman < examples/rules.lines | sha256sum)" "$("$shelf/portable" line --rules 2-ura+double-yakuman < examples/rules.lines | sha256sum)"
+  told 'one file of C: a rule that there is not' 2 "$("$shelf/portable" line --rules 1+red-five < examples/rules.lines > "$room/said" 2>&1; echo $?)"
   told 'one file of C: a first line of rules' "$(cat examples/rules-two.answers)" "$("$shelf/portable" line < examples/rules-two.lines)"
 else
   skip 'one file of C' wabt

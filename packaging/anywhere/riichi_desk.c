@@ -19,7 +19,7 @@ static const char help[] =
     "  line [--json] [--number] [--rules N]      answers the lines of standard input\n"
     "  waits HAND                                prints the kinds that complete a hand\n\n"
     "  --number    puts the number of its line before each answer\n"
-    "  --rules N   the rules of lines that are given no others, 1 or 2\n"
+    "  --rules N   the rules of lines that are given no others: 1, 2, or with changes, as 1+red-fives-ura\n"
     "  --version   the name and version of the library\n"
     "A first line `rules 2` of standard input sets the rules too.\n"
     "Exit status: 0 answered, 1 answered and something was refused, 2 wrong words, 3 input or output failed\n";
@@ -65,6 +65,35 @@ static void answer(const uint8_t *text, size_t length) {
         fwrite(room + brace, 1, filled - brace, stdout);
         if (asked.is_numbered) asked.line++;
     }
+}
+
+/* The rules that a table may choose, in the order of their bits. */
+static const char *const rule_words[] = {"red-fives", "raise", "add-yakuman", "double-yakuman", "counted-yakuman",
+    "double-wind-pair", "kong-draw-fu", "open-simples", "open-pinfu-fu", "ippatsu", "ura"};
+enum { RULES = sizeof rule_words / sizeof *rule_words };
+
+/* The rule whose word a text begins with, before its end or a sign; RULES where there is none. */
+static unsigned rule_of(const char *text) {
+    unsigned place = 0;
+    for (; place < RULES; place++) {
+        size_t size = strlen(rule_words[place]);
+        if (strncmp(text, rule_words[place], size) == 0 && strchr("+-", text[size])) break;
+    }
+    return place;
+}
+
+/* The rules of a text such as `2` or `1+red-fives-ura`; 0 where it has none. */
+static uint32_t rules_of(const char *text) {
+    if (text[0] != '1' && text[0] != '2') return 0;
+    if (text[1] == 0) return text[0] == '1' ? RIICHI_RULES_ONE : RIICHI_RULES_TWO;
+    uint32_t rules = RIICHI_HOUSE_ONE | (text[0] == '2' ? RIICHI_RED_FIVES | RIICHI_RAISE : 0);
+    for (text++; *text != 0;) {
+        unsigned place = *text == '+' || *text == '-' ? rule_of(text + 1) : RULES;
+        if (place == RULES) return 0;
+        rules = *text == '+' ? rules | (1u << place) : rules & ~(1u << place);
+        text += 1 + strlen(rule_words[place]);
+    }
+    return rules;
 }
 
 /* Whether a line is ` rules N `, the words of a profile; it is then set. */
@@ -152,9 +181,8 @@ int main(int count, char **words) {
             asked.call = riichi_json_lines;
         } else if (strcmp(words[at], "--number") == 0) {
             asked.is_numbered = 1;
-        } else if (strcmp(words[at], "--rules") == 0 && at + 1 < count && strlen(words[at + 1]) == 1
-            && strchr("12", words[at + 1][0])) {
-            asked.rules = (uint32_t)(words[++at][0] - '0');
+        } else if (strcmp(words[at], "--rules") == 0 && at + 1 < count && rules_of(words[at + 1]) != 0) {
+            asked.rules = rules_of(words[++at]);
         } else {
             return wrong(words[at]);
         }

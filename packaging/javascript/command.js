@@ -1,7 +1,7 @@
 #!/usr/bin/env node
 // riichi-desk line|explain|waits, as the program of Linux has them, wherever Node runs.
 import { readFileSync, writeSync } from "node:fs";
-import { answerLines, explainLines, jsonLines, version } from "./riichi_desk.js";
+import { answerLines, explainLines, jsonLines, rulesOf, version } from "./riichi_desk.js";
 
 const HELP = `Usage: riichi-desk COMMAND
 
@@ -11,7 +11,7 @@ Commands:
   waits HAND                                prints the kinds that complete a hand
 
   --number    puts the number of its line before each answer
-  --rules N   the rules of lines that are given no others, 1 or 2
+  --rules N   the rules of lines that are given no others: 1, 2, or with changes, as 1+red-fives-ura
   --version   the name and version of the library
 A first line \`rules 2\` of standard input sets the rules too.
 Exit status: 0 answered, 1 answered and something was refused, 2 wrong words, 3 input or output failed
@@ -30,7 +30,7 @@ function wordsOf(words, allowed) {
   for (let at = 0; at < words.length; at++) {
     if (words[at] === "--json" && allowed.includes("--json")) told.json = true;
     else if (words[at] === "--number") told.isNumbered = true;
-    else if (words[at] === "--rules" && /^[12]$/.test(words[at + 1] ?? "")) told.rules = Number(words[++at]);
+    else if (words[at] === "--rules" && rulesOf(words[at + 1] ?? "")) told.rules = rulesOf(words[++at]);
     else if (words[at].startsWith("-")) stop(2, `riichi-desk: ${words[at]}?\n${HELP}`);
     else told.rest.push(words[at]);
   }

@@ -17,6 +17,8 @@ export type Rule =
   | "ura";
 /** The first profile with these rules on or off: `house({ redFives: true, ura: false })`. */
 export function house(changes?: Partial<Record<Rule, boolean>>): HouseRules;
+/** The rules of a text such as `2` or `1+red-fives-ura`; undefined where it has none. */
+export function rulesOf(text: string): Rules | undefined;
 /** A line as a text, or its bytes. A line feed at its end is no part of it, nor a carriage return before that. */
 export type Line = string | Uint8Array;
 /** A kind of tile, as its digit and its letter: "5m", "7z". */

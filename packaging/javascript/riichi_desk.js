@@ -76,6 +76,21 @@ export function house(changes = {}) {
   }, HOUSE);
 }
 
+// The rules of a text such as `2` or `1+red-fives-ura`, as the option --rules has them; undefined where it has none.
+export function rulesOf(text) {
+  const profiles = { 1: house(), 2: house({ redFives: true, raise: true }) };
+  const words = RULES.map((name) => name.replace(/[A-Z]/g, (letter) => `-${letter.toLowerCase()}`));
+  if (text === "1" || text === "2") return Number(text);
+  let rules = profiles[text[0]];
+  for (let rest = text.slice(1); rules !== undefined && rest !== ""; ) {
+    const place = words.findIndex((word) => /^[+-]/.test(rest) && rest.startsWith(word, 1) && /^([+-]|$)/.test(rest.slice(1 + word.length)));
+    if (place < 0) return undefined;
+    rules = rest[0] === "+" ? rules | (1 << place) : rules & ~(1 << place);
+    rest = rest.slice(1 + words[place].length);
+  }
+  return rules;
+}
+
 function tested(rules) {
   if (rules === 1 || rules === 2 || (Number.isInteger(rules) && rules >= HOUSE && rules < HOUSE + (1 << RULES.length))) return;
   throw new RangeError(`rules is 1, 2 or house({..}), and not ${rules}`);
