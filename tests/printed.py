@@ -180,14 +180,15 @@ class Place:
             self.try_command(block.name(), f"{SET_UP[block.language]}\n{command}", [])
 
     def records(self, block: Block) -> None:
-        """Record lines, each with what `explain`, or `line --json`, answers to it below, or none.
+        """Record lines, each with what `explain`, `explain --json` or `line --json` answers to it below, or none.
 
         Those with `=> ` are tried by tests/program.sh.
         """
         job = r"(?:win|waits|shape) "
         if not re.match(job, block.lines[0]) or any(it.startswith("=> ") for it in block.lines):
             return
-        form = "line --json" if any(it.startswith("{") for it in block.lines) else "explain"
+        objects = [it for it in block.lines if it.startswith("{")]
+        form = "explain --json" if any('"why":' in it for it in objects) else "line --json" if objects else "explain"
         rest = list(block.lines)
         while rest:
             (self.folder / "record").write_text(f"{rest[0]}\n")

@@ -154,6 +154,7 @@ WIDER(i32x4_extend_low_i16x8_u, u16, i32x4, 4)
 WIDER(i64x2_extend_low_i32x4_u, u32, i64x2, 2)
 WIDER(i16x8_extend_low_i8x16_s, s8, i16x8, 8)
 WIDER(i32x4_extend_low_i16x8_s, s16, i32x4, 4)
+WIDER(i64x2_extend_low_i32x4_s, s32, i64x2, 2)
 
 /* Lanes from memory, each a number of that width. */
 #define LOAD_LANE(bits, shape) \

@@ -140,6 +140,6 @@ def value_of(told: dict[str, Any]) -> Answer:
         discards = {each["discard"]: _accepted(each) for each in told.get("discards", ())}
         return Shape(told["shanten"], accepts, Table(discards))
     if sort == "refused":
-        members = ("text", "place", "key", "at", "length")
-        return Refused(told["code"], *map(told.get, members), told["words"])
+        text, place, key, at, length = (told.get(name) for name in ("text", "place", "key", "at", "length"))
+        return Refused(told["code"], text, place, key, at, length, told["words"])
     return NoYaku() if sort == "no yaku" else NoWin()
