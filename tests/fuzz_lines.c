@@ -52,20 +52,27 @@ static size_t put_line(uint8_t *text) {
 /* What one line is answered, with its line feed, and what is behind it where it is explained. */
 static size_t told_of(int kind, uint32_t rules, const uint8_t *line, size_t length, uint8_t *told) {
     size_t most = RIICHI_MOST_JSON + 1;
-    size_t filled = kind == 1 ? riichi_json(rules, line, length, told, most) : riichi_answer(rules, line, length, told, most);
+    one_call *const calls[4] = {riichi_answer, riichi_json, riichi_answer, riichi_explain_json};
+    size_t filled = calls[kind](rules, line, length, told, most);
     if (filled == 0) return 0;
     told[filled++] = '\n';
     return kind == 2 ? filled + riichi_explain(rules, line, length, told + filled, most) : filled;
 }
 
+/* A profile, or rules of a house. */
+static uint32_t random_rules(void) {
+    return below(2) ? 1 + (uint32_t)below(2) : RIICHI_HOUSE | (uint32_t)below(RIICHI_URA * 2);
+}
+
 static void try_text(struct lender *texts, struct lender *rooms) {
     static uint8_t made[1 << 18], wanted[RIICHI_MOST_JSON * 2 + 2];
-    static many_call *const calls[3] = {riichi_answer_lines, riichi_json_lines, riichi_explain_lines};
+    static many_call *const calls[4] = {
+        riichi_answer_lines, riichi_json_lines, riichi_explain_lines, riichi_explain_json_lines};
     size_t length = 0;
     for (size_t n = below(12); n > 0; n--) length += put_line(made + length);
     if (length > 0 && below(3) == 0) length--;
-    int kind = (int)below(3);
-    uint32_t rules = 1 + (uint32_t)below(2);
+    int kind = (int)below(4);
+    uint32_t rules = random_rules();
     size_t room_len = below(3) == 0 ? below(20000) : below(3) == 0 ? below(300) : below(100);
     uint8_t *text = lend(texts, length, 1), *room = lend(rooms, room_len, 1);
     memcpy(text, made, length);
@@ -102,7 +109,7 @@ static void try_rows(struct lender *lenders) {
     if (below(3) == 0) offsets[below(rows + 1)] = below(2) ? (int64_t)random_number() : (int64_t)below(length + 3) - 1;
     size_t given_offsets = below(10) == 0 ? 0 : rows + 1, places = below(3) ? rows + 1 + left : below(rows + 2);
     size_t room_len = below(3) == 0 ? below(20000) : below(3) == 0 ? below(300) : below(100);
-    uint32_t rules = (uint32_t)below(4);
+    uint32_t rules = below(4) ? random_rules() : (uint32_t)below(4);
     uint8_t *bytes = lend(&lenders[0], length, 1), *room = lend(&lenders[1], room_len, 1);
     int64_t *lent = lend(&lenders[2], given_offsets * 8, 8), *told = lend(&lenders[3], places * 8, 8);
     memcpy(bytes, made, length);

@@ -92,8 +92,9 @@ def lines(text: bytes, rules: Profile = 1) -> bytes:
 def _joined(given: list[Line]) -> bytes:
     """Lines as one text. A line feed within one would make two of it, so another byte that is refused stands in its place."""
     with suppress(TypeError):  # not all of them are texts
-        if "\n" not in "".join(given):  # type: ignore[arg-type]
-            return "\n".join(given).encode("utf-8", "surrogateescape")  # type: ignore[arg-type]
+        joined = "\n".join(given)  # type: ignore[arg-type]
+        if joined.count("\n") == len(given) - 1:
+            return joined.encode("utf-8", "surrogateescape")
     return b"\n".join(raw_bytes_of(it).replace(b"\n", b"\0") for it in given)
 
 
