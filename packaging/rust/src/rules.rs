@@ -67,12 +67,17 @@ impl Rules {
         match self {
             Rules::One => 1,
             Rules::Two => 2,
-            Rules::House(house) => house.bits().into_iter().rev().fold(32, |bits, bit| 2 * bits + u32::from(bit)),
+            Rules::House(house) => house.number(),
         }
     }
 }
 
 impl House {
+    /// The bits of the rules that are on, and the one that says that they are of a house.
+    fn number(self) -> u32 {
+        self.bits().into_iter().zip(0..).fold(0x10000, |number, (is_on, place)| number | u32::from(is_on) << place)
+    }
+
     /// The rules in the order of their bits, the lowest first.
     fn bits(self) -> [bool; 11] {
         [
