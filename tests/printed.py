@@ -13,6 +13,7 @@ import re
 import shutil
 import subprocess
 from collections.abc import Callable
+from concurrent.futures import ThreadPoolExecutor
 from dataclasses import dataclass
 from pathlib import Path
 
@@ -52,8 +53,8 @@ RUNS = {
     "rust": ("printed.rs", "cp printed.rs mine/src/main.rs && cargo run -q --offline --manifest-path mine/Cargo.toml"),
 }
 SET_UP = {
-    "python": "[ -d ../python ] || { python3 -m venv ../python && "
-    "../python/bin/pip install -q --no-index packages/riichi_desk-*_x86_64.whl; }\n"
+    "python": "(flock 9; [ -d ../python ] || { python3 -m venv ../python && "
+    "../python/bin/pip install -q --no-index packages/riichi_desk-*_x86_64.whl; }) 9> ../python.lock\n"
     "[ -d python ] || ln -s ../python python",
     "js": "[ -d node_modules ] || npm install --silent --offline ./packages/riichi_desk-*.tgz",
     "rust": "[ -d mine ] || { tar -xf packages/riichi_desk-*.crate && cargo new -q mine && "
@@ -200,15 +201,22 @@ class Place:
             rest = rest[1 + len(printed) :]
 
 
+def test_page(place: Place, blocks: list[Block]) -> None:
+    """Tries what a page prints."""
+    sorts = {"console": place.console, "sh": place.shell, "": place.records, **dict.fromkeys(("c", *RUNS), place.program)}
+    for block in blocks:
+        if block.language in sorts:
+            sorts[block.language](block)
+    shutil.rmtree(place.folder)
+
+
 def test_printed(top: Path, pages: list[Path], reader: Callable[[Path], Path], told: Told, skip: Skip) -> None:
-    """Tries what each page prints, in a folder of its own that `reader` makes."""
-    for page in pages:
-        blocks = [it for it in parts(top, page)[0] if it.lines]
-        if str(page) in NOT_RUN or not blocks:
-            continue
-        place = Place(reader(page), told, skip)
-        sorts = {"console": place.console, "sh": place.shell, "": place.records, **dict.fromkeys(("c", *RUNS), place.program)}
-        for block in blocks:
-            if block.language in sorts:
-                sorts[block.language](block)
-        shutil.rmtree(place.folder)
+    """Tries what each page prints, in a folder of its own that `reader` makes, the pages side by side."""
+    with ThreadPoolExecutor(os.cpu_count()) as pool:
+        tries = []
+        for page in pages:
+            blocks = [it for it in parts(top, page)[0] if it.lines]
+            if str(page) not in NOT_RUN and blocks:
+                tries.append(pool.submit(test_page, Place(reader(page), told, skip), blocks))
+        for each in tries:
+            each.result()

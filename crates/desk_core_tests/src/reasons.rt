@@ -3,6 +3,7 @@ use crate::facts::same;
 use desk_json::JsonText;
 use desk_reasons::push_explained_win;
 use riichi_hand::{Job, Rules, read_line};
+use riichi_shape::FreshRows;
 use std::process::Abort;
 use std::test::Fail;
 
@@ -35,7 +36,7 @@ fn explained(line: &str) -> Result<JsonText, Fail> {
     match read_line(Rules::One, line.as_bytes())?.ok_or("no record")? {
         Job::Win(win) => {
             let mut text = JsonText::new();
-            push_explained_win(&mut text, &win);
+            push_explained_win(&mut text, &win, &mut FreshRows);
             Ok(text)
         }
         _ => Err(Fail::from("no win")),

@@ -15,11 +15,12 @@ use super::line_kind::LineKind;
 use super::numbered::Numbers;
 use super::outbox::Outbox;
 use super::responder::Responder;
-use riichi_hand::{HandRecord, Job, Rules, ShapeRecord, WinRecord, fault_text, read_line};
+use riichi_hand::{Job, Rules, ShapeRecord, WinRecord, fault_text, read_line};
 use riichi_score::{best, push_win};
 use riichi_shape::{RowSource, shape_with};
 use riichi_shape_text::push_shape;
 use riichi_split::{waits, waits_text};
+use riichi_tiles::KindSet;
 
 /// The plain answers: a line for each record.
 pub struct Plain;
@@ -90,7 +91,7 @@ fn put_job<S: RowSource>(job: &Job, outbox: &mut Outbox, source: &mut S)
 {
     match job {
         Job::Win(win) => put_win(win, outbox),
-        Job::Waits(hand) => put_waits(hand, outbox),
+        Job::Waits(hand) => put_waits(waits(hand), outbox),
         Job::Shape(tiles) => put_shape(tiles, outbox, source),
     }
 }
@@ -105,14 +106,14 @@ fn put_win(win: &WinRecord, outbox: &mut Outbox)
     outbox.put_text();
 }
 
-pub(crate) fn put_waits(hand: &HandRecord, outbox: &mut Outbox)
+pub(crate) fn put_waits(kinds: KindSet, outbox: &mut Outbox)
     requires { HasRoom outbox.old }
     ensures room { length outbox.new.bytes.items ≤ length outbox.old.bytes.items + 3073 }
     ensures told { outbox.new.bytes.items
         ≡ outbox.old.bytes.items
-        ++ (spec_waits.waits_text (spec_waits.waits_of hand.now) ++ 10 ∷ []) }
+        ++ (spec_waits.waits_text kinds ++ 10 ∷ []) }
 {
-    outbox.put_line(waits_text(waits(hand)).as_str().as_bytes());
+    outbox.put_line(waits_text(kinds).as_str().as_bytes());
 }
 
 pub(crate) fn put_shape<S: RowSource>(tiles: &ShapeRecord, outbox: &mut Outbox, source: &mut S)

@@ -137,18 +137,18 @@ fn put_job<S: RowSource>(shown: Shown, job: &Job, outbox: &mut Outbox, source: &
         × (outbox.new.bytes.items ≡ outbox.old.bytes.items ++ ((answer_text (value_of job.now) ++ 10 ∷ []) ++ why)) }
 {
     match job {
-        Job::Win(win) => put_win(shown, win, outbox),
+        Job::Win(win) => put_win(shown, win, outbox, source),
         Job::Waits(hand) => put_kinds(hand, outbox),
         Job::Shape(tiles) => put_forms(tiles, outbox, source),
     }
 }
 
-fn put_win(shown: Shown, win: &WinRecord, outbox: &mut Outbox)
+fn put_win<S: RowSource>(shown: Shown, win: &WinRecord, outbox: &mut Outbox, source: &mut S)
     requires { HasRoom outbox.old }
     ensures { (why : List ℕ) × IsWinText shown win.now why
         × (outbox.new.bytes.items ≡ outbox.old.bytes.items ++ ((spec_win.text_of (best_of win.now) ++ 10 ∷ []) ++ why)) }
 {
-    let best = put_best(win, outbox);
+    let best = put_best(win, outbox, source);
     match shown {
         Shown::BestReading => {}
         Shown::EveryReading => put_others(&best, win, outbox),
@@ -156,14 +156,14 @@ fn put_win(shown: Shown, win: &WinRecord, outbox: &mut Outbox)
 }
 
 /// Puts the answer to a win into the outbox, and why it is so: the reading that scores.
-fn put_best(win: &WinRecord, outbox: &mut Outbox) -> Option<Reading>
+fn put_best<S: RowSource>(win: &WinRecord, outbox: &mut Outbox, source: &mut S) -> Option<Reading>
     requires { HasRoom outbox.old }
     ensures told { (why : List ℕ) × (best : IsBestText win.now why)
         × (outbox.new.bytes.items ≡ outbox.old.bytes.items ++ ((spec_win.text_of (best_of win.now) ++ 10 ∷ []) ++ why))
         × (result ≡ reading_of best.explanation) }
     ensures room { length outbox.new.bytes.items ≤ length outbox.old.bytes.items + 7681 }
 {
-    let explanation = explain_win(win);
+    let explanation = explain_win(source, win);
     let best = explanation.reading();
     outbox.text.clear();
     push_win(&mut outbox.text, &explanation.answer());
@@ -192,9 +192,10 @@ fn put_kinds(hand: &HandRecord, outbox: &mut Outbox)
     ensures { outbox.new.bytes.items ≡ outbox.old.bytes.items
         ++ ((waits_text (waits_of hand.now) ++ 10 ∷ []) ++ waits_line (kind_waits hand.now)) }
 {
-    put_waits(hand, outbox);
+    let waits = explain_waits(hand);
+    put_waits(waits.kinds, outbox);
     outbox.why.clear();
-    push_waits_line(&mut outbox.why, explain_waits(hand).as_slice());
+    push_waits_line(&mut outbox.why, waits.rows.as_slice());
     outbox.put_why();
 }
 
@@ -205,7 +206,7 @@ fn put_forms<S: RowSource>(tiles: &ShapeRecord, outbox: &mut Outbox, source: &mu
 {
     put_shape(tiles, outbox, source);
     outbox.why.clear();
-    push_shanten_line(&mut outbox.why, &explain_shape(tiles));
+    push_shanten_line(&mut outbox.why, &explain_shape(source, tiles));
     outbox.put_why();
 }
 

@@ -35,7 +35,7 @@ impl Responder for Reasoned {
         match win_in(rules, line) {
             None => put_json(rules, line, outbox, source),
             Some(win) => {
-                make_explained(&win, outbox);
+                make_explained(&win, outbox, source);
                 outbox.put_object();
                 LineKind::Answered
             }
@@ -65,7 +65,7 @@ impl Responder for ReasonedMembers {
         match win_in(rules, line) {
             None => Members::respond(rules, line, outbox, source),
             Some(win) => {
-                make_explained(&win, outbox);
+                make_explained(&win, outbox, source);
                 outbox.put_members();
                 LineKind::Answered
             }
@@ -103,10 +103,10 @@ fn win_of(job: &Job) -> Option<WinRecord>
 }
 
 /// Makes the object of a win with its reasons.
-fn make_explained(win: &WinRecord, outbox: &mut Outbox)
+fn make_explained<S: RowSource>(win: &WinRecord, outbox: &mut Outbox, source: &mut S)
     ensures object { IsExplainedWin win.now outbox.new.object.bytes }
     ensures same { outbox.new.bytes ≡ outbox.old.bytes }
 {
     outbox.object.clear();
-    push_explained_win(&mut outbox.object, win);
+    push_explained_win(&mut outbox.object, win, source);
 }

@@ -13,14 +13,16 @@ use crate::values::push_rows;
 use desk_json::{JsonText, push_open_win};
 use riichi_explain::{RankedReading, WinExplanation, WonHand, explain_win, ranked_readings};
 use riichi_hand::WinRecord;
+use riichi_shape::RowSource;
 
-/// Writes the object that answers a win behind a text, with the member `why` at its end, without a line's end.
-pub fn push_explained_win(text: &mut JsonText, win: &WinRecord)
+/// Writes the object that answers a win behind a text, with the member `why` at its end, without a line's end. Where the hand is
+/// no win, the rows of a source say how far it is from each form.
+pub fn push_explained_win<R: RowSource>(text: &mut JsonText, win: &WinRecord, source: &mut R)
     requires { array_string_len text.old + 11570 ≤ 12288 }
     ensures { (object : List ℕ) × IsExplainedWin win.now object
         × (text.new.bytes ≡ text.old.bytes ++ object) }
 {
-    let explanation = explain_win(win);
+    let explanation = explain_win(source, win);
     let ranking = ranked_readings(win);
     push_open_win(text, &explanation.answer());
     text.push_str(",\"why\":");

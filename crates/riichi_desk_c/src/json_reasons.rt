@@ -11,6 +11,7 @@ use desk_json::JsonText;
 use desk_lines::win_in;
 use desk_reasons::push_explained_win;
 use riichi_hand::WinRecord;
+use riichi_shape::FreshRows;
 
 /// Answers one line as `riichi_json` does, and says of a win why it is answered so: its object has one member more at its end,
 /// `why`, which docs/NOTATION.md and docs/answer.schema.json have.
@@ -38,6 +39,6 @@ fn explained(win: &WinRecord) -> JsonText
     ensures { IsExplainedWin win.now result.bytes }
 {
     let mut text = JsonText::new();
-    push_explained_win(&mut text, win);
+    push_explained_win(&mut text, win, &mut FreshRows);
     text
 }

@@ -12,6 +12,7 @@ use arrayvec::ArrayString;
 use riichi_explain::{explain_shape, explain_win, push_shanten_line, push_win_lines};
 use riichi_hand::{Job, Refusal, read_placed};
 use riichi_hints::push_refusal;
+use riichi_shape::FreshRows;
 use riichi_waits::{explain_waits, push_waits_line};
 
 /// Says why one line is answered as it is, under the profile of this number, 1 or 2: the bytes that the text takes, 0 where the
@@ -38,9 +39,9 @@ fn job_lines(job: &Job) -> ArrayString<4608>
 {
     let mut text = ArrayString::new();
     match job {
-        Job::Win(win) => push_win_lines(&mut text, explain_win(win), win),
-        Job::Waits(hand) => push_waits_line(&mut text, explain_waits(hand).as_slice()),
-        Job::Shape(tiles) => push_shanten_line(&mut text, &explain_shape(tiles)),
+        Job::Win(win) => push_win_lines(&mut text, explain_win(&mut FreshRows, win), win),
+        Job::Waits(hand) => push_waits_line(&mut text, explain_waits(hand).rows.as_slice()),
+        Job::Shape(tiles) => push_shanten_line(&mut text, &explain_shape(&mut FreshRows, tiles)),
     }
     text
 }

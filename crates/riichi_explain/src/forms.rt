@@ -9,22 +9,24 @@ ghost use Rattle.riichi_explain.specs.Forms as spec;
 use arrayvec::ArrayString;
 use riichi_hand::{ShapeRecord, WinRecord};
 use riichi_score::hand_of;
-use riichi_shape::{FormDistances, form_distances};
+use riichi_shape::{FormDistances, RowSource, form_distances};
 use riichi_text::push_number;
 
-/// How far the tiles of a shape are from each form. The least of these, less one, is its shanten.
-pub fn explain_shape(shape: &ShapeRecord) -> FormDistances
+/// How far the tiles of a shape are from each form, by the rows of a source. The least of these, less one, is its shanten.
+pub fn explain_shape<R: RowSource>(source: &mut R, shape: &ShapeRecord) -> FormDistances
     ensures forms { spec.AreFormDistances shape.now.tiles shape.now.melds result }
     ensures least { pos (least_of result) -ℤ pos 1 ≡ shanten_of shape.now.tiles shape.now.melds }
+    ensures stays { source.new ≡ source.old }
 {
-    form_distances(&shape.tiles(), &shape.melds())
+    form_distances(source, &shape.tiles(), &shape.melds())
 }
 
 /// How far the tiles of a win are from each form, the winning tile among them.
-pub(crate) fn win_forms(win: &WinRecord) -> FormDistances
-    ensures { spec.AreFormDistances (hand_of win.now) win.now.melds result }
+pub(crate) fn win_forms<R: RowSource>(source: &mut R, win: &WinRecord) -> FormDistances
+    ensures forms { spec.AreFormDistances (hand_of win.now) win.now.melds result }
+    ensures stays { source.new ≡ source.old }
 {
-    form_distances(&hand_of(win), &win.melds())
+    form_distances(source, &hand_of(win), &win.melds())
 }
 
 /// Writes the line of the shanten by each form.

@@ -11,7 +11,7 @@ ghost use Rattle.riichi_explain.specs.Missed as spec;
 use crate::forms::{push_shanten_line, win_forms};
 use arrayvec::{ArrayString, ArrayVec};
 use riichi_hand::{HandRecord, WinRecord};
-use riichi_shape::FormDistances;
+use riichi_shape::{FormDistances, RowSource};
 use riichi_text::push_list;
 use riichi_waits::{KindWait, KindWaits, explain_waits};
 
@@ -24,12 +24,13 @@ pub struct MissedWin {
     pub waits: KindWaits,
 }
 
-pub(crate) fn missed_win(win: &WinRecord) -> MissedWin
+pub(crate) fn missed_win<R: RowSource>(source: &mut R, win: &WinRecord) -> MissedWin
     ensures forms { AreFormDistances (hand_of win.now) win.now.melds result.forms }
     ensures waits { result.waits.items ≡ kind_waits (waiting_hand win.now) }
+    ensures stays { source.new ≡ source.old }
 {
     MissedWin {
-        forms: win_forms(win),
+        forms: win_forms(source, win),
         waits: waits_before(win),
     }
 }
@@ -40,7 +41,7 @@ fn waits_before(win: &WinRecord) -> KindWaits
 {
     let parts = win.parts();
     match HandRecord::new(parts.concealed, parts.melds) {
-        Ok(hand) => explain_waits(&hand),
+        Ok(hand) => explain_waits(&hand).rows,
         Err(_) => ArrayVec::new(),
     }
 }

@@ -14,6 +14,7 @@ use crate::payers::{PayRows, pay_rows};
 use arrayvec::ArrayVec;
 use riichi_hand::WinRecord;
 use riichi_score::{BestReading, Score, WinAnswer, best_reading, hand_of};
+use riichi_shape::RowSource;
 use riichi_split::{Reading, Readings};
 
 /// A win that scores: a reading that has its score, and the rows that give it.
@@ -67,10 +68,11 @@ impl WinExplanation {
     }
 }
 
-/// Why `best` answers what it answers.
-pub fn explain_win(win: &WinRecord) -> WinExplanation
+/// Why `best` answers what it answers. Where the hand is no win, the rows of a source say how far it is from each form.
+pub fn explain_win<R: RowSource>(source: &mut R, win: &WinRecord) -> WinExplanation
     ensures answer { spec.answer_of result ≡ best_of win.now }
     ensures explains { spec.Explains win.now result }
+    ensures stays { source.new ≡ source.old }
 {
     match best_reading(win) {
         BestReading::Won { reading, score } => WinExplanation::Won(won_hand(win, reading, score)),
@@ -78,7 +80,7 @@ pub fn explain_win(win: &WinRecord) -> WinExplanation
             let hand = hand_of(win);
             WinExplanation::NoYaku(Readings::new(&hand, &win.melds(), win.winning()))
         }
-        BestReading::NoWin => WinExplanation::NoWin(missed_win(win)),
+        BestReading::NoWin => WinExplanation::NoWin(missed_win(source, win)),
     }
 }
 

@@ -3,7 +3,7 @@ use arrayvec::ArrayString;
 use riichi_explain::*;
 use riichi_hand::{Job, Rules, WinRecord, read_line};
 use riichi_score::WinAnswer;
-use riichi_shape::FormDistances;
+use riichi_shape::{FormDistances, FreshRows};
 use riichi_waits::{KindWaits, explain_waits, push_waits_line};
 use std::process::Abort;
 use std::test::Fail;
@@ -11,14 +11,14 @@ use std::test::Fail;
 fn text_of(job: &Job) -> ArrayString<4608> {
     match job {
         Job::Win(win) => win_text(win),
-        Job::Shape(shape) => forms_text(&explain_shape(shape)),
-        Job::Waits(hand) => waits_text(&explain_waits(hand)),
+        Job::Shape(shape) => forms_text(&explain_shape(&mut FreshRows, shape)),
+        Job::Waits(hand) => waits_text(&explain_waits(hand).rows),
     }
 }
 
 fn win_text(win: &WinRecord) -> ArrayString<4608> {
     let mut text = ArrayString::new();
-    push_win_lines(&mut text, explain_win(win), win);
+    push_win_lines(&mut text, explain_win(&mut FreshRows, win), win);
     text
 }
 
@@ -32,7 +32,7 @@ fn others_text(job: &Job) -> ArrayString<4608> {
 
 fn others_of_win(win: &WinRecord) -> ArrayString<4608> {
     let mut text = ArrayString::new();
-    if let Some(best) = explain_win(win).reading() {
+    if let Some(best) = explain_win(&mut FreshRows, win).reading() {
         push_other_readings(&mut text, &best, win);
     }
     text
@@ -456,7 +456,7 @@ fn the_answer_that_is_explained(rt: HostRuntime) -> Result<(), Fail> {
 
 fn is_without_yaku(job: &Job) -> bool {
     match job {
-        Job::Win(win) => explain_win(win).answer() == WinAnswer::NoYaku,
+        Job::Win(win) => explain_win(&mut FreshRows, win).answer() == WinAnswer::NoYaku,
         _ => false,
     }
 }

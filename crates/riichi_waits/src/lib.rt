@@ -14,5 +14,5 @@ mod decided;
 mod waits;
 mod waits_text;
 
-pub use waits::{KindWait, KindWaits, WaitSorts, explain_waits};
+pub use waits::{ExplainedWaits, KindWait, KindWaits, WaitSorts, explain_waits};
 pub use waits_text::push_waits_line;

@@ -58,6 +58,14 @@ impl Default for KindWait {
 /// The kinds that a hand waits for, in their order.
 pub type KindWaits = ArrayVec<KindWait, 34>;
 
+/// What a hand waits for, and why.
+#[derive(Drop)]
+pub struct ExplainedWaits {
+    pub kinds: KindSet,
+    /// One of each kind.
+    pub rows: KindWaits,
+}
+
 impl WaitSorts {
     ghost use Rattle.riichi_waits.specs.Waits.{no_sorts, both_sorts};
 
@@ -90,15 +98,16 @@ impl WaitSorts {
 }
 
 /// Each kind that a hand waits for, how many of it are left, and which sorts of wait its readings make.
-pub fn explain_waits(hand: &HandRecord) -> KindWaits
-    ensures { result.items ≡ spec.kind_waits hand.now }
+pub fn explain_waits(hand: &HandRecord) -> ExplainedWaits
+    ensures kinds { result.kinds ≡ waits_of hand.now }
+    ensures rows { result.rows.items ≡ spec.kind_waits hand.now }
 {
     let kinds = waits(hand);
     let mut rows = ArrayVec::new();
     for number in 0..34 {
         push_kind_wait(&mut rows, hand, &kinds, Kind::at(number));
     }
-    rows
+    ExplainedWaits { kinds, rows }
 }
 
 fn push_kind_wait(rows: &mut KindWaits, hand: &HandRecord, kinds: &KindSet, kind: Kind)

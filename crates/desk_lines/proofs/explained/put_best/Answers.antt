@@ -5,7 +5,7 @@ use Rattle.riichi_explain.specs.Explanation.{win_lines}
 use Rattle.desk_lines.proofs.explained.put_best.Goals as goal
 
 pub returns-clause-told : goal.returns-clause-told
-returns-clause-told c =
+returns-clause-told g c =
     let w = c.args.win.now in
     let explanation = c.explain_win-explanation.result in
     let why = win_lines explanation w in

@@ -8,6 +8,7 @@ returns c =
     let before = c.args.outbox.now.bytes.items in
     let answer = waits_text (waits_of c.args.hand.now) ++ 10 ∷ [] in
     let pushed = c.push_waits_line.ensures ∙ ap (λ (t : List ℕ). t ++ waits_line c.as_slice.result.now) c.clear.ensures in
-    let shown = pushed ∙ ap waits_line (c.as_slice.ensures.value ∙ c.explain_waits.ensures) in
-    c.put_why.ensures.told ∙ ap (λ (t : List ℕ). t ++ c.push_waits_line.new.text.bytes) c.put_waits.ensures.told
+    let shown = pushed ∙ ap waits_line (c.as_slice.ensures.value ∙ c.explain_waits-waits.ensures.rows) in
+    let told = c.put_waits.ensures.told ∙ ap (λ (kinds : ℕ). before ++ (waits_text kinds ++ 10 ∷ [])) c.explain_waits-waits.ensures.kinds in
+    c.put_why.ensures.told ∙ ap (λ (t : List ℕ). t ++ c.push_waits_line.new.text.bytes) told
     ∙ append_assoc before answer c.push_waits_line.new.text.bytes ∙ ap (λ (why : List ℕ). before ++ (answer ++ why)) shown

@@ -8,7 +8,7 @@ use Rattle.desk_reasons.proofs.Members.{why_member, win_more}
 use Rattle.desk_reasons.proofs.why.push_explained_win.Goals as goal
 
 pub returns : goal.returns
-returns c =
+returns g c =
     let old = c.args.text.now.bytes in
     let opened = c.push_open_win.new.text.bytes in
     let explained = c.explain_win-explanation in

@@ -22,7 +22,7 @@ pub returns-in-Ok : goal.returns-in-Ok
 returns-in-Ok c =
     let w = c.args.win.now in
     let is = answered w c.parts-parts.ensures.value c.new.ensures (hand_before w c.parts-parts.ensures.win) in
-    c.explain_waits.ensures ∙ ap kind_waits (same_hand _ _ _ c.in-Ok.is is)
+    c.explain_waits.ensures.rows ∙ ap kind_waits (same_hand _ _ _ c.in-Ok.is is)
 
 pub returns-in-Err : goal.returns-in-Err
 returns-in-Err c =
