@@ -67,7 +67,7 @@ impl KeptRow {
 
 /// The row of a key: one that is kept, or a new one over upper ranks that may be kept. It stands at its place or behind that;
 /// a new one stands first, and the older of the two gives way.
-#[inline(always)]
+#[inline(never)]
 pub(crate) fn row_at(rows: &mut [KeptRow], uppers: &mut [KeptUpper], key: RowKey) -> SuitRow
     requires rows { 0 < length rows.old }
     requires uppers { 0 < length uppers.old }

@@ -1,5 +1,4 @@
 pub mod Blocks
-pub mod CostLemmas
 pub mod Joins
 pub mod LackedRanks
 pub mod LaneLemmas

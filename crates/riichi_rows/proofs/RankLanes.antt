@@ -1,9 +1,10 @@
 -- From the lanes of one rank in the code to the least lacks.
-use Rattle.std.proofs.Common.{◌≡◌, ℕ, zero, suc, ◌+◌, ◌<◌, ◌≤◌, min, Bool, true, false, refl, List, ◌∷◌, sym, ap, ◌∙◌, arith}
+use Rattle.std.proofs.Common.{◌≡◌, ℕ, zero, suc, ◌+◌, ◌-◌, ◌<◌, ◌≤◌, min, Bool, true, false, refl, List, ◌∷◌, sym, ap, ◌∙◌, arith}
 use Rattle.std.proofs.Math.Nat.{le-min, le_antisymm, le_refl}
 use Rattle.std.proofs.lemmas.Bool.Decides.{nat_tests}
+use Rattle.std.specs.Prelude.{if◌then◌else◌, nat_lt}
 use Rattle.riichi_rows.specs.Columns.{AreLeast, LeastFrom}
-use Rattle.riichi_rows.specs.Lanes.{Agree, capped, none, with_set, with_pair}
+use Rattle.riichi_rows.specs.Lanes.{Agree, HasRoom, IsFew, capped, none, with_set, with_pair}
 use Rattle.riichi_rows.specs.Open.{Added, Begun, cost, IsAdded, LeastBegun}
 use Rattle.riichi_rows.proofs.Steps.{row_value, LeastAfter, step}
 
@@ -25,6 +26,17 @@ module _ (z0 z2 z3 o0 o2 o3 v0 v2 v3 : ℕ) (few : z0 ≤ 255) (none : v3 ≡ 25
 
 sum_lesser : (x y c : ℕ) → capped (min x y + c) ≡ min (capped (x + c)) (capped (y + c))
 sum_lesser x y c = omega arith
+
+-- ---- what a rank costs, with the hand's tiles and with one more
+
+pub few_cost : (have limit n c : ℕ) → limit ≤ 4 → c ≡ cost have limit n → c < 255 → c ≤ 4
+few_cost have limit n c few is below = grind (arith, nat_tests)
+
+pub own_cost : (have limit n c : ℕ) → limit ≤ 4 → c ≡ cost have limit n → (if nat_lt c 255 then c - 1 else 255) ≡ cost (have + 1) limit n
+own_cost have limit n c few is = grind (arith, nat_tests)
+
+pub with_room : (lack : ℕ) → IsFew lack → HasRoom lack
+with_room lack few low = omega (arith, few low)
 
 cost_above : (have limit n : ℕ) → limit < n → cost have limit n ≡ 255
 cost_above have limit n h = grind (arith, nat_tests)

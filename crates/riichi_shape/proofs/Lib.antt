@@ -17,7 +17,6 @@ pub mod LiveLemmas
 pub mod Members
 pub mod Nearer
 pub mod OneMore
-pub mod OneTile
 pub mod OrderLemmas
 pub mod OrphanLemmas
 pub mod OrphansLacked

@@ -1,7 +1,7 @@
 -- The distance is one number: the least lack over the list of every winning multiset.
 use Rattle.std.proofs.Common.{◌≡◌, ℕ, zero, suc, ◌+◌, ◌-◌, ◌<◌, true, inl, inr, List, [], ◌∷◌, ◌++◌, map, length, refl, sym, ap, ◌∙◌, ⊎_elim, arith}
 use Rattle.std.proofs.lemmas.List.FromFn.{get_or-map-range_with_len, length-map-range_with_len}
-use Rattle.std.proofs.lemmas.Bool.{le-leb, leb-true}
+use Rattle.std.proofs.lemmas.Bool.{eq-eqb, eqb-true, le-leb, leb-true}
 use Rattle.std.proofs.lemmas.Bool.Decides.{nat_tests}
 use Rattle.std.specs.Prelude.{slice_index, sum_by, nat_le, ◌==◌}
 use Rattle.riichi_tiles.specs.Sets.{every_set}
@@ -70,12 +70,6 @@ sets_listed sets wanted h =
 
 -- ---- seven pairs
 
-is_fourteen : (n : ℕ) → n ≡ 14 → (n == 14) ≡ true
-is_fourteen n e = grind (arith, nat_tests)
-
-fourteen_is : (n : ℕ) → (n == 14) ≡ true → n ≡ 14
-fourteen_is n e = grind (arith, nat_tests)
-
 abbrev tiles_of_all : List ℕ → ℕ
 tiles_of_all wanted = sum_by (slice_index wanted) every_kind
 
@@ -91,7 +85,7 @@ listed_pairs wanted is = record {
   listed = map (slice_index wanted) every_kind;
   among = in-filter (λ w. tiles_of_all w == 14) (map (slice_index wanted) every_kind) (lists_of (0 ∷ 2 ∷ []) 34)
       (among_lists (0 ∷ 2 ∷ []) 34 (map (slice_index wanted) every_kind) (length-map-range_with_len (slice_index wanted) 0 34) each)
-      (is_fourteen (tiles_of_all (map (slice_index wanted) every_kind)) (all_same (map (slice_index wanted) every_kind) wanted (copied wanted) ∙ is.fourteen));
+      (eq-eqb (tiles_of_all (map (slice_index wanted) every_kind)) 14 (all_same (map (slice_index wanted) every_kind) wanted (copied wanted) ∙ is.fourteen));
   same = copied wanted;
 }
   where
@@ -107,7 +101,7 @@ pairs_listed wanted h =
     let list = from_lists (0 ∷ 2 ∷ []) 34 wanted r.0 in
     record {
       two_or_none = λ kind low. ⊎_elim (λ none. inl (sym none)) (λ rest. ⊎_elim (λ two. inr (sym two)) (λ no. absurd no) rest) (list.each (slice_index wanted kind) (get_or-in wanted kind 0 (omega (arith, list.long))));
-      fourteen = fourteen_is (tiles_of_all wanted) r.1;
+      fourteen = eqb-true (tiles_of_all wanted) 14 r.1;
     }
 
 -- ---- orphans
