@@ -10,14 +10,13 @@ use Rattle.std.proofs.lemmas.List.FromFn.{get_or-map-range_with_len, length-map-
 use Rattle.std.proofs.lemmas.Simd.{get_or-zip2, get_or-replicate, length-replicate, length-zip2, mask_l-mod}
 use lib.Lanes.{zip2, sel_l, mask_l, fold_l}
 use Rattle.riichi_rows.specs.Lanes.{LaneOf, SomeLane, at_place, capped, lane, mark, opposite}
-use Rattle.riichi_rows.proofs.LackedRanks.{bit_of_both, has_bit}
+use Rattle.riichi_rows.proofs.MarkLemmas.{bit_of_both, has_bit}
 use Rattle.riichi_rows.specs.Join.{SumReached}
 use Rattle.riichi_rows.specs.Marks.{has_rank, MarkedBeside, is_marked}
 use Rattle.riichi_rows.specs.declared.joined.JoinedRows.{JoinedRows}
 use Rattle.riichi_rows.specs.declared.rank_set.RankSet.{RankSet}
 use Rattle.riichi_rows.specs.declared.row.SuitRow.{SuitRow}
-use Rattle.riichi_rows.proofs.Joins.{entry_is, entry_some, min_is}
-use Rattle.riichi_rows.proofs.OneChanged.{LeastTaken}
+use Rattle.riichi_rows.proofs.Joins.{entry_is, entry_some, min_is, LeastTaken}
 use Rattle.riichi_rows.proofs.LaneLemmas.{by_place, chosen_at, front, length_chosen, length_lesser, length_tested, lesser, lesser_at, picked, seam, sixteen, tested, tested_at}
 
 -- ---- the lanes that stand opposite

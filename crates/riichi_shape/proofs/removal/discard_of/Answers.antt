@@ -9,7 +9,7 @@ use Rattle.riichi_shape.specs.LiveCopies.{live_in, pairs_of}
 use Rattle.riichi_shape.specs.Rows.{DifferAt}
 use Rattle.riichi_shape.proofs.AcceptedLemmas.{live_same}
 use Rattle.riichi_shape.proofs.KeptLemmas.{same_discard}
-use Rattle.riichi_shape.proofs.KeptRows.{set_differs}
+use Rattle.riichi_shape.proofs.KeptJoins.{set_differs}
 use Rattle.riichi_shape.proofs.OneMore.{special_without}
 use Rattle.riichi_shape.proofs.removal.discard_of.Goals as goal
 
