@@ -1,6 +1,6 @@
 -- The lanes that make up so many sets and one pair with each, and what is gathered from the lanes of one sum.
 use Rattle.std.proofs.Common.{◌≡◌, ℕ, zero, suc, ◌+◌, ◌-◌, ◌<◌, ◌≤◌, ◌%◌, ◌^◌, ◌⊎◌, inl, inr, min, Bool, true, false, cond, List, [], ◌∷◌, ◌++◌, map, length, get_or, ltb, eqb, bit_and, bit_or, refl, sym, ap, ap₂, ◌∙◌, subst, ⊎_elim, arith}
-use Rattle.std.specs.Prelude.{◌↔◌, ◌||◌, IsTrue, if◌then◌else◌, nat_lt, nat_le}
+use Rattle.std.specs.Prelude.{◌↔◌, IsTrue, if◌then◌else◌, nat_lt, nat_le}
 use Rattle.std.specs.Int.Bits.{and_zero_l}
 use Rattle.std.specs.List.{range_with_len}
 use Rattle.std.proofs.lemmas.Bool.{cases_lt, false≢true, eq-eqb, lt-ltb, ltb-true, or_cases, or_left, or_right}

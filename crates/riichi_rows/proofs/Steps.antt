@@ -1,10 +1,10 @@
 -- One rank more: the least lack from a rank on, out of the least lacks from the next rank on.
-use Rattle.std.proofs.Common.{◌≡◌, ℕ, zero, suc, ◌+◌, ◌-◌, ◌*◌, ◌<◌, ◌≤◌, min, Bool, true, false, inl, inr, List, [], ◌∷◌, refl, sym, ◌∙◌, ⊎_elim, arith}
+use Rattle.std.proofs.Common.{◌≡◌, ℕ, zero, suc, ◌+◌, ◌-◌, ◌*◌, ◌<◌, ◌≤◌, min, Bool, true, false, inl, inr, List, [], ◌∷◌, refl, ◌∙◌, ⊎_elim, arith}
 use Rattle.std.proofs.lemmas.Bool.{false≢true}
 use Rattle.std.proofs.lemmas.Bool.Decides.{nat_tests}
-use Rattle.riichi_rows.specs.Lanes.{Agree, capped, nothing, with_set, with_pair}
+use Rattle.riichi_rows.specs.Lanes.{capped, with_set, with_pair}
 use Rattle.riichi_rows.specs.Open.{cost}
-use Rattle.riichi_rows.specs.Columns.{Column, held, MayRun, Fits, lack_from, sets_in, pairs_in, Reaches, LeastFrom, AreLeast}
+use Rattle.riichi_rows.specs.Columns.{Column, held, MayRun, Fits, lack_from, sets_in, pairs_in, Reaches, LeastFrom}
 use Rattle.riichi_rows.proofs.Joins.{min_is, at_same}
 
 -- the best of adding nothing, a triplet or a pair to w tiles of the rank

@@ -1,18 +1,15 @@
 -- The kinds whose removal leaves the least distance.
-use Rattle.std.proofs.Common.{◌≡◌, ℕ, suc, ◌+◌, ◌-◌, ◌<◌, ◌≤◌, Bool, true, false, cond, ◌⊎◌, inl, inr, List, [], map, length, refl, sym, ap, ◌∙◌, ⊎_elim, arith}
-use Rattle.std.proofs.lemmas.Bool.{eq-eqb, eqb-true, le-leb, leb-true, lt-ltb, ltb-true, and_from, le-ltb, ne_eqb}
+use Rattle.std.proofs.Common.{◌≡◌, ℕ, suc, ◌+◌, ◌-◌, ◌<◌, ◌≤◌, true, false, cond, List, [], map, length, refl, sym, ap, ◌∙◌, arith}
+use Rattle.std.proofs.lemmas.Bool.{eq-eqb, eqb-true, le-ltb, ne_eqb}
 use Rattle.std.specs.List.{filter, range_with_len, sum}
-use Rattle.std.specs.Prelude.{slice_index, nat_le, ◌==◌, ◌&&◌}
+use Rattle.std.specs.Prelude.{slice_index, ◌==◌, ◌&&◌}
 use Rattle.std.proofs.lemmas.Bool.Decides.{same_from_decides}
-use Rattle.riichi_tiles.specs.Tiles.{has_tile}
-use Rattle.riichi_tiles.specs.Melds.{every_kind}
 use Rattle.riichi_tiles.specs.declared.meld.Meld.{Meld}
 use Rattle.riichi_rows.proofs.Spread.{same_spread, spread, spread_add}
 use Rattle.riichi_shape.specs.declared.discard.Discard.{Discard}
 use Rattle.riichi_shape.specs.Discards.{discard_of, discards_of, distance_without, in_order, inserted, is_best, is_discard}
 use Rattle.riichi_shape.proofs.Choices.{is_chosen, leaves_least}
 use Rattle.riichi_shape.proofs.PairLemmas.{sum_spread}
-use Rattle.riichi_tiles.proofs.Members.{IsIn, all-from, all-in, in-filter, in-filter-inv, in-range, in-range-inv}
 use Rattle.riichi_shape.proofs.OrderLemmas.{chosen_step}
 
 -- no removal leaves a lesser distance, and some removal leaves this one

@@ -5,7 +5,6 @@ use Rattle.riichi_shape.specs.EveryWinning.{lists_of, least_with, least, counts_
 use Rattle.riichi_rows.proofs.Joins.{min_is}
 use Rattle.std.proofs.lemmas.List.FromFn.{get_or-map-range_with_len, length-map-range_with_len}
 use Rattle.std.proofs.lemmas.Bool.{eq-eqb, eqb-true, le-leb, leb-true}
-use Rattle.std.proofs.lemmas.Bool.Decides.{nat_tests}
 use Rattle.std.specs.Prelude.{slice_index, sum_by, nat_le, ◌==◌}
 use Rattle.riichi_tiles.specs.Sets.{every_set}
 use Rattle.riichi_tiles.specs.Blocks.{IsSet, total}
