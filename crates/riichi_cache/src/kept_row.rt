@@ -32,15 +32,15 @@ impl KeptRow {
     /// Becomes the row of a key, which is made over its upper ranks; these may be kept. It stands apart from where rows are
     /// found, which is quick.
     #[inline(never)]
-    fn make(&mut self, uppers: &mut [KeptUpper], key: RowKey) -> SuitRow
+    fn make(&mut self, uppers: &mut [KeptUpper], key: &RowKey) -> SuitRow
         requires uppers { 0 < length uppers.old }
-        requires caps { (r : ℕ) → r < 9 → slice_index key.caps r ≤ 4 }
-        ensures row { IsMarkedRow key.runs key.counts key.caps result }
+        requires caps { (r : ℕ) → r < 9 → slice_index key.now.caps r ≤ 4 }
+        ensures row { IsMarkedRow key.now.runs key.now.counts key.now.caps result }
         ensures uppers { length uppers.new ≡ length uppers.old }
     {
-        let upper = upper_at(uppers, &key);
+        let upper = upper_at(uppers, key);
         let row = suit_row_over(&upper, &key.counts, &key.caps, key.runs);
-        *self = KeptRow { key, row };
+        *self = KeptRow { key: *key, row };
         row
     }
 
@@ -67,7 +67,6 @@ impl KeptRow {
 
 /// The row of a key: one that is kept, or a new one over upper ranks that may be kept. It stands at its place or behind that;
 /// a new one stands first, and the older of the two gives way.
-#[inline(never)]
 pub(crate) fn row_at(rows: &mut [KeptRow], uppers: &mut [KeptUpper], key: RowKey) -> SuitRow
     requires rows { 0 < length rows.old }
     requires uppers { 0 < length uppers.old }
@@ -85,5 +84,5 @@ pub(crate) fn row_at(rows: &mut [KeptRow], uppers: &mut [KeptUpper], key: RowKey
         return row;
     }
     rows[older] = rows[newer];
-    rows[newer].make(uppers, key)
+    rows[newer].make(uppers, &key)
 }
