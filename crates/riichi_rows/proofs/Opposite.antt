@@ -34,7 +34,8 @@ place_within sets i few = grind (arith, nat_tests)
 taken_at : (xs : List ℕ) → length xs ≡ 16 → (k : ℕ) → k ≤ 16 → get_or (xs ++ sixteen 255) k 0 ≡ get_or xs k 255
 taken_at xs long k within =
     ⊎_elim (λ low. front 255 xs long k low)
-    (λ high. (let last : k ≡ 16 = omega arith in subst (λ (n : ℕ). get_or (xs ++ sixteen 255) n 0 ≡ get_or xs n 255) (sym last) (seam 255 xs long ∙ sym (get_or_past xs 16 255 (omega arith)))))
+    (λ high. (let last : k ≡ 16 = omega arith in subst (λ (n : ℕ). get_or (xs ++ sixteen 255) n 0 ≡ get_or xs n 255) (sym last)
+    (seam 255 xs long ∙ sym (get_or_past xs 16 255 (omega arith)))))
     (cases_lt k 16)
 
 turned_at : (xs : List ℕ) → length xs ≡ 16 → (sets i : ℕ) → sets ≤ 4 → i < 16 → get_or (picked 255 xs (places sets)) i 255 ≡ get_or xs (place sets i) 255
@@ -66,12 +67,14 @@ module _ (xs : List ℕ) (long : length xs ≡ 16) (sets : ℕ) (few : sets ≤ 
   pub opposite_lanes : (s p : ℕ) → s < 8 → p < 2 → lane (picked 255 xs (places sets)) s p ≡ opposite sets (lane xs) s p
   opposite_lanes s zero hs hp =
       turned_at xs long sets s few (omega arith)
-      ∙ ⊎_elim (λ past. ap (λ k. get_or xs k 255) (no_place_plain s hs past) ∙ get_or_past xs 16 255 (omega arith) ∙ sym (opposite_none sets (lane xs) s 0 past))
+      ∙ ⊎_elim (λ past. ap (λ k. get_or xs k 255) (no_place_plain s hs past) ∙ get_or_past xs 16 255 (omega arith)
+      ∙ sym (opposite_none sets (lane xs) s 0 past))
       (λ within. ap (λ k. get_or xs k 255) (place_plain s hs (omega arith)) ∙ sym (opposite_is sets (lane xs) s 0 (omega arith)))
       (cases_lt sets s)
   opposite_lanes s (suc zero) hs hp =
       turned_at xs long sets (8 + s) few (omega arith)
-      ∙ ⊎_elim (λ past. ap (λ k. get_or xs k 255) (no_place_paired s hs past) ∙ get_or_past xs 16 255 (omega arith) ∙ sym (opposite_none sets (lane xs) s 1 past))
+      ∙ ⊎_elim (λ past. ap (λ k. get_or xs k 255) (no_place_paired s hs past) ∙ get_or_past xs 16 255 (omega arith)
+      ∙ sym (opposite_none sets (lane xs) s 1 past))
       (λ within. ap (λ k. get_or xs k 255) (place_paired s hs (omega arith)) ∙ sym (opposite_is sets (lane xs) s 1 (omega arith)))
       (cases_lt sets s)
   opposite_lanes s (suc (suc p)) hs hp = absurd (omega arith)
@@ -151,7 +154,8 @@ record IsSet (ms : List Bool) : Type 0 where
 mask_some : (ms : List Bool) → 0 < mask_l ms → IsSet ms
 mask_some [] h = absurd (omega arith)
 mask_some (true ∷ ms) h = record { place = 0; inside = omega arith; is = refl }
-mask_some (false ∷ ms) h = (let t = mask_some ms (omega arith) in record { place = suc t.place; inside = omega (arith, t.inside); is = t.is })
+mask_some (false ∷ ms) h =
+    (let t = mask_some ms (omega arith) in record { place = suc t.place; inside = omega (arith, t.inside); is = t.is })
 
 some_mask : (ms : List Bool) (k : ℕ) → k < length ms → get_or ms k false ≡ true → 0 < mask_l ms
 some_mask [] k h is = absurd (omega arith)
@@ -180,7 +184,8 @@ own_bits bit (x ∷ xs) a h = own_bits bit xs (bit_or a x) (bit_of_both a x bit 
 
 some_bits : (bit : ℕ) (xs : List ℕ) (a k : ℕ) → k < length xs → IsTrue (has_bit (get_or xs k 0) bit) → IsTrue (has_bit (fold_l bit_or a xs) bit)
 some_bits bit [] a k h is = absurd (omega arith)
-some_bits bit (x ∷ xs) a zero h is = own_bits bit xs (bit_or a x) (bit_of_both a x bit ∙ or_right (has_bit a bit) (has_bit x bit) is)
+some_bits bit (x ∷ xs) a zero h is =
+    own_bits bit xs (bit_or a x) (bit_of_both a x bit ∙ or_right (has_bit a bit) (has_bit x bit) is)
 some_bits bit (x ∷ xs) a (suc k) h is = some_bits bit xs (bit_or a x) k (omega arith) is
 
 -- ---- the lanes of one sum

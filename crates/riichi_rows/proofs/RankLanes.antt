@@ -97,7 +97,8 @@ module _ (have limit : ℕ) (few : limit ≤ 4) (later : Begun) (x : Added) (w c
       let zero_is = ap (λ n. capped (n + c0)) (is.no_tile s p hs hp) in
       let one_is : capped (x.one s p + c1) ≡ 255 = omega (arith, is.one_tile s p hs hp) in
       let two_is : capped (x.two s p + c2) ≡ capped (with_pair z s p + c2) = omega (arith, is.two_tiles s p hs hp) in
-      let three_is : capped (x.three s p + c3) ≡ capped (with_set z s p + c3) = omega (arith, is.three_tiles s p hs hp, pair_none s p) in
+      let three_is : capped (x.three s p + c3) ≡ capped (with_set z s p + c3) =
+      omega (arith, is.three_tiles s p hs hp, pair_none s p) in
       let four_is : capped (x.four s p + c4) ≡ 255 = omega (arith, is.four_tiles s p hs hp, set_none s p, pair_none s p) in
       let same = none_left (capped (z s p + c0)) (capped (with_pair z s p + c2)) (capped (with_set z s p + c3)) (omega arith) in
       cc

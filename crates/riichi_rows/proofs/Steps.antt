@@ -53,8 +53,8 @@ sum_reached x have limit n h =
 
 module _ (f : ℕ → ℕ → ℕ) (w have limit : ℕ) where
   -- with t triplets and d pairs beside w tiles, n tiles in all
-  taken : (t d n s p s' p' v : ℕ) → n ≡ w + 3 * t + 2 * d → t + s' ≡ s → d + p' ≡ p → v < 255 → v ≡ capped (f s' p' + cost have limit n)
-      → Taken f w have limit s p v
+  taken : (t d n s p s' p' v : ℕ) → n ≡ w + 3 * t + 2 * d → t + s' ≡ s → d + p' ≡ p → v < 255
+      → v ≡ capped (f s' p' + cost have limit n) → Taken f w have limit s p v
   taken t d n s p s' p' v many es ep low e =
       let small : capped (f s' p' + cost have limit n) < 255 = omega arith in
       let r = sum_reached (f s' p') have limit n small in

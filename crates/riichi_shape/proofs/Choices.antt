@@ -31,15 +31,18 @@ inserted_same : (x discard : Discard) (rest : List Discard) → IsIn x (inserted
 unfolding inserted_by
 inserted_same x discard [] = (λ h. h, λ h. h)
 inserted_same x discard (next ∷ rest) =
-    put_same x discard next rest (inserted discard rest) (nat_le (live_with next) (live_with discard)) (inserted_same x discard rest)
+    put_same x discard next rest (inserted discard rest)
+    (nat_le (live_with next) (live_with discard)) (inserted_same x discard rest)
 
 order_same : (x : Discard) (xs : List Discard) → IsIn x (in_order xs) ↔ IsIn x xs
 unfolding in_order
 order_same x [] = (λ h. h, λ h. h)
 order_same x (discard ∷ rest) =
     let put = inserted_same x discard (in_order rest) in
-    let later = order_same x rest in
-    (λ h. ⊎_elim (λ here. inl here) (λ r. inr (later.0 r)) (put.0 h), λ h. put.1 (⊎_elim (λ here. inl here) (λ r. inr (later.1 r)) h))
+    let later = order_same x rest in (
+      λ h. ⊎_elim (λ here. inl here) (λ r. inr (later.0 r)) (put.0 h),
+      λ h. put.1 (⊎_elim (λ here. inl here) (λ r. inr (later.1 r)) h),
+    )
 
 -- ---- the test of a kind
 

@@ -86,10 +86,12 @@ free_blocks m h a n zero zero few inside room = no_blocks m h a n few
 free_blocks m h a zero (suc t) p few inside room = absurd (omega arith)
 free_blocks m h a zero zero (suc p) few inside room = absurd (omega arith)
 free_blocks m h a (suc n) (suc t) p few inside room =
-    ⊎_elim (λ low. with_block m h a n t p (suc t) p (Triplet a) (omega arith) (omega arith) (omega arith) (triplet_alone a).0 (triplet_alone a).1 (omega (arith, (triplet_alone a).0)) (free_blocks m h (a + 1) n t p (λ k l. few k (omega arith)) (omega arith) (omega arith)))
+    ⊎_elim (λ low. with_block m h a n t p (suc t) p (Triplet a) (omega arith) (omega arith) (omega arith) (triplet_alone a).0 (triplet_alone a).1 (omega (arith, (triplet_alone a).0))
+    (free_blocks m h (a + 1) n t p (λ k l. few k (omega arith)) (omega arith) (omega arith)))
     (λ high. skip m h a n (suc t) p (few a (omega arith)) (free_blocks m h (a + 1) n (suc t) p (λ k l. few k (omega arith)) (omega arith) (omega arith))) (cases_lt (m a) 2)
 free_blocks m h a (suc n) zero (suc p) few inside room =
-    ⊎_elim (λ low. with_block m h a n zero p zero (suc p) (Pair a) (omega arith) (omega arith) (omega arith) (pair_alone a).0 (pair_alone a).1 (omega (arith, (pair_alone a).0)) (free_blocks m h (a + 1) n zero p (λ k l. few k (omega arith)) (omega arith) (omega arith)))
+    ⊎_elim (λ low. with_block m h a n zero p zero (suc p) (Pair a) (omega arith) (omega arith) (omega arith) (pair_alone a).0 (pair_alone a).1 (omega (arith, (pair_alone a).0))
+    (free_blocks m h (a + 1) n zero p (λ k l. few k (omega arith)) (omega arith) (omega arith)))
     (λ high. skip m h a n zero (suc p) (few a (omega arith)) (free_blocks m h (a + 1) n zero (suc p) (λ k l. few k (omega arith)) (omega arith) (omega arith))) (cases_lt (m a) 2)
 
 pub record StandardExists (hand : List ℕ) (melds : List Meld) (sets : ℕ) : Type 0 where

@@ -67,7 +67,8 @@ unfolding spread
 chosen h w a zero each = record { from_twos = 0; from_ones = 0; from_none = 0; twos = omega arith; ones = omega arith; tiles = omega arith; lacks = omega arith; fresh = λ k low high none two. absurd (omega arith) }
 chosen h w a (suc n) each =
     let rest = chosen h w (a + 1) n (λ k low. each k (omega arith)) in
-    ⊎_elim (λ none. more rest 0 0 0 (omega arith) (omega arith) (omega (arith, none)) (omega (arith, none)) (λ not_held two. absurd (omega (arith, none, two))))
+    ⊎_elim (λ none. more rest 0 0 0 (omega arith) (omega arith) (omega (arith, none)) (omega (arith, none))
+    (λ not_held two. absurd (omega (arith, none, two))))
     (λ taken. take_by rest taken (h a) refl) (each a (omega arith))
   where
     -- from the first kind t tiles twice, o once, z not at all
@@ -83,17 +84,21 @@ chosen h w a (suc n) each =
       lacks = omega (arith, rest.lacks);
       fresh = λ k low high not_held two.
           ⊎_elim (λ later. (let some = rest.fresh k (omega arith) (omega arith) not_held two in omega (arith, some)))
-          (λ here. (let same : a ≡ k = omega arith in let some = fresh (ap h same ∙ not_held) (ap w same ∙ two) in omega (arith, some))) (cases_lt a k);
+          (λ here. (let same : a ≡ k = omega arith in
+          let some = fresh (ap h same ∙ not_held) (ap w same ∙ two) in omega (arith, some))) (cases_lt a k);
     }
 
     take_by : Chosen h w (a + 1) n → w a ≡ 2 → (held : ℕ) → h a ≡ held → Chosen h w a (suc n)
-    take_by rest taken zero e = more rest 0 0 1 (omega arith) (omega arith) (omega (arith, taken)) (omega (arith, taken, e)) (λ not_held two. omega arith)
+    take_by rest taken zero e = more rest 0 0 1 (omega arith) (omega arith) (omega (arith, taken)) (omega (arith, taken, e))
+        (λ not_held two. omega arith)
     take_by rest taken (suc zero) e =
         let here : one (h a) ≡ 1 = grind (arith, nat_tests) in
-        more rest 0 1 0 (omega arith) (omega (arith, here)) (omega (arith, taken)) (omega (arith, taken, e)) (λ not_held two. absurd (omega (arith, e, not_held)))
+        more rest 0 1 0 (omega arith) (omega (arith, here)) (omega (arith, taken)) (omega (arith, taken, e))
+        (λ not_held two. absurd (omega (arith, e, not_held)))
     take_by rest taken (suc (suc held)) e =
         let here : two (h a) ≡ 1 = grind (arith, nat_tests) in
-        more rest 1 0 0 (omega (arith, here)) (omega arith) (omega (arith, taken)) (omega (arith, taken, e)) (λ not_held two. absurd (omega (arith, e, not_held)))
+        more rest 1 0 0 (omega (arith, here)) (omega arith) (omega (arith, taken)) (omega (arith, taken, e))
+        (λ not_held two. absurd (omega (arith, e, not_held)))
 
 -- ---- some seven pairs lack as much
 

@@ -70,7 +70,8 @@ one_place d n one = record {
   place = p.place;
   high = omega (arith, p.high);
   one = omega (arith, each_below d 0 n p.place (omega arith) (omega (arith, p.high)), p.some, one);
-  others = λ k low ne. ap (λ b. cond b 0 (d k)) (sym (ne_eqb k p.place ne)) ∙ none (each_below rest 0 n k (omega arith) (omega (arith, low)));
+  others = λ k low ne. ap (λ b. cond b 0 (d k)) (sym (ne_eqb k p.place ne))
+      ∙ none (each_below rest 0 n k (omega arith) (omega (arith, low)));
 }
   where
     p : SomePlace d 0 n
@@ -148,7 +149,8 @@ module _ (hand : List ℕ) (melds : List Meld) (n : ℕ) (long : length hand ≡
       p = one_place (λ k. slice_index is.wanted k - slice_index hand k) 34 one_lacked
 
       left_at : (k : ℕ) → k < 34 → slice_index hand k - slice_index is.wanted k ≡ 0
-      left_at k low = omega (arith, each_below (λ k. slice_index hand k - slice_index is.wanted k) 0 34 k (omega arith) (omega (arith, low)), none_left)
+      left_at k low =
+          omega (arith, each_below (λ k. slice_index hand k - slice_index is.wanted k) 0 34 k (omega arith) (omega (arith, low)), none_left)
 
       at : (k : ℕ) → k < 34 → slice_index (with_one hand p.place) k ≡ slice_index is.wanted k
       at k low = by_test (eqb k p.place) refl

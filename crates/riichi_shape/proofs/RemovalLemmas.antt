@@ -35,7 +35,8 @@ module _ (hand : List ℕ) (melds : List Meld) (least : ℕ) (is : IsLeastLeft h
 
   -- a kind is a discard just where without its tile so many are lacking
   pub chosen_is : (distance_without hand melds kind == least) ≡ is_discard hand melds kind
-  chosen_is = same_from_decides (distance_without hand melds kind == least) (is_discard hand melds kind) (there, back) (λ e. e, λ e. e)
+  chosen_is =
+      same_from_decides (distance_without hand melds kind == least) (is_discard hand melds kind) (there, back) (λ e. e, λ e. e)
 
 -- ---- the discards of the kinds from one on
 
