@@ -30,8 +30,8 @@ impl Model for RowMemo {
 }
 
 impl RowMemo {
-    /// So many places of 67 bytes, all of them asked for here. Of a number that is no power of two
-    /// some are never used.
+    /// So many places of 67 bytes, and those for upper ranks, all of them asked for here. Of a number that is no power of
+    /// two some are never used.
     pub fn new(alloc: Global, places: usize) -> Result<RowMemo, Memory>
         requires { 0 < places }
         ensures { IfOk result (λ memo. memo ≡ places) }
