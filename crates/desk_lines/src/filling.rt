@@ -16,10 +16,11 @@ use super::outbox::Outbox;
 use super::reasoned::Reasoned;
 use super::responder::Responder;
 use riichi_hand::Rules;
-use riichi_shape::FrameMemo;
+use riichi_shape::{KeptRow, KeptUpper, LentMemo};
 
-/// So many rows of suits are kept for the next lines of a text, in the frame of the call.
+/// So many rows of suits are kept for the next lines of a text, in the frame of the call, and so many upper ranks.
 const KEPT_ROWS: usize = 1024;
+const KEPT_UPPERS: usize = 16;
 
 /// How many bytes of a text were answered, and how many bytes of the room the answers fill.
 #[derive(Clone, Copy, Debug, PartialEq, Eq)]
@@ -60,7 +61,9 @@ pub fn fill_explained_objects(rules: Rules, text: &[u8], room: &mut [u8]) -> Fil
 fn fill<A: Responder>(rules: Rules, text: &[u8], room: &mut [u8]) -> Filled
     ensures { Fills (AreTold A.may_tell rules) text.now room.old room.new result.taken result.filled }
 {
-    let mut memo = FrameMemo::<KEPT_ROWS>::new();
+    let mut rows = [KeptRow::of_nothing(); KEPT_ROWS];
+    let mut uppers = [KeptUpper::of_nothing(); KEPT_UPPERS];
+    let mut memo = LentMemo::new(&mut rows, &mut uppers);
     let mut outbox = Outbox::new();
     let mut rest = text;
     let mut filled = 0;

@@ -2,7 +2,7 @@
 use Rattle.std.proofs.Common.{◌≡◌, Bool, drop, subst}
 use Rattle.riichi_rows.specs.Ranks.{AreRanks}
 use Rattle.riichi_rows.specs.declared.open.Open.{Open}
-use Rattle.riichi_rows.proofs.UpperRanks.{ranks_alike}
+use Rattle.riichi_rows.proofs.MarkedRanks.{ranks_alike}
 use Rattle.riichi_cache.specs.declared.row_key.RowKey.{RowKey}
 
 abbrev pub AreUpper : RowKey → Open → Type 0

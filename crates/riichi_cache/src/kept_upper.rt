@@ -41,17 +41,7 @@ impl KeptUpper {
 
     /// Those of no tiles of which none may be held: what stands in a place before others.
     pub fn of_nothing() -> KeptUpper {
-        KeptUpper::new(RowKey {
-            counts: [0; 9],
-            caps: [0; 9],
-            runs: false,
-        })
-    }
-
-    fn upper(&self) -> Open
-        ensures { AreRanks self.now.0.runs 4 self.now.0.counts self.now.0.caps result }
-    {
-        self.upper
+        KeptUpper::new(RowKey::new(&[0; 9], &[0; 9], false))
     }
 
     /// They, if they are those of this key.
@@ -80,5 +70,5 @@ pub(crate) fn upper_at(places: &mut [KeptUpper], key: &RowKey) -> Open
     }
     let made = KeptUpper::new(own);
     places[place] = made;
-    made.upper()
+    made.upper
 }

@@ -1,9 +1,8 @@
 //! Rows that were made before, in places that the caller lends.
 ghost use Rattle.std.specs.Prelude.{ℕ, ◌≡◌, ◌<◌, ◌≤◌, length, slice_index};
-ghost use Rattle.riichi_rows.specs.Marks.{IsMarkedRow};
 
-use crate::kept_row::{KeptRow, keep_row, row_found};
-use crate::kept_upper::{KeptUpper, upper_at};
+use crate::kept_row::{KeptRow, row_at};
+use crate::kept_upper::KeptUpper;
 use crate::row_key::RowKey;
 use riichi_rows::{RowSource, SuitRow};
 use std::marker::Model;
@@ -36,26 +35,8 @@ impl<'a> LentMemo<'a> {
     }
 }
 
-/// The row of a key: one that is kept, or a new one over upper ranks that may be kept.
-fn row_over(rows: &mut [KeptRow], uppers: &mut [KeptUpper], key: RowKey) -> SuitRow
-    requires rows { 0 < length rows.old }
-    requires uppers { 0 < length uppers.old }
-    requires caps { (r : ℕ) → r < 9 → slice_index key.caps r ≤ 4 }
-    ensures row { IsMarkedRow key.runs key.counts key.caps result }
-    ensures rows { length rows.new ≡ length rows.old }
-    ensures uppers { length uppers.new ≡ length uppers.old }
-{
-    if let Some(row) = row_found(rows, &key) {
-        return row;
-    }
-    let upper = upper_at(uppers, &key);
-    let made = KeptRow::over(&upper, key);
-    keep_row(rows, made);
-    made.row()
-}
-
 impl<'a> RowSource for LentMemo<'a> {
     fn row(&mut self, counts: &[u8; 9], caps: &[u8; 9], runs: bool) -> SuitRow {
-        row_over(self.rows, self.uppers, RowKey::new(counts, caps, runs))
+        row_at(self.rows, self.uppers, RowKey::new(counts, caps, runs))
     }
 }

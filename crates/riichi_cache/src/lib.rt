@@ -6,13 +6,12 @@
 //!
 //! - `RowMemo` has a place for each of so many rows, in pairs, and finds the pair of a row by its counts and
 //!   caps. Where one of the two is that very row, it is the answer; else the row is made, and the older of
-//!   the two gives way. It is the fastest.
-//! - `FrameMemo` is the same of `N` places in the value itself: it takes no memory.
-//! - `LentMemo` is the same in arrays that the caller lends, and beside the rows it keeps their upper ranks (`KeptUpper`), which
-//!   many suits have in common: a row that isn't there is made over them in half the time.
+//!   the two gives way. Beside the rows it keeps their upper ranks (`KeptUpper`), which many suits have in
+//!   common: a row that isn't there is made over them in half the time. It is the fastest.
+//! - `LentMemo` is the same in arrays that the caller lends: it takes no memory.
 //! - `RowCache` keeps the rows that it was asked for last, up to its capacity. A row for which there
 //!   is no memory is not kept.
-//! - `SuitMemo` is a `RowMemo`, or a `FrameMemo` where there is no memory for that.
+//! - `SuitMemo` is a `RowMemo`, or the same in the value itself where there is no memory for that.
 //!
 //! ```text
 //! let mut memo = RowMemo::new(alloc, 16384)?;          // 16,384 places
@@ -21,7 +20,6 @@
 //! ```
 #![tactic(auto)]
 
-mod frame_memo;
 mod kept_row;
 mod kept_upper;
 mod lent_memo;
@@ -32,7 +30,6 @@ mod row_key;
 mod row_memo;
 mod suit_memo;
 
-pub use frame_memo::FrameMemo;
 pub use kept_row::KeptRow;
 pub use kept_upper::KeptUpper;
 pub use lent_memo::LentMemo;

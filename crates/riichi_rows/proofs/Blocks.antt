@@ -58,6 +58,11 @@ pub sum_by-same : (f g : Block → ℕ) → ((b : Block) → f b ≡ g b) → (b
 sum_by-same f g same [] = refl
 sum_by-same f g same (b ∷ bs) = omega (arith, sum_by-cons f b bs, sum_by-cons g b bs, same b, sum_by-same f g same bs)
 
+pub sum_by-same_of : (P : Block → Type 0) (f g : Block → ℕ) → ((b : Block) → P b → f b ≡ g b) → (bs : List Block) → All P bs → sum_by f bs ≡ sum_by g bs
+sum_by-same_of P f g same [] all = refl
+sum_by-same_of P f g same (b ∷ bs) all =
+    omega (arith, sum_by-cons f b bs, sum_by-cons g b bs, same b (All-head P b bs all), sum_by-same_of P f g same bs (All-tail P b bs all))
+
 module _ (f x y z t p : Block → ℕ) (splits : (b : Block) → f b ≡ x b + y b + z b + 3 * t b + 2 * p b) where
   sum_by-splits : (bs : List Block) → sum_by f bs ≡ sum_by x bs + sum_by y bs + sum_by z bs + 3 * sum_by t bs + 2 * sum_by p bs
   sum_by-splits [] = refl
@@ -95,10 +100,7 @@ held_later r bs =
 
 -- no run begins at the last two ranks
 no_late_run : (runs : Bool) (bs : List Block) (r : ℕ) → 7 ≤ r → All (IsInSuit runs) bs → sum_by (run_of r) bs ≡ 0
-no_late_run runs [] r h all = refl
-no_late_run runs (b ∷ bs) r h all =
-    let rest = no_late_run runs bs r h (All-tail (IsInSuit runs) b bs all) in
-    omega (arith, sum_by-cons (run_of r) b bs, rest, here b (All-head (IsInSuit runs) b bs all))
+no_late_run runs bs r h all = sum_by-same_of (IsInSuit runs) (run_of r) no_block here bs all ∙ sum_by-none bs
   where
     here : (b : Block) → IsInSuit runs b → run_of r b ≡ 0
     here (Run q) inside = let low = inside.1 in grind (arith, nat_tests, low)
@@ -106,9 +108,7 @@ no_late_run runs (b ∷ bs) r h all =
     here (Pair q) inside = refl
 
 no_run_without : (bs : List Block) (r : ℕ) → All (IsInSuit false) bs → sum_by (run_of r) bs ≡ 0
-no_run_without [] r all = refl
-no_run_without (b ∷ bs) r all =
-    omega (arith, sum_by-cons (run_of r) b bs, no_run_without bs r (All-tail (IsInSuit false) b bs all), here b (All-head (IsInSuit false) b bs all))
+no_run_without bs r all = sum_by-same_of (IsInSuit false) (run_of r) no_block here bs all ∙ sum_by-none bs
   where
     here : (b : Block) → IsInSuit false b → run_of r b ≡ 0
     here (Run q) inside = absurd (false≢true inside.0)

@@ -1,12 +1,9 @@
 pub mod Blocks
-pub mod CostLemmas
 pub mod Joins
-pub mod LackedRanks
 pub mod LaneLemmas
 pub mod MarkLemmas
 pub mod Marked
 pub mod MarkedRanks
-pub mod OneChanged
 pub mod OneMore
 pub mod Opposite
 pub mod RankBits
@@ -14,5 +11,3 @@ pub mod RankLanes
 pub mod Spread
 pub mod Steps
 pub mod Tables
-pub mod WholeSuit
-pub mod UpperRanks

@@ -1,16 +1,17 @@
 -- What the operations on marked lanes give at one lane.
-use Rattle.std.proofs.Common.{◌≡◌, ℕ, zero, suc, ◌+◌, ◌-◌, ◌<◌, ◌≤◌, ◌/◌, min, Bool, cond, List, length, get_or, leb, nat_lt, bit_and, bit_or, refl, sym, ap, ap₂, ◌∙◌, subst, ⊎_elim, eq-zero-or-pos, arith}
-use Rattle.std.proofs.lemmas.Bool.{cases_order, le-leb, lt-leb}
+use Rattle.std.proofs.Common.{◌≡◌, ℕ, zero, suc, ◌+◌, ◌-◌, ◌<◌, ◌≤◌, ◌/◌, min, Bool, cond, List, length, get_or, leb, nat_lt, bit_and, bit_or, refl, sym, ap, ap₂, ◌∙◌, subst, ⊎_elim, eq-zero-or-pos, arith, false}
+use Rattle.std.proofs.lemmas.Bool.{cases_order, le-leb, lt-leb, false≢true, lt-ltb}
 use Rattle.std.proofs.lemmas.Bool.Decides.{nat_tests}
 use Rattle.std.proofs.lemmas.Nat.{and_or_apart, and_or_self, or_comm, or_shr}
 use Rattle.std.proofs.lemmas.Simd.{get_or-zip2, get_or-replicate, length-replicate, length-zip2}
-use Rattle.std.specs.Prelude.{if◌then◌else◌, ◌&&◌}
+use Rattle.std.specs.Prelude.{if◌then◌else◌, ◌&&◌, ◌||◌, IsTrue, nat_lt, bit_and, bit_or}
 use lib.Arith.{bin_ind}
 use lib.Bits.{and_step, or_step, and_zero_r, or_zero_r}
 use lib.Lanes.{zip2, sel_l}
 use Rattle.riichi_rows.specs.Open.{IsMarkOf}
 use Rattle.riichi_rows.specs.Lanes.{lane, HasLanes, with_set, with_pair, capped, Agree, HasRoom, mark, lack_with, lacks_with}
 use Rattle.riichi_rows.proofs.LaneLemmas.{by_place, chosen_at, length_chosen, no_set, pair_moved, pair_order, picked, set_more, set_order, sixteen, tested}
+use Rattle.std.specs.Int.Bits.{and_zero_l}
 
 abbrev pub Sound : List ℕ → List ℕ → Type 0
 Sound lacks marks = (s p : ℕ) → s < 5 → p < 2 → lane lacks s p ≡ 0 → mark marks s p ≡ 0
@@ -210,3 +211,29 @@ module _ (ms : List ℕ) (m : ℕ) (long : length ms ≡ 16) where
           here bit
           ∙ own_seen (lane lacks s p) tiles (bit_and (mark ms s p) bit) (bit_and (bit_or (mark ms s p) m) bit) (own_some positive) own_none few_tiles (few_as_it_is few) (λ none. is_same none ∙ plain)
           ∙ ap (λ x. capped (x + (if nat_lt tiles 255 then tiles - 1 else 255))) (sym plain)
+
+-- ---- marks that are gathered bit by bit, and those of the entries that take part
+
+abbrev pub has_bit : ℕ → ℕ → Bool
+has_bit marks bit = nat_lt 0 (bit_and marks bit)
+
+none_is : (n : ℕ) → n ≡ 0 → nat_lt 0 n ≡ false
+none_is n h = grind (arith, nat_tests)
+
+-- a bit of two marks together is one of either
+pub bit_of_both : (x y bit : ℕ) → has_bit (bit_or x y) bit ≡ (has_bit x bit || has_bit y bit)
+bit_of_both x y bit =
+    ⊎_elim
+    (λ none. (let alone = either_alone bit x y none in let first = none_is _ none in let whole : has_bit (bit_or x y) bit ≡ has_bit y bit = ap (nat_lt 0) alone in whole ∙ sym (ap (λ (b : Bool). b || has_bit y bit) first)))
+    (λ some. (let kept = or_keeps bit x y in lt-ltb 0 _ (omega (arith, some, kept)) ∙ sym (ap (λ (b : Bool). b || has_bit y bit) (lt-ltb 0 _ some))))
+    (eq-zero-or-pos (bit_and x bit))
+
+-- a mark that is below none and above nothing lowers the lack
+pub lowered : (bit lack here : ℕ) → lack < 255 → (lack ≡ 0 → here ≡ 0) → IsTrue (has_bit here bit) → IsTrue (nat_lt (lack_with bit lack here) lack)
+lowered bit lack here low sound marked = ⊎_elim (λ none. absurd (unmarked none)) (λ some. grind (arith, nat_tests)) (eq-zero-or-pos lack)
+  where
+    unmarked : lack ≡ 0 → ⊥
+    unmarked none = false≢true (sym (none_is (bit_and here bit) (ap (λ (n : ℕ). bit_and n bit) (sound none) ∙ and_zero_l bit)) ∙ marked)
+
+pub is_lowered : (bit lack here : ℕ) → IsTrue (nat_lt (lack_with bit lack here) lack) → IsTrue (has_bit here bit)
+is_lowered bit lack here less = grind (arith, nat_tests)

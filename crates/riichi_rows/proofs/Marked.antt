@@ -26,15 +26,13 @@ module _ (runs : Bool) (counts caps : List ℕ) (long : length counts ≡ 9) (ca
 
   -- with one more tile
   module _ (next : LeastFrom runs (slice_set counts rank (slice_index counts rank + 1)) caps 0 0 sets pairs w) where
-    more : List ℕ
+    abbrev more : List ℕ
     more = slice_set counts rank (slice_index counts rank + 1)
 
     one : IsOneMore rank counts more
-    unfolding more
     one = record { here = get_or-set_same counts rank (slice_index counts rank + 1) 0 (omega (arith, long, inside)); elsewhere = λ k other. get_or-set_other counts rank k (slice_index counts rank + 1) 0 other }
 
     lacks_more : IsLeastLack runs more caps sets pairs (entry_of w)
-    unfolding more
     lacks_more = entry_least runs (slice_set counts rank (slice_index counts rank + 1)) caps (length-set counts rank (slice_index counts rank + 1) ∙ long) caps_long few sets pairs w next
 
     with_some : (entry_of w ≡ Some w) → (w < n) ↔ ChoiceLacks runs counts caps sets pairs n rank

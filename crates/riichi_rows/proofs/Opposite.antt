@@ -1,23 +1,22 @@
 -- The lanes that make up so many sets and one pair with each, and what is gathered from the lanes of one sum.
 use Rattle.std.proofs.Common.{◌≡◌, ℕ, zero, suc, ◌+◌, ◌-◌, ◌<◌, ◌≤◌, ◌%◌, ◌^◌, ◌⊎◌, inl, inr, min, Bool, true, false, cond, List, [], ◌∷◌, ◌++◌, map, length, get_or, ltb, eqb, bit_and, bit_or, refl, sym, ap, ap₂, ◌∙◌, subst, ⊎_elim, arith}
-use Rattle.std.specs.Prelude.{◌↔◌, ◌||◌, IsTrue, if◌then◌else◌, nat_lt, nat_le}
+use Rattle.std.specs.Prelude.{◌↔◌, IsTrue, if◌then◌else◌, nat_lt, nat_le}
 use Rattle.std.specs.Int.Bits.{and_zero_l}
 use Rattle.std.specs.List.{range_with_len}
-use Rattle.std.proofs.lemmas.Bool.{cases_lt, false≢true, eq-eqb, lt-ltb, ltb-true}
+use Rattle.std.proofs.lemmas.Bool.{cases_lt, false≢true, eq-eqb, lt-ltb, ltb-true, or_cases, or_left, or_right}
 use Rattle.std.proofs.lemmas.Bool.Decides.{nat_tests}
 use Rattle.std.proofs.lemmas.List.{get_or_past, get_or-map, length-map}
 use Rattle.std.proofs.lemmas.List.FromFn.{get_or-map-range_with_len, length-map-range_with_len}
 use Rattle.std.proofs.lemmas.Simd.{get_or-zip2, get_or-replicate, length-replicate, length-zip2, mask_l-mod}
 use lib.Lanes.{zip2, sel_l, mask_l, fold_l}
 use Rattle.riichi_rows.specs.Lanes.{LaneOf, SomeLane, at_place, capped, lane, mark, opposite}
-use Rattle.riichi_rows.proofs.LackedRanks.{bit_of_both, has_bit}
+use Rattle.riichi_rows.proofs.MarkLemmas.{bit_of_both, has_bit}
 use Rattle.riichi_rows.specs.Join.{SumReached}
 use Rattle.riichi_rows.specs.Marks.{has_rank, MarkedBeside, is_marked}
 use Rattle.riichi_rows.specs.declared.joined.JoinedRows.{JoinedRows}
 use Rattle.riichi_rows.specs.declared.rank_set.RankSet.{RankSet}
 use Rattle.riichi_rows.specs.declared.row.SuitRow.{SuitRow}
-use Rattle.riichi_rows.proofs.Joins.{entry_is, entry_some, min_is}
-use Rattle.riichi_rows.proofs.OneChanged.{LeastTaken}
+use Rattle.riichi_rows.proofs.Joins.{entry_is, entry_some, min_is, LeastTaken}
 use Rattle.riichi_rows.proofs.LaneLemmas.{by_place, chosen_at, front, length_chosen, length_lesser, length_tested, lesser, lesser_at, picked, seam, sixteen, tested, tested_at}
 
 -- ---- the lanes that stand opposite
@@ -32,13 +31,11 @@ places sets = map (place sets) (range_with_len 0 16)
 place_within : (sets i : ℕ) → sets ≤ 4 → place sets i ≤ 16
 place_within sets i few = grind (arith, nat_tests)
 
-nothing_past : (xs : List ℕ) → length xs ≡ 16 → get_or xs 16 255 ≡ 255
-nothing_past xs long = get_or_past xs 16 255 (omega arith)
-
 taken_at : (xs : List ℕ) → length xs ≡ 16 → (k : ℕ) → k ≤ 16 → get_or (xs ++ sixteen 255) k 0 ≡ get_or xs k 255
 taken_at xs long k within =
     ⊎_elim (λ low. front 255 xs long k low)
-    (λ high. (let last : k ≡ 16 = omega arith in subst (λ (n : ℕ). get_or (xs ++ sixteen 255) n 0 ≡ get_or xs n 255) (sym last) (seam 255 xs long ∙ sym (nothing_past xs long))))
+    (λ high. (let last : k ≡ 16 = omega arith in subst (λ (n : ℕ). get_or (xs ++ sixteen 255) n 0 ≡ get_or xs n 255) (sym last)
+    (seam 255 xs long ∙ sym (get_or_past xs 16 255 (omega arith)))))
     (cases_lt k 16)
 
 turned_at : (xs : List ℕ) → length xs ≡ 16 → (sets i : ℕ) → sets ≤ 4 → i < 16 → get_or (picked 255 xs (places sets)) i 255 ≡ get_or xs (place sets i) 255
@@ -70,12 +67,14 @@ module _ (xs : List ℕ) (long : length xs ≡ 16) (sets : ℕ) (few : sets ≤ 
   pub opposite_lanes : (s p : ℕ) → s < 8 → p < 2 → lane (picked 255 xs (places sets)) s p ≡ opposite sets (lane xs) s p
   opposite_lanes s zero hs hp =
       turned_at xs long sets s few (omega arith)
-      ∙ ⊎_elim (λ past. ap (λ k. get_or xs k 255) (no_place_plain s hs past) ∙ nothing_past xs long ∙ sym (opposite_none sets (lane xs) s 0 past))
+      ∙ ⊎_elim (λ past. ap (λ k. get_or xs k 255) (no_place_plain s hs past) ∙ get_or_past xs 16 255 (omega arith)
+      ∙ sym (opposite_none sets (lane xs) s 0 past))
       (λ within. ap (λ k. get_or xs k 255) (place_plain s hs (omega arith)) ∙ sym (opposite_is sets (lane xs) s 0 (omega arith)))
       (cases_lt sets s)
   opposite_lanes s (suc zero) hs hp =
       turned_at xs long sets (8 + s) few (omega arith)
-      ∙ ⊎_elim (λ past. ap (λ k. get_or xs k 255) (no_place_paired s hs past) ∙ nothing_past xs long ∙ sym (opposite_none sets (lane xs) s 1 past))
+      ∙ ⊎_elim (λ past. ap (λ k. get_or xs k 255) (no_place_paired s hs past) ∙ get_or_past xs 16 255 (omega arith)
+      ∙ sym (opposite_none sets (lane xs) s 1 past))
       (λ within. ap (λ k. get_or xs k 255) (place_paired s hs (omega arith)) ∙ sym (opposite_is sets (lane xs) s 1 (omega arith)))
       (cases_lt sets s)
   opposite_lanes s (suc (suc p)) hs hp = absurd (omega arith)
@@ -152,13 +151,11 @@ record IsSet (ms : List Bool) : Type 0 where
   pub inside : place < length ms
   pub is : get_or ms place false ≡ true
 
-later_set : (m : Bool) (ms : List Bool) → IsSet ms → IsSet (m ∷ ms)
-later_set m ms t = record { place = suc t.place; inside = (let inside = t.inside in omega (arith, inside)); is = t.is }
-
 mask_some : (ms : List Bool) → 0 < mask_l ms → IsSet ms
 mask_some [] h = absurd (omega arith)
 mask_some (true ∷ ms) h = record { place = 0; inside = omega arith; is = refl }
-mask_some (false ∷ ms) h = later_set false ms (mask_some ms (omega arith))
+mask_some (false ∷ ms) h =
+    (let t = mask_some ms (omega arith) in record { place = suc t.place; inside = omega (arith, t.inside); is = t.is })
 
 some_mask : (ms : List Bool) (k : ℕ) → k < length ms → get_or ms k false ≡ true → 0 < mask_l ms
 some_mask [] k h is = absurd (omega arith)
@@ -173,32 +170,22 @@ record HasBit (xs : List ℕ) (bit : ℕ) : Type 0 where
   pub inside : place < length xs
   pub is : IsTrue (has_bit (get_or xs place 0) bit)
 
-later_bit : (x : ℕ) (xs : List ℕ) (bit : ℕ) → HasBit xs bit → HasBit (x ∷ xs) bit
-later_bit x xs bit t = record { place = suc t.place; inside = (let inside = t.inside in omega (arith, inside)); is = t.is }
-
-either_is : (a b : Bool) → IsTrue (a || b) → IsTrue a ⊎ IsTrue b
-either_is true b h = inl refl
-either_is false b h = inr h
-
-is_either : (a b : Bool) → IsTrue a ⊎ IsTrue b → IsTrue (a || b)
-is_either true b h = refl
-is_either false b h = ⊎_elim (λ no. absurd (false≢true no)) (λ yes. yes) h
-
 bits_some : (bit : ℕ) (xs : List ℕ) (a : ℕ) → IsTrue (has_bit (fold_l bit_or a xs) bit) → IsTrue (has_bit a bit) ⊎ HasBit xs bit
 bits_some bit [] a h = inl h
 bits_some bit (x ∷ xs) a h =
     ⊎_elim
-    (λ first. ⊎_elim (λ own. inl own) (λ here. inr (record { place = 0; inside = omega arith; is = here })) (either_is (has_bit a bit) (has_bit x bit) (sym (bit_of_both a x bit) ∙ first)))
-    (λ rest. inr (later_bit x xs bit rest))
+    (λ first. ⊎_elim (λ own. inl own) (λ here. inr (record { place = 0; inside = omega arith; is = here })) (or_cases (has_bit a bit) (has_bit x bit) (sym (bit_of_both a x bit) ∙ first)))
+    (λ t. inr (record { place = suc t.place; inside = omega (arith, t.inside); is = t.is }))
     (bits_some bit xs (bit_or a x) h)
 
 own_bits : (bit : ℕ) (xs : List ℕ) (a : ℕ) → IsTrue (has_bit a bit) → IsTrue (has_bit (fold_l bit_or a xs) bit)
 own_bits bit [] a h = h
-own_bits bit (x ∷ xs) a h = own_bits bit xs (bit_or a x) (bit_of_both a x bit ∙ is_either (has_bit a bit) (has_bit x bit) (inl h))
+own_bits bit (x ∷ xs) a h = own_bits bit xs (bit_or a x) (bit_of_both a x bit ∙ or_left (has_bit a bit) (has_bit x bit) h)
 
 some_bits : (bit : ℕ) (xs : List ℕ) (a k : ℕ) → k < length xs → IsTrue (has_bit (get_or xs k 0) bit) → IsTrue (has_bit (fold_l bit_or a xs) bit)
 some_bits bit [] a k h is = absurd (omega arith)
-some_bits bit (x ∷ xs) a zero h is = own_bits bit xs (bit_or a x) (bit_of_both a x bit ∙ is_either (has_bit a bit) (has_bit x bit) (inr is))
+some_bits bit (x ∷ xs) a zero h is =
+    own_bits bit xs (bit_or a x) (bit_of_both a x bit ∙ or_right (has_bit a bit) (has_bit x bit) is)
 some_bits bit (x ∷ xs) a (suc k) h is = some_bits bit xs (bit_or a x) k (omega arith) is
 
 -- ---- the lanes of one sum

@@ -1,8 +1,10 @@
 -- From the lanes of one rank in the code to the least lacks.
-use Rattle.std.proofs.Common.{◌≡◌, ℕ, zero, suc, ◌+◌, ◌<◌, ◌≤◌, min, Bool, true, false, refl, List, ◌∷◌, sym, ap, ◌∙◌, arith}
+use Rattle.std.proofs.Common.{◌≡◌, ℕ, zero, suc, ◌+◌, ◌-◌, ◌<◌, ◌≤◌, min, Bool, true, false, refl, List, ◌∷◌, sym, ap, ◌∙◌, arith}
+use Rattle.std.proofs.Math.Nat.{le-min, le_antisymm, le_refl}
 use Rattle.std.proofs.lemmas.Bool.Decides.{nat_tests}
+use Rattle.std.specs.Prelude.{if◌then◌else◌, nat_lt}
 use Rattle.riichi_rows.specs.Columns.{AreLeast, LeastFrom}
-use Rattle.riichi_rows.specs.Lanes.{Agree, capped, none, with_set, with_pair}
+use Rattle.riichi_rows.specs.Lanes.{Agree, HasRoom, IsFew, capped, none, with_set, with_pair}
 use Rattle.riichi_rows.specs.Open.{Added, Begun, cost, IsAdded, LeastBegun}
 use Rattle.riichi_rows.proofs.Steps.{row_value, LeastAfter, step}
 
@@ -14,25 +16,27 @@ left_below a b v h = omega arith
 right_below : (a b v : ℕ) → b ≤ v → min a b ≤ v
 right_below a b v h = omega arith
 
-both_above : (v a b : ℕ) → v ≤ a → v ≤ b → v ≤ min a b
-both_above v a b h k = omega arith
-
-pub less_same : (a b : ℕ) → a ≤ b → b ≤ a → a ≡ b
-less_same a b h k = omega arith
-
-itself : (a : ℕ) → a ≤ a
-itself a = omega arith
-
 -- by the tiles taken on the left, by the runs begun on the right
 module _ (z0 z2 z3 o0 o2 o3 v0 v2 v3 : ℕ) (few : z0 ≤ 255) (none : v3 ≡ 255) where
   same_least : min (min (min (min z0 o0) (min z2 v0)) (min z3 o2)) (min o3 v2) ≡ min (min (min (min z0 z3) z2) (min (min o0 o3) o2)) (min (min v0 v3) v2)
   same_least =
       let by_tiles : ℕ = min (min (min (min z0 o0) (min z2 v0)) (min z3 o2)) (min o3 v2) in
       let beyond : by_tiles ≤ v3 = omega arith in
-      less_same _ _ (search (beyond, both_above, left_below, right_below, itself) depth 9 fits 20000) (search (both_above, left_below, right_below, itself) depth 9 fits 20000)
+      le_antisymm (search (beyond, le-min, left_below, right_below, le_refl) depth 9 fits 20000) (search (le-min, left_below, right_below, le_refl) depth 9 fits 20000)
 
 sum_lesser : (x y c : ℕ) → capped (min x y + c) ≡ min (capped (x + c)) (capped (y + c))
 sum_lesser x y c = omega arith
+
+-- ---- what a rank costs, with the hand's tiles and with one more
+
+pub few_cost : (have limit n c : ℕ) → limit ≤ 4 → c ≡ cost have limit n → c < 255 → c ≤ 4
+few_cost have limit n c few is below = grind (arith, nat_tests)
+
+pub own_cost : (have limit n c : ℕ) → limit ≤ 4 → c ≡ cost have limit n → (if nat_lt c 255 then c - 1 else 255) ≡ cost (have + 1) limit n
+own_cost have limit n c few is = grind (arith, nat_tests)
+
+pub with_room : (lack : ℕ) → IsFew lack → HasRoom lack
+with_room lack few low = omega (arith, few low)
 
 cost_above : (have limit n : ℕ) → limit < n → cost have limit n ≡ 255
 cost_above have limit n h = grind (arith, nat_tests)
@@ -55,15 +59,6 @@ after_begun runs counts caps a x least = record { at = λ u s p hu may hs hp. le
     least_at (suc zero) s p hu hs hp = least.one_begun.at s p hs hp
     least_at (suc (suc zero)) s p hu hs hp = least.two_begun.at s p hs hp
     least_at (suc (suc (suc u))) s p hu hs hp = absurd (omega arith)
-
-no_choice : (x c : ℕ) → x ≡ 255 → capped (x + c) ≡ 255
-no_choice x c is = omega (arith, is)
-
-but_none : (v x none c : ℕ) → none ≡ 255 → v ≡ min x none → capped (v + c) ≡ capped (x + c)
-but_none v x none c is e = omega (arith, is, e)
-
-two_none : (x y : ℕ) → x ≡ 255 → y ≡ 255 → min x y ≡ 255
-two_none x y a b = omega (arith, a, b)
 
 none_left : (a b d : ℕ) → a ≤ 255 → min (min (min (min a 255) b) d) 255 ≡ min (min a d) b
 none_left a b d few = omega arith
@@ -100,10 +95,11 @@ module _ (have limit : ℕ) (few : limit ≤ 4) (later : Begun) (x : Added) (w c
   regrouped_false is =
       let z : ℕ → ℕ → ℕ = later.zero in
       let zero_is = ap (λ n. capped (n + c0)) (is.no_tile s p hs hp) in
-      let one_is = no_choice (x.one s p) c1 (is.one_tile s p hs hp) in
-      let two_is = but_none (x.two s p) (with_pair z s p) 255 c2 refl (is.two_tiles s p hs hp) in
-      let three_is = but_none (x.three s p) (with_set z s p) _ c3 (pair_none s p) (is.three_tiles s p hs hp) in
-      let four_is = no_choice (x.four s p) c4 (is.four_tiles s p hs hp ∙ two_none _ _ (set_none s p) (pair_none s p)) in
+      let one_is : capped (x.one s p + c1) ≡ 255 = omega (arith, is.one_tile s p hs hp) in
+      let two_is : capped (x.two s p + c2) ≡ capped (with_pair z s p + c2) = omega (arith, is.two_tiles s p hs hp) in
+      let three_is : capped (x.three s p + c3) ≡ capped (with_set z s p + c3) =
+      omega (arith, is.three_tiles s p hs hp, pair_none s p) in
+      let four_is : capped (x.four s p + c4) ≡ 255 = omega (arith, is.four_tiles s p hs hp, set_none s p, pair_none s p) in
       let same = none_left (capped (z s p + c0)) (capped (with_pair z s p + c2)) (capped (with_set z s p + c3)) (omega arith) in
       cc
 

@@ -1,10 +1,10 @@
 -- One rank more: the least lack from a rank on, out of the least lacks from the next rank on.
-use Rattle.std.proofs.Common.{◌≡◌, ℕ, zero, suc, ◌+◌, ◌-◌, ◌*◌, ◌<◌, ◌≤◌, min, Bool, true, false, inl, inr, List, [], ◌∷◌, refl, sym, ◌∙◌, ⊎_elim, arith}
+use Rattle.std.proofs.Common.{◌≡◌, ℕ, zero, suc, ◌+◌, ◌-◌, ◌*◌, ◌<◌, ◌≤◌, min, Bool, true, false, inl, inr, List, [], ◌∷◌, refl, ◌∙◌, ⊎_elim, arith}
 use Rattle.std.proofs.lemmas.Bool.{false≢true}
 use Rattle.std.proofs.lemmas.Bool.Decides.{nat_tests}
-use Rattle.riichi_rows.specs.Lanes.{Agree, capped, nothing, with_set, with_pair}
+use Rattle.riichi_rows.specs.Lanes.{capped, with_set, with_pair}
 use Rattle.riichi_rows.specs.Open.{cost}
-use Rattle.riichi_rows.specs.Columns.{Column, held, MayRun, Fits, lack_from, sets_in, pairs_in, Reaches, LeastFrom, AreLeast}
+use Rattle.riichi_rows.specs.Columns.{Column, held, MayRun, Fits, lack_from, sets_in, pairs_in, Reaches, LeastFrom}
 use Rattle.riichi_rows.proofs.Joins.{min_is, at_same}
 
 -- the best of adding nothing, a triplet or a pair to w tiles of the rank
@@ -52,33 +52,40 @@ sum_reached x have limit n h =
     (c.0, omega (arith, c.1), omega arith)
 
 module _ (f : ℕ → ℕ → ℕ) (w have limit : ℕ) where
-  plain_reached : (s p v : ℕ) → v < 255 → v ≡ capped (f s p + cost have limit w) → Taken f w have limit s p v
-  plain_reached s p v low e =
-      let small : capped (f s p + cost have limit w) < 255 = omega arith in
-      let r = sum_reached (f s p) have limit w small in
-      record { triplets = 0; pairs = 0; later_sets = s; later_pairs = p; in_cap = omega (arith, r.0); has_sets = omega arith; has_pairs = omega arith; below = r.2; value = omega (arith, r.1) }
+  -- with t triplets and d pairs beside w tiles, n tiles in all
+  taken : (t d n s p s' p' v : ℕ) → n ≡ w + 3 * t + 2 * d → t + s' ≡ s → d + p' ≡ p → v < 255
+      → v ≡ capped (f s' p' + cost have limit n) → Taken f w have limit s p v
+  taken t d n s p s' p' v many es ep low e =
+      let small : capped (f s' p' + cost have limit n) < 255 = omega arith in
+      let r = sum_reached (f s' p') have limit n small in
+      record {
+        triplets = t;
+        pairs = d;
+        later_sets = s';
+        later_pairs = p';
+        in_cap = omega (arith, r.0);
+        has_sets = es;
+        has_pairs = ep;
+        below = r.2;
+        value = omega (arith, r.1);
+      }
 
   triplet_reached : (s p v : ℕ) → v < 255 → v ≡ capped (with_set f s p + cost have limit (w + 3)) → Taken f w have limit s p v
   triplet_reached zero p v low e = absurd (omega arith)
-  triplet_reached (suc s) p v low e =
-      let small : capped (f s p + cost have limit (w + 3)) < 255 = omega arith in
-      let r = sum_reached (f s p) have limit (w + 3) small in
-      record { triplets = 1; pairs = 0; later_sets = s; later_pairs = p; in_cap = omega (arith, r.0); has_sets = omega arith; has_pairs = omega arith; below = r.2; value = omega (arith, r.1) }
+  triplet_reached (suc s) p v low e = taken 1 0 (w + 3) (suc s) p s p v (omega arith) (omega arith) (omega arith) low e
 
   pair_reached : (s p v : ℕ) → v < 255 → v ≡ capped (with_pair f s p + cost have limit (w + 2)) → Taken f w have limit s p v
   pair_reached s zero v low e = absurd (omega arith)
-  pair_reached s (suc p) v low e =
-      let small : capped (f s p + cost have limit (w + 2)) < 255 = omega arith in
-      let r = sum_reached (f s p) have limit (w + 2) small in
-      record { triplets = 0; pairs = 1; later_sets = s; later_pairs = p; in_cap = omega (arith, r.0); has_sets = omega arith; has_pairs = omega arith; below = r.2; value = omega (arith, r.1) }
+  pair_reached s (suc p) v low e = taken 0 1 (w + 2) s (suc p) s p v (omega arith) (omega arith) (omega arith) low e
 
-blocks_reached : (f : ℕ → ℕ → ℕ) (w have limit s p v : ℕ) → v < 255 → v ≡ with_blocks f w have limit s p → Taken f w have limit s p v
-blocks_reached f w have limit s p v low e =
-    let plain : ℕ = capped (f s p + cost have limit w) in
-    let triplet : ℕ = capped (with_set f s p + cost have limit (w + 3)) in
-    let pair : ℕ = capped (with_pair f s p + cost have limit (w + 2)) in
-    ⊎_elim (λ outer. ⊎_elim (λ inner. plain_reached f w have limit s p v low (e ∙ outer ∙ inner)) (λ inner. triplet_reached f w have limit s p v low (e ∙ outer ∙ inner)) (min_is plain triplet))
-    (λ outer. pair_reached f w have limit s p v low (e ∙ outer)) (min_is (min plain triplet) pair)
+  blocks_reached : (s p v : ℕ) → v < 255 → v ≡ with_blocks f w have limit s p → Taken f w have limit s p v
+  blocks_reached s p v low e =
+      let plain : ℕ = capped (f s p + cost have limit w) in
+      let triplet : ℕ = capped (with_set f s p + cost have limit (w + 3)) in
+      let pair : ℕ = capped (with_pair f s p + cost have limit (w + 2)) in
+      ⊎_elim (λ outer. ⊎_elim (λ inner. taken 0 0 w s p s p v (omega arith) (omega arith) (omega arith) low (e ∙ outer ∙ inner))
+      (λ inner. triplet_reached s p v low (e ∙ outer ∙ inner)) (min_is plain triplet))
+      (λ outer. pair_reached s p v low (e ∙ outer)) (min_is (min plain triplet) pair)
 
 -- ---- three equal runs are three triplets: the same sets, the same tiles
 
@@ -262,27 +269,3 @@ module _ (runs : Bool) (counts caps : List ℕ) (a b have limit : ℕ) (g : ℕ 
     least = λ xs fits es ep. (let bound = step_least s p ls lp xs fits es ep in omega (arith, bound, e));
     reached = λ low. step_reached s p v ls lp e low;
   }
-
--- after the last rank
-pub end_least : (runs : Bool) (a b s p v : ℕ) → ((a ≡ 0) × (b ≡ 0) × (s ≡ 0) × (p ≡ 0) → v ≡ 0) → (v < 255 → (a ≡ 0) × (b ≡ 0) × (s ≡ 0) × (p ≡ 0) × (v ≡ 0)) → LeastFrom runs [] [] a b s p v
-end_least runs a b s p v zero_there only_there = record {
-  least = end_bound;
-  reached = λ low. (let z = only_there low in record { columns = []; fits = (z.0, z.1); has_sets = sym z.2; has_pairs = sym z.3; lacks = sym z.4 });
-}
-  where
-    end_bound : (xs : List Column) → Fits runs [] a b xs → sets_in xs ≡ s → pairs_in xs ≡ p → v ≤ lack_from [] a b xs
-    end_bound [] fits es ep = let z = zero_there (fits.0, fits.1, sym es, sym ep) in omega arith
-    end_bound (x ∷ xs) fits es ep = absurd fits
-
-pub nothing_least : (runs : Bool) (f : ℕ → ℕ → ℕ) → Agree f nothing → AreLeast runs [] [] 0 0 f
-nothing_least runs f has = record { at = λ s p hs hp. end_least runs 0 0 s p (f s p) (λ all. there s p hs hp all.2 all.3) (λ low. found s p hs hp low) }
-  where
-    there : (s p : ℕ) → s < 5 → p < 2 → s ≡ 0 → p ≡ 0 → f s p ≡ 0
-    there zero zero hs hp es ep = has 0 0 hs hp
-    there zero (suc p) hs hp es ep = absurd (omega arith)
-    there (suc s) p hs hp es ep = absurd (omega arith)
-
-    found : (s p : ℕ) → s < 5 → p < 2 → f s p < 255 → (◌≡◌ {A = ℕ} 0 0) × (◌≡◌ {A = ℕ} 0 0) × (s ≡ 0) × (p ≡ 0) × (f s p ≡ 0)
-    found zero zero hs hp low = (refl, refl, refl, refl, has 0 0 hs hp)
-    found zero (suc p) hs hp low = absurd (omega (arith, has 0 (suc p) hs hp))
-    found (suc s) p hs hp low = absurd (omega (arith, has (suc s) p hs hp))

@@ -11,7 +11,7 @@ use Rattle.riichi_tiles.specs.declared.block.Block.{Block}
 use Rattle.riichi_rows.specs.Suit.{is_set, is_pair, IsInSuit}
 use Rattle.riichi_tiles.specs.declared.block.Block.TheVariants.{Run, Triplet, Pair}
 use Rattle.riichi_shape.proofs.Counted.{IsOfKinds}
-use Rattle.riichi_rows.proofs.Blocks.{no_block, sum_by-none, sum_by-same, tiles_of, tiles_is_sum, set_of, has_pair}
+use Rattle.riichi_rows.proofs.Blocks.{no_block, sum_by-none, sum_by-same, sum_by-same_of, tiles_of, tiles_is_sum, set_of, has_pair}
 
 -- the lowest kind of a block
 abbrev start : Block → ℕ
@@ -80,11 +80,6 @@ unfolding part
 sum_by-part f base [] = refl
 sum_by-part f base (b ∷ bs) =
     sum_by-cond f (kept base b) (lower base b) (part base bs) ∙ ap (λ n. cond (kept base b) (f (lower base b)) 0 + n) (sum_by-part f base bs) ∙ sym (sum_by-cons (λ b. cond (kept base b) (f (lower base b)) 0) b bs)
-
-sum_by-same_of : (P : Block → Type 0) (f g : Block → ℕ) → ((b : Block) → P b → f b ≡ g b) → (bs : List Block) → All P bs → sum_by f bs ≡ sum_by g bs
-sum_by-same_of P f g same [] all = refl
-sum_by-same_of P f g same (b ∷ bs) all =
-    omega (arith, sum_by-cons f b bs, sum_by-cons g b bs, same b (All-head P b bs all), sum_by-same_of P f g same bs (All-tail P b bs all))
 
 pub tiles_part : (base r : ℕ) (bs : List Block) → IsBase base → r < 9 → All IsOfKinds bs → total (part base bs) r ≡ total bs (base + r)
 tiles_part base r bs is_base h all =

@@ -2,7 +2,7 @@
 use Rattle.std.proofs.Common.{◌≡◌, ℕ, ◌<◌, Bool, true, false, cond, inl, inr, List, [], ◌∷◌, map, sym, ap, ◌∙◌, ⊎_elim, subst, arith}
 use Rattle.std.proofs.lemmas.Bool.{and_parts, and_from, ltb-true, lt-ltb, leb-true, le-leb}
 use Rattle.std.specs.List.{filter}
-use Rattle.std.specs.Prelude.{nat_le, slice_index}
+use Rattle.std.specs.Prelude.{nat_le, slice_index, ◌↔◌}
 use Rattle.riichi_tiles.specs.Tiles.{has_tile}
 use Rattle.riichi_hand.specs.Hand.{is_thirteen}
 use Rattle.riichi_hand.specs.HandParts.{ShapeParts}
@@ -19,35 +19,30 @@ use Rattle.riichi_tiles.proofs.Members.{Contains-in, IsIn, in-Contains, all-from
 
 -- ---- the order changes nothing of what stands in the list
 
-among_put : (x discard next : Discard) (rest others : List Discard) (t : Bool) → (IsIn x (discard ∷ rest) → IsIn x others) → IsIn x (discard ∷ next ∷ rest)
-    → IsIn x (cond t (discard ∷ next ∷ rest) (next ∷ others))
-among_put x discard next rest others true later h = h
-among_put x discard next rest others false later h = ⊎_elim (λ here. inr (later (inl here))) (λ more. ⊎_elim (λ e. inl e) (λ r. inr (later (inr r))) more) h
+put_same : (x discard next : Discard) (rest others : List Discard) (t : Bool) → IsIn x others ↔ IsIn x (discard ∷ rest)
+    → IsIn x (cond t (discard ∷ next ∷ rest) (next ∷ others)) ↔ IsIn x (discard ∷ next ∷ rest)
+put_same x discard next rest others true same = (λ h. h, λ h. h)
+put_same x discard next rest others false same = (
+  λ h. ⊎_elim (λ e. inr (inl e)) (λ more. ⊎_elim (λ here. inl here) (λ r. inr (inr r)) (same.0 more)) h,
+  λ h. ⊎_elim (λ here. inr (same.1 (inl here))) (λ more. ⊎_elim (λ e. inl e) (λ r. inr (same.1 (inr r))) more) h,
+)
 
-from_put : (x discard next : Discard) (rest others : List Discard) (t : Bool) → (IsIn x others → IsIn x (discard ∷ rest)) → IsIn x (cond t (discard ∷ next ∷ rest) (next ∷ others))
-    → IsIn x (discard ∷ next ∷ rest)
-from_put x discard next rest others true earlier h = h
-from_put x discard next rest others false earlier h = ⊎_elim (λ e. inr (inl e)) (λ more. ⊎_elim (λ here. inl here) (λ r. inr (inr r)) (earlier more)) h
-
-among_inserted : (x discard : Discard) (rest : List Discard) → IsIn x (discard ∷ rest) → IsIn x (inserted discard rest)
+inserted_same : (x discard : Discard) (rest : List Discard) → IsIn x (inserted discard rest) ↔ IsIn x (discard ∷ rest)
 unfolding inserted_by
-among_inserted x discard [] h = h
-among_inserted x discard (next ∷ rest) h = among_put x discard next rest (inserted discard rest) (nat_le (live_with next) (live_with discard)) (λ r. among_inserted x discard rest r) h
+inserted_same x discard [] = (λ h. h, λ h. h)
+inserted_same x discard (next ∷ rest) =
+    put_same x discard next rest (inserted discard rest)
+    (nat_le (live_with next) (live_with discard)) (inserted_same x discard rest)
 
-from_inserted : (x discard : Discard) (rest : List Discard) → IsIn x (inserted discard rest) → IsIn x (discard ∷ rest)
-unfolding inserted_by
-from_inserted x discard [] h = h
-from_inserted x discard (next ∷ rest) h = from_put x discard next rest (inserted discard rest) (nat_le (live_with next) (live_with discard)) (λ r. from_inserted x discard rest r) h
-
-among_in_order : (x : Discard) (xs : List Discard) → IsIn x xs → IsIn x (in_order xs)
+order_same : (x : Discard) (xs : List Discard) → IsIn x (in_order xs) ↔ IsIn x xs
 unfolding in_order
-among_in_order x [] h = h
-among_in_order x (discard ∷ rest) h = among_inserted x discard (in_order rest) (⊎_elim (λ here. inl here) (λ later. inr (among_in_order x rest later)) h)
-
-from_in_order : (x : Discard) (xs : List Discard) → IsIn x (in_order xs) → IsIn x xs
-unfolding in_order
-from_in_order x [] h = h
-from_in_order x (discard ∷ rest) h = ⊎_elim (λ here. inl here) (λ later. inr (from_in_order x rest later)) (from_inserted x discard (in_order rest) h)
+order_same x [] = (λ h. h, λ h. h)
+order_same x (discard ∷ rest) =
+    let put = inserted_same x discard (in_order rest) in
+    let later = order_same x rest in (
+      λ h. ⊎_elim (λ here. inl here) (λ r. inr (later.0 r)) (put.0 h),
+      λ h. put.1 (⊎_elim (λ here. inl here) (λ r. inr (later.1 r)) h),
+    )
 
 -- ---- the test of a kind
 
@@ -55,7 +50,7 @@ module _ (hand : List ℕ) (melds : List Meld) where
   abbrev leaves_no_more : ℕ → ℕ → Bool
   leaves_no_more kind other = nat_le (distance_without hand melds kind) (distance_without hand melds other)
 
-  leaves_least : (kind : ℕ) → kind < 34 → is_discard hand melds kind ≡ true → LeavesLeast hand melds kind
+  pub leaves_least : (kind : ℕ) → kind < 34 → is_discard hand melds kind ≡ true → LeavesLeast hand melds kind
   leaves_least kind low is =
       let tests = and_parts (has_tile hand kind) (is_best hand melds kind) is in record {
         is_kind = low;
@@ -65,7 +60,7 @@ module _ (hand : List ℕ) (melds : List Meld) where
             (all-in (leaves_no_more kind) (filter (has_tile hand) every_kind) tests.1 other (in-filter (has_tile hand) other every_kind (in-range 34 0 other (omega arith) (omega (arith, small))) (lt-ltb 0 (slice_index hand other) held)));
       }
 
-  is_chosen : (kind : ℕ) → LeavesLeast hand melds kind → is_discard hand melds kind ≡ true
+  pub is_chosen : (kind : ℕ) → LeavesLeast hand melds kind → is_discard hand melds kind ≡ true
   is_chosen kind least =
       and_from (has_tile hand kind) (is_best hand melds kind) (lt-ltb 0 (slice_index hand kind) least.held)
       (all-from (leaves_no_more kind) (filter (has_tile hand) every_kind) (λ other h.
@@ -94,8 +89,8 @@ module _ (hand : List ℕ) (melds : List Meld) where
 pub discards_are : DiscardsLaw
 unfolding discards_of
 discards_are hand melds seen discard = (
-  λ there. is_such hand melds seen discard (from_in_order discard (chosen hand melds seen) (in-Contains discard (in_order (chosen hand melds seen)) there)),
-  λ is. Contains-in discard (in_order (chosen hand melds seen)) (among_in_order discard (chosen hand melds seen) (stands hand melds seen discard is.0 is.1)),
+  λ there. is_such hand melds seen discard ((order_same discard (chosen hand melds seen)).0 (in-Contains discard (in_order (chosen hand melds seen)) there)),
+  λ is. Contains-in discard (in_order (chosen hand melds seen)) ((order_same discard (chosen hand melds seen)).1 (stands hand melds seen discard is.0 is.1)),
 )
 
 -- ---- on an answer

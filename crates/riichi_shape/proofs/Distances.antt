@@ -21,6 +21,19 @@ each_below f a (suc n) k low high = ⊎_elim (λ later. omega (arith, each_below
     same : k ≤ a → k ≡ a
     same here = omega arith
 
+-- a sum that is not 0 has a term
+pub record SomePlace (d : ℕ → ℕ) (a n : ℕ) : Type 0 where
+  pub place : ℕ
+  pub high : place < a + n
+  pub some : 0 < d place
+
+pub some_place : (d : ℕ → ℕ) (a n : ℕ) → 0 < spread d a n → SomePlace d a n
+unfolding spread
+some_place d a zero some = absurd (omega arith)
+some_place d a (suc n) some =
+    ⊎_elim (λ here. record { place = a; high = omega arith; some = here })
+    (λ none. (let p = some_place d (a + 1) n (omega (arith, some, none)) in record { place = p.place; high = omega (arith, p.high); some = p.some })) (cases_lt 0 (d a))
+
 -- ---- without melds
 
 pub no_tiles : (melds : List Meld) → length melds ≡ 0 → (kind : ℕ) → kind < 34 → tiles melds kind ≡ 0

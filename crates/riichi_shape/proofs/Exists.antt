@@ -1,5 +1,5 @@
 -- A winning multiset always exists: kinds of which the melds hold at most one give triplets and the pair.
-use Rattle.std.proofs.Common.{◌≡◌, Bool, true, false, cond, eqb, length, refl, ℕ, zero, suc, ◌+◌, ◌-◌, ◌*◌, ◌<◌, ◌≤◌, ◌⊎◌, inl, inr, List, [], ◌∷◌, sym, ap, ◌∙◌, ⊎_elim, arith}
+use Rattle.std.proofs.Common.{◌≡◌, Bool, true, false, cond, eqb, leb, length, refl, ℕ, zero, suc, ◌+◌, ◌-◌, ◌*◌, ◌<◌, ◌≤◌, ◌⊎◌, inl, inr, List, [], ◌∷◌, sym, ap, ◌∙◌, ⊎_elim, arith}
 use Rattle.std.proofs.lemmas.Bool.{cases_lt}
 use Rattle.std.proofs.lemmas.Bool.Decides.{nat_tests}
 use Rattle.std.proofs.lemmas.List.Elements.{All-nil, All-cons}
@@ -74,17 +74,11 @@ with_block m h a n t p t' p' b more_sets more_pairs kind here elsewhere fits res
     at_place : (k : ℕ) → k ≡ a → sum_by (tiles_of k) (b ∷ rest.blocks) + m k ≤ 4
     at_place k e = omega (arith, ap (λ k. sum_by (tiles_of k) (b ∷ rest.blocks)) e, ap m e, sum_by-cons (tiles_of a) b rest.blocks, rest.none_before a (omega arith), fits)
 
-triplet_here : (a : ℕ) → tiles_of a (Triplet a) ≡ 3
-triplet_here a = grind (arith, nat_tests)
+triplet_alone : (a : ℕ) → (tiles_of a (Triplet a) ≡ 3) × ((k : ℕ) → (k < a) ⊎ (a < k) → tiles_of k (Triplet a) ≡ 0)
+triplet_alone a = (grind (arith, nat_tests), λ k h. grind (arith, nat_tests))
 
-triplet_elsewhere : (a k : ℕ) → (k < a) ⊎ (a < k) → tiles_of k (Triplet a) ≡ 0
-triplet_elsewhere a k h = grind (arith, nat_tests)
-
-pair_here : (a : ℕ) → tiles_of a (Pair a) ≡ 2
-pair_here a = grind (arith, nat_tests)
-
-pair_elsewhere : (a k : ℕ) → (k < a) ⊎ (a < k) → tiles_of k (Pair a) ≡ 0
-pair_elsewhere a k h = grind (arith, nat_tests)
+pair_alone : (a : ℕ) → (tiles_of a (Pair a) ≡ 2) × ((k : ℕ) → (k < a) ⊎ (a < k) → tiles_of k (Pair a) ≡ 0)
+pair_alone a = (grind (arith, nat_tests), λ k h. grind (arith, nat_tests))
 
 free_blocks : (m h : ℕ → ℕ) (a n t p : ℕ) → ((k : ℕ) → k < a + n → m k ≤ 4) → a + n ≤ 34 → spread m a n + 2 * (t + p) ≤ 2 * n → Free m h a n t p
 unfolding spread
@@ -92,10 +86,12 @@ free_blocks m h a n zero zero few inside room = no_blocks m h a n few
 free_blocks m h a zero (suc t) p few inside room = absurd (omega arith)
 free_blocks m h a zero zero (suc p) few inside room = absurd (omega arith)
 free_blocks m h a (suc n) (suc t) p few inside room =
-    ⊎_elim (λ low. with_block m h a n t p (suc t) p (Triplet a) (omega arith) (omega arith) (omega arith) (triplet_here a) (triplet_elsewhere a) (omega (arith, triplet_here a)) (free_blocks m h (a + 1) n t p (λ k l. few k (omega arith)) (omega arith) (omega arith)))
+    ⊎_elim (λ low. with_block m h a n t p (suc t) p (Triplet a) (omega arith) (omega arith) (omega arith) (triplet_alone a).0 (triplet_alone a).1 (omega (arith, (triplet_alone a).0))
+    (free_blocks m h (a + 1) n t p (λ k l. few k (omega arith)) (omega arith) (omega arith)))
     (λ high. skip m h a n (suc t) p (few a (omega arith)) (free_blocks m h (a + 1) n (suc t) p (λ k l. few k (omega arith)) (omega arith) (omega arith))) (cases_lt (m a) 2)
 free_blocks m h a (suc n) zero (suc p) few inside room =
-    ⊎_elim (λ low. with_block m h a n zero p zero (suc p) (Pair a) (omega arith) (omega arith) (omega arith) (pair_here a) (pair_elsewhere a) (omega (arith, pair_here a)) (free_blocks m h (a + 1) n zero p (λ k l. few k (omega arith)) (omega arith) (omega arith)))
+    ⊎_elim (λ low. with_block m h a n zero p zero (suc p) (Pair a) (omega arith) (omega arith) (omega arith) (pair_alone a).0 (pair_alone a).1 (omega (arith, (pair_alone a).0))
+    (free_blocks m h (a + 1) n zero p (λ k l. few k (omega arith)) (omega arith) (omega arith)))
     (λ high. skip m h a n zero (suc p) (few a (omega arith)) (free_blocks m h (a + 1) n zero (suc p) (λ k l. few k (omega arith)) (omega arith) (omega arith))) (cases_lt (m a) 2)
 
 pub record StandardExists (hand : List ℕ) (melds : List Meld) (sets : ℕ) : Type 0 where
@@ -110,26 +106,20 @@ pub record StandardExists (hand : List ℕ) (melds : List Meld) (sets : ℕ) : T
 abbrev point : ℕ → ℕ → ℕ → ℕ
 point held c k = cond (eqb held k) c 0
 
-point_past : (held c a n : ℕ) → held < a → spread (point held c) a n ≡ 0
-point_past held c a n past = spread_none (point held c) a n (λ k low high. none k (omega arith))
-  where
-    none : (k : ℕ) → held < k → point held c k ≡ 0
-    none k h = grind (arith, nat_tests)
+point_step : (held c a rest : ℕ) → rest ≤ cond (leb (a + 1) held) c 0 → point held c a + rest ≤ cond (leb a held) c 0
+point_step held c a rest h = grind (arith, nat_tests)
 
-point_at : (held c a : ℕ) (t : Bool) → eqb held a ≡ t → point held c a ≡ cond t c 0
-point_at held c a t e = ap (λ b. cond b c 0) e
-
-point_step : (held c a n : ℕ) (t : Bool) → eqb held a ≡ t → spread (point held c) (a + 1) n ≤ c → point held c a + spread (point held c) (a + 1) n ≤ c
-point_step held c a n true e rest = omega (arith, point_past held c (a + 1) n (same held a e), point_at held c a true e)
-  where
-    same : (held a : ℕ) → eqb held a ≡ true → held < a + 1
-    same held a e = grind (arith, nat_tests)
-point_step held c a n false e rest = omega (arith, rest, point_at held c a false e)
+point_within : (held c a n : ℕ) → spread (point held c) a n ≤ cond (leb a held) c 0
+unfolding spread
+point_within held c a zero = omega arith
+point_within held c a (suc n) = point_step held c a (spread (point held c) (a + 1) n) (point_within held c (a + 1) n)
 
 point_few : (held c a n : ℕ) → spread (point held c) a n ≤ c
-unfolding spread
-point_few held c a zero = omega arith
-point_few held c a (suc n) = point_step held c a n (eqb held a) refl (point_few held c (a + 1) n)
+point_few held c a n = within (leb a held) (point_within held c a n)
+  where
+    within : {m : ℕ} (t : Bool) → m ≤ cond t c 0 → m ≤ c
+    within true h = h
+    within false h = omega arith
 
 meld_few : (m : Meld) (a n : ℕ) → spread (tiles_of_meld m) a n ≤ 4
 meld_few (Chi low) a n =

@@ -13,7 +13,7 @@ use Rattle.riichi_shape.proofs.Distances.{standard_few, whole_distance}
 use Rattle.riichi_shape.proofs.Uniqueness.{distance_is}
 
 -- the nearer of both
-special_distance : (hand : List ℕ) (melds : List Meld) (forms : SpecialForms) (q : ℕ) → q ≡ min forms.pairs.lack forms.orphans.lack → AreSpecialForms hand melds forms → IsSpecialDistance hand melds q
+pub special_distance : (hand : List ℕ) (melds : List Meld) (forms : SpecialForms) (q : ℕ) → q ≡ min forms.pairs.lack forms.orphans.lack → AreSpecialForms hand melds forms → IsSpecialDistance hand melds q
 special_distance hand melds forms q e are = record {
   none_less = record {
     bound = λ wanted form.

@@ -1,9 +1,9 @@
 -- The join of four suit rows is the least lack over the winning multisets by sets and a pair.
-use Rattle.std.proofs.Common.{◌≡◌, ◌≢◌, ℕ, ◌+◌, ◌-◌, ◌<◌, ◌≤◌, Bool, IsTrue, ◌⊎◌, inl, inr, List, [], ◌∷◌, ◌++◌, refl, sym, ap, ◌∙◌, ⊎_elim, subst, Option, Some, None, arith}
+use Rattle.std.proofs.Common.{◌≡◌, ◌≢◌, ℕ, ◌+◌, ◌-◌, ◌<◌, ◌≤◌, Bool, IsTrue, ◌⊎◌, inl, inr, List, ◌++◌, refl, sym, ap, ◌∙◌, ⊎_elim, subst, Option, Some, None, arith}
 use Rattle.std.proofs.lemmas.Bool.{cases_lt}
 use Rattle.std.proofs.lemmas.Bool.Decides.{nat_tests}
-use Rattle.std.proofs.lemmas.List.Elements.{All-head, All-tail, All-append}
-use Rattle.std.proofs.lemmas.List.Sums.{sum_by-append, sum_by-cons}
+use Rattle.std.proofs.lemmas.List.Elements.{All-append}
+use Rattle.std.proofs.lemmas.List.Sums.{sum_by-append}
 use Rattle.std.specs.Prelude.{All, slice_index, count_by, sum_by, ◌↔◌}
 use Rattle.riichi_shape.specs.Lacked.{EntryLacks, StandardLacks}
 use Rattle.riichi_rows.specs.Join.{EntriesSum, IsLeastJoin}
@@ -23,23 +23,19 @@ use Rattle.riichi_shape.specs.Suits.{IsSuitOf}
 use Rattle.riichi_tiles.specs.Forms.{IsSetsAndPair}
 use Rattle.riichi_shape.specs.Winning.{WithinFour, lacking}
 use Rattle.riichi_shape.proofs.Counted.{AreCounted, IsOfKinds, counted, uncounted}
-use Rattle.riichi_rows.proofs.Blocks.{tiles_of, tiles_is_sum, set_of, has_pair}
+use Rattle.riichi_rows.proofs.Blocks.{has_pair, no_block, set_of, sum_by-none, sum_by-same_of, tiles_is_sum, tiles_of}
 use Rattle.riichi_rows.proofs.Spread.{same_spread, spread, sum_range, spread_add, at_same_number, spread_shift, spread_none, table, table_at}
 use Rattle.riichi_shape.proofs.BySuit.{part, IsBase, tiles_part, sets_by_suit, pairs_by_suit, part_in_suit, raised, tiles_within, tiles_outside, sets_raised, pairs_raised, raised_kinds, raised_honours}
 
 -- ---- a suit of a hand
 
 pub tiles_beyond : (k : ℕ) (bs : List Block) → 34 ≤ k → All IsOfKinds bs → total bs k ≡ 0
-tiles_beyond k bs h all = tiles_is_sum k bs ∙ none bs all
+tiles_beyond k bs h all = tiles_is_sum k bs ∙ sum_by-same_of IsOfKinds (tiles_of k) no_block block bs all ∙ sum_by-none bs
   where
     block : (b : Block) → IsOfKinds b → tiles_of k b ≡ 0
     block (Run q) kind = grind (arith, nat_tests)
     block (Triplet q) kind = grind (arith, nat_tests)
     block (Pair q) kind = grind (arith, nat_tests)
-
-    none : (bs : List Block) → All IsOfKinds bs → sum_by (tiles_of k) bs ≡ 0
-    none [] all = refl
-    none (b ∷ bs) all = omega (arith, sum_by-cons (tiles_of k) b bs, block b (All-head IsOfKinds b bs all), none bs (All-tail IsOfKinds b bs all))
 
 -- what is so of the kinds of any suit
 record HasKinds (suit : Suit) : Type 0 where

@@ -8,8 +8,7 @@ use Rattle.riichi_rows.specs.Marks.{MarkedBeside, has_rank, is_marked}
 use Rattle.riichi_rows.specs.Row.{AreJoinedBeside, suit_entries}
 use Rattle.riichi_rows.specs.declared.joined.JoinedRows.{JoinedRows}
 use Rattle.riichi_rows.specs.declared.row.SuitRow.{SuitRow}
-use Rattle.riichi_rows.proofs.Joins.{entry_is}
-use Rattle.riichi_rows.proofs.OneChanged.{entries_with, others_bound}
+use Rattle.riichi_rows.proofs.Joins.{entry_is, entries_with, others_bound}
 use Rattle.riichi_tiles.specs.Kinds.{has_runs, rank_of, suit_of}
 use Rattle.riichi_tiles.specs.Suits.{first_far, last_far, of_suit, partner}
 use Rattle.riichi_tiles.specs.declared.by_suit.BySuit.{BySuit}

@@ -1,5 +1,5 @@
 -- What a discard leaves: of a hand that is not complete some tile can go without loss, and of a complete one each leaves one lacking.
-use Rattle.std.proofs.Common.{◌≡◌, ℕ, zero, suc, ◌+◌, ◌-◌, ◌<◌, ◌≤◌, List, length, length-set, max, inl, inr, ◌⊎◌, refl, sym, ap, subst, ◌∙◌, ⊎_elim, arith}
+use Rattle.std.proofs.Common.{◌≡◌, ℕ, ◌-◌, ◌<◌, ◌≤◌, List, length, length-set, max, inl, inr, ◌⊎◌, refl, sym, ap, subst, ◌∙◌, ⊎_elim, arith}
 use Rattle.std.proofs.lemmas.Bool.{cases_lt}
 use Rattle.std.proofs.lemmas.List.Sums.{sum_by-set}
 use Rattle.std.specs.Prelude.{slice_index}
@@ -13,25 +13,12 @@ use Rattle.riichi_shape.specs.Discards.{distance_without}
 use Rattle.riichi_shape.specs.Distance.{IsDistance}
 use Rattle.riichi_shape.specs.EveryWinning.{distance_of}
 use Rattle.riichi_shape.specs.Winning.{lacking}
+use Rattle.riichi_shape.proofs.Distances.{some_place}
 use Rattle.riichi_shape.proofs.Nearer.{distance_reached}
-use Rattle.riichi_shape.proofs.OneMore.{hand_falls}
-use Rattle.riichi_shape.proofs.OneTile.{one_less}
+use Rattle.riichi_shape.proofs.OneMore.{hand_falls, one_less}
 use Rattle.riichi_shape.proofs.PairLemmas.{sum_spread}
 use Rattle.riichi_shape.proofs.ReadyLemmas.{balance, ready_is, tiles_of_winning}
 use Rattle.riichi_shape.proofs.RemovalLemmas.{IsLeastLeft}
-
--- a sum that is not 0 has a term
-record SomePlace (d : ℕ → ℕ) (a n : ℕ) : Type 0 where
-  pub place : ℕ
-  pub high : place < a + n
-  pub some : 0 < d place
-
-some_place : (d : ℕ → ℕ) (a n : ℕ) → 0 < spread d a n → SomePlace d a n
-unfolding spread
-some_place d a zero some = absurd (omega arith)
-some_place d a (suc n) some =
-    ⊎_elim (λ here. record { place = a; high = omega arith; some = here })
-    (λ none. (let p = some_place d (a + 1) n (omega (arith, some, none)) in record { place = p.place; high = omega (arith, p.high); some = p.some })) (cases_lt 0 (d a))
 
 module _ (hand : List ℕ) (melds : List Meld) (long : length hand ≡ 34) (fourteen : size hand melds ≡ 14) (of_a_kind : (kind : ℕ) → kind < 34 → tiles melds kind ≤ 4) where
   few : length melds ≤ 4

@@ -9,15 +9,12 @@ pub mod FormLemmas
 pub mod FourSuits
 pub mod KeptJoins
 pub mod KeptLemmas
-pub mod KeptRows
 pub mod KindLemmas
 pub mod LackedRows
 pub mod LeastLeft
 pub mod LiveLemmas
-pub mod Members
 pub mod Nearer
 pub mod OneMore
-pub mod OneTile
 pub mod OrderLemmas
 pub mod OrphanLemmas
 pub mod OrphansLacked

@@ -16,10 +16,7 @@ use Rattle.riichi_tiles.specs.Kinds.{is_orphan}
 use Rattle.riichi_shape.specs.Winning.{lacking}
 use Rattle.riichi_rows.proofs.Spread.{spread, sum_range, spread_shift, table, table_at, at_same_number, spread_with}
 use Rattle.riichi_tiles.proofs.Members.{IsIn, in-filter, in-filter-inv, in-range, in-range-inv}
-use Rattle.riichi_shape.proofs.PairLemmas.{total_of, sum_is_total}
-
-abbrev pub missing_one : ℕ → ℕ
-missing_one h = cond (eqb h 0) 1 0
+use Rattle.riichi_shape.proofs.PairLemmas.{nil as missing_one, sum_is_total, total_of, two}
 
 -- what a second tile costs
 abbrev pub extra : ℕ → ℕ
@@ -29,10 +26,6 @@ orphan_lack : (t k h : ℕ) (here : Bool) → (eqb k t ≡ true → here ≡ tru
 orphan_lack t k h here same = grind (arith, nat_tests)
 
 -- ---- the kind held twice
-
--- counts a kind held twice
-abbrev two : ℕ → ℕ
-two h = cond (leb 2 h) 1 0
 
 extra_is : (h : ℕ) → extra h + two h ≡ 1
 extra_is h = grind (arith, nat_tests)

@@ -13,8 +13,8 @@ use Rattle.riichi_shape.specs.Special.{AreNearestOrphans, AreNoMelds, lacks_held
 use Rattle.riichi_shape.specs.Winning.{lacking}
 use Rattle.riichi_shape.specs.declared.nearest_form.NearestForm.{NearestForm}
 use Rattle.riichi_tiles.proofs.EverySet.{few-orphans}
-use Rattle.riichi_shape.proofs.OrphanLemmas.{lack_is, orphans_at, orphans_wanted, missing_one, extra, bound_doubled, reached_doubled, bound_single, reached_single, orphan_doubled, orphan_single, missing_count}
-use Rattle.riichi_shape.proofs.PairLemmas.{total_of}
+use Rattle.riichi_shape.proofs.OrphanLemmas.{lack_is, orphans_at, orphans_wanted, extra, bound_doubled, reached_doubled, bound_single, reached_single, orphan_doubled, orphan_single, missing_count}
+use Rattle.riichi_shape.proofs.PairLemmas.{nil as missing_one, total_of}
 use Rattle.riichi_shape.proofs.SpecialLemmas.{lacks_back, lacks_there}
 
 -- what a hand with h tiles of x says, where the orphans with the kind t twice have more
@@ -55,24 +55,19 @@ module _ (hand : List ℕ) (melds : List Meld) (n x : ℕ) (inside : x < 34) (no
   n_is : n ≡ missing + extra (slice_index hand reached.thirteen_orphans.doubled)
   n_is = sym reached.lacks ∙ lack_is hand reached.thirteen_orphans.doubled reached.thirteen_orphans.is_kind reached.thirteen_orphans.doubles_orphan reached.wanted reached.thirteen_orphans.at
 
-  subst_le : (a b c : ℕ) → a ≤ b → b ≡ c → a ≤ c
-  subst_le a b c h e = omega arith
-
   with_kind : (k : ℕ) → k < 34 → is_orphan k ≡ true → n ≤ missing + extra (slice_index hand k)
   with_kind k low is =
-      subst_le n (lacking hand (orphans_wanted hand k)) (missing + extra (slice_index hand k)) (bound (orphans_wanted hand k) (record { doubled = k; is_kind = low; doubles_orphan = is; at = orphans_at hand k }))
-      (lack_is hand k low is (orphans_wanted hand k) (orphans_at hand k))
+      subst (λ (lack : ℕ). n ≤ lack) (lack_is hand k low is (orphans_wanted hand k) (orphans_at hand k))
+      (bound (orphans_wanted hand k) (record { doubled = k; is_kind = low; doubles_orphan = is; at = orphans_at hand k }))
 
   there : FormLacks IsThirteenOrphans hand melds n x → IsTrue (is_orphan x) × ((slice_index hand x ≡ 0) ⊎ ((slice_index hand x ≡ 1) × ((k : ℕ) → k < 34 → IsTrue (is_orphan k) → slice_index hand k ≤ 1)))
   there w =
       let e : n ≡ missing + extra (slice_index hand w.is_form.doubled) = sym w.lacks ∙ lack_is hand w.is_form.doubled w.is_form.is_kind w.is_form.doubles_orphan w.wanted w.is_form.at in
-      let less : slice_index hand x < orphan_copies w.is_form.doubled x = subst_less (slice_index hand x) (slice_index w.wanted x) (orphan_copies w.is_form.doubled x) w.lacks_kind (w.is_form.at x inside) in
+      let less : slice_index hand x < orphan_copies w.is_form.doubled x =
+      subst (λ (copies : ℕ). slice_index hand x < copies) (w.is_form.at x inside) w.lacks_kind in
       let m = some_missing w.is_form.doubled x (slice_index hand x) (is_orphan x) less in
       (m.0, ⊎_elim (λ none. inl none) (λ one. inr (one.0, λ k low is. single k low is e (extra_one (slice_index hand w.is_form.doubled) (same one.0 one.1)))) m.1)
     where
-      subst_less : (a b c : ℕ) → a < b → b ≡ c → a < c
-      subst_less a b c h e = omega arith
-
       same : {t : ℕ} → slice_index hand x ≡ 1 → x ≡ t → slice_index hand t < 2
       same {t} one at = omega (arith, one, ap (slice_index hand) at)
 
@@ -91,8 +86,8 @@ module _ (hand : List ℕ) (melds : List Meld) (n x : ℕ) (inside : x < 34) (no
           sum_few : (w o m : ℕ) → w ≡ o → o ≤ 2 → m ≡ 0 → w + m ≤ 4
           sum_few w o m e h z = omega arith
 
-      more : (h w o : ℕ) → w ≡ o → h < o → h < w
-      more h w o e less = omega arith
+      more : {w o : ℕ} → w ≡ o → slice_index hand x < o → slice_index hand x < w
+      more e less = rw e less
 
       as_reached : slice_index hand x ≡ 0 → FormLacks IsThirteenOrphans hand melds n x
       as_reached none = record {
@@ -100,11 +95,8 @@ module _ (hand : List ℕ) (melds : List Meld) (n x : ℕ) (inside : x < 34) (no
         is_form = reached.thirteen_orphans;
         within_four = record { at = λ k low. few k reached.thirteen_orphans.doubled (slice_index reached.wanted k) low (reached.thirteen_orphans.at k low) };
         lacks = reached.lacks;
-        lacks_kind = more (slice_index hand x) (slice_index reached.wanted x) (orphan_copies reached.thirteen_orphans.doubled x) (reached.thirteen_orphans.at x inside) (zero_less (slice_index hand x) (orphan_copies reached.thirteen_orphans.doubled x) none (at_least_one reached.thirteen_orphans.doubled x lacked.0));
+        lacks_kind = more (reached.thirteen_orphans.at x inside) (rw none (at_least_one reached.thirteen_orphans.doubled x lacked.0));
       }
-        where
-          zero_less : (h o : ℕ) → h ≡ 0 → 0 < o → h < o
-          zero_less h o e less = omega arith
 
       with_x : slice_index hand x ≡ 1 → slice_index hand reached.thirteen_orphans.doubled ≤ 1 → FormLacks IsThirteenOrphans hand melds n x
       with_x one single = record {
@@ -112,8 +104,9 @@ module _ (hand : List ℕ) (melds : List Meld) (n x : ℕ) (inside : x < 34) (no
         is_form = record { doubled = x; is_kind = inside; doubles_orphan = lacked.0; at = orphans_at hand x };
         within_four = record { at = λ k low. few k x (slice_index (orphans_wanted hand x) k) low (orphans_at hand x k low) };
         lacks = lack_is hand x inside lacked.0 (orphans_wanted hand x) (orphans_at hand x)
-            ∙ sums (extra (slice_index hand x)) (extra (slice_index hand reached.thirteen_orphans.doubled)) missing (extra_one (slice_index hand x) (below (slice_index hand x) one)) (extra_one (slice_index hand reached.thirteen_orphans.doubled) (omega (arith, single))) n_is;
-        lacks_kind = more (slice_index hand x) (slice_index (orphans_wanted hand x) x) (orphan_copies x x) (orphans_at hand x x inside) (one_less (slice_index hand x) (orphan_copies x x) one (two_of x lacked.0));
+            ∙ ap (λ more. missing + more) (extra_one (slice_index hand x) (below (slice_index hand x) one)
+            ∙ sym (extra_one (slice_index hand reached.thirteen_orphans.doubled) (omega (arith, single)))) ∙ sym n_is;
+        lacks_kind = more (orphans_at hand x x inside) (one_less (slice_index hand x) (orphan_copies x x) one (two_of x lacked.0));
       }
         where
           below : (h : ℕ) → h ≡ 1 → h < 2
@@ -121,9 +114,6 @@ module _ (hand : List ℕ) (melds : List Meld) (n x : ℕ) (inside : x < 34) (no
 
           one_less : (h o : ℕ) → h ≡ 1 → o ≡ 2 → h < o
           one_less h o e e' = omega arith
-
-          sums : (a b m : ℕ) → a ≡ 1 → b ≡ 1 → n ≡ m + b → m + a ≡ n
-          sums a b m ea eb e = omega arith
 
   pub orphans_there : FormLacks IsThirteenOrphans hand melds n x → IsTrue (is_orphan x) × ((slice_index hand x ≡ 0) ⊎ ((slice_index hand x ≡ 1) × ((k : ℕ) → k < 34 → IsTrue (is_orphan k) → slice_index hand k ≤ 1)))
   orphans_there w = there w

@@ -67,51 +67,38 @@ unfolding spread
 chosen h w a zero each = record { from_twos = 0; from_ones = 0; from_none = 0; twos = omega arith; ones = omega arith; tiles = omega arith; lacks = omega arith; fresh = λ k low high none two. absurd (omega arith) }
 chosen h w a (suc n) each =
     let rest = chosen h w (a + 1) n (λ k low. each k (omega arith)) in
-    ⊎_elim (λ none. skip rest none) (λ taken. take_by rest taken (h a) refl) (each a (omega arith))
+    ⊎_elim (λ none. more rest 0 0 0 (omega arith) (omega arith) (omega (arith, none)) (omega (arith, none))
+    (λ not_held two. absurd (omega (arith, none, two))))
+    (λ taken. take_by rest taken (h a) refl) (each a (omega arith))
   where
-    skip : Chosen h w (a + 1) n → w a ≡ 0 → Chosen h w a (suc n)
-    skip rest none = record {
-      from_twos = rest.from_twos;
-      from_ones = rest.from_ones;
-      from_none = rest.from_none;
+    -- from the first kind t tiles twice, o once, z not at all
+    more : Chosen h w (a + 1) n → (t o z : ℕ) → t ≤ two (h a) → o ≤ one (h a) → w a ≡ 2 * (t + o + z) → w a - h a ≡ o + 2 * z
+        → (h a ≡ 0 → w a ≡ 2 → 0 < z) → Chosen h w a (suc n)
+    more rest t o z few_twos few_ones tiles lacks fresh = record {
+      from_twos = t + rest.from_twos;
+      from_ones = o + rest.from_ones;
+      from_none = z + rest.from_none;
       twos = omega (arith, rest.twos);
       ones = omega (arith, rest.ones);
       tiles = omega (arith, rest.tiles);
       lacks = omega (arith, rest.lacks);
-      fresh = λ k low high not_held two. ⊎_elim (λ later. rest.fresh k (omega arith) (omega arith) not_held two) (λ here. absurd (omega (arith, none, two, at_same_number w k a (omega arith)))) (cases_lt a k);
+      fresh = λ k low high not_held two.
+          ⊎_elim (λ later. (let some = rest.fresh k (omega arith) (omega arith) not_held two in omega (arith, some)))
+          (λ here. (let same : a ≡ k = omega arith in
+          let some = fresh (ap h same ∙ not_held) (ap w same ∙ two) in omega (arith, some))) (cases_lt a k);
     }
 
     take_by : Chosen h w (a + 1) n → w a ≡ 2 → (held : ℕ) → h a ≡ held → Chosen h w a (suc n)
-    take_by rest taken zero e = record {
-      from_twos = rest.from_twos;
-      from_ones = rest.from_ones;
-      from_none = suc rest.from_none;
-      twos = omega (arith, rest.twos);
-      ones = omega (arith, rest.ones);
-      tiles = omega (arith, rest.tiles);
-      lacks = omega (arith, rest.lacks);
-      fresh = λ k low high not_held two. omega arith;
-    }
-    take_by rest taken (suc zero) e = record {
-      from_twos = rest.from_twos;
-      from_ones = suc rest.from_ones;
-      from_none = rest.from_none;
-      twos = omega (arith, rest.twos);
-      ones = (let here : one (h a) ≡ 1 = grind (arith, nat_tests) in omega (arith, rest.ones, here));
-      tiles = omega (arith, rest.tiles);
-      lacks = omega (arith, rest.lacks);
-      fresh = λ k low high not_held two. ⊎_elim (λ later. rest.fresh k (omega arith) (omega arith) not_held two) (λ here. absurd (omega (arith, e, not_held, at_same_number h k a (omega arith)))) (cases_lt a k);
-    }
-    take_by rest taken (suc (suc held)) e = record {
-      from_twos = suc rest.from_twos;
-      from_ones = rest.from_ones;
-      from_none = rest.from_none;
-      twos = (let here : two (h a) ≡ 1 = grind (arith, nat_tests) in omega (arith, rest.twos, here));
-      ones = omega (arith, rest.ones);
-      tiles = omega (arith, rest.tiles);
-      lacks = omega (arith, rest.lacks);
-      fresh = λ k low high not_held two. ⊎_elim (λ later. rest.fresh k (omega arith) (omega arith) not_held two) (λ here. absurd (omega (arith, e, not_held, at_same_number h k a (omega arith)))) (cases_lt a k);
-    }
+    take_by rest taken zero e = more rest 0 0 1 (omega arith) (omega arith) (omega (arith, taken)) (omega (arith, taken, e))
+        (λ not_held two. omega arith)
+    take_by rest taken (suc zero) e =
+        let here : one (h a) ≡ 1 = grind (arith, nat_tests) in
+        more rest 0 1 0 (omega arith) (omega (arith, here)) (omega (arith, taken)) (omega (arith, taken, e))
+        (λ not_held two. absurd (omega (arith, e, not_held)))
+    take_by rest taken (suc (suc held)) e =
+        let here : two (h a) ≡ 1 = grind (arith, nat_tests) in
+        more rest 1 0 0 (omega (arith, here)) (omega arith) (omega (arith, taken)) (omega (arith, taken, e))
+        (λ not_held two. absurd (omega (arith, e, not_held)))
 
 -- ---- some seven pairs lack as much
 

@@ -1,6 +1,6 @@
 -- Thirteen tiles, and the fourteen of a winning multiset.
-use Rattle.std.proofs.Common.{◌≡◌, ◌≢◌, ℕ, zero, suc, ◌+◌, ◌-◌, ◌*◌, ◌<◌, ◌≤◌, Bool, true, false, cond, inl, inr, List, [], length, eqb, get_or-set_other, get_or-set_same, refl, sym, ap, ◌∙◌, ⊎_elim, arith}
-use Rattle.std.proofs.lemmas.Bool.{cases_lt, false≢true, eqb-true, eq-eqb}
+use Rattle.std.proofs.Common.{◌≡◌, ◌≢◌, ℕ, ◌+◌, ◌-◌, ◌*◌, ◌<◌, ◌≤◌, Bool, true, false, cond, inl, inr, List, [], length, eqb, get_or-set_other, get_or-set_same, refl, sym, ap, ◌∙◌, ⊎_elim, arith}
+use Rattle.std.proofs.lemmas.Bool.{false≢true, eqb-true, eq-eqb, ne_eqb}
 use Rattle.std.specs.List.{sum}
 use Rattle.std.specs.Prelude.{slice_index}
 use Rattle.riichi_tiles.specs.declared.block.Block.{Block}
@@ -13,6 +13,7 @@ use Rattle.riichi_shape.specs.Distance.{IsDistance}
 use Rattle.riichi_tiles.specs.Forms.{AreMadeOf, IsSetsAndPair, IsSevenPairs, IsThirteenOrphans}
 use Rattle.riichi_shape.specs.Ready.{IsReady, ReadyLaw}
 use Rattle.riichi_shape.specs.Winning.{IsWinning, lacking}
+use Rattle.riichi_shape.proofs.Distances.{SomePlace, each_below, some_place}
 use Rattle.riichi_shape.proofs.OrphanLemmas.{lack_is}
 use Rattle.riichi_shape.proofs.PairLemmas.{sum_spread, total_of}
 use Rattle.riichi_shape.proofs.Uniqueness.{SameTiles}
@@ -57,47 +58,36 @@ balance w h a n =
     greater : (w h : ℕ) → (w - h) + h ≡ (h - w) + w
     greater w h = omega arith
 
--- a sum of 0 has no term, and a sum of 1 has one
-all_none : (d : ℕ → ℕ) (a n : ℕ) → spread d a n ≡ 0 → (k : ℕ) → a ≤ k → k < a + n → d k ≡ 0
-unfolding spread
-all_none d a zero none k low high = absurd (omega arith)
-all_none d a (suc n) none k low high = ⊎_elim (λ later. all_none d (a + 1) n (omega arith) k (omega arith) (omega arith)) (λ here. omega (arith, ap d (same here))) (cases_lt a k)
-  where
-    same : k ≤ a → k ≡ a
-    same h = omega arith
-
-record OnePlace (d : ℕ → ℕ) (a n : ℕ) : Type 0 where
+-- a sum of 1 has one term
+record OnePlace (d : ℕ → ℕ) (n : ℕ) : Type 0 where
   pub place : ℕ
-  pub low : a ≤ place
-  pub high : place < a + n
+  pub high : place < n
   pub one : d place ≡ 1
-  pub others : (k : ℕ) → a ≤ k → k < a + n → k ≢ place → d k ≡ 0
+  pub others : (k : ℕ) → k < n → k ≢ place → d k ≡ 0
 
-one_first : (d : ℕ → ℕ) (a n : ℕ) → d a ≡ 1 → spread d (a + 1) n ≡ 0 → OnePlace d a (suc n)
-one_first d a n one none = record {
-  place = a;
-  low = omega arith;
-  high = omega arith;
-  one = one;
-  others = λ k low high ne. all_none d (a + 1) n none k (⊎_elim (λ h. omega (arith, h)) (λ h. absurd (ne (omega (arith, h, low)))) (cases_lt a k)) (omega arith);
-}
-
-one_later : (d : ℕ → ℕ) (a n : ℕ) → d a ≡ 0 → OnePlace d (a + 1) n → OnePlace d a (suc n)
-one_later d a n none rest = record {
-  place = rest.place;
-  low = omega (arith, rest.low);
-  high = omega (arith, rest.high);
-  one = rest.one;
-  others = λ k low high ne. ⊎_elim (λ later. rest.others k (omega (arith, later)) (omega arith) ne) (λ here. ap d (same k low here) ∙ none) (cases_lt a k);
+one_place : (d : ℕ → ℕ) (n : ℕ) → spread d 0 n ≡ 1 → OnePlace d n
+one_place d n one = record {
+  place = p.place;
+  high = omega (arith, p.high);
+  one = omega (arith, each_below d 0 n p.place (omega arith) (omega (arith, p.high)), p.some, one);
+  others = λ k low ne. ap (λ b. cond b 0 (d k)) (sym (ne_eqb k p.place ne))
+      ∙ none (each_below rest 0 n k (omega arith) (omega (arith, low)));
 }
   where
-    same : (k : ℕ) → a ≤ k → k ≤ a → k ≡ a
-    same k low high = omega arith
+    p : SomePlace d 0 n
+    p = some_place d 0 n (omega (arith, one))
 
-one_place : (d : ℕ → ℕ) (a n : ℕ) → spread d a n ≡ 1 → OnePlace d a n
-unfolding spread
-one_place d a zero one = absurd (omega arith)
-one_place d a (suc n) one = ⊎_elim (λ some. one_first d a n (omega (arith, one, some)) (omega (arith, one, some))) (λ none. one_later d a n (omega (arith, none)) (one_place d (a + 1) n (omega (arith, one, none)))) (cases_lt 0 (d a))
+    rest : ℕ → ℕ
+    rest k = cond (eqb k p.place) 0 (d k)
+
+    parted : (t : Bool) (h : ℕ) → h ≡ cond t 0 h + cond t h 0
+    parted true h = omega arith
+    parted false h = omega arith
+
+    none : {m : ℕ} → m ≤ spread rest 0 n → m ≡ 0
+    none below =
+        let whole = spread_with d rest d p.place (λ k. parted (eqb k p.place) (d k)) 0 n (omega arith) (omega (arith, p.high)) in
+        omega (arith, whole, below, p.some, one)
 
 -- ---- the same tiles win alike
 
@@ -155,18 +145,19 @@ module _ (hand : List ℕ) (melds : List Meld) (n : ℕ) (long : length hand ≡
       one_lacked : spread (λ k. slice_index is.wanted k - slice_index hand k) 0 34 ≡ 1
       one_lacked = omega (arith, sum_range (λ k. slice_index is.wanted k - slice_index hand k) 0 34, is.reached, one)
 
-      p : OnePlace (λ k. slice_index is.wanted k - slice_index hand k) 0 34
-      p = one_place (λ k. slice_index is.wanted k - slice_index hand k) 0 34 one_lacked
+      p : OnePlace (λ k. slice_index is.wanted k - slice_index hand k) 34
+      p = one_place (λ k. slice_index is.wanted k - slice_index hand k) 34 one_lacked
 
       left_at : (k : ℕ) → k < 34 → slice_index hand k - slice_index is.wanted k ≡ 0
-      left_at k low = all_none (λ k. slice_index hand k - slice_index is.wanted k) 0 34 none_left k (omega arith) (omega arith)
+      left_at k low =
+          omega (arith, each_below (λ k. slice_index hand k - slice_index is.wanted k) 0 34 k (omega arith) (omega (arith, low)), none_left)
 
       at : (k : ℕ) → k < 34 → slice_index (with_one hand p.place) k ≡ slice_index is.wanted k
       at k low = by_test (eqb k p.place) refl
         where
           by_test : (t : Bool) → eqb k p.place ≡ t → slice_index (with_one hand p.place) k ≡ slice_index is.wanted k
           by_test true e = let here = eqb-true k p.place e in ap (slice_index (with_one hand p.place)) here ∙ omega (arith, one_more_at hand p.place (omega (arith, p.high)), p.one, left_at p.place p.high) ∙ sym (ap (slice_index is.wanted) here)
-          by_test false e = omega (arith, one_more_past hand p.place k (apart k p.place e), p.others k (omega arith) (omega arith) (apart k p.place e), left_at k low)
+          by_test false e = omega (arith, one_more_past hand p.place k (apart k p.place e), p.others k low (apart k p.place e), left_at k low)
 
   completes : IsReady hand melds → n ≡ 1
   completes r = omega (arith, some_lack, is.none_less (with_one hand r.kind) r.is_winning, lacks_one)

@@ -1,17 +1,15 @@
 -- The kinds whose removal leaves the least distance.
-use Rattle.std.proofs.Common.{◌≡◌, ℕ, suc, ◌+◌, ◌-◌, ◌<◌, ◌≤◌, Bool, true, false, cond, ◌⊎◌, inl, inr, List, [], map, length, refl, sym, ap, ◌∙◌, ⊎_elim, arith}
-use Rattle.std.proofs.lemmas.Bool.{eq-eqb, eqb-true, le-leb, leb-true, lt-ltb, ltb-true, and_from, le-ltb, ne_eqb}
+use Rattle.std.proofs.Common.{◌≡◌, ℕ, suc, ◌+◌, ◌-◌, ◌<◌, ◌≤◌, true, false, cond, List, [], map, length, refl, sym, ap, ◌∙◌, arith}
+use Rattle.std.proofs.lemmas.Bool.{eq-eqb, eqb-true, le-ltb, ne_eqb}
 use Rattle.std.specs.List.{filter, range_with_len, sum}
-use Rattle.std.specs.Prelude.{slice_index, nat_le, ◌==◌, ◌&&◌}
+use Rattle.std.specs.Prelude.{slice_index, ◌==◌, ◌&&◌}
 use Rattle.std.proofs.lemmas.Bool.Decides.{same_from_decides}
-use Rattle.riichi_tiles.specs.Tiles.{has_tile}
-use Rattle.riichi_tiles.specs.Melds.{every_kind}
 use Rattle.riichi_tiles.specs.declared.meld.Meld.{Meld}
 use Rattle.riichi_rows.proofs.Spread.{same_spread, spread, spread_add}
 use Rattle.riichi_shape.specs.declared.discard.Discard.{Discard}
 use Rattle.riichi_shape.specs.Discards.{discard_of, discards_of, distance_without, in_order, inserted, is_best, is_discard}
+use Rattle.riichi_shape.proofs.Choices.{is_chosen, leaves_least}
 use Rattle.riichi_shape.proofs.PairLemmas.{sum_spread}
-use Rattle.riichi_tiles.proofs.Members.{IsIn, all-from, all-in, in-filter, in-filter-inv, in-range, in-range-inv}
 use Rattle.riichi_shape.proofs.OrderLemmas.{chosen_step}
 
 -- no removal leaves a lesser distance, and some removal leaves this one
@@ -23,25 +21,22 @@ pub record IsLeastLeft (hand : List ℕ) (melds : List Meld) (least : ℕ) : Typ
   pub reached : distance_without hand melds place ≡ least
 
 module _ (hand : List ℕ) (melds : List Meld) (least : ℕ) (is : IsLeastLeft hand melds least) (kind : ℕ) (inside : kind < 34) (held : 0 < slice_index hand kind) where
-  abbrev no_less : ℕ → Bool
-  no_less other = nat_le (distance_without hand melds kind) (distance_without hand melds other)
+  there : (distance_without hand melds kind == least) ≡ true → is_discard hand melds kind ≡ true
+  there e = is_chosen hand melds kind (record {
+    is_kind = inside;
+    held = held;
+    none_less = λ other low some. omega (arith, is.bound other low some, eqb-true (distance_without hand melds kind) least e);
+  })
 
-  there : (distance_without hand melds kind == least) ≡ true → is_best hand melds kind ≡ true
-  there e = all-from no_less (filter (has_tile hand) every_kind) each
-    where
-      each : (other : ℕ) → IsIn other (filter (has_tile hand) every_kind) → no_less other ≡ true
-      each other h =
-          let r = in-filter-inv (has_tile hand) other every_kind h in
-          let there = ltb-true 0 (slice_index hand other) r.1 in
-          le-leb (distance_without hand melds kind) (distance_without hand melds other) (omega (arith, is.bound other (in-range-inv 34 0 other r.0).1 there, eqb-true (distance_without hand melds kind) least e))
+  back : is_discard hand melds kind ≡ true → (distance_without hand melds kind == least) ≡ true
+  back chosen =
+      let bound = (leaves_least hand melds kind inside chosen).none_less is.place is.is_kind is.held in
+      eq-eqb (distance_without hand melds kind) least (omega (arith, bound, is.reached, is.bound kind inside held))
 
-  back : is_best hand melds kind ≡ true → (distance_without hand melds kind == least) ≡ true
-  back all =
-      let t = all-in no_less (filter (has_tile hand) every_kind) all is.place (in-filter (has_tile hand) is.place every_kind (in-range 34 0 is.place (omega arith) (omega (arith, is.is_kind))) (lt-ltb 0 (slice_index hand is.place) is.held)) in
-      eq-eqb (distance_without hand melds kind) least (omega (arith, leb-true (distance_without hand melds kind) (distance_without hand melds is.place) t, is.reached, is.bound kind inside held))
-
-  pub best_is : (distance_without hand melds kind == least) ≡ is_best hand melds kind
-  best_is = same_from_decides (distance_without hand melds kind == least) (is_best hand melds kind) (there, back) (λ e. e, λ e. e)
+  -- a kind is a discard just where without its tile so many are lacking
+  pub chosen_is : (distance_without hand melds kind == least) ≡ is_discard hand melds kind
+  chosen_is =
+      same_from_decides (distance_without hand melds kind == least) (is_discard hand melds kind) (there, back) (λ e. e, λ e. e)
 
 -- ---- the discards of the kinds from one on
 
@@ -97,21 +92,17 @@ module _ (hand : List ℕ) (melds : List Meld) (seen : List ℕ) (number : ℕ) 
         there = omega (arith, held, ap (slice_index hand) kind_is)
 
         chosen : is_discard hand melds (number - 1) ≡ true
-        chosen = and_from (has_tile hand (number - 1)) (is_best hand melds (number - 1)) (lt-ltb 0 (slice_index hand (number - 1)) there) (sym (best_is hand melds least is (number - 1) (omega arith) there) ∙ eq-eqb (distance_without hand melds (number - 1)) least equal)
+        chosen = sym (chosen_is hand melds least is (number - 1) (omega arith) there) ∙ eq-eqb (distance_without hand melds (number - 1)) least equal
 
     left_list : (is_discard hand melds (number - 1) ≡ false) → list ≡ discards_from hand melds seen (number - 1) (34 - (number - 1))
     left_list chosen = so_far ∙ sym (discards_at ∙ ap (λ t. cond t (inserted (discard_of hand melds seen (number - 1)) (discards_from hand melds seen number (34 - number))) (discards_from hand melds seen number (34 - number))) chosen)
 
-    either_false : (a b : Bool) → (a ≡ false) ⊎ (b ≡ false) → (a && b) ≡ false
-    either_false true b h = ⊎_elim (λ e. cc) (λ e. e) h
-    either_false false b h = refl
-
     pub left_unheld : slice_index hand (number - 1) ≤ 0 → list ≡ discards_from hand melds seen (number - 1) (34 - (number - 1))
-    left_unheld none = left_list (either_false (has_tile hand (number - 1)) (is_best hand melds (number - 1)) (inl (le-ltb 0 (slice_index hand (number - 1)) none)))
+    left_unheld none = left_list (ap (λ t. t && is_best hand melds (number - 1)) (le-ltb 0 (slice_index hand (number - 1)) none))
 
     pub left_worse : 0 < slice_index hand (number - 1) → (distance_without hand melds (number - 1) ≡ least → ⊥) → list ≡ discards_from hand melds seen (number - 1) (34 - (number - 1))
     left_worse held worse =
-        left_list (either_false (has_tile hand (number - 1)) (is_best hand melds (number - 1)) (inr (sym (best_is hand melds least is (number - 1) (omega arith) held) ∙ ne_eqb (distance_without hand melds (number - 1)) least worse)))
+        left_list (sym (chosen_is hand melds least is (number - 1) (omega arith) held) ∙ ne_eqb (distance_without hand melds (number - 1)) least worse)
 
   pub put_few : (size : ℕ) → size ≤ spread (slice_index hand) number (34 - number) → 0 < slice_index hand (number - 1) → size + 1 ≤ spread (slice_index hand) (number - 1) (34 - (number - 1))
   put_few size few held = omega (arith, few, held, spread_at)

@@ -2,6 +2,7 @@
 use Rattle.std.proofs.Common.{◌≡◌, ℕ, ◌<◌, Bool, true, false, cond, ◌⊎◌, inl, inr, List, length, refl, sym, ap, ◌∙◌, ⊎_elim, subst, arith}
 use Rattle.std.proofs.lemmas.Bool.{cases_lt, false≢true, or_left, or_right, and_parts, and_from, eqb-true, eq-eqb, or_cases}
 use Rattle.std.proofs.lemmas.Bool.Decides.{nat_tests}
+use Rattle.std.proofs.Math.Bool.{and-false}
 use Rattle.std.specs.Prelude.{slice_index, ◌==◌, ◌&&◌, ◌||◌, ◌↔◌, not}
 use Rattle.riichi_tiles.specs.declared.meld.Meld.{Meld}
 use Rattle.riichi_shape.specs.Distance.{IsDistance}
@@ -27,12 +28,8 @@ lacks_back held lacked h =
     ⊎_elim (λ none. or_left (held == 0 && lacked.missing) (held == 1 && lacked.single) (and_from (held == 0) lacked.missing (eq-eqb held 0 none.0) none.1))
     (λ one. or_right (held == 0 && lacked.missing) (held == 1 && lacked.single) (and_from (held == 1) lacked.single (eq-eqb held 1 one.0) one.1)) h
 
-never : (b : Bool) → (b && false) ≡ false
-never true = refl
-never false = refl
-
 no_kind_held : (held : ℕ) → lacks_held no_kind held ≡ false
-no_kind_held held = rw (never (held == 0), never (held == 1)) refl
+no_kind_held held = rw (and-false (held == 0), and-false (held == 1)) refl
 
 -- a form that stands beside no meld counts only where it lacks just n tiles
 module _ (hand : List ℕ) (melds : List Meld) (n kind : ℕ) (low : n < 255) (IsForm : List ℕ → Type 0) (form : NearestForm) (lacks : LackedHeld → Bool) (none : lacks no_kind ≡ false)

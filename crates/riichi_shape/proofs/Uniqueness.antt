@@ -1,8 +1,10 @@
 -- The distance is one number: the least lack over the list of every winning multiset.
-use Rattle.std.proofs.Common.{◌≡◌, ℕ, zero, suc, ◌+◌, ◌-◌, ◌<◌, true, inl, inr, List, [], ◌∷◌, ◌++◌, map, length, refl, sym, ap, ◌∙◌, ⊎_elim, arith}
+use Rattle.std.proofs.Common.{◌≡◌, ℕ, zero, suc, ◌≤◌, inl, inr, List, [], ◌∷◌, map, length, refl, sym, ap, ⊎_elim, subst, arith, ◌+◌, ◌-◌, ◌<◌, true, ◌++◌, ◌∙◌}
+use Rattle.riichi_tiles.proofs.Members.{IsIn, in-flat_map, in-flat_map-inv, in-map, in-map-inv, All-in, in-All, all-from, all-in, get_or-in, in-cases, in-filter, in-filter-inv, in-left, in-range, in-range-inv, in-right}
+use Rattle.riichi_shape.specs.EveryWinning.{lists_of, least_with, least, counts_of, every_sets_and_pair, every_seven_pairs, every_orphans, every_special, is_within_four, every_winning, distance_of}
+use Rattle.riichi_rows.proofs.Joins.{min_is}
 use Rattle.std.proofs.lemmas.List.FromFn.{get_or-map-range_with_len, length-map-range_with_len}
-use Rattle.std.proofs.lemmas.Bool.{le-leb, leb-true}
-use Rattle.std.proofs.lemmas.Bool.Decides.{nat_tests}
+use Rattle.std.proofs.lemmas.Bool.{eq-eqb, eqb-true, le-leb, leb-true}
 use Rattle.std.specs.Prelude.{slice_index, sum_by, nat_le, ◌==◌}
 use Rattle.riichi_tiles.specs.Sets.{every_set}
 use Rattle.riichi_tiles.specs.Blocks.{IsSet, total}
@@ -12,13 +14,60 @@ use Rattle.riichi_tiles.specs.declared.block.Block.TheVariants.{Pair}
 use Rattle.riichi_tiles.specs.declared.meld.Meld.{Meld}
 use Rattle.riichi_rows.proofs.Spread.{sum_range, spread_shift}
 use Rattle.riichi_shape.specs.Distance.{IsDistance}
-use Rattle.riichi_shape.specs.EveryWinning.{lists_of, counts_of, every_sets_and_pair, every_seven_pairs, every_orphans, every_special, is_within_four, every_winning, least, distance_of}
 use Rattle.riichi_tiles.specs.Forms.{HasWinningForm, IsSetsAndPair, IsSevenPairs, IsThirteenOrphans, orphan_copies, orphan_kinds}
 use Rattle.riichi_shape.specs.Winning.{IsWinning, WithinFour, lacking}
 use Rattle.riichi_shape.proofs.OrphanLemmas.{is_listed, listed}
 use Rattle.riichi_tiles.proofs.EverySet.{every_set-inv, in-every_set}
-use Rattle.riichi_tiles.proofs.Members.{All-in, IsIn, in-All, all-from, all-in, get_or-in, in-cases, in-filter, in-filter-inv, in-flat_map, in-flat_map-inv, in-left, in-map, in-map-inv, in-range, in-range-inv, in-right}
-use Rattle.riichi_shape.proofs.Members.{among_lists, from_lists, least_is}
+
+-- ---- lists of things
+
+pub among_lists : {A : Type 0} (things : List A) (n : ℕ) (ys : List A) → length ys ≡ n → ((y : A) → IsIn y ys → IsIn y things) → IsIn ys (lists_of things n)
+unfolding lists_of
+among_lists things zero [] long each = inl refl
+among_lists things zero (y ∷ ys) long each = absurd (omega arith)
+among_lists things (suc n) [] long each = absurd (omega arith)
+among_lists things (suc n) (y ∷ ys) long each =
+    in-flat_map (λ first. map (λ rest. first ∷ rest) (lists_of things n)) y (y ∷ ys) things (each y (inl refl))
+    (in-map (λ rest. y ∷ rest) ys (lists_of things n) (among_lists things n ys (omega arith) (λ z h. each z (inr h))))
+
+-- a list of so many of the things
+pub record IsListOf {A : Type 0} (things : List A) (n : ℕ) (ys : List A) : Type 0 where
+  pub long : length ys ≡ n
+  pub each : (y : A) → IsIn y ys → IsIn y things
+
+longer : {A : Type 0} (things : List A) (n : ℕ) (first : A) (rest : List A) → IsIn first things → IsListOf things n rest → IsListOf things (suc n) (first ∷ rest)
+longer things n first rest here is = record {
+  long = ap suc is.long;
+  each = λ y h. ⊎_elim (λ e. subst (λ (v : _). IsIn v things) e here) (λ later. is.each y later) h;
+}
+
+pub from_lists : {A : Type 0} (things : List A) (n : ℕ) (ys : List A) → IsIn ys (lists_of things n) → IsListOf things n ys
+unfolding lists_of
+from_lists {A} things zero ys h = ⊎_elim (λ e. subst (λ (zs : List A). IsListOf things 0 zs) e (record { long = refl; each = λ y h. absurd h })) (λ none. absurd none) h
+from_lists {A} things (suc n) ys h =
+    let by_first = in-flat_map-inv (λ first. map (λ rest. first ∷ rest) (lists_of things n)) ys things h in
+    let by_rest = in-map-inv (λ rest. by_first.0 ∷ rest) ys (lists_of things n) by_first.2 in
+    subst (λ (zs : List A). IsListOf things (suc n) zs) by_rest.2 (longer things n by_first.0 by_rest.0 by_first.1 (from_lists things n by_rest.0 by_rest.1))
+
+-- ---- the least
+
+least_with_below : (first : ℕ) (rest : List ℕ) (m : ℕ) → IsIn m (first ∷ rest) → least_with first rest ≤ m
+unfolding least_with
+least_with_below first [] m h = ⊎_elim (λ e. omega (arith, e)) (λ none. absurd none) h
+least_with_below first (next ∷ rest) m h = ⊎_elim (λ e. omega (arith, e)) (λ later. omega (arith, least_with_below next rest m later)) h
+
+least_with_among : (first : ℕ) (rest : List ℕ) → IsIn (least_with first rest) (first ∷ rest)
+unfolding least_with
+least_with_among first [] = inl refl
+least_with_among first (next ∷ rest) =
+    ⊎_elim (λ e. inl (sym e)) (λ e. inr (subst (λ (n : ℕ). IsIn n (next ∷ rest)) (sym e) (least_with_among next rest))) (min_is first (least_with next rest))
+
+pub least_is : (xs : List ℕ) (m : ℕ) → IsIn m xs → (least xs ≤ m) × IsIn (least xs) xs
+unfolding least
+least_is [] m h = absurd h
+least_is (first ∷ rest) m h = (least_with_below first rest m h, least_with_among first rest)
+
+-- ---- multisets that are listed
 
 -- two multisets with the same tiles
 pub record SameTiles (w v : List ℕ) : Type 0 where
@@ -70,12 +119,6 @@ sets_listed sets wanted h =
 
 -- ---- seven pairs
 
-is_fourteen : (n : ℕ) → n ≡ 14 → (n == 14) ≡ true
-is_fourteen n e = grind (arith, nat_tests)
-
-fourteen_is : (n : ℕ) → (n == 14) ≡ true → n ≡ 14
-fourteen_is n e = grind (arith, nat_tests)
-
 abbrev tiles_of_all : List ℕ → ℕ
 tiles_of_all wanted = sum_by (slice_index wanted) every_kind
 
@@ -91,7 +134,7 @@ listed_pairs wanted is = record {
   listed = map (slice_index wanted) every_kind;
   among = in-filter (λ w. tiles_of_all w == 14) (map (slice_index wanted) every_kind) (lists_of (0 ∷ 2 ∷ []) 34)
       (among_lists (0 ∷ 2 ∷ []) 34 (map (slice_index wanted) every_kind) (length-map-range_with_len (slice_index wanted) 0 34) each)
-      (is_fourteen (tiles_of_all (map (slice_index wanted) every_kind)) (all_same (map (slice_index wanted) every_kind) wanted (copied wanted) ∙ is.fourteen));
+      (eq-eqb (tiles_of_all (map (slice_index wanted) every_kind)) 14 (all_same (map (slice_index wanted) every_kind) wanted (copied wanted) ∙ is.fourteen));
   same = copied wanted;
 }
   where
@@ -107,7 +150,7 @@ pairs_listed wanted h =
     let list = from_lists (0 ∷ 2 ∷ []) 34 wanted r.0 in
     record {
       two_or_none = λ kind low. ⊎_elim (λ none. inl (sym none)) (λ rest. ⊎_elim (λ two. inr (sym two)) (λ no. absurd no) rest) (list.each (slice_index wanted kind) (get_or-in wanted kind 0 (omega (arith, list.long))));
-      fourteen = fourteen_is (tiles_of_all wanted) r.1;
+      fourteen = eqb-true (tiles_of_all wanted) 14 r.1;
     }
 
 -- ---- orphans

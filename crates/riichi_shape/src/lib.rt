@@ -9,7 +9,7 @@
 //! ranks its least choices lack, so the rows of the hand alone show the kinds that bring it nearer:
 //! no row of the hand with one more tile is ever made. A tile that is discarded changes one row.
 //! `shape_with` is `shape` by the rows of a `RowSource`, which many hands share: a `RowMemo`, a
-//! `FrameMemo`, which takes no memory, or a `RowCache`.
+//! `LentMemo`, which takes no memory, or a `RowCache`.
 //!
 //! So `123456789m1134p` is ready: `shanten` is 0, and `accepted` has four live 2p and four 5p.
 #![tactic(auto)]
@@ -51,8 +51,6 @@ pub use discard_list::DiscardList;
 pub use distance::{shanten, shanten_with};
 pub use forms::{FormDistances, form_distances};
 pub use live_list::LiveList;
-pub use riichi_cache::{
-    FrameMemo, KeptRow, KeptUpper, LentMemo, Memory, RowCache, RowMemo, SuitMemo,
-};
+pub use riichi_cache::{KeptRow, KeptUpper, LentMemo, Memory, RowCache, RowMemo, SuitMemo};
 pub use riichi_rows::{FreshRows, RowSource, SuitRow, join_rows, suit_row};
 pub use shape_answer::ShapeAnswer;

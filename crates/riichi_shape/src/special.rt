@@ -99,7 +99,7 @@ impl SpecialLacked {
     pub(crate) fn is_empty(&self) -> bool
         ensures { IsTrue result ↔ ((kind held : ℕ) → special_lacks self.now kind held ≡ false) }
     {
-        self.pairs.is_empty() && self.orphans.is_empty()
+        self.pairs.is_empty() & self.orphans.is_empty()
     }
 
     /// Whether a kind is lacked of which so many are held.

@@ -2,7 +2,7 @@
 ghost use Rattle.std.specs.Prelude.{◌≤◌};
 
 use crate::facts::{holds, same};
-use riichi_cache::{FrameMemo, KeptRow, KeptUpper, LentMemo, Memory, RowCache, RowMemo, SuitMemo};
+use riichi_cache::{KeptRow, KeptUpper, LentMemo, Memory, RowCache, RowMemo, SuitMemo};
 use riichi_rows::{FreshRows, RowSource, SuitRow};
 use std::alloc::Global;
 use std::process::Abort;
@@ -69,11 +69,20 @@ fn rows_of_a_suit_memo(rt: HostRuntime) -> Result<(), Fail> {
     check_keys_that_are_alike(&rt, &mut SuitMemo::new(rt.alloc()))
 }
 
-/// Of a single place, and of a number that is no power of two.
+/// It needs no memory.
 #[test]
-fn rows_of_a_memo_in_the_frame(rt: HostRuntime) -> Result<(), Fail> {
-    check_keys_that_are_alike(&rt, &mut FrameMemo::<1>::new())?;
-    check_keys_that_are_alike(&rt, &mut FrameMemo::<6>::new())
+fn rows_of_a_suit_memo_in_the_value(rt: HostRuntime) -> Result<(), Fail> {
+    check_keys_that_are_alike(&rt, &mut SuitMemo::in_value())
+}
+
+/// Of a single place for rows, and of numbers that are no powers of two.
+#[test]
+fn rows_of_a_memo_in_few_lent_places(rt: HostRuntime) -> Result<(), Fail> {
+    let mut one = [KeptRow::of_nothing(); 1];
+    let mut six = [KeptRow::of_nothing(); 6];
+    let mut uppers = [KeptUpper::of_nothing(); 3];
+    check_keys_that_are_alike(&rt, &mut LentMemo::new(&mut one, &mut uppers))?;
+    check_keys_that_are_alike(&rt, &mut LentMemo::new(&mut six, &mut uppers))
 }
 
 /// Rows over the same upper ranks, by few places for these and by one.

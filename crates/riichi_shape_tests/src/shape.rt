@@ -6,8 +6,8 @@ use arrayvec::ArrayString;
 use riichi_hand::{LineCode, LineFault, ShapeRecord};
 use riichi_rows::join_two;
 use riichi_shape::{
-    Accepts, DiscardList, FrameMemo, Memory, RowCache, ShapeAnswer, accepted, join_rows, laws,
-    shanten, shanten_with, shape, shape_with, suit_row,
+    Accepts, DiscardList, KeptRow, KeptUpper, LentMemo, Memory, RowCache, ShapeAnswer, accepted,
+    join_rows, laws, shanten, shanten_with, shape, shape_with, suit_row,
 };
 use riichi_shape_text::{push_shape, shape_text};
 use riichi_tiles::{BySuit, Counts, Kind, Meld, Melds, Suit, read_counts};
@@ -234,7 +234,8 @@ fn thirteen_tiles(rt: HostRuntime) -> Result<(), Fail> {
     let hand = tiles("123456789m1134p")?;
     let melds = Melds::new();
     same(&rt, shanten(&hand, &melds), 0);
-    let mut memo = FrameMemo::<8>::new();
+    let (mut rows, mut uppers) = ([KeptRow::of_nothing(); 8], [KeptUpper::of_nothing(); 1]);
+    let mut memo = LentMemo::new(&mut rows, &mut uppers);
     for _ in 0..2 {
         same(&rt, shanten_with(&mut memo, &hand, &melds), 0);
     }

@@ -1,4 +1,5 @@
-use Rattle.std.proofs.Common.{subst}
+use Rattle.std.proofs.Common.{ap, ◌∙◌, subst}
+use Rattle.riichi_rows.specs.declared.open.Open.{Open}
 use Rattle.riichi_cache.specs.declared.row_key.RowKey.{RowKey}
 use Rattle.riichi_cache.proofs.Uppers.{AreUpper, told_of}
 use Rattle.riichi_cache.proofs.kept_upper.upper_at.Goals as goal
@@ -11,5 +12,6 @@ returns-in-Some-clause-upper c =
 pub returns-clause-upper : goal.returns-clause-upper
 returns-clause-upper c =
     let own = c.upper-own.ensures in
-    told_of c.upper-own.result c.args.key.now c.upper.result own.counts own.caps own.runs
-    (subst (λ (k : RowKey). AreUpper k c.upper.result) c.new-made.ensures c.upper.ensures)
+    let same = ap (λ (kept : RowKey × Open). kept.0) c.made.view_is ∙ c.new-made.ensures in
+    told_of c.upper-own.result c.args.key.now c.made.inside.upper own.counts own.caps own.runs
+    (subst (λ (k : RowKey). AreUpper k c.made.inside.upper) same c.made.invariant)

@@ -1,8 +1,7 @@
 use Rattle.std.proofs.Common.{ℕ, ◌+◌, min, ap, ◌∙◌}
 use Rattle.riichi_rows.specs.Lanes.{capped}
 use Rattle.riichi_rows.specs.Seen.{seen}
-use Rattle.riichi_rows.proofs.CostLemmas.{few_cost, own_cost, with_room}
-use Rattle.riichi_rows.proofs.RankLanes.{beyond_four}
+use Rattle.riichi_rows.proofs.RankLanes.{beyond_four, few_cost, own_cost, with_room}
 use Rattle.riichi_rows.proofs.added.or_taking.Goals as goal
 
 pub returns-then-used-gt4-clause-others : goal.returns-then-used-gt4-clause-others

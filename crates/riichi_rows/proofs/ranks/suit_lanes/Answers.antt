@@ -2,8 +2,7 @@ use Rattle.std.proofs.Common.{arith}
 use Rattle.std.specs.Int.Bits.{and_zero_l}
 use Rattle.riichi_rows.specs.Ranks.{OpenLeast}
 use Rattle.riichi_rows.specs.Seen.{open_seen}
-use Rattle.riichi_rows.proofs.MarkedRanks.{caps_from, drop_short, few_open}
-use Rattle.riichi_rows.proofs.WholeSuit.{small_lanes, whole_suit}
+use Rattle.riichi_rows.proofs.MarkedRanks.{caps_from, drop_short, few_open, small_lanes, whole_suit}
 use Rattle.riichi_rows.proofs.ranks.suit_lanes.Goals as goal
 
 pub returns : goal.returns

@@ -6,7 +6,7 @@ use Rattle.riichi_tiles.specs.declared.suit.Suit.{Suit}
 use Rattle.riichi_tiles.proofs.Suits.{of_suit-with_other}
 use Rattle.riichi_rows.specs.declared.row.SuitRow.{SuitRow}
 use Rattle.riichi_shape.specs.Rows.{AreRowsOf}
-use Rattle.riichi_shape.proofs.KeptRows.{rows_with}
+use Rattle.riichi_shape.proofs.KeptJoins.{rows_with}
 use Rattle.riichi_shape.proofs.hand_rows.with_row.Goals as goal
 
 pub returns : goal.returns

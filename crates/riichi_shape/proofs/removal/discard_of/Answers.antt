@@ -9,8 +9,8 @@ use Rattle.riichi_shape.specs.LiveCopies.{live_in, pairs_of}
 use Rattle.riichi_shape.specs.Rows.{DifferAt}
 use Rattle.riichi_shape.proofs.AcceptedLemmas.{live_same}
 use Rattle.riichi_shape.proofs.KeptLemmas.{same_discard}
-use Rattle.riichi_shape.proofs.KeptRows.{set_differs}
-use Rattle.riichi_shape.proofs.OneTile.{special_without}
+use Rattle.riichi_shape.proofs.KeptJoins.{set_differs}
+use Rattle.riichi_shape.proofs.OneMore.{special_without}
 use Rattle.riichi_shape.proofs.removal.discard_of.Goals as goal
 
 pub distance_with-requires-clause-joins : goal.distance_with-requires-clause-joins

@@ -1,8 +1,7 @@
 use Rattle.std.proofs.Common.{ℕ, ◌+◌, ap, ◌∙◌}
 use Rattle.riichi_rows.specs.Lanes.{capped}
 use Rattle.riichi_rows.specs.Seen.{added_seen, seen}
-use Rattle.riichi_rows.proofs.CostLemmas.{few_cost, own_cost, with_room}
-use Rattle.riichi_rows.proofs.RankLanes.{lanes_of_rank}
+use Rattle.riichi_rows.proofs.RankLanes.{few_cost, lanes_of_rank, own_cost, with_room}
 use Rattle.riichi_rows.proofs.added.Added.lanes.Goals as goal
 
 pub returns-clause-others : goal.returns-clause-others

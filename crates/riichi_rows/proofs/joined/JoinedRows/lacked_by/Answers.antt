@@ -1,7 +1,7 @@
 use Rattle.std.proofs.Common.{◌^◌, suc, ℕ, Bool}
 use Rattle.std.specs.Prelude.{bit_and, nat_lt}
 use Rattle.riichi_rows.specs.Lanes.{lane, mark}
-use Rattle.riichi_rows.proofs.LackedRanks.{is_lowered, lowered}
+use Rattle.riichi_rows.proofs.MarkLemmas.{is_lowered, lowered}
 use Rattle.riichi_rows.proofs.Opposite.{lacked_rank, opposite_sums, taken_is, through}
 use Rattle.riichi_rows.proofs.joined.JoinedRows.lacked_by.Goals as goal
 

@@ -2,7 +2,7 @@ use Rattle.std.proofs.Common.{subst, sym}
 use Rattle.riichi_tiles.specs.Suits.{of_suit}
 use Rattle.riichi_rows.specs.Lanes.{lane}
 use Rattle.riichi_rows.specs.declared.row.SuitRow.{SuitRow}
-use Rattle.riichi_rows.proofs.OneChanged.{LeastTaken, taken_entry}
+use Rattle.riichi_rows.proofs.Joins.{LeastTaken, taken_entry}
 use Rattle.riichi_rows.proofs.Opposite.{opposite_sums, taken_least}
 use Rattle.riichi_rows.proofs.joined.JoinedRows.with.Goals as goal
 

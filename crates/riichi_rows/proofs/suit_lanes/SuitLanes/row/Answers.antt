@@ -1,7 +1,7 @@
 use Rattle.std.proofs.Common.{arith}
 use Rattle.riichi_rows.proofs.Blocks.{entry_least}
 use Rattle.riichi_rows.proofs.Marked.{are_marks}
-use Rattle.riichi_rows.proofs.WholeSuit.{least_as_it_is}
+use Rattle.riichi_rows.proofs.MarkedRanks.{least_as_it_is}
 use Rattle.riichi_rows.proofs.suit_lanes.SuitLanes.row.Goals as goal
 
 pub returns : goal.returns

@@ -1,7 +1,7 @@
 use Rattle.std.proofs.Common.{◌-◌, ap}
 use Rattle.std.specs.Prelude.{slice_index}
 use Rattle.riichi_shape.specs.Accepted.{without_one}
-use Rattle.riichi_shape.proofs.KeptRows.{set_differs}
+use Rattle.riichi_shape.proofs.KeptJoins.{set_differs}
 use Rattle.riichi_shape.proofs.Nearer.{lacked_of, special_floor}
 use Rattle.riichi_shape.proofs.hand_forms.HandForms.lacked_without.Goals as goal
 

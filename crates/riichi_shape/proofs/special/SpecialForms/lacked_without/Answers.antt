@@ -2,7 +2,7 @@ use Rattle.std.proofs.Common.{ℕ, List, length, refl, subst, sym, ap, ◌∙◌
 use Rattle.std.specs.Prelude.{slice_index}
 use Rattle.riichi_shape.specs.Special.{AreSpecialForms}
 use Rattle.riichi_shape.specs.Accepted.{without_one}
-use Rattle.riichi_shape.proofs.OneTile.{special_without}
+use Rattle.riichi_shape.proofs.OneMore.{special_without}
 use Rattle.riichi_shape.proofs.SpecialLemmas.{none_lacked, nothing_lacked}
 use Rattle.riichi_shape.proofs.special.SpecialForms.lacked_without.Goals as goal
 
