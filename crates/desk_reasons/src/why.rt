@@ -16,13 +16,13 @@ use riichi_hand::WinRecord;
 
 /// Writes the object that answers a win behind a text, with the member `why` at its end, without a line's end.
 pub fn push_explained_win(text: &mut JsonText, win: &WinRecord)
-    requires { array_string_len text.old + 11570 ≤ 12288 }
+    requires { array_string_len text.old + 11767 ≤ 12288 }
     ensures { (object : List ℕ) × IsExplainedWin win.now object
         × (text.new.bytes ≡ text.old.bytes ++ object) }
 {
     let explanation = explain_win(win);
     let ranking = ranked_readings(win);
-    push_open_win(text, &explanation.answer());
+    push_open_win(text, win.rules(), &explanation.answer());
     text.push_str(",\"why\":");
     push_why(text, &explanation, ranking.ranked.as_slice());
     text.push_str("}");
