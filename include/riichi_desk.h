@@ -70,7 +70,8 @@ size_t riichi_answer(uint32_t rules, const uint8_t *line, size_t line_len, uint8
  *
  *   {"answer":"refused","code":"H4","key":"seat","at":44,"length":6,"words":"a seat is E, S, W or N"}
  *
- * Where `rules` is no profile's number it is `{"answer":"refused","code":"rules"}`. Sizes and returns are as above.
+ * Where `rules` is no profile's number it is `{"answer":"refused","code":"rules"}`; that of a win under the rules of a house names
+ * them: `{"answer":"no win","rules":"1+red-fives"}`. Sizes and returns are as above.
  */
 size_t riichi_json(uint32_t rules, const uint8_t *line, size_t line_len, uint8_t *room, size_t room_len);
 

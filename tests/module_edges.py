@@ -41,6 +41,7 @@ def try_rules() -> None:
     line = "win 123406789m22s34p on=2p by=ron seat=S round=E"
     house = riichi_desk.Rules(red_fives=True)
     assert riichi_desk.text(line, house) == "won 4 han 30 fu 7700 gain 7700 pinfu pure-straight dora 1"
+    assert [riichi_desk.answer(line, rules).rules for rules in (house, 1, 2)] == ["1+red-fives", None, None]
     for changes, profile in ({}, 1), ({"red_fives": True, "raised": True}, 2):
         house = riichi_desk.Rules(**changes)
         assert riichi_desk.texts([line], house) == riichi_desk.texts([line], profile), changes

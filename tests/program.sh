@@ -121,6 +121,7 @@ answers "$room/rules.lines" "$room/rules.wanted"
 for wanted in "$room"/house*.wanted; do
   house=${wanted##*/house} house=${house%.wanted}
   told "the hands of docs/RULES.md under --rules $house" "$(cat "$wanted")" "$("$program" line --rules "$house" < "$room/house$house.lines.told")"
+  told "explain names the rules $house" "$(sed "s/\$/\n  rules   $house/" "$wanted")" "$("$program" explain --rules "$house" < "$room/house$house.lines.told" | grep -E '^([^ ]|  rules )')"
 done
 
 # the same lines with explanations; a profile from the command line; lines as words
@@ -169,6 +170,14 @@ told 'explain --rules 2' 'won 4 han 30 fu 8000 gain 8000 pinfu pure-straight dor
 { echo 'rules 1'; cat "$room/input"; } > "$room/own"
 cp "$room/own" "$room/input"
 row 0 'won 3 han 30 fu 3900 gain 3900 pinfu pure-straight' '' line --rules 2
+# rules that are neither profile are named by their words, where a line is explained and as JSON; of waits and shapes none are
+printf '%s\n' 'win 123456789m22s34p on=9s by=ron seat=S round=E' 'waits 123456789m1134p' > "$room/input"
+row 0 $'{"answer":"no win","rules":"1+red-fives"}\n{"answer":"waits","kinds":["2p","5p"]}' '' line --json --rules 2-raise
+row 0 $'{"answer":"no win"}\n{"answer":"waits","kinds":["2p","5p"]}' '' line --json --rules 1+raise+red-fives
+row 0 $'{"line":1,"answer":"no win","rules":"2-ura","why":{"waits":["2p","5p"],"shanten":{"standard":0,"seven_pairs":5,"thirteen_orphans":10}}}
+{"line":2,"answer":"waits","kinds":["2p","5p"]}' '' explain --json --number --rules 2-ura
+told 'explain --all under the rules of a house' '  rules   1+raise-ura' "$("$program" explain --all --rules 1-ura+raise < "$room/input" | grep '^  rules')"
+told 'explain under rules that are the second profile' "$("$program" explain --rules 2 < "$room/input")" "$("$program" explain --rules 1+raise+red-fives < "$room/input")"
 row 2 '' 'error: --rules has no rule `3`; 1 or 2 stands first' line --rules 3
 row 2 '' 'error: --rules has no rule `x`' line --rules 2x
 row 2 '' '`red-fives` is near' explain --rules 1+red-five+ura

@@ -35,6 +35,8 @@ if python3 -c 'import jsonschema' 2> /dev/null; then
   told 'line --json of the examples, the rules and hostile lines, by the JSON Schema' \
     "$(for text in "${texts[@]}"; do "$program" line < "$text"; done | wc -l) valid" \
     "$(for text in "${texts[@]}"; do "$program" line --json < "$text"; done | python3 -B tests/valid_answers.py docs/answer.schema.json)"
+  told 'explain --json under the rules of a house, by the JSON Schema' "$("$program" line < examples/rules.lines | wc -l) valid" \
+    "$("$program" explain --json --rules 1+red-fives-ippatsu-ura < examples/rules.lines | python3 -B tests/valid_answers.py docs/answer.schema.json)"
 else
   skip 'answers by their JSON Schema' python3-jsonschema
 fi

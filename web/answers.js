@@ -3,13 +3,33 @@
 import { lackOfTiles, missingKeys } from "./asked.js";
 import { named } from "./names.js";
 import { lineOf, wordsOf } from "./record.js";
+import { isHouse, profileOf } from "./rules.js";
 import { state } from "./state.js";
+
+// A win: the library's answer names the rules.
+const ANY_WIN = "win 234m567m345p67s99s on=5s by=ron seat=S round=E";
 
 // The values of a line's answer, with all that its picture needs; the values are null for a line that is no record.
 export function answerTo(line, rules) {
   const { desk } = state;
   const by = wordsOf(line).keys.find(([key]) => key === "by")?.[1];
   return { line, rules, by, text: desk.answer(line, rules), values: desk.values(line, rules), reasons: desk.explain(line, rules) };
+}
+
+// As the option --rules of the program takes them.
+export function rulesText(rules) {
+  return String(profileOf(rules) ?? state.desk.values(ANY_WIN, rules).rules);
+}
+
+// In a sentence.
+export function rulesWords(rules) {
+  return isHouse(rules) ? `Rules ${rulesText(rules)}` : `Rule profile ${rules}`;
+}
+
+// The line above the hands of a text: of the rules of a house a comment, since no line sets them for the program.
+export function rulesLines(rules) {
+  if (rules === 1) return [];
+  return [isHouse(rules) ? `# --rules ${rulesText(rules)}` : `rules ${rules}`];
 }
 
 const LACKS = {

@@ -1,9 +1,8 @@
 // The list of the last hands, with their answers and names.
 
-import { answerTo } from "./answers.js";
+import { answerTo, rulesWords } from "./answers.js";
 import { byId, make, say, textWithTiles } from "./elements.js";
 import { clearAll } from "./form.js";
-import { rulesWords } from "./rules.js";
 import { copyText, handsOfText, printOnly, saveFile, textOfHands } from "./share.js";
 import { openSheet } from "./sheet.js";
 import { shownAnswer } from "./shown.js";

@@ -1,8 +1,9 @@
 // Many lines: each with its answer, as the command `line` gives them.
 
+import { rulesText } from "./answers.js";
 import { byId, make } from "./elements.js";
 import { linesOf } from "./record.js";
-import { isHouse, rulesText } from "./rules.js";
+import { isHouse } from "./rules.js";
 import { copyText } from "./share.js";
 import { state } from "./state.js";
 

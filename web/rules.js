@@ -1,5 +1,5 @@
 // The rules that a table plays by: a profile, 1 or 2, or the rules of a house, a bit each, as the library takes them.
-// What a rule means is asked of the library; here stand their words.
+// What a rule means is asked of the library, and so is how chosen rules are written; here stands what each is called.
 
 const HOUSE = 0x10000;
 const PROFILES = { 1: HOUSE + 0x7f0, 2: HOUSE + 0x7f3 };
@@ -46,15 +46,9 @@ export function withRule(rules, place, isOn) {
   return isOn ? houseOf(rules) | bit : houseOf(rules) & ~bit;
 }
 
-// As the option --rules of the program takes them.
-export function rulesText(rules) {
-  if (!isHouse(rules)) return String(rules);
-  const changes = RULES.map(([word], place) => {
-    const isOn = hasRule(rules, place);
-    if (isOn === hasRule(1, place)) return "";
-    return (isOn ? "+" : "-") + word;
-  });
-  return `1${changes.join("")}`;
+// The profile that these rules are; undefined where they are neither.
+export function profileOf(rules) {
+  return [1, 2].find((profile) => PROFILES[profile] === houseOf(rules));
 }
 
 // The rules of such a text; undefined where it is none.
@@ -71,17 +65,7 @@ export function rulesOfText(text) {
   return rules;
 }
 
-// On a button, and in a sentence.
+// On a button.
 export function rulesShort(rules) {
   return isHouse(rules) ? "own" : String(rules);
-}
-
-export function rulesWords(rules) {
-  return isHouse(rules) ? `Rules ${rulesText(rules)}` : `Rule profile ${rules}`;
-}
-
-// The line above the hands of a text: of the rules of a house a comment, since no line sets them for the program.
-export function rulesLines(rules) {
-  if (rules === 1) return [];
-  return [isHouse(rules) ? `# --rules ${rulesText(rules)}` : `rules ${rules}`];
 }

@@ -1,8 +1,8 @@
 // How hands leave the page and come to it: as links, as texts of lines, by the phone's own sharing, as files, on paper.
 
+import { rulesLines } from "./answers.js";
 import { byId, say } from "./elements.js";
 import { linesOf } from "./record.js";
-import { rulesLines } from "./rules.js";
 
 const MOST_NAME = 60;
 

@@ -1,10 +1,9 @@
 // The sheet of one hand: its tiles, the answer and why, large enough to show to others, to be shared and to be printed.
 
-import { answerTo } from "./answers.js";
+import { answerTo, rulesLines, rulesWords } from "./answers.js";
 import { byId, make, tilesDrawn } from "./elements.js";
 import { named } from "./names.js";
 import { recordOf } from "./record.js";
-import { rulesLines, rulesWords } from "./rules.js";
 import { copyText, linkOf, printOnly, share } from "./share.js";
 import { shownWhole } from "./shown.js";
 import { nameHand, readHands } from "./store.js";

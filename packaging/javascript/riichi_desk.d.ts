@@ -26,6 +26,8 @@ export type Kind = `${1 | 2 | 3 | 4 | 5 | 6 | 7 | 8 | 9}${"m" | "p" | "s"}` | `$
 export interface Yaku { number: number; word: string; japanese: string }
 /** What each payer pays, in points. */
 export type Payment = { discarder: number } | { dealer: number; each_other: number } | { each: number };
+/** The words of the rules of a house, as "1+red-fives", which the answers to wins have; under a profile there are none. */
+export type RuleWords = string;
 /** What a win is worth. Of a yakuman `han`, `fu` and `dora` are 0. */
 export interface Won {
   answer: "won";
@@ -38,6 +40,7 @@ export interface Won {
   payment: Payment;
   gain: number;
   yaku: Yaku[];
+  rules?: RuleWords;
 }
 /** The kinds that bring a hand nearer, each with its live copies, and how many these are in all. */
 export interface Accepted { accepts: { kind: Kind; live: number }[]; live: number }
@@ -48,8 +51,8 @@ export type Key = "hand" | "on" | "by" | "seat" | "round" | "open" | "riichi" | 
 export interface Refused { answer: "refused"; code: string; text?: Key; place?: number; key?: Key; at?: number; length?: number; words: string }
 export type Answer =
   | Won
-  | { answer: "no yaku" }
-  | { answer: "no win" }
+  | { answer: "no yaku"; rules?: RuleWords }
+  | { answer: "no win"; rules?: RuleWords }
   | { answer: "waits"; kinds: Kind[] }
   | ({ answer: "shape"; shanten: number } & Accepted)
   | { answer: "shape"; shanten: number; discards: ({ discard: Kind } & Accepted)[] }

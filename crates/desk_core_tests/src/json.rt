@@ -2,7 +2,7 @@
 use crate::facts::same;
 use desk_core::{Answer, judge};
 use desk_json::{JsonText, answer_text, push_refusal, refusal_text};
-use riichi_hand::{Rules, read_line, read_placed};
+use riichi_hand::{Rules, Switch, read_line, read_placed};
 use std::process::Abort;
 use std::test::Fail;
 
@@ -124,20 +124,24 @@ const REFUSALS: [Row; 13] = [
     },
 ];
 
-fn judged(line: &str) -> Result<Answer, Fail> {
-    let job = read_line(Rules::One, line.as_bytes())?.ok_or("no record")?;
+fn judged(rules: Rules, line: &str) -> Result<Answer, Fail> {
+    let job = read_line(rules, line.as_bytes())?.ok_or("no record")?;
     Ok(judge(&job))
 }
 
-fn check(rt: &impl Abort, row: &Row) -> Result<(), Fail> {
-    same(rt, answer_text(&judged(row.line)?).as_str(), row.text);
+fn check(rt: &impl Abort, rules: Rules, row: &Row) -> Result<(), Fail> {
+    same(
+        rt,
+        answer_text(rules, &judged(rules, row.line)?).as_str(),
+        row.text,
+    );
     Ok(())
 }
 
 #[test]
 fn answers_of_wins(rt: HostRuntime) -> Result<(), Fail> {
     for row in &WINS {
-        check(&rt, row)?;
+        check(&rt, Rules::One, row)?;
     }
     Ok(())
 }
@@ -145,7 +149,42 @@ fn answers_of_wins(rt: HostRuntime) -> Result<(), Fail> {
 #[test]
 fn answers_of_hands_and_shapes(rt: HostRuntime) -> Result<(), Fail> {
     for row in &HANDS {
-        check(&rt, row)?;
+        check(&rt, Rules::One, row)?;
+    }
+    Ok(())
+}
+
+const HOUSE_RULES: [Row; 4] = [
+    Row {
+        line: "win 234m067m345p67s99s on=0s by=ron seat=S round=E",
+        text: "{\"answer\":\"won\",\"yakuman\":false,\"han\":3,\"fu\":30,\"dora\":2,\"base\":960,\"limit\":null,\"payment\":{\"discarder\":3900},\"gain\":3900,\"yaku\":[{\"number\":4,\"word\":\"pinfu\",\"japanese\":\"pinfu\"}],\"rules\":\"1+red-fives-ura\"}",
+    },
+    Row {
+        line: "win 406m22s34p open=chi:123m,chi:678p on=2p by=ron seat=S round=E",
+        text: "{\"answer\":\"no yaku\",\"rules\":\"1+red-fives-ura\"}",
+    },
+    Row {
+        line: "win 123456789m22s34p on=9s by=ron seat=S round=E",
+        text: "{\"answer\":\"no win\",\"rules\":\"1+red-fives-ura\"}",
+    },
+    Row {
+        line: "waits 123456789m1134p",
+        text: "{\"answer\":\"waits\",\"kinds\":[\"2p\",\"5p\"]}",
+    },
+];
+
+/// The answer to a win names the rules of a house, and no others.
+#[test]
+fn rules_of_a_house(rt: HostRuntime) -> Result<(), Fail> {
+    let house = Rules::One
+        .house()
+        .with(Switch::RedFives, true)
+        .with(Switch::Ura, false);
+    for row in &HOUSE_RULES {
+        check(&rt, Rules::House(house), row)?;
+    }
+    for row in &WINS {
+        check(&rt, Rules::House(Rules::One.house()), row)?;
     }
     Ok(())
 }

@@ -2,7 +2,7 @@
 use crate::facts::same;
 use desk_json::JsonText;
 use desk_reasons::push_explained_win;
-use riichi_hand::{Job, Rules, read_line};
+use riichi_hand::{Job, Rules, Switch, read_line};
 use riichi_shape::FreshRows;
 use std::process::Abort;
 use std::test::Fail;
@@ -32,8 +32,8 @@ const WINS: [Row; 4] = [
     },
 ];
 
-fn explained(line: &str) -> Result<JsonText, Fail> {
-    match read_line(Rules::One, line.as_bytes())?.ok_or("no record")? {
+fn explained(rules: Rules, line: &str) -> Result<JsonText, Fail> {
+    match read_line(rules, line.as_bytes())?.ok_or("no record")? {
         Job::Win(win) => {
             let mut text = JsonText::new();
             push_explained_win(&mut text, &win, &mut FreshRows);
@@ -46,9 +46,22 @@ fn explained(line: &str) -> Result<JsonText, Fail> {
 #[test]
 fn reasons_of_wins(rt: HostRuntime) -> Result<(), Fail> {
     for row in &WINS {
-        let text = explained(row.line)?;
+        let text = explained(Rules::One, row.line)?;
         let (_, why) = text.as_str().split_once("\"why\":").ok_or("no reasons")?;
         same(&rt, why, row.why);
     }
+    Ok(())
+}
+
+/// The rules of a house stand before the reasons.
+#[test]
+fn reasons_under_the_rules_of_a_house(rt: HostRuntime) -> Result<(), Fail> {
+    let rules = Rules::House(Rules::Two.house().with(Switch::Ura, false));
+    let text = explained(rules, "win 123456789m22s34p on=9s by=ron seat=S round=E")?;
+    same(
+        &rt,
+        text.as_str(),
+        "{\"answer\":\"no win\",\"rules\":\"2-ura\",\"why\":{\"waits\":[\"2p\",\"5p\"],\"shanten\":{\"standard\":0,\"seven_pairs\":5,\"thirteen_orphans\":10}}}",
+    );
     Ok(())
 }

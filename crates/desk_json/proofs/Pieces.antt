@@ -1,9 +1,12 @@
 -- The text of each answer's tree is made of the pieces that are written.
-use Rattle.std.proofs.Common.{◌≡◌, ℕ, Bool, true, false, cond, List, [], ◌∷◌, ◌++◌, refl, ap, ◌∙◌, append_assoc, decimal, nat_le}
+use Rattle.std.proofs.Common.{◌≡◌, ℕ, Bool, true, false, cond, List, [], ◌∷◌, ◌++◌, refl, sym, ap, ◌∙◌, append_assoc, decimal, nat_le}
 use Rattle.std.specs.Prelude.{codes, ◌==◌}
 use Rattle.std.specs.Fmt.{signed_decimal}
 use Rattle.json.specs.Json.{Json, string}
-use Rattle.json.specs.Print.{escape, escape_byte}
+use Rattle.json.specs.Print.{escape, escape_byte, quoted}
+use Rattle.riichi_hand.specs.declared.win.Rules.{Rules}
+use Rattle.riichi_hand.specs.Rules.{house_of}
+use Rattle.riichi_hand.specs.RulesWords.{rules_words, is_house, house_words}
 use Rattle.riichi_score.specs.declared.payers.Payment.{Payment}
 use Rattle.riichi_score.specs.declared.payers.Payment.TheVariants.{Ron, Tsumo, DealerTsumo}
 use Rattle.riichi_score.specs.declared.score.Score.{Score}
@@ -23,9 +26,9 @@ use Rattle.desk_core.specs.declared.answer.Answer.TheVariants as answer
 use Rattle.desk_json.specs.Parts as parts
 use Rattle.desk_json.specs.Parts.{yaku_text, names_text, limit_text, truth_text, payment_text, worth_text, points_text, score_text, yaku_list_text, quoted_kind, live_text, pairs_text, accepted_text, discard_text, discards_text, accepts_text, shape_text}
 use Rattle.desk_json.specs.Text.{answer_text}
-use Rattle.desk_json.specs.Trees.{answer_tree, members_of, object_of, natural, kind_tree, yaku_tree, limit_tree, payment_tree, score_tree, win_tree, kinds_in, waits_tree, live_tree, accepted_members, discard_tree, accepts_members, shape_tree}
+use Rattle.desk_json.specs.Trees.{answer_tree, members_of, object_of, natural, kind_tree, yaku_tree, limit_tree, payment_tree, rules_members, score_tree, win_tree, kinds_in, waits_tree, live_tree, accepted_members, discard_tree, accepts_members, shape_tree}
 use Rattle.desk_json.proofs.Lists.{items_joined}
-use Rattle.desk_json.proofs.WordLemmas.{escape_kind, escape_name, escape_word}
+use Rattle.desk_json.proofs.WordLemmas.{escape_kind, escape_name, escape_rules, escape_word}
 use Rattle.desk_json.proofs.Written.{written, members_written, text_written}
 
 -- ---- wins
@@ -61,35 +64,50 @@ unfolding written
 truth_written true = refl
 truth_written false = refl
 
--- a score with the texts of its truth, limit, payment and yaku
-score_with : Score → List ℕ → List ℕ → List ℕ → List ℕ → List ℕ
-score_with score truth limit payment yaku =
+-- a score with the texts of its truth, limit, payment, yaku and end
+score_with : Score → List ℕ → List ℕ → List ℕ → List ℕ → List ℕ → List ℕ
+score_with score truth limit payment yaku end =
     codes "{\"answer\":\"won\",\"yakuman\":" ++ (truth ++ (codes ",\"han\":" ++ (decimal score.han ++ (codes ",\"fu\":" ++ (decimal score.fu
     ++ (codes ",\"dora\":" ++ (decimal score.dora ++ (codes ",\"base\":" ++ (decimal score.base ++ (codes ",\"limit\":" ++ (limit
-    ++ (codes ",\"payment\":" ++ (payment ++ (codes ",\"gain\":" ++ (decimal score.gain ++ (codes ",\"yaku\":[" ++ (yaku ++ codes "}")))))))))))))))))
+    ++ (codes ",\"payment\":" ++ (payment ++ (codes ",\"gain\":" ++ (decimal score.gain ++ (codes ",\"yaku\":[" ++ (yaku ++ end)))))))))))))))))
 
-same_score : (score : Score) (t t' l l' p p' y y' : List ℕ) → t ≡ t' → l ≡ l' → p ≡ p' → y ≡ y' → score_with score t l p y ≡ score_with score t' l' p' y'
-same_score score t t' l l' p p' y y' e f g h = cc
+same_score : (score : Score) (t t' l l' p p' y y' n n' : List ℕ) → t ≡ t' → l ≡ l' → p ≡ p' → y ≡ y' → n ≡ n' → score_with score t l p y n ≡ score_with score t' l' p' y' n'
+same_score score t t' l l' p p' y y' n n' e f g h k = cc
 
-grouped : (a t b h c f d o e s g l i p j n k y x z : List ℕ)
-    → a ++ (t ++ (b ++ (h ++ (c ++ (f ++ (d ++ (o ++ (e ++ (s ++ (g ++ (l ++ (i ++ (p ++ (j ++ (n ++ (k ++ ((y ++ x) ++ z)))))))))))))))))
-    ≡ (((((((((((a ++ t) ++ b) ++ h) ++ c) ++ f) ++ d) ++ o) ++ (((((((e ++ s) ++ g) ++ l) ++ i) ++ p) ++ j) ++ n)) ++ k) ++ y) ++ x) ++ z
-grouped a t b h c f d o e s g l i p j n k y x z = simp append_assoc
+grouped : (a t b h c f d o e s g l i p j n k y x r z : List ℕ)
+    → a ++ (t ++ (b ++ (h ++ (c ++ (f ++ (d ++ (o ++ (e ++ (s ++ (g ++ (l ++ (i ++ (p ++ (j ++ (n ++ (k ++ ((y ++ x) ++ (r ++ z))))))))))))))))))
+    ≡ ((((((((((((a ++ t) ++ b) ++ h) ++ c) ++ f) ++ d) ++ o) ++ (((((((e ++ s) ++ g) ++ l) ++ i) ++ p) ++ j) ++ n)) ++ k) ++ y) ++ x) ++ r) ++ z
+grouped a t b h c f d o e s g l i p j n k y x r z = simp append_assoc
 
-score_written : (score : Score) → written (score_tree score) ≡ score_text score ++ codes "}"
+-- the rules with the brace behind them, where they are told and where they aren't
+rules_with : (words : List ℕ) → escape words ≡ words → codes ",\"rules\":" ++ (quoted words ++ codes "}") ≡ (codes ",\"rules\":\"" ++ words ++ codes "\"") ++ codes "}"
+rules_with words same = simp (append_assoc, same)
+
+rules_written : (rules : Rules) → members_written true (members_of (rules_members rules)) ≡ parts.rules_text rules ++ codes "}"
+unfolding written escape_byte house_words
+rules_written rules =
+    let words = rules_words (house_of rules) in
+    elim (is_house rules) as (λ test. members_written true (members_of (cond test ((codes "rules", string words) ∷ []) [])) ≡ cond test (codes ",\"rules\":\"" ++ words ++ codes "\"") [] ++ codes "}")
+    [ true ↦ rules_with words (escape_rules (house_of rules)) | false ↦ refl ]
+
+score_written : (rules : Rules) (score : Score) → written (score_tree rules score) ≡ (score_text score ++ parts.rules_text rules) ++ codes "}"
 unfolding written escape_byte score_tree score_text worth_text points_text score_with
-score_written score =
-    same_score score _ (truth_text (is_yakuman score.yaku)) _ (limit_text score.base) _ (payment_text score.payment) _ (yaku_list_text score.yaku ++ codes "]")
-    (truth_written (is_yakuman score.yaku)) (limit_written score.base) (payment_written score.payment) (items_joined yaku_tree yaku_text yaku_written (yaku_in score.yaku))
+score_written rules score =
+    same_score score _ (truth_text (is_yakuman score.yaku)) _ (limit_text score.base) _ (payment_text score.payment) _ (yaku_list_text score.yaku ++ codes "]") _ (parts.rules_text rules ++ codes "}")
+    (truth_written (is_yakuman score.yaku)) (limit_written score.base) (payment_written score.payment) (items_joined yaku_tree yaku_text yaku_written (yaku_in score.yaku)) (rules_written rules)
     ∙ grouped (codes "{\"answer\":\"won\",\"yakuman\":") (truth_text (is_yakuman score.yaku)) (codes ",\"han\":") (decimal score.han) (codes ",\"fu\":") (decimal score.fu)
     (codes ",\"dora\":") (decimal score.dora) (codes ",\"base\":") (decimal score.base) (codes ",\"limit\":") (limit_text score.base)
-    (codes ",\"payment\":") (payment_text score.payment) (codes ",\"gain\":") (decimal score.gain) (codes ",\"yaku\":[") (yaku_list_text score.yaku) (codes "]") (codes "}")
+    (codes ",\"payment\":") (payment_text score.payment) (codes ",\"gain\":") (decimal score.gain) (codes ",\"yaku\":[") (yaku_list_text score.yaku) (codes "]") (parts.rules_text rules) (codes "}")
 
-pub win_written : (win : WinAnswer) → answer_text (answer.Win win) ≡ parts.win_text win
-unfolding answer_tree win_tree parts.win_text parts.open_win_text written escape_byte
-win_written (Won score) = text_written (score_tree score) ∙ score_written score
-win_written NoYaku = text_written (win_tree NoYaku)
-win_written NoWin = text_written (win_tree NoWin)
+-- an answer's sort, and the rules behind it
+sort_written : (sort : List ℕ) (rules : Rules) → sort ++ members_written true (members_of (rules_members rules)) ≡ (sort ++ parts.rules_text rules) ++ codes "}"
+sort_written sort rules = ap (λ t. sort ++ t) (rules_written rules) ∙ sym (append_assoc sort (parts.rules_text rules) (codes "}"))
+
+pub win_written : (rules : Rules) (win : WinAnswer) → answer_text rules (answer.Win win) ≡ parts.win_text rules win
+unfolding answer_tree win_tree parts.win_text parts.open_win_text parts.worth_members_text written escape_byte
+win_written rules (Won score) = text_written (score_tree rules score) ∙ score_written rules score
+win_written rules NoYaku = text_written (win_tree rules NoYaku) ∙ sort_written (codes "{\"answer\":\"no yaku\"") rules
+win_written rules NoWin = text_written (win_tree rules NoWin) ∙ sort_written (codes "{\"answer\":\"no win\"") rules
 
 -- ---- waits
 
@@ -100,9 +118,9 @@ kind_written kind = ap (λ t. 34 ∷ (t ++ 34 ∷ [])) (escape_kind kind)
 list_ends : (a y x z : List ℕ) → a ++ ((y ++ x) ++ z) ≡ (a ++ y) ++ (x ++ z)
 list_ends a y x z = simp append_assoc
 
-pub waits_written : (marks : ℕ) → answer_text (answer.Waits marks) ≡ parts.waits_text marks
+pub waits_written : (rules : Rules) (marks : ℕ) → answer_text rules (answer.Waits marks) ≡ parts.waits_text marks
 unfolding answer_tree waits_tree parts.waits_text written escape_byte
-waits_written marks =
+waits_written rules marks =
     text_written (waits_tree marks)
     ∙ ap (λ t. codes "{\"answer\":\"waits\",\"kinds\":[" ++ (t ++ codes "}")) (items_joined kind_tree quoted_kind kind_written (kinds_in marks))
     ∙ list_ends (codes "{\"answer\":\"waits\",\"kinds\":[") (parts.kinds_text marks) (codes "]") (codes "}")
@@ -150,9 +168,9 @@ accepts_written (Fourteen discards) =
 shape_ends : (a s c t : List ℕ) → a ++ (s ++ (c ++ t)) ≡ ((a ++ s) ++ c) ++ t
 shape_ends a s c t = simp append_assoc
 
-pub shape_written : (shape : ShapeAnswer) → answer_text (answer.Shape shape) ≡ shape_text shape
+pub shape_written : (rules : Rules) (shape : ShapeAnswer) → answer_text rules (answer.Shape shape) ≡ shape_text shape
 unfolding answer_tree shape_tree shape_text written escape_byte
-shape_written shape =
+shape_written rules shape =
     text_written (shape_tree shape)
     ∙ ap (λ t. codes "{\"answer\":\"shape\",\"shanten\":" ++ (signed_decimal shape.shanten ++ t)) (accepts_written shape.accepts)
     ∙ shape_ends (codes "{\"answer\":\"shape\",\"shanten\":") (signed_decimal shape.shanten) (codes ",") (accepts_text shape.accepts)

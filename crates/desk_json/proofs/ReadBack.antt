@@ -1,11 +1,14 @@
 -- A reader gets the tree of an answer back from its text.
-use Rattle.std.proofs.Common.{◌≡◌, ℕ, ◌≤◌, Bool, false, cond, List, [], ◌∷◌, Some, sym, ap, ◌∙◌, arith, nat_le}
+use Rattle.std.proofs.Common.{◌≡◌, ℕ, ◌≤◌, Bool, true, false, cond, List, [], ◌∷◌, Some, sym, ap, ◌∙◌, arith, nat_le}
 use Rattle.std.specs.Prelude.{codes, ◌==◌}
 use Rattle.std.proofs.lemmas.Option.{same_Some}
 use Rattle.json.specs.Json.{Json, null, string, document}
 use Rattle.json.specs.Tree.{depth, items_depth, members_depth, HasNumbers, ItemsHaveNumbers, MembersHaveNumbers}
 use Rattle.json.proofs.Printed.Decimals.{IsNumber-decimal, IsNumber-signed_decimal}
 use Rattle.json.proofs.Printed.Trees.{document-print}
+use Rattle.riichi_hand.specs.declared.win.Rules.{Rules}
+use Rattle.riichi_hand.specs.Rules.{house_of}
+use Rattle.riichi_hand.specs.RulesWords.{rules_words, is_house}
 use Rattle.riichi_score.specs.declared.payers.Payment.{Payment}
 use Rattle.riichi_score.specs.declared.payers.Payment.TheVariants.{Ron, Tsumo, DealerTsumo}
 use Rattle.riichi_score.specs.declared.score.Score.{Score}
@@ -21,7 +24,7 @@ use Rattle.riichi_yaku.proofs.Sets.{below_41}
 use Rattle.desk_core.specs.declared.answer.Answer.{Answer}
 use Rattle.desk_core.specs.declared.answer.Answer.TheVariants as answer
 use Rattle.desk_json.specs.Text.{text_of, answer_text}
-use Rattle.desk_json.specs.Trees.{items_of, members_of, kind_tree, yaku_tree, limit_tree, payment_tree, score_tree, win_tree, kinds_in, waits_tree, live_tree, accepted_members, discard_tree, accepts_members, shape_tree, answer_tree}
+use Rattle.desk_json.specs.Trees.{items_of, members_of, kind_tree, yaku_tree, limit_tree, payment_tree, rules_members, score_tree, win_tree, kinds_in, waits_tree, live_tree, accepted_members, discard_tree, accepts_members, shape_tree, answer_tree}
 use Rattle.desk_json.specs.Whole.{Each, IsWholePayment, IsWholeScore, IsWholePair, IsWholeList, IsWholeDiscard, AreWhole, IsWholeWin, IsWhole}
 use Rattle.desk_json.proofs.Same.{each_of_all, same_answers}
 
@@ -50,21 +53,26 @@ payment_numbers (Ron points) h = (IsNumber-decimal points (omega arith), tt)
 payment_numbers (Tsumo other dealer) h = (IsNumber-decimal dealer (omega arith), (IsNumber-decimal other (omega arith), tt))
 payment_numbers (DealerTsumo each) h = (IsNumber-decimal each (omega arith), tt)
 
-score_numbers : (score : Score) → IsWholeScore score → HasNumbers (score_tree score)
+rules_numbers : (rules : Rules) → MembersHaveNumbers (members_of (rules_members rules))
+rules_numbers rules =
+    elim (is_house rules) as (λ test. MembersHaveNumbers (members_of (cond test ((codes "rules", string (rules_words (house_of rules))) ∷ []) [])))
+    [ true ↦ (tt, tt) | false ↦ tt ]
+
+score_numbers : (rules : Rules) (score : Score) → IsWholeScore score → HasNumbers (score_tree rules score)
 unfolding score_tree
-score_numbers score h =
+score_numbers rules score h =
     let han = IsNumber-decimal score.han (omega arith) in
     let fu = IsNumber-decimal score.fu (omega arith) in
     let dora = IsNumber-decimal score.dora (omega arith) in
     let base = IsNumber-decimal score.base (omega arith) in
     let gain = IsNumber-decimal score.gain (omega arith) in
     let yaku = items_numbers yaku_tree (λ yaku. Unit {0}) (λ yaku h. yaku_numbers yaku) (yaku_in score.yaku) (each_of_all (yaku_in score.yaku)) in
-    (tt, (tt, (han, (fu, (dora, (base, (limit_numbers score.base, (payment_numbers score.payment h.payment, (gain, (yaku, tt))))))))))
+    (tt, (tt, (han, (fu, (dora, (base, (limit_numbers score.base, (payment_numbers score.payment h.payment, (gain, (yaku, rules_numbers rules))))))))))
 
-win_numbers : (win : WinAnswer) → IsWholeWin win → HasNumbers (win_tree win)
+win_numbers : (rules : Rules) (win : WinAnswer) → IsWholeWin win → HasNumbers (win_tree rules win)
 unfolding win_tree
-win_numbers (Won score) h = score_numbers score h
-win_numbers other h = (tt, tt)
+win_numbers rules (Won score) h = score_numbers rules score h
+win_numbers rules other h = (tt, rules_numbers rules)
 
 kinds_numbers : (kinds : List ℕ) → ItemsHaveNumbers (items_of kind_tree kinds)
 kinds_numbers [] = tt
@@ -85,11 +93,11 @@ accepts_numbers : (accepts : Accepts) → AreWhole accepts → MembersHaveNumber
 accepts_numbers (Thirteen accepted) h = accepted_numbers accepted h
 accepts_numbers (Fourteen discards) h = (items_numbers discard_tree IsWholeDiscard discard_numbers discards h, tt)
 
-numbers : (a : Answer) → IsWhole a → HasNumbers (answer_tree a)
+numbers : (rules : Rules) (a : Answer) → IsWhole a → HasNumbers (answer_tree rules a)
 unfolding answer_tree waits_tree shape_tree
-numbers (answer.Win win) h = win_numbers win h
-numbers (answer.Waits marks) h = (tt, (kinds_numbers (kinds_in marks), tt))
-numbers (answer.Shape shape) h = (tt, (IsNumber-signed_decimal shape.shanten h.shanten, accepts_numbers shape.accepts h.accepts))
+numbers rules (answer.Win win) h = win_numbers rules win h
+numbers rules (answer.Waits marks) h = (tt, (kinds_numbers (kinds_in marks), tt))
+numbers rules (answer.Shape shape) h = (tt, (IsNumber-signed_decimal shape.shanten h.shanten, accepts_numbers shape.accepts h.accepts))
 
 -- ---- no answer is nested deep
 
@@ -115,16 +123,21 @@ unfolding payment_tree
 payment_shallow (Ron points) = omega arith
 payment_shallow _ = omega arith
 
-score_shallow : (score : Score) → depth (score_tree score) ≤ 3
-unfolding score_tree
-score_shallow score =
-    let yaku = items_shallow yaku_tree 1 yaku_shallow (yaku_in score.yaku) in
-    omega (arith, limit_shallow score.base, payment_shallow score.payment, yaku)
+rules_shallow : (rules : Rules) → members_depth (members_of (rules_members rules)) ≤ 0
+rules_shallow rules =
+    elim (is_house rules) as (λ test. members_depth (members_of (cond test ((codes "rules", string (rules_words (house_of rules))) ∷ []) [])) ≤ 0)
+    [ true ↦ omega arith | false ↦ omega arith ]
 
-win_shallow : (win : WinAnswer) → depth (win_tree win) ≤ 3
+score_shallow : (rules : Rules) (score : Score) → depth (score_tree rules score) ≤ 3
+unfolding score_tree
+score_shallow rules score =
+    let yaku = items_shallow yaku_tree 1 yaku_shallow (yaku_in score.yaku) in
+    omega (arith, limit_shallow score.base, payment_shallow score.payment, yaku, rules_shallow rules)
+
+win_shallow : (rules : Rules) (win : WinAnswer) → depth (win_tree rules win) ≤ 3
 unfolding win_tree
-win_shallow (Won score) = score_shallow score
-win_shallow other = omega arith
+win_shallow rules (Won score) = score_shallow rules score
+win_shallow rules other = omega (arith, rules_shallow rules)
 
 kind_shallow : (kind : ℕ) → depth (kind_tree kind) ≤ 0
 kind_shallow kind = omega arith
@@ -144,17 +157,18 @@ accepts_shallow : (accepts : Accepts) → members_depth (members_of (accepts_mem
 accepts_shallow (Thirteen accepted) = omega (arith, accepted_shallow accepted)
 accepts_shallow (Fourteen discards) = omega (arith, items_shallow discard_tree 3 discard_shallow discards)
 
-shallow : (a : Answer) → depth (answer_tree a) ≤ 5
+shallow : (rules : Rules) (a : Answer) → depth (answer_tree rules a) ≤ 5
 unfolding answer_tree waits_tree shape_tree
-shallow (answer.Win win) = omega (arith, win_shallow win)
-shallow (answer.Waits marks) = omega (arith, items_shallow kind_tree 0 kind_shallow (kinds_in marks))
-shallow (answer.Shape shape) = omega (arith, accepts_shallow shape.accepts)
+shallow rules (answer.Win win) = omega (arith, win_shallow rules win)
+shallow rules (answer.Waits marks) = omega (arith, items_shallow kind_tree 0 kind_shallow (kinds_in marks))
+shallow rules (answer.Shape shape) = omega (arith, accepts_shallow shape.accepts)
 
 -- ---- answers
 
-pub reads_back : (a : Answer) → IsWhole a → document (answer_text a) ≡ Some (answer_tree a)
+pub reads_back : (rules : Rules) (a : Answer) → IsWhole a → document (answer_text rules a) ≡ Some (answer_tree rules a)
 unfolding text_of
-reads_back a h = document-print (answer_tree a) (numbers a h) (omega (arith, shallow a))
+reads_back rules a h = document-print (answer_tree rules a) (numbers rules a h) (omega (arith, shallow rules a))
 
-pub same_texts : (a b : Answer) → IsWhole a → IsWhole b → answer_text a ≡ answer_text b → a ≡ b
-same_texts a b h k e = same_answers a b h k (same_Some (answer_tree a) (answer_tree b) (sym (reads_back a h) ∙ ap document e ∙ reads_back b k))
+pub same_texts : (rules others : Rules) (a b : Answer) → IsWhole a → IsWhole b → answer_text rules a ≡ answer_text others b → a ≡ b
+same_texts rules others a b h k e =
+    same_answers rules others a b h k (same_Some (answer_tree rules a) (answer_tree others b) (sym (reads_back rules a h) ∙ ap document e ∙ reads_back others b k))

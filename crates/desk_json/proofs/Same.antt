@@ -9,6 +9,7 @@ use Rattle.std.specs.Int.{bit_at}
 use Rattle.std.specs.List.{filter, range_with_len}
 use Rattle.std.specs.Prelude.{codes, ◌==◌}
 use Rattle.json.specs.Json.{Json, string, object, Members, no_members, member}
+use Rattle.riichi_hand.specs.declared.win.Rules.{Rules}
 use Rattle.riichi_score.specs.declared.payers.Payment.{Payment}
 use Rattle.riichi_score.specs.declared.payers.Payment.TheVariants.{Ron, Tsumo, DealerTsumo}
 use Rattle.riichi_score.specs.declared.score.Score.{Score}
@@ -160,9 +161,9 @@ same_payments (Tsumo o d) (Tsumo o' d') h k e =
 same_payments (DealerTsumo m) (DealerTsumo n) h k e = let numbers : natural m ≡ natural n = cc in ap DealerTsumo (same_numbers m n (omega arith) (omega arith) numbers)
 same_payments p q h k e = absurd (omega (arith, ap second_letter e))
 
-same_scores : (a b : Score) → IsWholeScore a → IsWholeScore b → score_tree a ≡ score_tree b → a ≡ b
+same_scores : (rules others : Rules) (a b : Score) → IsWholeScore a → IsWholeScore b → score_tree rules a ≡ score_tree others b → a ≡ b
 unfolding score_tree
-same_scores a b h k e =
+same_scores rules others a b h k e =
     let hans : natural a.han ≡ natural b.han = cc in
     let fus : natural a.fu ≡ natural b.fu = cc in
     let doras : natural a.dora ≡ natural b.dora = cc in
@@ -184,12 +185,12 @@ sort_letter : Json → ℕ
 sort_letter (object (member name (string sort) more)) = get_or sort 3 0
 sort_letter json = 0
 
-same_wins : (a b : WinAnswer) → IsWholeWin a → IsWholeWin b → win_tree a ≡ win_tree b → a ≡ b
+same_wins : (rules others : Rules) (a b : WinAnswer) → IsWholeWin a → IsWholeWin b → win_tree rules a ≡ win_tree others b → a ≡ b
 unfolding win_tree score_tree sort_letter
-same_wins (Won a) (Won b) h k e = ap Won (same_scores a b h k e)
-same_wins NoYaku NoYaku h k e = refl
-same_wins NoWin NoWin h k e = refl
-same_wins a b h k e = absurd (omega (arith, ap sort_letter e))
+same_wins rules others (Won a) (Won b) h k e = ap Won (same_scores rules others a b h k e)
+same_wins rules others NoYaku NoYaku h k e = refl
+same_wins rules others NoWin NoWin h k e = refl
+same_wins rules others a b h k e = absurd (omega (arith, ap sort_letter e))
 
 -- ---- waits
 
@@ -260,18 +261,18 @@ same_shapes a b h k e =
 -- ---- answers
 
 -- a win's sort has another letter than those of waits and shapes
-win_apart : (win : WinAnswer) → (sort_letter (win_tree win) ≢ 116) × (sort_letter (win_tree win) ≢ 112)
+win_apart : (rules : Rules) (win : WinAnswer) → (sort_letter (win_tree rules win) ≢ 116) × (sort_letter (win_tree rules win) ≢ 112)
 unfolding win_tree score_tree sort_letter
-win_apart (Won score) = (λ e. omega (arith, e), λ e. omega (arith, e))
-win_apart other = (λ e. omega (arith, e), λ e. omega (arith, e))
+win_apart rules (Won score) = (λ e. omega (arith, e), λ e. omega (arith, e))
+win_apart rules other = (λ e. omega (arith, e), λ e. omega (arith, e))
 
-pub same_answers : (a b : Answer) → IsWhole a → IsWhole b → answer_tree a ≡ answer_tree b → a ≡ b
+pub same_answers : (rules others : Rules) (a b : Answer) → IsWhole a → IsWhole b → answer_tree rules a ≡ answer_tree others b → a ≡ b
 unfolding answer_tree waits_tree shape_tree sort_letter
-same_answers (answer.Win a) (answer.Win b) h k e = ap answer.Win (same_wins a b h k e)
-same_answers (answer.Win a) (answer.Waits b) h k e = absurd ((win_apart a).0 (ap sort_letter e))
-same_answers (answer.Win a) (answer.Shape b) h k e = absurd ((win_apart a).1 (ap sort_letter e))
-same_answers (answer.Waits a) (answer.Win b) h k e = absurd ((win_apart b).0 (sym (ap sort_letter e)))
-same_answers (answer.Shape a) (answer.Win b) h k e = absurd ((win_apart b).1 (sym (ap sort_letter e)))
-same_answers (answer.Waits a) (answer.Waits b) h k e = ap answer.Waits (same_waits a b h k e)
-same_answers (answer.Shape a) (answer.Shape b) h k e = ap answer.Shape (same_shapes a b h k e)
-same_answers a b h k e = absurd (omega (arith, ap sort_letter e))
+same_answers rules others (answer.Win a) (answer.Win b) h k e = ap answer.Win (same_wins rules others a b h k e)
+same_answers rules others (answer.Win a) (answer.Waits b) h k e = absurd ((win_apart rules a).0 (ap sort_letter e))
+same_answers rules others (answer.Win a) (answer.Shape b) h k e = absurd ((win_apart rules a).1 (ap sort_letter e))
+same_answers rules others (answer.Waits a) (answer.Win b) h k e = absurd ((win_apart others b).0 (sym (ap sort_letter e)))
+same_answers rules others (answer.Shape a) (answer.Win b) h k e = absurd ((win_apart others b).1 (sym (ap sort_letter e)))
+same_answers rules others (answer.Waits a) (answer.Waits b) h k e = ap answer.Waits (same_waits a b h k e)
+same_answers rules others (answer.Shape a) (answer.Shape b) h k e = ap answer.Shape (same_shapes a b h k e)
+same_answers rules others a b h k e = absurd (omega (arith, ap sort_letter e))

@@ -1,13 +1,20 @@
 -- Texts that need no escapes.
-use Rattle.std.proofs.Common.{◌≡◌, ℕ, ◌+◌, ◌%◌, true, List, [], ◌∷◌, ◌++◌, refl, ap, ◌∙◌, arith}
+use Rattle.std.proofs.Common.{◌≡◌, ℕ, ◌+◌, ◌%◌, Bool, true, false, cond, ◌&&◌, List, [], ◌∷◌, ◌++◌, refl, ap, ◌∙◌, arith}
 use Rattle.std.proofs.lemmas.Bool.{or_parts, and_parts, not-true, eqb-false, ltb-false}
-use Rattle.std.specs.Prelude.{◌==◌}
-use Rattle.std.specs.List.{list_all}
+use Rattle.std.proofs.lemmas.List.Folds.{list_all-append}
+use Rattle.std.specs.Prelude.{◌==◌, codes}
+use Rattle.std.specs.Bool.{beq}
+use Rattle.std.specs.List.{list_all, flat_map}
 use Rattle.json.specs.Run.{is_plain, is_stop}
 use Rattle.json.specs.Print.{escape, escape_byte}
 use Rattle.json.proofs.Printed.Strings.{escape_byte_plain}
 use Rattle.riichi_text.specs.Tiles.{kind_text, letter_of}
 use Rattle.riichi_text.proofs.Letters.{letter_high}
+use Rattle.riichi_hand.specs.declared.house.House.{House}
+use Rattle.riichi_hand.specs.declared.house.Switch.{Switch}
+use Rattle.riichi_hand.specs.declared.house.Switch.TheVariants as switch
+use Rattle.riichi_hand.specs.Rules.{first_profile, second_profile, switch_word, is_on}
+use Rattle.riichi_hand.specs.RulesWords.{every_switch, sign, change_words, changed_words, rules_words}
 use Rattle.riichi_names.specs.Names.{japanese}
 use Rattle.riichi_yaku.specs.declared.table.Yaku.{Yaku}
 use Rattle.riichi_yaku.specs.declared.table.Yaku.TheVariants.{Riichi}
@@ -34,6 +41,47 @@ name_plain other = refl
 
 pub escape_name : (yaku : Yaku) → escape (japanese yaku) ≡ japanese yaku
 escape_name yaku = escape_same (japanese yaku) (name_plain yaku)
+
+-- the words of rules
+
+switch_word_plain : (which : Switch) → list_all is_plain (switch_word which) ≡ true
+switch_word_plain switch.RedFives = refl
+switch_word_plain _ = refl
+
+sign_plain : (on : Bool) → list_all is_plain (sign on) ≡ true
+sign_plain true = refl
+sign_plain false = refl
+
+both_plain : (s t : List ℕ) → list_all is_plain s ≡ true → list_all is_plain t ≡ true → list_all is_plain (s ++ t) ≡ true
+both_plain s t p q = list_all-append is_plain s t ∙ ap (λ b. b && list_all is_plain t) p ∙ q
+
+either_plain : (test : Bool) (s t : List ℕ) → list_all is_plain s ≡ true → list_all is_plain t ≡ true → list_all is_plain (cond test s t) ≡ true
+either_plain true s t p q = p
+either_plain false s t p q = q
+
+change_plain : (profile house : House) (which : Switch) → list_all is_plain (change_words profile house which) ≡ true
+unfolding change_words
+change_plain profile house which =
+    let on = is_on which house in
+    either_plain (beq on (is_on which profile)) [] (sign on ++ switch_word which) refl (both_plain (sign on) (switch_word which) (sign_plain on) (switch_word_plain which))
+
+changes_plain : (profile house : House) (switches : List Switch) → list_all is_plain (flat_map (change_words profile house) switches) ≡ true
+changes_plain profile house [] = refl
+changes_plain profile house (which ∷ switches) =
+    both_plain (change_words profile house which) (flat_map (change_words profile house) switches) (change_plain profile house which) (changes_plain profile house switches)
+
+changed_plain : (number : List ℕ) (profile house : House) → list_all is_plain number ≡ true → list_all is_plain (changed_words number profile house) ≡ true
+unfolding changed_words
+changed_plain number profile house p = both_plain number (flat_map (change_words profile house) every_switch) p (changes_plain profile house every_switch)
+
+rules_plain : (house : House) → list_all is_plain (rules_words house) ≡ true
+unfolding rules_words
+rules_plain house =
+    either_plain (house.red_fives && house.raise) (changed_words (codes "2") second_profile house) (changed_words (codes "1") first_profile house)
+    (changed_plain (codes "2") second_profile house refl) (changed_plain (codes "1") first_profile house refl)
+
+pub escape_rules : (house : House) → escape (rules_words house) ≡ rules_words house
+escape_rules house = escape_same (rules_words house) (rules_plain house)
 
 pub escape_kind : (kind : ℕ) → escape (kind_text kind) ≡ kind_text kind
 escape_kind kind =

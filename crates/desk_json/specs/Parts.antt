@@ -5,6 +5,8 @@ use Rattle.riichi_hand.specs.FaultTexts.{line_code_text, notation_code_text, nam
 use Rattle.riichi_hand.specs.declared.fault.LineFault.{LineFault}
 use Rattle.riichi_hand.specs.declared.fault.LineFault.TheVariants.{Line, Notation}
 use Rattle.riichi_hand.specs.declared.line.record.Place.{Place}
+use Rattle.riichi_hand.specs.declared.win.Rules.{Rules}
+use Rattle.riichi_hand.specs.RulesWords.{house_words}
 use Rattle.riichi_faults.specs.Meaning.{refusal_key, refusal_place, refusal_words}
 use Rattle.riichi_names.specs.Names.{japanese}
 use Rattle.riichi_yaku.specs.declared.table.Yaku.{Yaku}
@@ -77,13 +79,20 @@ points_text score =
 unfoldable pub score_text : Score → List ℕ
 score_text score = worth_text score ++ points_text score ++ codes ",\"yaku\":[" ++ yaku_list_text score.yaku ++ codes "]"
 
-unfoldable pub open_win_text : WinAnswer → List ℕ
-open_win_text (Won score) = score_text score
-open_win_text NoYaku = codes "{\"answer\":\"no yaku\""
-open_win_text NoWin = codes "{\"answer\":\"no win\""
+unfoldable pub worth_members_text : WinAnswer → List ℕ
+worth_members_text (Won score) = score_text score
+worth_members_text NoYaku = codes "{\"answer\":\"no yaku\""
+worth_members_text NoWin = codes "{\"answer\":\"no win\""
 
-unfoldable pub win_text : WinAnswer → List ℕ
-win_text win = open_win_text win ++ codes "}"
+-- the rules, where they are neither profile
+abbrev pub rules_text : Rules → List ℕ
+rules_text rules = house_words (codes ",\"rules\":\"") (codes "\"") rules
+
+unfoldable pub open_win_text : Rules → WinAnswer → List ℕ
+open_win_text rules win = worth_members_text win ++ rules_text rules
+
+unfoldable pub win_text : Rules → WinAnswer → List ℕ
+win_text rules win = open_win_text rules win ++ codes "}"
 
 -- ---- waits
 

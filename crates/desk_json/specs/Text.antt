@@ -7,6 +7,7 @@ use Rattle.json.specs.Tree.{json_tokens}
 use Rattle.riichi_hand.specs.declared.fault.LineCode.TheVariants.{H1}
 use Rattle.riichi_hand.specs.declared.fault.LineFault.{LineFault}
 use Rattle.riichi_hand.specs.declared.fault.LineFault.TheVariants.{Line}
+use Rattle.riichi_hand.specs.declared.win.Rules.{Rules}
 use Rattle.riichi_faults.specs.Meaning.{long_keys_alike, long_places_alike, long_words_alike}
 use Rattle.desk_core.specs.declared.answer.Answer.{Answer}
 use Rattle.desk_json.specs.Trees.{answer_tree, refused_tree, refusal_tree}
@@ -15,8 +16,8 @@ use Rattle.desk_json.specs.Trees.{answer_tree, refused_tree, refusal_tree}
 unfoldable pub text_of : Json → List ℕ
 text_of json = print (json_tokens json)
 
-abbrev pub answer_text : Answer → List ℕ
-answer_text answer = text_of (answer_tree answer)
+abbrev pub answer_text : Rules → Answer → List ℕ
+answer_text rules answer = text_of (answer_tree rules answer)
 
 abbrev pub refusal_text : List ℕ → LineFault → List ℕ
 refusal_text line fault = text_of (refusal_tree line fault)

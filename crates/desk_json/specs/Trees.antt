@@ -8,6 +8,9 @@ use Rattle.riichi_hand.specs.FaultTexts.{line_code_text, notation_code_text, nam
 use Rattle.riichi_hand.specs.declared.fault.LineFault.{LineFault}
 use Rattle.riichi_hand.specs.declared.fault.LineFault.TheVariants.{Line, Notation}
 use Rattle.riichi_hand.specs.declared.line.record.Place.{Place}
+use Rattle.riichi_hand.specs.declared.win.Rules.{Rules}
+use Rattle.riichi_hand.specs.Rules.{house_of}
+use Rattle.riichi_hand.specs.RulesWords.{rules_words, is_house}
 use Rattle.riichi_faults.specs.Meaning.{refusal_key, refusal_place, refusal_words}
 use Rattle.riichi_names.specs.Names.{japanese}
 use Rattle.riichi_yaku.specs.declared.table.Yaku.{Yaku}
@@ -85,8 +88,12 @@ payment_tree (Ron points) = object_of ((codes "discarder", natural points) ∷ [
 payment_tree (Tsumo other dealer) = object_of ((codes "dealer", natural dealer) ∷ (codes "each_other", natural other) ∷ [])
 payment_tree (DealerTsumo each) = object_of ((codes "each", natural each) ∷ [])
 
-unfoldable pub score_tree : Score → Json
-score_tree score = answer_of_sort (codes "won") (
+-- the rules of a win, behind the other members, where they are neither profile
+abbrev pub rules_members : Rules → List Named
+rules_members rules = if is_house rules then (codes "rules", string (rules_words (house_of rules))) ∷ [] else []
+
+unfoldable pub score_tree : Rules → Score → Json
+score_tree rules score = answer_of_sort (codes "won") (
     (codes "yakuman", boolean (is_yakuman score.yaku))
     ∷ (codes "han", natural score.han)
     ∷ (codes "fu", natural score.fu)
@@ -96,12 +103,12 @@ score_tree score = answer_of_sort (codes "won") (
     ∷ (codes "payment", payment_tree score.payment)
     ∷ (codes "gain", natural score.gain)
     ∷ (codes "yaku", list_of yaku_tree (yaku_in score.yaku))
-    ∷ [])
+    ∷ rules_members rules)
 
-unfoldable pub win_tree : WinAnswer → Json
-win_tree (Won score) = score_tree score
-win_tree NoYaku = answer_of_sort (codes "no yaku") []
-win_tree NoWin = answer_of_sort (codes "no win") []
+unfoldable pub win_tree : Rules → WinAnswer → Json
+win_tree rules (Won score) = score_tree rules score
+win_tree rules NoYaku = answer_of_sort (codes "no yaku") (rules_members rules)
+win_tree rules NoWin = answer_of_sort (codes "no win") (rules_members rules)
 
 -- ---- waits
 
@@ -134,10 +141,11 @@ shape_tree shape = answer_of_sort (codes "shape") ((codes "shanten", number (sig
 
 -- ---- answers
 
-unfoldable pub answer_tree : Answer → Json
-answer_tree (answer.Win win) = win_tree win
-answer_tree (answer.Waits kinds) = waits_tree kinds
-answer_tree (answer.Shape shape) = shape_tree shape
+-- the answer under these rules, which wins alone ask for
+unfoldable pub answer_tree : Rules → Answer → Json
+answer_tree rules (answer.Win win) = win_tree rules win
+answer_tree rules (answer.Waits kinds) = waits_tree kinds
+answer_tree rules (answer.Shape shape) = shape_tree shape
 
 -- ---- refusals
 

@@ -6,19 +6,25 @@ ghost use Rattle.desk_json.specs.Trees.{answer_tree};
 ghost use Rattle.desk_json.specs.Whole as spec;
 
 use desk_core::Answer;
+use riichi_hand::Rules;
 use riichi_score::{Payment, Score, WinAnswer};
 use riichi_shape::{Accepts, Discard, DiscardList, LiveList, ShapeAnswer};
 
 /// What a reader of JSON reads in the text of an answer is the answer's tree.
-pub fn each_text_reads_back(answer: &Answer)
-    ensures { document (answer_text answer.now) ≡ Some (answer_tree answer.now) }
+pub fn each_text_reads_back(rules: Rules, answer: &Answer)
+    ensures { document (answer_text rules answer.now) ≡ Some (answer_tree rules answer.now) }
 {
     see_answer(answer);
 }
 
-/// Equal texts are those of equal answers.
-pub fn equal_texts_mean_equal_answers(one: &Answer, other: &Answer)
-    ensures { answer_text one.now ≡ answer_text other.now → one.now ≡ other.now }
+/// Equal texts are those of equal answers, under the same rules or others.
+pub fn equal_texts_mean_equal_answers(
+    rules: Rules,
+    one: &Answer,
+    other_rules: Rules,
+    other: &Answer,
+)
+    ensures { answer_text rules one.now ≡ answer_text other_rules other.now → one.now ≡ other.now }
 {
     see_answer(one);
     see_answer(other);

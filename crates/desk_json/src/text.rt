@@ -8,27 +8,28 @@ use crate::waits::push_waits;
 use crate::win::push_win;
 use arrayvec::ArrayString;
 use desk_core::Answer;
+use riichi_hand::Rules;
 
 /// Room for any answer as JSON: the longest has fourteen discards that accept every kind.
 pub type JsonText = ArrayString<12288>;
 
-/// The answer as one object, without the line's end.
-pub fn answer_text(answer: &Answer) -> JsonText
-    ensures { result.bytes ≡ spec.answer_text answer.now }
+/// The answer under these rules as one object, without the line's end.
+pub fn answer_text(rules: Rules, answer: &Answer) -> JsonText
+    ensures { result.bytes ≡ spec.answer_text rules answer.now }
 {
     let mut text = JsonText::new();
-    push_answer(&mut text, answer);
+    push_answer(&mut text, rules, answer);
     text
 }
 
-/// Writes the answer behind a text, without the line's end. A text that is kept need not be made
-/// anew for each answer.
-pub fn push_answer(text: &mut JsonText, answer: &Answer)
+/// Writes the answer under these rules behind a text, without the line's end: that of a win names the rules where they are neither
+/// profile. A text that is kept need not be made anew for each answer.
+pub fn push_answer(text: &mut JsonText, rules: Rules, answer: &Answer)
     requires { array_string_len text.old + 11667 ≤ 12288 }
-    ensures { text.new.bytes ≡ text.old.bytes ++ spec.answer_text answer.now }
+    ensures { text.new.bytes ≡ text.old.bytes ++ spec.answer_text rules answer.now }
 {
     match answer {
-        Answer::Win(win) => push_win(text, win),
+        Answer::Win(win) => push_win(text, rules, win),
         Answer::Waits(kinds) => push_waits(text, kinds),
         Answer::Shape(shape) => push_shape(text, shape),
     }

@@ -8,30 +8,43 @@ ghost use Rattle.desk_json.specs.Text.{answer_text};
 use crate::number::push_after;
 use crate::text::JsonText;
 use crate::yaku::push_yaku;
+use riichi_hand::{Rules, push_house_words};
 use riichi_score::{Payment, Score, WinAnswer};
 
 #[tactic(auto, using(crate::proofs::Pieces::win_written))]
-pub(crate) fn push_win(text: &mut JsonText, answer: &WinAnswer)
-    requires { array_string_len text.old + 3840 ≤ 12288 }
-    ensures { text.new.bytes ≡ text.old.bytes ++ answer_text (Win answer.now) }
+pub(crate) fn push_win(text: &mut JsonText, rules: Rules, answer: &WinAnswer)
+    requires { array_string_len text.old + 4039 ≤ 12288 }
+    ensures { text.new.bytes ≡ text.old.bytes ++ answer_text rules (Win answer.now) }
 {
-    push_open_win(text, answer);
+    push_open_win(text, rules, answer);
     text.push_str("}");
 }
 
-/// Writes the object of a win's answer behind a text, without the brace that ends it, so that more members may stand there.
-pub fn push_open_win(text: &mut JsonText, answer: &WinAnswer)
-    requires { array_string_len text.old + 3839 ≤ 12288 }
-    ensures bytes { text.new.bytes ++ codes "}" ≡ text.old.bytes ++ answer_text (Win answer.now) }
-    ensures len { array_string_len text.new ≤ array_string_len text.old + 3839 }
+/// Writes the object of a win's answer under these rules behind a text, without the brace that ends it, so that more members may
+/// stand there.
+pub fn push_open_win(text: &mut JsonText, rules: Rules, answer: &WinAnswer)
+    requires { array_string_len text.old + 4038 ≤ 12288 }
+    ensures bytes { text.new.bytes ++ codes "}"
+        ≡ text.old.bytes ++ answer_text rules (Win answer.now) }
+    ensures len { array_string_len text.new ≤ array_string_len text.old + 4038 }
 {
-    push_members(text, answer);
+    push_members(text, rules, answer);
 }
 
 #[tactic(auto, unfolding(crate::specs::Parts::open_win_text))]
-fn push_members(text: &mut JsonText, answer: &WinAnswer)
+fn push_members(text: &mut JsonText, rules: Rules, answer: &WinAnswer)
+    requires { array_string_len text.old + 4038 ≤ 12288 }
+    ensures bytes { text.new.bytes ≡ text.old.bytes ++ spec.open_win_text rules answer.now }
+    ensures len { array_string_len text.new ≤ array_string_len text.old + 4038 }
+{
+    push_worth_members(text, answer);
+    push_house_words(text, ",\"rules\":\"", rules, "\"");
+}
+
+#[tactic(auto, unfolding(crate::specs::Parts::worth_members_text))]
+fn push_worth_members(text: &mut JsonText, answer: &WinAnswer)
     requires { array_string_len text.old + 3839 ≤ 12288 }
-    ensures bytes { text.new.bytes ≡ text.old.bytes ++ spec.open_win_text answer.now }
+    ensures bytes { text.new.bytes ≡ text.old.bytes ++ spec.worth_members_text answer.now }
     ensures len { array_string_len text.new ≤ array_string_len text.old + 3839 }
 {
     match answer {

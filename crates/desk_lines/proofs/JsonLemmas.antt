@@ -13,7 +13,7 @@ use Rattle.riichi_score.specs.declared.answer.WinAnswer.TheVariants.{Won, NoYaku
 use Rattle.desk_core.specs.declared.answer.Answer.{Answer}
 use Rattle.desk_core.specs.declared.answer.Answer.TheVariants as answer
 use Rattle.desk_core.specs.Value.{value_of}
-use Rattle.desk_json.specs.Parts.{worth_text, score_text, open_win_text, win_text, waits_text, shape_text, code_text, refusal_parts}
+use Rattle.desk_json.specs.Parts.{worth_text, score_text, worth_members_text, open_win_text, win_text, waits_text, shape_text, code_text, refusal_parts}
 use Rattle.desk_json.specs.Text.{answer_text, refusal_text}
 use Rattle.desk_json.proofs.Pieces.{win_written, waits_written, shape_written}
 use Rattle.desk_json.proofs.Refusals.{refusal_written}
@@ -35,17 +35,17 @@ parts_refuse line (Notation name fault) = refl
 pub is_refusal-fault : (line : List ℕ) (fault : LineFault) → is_refusal (refusal_text line fault) ≡ true
 is_refusal-fault line fault = ap is_refusal (refusal_written line fault) ∙ parts_refuse line fault
 
-no_win_refuses : (win : WinAnswer) → is_refusal (win_text win) ≡ false
-unfolding win_text open_win_text score_text worth_text
-no_win_refuses (Won score) = refl
-no_win_refuses NoYaku = refl
-no_win_refuses NoWin = refl
+no_win_refuses : (rules : Rules) (win : WinAnswer) → is_refusal (win_text rules win) ≡ false
+unfolding win_text open_win_text worth_members_text score_text worth_text
+no_win_refuses rules (Won score) = refl
+no_win_refuses rules NoYaku = refl
+no_win_refuses rules NoWin = refl
 
-pub is_refusal-answer : (told : Answer) → is_refusal (answer_text told) ≡ false
+pub is_refusal-answer : (rules : Rules) (told : Answer) → is_refusal (answer_text rules told) ≡ false
 unfolding waits_text shape_text
-is_refusal-answer (answer.Win win) = ap is_refusal (win_written win) ∙ no_win_refuses win
-is_refusal-answer (answer.Waits marks) = ap is_refusal (waits_written marks)
-is_refusal-answer (answer.Shape shape) = ap is_refusal (shape_written shape)
+is_refusal-answer rules (answer.Win win) = ap is_refusal (win_written rules win) ∙ no_win_refuses rules win
+is_refusal-answer rules (answer.Waits marks) = ap is_refusal (waits_written rules marks)
+is_refusal-answer rules (answer.Shape shape) = ap is_refusal (shape_written rules shape)
 
 pub ruleset kinds = (is_refusal-fault, is_refusal-answer)
 
@@ -54,17 +54,17 @@ pub ruleset kinds = (is_refusal-fault, is_refusal-answer)
 brace_of : (text parts : List ℕ) → text ≡ parts → codes "{" ++ drop 1 parts ≡ parts → codes "{" ++ drop 1 text ≡ text
 brace_of text parts is brace = ap (λ (all : List ℕ). codes "{" ++ drop 1 all) is ∙ brace ∙ sym is
 
-win_brace : (win : WinAnswer) → codes "{" ++ drop 1 (win_text win) ≡ win_text win
-unfolding win_text open_win_text score_text worth_text
-win_brace (Won score) = refl
-win_brace NoYaku = refl
-win_brace NoWin = refl
+win_brace : (rules : Rules) (win : WinAnswer) → codes "{" ++ drop 1 (win_text rules win) ≡ win_text rules win
+unfolding win_text open_win_text worth_members_text score_text worth_text
+win_brace rules (Won score) = refl
+win_brace rules NoYaku = refl
+win_brace rules NoWin = refl
 
-pub answer_brace : (told : Answer) → codes "{" ++ drop 1 (answer_text told) ≡ answer_text told
+pub answer_brace : (rules : Rules) (told : Answer) → codes "{" ++ drop 1 (answer_text rules told) ≡ answer_text rules told
 unfolding waits_text shape_text
-answer_brace (answer.Win win) = brace_of (answer_text (answer.Win win)) (win_text win) (win_written win) (win_brace win)
-answer_brace (answer.Waits marks) = brace_of (answer_text (answer.Waits marks)) (waits_text marks) (waits_written marks) refl
-answer_brace (answer.Shape shape) = brace_of (answer_text (answer.Shape shape)) (shape_text shape) (shape_written shape) refl
+answer_brace rules (answer.Win win) = brace_of (answer_text rules (answer.Win win)) (win_text rules win) (win_written rules win) (win_brace rules win)
+answer_brace rules (answer.Waits marks) = brace_of (answer_text rules (answer.Waits marks)) (waits_text marks) (waits_written rules marks) refl
+answer_brace rules (answer.Shape shape) = brace_of (answer_text rules (answer.Shape shape)) (shape_text shape) (shape_written rules shape) refl
 
 parts_brace : (line : List ℕ) (fault : LineFault) → codes "{" ++ drop 1 (refusal_parts line fault) ≡ refusal_parts line fault
 unfolding refusal_parts code_text
@@ -75,13 +75,13 @@ pub fault_brace : (line : List ℕ) (fault : LineFault) → codes "{" ++ drop 1 
 fault_brace line fault = brace_of (refusal_text line fault) (refusal_parts line fault) (refusal_written line fault) (parts_brace line fault)
 
 -- the object of an outcome was made, and its members put
-pub members_puts : (rules : Rules) (line before same after made object : List ℕ) (outcome : Result (Option Job) LineFault) (refused : Bool) → outcome_of rules line ≡ outcome → outcome_json line outcome ≡ Some object
+pub members_puts : (rules : Rules) (line before same after made object : List ℕ) (outcome : Result (Option Job) LineFault) (refused : Bool) → outcome_of rules line ≡ outcome → outcome_json rules line outcome ≡ Some object
     → codes "{" ++ drop 1 object ≡ object → is_refusal object ≡ refused → same ≡ before → made ≡ object → after ≡ same ++ (drop 1 made ++ 10 ∷ [])
     → Puts are_of_refusal (IsMembers rules line) (cond refused Refused Answered) before after
 unfolding json_of
 members_puts rules line before same after made object outcome refused is said brace tested kept made_is put = record {
   told = Some (drop 1 object);
-  may_be_told = ap Some brace ∙ sym said ∙ ap (outcome_json line) (sym is);
+  may_be_told = ap Some brace ∙ sym said ∙ ap (outcome_json rules line) (sym is);
   kind_is = ap (λ (r : Bool). cond r Refused Answered) (sym (ap is_refusal brace ∙ tested));
   put = put ∙ ap (λ (text : List ℕ). same ++ (drop 1 text ++ 10 ∷ [])) made_is ∙ ap (λ (front : List ℕ). front ++ (drop 1 object ++ 10 ∷ [])) kept;
 }
@@ -90,24 +90,24 @@ pub members_none : (rules : Rules) (line before : List ℕ) → outcome_of rules
 unfolding json_of
 members_none rules line before is = record {
   told = None;
-  may_be_told = ap (outcome_json line) (sym is);
+  may_be_told = ap (outcome_json rules line) (sym is);
   kind_is = refl;
   put = sym (append-nil before);
 }
 
 -- ---- how many
 
-one_refusal : (line : List ℕ) (outcome : Result (Option Job) LineFault) (objects answers : List (List ℕ)) → map is_refusal objects ≡ map is_told_refusal answers
-    → map is_refusal (cons_option (outcome_json line outcome) objects) ≡ map is_told_refusal (cons_option (outcome_text outcome) answers)
-one_refusal line (Ok None) objects answers rest = rest
-one_refusal line (Ok (Some job)) objects answers rest = λ i. (is_refusal-answer (value_of job) ∙ sym (told-answer (value_of job))) i ∷ rest i
-one_refusal line (Err fault) objects answers rest = λ i. (is_refusal-fault line fault ∙ sym (told-fault fault)) i ∷ rest i
+one_refusal : (rules : Rules) (line : List ℕ) (outcome : Result (Option Job) LineFault) (objects answers : List (List ℕ)) → map is_refusal objects ≡ map is_told_refusal answers
+    → map is_refusal (cons_option (outcome_json rules line outcome) objects) ≡ map is_told_refusal (cons_option (outcome_text outcome) answers)
+one_refusal rules line (Ok None) objects answers rest = rest
+one_refusal rules line (Ok (Some job)) objects answers rest = λ i. (is_refusal-answer rules (value_of job) ∙ sym (told-answer (value_of job))) i ∷ rest i
+one_refusal rules line (Err fault) objects answers rest = λ i. (is_refusal-fault line fault ∙ sym (told-fault fault)) i ∷ rest i
 
 -- the objects that are refusals are those of the plain answers that are
 same_refusals : (rules : Rules) (lines : List (List ℕ)) → map is_refusal (filter_map (json_of rules) lines) ≡ map is_told_refusal (filter_map (answer_of rules) lines)
 unfolding json_of answer_of
 same_refusals rules [] = refl
-same_refusals rules (line ∷ lines) = one_refusal line (outcome_of rules line) (filter_map (json_of rules) lines) (filter_map (answer_of rules) lines) (same_refusals rules lines)
+same_refusals rules (line ∷ lines) = one_refusal rules line (outcome_of rules line) (filter_map (json_of rules) lines) (filter_map (answer_of rules) lines) (same_refusals rules lines)
 
 pub json_report : (given : Rules) (lines : List (List ℕ)) → report_by is_refusal (json_on given lines) ≡ report_on given lines
 json_report given lines = report_by-same is_refusal is_told_refusal (json_on given lines) (answers_on given lines) (same_refusals (rules_of given lines) (record_lines lines))

@@ -20,29 +20,29 @@ use Rattle.desk_lines.specs.Telling.{kind_by, with_line_feed}
 use Rattle.desk_lines.specs.declared.line_kind.LineKind.{LineKind}
 use Rattle.desk_lines.specs.declared.line_kind.LineKind.TheVariants.{Refused, Answered}
 
-no_refusal : (win : WinAnswer) (named : Named) → is_refusal (written (with_member (win_tree win) named)) ≡ false
+no_refusal : (rules : Rules) (win : WinAnswer) (named : Named) → is_refusal (written (with_member (win_tree rules win) named)) ≡ false
 unfolding with_member win_tree score_tree written escape_byte
-no_refusal (Won score) named = refl
-no_refusal NoYaku named = refl
-no_refusal NoWin named = refl
+no_refusal rules (Won score) named = refl
+no_refusal rules NoYaku named = refl
+no_refusal rules NoWin named = refl
 
-win_brace : (win : WinAnswer) (named : Named) → codes "{" ++ drop 1 (written (with_member (win_tree win) named)) ≡ written (with_member (win_tree win) named)
+win_brace : (rules : Rules) (win : WinAnswer) (named : Named) → codes "{" ++ drop 1 (written (with_member (win_tree rules win) named)) ≡ written (with_member (win_tree rules win) named)
 unfolding with_member win_tree score_tree written
-win_brace (Won score) named = refl
-win_brace NoYaku named = refl
-win_brace NoWin named = refl
+win_brace rules (Won score) named = refl
+win_brace rules NoYaku named = refl
+win_brace rules NoWin named = refl
 
 object_written : (win : WinParts) (object : List ℕ) (said : IsExplainedWin win object)
-    → object ≡ written (with_member (win_tree (best_of win)) (codes "why", why_tree said.explanation said.ranking.ranked.items))
-object_written win object said = said.object_is ∙ text_written (with_member (win_tree (best_of win)) (codes "why", why_tree said.explanation said.ranking.ranked.items))
+    → object ≡ written (with_member (win_tree win.rules (best_of win)) (codes "why", why_tree said.explanation said.ranking.ranked.items))
+object_written win object said = said.object_is ∙ text_written (with_member (win_tree win.rules (best_of win)) (codes "why", why_tree said.explanation said.ranking.ranked.items))
 
 refuses_not : (win : WinParts) (object : List ℕ) → IsExplainedWin win object → is_refusal object ≡ false
-refuses_not win object said = ap is_refusal (object_written win object said) ∙ no_refusal (best_of win) (codes "why", why_tree said.explanation said.ranking.ranked.items)
+refuses_not win object said = ap is_refusal (object_written win object said) ∙ no_refusal win.rules (best_of win) (codes "why", why_tree said.explanation said.ranking.ranked.items)
 
 object_brace : (win : WinParts) (object : List ℕ) → IsExplainedWin win object → codes "{" ++ drop 1 object ≡ object
 object_brace win object said =
     let e = object_written win object said in
-    ap (λ (all : List ℕ). codes "{" ++ drop 1 all) e ∙ win_brace (best_of win) (codes "why", why_tree said.explanation said.ranking.ranked.items) ∙ sym e
+    ap (λ (all : List ℕ). codes "{" ++ drop 1 all) e ∙ win_brace win.rules (best_of win) (codes "why", why_tree said.explanation said.ranking.ranked.items) ∙ sym e
 
 -- the object of a win was made and put
 pub puts_explained : (rules : Rules) (line before after object : List ℕ) (win : WinParts) → Some win ≡ win_in (outcome_of rules line) → IsExplainedWin win object

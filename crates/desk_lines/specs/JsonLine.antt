@@ -12,17 +12,17 @@ use Rattle.desk_lines.specs.LineAnswers.{answers_by}
 use Rattle.desk_lines.specs.LongLines.{AreAlike, long_outcome}
 use Rattle.desk_lines.specs.Telling.{text_of}
 
-abbrev pub outcome_json : List ℕ → Result (Option Job) LineFault → Option (List ℕ)
-outcome_json line outcome = outcome_told answer_text (refusal_text line) outcome
+abbrev pub outcome_json : Rules → List ℕ → Result (Option Job) LineFault → Option (List ℕ)
+outcome_json rules line outcome = outcome_told (answer_text rules) (refusal_text line) outcome
 
 -- the answer to a line as JSON
 unfoldable pub json_of : Rules → List ℕ → Option (List ℕ)
-json_of rules line = outcome_json line (outcome_of rules line)
+json_of rules line = outcome_json rules line (outcome_of rules line)
 
 long_objects : (rules : Rules) (line other : List ℕ) → 4096 < length line → 4096 < length other → json_of rules line ≡ json_of rules other
 unfolding json_of
 long_objects rules line other long long_other =
-    ap (outcome_json line) (long_outcome rules line long) ∙ ap Some (long_texts_alike line other long long_other) ∙ ap (outcome_json other) (sym (long_outcome rules other long_other))
+    ap (outcome_json rules line) (long_outcome rules line long) ∙ ap Some (long_texts_alike line other long long_other) ∙ ap (outcome_json rules other) (sym (long_outcome rules other long_other))
 
 pub json_alike : AreAlike (IsBy json_of)
 json_alike rules line other told long long_other is = is ∙ long_objects rules line other long long_other

@@ -55,7 +55,7 @@ pub(crate) fn put_json<S: RowSource>(
     match read_placed(rules, line) {
         Ok(None) => LineKind::NoRecord,
         Ok(Some(job)) => {
-            make_object(&job, outbox, source);
+            make_object(rules, &job, outbox, source);
             outbox.put_object();
             LineKind::Answered
         }
@@ -88,7 +88,7 @@ impl Responder for Members {
         match read_placed(rules, line) {
             Ok(None) => LineKind::NoRecord,
             Ok(Some(job)) => {
-                make_object(&job, outbox, source);
+                make_object(rules, &job, outbox, source);
                 outbox.put_members();
                 LineKind::Answered
             }
@@ -111,13 +111,13 @@ impl Numbers for Members {
     }
 }
 
-/// Makes the object of a job.
-fn make_object<S: RowSource>(job: &Job, outbox: &mut Outbox, source: &mut S)
-    ensures object { outbox.new.object.bytes ≡ spec.answer_text (value_of job.now) }
+/// Makes the object of a job under these rules.
+fn make_object<S: RowSource>(rules: Rules, job: &Job, outbox: &mut Outbox, source: &mut S)
+    ensures object { outbox.new.object.bytes ≡ spec.answer_text rules (value_of job.now) }
     ensures same { outbox.new.bytes ≡ outbox.old.bytes }
 {
     outbox.object.clear();
-    push_answer(&mut outbox.object, &judge_with(source, job));
+    push_answer(&mut outbox.object, rules, &judge_with(source, job));
 }
 
 /// Makes the object of a refusal.

@@ -10,7 +10,7 @@ use Rattle.desk_json.specs.Text.{text_of}
 use Rattle.desk_json.specs.Trees.{win_tree}
 use Rattle.desk_reasons.specs.Trees.{why_tree, with_member}
 
--- The object answers a win, and its last member says why, by a reading that is worth the answer and by every reading of the hand,
+-- The object answers a win under its rules, and its last member says why, by a reading that is worth the answer and by every reading of the hand,
 -- the best first.
 pub record IsExplainedWin (win : WinParts) (object : List ℕ) : Type 0 where
   pub explanation : WinExplanation
@@ -18,4 +18,4 @@ pub record IsExplainedWin (win : WinParts) (object : List ℕ) : Type 0 where
   pub explains : Explains win explanation
   pub ranking : Ranking
   pub are_ranked : AreRanked win ranking
-  pub object_is : object ≡ text_of (with_member (win_tree (best_of win)) (codes "why", why_tree explanation ranking.ranked.items))
+  pub object_is : object ≡ text_of (with_member (win_tree win.rules (best_of win)) (codes "why", why_tree explanation ranking.ranked.items))

@@ -18,13 +18,13 @@ use riichi_shape::RowSource;
 /// Writes the object that answers a win behind a text, with the member `why` at its end, without a line's end. Where the hand is
 /// no win, the rows of a source say how far it is from each form.
 pub fn push_explained_win<R: RowSource>(text: &mut JsonText, win: &WinRecord, source: &mut R)
-    requires { array_string_len text.old + 11570 ≤ 12288 }
+    requires { array_string_len text.old + 11767 ≤ 12288 }
     ensures { (object : List ℕ) × IsExplainedWin win.now object
         × (text.new.bytes ≡ text.old.bytes ++ object) }
 {
     let explanation = explain_win(source, win);
     let ranking = ranked_readings(win);
-    push_open_win(text, &explanation.answer());
+    push_open_win(text, win.rules(), &explanation.answer());
     text.push_str(",\"why\":");
     push_why(text, &explanation, ranking.ranked.as_slice());
     text.push_str("}");

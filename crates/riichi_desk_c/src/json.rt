@@ -28,7 +28,7 @@ pub extern "C" fn riichi_json(rules: u32, line: &[u8], room: &mut [u8]) -> usize
     let mut text = JsonText::new();
     match read_placed(rules, line) {
         Ok(None) => {}
-        Ok(Some(job)) => push_answer(&mut text, &judge(&job)),
+        Ok(Some(job)) => push_answer(&mut text, rules, &judge(&job)),
         Err(refusal) => push_refusal(&mut text, line, &refusal),
     }
     place(text.as_str().as_bytes(), room)

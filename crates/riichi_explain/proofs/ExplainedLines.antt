@@ -43,7 +43,7 @@ use Rattle.riichi_explain.specs.Missed.{missed_waits, missed_lines}
 use Rattle.riichi_explain.specs.declared.explaining.Shown.{Shown}
 use Rattle.riichi_explain.specs.declared.explaining.Shown.TheVariants.{BestReading, EveryReading}
 use Rattle.riichi_explain.specs.declared.ranked.RankedReading.{RankedReading}
-use Rattle.riichi_explain.specs.Explanation.{win_lines, AreOthers, IsBestText, IsWinText, IsJobText, IsOutcomeText}
+use Rattle.riichi_explain.specs.Explanation.{rules_line, reason_lines, win_lines, AreOthers, IsBestText, IsWinText, IsJobText, IsOutcomeText}
 use Rattle.riichi_explain.specs.Han.{han_rows}
 use Rattle.riichi_explain.specs.Others.{scored_text, ranked_text, other_text, fitting, more_line, more_if}
 use Rattle.riichi_explain.specs.Win.{counted_fu, reading_of}
@@ -57,6 +57,7 @@ use Rattle.riichi_waits.specs.declared.waits.WaitSorts.{WaitSorts}
 use Rattle.riichi_text.specs.Lists.{joined}
 use Rattle.riichi_text.specs.Tiles.{kind_text, letter_of, digit_of, run_text, two_text, three_text, four_text, block_text, meld_text}
 use Rattle.riichi_explain.proofs.RefusalLines.{refusal_text-lines}
+use Rattle.riichi_explain.proofs.RulesLines.{rules_line-lines}
 use Rattle.riichi_text.proofs.Letters.{letter_high}
 use Rattle.riichi_explain.proofs.PlainTexts.{plain, after, after3, after4, after5, byte-plain, flat_map-plain, joined-plain, decimal-plain, kind_text-plain, tiles_text-plain, named-plain, are_indented, either-plain, pass, lines-append, flat_map-lines}
 
@@ -444,10 +445,13 @@ others-lines (Some best) win said are =
 
 -- ---- every explanation
 
+reason_lines-lines : (explanation : WinExplanation) (win : WinParts) → are_indented (reason_lines explanation win) ≡ true
+reason_lines-lines (Won hand) win = won_hand_text-lines hand
+reason_lines-lines (NoYaku readings) win = flat_map-lines (λ (read : Reading). text.no_yaku_line read win) (take 12 readings) (λ read. no_yaku_line-lines read win)
+reason_lines-lines (NoWin missed) win = missed_lines-lines missed
+
 win_lines-lines : (explanation : WinExplanation) (win : WinParts) → are_indented (win_lines explanation win) ≡ true
-win_lines-lines (Won hand) win = won_hand_text-lines hand
-win_lines-lines (NoYaku readings) win = flat_map-lines (λ (read : Reading). text.no_yaku_line read win) (take 12 readings) (λ read. no_yaku_line-lines read win)
-win_lines-lines (NoWin missed) win = missed_lines-lines missed
+win_lines-lines explanation win = lines-append (rules_line win.rules) (reason_lines explanation win) (rules_line-lines win.rules) (reason_lines-lines explanation win)
 
 best_text-lines : (win : WinParts) (said : List ℕ) → IsBestText win said → are_indented said ≡ true
 best_text-lines win said is = ap are_indented is.text_is ∙ win_lines-lines is.explanation win

@@ -8,4 +8,5 @@ pub mod TextLemmas
 pub mod FormLemmas
 pub mod PlainTexts
 pub mod RefusalLines
+pub mod RulesLines
 pub mod ExplainedLines

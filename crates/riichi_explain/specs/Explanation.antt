@@ -1,5 +1,5 @@
 -- The lines that follow an answer and say why it is what it is.
-use Rattle.std.specs.Prelude.{◌≡◌, ℕ, List, [], ◌++◌, Option, None, Some, Result, Ok, Err, take}
+use Rattle.std.specs.Prelude.{◌≡◌, ℕ, List, [], ◌++◌, Option, None, Some, Result, Ok, Err, codes, take}
 use Rattle.std.specs.List.{flat_map}
 use Rattle.riichi_hand.specs.declared.win.WinParts.{WinParts}
 use Rattle.riichi_hand.specs.declared.win.Rules.{Rules}
@@ -8,6 +8,7 @@ use Rattle.riichi_hand.specs.declared.job.Job.TheVariants as job
 use Rattle.riichi_hand.specs.declared.fault.LineFault.{LineFault}
 use Rattle.riichi_hand.specs.HandParts.{ShapeParts}
 use Rattle.riichi_hand.specs.Lines.{outcome_of}
+use Rattle.riichi_hand.specs.RulesWords.{house_words}
 use Rattle.riichi_split.specs.declared.reading.Reading.{Reading}
 use Rattle.riichi_score.specs.Best.{best_of}
 use Rattle.riichi_shape.specs.declared.forms.FormDistances.{FormDistances}
@@ -19,7 +20,7 @@ use Rattle.riichi_hints.specs.Hint.{IsRefusalText}
 use Rattle.riichi_explain.specs.Forms.{AreFormDistances, shanten_line}
 use Rattle.riichi_explain.specs.Missed.{missed_lines}
 use Rattle.riichi_explain.specs.Others.{IsOthersText}
-use Rattle.riichi_explain.specs.Text.{won_hand_text, no_yaku_line}
+use Rattle.riichi_explain.specs.Text.{won_hand_text, no_yaku_line, line_feed}
 use Rattle.riichi_waits.specs.Waits.{kind_waits, waits_line}
 use Rattle.riichi_explain.specs.Win.{Explains, answer_of, reading_of}
 
@@ -27,10 +28,17 @@ use Rattle.riichi_explain.specs.Win.{Explains, answer_of, reading_of}
 abbrev pub no_yaku_lines : List Reading → WinParts → List ℕ
 no_yaku_lines readings win = flat_map (λ reading. no_yaku_line reading win) (take 12 readings)
 
+abbrev pub reason_lines : WinExplanation → WinParts → List ℕ
+reason_lines (Won hand) win = won_hand_text hand
+reason_lines (NoYaku readings) win = no_yaku_lines readings win
+reason_lines (NoWin missed) win = missed_lines missed
+
+-- rules that are neither profile have the first line
+abbrev pub rules_line : Rules → List ℕ
+rules_line rules = house_words (codes "  rules   ") line_feed rules
+
 abbrev pub win_lines : WinExplanation → WinParts → List ℕ
-win_lines (Won hand) win = won_hand_text hand
-win_lines (NoYaku readings) win = no_yaku_lines readings win
-win_lines (NoWin missed) win = missed_lines missed
+win_lines explanation win = rules_line win.rules ++ reason_lines explanation win
 
 -- The text says why a win is worth what it is, by the best reading of a hand that scores.
 pub record IsBestText (win : WinParts) (text : List ℕ) : Type 0 where

@@ -11,7 +11,7 @@ use crate::reading_text::push_no_yaku;
 use crate::win::WinExplanation;
 use crate::win_text::push_won_hand;
 use arrayvec::ArrayString;
-use riichi_hand::WinRecord;
+use riichi_hand::{WinRecord, push_house_words};
 use riichi_split::Readings;
 
 /// Which readings of a hand that scores are told.
@@ -21,11 +21,20 @@ pub enum Shown {
     EveryReading,
 }
 
-/// Writes the lines that say why a win is worth what it is: those of a hand that scores, a line for each reading
-/// without yaku, twelve at most, or how far a hand that is no win is from each form, and what it waits for.
+/// Writes the lines that say why a win is worth what it is: the rules where they are neither profile, and then those of a hand
+/// that scores, a line for each reading without yaku, twelve at most, or how far a hand that is no win is from each form, and what
+/// it waits for.
 pub fn push_win_lines(text: &mut ArrayString<4608>, explanation: WinExplanation, win: &WinRecord)
-    requires { array_string_len text.old + 4210 ≤ 4608 }
+    requires { array_string_len text.old + 4409 ≤ 4608 }
     ensures { text.new.bytes ≡ text.old.bytes ++ spec.win_lines explanation win.now }
+{
+    push_house_words(text, "  rules   ", win.rules(), "\n");
+    push_reasons(text, explanation, win);
+}
+
+fn push_reasons(text: &mut ArrayString<4608>, explanation: WinExplanation, win: &WinRecord)
+    requires { array_string_len text.old + 4210 ≤ 4608 }
+    ensures { text.new.bytes ≡ text.old.bytes ++ spec.reason_lines explanation win.now }
 {
     match explanation {
         WinExplanation::Won(hand) => push_won_hand(text, &hand),

@@ -50,7 +50,7 @@ fn waits_text(kinds: &KindWaits) -> ArrayString<4608> {
     text
 }
 
-fn explains(rt: &impl Abort, rules: Rules, rows: &[(&str, &str)]) -> Result<(), Fail> {
+pub(crate) fn explains(rt: &impl Abort, rules: Rules, rows: &[(&str, &str)]) -> Result<(), Fail> {
     for (line, text) in rows {
         match read_line(rules, line.as_bytes()) {
             Ok(Some(job)) => same_in(rt, &line, text_of(&job).as_str(), *text),

@@ -11,3 +11,5 @@ mod facts;
 mod faults;
 #[cfg(test)]
 mod hints;
+#[cfg(test)]
+mod rules;

@@ -11,3 +11,4 @@ pub mod OutcomeLemmas
 pub mod RangeLemmas
 pub mod RedLemmas
 pub mod RedFault
+pub mod ShortWords

@@ -13,5 +13,6 @@ pub mod Texts
 pub mod Jobs
 pub mod Lines
 pub mod Houses
+pub mod RulesWords
 pub mod Equality
 pub mod Places

@@ -26,6 +26,7 @@ mod hand;
 mod house;
 mod job;
 mod line;
+mod rule_words;
 mod shape;
 mod win;
 
@@ -39,5 +40,6 @@ pub use line::{
     MOST_LINE, Place, Refusal, from_with, has_other_byte, is_other_byte, key_of, next_word,
     read_line, read_placed, without_spaces, word_len, word_of,
 };
+pub use rule_words::{push_house_words, rules_words};
 pub use shape::ShapeRecord;
 pub use win::{By, Flags, Rules, WinParts, WinRecord, Wind, is_ron};

@@ -57,16 +57,22 @@ class Won:
     """What each payer pays: `discarder`, or `dealer` and `each_other`, or `each`."""
     gain: int
     yaku: tuple[Yaku, ...]
+    rules: str | None = None
+    """The rules of a house, as `1+red-fives`; none under a profile."""
 
 
 @dataclass(frozen=True)
 class NoYaku:
-    """The tiles are a win, and have no yaku."""
+    """The tiles are a win, and have no yaku under these rules."""
+
+    rules: str | None = None
 
 
 @dataclass(frozen=True)
 class NoWin:
     """The tiles are no win."""
+
+    rules: str | None = None
 
 
 @dataclass(frozen=True)
@@ -142,4 +148,4 @@ def value_of(told: dict[str, Any]) -> Answer:
     if sort == "refused":
         text, place, key, at, length = (told.get(name) for name in ("text", "place", "key", "at", "length"))
         return Refused(told["code"], text, place, key, at, length, told["words"])
-    return NoYaku() if sort == "no yaku" else NoWin()
+    return NoYaku(told.get("rules")) if sort == "no yaku" else NoWin(told.get("rules"))

@@ -9,5 +9,5 @@ unfolding win_text
 returns-clause-bytes c =
     let win = c.args.answer.now in
     ap (λ t. t ++ codes "}") c.push_members.ensures.bytes
-    ∙ append_assoc c.args.text.now.bytes (open_win_text win) (codes "}")
-    ∙ ap (λ t. c.args.text.now.bytes ++ t) (sym (win_written win))
+    ∙ append_assoc c.args.text.now.bytes (open_win_text c.args.rules win) (codes "}")
+    ∙ ap (λ t. c.args.text.now.bytes ++ t) (sym (win_written c.args.rules win))

@@ -15,7 +15,9 @@ returns g c =
     let ranking = c.ranked_readings-ranking in
     let tree = why_tree explained.result ranking.result.ranked.items in
     let named : Named = (codes "why", tree) in
-    let whole = c.push_open_win.ensures.bytes ∙ ap (λ win. old ++ answer_text (answer.Win win)) (c.answer.ensures ∙ explained.ensures.answer) in
+    let rules = c.args.win.now.rules in
+    let whole = c.push_open_win.ensures.bytes ∙ ap (λ told. old ++ answer_text told (answer.Win c.answer.result)) c.rules.ensures
+    ∙ ap (λ win. old ++ answer_text rules (answer.Win win)) (c.answer.ensures ∙ explained.ensures.answer) in
     let why = c.push_why.ensures.bytes ∙ ap (λ ranked. c.push_str.new.self.bytes ++ text_of (why_tree explained.result ranked)) c.as_slice.ensures.value in (
       _,
       record {
@@ -28,5 +30,5 @@ returns g c =
       },
       pushed-three opened (codes ",\"why\":") (text_of tree) (codes "}") c.push_str.ensures.bytes why c.push_str-2.ensures.bytes
           ∙ ap (λ t. opened ++ (t ++ codes "}")) (sym (why_member tree))
-          ∙ win_more old opened _ named whole,
+          ∙ win_more old opened rules _ named whole,
     )

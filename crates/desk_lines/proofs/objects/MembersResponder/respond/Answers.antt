@@ -12,8 +12,8 @@ pub returns-in-Ok-Some : goal.returns-in-Ok-Some
 returns-in-Ok-Some g c =
     let told = value_of c.in-Ok-Some.job in
     let made = c.make_object in
-    members_puts c.args.rules c.args.line.now c.args.outbox.now.bytes.items made.new.outbox.bytes.items c.put_members.new.self.bytes.items made.new.outbox.object.bytes (answer_text told) (Ok (Some c.in-Ok-Some.job)) false
-    (c.in-Ok-Some.ensures ∙ ap Ok c.in-Ok-Some.field-0-is) refl (answer_brace told) (is_refusal-answer told) (ap (λ bytes. bytes.items) made.ensures.same) made.ensures.object c.put_members.ensures
+    members_puts c.args.rules c.args.line.now c.args.outbox.now.bytes.items made.new.outbox.bytes.items c.put_members.new.self.bytes.items made.new.outbox.object.bytes (answer_text c.args.rules told) (Ok (Some c.in-Ok-Some.job)) false
+    (c.in-Ok-Some.ensures ∙ ap Ok c.in-Ok-Some.field-0-is) refl (answer_brace c.args.rules told) (is_refusal-answer c.args.rules told) (ap (λ bytes. bytes.items) made.ensures.same) made.ensures.object c.put_members.ensures
 
 pub returns-in-Err : goal.returns-in-Err
 returns-in-Err g c =

@@ -1,0 +1,127 @@
+//! The words of rules, as the option `--rules` takes them.
+ghost use Rattle.std.specs.Prelude.{◌≡◌, ◌+◌, ◌*◌, ◌≤◌, ◌++◌, length};
+ghost use Rattle.std.specs.List.{flat_map};
+ghost use Rattle.arrayvec.specs.ArrayString.{array_string_len};
+ghost use Rattle.riichi_hand.specs.Rules.{house_of};
+ghost use Rattle.riichi_hand.specs.RulesWords as spec;
+
+use crate::house::{House, Switch};
+use crate::win::Rules;
+use arrayvec::ArrayString;
+
+impl Rules {
+    /// Whether these are the rules of a house, and neither profile.
+    pub fn is_house(self) -> bool
+        ensures { result ≡ spec.is_house self }
+    {
+        match self {
+            Rules::One | Rules::Two => false,
+            Rules::House(house) => house != Rules::One.house() && house != Rules::Two.house(),
+        }
+    }
+}
+
+/// The words of rules, as the option `--rules` takes them: `1`, `2`, or one of these and behind it each rule that is another than
+/// there, as `1+red-fives-ura`.
+pub fn rules_words(rules: Rules) -> ArrayString<192>
+    ensures { result.bytes ≡ spec.rules_words (house_of rules) }
+{
+    let mut text = ArrayString::new();
+    push_rules(&mut text, &rules.house());
+    text
+}
+
+/// Writes the words of the rules of a house between two others; nothing where the rules are a profile.
+#[tactic(auto, unfolding(crate::specs::RulesWords::house_words))]
+pub fn push_house_words<const ROOM: usize>(
+    text: &mut ArrayString<ROOM>,
+    before: &str,
+    rules: Rules,
+    after: &str,
+)
+    requires { array_string_len text.old + length before.now + 188 + length after.now ≤ ROOM }
+    ensures bytes { text.new.bytes ≡ text.old.bytes ++ spec.house_words before.now after.now rules }
+    ensures len { array_string_len text.new
+        ≤ array_string_len text.old + length before.now + 188 + length after.now }
+{
+    if rules.is_house() {
+        text.push_str(before);
+        push_rules(text, &rules.house());
+        text.push_str(after);
+    }
+}
+
+#[tactic(auto, unfolding(crate::specs::RulesWords::rules_words))]
+fn push_rules<const ROOM: usize>(text: &mut ArrayString<ROOM>, house: &House)
+    requires { array_string_len text.old + 188 ≤ ROOM }
+    ensures bytes { text.new.bytes ≡ text.old.bytes ++ spec.rules_words house.now }
+    ensures len { array_string_len text.new ≤ array_string_len text.old + 188 }
+{
+    if house.red_fives && house.raise {
+        push_changed(text, "2", &Rules::Two.house(), house);
+    } else {
+        push_changed(text, "1", &Rules::One.house(), house);
+    }
+}
+
+/// The number of a profile, and what is changed of it.
+#[tactic(auto, unfolding(crate::specs::RulesWords::changed_words))]
+fn push_changed<const ROOM: usize>(
+    text: &mut ArrayString<ROOM>,
+    number: &str,
+    profile: &House,
+    house: &House,
+)
+    requires one { length number.now ≤ 1 }
+    requires room { array_string_len text.old + 188 ≤ ROOM }
+    ensures bytes { text.new.bytes
+        ≡ text.old.bytes ++ spec.changed_words number.now profile.now house.now }
+    ensures len { array_string_len text.new ≤ array_string_len text.old + 188 }
+{
+    text.push_str(number);
+    push_changes(text, profile, house, &Switch::ALL);
+}
+
+fn push_changes<const ROOM: usize>(
+    text: &mut ArrayString<ROOM>,
+    profile: &House,
+    house: &House,
+    switches: &[Switch],
+)
+    requires { array_string_len text.old + length switches.now * 17 ≤ ROOM }
+    ensures bytes { text.new.bytes
+        ≡ text.old.bytes ++ flat_map (spec.change_words profile.now house.now) switches.now }
+    ensures len { array_string_len text.new
+        ≤ array_string_len text.old + length switches.now * 17 }
+{
+    for switch in switches {
+        push_change(text, profile, house, *switch);
+    }
+}
+
+/// A rule that is another than in the profile, behind its sign.
+#[tactic(auto, using(crate::proofs::ShortWords::short_word), unfolding(crate::specs::RulesWords::change_words))]
+fn push_change<const ROOM: usize>(
+    text: &mut ArrayString<ROOM>,
+    profile: &House,
+    house: &House,
+    switch: Switch,
+)
+    requires { array_string_len text.old + 17 ≤ ROOM }
+    ensures bytes { text.new.bytes
+        ≡ text.old.bytes ++ spec.change_words profile.now house.now switch }
+    ensures len { array_string_len text.new ≤ array_string_len text.old + 17 }
+{
+    let is_on = house.has(switch);
+    if is_on != profile.has(switch) {
+        text.push_str(sign(is_on));
+        text.push_str(switch.word());
+    }
+}
+
+fn sign(is_on: bool) -> &'static str
+    ensures value { result.now ≡ spec.sign is_on }
+    ensures short { length result.now ≤ 1 }
+{
+    if is_on { "+" } else { "-" }
+}
