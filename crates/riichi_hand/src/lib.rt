@@ -25,6 +25,7 @@ mod fault;
 mod hand;
 mod house;
 mod job;
+pub mod laws;
 mod line;
 mod rule_set;
 mod shape;
