@@ -5,7 +5,7 @@ use desk_core::{
     Taken, Ticket, answer_text, judge, judge_with, laws, push_answer,
 };
 use riichi_hand::{
-    By, Flags, HandRecord, Job, Rules, ShapeRecord, WinParts, WinRecord, Wind, read_line,
+    By, Flags, HandRecord, Job, RuleSet, Rules, ShapeRecord, WinParts, WinRecord, Wind, read_line,
 };
 use riichi_score::WinAnswer;
 use riichi_shape::RowCache;
@@ -30,7 +30,7 @@ fn quick_job() -> Option<Job> {
     melds.push(Meld::Pon(Kind::at(4)));
     melds.push(Meld::Pon(Kind::at(6)));
     let parts = WinParts {
-        rules: Rules::One,
+        rules: RuleSet::of(Rules::One),
         concealed: read_counts(b"1z").ok()?,
         melds,
         winning: Kind::at(28),

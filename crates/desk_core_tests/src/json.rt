@@ -2,7 +2,7 @@
 use crate::facts::same;
 use desk_core::{Answer, judge};
 use desk_json::{JsonText, answer_text, push_refusal, refusal_text};
-use riichi_hand::{Rules, Switch, read_line, read_placed};
+use riichi_hand::{RuleSet, Rules, Switch, read_line, read_placed};
 use std::process::Abort;
 use std::test::Fail;
 
@@ -132,7 +132,7 @@ fn judged(rules: Rules, line: &str) -> Result<Answer, Fail> {
 fn check(rt: &impl Abort, rules: Rules, row: &Row) -> Result<(), Fail> {
     same(
         rt,
-        answer_text(rules, &judged(rules, row.line)?).as_str(),
+        answer_text(RuleSet::of(rules), &judged(rules, row.line)?).as_str(),
         row.text,
     );
     Ok(())

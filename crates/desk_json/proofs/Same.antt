@@ -9,7 +9,7 @@ use Rattle.std.specs.Int.{bit_at}
 use Rattle.std.specs.List.{filter, range_with_len}
 use Rattle.std.specs.Prelude.{codes, ◌==◌}
 use Rattle.json.specs.Json.{Json, string, object, Members, no_members, member}
-use Rattle.riichi_hand.specs.declared.win.Rules.{Rules}
+use Rattle.riichi_hand.specs.declared.house.House.{House}
 use Rattle.riichi_score.specs.declared.payers.Payment.{Payment}
 use Rattle.riichi_score.specs.declared.payers.Payment.TheVariants.{Ron, Tsumo, DealerTsumo}
 use Rattle.riichi_score.specs.declared.score.Score.{Score}
@@ -161,7 +161,7 @@ same_payments (Tsumo o d) (Tsumo o' d') h k e =
 same_payments (DealerTsumo m) (DealerTsumo n) h k e = let numbers : natural m ≡ natural n = cc in ap DealerTsumo (same_numbers m n (omega arith) (omega arith) numbers)
 same_payments p q h k e = absurd (omega (arith, ap second_letter e))
 
-same_scores : (rules others : Rules) (a b : Score) → IsWholeScore a → IsWholeScore b → score_tree rules a ≡ score_tree others b → a ≡ b
+same_scores : (rules others : House) (a b : Score) → IsWholeScore a → IsWholeScore b → score_tree rules a ≡ score_tree others b → a ≡ b
 unfolding score_tree
 same_scores rules others a b h k e =
     let hans : natural a.han ≡ natural b.han = cc in
@@ -185,7 +185,7 @@ sort_letter : Json → ℕ
 sort_letter (object (member name (string sort) more)) = get_or sort 3 0
 sort_letter json = 0
 
-same_wins : (rules others : Rules) (a b : WinAnswer) → IsWholeWin a → IsWholeWin b → win_tree rules a ≡ win_tree others b → a ≡ b
+same_wins : (rules others : House) (a b : WinAnswer) → IsWholeWin a → IsWholeWin b → win_tree rules a ≡ win_tree others b → a ≡ b
 unfolding win_tree score_tree sort_letter
 same_wins rules others (Won a) (Won b) h k e = ap Won (same_scores rules others a b h k e)
 same_wins rules others NoYaku NoYaku h k e = refl
@@ -261,12 +261,12 @@ same_shapes a b h k e =
 -- ---- answers
 
 -- a win's sort has another letter than those of waits and shapes
-win_apart : (rules : Rules) (win : WinAnswer) → (sort_letter (win_tree rules win) ≢ 116) × (sort_letter (win_tree rules win) ≢ 112)
+win_apart : (rules : House) (win : WinAnswer) → (sort_letter (win_tree rules win) ≢ 116) × (sort_letter (win_tree rules win) ≢ 112)
 unfolding win_tree score_tree sort_letter
 win_apart rules (Won score) = (λ e. omega (arith, e), λ e. omega (arith, e))
 win_apart rules other = (λ e. omega (arith, e), λ e. omega (arith, e))
 
-pub same_answers : (rules others : Rules) (a b : Answer) → IsWhole a → IsWhole b → answer_tree rules a ≡ answer_tree others b → a ≡ b
+pub same_answers : (rules others : House) (a b : Answer) → IsWhole a → IsWhole b → answer_tree rules a ≡ answer_tree others b → a ≡ b
 unfolding answer_tree waits_tree shape_tree sort_letter
 same_answers rules others (answer.Win a) (answer.Win b) h k e = ap answer.Win (same_wins rules others a b h k e)
 same_answers rules others (answer.Win a) (answer.Waits b) h k e = absurd ((win_apart rules a).0 (ap sort_letter e))

@@ -5,7 +5,7 @@ use Rattle.riichi_hand.specs.FaultTexts.{line_code_text, notation_code_text, nam
 use Rattle.riichi_hand.specs.declared.fault.LineFault.{LineFault}
 use Rattle.riichi_hand.specs.declared.fault.LineFault.TheVariants.{Line, Notation}
 use Rattle.riichi_hand.specs.declared.line.record.Place.{Place}
-use Rattle.riichi_hand.specs.declared.win.Rules.{Rules}
+use Rattle.riichi_hand.specs.declared.house.House.{House}
 use Rattle.riichi_hand.specs.RulesWords.{house_words}
 use Rattle.riichi_faults.specs.Meaning.{refusal_key, refusal_place, refusal_words}
 use Rattle.riichi_names.specs.Names.{japanese}
@@ -85,13 +85,13 @@ worth_members_text NoYaku = codes "{\"answer\":\"no yaku\""
 worth_members_text NoWin = codes "{\"answer\":\"no win\""
 
 -- the rules, where they are neither profile
-abbrev pub rules_text : Rules → List ℕ
+abbrev pub rules_text : House → List ℕ
 rules_text rules = house_words (codes ",\"rules\":\"") (codes "\"") rules
 
-unfoldable pub open_win_text : Rules → WinAnswer → List ℕ
+unfoldable pub open_win_text : House → WinAnswer → List ℕ
 open_win_text rules win = worth_members_text win ++ rules_text rules
 
-unfoldable pub win_text : Rules → WinAnswer → List ℕ
+unfoldable pub win_text : House → WinAnswer → List ℕ
 win_text rules win = open_win_text rules win ++ codes "}"
 
 -- ---- waits

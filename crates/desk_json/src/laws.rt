@@ -6,12 +6,12 @@ ghost use Rattle.desk_json.specs.Trees.{answer_tree};
 ghost use Rattle.desk_json.specs.Whole as spec;
 
 use desk_core::Answer;
-use riichi_hand::Rules;
+use riichi_hand::RuleSet;
 use riichi_score::{Payment, Score, WinAnswer};
 use riichi_shape::{Accepts, Discard, DiscardList, LiveList, ShapeAnswer};
 
 /// What a reader of JSON reads in the text of an answer is the answer's tree.
-pub fn each_text_reads_back(rules: Rules, answer: &Answer)
+pub fn each_text_reads_back(rules: RuleSet, answer: &Answer)
     ensures { document (answer_text rules answer.now) ≡ Some (answer_tree rules answer.now) }
 {
     see_answer(answer);
@@ -19,9 +19,9 @@ pub fn each_text_reads_back(rules: Rules, answer: &Answer)
 
 /// Equal texts are those of equal answers, under the same rules or others.
 pub fn equal_texts_mean_equal_answers(
-    rules: Rules,
+    rules: RuleSet,
     one: &Answer,
-    other_rules: Rules,
+    other_rules: RuleSet,
     other: &Answer,
 )
     ensures { answer_text rules one.now ≡ answer_text other_rules other.now → one.now ≡ other.now }

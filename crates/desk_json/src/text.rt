@@ -8,13 +8,13 @@ use crate::waits::push_waits;
 use crate::win::push_win;
 use arrayvec::ArrayString;
 use desk_core::Answer;
-use riichi_hand::Rules;
+use riichi_hand::RuleSet;
 
 /// Room for any answer as JSON: the longest has fourteen discards that accept every kind.
 pub type JsonText = ArrayString<12288>;
 
 /// The answer under these rules as one object, without the line's end.
-pub fn answer_text(rules: Rules, answer: &Answer) -> JsonText
+pub fn answer_text(rules: RuleSet, answer: &Answer) -> JsonText
     ensures { result.bytes ≡ spec.answer_text rules answer.now }
 {
     let mut text = JsonText::new();
@@ -24,7 +24,7 @@ pub fn answer_text(rules: Rules, answer: &Answer) -> JsonText
 
 /// Writes the answer under these rules behind a text, without the line's end: that of a win names the rules where they are neither
 /// profile. A text that is kept need not be made anew for each answer.
-pub fn push_answer(text: &mut JsonText, rules: Rules, answer: &Answer)
+pub fn push_answer(text: &mut JsonText, rules: RuleSet, answer: &Answer)
     requires { array_string_len text.old + 11667 ≤ 12288 }
     ensures { text.new.bytes ≡ text.old.bytes ++ spec.answer_text rules answer.now }
 {

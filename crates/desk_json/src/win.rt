@@ -8,11 +8,11 @@ ghost use Rattle.desk_json.specs.Text.{answer_text};
 use crate::number::push_after;
 use crate::text::JsonText;
 use crate::yaku::push_yaku;
-use riichi_hand::{Rules, push_house_words};
+use riichi_hand::{RuleSet, push_house_words};
 use riichi_score::{Payment, Score, WinAnswer};
 
 #[tactic(auto, using(crate::proofs::Pieces::win_written))]
-pub(crate) fn push_win(text: &mut JsonText, rules: Rules, answer: &WinAnswer)
+pub(crate) fn push_win(text: &mut JsonText, rules: RuleSet, answer: &WinAnswer)
     requires { array_string_len text.old + 4039 ≤ 12288 }
     ensures { text.new.bytes ≡ text.old.bytes ++ answer_text rules (Win answer.now) }
 {
@@ -22,7 +22,7 @@ pub(crate) fn push_win(text: &mut JsonText, rules: Rules, answer: &WinAnswer)
 
 /// Writes the object of a win's answer under these rules behind a text, without the brace that ends it, so that more members may
 /// stand there.
-pub fn push_open_win(text: &mut JsonText, rules: Rules, answer: &WinAnswer)
+pub fn push_open_win(text: &mut JsonText, rules: RuleSet, answer: &WinAnswer)
     requires { array_string_len text.old + 4038 ≤ 12288 }
     ensures bytes { text.new.bytes ++ codes "}"
         ≡ text.old.bytes ++ answer_text rules (Win answer.now) }
@@ -32,7 +32,7 @@ pub fn push_open_win(text: &mut JsonText, rules: Rules, answer: &WinAnswer)
 }
 
 #[tactic(auto, unfolding(crate::specs::Parts::open_win_text))]
-fn push_members(text: &mut JsonText, rules: Rules, answer: &WinAnswer)
+fn push_members(text: &mut JsonText, rules: RuleSet, answer: &WinAnswer)
     requires { array_string_len text.old + 4038 ≤ 12288 }
     ensures bytes { text.new.bytes ≡ text.old.bytes ++ spec.open_win_text rules answer.now }
     ensures len { array_string_len text.new ≤ array_string_len text.old + 4038 }

@@ -6,8 +6,10 @@ use Rattle.std.specs.List.{filter_map, cons_option}
 use Rattle.riichi_hand.specs.declared.fault.LineFault.{LineFault}
 use Rattle.riichi_hand.specs.declared.fault.LineFault.TheVariants.{Line, Notation}
 use Rattle.riichi_hand.specs.declared.job.Job.{Job}
+use Rattle.riichi_hand.specs.declared.house.House.{House}
 use Rattle.riichi_hand.specs.declared.win.Rules.{Rules}
 use Rattle.riichi_hand.specs.Lines.{outcome_of}
+use Rattle.riichi_hand.specs.Rules.{house_of}
 use Rattle.riichi_score.specs.declared.answer.WinAnswer.{WinAnswer}
 use Rattle.riichi_score.specs.declared.answer.WinAnswer.TheVariants.{Won, NoYaku, NoWin}
 use Rattle.desk_core.specs.declared.answer.Answer.{Answer}
@@ -35,13 +37,13 @@ parts_refuse line (Notation name fault) = refl
 pub is_refusal-fault : (line : List ℕ) (fault : LineFault) → is_refusal (refusal_text line fault) ≡ true
 is_refusal-fault line fault = ap is_refusal (refusal_written line fault) ∙ parts_refuse line fault
 
-no_win_refuses : (rules : Rules) (win : WinAnswer) → is_refusal (win_text rules win) ≡ false
+no_win_refuses : (rules : House) (win : WinAnswer) → is_refusal (win_text rules win) ≡ false
 unfolding win_text open_win_text worth_members_text score_text worth_text
 no_win_refuses rules (Won score) = refl
 no_win_refuses rules NoYaku = refl
 no_win_refuses rules NoWin = refl
 
-pub is_refusal-answer : (rules : Rules) (told : Answer) → is_refusal (answer_text rules told) ≡ false
+pub is_refusal-answer : (rules : House) (told : Answer) → is_refusal (answer_text rules told) ≡ false
 unfolding waits_text shape_text
 is_refusal-answer rules (answer.Win win) = ap is_refusal (win_written rules win) ∙ no_win_refuses rules win
 is_refusal-answer rules (answer.Waits marks) = ap is_refusal (waits_written rules marks)
@@ -54,13 +56,13 @@ pub ruleset kinds = (is_refusal-fault, is_refusal-answer)
 brace_of : (text parts : List ℕ) → text ≡ parts → codes "{" ++ drop 1 parts ≡ parts → codes "{" ++ drop 1 text ≡ text
 brace_of text parts is brace = ap (λ (all : List ℕ). codes "{" ++ drop 1 all) is ∙ brace ∙ sym is
 
-win_brace : (rules : Rules) (win : WinAnswer) → codes "{" ++ drop 1 (win_text rules win) ≡ win_text rules win
+win_brace : (rules : House) (win : WinAnswer) → codes "{" ++ drop 1 (win_text rules win) ≡ win_text rules win
 unfolding win_text open_win_text worth_members_text score_text worth_text
 win_brace rules (Won score) = refl
 win_brace rules NoYaku = refl
 win_brace rules NoWin = refl
 
-pub answer_brace : (rules : Rules) (told : Answer) → codes "{" ++ drop 1 (answer_text rules told) ≡ answer_text rules told
+pub answer_brace : (rules : House) (told : Answer) → codes "{" ++ drop 1 (answer_text rules told) ≡ answer_text rules told
 unfolding waits_text shape_text
 answer_brace rules (answer.Win win) = brace_of (answer_text rules (answer.Win win)) (win_text rules win) (win_written rules win) (win_brace rules win)
 answer_brace rules (answer.Waits marks) = brace_of (answer_text rules (answer.Waits marks)) (waits_text marks) (waits_written rules marks) refl
@@ -100,7 +102,7 @@ members_none rules line before is = record {
 one_refusal : (rules : Rules) (line : List ℕ) (outcome : Result (Option Job) LineFault) (objects answers : List (List ℕ)) → map is_refusal objects ≡ map is_told_refusal answers
     → map is_refusal (cons_option (outcome_json rules line outcome) objects) ≡ map is_told_refusal (cons_option (outcome_text outcome) answers)
 one_refusal rules line (Ok None) objects answers rest = rest
-one_refusal rules line (Ok (Some job)) objects answers rest = λ i. (is_refusal-answer rules (value_of job) ∙ sym (told-answer (value_of job))) i ∷ rest i
+one_refusal rules line (Ok (Some job)) objects answers rest = λ i. (is_refusal-answer (house_of rules) (value_of job) ∙ sym (told-answer (value_of job))) i ∷ rest i
 one_refusal rules line (Err fault) objects answers rest = λ i. (is_refusal-fault line fault ∙ sym (told-fault fault)) i ∷ rest i
 
 -- the objects that are refusals are those of the plain answers that are

@@ -2,6 +2,7 @@
 use Rattle.std.proofs.Common.{◌≡◌, ℕ, List, [], ◌∷◌, ◌++◌, Bool, true, false, cond, drop, Option, Some, None, refl, sym, subst, ap, ◌∙◌}
 use Rattle.std.specs.Prelude.{codes, option_map}
 use Rattle.json.specs.Print.{escape_byte}
+use Rattle.riichi_hand.specs.declared.house.House.{House}
 use Rattle.riichi_hand.specs.declared.win.Rules.{Rules}
 use Rattle.riichi_hand.specs.declared.win.WinParts.{WinParts}
 use Rattle.riichi_hand.specs.Lines.{outcome_of}
@@ -20,13 +21,13 @@ use Rattle.desk_lines.specs.Telling.{kind_by, with_line_feed}
 use Rattle.desk_lines.specs.declared.line_kind.LineKind.{LineKind}
 use Rattle.desk_lines.specs.declared.line_kind.LineKind.TheVariants.{Refused, Answered}
 
-no_refusal : (rules : Rules) (win : WinAnswer) (named : Named) → is_refusal (written (with_member (win_tree rules win) named)) ≡ false
+no_refusal : (rules : House) (win : WinAnswer) (named : Named) → is_refusal (written (with_member (win_tree rules win) named)) ≡ false
 unfolding with_member win_tree score_tree written escape_byte
 no_refusal rules (Won score) named = refl
 no_refusal rules NoYaku named = refl
 no_refusal rules NoWin named = refl
 
-win_brace : (rules : Rules) (win : WinAnswer) (named : Named) → codes "{" ++ drop 1 (written (with_member (win_tree rules win) named)) ≡ written (with_member (win_tree rules win) named)
+win_brace : (rules : House) (win : WinAnswer) (named : Named) → codes "{" ++ drop 1 (written (with_member (win_tree rules win) named)) ≡ written (with_member (win_tree rules win) named)
 unfolding with_member win_tree score_tree written
 win_brace rules (Won score) named = refl
 win_brace rules NoYaku named = refl

@@ -6,6 +6,7 @@ use Rattle.riichi_hand.specs.declared.win.Rules.{Rules}
 use Rattle.riichi_hand.specs.declared.fault.LineFault.{LineFault}
 use Rattle.riichi_hand.specs.declared.job.Job.{Job}
 use Rattle.riichi_hand.specs.Lines.{outcome_of}
+use Rattle.riichi_hand.specs.Rules.{house_of}
 use Rattle.desk_json.specs.Text.{answer_text, refusal_text, long_texts_alike}
 use Rattle.desk_lines.specs.LineAnswer.{outcome_told, IsBy}
 use Rattle.desk_lines.specs.LineAnswers.{answers_by}
@@ -13,7 +14,7 @@ use Rattle.desk_lines.specs.LongLines.{AreAlike, long_outcome}
 use Rattle.desk_lines.specs.Telling.{text_of}
 
 abbrev pub outcome_json : Rules → List ℕ → Result (Option Job) LineFault → Option (List ℕ)
-outcome_json rules line outcome = outcome_told (answer_text rules) (refusal_text line) outcome
+outcome_json rules line outcome = outcome_told (answer_text (house_of rules)) (refusal_text line) outcome
 
 -- the answer to a line as JSON
 unfoldable pub json_of : Rules → List ℕ → Option (List ℕ)

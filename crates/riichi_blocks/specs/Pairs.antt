@@ -2,14 +2,13 @@
 use Rattle.std.specs.Prelude.{ℕ, ◌+◌, Bool, false, not, ◌==◌, ◌&&◌, ◌||◌, if◌then◌else◌}
 use Rattle.riichi_hand.specs.declared.win.WinParts.{WinParts}
 use Rattle.riichi_hand.specs.Win.{wind_kind}
-use Rattle.riichi_hand.specs.Rules.{house_of}
 use Rattle.riichi_blocks.specs.declared.hand_block.HandBlock.{HandBlock}
 use Rattle.riichi_blocks.specs.declared.hand_block.HandBlock.TheVariants.{Pair}
 use Rattle.riichi_blocks.specs.Kinds.{is_dragon}
 
 -- A pair of the prevalent wind has fu; one that has fu as a pair of the seat wind has them too where the rules say so.
 abbrev pub has_prevalent_fu : WinParts → ℕ → Bool
-has_prevalent_fu parts kind = (kind == wind_kind parts.round) && (not (kind == wind_kind parts.seat) || (house_of parts.rules).double_wind_pair)
+has_prevalent_fu parts kind = (kind == wind_kind parts.round) && (not (kind == wind_kind parts.seat) || parts.rules.double_wind_pair)
 
 -- The fu of a pair of this kind: of dragons 2, of the seat wind 2, of the prevalent wind 2.
 abbrev pub pair_fu : WinParts → ℕ → ℕ

@@ -5,7 +5,7 @@ ghost use Rattle.riichi_blocks.specs.Pairs as spec;
 
 use crate::HandBlock;
 use crate::kinds::WHITE;
-use riichi_hand::WinRecord;
+use riichi_hand::{Switch, WinRecord};
 use riichi_tiles::Kind;
 
 /// Whether a pair of this kind has fu as one of the prevalent wind. That which is of the seat wind too has them where the
@@ -14,7 +14,7 @@ pub fn has_prevalent_fu(win: &WinRecord, kind: Kind) -> bool
     ensures { result ≡ spec.has_prevalent_fu win.now kind }
 {
     kind == win.round().kind()
-        && (kind != win.seat().kind() || win.rules().house().double_wind_pair)
+        && (kind != win.seat().kind() || win.rules().has(Switch::DoubleWindPair))
 }
 
 /// The fu of a pair of this kind. One that is both the seat wind and the prevalent wind earns 4, or 2 where the rules say so.

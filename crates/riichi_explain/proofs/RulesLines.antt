@@ -6,8 +6,7 @@ use Rattle.std.specs.List.{flat_map}
 use Rattle.riichi_hand.specs.declared.house.House.{House}
 use Rattle.riichi_hand.specs.declared.house.Switch.{Switch}
 use Rattle.riichi_hand.specs.declared.house.Switch.TheVariants as switch
-use Rattle.riichi_hand.specs.declared.win.Rules.{Rules}
-use Rattle.riichi_hand.specs.Rules.{first_profile, second_profile, house_of, switch_word, is_on}
+use Rattle.riichi_hand.specs.Rules.{first_profile, second_profile, switch_word, is_on}
 use Rattle.riichi_hand.specs.RulesWords.{every_switch, sign, change_words, changed_words, rules_words, is_house, house_words}
 use Rattle.riichi_explain.specs.Explanation.{rules_line}
 use Rattle.riichi_explain.specs.Text.{line_feed}
@@ -38,9 +37,9 @@ rules_words-plain house =
     either-plain (house.red_fives && house.raise) (changed_words (codes "2") second_profile house) (changed_words (codes "1") first_profile house)
     (changed_words-plain (codes "2") second_profile house refl) (changed_words-plain (codes "1") first_profile house refl)
 
-pub rules_line-lines : (rules : Rules) → are_indented (rules_line rules) ≡ true
+pub rules_line-lines : (rules : House) → are_indented (rules_line rules) ≡ true
 unfolding house_words
 rules_line-lines rules =
-    let words = rules_words (house_of rules) in
+    let words = rules_words rules in
     elim (is_house rules) as (λ test. are_indented (cond test (codes "  rules   " ++ words ++ line_feed) []) ≡ true)
-    [ true ↦ pass (codes "rules   " ++ words) line_feed (rules_words-plain (house_of rules)) | false ↦ refl ]
+    [ true ↦ pass (codes "rules   " ++ words) line_feed (rules_words-plain rules) | false ↦ refl ]

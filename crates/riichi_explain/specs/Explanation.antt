@@ -1,6 +1,7 @@
 -- The lines that follow an answer and say why it is what it is.
 use Rattle.std.specs.Prelude.{◌≡◌, ℕ, List, [], ◌++◌, Option, None, Some, Result, Ok, Err, codes, take}
 use Rattle.std.specs.List.{flat_map}
+use Rattle.riichi_hand.specs.declared.house.House.{House}
 use Rattle.riichi_hand.specs.declared.win.WinParts.{WinParts}
 use Rattle.riichi_hand.specs.declared.win.Rules.{Rules}
 use Rattle.riichi_hand.specs.declared.job.Job.{Job}
@@ -34,7 +35,7 @@ reason_lines (NoYaku readings) win = no_yaku_lines readings win
 reason_lines (NoWin missed) win = missed_lines missed
 
 -- rules that are neither profile have the first line
-abbrev pub rules_line : Rules → List ℕ
+abbrev pub rules_line : House → List ℕ
 rules_line rules = house_words (codes "  rules   ") line_feed rules
 
 abbrev pub win_lines : WinExplanation → WinParts → List ℕ

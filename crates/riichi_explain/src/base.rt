@@ -4,7 +4,7 @@ ghost use Rattle.riichi_yaku.specs.YakuSets.{is_yakuman};
 ghost use Rattle.riichi_score.specs.Limits.{limits_of};
 ghost use Rattle.riichi_explain.specs.Base as spec;
 
-use riichi_hand::{Rules, WinRecord};
+use riichi_hand::{RuleSet, Switch, WinRecord};
 use riichi_score::{Score, is_raised, product_of, yakuman_limits};
 use riichi_split::Reading;
 
@@ -47,7 +47,7 @@ pub fn base_rule(reading: &Reading, score: &Score, win: &WinRecord) -> BaseRule
     }
 }
 
-fn counted_rule(rules: Rules, han: u8, fu: u8) -> BaseRule
+fn counted_rule(rules: RuleSet, han: u8, fu: u8) -> BaseRule
     ensures value { result ≡ spec.counted_rule rules han fu }
 {
     match han {
@@ -61,17 +61,17 @@ fn counted_rule(rules: Rules, han: u8, fu: u8) -> BaseRule
 }
 
 /// What 13 han and more are.
-fn most_limit(rules: Rules) -> Limit
+fn most_limit(rules: RuleSet) -> Limit
     ensures { result ≡ spec.most_limit rules }
 {
-    if rules.house().counted_yakuman {
+    if rules.has(Switch::CountedYakuman) {
         Limit::Yakuman
     } else {
         Limit::Sanbaiman
     }
 }
 
-fn low_rule(rules: Rules, han: u8, fu: u8) -> BaseRule
+fn low_rule(rules: RuleSet, han: u8, fu: u8) -> BaseRule
     requires { han ≤ 4 }
     ensures value { result ≡ spec.low_rule rules han fu }
 {

@@ -14,7 +14,7 @@ use Rattle.riichi_tiles.proofs.MeldText.{find_passes}
 use Rattle.riichi_tiles.proofs.ReadZeros.{zeros_counted, zeros_meld}
 use Rattle.riichi_hand.specs.Words.{items_of}
 use Rattle.riichi_hand.specs.Values.{is_spelled, melds_of}
-use Rattle.riichi_hand.specs.declared.win.Rules.{Rules}
+use Rattle.riichi_hand.specs.declared.house.House.{House}
 use Rattle.riichi_hand.specs.declared.win.WinParts.{WinParts}
 use Rattle.riichi_hand.specs.declared.line.needed.WinKeys.{WinKeys}
 use Rattle.riichi_hand.specs.declared.line.key.Key.TheVariants.{On, Dora, Ura, Seen, Open}
@@ -22,7 +22,6 @@ use Rattle.riichi_hand.specs.declared.fault.TextName.TheVariants as text
 use Rattle.riichi_hand.specs.declared.fault.LineCode.TheVariants.{H4, H7, H8, H9}
 use Rattle.riichi_hand.specs.declared.fault.LineFault.{LineFault}
 use Rattle.riichi_hand.specs.Faults.{coded, first_fault, fault_or}
-use Rattle.riichi_hand.specs.Rules.{house_of}
 use Rattle.riichi_hand.specs.Win.{no_reds, without_reds, kept_under, copies_won, copies_in, is_out_of_range, has_wrong_size, has_five_in, has_too_many_reds, win_faults, win_of}
 use Rattle.riichi_hand.specs.Parts.{LineParts, value}
 use Rattle.riichi_hand.specs.Texts.{texts_of, text_fault, counts_in, melds_in, only_kind, zeros_in, reds, joined_reds}
@@ -149,7 +148,7 @@ open_few letter kind (Some text) five some = melds_few letter kind text five som
 
 -- The red fives of a win, among hand, melds and the winning tile.
 
-zeros_held : (rules : Rules) (parts : LineParts) (winning : ℕ) (keys : WinKeys) (letter kind : ℕ) → IsOfFives letter kind → only_kind (texts_of parts).on ≡ Some winning
+zeros_held : (rules : House) (parts : LineParts) (winning : ℕ) (keys : WinKeys) (letter kind : ℕ) → IsOfFives letter kind → only_kind (texts_of parts).on ≡ Some winning
     → is_some (melds_in (value Open parts)) ≡ true → zeros_in parts letter ≤ copies_won (win_parts rules parts (texts_of parts) winning keys) kind
 zeros_held rules parts winning keys letter kind five only some =
     let hand = zeros_counted letter parts.hand five.suit five.has (omega (arith, five.kind_is, five.near)) in
@@ -171,7 +170,7 @@ not_too_many win room = rw (
   le-ltb (copies_won win 22) (slice_index win.reds 2) room.bamboos,
 ) refl
 
-room_of_line : (rules : Rules) (parts : LineParts) (winning : ℕ) (keys : WinKeys) → only_kind (texts_of parts).on ≡ Some winning → is_some (melds_in (value Open parts)) ≡ true
+room_of_line : (rules : House) (parts : LineParts) (winning : ℕ) (keys : WinKeys) → only_kind (texts_of parts).on ≡ Some winning → is_some (melds_in (value Open parts)) ≡ true
     → HasRoom (win_parts rules parts (texts_of parts) winning keys) (reds parts)
 room_of_line rules parts winning keys only some = record {
   characters = zeros_held rules parts winning keys 109 4 (record { suit = refl; has = refl; kind_is = refl; near = omega arith }) only some;
@@ -207,7 +206,7 @@ five_copies_first true b later others one other = refl
 five_copies_first false true later others one other = refl
 five_copies_first false false later others one other = refl
 
-win_of_cut : (win : WinParts) (cut : List ℕ) → (house_of win.rules).red_fives ≡ true → (has_five_in win ≡ false → cut ≡ win.reds) → win_of (record win { reds = cut }) ≡ fault_or (first_fault (win_faults win)) win
+win_of_cut : (win : WinParts) (cut : List ℕ) → win.rules.red_fives ≡ true → (has_five_in win ≡ false → cut ≡ win.reds) → win_of (record win { reds = cut }) ≡ fault_or (first_fault (win_faults win)) win
 unfolding win_of
 win_of_cut win cut keeps same =
     let given : WinParts = record win { reds = cut } in
@@ -234,7 +233,7 @@ melds_spelled parts none =
     (text_fault text.Seen (value Seen parts)) (is_some (melds_in (value Open parts))) none
 
 -- where there are no five copies of a kind, no red five is over
-joined_where_few : (rules : Rules) (parts : LineParts) (winning : ℕ) (keys : WinKeys) → only_kind (texts_of parts).on ≡ Some winning
+joined_where_few : (rules : House) (parts : LineParts) (winning : ℕ) (keys : WinKeys) → only_kind (texts_of parts).on ≡ Some winning
     → is_some (melds_in (value Open parts)) ≡ true → has_five_in (win_parts rules parts (texts_of parts) winning keys) ≡ false → joined_reds parts ≡ reds parts
 joined_where_few rules parts winning keys only some none =
     let win = win_parts rules parts (texts_of parts) winning keys in
@@ -251,13 +250,13 @@ joined_where_few rules parts winning keys only some none =
       plain 115 22 (omega arith) room.bamboos,
     ) refl
 
-win_of_line_here : (rules : Rules) (parts : LineParts) (winning : ℕ) (keys : WinKeys) (kept : List ℕ) → only_kind (texts_of parts).on ≡ Some winning
-    → is_some (melds_in (value Open parts)) ≡ true → kept ≡ (if (house_of rules).red_fives then joined_reds parts else no_reds)
+win_of_line_here : (rules : House) (parts : LineParts) (winning : ℕ) (keys : WinKeys) (kept : List ℕ) → only_kind (texts_of parts).on ≡ Some winning
+    → is_some (melds_in (value Open parts)) ≡ true → kept ≡ (if rules.red_fives then joined_reds parts else no_reds)
     → win_of (record (win_parts rules parts (texts_of parts) winning keys) { reds = kept })
     ≡ fault_or (first_fault (win_faults (win_parts rules parts (texts_of parts) winning keys))) (kept_under rules (win_parts rules parts (texts_of parts) winning keys))
 win_of_line_here rules parts winning keys kept only some is =
     let win = win_parts rules parts (texts_of parts) winning keys in
-    elim (cases_Bool (house_of rules).red_fives) [
+    elim (cases_Bool rules.red_fives) [
       | inl keeps ↦
           let is_joined : kept ≡ joined_reds parts = rw keeps at is in
           let cut = win_of_cut win (joined_reds parts) keeps (joined_where_few rules parts winning keys only some) in
@@ -269,8 +268,8 @@ win_of_line_here rules parts winning keys kept only some is =
     ]
 
 -- the same of texts that are those of the line
-pub win_of_line_reds : (rules : Rules) (parts : LineParts) (texts : Texts) (winning : ℕ) (keys : WinKeys) (kept : List ℕ) → texts ≡ texts_of parts → only_kind texts.on ≡ Some winning
-    → first_fault (text_faults parts) ≡ None → kept ≡ (if (house_of rules).red_fives then joined_reds parts else no_reds)
+pub win_of_line_reds : (rules : House) (parts : LineParts) (texts : Texts) (winning : ℕ) (keys : WinKeys) (kept : List ℕ) → texts ≡ texts_of parts → only_kind texts.on ≡ Some winning
+    → first_fault (text_faults parts) ≡ None → kept ≡ (if rules.red_fives then joined_reds parts else no_reds)
     → win_of (record (win_parts rules parts texts winning keys) { reds = kept })
     ≡ fault_or (first_fault (win_faults (win_parts rules parts texts winning keys))) (kept_under rules (win_parts rules parts texts winning keys))
 win_of_line_reds rules parts texts winning keys kept are only none is =
@@ -280,6 +279,6 @@ win_of_line_reds rules parts texts winning keys kept are only none is =
     subst P (sym are) here only
 
 -- the red fives of a line are never too many
-pub line_has_room : (rules : Rules) (parts : LineParts) (winning : ℕ) (keys : WinKeys) → only_kind (texts_of parts).on ≡ Some winning → is_some (melds_in (value Open parts)) ≡ true
+pub line_has_room : (rules : House) (parts : LineParts) (winning : ℕ) (keys : WinKeys) → only_kind (texts_of parts).on ≡ Some winning → is_some (melds_in (value Open parts)) ≡ true
     → has_too_many_reds (win_parts rules parts (texts_of parts) winning keys) ≡ false
 line_has_room rules parts winning keys only some = not_too_many (win_parts rules parts (texts_of parts) winning keys) (room_of_line rules parts winning keys only some)

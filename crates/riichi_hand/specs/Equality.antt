@@ -16,7 +16,7 @@ use Rattle.riichi_hand.specs.contracts.win.FlagsPartialEq.TheImpl.{ghosts as fla
 use Rattle.riichi_hand.specs.contracts.win.WinPartsPartialEq.TheImpl.{ghosts as parts}
 use Rattle.riichi_hand.specs.contracts.decided.WindDecided.TheImpl.Laws.{decides-law as wind}
 use Rattle.riichi_hand.specs.contracts.decided.ByDecided.TheImpl.Laws.{decides-law as by}
-use Rattle.riichi_hand.specs.contracts.decided.RulesDecided.TheImpl.Laws.{decides-law as profile}
+use Rattle.riichi_hand.specs.contracts.decided.RuleSetDecided.TheImpl.Laws.{decides-law as rules}
 
 pub flags_decide : (a b : Flags) → Decides (flags.eq a b) (a ≡ b)
 flags_decide a b =
@@ -40,4 +40,4 @@ parts_decide a b =
     Decides-like (parts.eq a b)
     (λ p k. record { rules = p.0 k; concealed = p.1.0 k; melds = p.1.1.0 k; winning = p.1.1.1.0 k; by = p.1.1.1.1.0 k; seat = p.1.1.1.1.1.0 k; round = p.1.1.1.1.1.1.0 k; riichi = p.1.1.1.1.1.1.1.0 k; flags = p.1.1.1.1.1.1.1.1.0 k; dora = p.1.1.1.1.1.1.1.1.1.0 k; ura = p.1.1.1.1.1.1.1.1.1.1.0 k; counters = p.1.1.1.1.1.1.1.1.1.1.1.0 k; sticks = p.1.1.1.1.1.1.1.1.1.1.1.1.0 k; reds = p.1.1.1.1.1.1.1.1.1.1.1.1.1 k })
     (λ e. (ap (λ w. w.rules) e, (ap (λ w. w.concealed) e, (ap (λ w. w.melds) e, (ap (λ w. w.winning) e, (ap (λ w. w.by) e, (ap (λ w. w.seat) e, (ap (λ w. w.round) e, (ap (λ w. w.riichi) e, (ap (λ w. w.flags) e, (ap (λ w. w.dora) e, (ap (λ w. w.ura) e, (ap (λ w. w.counters) e, (ap (λ w. w.sticks) e, ap (λ w. w.reds) e))))))))))))))
-    (Decides-and _ _ (profile a.rules b.rules) (Decides-and _ _ (counts a.concealed b.concealed) (Decides-and _ _ (melds a.melds b.melds) (Decides-and _ _ (Decides-eqb a.winning b.winning) (Decides-and _ _ (by a.by b.by) (Decides-and _ _ (wind a.seat b.seat) (Decides-and _ _ (wind a.round b.round) (Decides-and _ _ (Decides-eqb a.riichi b.riichi) (Decides-and _ _ (flags_decide a.flags b.flags) (Decides-and _ _ (counts a.dora b.dora) (Decides-and _ _ (counts a.ura b.ura) (Decides-and _ _ (Decides-eqb a.counters b.counters) (Decides-and _ _ (Decides-eqb a.sticks b.sticks) (reds a.reds b.reds))))))))))))))
+    (Decides-and _ _ (rules a.rules b.rules) (Decides-and _ _ (counts a.concealed b.concealed) (Decides-and _ _ (melds a.melds b.melds) (Decides-and _ _ (Decides-eqb a.winning b.winning) (Decides-and _ _ (by a.by b.by) (Decides-and _ _ (wind a.seat b.seat) (Decides-and _ _ (wind a.round b.round) (Decides-and _ _ (Decides-eqb a.riichi b.riichi) (Decides-and _ _ (flags_decide a.flags b.flags) (Decides-and _ _ (counts a.dora b.dora) (Decides-and _ _ (counts a.ura b.ura) (Decides-and _ _ (Decides-eqb a.counters b.counters) (Decides-and _ _ (Decides-eqb a.sticks b.sticks) (reds a.reds b.reds))))))))))))))

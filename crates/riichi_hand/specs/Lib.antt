@@ -3,6 +3,7 @@ pub mod Faults
 pub mod FaultTexts
 pub mod Hand
 pub mod Rules
+pub mod RuleSets
 pub mod Win
 pub mod Words
 pub mod Values

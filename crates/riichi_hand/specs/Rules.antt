@@ -30,7 +30,20 @@ house_of rules.One = first_profile
 house_of rules.Two = second_profile
 house_of (rules.House house) = house
 
--- ---- the rules by their words
+-- ---- the rules by their places in the table and by their words
+
+abbrev pub switch_number : Switch → ℕ
+switch_number switch.RedFives = 0
+switch_number switch.Raise = 1
+switch_number switch.AddYakuman = 2
+switch_number switch.DoubleYakuman = 3
+switch_number switch.CountedYakuman = 4
+switch_number switch.DoubleWindPair = 5
+switch_number switch.KongDrawFu = 6
+switch_number switch.OpenSimples = 7
+switch_number switch.OpenPinfuFu = 8
+switch_number switch.Ippatsu = 9
+switch_number switch.Ura = 10
 
 abbrev pub switch_word : Switch → List ℕ
 switch_word switch.RedFives = codes "red-fives"

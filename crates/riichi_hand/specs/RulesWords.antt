@@ -5,9 +5,8 @@ use Rattle.std.specs.List.{flat_map}
 use Rattle.riichi_hand.specs.declared.house.House.{House}
 use Rattle.riichi_hand.specs.declared.house.Switch.{Switch}
 use Rattle.riichi_hand.specs.declared.house.Switch.TheVariants as switch
-use Rattle.riichi_hand.specs.declared.win.Rules.{Rules}
-use Rattle.riichi_hand.specs.contracts.house.HousePartialEq.TheImpl.{ghosts as house}
-use Rattle.riichi_hand.specs.Rules.{first_profile, second_profile, house_of, switch_word, is_on}
+use Rattle.riichi_hand.specs.contracts.rule_set.RuleSetPartialEq.TheImpl.{ghosts as rule_set}
+use Rattle.riichi_hand.specs.Rules.{first_profile, second_profile, switch_word, is_on}
 
 -- in the order of the table
 abbrev pub every_switch : List Switch
@@ -34,9 +33,9 @@ rules_words house =
     else changed_words (codes "1") first_profile house
 
 -- whether rules are neither profile
-abbrev pub is_house : Rules → Bool
-is_house rules = not (house.eq (house_of rules) first_profile || house.eq (house_of rules) second_profile)
+abbrev pub is_house : House → Bool
+is_house rules = not (rule_set.eq rules first_profile || rule_set.eq rules second_profile)
 
 -- the words of such rules between two texts; of a profile nothing
-unfoldable pub house_words : List ℕ → List ℕ → Rules → List ℕ
-house_words before after rules = if is_house rules then before ++ rules_words (house_of rules) ++ after else []
+unfoldable pub house_words : List ℕ → List ℕ → House → List ℕ
+house_words before after rules = if is_house rules then before ++ rules_words rules ++ after else []

@@ -5,6 +5,7 @@ use crate::fault::{LineCode, LineFault, TextName};
 use crate::hand::HandRecord;
 use crate::house::{House, Switch};
 use crate::job::Job;
+use crate::rule_set::RuleSet;
 use crate::shape::ShapeRecord;
 use crate::win::{By, Flags, Rules, WinParts, WinRecord, Wind};
 use riichi_tiles::Decided;
@@ -13,6 +14,12 @@ impl Decided for House {
     ghost use Rattle.riichi_hand.specs.Houses.{houses_decide};
 
     ghost decides = { houses_decide };
+}
+
+impl Decided for RuleSet {
+    ghost use Rattle.riichi_hand.specs.Houses.{rule_sets_decide};
+
+    ghost decides = { rule_sets_decide };
 }
 
 impl Decided for Switch {

@@ -1,6 +1,9 @@
 //! The rules that a table may choose.
-ghost use Rattle.std.specs.Prelude.{◌≡◌};
+ghost use Rattle.std.specs.Prelude.{◌≡◌, ◌<◌};
 ghost use Rattle.riichi_hand.specs.Rules as spec;
+
+use crate::rule_set::RuleSet;
+use crate::win::Rules;
 
 /// The rules of a house, each on or off. docs/RULES.md has each with a hand that it changes.
 #[derive(Clone, Copy, Debug, PartialEq, Eq)]
@@ -62,6 +65,15 @@ impl Switch {
         Switch::Ura,
     ];
 
+    /// Its place in that table, from 0 on.
+    #[inline(always)]
+    pub fn number(self) -> u8
+        ensures value { result ≡ spec.switch_number self }
+        ensures below { result < 11 }
+    {
+        self as u8
+    }
+
     /// Its word on a command line.
     pub fn word(self) -> &'static str
         ensures { result.now ≡ spec.switch_word self }
@@ -87,19 +99,7 @@ impl House {
     pub fn has(&self, switch: Switch) -> bool
         ensures { result ≡ spec.is_on switch self.now }
     {
-        match switch {
-            Switch::RedFives => self.red_fives,
-            Switch::Raise => self.raise,
-            Switch::AddYakuman => self.add_yakuman,
-            Switch::DoubleYakuman => self.double_yakuman,
-            Switch::CountedYakuman => self.counted_yakuman,
-            Switch::DoubleWindPair => self.double_wind_pair,
-            Switch::KongDrawFu => self.kong_draw_fu,
-            Switch::OpenSimples => self.open_simples,
-            Switch::OpenPinfuFu => self.open_pinfu_fu,
-            Switch::Ippatsu => self.ippatsu,
-            Switch::Ura => self.ura,
-        }
+        RuleSet::of(Rules::House(*self)).has(switch)
     }
 
     /// The same rules with one of them on or off.

@@ -5,19 +5,17 @@ ghost use Rattle.arrayvec.specs.ArrayString.{array_string_len};
 ghost use Rattle.riichi_hand.specs.Rules.{house_of};
 ghost use Rattle.riichi_hand.specs.RulesWords as spec;
 
-use crate::house::{House, Switch};
+use crate::house::Switch;
+use crate::rule_set::RuleSet;
 use crate::win::Rules;
 use arrayvec::ArrayString;
 
-impl Rules {
+impl RuleSet {
     /// Whether these are the rules of a house, and neither profile.
     pub fn is_house(self) -> bool
         ensures { result ≡ spec.is_house self }
     {
-        match self {
-            Rules::One | Rules::Two => false,
-            Rules::House(house) => house != Rules::One.house() && house != Rules::Two.house(),
-        }
+        self != RuleSet::of(Rules::One) && self != RuleSet::of(Rules::Two)
     }
 }
 
@@ -27,7 +25,7 @@ pub fn rules_words(rules: Rules) -> ArrayString<192>
     ensures { result.bytes ≡ spec.rules_words (house_of rules) }
 {
     let mut text = ArrayString::new();
-    push_rules(&mut text, &rules.house());
+    push_rules(&mut text, RuleSet::of(rules));
     text
 }
 
@@ -36,7 +34,7 @@ pub fn rules_words(rules: Rules) -> ArrayString<192>
 pub fn push_house_words<const ROOM: usize>(
     text: &mut ArrayString<ROOM>,
     before: &str,
-    rules: Rules,
+    rules: RuleSet,
     after: &str,
 )
     requires { array_string_len text.old + length before.now + 188 + length after.now ≤ ROOM }
@@ -46,21 +44,21 @@ pub fn push_house_words<const ROOM: usize>(
 {
     if rules.is_house() {
         text.push_str(before);
-        push_rules(text, &rules.house());
+        push_rules(text, rules);
         text.push_str(after);
     }
 }
 
 #[tactic(auto, unfolding(crate::specs::RulesWords::rules_words))]
-fn push_rules<const ROOM: usize>(text: &mut ArrayString<ROOM>, house: &House)
+fn push_rules<const ROOM: usize>(text: &mut ArrayString<ROOM>, rules: RuleSet)
     requires { array_string_len text.old + 188 ≤ ROOM }
-    ensures bytes { text.new.bytes ≡ text.old.bytes ++ spec.rules_words house.now }
+    ensures bytes { text.new.bytes ≡ text.old.bytes ++ spec.rules_words rules }
     ensures len { array_string_len text.new ≤ array_string_len text.old + 188 }
 {
-    if house.red_fives && house.raise {
-        push_changed(text, "2", &Rules::Two.house(), house);
+    if rules.has(Switch::RedFives) && rules.has(Switch::Raise) {
+        push_changed(text, "2", RuleSet::of(Rules::Two), rules);
     } else {
-        push_changed(text, "1", &Rules::One.house(), house);
+        push_changed(text, "1", RuleSet::of(Rules::One), rules);
     }
 }
 
@@ -69,33 +67,33 @@ fn push_rules<const ROOM: usize>(text: &mut ArrayString<ROOM>, house: &House)
 fn push_changed<const ROOM: usize>(
     text: &mut ArrayString<ROOM>,
     number: &str,
-    profile: &House,
-    house: &House,
+    profile: RuleSet,
+    rules: RuleSet,
 )
     requires one { length number.now ≤ 1 }
     requires room { array_string_len text.old + 188 ≤ ROOM }
     ensures bytes { text.new.bytes
-        ≡ text.old.bytes ++ spec.changed_words number.now profile.now house.now }
+        ≡ text.old.bytes ++ spec.changed_words number.now profile rules }
     ensures len { array_string_len text.new ≤ array_string_len text.old + 188 }
 {
     text.push_str(number);
-    push_changes(text, profile, house, &Switch::ALL);
+    push_changes(text, profile, rules, &Switch::ALL);
 }
 
 fn push_changes<const ROOM: usize>(
     text: &mut ArrayString<ROOM>,
-    profile: &House,
-    house: &House,
+    profile: RuleSet,
+    rules: RuleSet,
     switches: &[Switch],
 )
     requires { array_string_len text.old + length switches.now * 17 ≤ ROOM }
     ensures bytes { text.new.bytes
-        ≡ text.old.bytes ++ flat_map (spec.change_words profile.now house.now) switches.now }
+        ≡ text.old.bytes ++ flat_map (spec.change_words profile rules) switches.now }
     ensures len { array_string_len text.new
         ≤ array_string_len text.old + length switches.now * 17 }
 {
     for switch in switches {
-        push_change(text, profile, house, *switch);
+        push_change(text, profile, rules, *switch);
     }
 }
 
@@ -103,16 +101,16 @@ fn push_changes<const ROOM: usize>(
 #[tactic(auto, using(crate::proofs::ShortWords::short_word), unfolding(crate::specs::RulesWords::change_words))]
 fn push_change<const ROOM: usize>(
     text: &mut ArrayString<ROOM>,
-    profile: &House,
-    house: &House,
+    profile: RuleSet,
+    rules: RuleSet,
     switch: Switch,
 )
     requires { array_string_len text.old + 17 ≤ ROOM }
     ensures bytes { text.new.bytes
-        ≡ text.old.bytes ++ spec.change_words profile.now house.now switch }
+        ≡ text.old.bytes ++ spec.change_words profile rules switch }
     ensures len { array_string_len text.new ≤ array_string_len text.old + 17 }
 {
-    let is_on = house.has(switch);
+    let is_on = rules.has(switch);
     if is_on != profile.has(switch) {
         text.push_str(sign(is_on));
         text.push_str(switch.word());

@@ -8,7 +8,8 @@ ghost use Rattle.riichi_hand.specs.Win as spec;
 
 use crate::fault::{LineCode, LineFault};
 use crate::hand::is_thirteen;
-use crate::house::House;
+use crate::house::{House, Switch};
+use crate::rule_set::RuleSet;
 use riichi_tiles::{Counts, Kind, Melds, Reds, meld_tiles};
 use std::marker::Model;
 
@@ -124,7 +125,7 @@ impl Flags {
 /// What a win is made of: any values of these types. [`WinRecord::new`] tests them.
 #[derive(Clone, Copy, Debug, PartialEq, Eq)]
 pub struct WinParts {
-    pub rules: Rules,
+    pub rules: RuleSet,
     /// The concealed tiles before the winning tile.
     pub concealed: Counts,
     pub melds: Melds,
@@ -180,7 +181,7 @@ impl WinRecord {
         if let Some(fault) = fault_of(&parts) {
             return Err(fault);
         }
-        if parts.rules.house().red_fives {
+        if parts.rules.has(Switch::RedFives) {
             Ok(WinRecord { parts })
         } else {
             Ok(WinRecord {
@@ -205,8 +206,9 @@ impl WinRecord {
         copies_won(&self.parts, kind)
     }
 
-    /// The rule profile.
-    pub fn rules(&self) -> Rules
+    /// Which rules are on.
+    #[inline(always)]
+    pub fn rules(&self) -> RuleSet
         ensures { result ≡ self.now.rules }
     {
         self.parts.rules
@@ -336,7 +338,7 @@ fn fault_of(parts: &WinParts) -> Option<LineFault>
     if has_wrong_first(parts) {
         return Some(LineFault::Line(LineCode::H15));
     }
-    if parts.rules.house().red_fives && has_too_many_reds(parts) {
+    if parts.rules.has(Switch::RedFives) && has_too_many_reds(parts) {
         return Some(LineFault::Line(LineCode::H16));
     }
     None

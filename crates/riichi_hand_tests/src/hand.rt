@@ -2,6 +2,7 @@ use crate::facts::{holds, same};
 use arrayvec::ArrayString;
 use riichi_hand::*;
 use riichi_tiles::{Counts, Kind, Melds, NotationCode, NotationFault, Reds, read_counts};
+use std::mem::size_of;
 use std::process::Abort;
 
 /// Whether a line is a job, or its fault.
@@ -640,7 +641,7 @@ fn win_with(rules: Rules, riichi: u8, reds: Reds) -> Result<WinRecord, LineFault
         Err(fault) => return Err(LineFault::Notation(TextName::Hand, fault)),
     };
     WinRecord::new(WinParts {
-        rules,
+        rules: RuleSet::of(rules),
         concealed,
         melds: Melds::new(),
         winning: Kind::at(10),
@@ -674,6 +675,30 @@ fn tests_the_parts_of_a_win(rt: HostRuntime) {
 }
 
 #[test]
+fn rules_in_one_word(rt: HostRuntime) {
+    for switch in Switch::ALL {
+        for profile in [Rules::One, Rules::Two] {
+            let house = profile.house().with(switch, !profile.house().has(switch));
+            let set = RuleSet::of(Rules::House(house));
+            for rule in Switch::ALL {
+                same(&rt, set.has(rule), house.has(rule));
+                same(&rt, RuleSet::of(profile).has(rule), profile.house().has(rule));
+            }
+        }
+    }
+}
+
+/// With a profile alone, one byte, a record of a win would take what its other parts take, and one byte.
+#[test]
+fn rules_take_few_bytes(rt: HostRuntime) {
+    let tiles = 3 * size_of::<Counts>() + size_of::<Melds>() + size_of::<Kind>() + size_of::<Reds>();
+    let circumstances = size_of::<By>() + 2 * size_of::<Wind>() + size_of::<Flags>();
+    let numbers = 3 * size_of::<u8>();
+    let with_a_profile = 1 + tiles + circumstances + numbers;
+    same(&rt, size_of::<WinRecord>() <= with_a_profile + 4, true);
+}
+
+#[test]
 fn reads_each_key(rt: HostRuntime) {
     let one = b"win 123456789m22s34p on=2p by=ron seat=S round=E";
     let plain = win_with(Rules::Two, 0, Reds::none()).ok();
@@ -681,7 +706,7 @@ fn reads_each_key(rt: HostRuntime) {
     let all =
         b"win 234m567m34p99s open=ankan:1111z on=2p by=tsumo seat=W round=N riichi=2 flags=rinshan dora=1p ura=3m counters=7 sticks=12";
     let win = win_of(Rules::Two, all).expect(&rt, "a win");
-    same(&rt, win.rules(), Rules::Two);
+    same(&rt, win.rules(), RuleSet::of(Rules::Two));
     same(&rt, win.concealed().total(), 10);
     same(&rt, win.melds().count(), 1);
     same(&rt, win.winning(), Kind::at(10));

@@ -2,7 +2,6 @@
 use Rattle.std.proofs.Common.{◌≡◌, ℕ, ◌*◌, ◌≤◌, Bool, true, false, List, [], ◌∷◌, length, cond, arith}
 use Rattle.std.specs.List.{filter, list_any, sum_by}
 use Rattle.std.proofs.lemmas.List.Sums.{sum_by-cons, length-filter, count_by-le-length}
-use Rattle.riichi_hand.specs.Rules.{house_of}
 use Rattle.riichi_hand.specs.declared.win.WinParts.{WinParts}
 use Rattle.riichi_split.specs.declared.reading.Reading.{Reading}
 use Rattle.riichi_yaku.specs.declared.table.Yaku.{Yaku}
@@ -28,5 +27,5 @@ pub few_limits : (reading : Reading) (win : WinParts) (set : ℕ) → limits_of 
 unfolding limits_of yaku_in
 few_limits reading win set =
     let yaku = filter (contains set) every_yaku in
-    of_set (house_of win.rules).add_yakuman (list_any (is_double reading win) yaku) (sum_by (limits_in reading win) yaku)
+    of_set win.rules.add_yakuman (list_any (is_double reading win) yaku) (sum_by (limits_in reading win) yaku)
     (omega (arith, limits-most reading win yaku, length-filter (contains set) every_yaku, count_by-le-length (contains set) every_yaku))

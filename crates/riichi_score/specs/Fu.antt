@@ -3,7 +3,6 @@ use Rattle.std.specs.Prelude.{ℕ, ◌≡◌, ◌+◌, ◌*◌, ◌/◌, Bool, n
 use Rattle.std.specs.List.{sum_by}
 use Rattle.riichi_tiles.specs.Melds.{are_concealed}
 use Rattle.riichi_tiles.specs.declared.block.Block.{Block}
-use Rattle.riichi_hand.specs.Rules.{house_of}
 use Rattle.riichi_hand.specs.Win.{is_ron}
 use Rattle.riichi_hand.specs.declared.win.WinParts.{WinParts}
 use Rattle.riichi_split.specs.declared.reading.Reading.{Reading}
@@ -22,7 +21,7 @@ ron_fu win = if are_concealed win.melds && is_ron win.by then 10 else 0
 
 -- a draw after a kong has no fu, where the rules say so
 abbrev pub is_bare_draw : WinParts → Bool
-is_bare_draw win = win.flags.rinshan && not (house_of win.rules).kong_draw_fu
+is_bare_draw win = win.flags.rinshan && not win.rules.kong_draw_fu
 
 -- a self-draw, unless the hand has pinfu: 2
 abbrev pub self_draw_fu : Bool → WinParts → ℕ
@@ -46,7 +45,7 @@ fu_sum blocks reading done win =
 
 -- an open hand won by ron whose sum is 20: 10 more, where the rules say so
 abbrev pub open_fu : WinParts → ℕ → ℕ
-open_fu win sum = if not (are_concealed win.melds) && is_ron win.by && (sum == 20) && (house_of win.rules).open_pinfu_fu then 10 else 0
+open_fu win sum = if not (are_concealed win.melds) && is_ron win.by && (sum == 20) && win.rules.open_pinfu_fu then 10 else 0
 
 -- rounded up to the next ten
 abbrev pub up_to_ten : ℕ → ℕ

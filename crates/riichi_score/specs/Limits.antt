@@ -6,7 +6,6 @@ use Rattle.riichi_tiles.specs.Melds.{every_kind}
 use Rattle.riichi_tiles.specs.declared.block.Block.{Block}
 use Rattle.riichi_tiles.specs.declared.block.Block.TheVariants as block
 use Rattle.riichi_hand.specs.HandParts.{HandParts}
-use Rattle.riichi_hand.specs.Rules.{house_of}
 use Rattle.riichi_hand.specs.declared.win.WinParts.{WinParts}
 use Rattle.riichi_split.specs.Waits.{waits_of}
 use Rattle.riichi_split.specs.declared.reading.Reading.{Reading}
@@ -44,7 +43,7 @@ is_rare reading win other = false
 
 -- these count as two, where the rules say so
 abbrev pub is_double : Reading → WinParts → Yaku → Bool
-is_double reading win yaku = (house_of win.rules).double_yakuman && is_rare reading win yaku
+is_double reading win yaku = win.rules.double_yakuman && is_rare reading win yaku
 
 abbrev pub limits_in : Reading → WinParts → Yaku → ℕ
 limits_in reading win yaku = if is_double reading win yaku then 2 else 1
@@ -52,5 +51,5 @@ limits_in reading win yaku = if is_double reading win yaku then 2 else 1
 -- the limits of a set of yakuman: the sum of all, where the rules add them; else those of the greatest
 unfoldable pub limits_of : Reading → WinParts → ℕ → ℕ
 limits_of reading win set =
-    if (house_of win.rules).add_yakuman then sum_by (limits_in reading win) (yaku_in set)
+    if win.rules.add_yakuman then sum_by (limits_in reading win) (yaku_in set)
     else (if list_any (is_double reading win) (yaku_in set) then 2 else 1)

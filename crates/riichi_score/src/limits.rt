@@ -4,7 +4,7 @@ ghost use Rattle.std.specs.List.{list_any, sum_by};
 ghost use Rattle.riichi_yaku.specs.YakuSets.{yaku_in};
 ghost use Rattle.riichi_score.specs.Limits as spec;
 
-use riichi_hand::{HandRecord, WinRecord};
+use riichi_hand::{HandRecord, Switch, WinRecord};
 use riichi_split::{Reading, waits};
 use riichi_tiles::Block;
 use riichi_yaku::{Yaku, YakuSet};
@@ -16,7 +16,7 @@ pub fn yakuman_limits(reading: &Reading, win: &WinRecord, yaku: YakuSet) -> u32
     ensures value { result ≡ spec.limits_of reading.now win.now yaku }
     ensures most { result ≤ 100 }
 {
-    if win.rules().house().add_yakuman {
+    if win.rules().has(Switch::AddYakuman) {
         all_limits(reading, win, yaku)
     } else if has_double(reading, win, yaku) {
         2
@@ -56,7 +56,7 @@ fn has_double(reading: &Reading, win: &WinRecord, yaku: YakuSet) -> bool
 fn is_double(reading: &Reading, win: &WinRecord, yaku: Yaku) -> bool
     ensures { result ≡ spec.is_double reading.now win.now yaku }
 {
-    win.rules().house().double_yakuman && is_rare(reading, win, yaku)
+    win.rules().has(Switch::DoubleYakuman) && is_rare(reading, win, yaku)
 }
 
 /// Whether it is big four winds, or one of three yakuman in a rarer form.

@@ -7,7 +7,7 @@ ghost use Rattle.riichi_yaku.specs.Runs.{is_pinfu};
 ghost use Rattle.riichi_score.specs.Fu as spec;
 
 use riichi_blocks::{Blocks, HandBlock, blocks_of, pair_fu, wait_fu};
-use riichi_hand::{WinRecord, is_ron};
+use riichi_hand::{Switch, WinRecord, is_ron};
 use riichi_split::Reading;
 use riichi_tiles::{Block, Kind};
 use riichi_yaku::is_pinfu;
@@ -96,7 +96,7 @@ pub fn self_draw_fu(blocks: &Blocks, reading: &Reading, win: &WinRecord) -> u8
 fn is_bare_draw(win: &WinRecord) -> bool
     ensures { result ≡ spec.is_bare_draw win.now }
 {
-    win.flags().rinshan && !win.rules().house().kong_draw_fu
+    win.flags().rinshan && !win.rules().has(Switch::KongDrawFu)
 }
 
 fn blocks_fu(blocks: &Blocks, win: &WinRecord) -> u8
@@ -138,7 +138,7 @@ pub fn open_fu(concealed: bool, win: &WinRecord, sum: u32) -> u8
     ensures value { result ≡ spec.open_fu win.now sum }
     ensures most { result ≤ 10 }
 {
-    if !concealed && is_ron(win.by()) && sum == 20 && win.rules().house().open_pinfu_fu {
+    if !concealed && is_ron(win.by()) && sum == 20 && win.rules().has(Switch::OpenPinfuFu) {
         10
     } else {
         0

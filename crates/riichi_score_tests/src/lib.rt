@@ -8,6 +8,8 @@ mod blocks;
 #[cfg(test)]
 mod facts;
 #[cfg(test)]
+mod house;
+#[cfg(test)]
 mod score;
 #[cfg(test)]
 mod split;

@@ -1,6 +1,6 @@
 use crate::facts::{holds, same, same_in};
 use arrayvec::ArrayString;
-use riichi_hand::{Job, Rules, Switch, read_line};
+use riichi_hand::{Job, RuleSet, Rules, Switch, read_line};
 use riichi_score::*;
 use riichi_split::Reading;
 use riichi_tiles::Reds;
@@ -15,7 +15,7 @@ fn text_of(job: &Job) -> ArrayString<3072> {
     text
 }
 
-fn answers(rt: &impl Abort, rules: Rules, rows: &[(&str, &str)]) -> Result<(), Fail> {
+pub(crate) fn answers(rt: &impl Abort, rules: Rules, rows: &[(&str, &str)]) -> Result<(), Fail> {
     for (line, text) in rows {
         match read_line(rules, line.as_bytes()) {
             Ok(Some(job)) => same_in(rt, &line, text_of(&job).as_str(), *text),
@@ -385,8 +385,10 @@ fn the_second_profile(rt: HostRuntime) -> Result<(), Fail> {
 
 #[test]
 fn base_points_and_gain(rt: HostRuntime) -> Result<(), Fail> {
-    same(&rt, base_points(Rules::One, 4, 30), 1920);
-    same(&rt, base_points(Rules::Two, 4, 30), 2000);
+    let one = RuleSet::of(Rules::One);
+    let two = RuleSet::of(Rules::Two);
+    same(&rt, base_points(one, 4, 30), 1920);
+    same(&rt, base_points(two, 4, 30), 2000);
     same(
         &rt,
         gain(
@@ -399,20 +401,10 @@ fn base_points_and_gain(rt: HostRuntime) -> Result<(), Fail> {
         3500,
     );
     same(&rt, (product_of(2, 40), product_of(4, 30)), (640, 1920));
-    holds(
-        &rt,
-        is_raised(Rules::Two, 4, 30) && is_raised(Rules::Two, 3, 60),
-    );
-    holds(
-        &rt,
-        !is_raised(Rules::Two, 4, 25) && !is_raised(Rules::One, 4, 30),
-    );
+    holds(&rt, is_raised(two, 4, 30) && is_raised(two, 3, 60));
+    holds(&rt, !is_raised(two, 4, 25) && !is_raised(one, 4, 30));
     let reds = Reds::new(1, 2, 0).ok_or("three red fives")?;
-    same(
-        &rt,
-        (red_dora(Rules::One, &reds), red_dora(Rules::Two, &reds)),
-        (0, 3),
-    );
+    same(&rt, (red_dora(one, &reds), red_dora(two, &reds)), (0, 3));
     Ok(())
 }
 

@@ -6,6 +6,7 @@ use Rattle.riichi_hand.specs.declared.win.By.{By}
 use Rattle.riichi_hand.specs.declared.win.By.TheVariants.{Ron, Tsumo}
 use Rattle.riichi_hand.specs.declared.win.Flags.{Flags}
 use Rattle.riichi_hand.specs.declared.win.Rules.{Rules}
+use Rattle.riichi_hand.specs.Rules.{house_of}
 use Rattle.riichi_hand.specs.declared.win.WinParts.{WinParts}
 use Rattle.riichi_hand.specs.declared.win.Wind.{Wind}
 use Rattle.riichi_hand.specs.declared.win.Wind.TheVariants.{East, South, West, North}
@@ -55,7 +56,7 @@ is_sound row =
 
 abbrev pub row_parts : Rules → WinRow → WinParts
 row_parts rules row = record {
-  rules = rules;
+  rules = house_of rules;
   concealed = row.concealed;
   melds = unwrap_or (melds_in row.melds) [];
   winning = row.winning;

@@ -3,7 +3,6 @@ use Rattle.std.specs.Prelude.{ℕ, Bool, not, ◌&&◌, ◌||◌, List}
 use Rattle.std.specs.List.{list_any, range_with_len}
 use Rattle.riichi_tiles.specs.Melds.{are_concealed}
 use Rattle.riichi_hand.specs.declared.win.WinParts.{WinParts}
-use Rattle.riichi_hand.specs.Rules.{house_of}
 use Rattle.riichi_split.specs.declared.reading.Reading.{Reading}
 use Rattle.riichi_blocks.specs.HandBlocks.{is_thirteen_orphans}
 use Rattle.riichi_blocks.specs.Held.{every, some}
@@ -11,7 +10,7 @@ use Rattle.riichi_blocks.specs.Kinds.{is_honour, is_orphan, is_simple, is_of_sui
 
 -- an open hand may have all simples, where the rules say so
 abbrev pub may_be_all_simples : WinParts → Bool
-may_be_all_simples parts = are_concealed parts.melds || (house_of parts.rules).open_simples
+may_be_all_simples parts = are_concealed parts.melds || parts.rules.open_simples
 
 -- 6: every tile is a simple
 abbrev pub is_all_simples : Reading → List ℕ → WinParts → Bool

@@ -2,7 +2,7 @@
 ghost use Rattle.std.specs.Prelude.{◌≡◌};
 ghost use Rattle.riichi_yaku.specs.Luck as spec;
 
-use riichi_hand::{WinRecord, is_ron};
+use riichi_hand::{Switch, WinRecord, is_ron};
 
 pub(crate) fn is_riichi(win: &WinRecord) -> bool
     ensures { result ≡ spec.is_riichi win.now }
@@ -19,7 +19,7 @@ pub(crate) fn is_double_riichi(win: &WinRecord) -> bool
 pub(crate) fn is_ippatsu(win: &WinRecord) -> bool
     ensures { result ≡ spec.is_ippatsu win.now }
 {
-    win.flags().ippatsu && win.rules().house().ippatsu
+    win.flags().ippatsu && win.rules().has(Switch::Ippatsu)
 }
 
 pub(crate) fn is_fully_concealed(win: &WinRecord) -> bool

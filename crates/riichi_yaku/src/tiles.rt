@@ -3,7 +3,7 @@ ghost use Rattle.std.specs.Prelude.{◌≡◌, ◌<◌};
 ghost use Rattle.riichi_yaku.specs.Tiles as spec;
 
 use riichi_blocks::{AllTiles, is_thirteen_orphans};
-use riichi_hand::WinRecord;
+use riichi_hand::{Switch, WinRecord};
 use riichi_split::Reading;
 
 pub(crate) fn is_all_simples(reading: &Reading, tiles: &AllTiles, win: &WinRecord) -> bool
@@ -15,7 +15,7 @@ pub(crate) fn is_all_simples(reading: &Reading, tiles: &AllTiles, win: &WinRecor
 fn may_be_all_simples(win: &WinRecord) -> bool
     ensures { result ≡ spec.may_be_all_simples win.now }
 {
-    win.melds().concealed() || win.rules().house().open_simples
+    win.melds().concealed() || win.rules().has(Switch::OpenSimples)
 }
 
 pub(crate) fn is_all_terminals_and_honours(reading: &Reading, tiles: &AllTiles) -> bool

@@ -7,5 +7,5 @@ use Rattle.riichi_hand.proofs.rule_words.push_changes.Given as goal
 -- the rules so far are written
 abbrev pub invariant-loop-switch : goal.invariant-loop-switch
 invariant-loop-switch g l =
-    (l.text.bytes ≡ l.initial.text.bytes ++ flat_map (change_words l.profile l.house) (take l.switch-index l.switches))
+    (l.text.bytes ≡ l.initial.text.bytes ++ flat_map (change_words l.profile l.rules) (take l.switch-index l.switches))
     × (array_string_len l.text ≤ array_string_len l.initial.text + l.switch-index * 17)

@@ -1,7 +1,7 @@
 use Rattle.std.proofs.Common.{◌≡◌, ◌-◌, ◌∙◌, ℕ, List, Option, Some, length, take, ap, sym}
 use Rattle.std.specs.Prelude.{option_map}
 use Rattle.std.proofs.lemmas.List.{length-take-le}
-use Rattle.riichi_hand.specs.Places.{fault_from, place_of}
+use Rattle.riichi_hand.specs.Places.{fault_from}
 use Rattle.riichi_hand.specs.Words.{word_of}
 use Rattle.riichi_hand.specs.declared.line.record.Place.{Place}
 use Rattle.riichi_hand.proofs.PlaceEnds.{at_place}
