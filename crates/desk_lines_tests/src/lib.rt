@@ -1,4 +1,5 @@
-//! Tests of `desk_lines`, by what it exports: the answers to lines, to texts and to scripts, and its law.
+//! Tests of `desk_lines`, by what it exports: the answers to lines, to texts and to scripts, and its law; and that `desk_words`
+//! reads the rules that these answers name.
 //!
 //! They stand apart from the libraries, since a check of a crate with its tests proves the crate once more.
 #![tactic(auto)]
@@ -19,5 +20,7 @@ mod numbering;
 mod ready;
 #[cfg(test)]
 mod replay;
+#[cfg(test)]
+mod rules;
 #[cfg(test)]
 mod waits;

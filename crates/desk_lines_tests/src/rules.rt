@@ -1,0 +1,61 @@
+//! The words of rules, as answers name them and `--rules` reads them.
+use crate::facts::{holds_in, same_in};
+use desk_words::rules_named;
+use riichi_hand::{House, Rules, Switch, rules_words};
+use std::test::Fail;
+
+/// What a user types, and how it is named.
+const TYPED: [(&str, &str); 9] = [
+    ("1", "1"),
+    ("2", "2"),
+    ("1+ura", "1"),
+    ("1+raise+red-fives", "2"),
+    ("2-raise", "1+red-fives"),
+    ("2-red-fives-raise", "1"),
+    ("1-ura+red-fives", "1+red-fives-ura"),
+    (
+        "2-ura+double-yakuman+add-yakuman",
+        "2+add-yakuman+double-yakuman-ura",
+    ),
+    (
+        "2-red-fives-counted-yakuman-double-wind-pair-kong-draw-fu-open-simples-open-pinfu-fu-ippatsu-ura",
+        "1+raise-counted-yakuman-double-wind-pair-kong-draw-fu-open-simples-open-pinfu-fu-ippatsu-ura",
+    ),
+];
+
+fn rules_of(words: &str) -> Result<Rules, Fail> {
+    match rules_named(words) {
+        Ok(rules) => Ok(rules),
+        Err(_) => Err(Fail::from("words that name no rules")),
+    }
+}
+
+#[test]
+fn words_of_rules(rt: HostRuntime) -> Result<(), Fail> {
+    for (typed, named) in TYPED {
+        let words = rules_words(rules_of(typed)?);
+        same_in(&rt, &typed, words.as_str(), named);
+    }
+    Ok(())
+}
+
+/// The rules that are on where the bits of a number are.
+fn house_of(number: u32) -> House {
+    let mut house = Rules::One.house();
+    let mut rest = number;
+    for switch in Switch::ALL {
+        house = house.with(switch, rest % 2 == 1);
+        rest /= 2;
+    }
+    house
+}
+
+#[test]
+fn words_of_every_choice_of_rules_are_read_back(rt: HostRuntime) -> Result<(), Fail> {
+    for number in 0..2048 {
+        let house = house_of(number);
+        let words = rules_words(Rules::House(house));
+        holds_in(&rt, &number, rules_of(words.as_str())?.house() == house);
+    }
+    Ok(())
+}
