@@ -674,15 +674,25 @@ fn tests_the_parts_of_a_win(rt: HostRuntime) {
     same(&rt, plain.is_ok(), true);
 }
 
+/// Whether a profile has a rule, by the table of docs/RULES.md.
+fn is_on_in(profile: Rules, rule: Switch) -> bool {
+    match rule {
+        Switch::RedFives | Switch::Raise => profile == Rules::Two,
+        Switch::AddYakuman | Switch::DoubleYakuman => false,
+        _ => true,
+    }
+}
+
 #[test]
 fn rules_in_one_word(rt: HostRuntime) {
-    for switch in Switch::ALL {
-        for profile in [Rules::One, Rules::Two] {
-            let house = profile.house().with(switch, !profile.house().has(switch));
+    for profile in [Rules::One, Rules::Two] {
+        for turned in Switch::ALL {
+            let house = profile.house().with(turned, !is_on_in(profile, turned));
             let set = RuleSet::of(Rules::House(house));
             for rule in Switch::ALL {
-                same(&rt, set.has(rule), house.has(rule));
-                same(&rt, RuleSet::of(profile).has(rule), profile.house().has(rule));
+                let is_on = is_on_in(profile, rule);
+                same(&rt, RuleSet::of(profile).has(rule), is_on);
+                same(&rt, set.has(rule), is_on != (rule == turned));
             }
         }
     }
@@ -691,7 +701,10 @@ fn rules_in_one_word(rt: HostRuntime) {
 /// With a profile alone, one byte, a record of a win would take what its other parts take, and one byte.
 #[test]
 fn rules_take_few_bytes(rt: HostRuntime) {
-    let tiles = 3 * size_of::<Counts>() + size_of::<Melds>() + size_of::<Kind>() + size_of::<Reds>();
+    let tiles = 3 * size_of::<Counts>()
+        + size_of::<Melds>()
+        + size_of::<Kind>()
+        + size_of::<Reds>();
     let circumstances = size_of::<By>() + 2 * size_of::<Wind>() + size_of::<Flags>();
     let numbers = 3 * size_of::<u8>();
     let with_a_profile = 1 + tiles + circumstances + numbers;
