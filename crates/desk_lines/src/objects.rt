@@ -114,7 +114,8 @@ impl Numbers for Members {
 
 /// Makes the object of a job under these rules.
 fn make_object<S: RowSource>(rules: Rules, job: &Job, outbox: &mut Outbox, source: &mut S)
-    ensures object { outbox.new.object.bytes ≡ spec.answer_text (house_of rules) (value_of job.now) }
+    ensures object { outbox.new.object.bytes
+        ≡ spec.answer_text (house_of rules) (value_of job.now) }
     ensures same { outbox.new.bytes ≡ outbox.old.bytes }
 {
     outbox.object.clear();

@@ -8,7 +8,7 @@ use Rattle.desk_json.specs.Parts.{comma_if}
 use Rattle.desk_json.specs.Text.{text_of}
 use Rattle.desk_json.specs.Trees.{Named}
 use Rattle.desk_json.proofs.Written.{written, members_written, text_written}
-use Rattle.riichi_hand.specs.declared.win.Rules.{Rules}
+use Rattle.riichi_hand.specs.declared.house.House.{House}
 use Rattle.riichi_score.specs.declared.answer.WinAnswer.{WinAnswer}
 use Rattle.riichi_score.specs.declared.answer.WinAnswer.TheVariants.{Won, NoYaku, NoWin}
 use Rattle.desk_core.specs.declared.answer.Answer.TheVariants as answer
@@ -61,7 +61,7 @@ one_more now before name value members named e =
     ∙ regroup (123 ∷ []) (quoted name ++ 58 ∷ []) (written value) (open_members true members) (member_text named ++ codes "}")))
 
 -- the object of a win
-pub win_more : (before now : List ℕ) (rules : Rules) (win : WinAnswer) (named : Named) → now ++ codes "}" ≡ before ++ answer_text rules (answer.Win win)
+pub win_more : (before now : List ℕ) (rules : House) (win : WinAnswer) (named : Named) → now ++ codes "}" ≡ before ++ answer_text rules (answer.Win win)
     → now ++ (member_text named ++ codes "}") ≡ before ++ text_of (with_member (win_tree rules win) named)
 unfolding answer_tree win_tree score_tree
 win_more before now rules (Won score) named e = one_more now before _ _ _ named e
