@@ -1,6 +1,6 @@
 -- The object of a win with its reasons begins as any object that is no refusal, and how it is put.
-use Rattle.std.proofs.Common.{◌≡◌, ℕ, List, [], ◌∷◌, ◌++◌, Bool, true, false, cond, drop, Option, Some, None, refl, sym, subst, ap, ◌∙◌}
-use Rattle.std.specs.Prelude.{codes, option_map}
+use Rattle.std.proofs.Common.{◌≡◌, ℕ, List, [], ◌∷◌, ◌++◌, Bool, false, cond, drop, Option, Some, refl, sym, subst, ap, ◌∙◌}
+use Rattle.std.specs.Prelude.{codes}
 use Rattle.json.specs.Print.{escape_byte}
 use Rattle.riichi_hand.specs.declared.house.House.{House}
 use Rattle.riichi_hand.specs.declared.win.Rules.{Rules}
@@ -9,16 +9,13 @@ use Rattle.riichi_hand.specs.Lines.{outcome_of}
 use Rattle.riichi_score.specs.Best.{best_of}
 use Rattle.riichi_score.specs.declared.answer.WinAnswer.{WinAnswer}
 use Rattle.riichi_score.specs.declared.answer.WinAnswer.TheVariants.{Won, NoYaku, NoWin}
-use Rattle.desk_json.specs.Text.{text_of}
 use Rattle.desk_json.specs.Trees.{Named, win_tree, score_tree}
 use Rattle.desk_json.proofs.Written.{written, text_written}
 use Rattle.desk_reasons.specs.Reasons.{IsExplainedWin}
 use Rattle.desk_reasons.specs.Trees.{why_tree, with_member}
-use Rattle.desk_lines.specs.JsonLine.{is_refusal, are_of_refusal, json_of, IsMembers}
+use Rattle.desk_lines.specs.JsonLine.{is_refusal, are_of_refusal}
 use Rattle.desk_lines.specs.Reasoned.{win_in, IsReasonedBy, IsReasoned, AreReasoned}
 use Rattle.desk_lines.specs.Records.{Puts}
-use Rattle.desk_lines.specs.Telling.{kind_by, with_line_feed}
-use Rattle.desk_lines.specs.declared.line_kind.LineKind.{LineKind}
 use Rattle.desk_lines.specs.declared.line_kind.LineKind.TheVariants.{Refused, Answered}
 
 no_refusal : (rules : House) (win : WinAnswer) (named : Named) → is_refusal (written (with_member (win_tree rules win) named)) ≡ false

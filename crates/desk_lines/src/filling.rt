@@ -20,6 +20,7 @@ use riichi_shape::{KeptRow, KeptUpper, LentMemo};
 
 /// So many rows of suits are kept for the next lines of a text, in the frame of the call, and so many upper ranks.
 const KEPT_ROWS: usize = 1024;
+
 const KEPT_UPPERS: usize = 16;
 
 /// How many bytes of a text were answered, and how many bytes of the room the answers fill.
