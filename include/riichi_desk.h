@@ -45,6 +45,7 @@ extern "C" {
 #define RIICHI_OPEN_PINFU_FU    0x100
 #define RIICHI_IPPATSU          0x200
 #define RIICHI_URA              0x400
+#define RIICHI_BLESSING_OF_MAN  0x800
 #define RIICHI_HOUSE_ONE        0x107f0
 
 /* Answers one line: a win, a hand's waits or a shape, as docs/NOTATION.md says them.

@@ -121,7 +121,7 @@ answers "$room/rules.lines" "$room/rules.wanted"
 for wanted in "$room"/house*.wanted; do
   house=${wanted##*/house} house=${house%.wanted}
   told "the hands of docs/RULES.md under --rules $house" "$(cat "$wanted")" "$("$program" line --rules "$house" < "$room/house$house.lines.told")"
-  told "explain names the rules $house" "$(sed "s/\$/\n  rules   $house/" "$wanted")" "$("$program" explain --rules "$house" < "$room/house$house.lines.told" | grep -E '^([^ ]|  rules )')"
+  told "explain names the rules $house" "$(sed "/^refused/!s/\$/\n  rules   $house/" "$wanted")" "$("$program" explain --rules "$house" < "$room/house$house.lines.told" | grep -E '^([^ ]|  rules )')"
 done
 
 # the same lines with explanations; a profile from the command line; lines as words
@@ -190,6 +190,7 @@ printf 'Rules 2\nwaits 1112345678999m' > "$room/input"
 row 1 $'refused H2\n'"$ready" 'the lines are answered under profile 2' line --rules 2
 printf 'rules 3\r\nwaits 1112345678999m\n' > "$room/input"
 row 1 $'refused H2\n'"$ready" 'standard input: line 1 sets no profile' line
+row 1 $'refused H2\n'"$ready" 'the lines are answered under the rules 1+red-fives-ura' line --rules 1-ura+red-fives
 printf '# table three\n\nrules 2\nwaits 1112345678999m\nrules 2\n' > "$room/input"
 row 1 $'refused H2\n'"$ready"$'\nrefused H2' 'standard input: line 3 sets no profile' line
 told 'a text is told once' 1 "$("$program" line < "$room/input" 2>&1 > /dev/null | grep -c .)"

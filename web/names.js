@@ -54,6 +54,7 @@ const YAKU = {
   "four-kongs": ["suukantsu", "四槓子"],
   "blessing-of-heaven": ["tenhou", "天和"],
   "blessing-of-earth": ["chiihou", "地和"],
+  "blessing-of-man": ["renhou", "人和"],
 };
 // The yaku that has a name for each way of winning.
 const LAST_TILE = { tsumo: ["haitei", "海底摸月"], ron: ["houtei", "河底撈魚"] };

@@ -17,6 +17,7 @@ export const RULES = [
   ["open-pinfu-fu", "An open hand of 20 fu won by ron counts 30"],
   ["ippatsu", "Ippatsu"],
   ["ura", "Indicators below count (ura dora)"],
+  ["blessing-of-man", "Ron before the own first draw is a yakuman (renhou)"],
 ];
 
 export function isHouse(rules) {

@@ -21,14 +21,14 @@ pub enum Answer {
     Won(Score),
 }
 
-pub const WORDS: [&str; 41] = [
+pub const WORDS: [&str; 42] = [
     "riichi", "double-riichi", "ippatsu", "fully-concealed", "pinfu", "pure-double-chow", "all-simples", "white-dragon",
     "green-dragon", "red-dragon", "seat-wind", "prevalent-wind", "after-a-kong", "robbing-the-kong", "last-tile",
     "mixed-triple-chow", "pure-straight", "outside-hand", "seven-pairs", "triple-pung", "three-kongs", "all-pungs",
     "three-concealed-pungs", "little-three-dragons", "all-terminals-and-honours", "half-flush", "terminals-in-all-sets",
     "twice-pure-double-chow", "full-flush", "thirteen-orphans", "nine-gates", "four-concealed-pungs", "big-three-dragons",
     "little-four-winds", "big-four-winds", "all-honours", "all-terminals", "all-green", "four-kongs",
-    "blessing-of-heaven", "blessing-of-earth",
+    "blessing-of-heaven", "blessing-of-earth", "blessing-of-man",
 ];
 const CONCEALED: [u8; 29] = [1, 2, 1, 1, 1, 1, 1, 1, 1, 1, 1, 1, 1, 1, 1, 2, 2, 2, 2, 2, 2, 2, 2, 2, 2, 3, 3, 3, 6];
 const MELDED: [u8; 29] = [0, 0, 0, 0, 0, 0, 1, 1, 1, 1, 1, 1, 1, 1, 1, 1, 1, 1, 0, 2, 2, 2, 2, 2, 2, 2, 2, 0, 5];

@@ -69,7 +69,7 @@ static void answer(const uint8_t *text, size_t length) {
 
 /* The rules that a table may choose, in the order of their bits. */
 static const char *const rule_words[] = {"red-fives", "raise", "add-yakuman", "double-yakuman", "counted-yakuman",
-    "double-wind-pair", "kong-draw-fu", "open-simples", "open-pinfu-fu", "ippatsu", "ura"};
+    "double-wind-pair", "kong-draw-fu", "open-simples", "open-pinfu-fu", "ippatsu", "ura", "blessing-of-man"};
 enum { RULES = sizeof rule_words / sizeof *rule_words };
 
 /* The rule whose word a text begins with, before its end or a sign; RULES where there is none. */

@@ -14,7 +14,8 @@ export type Rule =
   | "openSimples"
   | "openPinfuFu"
   | "ippatsu"
-  | "ura";
+  | "ura"
+  | "blessingOfMan";
 /** The first profile with these rules on or off: `house({ redFives: true, ura: false })`. */
 export function house(changes?: Partial<Record<Rule, boolean>>): HouseRules;
 /** The rules of a text such as `2` or `1+red-fives-ura`; undefined where it has none. */

@@ -63,6 +63,7 @@ const RULES = [
   "openPinfuFu",
   "ippatsu",
   "ura",
+  "blessingOfMan",
 ];
 const HOUSE = 0x10000;
 const FIRST = 0x7f0;

@@ -19,7 +19,7 @@ use Rattle.riichi_shape.specs.declared.discard.Discard.{Discard}
 use Rattle.riichi_yaku.specs.declared.table.Yaku.{Yaku}
 use Rattle.riichi_yaku.specs.Table as table
 use Rattle.riichi_yaku.specs.YakuSets.{yaku_in}
-use Rattle.riichi_yaku.proofs.Sets.{below_41}
+use Rattle.riichi_yaku.proofs.Sets.{below_42}
 use Rattle.desk_core.specs.declared.answer.Answer.{Answer}
 use Rattle.desk_core.specs.declared.answer.Answer.TheVariants as answer
 use Rattle.desk_json.specs.Text.{text_of, answer_text}
@@ -35,7 +35,7 @@ items_numbers tree P each (x ∷ xs) h = (each x h.0, items_numbers tree P each 
 
 yaku_numbers : (yaku : Yaku) → HasNumbers (yaku_tree yaku)
 unfolding yaku_tree
-yaku_numbers yaku = (IsNumber-decimal (table.number yaku) (omega (arith, below_41 yaku)), (tt, (tt, tt)))
+yaku_numbers yaku = (IsNumber-decimal (table.number yaku) (omega (arith, below_42 yaku)), (tt, (tt, tt)))
 
 limit_numbers : (base : ℕ) → HasNumbers (limit_tree base)
 unfolding limit_tree

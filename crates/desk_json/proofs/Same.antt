@@ -26,7 +26,7 @@ use Rattle.riichi_yaku.specs.declared.table.Yaku.{Yaku}
 use Rattle.riichi_yaku.specs.declared.table.Yaku.TheVariants.{Riichi}
 use Rattle.riichi_yaku.specs.Table.{every_yaku, number}
 use Rattle.riichi_yaku.specs.YakuSets.{yaku_in}
-use Rattle.riichi_yaku.proofs.Sets.{in_table, below_41}
+use Rattle.riichi_yaku.proofs.Sets.{in_table, below_42}
 use Rattle.desk_core.specs.declared.answer.Answer.{Answer}
 use Rattle.desk_core.specs.declared.answer.Answer.TheVariants as answer
 use Rattle.desk_json.specs.Trees.{answer_of_sort, items_of, list_of, members_of, natural, kind_tree, yaku_tree, payment_tree, score_tree, win_tree, kinds_in, waits_tree, live_tree, accepted_members, discard_tree, accepts_members, shape_tree, answer_tree}
@@ -124,25 +124,25 @@ same_yaku : (x y : Yaku) → yaku_tree x ≡ yaku_tree y → x ≡ y
 unfolding yaku_tree
 same_yaku x y e =
     let trees : natural (number x) ≡ natural (number y) = cc in
-    let numbers : number x ≡ number y = same_numbers (number x) (number y) (omega (arith, below_41 x)) (omega (arith, below_41 y)) trees in
+    let numbers : number x ≡ number y = same_numbers (number x) (number y) (omega (arith, below_42 x)) (omega (arith, below_42 y)) trees in
     sym (in_table x) ∙ ap (λ n. get_or every_yaku n Riichi) numbers ∙ in_table y
 
 -- whether a set has the yaku of a number
 has : ℕ → ℕ → Bool
 has set n = bit_at set n == 1
 
-numbers_in : (set : ℕ) → map number (yaku_in set) ≡ filter (has set) (range_with_len 0 41)
+numbers_in : (set : ℕ) → map number (yaku_in set) ≡ filter (has set) (range_with_len 0 42)
 unfolding yaku_in has
 numbers_in set =
-    let numbers : map number every_yaku ≡ range_with_len 0 41 = refl in
+    let numbers : map number every_yaku ≡ range_with_len 0 42 = refl in
     chosen_values number (has set) every_yaku ∙ ap (filter (has set)) numbers
 
-same_sets : (a b : ℕ) → a < 2 ^ 41 → b < 2 ^ 41 → items_of yaku_tree (yaku_in a) ≡ items_of yaku_tree (yaku_in b) → a ≡ b
+same_sets : (a b : ℕ) → a < 2 ^ 42 → b < 2 ^ 42 → items_of yaku_tree (yaku_in a) ≡ items_of yaku_tree (yaku_in b) → a ≡ b
 unfolding is_held has
 same_sets a b low high e =
     let yaku = same_items yaku_tree (λ y. Unit {0}) (λ x y h k. same_yaku x y) (yaku_in a) (yaku_in b) (each_of_all (yaku_in a)) (each_of_all (yaku_in b)) e in
     let numbers = sym (numbers_in a) ∙ ap (map number) yaku ∙ numbers_in b in
-    same_members 41 a b low high (λ i within. same_tests (has a) (has b) 0 41 numbers i (omega arith) (omega arith))
+    same_members 42 a b low high (λ i within. same_tests (has a) (has b) 0 42 numbers i (omega arith) (omega arith))
 
 -- the second letter of an object's first name, by which payments differ
 second_letter : Json → ℕ

@@ -29,7 +29,7 @@ pub record IsWholeScore (score : Score) : Type 0 where
   pub dora : score.dora < 2 ^ 8
   pub base : score.base < 2 ^ 32
   pub gain : score.gain < 2 ^ 32
-  pub yaku : score.yaku < 2 ^ 41
+  pub yaku : score.yaku < 2 ^ 42
   pub payment : IsWholePayment score.payment
 
 -- a kind with its live copies

@@ -12,7 +12,8 @@ use riichi_text::push_number;
 
 /// The refusal of a line as one object, without the line's end.
 pub fn refusal_text(line: &[u8], refusal: &Refusal<'_>) -> JsonText
-    requires { option_map (λ from. from.now) refusal.now.from ≡ fault_from refusal.now.fault line.now }
+    requires { option_map (λ from. from.now) refusal.now.from
+        ≡ fault_from refusal.now.fault line.now }
     ensures { result.bytes ≡ spec.refusal_text line.now refusal.now.fault }
 {
     let mut text = JsonText::new();
@@ -24,7 +25,8 @@ pub fn refusal_text(line: &[u8], refusal: &Refusal<'_>) -> JsonText
 /// fault, and what may stand there.
 pub fn push_refusal(text: &mut JsonText, line: &[u8], refusal: &Refusal<'_>)
     requires room { array_string_len text.old + 300 ≤ 12288 }
-    requires from { option_map (λ from. from.now) refusal.now.from ≡ fault_from refusal.now.fault line.now }
+    requires from { option_map (λ from. from.now) refusal.now.from
+        ≡ fault_from refusal.now.fault line.now }
     ensures { text.new.bytes ≡ text.old.bytes ++ spec.refusal_text line.now refusal.now.fault }
 {
     push_code(text, &refusal.fault);
@@ -60,7 +62,8 @@ fn push_code(text: &mut JsonText, fault: &LineFault)
 fn push_key(text: &mut JsonText, key: Option<&str>)
     requires room { array_string_len text.old + 20 ≤ 12288 }
     requires short { IfSome key (λ key. length key.now ≤ 8) }
-    ensures bytes { text.new.bytes ≡ text.old.bytes ++ parts.key_text (option_map (λ key. key.now) key.entry) }
+    ensures bytes { text.new.bytes
+        ≡ text.old.bytes ++ parts.key_text (option_map (λ key. key.now) key.entry) }
     ensures len { array_string_len text.new ≤ array_string_len text.old + 20 }
 {
     if let Some(key) = key {

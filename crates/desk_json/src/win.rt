@@ -13,7 +13,7 @@ use riichi_score::{Payment, Score, WinAnswer};
 
 #[tactic(auto, using(crate::proofs::Pieces::win_written))]
 pub(crate) fn push_win(text: &mut JsonText, rules: RuleSet, answer: &WinAnswer)
-    requires { array_string_len text.old + 4039 ≤ 12288 }
+    requires { array_string_len text.old + 4143 ≤ 12288 }
     ensures { text.new.bytes ≡ text.old.bytes ++ answer_text rules (Win answer.now) }
 {
     push_open_win(text, rules, answer);
@@ -23,19 +23,19 @@ pub(crate) fn push_win(text: &mut JsonText, rules: RuleSet, answer: &WinAnswer)
 /// Writes the object of a win's answer under these rules behind a text, without the brace that ends it, so that more members may
 /// stand there.
 pub fn push_open_win(text: &mut JsonText, rules: RuleSet, answer: &WinAnswer)
-    requires { array_string_len text.old + 4038 ≤ 12288 }
+    requires { array_string_len text.old + 4142 ≤ 12288 }
     ensures bytes { text.new.bytes ++ codes "}"
         ≡ text.old.bytes ++ answer_text rules (Win answer.now) }
-    ensures len { array_string_len text.new ≤ array_string_len text.old + 4038 }
+    ensures len { array_string_len text.new ≤ array_string_len text.old + 4142 }
 {
     push_members(text, rules, answer);
 }
 
 #[tactic(auto, unfolding(crate::specs::Parts::open_win_text))]
 fn push_members(text: &mut JsonText, rules: RuleSet, answer: &WinAnswer)
-    requires { array_string_len text.old + 4038 ≤ 12288 }
+    requires { array_string_len text.old + 4142 ≤ 12288 }
     ensures bytes { text.new.bytes ≡ text.old.bytes ++ spec.open_win_text rules answer.now }
-    ensures len { array_string_len text.new ≤ array_string_len text.old + 4038 }
+    ensures len { array_string_len text.new ≤ array_string_len text.old + 4142 }
 {
     push_worth_members(text, answer);
     push_house_words(text, ",\"rules\":\"", rules, "\"");
@@ -43,9 +43,9 @@ fn push_members(text: &mut JsonText, rules: RuleSet, answer: &WinAnswer)
 
 #[tactic(auto, unfolding(crate::specs::Parts::worth_members_text))]
 fn push_worth_members(text: &mut JsonText, answer: &WinAnswer)
-    requires { array_string_len text.old + 3839 ≤ 12288 }
+    requires { array_string_len text.old + 3926 ≤ 12288 }
     ensures bytes { text.new.bytes ≡ text.old.bytes ++ spec.worth_members_text answer.now }
-    ensures len { array_string_len text.new ≤ array_string_len text.old + 3839 }
+    ensures len { array_string_len text.new ≤ array_string_len text.old + 3926 }
 {
     match answer {
         WinAnswer::Won(score) => push_score(text, score),
@@ -56,9 +56,9 @@ fn push_worth_members(text: &mut JsonText, answer: &WinAnswer)
 
 #[tactic(auto, unfolding(crate::specs::Parts::score_text))]
 fn push_score(text: &mut JsonText, score: &Score)
-    requires { array_string_len text.old + 3839 ≤ 12288 }
+    requires { array_string_len text.old + 3926 ≤ 12288 }
     ensures bytes { text.new.bytes ≡ text.old.bytes ++ spec.score_text score.now }
-    ensures len { array_string_len text.new ≤ array_string_len text.old + 3839 }
+    ensures len { array_string_len text.new ≤ array_string_len text.old + 3926 }
 {
     push_worth(text, score);
     push_points(text, score);

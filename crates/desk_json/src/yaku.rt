@@ -10,9 +10,9 @@ use riichi_yaku::{Yaku, YakuSet};
 
 /// The yaku of a set in the order of their numbers, each as an object.
 pub(crate) fn push_yaku(text: &mut JsonText, set: YakuSet)
-    requires { array_string_len text.old + 3567 ≤ 12288 }
+    requires { array_string_len text.old + 3654 ≤ 12288 }
     ensures bytes { text.new.bytes ≡ text.old.bytes ++ spec.yaku_list_text set }
-    ensures len { array_string_len text.new ≤ array_string_len text.old + 3567 }
+    ensures len { array_string_len text.new ≤ array_string_len text.old + 3654 }
 {
     let mut later = false;
     for yaku in set.iter() {

@@ -57,7 +57,8 @@ pub(crate) fn answer_lines<T: Teller, S: RowSource, R: Source, W: Sink>(
         → IsStopped ⟦<R as Source>⟧ ⟦<W as Sink>⟧ ⟦<T as Teller>⟧ reader.old reader.new writer.old writer.new teller.old DeskFault.Memory }
 
     // A failed read is told as such, whatever comes after it. So what is said of a failed read is so before each read.
-    ensures told_as_read { (IsErrOf result DeskFault.Read → ⊥) → R.failures reader.new ≡ R.failures reader.old }
+    ensures told_as_read { (IsErrOf result DeskFault.Read → ⊥)
+        → R.failures reader.new ≡ R.failures reader.old }
     ensures reads { IsReadWithin ⟦<R as Source>⟧ reader.old reader.new }
 {
     let mut room = [0; ROOM];
@@ -86,7 +87,8 @@ fn read_behind<R: Source>(
     requires { length held.now ≤ KEPT }
     ensures read { IfOk result (λ read. (read.0 ≤ ROOM)
         × IsRead ⟦<R as Source>⟧ reader.old reader.new held.now (take read.0 room.new) read.1) }
-    ensures failed { IsErrOf result DeskFault.Read → FailsAgain ⟦<R as Source>⟧ reader.old reader.new }
+    ensures failed { IsErrOf result DeskFault.Read
+        → FailsAgain ⟦<R as Source>⟧ reader.old reader.new }
     ensures only { (fault : DeskFault) → result ≡ Err fault → fault ≡ DeskFault.Read }
     ensures calls { R.calls reader.new ≡ R.calls reader.old + 1 }
 {

@@ -55,7 +55,8 @@ pub fn collect_text<R: Source>(
         → FailsOrGoesOn ⟦<R as Source>⟧ reader.old reader.new }
     ensures no_write { IsErrOf result DeskFault.Write → ⊥ }
     // A failed read is told as such, whatever comes after it. So what is said of a failed read is so before each read.
-    ensures told_as_read { (IsErrOf result DeskFault.Read → ⊥) → R.failures reader.new ≡ R.failures reader.old }
+    ensures told_as_read { (IsErrOf result DeskFault.Read → ⊥)
+        → R.failures reader.new ≡ R.failures reader.old }
     ensures reads { IsReadWithin ⟦<R as Source>⟧ reader.old reader.new }
 {
     let Ok(mut collector) = Collector::new(alloc, rules, number, name) else {

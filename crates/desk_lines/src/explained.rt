@@ -212,7 +212,8 @@ fn put_forms<S: RowSource>(tiles: &ShapeRecord, outbox: &mut Outbox, source: &mu
 
 fn put_refusal(line: &[u8], refusal: &Refusal<'_>, outbox: &mut Outbox)
     requires room { HasRoom outbox.old }
-    requires from { option_map (λ from. from.now) refusal.now.from ≡ fault_from refusal.now.fault line.now }
+    requires from { option_map (λ from. from.now) refusal.now.from
+        ≡ fault_from refusal.now.fault line.now }
     ensures { (why : List ℕ) × IsRefusalText line.now refusal.now.fault why
         × (outbox.new.bytes.items ≡ outbox.old.bytes.items
         ++ ((fault_text refusal.now.fault ++ 10 ∷ []) ++ why)) }

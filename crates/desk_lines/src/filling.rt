@@ -33,34 +33,39 @@ pub struct Filled {
 /// Answers the lines of a text from its start, as many as have room: each answer with a line feed behind it, and nothing for
 /// a line that is no record. A line that would set a profile is a record like any other here.
 pub fn fill_answers(rules: Rules, text: &[u8], room: &mut [u8]) -> Filled
-    ensures { Fills (AreAnswersBy (answer_of rules)) text.now room.old room.new result.taken result.filled }
+    ensures { Fills (AreAnswersBy (answer_of rules))
+        text.now room.old room.new result.taken result.filled }
 {
     fill::<Plain>(rules, text, room)
 }
 
 /// The same, each answer as an object of JSON.
 pub fn fill_objects(rules: Rules, text: &[u8], room: &mut [u8]) -> Filled
-    ensures { Fills (AreAnswersBy (json_of rules)) text.now room.old room.new result.taken result.filled }
+    ensures { Fills (AreAnswersBy (json_of rules))
+        text.now room.old room.new result.taken result.filled }
 {
     fill::<Objects>(rules, text, room)
 }
 
 /// The same, with the lines behind each answer that explain it.
 pub fn fill_explanations(rules: Rules, text: &[u8], room: &mut [u8]) -> Filled
-    ensures { Fills (AreTold (IsExplained BestReading) rules) text.now room.old room.new result.taken result.filled }
+    ensures { Fills (AreTold (IsExplained BestReading) rules)
+        text.now room.old room.new result.taken result.filled }
 {
     fill::<Explained>(rules, text, room)
 }
 
 /// Each answer as an object of JSON, that of a win with its reasons.
 pub fn fill_explained_objects(rules: Rules, text: &[u8], room: &mut [u8]) -> Filled
-    ensures { Fills (AreTold IsReasoned rules) text.now room.old room.new result.taken result.filled }
+    ensures { Fills (AreTold IsReasoned rules)
+        text.now room.old room.new result.taken result.filled }
 {
     fill::<Reasoned>(rules, text, room)
 }
 
 fn fill<A: Responder>(rules: Rules, text: &[u8], room: &mut [u8]) -> Filled
-    ensures { Fills (AreTold A.may_tell rules) text.now room.old room.new result.taken result.filled }
+    ensures { Fills (AreTold A.may_tell rules)
+        text.now room.old room.new result.taken result.filled }
 {
     let mut rows = [KeptRow::of_nothing(); KEPT_ROWS];
     let mut uppers = [KeptUpper::of_nothing(); KEPT_UPPERS];
@@ -105,7 +110,8 @@ fn put_at(room: &mut [u8], filled: usize, text: &[u8]) -> bool
     requires { filled ≤ length room.old }
     ensures put { result ≡ true → (filled + length text.now ≤ length room.old)
         × (room.new ≡ (take filled room.old ++ text.now) ++ drop (filled + length text.now) room.old) }
-    ensures left { result ≡ false → (length room.old < filled + length text.now) × (room.new ≡ room.old) }
+    ensures left { result ≡ false
+        → (length room.old < filled + length text.now) × (room.new ≡ room.old) }
 {
     if text.len() > room.len() - filled {
         return false;

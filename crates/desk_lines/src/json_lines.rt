@@ -43,7 +43,8 @@ pub fn json_text_with<S: RowSource, R: Source, W: Sink>(
 
     ensures no_memory { IsErrOf result DeskFault.Memory → ⊥ }
     // A failed read is told as such, whatever comes after it. So what is said of a failed read is so before each read.
-    ensures told_as_read { (IsErrOf result DeskFault.Read → ⊥) → R.failures reader.new ≡ R.failures reader.old }
+    ensures told_as_read { (IsErrOf result DeskFault.Read → ⊥)
+        → R.failures reader.new ≡ R.failures reader.old }
     ensures reads { IsReadWithin ⟦<R as Source>⟧ reader.old reader.new }
 {
     respond_text::<Objects, S, R, W>(source, rules, reader, writer)

@@ -24,8 +24,11 @@ pub fn ready_exactly_where_it_waits()
 /// A text may be answered piece by piece, each cut behind a line: the answers to the pieces are those to the whole. Where the
 /// first line sets no profile these are what `desk_text` writes, and `json_text`.
 pub fn pieces_are_answered_as_the_whole()
-    ensures pieces { (answer : List ℕ → Option (List ℕ)) (text front rest : List ℕ) → IsCutBehindLine text front rest
+    ensures pieces { (answer : List ℕ → Option (List ℕ)) (text front rest : List ℕ)
+        → IsCutBehindLine text front rest
         → replies_by answer text ≡ replies_by answer front ++ replies_by answer rest }
-    ensures texts { (rules : Rules) (text : List ℕ) → SetsNone text → answers rules text ≡ replies_by (answer_of rules) text }
-    ensures objects { (rules : Rules) (text : List ℕ) → SetsNone text → json_to rules (lines text) ≡ replies_by (json_of rules) text }
+    ensures texts { (rules : Rules) (text : List ℕ) → SetsNone text
+        → answers rules text ≡ replies_by (answer_of rules) text }
+    ensures objects { (rules : Rules) (text : List ℕ) → SetsNone text
+        → json_to rules (lines text) ≡ replies_by (json_of rules) text }
 {}

@@ -51,7 +51,8 @@ pub fn numbered_text_with<A: Numbers, S: RowSource, R: Source, W: Sink>(
 
     ensures no_memory { IsErrOf result DeskFault.Memory → ⊥ }
     // A failed read is told as such, whatever comes after it. So what is said of a failed read is so before each read.
-    ensures told_as_read { (IsErrOf result DeskFault.Read → ⊥) → R.failures reader.new ≡ R.failures reader.old }
+    ensures told_as_read { (IsErrOf result DeskFault.Read → ⊥)
+        → R.failures reader.new ≡ R.failures reader.old }
     ensures reads { IsReadWithin ⟦<R as Source>⟧ reader.old reader.new }
 {
     let mut numbered: Numbered<A> = Numbered::new(rules);

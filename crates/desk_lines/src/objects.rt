@@ -128,7 +128,8 @@ fn make_object<S: RowSource>(rules: Rules, job: &Job, outbox: &mut Outbox, sourc
 
 /// Makes the object of a refusal.
 fn make_refusal(line: &[u8], refusal: &Refusal<'_>, outbox: &mut Outbox)
-    requires { option_map (λ from. from.now) refusal.now.from ≡ fault_from refusal.now.fault line.now }
+    requires { option_map (λ from. from.now) refusal.now.from
+        ≡ fault_from refusal.now.fault line.now }
     ensures object { outbox.new.object.bytes ≡ spec.refusal_text line.now refusal.now.fault }
     ensures same { outbox.new.bytes ≡ outbox.old.bytes }
 {

@@ -59,7 +59,8 @@ pub fn replay_text<R: Source, W: Sink>(
         × WritesAll ⟦<W as Sink>⟧ writer.old writer.new (text_of first) }
 
     // A failed read is told as such, whatever comes after it. So what is said of a failed read is so before each read.
-    ensures told_as_read { (IsErrOf result DeskFault.Read → ⊥) → R.failures reader.new ≡ R.failures reader.old }
+    ensures told_as_read { (IsErrOf result DeskFault.Read → ⊥)
+        → R.failures reader.new ≡ R.failures reader.old }
     ensures reads { IsReadWithin ⟦<R as Source>⟧ reader.old reader.new }
 {
     let mut script = match Script::new(alloc) {

@@ -48,7 +48,8 @@ pub(crate) fn respond_text<A: Responder, S: RowSource, R: Source, W: Sink>(
 
     ensures no_memory { IsErrOf result DeskFault.Memory → ⊥ }
     // A failed read is told as such, whatever comes after it. So what is said of a failed read is so before each read.
-    ensures told_as_read { (IsErrOf result DeskFault.Read → ⊥) → R.failures reader.new ≡ R.failures reader.old }
+    ensures told_as_read { (IsErrOf result DeskFault.Read → ⊥)
+        → R.failures reader.new ≡ R.failures reader.old }
     ensures reads { IsReadWithin ⟦<R as Source>⟧ reader.old reader.new }
 {
     let mut records: Records<A> = Records::new(rules);

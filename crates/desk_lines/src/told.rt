@@ -86,12 +86,12 @@ impl Told {
         writer: &mut W,
     ) -> Result<(), DeskFault>
         requires { lines_of self.old + 1 < 2 ^ 64 }
-        ensures stands { OnOk result ((start : W) (first : T) (lines : List (List ℕ)) (next : List ℕ)
-            → IsToldAs T.most line.now next
+        ensures stands { OnOk result
+            ((start : W) (first : T) (lines : List (List ℕ)) (next : List ℕ) → IsToldAs T.most line.now next
             → Stands ⟦<W as Sink>⟧ ⟦<T as Teller>⟧ start first lines teller.old self.old writer.old
             → Stands ⟦<W as Sink>⟧ ⟦<T as Teller>⟧ start first (lines ++ next ∷ []) teller.new self.new writer.new) }
-        ensures stops { IfErr result (λ fault. (start : W) (first : T) (lines : List (List ℕ)) (next : List ℕ)
-            → IsToldAs T.most line.now next
+        ensures stops { IfErr result
+            (λ fault. (start : W) (first : T) (lines : List (List ℕ)) (next : List ℕ) → IsToldAs T.most line.now next
             → Stands ⟦<W as Sink>⟧ ⟦<T as Teller>⟧ start first lines teller.old self.old writer.old
             → StopsTelling ⟦<W as Sink>⟧ ⟦<T as Teller>⟧ start writer.new first fault (lines ++ next ∷ [])) }
         ensures count { lines_of self.new ≤ lines_of self.old + 1 }
@@ -110,9 +110,11 @@ impl Told {
 
     /// Writes the answers that were not written yet.
     pub(crate) fn flush<W: Sink>(&mut self, writer: &mut W) -> Result<(), DeskFault>
-        ensures writes { Writes ⟦<W as Sink>⟧ writer.old writer.new result self.old.outbox.bytes.items }
+        ensures writes { Writes ⟦<W as Sink>⟧
+            writer.old writer.new result self.old.outbox.bytes.items }
         ensures empty { OnOk result (self.new.outbox.bytes.items ≡ []) }
-        ensures report { (self.new.report ≡ self.old.report) × (self.new.unanswered ≡ self.old.unanswered) }
+        ensures report { (self.new.report ≡ self.old.report)
+            × (self.new.unanswered ≡ self.old.unanswered) }
     {
         self.outbox.flush(writer)
     }

@@ -5,7 +5,7 @@ use riichi_hand::{House, Rules, Switch, rules_words};
 use std::test::Fail;
 
 /// What a user types, and how it is named.
-const TYPED: [(&str, &str); 9] = [
+const TYPED: [(&str, &str); 10] = [
     ("1", "1"),
     ("2", "2"),
     ("1+ura", "1"),
@@ -21,6 +21,7 @@ const TYPED: [(&str, &str); 9] = [
         "2-red-fives-counted-yakuman-double-wind-pair-kong-draw-fu-open-simples-open-pinfu-fu-ippatsu-ura",
         "1+raise-counted-yakuman-double-wind-pair-kong-draw-fu-open-simples-open-pinfu-fu-ippatsu-ura",
     ),
+    ("2+blessing-of-man-ura", "2-ura+blessing-of-man"),
 ];
 
 fn rules_of(words: &str) -> Result<Rules, Fail> {
@@ -52,7 +53,7 @@ fn house_of(number: u32) -> House {
 
 #[test]
 fn words_of_every_choice_of_rules_are_read_back(rt: HostRuntime) -> Result<(), Fail> {
-    for number in 0..2048 {
+    for number in 0..4096 {
         let house = house_of(number);
         let words = rules_words(Rules::House(house));
         holds_in(&rt, &number, rules_of(words.as_str())?.house() == house);

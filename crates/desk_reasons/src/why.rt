@@ -18,7 +18,7 @@ use riichi_shape::RowSource;
 /// Writes the object that answers a win behind a text, with the member `why` at its end, without a line's end. Where the hand is
 /// no win, the rows of a source say how far it is from each form.
 pub fn push_explained_win<R: RowSource>(text: &mut JsonText, win: &WinRecord, source: &mut R)
-    requires { array_string_len text.old + 11767 ≤ 12288 }
+    requires { array_string_len text.old + 11951 ≤ 12288 }
     ensures { (object : List ℕ) × IsExplainedWin win.now object
         × (text.new.bytes ≡ text.old.bytes ++ object) }
 {
@@ -33,9 +33,10 @@ pub fn push_explained_win<R: RowSource>(text: &mut JsonText, win: &WinRecord, so
 /// Why a win is answered so.
 fn push_why(text: &mut JsonText, explanation: &WinExplanation, ranked: &[RankedReading])
     requires few { length ranked.now ≤ 12 }
-    requires room { array_string_len text.old + 7720 ≤ 12288 }
-    ensures bytes { text.new.bytes ≡ text.old.bytes ++ text_of (why_tree explanation.now ranked.now) }
-    ensures len { array_string_len text.new ≤ array_string_len text.old + 7720 }
+    requires room { array_string_len text.old + 7800 ≤ 12288 }
+    ensures bytes { text.new.bytes
+        ≡ text.old.bytes ++ text_of (why_tree explanation.now ranked.now) }
+    ensures len { array_string_len text.new ≤ array_string_len text.old + 7800 }
 {
     match explanation {
         WinExplanation::Won(hand) => {
@@ -50,9 +51,9 @@ fn push_why(text: &mut JsonText, explanation: &WinExplanation, ranked: &[RankedR
 #[tactic(auto, unfolding(crate::specs::Parts::won_text))]
 fn push_won(text: &mut JsonText, hand: &WonHand, others: &[RankedReading])
     requires few { length others.now ≤ 12 }
-    requires room { array_string_len text.old + 7720 ≤ 12288 }
+    requires room { array_string_len text.old + 7800 ≤ 12288 }
     ensures bytes { text.new.bytes ≡ text.old.bytes ++ spec.won_text hand.now others.now }
-    ensures len { array_string_len text.new ≤ array_string_len text.old + 7720 }
+    ensures len { array_string_len text.new ≤ array_string_len text.old + 7800 }
 {
     push_earned(text, hand);
     push_paid(text, hand, others);
@@ -60,9 +61,9 @@ fn push_won(text: &mut JsonText, hand: &WonHand, others: &[RankedReading])
 
 #[tactic(auto, unfolding(crate::specs::Parts::earned_text))]
 fn push_earned(text: &mut JsonText, hand: &WonHand)
-    requires { array_string_len text.old + 3660 ≤ 12288 }
+    requires { array_string_len text.old + 3740 ≤ 12288 }
     ensures bytes { text.new.bytes ≡ text.old.bytes ++ spec.earned_text hand.now }
-    ensures len { array_string_len text.new ≤ array_string_len text.old + 3660 }
+    ensures len { array_string_len text.new ≤ array_string_len text.old + 3740 }
 {
     text.push_str("{\"reading\":");
     push_reading(text, &hand.reading);

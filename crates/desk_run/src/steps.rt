@@ -76,7 +76,8 @@ impl Board {
         requires id { seat.old.table_id ≡ board_id self.now }
         requires front { seat.old.me.1 ≡ (place, Empty) ∷ rest seat.old.me.1 }
         ensures id { seat.new.table_id ≡ seat.old.table_id }
-        ensures me { seat.new.me ≡ (seat.old.me.0, (place, Offer ticket job.now) ∷ rest seat.old.me.1) }
+        ensures me { seat.new.me
+            ≡ (seat.old.me.0, (place, Offer ticket job.now) ∷ rest seat.old.me.1) }
     {
         let slot = seat.slot_mut(&self.table.shared, place);
         slot.offer(ticket, job);

@@ -96,7 +96,8 @@ pub fn score_text_with<H: Threads + Wait + Sync, R: Source + Drop, W: Sink>(
 
     // Nothing was written but where a write failed, and then a front of the answers.
     ensures unwritten { IfErr result (λ fault. fault ≢ ScoreFault.Write → writer.new ≡ writer.old) }
-    ensures write_failed { let told = option_map (λ names. map (λ name. name.now) names.now) names.entry in
+    ensures write_failed { let told =
+        option_map (λ names. map (λ name. name.now) names.now) names.entry in
         IsErrOf result ScoreFault.Write → (texts : List (List ℕ))
         × AllGive ⟦<R as Source>⟧ readers.items texts
         × AreWithinLimit rules texts

@@ -52,7 +52,8 @@ impl Tables {
         names: Option<&[&str]>,
         readers: Vec<R>,
     ) -> Result<Tables, ScoreFault>
-        ensures ok { let told = option_map (λ names. map (λ name. name.now) names.now) names.entry in
+        ensures ok { let told =
+            option_map (λ names. map (λ name. name.now) names.now) names.entry in
             IfOk result (λ tables. (texts : List (List ℕ))
             × AllGive ⟦<R as Source>⟧ readers.items texts × AreRead told rules texts tables) }
         ensures read_failed { IsErrOf result ScoreFault.Read
@@ -76,7 +77,8 @@ impl Tables {
         names: Option<&[&str]>,
         reader: &mut R,
     ) -> Result<(), ScoreFault>
-        ensures ok { let told = option_map (λ names. map (λ name. name.now) names.now) names.entry in
+        ensures ok { let told =
+            option_map (λ names. map (λ name. name.now) names.now) names.entry in
             OnOk result ((texts : List (List ℕ)) → AreRead told rules texts self.old
             → (text : List ℕ) × GivesAll ⟦<R as Source>⟧ reader.old reader.new text
             × AreRead told rules (texts ++ text ∷ []) self.new) }

@@ -67,26 +67,39 @@ fn shape_command<'a>(alloc: Global) -> Result<Command<'a>, AllocError> {
 }
 
 fn hand_arg<'a>(alloc: Global, help: &'static str) -> Arg<'a> {
-    Arg::new(alloc, "HAND").required(true).help(help)
+    words_of(alloc, "HAND", help).required(true)
 }
 
 /// The words of a record line behind its hand.
 fn words_arg<'a>(alloc: Global, help: &'static str) -> Arg<'a> {
-    Arg::new(alloc, "WORD")
+    words_of(alloc, "WORD", help)
         .value_name("KEY=VALUE")
         .num_args(0..)
-        .help(help)
+}
+
+/// Words that stand by themselves.
+fn words_of<'a>(alloc: Global, name: &'static str, help: &'static str) -> Arg<'a> {
+    Arg::new(alloc, name).help(help)
+}
+
+/// An option of this name.
+fn option<'a>(alloc: Global, name: &'static str, help: &'static str) -> Arg<'a> {
+    Arg::new(alloc, name).long(name).help(help)
+}
+
+/// An option without a value.
+fn flag<'a>(alloc: Global, name: &'static str, help: &'static str) -> Arg<'a> {
+    option(alloc, name, help).action(ArgAction::SetTrue)
 }
 
 /// The rules of lines that are given no others.
 fn rules_arg<'a>(alloc: Global) -> Arg<'a> {
-    Arg::new(alloc, "rules")
-        .long("rules")
-        .value_name("RULES")
-        .default_value("1")
-        .help(
-            "The rules where the first line sets none: 1, 2, or with changes, as 1+red-fives-ura (see help-rules)",
-        )
+    let rules = option(
+        alloc,
+        "rules",
+        "The rules where the first line sets none: 1, 2, or with changes, as 1+red-fives-ura (see help-rules)",
+    );
+    rules.value_name("RULES").default_value("1")
 }
 
 fn line_command<'a>(alloc: Global) -> Result<Command<'a>, AllocError> {
@@ -104,44 +117,43 @@ fn line_command<'a>(alloc: Global) -> Result<Command<'a>, AllocError> {
 
 /// Files in place of standard input.
 fn file_arg<'a>(alloc: Global) -> Arg<'a> {
-    Arg::new(alloc, "file")
-        .long("file")
-        .value_name("FILE")
-        .num_args(1..)
-        .help("Answers the lines of these files in turn, of standard input for -")
+    let file = option(
+        alloc,
+        "file",
+        "Answers the lines of these files in turn, of standard input for -",
+    );
+    file.value_name("FILE").num_args(1..)
 }
 
 /// That the numbers of lines are wanted.
 fn number_arg<'a>(alloc: Global) -> Arg<'a> {
-    Arg::new(alloc, "number")
-        .long("number")
-        .action(ArgAction::SetTrue)
-        .help("Puts the number of its line before each answer, from 1 in each file")
+    flag(
+        alloc,
+        "number",
+        "Puts the number of its line before each answer, from 1 in each file",
+    )
 }
 
 /// That answers are wanted as JSON.
 fn json_arg<'a>(alloc: Global, help: &'static str) -> Arg<'a> {
-    Arg::new(alloc, "json")
-        .long("json")
-        .action(ArgAction::SetTrue)
-        .help(help)
+    flag(alloc, "json", help)
 }
 
 /// That every reading of a win is wanted.
 fn all_arg<'a>(alloc: Global) -> Arg<'a> {
-    Arg::new(alloc, "all")
-        .long("all")
-        .action(ArgAction::SetTrue)
-        .help("Says below a win what each other reading of the hand is worth")
+    flag(
+        alloc,
+        "all",
+        "Says below a win what each other reading of the hand is worth",
+    )
 }
 
 fn explain_command<'a>(alloc: Global) -> Result<Command<'a>, AllocError> {
-    let lines = Arg::new(alloc, "LINE")
-        .num_args(0..)
-        .conflicts_with("file")?
-        .help(
-            "The words of one hand, or hands each in quotes; without any, the lines of standard input",
-        );
+    let lines = words_of(
+        alloc,
+        "LINE",
+        "The words of one hand, or hands each in quotes; without any, the lines of standard input",
+    );
     Command::new(alloc, "explain")
         .about("Answers hands as the command line does, and says below each answer why it is so")
         .after_help(EXPLAIN_HELP)
@@ -153,7 +165,7 @@ fn explain_command<'a>(alloc: Global) -> Result<Command<'a>, AllocError> {
             alloc,
             "Answers each hand by one object of JSON, of a win with the member why, by every reading",
         ))?
-        .arg(lines)
+        .arg(lines.num_args(0..).conflicts_with("file")?)
 }
 
 fn codes_command<'a>(alloc: Global) -> Command<'a> {
@@ -175,32 +187,41 @@ fn rules_command<'a>(alloc: Global) -> Command<'a> {
 }
 
 fn replay_command<'a>(alloc: Global) -> Result<Command<'a>, AllocError> {
-    let file = Arg::new(alloc, "FILE").required(true).help(
+    let file = words_of(
+        alloc,
+        "FILE",
         "A script: open, submit, arrive, take, withdraw, close, one a line",
     );
     Command::new(alloc, "replay")
         .about("Answers a script of tables that submit hands and are given their answers in order")
         .after_help(REPLAY_HELP)
-        .arg(file)
+        .arg(file.required(true))
 }
 
 fn score_command<'a>(alloc: Global) -> Result<Command<'a>, AllocError> {
-    let workers = Arg::new(alloc, "workers")
-        .long("workers")
-        .value_name("N")
-        .value_parser(value_parser!(u32).range(1..=16))
-        .default_value("4")
-        .help("How many threads judge hands");
-    let files = Arg::new(alloc, "FILE").required(true).num_args(1..).help(
+    let files = words_of(
+        alloc,
+        "FILE",
         "Hands, one a line: each file is a table, and 64 are the most",
+    );
+    let number = flag(
+        alloc,
+        "number",
+        "Puts the number of its line before each answer, and behind each table its file's name",
     );
     Command::new(alloc, "score")
         .about("Answers hands from files, table by table, with many threads")
         .after_help(SCORE_HELP)
         .arg(rules_arg(alloc))?
-        .arg(number_arg(alloc).help(
-            "Puts the number of its line before each answer, and behind each table its file's name",
-        ))?
-        .arg(workers)?
-        .arg(files)
+        .arg(number)?
+        .arg(workers_arg(alloc))?
+        .arg(files.required(true).num_args(1..))
+}
+
+/// How many threads judge.
+fn workers_arg<'a>(alloc: Global) -> Arg<'a> {
+    option(alloc, "workers", "How many threads judge hands")
+        .value_name("N")
+        .value_parser(value_parser!(u32).range(1..=16))
+        .default_value("4")
 }

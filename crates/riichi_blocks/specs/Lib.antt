@@ -4,7 +4,6 @@ pub mod HandBlocks
 pub mod Tally
 pub mod Told
 pub mod BlockKinds
-pub mod Winner
 pub mod Pairs
 pub mod Waits
 pub mod Equality

@@ -43,7 +43,8 @@ fn are_same(some: &[u8; 9], others: &[u8; 9]) -> bool
 #[inline(always)]
 fn from_fifth(ranks: &[u8; 9]) -> [u8; 9]
     ensures same { drop 4 result ≡ drop 4 ranks.now }
-    ensures few { ((r : ℕ) → r < 9 → slice_index ranks.now r ≤ 4) → (r : ℕ) → r < 9 → slice_index result r ≤ 4 }
+    ensures few { ((r : ℕ) → r < 9 → slice_index ranks.now r ≤ 4)
+        → (r : ℕ) → r < 9 → slice_index result r ≤ 4 }
 {
     let [_, _, _, _, fifth, sixth, seventh, eighth, ninth] = *ranks;
     [0, 0, 0, 0, fifth, sixth, seventh, eighth, ninth]
@@ -56,7 +57,8 @@ impl RowKey {
         ensures counts { drop 4 result.counts ≡ drop 4 self.now.counts }
         ensures caps { drop 4 result.caps ≡ drop 4 self.now.caps }
         ensures runs { result.runs ≡ self.now.runs }
-        ensures few { ((r : ℕ) → r < 9 → slice_index self.now.caps r ≤ 4) → (r : ℕ) → r < 9 → slice_index result.caps r ≤ 4 }
+        ensures few { ((r : ℕ) → r < 9 → slice_index self.now.caps r ≤ 4)
+            → (r : ℕ) → r < 9 → slice_index result.caps r ≤ 4 }
     {
         RowKey {
             counts: from_fifth(&self.counts),

@@ -21,7 +21,7 @@ A line is refused
   H12  rinshan is a win by tsumo, beside a kong
   H13  chankan is a win by ron
   H14  rinshan goes with neither last nor ippatsu, chankan not with last
-  H15  first is a win by tsumo, without melds, riichi or another flag
+  H15  first is a win by tsumo, or under blessing-of-man by ron of any seat but East, without melds, riichi or another flag
   H16  a red five is one of the fives
 A text of tiles is refused
   N1   a text of tiles is not empty

@@ -1,6 +1,7 @@
 //! What the system said of the stream that failed last.
 use crate::profile::{ProfileWatch, Slip};
 use desk_lines::Rules;
+use riichi_hand::{RuleSet, rules_words};
 use std::cell::Cell;
 use std::io::{self, Eprint, ErrorKind, Print, Printer, Read, Write};
 
@@ -147,16 +148,17 @@ impl<R: Eprint, T: Read> Read for Watched<'_, '_, R, T> {
     }
 }
 
-/// Says that a line set no profile, and which profile the others have.
+/// Says that a line set no profile, and which rules the others have.
 fn tell_slip<R: Eprint>(rt: &R, name: &str, slip: Slip) {
     let line = slip.line;
-    let profile = match slip.rules {
-        Rules::One => "profile 1",
-        Rules::Two => "profile 2",
-        Rules::House(_) => "the rules of the command line",
+    let rules = rules_words(slip.rules);
+    let what = if RuleSet::of(slip.rules).is_house() {
+        "the rules"
+    } else {
+        "profile"
     };
     let _ = eprintln!(rt;
-        "riichi_desk: {name}: line {line} sets no profile: the lines are answered under {profile}; `rules 1` or `rules 2` sets one, alone in the first line"
+        "riichi_desk: {name}: line {line} sets no profile: the lines are answered under {what} {rules}; `rules 1` or `rules 2` sets one, alone in the first line"
     );
 }
 

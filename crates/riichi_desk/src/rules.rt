@@ -20,6 +20,7 @@ Rules
   open-pinfu-fu     on   on   an open hand won by ron whose fu are 20 counts 30; off, 20
   ippatsu           on   on   a win within one turn of riichi has the yaku ippatsu
   ura               on   on   the indicators below count (ura dora)
+  blessing-of-man   off  off  the flag first by ron of a seat that isn't the dealer's is a yakuman (renhou); off, H15
 ";
 
 /// Prints every rule that a house may choose.

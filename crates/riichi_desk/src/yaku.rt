@@ -51,6 +51,7 @@ Yakuman
   38  four-kongs                 suukantsu        four kongs
   39  blessing-of-heaven         tenhou           the dealer wins on the first draw (the flag first); any hand
   40  blessing-of-earth          chiihou          another seat wins on its first draw (the flag first); any hand
+  41  blessing-of-man            renhou           under the rule blessing-of-man: another seat wins by ron before its first draw (the flag first); any hand
 ";
 
 /// Prints the tables of the yaku. No line is refused.

@@ -23,6 +23,7 @@ house_numbered number = record {
   open_pinfu_fu = has_bit 256 number;
   ippatsu = has_bit 512 number;
   ura = has_bit 1024 number;
+  blessing_of_man = has_bit 2048 number;
 }
 
 -- the rules of this number: 1 and 2 are the profiles, 65536 and more the rules of a house
@@ -30,7 +31,7 @@ abbrev pub rules_numbered : ℕ → Option Rules
 rules_numbered number =
     if number == 1 then Some rules.One
     else if number == 2 then Some rules.Two
-    else if nat_le 65536 number && nat_lt number 67584 then Some (rules.House (house_numbered number)) else None
+    else if nat_le 65536 number && nat_lt number 69632 then Some (rules.House (house_numbered number)) else None
 
 -- no bytes for a line that is no record
 abbrev pub reply_under : Option Rules → List ℕ → List ℕ

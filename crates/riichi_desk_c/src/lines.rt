@@ -21,7 +21,8 @@ pub extern "C" fn riichi_answer_lines(
     room: &mut [u8],
     taken: &mut usize,
 ) -> usize
-    ensures { FillsUnder (λ rules. AreAnswersBy (answer_of rules)) rules text.now room.old room.new taken.new result }
+    ensures { FillsUnder (λ rules. AreAnswersBy (answer_of rules))
+        rules text.now room.old room.new taken.new result }
 {
     match rules_numbered(rules) {
         Some(rules) => {
@@ -44,7 +45,8 @@ pub extern "C" fn riichi_json_lines(
     room: &mut [u8],
     taken: &mut usize,
 ) -> usize
-    ensures { FillsUnder (λ rules. AreAnswersBy (json_of rules)) rules text.now room.old room.new taken.new result }
+    ensures { FillsUnder (λ rules. AreAnswersBy (json_of rules))
+        rules text.now room.old room.new taken.new result }
 {
     match rules_numbered(rules) {
         Some(rules) => {
@@ -67,7 +69,8 @@ pub extern "C" fn riichi_explain_lines(
     room: &mut [u8],
     taken: &mut usize,
 ) -> usize
-    ensures { FillsUnder (AreTold (IsExplained BestReading)) rules text.now room.old room.new taken.new result }
+    ensures { FillsUnder (AreTold (IsExplained BestReading))
+        rules text.now room.old room.new taken.new result }
 {
     match rules_numbered(rules) {
         Some(rules) => {

@@ -47,7 +47,8 @@ fn job_lines(job: &Job) -> ArrayString<4608>
 }
 
 fn refusal_text(line: &[u8], refusal: &Refusal<'_>) -> ArrayString<3072>
-    requires { option_map (λ from. from.now) refusal.now.from ≡ fault_from refusal.now.fault line.now }
+    requires { option_map (λ from. from.now) refusal.now.from
+        ≡ fault_from refusal.now.fault line.now }
     ensures { IsRefusalText line.now refusal.now.fault result.bytes }
 {
     let mut text = ArrayString::new();

@@ -11,7 +11,7 @@ pub(crate) fn rules_numbered(number: u32) -> Option<Rules>
     match number {
         1 => Some(Rules::One),
         2 => Some(Rules::Two),
-        0x1_0000..=0x1_07FF => Some(Rules::House(house_numbered(number))),
+        0x1_0000..=0x1_0FFF => Some(Rules::House(house_numbered(number))),
         _ => None,
     }
 }
@@ -31,6 +31,7 @@ fn house_numbered(number: u32) -> House
         open_pinfu_fu: has_bit(256, number),
         ippatsu: has_bit(512, number),
         ura: has_bit(1024, number),
+        blessing_of_man: has_bit(2048, number),
     }
 }
 

@@ -8,7 +8,7 @@ use Rattle.riichi_hand.specs.declared.house.House.{House}
 use Rattle.riichi_hand.specs.declared.win.WinParts.{WinParts}
 use Rattle.riichi_split.specs.declared.reading.Reading.{Reading}
 use Rattle.riichi_split.specs.declared.reading.Reading.TheVariants.{Standard, SevenPairs, Orphans}
-use Rattle.riichi_blocks.specs.Winner.{is_dealer}
+use Rattle.riichi_hand.specs.Win.{is_dealer}
 use Rattle.riichi_yaku.specs.Conditions.{yaku_of}
 use Rattle.riichi_yaku.specs.YakuSets.{han_of, is_yakuman}
 use Rattle.riichi_score.specs.Base.{is_raised, product_of, base_of}

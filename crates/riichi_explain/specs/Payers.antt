@@ -4,7 +4,7 @@ use Rattle.std.specs.List.{sum_by}
 use Rattle.riichi_hand.specs.declared.win.By.{By}
 use Rattle.riichi_hand.specs.declared.win.By.TheVariants.{Ron, Tsumo}
 use Rattle.riichi_hand.specs.declared.win.WinParts.{WinParts}
-use Rattle.riichi_blocks.specs.Winner.{is_dealer}
+use Rattle.riichi_hand.specs.Win.{is_dealer}
 use Rattle.riichi_score.specs.Payment.{up}
 use Rattle.riichi_explain.specs.declared.payers.Payer.{Payer}
 use Rattle.riichi_explain.specs.declared.payers.Payer.TheVariants.{Discarder, Dealer, TwoOthers, ThreeOthers}

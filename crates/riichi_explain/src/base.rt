@@ -35,7 +35,8 @@ pub enum BaseRule {
 
 /// What gives the base points of a reading that has this score.
 pub fn base_rule(reading: &Reading, score: &Score, win: &WinRecord) -> BaseRule
-    ensures { result ≡ spec.base_rule (is_yakuman score.now.yaku) (limits_of reading.now win.now score.now.yaku)
+    ensures { result
+        ≡ spec.base_rule (is_yakuman score.now.yaku) (limits_of reading.now win.now score.now.yaku)
         win.now.rules score.now.han score.now.fu }
 {
     if score.yaku.is_yakuman() {

@@ -25,7 +25,7 @@ pub enum Shown {
 /// that scores, a line for each reading without yaku, twelve at most, or how far a hand that is no win is from each form, and what
 /// it waits for.
 pub fn push_win_lines(text: &mut ArrayString<4608>, explanation: WinExplanation, win: &WinRecord)
-    requires { array_string_len text.old + 4409 ≤ 4608 }
+    requires { array_string_len text.old + 4426 ≤ 4608 }
     ensures { text.new.bytes ≡ text.old.bytes ++ spec.win_lines explanation win.now }
 {
     push_house_words(text, "  rules   ", win.rules(), "\n");

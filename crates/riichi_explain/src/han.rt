@@ -42,7 +42,7 @@ impl Default for HanRow {
 }
 
 /// Rows of han: the yaku in the order of their table, then the dora.
-pub type HanRows = ArrayVec<HanRow, 42>;
+pub type HanRows = ArrayVec<HanRow, 43>;
 
 /// The rows of a win that has this set of yaku. Those of a counted hand add up to its han.
 #[tactic(auto, unfolding(crate::specs::Han::han_rows))]
@@ -75,7 +75,7 @@ fn push_yakuman_rows(rows: &mut HanRows, set: YakuSet)
 fn push_yaku_rows(rows: &mut HanRows, set: YakuSet, concealed: bool)
     requires { rows.old.items ≡ [] }
     ensures items { rows.new.items ≡ map (spec.yaku_row concealed) (yaku_in set) }
-    ensures most { length rows.new.items ≤ 41 }
+    ensures most { length rows.new.items ≤ 42 }
 {
     for yaku in set.iter() {
         let part = HanPart::Yaku(yaku);
@@ -85,7 +85,7 @@ fn push_yaku_rows(rows: &mut HanRows, set: YakuSet, concealed: bool)
 }
 
 fn push_dora_row(rows: &mut HanRows, win: &WinRecord)
-    requires { length rows.old.items ≤ 41 }
+    requires { length rows.old.items ≤ 42 }
     ensures { rows.new.items ≡ rows.old.items ++ spec.dora_row win.now }
 {
     push_counted(rows, HanPart::Dora, dora(win));
@@ -93,7 +93,7 @@ fn push_dora_row(rows: &mut HanRows, win: &WinRecord)
 
 /// A row, where there is any.
 fn push_counted(rows: &mut HanRows, part: HanPart, han: u8)
-    requires { length rows.old.items < 42 }
+    requires { length rows.old.items < 43 }
     ensures items { rows.new.items ≡ rows.old.items ++ spec.counted_row part han }
     ensures most { length rows.new.items ≤ length rows.old.items + 1 }
 {

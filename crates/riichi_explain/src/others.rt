@@ -78,7 +78,7 @@ fn push_unless_shown(
     win: &WinRecord,
 )
     requires sets { HasFourSets one.now.reading win.now }
-    requires room { array_string_len text.old + 3750 ≤ 4608 }
+    requires room { array_string_len text.old + 3800 ≤ 4608 }
     ensures { text.new.bytes ≡ text.old.bytes ++ spec.other_text shown.now win.now one.now }
 {
     if one.reading != *shown {
@@ -94,7 +94,7 @@ fn push_ranked(
     win: &WinRecord,
 )
     requires sets { HasFourSets reading.now win.now }
-    requires room { array_string_len text.old + 3750 ≤ 4608 }
+    requires room { array_string_len text.old + 3800 ≤ 4608 }
     ensures { text.new.bytes
         ≡ text.old.bytes ++ spec.ranked_text win.now reading.now score.now }
 {
@@ -108,7 +108,7 @@ fn push_ranked(
 #[tactic(auto, unfolding(crate::specs::Others::scored_text))]
 fn push_scored(text: &mut ArrayString<4608>, reading: &Reading, score: &Score, win: &WinRecord)
     requires sets { HasFourSets reading.now win.now }
-    requires room { array_string_len text.old + 3750 ≤ 4608 }
+    requires room { array_string_len text.old + 3800 ≤ 4608 }
     ensures { text.new.bytes ≡ text.old.bytes ++ spec.scored_text reading.now score.now win.now }
 {
     let yakuman = score.yaku.is_yakuman();

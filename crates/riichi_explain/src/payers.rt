@@ -3,7 +3,6 @@ ghost use Rattle.std.specs.Prelude.{◌≡◌, ◌+◌, ◌≤◌, [], ◌∷◌
 ghost use Rattle.riichi_explain.specs.Payers as spec;
 
 use arrayvec::ArrayVec;
-use riichi_blocks::is_dealer;
 use riichi_hand::{By, WinRecord};
 use riichi_score::up;
 
@@ -51,7 +50,7 @@ pub fn pay_rows(base: u32, win: &WinRecord) -> PayRows
     ensures most { length result.items ≤ 2 }
 {
     let mut rows = ArrayVec::new();
-    let dealer = is_dealer(win.seat());
+    let dealer = win.seat().is_dealer();
     match win.by() {
         By::Ron => push_ron(&mut rows, base, dealer, win.counters()),
         By::Tsumo => push_tsumo(&mut rows, base, dealer, win.counters()),

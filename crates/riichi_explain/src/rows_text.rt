@@ -14,10 +14,10 @@ use riichi_text::{ListItem, push_four, push_list, push_number, push_three, push_
 /// Writes the line of the rows of han. That of a yakuman has its names alone.
 #[tactic(auto, unfolding(crate::specs::Text::han_line))]
 pub(crate) fn push_han_line(text: &mut ArrayString<4608>, yakuman: bool, han: u8, rows: &[HanRow])
-    requires few { length rows.now ≤ 42 }
-    requires room { array_string_len text.old + 2130 ≤ 4608 }
+    requires few { length rows.now ≤ 43 }
+    requires room { array_string_len text.old + 2180 ≤ 4608 }
     ensures bytes { text.new.bytes ≡ text.old.bytes ++ spec.han_line yakuman han rows.now }
-    ensures len { array_string_len text.new ≤ array_string_len text.old + 2130 }
+    ensures len { array_string_len text.new ≤ array_string_len text.old + 2180 }
 {
     push_han_label(text, yakuman);
     push_list(text, ", ", rows);

@@ -23,7 +23,7 @@ pub fn won_hand_text(hand: &WonHand) -> ArrayString<4608>
 /// Writes these lines behind a text. A text that is kept need not be made anew for each hand.
 #[tactic(auto, unfolding(crate::specs::Text::won_hand_text))]
 pub fn push_won_hand(text: &mut ArrayString<4608>, hand: &WonHand)
-    requires { array_string_len text.old + 4130 ≤ 4608 }
+    requires { array_string_len text.old + 4180 ≤ 4608 }
     ensures { text.new.bytes ≡ text.old.bytes ++ spec.won_hand_text hand.now }
 {
     let yakuman = hand.score.yaku.is_yakuman();

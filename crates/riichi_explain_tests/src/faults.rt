@@ -191,7 +191,7 @@ fn faults_of_the_record(rt: HostRuntime) -> Result<(), Fail> {
             ),
             (
                 b"win 234m567m345p67s99s on=5s by=ron seat=S round=E flags=first",
-                "  flags=first: first is a win by tsumo, without melds, riichi or another flag\n",
+                "  flags=first: first is a win by tsumo, or under blessing-of-man by ron of any seat but East, without melds, riichi or another flag\n",
             ),
         ],
     )

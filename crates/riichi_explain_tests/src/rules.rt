@@ -22,7 +22,7 @@ fn explains_each(rt: &impl Abort, rows: &[Row]) -> Result<(), Fail> {
     Ok(())
 }
 
-const DORA_AND_LIMITS: [Row; 5] = [
+const DORA_AND_LIMITS: [Row; 6] = [
     (
         &[(Switch::RedFives, true)],
         "win 234m067m345p67s99s on=0s by=ron seat=S round=E",
@@ -81,6 +81,17 @@ const DORA_AND_LIMITS: [Row; 5] = [
   base    2 x yakuman 16000
   pays    discarder 64000
   gain    64000
+",
+    ),
+    (
+        &[(Switch::BlessingOfMan, true)],
+        "win 234m567m345p67s99s on=5s by=ron seat=S round=E flags=first",
+        "  rules   1+blessing-of-man
+  reading 234m 567m 345p 567s 99s, 5s completes 567s
+  yakuman blessing-of-man (renhou)
+  base    yakuman 8000
+  pays    discarder 32000
+  gain    32000
 ",
     ),
 ];

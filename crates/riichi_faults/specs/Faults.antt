@@ -24,7 +24,7 @@ line_words H11 = codes "ippatsu and ura need riichi"
 line_words H12 = codes "rinshan is a win by tsumo, beside a kong"
 line_words H13 = codes "chankan is a win by ron"
 line_words H14 = codes "rinshan goes with neither last nor ippatsu, chankan not with last"
-line_words H15 = codes "first is a win by tsumo, without melds, riichi or another flag"
+line_words H15 = codes "first is a win by tsumo, or under blessing-of-man by ron of any seat but East, without melds, riichi or another flag"
 line_words H16 = codes "a red five is one of the fives"
 
 -- what holds of a text of tiles without this fault

@@ -16,7 +16,8 @@ use riichi_hand::{
 /// writes.
 #[tactic(auto, unfolding(crate::specs::Meaning::refusal_words))]
 pub fn refusal_words(line: &[u8], refusal: &Refusal<'_>) -> &'static str
-    requires from { option_map (λ from. from.now) refusal.now.from ≡ fault_from refusal.now.fault line.now }
+    requires from { option_map (λ from. from.now) refusal.now.from
+        ≡ fault_from refusal.now.fault line.now }
     ensures value { result.now ≡ spec.refusal_words line.now refusal.now.fault }
     ensures short { length result.now ≤ 120 }
 {
@@ -30,8 +31,10 @@ pub fn refusal_words(line: &[u8], refusal: &Refusal<'_>) -> &'static str
 /// hand itself. None where the fault is of no key.
 #[tactic(auto, unfolding(crate::specs::Meaning::refusal_key))]
 pub fn refusal_key(line: &[u8], refusal: &Refusal<'_>) -> Option<&'static str>
-    requires from { option_map (λ from. from.now) refusal.now.from ≡ fault_from refusal.now.fault line.now }
-    ensures value { option_map (λ key. key.now) result ≡ spec.refusal_key line.now refusal.now.fault }
+    requires from { option_map (λ from. from.now) refusal.now.from
+        ≡ fault_from refusal.now.fault line.now }
+    ensures value { option_map (λ key. key.now) result
+        ≡ spec.refusal_key line.now refusal.now.fault }
     ensures short { IfSome result (λ key. length key.now ≤ 8) }
 {
     match refusal.fault {
@@ -44,7 +47,8 @@ pub fn refusal_key(line: &[u8], refusal: &Refusal<'_>) -> Option<&'static str>
 /// line is too long.
 #[tactic(auto, unfolding(crate::specs::Meaning::refusal_place))]
 pub fn refusal_place(line: &[u8], refusal: &Refusal<'_>) -> Option<Place>
-    requires from { option_map (λ from. from.now) refusal.now.from ≡ fault_from refusal.now.fault line.now }
+    requires from { option_map (λ from. from.now) refusal.now.from
+        ≡ fault_from refusal.now.fault line.now }
     ensures { result ≡ spec.refusal_place line.now refusal.now.fault }
 {
     match refusal.fault {

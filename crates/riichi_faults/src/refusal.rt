@@ -18,7 +18,8 @@ const SHOWN: usize = 72;
 #[tactic(auto, unfolding(crate::specs::Refusal::refusal_lines, crate::specs::Refusal::fault_lines))]
 pub fn push_refusal_lines(text: &mut ArrayString<3072>, line: &[u8], refusal: &Refusal<'_>)
     requires room { array_string_len text.old + 2930 ≤ 3072 }
-    requires from { option_map (λ from. from.now) refusal.now.from ≡ fault_from refusal.now.fault line.now }
+    requires from { option_map (λ from. from.now) refusal.now.from
+        ≡ fault_from refusal.now.fault line.now }
     ensures { text.new.bytes ≡ text.old.bytes ++ spec.refusal_lines line.now refusal.now.fault }
 {
     let word = word_in(refusal);

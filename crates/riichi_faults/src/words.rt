@@ -38,7 +38,8 @@ pub(crate) fn line_words(code: LineCode) -> &'static str
         LineCode::H12 => "rinshan is a win by tsumo, beside a kong",
         LineCode::H13 => "chankan is a win by ron",
         LineCode::H14 => "rinshan goes with neither last nor ippatsu, chankan not with last",
-        LineCode::H15 => "first is a win by tsumo, without melds, riichi or another flag",
+        LineCode::H15 =>
+            "first is a win by tsumo, or under blessing-of-man by ron of any seat but East, without melds, riichi or another flag",
         LineCode::H16 => "a red five is one of the fives",
     }
 }

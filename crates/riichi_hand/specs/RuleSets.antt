@@ -20,6 +20,7 @@ house_in bits = record {
   open_pinfu_fu = has_bit bits 8;
   ippatsu = has_bit bits 9;
   ura = has_bit bits 10;
+  blessing_of_man = has_bit bits 11;
 }
 
 abbrev pub bits_of : House → ℕ
@@ -35,5 +36,6 @@ bits_of house = mask_l (
     ∷ house.open_pinfu_fu
     ∷ house.ippatsu
     ∷ house.ura
+    ∷ house.blessing_of_man
     ∷ []
     )

@@ -19,6 +19,7 @@ first_profile = record {
   open_pinfu_fu = true;
   ippatsu = true;
   ura = true;
+  blessing_of_man = false;
 }
 
 -- the first with red fives and with raised hands
@@ -44,6 +45,7 @@ switch_number switch.OpenSimples = 7
 switch_number switch.OpenPinfuFu = 8
 switch_number switch.Ippatsu = 9
 switch_number switch.Ura = 10
+switch_number switch.BlessingOfMan = 11
 
 abbrev pub switch_word : Switch → List ℕ
 switch_word switch.RedFives = codes "red-fives"
@@ -57,6 +59,7 @@ switch_word switch.OpenSimples = codes "open-simples"
 switch_word switch.OpenPinfuFu = codes "open-pinfu-fu"
 switch_word switch.Ippatsu = codes "ippatsu"
 switch_word switch.Ura = codes "ura"
+switch_word switch.BlessingOfMan = codes "blessing-of-man"
 
 abbrev pub is_on : Switch → House → Bool
 is_on switch.RedFives house = house.red_fives
@@ -70,6 +73,7 @@ is_on switch.OpenSimples house = house.open_simples
 is_on switch.OpenPinfuFu house = house.open_pinfu_fu
 is_on switch.Ippatsu house = house.ippatsu
 is_on switch.Ura house = house.ura
+is_on switch.BlessingOfMan house = house.blessing_of_man
 
 -- the same rules with one of them on or off
 abbrev pub with_switch : Switch → Bool → House → House
@@ -84,3 +88,4 @@ with_switch switch.OpenSimples on house = record house { open_simples = on }
 with_switch switch.OpenPinfuFu on house = record house { open_pinfu_fu = on }
 with_switch switch.Ippatsu on house = record house { ippatsu = on }
 with_switch switch.Ura on house = record house { ura = on }
+with_switch switch.BlessingOfMan on house = record house { blessing_of_man = on }

@@ -12,7 +12,8 @@ use Rattle.riichi_hand.specs.Rules.{first_profile, second_profile, switch_word, 
 abbrev pub every_switch : List Switch
 every_switch =
     switch.RedFives ∷ switch.Raise ∷ switch.AddYakuman ∷ switch.DoubleYakuman ∷ switch.CountedYakuman ∷ switch.DoubleWindPair
-    ∷ switch.KongDrawFu ∷ switch.OpenSimples ∷ switch.OpenPinfuFu ∷ switch.Ippatsu ∷ switch.Ura ∷ []
+    ∷ switch.KongDrawFu ∷ switch.OpenSimples ∷ switch.OpenPinfuFu ∷ switch.Ippatsu ∷ switch.Ura
+    ∷ switch.BlessingOfMan ∷ []
 
 abbrev pub sign : Bool → List ℕ
 sign on = if on then codes "+" else codes "-"

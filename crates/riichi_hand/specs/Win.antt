@@ -53,10 +53,21 @@ are_exclusive flags = (flags.rinshan && (flags.last || flags.ippatsu)) || (flags
 abbrev pub has_other_flag : Flags → Bool
 has_other_flag flags = flags.ippatsu || flags.rinshan || flags.chankan || flags.last
 
--- the flag `first` beside a meld, by ron, with riichi or with another flag
+-- the dealer's seat
+abbrev pub is_dealer : Wind → Bool
+is_dealer East = true
+is_dealer South = false
+is_dealer West = false
+is_dealer North = false
+
+-- the flag `first` by ron stands for the blessing of man, of another seat than the dealer's, where the rules have that
+abbrev pub may_be_blessing_of_man : WinParts → Bool
+may_be_blessing_of_man parts = parts.rules.blessing_of_man && not (is_dealer parts.seat)
+
+-- the flag `first` beside a meld, by ron that is no blessing of man, with riichi or with another flag
 abbrev pub has_wrong_first : WinParts → Bool
 has_wrong_first parts =
-    parts.flags.first && (nat_lt 0 (length parts.melds) || is_ron parts.by || not (parts.riichi == 0) || has_other_flag parts.flags)
+    parts.flags.first && (nat_lt 0 (length parts.melds) || (is_ron parts.by && not (may_be_blessing_of_man parts)) || not (parts.riichi == 0) || has_other_flag parts.flags)
 
 -- more red fives of a suit than fives among hand, melds and the winning tile; the fives are the kinds 4, 13, 22
 abbrev pub has_too_many_reds : WinParts → Bool

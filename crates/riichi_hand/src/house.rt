@@ -31,6 +31,8 @@ pub struct House {
     pub ippatsu: bool,
     /// The indicators below count.
     pub ura: bool,
+    /// A win by ron before the own first draw, of a seat that isn't the dealer's, is a yakuman (renhou).
+    pub blessing_of_man: bool,
 }
 
 /// One of these rules, by its name.
@@ -47,11 +49,12 @@ pub enum Switch {
     OpenPinfuFu,
     Ippatsu,
     Ura,
+    BlessingOfMan,
 }
 
 impl Switch {
     /// Every one, in the order of the table in docs/RULES.md.
-    pub const ALL: [Switch; 11] = [
+    pub const ALL: [Switch; 12] = [
         Switch::RedFives,
         Switch::Raise,
         Switch::AddYakuman,
@@ -63,13 +66,14 @@ impl Switch {
         Switch::OpenPinfuFu,
         Switch::Ippatsu,
         Switch::Ura,
+        Switch::BlessingOfMan,
     ];
 
     /// Its place in that table, from 0 on.
     #[inline(always)]
     pub fn number(self) -> u8
         ensures value { result ≡ spec.switch_number self }
-        ensures below { result < 11 }
+        ensures below { result < 12 }
     {
         self as u8
     }
@@ -90,6 +94,7 @@ impl Switch {
             Switch::OpenPinfuFu => "open-pinfu-fu",
             Switch::Ippatsu => "ippatsu",
             Switch::Ura => "ura",
+            Switch::BlessingOfMan => "blessing-of-man",
         }
     }
 }
@@ -118,6 +123,7 @@ impl House {
             Switch::OpenPinfuFu => self.open_pinfu_fu = is_on,
             Switch::Ippatsu => self.ippatsu = is_on,
             Switch::Ura => self.ura = is_on,
+            Switch::BlessingOfMan => self.blessing_of_man = is_on,
         }
         self
     }

@@ -10,5 +10,6 @@ ghost use Rattle.riichi_hand.specs.Rules.{house_of};
 #[tactic(auto, unfolding(crate::specs::Lines::outcome_of))]
 pub fn profiles_are_rules_of_a_house()
     ensures kept { (rules : Rules) → house_of (House (house_of rules)) ≡ house_of rules }
-    ensures read { (rules : Rules) (line : List ℕ) → outcome_of (House (house_of rules)) line ≡ outcome_of rules line }
+    ensures read { (rules : Rules) (line : List ℕ) → outcome_of (House (house_of rules)) line
+        ≡ outcome_of rules line }
 {}

@@ -28,7 +28,7 @@ impl Model for RuleSet {
 }
 
 impl RuleSet {
-    /// The rules of a profile, or of a house. The first profile has those from counted yakuman on, the second the first two too.
+    /// The rules of a profile, or of a house. The first profile has those from counted yakuman to ura, the second the first two too.
     pub fn of(rules: Rules) -> RuleSet
         ensures { result ≡ house_of rules }
     {
@@ -65,6 +65,7 @@ fn bits_of(house: House) -> u16
         + 256 * one_if(house.open_pinfu_fu)
         + 512 * one_if(house.ippatsu)
         + 1024 * one_if(house.ura)
+        + 2048 * one_if(house.blessing_of_man)
 }
 
 fn one_if(is_on: bool) -> u16

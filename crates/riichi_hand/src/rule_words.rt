@@ -21,7 +21,7 @@ impl RuleSet {
 
 /// The words of rules, as the option `--rules` takes them: `1`, `2`, or one of these and behind it each rule that is another than
 /// there, as `1+red-fives-ura`.
-pub fn rules_words(rules: Rules) -> ArrayString<192>
+pub fn rules_words(rules: Rules) -> ArrayString<208>
     ensures { result.bytes ≡ spec.rules_words (house_of rules) }
 {
     let mut text = ArrayString::new();
@@ -37,10 +37,10 @@ pub fn push_house_words<const ROOM: usize>(
     rules: RuleSet,
     after: &str,
 )
-    requires { array_string_len text.old + length before.now + 188 + length after.now ≤ ROOM }
+    requires { array_string_len text.old + length before.now + 205 + length after.now ≤ ROOM }
     ensures bytes { text.new.bytes ≡ text.old.bytes ++ spec.house_words before.now after.now rules }
     ensures len { array_string_len text.new
-        ≤ array_string_len text.old + length before.now + 188 + length after.now }
+        ≤ array_string_len text.old + length before.now + 205 + length after.now }
 {
     if rules.is_house() {
         text.push_str(before);
@@ -51,9 +51,9 @@ pub fn push_house_words<const ROOM: usize>(
 
 #[tactic(auto, unfolding(crate::specs::RulesWords::rules_words))]
 fn push_rules<const ROOM: usize>(text: &mut ArrayString<ROOM>, rules: RuleSet)
-    requires { array_string_len text.old + 188 ≤ ROOM }
+    requires { array_string_len text.old + 205 ≤ ROOM }
     ensures bytes { text.new.bytes ≡ text.old.bytes ++ spec.rules_words rules }
-    ensures len { array_string_len text.new ≤ array_string_len text.old + 188 }
+    ensures len { array_string_len text.new ≤ array_string_len text.old + 205 }
 {
     if rules.has(Switch::RedFives) && rules.has(Switch::Raise) {
         push_changed(text, "2", RuleSet::of(Rules::Two), rules);
@@ -71,10 +71,10 @@ fn push_changed<const ROOM: usize>(
     rules: RuleSet,
 )
     requires one { length number.now ≤ 1 }
-    requires room { array_string_len text.old + 188 ≤ ROOM }
+    requires room { array_string_len text.old + 205 ≤ ROOM }
     ensures bytes { text.new.bytes
         ≡ text.old.bytes ++ spec.changed_words number.now profile rules }
-    ensures len { array_string_len text.new ≤ array_string_len text.old + 188 }
+    ensures len { array_string_len text.new ≤ array_string_len text.old + 205 }
 {
     text.push_str(number);
     push_changes(text, profile, rules, &Switch::ALL);

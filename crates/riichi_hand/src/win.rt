@@ -56,6 +56,7 @@ fn first_profile() -> House
         open_pinfu_fu: true,
         ippatsu: true,
         ura: true,
+        blessing_of_man: false,
     }
 }
 
@@ -89,7 +90,7 @@ pub struct Flags {
     pub chankan: bool,
     /// On the last tile drawn or discarded.
     pub last: bool,
-    /// On the first draw, before any call.
+    /// On the first draw, or by ron before it, and before any call.
     pub first: bool,
 }
 
@@ -104,6 +105,13 @@ impl Wind {
             Wind::West => Kind::at(29),
             Wind::North => Kind::at(30),
         }
+    }
+
+    /// Whether this is the seat East.
+    pub fn is_dealer(self) -> bool
+        ensures { result ≡ spec.is_dealer self }
+    {
+        matches!(self, Wind::East)
     }
 }
 
@@ -420,15 +428,22 @@ fn are_exclusive(flags: Flags) -> bool
     (flags.rinshan && (flags.last || flags.ippatsu)) || (flags.chankan && flags.last)
 }
 
-/// A win in the first turn has no meld, is by tsumo, without riichi or another flag.
+/// A win in the first turn has no meld, riichi or other flag, and is by tsumo, or where the rules have the blessing of man by
+/// ron of a seat that isn't the dealer's.
 fn has_wrong_first(parts: &WinParts) -> bool
     ensures { result ≡ spec.has_wrong_first parts.now }
 {
     parts.flags.first
         && (parts.melds.count() > 0
-            || is_ron(parts.by)
+            || (is_ron(parts.by) && !may_be_blessing_of_man(parts))
             || parts.riichi != 0
             || has_other_flag(parts.flags))
+}
+
+fn may_be_blessing_of_man(parts: &WinParts) -> bool
+    ensures { result ≡ spec.may_be_blessing_of_man parts.now }
+{
+    parts.rules.has(Switch::BlessingOfMan) && !parts.seat.is_dealer()
 }
 
 fn has_other_flag(flags: Flags) -> bool

@@ -678,7 +678,7 @@ fn tests_the_parts_of_a_win(rt: HostRuntime) {
 fn is_on_in(profile: Rules, rule: Switch) -> bool {
     match rule {
         Switch::RedFives | Switch::Raise => profile == Rules::Two,
-        Switch::AddYakuman | Switch::DoubleYakuman => false,
+        Switch::AddYakuman | Switch::DoubleYakuman | Switch::BlessingOfMan => false,
         _ => true,
     }
 }

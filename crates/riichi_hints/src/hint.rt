@@ -17,7 +17,8 @@ use riichi_hand::{Refusal, Rules, has_other_byte, read_line};
 /// line like the refused one that is answered, where one is found.
 pub fn push_refusal(text: &mut ArrayString<3072>, line: &[u8], refusal: &Refusal<'_>)
     requires room { array_string_len text.old + 2930 ≤ 3072 }
-    requires from { option_map (λ from. from.now) refusal.now.from ≡ fault_from refusal.now.fault line.now }
+    requires from { option_map (λ from. from.now) refusal.now.from
+        ≡ fault_from refusal.now.fault line.now }
     ensures { (said : List ℕ) × IsRefusalText line.now refusal.now.fault said
         × (text.new.bytes ≡ text.old.bytes ++ said) }
 {
@@ -27,7 +28,8 @@ pub fn push_refusal(text: &mut ArrayString<3072>, line: &[u8], refusal: &Refusal
 }
 
 fn push_note(text: &mut ArrayString<3072>, line: &[u8], refusal: &Refusal<'_>)
-    requires { option_map (λ from. from.now) refusal.now.from ≡ fault_from refusal.now.fault line.now }
+    requires { option_map (λ from. from.now) refusal.now.from
+        ≡ fault_from refusal.now.fault line.now }
     ensures { let fault = refusal.now.fault in
         (note : Option (List ℕ)) × IfSome note (λ words. IsNote fault line.now words × IsPrintable words)
         × (text.new.bytes ≡ text.old.bytes ++ told_line (codes "  ") note) }

@@ -15,7 +15,8 @@ use riichi_text::push_number;
 
 /// The note on a refused line. That of H9 begins with a tile that the line has more than four times.
 pub(crate) fn note_of(line: &[u8], refusal: &Refusal<'_>) -> Option<Part>
-    requires { option_map (λ from. from.now) refusal.now.from ≡ fault_from refusal.now.fault line.now }
+    requires { option_map (λ from. from.now) refusal.now.from
+        ≡ fault_from refusal.now.fault line.now }
     ensures { IfSome result (λ note. IsNote refusal.now.fault line.now note.items) }
 {
     match refusal.fault {
@@ -28,7 +29,8 @@ pub(crate) fn note_of(line: &[u8], refusal: &Refusal<'_>) -> Option<Part>
 
 /// The key whose name is nearest to that of a word, where it is another.
 fn key_note(from: Option<&[u8]>) -> Option<Part>
-    ensures { IfSome result (λ note. IsKeyNote (option_map (λ word. word.now) from.entry) note.items) }
+    ensures { IfSome result
+        (λ note. IsKeyNote (option_map (λ word. word.now) from.entry) note.items) }
 {
     let (name, _) = cut_name(word_of(from?))?;
     let key = key_text(nearest_meaning(name)?)?;

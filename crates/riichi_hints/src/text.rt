@@ -20,7 +20,8 @@ pub(crate) fn add<const N: usize>(text: &mut ArrayVec<u8, N>, byte: u8) {
 /// Adds bytes, where there is room for all.
 pub(crate) fn add_all<const N: usize>(text: &mut ArrayVec<u8, N>, bytes: &[u8])
     ensures more { (more : List ℕ) × (text.new.items ≡ text.old.items ++ more) }
-    ensures all { length text.old.items + length bytes.now ≤ N → text.new.items ≡ text.old.items ++ bytes.now }
+    ensures all { length text.old.items + length bytes.now ≤ N
+        → text.new.items ≡ text.old.items ++ bytes.now }
 {
     let _ = text.try_extend_from_slice(bytes);
 }

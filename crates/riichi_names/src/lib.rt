@@ -68,6 +68,7 @@ fn japanese_of_yakuman(yaku: Yaku) -> &'static str
         Yaku::FourKongs => "suukantsu",
         Yaku::BlessingOfHeaven => "tenhou",
         Yaku::BlessingOfEarth => "chiihou",
+        Yaku::BlessingOfMan => "renhou",
         _ => "",
     }
 }

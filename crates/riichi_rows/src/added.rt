@@ -57,8 +57,8 @@ impl Added {
             → table.IsAdded runs later (added_seen other self.now) → table.LeastBegun runs counts caps a later
             → AreLeast runs (have ∷ counts) (limit ∷ caps) a b (seen other result) }
         // with one more tile of this rank
-        ensures own { (runs : Bool) (have limit bit : ℕ) (counts caps : List ℕ) (a b : ℕ) (later : table.Begun)
-            → limit ≤ 4 → AreCosts have limit bit costs.now → 0 < bit
+        ensures own { (runs : Bool) (have limit bit : ℕ) (counts caps : List ℕ) (a b : ℕ)
+            (later : table.Begun) → limit ≤ 4 → AreCosts have limit bit costs.now → 0 < bit
             → table.FewAdded (added_seen 0 self.now)
             → table.SameAdded (added_seen bit self.now) (added_seen 0 self.now) → a + b ≡ runs_open
             → table.IsAdded runs later (added_seen 0 self.now) → table.LeastBegun runs counts caps a later

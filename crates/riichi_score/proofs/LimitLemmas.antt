@@ -22,7 +22,7 @@ of_set : (add double : Bool) (sum : ℕ) → sum ≤ 100 → cond add sum (cond 
 of_set true double sum few = few
 of_set false double sum few = omega (arith, two double)
 
--- a set has at most 41 yaku
+-- a set has at most 42 yaku
 pub few_limits : (reading : Reading) (win : WinParts) (set : ℕ) → limits_of reading win set ≤ 100
 unfolding limits_of yaku_in
 few_limits reading win set =

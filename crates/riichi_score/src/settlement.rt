@@ -3,7 +3,6 @@ ghost use Rattle.std.specs.Prelude.{◌≡◌, ◌+◌, ◌≤◌};
 ghost use Rattle.riichi_score.specs.Payment as spec;
 
 use crate::payers::Payment;
-use riichi_blocks::is_dealer;
 use riichi_hand::{By, WinRecord};
 
 /// What is paid for a win of so many base points: East is the dealer, and each counter adds 300 points in all.
@@ -12,7 +11,7 @@ pub fn payment(base: u32, win: &WinRecord) -> Payment
     ensures value { result ≡ spec.payment_of base win.now }
     ensures most { spec.paid result ≤ 5000000 }
 {
-    let dealer = is_dealer(win.seat());
+    let dealer = win.seat().is_dealer();
     match win.by() {
         By::Ron => by_ron(base, dealer, win.counters()),
         By::Tsumo => by_tsumo(base, dealer, win.counters()),

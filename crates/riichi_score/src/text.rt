@@ -20,7 +20,7 @@ pub fn win_text(answer: &WinAnswer) -> ArrayString<3072>
 /// Writes the answer behind a text, without the line's end. A text that is kept need not be made anew for each answer.
 #[tactic(auto, unfolding(crate::specs::Text::text_of))]
 pub fn push_win(text: &mut ArrayString<3072>, answer: &WinAnswer)
-    requires { array_string_len text.old + 664 ≤ 3072 }
+    requires { array_string_len text.old + 680 ≤ 3072 }
     ensures { text.new.bytes ≡ text.old.bytes ++ spec.text_of answer.now }
 {
     match answer {
@@ -31,7 +31,7 @@ pub fn push_win(text: &mut ArrayString<3072>, answer: &WinAnswer)
 }
 
 fn push_score(text: &mut ArrayString<3072>, score: &Score)
-    requires { array_string_len text.old + 658 ≤ 3072 }
+    requires { array_string_len text.old + 674 ≤ 3072 }
     ensures { text.new.bytes ≡ text.old.bytes ++ spec.score_text score.now }
 {
     text.push_str("won ");

@@ -109,7 +109,8 @@ fn valued(
 ) -> Option<Worth>
     requires most { dora ≤ 52 }
     requires concealed { concealed ≡ are_concealed win.now.melds }
-    ensures value { result ≡ spec.worth_if (limits_of reading.now win.now yaku) yaku fu dora win.now }
+    ensures value { result
+        ≡ spec.worth_if (limits_of reading.now win.now yaku) yaku fu dora win.now }
     ensures most { spec.base_if result ≤ 800000 }
 {
     if yaku.is_empty() {

@@ -244,7 +244,7 @@ fn knows_kinds_waits_and_winners(rt: HostRuntime) -> Result<(), Fail> {
     same(&rt, wait_fu(Kind::at(6), &Block::Pair(Kind::at(6))), 2);
     same(&rt, wait_fu(Kind::at(6), &Block::Triplet(Kind::at(6))), 0);
     holds(&rt, is_ron(By::Ron) && !is_ron(By::Tsumo));
-    holds(&rt, is_dealer(Wind::East) && !is_dealer(Wind::North));
+    holds(&rt, Wind::East.is_dealer() && !Wind::North.is_dealer());
     Ok(())
 }
 

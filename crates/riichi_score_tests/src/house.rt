@@ -218,3 +218,35 @@ fn raise_and_ippatsu(rt: HostRuntime) -> Result<(), Fail> {
         ],
     )
 }
+
+/// Thirteen orphans by ron before the own first draw: a limit each. By the first profile no record has that.
+#[test]
+fn add_yakuman_and_blessing_of_man(rt: HostRuntime) -> Result<(), Fail> {
+    turns(
+        &rt,
+        [Switch::AddYakuman, Switch::BlessingOfMan],
+        "win 19m19p19s1234567z on=1m by=ron seat=S round=E flags=first",
+        [
+            "refused H15",
+            "refused H15",
+            "won yakuman 32000 gain 32000 thirteen-orphans blessing-of-man",
+            "won yakuman 64000 gain 64000 thirteen-orphans blessing-of-man",
+        ],
+    )
+}
+
+/// Beside a yakuman a red five counts nothing.
+#[test]
+fn red_fives_and_blessing_of_man(rt: HostRuntime) -> Result<(), Fail> {
+    turns(
+        &rt,
+        [Switch::RedFives, Switch::BlessingOfMan],
+        "win 234m067m345p67s99s on=0s by=ron seat=W round=E flags=first",
+        [
+            "refused H15",
+            "refused H15",
+            "won yakuman 32000 gain 32000 blessing-of-man",
+            "won yakuman 32000 gain 32000 blessing-of-man",
+        ],
+    )
+}

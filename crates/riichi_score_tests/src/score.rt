@@ -1,6 +1,6 @@
 use crate::facts::{holds, same, same_in};
 use arrayvec::ArrayString;
-use riichi_hand::{Job, RuleSet, Rules, Switch, read_line};
+use riichi_hand::{Job, RuleSet, Rules, Switch, fault_text, read_line};
 use riichi_score::*;
 use riichi_split::Reading;
 use riichi_tiles::Reds;
@@ -19,7 +19,8 @@ pub(crate) fn answers(rt: &impl Abort, rules: Rules, rows: &[(&str, &str)]) -> R
     for (line, text) in rows {
         match read_line(rules, line.as_bytes()) {
             Ok(Some(job)) => same_in(rt, &line, text_of(&job).as_str(), *text),
-            _ => return Err("a line that tells no job")?,
+            Ok(None) => return Err("a line that tells no job")?,
+            Err(fault) => same_in(rt, &line, fault_text(&fault).as_str(), *text),
         }
     }
     Ok(())
@@ -222,6 +223,37 @@ fn rules_of_yakuman(rt: HostRuntime) -> Result<(), Fail> {
             true,
             "win 111m222p333s9m444z on=9m by=ron seat=S round=E",
             "won yakuman 64000 gain 64000 four-concealed-pungs",
+        ),
+    ];
+    answers_with(&rt, &rows)
+}
+
+#[test]
+fn blessing_of_man(rt: HostRuntime) -> Result<(), Fail> {
+    let rows = [
+        (
+            Switch::BlessingOfMan,
+            true,
+            "win 234m567m345p67s99s on=5s by=ron seat=N round=E flags=first",
+            "won yakuman 32000 gain 32000 blessing-of-man",
+        ),
+        (
+            Switch::BlessingOfMan,
+            true,
+            "win 234m567m345p67s99s on=5s by=tsumo seat=N round=E flags=first",
+            "won yakuman 8000/16000 gain 32000 blessing-of-earth",
+        ),
+        (
+            Switch::BlessingOfMan,
+            true,
+            "win 234m567m345p67s99s on=5s by=ron seat=E round=E flags=first",
+            "refused H15",
+        ),
+        (
+            Switch::BlessingOfMan,
+            true,
+            "win 234m567m345p67s99s on=5s by=ron seat=N round=E riichi=1 flags=first",
+            "refused H15",
         ),
     ];
     answers_with(&rt, &rows)

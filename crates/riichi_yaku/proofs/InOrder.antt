@@ -69,25 +69,25 @@ abbrev without_first : ℕ → ℕ
 without_first n = bit_and n (bit_not w64 (1 * 2 ^ first n % 2 ^ 64))
 
 -- the lowest bit of a set is the number of a yaku
-pub first-below : (n : ℕ) → 0 < n → n < 2 ^ 41 → first n < 41
+pub first-below : (n : ℕ) → 0 < n → n < 2 ^ 42 → first n < 42
 first-below n some below =
     let low = bit_at-trailing_zeros w64 n some (omega (arith, below)) in
-    elim (cases_lt (first n) 41) [
+    elim (cases_lt (first n) 42) [
       | inl lt ↦ lt
-      | inr past ↦ let none = bit_at_above n 41 (first n) below past in absurd (omega (arith, low.1, none))
+      | inr past ↦ let none = bit_at_above n 42 (first n) below past in absurd (omega (arith, low.1, none))
     ]
 
 -- a bit from 64 on is set in neither
-same-bits : (n i : ℕ) → n < 2 ^ 41 → first n < 64 → (i ≡ first n → ⊥) → bit_at n i ≡ bit_at (without_first n) i
+same-bits : (n i : ℕ) → n < 2 ^ 42 → first n < 64 → (i ≡ first n → ⊥) → bit_at n i ≡ bit_at (without_first n) i
 same-bits n i below low other =
     elim (cases_lt i 64) [
       | inl lt ↦ sym (bit_at_clear_other w64 n (first n) low i lt other)
       | inr past ↦
-          bit_at_above n 41 i below (omega (arith, past))
-          ∙ sym (bit_at_above (without_first n) 41 i (omega (arith, below, and_le_l n (bit_not w64 (1 * 2 ^ first n % 2 ^ 64)))) (omega (arith, past)))
+          bit_at_above n 42 i below (omega (arith, past))
+          ∙ sym (bit_at_above (without_first n) 42 i (omega (arith, below, and_le_l n (bit_not w64 (1 * 2 ^ first n % 2 ^ 64)))) (omega (arith, past)))
     ]
 
-is-first : (n : ℕ) → 0 < n → n < 2 ^ 41 → IsFirst (first n) n (without_first n)
+is-first : (n : ℕ) → 0 < n → n < 2 ^ 42 → IsFirst (first n) n (without_first n)
 unfolding Has
 is-first n some below =
     let low = bit_at-trailing_zeros w64 n some (omega (arith, below)) in
@@ -103,7 +103,7 @@ unfolding AreFrom
 table-from = search rules
 
 -- the yaku of a set are its first and those of the set without it
-pub first-yaku : (n : ℕ) (yaku : Yaku) → 0 < n → n < 2 ^ 41 → number yaku ≡ first n → yaku_in n ≡ yaku ∷ yaku_in (without_first n)
+pub first-yaku : (n : ℕ) (yaku : Yaku) → 0 < n → n < 2 ^ 42 → number yaku ≡ first n → yaku_in n ≡ yaku ∷ yaku_in (without_first n)
 unfolding yaku_in
 first-yaku n yaku some below is =
     first-from every_yaku 0 (first n) n (without_first n) table-from (omega arith) (omega (arith, first-below n some below)) (is-first n some below)
@@ -115,7 +115,7 @@ yaku_in-none = refl
 
 -- ---- sums over the yaku of a set
 
-pub yaku_in-most : (set : ℕ) → length (yaku_in set) ≤ 41
+pub yaku_in-most : (set : ℕ) → length (yaku_in set) ≤ 42
 unfolding yaku_in
 yaku_in-most set = omega (arith, length-filter_both (contains set) (λ yaku. not (contains set yaku)) (λ yaku. refl) every_yaku)
 
@@ -133,7 +133,7 @@ spaced yaku = codes " " ++ word yaku
 abbrev pub letters : Yaku → ℕ
 letters yaku = length (spaced yaku)
 
-pub letters-most : (set : ℕ) → sum_by letters (yaku_in set) ≤ 593
+pub letters-most : (set : ℕ) → sum_by letters (yaku_in set) ≤ 609
 letters-most set = omega (arith, sum-most letters set)
 
 pub letters-of : (text before : List ℕ) (yaku : List Yaku) → text ≡ before ++ flat_map spaced yaku → length text ≡ length before + sum_by letters yaku

@@ -63,19 +63,19 @@ pub in_table : (yaku : Yaku) → get_or every_yaku (number yaku) Riichi ≡ yaku
 in_table Riichi = refl
 in_table other = refl
 
-pub below_41 : (yaku : Yaku) → number yaku < 41
-below_41 Riichi = omega arith
-below_41 other = omega arith
+pub below_42 : (yaku : Yaku) → number yaku < 42
+below_42 Riichi = omega arith
+below_42 other = omega arith
 
-pub number_at : (place : ℕ) (other : Yaku) → place < 41 → number (get_or every_yaku place other) ≡ place
+pub number_at : (place : ℕ) (other : Yaku) → place < 42 → number (get_or every_yaku place other) ≡ place
 number_at place other within =
-    let numbers : map number every_yaku ≡ range_with_len 0 41 = refl in
-    sym (get_or-map number every_yaku place other 0 within) ∙ ap (λ x. get_or x place 0) numbers ∙ get_or-range_with_len 0 41 place 0 within ∙ omega arith
+    let numbers : map number every_yaku ≡ range_with_len 0 42 = refl in
+    sym (get_or-map number every_yaku place other 0 within) ∙ ap (λ x. get_or x place 0) numbers ∙ get_or-range_with_len 0 42 place 0 within ∙ omega arith
 
 pub contains-set_of : (is_so : Yaku → Bool) (yaku : Yaku) → contains (set_of is_so) yaku ≡ is_so yaku
 contains-set_of is_so yaku =
     bit-number_of (map is_so every_yaku) (number yaku)
-    ∙ get_or-map is_so every_yaku (number yaku) Riichi false (below_41 yaku)
+    ∙ get_or-map is_so every_yaku (number yaku) Riichi false (below_42 yaku)
     ∙ ap is_so (in_table yaku)
 
 -- ---- yakuman alone

@@ -7,7 +7,7 @@ use Rattle.riichi_blocks.specs.declared.hand_block.HandBlock.{HandBlock}
 use Rattle.riichi_blocks.specs.HandBlocks.{blocks_of, is_seven_pairs, is_thirteen_orphans}
 use Rattle.riichi_blocks.specs.Held.{all_tiles}
 use Rattle.riichi_yaku.specs.declared.table.Yaku.{Yaku}
-use Rattle.riichi_yaku.specs.declared.table.Yaku.TheVariants.{Riichi, DoubleRiichi, Ippatsu, FullyConcealed, Pinfu, PureDoubleChow, AllSimples, WhiteDragon, GreenDragon, RedDragon, SeatWind, PrevalentWind, AfterAKong, RobbingTheKong, LastTile, MixedTripleChow, PureStraight, OutsideHand, SevenPairs, TriplePung, ThreeKongs, AllPungs, ThreeConcealedPungs, LittleThreeDragons, AllTerminalsAndHonours, HalfFlush, TerminalsInAllSets, TwicePureDoubleChow, FullFlush, ThirteenOrphans, NineGates, FourConcealedPungs, BigThreeDragons, LittleFourWinds, BigFourWinds, AllHonours, AllTerminals, AllGreen, FourKongs, BlessingOfHeaven, BlessingOfEarth}
+use Rattle.riichi_yaku.specs.declared.table.Yaku.TheVariants.{Riichi, DoubleRiichi, Ippatsu, FullyConcealed, Pinfu, PureDoubleChow, AllSimples, WhiteDragon, GreenDragon, RedDragon, SeatWind, PrevalentWind, AfterAKong, RobbingTheKong, LastTile, MixedTripleChow, PureStraight, OutsideHand, SevenPairs, TriplePung, ThreeKongs, AllPungs, ThreeConcealedPungs, LittleThreeDragons, AllTerminalsAndHonours, HalfFlush, TerminalsInAllSets, TwicePureDoubleChow, FullFlush, ThirteenOrphans, NineGates, FourConcealedPungs, BigThreeDragons, LittleFourWinds, BigFourWinds, AllHonours, AllTerminals, AllGreen, FourKongs, BlessingOfHeaven, BlessingOfEarth, BlessingOfMan}
 use Rattle.riichi_yaku.specs.Table.{every_yaku, is_a_yakuman}
 use Rattle.riichi_yaku.specs.YakuSets.{set_of}
 use Rattle.riichi_yaku.specs.Luck.{is_riichi, is_double_riichi, is_ippatsu, is_fully_concealed, is_after_a_kong, is_robbing_the_kong, is_last_tile}
@@ -16,7 +16,7 @@ use Rattle.riichi_yaku.specs.Runs.{is_pinfu, is_pure_double_chow, is_mixed_tripl
 use Rattle.riichi_yaku.specs.Outside.{is_outside_hand, is_terminals_in_all_sets}
 use Rattle.riichi_yaku.specs.Triplets.{is_triple_pung, is_three_kongs, is_all_pungs, is_three_concealed_pungs}
 use Rattle.riichi_yaku.specs.Tiles.{is_all_simples, is_all_terminals_and_honours, is_half_flush, is_full_flush}
-use Rattle.riichi_yaku.specs.Yakuman.{is_nine_gates, is_four_concealed_pungs, is_big_three_dragons, is_little_four_winds, is_big_four_winds, is_all_honours, is_all_terminals, is_all_green, is_four_kongs, is_blessing_of_heaven, is_blessing_of_earth}
+use Rattle.riichi_yaku.specs.Yakuman.{is_nine_gates, is_four_concealed_pungs, is_big_three_dragons, is_little_four_winds, is_big_four_winds, is_all_honours, is_all_terminals, is_all_green, is_four_kongs, is_blessing_of_heaven, is_blessing_of_earth, is_blessing_of_man}
 
 -- the condition of each, by the blocks and every tile of the hand
 abbrev pub condition : List HandBlock → Reading → List ℕ → WinParts → Yaku → Bool
@@ -61,6 +61,7 @@ condition blocks reading tiles parts AllGreen = is_all_green reading tiles
 condition blocks reading tiles parts FourKongs = is_four_kongs blocks
 condition blocks reading tiles parts BlessingOfHeaven = is_blessing_of_heaven parts
 condition blocks reading tiles parts BlessingOfEarth = is_blessing_of_earth parts
+condition blocks reading tiles parts BlessingOfMan = is_blessing_of_man parts
 
 -- the condition is met by a reading of a win
 abbrev pub is_met : Reading → WinParts → Yaku → Bool

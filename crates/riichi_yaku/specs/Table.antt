@@ -1,9 +1,9 @@
 -- The table of the yaku.
 use Rattle.std.specs.Prelude.{ℕ, Bool, nat_le, List, [], ◌∷◌, codes, if◌then◌else◌}
 use Rattle.riichi_yaku.specs.declared.table.Yaku.{Yaku}
-use Rattle.riichi_yaku.specs.declared.table.Yaku.TheVariants.{Riichi, DoubleRiichi, Ippatsu, FullyConcealed, Pinfu, PureDoubleChow, AllSimples, WhiteDragon, GreenDragon, RedDragon, SeatWind, PrevalentWind, AfterAKong, RobbingTheKong, LastTile, MixedTripleChow, PureStraight, OutsideHand, SevenPairs, TriplePung, ThreeKongs, AllPungs, ThreeConcealedPungs, LittleThreeDragons, AllTerminalsAndHonours, HalfFlush, TerminalsInAllSets, TwicePureDoubleChow, FullFlush, ThirteenOrphans, NineGates, FourConcealedPungs, BigThreeDragons, LittleFourWinds, BigFourWinds, AllHonours, AllTerminals, AllGreen, FourKongs, BlessingOfHeaven, BlessingOfEarth}
+use Rattle.riichi_yaku.specs.declared.table.Yaku.TheVariants.{Riichi, DoubleRiichi, Ippatsu, FullyConcealed, Pinfu, PureDoubleChow, AllSimples, WhiteDragon, GreenDragon, RedDragon, SeatWind, PrevalentWind, AfterAKong, RobbingTheKong, LastTile, MixedTripleChow, PureStraight, OutsideHand, SevenPairs, TriplePung, ThreeKongs, AllPungs, ThreeConcealedPungs, LittleThreeDragons, AllTerminalsAndHonours, HalfFlush, TerminalsInAllSets, TwicePureDoubleChow, FullFlush, ThirteenOrphans, NineGates, FourConcealedPungs, BigThreeDragons, LittleFourWinds, BigFourWinds, AllHonours, AllTerminals, AllGreen, FourKongs, BlessingOfHeaven, BlessingOfEarth, BlessingOfMan}
 
--- in the order of the table; the yakuman are the last twelve
+-- in the order of the table; the yakuman are the last thirteen
 abbrev pub every_yaku : List Yaku
 every_yaku =
     Riichi ∷ DoubleRiichi ∷ Ippatsu ∷ FullyConcealed ∷ Pinfu ∷ PureDoubleChow ∷ AllSimples ∷ WhiteDragon ∷ GreenDragon
@@ -11,7 +11,7 @@ every_yaku =
     ∷ OutsideHand ∷ SevenPairs ∷ TriplePung ∷ ThreeKongs ∷ AllPungs ∷ ThreeConcealedPungs ∷ LittleThreeDragons
     ∷ AllTerminalsAndHonours ∷ HalfFlush ∷ TerminalsInAllSets ∷ TwicePureDoubleChow ∷ FullFlush ∷ ThirteenOrphans
     ∷ NineGates ∷ FourConcealedPungs ∷ BigThreeDragons ∷ LittleFourWinds ∷ BigFourWinds ∷ AllHonours ∷ AllTerminals
-    ∷ AllGreen ∷ FourKongs ∷ BlessingOfHeaven ∷ BlessingOfEarth ∷ []
+    ∷ AllGreen ∷ FourKongs ∷ BlessingOfHeaven ∷ BlessingOfEarth ∷ BlessingOfMan ∷ []
 
 -- a row: the printed word, the han of a concealed hand and of an open one (0 where the hand must be concealed, and for a yakuman)
 pub record Row : Type 0 where
@@ -64,6 +64,7 @@ row_of AllGreen = row (codes "all-green") 0 0
 row_of FourKongs = row (codes "four-kongs") 0 0
 row_of BlessingOfHeaven = row (codes "blessing-of-heaven") 0 0
 row_of BlessingOfEarth = row (codes "blessing-of-earth") 0 0
+row_of BlessingOfMan = row (codes "blessing-of-man") 0 0
 
 -- the printed word
 abbrev pub word : Yaku → List ℕ
@@ -116,6 +117,7 @@ number AllGreen = 37
 number FourKongs = 38
 number BlessingOfHeaven = 39
 number BlessingOfEarth = 40
+number BlessingOfMan = 41
 
 abbrev pub is_a_yakuman : Yaku → Bool
 is_a_yakuman yaku = nat_le (number ThirteenOrphans) (number yaku)

@@ -6,7 +6,7 @@ use Rattle.riichi_hand.specs.declared.win.WinParts.{WinParts}
 use Rattle.riichi_split.specs.declared.reading.Reading.{Reading}
 use Rattle.riichi_blocks.specs.declared.hand_block.HandBlock.{HandBlock}
 use Rattle.riichi_blocks.specs.HandBlocks.{is_standard, is_thirteen_orphans, is_concealed_triplet, is_kong}
-use Rattle.riichi_blocks.specs.Winner.{is_dealer}
+use Rattle.riichi_hand.specs.Win.{is_dealer, is_ron}
 use Rattle.riichi_yaku.specs.Honours.{has_triplets, is_last_wind}
 use Rattle.riichi_blocks.specs.Held.{every}
 use Rattle.riichi_blocks.specs.Kinds.{winds, dragons, is_honour, is_terminal, is_of_suit, is_green_tile}
@@ -59,10 +59,15 @@ is_all_green reading tiles = is_standard reading && every is_green_tile tiles
 abbrev pub is_four_kongs : List HandBlock → Bool
 is_four_kongs blocks = count_by is_kong blocks == 4
 
--- 39: a win in the first turn by the dealer; any reading
+-- 39: a win on the first draw by the dealer; any reading
 abbrev pub is_blessing_of_heaven : WinParts → Bool
 is_blessing_of_heaven parts = parts.flags.first && is_dealer parts.seat
 
--- 40: a win in the first turn by another seat; any reading
+-- 40: a win on the first draw by another seat; any reading
 abbrev pub is_blessing_of_earth : WinParts → Bool
-is_blessing_of_earth parts = parts.flags.first && not (is_dealer parts.seat)
+is_blessing_of_earth parts = parts.flags.first && not (is_dealer parts.seat) && not (is_ron parts.by)
+
+-- 41: a win by ron before the own first draw, which a record has only under rules with it and where another seat than the dealer's
+-- wins; any reading
+abbrev pub is_blessing_of_man : WinParts → Bool
+is_blessing_of_man parts = parts.flags.first && is_ron parts.by

@@ -24,8 +24,8 @@ use crate::tiles::{is_all_simples, is_all_terminals_and_honours, is_full_flush, 
 use crate::triplets::{is_all_pungs, is_three_concealed_pungs, is_three_kongs, is_triple_pung};
 use crate::yakuman::{
     is_all_green, is_all_honours, is_all_terminals, is_big_four_winds, is_big_three_dragons,
-    is_blessing_of_earth, is_blessing_of_heaven, is_four_concealed_pungs, is_four_kongs,
-    is_little_four_winds, is_nine_gates,
+    is_blessing_of_earth, is_blessing_of_heaven, is_blessing_of_man, is_four_concealed_pungs,
+    is_four_kongs, is_little_four_winds, is_nine_gates,
 };
 use crate::{Yaku, YakuSet};
 use riichi_blocks::{AllTiles, Blocks, all_tiles, blocks_of, is_seven_pairs, is_thirteen_orphans};
@@ -119,4 +119,5 @@ fn yakuman_among(blocks: &Blocks, reading: &Reading, tiles: &AllTiles, win: &Win
         .with(Yaku::FourKongs, is_four_kongs(blocks))
         .with(Yaku::BlessingOfHeaven, is_blessing_of_heaven(win))
         .with(Yaku::BlessingOfEarth, is_blessing_of_earth(win))
+        .with(Yaku::BlessingOfMan, is_blessing_of_man(win))
 }

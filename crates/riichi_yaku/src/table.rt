@@ -2,7 +2,7 @@
 ghost use Rattle.std.specs.Prelude.{◌≡◌, ◌<◌, ◌≤◌, length, if◌then◌else◌, true};
 ghost use Rattle.riichi_yaku.specs.Table as spec;
 
-/// A yaku. They stand in the order of the table; the yakuman are the last twelve.
+/// A yaku. They stand in the order of the table; the yakuman are the last thirteen.
 #[derive(Clone, Copy, Debug, PartialEq, Eq)]
 pub enum Yaku {
     Riichi,
@@ -46,6 +46,7 @@ pub enum Yaku {
     FourKongs,
     BlessingOfHeaven,
     BlessingOfEarth,
+    BlessingOfMan,
 }
 
 /// A row of the table: the printed word, the han of a concealed hand and of an open one. These are 0 where the hand has to be
@@ -70,11 +71,11 @@ fn row(word: &'static str, concealed: u8, melded: u8) -> YakuRow
 }
 
 /// All of them at one place of memory, so that one is read without a copy of all.
-static IN_ORDER: [Yaku; 41] = Yaku::ALL;
+static IN_ORDER: [Yaku; 42] = Yaku::ALL;
 
 impl Yaku {
     /// All of them, in the order of the table.
-    pub const ALL: [Yaku; 41] = [
+    pub const ALL: [Yaku; 42] = [
         Yaku::Riichi,
         Yaku::DoubleRiichi,
         Yaku::Ippatsu,
@@ -116,18 +117,19 @@ impl Yaku {
         Yaku::FourKongs,
         Yaku::BlessingOfHeaven,
         Yaku::BlessingOfEarth,
+        Yaku::BlessingOfMan,
     ];
 
     /// Its place in the table, from 0 on.
     pub fn number(self) -> u8
         ensures value { result ≡ spec.number self }
-        ensures below { result < 41 }
+        ensures below { result < 42 }
     {
         self as u8
     }
 
     pub(crate) fn at(number: u8) -> Yaku
-        requires { number < 41 }
+        requires { number < 42 }
         ensures { spec.number result ≡ number }
     {
         IN_ORDER[number as usize]
@@ -215,6 +217,7 @@ impl Yaku {
             Yaku::FourKongs => "four-kongs",
             Yaku::BlessingOfHeaven => "blessing-of-heaven",
             Yaku::BlessingOfEarth => "blessing-of-earth",
+            Yaku::BlessingOfMan => "blessing-of-man",
             _ => "",
         }
     }

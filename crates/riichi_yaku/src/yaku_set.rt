@@ -22,7 +22,7 @@ impl Model for YakuSet {
 
     ghost view = { λ s. s.bits };
 
-    ghost invariant = { λ s. s.bits < 2 ^ 41 };
+    ghost invariant = { λ s. s.bits < 2 ^ 42 };
 
     ghost inverse = { λ n. record { bits = n } };
 }
@@ -74,7 +74,7 @@ impl YakuSet {
     /// The number itself.
     pub fn bits(self) -> u64
         ensures value { result ≡ self }
-        ensures below { self < 2 ^ 41 }
+        ensures below { self < 2 ^ 42 }
     {
         self.bits
     }
@@ -82,7 +82,7 @@ impl YakuSet {
     /// Its yaku, in the order of the table.
     pub fn iter(self) -> YakuIter
         ensures value { result ≡ spec.yaku_in self }
-        ensures most { length (spec.yaku_in self) ≤ 41 }
+        ensures most { length (spec.yaku_in self) ≤ 42 }
     {
         YakuIter { rest: self.bits }
     }
@@ -116,7 +116,7 @@ impl Model for YakuIter {
 
     ghost view = { λ i. yaku_in i.rest };
 
-    ghost invariant = { λ i. i.rest < 2 ^ 41 };
+    ghost invariant = { λ i. i.rest < 2 ^ 42 };
 }
 
 impl Iterator for YakuIter {
@@ -141,9 +141,9 @@ impl FusedIterator for YakuIter {}
 /// Writes the words of a set behind a text, in the order of the table, each after a space.
 #[tactic(auto, unfolding(crate::specs::YakuSets::words_of))]
 pub fn push_words(text: &mut ArrayString<3072>, set: YakuSet)
-    requires { length text.old.bytes + 593 ≤ 3072 }
+    requires { length text.old.bytes + 609 ≤ 3072 }
     ensures value { text.new.bytes ≡ text.old.bytes ++ spec.words_of set }
-    ensures most { length text.new.bytes ≤ length text.old.bytes + 593 }
+    ensures most { length text.new.bytes ≤ length text.old.bytes + 609 }
 {
     for yaku in set.iter() {
         text.push_str(" ");

@@ -4,10 +4,8 @@ ghost use Rattle.std.specs.List.{list_any, range_with_len};
 ghost use Rattle.riichi_yaku.specs.Yakuman as spec;
 
 use crate::honours::{has_dragon_triplets, has_wind_triplets, is_last_wind};
-use riichi_blocks::{
-    AllTiles, Blocks, EAST, KINDS, is_dealer, is_of_suit, is_standard, is_thirteen_orphans,
-};
-use riichi_hand::WinRecord;
+use riichi_blocks::{AllTiles, Blocks, EAST, KINDS, is_of_suit, is_standard, is_thirteen_orphans};
+use riichi_hand::{WinRecord, is_ron};
 use riichi_split::Reading;
 use riichi_tiles::Kind;
 
@@ -111,11 +109,17 @@ pub(crate) fn is_four_kongs(blocks: &Blocks) -> bool
 pub(crate) fn is_blessing_of_heaven(win: &WinRecord) -> bool
     ensures { result ≡ spec.is_blessing_of_heaven win.now }
 {
-    win.flags().first && is_dealer(win.seat())
+    win.flags().first && win.seat().is_dealer()
 }
 
 pub(crate) fn is_blessing_of_earth(win: &WinRecord) -> bool
     ensures { result ≡ spec.is_blessing_of_earth win.now }
 {
-    win.flags().first && !is_dealer(win.seat())
+    win.flags().first && !win.seat().is_dealer() && !is_ron(win.by())
+}
+
+pub(crate) fn is_blessing_of_man(win: &WinRecord) -> bool
+    ensures { result ≡ spec.is_blessing_of_man win.now }
+{
+    win.flags().first && is_ron(win.by())
 }

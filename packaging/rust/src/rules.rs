@@ -41,6 +41,8 @@ pub struct House {
     pub ippatsu: bool,
     /// The indicators below count (ura dora).
     pub ura: bool,
+    /// A win by ron before the own first draw, of a seat that isn't the dealer's, is a yakuman (renhou).
+    pub blessing_of_man: bool,
 }
 
 impl Default for House {
@@ -57,6 +59,7 @@ impl Default for House {
             open_pinfu_fu: true,
             ippatsu: true,
             ura: true,
+            blessing_of_man: false,
         }
     }
 }
@@ -79,7 +82,7 @@ impl House {
     }
 
     /// The rules in the order of their bits, the lowest first.
-    fn bits(self) -> [bool; 11] {
+    fn bits(self) -> [bool; 12] {
         [
             self.red_fives,
             self.raise,
@@ -92,6 +95,7 @@ impl House {
             self.open_pinfu_fu,
             self.ippatsu,
             self.ura,
+            self.blessing_of_man,
         ]
     }
 }

@@ -41,7 +41,8 @@ pub struct Place {
 impl Refusal<'_> {
     /// Where the word at fault stands in the line that was refused.
     pub fn place(&self, line: &[u8]) -> Option<Place>
-        requires { option_map (λ from. from.now) self.now.from ≡ fault_from self.now.fault line.now }
+        requires { option_map (λ from. from.now) self.now.from
+            ≡ fault_from self.now.fault line.now }
         ensures place { result ≡ place_of self.now.fault line.now }
         ensures word { let from = fault_from self.now.fault line.now in
             MatchOption result (from ≡ None) (λ place.

@@ -23,7 +23,8 @@ impl<'a> Words<'a> {
     pub(crate) fn read(line: &'a [u8]) -> Result<Words<'a>, LineFault>
         ensures step { IsStep result (word_faults line.now)
             (λ words. parts_of (words_of line.now) ≡ parts_in words) }
-        ensures from { IfOk result (λ words. from_words words.entries.now ≡ drop 2 (from_words line.now)) }
+        ensures from { IfOk result
+            (λ words. from_words words.entries.now ≡ drop 2 (from_words line.now)) }
     {
         if has_other_byte(line) {
             return Err(LineFault::Line(LineCode::H1));

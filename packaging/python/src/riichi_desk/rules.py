@@ -25,6 +25,7 @@ class Rules:
     open_pinfu_fu: bool = True
     ippatsu: bool = True
     ura: bool = True
+    blessing_of_man: bool = False
 
     def number(self) -> int:
         """The number that the library takes."""

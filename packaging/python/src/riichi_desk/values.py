@@ -36,7 +36,7 @@ class Table(Mapping[str, V]):
 
 @dataclass(frozen=True)
 class Yaku:
-    """A yaku by its number, 0 to 40, its word, and the Japanese name by which players know it."""
+    """A yaku by its number, 0 to 41, its word, and the Japanese name by which players know it."""
 
     number: int
     word: str
