@@ -1,7 +1,7 @@
 //! Lines that look like a profile line and are none.
 use arrayvec::ArrayVec;
 use desk_lines::Rules;
-use memchr::memchr_iter;
+use memchr::memchr;
 
 /// How much of a line is looked at: more than a profile line with a byte order mark has.
 const FRONT: usize = 32;
@@ -40,21 +40,27 @@ impl ProfileWatch {
         if self.is_found {
             return None;
         }
-        let mut start = 0;
-        let mut slip = None;
-        for place in memchr_iter(b'\n', bytes) {
-            slip = slip.or(self.next_line(bytes.get(start..place).unwrap_or(&[])));
-            start = place.saturating_add(1);
+        let mut rest = bytes;
+        for turn in 0..bytes.len() {
+            let Some((line, after)) = cut_line(rest) else {
+                break;
+            };
+            if let Some(slip) = self.next_line(line) {
+                self.is_found = true;
+                return Some(slip);
+            }
+            rest = after;
         }
-        self.keep(bytes.get(start..).unwrap_or(&[]));
+        self.keep(rest);
         if bytes.is_empty() {
-            slip = self.end_line();
+            self.end_line()
+        } else {
+            None
         }
-        self.is_found = slip.is_some();
-        slip
     }
 
     /// A line has ended, of which this is the rest. Most lines are told by their first byte.
+    #[inline(always)]
     fn next_line(&mut self, rest: &[u8]) -> Option<Slip> {
         if self.ended > 0 && self.front.is_empty() && !may_be_like(rest) {
             self.ended = self.ended.saturating_add(1);
@@ -91,6 +97,12 @@ impl ProfileWatch {
             _ => None,
         }
     }
+}
+
+/// What stands before and after the first line feed.
+fn cut_line(text: &[u8]) -> Option<(&[u8], &[u8])> {
+    let place = memchr(b'\n', text)?;
+    Some((&text[..place], &text[place + 1..]))
 }
 
 /// Whether a line may begin as one that names a profile, by its first byte.
