@@ -14,3 +14,16 @@ pub fn open_file<'a, R: Files>(rt: &R, file: &'a str) -> Result<R::File, Failure
         }),
     }
 }
+
+/// How many bytes these files have together, where each is a file that has a length.
+pub fn length_of<R: Files>(rt: &R, files: &[&str]) -> Option<u64> {
+    let mut length: u64 = 0;
+    for file in files {
+        let told = fs::metadata(rt, *file).ok()?;
+        if !told.is_file() {
+            return None;
+        }
+        length = length.saturating_add(told.len());
+    }
+    Some(length)
+}
