@@ -1,6 +1,6 @@
 //! Record lines that are answered: those of standard input, of files, or of the command line.
 use crate::failure::Failure;
-use crate::files::open_file;
+use crate::files::{INPUT, open_file};
 use crate::noted::Notes;
 use crate::progress::Progress;
 use desk_lines::{
@@ -14,9 +14,6 @@ use std::alloc::{AllocError, Global};
 use std::io::{Eprint, Input, Print};
 use std::rt::Files;
 use std::time::Clock;
-
-/// The name of the file that is standard input.
-const INPUT: &str = "-";
 
 /// Answers lines: in which form, behind their numbers or not, by which rules where they are given no others, with the rows that
 /// are kept, and where to.

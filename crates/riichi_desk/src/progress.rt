@@ -33,8 +33,8 @@ struct Course {
     is_shown: bool,
 }
 
-/// Shows on standard error how far the answers are, if it does: a line that is drawn in place, from the first second on, at most
-/// five times a second.
+/// Shows on standard error how far the answers are, if it does: a line that is drawn in place, from the first second on, and
+/// not oftener than five times a second.
 #[derive(Drop)]
 pub struct Progress<'r, R> {
     rt: &'r R,
@@ -117,6 +117,7 @@ impl<R: Eprint + Clock> Watch for Progress<'_, R> {
             let millis = course.millis(self.rt);
             if sheets == 0 {
                 course.judges_from = millis;
+                course.next = SILENCE;
                 self.course.set(Some(course));
             } else if sheets < of {
                 self.show(
