@@ -396,6 +396,53 @@ told 'a score without a thread' $'riichi_desk: fault B4\nstatus 4' "$(ulimit -v 
 told 'a full disk at the end of a score' "riichi_desk: fault F2
 $full
 status 3" "$("$program" score "$room/first" 2>&1 > /dev/full; echo "status $?")"
+# how far the answers are stands on a terminal from the first second on, and nowhere else. Each run reads a pipe that gives a line
+# at once and the others 1.5 seconds later.
+screen='import os, pty, signal, sys; signal.alarm(60); pid, screen = pty.fork()
+if pid == 0:
+    os.dup2(os.open(sys.argv[1], os.O_WRONLY | os.O_CREAT), 1)
+    os.execv(sys.argv[2], sys.argv[2:])
+try:
+    while piece := os.read(screen, 65536): os.write(1, piece)
+except OSError: pass
+print("status", os.waitstatus_to_exitcode(os.waitpid(pid, 0)[1]))'
+slow=()
+# slowly NAME ANSWERS WORDS..: runs the program on a terminal, with its answers in the file ANSWERS; what the terminal gets goes
+# into room/NAME.screen
+slowly() {
+  local name=$1 answers=$2
+  shift 2
+  mkfifo "$room/$name"
+  { echo 'waits 1112345678999m'; sleep 1.5; head -n 100000 "$room/many"; echo 'rules 2'; } > "$room/$name" &
+  python3 -c "$screen" "$answers" "$program" "$@" > "$room/$name.screen" 2>&1 &
+  slow+=($!)
+}
+slowly lines "$room/lines.answers" line --file "$room/lines"
+slowly quiet "$room/quiet.answers" line --quiet --file "$room/quiet"
+slowly typed /dev/tty line --file "$room/typed"
+slowly fault "$room/fault.answers" line --file "$room/fault" "$room/none"
+slowly score "$room/score.answers" score --workers 1 "$room/score"
+slowly score-quiet /dev/null score --quiet "$room/score-quiet"
+mkfifo "$room/file"
+{ echo 'waits 1112345678999m'; sleep 1.5; head -n 100000 "$room/many"; } > "$room/file" &
+"$program" score "$room/file" 2> "$room/said" > "$room/file.answers"
+told 'a slow score without a terminal' 'silent 100002' "$([ -s "$room/said" ] || echo silent) $(grep -c . "$room/file.answers")"
+wait "${slow[@]}"
+# at last the terminal has what it would have without: each line is wiped before something else is written
+slip='line 100002 sets no profile: the lines are answered under profile 1; `rules 1` or `rules 2` sets one, alone in the first line'
+wiped() { sed -E $'s/.*\r\x1b\\[K//; s/\r$//' "$room/$1.screen"; }
+told 'lines from a pipe show how many they are' 'some' "$(grep -qE $'\r[0-9]+ lines, [0-9]+ lines a second\x1b\\[K' "$room/lines.screen" && echo some)"
+told 'and no share of what they are' 0 "$(grep -c ' %, ' "$room/lines.screen")"
+told 'the terminal behind lines' "riichi_desk: $room/lines: $slip"$'\nstatus 1' "$(wiped lines)"
+told 'the answers are the same' "$(sha256sum < "$room/quiet.answers")" "$(sha256sum < "$room/lines.answers")"
+told 'lines with --quiet' "riichi_desk: $room/quiet: $slip"$'\nstatus 1' "$(tr -d '\r' < "$room/quiet.screen")"
+told 'lines whose answers come to the terminal' 0 "$(grep -c 'lines a second' "$room/typed.screen")"
+told 'a fault behind lines' "riichi_desk: $room/fault: $slip"$'\n'"riichi_desk: cannot open $room/none"$'\nstatus 3' "$(wiped fault)"
+told 'a score shows what is read, then the share that is judged' 'read judged' \
+  "$(grep -qE $'\r[0-9]+ lines, [0-9]+ lines a second\x1b' "$room/score.screen" && echo read) $(grep -qE $'\r[0-9]+ %, [0-9]+ lines a second, [0-9]+ s left\x1b' "$room/score.screen" && echo judged)"
+told 'the terminal behind a score' "riichi_desk: $room/score: $slip"$'\nstatus 1' "$(wiped score)"
+told 'a score with --quiet' 0 "$(grep -c 'lines a second' "$room/score-quiet.screen")"
+row 2 '' "unexpected argument '--quiet' found" explain --quiet
 # each worker is a thread, and one more plays the tables
 cc -shared -fPIC -o "$room/count.so" tests/count.c -ldl
 for workers in 1 3; do

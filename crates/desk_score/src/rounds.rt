@@ -6,6 +6,7 @@ ghost use Rattle.desk_lines.specs.Sheets.{sheet_told, sheets_told};
 use crate::judging::{Judged, judge};
 use crate::round::Round;
 use crate::score_fault::ScoreFault;
+use crate::watch::Watch;
 use desk_lines::Sheet;
 use std::alloc::Global;
 use std::mem::replace;
@@ -21,16 +22,20 @@ struct Rounds {
     texts: Vec<Vec<u8>>,
     judged: Judged,
     next: Round,
+    /// How many sheets were judged, and how many there are.
+    done: usize,
+    of: usize,
 
     ghost working: { (1 ≤ workers) × (workers ≤ 16) },
 }
 
-/// The texts of sheets, in order, their jobs judged by so many workers.
-pub(crate) fn texts_by<H: Threads + Wait + Sync>(
+/// The texts of sheets, in order, their jobs judged by so many workers. The watch is told how many are judged.
+pub(crate) fn texts_by<H: Threads + Wait + Sync, V: Watch>(
     rt: &H,
     alloc: Global,
     sheets: Vec<Sheet>,
     workers: u32,
+    watch: &V,
 ) -> Result<Vec<Vec<u8>>, ScoreFault>
     requires { (1 ≤ workers) × (workers ≤ 16) }
     ensures ok { IfOk result (λ texts. flat_map (λ text. text.items) texts.items
@@ -39,17 +44,18 @@ pub(crate) fn texts_by<H: Threads + Wait + Sync>(
     ensures not_write { IsErrOf result ScoreFault.Write → ⊥ }
     ensures not_range { IsErrOf result ScoreFault.Range → ⊥ }
 {
-    let mut rounds = Rounds::new(alloc, workers);
+    let mut rounds = Rounds::new(alloc, workers, sheets.len());
+    watch.judged(0, sheets.len());
     for sheet in sheets {
-        rounds.take(rt, sheet)?;
+        rounds.take(rt, watch, sheet)?;
     }
-    rounds.finish(rt)
+    rounds.finish(rt, watch)
 }
 
 impl Rounds {
     ghost use Rattle.desk_score.specs.Rounds.{round_told, rounds_told};
 
-    fn new(alloc: Global, workers: u32) -> Rounds
+    fn new(alloc: Global, workers: u32, of: usize) -> Rounds
         requires { (1 ≤ workers) × (workers ≤ 16) }
         ensures { rounds_told result ≡ [] }
     {
@@ -59,11 +65,18 @@ impl Rounds {
             texts: Vec::new(alloc),
             judged: Judged::none(alloc),
             next: Round::new(alloc),
+            done: 0,
+            of,
         }
     }
 
     /// Takes the next sheet.
-    fn take<H: Threads + Wait + Sync>(&mut self, rt: &H, sheet: Sheet) -> Result<(), ScoreFault>
+    fn take<H: Threads + Wait + Sync, V: Watch>(
+        &mut self,
+        rt: &H,
+        watch: &V,
+        sheet: Sheet,
+    ) -> Result<(), ScoreFault>
         ensures told { OnOk result (rounds_told self.new
             ≡ rounds_told self.old ++ sheet_told sheet) }
         ensures not_read { IsErrOf result ScoreFault.Read → ⊥ }
@@ -71,14 +84,18 @@ impl Rounds {
         ensures not_range { IsErrOf result ScoreFault.Range → ⊥ }
     {
         if self.next.is_full() {
-            self.judge_next(rt)?;
+            self.judge_next(rt, watch)?;
         }
         self.next.add(sheet)?;
         Ok(())
     }
 
-    /// Has the next round judged, and begins another.
-    fn judge_next<H: Threads + Wait + Sync>(&mut self, rt: &H) -> Result<(), ScoreFault>
+    /// Has the next round judged, tells the watch of it, and begins another.
+    fn judge_next<H: Threads + Wait + Sync, V: Watch>(
+        &mut self,
+        rt: &H,
+        watch: &V,
+    ) -> Result<(), ScoreFault>
         requires { 1 ≤ length self.old.next.jobs.items }
         ensures told { OnOk result (rounds_told self.new ≡ rounds_told self.old) }
         ensures room { OnOk result (length self.new.next.jobs.items < 8) }
@@ -88,15 +105,21 @@ impl Rounds {
         ensures not_range { IsErrOf result ScoreFault.Range → ⊥ }
     {
         let next = replace(&mut self.next, Round::new(self.alloc));
+        self.done = self.done.saturating_add(next.jobs.len());
         let before = replace(&mut self.judged, Judged::none(self.alloc));
         let (mut texts, judged) = judge(rt, self.alloc, self.workers, before, next)?;
         self.judged = judged;
         self.texts.append(&mut texts)?;
+        watch.judged(self.done, self.of);
         Ok(())
     }
 
     /// The texts of all sheets, where no more will come.
-    fn finish<H: Threads + Wait + Sync>(mut self, rt: &H) -> Result<Vec<Vec<u8>>, ScoreFault>
+    fn finish<H: Threads + Wait + Sync, V: Watch>(
+        mut self,
+        rt: &H,
+        watch: &V,
+    ) -> Result<Vec<Vec<u8>>, ScoreFault>
         ensures ok { IfOk result (λ texts. flat_map (λ text. text.items) texts.items
             ≡ rounds_told self) }
         ensures not_read { IsErrOf result ScoreFault.Read → ⊥ }
@@ -104,7 +127,7 @@ impl Rounds {
         ensures not_range { IsErrOf result ScoreFault.Range → ⊥ }
     {
         if !self.next.is_empty() {
-            self.judge_next(rt)?;
+            self.judge_next(rt, watch)?;
         }
         let Rounds {
             alloc,

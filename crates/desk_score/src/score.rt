@@ -8,6 +8,7 @@ ghost use Rattle.desk_score.specs.Score.{score_by, score_of, score_report, AreWi
 use crate::rounds::texts_by;
 use crate::score_fault::ScoreFault;
 use crate::tables::Tables;
+use crate::watch::{Unwatched, Watch};
 use desk_lines::{DeskReport, write_texts};
 use desk_streams::{Sink, Source};
 use riichi_hand::Rules;
@@ -59,19 +60,20 @@ pub fn score_text<H: Threads + Wait + Sync, R: Source + Drop, W: Sink>(
         × AreWithinLimit rules texts
         × StopsWriting ⟦<W as Sink>⟧ writer.old writer.new (score_of rules texts) }
 {
-    score_text_with(rt, alloc, rules, None, readers, workers, writer)
+    score_text_with(rt, alloc, rules, None, readers, workers, &Unwatched, writer)
 }
 
 /// The same, where the tables may be named: one name for each reader, in their order. Of each table the name then stands
 /// behind its number, with `?` in place of each byte that isn't printed ASCII, and each answer behind the number of its line
-/// and a colon, as `numbered_text_with` writes it.
-pub fn score_text_with<H: Threads + Wait + Sync, R: Source + Drop, W: Sink>(
+/// and a colon, as `numbered_text_with` writes it. The watch is told how much is judged.
+pub fn score_text_with<H: Threads + Wait + Sync, R: Source + Drop, V: Watch, W: Sink>(
     rt: &H,
     alloc: Global,
     rules: Rules,
     names: Option<&[&str]>,
     readers: Vec<R>,
     workers: u32,
+    watch: &V,
     writer: &mut W,
 ) -> Result<DeskReport, ScoreFault>
     // The readers were read to their ends, and the answers to what they gave were written.
@@ -107,15 +109,16 @@ pub fn score_text_with<H: Threads + Wait + Sync, R: Source + Drop, W: Sink>(
         return Err(ScoreFault::Range);
     }
     let tables = Tables::read(alloc, rules, names, readers)?;
-    answer_tables(rt, alloc, tables, workers, writer)
+    answer_tables(rt, alloc, tables, workers, watch, writer)
 }
 
 /// Has so many workers judge what was read, and writes the answers, where no table has more jobs than it may submit.
-fn answer_tables<H: Threads + Wait + Sync, W: Sink>(
+fn answer_tables<H: Threads + Wait + Sync, V: Watch, W: Sink>(
     rt: &H,
     alloc: Global,
     tables: Tables,
     workers: u32,
+    watch: &V,
     writer: &mut W,
 ) -> Result<DeskReport, ScoreFault>
     requires workers { (1 ≤ workers) × (workers ≤ 16) }
@@ -135,7 +138,7 @@ fn answer_tables<H: Threads + Wait + Sync, W: Sink>(
         return Err(ScoreFault::Range);
     }
     let Tables { sheets, report, .. } = tables;
-    let texts = texts_by(rt, alloc, sheets, workers)?;
+    let texts = texts_by(rt, alloc, sheets, workers, watch)?;
     write_texts(texts.as_slice(), writer)?;
     Ok(report)
 }

@@ -7,6 +7,7 @@ use desk_streams::{BytesIn, BytesOut};
 use facts::{holds, holds_in, same};
 use riichi_hand::Rules;
 use std::alloc::{AllocError, Global};
+use std::cell::Cell;
 use std::io::Print;
 use std::process::Abort;
 use std::sync::Wait;
@@ -99,13 +100,60 @@ fn named_tables(rt: HostRuntime) -> Result<(), Fail> {
     ] {
         let readers = two_readers(alloc, FIRST, second)?;
         let mut writer: BytesOut<2048> = BytesOut::new(1000, None);
-        let told = score_text_with(&rt, alloc, Rules::One, Some(names), readers, 2, &mut writer);
+        let told = score_text_with(
+            &rt,
+            alloc,
+            Rules::One,
+            Some(names),
+            readers,
+            2,
+            &Unwatched,
+            &mut writer,
+        );
         let report = DeskReport {
             answered: 1,
             refused: 2,
         };
         holds(&rt, told == Ok(report));
         same(&rt, writer.bytes(), answers);
+    }
+    Ok(())
+}
+
+/// What was told last, and how often.
+#[derive(Drop)]
+struct Counted {
+    told: Cell<(u32, usize, usize)>,
+}
+
+impl Watch for Counted {
+    fn judged(&self, sheets: usize, of: usize) {
+        let (times, _, _) = self.told.get();
+        self.told.set((times.saturating_add(1), sheets, of));
+    }
+}
+
+/// A watch is told before anything is judged, and after each round of eight sheets: a table has one at least.
+#[test]
+fn a_watch_is_told(rt: HostRuntime) -> Result<(), Fail> {
+    let alloc = rt.alloc();
+    for (tables, told) in [(1, (2, 1, 1)), (8, (2, 8, 8)), (20, (4, 20, 20))] {
+        let watch = Counted {
+            told: Cell::new((0, 0, 0)),
+        };
+        let mut writer: BytesOut<2048> = BytesOut::new(1000, None);
+        let readers = empty_readers(alloc, tables)?;
+        let scored = score_text_with(
+            &rt,
+            alloc,
+            Rules::One,
+            None,
+            readers,
+            2,
+            &watch,
+            &mut writer,
+        );
+        holds(&rt, scored.is_ok() && watch.told.get() == told);
     }
     Ok(())
 }

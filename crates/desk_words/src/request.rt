@@ -4,6 +4,7 @@ use clap::ArgMatches;
 use riichi_hand::Rules;
 
 /// What the command line asks for.
+#[derive(Clone, Copy)]
 pub enum Request<'m, 'a> {
     /// Rules that there aren't: this word names none.
     UnknownRules(&'a str),
@@ -16,6 +17,8 @@ pub enum Request<'m, 'a> {
         rules: Rules,
         /// Whether each stands behind the number of its line.
         is_numbered: bool,
+        /// Whether it isn't to be shown how far the answers are, as ever where the lines come from no files.
+        is_quiet: bool,
     },
     /// Every code in words.
     HelpCodes,
@@ -32,6 +35,8 @@ pub enum Request<'m, 'a> {
         rules: Rules,
         /// Whether the files are named, and each answer stands behind the number of its line.
         is_numbered: bool,
+        /// Whether it isn't to be shown how far the answers are.
+        is_quiet: bool,
     },
 }
 
@@ -69,15 +74,22 @@ pub enum Lines<'m, 'a> {
     },
 }
 
+impl Lines<'_, '_> {
+    fn are_of_files(&self) -> bool {
+        matches!(self, Lines::Files(_))
+    }
+}
+
 /// What the words ask for; none where they name no command of ours.
 pub fn request_of<'m, 'a>(matches: &'m ArgMatches<'a>) -> Option<Request<'m, 'a>> {
     if let Some(line) = matches.subcommand_matches("line") {
         let lines = files_or(line, Lines::Input);
-        return Some(lines_request(line, lines, form_in(line)));
+        let is_quiet = line.get_flag("quiet") || !lines.are_of_files();
+        return Some(lines_request(line, lines, form_in(line), is_quiet));
     }
     if let Some(explain) = matches.subcommand_matches("explain") {
         let lines = files_or(explain, told_lines(explain));
-        return Some(lines_request(explain, lines, reasons_in(explain)));
+        return Some(lines_request(explain, lines, reasons_in(explain), true));
     }
     if matches.subcommand_matches("help-codes").is_some() {
         return Some(Request::HelpCodes);
@@ -100,6 +112,7 @@ pub fn request_of<'m, 'a>(matches: &'m ArgMatches<'a>) -> Option<Request<'m, 'a>
                 workers,
                 rules,
                 is_numbered: score.get_flag("number"),
+                is_quiet: score.get_flag("quiet"),
             },
             Err(word) => Request::UnknownRules(word),
         });
@@ -117,7 +130,7 @@ fn record_request<'m, 'a>(matches: &'m ArgMatches<'a>) -> Option<Request<'m, 'a>
                 return Some(Request::Waits(hand));
             }
             let lines = Lines::Record { job, hand, words };
-            return Some(lines_request(record, lines, Form::Words));
+            return Some(lines_request(record, lines, Form::Words, true));
         }
     }
     None
@@ -130,6 +143,7 @@ fn lines_request<'m, 'a>(
     matches: &'m ArgMatches<'a>,
     lines: Lines<'m, 'a>,
     form: Form,
+    is_quiet: bool,
 ) -> Request<'m, 'a> {
     match rules_in(matches) {
         Ok(rules) => Request::Lines {
@@ -137,6 +151,7 @@ fn lines_request<'m, 'a>(
             form,
             rules,
             is_numbered: matches.get_flag("number"),
+            is_quiet,
         },
         Err(word) => Request::UnknownRules(word),
     }

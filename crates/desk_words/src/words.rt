@@ -109,6 +109,7 @@ fn line_command<'a>(alloc: Global) -> Result<Command<'a>, AllocError> {
         .arg(rules_arg(alloc))?
         .arg(file_arg(alloc))?
         .arg(number_arg(alloc))?
+        .arg(quiet_arg(alloc))?
         .arg(json_arg(
             alloc,
             "Answers each hand by one object of JSON, what is refused too",
@@ -131,6 +132,15 @@ fn number_arg<'a>(alloc: Global) -> Arg<'a> {
         alloc,
         "number",
         "Puts the number of its line before each answer, from 1 in each file",
+    )
+}
+
+/// That it isn't wanted to be shown how far the answers are.
+fn quiet_arg<'a>(alloc: Global) -> Arg<'a> {
+    flag(
+        alloc,
+        "quiet",
+        "Doesn't show on the terminal how far the answers are",
     )
 }
 
@@ -214,6 +224,7 @@ fn score_command<'a>(alloc: Global) -> Result<Command<'a>, AllocError> {
         .after_help(SCORE_HELP)
         .arg(rules_arg(alloc))?
         .arg(number)?
+        .arg(quiet_arg(alloc))?
         .arg(workers_arg(alloc))?
         .arg(files.required(true).num_args(1..))
 }

@@ -1,9 +1,10 @@
 //! Carries out what the command line asks for.
 use crate::codes::print_codes;
 use crate::failure::{Failure, report};
-use crate::files::open_file;
+use crate::files::{length_of, open_file};
 use crate::lines::answer_lines;
 use crate::noted::Notes;
+use crate::progress::{Progress, Terminals};
 use crate::rules::print_rules;
 use crate::scoring::score_files;
 use crate::version::print_version;
@@ -12,25 +13,26 @@ use clap::error::ErrorKind;
 use desk_lines::{replay_text, waits_answer};
 use desk_score::ScoreFault;
 use desk_streams::{FromReader, ToWriter};
-use desk_words::{Request, commands, nearest_rule, request_of};
+use desk_words::{Lines, Request, commands, nearest_rule, request_of};
 use std::alloc::{AllocError, Global};
 use std::env::{self, Env};
 use std::io::{self, Eprint, Input, Print};
 use std::rt::Files;
 use std::sync::Wait;
 use std::thread::Threads;
+use std::time::Clock;
 
 /// Reads the words, writes the answer, and returns the exit status: 1 where a line of the answer is a refusal. Where nobody
 /// reads the answer any more it ends quietly with 0.
-pub fn answer<R: Input + Print + Eprint + Env + Files + AllocGlobal + Threads + Wait + Sync>(
-    rt: &R,
-) -> u8 {
+pub fn answer<
+    R: Input + Print + Eprint + Env + Files + Clock + AllocGlobal + Threads + Wait + Sync,
+>(rt: &R, terminals: Terminals) -> u8 {
     let words = match words_of(rt) {
         Ok(words) => words,
         Err(failure) => return report(rt, &failure),
     };
     let notes = Notes::new();
-    match answer_words(rt, &notes, words.as_slice()) {
+    match answer_words(rt, terminals, &notes, words.as_slice()) {
         Ok(is_refused) => is_refused as u8,
         Err(failure) => report_with(rt, &failure, &notes),
     }
@@ -59,8 +61,12 @@ fn words_of<R: Env + AllocGlobal>(rt: &R) -> Result<Vec<String>, Failure<'static
 }
 
 /// Carries out what the words ask for; the first is the name of the program.
-fn answer_words<'a, R: Input + Print + Eprint + Files + Threads + Wait + Sync + AllocGlobal>(
+fn answer_words<
+    'a,
+    R: Input + Print + Eprint + Files + Clock + Threads + Wait + Sync + AllocGlobal,
+>(
     rt: &R,
+    terminals: Terminals,
     notes: &Notes<'a>,
     words: &'a [String],
 ) -> Result<bool, Failure<'a>> {
@@ -72,30 +78,69 @@ fn answer_words<'a, R: Input + Print + Eprint + Files + Threads + Wait + Sync + 
             _ => return Err(Failure::from(error)),
         },
     };
-    match request_of(&matches) {
-        Some(Request::Waits(hand)) => print_waits(rt, notes, hand),
-        Some(
-            Request::Lines {
-                lines,
-                form,
-                rules,
-                is_numbered,
-            },
-        ) => answer_lines(rt, notes, lines, form, rules, is_numbered),
-        Some(Request::HelpCodes) => print_codes(rt, notes),
-        Some(Request::HelpRules) => print_rules(rt, notes),
-        Some(Request::HelpYaku) => print_yaku(rt, notes),
-        Some(Request::UnknownRules(word)) => Err(unknown_rule(rt.alloc(), word)?),
-        Some(Request::Replay(file)) => replay_file(rt, notes, file),
-        Some(
-            Request::Score {
-                files,
-                workers,
-                rules,
-                is_numbered,
-            },
-        ) => score_files(rt, notes, files, workers, rules, is_numbered),
-        None => Err(Failure::Text),
+    let Some(request) = request_of(&matches) else {
+        return Err(Failure::Text);
+    };
+    let progress = progress_of(rt, terminals, &request);
+    let answered = answer_request(rt, notes, &progress, request);
+    progress.wipe();
+    answered
+}
+
+/// What shows how far the answers are. Where those to lines come to the terminal too, they show it themselves. That a score is
+/// read has no share of the whole that is known beforehand, so what it reads isn't measured.
+fn progress_of<'r, R: Eprint + Clock + Files>(
+    rt: &'r R,
+    terminals: Terminals,
+    request: &Request<'_, '_>,
+) -> Progress<'r, R> {
+    match request {
+        Request::Lines {
+            lines: Lines::Files(files),
+            is_quiet: false,
+            ..
+        } if terminals.has_errors && !terminals.has_output => {
+            Progress::begin(rt, length_of(rt, *files))
+        }
+        Request::Score {
+            is_quiet: false,
+            ..
+        } if terminals.has_errors => Progress::begin(rt, None),
+        _ => Progress::none(rt),
+    }
+}
+
+/// Carries out a request.
+fn answer_request<
+    'a,
+    R: Input + Print + Eprint + Files + Clock + Threads + Wait + Sync + AllocGlobal,
+>(
+    rt: &R,
+    notes: &Notes<'a>,
+    progress: &Progress<'_, R>,
+    request: Request<'_, 'a>,
+) -> Result<bool, Failure<'a>> {
+    match request {
+        Request::Waits(hand) => print_waits(rt, notes, hand),
+        Request::Lines {
+            lines,
+            form,
+            rules,
+            is_numbered,
+            ..
+        } => answer_lines(rt, notes, progress, lines, form, rules, is_numbered),
+        Request::HelpCodes => print_codes(rt, notes),
+        Request::HelpRules => print_rules(rt, notes),
+        Request::HelpYaku => print_yaku(rt, notes),
+        Request::UnknownRules(word) => Err(unknown_rule(rt.alloc(), word)?),
+        Request::Replay(file) => replay_file(rt, notes, file),
+        Request::Score {
+            files,
+            workers,
+            rules,
+            is_numbered,
+            ..
+        } => score_files(rt, notes, progress, files, workers, rules, is_numbered),
     }
 }
 

@@ -1,7 +1,8 @@
 //! Record lines that are answered: those of standard input, of files, or of the command line.
 use crate::failure::Failure;
-use crate::files::open_file;
+use crate::files::{INPUT, open_file};
 use crate::noted::Notes;
+use crate::progress::Progress;
 use desk_lines::{
     DeskFault, DeskReport, EveryReading, Explained, Members, Plain, ReasonedMembers, Rules, Shown,
     SuitMemo, desk_text_with, explain_json_text_with, explain_text_with, json_text_with,
@@ -12,9 +13,7 @@ use desk_words::{Form, Lines};
 use std::alloc::{AllocError, Global};
 use std::io::{Eprint, Input, Print};
 use std::rt::Files;
-
-/// The name of the file that is standard input.
-const INPUT: &str = "-";
+use std::time::Clock;
 
 /// Answers lines: in which form, behind their numbers or not, by which rules where they are given no others, with the rows that
 /// are kept, and where to.
@@ -28,9 +27,10 @@ struct Answering<W> {
 }
 
 /// Answers record lines on standard output: whether a line is refused.
-pub fn answer_lines<'a, R: Input + Print + Eprint + Files + AllocGlobal>(
+pub fn answer_lines<'a, R: Input + Print + Eprint + Files + Clock + AllocGlobal>(
     rt: &R,
     notes: &Notes<'a>,
+    progress: &Progress<'_, R>,
     lines: Lines<'_, 'a>,
     form: Form,
     rules: Rules,
@@ -44,8 +44,8 @@ pub fn answer_lines<'a, R: Input + Print + Eprint + Files + AllocGlobal>(
         writer: ToWriter::new(notes.output(rt)),
     };
     match lines {
-        Lines::Input => answering.input(rt, notes),
-        Lines::Files(files) => answering.files(rt, notes, files),
+        Lines::Input => answering.input(rt, notes, progress),
+        Lines::Files(files) => answering.files(rt, notes, progress, files),
         Lines::Each(words) => answering.text(&each_line(rt.alloc(), words)?),
         Lines::One(words) => answering.text(&one_line(rt.alloc(), words)?),
         Lines::Record { job, hand, words } => {
@@ -58,13 +58,14 @@ pub fn answer_lines<'a, R: Input + Print + Eprint + Files + AllocGlobal>(
 }
 
 impl<W: Sink> Answering<W> {
-    fn input<'a, R: Input + Eprint>(
+    fn input<'a, R: Input + Eprint + Clock>(
         &mut self,
         rt: &R,
         notes: &Notes<'a>,
+        progress: &Progress<'_, R>,
     ) -> Result<bool, Failure<'a>> {
         self.source(&mut FromReader::new(notes.lines(
-            rt,
+            progress,
             "standard input",
             self.rules,
             rt.reader(),
@@ -72,20 +73,21 @@ impl<W: Sink> Answering<W> {
     }
 
     /// Answers the lines of files, each of which may set its own profile. The first that can't be opened or read ends it.
-    fn files<'a, R: Input + Eprint + Files + AllocGlobal>(
+    fn files<'a, R: Input + Eprint + Files + Clock + AllocGlobal>(
         &mut self,
         rt: &R,
         notes: &Notes<'a>,
+        progress: &Progress<'_, R>,
         files: &[&'a str],
     ) -> Result<bool, Failure<'a>> {
         let mut is_refused = false;
         for file in files {
             let file = *file;
             if file == INPUT {
-                is_refused |= self.input(rt, notes)?;
+                is_refused |= self.input(rt, notes, progress)?;
             } else {
                 let mut reader = FromReader::new(notes.lines(
-                    rt,
+                    progress,
                     file,
                     self.rules,
                     open_file(rt, file)?,

@@ -3,7 +3,7 @@
 //! `desk_words` reads the command line into a `Request`, `answers` carries it out, `lines` over record lines and `scoring`
 //! over the files of tables, `codes`, `yaku`, `rules` and `version` print what they are named for. `failure` says what is written on standard
 //! error and with which exit status the program ends; `noted` keeps what the system said of a stream that failed,
-//! and `profile` finds lines that look like a profile line and are none.
+//! `profile` finds lines that look like a profile line and are none, and `progress` shows on a terminal how far the answers are.
 #![tactic(auto)]
 
 mod answers;
@@ -13,14 +13,21 @@ mod files;
 mod lines;
 mod noted;
 mod profile;
+mod progress;
 mod rules;
 mod scoring;
 mod version;
 mod yaku;
 
 use answers::answer;
+use progress::Terminals;
+use std::io::IsTerminal;
 use std::process::ExitCode;
 
 fn main(rt: HostRuntime) -> ExitCode {
-    ExitCode::from(answer(&rt))
+    let terminals = Terminals {
+        has_output: rt.stdout().is_terminal(),
+        has_errors: rt.stderr().is_terminal(),
+    };
+    ExitCode::from(answer(&rt, terminals))
 }

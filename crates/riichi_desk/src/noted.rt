@@ -1,9 +1,11 @@
 //! What the system said of the stream that failed last.
 use crate::profile::{ProfileWatch, Slip};
+use crate::progress::Progress;
 use desk_lines::Rules;
 use riichi_hand::{RuleSet, rules_words};
 use std::cell::Cell;
 use std::io::{self, Eprint, ErrorKind, Print, Printer, Read, Write};
+use std::time::Clock;
 
 /// The failure of a stream: its name, and what the system said.
 #[derive(Clone, Copy)]
@@ -108,41 +110,46 @@ impl<R: Read> Read for Noted<'_, '_, R> {
     }
 }
 
-/// A reader of record lines: its failures are noted, and a line that looks like a profile line and is none is told on standard
-/// error.
+/// A reader of record lines: its failures are noted, a line that looks like a profile line and is none is told on standard
+/// error, and how far it is read is shown there.
 #[derive(Drop)]
 pub struct Watched<'n, 'a, R, T> {
     reader: Noted<'n, 'a, T>,
-    rt: &'n R,
+    progress: &'n Progress<'n, R>,
     watch: ProfileWatch,
 }
 
 impl<'a> Notes<'a> {
     /// A reader of record lines under this name; these are the rules where the first line sets none.
-    pub fn lines<'n, R: Eprint, T: Read>(
+    pub fn lines<'n, R: Eprint + Clock, T: Read>(
         &'n self,
-        rt: &'n R,
+        progress: &'n Progress<'n, R>,
         name: &'a str,
         rules: Rules,
         stream: T,
     ) -> Watched<'n, 'a, R, T> {
         Watched {
             reader: self.reader(name, stream),
-            rt,
+            progress,
             watch: ProfileWatch::new(rules),
         }
     }
 }
 
-impl<R: Eprint, T: Read> Read for Watched<'_, '_, R, T> {
+impl<R: Eprint + Clock, T: Read> Read for Watched<'_, '_, R, T> {
     ghost remaining = { λ watched. T.remaining watched.reader.stream };
 
     fn read(&mut self, buffer: &mut [u8]) -> io::Result<usize> {
         let count = self.reader.read(buffer)?;
+        let ended = self.watch.ended();
         if let Some(bytes) = buffer.get(..count) {
             if let Some(slip) = self.watch.look(bytes) {
-                tell_slip(self.rt, self.reader.name, slip);
+                tell_slip(self.progress.wiped(), self.reader.name, slip);
             }
+        }
+        if count > 0 {
+            let lines = self.watch.ended().saturating_sub(ended);
+            self.progress.read(count, lines);
         }
         Ok(count)
     }

@@ -35,9 +35,16 @@ impl ProfileWatch {
         }
     }
 
+    /// How many lines have ended.
+    pub fn ended(&self) -> u64 {
+        self.ended
+    }
+
     /// Looks at more of the text: the first such line of the text, where it is here. At the end of the text nothing is more.
     pub fn look(&mut self, bytes: &[u8]) -> Option<Slip> {
         if self.is_found {
+            let more = memchr_iter(b'\n', bytes).count();
+            self.ended = self.ended.saturating_add(more as u64);
             return None;
         }
         let mut rest = bytes;

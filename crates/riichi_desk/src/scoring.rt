@@ -2,6 +2,7 @@
 use crate::failure::Failure;
 use crate::files::open_file;
 use crate::noted::{Notes, Watched};
+use crate::progress::Progress;
 use desk_lines::Rules;
 use desk_score::{ScoreFault, score_text_with};
 use desk_streams::{FromReader, ToWriter};
@@ -9,15 +10,17 @@ use std::io::{Eprint, Print};
 use std::rt::Files;
 use std::sync::Wait;
 use std::thread::Threads;
+use std::time::Clock;
 
 /// The most files. That there are more is reported before any is opened.
 const MOST_FILES: usize = 64;
 
 /// Answers the record lines of files on standard output, table by table, where it is wanted with the names of the files and
 /// the numbers of their lines: whether a line is refused.
-pub fn score_files<'a, R: Files + Print + Eprint + Threads + Wait + Sync + AllocGlobal>(
+pub fn score_files<'a, R: Files + Print + Eprint + Clock + Threads + Wait + Sync + AllocGlobal>(
     rt: &R,
     notes: &Notes<'a>,
+    progress: &Progress<'_, R>,
     files: &[&'a str],
     workers: u32,
     rules: Rules,
@@ -26,23 +29,33 @@ pub fn score_files<'a, R: Files + Print + Eprint + Threads + Wait + Sync + Alloc
     if files.len() > MOST_FILES {
         return Err(Failure::Fault(ScoreFault::Range));
     }
-    let readers = open_files(rt, notes, rules, files)?;
+    let readers = open_files(rt, notes, progress, rules, files)?;
     let mut writer = ToWriter::new(notes.output(rt));
     let names = if is_numbered { Some(files) } else { None };
-    let report = score_text_with(rt, rt.alloc(), rules, names, readers, workers, &mut writer)?;
+    let report = score_text_with(
+        rt,
+        rt.alloc(),
+        rules,
+        names,
+        readers,
+        workers,
+        progress,
+        &mut writer,
+    )?;
     Ok(report.refused > 0)
 }
 
 /// Opens the files in the order given. The first that can't be opened ends it.
-fn open_files<'n, 'a, R: Files + Eprint + AllocGlobal>(
-    rt: &'n R,
+fn open_files<'n, 'a, R: Files + Eprint + Clock + AllocGlobal>(
+    rt: &R,
     notes: &'n Notes<'a>,
+    progress: &'n Progress<'n, R>,
     rules: Rules,
     files: &[&'a str],
 ) -> Result<Vec<FromReader<Watched<'n, 'a, R, R::File>>>, Failure<'a>> {
     let mut readers = Vec::new(rt.alloc());
     for file in files {
-        let reader = notes.lines(rt, *file, rules, open_file(rt, *file)?);
+        let reader = notes.lines(progress, *file, rules, open_file(rt, *file)?);
         if readers.push(FromReader::new(reader)).is_err() {
             return Err(Failure::Fault(ScoreFault::Memory));
         }
