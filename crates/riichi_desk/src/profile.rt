@@ -1,7 +1,7 @@
 //! Lines that look like a profile line and are none.
 use arrayvec::ArrayVec;
 use desk_lines::Rules;
-use memchr::memchr;
+use memchr::{memchr, memchr_iter};
 
 /// How much of a line is looked at: more than a profile line with a byte order mark has.
 const FRONT: usize = 32;
@@ -43,8 +43,7 @@ impl ProfileWatch {
     /// Looks at more of the text: the first such line of the text, where it is here. At the end of the text nothing is more.
     pub fn look(&mut self, bytes: &[u8]) -> Option<Slip> {
         if self.is_found {
-            let more = memchr_iter(b'\n', bytes).count();
-            self.ended = self.ended.saturating_add(more as u64);
+            self.pass(bytes);
             return None;
         }
         let mut rest = bytes;
@@ -54,6 +53,7 @@ impl ProfileWatch {
             };
             if let Some(slip) = self.next_line(line) {
                 self.is_found = true;
+                self.pass(after);
                 return Some(slip);
             }
             rest = after;
@@ -64,6 +64,12 @@ impl ProfileWatch {
         } else {
             None
         }
+    }
+
+    /// Counts the lines that end.
+    fn pass(&mut self, bytes: &[u8]) {
+        let more = memchr_iter(b'\n', bytes).count();
+        self.ended = self.ended.saturating_add(more as u64);
     }
 
     /// A line has ended, of which this is the rest. Most lines are told by their first byte.
