@@ -1,2 +1,2 @@
 pub mod ShareLemmas
-
+pub mod CrewLemmas

@@ -118,3 +118,6 @@ share_on May rules text size number told others are then =
   where
     edges : (text : List ℕ) (size number : ℕ) → min (number * size) (length text) ≤ min ((number + 1) * size) (length text)
     edges text size number = let product : (number + 1) * size ≡ number * size + size = grind arith in omega (arith, product)
+
+pub both_from : (one other sum : DeskReport) → sum.answered ≡ one.answered + other.answered → sum.refused ≡ one.refused + other.refused → sum ≡ both_reports one other
+both_from one other sum answered refused = λ i. record { answered = answered i; refused = refused i }

@@ -5,8 +5,6 @@ ghost use Rattle.desk_lines.specs.Reading.{AreToldAs, kept};
 ghost use Rattle.desk_lines.specs.Records.{AnswerRecords};
 ghost use Rattle.desk_lines.specs.Streams.{Gives, GivesAll, WritesAll, FailsOrGoesOn, IsReadWithin};
 ghost use Rattle.desk_lines.specs.Telling.{text_of, report_of, report_by};
-ghost use Rattle.desk_crew.specs.Crew.{Stands, Stopped, IsBetween, IsGivenUp};
-ghost use Rattle.desk_crew.specs.Reading.{IsStop};
 
 use crate::cut::ended_bytes;
 use crate::reading::{Stop, read_round};
@@ -45,6 +43,9 @@ pub(crate) struct Crew {
 }
 
 impl Crew {
+    ghost use Rattle.desk_crew.specs.Crew.{Stands, Stopped, IsBetween, IsGivenUp};
+    ghost use Rattle.desk_crew.specs.Reading.{IsStop};
+
     /// So many threads, before the first read.
     pub(crate) fn new(alloc: Global, workers: usize, given: Rules) -> Result<Crew, AllocError>
         requires { 1 ≤ workers }
