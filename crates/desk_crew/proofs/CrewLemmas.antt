@@ -114,7 +114,7 @@ module _ (Answers : AnswerKind) (alike : AreAlike Answers) where
       subst (λ (t : List (List ℕ)). AnswerRecords Answers given next (t ++ new)) (sym before) (records_as given hand next new as_these (from_first hand profile are))
     where
       from_first : (hand : List (List ℕ)) → rules_after given hand ≡ Some rules → AreTold Answers rules (record_lines hand) new → AnswerRecords Answers given hand new
-      from_first [] no are' = absurd (let none = no in cc)
+      from_first [] is are' = absurd (let none = is in cc)
       from_first (line ∷ lines) is are' = subst (λ (r : Rules). AreTold Answers r (record_lines (line ∷ lines)) new) (sym (some_is (rules_of given (line ∷ lines)) rules is)) are'
   all_answered given rules (line ∷ lines) hand next told new before as_these profile are =
       let set = rules_of given (line ∷ lines) in

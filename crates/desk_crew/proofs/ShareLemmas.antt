@@ -1,8 +1,9 @@
 -- Where a text is cut into shares, and the lines that end in each.
-use Rattle.std.proofs.Common.{◌≡◌, ℕ, ◌+◌, ◌-◌, ◌*◌, ◌<◌, ◌≤◌, min, Option, Some, List, [], ◌∷◌, ◌++◌, Bool, true, false, cond, nat_eq, length, take, drop, get_or, append_assoc, refl, sym, subst, ◌∙◌, ap, arith}
+use Rattle.std.proofs.Common.{◌≡◌, ℕ, ◌+◌, ◌-◌, ◌*◌, ◌<◌, ◌≤◌, min, inl, inr, Option, Some, List, [], ◌∷◌, ◌++◌, Bool, true, false, cond, nat_eq, length, take, drop, get_or, append_assoc, refl, sym, subst, ◌∙◌, ap, arith}
 use Rattle.std.proofs.Math.Seq.{take-add}
 use Rattle.std.specs.Prelude.{not, ◌==◌, MatchOption}
 use Rattle.std.proofs.lemmas.List.{take_all, length-take, length-drop, drop-take, drop-append-le, get_or-drop}
+use Rattle.std.proofs.lemmas.Bool.{cases_lt}
 use Rattle.std.proofs.lemmas.List.Sums.{sum_by-append}
 use Rattle.riichi_hand.specs.declared.win.Rules.{Rules}
 use Rattle.riichi_tiles.proofs.CutLemmas.{around}
@@ -121,3 +122,9 @@ share_on May rules text size number told others are then =
 
 pub both_from : (one other sum : DeskReport) → sum.answered ≡ one.answered + other.answered → sum.refused ≡ one.refused + other.refused → sum ≡ both_reports one other
 both_from one other sum answered refused = λ i. record { answered = answered i; refused = refused i }
+
+pub front_kept : (n : ℕ) (text : List ℕ) → take (min (length text) n) text ≡ take n text
+front_kept n text = elim (cases_lt n (length text)) as (λ _. take (min (length text) n) text ≡ take n text) [
+  | inl long ↦ ap (λ (k : ℕ). take k text) (let same : min (length text) n ≡ n = omega (arith, long) in same)
+  | inr short ↦ take_all (min (length text) n) text (omega (arith, short)) ∙ sym (take_all n text short)
+]

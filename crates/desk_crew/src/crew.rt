@@ -53,7 +53,7 @@ impl Crew {
             × (crew.held.items ≡ []) × (crew.report ≡ report_of []) × (crew.left ≡ MOST_READS)) }
     {
         let mut shares = Vec::new(alloc);
-        for _ in 0..workers {
+        for _number in 0..workers {
             shares.push(Share::new(alloc))?;
         }
         Ok(Crew {

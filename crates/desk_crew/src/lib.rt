@@ -14,9 +14,9 @@
 //! ```
 #![tactic(auto)]
 
+mod counting;
 mod crew;
 mod cut;
-mod counting;
 mod reading;
 mod round;
 mod share;

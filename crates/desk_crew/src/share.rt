@@ -37,7 +37,10 @@ impl Share {
         ensures { IsShared A.may_tell A.refuses rules text.now size number self.new }
     {
         let from = number.saturating_mul(size).min(text.len());
-        let to = number.saturating_add(1).saturating_mul(size).min(text.len());
+        let to = number
+            .saturating_add(1)
+            .saturating_mul(size)
+            .min(text.len());
         self.answers.clear();
         self.report = self.answer_between::<A>(rules, text, from, to).ok();
     }

@@ -30,11 +30,7 @@ fn as_one<H: Threads + Sync + Abort>(
     most: usize,
 ) -> Result<(), Fail> {
     let mut writer: Room = BytesOut::new(1_000, None);
-    let report = desk_text(
-        Rules::One,
-        &mut BytesIn::new(text, most, None),
-        &mut writer,
-    );
+    let report = desk_text(Rules::One, &mut BytesIn::new(text, most, None), &mut writer);
     for (workers, enough) in [(1, 1), (2, 100), (4, 5_000)] {
         let mut reader = BytesIn::new(text, most, None);
         let mut many: Room = BytesOut::new(1_000, None);

@@ -26,11 +26,7 @@ pub(crate) fn record_rules(given: Rules, stream: &mut Option<Rules>, line: &[u8]
 
 /// The profile of a stream that goes on with this text, and the text without a line that sets it: the first one of a stream,
 /// whose profile is none until then. None where that line has not ended.
-pub fn next_records(
-    given: Rules,
-    profile: Option<Rules>,
-    text: &[u8],
-) -> Option<(Rules, &[u8])>
+pub fn next_records(given: Rules, profile: Option<Rules>, text: &[u8]) -> Option<(Rules, &[u8])>
     ensures { MatchOption result ((profile ≡ None) × (ended_lines text.now ≡ []))
         (λ found. (next_profile given profile (ended_lines text.now) ≡ Some found.0)
         × (ended_lines found.1.now ≡ records_in profile (ended_lines text.now))) }
