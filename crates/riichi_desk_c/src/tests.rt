@@ -48,7 +48,13 @@ fn answers_under_the_rules_of_a_house(rt: HostRuntime) {
         room.get(..needed)
             == Some(b"won 4 han 30 fu 7700 gain 7700 pinfu pure-straight dora 1".as_slice()),
     );
-    let needed = riichi_answer(0x1_0800, line, &mut room);
+    let first = b"win 234m567m345p67s99s on=5s by=ron seat=S round=E flags=first";
+    let needed = riichi_answer(0x1_0FF0, first, &mut room);
+    holds(
+        &rt,
+        room.get(..needed) == Some(b"won yakuman 32000 gain 32000 blessing-of-man".as_slice()),
+    );
+    let needed = riichi_answer(0x1_1000, line, &mut room);
     holds(&rt, room.get(..needed) == Some(b"refused rules".as_slice()));
 }
 
