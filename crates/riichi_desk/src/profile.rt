@@ -1,10 +1,13 @@
 //! Lines that look like a profile line and are none.
 use arrayvec::ArrayVec;
 use desk_lines::Rules;
-use memchr::{memchr, memchr_iter};
+use memchr::{memchr, memchr2_iter, memrchr};
 
 /// How much of a line is looked at: more than a profile line with a byte order mark has.
 const FRONT: usize = 32;
+
+/// How much of a text is counted at once: its line feeds have a `u8`, and sixteen bytes are compared in one step.
+const PART: usize = 240;
 
 /// Looks at the lines of a text for one that looks like a profile line and is none.
 #[derive(Drop)]
@@ -46,49 +49,66 @@ impl ProfileWatch {
             self.pass(bytes);
             return None;
         }
+        if bytes.is_empty() {
+            return self.end_line();
+        }
         let mut rest = bytes;
-        for turn in 0..bytes.len() {
-            let Some((line, after)) = cut_line(rest) else {
-                break;
-            };
+        if self.ended == 0 || !self.front.is_empty() {
+            // the first line, or one that has begun
+            let (line, after) = self.cut_line(rest)?;
             if let Some(slip) = self.next_line(line) {
-                self.is_found = true;
-                self.pass(after);
-                return Some(slip);
+                return Some(self.found(slip, after));
             }
             rest = after;
         }
-        self.keep(rest);
-        if bytes.is_empty() {
-            self.end_line()
-        } else {
-            None
-        }
+        self.look_at_lines(rest)
+    }
+
+    /// Looks at whole lines, and at the front of one more.
+    fn look_at_lines(&mut self, text: &[u8]) -> Option<Slip> {
+        let (before, rest) = match like_line(text) {
+            Some(place) => text.split_at_checked(place)?,
+            None => text.split_at_checked(ended_bytes(text))?,
+        };
+        self.pass(before);
+        let (line, after) = self.cut_line(rest)?;
+        let slip = self.next_line(line)?;
+        Some(self.found(slip, after))
     }
 
     /// Counts the lines that end.
     fn pass(&mut self, bytes: &[u8]) {
-        let more = memchr_iter(b'\n', bytes).count();
-        self.ended = self.ended.saturating_add(more as u64);
+        for part in bytes.chunks(PART) {
+            self.ended = self.ended.saturating_add(u64::from(line_feeds(part)));
+        }
     }
 
-    /// A line has ended, of which this is the rest. Most lines are told by their first byte.
-    #[inline(always)]
-    fn next_line(&mut self, rest: &[u8]) -> Option<Slip> {
-        if self.ended > 0 && self.front.is_empty() && !may_be_like(rest) {
-            self.ended = self.ended.saturating_add(1);
+    /// What stands before and after the first line feed. A line that has not ended is kept.
+    fn cut_line<'a>(&mut self, text: &'a [u8]) -> Option<(&'a [u8], &'a [u8])> {
+        let Some(place) = memchr(b'\n', text) else {
+            self.keep(text);
             return None;
-        }
+        };
+        Some((&text[..place], &text[place + 1..]))
+    }
+
+    /// A line has ended, of which this is the rest.
+    fn next_line(&mut self, rest: &[u8]) -> Option<Slip> {
         self.keep(rest);
         self.end_line()
+    }
+
+    /// One such line is enough. Behind it lines are counted.
+    fn found(&mut self, slip: Slip, after: &[u8]) -> Slip {
+        self.is_found = true;
+        self.pass(after);
+        slip
     }
 
     /// Keeps more of the front of the line.
     fn keep(&mut self, bytes: &[u8]) {
         let room = self.front.remaining_capacity();
-        let _ = self
-            .front
-            .try_extend_from_slice(bytes.get(..room).unwrap_or(bytes));
+        let _ = self.front.try_extend_from_slice(at_most(room, bytes));
     }
 
     /// The line has ended.
@@ -112,22 +132,57 @@ impl ProfileWatch {
     }
 }
 
-/// What stands before and after the first line feed.
-fn cut_line(text: &[u8]) -> Option<(&[u8], &[u8])> {
-    let place = memchr(b'\n', text)?;
-    Some((&text[..place], &text[place + 1..]))
+/// Where the first line begins that looks like a profile line. Few lines have an `l`, so that is what is searched.
+fn like_line(text: &[u8]) -> Option<usize> {
+    for letter in memchr2_iter(b'l', b'L', text) {
+        if let Some(start) = like_line_around(text, letter) {
+            return Some(start);
+        }
+    }
+    None
 }
 
-/// Whether a line may begin as one that names a profile, by its first byte.
-fn may_be_like(line: &[u8]) -> bool {
-    matches!(line.first(), Some(b'r' | b'R' | b' ' | b'\t' | 0xEF))
+/// Where the line begins that has this letter, where that is the third one of `rules` and the line looks like a profile line.
+fn like_line_around(text: &[u8], letter: usize) -> Option<usize> {
+    let word = letter.checked_sub(2)?;
+    if !begins_word(text.get(word..)?) {
+        return None;
+    }
+    let start = ended_bytes(text.get(..word)?);
+    is_like_profile(at_most(FRONT, text.get(start..)?)).then_some(start)
+}
+
+/// How many line feeds a part has.
+fn line_feeds(part: &[u8]) -> u8 {
+    let mut count = 0u8;
+    for byte in part {
+        count = count.wrapping_add(u8::from(*byte == b'\n'));
+    }
+    count
+}
+
+/// How many bytes there are up to the last line feed, and with it.
+fn ended_bytes(text: &[u8]) -> usize {
+    match memrchr(b'\n', text) {
+        Some(place) => place + 1,
+        None => 0,
+    }
+}
+
+/// The first of these bytes, so many of them where there are more.
+fn at_most(count: usize, bytes: &[u8]) -> &[u8] {
+    bytes.get(..count).unwrap_or(bytes)
 }
 
 /// Whether a line begins as one that names a profile, whatever stands before: spaces, tabs, a byte order mark.
 fn is_like_profile(front: &[u8]) -> bool {
     let front = front.strip_prefix(b"\xEF\xBB\xBF").unwrap_or(front);
-    let front = front.trim_ascii_start();
-    match front.get(..4) {
+    begins_word(front.trim_ascii_start())
+}
+
+/// Whether a text begins as the word `rules` does, in any letters.
+fn begins_word(text: &[u8]) -> bool {
+    match text.get(..4) {
         Some(word) => word.eq_ignore_ascii_case(b"rule"),
         None => false,
     }
