@@ -1,5 +1,5 @@
-//! Tests of `desk_lines`, by what it exports: the answers to lines, to texts and to scripts, and its law; and that `desk_words`
-//! reads the rules that these answers name, and shows how far answers are.
+//! Tests of `desk_lines`, by what it exports: the answers to lines, to texts and to scripts, and its law; of `desk_score`; and
+//! that `desk_words` reads the rules that these answers name, and shows how far answers are.
 //!
 //! They stand apart from the libraries, since a check of a crate with its tests proves the crate once more.
 #![tactic(auto)]
@@ -24,5 +24,7 @@ mod ready;
 mod replay;
 #[cfg(test)]
 mod rules;
+#[cfg(test)]
+mod score;
 #[cfg(test)]
 mod waits;

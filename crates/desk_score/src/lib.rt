@@ -27,6 +27,3 @@ mod watch;
 pub use score::{score_text, score_text_with};
 pub use score_fault::ScoreFault;
 pub use watch::{Unwatched, Watch};
-
-#[cfg(test)]
-mod tests;
