@@ -16,11 +16,11 @@ use Rattle.desk_lines.specs.Told.{Stops}
 use Rattle.desk_lines.specs.Telling.{text_of, report_by, IsToldAs}
 use Rattle.desk_lines.proofs.AnswerLemmas.{same_as_told, record_lines-more}
 use Rattle.desk_lines.proofs.CutLemmas.{as_none, as_front}
-use Rattle.desk_lines.proofs.StreamLemmas.{WritesAll-trans, StopsWriting-after}
+use Rattle.desk_lines.proofs.StreamLemmas.{WritesAll-nil, WritesAll-trans, StopsWriting-after}
 use Rattle.desk_lines.proofs.TellingLemmas.{text_of-append}
 use Rattle.desk_streams.specs.declared.sink.Sink.{Ghosts as OfSink}
 use Rattle.desk_crew.specs.Crew.{Stands, Stopped}
-use Rattle.desk_crew.specs.declared.crew.Crew.{Crew}
+use Rattle.desk_crew.specs.declared.standing.Standing.{Standing}
 use Rattle.desk_crew.specs.Shares.{AreWritten, AreLeft, both_reports}
 use Rattle.desk_crew.proofs.ShareLemmas.{AreTold-append, both-append}
 
@@ -128,21 +128,28 @@ profile_next given rules [] (line ∷ hand) [] as_these is = absurd as_these
 profile_next given rules [] (line ∷ hand) (other ∷ next) as_these is = ap (λ (p : Option Rules). Some (unwrap_or p given)) (sym (same_as_told profile_of long_profile line other as_these.0)) ∙ is
 profile_next given rules (line ∷ lines) hand next as_these is = is
 
-module _ {W : Type 0} (Answers : AnswerKind) (refuses : List ℕ → Bool) (sink : OfSink W) (start : W) where
+module _ {W : Type 0} (Answers : AnswerKind) (refuses : List ℕ → Bool) (sink : OfSink W) (start : W) (given : Rules) where
+  -- before the first line
+  pub Stands-none : (now : Standing) → now.profile ≡ None → now.report ≡ report_by refuses [] → Stands Answers refuses sink start given [] now start
+  Stands-none now none report = record { answered = record { told = []; are_told = refl; writes = WritesAll-nil sink start; report_is = report }; profile = none }
+
   -- the lines of a round were answered
-  pub Stands-more : AreAlike Answers → (lines hand next records : List (List ℕ)) (old new : Crew) (before after : W) (rules : Rules) → AreToldAs 4096 hand next → Stands Answers refuses sink start lines old before
-      → next_profile old.given old.profile hand ≡ Some rules → records ≡ records_in old.profile hand → AreWritten Answers refuses sink before after rules records old.report new.report
-      → new.given ≡ old.given → new.profile ≡ Some rules → Stands Answers refuses sink start (lines ++ next) new after
-  Stands-more alike lines hand next records old new before after rules as_these stands profile are_records written given is =
-      let known : next_profile old.given (rules_after old.given lines) hand ≡ Some rules = subst (λ (p : Option Rules). next_profile old.given p hand ≡ Some rules) stands.profile profile in
-      let told : AreTold Answers rules (records_in (rules_after old.given lines) hand) written.told =
+  pub Stands-more : AreAlike Answers → (rules : Rules) (lines hand next records : List (List ℕ)) (old new : Standing) (before after : W) → AreToldAs 4096 hand next → Stands Answers refuses sink start given lines old before
+      → next_profile given old.profile hand ≡ Some rules → records ≡ records_in old.profile hand → AreWritten Answers refuses sink before after rules records old.report new.report
+      → new.profile ≡ Some rules → Stands Answers refuses sink start given (lines ++ next) new after
+  Stands-more alike rules lines hand next records old new before after as_these stands profile are_records written is =
+      let known : next_profile given (rules_after given lines) hand ≡ Some rules = subst (λ (p : Option Rules). next_profile given p hand ≡ Some rules) stands.profile profile in
+      let told : AreTold Answers rules (records_in (rules_after given lines) hand) written.told =
       subst (λ (p : Option Rules). AreTold Answers rules (records_in p hand) written.told) stands.profile (subst (λ (ls : List (List ℕ)). AreTold Answers rules ls written.told) are_records written.are_told) in
+      let first = stands.answered in
       record {
-        told = stands.told ++ written.told;
-        are_told = subst (λ (g : Rules). AnswerRecords Answers g (lines ++ next) (stands.told ++ written.told)) (sym given) (all_answered Answers alike old.given rules lines hand next stands.told written.told stands.are_told as_these known told);
-        profile = is ∙ sym (profile_next old.given rules lines hand next as_these known) ∙ ap (λ (g : Rules). rules_after g (lines ++ next)) (sym given);
-        writes = subst (λ (text : List ℕ). WritesAll sink start after text) (sym (text_of-append stands.told written.told)) (WritesAll-trans sink start before after (text_of stands.told) (text_of written.told) stands.writes written.writes);
-        report = written.report_is ∙ ap (λ (r : DeskReport). both_reports r (report_by refuses written.told)) stands.report ∙ sym (both-append refuses stands.told written.told);
+        answered = record {
+          told = first.told ++ written.told;
+          are_told = all_answered Answers alike given rules lines hand next first.told written.told first.are_told as_these known told;
+          writes = subst (λ (text : List ℕ). WritesAll sink start after text) (sym (text_of-append first.told written.told)) (WritesAll-trans sink start before after (text_of first.told) (text_of written.told) first.writes written.writes);
+          report_is = written.report_is ∙ ap (λ (r : DeskReport). both_reports r (report_by refuses written.told)) first.report_is ∙ sym (both-append refuses first.told written.told);
+        };
+        profile = is ∙ sym (profile_next given rules lines hand next as_these known);
       }
 
   stops_after : (old new : W) (fault : DeskFault) (text more : List ℕ) → WritesAll sink start old text → Stops sink old new fault more → Stops sink start new fault (text ++ more)
@@ -151,37 +158,28 @@ module _ {W : Type 0} (Answers : AnswerKind) (refuses : List ℕ → Bool) (sink
   stops_after old new Memory text more writes stops = WritesAll-trans sink start old new text more writes stops
 
   -- the first of them were
-  pub Stopped-more : AreAlike Answers → (lines hand next records : List (List ℕ)) (old : Crew) (before after : W) (rules : Rules) (fault : DeskFault) → AreToldAs 4096 hand next → Stands Answers refuses sink start lines old before
-      → next_profile old.given old.profile hand ≡ Some rules → records ≡ records_in old.profile hand → AreLeft Answers sink before after rules records fault → Stopped Answers sink start after old.given (lines ++ next) fault
-  Stopped-more alike lines hand next records old before after rules fault as_these stands profile are_records left =
-      let known : next_profile old.given (rules_after old.given lines) hand ≡ Some rules = subst (λ (p : Option Rules). next_profile old.given p hand ≡ Some rules) stands.profile profile in
-      let parts : records_in (rules_after old.given lines) hand ≡ left.first ++ left.others = ap (λ (p : Option Rules). records_in p hand) (sym stands.profile) ∙ sym are_records ∙ left.parts in
-      let front = front_answered Answers alike old.given rules lines hand next stands.told left.first left.others left.told stands.are_told as_these known parts left.are_told in
+  pub Stopped-more : AreAlike Answers → (rules : Rules) (lines hand next records : List (List ℕ)) (old : Standing) (before after : W) (fault : DeskFault) → AreToldAs 4096 hand next → Stands Answers refuses sink start given lines old before
+      → next_profile given old.profile hand ≡ Some rules → records ≡ records_in old.profile hand → AreLeft Answers sink before after rules records fault → Stopped Answers sink start after given (lines ++ next) fault
+  Stopped-more alike rules lines hand next records old before after fault as_these stands profile are_records left =
+      let known : next_profile given (rules_after given lines) hand ≡ Some rules = subst (λ (p : Option Rules). next_profile given p hand ≡ Some rules) stands.profile profile in
+      let parts : records_in (rules_after given lines) hand ≡ left.first ++ left.others = ap (λ (p : Option Rules). records_in p hand) (sym stands.profile) ∙ sym are_records ∙ left.parts in
+      let before_these = stands.answered in
+      let front = front_answered Answers alike given rules lines hand next before_these.told left.first left.others left.told before_these.are_told as_these known parts left.are_told in
       record {
         first = front.0;
         others = front.1;
         parts = front.2;
-        told = stands.told ++ left.told;
+        told = before_these.told ++ left.told;
         are_told = front.3;
-        stops = subst (λ (text : List ℕ). Stops sink start after fault text) (sym (text_of-append stands.told left.told)) (stops_after before after fault (text_of stands.told) (text_of left.told) stands.writes left.stops);
+        stops = subst (λ (text : List ℕ). Stops sink start after fault text) (sym (text_of-append before_these.told left.told)) (stops_after before after fault (text_of before_these.told) (text_of left.told) before_these.writes left.stops);
       }
 
   -- no line of this round has ended
-  pub Stands-none : (lines hand next : List (List ℕ)) (now : Crew) (writer : W) → hand ≡ [] → AreToldAs 4096 hand next → Stands Answers refuses sink start lines now writer → Stands Answers refuses sink start (lines ++ next) now writer
-  Stands-none lines hand next now writer none as_these stands =
+  pub Stands-no_more : (lines hand next : List (List ℕ)) (now : Standing) (writer : W) → hand ≡ [] → AreToldAs 4096 hand next → Stands Answers refuses sink start given lines now writer → Stands Answers refuses sink start given (lines ++ next) now writer
+  Stands-no_more lines hand next now writer none as_these stands =
       let same : lines ++ next ≡ lines = ap (λ more. lines ++ more) (as_none 4096 next (subst (λ (ls : List (List ℕ)). AreToldAs 4096 ls next) none as_these)) ∙ append-nil lines in
-      subst (λ (ls : List (List ℕ)). Stands Answers refuses sink start ls now writer) (sym same) stands
-
-  -- what stands is the same for another state with the same counts
-  pub Stands-same : (lines : List (List ℕ)) (old new : Crew) (writer : W) → (new.given ≡ old.given) × (new.profile ≡ old.profile) × (new.report ≡ old.report) → Stands Answers refuses sink start lines old writer → Stands Answers refuses sink start lines new writer
-  Stands-same lines old new writer same stands = record {
-    told = stands.told;
-    are_told = subst (λ (g : Rules). AnswerRecords Answers g lines stands.told) (sym same.0) stands.are_told;
-    profile = same.1 ∙ stands.profile ∙ ap (λ (g : Rules). rules_after g lines) (sym same.0);
-    writes = stands.writes;
-    report = same.2 ∙ stands.report;
-  }
+      subst (λ (ls : List (List ℕ)). Stands Answers refuses sink start given ls now writer) (sym same) stands
 
   -- memory was wanted after these lines
-  pub Stopped-memory : (lines more : List (List ℕ)) (now : Crew) (writer : W) → Stands Answers refuses sink start lines now writer → Stopped Answers sink start writer now.given (lines ++ more) Memory
-  Stopped-memory lines more now writer stands = record { first = lines; others = more; parts = refl; told = stands.told; are_told = stands.are_told; stops = stands.writes }
+  pub Stopped-memory : (lines more : List (List ℕ)) (now : Standing) (writer : W) → Stands Answers refuses sink start given lines now writer → Stopped Answers sink start writer given (lines ++ more) Memory
+  Stopped-memory lines more now writer stands = record { first = lines; others = more; parts = refl; told = stands.answered.told; are_told = stands.answered.are_told; stops = stands.answered.writes }

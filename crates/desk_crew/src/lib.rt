@@ -20,6 +20,7 @@ mod cut;
 mod reading;
 mod round;
 mod share;
+mod standing;
 mod text;
 
 pub use text::{crew_text, crew_text_by};

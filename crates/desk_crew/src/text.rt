@@ -1,11 +1,11 @@
 //! A text over streams, by many threads.
-ghost use Rattle.std.specs.Prelude.{◌≡◌, ◌≤◌, ◌++◌, ℕ, List, IfOk, IsErrOf};
+ghost use Rattle.std.specs.Prelude.{◌≡◌, ◌≤◌, ◌++◌, ℕ, List, IfOk, IfErr, IsErrOf};
 ghost use Rattle.desk_lines.specs.Lines.{ended_lines, lines};
 ghost use Rattle.desk_lines.specs.LineAnswers.{answers, answers_to, report_on};
 ghost use Rattle.desk_lines.specs.Records.{AnswerRecords};
 ghost use Rattle.desk_lines.specs.Streams.{Gives, GivesAll, WritesAll, StopsWriting, AreWhole, FailsOrGoesOn, IsReadWithin};
 ghost use Rattle.desk_lines.specs.Telling.{text_of, report_by};
-ghost use Rattle.desk_crew.specs.Crew.{IsGivenUp};
+ghost use Rattle.desk_crew.specs.Crew.{IsAnswered, IsGivenUp, IsLeft};
 
 use crate::crew::Crew;
 use desk_lines::{DeskFault, DeskReport, Plain, Responder};
@@ -109,31 +109,14 @@ pub(crate) fn by_rounds<A: Responder + Send + Sync, H: Threads + Sync, R: Source
     writer: &mut W,
 ) -> Result<DeskReport, DeskFault>
     requires { 1 ≤ workers }
-
-    // The reader was read to its end, and the answers to what it gave were written.
-    ensures ok { IfOk result (λ report. (text : List ℕ) × (told : List (List ℕ))
+    ensures ok { IfOk result (λ report. (text : List ℕ)
         × GivesAll ⟦<R as Source>⟧ reader.old reader.new text
-        × AnswerRecords A.may_tell rules (lines text) told
-        × WritesAll ⟦<W as Sink>⟧ writer.old writer.new (text_of told)
-        × (report ≡ report_by A.refuses told)) }
-
-    // A read failed, or there were too many: the answers to the lines that had ended were written.
-    ensures read_failed { IsErrOf result DeskFault.Read
-        → FailsOrGoesOn ⟦<R as Source>⟧ reader.old reader.new
-        × ((text : List ℕ) × (told : List (List ℕ))
-        × Gives ⟦<R as Source>⟧ reader.old reader.new text
-        × AnswerRecords A.may_tell rules (ended_lines text) told
-        × WritesAll ⟦<W as Sink>⟧ writer.old writer.new (text_of told)) }
-
-    // A write failed, or memory was wanted: the first of the whole lines that the reader gave were answered.
-    ensures write_failed { IsErrOf result DeskFault.Write
-        → IsGivenUp A.may_tell ⟦<R as Source>⟧ ⟦<W as Sink>⟧
-        reader.old reader.new writer.old writer.new rules DeskFault.Write }
-    ensures no_memory { IsErrOf result DeskFault.Memory
-        → IsGivenUp A.may_tell ⟦<R as Source>⟧ ⟦<W as Sink>⟧
-        reader.old reader.new writer.old writer.new rules DeskFault.Memory }
+        × IsAnswered A.may_tell A.refuses ⟦<W as Sink>⟧ writer.old writer.new rules (lines text) report) }
+    ensures err { IfErr result (IsLeft A.may_tell ⟦<R as Source>⟧ ⟦<W as Sink>⟧
+        reader.old reader.new writer.old writer.new rules) }
     ensures reads { IsReadWithin ⟦<R as Source>⟧ reader.old reader.new }
 {
-    let mut crew = Crew::new(alloc, workers, rules)?;
-    crew.run::<A, H, R, W>(rt, enough, reader, writer)
+    let mut crew = Crew::new(alloc, workers)?;
+    crew.rounds::<A, H, R, W>(rt, enough, rules, reader, writer)?;
+    crew.end::<A, H, W>(rt, rules, writer)
 }
