@@ -5,7 +5,7 @@ use super::text::by_rounds;
 use super::*;
 use desk_lines::{DeskFault, DeskReport, Objects, Plain, desk_text};
 use desk_streams::{BytesIn, BytesOut};
-use facts::{holds_in, same_in};
+use facts::{holds, holds_in, same, same_in};
 use riichi_hand::Rules;
 use std::alloc::{AllocError, Global};
 use std::process::Abort;
@@ -31,7 +31,7 @@ fn as_one<H: Threads + Sync + Abort>(
 ) -> Result<(), Fail> {
     let mut writer: Room = BytesOut::new(1_000, None);
     let report = desk_text(Rules::One, &mut BytesIn::new(text, most, None), &mut writer);
-    for (workers, enough) in [(1, 1), (2, 100), (4, 5_000)] {
+    for (workers, enough) in [(1, 1), (2, 100), (4, 5_000), (16, 40)] {
         let mut reader = BytesIn::new(text, most, None);
         let mut many: Room = BytesOut::new(1_000, None);
         let told = by_rounds::<Plain, H, BytesIn, Room>(
@@ -60,6 +60,7 @@ fn small_texts(rt: HostRuntime) -> Result<(), Fail> {
         b"rules 2",
         b"rules 2\r\nwin 123m456p789s11z22z on=2z by=ron\n",
         b"# a comment\nrules 2\nwaits 8z\r\n\r\nwaits 1112345678999m\r",
+        b"waits 8z\nwaits 1112345678999m\nrules 2\nwin 123m456p789s11z22z on=2z by=ron seat=S round=E\nwaits 8z\r",
         b"rules 2\nrules 2\nwaits 8z\nwaits 1112345678999m\nshape 123456789m11348p\nwaits 1m",
     ] {
         as_one(&rt, alloc, text, 7)?;
@@ -135,4 +136,39 @@ fn objects(rt: HostRuntime) -> Result<(), Fail> {
     holds_in(&rt, &40, report == Ok(both));
     holds_in(&rt, &40, writer.bytes().starts_with(b"{"));
     Ok(())
+}
+
+/// Where one request for memory is refused a front of the answers was written, and the second call has it.
+#[test]
+fn a_request_refused_at_the_call(rt: HostRuntime) {
+    let alloc = rt.alloc();
+    holds(&rt, is_answered(&rt, alloc) || is_answered(&rt, alloc));
+}
+
+/// Whether a text is answered in some rounds by three threads; else there was no memory, and a front of the answers was written.
+fn is_answered<H: Threads + Sync + Abort>(rt: &H, alloc: Global) -> bool {
+    let text = b"waits 1112345678999m\nwaits 8z\nshape 123456789m11348p\nwaits 1112345678999m";
+    let all = b"waits 123456789m\nrefused N5 hand at 0\nshanten 0 discard 8p accepts 2p:4 5p:4 live 8\nwaits 123456789m\n".as_slice();
+    let mut reader = BytesIn::new(text, 30, None);
+    let mut writer: Room = BytesOut::new(1_000, None);
+    let told = by_rounds::<Plain, H, BytesIn, Room>(
+        rt,
+        alloc,
+        3,
+        40,
+        Rules::One,
+        &mut reader,
+        &mut writer,
+    );
+    match told {
+        Ok(_) => {
+            same(rt, writer.bytes(), all);
+            true
+        }
+        Err(fault) => {
+            same(rt, fault, DeskFault::Memory);
+            holds(rt, all.starts_with(writer.bytes()));
+            false
+        }
+    }
 }
