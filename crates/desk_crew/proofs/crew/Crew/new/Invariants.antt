@@ -1,6 +1,6 @@
-use Rattle.std.proofs.Common.{◌≡◌, length}
+use Rattle.std.proofs.Common.{ℕ, ◌-◌, length}
 use Rattle.desk_crew.proofs.crew.Crew.new.Given as goal
 
--- a share for each number so far
-abbrev pub invariant-loop-number : goal.invariant-loop-number
-invariant-loop-number l = length l.shares.items ≡ l._number
+-- so many shares are to come
+abbrev pub decreases-loop-shares : goal.decreases-loop-shares
+decreases-loop-shares l = l.workers - length l.shares.items

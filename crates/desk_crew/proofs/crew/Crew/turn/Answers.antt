@@ -1,29 +1,24 @@
-use Rattle.std.proofs.Common.{rules, ◌≡◌, ◌+◌, ◌<◌, ◌≤◌, ◌^◌, ℕ, List, [], ◌++◌, None, length, OnOk, IfOk, IfErr, IsErrOf, ◌-◌, ◌*◌, ◌/◌, ◌%◌, Bool, true, false, nat_eq, nat_lt, ◌∷◌, slice_index_or, slice_set, bit_and, bit_or, Fits, w8, w32, w64, Bor, MutBor}
-use Rattle.desk_lines.specs.Lines.{ended_lines, lines}
-use Rattle.desk_lines.specs.Reading.{AreToldAs, kept}
-use Rattle.desk_lines.specs.Records.{AnswerRecords}
-use Rattle.desk_lines.specs.Streams.{Gives, GivesAll, WritesAll, FailsOrGoesOn, IsReadWithin}
-use Rattle.desk_lines.specs.Telling.{text_of, report_of, report_by}
-use Rattle.desk_crew.specs.Crew.{Stands, Stopped, IsBetween, IsGivenUp}
-use Rattle.desk_crew.specs.Reading.{IsStop}
+use Rattle.std.proofs.Common.{◌≡◌, ◌++◌, sym, subst}
+use Rattle.std.proofs.lemmas.Result.{err_from_is_err_and}
+use Rattle.desk_lines.specs.Lines.{ended_lines}
+use Rattle.desk_crew.specs.declared.standing.Standing.{Standing}
+use Rattle.desk_crew.specs.Crew.{Stands}
+use Rattle.desk_crew.proofs.RoundLemmas.{later_lines, told_so, given_up, unanswered, unheld, Between-more}
 use Rattle.desk_crew.proofs.crew.Crew.turn.Goals as goal
 
--- src/crew.rt:145:9
-pub returns-in_err-extend_from_slice-clause-err : goal.returns-in_err-extend_from_slice-clause-err
-returns-in_err-extend_from_slice-clause-err g c = ?
-
--- src/crew.rt:146:20
 pub returns-in_err-stop-clause-err : goal.returns-in_err-stop-clause-err
-returns-in_err-stop-clause-err g c = ?
+returns-in_err-stop-clause-err g c =
+    let p = err_from_is_err_and c.from_residual.result c.from_residual.ensures.1 in
+    let old = c.args.self.now in
+    let read = c.in_err-stop.ensures.err in
+    rw (p.1, p.2) (λ from start text between.
+    unanswered g.A.Responder.may_tell g.A.Responder.refuses g.R.Source g.W.Sink from start c.args.given text read.0 old.held.items old.standing c.args.reader.now c.read-stop.new.reader c.args.writer.now between read.1)
 
--- src/crew.rt:147:9
 pub returns-in_err-answer-clause-err : goal.returns-in_err-answer-clause-err
 returns-in_err-answer-clause-err g c = ?
 
--- src/crew.rt:148:9
 pub returns-in_err-hold-clause-err : goal.returns-in_err-hold-clause-err
 returns-in_err-hold-clause-err g c = ?
 
--- src/crew.rt:121:5
 pub returns-clause-ok : goal.returns-clause-ok
 returns-clause-ok g c = ?
