@@ -180,6 +180,10 @@ module _ {W : Type 0} (Answers : AnswerKind) (refuses : List ℕ → Bool) (sink
       let same : lines ++ next ≡ lines = ap (λ more. lines ++ more) (as_none 4096 next (subst (λ (ls : List (List ℕ)). AreToldAs 4096 ls next) none as_these)) ∙ append-nil lines in
       subst (λ (ls : List (List ℕ)). Stands Answers refuses sink start given ls now writer) (sym same) stands
 
+  -- they stand for another state that is the same
+  pub Stands-at : (lines : List (List ℕ)) (old new : Standing) (writer : W) → new ≡ old → Stands Answers refuses sink start given lines old writer → Stands Answers refuses sink start given lines new writer
+  Stands-at lines old new writer same stands = subst (λ (now : Standing). Stands Answers refuses sink start given lines now writer) (sym same) stands
+
   -- memory was wanted after these lines
   pub Stopped-memory : (lines more : List (List ℕ)) (now : Standing) (writer : W) → Stands Answers refuses sink start given lines now writer → Stopped Answers sink start writer given (lines ++ more) Memory
   Stopped-memory lines more now writer stands = record { first = lines; others = more; parts = refl; told = stands.answered.told; are_told = stands.answered.are_told; stops = stands.answered.writes }

@@ -1,5 +1,5 @@
 -- A stream once one more round is read and answered.
-use Rattle.std.proofs.Common.{◌≡◌, ℕ, ◌+◌, ◌≤◌, inl, inr, List, [], ◌++◌, Bool, refl, sym, subst, ◌∙◌, ap, arith}
+use Rattle.std.proofs.Common.{◌≡◌, ℕ, ◌+◌, ◌≤◌, inl, inr, List, [], ◌++◌, Bool, None, refl, sym, subst, ◌∙◌, ap, arith}
 use Rattle.std.proofs.KnownBytes.{Consumes-nil}
 use Rattle.std.proofs.lemmas.List.{append-nil}
 use Rattle.riichi_hand.specs.declared.win.Rules.{Rules}
@@ -7,12 +7,13 @@ use Rattle.desk_lines.specs.declared.fault.DeskFault.{DeskFault}
 use Rattle.desk_lines.specs.declared.fault.DeskFault.TheVariants.{Read, Write, Memory}
 use Rattle.desk_lines.specs.declared.report.DeskReport.{DeskReport}
 use Rattle.desk_lines.specs.Lines.{cut_of, ended_lines, lines, last_line}
-use Rattle.desk_lines.specs.Reading.{AreToldAs, kept}
+use Rattle.desk_lines.specs.Reading.{AreToldAs, kept, with_end}
 use Rattle.desk_lines.specs.Records.{AnswerKind}
 use Rattle.desk_lines.specs.Streams.{Gives, GivesAll, FailsOrGoesOn}
+use Rattle.desk_lines.specs.Telling.{report_by}
 use Rattle.desk_lines.proofs.CutLemmas.{ended_lines-more, last_told}
 use Rattle.desk_lines.proofs.ReadingLemmas.{told_more, keeps_more}
-use Rattle.desk_lines.proofs.StreamLemmas.{Gives-more}
+use Rattle.desk_lines.proofs.StreamLemmas.{Gives-more, WritesAll-nil}
 use Rattle.desk_streams.specs.declared.sink.Sink.{Ghosts as OfSink}
 use Rattle.desk_streams.specs.declared.source.Source.{Ghosts as OfSource}
 use Rattle.desk_crew.specs.declared.standing.Standing.{Standing}
@@ -30,10 +31,24 @@ Gives-none source reader = record { appended = sym (append-nil (source.given rea
 abbrev pub later_lines : List ℕ → List ℕ → List (List ℕ)
 later_lines text bytes = ended_lines ((cut_of text).rest ++ bytes)
 
+-- the line that is held, once it is ended, stands for the last line
+pub last_so : (text held hand : List ℕ) → held ≡ kept 8194 text → hand ≡ with_end held → AreToldAs 4096 (ended_lines hand) (last_line (cut_of text).rest)
+last_so text held hand is_held is = subst (λ (all : List ℕ). AreToldAs 4096 (ended_lines all) (last_line (cut_of text).rest)) (sym (is ∙ ap with_end is_held)) (last_told 4096 8194 (omega arith) text)
+
 module _ {R W : Type 0} (May : AnswerKind) (refuses : List ℕ → Bool) (source : OfSource R) (sink : OfSink W) (from : R) (start : W) (given : Rules) where
   -- before the first read
   pub Between-new : (held : List ℕ) (now : Standing) → held ≡ [] → now.profile ≡ None → now.report ≡ report_by refuses [] → IsBetween May refuses source sink from start given [] held now from start
   Between-new held now empty none report = record { gives = Gives-none source from; is_held = empty; stands = Stands-none May refuses sink start given now none report }
+
+  -- memory was wanted before the first read
+  pub unbegun : IsGivenUp May source sink from from start start given Memory
+  unbegun = record {
+    text = [];
+    whole = [];
+    gives = Gives-none source from;
+    are_whole = inl refl;
+    stopped = record { first = []; others = []; parts = refl; told = []; are_told = refl; stops = WritesAll-nil sink start };
+  }
 
   -- all that was read
   pub read_on : (text bytes held : List ℕ) (now : Standing) (old new : R) (writer : W) → IsBetween May refuses source sink from start given text held now old writer → Gives source old new bytes → Gives source from new (text ++ bytes)
