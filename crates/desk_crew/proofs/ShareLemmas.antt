@@ -3,7 +3,7 @@ use Rattle.std.proofs.Common.{◌≡◌, ℕ, ◌+◌, ◌-◌, ◌*◌, ◌<◌
 use Rattle.std.proofs.Math.Seq.{take-add}
 use Rattle.std.specs.Prelude.{not, ◌==◌, MatchOption}
 use Rattle.std.proofs.lemmas.List.{take_all, length-take, length-drop, drop-take, drop-append-le, get_or-drop}
-use Rattle.std.proofs.lemmas.Bool.{cases_lt}
+use Rattle.std.proofs.lemmas.Bool.{cases_lt, eqb-true}
 use Rattle.std.proofs.lemmas.List.Sums.{sum_by-append}
 use Rattle.riichi_hand.specs.declared.win.Rules.{Rules}
 use Rattle.riichi_tiles.proofs.CutLemmas.{around}
@@ -14,11 +14,12 @@ use Rattle.desk_lines.specs.Telling.{answers_in, report_by, text_of}
 use Rattle.desk_lines.proofs.CutLemmas.{cut_of-append, cut_of-first, ended_lines-more, plain_rest}
 use Rattle.desk_lines.proofs.FillingLemmas.{cut_of-behind}
 use Rattle.desk_lines.proofs.LineLemmas.{cut_of-plain, plain-before}
+use Rattle.desk_lines.proofs.StreamLemmas.{WritesAll-nil}
 use Rattle.desk_lines.specs.Told.{Stops}
 use Rattle.desk_lines.specs.declared.fault.DeskFault.{DeskFault}
 use Rattle.desk_streams.specs.declared.sink.Sink.{Ghosts as OfSink}
 use Rattle.desk_crew.specs.declared.share.Share.{Share}
-use Rattle.desk_crew.specs.Shares.{AreCounted, AreLeft, IsShared, edge, lines_between, both_reports}
+use Rattle.desk_crew.specs.Shares.{AreCounted, AreLeft, AreWritten, IsShared, edge, lines_between, both_reports}
 
 -- what comes after the last line feed is the rest
 rest_behind : (front after : List ℕ) → is_plain after ≡ true → (cut_of (front ++ 10 ∷ after)).rest ≡ after
@@ -90,6 +91,12 @@ both-none report =
     let answered : report.answered ≡ report.answered + 0 = omega arith in
     let refused : report.refused ≡ report.refused + 0 = omega arith in
     λ i. record { answered = answered i; refused = refused i }
+
+-- a text without bytes has no lines
+pub written_none : {W : Type 0} (May : AnswerKind) (refuses : List ℕ → Bool) (sink : OfSink W) (writer : W) (rules : Rules) (text : List ℕ) (report : DeskReport) → (length text == 0) ≡ true
+    → AreWritten May refuses sink writer writer rules (ended_lines text) report report
+written_none May refuses sink writer rules [] report none = record { told = []; are_told = refl; writes = WritesAll-nil sink writer; report_is = both-none report }
+written_none May refuses sink writer rules (byte ∷ bytes) report none = absurd (omega (arith, eqb-true (length (byte ∷ bytes)) 0 none))
 
 -- a share that has a report is answered
 pub shared_some : (May : AnswerKind) (refuses : List ℕ → Bool) (rules : Rules) (text : List ℕ) (size number : ℕ) (share : Share) (report : DeskReport) → IsShared May refuses rules text size number share → share.report ≡ Some report

@@ -30,6 +30,9 @@ pub(crate) fn answer_round<A: Responder + Send + Sync, H: Threads + Sync, W: Sin
         rules (ended_lines text.now)) }
     ensures shares { length shares.new ≡ length shares.old }
 {
+    if text.is_empty() {
+        return Ok(());
+    }
     let size = text.len().div_ceil(shares.len());
     judge::<A, H>(rt, rules, text, size, shares);
     write_shares::<A, W>(rules, text, size, shares, report, writer)

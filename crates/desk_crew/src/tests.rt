@@ -1,4 +1,6 @@
 //! The answers of many threads beside those of one.
+ghost use Rattle.std.specs.Prelude.{◌<◌};
+
 mod facts;
 
 use super::text::by_rounds;
@@ -28,7 +30,9 @@ fn as_one<H: Threads + Sync + Abort>(
     alloc: Global,
     text: &[u8],
     most: usize,
-) -> Result<(), Fail> {
+) -> Result<(), Fail>
+    requires { 0 < most }
+{
     let mut writer: Room = BytesOut::new(1_000, None);
     let report = desk_text(Rules::One, &mut BytesIn::new(text, most, None), &mut writer);
     for (workers, enough) in [(1, 1), (2, 100), (4, 5_000), (16, 40)] {
