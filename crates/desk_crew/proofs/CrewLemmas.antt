@@ -1,17 +1,16 @@
 -- The lines of a stream once those of one more round are answered.
-use Rattle.std.proofs.Common.{◌≡◌, ℕ, ◌<◌, ◌+◌, inl, inr, List, [], ◌∷◌, ◌++◌, Bool, true, false, cond, Option, Some, None, refl, sym, subst, ◌∙◌, ap, append_assoc, arith}
+use Rattle.std.proofs.Common.{◌≡◌, ℕ, inl, inr, List, [], ◌∷◌, ◌++◌, Bool, cond, Option, Some, None, refl, sym, subst, ◌∙◌, ap, append_assoc}
 use Rattle.std.proofs.lemmas.List.{append-nil}
 use Rattle.std.specs.Prelude.{is_some, unwrap_or}
 use Rattle.riichi_hand.specs.declared.win.Rules.{Rules}
 use Rattle.desk_lines.specs.declared.fault.DeskFault.{DeskFault}
 use Rattle.desk_lines.specs.declared.fault.DeskFault.TheVariants.{Read, Write, Memory}
 use Rattle.desk_lines.specs.declared.report.DeskReport.{DeskReport}
-use Rattle.desk_lines.specs.Lines.{ended_lines}
 use Rattle.desk_lines.specs.LongLines.{AreAlike, long_profile}
 use Rattle.desk_lines.specs.Profile.{profile_of, rules_of, record_lines}
 use Rattle.desk_lines.specs.Reading.{AreToldAs}
 use Rattle.desk_lines.specs.Records.{AnswerKind, AreTold, AnswerRecords, rules_after, next_profile, records_in}
-use Rattle.desk_lines.specs.Streams.{WritesAll, StopsWriting}
+use Rattle.desk_lines.specs.Streams.{WritesAll}
 use Rattle.desk_lines.specs.Told.{Stops}
 use Rattle.desk_lines.specs.Telling.{text_of, report_by, IsToldAs}
 use Rattle.desk_lines.proofs.AnswerLemmas.{same_as_told, record_lines-more}

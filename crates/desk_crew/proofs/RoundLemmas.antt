@@ -1,11 +1,10 @@
 -- A stream once one more round is read and answered.
-use Rattle.std.proofs.Common.{◌≡◌, ℕ, ◌+◌, ◌≤◌, inl, inr, List, [], ◌++◌, Bool, None, refl, sym, subst, ◌∙◌, ap, arith}
+use Rattle.std.proofs.Common.{◌≡◌, ℕ, ◌+◌, inl, inr, List, [], ◌++◌, Bool, None, refl, sym, subst, ◌∙◌, ap, arith}
 use Rattle.std.proofs.KnownBytes.{Consumes-nil}
 use Rattle.std.proofs.lemmas.List.{append-nil}
 use Rattle.riichi_hand.specs.declared.win.Rules.{Rules}
 use Rattle.desk_lines.specs.declared.fault.DeskFault.{DeskFault}
 use Rattle.desk_lines.specs.declared.fault.DeskFault.TheVariants.{Read, Write, Memory}
-use Rattle.desk_lines.specs.declared.report.DeskReport.{DeskReport}
 use Rattle.desk_lines.specs.Lines.{cut_of, ended_lines, lines, last_line}
 use Rattle.desk_lines.specs.Reading.{AreToldAs, kept, with_end}
 use Rattle.desk_lines.specs.Records.{AnswerKind}
@@ -17,9 +16,8 @@ use Rattle.desk_lines.proofs.StreamLemmas.{Gives-more, WritesAll-nil}
 use Rattle.desk_streams.specs.declared.sink.Sink.{Ghosts as OfSink}
 use Rattle.desk_streams.specs.declared.source.Source.{Ghosts as OfSource}
 use Rattle.desk_crew.specs.declared.standing.Standing.{Standing}
-use Rattle.desk_crew.specs.declared.reading.Stop.{Stop}
-use Rattle.desk_crew.specs.declared.reading.Stop.TheVariants.{Full, End, Failed}
-use Rattle.desk_crew.specs.Crew.{IsAnswered, Stands, Stopped, IsBetween, IsGivenUp, IsUnread, IsLeft}
+use Rattle.desk_crew.specs.declared.reading.Stop.TheVariants.{Failed}
+use Rattle.desk_crew.specs.Crew.{Stands, Stopped, IsBetween, IsGivenUp, IsUnread, IsLeft}
 use Rattle.desk_crew.specs.Reading.{GoesOn, FindsEnd, IsStop}
 use Rattle.desk_crew.proofs.CrewLemmas.{Stands-none, Stopped-memory}
 

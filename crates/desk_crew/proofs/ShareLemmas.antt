@@ -1,5 +1,5 @@
 -- Where a text is cut into shares, and the lines that end in each.
-use Rattle.std.proofs.Common.{◌≡◌, ℕ, ◌+◌, ◌-◌, ◌*◌, ◌<◌, ◌≤◌, min, inl, inr, Option, Some, List, [], ◌∷◌, ◌++◌, Bool, true, false, cond, nat_eq, length, take, drop, get_or, append_assoc, refl, sym, subst, ◌∙◌, ap, arith}
+use Rattle.std.proofs.Common.{◌≡◌, ℕ, ◌+◌, ◌-◌, ◌*◌, ◌<◌, ◌≤◌, min, inl, inr, Option, Some, List, [], ◌∷◌, ◌++◌, Bool, true, cond, length, take, drop, get_or, append_assoc, refl, sym, subst, ◌∙◌, ap, arith}
 use Rattle.std.proofs.Math.Seq.{take-add}
 use Rattle.std.specs.Prelude.{not, ◌==◌, MatchOption}
 use Rattle.std.proofs.lemmas.List.{take_all, length-take, length-drop, drop-take, drop-append-le, get_or-drop}

@@ -152,7 +152,8 @@ fn a_request_refused_at_the_call(rt: HostRuntime) {
 /// Whether a text is answered in some rounds by three threads; else there was no memory, and a front of the answers was written.
 fn is_answered<H: Threads + Sync + Abort>(rt: &H, alloc: Global) -> bool {
     let text = b"waits 1112345678999m\nwaits 8z\nshape 123456789m11348p\nwaits 1112345678999m";
-    let all = b"waits 123456789m\nrefused N5 hand at 0\nshanten 0 discard 8p accepts 2p:4 5p:4 live 8\nwaits 123456789m\n".as_slice();
+    let all =
+        b"waits 123456789m\nrefused N5 hand at 0\nshanten 0 discard 8p accepts 2p:4 5p:4 live 8\nwaits 123456789m\n".as_slice();
     let mut reader = BytesIn::new(text, 30, None);
     let mut writer: Room = BytesOut::new(1_000, None);
     let told = by_rounds::<Plain, H, BytesIn, Room>(

@@ -1,4 +1,4 @@
-use Rattle.std.proofs.Common.{◌+◌, get_or}
+use Rattle.std.proofs.Common.{get_or}
 use Rattle.std.proofs.lemmas.Bool.{eqb-true}
 use Rattle.desk_crew.proofs.ShareLemmas.{rest_of_none, rest_of_some}
 use Rattle.desk_crew.proofs.cut.ended_bytes.Goals as goal

@@ -1,7 +1,6 @@
-use Rattle.std.proofs.Common.{◌≡◌, ◌∙◌, ℕ, ◌+◌, [], ◌++◌, List, inl, inr, refl, sym, ap, append_assoc, arith}
+use Rattle.std.proofs.Common.{[], refl, sym, arith}
 use Rattle.std.proofs.KnownBytes.{Consumes-nil}
 use Rattle.std.proofs.lemmas.List.{append-nil}
-use Rattle.desk_lines.proofs.StreamLemmas.{Gives-more}
 use Rattle.desk_crew.proofs.reading.read_round.Goals as goal
 
 pub loop-left-init : goal.loop-left-init

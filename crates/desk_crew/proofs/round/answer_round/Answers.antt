@@ -1,4 +1,4 @@
-use Rattle.std.proofs.Common.{◌∙◌, sym}
+use Rattle.std.proofs.Common.{sym}
 use Rattle.desk_crew.proofs.ShareLemmas.{written_none}
 use Rattle.desk_crew.proofs.round.answer_round.Goals as goal
 

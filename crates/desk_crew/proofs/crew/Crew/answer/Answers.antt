@@ -1,8 +1,8 @@
-use Rattle.std.proofs.Common.{◌≡◌, ◌∙◌, ℕ, List, ◌++◌, ap, sym, subst, refl, Some}
+use Rattle.std.proofs.Common.{ℕ, List, sym, subst, refl, Some}
 use Rattle.std.proofs.lemmas.Result.{MatchResult-weaker}
 use Rattle.desk_lines.specs.Lines.{ended_lines}
 use Rattle.desk_lines.specs.Reading.{AreToldAs}
-use Rattle.desk_crew.proofs.CrewLemmas.{Stands-more, Stopped-more, Stands-no_more}
+use Rattle.desk_crew.proofs.CrewLemmas.{Stands-more, Stopped-more}
 use Rattle.desk_crew.specs.declared.standing.Standing.{Standing}
 use Rattle.desk_lines.specs.LongLines.{AreAlike}
 use Rattle.desk_crew.proofs.crew.Crew.answer.Given.{Over}

@@ -1,8 +1,5 @@
-use Rattle.std.proofs.Common.{◌≡◌, ℕ, List}
 use Rattle.std.proofs.lemmas.Result.{err_from_is_err_and}
 use Rattle.desk_lines.specs.Lines.{cut_of, ended_lines, last_line}
-use Rattle.desk_lines.specs.Reading.{kept}
-use Rattle.desk_crew.specs.Crew.{Stands}
 use Rattle.desk_crew.proofs.CrewLemmas.{Stands-at, Stopped-memory}
 use Rattle.desk_crew.proofs.RoundLemmas.{last_so}
 use Rattle.desk_crew.proofs.crew.Crew.end.Goals as goal

@@ -1,4 +1,4 @@
-use Rattle.std.proofs.Common.{◌≡◌, ◌≤◌, ◌-◌, ◌∙◌, ℕ, min, ◌++◌, List, cond, Result, Ok, Err, ap, sym, length, take, drop, arith}
+use Rattle.std.proofs.Common.{◌≡◌, ◌-◌, ◌∙◌, ℕ, ◌++◌, List, cond, Result, Ok, Err, ap, length, take, drop, arith}
 use Rattle.std.specs.Prelude.{OnOk, is_ok}
 use Rattle.std.proofs.lemmas.List.{take_all, length-drop}
 use Rattle.desk_lines.specs.Lines.{cut_of}

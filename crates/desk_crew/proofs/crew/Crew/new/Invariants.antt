@@ -1,4 +1,4 @@
-use Rattle.std.proofs.Common.{ℕ, ◌-◌, length}
+use Rattle.std.proofs.Common.{◌-◌, length}
 use Rattle.desk_crew.proofs.crew.Crew.new.Given as goal
 
 -- so many shares are to come

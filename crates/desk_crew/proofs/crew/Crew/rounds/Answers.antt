@@ -1,4 +1,4 @@
-use Rattle.std.proofs.Common.{◌≡◌, ◌∙◌, ◌+◌, ℕ, [], refl, ap, subst}
+use Rattle.std.proofs.Common.{◌∙◌, ◌+◌, [], refl, ap, subst}
 use Rattle.std.proofs.lemmas.Result.{err_from_is_err_and}
 use Rattle.desk_crew.specs.declared.reading.Stop.{Stop}
 use Rattle.desk_crew.specs.Reading.{IsStop}

@@ -1,4 +1,4 @@
-use Rattle.std.proofs.Common.{◌≡◌, ◌++◌, ◌∙◌, ap}
+use Rattle.std.proofs.Common.{◌++◌, ◌∙◌, ap}
 use Rattle.std.proofs.lemmas.Result.{err_from_is_err_and}
 use Rattle.desk_lines.specs.Lines.{ended_lines}
 use Rattle.desk_lines.specs.Reading.{kept}
@@ -57,6 +57,6 @@ returns-clause-ok g c from start text between =
     (Stands-at may refuses g.W.Sink start c.args.given (ended_lines text) old.standing now.standing before c.read.ensures.same between.stands) in (
       text ++ read.bytes,
       Between-more may refuses g.R.Source g.W.Sink from start c.args.given text read.bytes old.held.items now.text.items c.hold.new.self.held.items old.standing c.hold.new.self.standing c.args.reader.now c.read.new.reader before c.answer.new.writer between read.gives read.text_is
-      (c.in_ok-hold.ensures.held ∙ ap (kept 8194) c.answer.ensures.same.1)
-      (Stands-at may refuses g.W.Sink start c.args.given (ended_lines text ++ later_lines text read.bytes) c.answer.new.self.standing c.hold.new.self.standing c.answer.new.writer c.hold.ensures.same.0 stands),
+          (c.in_ok-hold.ensures.held ∙ ap (kept 8194) c.answer.ensures.same.1)
+          (Stands-at may refuses g.W.Sink start c.args.given (ended_lines text ++ later_lines text read.bytes) c.answer.new.self.standing c.hold.new.self.standing c.answer.new.writer c.hold.ensures.same.0 stands),
     )

@@ -1,4 +1,4 @@
-use Rattle.std.proofs.Common.{◌≡◌, ◌≤◌, ◌++◌, ◌-◌, ◌∙◌, List, ℕ, ap, subst, length, take, drop, length-take, arith}
+use Rattle.std.proofs.Common.{◌++◌, ◌∙◌, List, ℕ, ap, subst, take, length-take, arith}
 use Rattle.std.proofs.lemmas.Result.{MatchResult-weaker}
 use Rattle.desk_lines.specs.Lines.{cut_of, ended_lines}
 use Rattle.desk_lines.specs.Records.{AreTold}
