@@ -44,7 +44,8 @@ impl Crew {
     /// So many threads, before the first read.
     pub(crate) fn new(alloc: Global, workers: usize) -> Result<Crew, AllocError>
         requires { 1 ≤ workers }
-        ensures { IfOk result (λ crew. (crew.standing.profile ≡ None) × (crew.standing.report ≡ report_of [])
+        ensures { IfOk result (λ crew. (crew.standing.profile ≡ None)
+            × (crew.standing.report ≡ report_of [])
             × (crew.held.items ≡ []) × (crew.left ≡ MOST_READS)) }
     {
         let mut shares = Vec::new(alloc);
@@ -69,10 +70,12 @@ impl Crew {
         reader: &mut R,
         writer: &mut W,
     ) -> Result<(), DeskFault>
-        requires new { (self.old.standing.profile ≡ None) × (self.old.standing.report ≡ report_of []) }
+        requires new { (self.old.standing.profile ≡ None)
+            × (self.old.standing.report ≡ report_of []) }
         requires none { (self.old.held.items ≡ []) × (self.old.left ≡ MOST_READS) }
         ensures ok { OnOk result ((text : List ℕ)
-            × IsBetween A.may_tell A.refuses ⟦<R as Source>⟧ ⟦<W as Sink>⟧ reader.old writer.old given
+            × IsBetween A.may_tell A.refuses ⟦<R as Source>⟧ ⟦<W as Sink>⟧
+            reader.old writer.old given
             text self.new.held.items self.new.standing reader.new writer.new
             × FindsEnd ⟦<R as Source>⟧ reader.old reader.new) }
         ensures err { IfErr result (IsLeft A.may_tell ⟦<R as Source>⟧ ⟦<W as Sink>⟧
@@ -102,7 +105,8 @@ impl Crew {
         ensures ok { OnOk result ((from : R) (start : W) (text : List ℕ)
             → IsBetween A.may_tell A.refuses ⟦<R as Source>⟧ ⟦<W as Sink>⟧ from start given
             text self.old.held.items self.old.standing reader.old writer.old
-            → (all : List ℕ) × IsBetween A.may_tell A.refuses ⟦<R as Source>⟧ ⟦<W as Sink>⟧ from start given
+            → (all : List ℕ)
+            × IsBetween A.may_tell A.refuses ⟦<R as Source>⟧ ⟦<W as Sink>⟧ from start given
             all self.new.held.items self.new.standing reader.new writer.new) }
         ensures err { IfErr result (λ fault. (from : R) (start : W) (text : List ℕ)
             → IsBetween A.may_tell A.refuses ⟦<R as Source>⟧ ⟦<W as Sink>⟧ from start given
@@ -127,11 +131,14 @@ impl Crew {
     ) -> Result<DeskReport, DeskFault>
         ensures ok { IfOk result (λ report. (start : W) (text : List ℕ)
             → self.old.held.items ≡ kept 8194 text
-            → Stands A.may_tell A.refuses ⟦<W as Sink>⟧ start given (ended_lines text) self.old.standing writer.old
-            → IsAnswered A.may_tell A.refuses ⟦<W as Sink>⟧ start writer.new given (lines text) report) }
+            → Stands A.may_tell A.refuses ⟦<W as Sink>⟧
+            start given (ended_lines text) self.old.standing writer.old
+            → IsAnswered A.may_tell A.refuses ⟦<W as Sink>⟧
+            start writer.new given (lines text) report) }
         ensures err { IfErr result (λ fault. (start : W) (text : List ℕ)
             → self.old.held.items ≡ kept 8194 text
-            → Stands A.may_tell A.refuses ⟦<W as Sink>⟧ start given (ended_lines text) self.old.standing writer.old
+            → Stands A.may_tell A.refuses ⟦<W as Sink>⟧
+            start given (ended_lines text) self.old.standing writer.old
             → Stopped A.may_tell ⟦<W as Sink>⟧ start writer.new given (lines text) fault) }
     {
         self.end_line()?;
@@ -176,14 +183,17 @@ impl Crew {
     ) -> Result<(), DeskFault>
         ensures ok { OnOk result ((start : W) (lines next : List (List ℕ))
             → AreToldAs 4096 (ended_lines self.old.text.items) next
-            → Stands A.may_tell A.refuses ⟦<W as Sink>⟧ start given lines self.old.standing writer.old
-            → Stands A.may_tell A.refuses ⟦<W as Sink>⟧ start given (lines ++ next)
-            self.new.standing writer.new) }
+            → Stands A.may_tell A.refuses ⟦<W as Sink>⟧
+            start given lines self.old.standing writer.old
+            → Stands A.may_tell A.refuses ⟦<W as Sink>⟧
+            start given (lines ++ next) self.new.standing writer.new) }
         ensures err { IfErr result (λ fault. (start : W) (lines next : List (List ℕ))
             → AreToldAs 4096 (ended_lines self.old.text.items) next
-            → Stands A.may_tell A.refuses ⟦<W as Sink>⟧ start given lines self.old.standing writer.old
+            → Stands A.may_tell A.refuses ⟦<W as Sink>⟧
+            start given lines self.old.standing writer.old
             → Stopped A.may_tell ⟦<W as Sink>⟧ start writer.new given (lines ++ next) fault) }
-        ensures same { (self.new.left ≡ self.old.left) × (self.new.text.items ≡ self.old.text.items) }
+        ensures same { (self.new.left ≡ self.old.left)
+            × (self.new.text.items ≡ self.old.text.items) }
     {
         let text = self.text.as_slice();
         let Some((rules, records)) = next_records(given, self.standing.profile, text) else {

@@ -24,8 +24,8 @@ pub(crate) fn answer_round<A: Responder + Send + Sync, H: Threads + Sync, W: Sin
 ) -> Result<(), DeskFault>
     requires some { 0 < length shares.old }
     requires fits { length text.now < 2 ^ 64 }
-    ensures written { OnOk result (AreWritten A.may_tell A.refuses ⟦<W as Sink>⟧ writer.old writer.new
-        rules (ended_lines text.now) report.old report.new) }
+    ensures written { OnOk result (AreWritten A.may_tell A.refuses ⟦<W as Sink>⟧
+        writer.old writer.new rules (ended_lines text.now) report.old report.new) }
     ensures left { IfErr result (AreLeft A.may_tell ⟦<W as Sink>⟧ writer.old writer.new
         rules (ended_lines text.now)) }
     ensures shares { length shares.new ≡ length shares.old }
@@ -49,7 +49,8 @@ fn judge<A: Responder + Send + Sync, H: Threads + Sync>(
     requires some { 0 < length shares.old }
     requires fits { length text.now < 2 ^ 64 }
     ensures shared { (number : ℕ) (none : Share) → number < length shares.new
-        → IsShared A.may_tell A.refuses rules text.now size number (slice_index_or shares.new number none) }
+        → IsShared A.may_tell A.refuses rules text.now size number
+        (slice_index_or shares.new number none) }
     ensures shares { length shares.new ≡ length shares.old }
 {
     let threads = shares.len();
@@ -71,10 +72,11 @@ fn write_shares<A: Responder + Send + Sync, W: Sink>(
     writer: &mut W,
 ) -> Result<(), DeskFault>
     requires shared { (number : ℕ) (none : Share) → number < length shares.now
-        → IsShared A.may_tell A.refuses rules text.now size number (slice_index_or shares.now number none) }
+        → IsShared A.may_tell A.refuses rules text.now size number
+        (slice_index_or shares.now number none) }
     requires all { length text.now ≤ length shares.now * size }
-    ensures written { OnOk result (AreWritten A.may_tell A.refuses ⟦<W as Sink>⟧ writer.old writer.new
-        rules (ended_lines text.now) report.old report.new) }
+    ensures written { OnOk result (AreWritten A.may_tell A.refuses ⟦<W as Sink>⟧
+        writer.old writer.new rules (ended_lines text.now) report.old report.new) }
     ensures left { IfErr result (AreLeft A.may_tell ⟦<W as Sink>⟧ writer.old writer.new
         rules (ended_lines text.now)) }
 {

@@ -111,7 +111,8 @@ pub(crate) fn by_rounds<A: Responder + Send + Sync, H: Threads + Sync, R: Source
     requires { 1 ≤ workers }
     ensures ok { IfOk result (λ report. (text : List ℕ)
         × GivesAll ⟦<R as Source>⟧ reader.old reader.new text
-        × IsAnswered A.may_tell A.refuses ⟦<W as Sink>⟧ writer.old writer.new rules (lines text) report) }
+        × IsAnswered A.may_tell A.refuses ⟦<W as Sink>⟧ writer.old writer.new
+        rules (lines text) report) }
     ensures err { IfErr result (IsLeft A.may_tell ⟦<R as Source>⟧ ⟦<W as Sink>⟧
         reader.old reader.new writer.old writer.new rules) }
     ensures reads { IsReadWithin ⟦<R as Source>⟧ reader.old reader.new }
