@@ -270,6 +270,27 @@ for form in 'line' 'line --json' 'explain'; do
     "$("$program" $form --number < "$room/input" | sed -nE 's/^(\{"line":)?([0-9]+)[,:].*/\2/p')"
 done
 
+# by several threads: the same bytes, whichever the form and however the lines end
+row 2 '' "invalid value '0' for '--workers <N>'" line --workers 0
+row 2 '' "invalid value '17' for '--workers <N>'" line --workers 17
+row 2 '' "'--number'" line --workers 2 --number
+row 2 '' "unexpected argument '--workers' found" explain --workers 2
+for workers in 1 2 3 16; do
+  told "line by $workers workers" "$(sha256sum < examples/club-night.answers)" "$("$program" line --workers $workers < examples/club-night.lines | sha256sum)"
+  told "line --json by $workers workers" "$("$program" line --json < "$room/input" | sha256sum)" \
+    "$("$program" line --json --workers $workers --file "$room/input" 2> /dev/null | sha256sum)"
+  told "line --rules by $workers workers" $'won 4 han 30 fu 8000 gain 8000 pinfu pure-straight dora 1\nrefused H2\nstatus 1' \
+    "$(printf '# red fives\nwin 123406789m22s34p on=2p by=ron seat=S round=E\r\nrules 2' | "$program" line --rules 2 --workers $workers 2> /dev/null; echo "status $?")"
+  told "files by $workers workers" $'waits 25p\nwaits 25p\nstatus 0' "$("$program" line --workers $workers --file "$room/profiled" "$room/profiled"; echo "status $?")"
+  told "no lines by $workers workers" 'status 0' "$("$program" line --workers $workers < /dev/null; echo "status $?")"
+  told "a full disk and $workers workers" "riichi_desk: fault F2
+$full
+status 3" "$("$program" line --workers $workers < examples/club-night.lines 2>&1 > /dev/full; echo "status $?")"
+  told "a folder and $workers workers" "riichi_desk: fault F1
+$folder
+status 3" "$("$program" line --workers $workers < "$room" 2>&1; echo "status $?")"
+done
+
 # the yaku, as docs/RULES.md has them
 # the rules that a table may choose, as docs/RULES.md has them: word, first profile, second profile
 told 'help-rules' "$(sed -nE 's/^\| `([a-z-]+)`[^|]* \| (on|off) \| (on|off) \| .*/\1 \2 \3/p' docs/RULES.md)" \
@@ -418,6 +439,7 @@ slowly() {
   slow+=($!)
 }
 slowly lines "$room/lines.answers" line --file "$room/lines"
+slowly crew "$room/crew.answers" line --workers 2 --file "$room/crew"
 slowly quiet "$room/quiet.answers" line --quiet --file "$room/quiet"
 slowly typed /dev/tty line --file "$room/typed"
 slowly fault "$room/fault.answers" line --file "$room/fault" "$room/none"
@@ -435,6 +457,9 @@ told 'lines from a pipe show how many they are' 'some' "$(grep -qE $'\r[0-9]+ li
 told 'and no share of what they are' 0 "$(grep -c ' %, ' "$room/lines.screen")"
 told 'the terminal behind lines' "riichi_desk: $room/lines: $slip"$'\nstatus 1' "$(wiped lines)"
 told 'the answers are the same' "$(sha256sum < "$room/quiet.answers")" "$(sha256sum < "$room/lines.answers")"
+told 'lines by two threads show how many they are' 'some' "$(grep -qE $'\r[0-9]+ lines, [0-9]+ lines a second\x1b\\[K' "$room/crew.screen" && echo some)"
+told 'the terminal behind them' "riichi_desk: $room/crew: $slip"$'\nstatus 1' "$(wiped crew)"
+told 'their answers are the same' "$(sha256sum < "$room/quiet.answers")" "$(sha256sum < "$room/crew.answers")"
 told 'lines with --quiet' "riichi_desk: $room/quiet: $slip"$'\nstatus 1' "$(tr -d '\r' < "$room/quiet.screen")"
 told 'lines whose answers come to the terminal' 0 "$(grep -c 'lines a second' "$room/typed.screen")"
 told 'a fault behind lines' "riichi_desk: $room/fault: $slip"$'\n'"riichi_desk: cannot open $room/none"$'\nstatus 3' "$(wiped fault)"
@@ -464,6 +489,8 @@ told 'score --number without them' "$(sha256sum < "$room/wanted")" \
   "$("$program" score --number examples/club-night.lines "$room/long" examples/rules-two.lines 2> "$room/said" | sed -E 's/^[0-9]+://; s/^(table [0-9]+) .*/\1/' | sha256sum)"
 told 'score --number and line --number' "$({ echo "table 0 $room/long"; "$program" line --number --file "$room/long"; } 2> "$room/said" | sha256sum)" \
   "$("$program" score --number "$room/long" 2> "$room/said" | sha256sum)"
+told 'long lines by 4 and 16 workers' "$("$program" line < "$room/long" 2> /dev/null | sha256sum; "$program" line < "$room/long" 2> /dev/null | sha256sum)" \
+  "$("$program" line --workers 4 < "$room/long" 2> /dev/null | sha256sum; "$program" line --workers 16 --file "$room/long" 2> /dev/null | sha256sum)"
 for workers in 1 4 16; do
   "$program" score --workers $workers examples/club-night.lines "$room/long" examples/rules-two.lines > "$room/answers" 2> "$room/said"
   told "score of the examples by $workers workers" "$(sha256sum < "$room/wanted")" "$(sha256sum < "$room/answers")"

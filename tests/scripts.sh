@@ -196,6 +196,10 @@ told 'lines to be answered as JSON' "$unproved
 tried: line --json
 status 1
 one" "$(echo one | by_hand "$scripts" ./linked-desk line --json; cat "$kit/given")"
+told 'lines to be answered by four threads' "$unproved
+tried: line --workers 4
+status 1
+one" "$(echo one | by_hand "$scripts" ./linked-desk line --workers 4; cat "$kit/given")"
 cat > "$scripts/types" << 'END'
 import os, sys
 import pty

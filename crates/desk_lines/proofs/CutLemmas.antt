@@ -38,7 +38,7 @@ in_front-plain : (byte : ℕ) (ended : List (List ℕ)) (rest : List ℕ) → na
 in_front-plain byte [] rest other plain = rw other plain
 in_front-plain byte (line ∷ ended) rest other plain = plain
 
-plain_rest : (text : List ℕ) → is_plain (cut_of text).rest ≡ true
+pub plain_rest : (text : List ℕ) → is_plain (cut_of text).rest ≡ true
 plain_rest [] = refl
 plain_rest (byte ∷ bytes) = elim (cases_Bool (nat_eq byte 10)) [
   | inl feed ↦ rw feed (plain_rest bytes)

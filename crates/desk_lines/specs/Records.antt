@@ -11,6 +11,16 @@ abbrev pub rules_after : Rules → List (List ℕ) → Option Rules
 rules_after given [] = None
 rules_after given (line ∷ lines) = Some (rules_of given (line ∷ lines))
 
+-- the profile once these lines were read too
+abbrev pub next_profile : Rules → Option Rules → List (List ℕ) → Option Rules
+next_profile given None lines = rules_after given lines
+next_profile given (Some rules) lines = Some rules
+
+-- those of the next lines that can be records
+abbrev pub records_in : Option Rules → List (List ℕ) → List (List ℕ)
+records_in None lines = record_lines lines
+records_in (Some rules) lines = lines
+
 -- What a kind of answer is: which texts may answer a record line under a profile, or none.
 abbrev pub AnswerKind : Type 1
 AnswerKind = Rules → List ℕ → Option (List ℕ) → Type 0

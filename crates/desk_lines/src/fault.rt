@@ -1,4 +1,5 @@
 //! Why a text over streams was given up.
+use std::alloc::AllocError;
 use thiserror::Error;
 
 /// Why a text over streams was given up.
@@ -13,4 +14,15 @@ pub enum DeskFault {
     /// There was no memory.
     #[error("F3: memory ran out")]
     Memory,
+}
+
+impl From<AllocError> for DeskFault {
+    ghost use Rattle.std.specs.Prelude.{◌≡◌};
+    ghost use Rattle.desk_lines.specs.declared.fault.DeskFault.TheVariants.{Memory};
+
+    ghost from_gives = { λ _ given. given ≡ Memory };
+
+    fn from(_refused: AllocError) -> DeskFault {
+        DeskFault::Memory
+    }
 }

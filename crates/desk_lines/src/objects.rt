@@ -18,7 +18,7 @@ use riichi_hand::{Job, Refusal, RuleSet, Rules, read_placed};
 use riichi_shape::RowSource;
 
 /// The answers as JSON: an object on a line for each record.
-pub(crate) struct Objects;
+pub struct Objects;
 
 impl Responder for Objects {
     ghost use Rattle.desk_lines.specs.JsonLine.{json_of, is_refusal, json_alike};

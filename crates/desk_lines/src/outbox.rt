@@ -168,7 +168,7 @@ fn push_line(bytes: &mut ArrayVec<u8, ROOM>, text: &[u8])
 }
 
 /// Writes all of a text. Any failed write ends it, and one that takes nothing has failed.
-pub(crate) fn write_all<W: Sink>(writer: &mut W, text: &[u8]) -> Result<(), DeskFault>
+pub fn write_all<W: Sink>(writer: &mut W, text: &[u8]) -> Result<(), DeskFault>
     ensures { Writes ⟦<W as Sink>⟧ writer.old writer.new result text.now }
 {
     let mut rest = text;

@@ -1,7 +1,10 @@
 //! The rule profile that a stream's first line can set.
-ghost use Rattle.std.specs.Prelude.{◌≡◌, ◌<◌, Some, None};
+ghost use Rattle.std.specs.Prelude.{◌≡◌, ◌<◌, [], Some, None, MatchOption};
+ghost use Rattle.desk_lines.specs.Lines.{ended_lines};
+ghost use Rattle.desk_lines.specs.Records.{next_profile, records_in};
 ghost use Rattle.desk_lines.specs.Profile.{profile_numbered, profile_of, rules_by, record_rules};
 
+use super::first_line::first_line;
 use riichi_hand::{MOST_LINE, Rules, has_other_byte, next_word};
 
 /// Takes the next line of a stream, whose profile is none before its first line, and then the given one where that
@@ -28,6 +31,23 @@ fn first_rules(given: Rules, stream: &mut Option<Rules>, line: &[u8]) -> Option<
     match set {
         Some(_) => None,
         None => Some(given),
+    }
+}
+
+/// The profile of a stream that goes on with this text, and the text without a line that sets it: the first one of a stream,
+/// whose profile is none until then. None where that line has not ended.
+pub fn next_records(given: Rules, profile: Option<Rules>, text: &[u8]) -> Option<(Rules, &[u8])>
+    ensures { MatchOption result ((profile ≡ None) × (ended_lines text.now ≡ []))
+        (λ found. (next_profile given profile (ended_lines text.now) ≡ Some found.0)
+        × (ended_lines found.1.now ≡ records_in profile (ended_lines text.now))) }
+{
+    if let Some(rules) = profile {
+        return Some((rules, text));
+    }
+    let (line, after) = first_line(text)?;
+    match profile_of(line) {
+        Some(rules) => Some((rules, after)),
+        None => Some((given, text)),
     }
 }
 

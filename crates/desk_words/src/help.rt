@@ -46,6 +46,7 @@ pub(crate) const LINE_HELP: &str = "\
 Example:
   riichi_desk line < club-night.lines
   riichi_desk line --json --file club-night.lines
+  riichi_desk line --workers 4 --file many.lines
 
 Exit status:
   0  answered

@@ -19,6 +19,8 @@ pub enum Request<'m, 'a> {
         is_numbered: bool,
         /// Whether it isn't to be shown how far the answers are, as ever where the lines come from no files.
         is_quiet: bool,
+        /// By how many threads, where there may be several.
+        workers: Option<u32>,
     },
     /// Every code in words.
     HelpCodes,
@@ -152,6 +154,7 @@ fn lines_request<'m, 'a>(
             rules,
             is_numbered: matches.get_flag("number"),
             is_quiet,
+            workers: matches.get_one("workers"),
         },
         Err(word) => Request::UnknownRules(word),
     }

@@ -103,12 +103,14 @@ fn rules_arg<'a>(alloc: Global) -> Arg<'a> {
 }
 
 fn line_command<'a>(alloc: Global) -> Result<Command<'a>, AllocError> {
+    let workers = workers_arg(alloc, "Answers by so many threads").conflicts_with("number")?;
     Command::new(alloc, "line")
         .about("Answers hands from standard input or files, one a line: wins, waits, shapes")
         .after_help(LINE_HELP)
         .arg(rules_arg(alloc))?
         .arg(file_arg(alloc))?
         .arg(number_arg(alloc))?
+        .arg(workers)?
         .arg(quiet_arg(alloc))?
         .arg(json_arg(
             alloc,
@@ -225,14 +227,13 @@ fn score_command<'a>(alloc: Global) -> Result<Command<'a>, AllocError> {
         .arg(rules_arg(alloc))?
         .arg(number)?
         .arg(quiet_arg(alloc))?
-        .arg(workers_arg(alloc))?
+        .arg(workers_arg(alloc, "How many threads judge hands").default_value("4"))?
         .arg(files.required(true).num_args(1..))
 }
 
 /// How many threads judge.
-fn workers_arg<'a>(alloc: Global) -> Arg<'a> {
-    option(alloc, "workers", "How many threads judge hands")
+fn workers_arg<'a>(alloc: Global, help: &'static str) -> Arg<'a> {
+    option(alloc, "workers", help)
         .value_name("N")
         .value_parser(value_parser!(u32).range(1..=16))
-        .default_value("4")
 }

@@ -3,31 +3,34 @@ use crate::failure::Failure;
 use crate::files::{INPUT, open_file};
 use crate::noted::Notes;
 use crate::progress::Progress;
+use desk_crew::{crew_text, crew_text_by};
 use desk_lines::{
-    DeskFault, DeskReport, EveryReading, Explained, Members, Plain, ReasonedMembers, Rules, Shown,
-    SuitMemo, desk_text_with, explain_json_text_with, explain_text_with, json_text_with,
-    numbered_text_with,
+    DeskFault, DeskReport, EveryReading, Explained, Members, Objects, Plain, ReasonedMembers,
+    Rules, Shown, SuitMemo, desk_text_with, explain_json_text_with, explain_text_with,
+    json_text_with, numbered_text_with,
 };
 use desk_streams::{BytesIn, FromReader, Sink, Source, ToWriter};
 use desk_words::{Form, Lines};
 use std::alloc::{AllocError, Global};
 use std::io::{Eprint, Input, Print};
 use std::rt::Files;
+use std::thread::Threads;
 use std::time::Clock;
 
-/// Answers lines: in which form, behind their numbers or not, by which rules where they are given no others, with the rows that
-/// are kept, and where to.
+/// Answers lines: in which form, behind their numbers or not, by how many threads where there are several, by which rules where
+/// they are given no others, with the rows that are kept, and where to.
 #[derive(Drop)]
 struct Answering<W> {
     form: Form,
     is_numbered: bool,
+    workers: Option<u32>,
     rules: Rules,
     rows: SuitMemo,
     writer: W,
 }
 
 /// Answers record lines on standard output: whether a line is refused.
-pub fn answer_lines<'a, R: Input + Print + Eprint + Files + Clock + AllocGlobal>(
+pub fn answer_lines<'a, R: Input + Print + Eprint + Files + Clock + Threads + Sync + AllocGlobal>(
     rt: &R,
     notes: &Notes<'a>,
     progress: &Progress<'_, R>,
@@ -35,10 +38,12 @@ pub fn answer_lines<'a, R: Input + Print + Eprint + Files + Clock + AllocGlobal>
     form: Form,
     rules: Rules,
     is_numbered: bool,
+    workers: Option<u32>,
 ) -> Result<bool, Failure<'a>> {
     let mut answering = Answering {
         form,
         is_numbered,
+        workers,
         rules,
         rows: SuitMemo::new(rt.alloc()),
         writer: ToWriter::new(notes.output(rt)),
@@ -46,34 +51,30 @@ pub fn answer_lines<'a, R: Input + Print + Eprint + Files + Clock + AllocGlobal>
     match lines {
         Lines::Input => answering.input(rt, notes, progress),
         Lines::Files(files) => answering.files(rt, notes, progress, files),
-        Lines::Each(words) => answering.text(&each_line(rt.alloc(), words)?),
-        Lines::One(words) => answering.text(&one_line(rt.alloc(), words)?),
+        Lines::Each(words) => answering.text(rt, &each_line(rt.alloc(), words)?),
+        Lines::One(words) => answering.text(rt, &one_line(rt.alloc(), words)?),
         Lines::Record { job, hand, words } => {
             let mut text = String::from_str(rt.alloc(), job)?;
             push_word(&mut text, hand)?;
             push_words(&mut text, words)?;
-            answering.text(&text)
+            answering.text(rt, &text)
         }
     }
 }
 
 impl<W: Sink> Answering<W> {
-    fn input<'a, R: Input + Eprint + Clock>(
+    fn input<'a, R: Input + Eprint + Clock + Threads + Sync + AllocGlobal>(
         &mut self,
         rt: &R,
         notes: &Notes<'a>,
         progress: &Progress<'_, R>,
     ) -> Result<bool, Failure<'a>> {
-        self.source(&mut FromReader::new(notes.lines(
-            progress,
-            "standard input",
-            self.rules,
-            rt.reader(),
-        )))
+        let lines = notes.lines(progress, "standard input", self.rules, rt.reader());
+        self.source(rt, &mut FromReader::new(lines))
     }
 
     /// Answers the lines of files, each of which may set its own profile. The first that can't be opened or read ends it.
-    fn files<'a, R: Input + Eprint + Files + Clock + AllocGlobal>(
+    fn files<'a, R: Input + Eprint + Files + Clock + Threads + Sync + AllocGlobal>(
         &mut self,
         rt: &R,
         notes: &Notes<'a>,
@@ -92,24 +93,53 @@ impl<W: Sink> Answering<W> {
                     self.rules,
                     open_file(rt, file)?,
                 ));
-                is_refused |= self.source(&mut reader)?;
+                is_refused |= self.source(rt, &mut reader)?;
             }
         }
         Ok(is_refused)
     }
 
-    fn text<'a>(&mut self, text: &String) -> Result<bool, Failure<'a>> {
-        self.source(&mut BytesIn::new(text.as_bytes(), text.len() + 1, None))
+    fn text<'a, R: Threads + Sync + AllocGlobal>(
+        &mut self,
+        rt: &R,
+        text: &String,
+    ) -> Result<bool, Failure<'a>> {
+        self.source(rt, &mut BytesIn::new(text.as_bytes(), text.len() + 1, None))
     }
 
     /// Answers the lines of a source: whether one is refused.
-    fn source<'a, S: Source>(&mut self, reader: &mut S) -> Result<bool, Failure<'a>> {
-        match self.report(reader) {
+    fn source<'a, S: Source, R: Threads + Sync + AllocGlobal>(
+        &mut self,
+        rt: &R,
+        reader: &mut S,
+    ) -> Result<bool, Failure<'a>> {
+        let report = match self.workers {
+            Some(workers) => self.by_crew(rt, workers, reader),
+            None => self.report(reader),
+        };
+        match report {
             Ok(report) => Ok(report.refused > 0),
             Err(fault) => Err(match self.form {
                 Form::Reasons | Form::AllReasons | Form::JsonReasons => Failure::Explained(fault),
                 Form::Words | Form::Json => Failure::from(fault),
             }),
+        }
+    }
+
+    /// Answers in words or as JSON, by several threads.
+    fn by_crew<S: Source, R: Threads + Sync + AllocGlobal>(
+        &mut self,
+        rt: &R,
+        workers: u32,
+        reader: &mut S,
+    ) -> Result<DeskReport, DeskFault> {
+        let (alloc, workers, rules) = (rt.alloc(), workers as usize, self.rules);
+        let writer = &mut self.writer;
+        match self.form {
+            Form::Json => crew_text_by::<Objects, R, S, W>(
+                rt, alloc, workers, rules, reader, writer,
+            ),
+            _ => crew_text(rt, alloc, workers, rules, reader, writer),
         }
     }
 

@@ -1,0 +1,6 @@
+use Rattle.std.proofs.Common.{◌-◌, length}
+use Rattle.desk_crew.proofs.crew.Crew.new.Given as goal
+
+-- so many shares are to come
+abbrev pub decreases-loop-shares : goal.decreases-loop-shares
+decreases-loop-shares l = l.workers - length l.shares.items

@@ -1,0 +1,31 @@
+-- What the reads of a round gave.
+use Rattle.std.specs.Prelude.{◌≡◌, ◌⊎◌, ℕ, ◌+◌, List, ◌++◌}
+use Rattle.std.specs.Io.KnownBytes.{IsAtEnd}
+use Rattle.desk_streams.specs.declared.source.Source.{Ghosts as OfSource}
+use Rattle.desk_lines.specs.Streams.{Gives, FailsOnce}
+use Rattle.desk_crew.specs.declared.reading.Stop.{Stop}
+use Rattle.desk_crew.specs.declared.reading.Stop.TheVariants.{Full, End, Failed}
+
+-- no read failed, and none found the end
+abbrev pub GoesOn : {R : Type 0} → OfSource R → R → R → Type 0
+GoesOn source old new = (source.failures new ≡ source.failures old) × (source.ends new ≡ source.ends old)
+
+-- No read failed, and the last found the end.
+pub record FindsEnd {R : Type 0} (source : OfSource R) (old new : R) : Type 0 where
+  pub not_failed : source.failures new ≡ source.failures old
+  pub found : source.ends new ≡ source.ends old + 1
+  pub ended : source.is_ended new
+  pub none_left : IsAtEnd (source.left new)
+
+-- why a round reads no further, where so many reads are left
+abbrev pub IsStop : {R : Type 0} → OfSource R → R → R → ℕ → Stop → Type 0
+IsStop source old new left Full = GoesOn source old new
+IsStop source old new left End = FindsEnd source old new
+IsStop source old new left Failed = FailsOnce source old new ⊎ ((left ≡ 0) × GoesOn source old new)
+
+-- The reads gave what now stands behind the text.
+pub record IsReadOn {R : Type 0} (source : OfSource R) (old new : R) (before after : List ℕ) (left : ℕ) (stop : Stop) : Type 0 where
+  pub bytes : List ℕ
+  pub gives : Gives source old new bytes
+  pub text_is : after ≡ before ++ bytes
+  pub stopped : IsStop source old new left stop

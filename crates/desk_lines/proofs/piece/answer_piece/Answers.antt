@@ -1,0 +1,49 @@
+use Rattle.std.proofs.Common.{◌≡◌, ◌∙◌, ℕ, ◌+◌, ◌≤◌, List, [], ◌∷◌, ◌++◌, ap, sym, subst, refl, append_assoc, length, arith}
+use Rattle.std.proofs.lemmas.List.{append-nil}
+use Rattle.desk_lines.specs.Lines.{ended_lines}
+use Rattle.desk_lines.specs.Records.{AreTold}
+use Rattle.desk_lines.specs.Telling.{text_of, with_line_feed, answers_in, report_with, report_by, count_of}
+use Rattle.desk_lines.proofs.AnswerLemmas.{AreTold-last}
+use Rattle.desk_lines.proofs.TellingLemmas.{text_of-more, report_by-more}
+use Rattle.desk_lines.specs.declared.report.DeskReport.{DeskReport}
+use Rattle.desk_lines.specs.declared.line_kind.LineKind.{LineKind}
+use Rattle.desk_lines.specs.declared.line_kind.LineKind.TheVariants.{NoRecord, Answered, Refused}
+use Rattle.desk_lines.proofs.piece.answer_piece.Goals as goal
+
+-- a line is counted once at most
+counted_one : (report : DeskReport) (kind : LineKind) → count_of (report_with report kind) ≤ count_of report + 1
+counted_one report NoRecord = omega arith
+counted_one report Answered = omega arith
+counted_one report Refused = omega arith
+
+pub loop-line-init : goal.loop-line-init
+loop-line-init g c = ([], [], record { lines = refl; are_told = refl; answers = sym (append-nil c.args.answers.now.items); report = refl; count = omega arith })
+
+pub loop-line-preserved : goal.loop-line-preserved
+loop-line-preserved g c =
+    let so_far = c.loop-line.invariant in
+    let done = so_far.0 in
+    let told = so_far.1 in
+    let line = c.in-Some.line.now in
+    let cut = c.in-Some.ensures in
+    let puts = c.respond-kind.ensures in
+    let text = with_line_feed puts.told in
+    let is : c.as_slice.result.now ≡ text = c.as_slice.ensures ∙ puts.put ∙ ap (λ b. b ++ text) c.clear.ensures in (
+      done ++ line ∷ [],
+      told ++ answers_in puts.told,
+      record {
+        lines = so_far.2.lines ∙ ap (λ rest. done ++ rest) cut.0 ∙ sym (append_assoc done (line ∷ []) (ended_lines c.in-Some.after.now));
+        are_told = AreTold-last g.A.Responder.may_tell c.args.rules done line told puts.told so_far.2.are_told puts.may_be_told;
+        answers = c.in_ok-extend_from_slice.ensures.items ∙ ap (λ front. front ++ c.as_slice.result.now) so_far.2.answers ∙ ap (λ t. (c.args.answers.now.items ++ text_of told) ++ t) is
+            ∙ append_assoc c.args.answers.now.items (text_of told) text ∙ ap (λ t. c.args.answers.now.items ++ t) (sym (text_of-more told puts.told));
+        report = c.counted-report.ensures ∙ ap (λ report. report_with report c.respond-kind.result) so_far.2.report ∙ ap (report_with (report_by g.A.Responder.refuses told)) puts.kind_is
+            ∙ sym (report_by-more g.A.Responder.refuses told puts.told);
+        count = let one = counted_one c.loop-line.report c.respond-kind.result in let same = ap count_of c.counted-report.ensures in let shorter = cut.2 in let before = so_far.2.count in omega arith;
+      },
+    )
+
+pub returns : goal.returns
+returns g c =
+    let so_far = c.loop-line.invariant in
+    let done : ended_lines c.args.text.now ≡ so_far.0 = so_far.2.lines ∙ ap (λ rest. so_far.0 ++ rest) c.in_default.ensures.0 ∙ append-nil so_far.0 in
+    (so_far.1, subst (λ (ls : List (List ℕ)). AreTold g.A.Responder.may_tell c.args.rules ls so_far.1) (sym done) so_far.2.are_told, so_far.2.answers, so_far.2.report)
