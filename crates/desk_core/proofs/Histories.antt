@@ -13,7 +13,7 @@ use Rattle.desk_core.proofs.Lists.{filter_map-take_while-push, slice_get-append_
 use Rattle.desk_core.specs.LaneState.{is_among}
 use Rattle.desk_core.specs.Ticketed.{Ticketed}
 use Rattle.desk_core.specs.declared.answer.Answer.{Answer}
-use Rattle.desk_core.specs.History.{Turn, is_close, is_closed, submitted, submitted_job, HasArrived, given, answer_in, withdrawn, withdrawn_in, is_given, is_withdrawn}
+use Rattle.desk_core.specs.History.{Turn, is_close, has_closed, submitted, submitted_job, HasArrived, given, answer_in, withdrawn, withdrawn_in, is_given, is_withdrawn}
 use Rattle.desk_core.specs.declared.event.Event.{Event}
 use Rattle.desk_core.specs.declared.event.Event.TheVariants.{Arrive, Close}
 use Rattle.desk_core.specs.declared.reply.Reply.{Reply}
@@ -22,13 +22,13 @@ close_submits_nothing : (event : Event) (replied : Reply) → is_close event ≡
 close_submits_nothing (Close table) replied closes = refl
 close_submits_nothing event replied closes = cc
 
-pub submitted-push : (turns : List Turn) (turn : Turn) → submitted (turns ++ turn ∷ []) ≡ submitted turns ++ (if is_closed turns then [] else cons_option (submitted_job turn.0 turn.1) [])
+pub submitted-push : (turns : List Turn) (turn : Turn) → submitted (turns ++ turn ∷ []) ≡ submitted turns ++ (if has_closed turns then [] else cons_option (submitted_job turn.0 turn.1) [])
 submitted-push turns turn =
     filter_map-take_while-push (λ t. submitted_job t.0 t.1) (λ t. is_close t.0) turns turn (close_submits_nothing turn.0 turn.1)
 
-pub is_closed-push : (turns : List Turn) (turn : Turn) → is_closed (turns ++ turn ∷ []) ≡ (is_closed turns || is_close turn.0)
-is_closed-push turns turn =
-    list_any-append (λ t. is_close t.0) turns (turn ∷ []) ∙ ap (λ b. is_closed turns || b) (or-false (is_close turn.0))
+pub has_closed-push : (turns : List Turn) (turn : Turn) → has_closed (turns ++ turn ∷ []) ≡ (has_closed turns || is_close turn.0)
+has_closed-push turns turn =
+    list_any-append (λ t. is_close t.0) turns (turn ∷ []) ∙ ap (λ b. has_closed turns || b) (or-false (is_close turn.0))
 
 pub given-push : (turns : List Turn) (turn : Turn) → given (turns ++ turn ∷ []) ≡ given turns ++ cons_option (answer_in turn.1) []
 given-push turns turn = filter_map-append (λ t. answer_in t.1) turns (turn ∷ [])

@@ -6,13 +6,13 @@ use Rattle.std.proofs.lemmas.Option.{same_Some, slice_get_within, slice_get-map}
 use Rattle.std.proofs.lemmas.Bool.{cases_lt, cases_eq, eq-eqb, ne_eqb, lt-ltb, false≢true, or_right, or_from, or_parts}
 use Rattle.std.proofs.Math.Bool.{or-false, or-true}
 use Rattle.desk_core.proofs.Lists.{slice_get-append_left, slice_get-push, slice_get-drop, slice_get-set_same, slice_get-set_other, map-set_same, drop-suc, if-same, set-slice_get}
-use Rattle.desk_core.proofs.Histories.{submitted-push, is_closed-push, HasArrived-push, HasArrived-push_cases, HasArrived-within, HasArrived-from_BringsIn, BringsIn, IsQuiet, is_given-same, is_withdrawn-same}
+use Rattle.desk_core.proofs.Histories.{submitted-push, has_closed-push, HasArrived-push, HasArrived-push_cases, HasArrived-within, HasArrived-from_BringsIn, BringsIn, IsQuiet, is_given-same, is_withdrawn-same}
 use Rattle.desk_core.proofs.Next.{IsNext, IsNext-next_ticket, IsNext-is}
 use Rattle.desk_core.proofs.Facts.{IsSound, IsSound-IsLegal, next-within, next-same, not_given, arrived_before, next_stays, is_given-more, is_withdrawn-more, turns_of-push, IsLegal-push}
 use Rattle.desk_core.specs.Value.{value_of}
 use Rattle.desk_core.specs.Ticketed.{Ticketed}
 use Rattle.desk_core.specs.LaneState.{LaneState, is_among, with_job, PassesWithdrawn, CanTakeBack, TakesBack}
-use Rattle.desk_core.specs.History.{Turn, table_of, turns_of, is_close, is_closed, submitted, submitted_job, HasArrived, is_given, is_withdrawn, is_done, next_ticket, CanWithdraw, ReplyOf, DeskReplyOf}
+use Rattle.desk_core.specs.History.{Turn, table_of, turns_of, is_close, has_closed, submitted, submitted_job, HasArrived, is_given, is_withdrawn, is_done, next_ticket, CanWithdraw, ReplyOf, DeskReplyOf}
 use Rattle.desk_core.specs.Step.{IsLeftBy, IsStep}
 use Rattle.desk_core.specs.Entry.{TakesIn}
 use Rattle.desk_core.specs.declared.arrived.Arrived.{Arrived}
@@ -78,7 +78,7 @@ entry_stays turns turn lane k job flag left quiet old there stays =
     arrived_on turns turn lane k job flag left (sym (is_withdrawn-same turns turn (lane.next + k) quiet.1) ∙ stays) old there
 
 -- a turn that gives and withdraws nothing, and brings in nothing new
-pub IsLeftBy-kept : (turns : List Turn) (turn : Turn) (lane : LaneState) (closed : Bool) → IsSound turns → IsLeftBy turns lane → IsQuiet turn → submitted (turns ++ turn ∷ []) ≡ submitted turns → BringsNothing turns turn → closed ≡ is_closed (turns ++ turn ∷ []) → IsLeftBy (turns ++ turn ∷ []) (record lane { closed = closed })
+pub IsLeftBy-kept : (turns : List Turn) (turn : Turn) (lane : LaneState) (closed : Bool) → IsSound turns → IsLeftBy turns lane → IsQuiet turn → submitted (turns ++ turn ∷ []) ≡ submitted turns → BringsNothing turns turn → closed ≡ has_closed (turns ++ turn ∷ []) → IsLeftBy (turns ++ turn ∷ []) (record lane { closed = closed })
 IsLeftBy-kept turns turn lane closed sound left quiet jobs old close =
     record {
       next = left.next ∙ sym (next-same turns turn sound quiet);
@@ -91,9 +91,9 @@ IsLeftBy-kept turns turn lane closed sound left quiet jobs old close =
 pub submits_nothing : (turns : List Turn) (turn : Turn) → submitted_job turn.0 turn.1 ≡ None → submitted (turns ++ turn ∷ []) ≡ submitted turns
 submits_nothing turns turn none = submitted-push turns turn ∙ (rw (none, if-same) (append-nil (submitted turns)))
 
-still_closed : (turns : List Turn) (turn : Turn) (lane : LaneState) → IsLeftBy turns lane → is_close turn.0 ≡ false → lane.closed ≡ is_closed (turns ++ turn ∷ [])
+still_closed : (turns : List Turn) (turn : Turn) (lane : LaneState) → IsLeftBy turns lane → is_close turn.0 ≡ false → lane.closed ≡ has_closed (turns ++ turn ∷ [])
 still_closed turns turn lane left not_close =
-    left.closed ∙ sym (is_closed-push turns turn ∙ (rw not_close (or-false (is_closed turns))))
+    left.closed ∙ sym (has_closed-push turns turn ∙ (rw not_close (or-false (has_closed turns))))
 
 abbrev is_arrival : Event → Bool
 is_arrival (Arrive piece) = true
@@ -115,7 +115,7 @@ idle_kept lane turn turns sound left idle =
 pub submit_after_close : (lane : LaneState) (job : Job) → lane.closed ≡ true → IsOwnStep lane (Submit lane.table job) (reply.Refused fault.Closed) lane
 submit_after_close lane job closed = λ turns sound left.
     let turn : Turn = (Submit lane.table job, reply.Refused fault.Closed) in
-    let was : is_closed turns ≡ true = sym left.closed ∙ closed in
+    let was : has_closed turns ≡ true = sym left.closed ∙ closed in
     let jobs : submitted (turns ++ turn ∷ []) ≡ submitted turns = submitted-push turns turn ∙ (rw was (append-nil (submitted turns))) in
     (was, IsLeftBy-kept turns turn lane lane.closed sound left (refl, refl) jobs (brings_nothing turns turn refl) (still_closed turns turn lane left refl))
 
@@ -152,7 +152,7 @@ submit_accepted lane job is_open room = λ turns sound left.
     let turn : Turn = (Submit lane.table job, reply.Ticket ticket) in
     let total : lane.next + length lane.window ≡ length (submitted turns) = count turns lane left in
     let below : length (submitted turns) ≢ 1000000 = λ e. room (total ∙ e) in
-    let was : is_closed turns ≡ false = sym left.closed ∙ is_open in
+    let was : has_closed turns ≡ false = sym left.closed ∙ is_open in
     let jobs : submitted (turns ++ turn ∷ []) ≡ submitted turns ++ job ∷ [] = submitted-push turns turn ∙ (rw was refl) in
     let inside : lane.next ≤ length (submitted turns) = omega arith in
     let numbered : ℕ → Ticket = λ n. record { table = lane.table; seq = n } in
@@ -295,7 +295,7 @@ close_step lane = λ turns sound left.
     let turn : Turn = (Close lane.table, reply.Closed (not lane.closed)) in (
       ap (λ b. reply.Closed (not b)) left.closed,
       IsLeftBy-kept turns turn lane true sound left (refl, refl) (submits_nothing turns turn refl) (brings_nothing turns turn refl)
-          (sym (is_closed-push turns turn ∙ or-true (is_closed turns))),
+          (sym (has_closed-push turns turn ∙ or-true (has_closed turns))),
     )
 
 -- takings
@@ -350,7 +350,7 @@ record IsLeftUnpassed (turns : List Turn) (lane : LaneState) : Type 0 where
   pub jobs : map (λ (e : Job × Bool). e.0) lane.window ≡ drop lane.next (submitted turns)
   pub arrived : (k : ℕ) (job : Job) (flag : Bool) → slice_get lane.window k ≡ Some (job, flag) → is_withdrawn turns (lane.next + k) ≡ false → (flag ≡ true) ↔ HasArrived turns (lane.next + k)
   pub withdrawn : (i : ℕ) → is_among lane.withdrawn i ≡ is_withdrawn turns i
-  pub closed : lane.closed ≡ is_closed turns
+  pub closed : lane.closed ≡ has_closed turns
 
 passed_is_next : (turns : List Turn) (lane : LaneState) (n : ℕ) → IsLeftUnpassed turns lane → n ≤ length lane.window → ((i : ℕ) → i < n → is_among lane.withdrawn (lane.next + i) ≡ true) → (lane.next + n ≡ length (submitted turns)) ⊎ (is_among lane.withdrawn (lane.next + n) ≡ false) → IsNext turns (lane.next + n)
 passed_is_next turns lane n left within each ends =

@@ -1,8 +1,8 @@
 -- The text of an answer, on one line.
 use Rattle.std.specs.Prelude.{ℕ, List}
 use Rattle.riichi_split.specs.Waits.{waits_text}
-use Rattle.riichi_score.specs.Text.{text_of as win_text}
-use Rattle.riichi_shape_text.specs.Text.{text_of as shape_text}
+use Rattle.riichi_score.specs.Text.{win_text}
+use Rattle.riichi_shape_text.specs.Text.{shape_text}
 use Rattle.desk_core.specs.declared.answer.Answer.{Answer}
 use Rattle.desk_core.specs.declared.answer.Answer.TheVariants as answer
 

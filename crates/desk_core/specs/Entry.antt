@@ -7,9 +7,9 @@ use Rattle.desk_core.specs.declared.entry.Entry.{Entry}
 use Rattle.desk_core.specs.declared.entry.Entry.TheVariants as entry
 
 -- the job, and whether its piece has arrived
-abbrev pub seen : Entry → Job × Bool
-seen (entry.Waiting job) = (job, false)
-seen (entry.Scored piece) = (piece.job, true)
+abbrev pub job_with_arrival : Entry → Job × Bool
+job_with_arrival (entry.Waiting job) = (job, false)
+job_with_arrival (entry.Scored piece) = (piece.job, true)
 
 -- what becomes of a piece with this job, and of the entry
 abbrev pub TakesIn : Job × Bool → Job → Arrived → Job × Bool → Type 0

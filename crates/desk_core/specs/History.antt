@@ -52,8 +52,8 @@ abbrev pub submitted : List Turn → List Job
 submitted turns = filter_map (λ turn. submitted_job turn.0 turn.1) (take_while (λ turn. not (is_close turn.0)) turns)
 
 -- whether the table has closed
-abbrev pub is_closed : List Turn → Bool
-is_closed turns = list_any (λ turn. is_close turn.0) turns
+abbrev pub has_closed : List Turn → Bool
+has_closed turns = list_any (λ turn. is_close turn.0) turns
 
 -- at place q a piece came for ticket i with the job submitted under it, after that ticket was given out
 pub record ArrivedAt (turns : List Turn) (i q : ℕ) : Type 0 where
@@ -109,11 +109,11 @@ AllDone turns = next_ticket turns ≡ length (submitted turns)
 
 -- the reply to a submission: closed, over the limit, want of memory, or the next number
 abbrev pub SubmitReply : List Turn → ℕ → Reply → Type 0
-SubmitReply turns table (reply.Refused fault.Closed) = is_closed turns ≡ true
-SubmitReply turns table (reply.Refused fault.Limit) = (is_closed turns ≡ false) × (length (submitted turns) ≡ LIMIT)
-SubmitReply turns table (reply.Refused fault.Memory) = (is_closed turns ≡ false) × (length (submitted turns) ≢ LIMIT)
+SubmitReply turns table (reply.Refused fault.Closed) = has_closed turns ≡ true
+SubmitReply turns table (reply.Refused fault.Limit) = (has_closed turns ≡ false) × (length (submitted turns) ≡ LIMIT)
+SubmitReply turns table (reply.Refused fault.Memory) = (has_closed turns ≡ false) × (length (submitted turns) ≢ LIMIT)
 SubmitReply turns table (reply.Ticket ticket) =
-    (is_closed turns ≡ false) × (length (submitted turns) ≢ LIMIT)
+    (has_closed turns ≡ false) × (length (submitted turns) ≢ LIMIT)
     × (ticket ≡ record { table = table; seq = length (submitted turns) })
 SubmitReply turns table reply = ⊥
 
@@ -140,9 +140,9 @@ TakeReply turns (reply.Taken (taken.Answer seq answer)) =
     (seq ≡ next_ticket turns) × HasArrived turns seq
     × (option_map value_of (slice_get (submitted turns) seq) ≡ Some answer)
 TakeReply turns (reply.Taken taken.Finished) =
-    (¬ HasArrived turns (next_ticket turns)) × (is_closed turns ≡ true) × AllDone turns
+    (¬ HasArrived turns (next_ticket turns)) × (has_closed turns ≡ true) × AllDone turns
 TakeReply turns (reply.Taken taken.Waiting) =
-    (¬ HasArrived turns (next_ticket turns)) × (¬ ((is_closed turns ≡ true) × AllDone turns))
+    (¬ HasArrived turns (next_ticket turns)) × (¬ ((has_closed turns ≡ true) × AllDone turns))
 TakeReply turns reply = ⊥
 
 -- the ticket was given out, and neither given nor withdrawn
@@ -160,7 +160,7 @@ WithdrawReply turns seq reply = ⊥
 abbrev pub ReplyOf : List Turn → Event → Reply → Type 0
 ReplyOf turns (Submit table job) replied = SubmitReply turns table replied
 ReplyOf turns (Arrive piece) replied = ArriveReply turns piece replied
-ReplyOf turns (Close table) replied = replied ≡ reply.Closed (not (is_closed turns))
+ReplyOf turns (Close table) replied = replied ≡ reply.Closed (not (has_closed turns))
 ReplyOf turns (Take table) replied = TakeReply turns replied
 ReplyOf turns (Withdraw ticket) replied = WithdrawReply turns ticket.seq replied
 

@@ -1,7 +1,7 @@
 -- What the state of a lane stands for, and what a step of it is.
 use Rattle.std.specs.Prelude.{◌≡◌, ℕ, ◌+◌, ◌<◌, ◌↔◌, Bool, true, false, List, [], ◌∷◌, ◌++◌, map, drop, Some, slice_get}
 use Rattle.desk_core.specs.LaneState.{LaneState, is_among}
-use Rattle.desk_core.specs.History.{Turn, turns_of, submitted, is_closed, is_withdrawn, HasArrived, next_ticket, IsLegal}
+use Rattle.desk_core.specs.History.{Turn, turns_of, submitted, has_closed, is_withdrawn, HasArrived, next_ticket, IsLegal}
 use Rattle.riichi_hand.specs.declared.job.Job.{Job}
 use Rattle.desk_core.specs.declared.event.Event.{Event}
 use Rattle.desk_core.specs.declared.reply.Reply.{Reply}
@@ -16,7 +16,7 @@ pub record IsLeftBy (turns : List Turn) (lane : LaneState) : Type 0 where
       → is_withdrawn turns (lane.next + k) ≡ false
       → (has_arrived ≡ true) ↔ HasArrived turns (lane.next + k)
   pub withdrawn : (i : ℕ) → is_among lane.withdrawn i ≡ is_withdrawn turns i
-  pub closed : lane.closed ≡ is_closed turns
+  pub closed : lane.closed ≡ has_closed turns
 
 -- the state stands for the history at a desk of so many tables
 pub record StandsFor (lane : LaneState) (tables : ℕ) (history : List Turn) : Type 0 where

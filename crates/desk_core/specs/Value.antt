@@ -3,7 +3,7 @@ use Rattle.riichi_hand.specs.declared.job.Job.{Job}
 use Rattle.riichi_hand.specs.declared.job.Job.TheVariants as job
 use Rattle.riichi_split.specs.Waits.{waits_of}
 use Rattle.riichi_score.specs.Best.{best_of}
-use Rattle.riichi_shape.specs.Answer.{shape_of}
+use Rattle.riichi_shape.specs.Answer.{shape_answer_of}
 use Rattle.desk_core.specs.declared.answer.Answer.{Answer}
 use Rattle.desk_core.specs.declared.answer.Answer.TheVariants as answer
 
@@ -11,4 +11,4 @@ use Rattle.desk_core.specs.declared.answer.Answer.TheVariants as answer
 unfoldable pub value_of : Job → Answer
 value_of (job.Win win) = answer.Win (best_of win)
 value_of (job.Waits hand) = answer.Waits (waits_of hand)
-value_of (job.Shape shape) = answer.Shape (shape_of shape)
+value_of (job.Shape shape) = answer.Shape (shape_answer_of shape)

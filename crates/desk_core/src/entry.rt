@@ -13,7 +13,7 @@ pub(crate) enum Entry {
 }
 
 impl Entry {
-    ghost use Rattle.desk_core.specs.Entry.{seen, TakesIn};
+    ghost use Rattle.desk_core.specs.Entry.{job_with_arrival, TakesIn};
 
     pub(crate) fn waiting(job: &Job) -> Entry
         ensures { result ≡ Entry.Waiting job.now }
@@ -23,7 +23,7 @@ impl Entry {
 
     /// Takes in a piece for this job, where it is the first one and carries the job.
     pub(crate) fn arrive(&mut self, piece: Piece) -> Arrived
-        ensures outcome { TakesIn (seen self.old) piece.job result (seen self.new) }
+        ensures outcome { TakesIn (job_with_arrival self.old) piece.job result (job_with_arrival self.new) }
         ensures kept { result ≢ Arrived.Accepted → self.new ≡ self.old }
     {
         match self {

@@ -34,15 +34,15 @@ impl Model for Lane {
 
     ghost Value = { LaneState };
 
-    ghost use Rattle.desk_core.specs.Entry.{seen};
+    ghost use Rattle.desk_core.specs.Entry.{job_with_arrival};
 
-    ghost view = { λ l. record { table = l.table; next = l.next; window = map seen l.window.items; withdrawn = l.withdrawn.keys; closed = l.closed } };
+    ghost view = { λ l. record { table = l.table; next = l.next; window = map job_with_arrival l.window.items; withdrawn = l.withdrawn.keys; closed = l.closed } };
 
     ghost invariant = { λ l. l.next + length l.window.items ≤ 1000000 };
 }
 
 impl Lane {
-    ghost use Rattle.desk_core.specs.History.{Turn, table_of, turns_of, submitted, is_closed};
+    ghost use Rattle.desk_core.specs.History.{Turn, table_of, turns_of, submitted, has_closed};
     ghost use Rattle.desk_core.specs.Step.{IsStep, StandsFor};
     ghost use Rattle.desk_core.specs.LaneState.{new_lane, with_job, AcceptsJob, RefusesJob, is_among, TakesInPiece, PassesWithdrawn, CanTakeBack, TakesBack, Awaits};
     ghost use Rattle.desk_core.specs.GivesFirst.{GivesFirst};
@@ -74,7 +74,7 @@ impl Lane {
     pub fn closed(&self) -> bool
         ensures value { result ≡ self.now.closed }
         ensures told { (tables : ℕ) (history : List Turn) → StandsFor self.now tables history
-            → result ≡ is_closed (turns_of self.now.table history) }
+            → result ≡ has_closed (turns_of self.now.table history) }
     {
         self.closed
     }

@@ -8,7 +8,7 @@ use Rattle.std.specs.Prelude.{slice_index, slice_get, nat_lt}
 use Rattle.std.proofs.lemmas.Option.{get_or_from_slice_get, slice_get_within}
 use Rattle.riichi_shape.specs.LiveCopies.{pairs_of}
 use Rattle.riichi_shape.specs.declared.discard.Discard.{Discard}
-use Rattle.desk_json.specs.Parts.{comma_if, listed, live_text, discard_text}
+use Rattle.desk_json.specs.Parts.{comma_if, listed, live_json, discard_json}
 use Rattle.desk_json.proofs.Lists.{is_begun, begun_one_more, joined_more}
 
 unfoldable pub texts_below : (ℕ → List ℕ) → (ℕ → Bool) → ℕ → List (List ℕ)
@@ -84,9 +84,9 @@ fused : {X Y : Type 0} (text : Y → List ℕ) (make : X → Y) (xs : List X) �
 fused text make [] = refl
 fused text make (x ∷ xs) = ap (λ ys. text (make x) ∷ ys) (fused text make xs)
 
-pub all_pairs : (copies : List ℕ) → texts_below (λ kind. live_text (kind, slice_index copies kind)) (λ kind. nat_lt 0 (slice_index copies kind)) 34 ≡ map live_text (pairs_of copies)
+pub all_pairs : (copies : List ℕ) → texts_below (λ kind. live_json (kind, slice_index copies kind)) (λ kind. nat_lt 0 (slice_index copies kind)) 34 ≡ map live_json (pairs_of copies)
 unfolding texts_below pairs_of
-all_pairs copies = fused live_text (λ kind. (kind, slice_index copies kind)) (filter (λ kind. nat_lt 0 (slice_index copies kind)) (range_with_len 0 34))
+all_pairs copies = fused live_json (λ kind. (kind, slice_index copies kind)) (filter (λ kind. nat_lt 0 (slice_index copies kind)) (range_with_len 0 34))
 
 begun_taken : {X : Type 0} (f : X → List ℕ) (xs : List X) (i : ℕ) → i < length xs → nat_lt 0 i ≡ is_begun (map f (take i xs))
 begun_taken f [] i low = absurd (omega arith)
@@ -94,12 +94,12 @@ begun_taken f (x ∷ xs) zero low = refl
 begun_taken f (x ∷ xs) (suc i) low = lt-ltb 0 (suc i) (omega arith)
 
 pub discard_more : (discards : List Discard) (before : List ℕ) (i : ℕ) (discard : Discard) → slice_get discards i ≡ Some discard
-    → ((before ++ listed (map discard_text (take i discards))) ++ comma_if (nat_lt 0 i)) ++ discard_text discard ≡ before ++ listed (map discard_text (take (i + 1) discards))
+    → ((before ++ listed (map discard_json (take i discards))) ++ comma_if (nat_lt 0 i)) ++ discard_json discard ≡ before ++ listed (map discard_json (take (i + 1) discards))
 discard_more discards before i discard e =
     let low : i < length discards = slice_get_within discards i discard e in
-    let texts : List (List ℕ) = map discard_text (take i discards) in
-    let more : map discard_text (take (i + 1) discards) ≡ texts ++ discard_text discard ∷ [] =
-    map_more discard_text discards i discard low ∙ ap (λ d. texts ++ discard_text d ∷ []) (get_or_from_slice_get discards i discard discard e) in
-    ap (λ l. ((before ++ listed texts) ++ comma_if l) ++ discard_text discard) (begun_taken discard_text discards i low)
-    ∙ regroup before (listed texts) (comma_if (is_begun texts)) (discard_text discard)
-    ∙ ap (λ t. before ++ t) (sym (joined_more texts (discard_text discard)) ∙ ap listed (sym more))
+    let texts : List (List ℕ) = map discard_json (take i discards) in
+    let more : map discard_json (take (i + 1) discards) ≡ texts ++ discard_json discard ∷ [] =
+    map_more discard_json discards i discard low ∙ ap (λ d. texts ++ discard_json d ∷ []) (get_or_from_slice_get discards i discard discard e) in
+    ap (λ l. ((before ++ listed texts) ++ comma_if l) ++ discard_json discard) (begun_taken discard_json discards i low)
+    ∙ regroup before (listed texts) (comma_if (is_begun texts)) (discard_json discard)
+    ∙ ap (λ t. before ++ t) (sym (joined_more texts (discard_json discard)) ∙ ap listed (sym more))

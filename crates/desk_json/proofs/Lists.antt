@@ -4,7 +4,7 @@ use Rattle.std.proofs.lemmas.List.{append-nil, flat_map_more}
 use Rattle.std.specs.Prelude.{codes}
 use Rattle.std.specs.List.{flat_map}
 use Rattle.json.specs.Json.{Json}
-use Rattle.desk_json.specs.Trees.{items_of}
+use Rattle.desk_json.specs.Trees.{json_items}
 use Rattle.desk_json.specs.Parts.{comma_if, listed}
 use Rattle.desk_json.proofs.Written.{written, items_written}
 
@@ -22,19 +22,19 @@ joined_more [] next = append-nil next
 joined_more (text ∷ texts) next = sym (flat_map_more (λ t. codes "," ++ t) text texts next)
 
 items_later : {X : Type 0} (tree : X → Json) (text : X → List ℕ) → ((x : X) → written (tree x) ≡ text x) → (xs : List X)
-    → items_written true (items_of tree xs) ≡ flat_map (λ next. codes "," ++ next) (map text xs) ++ codes "]"
+    → items_written true (json_items tree xs) ≡ flat_map (λ next. codes "," ++ next) (map text xs) ++ codes "]"
 unfolding written
 items_later tree text each [] = refl
 items_later tree text each (x ∷ xs) =
-    ap (λ t. codes "," ++ (t ++ items_written true (items_of tree xs))) (each x)
+    ap (λ t. codes "," ++ (t ++ items_written true (json_items tree xs))) (each x)
     ∙ ap (λ t. codes "," ++ (text x ++ t)) (items_later tree text each xs)
     ∙ sym (append_assoc (codes "," ++ text x) (flat_map (λ next. codes "," ++ next) (map text xs)) (codes "]"))
 
 pub items_joined : {X : Type 0} (tree : X → Json) (text : X → List ℕ) → ((x : X) → written (tree x) ≡ text x) → (xs : List X)
-    → items_written false (items_of tree xs) ≡ listed (map text xs) ++ codes "]"
+    → items_written false (json_items tree xs) ≡ listed (map text xs) ++ codes "]"
 unfolding written
 items_joined tree text each [] = refl
 items_joined tree text each (x ∷ xs) =
-    ap (λ t. t ++ items_written true (items_of tree xs)) (each x)
+    ap (λ t. t ++ items_written true (json_items tree xs)) (each x)
     ∙ ap (λ t. text x ++ t) (items_later tree text each xs)
     ∙ sym (append_assoc (text x) (flat_map (λ next. codes "," ++ next) (map text xs)) (codes "]"))

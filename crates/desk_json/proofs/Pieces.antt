@@ -23,9 +23,9 @@ use Rattle.riichi_yaku.specs.Table as table
 use Rattle.riichi_yaku.specs.YakuSets.{is_yakuman, yaku_in}
 use Rattle.desk_core.specs.declared.answer.Answer.TheVariants as answer
 use Rattle.desk_json.specs.Parts as parts
-use Rattle.desk_json.specs.Parts.{yaku_text, names_text, limit_text, truth_text, payment_text, worth_text, points_text, score_text, yaku_list_text, quoted_kind, live_text, pairs_text, accepted_text, discard_text, discards_text, accepts_text, shape_text}
-use Rattle.desk_json.specs.Text.{answer_text}
-use Rattle.desk_json.specs.Trees.{answer_tree, members_of, object_of, natural, kind_tree, yaku_tree, limit_tree, payment_tree, rules_members, score_tree, win_tree, kinds_in, waits_tree, live_tree, accepted_members, discard_tree, accepts_members, shape_tree}
+use Rattle.desk_json.specs.Parts.{yaku_json, names_json, limit_json, truth_json, payment_json, worth_json, points_json, score_json, yaku_list_json, quoted_kind, live_json, pairs_json, accepted_json, discard_json, discards_json, accepts_json, shape_json}
+use Rattle.desk_json.specs.Text.{answer_json}
+use Rattle.desk_json.specs.Trees.{answer_tree, members_of, object_of, natural, kind_tree, yaku_tree, limit_tree, payment_tree, rules_members, score_tree, win_tree, kinds_held, waits_tree, live_tree, accepted_members, discard_tree, accepts_members, shape_tree}
 use Rattle.desk_json.proofs.Lists.{items_joined}
 use Rattle.desk_json.proofs.WordLemmas.{escape_kind, escape_name, escape_rules, escape_word}
 use Rattle.desk_json.proofs.Written.{written, members_written, text_written}
@@ -38,11 +38,11 @@ yaku_with : (n : ℕ) (word name : List ℕ) → escape word ≡ word → escape
 unfolding written escape_byte
 yaku_with n word name same same_name = simp (append_assoc, same, same_name)
 
-pub yaku_written : (yaku : Yaku) → written (yaku_tree yaku) ≡ yaku_text yaku
-unfolding yaku_tree yaku_text names_text
+pub yaku_written : (yaku : Yaku) → written (yaku_tree yaku) ≡ yaku_json yaku
+unfolding yaku_tree yaku_json names_json
 yaku_written yaku = yaku_with (table.number yaku) (table.word yaku) (japanese yaku) (escape_word yaku) (escape_name yaku)
 
-limit_written : (base : ℕ) → written (limit_tree base) ≡ limit_text base
+limit_written : (base : ℕ) → written (limit_tree base) ≡ limit_json base
 unfolding written escape_byte limit_tree
 limit_written base = by_tests (base == 2000) (base == 3000) (base == 4000) (base == 6000) (nat_le 8000 base)
   where
@@ -52,13 +52,13 @@ limit_written base = by_tests (base == 2000) (base == 3000) (base == 4000) (base
     by_tests false false false false false = refl
     by_tests _ _ _ _ _ = refl
 
-payment_written : (payment : Payment) → written (payment_tree payment) ≡ payment_text payment
+payment_written : (payment : Payment) → written (payment_tree payment) ≡ payment_json payment
 unfolding written escape_byte payment_tree
 payment_written (Ron points) = refl
 payment_written (Tsumo other dealer) = simp append_assoc
 payment_written (DealerTsumo each) = refl
 
-truth_written : (truth : Bool) → written (Json.boolean truth) ≡ truth_text truth
+truth_written : (truth : Bool) → written (Json.boolean truth) ≡ truth_json truth
 unfolding written
 truth_written true = refl
 truth_written false = refl
@@ -82,28 +82,28 @@ grouped a t b h c f d o e s g l i p j n k y x r z = simp append_assoc
 rules_with : (words : List ℕ) → escape words ≡ words → codes ",\"rules\":" ++ (quoted words ++ codes "}") ≡ (codes ",\"rules\":\"" ++ words ++ codes "\"") ++ codes "}"
 rules_with words same = simp (append_assoc, same)
 
-rules_written : (rules : House) → members_written true (members_of (rules_members rules)) ≡ parts.rules_text rules ++ codes "}"
+rules_written : (rules : House) → members_written true (members_of (rules_members rules)) ≡ parts.rules_json rules ++ codes "}"
 unfolding written escape_byte house_words
 rules_written rules =
     let words = rules_words rules in
     elim (is_house rules) as (λ test. members_written true (members_of (cond test ((codes "rules", string words) ∷ []) [])) ≡ cond test (codes ",\"rules\":\"" ++ words ++ codes "\"") [] ++ codes "}")
     [ true ↦ rules_with words (escape_rules rules) | false ↦ refl ]
 
-score_written : (rules : House) (score : Score) → written (score_tree rules score) ≡ (score_text score ++ parts.rules_text rules) ++ codes "}"
-unfolding written escape_byte score_tree score_text worth_text points_text score_with
+score_written : (rules : House) (score : Score) → written (score_tree rules score) ≡ (score_json score ++ parts.rules_json rules) ++ codes "}"
+unfolding written escape_byte score_tree score_json worth_json points_json score_with
 score_written rules score =
-    same_score score _ (truth_text (is_yakuman score.yaku)) _ (limit_text score.base) _ (payment_text score.payment) _ (yaku_list_text score.yaku ++ codes "]") _ (parts.rules_text rules ++ codes "}")
-    (truth_written (is_yakuman score.yaku)) (limit_written score.base) (payment_written score.payment) (items_joined yaku_tree yaku_text yaku_written (yaku_in score.yaku)) (rules_written rules)
-    ∙ grouped (codes "{\"answer\":\"won\",\"yakuman\":") (truth_text (is_yakuman score.yaku)) (codes ",\"han\":") (decimal score.han) (codes ",\"fu\":") (decimal score.fu)
-    (codes ",\"dora\":") (decimal score.dora) (codes ",\"base\":") (decimal score.base) (codes ",\"limit\":") (limit_text score.base)
-    (codes ",\"payment\":") (payment_text score.payment) (codes ",\"gain\":") (decimal score.gain) (codes ",\"yaku\":[") (yaku_list_text score.yaku) (codes "]") (parts.rules_text rules) (codes "}")
+    same_score score _ (truth_json (is_yakuman score.yaku)) _ (limit_json score.base) _ (payment_json score.payment) _ (yaku_list_json score.yaku ++ codes "]") _ (parts.rules_json rules ++ codes "}")
+    (truth_written (is_yakuman score.yaku)) (limit_written score.base) (payment_written score.payment) (items_joined yaku_tree yaku_json yaku_written (yaku_in score.yaku)) (rules_written rules)
+    ∙ grouped (codes "{\"answer\":\"won\",\"yakuman\":") (truth_json (is_yakuman score.yaku)) (codes ",\"han\":") (decimal score.han) (codes ",\"fu\":") (decimal score.fu)
+    (codes ",\"dora\":") (decimal score.dora) (codes ",\"base\":") (decimal score.base) (codes ",\"limit\":") (limit_json score.base)
+    (codes ",\"payment\":") (payment_json score.payment) (codes ",\"gain\":") (decimal score.gain) (codes ",\"yaku\":[") (yaku_list_json score.yaku) (codes "]") (parts.rules_json rules) (codes "}")
 
 -- an answer's sort, and the rules behind it
-sort_written : (sort : List ℕ) (rules : House) → sort ++ members_written true (members_of (rules_members rules)) ≡ (sort ++ parts.rules_text rules) ++ codes "}"
-sort_written sort rules = ap (λ t. sort ++ t) (rules_written rules) ∙ sym (append_assoc sort (parts.rules_text rules) (codes "}"))
+sort_written : (sort : List ℕ) (rules : House) → sort ++ members_written true (members_of (rules_members rules)) ≡ (sort ++ parts.rules_json rules) ++ codes "}"
+sort_written sort rules = ap (λ t. sort ++ t) (rules_written rules) ∙ sym (append_assoc sort (parts.rules_json rules) (codes "}"))
 
-pub win_written : (rules : House) (win : WinAnswer) → answer_text rules (answer.Win win) ≡ parts.win_text rules win
-unfolding answer_tree win_tree parts.win_text parts.open_win_text parts.worth_members_text written escape_byte
+pub win_written : (rules : House) (win : WinAnswer) → answer_json rules (answer.Win win) ≡ parts.win_json rules win
+unfolding answer_tree win_tree parts.win_json parts.open_win_json parts.worth_members_json written escape_byte
 win_written rules (Won score) = text_written (score_tree rules score) ∙ score_written rules score
 win_written rules NoYaku = text_written (win_tree rules NoYaku) ∙ sort_written (codes "{\"answer\":\"no yaku\"") rules
 win_written rules NoWin = text_written (win_tree rules NoWin) ∙ sort_written (codes "{\"answer\":\"no win\"") rules
@@ -117,12 +117,12 @@ kind_written kind = ap (λ t. 34 ∷ (t ++ 34 ∷ [])) (escape_kind kind)
 list_ends : (a y x z : List ℕ) → a ++ ((y ++ x) ++ z) ≡ (a ++ y) ++ (x ++ z)
 list_ends a y x z = simp append_assoc
 
-pub waits_written : (rules : House) (marks : ℕ) → answer_text rules (answer.Waits marks) ≡ parts.waits_text marks
-unfolding answer_tree waits_tree parts.waits_text written escape_byte
+pub waits_written : (rules : House) (marks : ℕ) → answer_json rules (answer.Waits marks) ≡ parts.waits_json marks
+unfolding answer_tree waits_tree parts.waits_json written escape_byte
 waits_written rules marks =
     text_written (waits_tree marks)
-    ∙ ap (λ t. codes "{\"answer\":\"waits\",\"kinds\":[" ++ (t ++ codes "}")) (items_joined kind_tree quoted_kind kind_written (kinds_in marks))
-    ∙ list_ends (codes "{\"answer\":\"waits\",\"kinds\":[") (parts.kinds_text marks) (codes "]") (codes "}")
+    ∙ ap (λ t. codes "{\"answer\":\"waits\",\"kinds\":[" ++ (t ++ codes "}")) (items_joined kind_tree quoted_kind kind_written (kinds_held marks))
+    ∙ list_ends (codes "{\"answer\":\"waits\",\"kinds\":[") (parts.kinds_json marks) (codes "]") (codes "}")
 
 -- ---- shapes
 
@@ -130,8 +130,8 @@ live_with : (kind live : List ℕ) → codes "{\"kind\":" ++ ((34 ∷ (kind ++ 3
     ≡ (((codes "{\"kind\":\"" ++ kind) ++ codes "\",\"live\":") ++ live) ++ codes "}"
 live_with kind live = simp append_assoc
 
-live_written : (pair : ℕ × ℕ) → written (live_tree pair) ≡ live_text pair
-unfolding written escape_byte live_tree live_text
+live_written : (pair : ℕ × ℕ) → written (live_tree pair) ≡ live_json pair
+unfolding written escape_byte live_tree live_json
 live_written pair =
     ap (λ t. codes "{\"kind\":" ++ ((34 ∷ (t ++ 34 ∷ [])) ++ (codes ",\"live\":" ++ (decimal pair.1 ++ codes "}")))) (escape_kind pair.0)
     ∙ live_with (kind_text pair.0) (decimal pair.1)
@@ -140,36 +140,36 @@ accepted_with : (pairs live : List ℕ) → codes ",\"accepts\":[" ++ ((pairs ++
     ≡ codes "," ++ ((((codes "\"accepts\":[" ++ pairs) ++ codes "],\"live\":") ++ live) ++ codes "}")
 accepted_with pairs live = simp append_assoc
 
-accepted_written : (pairs : List (ℕ × ℕ)) → members_written true (members_of (accepted_members pairs)) ≡ codes "," ++ accepted_text pairs
-unfolding written escape_byte accepted_text
+accepted_written : (pairs : List (ℕ × ℕ)) → members_written true (members_of (accepted_members pairs)) ≡ codes "," ++ accepted_json pairs
+unfolding written escape_byte accepted_json
 accepted_written pairs =
-    ap (λ t. codes ",\"accepts\":[" ++ (t ++ (codes ",\"live\":" ++ (decimal (live_in pairs) ++ codes "}")))) (items_joined live_tree live_text live_written pairs)
-    ∙ accepted_with (pairs_text pairs) (decimal (live_in pairs))
+    ap (λ t. codes ",\"accepts\":[" ++ (t ++ (codes ",\"live\":" ++ (decimal (live_in pairs) ++ codes "}")))) (items_joined live_tree live_json live_written pairs)
+    ∙ accepted_with (pairs_json pairs) (decimal (live_in pairs))
 
 discard_with : (kind accepted : List ℕ) → codes "{\"discard\":" ++ ((34 ∷ (kind ++ 34 ∷ [])) ++ (codes "," ++ accepted))
     ≡ ((codes "{\"discard\":\"" ++ kind) ++ codes "\",") ++ accepted
 discard_with kind accepted = simp append_assoc
 
-discard_written : (discard : Discard) → written (discard_tree discard) ≡ discard_text discard
-unfolding written escape_byte discard_tree discard_text
+discard_written : (discard : Discard) → written (discard_tree discard) ≡ discard_json discard
+unfolding written escape_byte discard_tree discard_json
 discard_written discard =
     ap (λ t. codes "{\"discard\":" ++ ((34 ∷ (t ++ 34 ∷ [])) ++ members_written true (members_of (accepted_members discard.accepted)))) (escape_kind discard.kind)
     ∙ ap (λ t. codes "{\"discard\":" ++ ((34 ∷ (kind_text discard.kind ++ 34 ∷ [])) ++ t)) (accepted_written discard.accepted)
-    ∙ discard_with (kind_text discard.kind) (accepted_text discard.accepted)
+    ∙ discard_with (kind_text discard.kind) (accepted_json discard.accepted)
 
-accepts_written : (accepts : Accepts) → members_written true (members_of (accepts_members accepts)) ≡ codes "," ++ accepts_text accepts
-unfolding written escape_byte accepts_text
+accepts_written : (accepts : Accepts) → members_written true (members_of (accepts_members accepts)) ≡ codes "," ++ accepts_json accepts
+unfolding written escape_byte accepts_json
 accepts_written (Thirteen accepted) = accepted_written accepted
 accepts_written (Fourteen discards) =
-    ap (λ t. codes ",\"discards\":[" ++ (t ++ codes "}")) (items_joined discard_tree discard_text discard_written discards)
-    ∙ list_ends (codes ",\"discards\":[") (discards_text discards) (codes "]") (codes "}")
+    ap (λ t. codes ",\"discards\":[" ++ (t ++ codes "}")) (items_joined discard_tree discard_json discard_written discards)
+    ∙ list_ends (codes ",\"discards\":[") (discards_json discards) (codes "]") (codes "}")
 
 shape_ends : (a s c t : List ℕ) → a ++ (s ++ (c ++ t)) ≡ ((a ++ s) ++ c) ++ t
 shape_ends a s c t = simp append_assoc
 
-pub shape_written : (rules : House) (shape : ShapeAnswer) → answer_text rules (answer.Shape shape) ≡ shape_text shape
-unfolding answer_tree shape_tree shape_text written escape_byte
+pub shape_written : (rules : House) (shape : ShapeAnswer) → answer_json rules (answer.Shape shape) ≡ shape_json shape
+unfolding answer_tree shape_tree shape_json written escape_byte
 shape_written rules shape =
     text_written (shape_tree shape)
     ∙ ap (λ t. codes "{\"answer\":\"shape\",\"shanten\":" ++ (signed_decimal shape.shanten ++ t)) (accepts_written shape.accepts)
-    ∙ shape_ends (codes "{\"answer\":\"shape\",\"shanten\":") (signed_decimal shape.shanten) (codes ",") (accepts_text shape.accepts)
+    ∙ shape_ends (codes "{\"answer\":\"shape\",\"shanten\":") (signed_decimal shape.shanten) (codes ",") (accepts_json shape.accepts)

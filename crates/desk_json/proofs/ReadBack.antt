@@ -22,14 +22,14 @@ use Rattle.riichi_yaku.specs.YakuSets.{yaku_in}
 use Rattle.riichi_yaku.proofs.Sets.{below_42}
 use Rattle.desk_core.specs.declared.answer.Answer.{Answer}
 use Rattle.desk_core.specs.declared.answer.Answer.TheVariants as answer
-use Rattle.desk_json.specs.Text.{text_of, answer_text}
-use Rattle.desk_json.specs.Trees.{items_of, members_of, kind_tree, yaku_tree, limit_tree, payment_tree, rules_members, score_tree, win_tree, kinds_in, waits_tree, live_tree, accepted_members, discard_tree, accepts_members, shape_tree, answer_tree}
-use Rattle.desk_json.specs.Whole.{Each, IsWholePayment, IsWholeScore, IsWholePair, IsWholeList, IsWholeDiscard, AreWhole, IsWholeWin, IsWhole}
+use Rattle.desk_json.specs.Text.{json_text, answer_json}
+use Rattle.desk_json.specs.Trees.{json_items, members_of, kind_tree, yaku_tree, limit_tree, payment_tree, rules_members, score_tree, win_tree, kinds_held, waits_tree, live_tree, accepted_members, discard_tree, accepts_members, shape_tree, answer_tree}
+use Rattle.desk_json.specs.Whole.{Each, IsWholePayment, IsWholeScore, IsWholePair, IsWholeList, IsWholeDiscard, IsWholeAccepts, IsWholeWin, IsWhole}
 use Rattle.desk_json.proofs.Same.{each_of_all, same_answers}
 
 -- ---- the numbers are numbers of JSON
 
-items_numbers : {X : Type 0} (tree : X → Json) (P : X → Type 0) → ((x : X) → P x → HasNumbers (tree x)) → (xs : List X) → Each P xs → ItemsHaveNumbers (items_of tree xs)
+items_numbers : {X : Type 0} (tree : X → Json) (P : X → Type 0) → ((x : X) → P x → HasNumbers (tree x)) → (xs : List X) → Each P xs → ItemsHaveNumbers (json_items tree xs)
 items_numbers tree P each [] h = tt
 items_numbers tree P each (x ∷ xs) h = (each x h.0, items_numbers tree P each xs h.1)
 
@@ -73,7 +73,7 @@ unfolding win_tree
 win_numbers rules (Won score) h = score_numbers rules score h
 win_numbers rules other h = (tt, rules_numbers rules)
 
-kinds_numbers : (kinds : List ℕ) → ItemsHaveNumbers (items_of kind_tree kinds)
+kinds_numbers : (kinds : List ℕ) → ItemsHaveNumbers (json_items kind_tree kinds)
 kinds_numbers [] = tt
 kinds_numbers (kind ∷ kinds) = (tt, kinds_numbers kinds)
 
@@ -88,19 +88,19 @@ discard_numbers : (discard : Discard) → IsWholeDiscard discard → HasNumbers 
 unfolding discard_tree
 discard_numbers discard h = (tt, accepted_numbers discard.accepted h.accepted)
 
-accepts_numbers : (accepts : Accepts) → AreWhole accepts → MembersHaveNumbers (members_of (accepts_members accepts))
+accepts_numbers : (accepts : Accepts) → IsWholeAccepts accepts → MembersHaveNumbers (members_of (accepts_members accepts))
 accepts_numbers (Thirteen accepted) h = accepted_numbers accepted h
 accepts_numbers (Fourteen discards) h = (items_numbers discard_tree IsWholeDiscard discard_numbers discards h, tt)
 
 numbers : (rules : House) (a : Answer) → IsWhole a → HasNumbers (answer_tree rules a)
 unfolding answer_tree waits_tree shape_tree
 numbers rules (answer.Win win) h = win_numbers rules win h
-numbers rules (answer.Waits marks) h = (tt, (kinds_numbers (kinds_in marks), tt))
+numbers rules (answer.Waits marks) h = (tt, (kinds_numbers (kinds_held marks), tt))
 numbers rules (answer.Shape shape) h = (tt, (IsNumber-signed_decimal shape.shanten h.shanten, accepts_numbers shape.accepts h.accepts))
 
 -- ---- no answer is nested deep
 
-items_shallow : {X : Type 0} (tree : X → Json) (d : ℕ) → ((x : X) → depth (tree x) ≤ d) → (xs : List X) → items_depth (items_of tree xs) ≤ d
+items_shallow : {X : Type 0} (tree : X → Json) (d : ℕ) → ((x : X) → depth (tree x) ≤ d) → (xs : List X) → items_depth (json_items tree xs) ≤ d
 items_shallow tree d each [] = omega arith
 items_shallow tree d each (x ∷ xs) = omega (arith, each x, items_shallow tree d each xs)
 
@@ -159,15 +159,15 @@ accepts_shallow (Fourteen discards) = omega (arith, items_shallow discard_tree 3
 shallow : (rules : House) (a : Answer) → depth (answer_tree rules a) ≤ 5
 unfolding answer_tree waits_tree shape_tree
 shallow rules (answer.Win win) = omega (arith, win_shallow rules win)
-shallow rules (answer.Waits marks) = omega (arith, items_shallow kind_tree 0 kind_shallow (kinds_in marks))
+shallow rules (answer.Waits marks) = omega (arith, items_shallow kind_tree 0 kind_shallow (kinds_held marks))
 shallow rules (answer.Shape shape) = omega (arith, accepts_shallow shape.accepts)
 
 -- ---- answers
 
-pub reads_back : (rules : House) (a : Answer) → IsWhole a → document (answer_text rules a) ≡ Some (answer_tree rules a)
-unfolding text_of
+pub reads_back : (rules : House) (a : Answer) → IsWhole a → document (answer_json rules a) ≡ Some (answer_tree rules a)
+unfolding json_text
 reads_back rules a h = document-print (answer_tree rules a) (numbers rules a h) (omega (arith, shallow rules a))
 
-pub same_texts : (rules others : House) (a b : Answer) → IsWhole a → IsWhole b → answer_text rules a ≡ answer_text others b → a ≡ b
+pub same_texts : (rules others : House) (a b : Answer) → IsWhole a → IsWhole b → answer_json rules a ≡ answer_json others b → a ≡ b
 same_texts rules others a b h k e =
     same_answers rules others a b h k (same_Some (answer_tree rules a) (answer_tree others b) (sym (reads_back rules a h) ∙ ap document e ∙ reads_back others b k))

@@ -29,19 +29,19 @@ use Rattle.riichi_yaku.specs.YakuSets.{yaku_in}
 use Rattle.riichi_yaku.proofs.Sets.{in_table, below_42}
 use Rattle.desk_core.specs.declared.answer.Answer.{Answer}
 use Rattle.desk_core.specs.declared.answer.Answer.TheVariants as answer
-use Rattle.desk_json.specs.Trees.{answer_of_sort, items_of, list_of, members_of, natural, kind_tree, yaku_tree, payment_tree, score_tree, win_tree, kinds_in, waits_tree, live_tree, accepted_members, discard_tree, accepts_members, shape_tree, answer_tree}
-use Rattle.desk_json.specs.Whole.{Each, IsWholePayment, IsWholeScore, IsWholePair, IsWholeList, IsWholeDiscard, AreWhole, IsWholeShape, IsWholeWin, IsWhole}
+use Rattle.desk_json.specs.Trees.{answer_of_sort, json_items, list_of, members_of, natural, kind_tree, yaku_tree, payment_tree, score_tree, win_tree, kinds_held, waits_tree, live_tree, accepted_members, discard_tree, accepts_members, shape_tree, answer_tree}
+use Rattle.desk_json.specs.Whole.{Each, IsWholePayment, IsWholeScore, IsWholePair, IsWholeList, IsWholeDiscard, IsWholeAccepts, IsWholeShape, IsWholeWin, IsWhole}
 
 -- ---- lists
 
 same_items : {X : Type 0} (tree : X → Json) (P : X → Type 0) → ((x y : X) → P x → P y → tree x ≡ tree y → x ≡ y)
-    → (xs ys : List X) → Each P xs → Each P ys → items_of tree xs ≡ items_of tree ys → xs ≡ ys
+    → (xs ys : List X) → Each P xs → Each P ys → json_items tree xs ≡ json_items tree ys → xs ≡ ys
 same_items tree P same [] [] h k e = refl
 same_items tree P same [] (y ∷ ys) h k e = cc
 same_items tree P same (x ∷ xs) [] h k e = cc
 same_items tree P same (x ∷ xs) (y ∷ ys) h k e =
     let heads : tree x ≡ tree y = cc in
-    let tails : items_of tree xs ≡ items_of tree ys = cc in
+    let tails : json_items tree xs ≡ json_items tree ys = cc in
     let one : x ≡ y = same x y h.0 k.0 heads in
     let rest : xs ≡ ys = same_items tree P same xs ys h.1 k.1 tails in
     cc
@@ -137,7 +137,7 @@ numbers_in set =
     let numbers : map number every_yaku ≡ range_with_len 0 42 = refl in
     chosen_values number (has set) every_yaku ∙ ap (filter (has set)) numbers
 
-same_sets : (a b : ℕ) → a < 2 ^ 42 → b < 2 ^ 42 → items_of yaku_tree (yaku_in a) ≡ items_of yaku_tree (yaku_in b) → a ≡ b
+same_sets : (a b : ℕ) → a < 2 ^ 42 → b < 2 ^ 42 → json_items yaku_tree (yaku_in a) ≡ json_items yaku_tree (yaku_in b) → a ≡ b
 unfolding is_held has
 same_sets a b low high e =
     let yaku = same_items yaku_tree (λ y. Unit {0}) (λ x y h k. same_yaku x y) (yaku_in a) (yaku_in b) (each_of_all (yaku_in a)) (each_of_all (yaku_in b)) e in
@@ -170,7 +170,7 @@ same_scores rules others a b h k e =
     let bases : natural a.base ≡ natural b.base = cc in
     let gains : natural a.gain ≡ natural b.gain = cc in
     let payments : payment_tree a.payment ≡ payment_tree b.payment = cc in
-    let sets : items_of yaku_tree (yaku_in a.yaku) ≡ items_of yaku_tree (yaku_in b.yaku) = cc in
+    let sets : json_items yaku_tree (yaku_in a.yaku) ≡ json_items yaku_tree (yaku_in b.yaku) = cc in
     let han = same_numbers a.han b.han (omega arith) (omega arith) hans in
     let fu = same_numbers a.fu b.fu (omega arith) (omega arith) fus in
     let dora = same_numbers a.dora b.dora (omega arith) (omega arith) doras in
@@ -195,22 +195,22 @@ same_wins rules others a b h k e = absurd (omega (arith, ap sort_letter e))
 -- ---- waits
 
 same_lists : (kinds others : List ℕ) → answer_of_sort (codes "waits") ((codes "kinds", list_of kind_tree kinds) ∷ []) ≡ answer_of_sort (codes "waits") ((codes "kinds", list_of kind_tree others) ∷ [])
-    → items_of kind_tree kinds ≡ items_of kind_tree others
+    → json_items kind_tree kinds ≡ json_items kind_tree others
 same_lists kinds others e = cc
 
-set_kinds : (set : ℕ) → Each (λ k. k < 34) (kinds_in set)
-unfolding kinds_in
+set_kinds : (set : ℕ) → Each (λ k. k < 34) (kinds_held set)
+unfolding kinds_held
 set_kinds set = each_in_range (is_held set) 0 34 34 (omega arith)
 
-same_kind_sets : (a b : ℕ) → a < 2 ^ 34 → b < 2 ^ 34 → kinds_in a ≡ kinds_in b → a ≡ b
-unfolding kinds_in
+same_kind_sets : (a b : ℕ) → a < 2 ^ 34 → b < 2 ^ 34 → kinds_held a ≡ kinds_held b → a ≡ b
+unfolding kinds_held
 same_kind_sets a b few as_few kinds = same_members 34 a b few as_few (λ i within. same_tests (is_held a) (is_held b) 0 34 kinds i (omega arith) (omega arith))
 
 same_waits : (a b : ℕ) → a < 2 ^ 34 → b < 2 ^ 34 → waits_tree a ≡ waits_tree b → a ≡ b
 unfolding waits_tree
 same_waits a b few as_few e =
     same_kind_sets a b few as_few
-    (same_items kind_tree (λ k. k < 34) same_kinds (kinds_in a) (kinds_in b) (set_kinds a) (set_kinds b) (same_lists (kinds_in a) (kinds_in b) e))
+    (same_items kind_tree (λ k. k < 34) same_kinds (kinds_held a) (kinds_held b) (set_kinds a) (set_kinds b) (same_lists (kinds_held a) (kinds_held b) e))
 
 -- ---- shapes
 
@@ -225,7 +225,7 @@ same_pairs p q h k e =
 
 same_accepted : (xs ys : List (ℕ × ℕ)) → IsWholeList xs → IsWholeList ys → members_of (accepted_members xs) ≡ members_of (accepted_members ys) → xs ≡ ys
 same_accepted xs ys h k e =
-    let items : items_of live_tree xs ≡ items_of live_tree ys = cc in
+    let items : json_items live_tree xs ≡ json_items live_tree ys = cc in
     same_items live_tree IsWholePair same_pairs xs ys h.each k.each items
 
 same_discards : (a b : Discard) → IsWholeDiscard a → IsWholeDiscard b → discard_tree a ≡ discard_tree b → a ≡ b
@@ -241,11 +241,11 @@ first_letter : Members → ℕ
 first_letter no_members = 0
 first_letter (member name value more) = get_or name 0 0
 
-same_accepts : (a b : Accepts) → AreWhole a → AreWhole b → members_of (accepts_members a) ≡ members_of (accepts_members b) → a ≡ b
+same_accepts : (a b : Accepts) → IsWholeAccepts a → IsWholeAccepts b → members_of (accepts_members a) ≡ members_of (accepts_members b) → a ≡ b
 unfolding first_letter
 same_accepts (Thirteen xs) (Thirteen ys) h k e = ap Thirteen (same_accepted xs ys h k e)
 same_accepts (Fourteen xs) (Fourteen ys) h k e =
-    let items : items_of discard_tree xs ≡ items_of discard_tree ys = cc in
+    let items : json_items discard_tree xs ≡ json_items discard_tree ys = cc in
     ap Fourteen (same_items discard_tree IsWholeDiscard same_discards xs ys h k items)
 same_accepts a b h k e = absurd (omega (arith, ap first_letter e))
 

@@ -6,7 +6,7 @@ use Rattle.json.specs.Json.{Json, null, boolean, number, string, array, object, 
 use Rattle.json.specs.Print.{print, print_from, quoted, token_text}
 use Rattle.json.specs.Tree.{json_tokens, items_tokens, members_tokens}
 use Rattle.desk_json.specs.Parts.{comma_if}
-use Rattle.desk_json.specs.Text.{text_of}
+use Rattle.desk_json.specs.Text.{json_text}
 
 unfoldable mutual
   pub written : Json → List ℕ
@@ -73,6 +73,6 @@ mutual
       ∙ ap (λ t. comma_if later ++ ((quoted k ++ 58 ∷ []) ++ (written j ++ t))) (printed_members true ms rest)
       ∙ member_ends (comma_if later) (quoted k ++ 58 ∷ []) (written j) (members_written true ms) (print_from true rest)
 
-pub text_written : (j : Json) → text_of j ≡ written j
-unfolding text_of print_from
+pub text_written : (j : Json) → json_text j ≡ written j
+unfolding json_text print_from
 text_written j = ap print (sym (append-nil (json_tokens j))) ∙ printed false j [] ∙ append-nil (written j)

@@ -24,7 +24,7 @@ use Rattle.riichi_shape.specs.declared.accepts.Accepts.{Accepts}
 use Rattle.riichi_shape.specs.declared.accepts.Accepts.TheVariants.{Thirteen, Fourteen}
 use Rattle.riichi_shape.specs.declared.discard.Discard.{Discard}
 use Rattle.riichi_shape.specs.declared.shape_answer.ShapeAnswer.{ShapeAnswer}
-use Rattle.desk_json.specs.Trees.{kinds_in}
+use Rattle.desk_json.specs.Trees.{kinds_held}
 
 -- ---- lists
 
@@ -38,17 +38,17 @@ listed texts = joined (codes ",") texts
 -- ---- wins
 
 -- the printed word and the Japanese name of a yaku, with the brace that ends its object
-unfoldable pub names_text : Yaku → List ℕ
-names_text yaku = codes ",\"word\":\"" ++ word yaku ++ codes "\",\"japanese\":\"" ++ japanese yaku ++ codes "\"}"
+unfoldable pub names_json : Yaku → List ℕ
+names_json yaku = codes ",\"word\":\"" ++ word yaku ++ codes "\",\"japanese\":\"" ++ japanese yaku ++ codes "\"}"
 
-unfoldable pub yaku_text : Yaku → List ℕ
-yaku_text yaku = codes "{\"number\":" ++ decimal (number yaku) ++ names_text yaku
+unfoldable pub yaku_json : Yaku → List ℕ
+yaku_json yaku = codes "{\"number\":" ++ decimal (number yaku) ++ names_json yaku
 
-abbrev pub yaku_list_text : ℕ → List ℕ
-yaku_list_text set = listed (map yaku_text (yaku_in set))
+abbrev pub yaku_list_json : ℕ → List ℕ
+yaku_list_json set = listed (map yaku_json (yaku_in set))
 
-abbrev pub limit_text : ℕ → List ℕ
-limit_text base =
+abbrev pub limit_json : ℕ → List ℕ
+limit_json base =
     if base == 2000 then codes "\"mangan\""
     else (if base == 3000 then codes "\"haneman\""
     else (if base == 4000 then codes "\"baiman\""
@@ -56,102 +56,102 @@ limit_text base =
     else (if nat_le 8000 base then codes "\"yakuman\""
     else codes "null"))))
 
-abbrev pub truth_text : Bool → List ℕ
-truth_text truth = if truth then codes "true" else codes "false"
+abbrev pub truth_json : Bool → List ℕ
+truth_json truth = if truth then codes "true" else codes "false"
 
-abbrev pub payment_text : Payment → List ℕ
-payment_text (Ron points) = codes "{\"discarder\":" ++ decimal points ++ codes "}"
-payment_text (Tsumo other dealer) = codes "{\"dealer\":" ++ decimal dealer ++ codes ",\"each_other\":" ++ decimal other ++ codes "}"
-payment_text (DealerTsumo each) = codes "{\"each\":" ++ decimal each ++ codes "}"
+abbrev pub payment_json : Payment → List ℕ
+payment_json (Ron points) = codes "{\"discarder\":" ++ decimal points ++ codes "}"
+payment_json (Tsumo other dealer) = codes "{\"dealer\":" ++ decimal dealer ++ codes ",\"each_other\":" ++ decimal other ++ codes "}"
+payment_json (DealerTsumo each) = codes "{\"each\":" ++ decimal each ++ codes "}"
 
 -- the han with the fu and the dora
-unfoldable pub worth_text : Score → List ℕ
-worth_text score =
-    codes "{\"answer\":\"won\",\"yakuman\":" ++ truth_text (is_yakuman score.yaku)
+unfoldable pub worth_json : Score → List ℕ
+worth_json score =
+    codes "{\"answer\":\"won\",\"yakuman\":" ++ truth_json (is_yakuman score.yaku)
     ++ codes ",\"han\":" ++ decimal score.han ++ codes ",\"fu\":" ++ decimal score.fu ++ codes ",\"dora\":" ++ decimal score.dora
 
-unfoldable pub points_text : Score → List ℕ
-points_text score =
-    codes ",\"base\":" ++ decimal score.base ++ codes ",\"limit\":" ++ limit_text score.base
-    ++ codes ",\"payment\":" ++ payment_text score.payment ++ codes ",\"gain\":" ++ decimal score.gain
+unfoldable pub points_json : Score → List ℕ
+points_json score =
+    codes ",\"base\":" ++ decimal score.base ++ codes ",\"limit\":" ++ limit_json score.base
+    ++ codes ",\"payment\":" ++ payment_json score.payment ++ codes ",\"gain\":" ++ decimal score.gain
 
 -- without the brace at its end
-unfoldable pub score_text : Score → List ℕ
-score_text score = worth_text score ++ points_text score ++ codes ",\"yaku\":[" ++ yaku_list_text score.yaku ++ codes "]"
+unfoldable pub score_json : Score → List ℕ
+score_json score = worth_json score ++ points_json score ++ codes ",\"yaku\":[" ++ yaku_list_json score.yaku ++ codes "]"
 
-unfoldable pub worth_members_text : WinAnswer → List ℕ
-worth_members_text (Won score) = score_text score
-worth_members_text NoYaku = codes "{\"answer\":\"no yaku\""
-worth_members_text NoWin = codes "{\"answer\":\"no win\""
+unfoldable pub worth_members_json : WinAnswer → List ℕ
+worth_members_json (Won score) = score_json score
+worth_members_json NoYaku = codes "{\"answer\":\"no yaku\""
+worth_members_json NoWin = codes "{\"answer\":\"no win\""
 
 -- the rules, where they are neither profile
-abbrev pub rules_text : House → List ℕ
-rules_text rules = house_words (codes ",\"rules\":\"") (codes "\"") rules
+abbrev pub rules_json : House → List ℕ
+rules_json rules = house_words (codes ",\"rules\":\"") (codes "\"") rules
 
-unfoldable pub open_win_text : House → WinAnswer → List ℕ
-open_win_text rules win = worth_members_text win ++ rules_text rules
+unfoldable pub open_win_json : House → WinAnswer → List ℕ
+open_win_json rules win = worth_members_json win ++ rules_json rules
 
-unfoldable pub win_text : House → WinAnswer → List ℕ
-win_text rules win = open_win_text rules win ++ codes "}"
+unfoldable pub win_json : House → WinAnswer → List ℕ
+win_json rules win = open_win_json rules win ++ codes "}"
 
 -- ---- waits
 
 abbrev pub quoted_kind : ℕ → List ℕ
 quoted_kind kind = codes "\"" ++ kind_text kind ++ codes "\""
 
-abbrev pub kinds_text : ℕ → List ℕ
-kinds_text marks = listed (map quoted_kind (kinds_in marks))
+abbrev pub kinds_json : ℕ → List ℕ
+kinds_json marks = listed (map quoted_kind (kinds_held marks))
 
-unfoldable pub waits_text : ℕ → List ℕ
-waits_text marks = codes "{\"answer\":\"waits\",\"kinds\":[" ++ kinds_text marks ++ codes "]}"
+unfoldable pub waits_json : ℕ → List ℕ
+waits_json marks = codes "{\"answer\":\"waits\",\"kinds\":[" ++ kinds_json marks ++ codes "]}"
 
 -- ---- shapes
 
-unfoldable pub live_text : ℕ × ℕ → List ℕ
-live_text pair = codes "{\"kind\":\"" ++ kind_text pair.0 ++ codes "\",\"live\":" ++ decimal pair.1 ++ codes "}"
+unfoldable pub live_json : ℕ × ℕ → List ℕ
+live_json pair = codes "{\"kind\":\"" ++ kind_text pair.0 ++ codes "\",\"live\":" ++ decimal pair.1 ++ codes "}"
 
-abbrev pub pairs_text : List (ℕ × ℕ) → List ℕ
-pairs_text pairs = listed (map live_text pairs)
+abbrev pub pairs_json : List (ℕ × ℕ) → List ℕ
+pairs_json pairs = listed (map live_json pairs)
 
 -- with the brace that ends its object
-unfoldable pub accepted_text : List (ℕ × ℕ) → List ℕ
-accepted_text pairs = codes "\"accepts\":[" ++ pairs_text pairs ++ codes "],\"live\":" ++ decimal (live_in pairs) ++ codes "}"
+unfoldable pub accepted_json : List (ℕ × ℕ) → List ℕ
+accepted_json pairs = codes "\"accepts\":[" ++ pairs_json pairs ++ codes "],\"live\":" ++ decimal (live_in pairs) ++ codes "}"
 
-unfoldable pub discard_text : Discard → List ℕ
-discard_text discard = codes "{\"discard\":\"" ++ kind_text discard.kind ++ codes "\"," ++ accepted_text discard.accepted
+unfoldable pub discard_json : Discard → List ℕ
+discard_json discard = codes "{\"discard\":\"" ++ kind_text discard.kind ++ codes "\"," ++ accepted_json discard.accepted
 
-abbrev pub discards_text : List Discard → List ℕ
-discards_text discards = listed (map discard_text discards)
+abbrev pub discards_json : List Discard → List ℕ
+discards_json discards = listed (map discard_json discards)
 
-unfoldable pub accepts_text : Accepts → List ℕ
-accepts_text (Thirteen accepted) = accepted_text accepted
-accepts_text (Fourteen discards) = codes "\"discards\":[" ++ discards_text discards ++ codes "]}"
+unfoldable pub accepts_json : Accepts → List ℕ
+accepts_json (Thirteen accepted) = accepted_json accepted
+accepts_json (Fourteen discards) = codes "\"discards\":[" ++ discards_json discards ++ codes "]}"
 
-unfoldable pub shape_text : ShapeAnswer → List ℕ
-shape_text shape = codes "{\"answer\":\"shape\",\"shanten\":" ++ signed_decimal shape.shanten ++ codes "," ++ accepts_text shape.accepts
+unfoldable pub shape_json : ShapeAnswer → List ℕ
+shape_json shape = codes "{\"answer\":\"shape\",\"shanten\":" ++ signed_decimal shape.shanten ++ codes "," ++ accepts_json shape.accepts
 
 -- ---- refusals
 
-unfoldable pub code_text : LineFault → List ℕ
-code_text (Line code) = codes "{\"answer\":\"refused\",\"code\":\"" ++ line_code_text code ++ codes "\""
-code_text (Notation name fault) =
+unfoldable pub code_json : LineFault → List ℕ
+code_json (Line code) = codes "{\"answer\":\"refused\",\"code\":\"" ++ line_code_text code ++ codes "\""
+code_json (Notation name fault) =
     codes "{\"answer\":\"refused\",\"code\":\"" ++ notation_code_text fault.code ++ codes "\",\"text\":\"" ++ name_text name
     ++ codes "\",\"place\":" ++ decimal fault.place
 
-unfoldable pub key_text : Option (List ℕ) → List ℕ
-key_text None = []
-key_text (Some key) = codes ",\"key\":\"" ++ key ++ codes "\""
+unfoldable pub key_json : Option (List ℕ) → List ℕ
+key_json None = []
+key_json (Some key) = codes ",\"key\":\"" ++ key ++ codes "\""
 
-unfoldable pub place_text : Option Place → List ℕ
-place_text None = []
-place_text (Some place) = codes ",\"at\":" ++ decimal place.at ++ codes ",\"length\":" ++ decimal place.length
+unfoldable pub place_json : Option Place → List ℕ
+place_json None = []
+place_json (Some place) = codes ",\"at\":" ++ decimal place.at ++ codes ",\"length\":" ++ decimal place.length
 
 -- with the brace that ends the object
-unfoldable pub words_text : List ℕ → List ℕ
-words_text words = codes ",\"words\":\"" ++ words ++ codes "\"}"
+unfoldable pub words_json : List ℕ → List ℕ
+words_json words = codes ",\"words\":\"" ++ words ++ codes "\"}"
 
-abbrev pub refused_text : LineFault → Option (List ℕ) → Option Place → List ℕ → List ℕ
-refused_text fault key place words = code_text fault ++ key_text key ++ place_text place ++ words_text words
+abbrev pub refused_json : LineFault → Option (List ℕ) → Option Place → List ℕ → List ℕ
+refused_json fault key place words = code_json fault ++ key_json key ++ place_json place ++ words_json words
 
 unfoldable pub refusal_parts : List ℕ → LineFault → List ℕ
-refusal_parts line fault = refused_text fault (refusal_key line fault) (refusal_place line fault) (refusal_words line fault)
+refusal_parts line fault = refused_json fault (refusal_key line fault) (refusal_place line fault) (refusal_words line fault)

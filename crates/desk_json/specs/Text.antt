@@ -13,14 +13,14 @@ use Rattle.desk_core.specs.declared.answer.Answer.{Answer}
 use Rattle.desk_json.specs.Trees.{answer_tree, refused_tree, refusal_tree}
 
 -- with no space and no line's end
-unfoldable pub text_of : Json → List ℕ
-text_of json = print (json_tokens json)
+unfoldable pub json_text : Json → List ℕ
+json_text json = print (json_tokens json)
 
-abbrev pub answer_text : House → Answer → List ℕ
-answer_text rules answer = text_of (answer_tree rules answer)
+abbrev pub answer_json : House → Answer → List ℕ
+answer_json rules answer = json_text (answer_tree rules answer)
 
-abbrev pub refusal_text : List ℕ → LineFault → List ℕ
-refusal_text line fault = text_of (refusal_tree line fault)
+abbrev pub refusal_json : List ℕ → LineFault → List ℕ
+refusal_json line fault = json_text (refusal_tree line fault)
 
 -- lines of more than 4,096 bytes are refused alike
 long_trees_alike : (line other : List ℕ) → 4096 < length line → 4096 < length other → refusal_tree line (Line H1) ≡ refusal_tree other (Line H1)
@@ -31,5 +31,5 @@ long_trees_alike line other long long_other =
     let words = long_words_alike line other long long_other in
     λ i. refused_tree (Line H1) (keys i) (places i) (words i)
 
-pub long_texts_alike : (line other : List ℕ) → 4096 < length line → 4096 < length other → refusal_text line (Line H1) ≡ refusal_text other (Line H1)
-long_texts_alike line other long long_other = ap text_of (long_trees_alike line other long long_other)
+pub long_texts_alike : (line other : List ℕ) → 4096 < length line → 4096 < length other → refusal_json line (Line H1) ≡ refusal_json other (Line H1)
+long_texts_alike line other long long_other = ap json_text (long_trees_alike line other long long_other)

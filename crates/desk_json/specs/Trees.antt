@@ -31,13 +31,13 @@ use Rattle.desk_core.specs.declared.answer.Answer.TheVariants as answer
 
 -- ---- values
 
-abbrev pub items_of : {X : Type 0} → (X → Json) → List X → Items
-items_of tree [] = no_items
-items_of tree (x ∷ xs) = item (tree x) (items_of tree xs)
+abbrev pub json_items : {X : Type 0} → (X → Json) → List X → Items
+json_items tree [] = no_items
+json_items tree (x ∷ xs) = item (tree x) (json_items tree xs)
 
 -- a list, with a value for each
 abbrev pub list_of : {X : Type 0} → (X → Json) → List X → Json
-list_of tree xs = array (items_of tree xs)
+list_of tree xs = array (json_items tree xs)
 
 -- a name with its value
 abbrev pub Named : Type 0
@@ -112,11 +112,11 @@ win_tree rules NoWin = answer_of_sort (codes "no win") (rules_members rules)
 -- ---- waits
 
 -- the kinds of a set, ascending
-unfoldable pub kinds_in : ℕ → List ℕ
-kinds_in set = filter (is_held set) every_kind
+unfoldable pub kinds_held : ℕ → List ℕ
+kinds_held set = filter (is_held set) every_kind
 
 unfoldable pub waits_tree : ℕ → Json
-waits_tree marks = answer_of_sort (codes "waits") ((codes "kinds", list_of kind_tree (kinds_in marks)) ∷ [])
+waits_tree marks = answer_of_sort (codes "waits") ((codes "kinds", list_of kind_tree (kinds_held marks)) ∷ [])
 
 -- ---- shapes
 

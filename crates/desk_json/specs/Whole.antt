@@ -45,13 +45,13 @@ pub record IsWholeDiscard (discard : Discard) : Type 0 where
   pub kind : discard.kind < 34
   pub accepted : IsWholeList discard.accepted
 
-abbrev pub AreWhole : Accepts → Type 0
-AreWhole (Thirteen accepted) = IsWholeList accepted
-AreWhole (Fourteen discards) = Each IsWholeDiscard discards
+abbrev pub IsWholeAccepts : Accepts → Type 0
+IsWholeAccepts (Thirteen accepted) = IsWholeList accepted
+IsWholeAccepts (Fourteen discards) = Each IsWholeDiscard discards
 
 pub record IsWholeShape (shape : ShapeAnswer) : Type 0 where
   pub shanten : mag shape.shanten < 2 ^ 63
-  pub accepts : AreWhole shape.accepts
+  pub accepts : IsWholeAccepts shape.accepts
 
 abbrev pub IsWholeWin : WinAnswer → Type 0
 IsWholeWin (Won score) = IsWholeScore score

@@ -1,7 +1,7 @@
 //! Laws of the texts.
 ghost use Rattle.std.specs.Prelude.{◌≡◌, Some};
 ghost use Rattle.json.specs.Json.{document};
-ghost use Rattle.desk_json.specs.Text.{answer_text};
+ghost use Rattle.desk_json.specs.Text.{answer_json};
 ghost use Rattle.desk_json.specs.Trees.{answer_tree};
 ghost use Rattle.desk_json.specs.Whole as spec;
 
@@ -12,7 +12,7 @@ use riichi_shape::{Accepts, Discard, DiscardList, LiveList, ShapeAnswer};
 
 /// What a reader of JSON reads in the text of an answer is the answer's tree.
 pub fn each_text_reads_back(rules: RuleSet, answer: &Answer)
-    ensures { document (answer_text rules answer.now) ≡ Some (answer_tree rules answer.now) }
+    ensures { document (answer_json rules answer.now) ≡ Some (answer_tree rules answer.now) }
 {
     see_answer(answer);
 }
@@ -24,7 +24,7 @@ pub fn equal_texts_mean_equal_answers(
     other_rules: RuleSet,
     other: &Answer,
 )
-    ensures { answer_text rules one.now ≡ answer_text other_rules other.now → one.now ≡ other.now }
+    ensures { answer_json rules one.now ≡ answer_json other_rules other.now → one.now ≡ other.now }
 {
     see_answer(one);
     see_answer(other);
@@ -89,7 +89,7 @@ fn see_shape(shape: &ShapeAnswer)
 }
 
 fn see_accepts(accepts: &Accepts)
-    ensures { spec.AreWhole accepts.now }
+    ensures { spec.IsWholeAccepts accepts.now }
 {
     match accepts {
         Accepts::Thirteen(accepted) => see_list(accepted),

@@ -14,7 +14,7 @@ use riichi_text::push_number;
 pub fn refusal_text(line: &[u8], refusal: &Refusal<'_>) -> JsonText
     requires { option_map (λ from. from.now) refusal.now.from
         ≡ fault_from refusal.now.fault line.now }
-    ensures { result.bytes ≡ spec.refusal_text line.now refusal.now.fault }
+    ensures { result.bytes ≡ spec.refusal_json line.now refusal.now.fault }
 {
     let mut text = JsonText::new();
     push_refusal(&mut text, line, refusal);
@@ -27,7 +27,7 @@ pub fn push_refusal(text: &mut JsonText, line: &[u8], refusal: &Refusal<'_>)
     requires room { array_string_len text.old + 300 ≤ 12288 }
     requires from { option_map (λ from. from.now) refusal.now.from
         ≡ fault_from refusal.now.fault line.now }
-    ensures { text.new.bytes ≡ text.old.bytes ++ spec.refusal_text line.now refusal.now.fault }
+    ensures { text.new.bytes ≡ text.old.bytes ++ spec.refusal_json line.now refusal.now.fault }
 {
     push_code(text, &refusal.fault);
     push_key(text, refusal_key(line, refusal));
@@ -36,10 +36,10 @@ pub fn push_refusal(text: &mut JsonText, line: &[u8], refusal: &Refusal<'_>)
 }
 
 /// The code, and for a text of tiles its name and the place in it.
-#[tactic(auto, unfolding(crate::specs::Parts::code_text))]
+#[tactic(auto, unfolding(crate::specs::Parts::code_json))]
 fn push_code(text: &mut JsonText, fault: &LineFault)
     requires { array_string_len text.old + 80 ≤ 12288 }
-    ensures bytes { text.new.bytes ≡ text.old.bytes ++ parts.code_text fault.now }
+    ensures bytes { text.new.bytes ≡ text.old.bytes ++ parts.code_json fault.now }
     ensures len { array_string_len text.new ≤ array_string_len text.old + 80 }
 {
     text.push_str("{\"answer\":\"refused\",\"code\":\"");
@@ -58,12 +58,12 @@ fn push_code(text: &mut JsonText, fault: &LineFault)
     }
 }
 
-#[tactic(auto, unfolding(crate::specs::Parts::key_text))]
+#[tactic(auto, unfolding(crate::specs::Parts::key_json))]
 fn push_key(text: &mut JsonText, key: Option<&str>)
     requires room { array_string_len text.old + 20 ≤ 12288 }
     requires short { IfSome key (λ key. length key.now ≤ 8) }
     ensures bytes { text.new.bytes
-        ≡ text.old.bytes ++ parts.key_text (option_map (λ key. key.now) key.entry) }
+        ≡ text.old.bytes ++ parts.key_json (option_map (λ key. key.now) key.entry) }
     ensures len { array_string_len text.new ≤ array_string_len text.old + 20 }
 {
     if let Some(key) = key {
@@ -73,10 +73,10 @@ fn push_key(text: &mut JsonText, key: Option<&str>)
     }
 }
 
-#[tactic(auto, unfolding(crate::specs::Parts::place_text))]
+#[tactic(auto, unfolding(crate::specs::Parts::place_json))]
 fn push_place(text: &mut JsonText, place: Option<Place>)
     requires { array_string_len text.old + 60 ≤ 12288 }
-    ensures bytes { text.new.bytes ≡ text.old.bytes ++ parts.place_text place }
+    ensures bytes { text.new.bytes ≡ text.old.bytes ++ parts.place_json place }
     ensures len { array_string_len text.new ≤ array_string_len text.old + 60 }
 {
     if let Some(place) = place {
@@ -88,11 +88,11 @@ fn push_place(text: &mut JsonText, place: Option<Place>)
 }
 
 /// What may stand at the fault, and the brace that ends the object.
-#[tactic(auto, unfolding(crate::specs::Parts::words_text))]
+#[tactic(auto, unfolding(crate::specs::Parts::words_json))]
 fn push_words(text: &mut JsonText, words: &str)
     requires room { array_string_len text.old + 140 ≤ 12288 }
     requires short { length words.now ≤ 120 }
-    ensures { text.new.bytes ≡ text.old.bytes ++ parts.words_text words.now }
+    ensures { text.new.bytes ≡ text.old.bytes ++ parts.words_json words.now }
 {
     text.push_str(",\"words\":\"");
     text.push_str(words);

@@ -10,10 +10,10 @@ use riichi_shape::{Accepts, Discard, DiscardList, LiveList, ShapeAnswer};
 use riichi_text::{push_kind, push_number};
 use riichi_tiles::Kind;
 
-#[tactic(auto, unfolding(crate::specs::Parts::shape_text))]
+#[tactic(auto, unfolding(crate::specs::Parts::shape_json))]
 pub(crate) fn push_shape(text: &mut JsonText, shape: &ShapeAnswer)
     requires { array_string_len text.old + 11667 ≤ 12288 }
-    ensures { text.new.bytes ≡ text.old.bytes ++ spec.shape_text shape.now }
+    ensures { text.new.bytes ≡ text.old.bytes ++ spec.shape_json shape.now }
 {
     text.push_str("{\"answer\":\"shape\",\"shanten\":");
     push_number(text, shape.shanten);
@@ -21,10 +21,10 @@ pub(crate) fn push_shape(text: &mut JsonText, shape: &ShapeAnswer)
     push_accepts(text, &shape.accepts);
 }
 
-#[tactic(auto, unfolding(crate::specs::Parts::accepts_text))]
+#[tactic(auto, unfolding(crate::specs::Parts::accepts_json))]
 fn push_accepts(text: &mut JsonText, accepts: &Accepts)
     requires { array_string_len text.old + 11634 ≤ 12288 }
-    ensures { text.new.bytes ≡ text.old.bytes ++ spec.accepts_text accepts.now }
+    ensures { text.new.bytes ≡ text.old.bytes ++ spec.accepts_json accepts.now }
 {
     match accepts {
         Accepts::Thirteen(accepted) => push_accepted(text, accepted),
@@ -38,7 +38,7 @@ fn push_accepts(text: &mut JsonText, accepts: &Accepts)
 
 fn push_discards(text: &mut JsonText, discards: &DiscardList)
     requires { array_string_len text.old + 11620 ≤ 12288 }
-    ensures bytes { text.new.bytes ≡ text.old.bytes ++ spec.discards_text discards.now }
+    ensures bytes { text.new.bytes ≡ text.old.bytes ++ spec.discards_json discards.now }
     ensures len { array_string_len text.new ≤ array_string_len text.old + 11620 }
 {
     for place in 0..discards.len() {
@@ -49,11 +49,11 @@ fn push_discards(text: &mut JsonText, discards: &DiscardList)
 }
 
 /// One discard, behind a comma where it is not the first.
-#[tactic(auto, unfolding(crate::specs::Parts::discard_text))]
+#[tactic(auto, unfolding(crate::specs::Parts::discard_json))]
 fn push_discard(text: &mut JsonText, later: bool, discard: &Discard)
     requires { array_string_len text.old + 830 ≤ 12288 }
     ensures bytes { text.new.bytes ≡
-        text.old.bytes ++ spec.comma_if later ++ spec.discard_text discard.now }
+        text.old.bytes ++ spec.comma_if later ++ spec.discard_json discard.now }
     ensures len { array_string_len text.new ≤ array_string_len text.old + 830 }
 {
     push_comma_if(text, later);
@@ -64,10 +64,10 @@ fn push_discard(text: &mut JsonText, later: bool, discard: &Discard)
 }
 
 /// The accepted kinds with the live copies of all of them, and the brace after these.
-#[tactic(auto, unfolding(crate::specs::Parts::accepted_text))]
+#[tactic(auto, unfolding(crate::specs::Parts::accepted_json))]
 fn push_accepted(text: &mut JsonText, accepted: &LiveList)
     requires { array_string_len text.old + 813 ≤ 12288 }
-    ensures bytes { text.new.bytes ≡ text.old.bytes ++ spec.accepted_text accepted.now }
+    ensures bytes { text.new.bytes ≡ text.old.bytes ++ spec.accepted_json accepted.now }
     ensures len { array_string_len text.new ≤ array_string_len text.old + 813 }
 {
     text.push_str("\"accepts\":[");
@@ -80,7 +80,7 @@ fn push_accepted(text: &mut JsonText, accepted: &LiveList)
 fn push_pairs(text: &mut JsonText, copies: &[u8; 34])
     requires room { array_string_len text.old + 782 ≤ 12288 }
     requires few { (kind : ℕ) → slice_index copies.now kind ≤ 4 }
-    ensures bytes { text.new.bytes ≡ text.old.bytes ++ spec.pairs_text (pairs_of copies.now) }
+    ensures bytes { text.new.bytes ≡ text.old.bytes ++ spec.pairs_json (pairs_of copies.now) }
     ensures len { array_string_len text.new ≤ array_string_len text.old + 782 }
 {
     let mut later = false;
@@ -94,12 +94,12 @@ fn push_pairs(text: &mut JsonText, copies: &[u8; 34])
 }
 
 /// One kind with its live copies, behind a comma where it is not the first.
-#[tactic(auto, unfolding(crate::specs::Parts::live_text))]
+#[tactic(auto, unfolding(crate::specs::Parts::live_json))]
 fn push_pair(text: &mut JsonText, later: bool, kind: Kind, live: u8)
     requires room { array_string_len text.old + 23 ≤ 12288 }
     requires few { live ≤ 4 }
     ensures bytes { text.new.bytes ≡
-        text.old.bytes ++ spec.comma_if later ++ spec.live_text (kind, live) }
+        text.old.bytes ++ spec.comma_if later ++ spec.live_json (kind, live) }
     ensures len { array_string_len text.new ≤ array_string_len text.old + 23 }
 {
     push_comma_if(text, later);

@@ -15,7 +15,7 @@ pub type JsonText = ArrayString<12288>;
 
 /// The answer under these rules as one object, without the line's end.
 pub fn answer_text(rules: RuleSet, answer: &Answer) -> JsonText
-    ensures { result.bytes ≡ spec.answer_text rules answer.now }
+    ensures { result.bytes ≡ spec.answer_json rules answer.now }
 {
     let mut text = JsonText::new();
     push_answer(&mut text, rules, answer);
@@ -26,7 +26,7 @@ pub fn answer_text(rules: RuleSet, answer: &Answer) -> JsonText
 /// profile. A text that is kept need not be made anew for each answer.
 pub fn push_answer(text: &mut JsonText, rules: RuleSet, answer: &Answer)
     requires { array_string_len text.old + 11667 ≤ 12288 }
-    ensures { text.new.bytes ≡ text.old.bytes ++ spec.answer_text rules answer.now }
+    ensures { text.new.bytes ≡ text.old.bytes ++ spec.answer_json rules answer.now }
 {
     match answer {
         Answer::Win(win) => push_win(text, rules, win),

@@ -8,10 +8,10 @@ use crate::text::JsonText;
 use riichi_text::push_kind;
 use riichi_tiles::{Kind, KindSet};
 
-#[tactic(auto, unfolding(crate::specs::Parts::waits_text))]
+#[tactic(auto, unfolding(crate::specs::Parts::waits_json))]
 pub(crate) fn push_waits(text: &mut JsonText, kinds: &KindSet)
     requires { array_string_len text.old + 210 ≤ 12288 }
-    ensures { text.new.bytes ≡ text.old.bytes ++ spec.waits_text kinds.now }
+    ensures { text.new.bytes ≡ text.old.bytes ++ spec.waits_json kinds.now }
 {
     text.push_str("{\"answer\":\"waits\",\"kinds\":[");
     push_kinds(text, kinds);
@@ -21,7 +21,7 @@ pub(crate) fn push_waits(text: &mut JsonText, kinds: &KindSet)
 /// The kinds of a set, ascending.
 fn push_kinds(text: &mut JsonText, kinds: &KindSet)
     requires { array_string_len text.old + 170 ≤ 12288 }
-    ensures bytes { text.new.bytes ≡ text.old.bytes ++ spec.kinds_text kinds.now }
+    ensures bytes { text.new.bytes ≡ text.old.bytes ++ spec.kinds_json kinds.now }
     ensures len { array_string_len text.new ≤ array_string_len text.old + 170 }
 {
     let mut later = false;

@@ -3,7 +3,7 @@ ghost use Rattle.std.specs.Prelude.{◌≡◌, ◌≤◌, ◌+◌, ◌++◌, cod
 ghost use Rattle.arrayvec.specs.ArrayString.{array_string_len};
 ghost use Rattle.desk_core.specs.declared.answer.Answer.TheVariants.{Win};
 ghost use Rattle.desk_json.specs.Parts as spec;
-ghost use Rattle.desk_json.specs.Text.{answer_text};
+ghost use Rattle.desk_json.specs.Text.{answer_json};
 
 use crate::number::push_after;
 use crate::text::JsonText;
@@ -14,7 +14,7 @@ use riichi_score::{Payment, Score, WinAnswer};
 #[tactic(auto, using(crate::proofs::Pieces::win_written))]
 pub(crate) fn push_win(text: &mut JsonText, rules: RuleSet, answer: &WinAnswer)
     requires { array_string_len text.old + 4143 ≤ 12288 }
-    ensures { text.new.bytes ≡ text.old.bytes ++ answer_text rules (Win answer.now) }
+    ensures { text.new.bytes ≡ text.old.bytes ++ answer_json rules (Win answer.now) }
 {
     push_open_win(text, rules, answer);
     text.push_str("}");
@@ -25,26 +25,26 @@ pub(crate) fn push_win(text: &mut JsonText, rules: RuleSet, answer: &WinAnswer)
 pub fn push_open_win(text: &mut JsonText, rules: RuleSet, answer: &WinAnswer)
     requires { array_string_len text.old + 4142 ≤ 12288 }
     ensures bytes { text.new.bytes ++ codes "}"
-        ≡ text.old.bytes ++ answer_text rules (Win answer.now) }
+        ≡ text.old.bytes ++ answer_json rules (Win answer.now) }
     ensures len { array_string_len text.new ≤ array_string_len text.old + 4142 }
 {
     push_members(text, rules, answer);
 }
 
-#[tactic(auto, unfolding(crate::specs::Parts::open_win_text))]
+#[tactic(auto, unfolding(crate::specs::Parts::open_win_json))]
 fn push_members(text: &mut JsonText, rules: RuleSet, answer: &WinAnswer)
     requires { array_string_len text.old + 4142 ≤ 12288 }
-    ensures bytes { text.new.bytes ≡ text.old.bytes ++ spec.open_win_text rules answer.now }
+    ensures bytes { text.new.bytes ≡ text.old.bytes ++ spec.open_win_json rules answer.now }
     ensures len { array_string_len text.new ≤ array_string_len text.old + 4142 }
 {
     push_worth_members(text, answer);
     push_house_words(text, ",\"rules\":\"", rules, "\"");
 }
 
-#[tactic(auto, unfolding(crate::specs::Parts::worth_members_text))]
+#[tactic(auto, unfolding(crate::specs::Parts::worth_members_json))]
 fn push_worth_members(text: &mut JsonText, answer: &WinAnswer)
     requires { array_string_len text.old + 3926 ≤ 12288 }
-    ensures bytes { text.new.bytes ≡ text.old.bytes ++ spec.worth_members_text answer.now }
+    ensures bytes { text.new.bytes ≡ text.old.bytes ++ spec.worth_members_json answer.now }
     ensures len { array_string_len text.new ≤ array_string_len text.old + 3926 }
 {
     match answer {
@@ -54,10 +54,10 @@ fn push_worth_members(text: &mut JsonText, answer: &WinAnswer)
     }
 }
 
-#[tactic(auto, unfolding(crate::specs::Parts::score_text))]
+#[tactic(auto, unfolding(crate::specs::Parts::score_json))]
 fn push_score(text: &mut JsonText, score: &Score)
     requires { array_string_len text.old + 3926 ≤ 12288 }
-    ensures bytes { text.new.bytes ≡ text.old.bytes ++ spec.score_text score.now }
+    ensures bytes { text.new.bytes ≡ text.old.bytes ++ spec.score_json score.now }
     ensures len { array_string_len text.new ≤ array_string_len text.old + 3926 }
 {
     push_worth(text, score);
@@ -68,10 +68,10 @@ fn push_score(text: &mut JsonText, score: &Score)
 }
 
 /// The han with the fu and the dora.
-#[tactic(auto, unfolding(crate::specs::Parts::worth_text))]
+#[tactic(auto, unfolding(crate::specs::Parts::worth_json))]
 fn push_worth(text: &mut JsonText, score: &Score)
     requires { array_string_len text.old + 100 ≤ 12288 }
-    ensures bytes { text.new.bytes ≡ text.old.bytes ++ spec.worth_text score.now }
+    ensures bytes { text.new.bytes ≡ text.old.bytes ++ spec.worth_json score.now }
     ensures len { array_string_len text.new ≤ array_string_len text.old + 100 }
 {
     text.push_str("{\"answer\":\"won\",\"yakuman\":");
@@ -82,10 +82,10 @@ fn push_worth(text: &mut JsonText, score: &Score)
 }
 
 /// The base points, and what is paid for them.
-#[tactic(auto, unfolding(crate::specs::Parts::points_text))]
+#[tactic(auto, unfolding(crate::specs::Parts::points_json))]
 fn push_points(text: &mut JsonText, score: &Score)
     requires { array_string_len text.old + 150 ≤ 12288 }
-    ensures bytes { text.new.bytes ≡ text.old.bytes ++ spec.points_text score.now }
+    ensures bytes { text.new.bytes ≡ text.old.bytes ++ spec.points_json score.now }
     ensures len { array_string_len text.new ≤ array_string_len text.old + 150 }
 {
     push_after(text, ",\"base\":", score.base);
@@ -98,7 +98,7 @@ fn push_points(text: &mut JsonText, score: &Score)
 
 fn push_payment(text: &mut JsonText, payment: &Payment)
     requires { array_string_len text.old + 45 ≤ 12288 }
-    ensures bytes { text.new.bytes ≡ text.old.bytes ++ spec.payment_text payment.now }
+    ensures bytes { text.new.bytes ≡ text.old.bytes ++ spec.payment_json payment.now }
     ensures len { array_string_len text.new ≤ array_string_len text.old + 45 }
 {
     match payment {
@@ -119,7 +119,7 @@ fn push_payment(text: &mut JsonText, payment: &Payment)
 }
 
 fn truth_text(truth: bool) -> &'static str
-    ensures value { result.now ≡ spec.truth_text truth }
+    ensures value { result.now ≡ spec.truth_json truth }
     ensures short { length result.now ≤ 5 }
 {
     if truth { "true" } else { "false" }
@@ -127,7 +127,7 @@ fn truth_text(truth: bool) -> &'static str
 
 /// The name of the limit of these base points, in its quotes; `null` where they are below each.
 fn limit_text(base: u32) -> &'static str
-    ensures value { result.now ≡ spec.limit_text base }
+    ensures value { result.now ≡ spec.limit_json base }
     ensures short { length result.now ≤ 11 }
 {
     match base {

@@ -11,7 +11,7 @@ use riichi_yaku::{Yaku, YakuSet};
 /// The yaku of a set in the order of their numbers, each as an object.
 pub(crate) fn push_yaku(text: &mut JsonText, set: YakuSet)
     requires { array_string_len text.old + 3654 ≤ 12288 }
-    ensures bytes { text.new.bytes ≡ text.old.bytes ++ spec.yaku_list_text set }
+    ensures bytes { text.new.bytes ≡ text.old.bytes ++ spec.yaku_list_json set }
     ensures len { array_string_len text.new ≤ array_string_len text.old + 3654 }
 {
     let mut later = false;
@@ -22,10 +22,10 @@ pub(crate) fn push_yaku(text: &mut JsonText, set: YakuSet)
 }
 
 /// One yaku, behind a comma where it is not the first.
-#[tactic(auto, unfolding(crate::specs::Parts::yaku_text))]
+#[tactic(auto, unfolding(crate::specs::Parts::yaku_json))]
 fn push_one(text: &mut JsonText, later: bool, yaku: Yaku)
     requires { array_string_len text.old + 87 ≤ 12288 }
-    ensures bytes { text.new.bytes ≡ text.old.bytes ++ spec.comma_if later ++ spec.yaku_text yaku }
+    ensures bytes { text.new.bytes ≡ text.old.bytes ++ spec.comma_if later ++ spec.yaku_json yaku }
     ensures len { array_string_len text.new ≤ array_string_len text.old + 87 }
 {
     push_comma_if(text, later);
@@ -34,10 +34,10 @@ fn push_one(text: &mut JsonText, later: bool, yaku: Yaku)
 }
 
 /// The printed word and the Japanese name, with the brace that ends the object.
-#[tactic(auto, unfolding(crate::specs::Parts::names_text))]
+#[tactic(auto, unfolding(crate::specs::Parts::names_json))]
 fn push_names(text: &mut JsonText, yaku: Yaku)
     requires { array_string_len text.old + 66 ≤ 12288 }
-    ensures bytes { text.new.bytes ≡ text.old.bytes ++ spec.names_text yaku }
+    ensures bytes { text.new.bytes ≡ text.old.bytes ++ spec.names_json yaku }
     ensures len { array_string_len text.new ≤ array_string_len text.old + 66 }
 {
     text.push_str(",\"word\":\"");

@@ -15,13 +15,13 @@ use Rattle.riichi_hand.specs.declared.job.Job.{Job}
 use Rattle.riichi_hand.specs.FaultTexts.{line_code_text, notation_code_text, name_text, fault_text}
 use Rattle.riichi_split.specs.Waits.{waits_text}
 use Rattle.riichi_yaku.specs.Table.{word}
-use Rattle.riichi_yaku.specs.YakuSets.{is_yakuman, words_of, yaku_in}
+use Rattle.riichi_yaku.specs.YakuSets.{is_yakuman, yaku_words, yaku_in}
 use Rattle.riichi_score.specs.declared.payers.Payment.{Payment}
 use Rattle.riichi_score.specs.declared.payers.Payment.TheVariants.{Ron, Tsumo, DealerTsumo}
 use Rattle.riichi_score.specs.declared.score.Score.{Score}
 use Rattle.riichi_score.specs.declared.answer.WinAnswer.{WinAnswer}
 use Rattle.riichi_score.specs.declared.answer.WinAnswer.TheVariants.{Won, NoYaku, NoWin}
-use Rattle.riichi_score.specs.Text.{payment_text, worth_text, dora_text, text_of as win_text}
+use Rattle.riichi_score.specs.Text.{payment_text, worth_text, dora_text, win_text}
 use Rattle.riichi_shape.specs.LiveCopies.{live_in}
 use Rattle.riichi_shape.specs.declared.accepts.Accepts.{Accepts}
 use Rattle.riichi_shape.specs.declared.accepts.Accepts.TheVariants.{Thirteen, Fourteen}
@@ -29,7 +29,7 @@ use Rattle.riichi_shape.specs.declared.discard.Discard.{Discard}
 use Rattle.riichi_shape.specs.declared.shape_answer.ShapeAnswer.{ShapeAnswer}
 use Rattle.riichi_text.specs.Tiles.{letter_of, kind_text}
 use Rattle.riichi_text.proofs.Letters.{letter_high}
-use Rattle.riichi_shape_text.specs.Text.{pair_text, kinds_text, list_text, discard_text, accepts_text, text_of as shape_text}
+use Rattle.riichi_shape_text.specs.Text.{pair_text, kinds_text, list_text, discard_text, accepts_text, shape_text}
 use Rattle.riichi_explain.proofs.PlainTexts.{plain, after, after3, after4, after5, byte-plain, flat_map-plain, decimal-plain, kind_text-plain, tiles_text-plain, word-plain}
 use Rattle.desk_core.specs.AnswerText.{answer_text}
 use Rattle.desk_core.specs.Value.{value_of}
@@ -72,9 +72,9 @@ worth-plain score = elim (is_yakuman score.yaku) as (λ test. plain (cond test (
   | false ↦ after4 (decimal score.han) (codes " han ") (decimal score.fu) (codes " fu ") (decimal-plain score.han) refl (decimal-plain score.fu) refl
 ]
 
-words_of-plain : (set : ℕ) → plain (words_of set) ≡ true
-unfolding words_of
-words_of-plain set = flat_map-plain (λ yaku. codes " " ++ word yaku) (yaku_in set) word-plain
+yaku_words-plain : (set : ℕ) → plain (yaku_words set) ≡ true
+unfolding yaku_words
+yaku_words-plain set = flat_map-plain (λ yaku. codes " " ++ word yaku) (yaku_in set) word-plain
 
 dora-plain : (dora : ℕ) → plain (dora_text dora) ≡ true
 dora-plain dora = elim (nat_eq dora 0) as (λ test. plain (cond test [] (codes " dora " ++ decimal dora)) ≡ true) [ true ↦ refl | false ↦ decimal-plain dora ]
@@ -85,9 +85,9 @@ win_text-plain NoWin = refl
 win_text-plain NoYaku = refl
 win_text-plain (Won score) =
     let front = codes "won " ++ worth_text score ++ payment_text score.payment ++ codes " gain " ++ decimal score.gain in
-    after (front ++ words_of score.yaku) (dora_text score.dora) (after front (words_of score.yaku)
+    after (front ++ yaku_words score.yaku) (dora_text score.dora) (after front (yaku_words score.yaku)
     (after5 (codes "won ") (worth_text score) (payment_text score.payment) (codes " gain ") (decimal score.gain) refl (worth-plain score) (payment-plain score.payment) refl (decimal-plain score.gain))
-    (words_of-plain score.yaku)) (dora-plain score.dora)
+    (yaku_words-plain score.yaku)) (dora-plain score.dora)
 
 -- ---- waits and shapes
 

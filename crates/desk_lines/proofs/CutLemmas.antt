@@ -4,7 +4,7 @@ use Rattle.std.specs.Prelude.{not}
 use Rattle.std.proofs.lemmas.Bool.{cases_Bool, cases_eq, cases_lt, ne_eqb}
 use Rattle.std.proofs.lemmas.List.{append-nil, map-append, take_all, length-take, take-append-le}
 use Rattle.std.proofs.lemmas.List.Folds.{list_all-append}
-use Rattle.desk_lines.specs.Lines.{Cut, in_front, with_front, cut_of, without_return, ended_lines, last_line, lines, is_plain}
+use Rattle.desk_lines.specs.Lines.{Cut, byte_in_front, with_front, cut_of, without_return, ended_lines, last_line, lines, is_plain}
 use Rattle.desk_lines.specs.Reading.{with_end, AreToldAs, kept}
 use Rattle.desk_lines.specs.Telling.{IsToldAs}
 use Rattle.desk_lines.proofs.LineLemmas.{plain_is, cut_of-plain}
@@ -14,15 +14,15 @@ use Rattle.desk_lines.proofs.TellingLemmas.{told_by_front}
 abbrev then_cut : Cut → Cut → Cut
 then_cut cut more = record { ended = cut.ended ++ more.ended; rest = more.rest }
 
-in_front-then : (byte : ℕ) (ended : List (List ℕ)) (rest more : List ℕ) → nat_eq byte 10 ≡ false
-    → in_front byte (ended ++ (cut_of (rest ++ more)).ended) (cut_of (rest ++ more)).rest ≡ then_cut (in_front byte ended rest) (cut_of ((in_front byte ended rest).rest ++ more))
-in_front-then byte [] rest more other = rw other refl
-in_front-then byte (line ∷ ended) rest more other = refl
+byte_in_front-then : (byte : ℕ) (ended : List (List ℕ)) (rest more : List ℕ) → nat_eq byte 10 ≡ false
+    → byte_in_front byte (ended ++ (cut_of (rest ++ more)).ended) (cut_of (rest ++ more)).rest ≡ then_cut (byte_in_front byte ended rest) (cut_of ((byte_in_front byte ended rest).rest ++ more))
+byte_in_front-then byte [] rest more other = rw other refl
+byte_in_front-then byte (line ∷ ended) rest more other = refl
 
 with_front-then : (byte : ℕ) (cut : Cut) (more : List ℕ) → with_front byte (then_cut cut (cut_of (cut.rest ++ more))) ≡ then_cut (with_front byte cut) (cut_of ((with_front byte cut).rest ++ more))
 with_front-then byte cut more = elim (cases_Bool (nat_eq byte 10)) [
   | inl feed ↦ rw feed refl
-  | inr other ↦ rw other (in_front-then byte cut.ended cut.rest more other)
+  | inr other ↦ rw other (byte_in_front-then byte cut.ended cut.rest more other)
 ]
 
 pub cut_of-append : (text more : List ℕ) → cut_of (text ++ more) ≡ then_cut (cut_of text) (cut_of ((cut_of text).rest ++ more))
@@ -34,15 +34,15 @@ pub cut_of-first : (line after : List ℕ) → is_plain line ≡ true → cut_of
 cut_of-first [] after plain = refl
 cut_of-first (byte ∷ bytes) after plain = let first = plain_is byte (is_plain bytes) plain in ap (with_front byte) (cut_of-first bytes after first.1) ∙ rw first.0 refl
 
-in_front-plain : (byte : ℕ) (ended : List (List ℕ)) (rest : List ℕ) → nat_eq byte 10 ≡ false → is_plain rest ≡ true → is_plain (in_front byte ended rest).rest ≡ true
-in_front-plain byte [] rest other plain = rw other plain
-in_front-plain byte (line ∷ ended) rest other plain = plain
+byte_in_front-plain : (byte : ℕ) (ended : List (List ℕ)) (rest : List ℕ) → nat_eq byte 10 ≡ false → is_plain rest ≡ true → is_plain (byte_in_front byte ended rest).rest ≡ true
+byte_in_front-plain byte [] rest other plain = rw other plain
+byte_in_front-plain byte (line ∷ ended) rest other plain = plain
 
 pub plain_rest : (text : List ℕ) → is_plain (cut_of text).rest ≡ true
 plain_rest [] = refl
 plain_rest (byte ∷ bytes) = elim (cases_Bool (nat_eq byte 10)) [
   | inl feed ↦ rw feed (plain_rest bytes)
-  | inr other ↦ rw other (in_front-plain byte (cut_of bytes).ended (cut_of bytes).rest other (plain_rest bytes))
+  | inr other ↦ rw other (byte_in_front-plain byte (cut_of bytes).ended (cut_of bytes).rest other (plain_rest bytes))
 ]
 
 plain_front : (n : ℕ) (text : List ℕ) → is_plain text ≡ true → is_plain (take n text) ≡ true

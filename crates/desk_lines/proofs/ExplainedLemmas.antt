@@ -10,7 +10,7 @@ use Rattle.riichi_explain.specs.Explanation.{IsExplanation}
 use Rattle.riichi_explain.proofs.PlainTexts.{are_indented, within, and_both}
 use Rattle.riichi_explain.proofs.ExplainedLines.{outcome_text-lines}
 use Rattle.desk_lines.specs.Explained.{IsToldWithWhy, IsExplained, is_indented, without_indented}
-use Rattle.desk_lines.specs.Lines.{Cut, cut_of, with_front, in_front, is_plain}
+use Rattle.desk_lines.specs.Lines.{Cut, cut_of, with_front, byte_in_front, is_plain}
 use Rattle.desk_lines.specs.LineAnswer.{answer_of}
 use Rattle.desk_lines.specs.LineAnswers.{answers_on, answers_to, report_on}
 use Rattle.desk_lines.specs.Profile.{rules_of, record_lines}
@@ -31,7 +31,7 @@ cut_of-first (byte ∷ line) rest plain =
     let parts = and_both (not (nat_eq byte 10)) (is_plain line) plain in
     ap (with_front byte) (cut_of-first line rest parts.1) ∙ other_byte (nat_eq byte 10) parts.0
   where
-    other_byte : (feed : Bool) → not feed ≡ true → cond feed (let cut : Cut = record { ended = [] ∷ line ∷ (cut_of rest).ended; rest = (cut_of rest).rest } in cut) (in_front byte (line ∷ (cut_of rest).ended) (cut_of rest).rest)
+    other_byte : (feed : Bool) → not feed ≡ true → cond feed (let cut : Cut = record { ended = [] ∷ line ∷ (cut_of rest).ended; rest = (cut_of rest).rest } in cut) (byte_in_front byte (line ∷ (cut_of rest).ended) (cut_of rest).rest)
         ≡ (let cut : Cut = record { ended = (byte ∷ line) ∷ (cut_of rest).ended; rest = (cut_of rest).rest } in cut)
     other_byte true p = absurd (cc)
     other_byte false p = refl
@@ -52,9 +52,9 @@ pub record CutWithin (text rest : List ℕ) : Type 0 where
   pub kept : kept_lines others ≡ without_indented rest
 
 front_ended : (byte : ℕ) (cut : Cut) (first : List ℕ) (others : List (List ℕ)) → cut.ended ≡ first ∷ others → (with_front byte cut).ended ≡ cond (nat_eq byte 10) ([] ∷ first ∷ others) ((byte ∷ first) ∷ others)
-front_ended byte cut first others is = elim (nat_eq byte 10) as (λ feed. (cond feed (let all : Cut = record { ended = [] ∷ cut.ended; rest = cut.rest } in all) (in_front byte cut.ended cut.rest)).ended ≡ cond feed ([] ∷ first ∷ others) ((byte ∷ first) ∷ others)) [
+front_ended byte cut first others is = elim (nat_eq byte 10) as (λ feed. (cond feed (let all : Cut = record { ended = [] ∷ cut.ended; rest = cut.rest } in all) (byte_in_front byte cut.ended cut.rest)).ended ≡ cond feed ([] ∷ first ∷ others) ((byte ∷ first) ∷ others)) [
   | true ↦ ap (λ (lines : List (List ℕ)). [] ∷ lines) is
-  | false ↦ ap (λ (lines : List (List ℕ)). (in_front byte lines cut.rest).ended) is
+  | false ↦ ap (λ (lines : List (List ℕ)). (byte_in_front byte lines cut.rest).ended) is
 ]
 
 mutual_left : (starts : Bool) (text rest : List ℕ) → within starts text ≡ true → cond starts (without_indented (text ++ rest) ≡ without_indented rest) (CutWithin text rest)
@@ -73,7 +73,7 @@ mutual_left false (byte ∷ text) rest p = elim (cases_Bool (nat_eq byte 10)) as
       let more : without_indented (text ++ rest) ≡ without_indented rest = mutual_left true text rest (subst (λ (s : Bool). within s text ≡ true) feed p) in record {
         first = [];
         others = (cut_of (text ++ rest)).ended;
-        ended_is = ap (λ (feed : Bool). (cond feed (let all : Cut = record { ended = [] ∷ (cut_of (text ++ rest)).ended; rest = (cut_of (text ++ rest)).rest } in all) (in_front byte (cut_of (text ++ rest)).ended (cut_of (text ++ rest)).rest)).ended) feed;
+        ended_is = ap (λ (feed : Bool). (cond feed (let all : Cut = record { ended = [] ∷ (cut_of (text ++ rest)).ended; rest = (cut_of (text ++ rest)).rest } in all) (byte_in_front byte (cut_of (text ++ rest)).ended (cut_of (text ++ rest)).rest)).ended) feed;
         kept = more;
       }
   | inr other ↦

@@ -5,9 +5,9 @@ use Rattle.riichi_hand.specs.declared.job.Job.TheVariants as job
 use Rattle.riichi_hand.specs.HandParts.{HandParts, ShapeParts}
 use Rattle.riichi_split.specs.Waits.{waits_of, waits_text}
 use Rattle.riichi_score.specs.Best.{best_of}
-use Rattle.riichi_score.specs.Text.{text_of as win_text}
-use Rattle.riichi_shape.specs.Answer.{shape_of}
-use Rattle.riichi_shape_text.specs.Text.{text_of as shape_text}
+use Rattle.riichi_score.specs.Text.{win_text}
+use Rattle.riichi_shape.specs.Answer.{shape_answer_of}
+use Rattle.riichi_shape_text.specs.Text.{shape_text}
 use Rattle.desk_core.specs.AnswerText.{answer_text}
 use Rattle.desk_core.specs.Value.{value_of}
 
@@ -19,7 +19,7 @@ pub of_waits : (hand : HandParts) → answer_text (value_of (job.Waits hand)) �
 unfolding answer_text value_of
 of_waits hand = refl
 
-pub of_shape : (tiles : ShapeParts) → answer_text (value_of (job.Shape tiles)) ≡ shape_text (shape_of tiles)
+pub of_shape : (tiles : ShapeParts) → answer_text (value_of (job.Shape tiles)) ≡ shape_text (shape_answer_of tiles)
 unfolding answer_text value_of
 of_shape tiles = refl
 

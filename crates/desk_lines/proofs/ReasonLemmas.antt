@@ -13,12 +13,12 @@ use Rattle.desk_json.specs.Trees.{Named, win_tree, score_tree}
 use Rattle.desk_json.proofs.Written.{written, text_written}
 use Rattle.desk_reasons.specs.Reasons.{IsExplainedWin}
 use Rattle.desk_reasons.specs.Trees.{why_tree, with_member}
-use Rattle.desk_lines.specs.JsonLine.{is_refusal, are_of_refusal}
+use Rattle.desk_lines.specs.JsonLine.{is_refusal_object, are_of_refusal}
 use Rattle.desk_lines.specs.Reasoned.{win_in, IsReasonedBy, IsReasoned, AreReasoned}
 use Rattle.desk_lines.specs.Records.{Puts}
 use Rattle.desk_lines.specs.declared.line_kind.LineKind.TheVariants.{Refused, Answered}
 
-no_refusal : (rules : House) (win : WinAnswer) (named : Named) → is_refusal (written (with_member (win_tree rules win) named)) ≡ false
+no_refusal : (rules : House) (win : WinAnswer) (named : Named) → is_refusal_object (written (with_member (win_tree rules win) named)) ≡ false
 unfolding with_member win_tree score_tree written escape_byte
 no_refusal rules (Won score) named = refl
 no_refusal rules NoYaku named = refl
@@ -34,8 +34,8 @@ object_written : (win : WinParts) (object : List ℕ) (said : IsExplainedWin win
     → object ≡ written (with_member (win_tree win.rules (best_of win)) (codes "why", why_tree said.explanation said.ranking.ranked.items))
 object_written win object said = said.object_is ∙ text_written (with_member (win_tree win.rules (best_of win)) (codes "why", why_tree said.explanation said.ranking.ranked.items))
 
-refuses_not : (win : WinParts) (object : List ℕ) → IsExplainedWin win object → is_refusal object ≡ false
-refuses_not win object said = ap is_refusal (object_written win object said) ∙ no_refusal win.rules (best_of win) (codes "why", why_tree said.explanation said.ranking.ranked.items)
+refuses_not : (win : WinParts) (object : List ℕ) → IsExplainedWin win object → is_refusal_object object ≡ false
+refuses_not win object said = ap is_refusal_object (object_written win object said) ∙ no_refusal win.rules (best_of win) (codes "why", why_tree said.explanation said.ranking.ranked.items)
 
 object_brace : (win : WinParts) (object : List ℕ) → IsExplainedWin win object → codes "{" ++ drop 1 object ≡ object
 object_brace win object said =
@@ -44,7 +44,7 @@ object_brace win object said =
 
 -- the object of a win was made and put
 pub puts_explained : (rules : Rules) (line before after object : List ℕ) (win : WinParts) → Some win ≡ win_in (outcome_of rules line) → IsExplainedWin win object
-    → after ≡ before ++ (object ++ 10 ∷ []) → Puts is_refusal (IsReasoned rules line) Answered before after
+    → after ≡ before ++ (object ++ 10 ∷ []) → Puts is_refusal_object (IsReasoned rules line) Answered before after
 puts_explained rules line before after object win is said put = record {
   told = Some object;
   may_be_told = subst (λ (found : Option WinParts). IsReasonedBy rules line found (Some object)) is said;
@@ -59,6 +59,6 @@ puts_members rules line before after object win is said put =
     let brace = object_brace win object said in record {
       told = Some (drop 1 object);
       may_be_told = subst (λ (found : Option WinParts). IsReasonedBy rules line found (Some (codes "{" ++ drop 1 object))) is (subst (λ (text : List ℕ). IsExplainedWin win text) (sym brace) said);
-      kind_is = ap (λ (refused : Bool). cond refused Refused Answered) (sym (ap is_refusal brace ∙ refuses_not win object said));
+      kind_is = ap (λ (refused : Bool). cond refused Refused Answered) (sym (ap is_refusal_object brace ∙ refuses_not win object said));
       put = put;
     }

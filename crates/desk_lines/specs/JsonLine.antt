@@ -7,14 +7,14 @@ use Rattle.riichi_hand.specs.declared.fault.LineFault.{LineFault}
 use Rattle.riichi_hand.specs.declared.job.Job.{Job}
 use Rattle.riichi_hand.specs.Lines.{outcome_of}
 use Rattle.riichi_hand.specs.Rules.{house_of}
-use Rattle.desk_json.specs.Text.{answer_text, refusal_text, long_texts_alike}
+use Rattle.desk_json.specs.Text.{answer_json, refusal_json, long_texts_alike}
 use Rattle.desk_lines.specs.LineAnswer.{outcome_told, IsBy}
 use Rattle.desk_lines.specs.LineAnswers.{answers_by}
 use Rattle.desk_lines.specs.LongLines.{AreAlike, long_outcome}
 use Rattle.desk_lines.specs.Telling.{text_of}
 
 abbrev pub outcome_json : Rules → List ℕ → Result (Option Job) LineFault → Option (List ℕ)
-outcome_json rules line outcome = outcome_told (answer_text (house_of rules)) (refusal_text line) outcome
+outcome_json rules line outcome = outcome_told (answer_json (house_of rules)) (refusal_json line) outcome
 
 -- the answer to a line as JSON
 unfoldable pub json_of : Rules → List ℕ → Option (List ℕ)
@@ -29,8 +29,8 @@ pub json_alike : AreAlike (IsBy json_of)
 json_alike rules line other told long long_other is = is ∙ long_objects rules line other long long_other
 
 -- an object begins as those of faults do, and those of answers don't
-abbrev pub is_refusal : List ℕ → Bool
-is_refusal object = starts_with nat_eq object (codes "{\"answer\":\"refused\"")
+abbrev pub is_refusal_object : List ℕ → Bool
+is_refusal_object object = starts_with nat_eq object (codes "{\"answer\":\"refused\"")
 
 -- ---- members
 
@@ -43,7 +43,7 @@ members_alike rules line other told long long_other is = is ∙ long_objects rul
 
 -- these are the members of a refusal
 abbrev pub are_of_refusal : List ℕ → Bool
-are_of_refusal members = is_refusal (codes "{" ++ members)
+are_of_refusal members = is_refusal_object (codes "{" ++ members)
 
 -- ---- streams
 

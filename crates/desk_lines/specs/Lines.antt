@@ -8,12 +8,12 @@ pub record Cut : Type 0 where
   pub rest : List ℕ
 
 -- a byte that is no line feed, at the front of the first line, or of the rest where there is no line
-abbrev pub in_front : ℕ → List (List ℕ) → List ℕ → Cut
-in_front byte [] rest = record { ended = []; rest = byte ∷ rest }
-in_front byte (line ∷ lines) rest = record { ended = (byte ∷ line) ∷ lines; rest = rest }
+abbrev pub byte_in_front : ℕ → List (List ℕ) → List ℕ → Cut
+byte_in_front byte [] rest = record { ended = []; rest = byte ∷ rest }
+byte_in_front byte (line ∷ lines) rest = record { ended = (byte ∷ line) ∷ lines; rest = rest }
 
 abbrev pub with_front : ℕ → Cut → Cut
-with_front byte cut = if byte == 10 then record { ended = [] ∷ cut.ended; rest = cut.rest } else in_front byte cut.ended cut.rest
+with_front byte cut = if byte == 10 then record { ended = [] ∷ cut.ended; rest = cut.rest } else byte_in_front byte cut.ended cut.rest
 
 abbrev pub cut_of : List ℕ → Cut
 cut_of [] = record { ended = []; rest = [] }

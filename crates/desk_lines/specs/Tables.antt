@@ -4,9 +4,9 @@ use Rattle.riichi_hand.specs.FaultTexts.{fault_text}
 use Rattle.riichi_hand.specs.Lines.{is_other_byte}
 use Rattle.desk_core.specs.AnswerText.{answer_text}
 use Rattle.desk_core.specs.declared.answer.Answer.{Answer}
-use Rattle.desk_lines.specs.declared.unmade_line.UnmadeLine.{UnmadeLine}
+use Rattle.desk_lines.specs.declared.answer_part.AnswerPart.{AnswerPart}
 use Rattle.desk_lines.specs.Numbered.{words_front}
-use Rattle.desk_lines.specs.declared.unmade_line.UnmadeLine.TheVariants.{Table, Byte, Number, NextJob, Refusal}
+use Rattle.desk_lines.specs.declared.answer_part.AnswerPart.TheVariants.{Table, Byte, Number, NextJob, Refusal}
 
 -- the line that stands before the answers of a table
 abbrev pub table_line : ℕ → List ℕ
@@ -46,7 +46,7 @@ other_answers (given ∷ answers) = answers
 -- ---- lines that are not made yet
 
 -- the line that is written, or the part of one, where some answers are still to be written: of a job the first of them
-abbrev pub line_told : UnmadeLine → List Answer → List ℕ
+abbrev pub line_told : AnswerPart → List Answer → List ℕ
 line_told (Table number) answers = codes "table " ++ decimal number
 line_told (Byte byte) answers = byte ∷ []
 line_told (Number number) answers = words_front number
@@ -55,7 +55,7 @@ line_told NextJob (answer ∷ answers) = answer_text answer ++ 10 ∷ []
 line_told (Refusal fault) answers = fault_text fault ++ 10 ∷ []
 
 -- the answers that are to be written after it
-abbrev pub answers_after : UnmadeLine → List Answer → List Answer
+abbrev pub answers_after : AnswerPart → List Answer → List Answer
 answers_after (Table number) answers = answers
 answers_after (Byte byte) answers = answers
 answers_after (Number number) answers = answers
@@ -64,12 +64,12 @@ answers_after NextJob (answer ∷ answers) = answers
 answers_after (Refusal fault) answers = answers
 
 -- answer lines, each answer in the place of its job
-abbrev pub told : List UnmadeLine → List Answer → List ℕ
-told [] answers = []
-told (line ∷ lines) answers = line_told line answers ++ told lines (answers_after line answers)
+abbrev pub lines_told : List AnswerPart → List Answer → List ℕ
+lines_told [] answers = []
+lines_told (line ∷ lines) answers = line_told line answers ++ lines_told lines (answers_after line answers)
 
 -- how many of the lines are answers to jobs
-abbrev pub count_jobs : List UnmadeLine → ℕ
+abbrev pub count_jobs : List AnswerPart → ℕ
 count_jobs [] = 0
 count_jobs (Table number ∷ lines) = count_jobs lines
 count_jobs (Byte byte ∷ lines) = count_jobs lines

@@ -55,8 +55,8 @@ abbrev pub kind_by : {A : Type 0} → (A → Bool) → Option A → LineKind
 kind_by refuses None = NoRecord
 kind_by refuses (Some answer) = if refuses answer then Refused else Answered
 
-abbrev pub kind_of : Option (List ℕ) → LineKind
-kind_of answer = kind_by is_refusal answer
+abbrev pub line_kind_of : Option (List ℕ) → LineKind
+line_kind_of answer = kind_by is_refusal answer
 
 -- a line may have the answer of another one: where they are one line, or both are longer than any line with an answer of its own
 abbrev pub IsToldAs : ℕ → List ℕ → List ℕ → Type 0

@@ -4,12 +4,12 @@ ghost use Rattle.desk_core.specs.AnswerText.{answer_text};
 ghost use Rattle.desk_core.specs.Value.{value_of};
 ghost use Rattle.riichi_score.specs.Best.{best_of};
 ghost use Rattle.riichi_score.specs.Text as spec_win;
-ghost use Rattle.riichi_shape.specs.Answer.{shape_of};
+ghost use Rattle.riichi_shape.specs.Answer.{shape_answer_of};
 ghost use Rattle.riichi_shape_text.specs.Text as spec_shape;
 ghost use Rattle.riichi_split.specs.Waits as spec_waits;
 ghost use Rattle.desk_lines.specs.LineAnswer.{answer_of};
 ghost use Rattle.desk_lines.specs.Outbox.{HasRoom};
-ghost use Rattle.desk_lines.specs.Telling.{with_line_feed, kind_of};
+ghost use Rattle.desk_lines.specs.Telling.{with_line_feed, line_kind_of};
 
 use super::line_kind::LineKind;
 use super::numbered::Numbers;
@@ -65,7 +65,7 @@ fn put_answer<S: RowSource>(
     source: &mut S,
 ) -> LineKind
     requires { HasRoom outbox.old }
-    ensures kind { result ≡ kind_of (answer_of rules line.now) }
+    ensures kind { result ≡ line_kind_of (answer_of rules line.now) }
     ensures told { outbox.new.bytes.items
         ≡ outbox.old.bytes.items ++ with_line_feed (answer_of rules line.now) }
 {
@@ -99,7 +99,7 @@ fn put_job<S: RowSource>(job: &Job, outbox: &mut Outbox, source: &mut S)
 fn put_win(win: &WinRecord, outbox: &mut Outbox)
     requires { HasRoom outbox.old }
     ensures { outbox.new.bytes.items
-        ≡ outbox.old.bytes.items ++ (spec_win.text_of (best_of win.now) ++ 10 ∷ []) }
+        ≡ outbox.old.bytes.items ++ (spec_win.win_text (best_of win.now) ++ 10 ∷ []) }
 {
     outbox.text.clear();
     push_win(&mut outbox.text, &best(win));
@@ -120,7 +120,7 @@ pub(crate) fn put_shape<S: RowSource>(tiles: &ShapeRecord, outbox: &mut Outbox, 
     requires { HasRoom outbox.old }
     ensures room { length outbox.new.bytes.items ≤ length outbox.old.bytes.items + 3073 }
     ensures told { outbox.new.bytes.items
-        ≡ outbox.old.bytes.items ++ (spec_shape.text_of (shape_of tiles.now) ++ 10 ∷ []) }
+        ≡ outbox.old.bytes.items ++ (spec_shape.shape_text (shape_answer_of tiles.now) ++ 10 ∷ []) }
 {
     outbox.text.clear();
     push_shape(&mut outbox.text, &shape_with(source, tiles));

@@ -12,15 +12,15 @@ ghost use Rattle.desk_lines.specs.Streams.{FailsOrGoesOn, IsReadWithin};
 ghost use Rattle.desk_lines.specs.Tables.{head_line};
 
 use super::answer_lines::answer_lines;
+use super::answer_part::AnswerPart;
 use super::fault::DeskFault;
 use super::line_kind::LineKind;
 use super::outbox::Outbox;
 use super::profile::record_rules;
 use super::report::DeskReport;
-use super::sheet::Sheet;
+use super::sheet::AnswerSheet;
 use super::sheets::Sheets;
 use super::teller::Teller;
-use super::unmade_line::UnmadeLine;
 use desk_streams::{BytesOut, Source};
 use riichi_hand::{Rules, read_line};
 use riichi_shape::{FreshRows, RowSource};
@@ -30,7 +30,7 @@ use std::alloc::{AllocError, Global};
 #[derive(Drop)]
 pub struct Collected {
     /// Its answer lines, behind the line with its number and its name, in order.
-    pub sheets: Vec<Sheet>,
+    pub sheets: Vec<AnswerSheet>,
     /// How many of the answer lines begin with `refused`, and how many don't.
     pub report: DeskReport,
 }
@@ -180,7 +180,7 @@ impl Collector {
             Err(fault) => {
                 self.report.refused = one_more_line(self.report.refused)?;
                 self.sheets.add_number(self.is_numbered, number)?;
-                self.sheets.add_line(UnmadeLine::Refusal(fault))
+                self.sheets.add_line(AnswerPart::Refusal(fault))
             }
         }
     }

@@ -1,10 +1,10 @@
 //! Equality of faults and reports.
 ghost use Rattle.std.proofs.Common.{rules};
 
+use crate::answer_part::AnswerPart;
 use crate::fault::DeskFault;
 use crate::filling::Filled;
 use crate::report::DeskReport;
-use crate::unmade_line::UnmadeLine;
 use riichi_tiles::Decided;
 
 impl Decided for DeskFault {
@@ -19,6 +19,6 @@ impl Decided for Filled {
     ghost decides = { λ a b. Prim.search rules };
 }
 
-impl Decided for UnmadeLine {
+impl Decided for AnswerPart {
     ghost decides = { λ a b. Prim.search rules };
 }

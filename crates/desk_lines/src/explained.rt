@@ -3,13 +3,13 @@ ghost use Rattle.std.specs.Prelude.{◌≡◌, ℕ, ◌+◌, ◌≤◌, List, �
 ghost use Rattle.desk_core.specs.AnswerText.{answer_text};
 ghost use Rattle.desk_core.specs.Value.{value_of};
 ghost use Rattle.riichi_explain.specs.Explanation.{IsJobText, IsWinText, IsBestText, AreOthers, IsShapeText};
-ghost use Rattle.riichi_explain.specs.Win.{reading_of};
+ghost use Rattle.riichi_explain.specs.Win.{explained_reading};
 ghost use Rattle.riichi_hand.specs.FaultTexts.{fault_text};
 ghost use Rattle.riichi_hand.specs.Places.{fault_from};
 ghost use Rattle.riichi_hints.specs.Hint.{IsRefusalText};
 ghost use Rattle.riichi_score.specs.Best.{best_of};
 ghost use Rattle.riichi_score.specs.Text as spec_win;
-ghost use Rattle.riichi_shape.specs.Answer.{shape_of};
+ghost use Rattle.riichi_shape.specs.Answer.{shape_answer_of};
 ghost use Rattle.riichi_shape_text.specs.Text as spec_shape;
 ghost use Rattle.riichi_split.specs.Waits.{waits_of, waits_text};
 ghost use Rattle.riichi_waits.specs.Waits.{kind_waits, waits_line};
@@ -146,7 +146,7 @@ fn put_job<S: RowSource>(shown: Shown, job: &Job, outbox: &mut Outbox, source: &
 fn put_win<S: RowSource>(shown: Shown, win: &WinRecord, outbox: &mut Outbox, source: &mut S)
     requires { HasRoom outbox.old }
     ensures { (why : List ℕ) × IsWinText shown win.now why
-        × (outbox.new.bytes.items ≡ outbox.old.bytes.items ++ ((spec_win.text_of (best_of win.now) ++ 10 ∷ []) ++ why)) }
+        × (outbox.new.bytes.items ≡ outbox.old.bytes.items ++ ((spec_win.win_text (best_of win.now) ++ 10 ∷ []) ++ why)) }
 {
     let best = put_best(win, outbox, source);
     match shown {
@@ -159,8 +159,8 @@ fn put_win<S: RowSource>(shown: Shown, win: &WinRecord, outbox: &mut Outbox, sou
 fn put_best<S: RowSource>(win: &WinRecord, outbox: &mut Outbox, source: &mut S) -> Option<Reading>
     requires { HasRoom outbox.old }
     ensures told { (why : List ℕ) × (best : IsBestText win.now why)
-        × (outbox.new.bytes.items ≡ outbox.old.bytes.items ++ ((spec_win.text_of (best_of win.now) ++ 10 ∷ []) ++ why))
-        × (result ≡ reading_of best.explanation) }
+        × (outbox.new.bytes.items ≡ outbox.old.bytes.items ++ ((spec_win.win_text (best_of win.now) ++ 10 ∷ []) ++ why))
+        × (result ≡ explained_reading best.explanation) }
     ensures room { length outbox.new.bytes.items ≤ length outbox.old.bytes.items + 7681 }
 {
     let explanation = explain_win(source, win);
@@ -202,7 +202,7 @@ fn put_kinds(hand: &HandRecord, outbox: &mut Outbox)
 fn put_forms<S: RowSource>(tiles: &ShapeRecord, outbox: &mut Outbox, source: &mut S)
     requires { HasRoom outbox.old }
     ensures { (why : List ℕ) × IsShapeText tiles.now why
-        × (outbox.new.bytes.items ≡ outbox.old.bytes.items ++ ((spec_shape.text_of (shape_of tiles.now) ++ 10 ∷ []) ++ why)) }
+        × (outbox.new.bytes.items ≡ outbox.old.bytes.items ++ ((spec_shape.shape_text (shape_answer_of tiles.now) ++ 10 ∷ []) ++ why)) }
 {
     put_shape(tiles, outbox, source);
     outbox.why.clear();

@@ -4,7 +4,7 @@ ghost use Rattle.desk_core.specs.Value.{value_of};
 ghost use Rattle.desk_json.specs.Text as spec;
 ghost use Rattle.riichi_hand.specs.Places.{fault_from};
 ghost use Rattle.riichi_hand.specs.Rules.{house_of};
-ghost use Rattle.desk_lines.specs.JsonLine.{json_of, is_refusal};
+ghost use Rattle.desk_lines.specs.JsonLine.{json_of, is_refusal_object};
 ghost use Rattle.desk_lines.specs.Outbox.{HasRoom};
 ghost use Rattle.desk_lines.specs.Telling.{kind_by, with_line_feed};
 
@@ -21,12 +21,12 @@ use riichi_shape::RowSource;
 pub struct Objects;
 
 impl Responder for Objects {
-    ghost use Rattle.desk_lines.specs.JsonLine.{json_of, is_refusal, json_alike};
+    ghost use Rattle.desk_lines.specs.JsonLine.{json_of, is_refusal_object, json_alike};
     ghost use Rattle.desk_lines.specs.LineAnswer.{IsBy};
 
     ghost may_tell = { IsBy json_of };
 
-    ghost refuses = { is_refusal };
+    ghost refuses = { is_refusal_object };
 
     ghost alike = { json_alike };
 
@@ -49,7 +49,7 @@ pub(crate) fn put_json<S: RowSource>(
     source: &mut S,
 ) -> LineKind
     requires { HasRoom outbox.old }
-    ensures kind { result ≡ kind_by is_refusal (json_of rules line.now) }
+    ensures kind { result ≡ kind_by is_refusal_object (json_of rules line.now) }
     ensures told { outbox.new.bytes.items ≡
         outbox.old.bytes.items ++ with_line_feed (json_of rules line.now) }
 {
@@ -115,7 +115,7 @@ impl Numbers for Members {
 /// Makes the object of a job under these rules.
 fn make_object<S: RowSource>(rules: Rules, job: &Job, outbox: &mut Outbox, source: &mut S)
     ensures object { outbox.new.object.bytes
-        ≡ spec.answer_text (house_of rules) (value_of job.now) }
+        ≡ spec.answer_json (house_of rules) (value_of job.now) }
     ensures same { outbox.new.bytes ≡ outbox.old.bytes }
 {
     outbox.object.clear();
@@ -130,7 +130,7 @@ fn make_object<S: RowSource>(rules: Rules, job: &Job, outbox: &mut Outbox, sourc
 fn make_refusal(line: &[u8], refusal: &Refusal<'_>, outbox: &mut Outbox)
     requires { option_map (λ from. from.now) refusal.now.from
         ≡ fault_from refusal.now.fault line.now }
-    ensures object { outbox.new.object.bytes ≡ spec.refusal_text line.now refusal.now.fault }
+    ensures object { outbox.new.object.bytes ≡ spec.refusal_json line.now refusal.now.fault }
     ensures same { outbox.new.bytes ≡ outbox.old.bytes }
 {
     outbox.object.clear();

@@ -17,12 +17,12 @@ use riichi_shape::RowSource;
 pub(crate) struct Reasoned;
 
 impl Responder for Reasoned {
-    ghost use Rattle.desk_lines.specs.JsonLine.{is_refusal};
+    ghost use Rattle.desk_lines.specs.JsonLine.{is_refusal_object};
     ghost use Rattle.desk_lines.specs.Reasoned.{IsReasoned, reasoned_alike};
 
     ghost may_tell = { IsReasoned };
 
-    ghost refuses = { is_refusal };
+    ghost refuses = { is_refusal_object };
 
     ghost alike = { reasoned_alike };
 

@@ -1,6 +1,6 @@
 //! A text over streams, answered as JSON with the reasons.
 ghost use Rattle.std.specs.Prelude.{◌≡◌, ◌++◌, ℕ, List, IfOk, IsErrOf};
-ghost use Rattle.desk_lines.specs.JsonLine.{is_refusal};
+ghost use Rattle.desk_lines.specs.JsonLine.{is_refusal_object};
 ghost use Rattle.desk_lines.specs.Lines.{ended_lines, lines};
 ghost use Rattle.desk_lines.specs.Reasoned.{IsReasoned};
 ghost use Rattle.desk_lines.specs.Records.{AnswerRecords};
@@ -28,7 +28,7 @@ pub fn explain_json_text_with<S: RowSource, R: Source, W: Sink>(
         × GivesAll ⟦<R as Source>⟧ reader.old reader.new text
         × AnswerRecords IsReasoned rules (lines text) told
         × WritesAll ⟦<W as Sink>⟧ writer.old writer.new (text_of told)
-        × (report ≡ report_by is_refusal told)) }
+        × (report ≡ report_by is_refusal_object told)) }
 
     // A read failed, or there were too many: the answers to the lines that had ended were written.
     ensures read_failed { IsErrOf result DeskFault.Read

@@ -1,7 +1,7 @@
 //! Answers the lines of a script one by one.
 ghost use Rattle.std.specs.Prelude.{◌≡◌, ◌≤◌, ◌++◌, ℕ, List, Some, length};
 ghost use Rattle.desk_lines.specs.Outbox.{HasRoom};
-ghost use Rattle.desk_lines.specs.Telling.{with_line_feed, kind_of};
+ghost use Rattle.desk_lines.specs.Telling.{with_line_feed, line_kind_of};
 
 use super::line_kind::LineKind;
 use super::outbox::Outbox;
@@ -44,7 +44,7 @@ impl Teller for Script {
 fn put_text(text: &[u8], outbox: &mut Outbox) -> LineKind
     requires room { HasRoom outbox.old }
     requires short { length text.now ≤ 3096 }
-    ensures kind { result ≡ kind_of (Some text.now) }
+    ensures kind { result ≡ line_kind_of (Some text.now) }
     ensures told { outbox.new.bytes.items
         ≡ outbox.old.bytes.items ++ with_line_feed (Some text.now) }
 {

@@ -4,7 +4,7 @@ ghost use Rattle.desk_core.specs.AnswerText.{answer_text};
 ghost use Rattle.desk_core.specs.Value.{value_of};
 ghost use Rattle.desk_lines.specs.Tables.{count_jobs, line_told};
 
-use super::unmade_line::UnmadeLine;
+use super::answer_part::AnswerPart;
 use riichi_hand::Job;
 use std::alloc::{AllocError, Global};
 
@@ -14,8 +14,8 @@ const LINES: usize = 4096;
 /// At most 4,096 answer lines or parts of them, one after the other, before they are made: what each of them is made of,
 /// and the jobs whose answers are among them.
 #[derive(Drop)]
-pub struct Sheet {
-    lines: Vec<UnmadeLine>,
+pub struct AnswerSheet {
+    lines: Vec<AnswerPart>,
     jobs: Vec<Job>,
 
     /// Each job has its line.
@@ -24,14 +24,14 @@ pub struct Sheet {
     ghost few: { length lines.items ≤ 4096 },
 }
 
-impl Sheet {
+impl AnswerSheet {
     ghost use Rattle.desk_lines.specs.Sheets.{sheet_told};
 
-    pub(crate) fn new(alloc: Global) -> Sheet
+    pub(crate) fn new(alloc: Global) -> AnswerSheet
         ensures told { sheet_told result ≡ [] }
         ensures room { length result.lines.items < LINES }
     {
-        Sheet {
+        AnswerSheet {
             lines: Vec::new(alloc),
             jobs: Vec::new(alloc),
         }
@@ -52,13 +52,13 @@ impl Sheet {
     {
         self.lines.reserve(1)?;
         self.jobs.reserve(1)?;
-        self.lines.push_reserved(UnmadeLine::NextJob);
+        self.lines.push_reserved(AnswerPart::NextJob);
         self.jobs.push_reserved(job);
         Ok(())
     }
 
     /// Adds a line that wants no answer, or a part of one.
-    pub(crate) fn add_line(&mut self, line: UnmadeLine) -> Result<(), AllocError>
+    pub(crate) fn add_line(&mut self, line: AnswerPart) -> Result<(), AllocError>
         requires room { length self.old.lines.items < LINES }
         requires alone { count_jobs (line ∷ []) ≡ 0 }
         ensures { OnOk result (sheet_told self.new ≡ sheet_told self.old ++ line_told line []) }
@@ -69,11 +69,11 @@ impl Sheet {
     }
 
     /// What its lines are made of, and the jobs whose answers are among them.
-    pub fn into_parts(self) -> (Vec<UnmadeLine>, Vec<Job>)
+    pub fn into_parts(self) -> (Vec<AnswerPart>, Vec<Job>)
         ensures parts { (result.0 ≡ self.lines) × (result.1 ≡ self.jobs) }
         ensures few { length result.1.items ≤ 4096 }
     {
-        let Sheet { lines, jobs } = self;
+        let AnswerSheet { lines, jobs } = self;
         (lines, jobs)
     }
 }

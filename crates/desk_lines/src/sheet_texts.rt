@@ -1,14 +1,14 @@
 //! The texts of answer lines, made and written.
 ghost use Rattle.std.specs.Prelude.{◌≡◌, [], ◌++◌, map, IfOk, OnOk};
 ghost use Rattle.std.specs.List.{flat_map};
-ghost use Rattle.desk_lines.specs.declared.unmade_line.UnmadeLine.TheVariants.{NextJob};
+ghost use Rattle.desk_lines.specs.declared.answer_part.AnswerPart.TheVariants.{NextJob};
 ghost use Rattle.desk_lines.specs.Sheets.{lists_told};
-ghost use Rattle.desk_lines.specs.Tables.{line_told, answers_after, told, first_answers, other_answers};
+ghost use Rattle.desk_lines.specs.Tables.{line_told, answers_after, lines_told, first_answers, other_answers};
 ghost use Rattle.desk_lines.specs.Streams.{Writes};
 
+use super::answer_part::AnswerPart;
 use super::fault::DeskFault;
 use super::outbox::write_all;
-use super::unmade_line::UnmadeLine;
 use arrayvec::ArrayString;
 use desk_core::{Answer, push_answer};
 use desk_streams::Sink;
@@ -19,7 +19,7 @@ use std::alloc::{AllocError, Global};
 /// The texts of several lists of answer lines, where these are the answers to the jobs of each list.
 pub fn texts_of(
     alloc: Global,
-    lists: &[Vec<UnmadeLine>],
+    lists: &[Vec<AnswerPart>],
     answers: &[Vec<Answer>],
 ) -> Result<Vec<Vec<u8>>, AllocError>
     ensures { IfOk result (λ texts. flat_map (λ text. text.items) texts.items
@@ -49,8 +49,8 @@ fn first_list(answers: &[Vec<Answer>]) -> (&[Answer], &[Vec<Answer>])
 }
 
 /// The text of answer lines, where these are the answers to their jobs.
-fn text_of(alloc: Global, lines: &[UnmadeLine], answers: &[Answer]) -> Result<Vec<u8>, AllocError>
-    ensures { IfOk result (λ text. text.items ≡ told lines.now answers.now) }
+fn text_of(alloc: Global, lines: &[AnswerPart], answers: &[Answer]) -> Result<Vec<u8>, AllocError>
+    ensures { IfOk result (λ text. text.items ≡ lines_told lines.now answers.now) }
 {
     let mut text = Vec::new(alloc);
     let mut room: ArrayString<3072> = ArrayString::new();
@@ -66,7 +66,7 @@ fn text_of(alloc: Global, lines: &[UnmadeLine], answers: &[Answer]) -> Result<Ve
 fn add_line<'a>(
     text: &mut Vec<u8>,
     room: &mut ArrayString<3072>,
-    line: &UnmadeLine,
+    line: &AnswerPart,
     answers: &'a [Answer],
 ) -> Result<&'a [Answer], AllocError>
     ensures rest { IfOk result (λ rest. rest.now ≡ answers_after line.now answers.now) }
@@ -75,20 +75,20 @@ fn add_line<'a>(
 {
     room.clear();
     match line {
-        UnmadeLine::Table(number) => {
+        AnswerPart::Table(number) => {
             room.push_str("table ");
             push_number(room, *number);
         }
-        UnmadeLine::Byte(byte) => text.push(*byte)?,
-        UnmadeLine::Number(number) => {
+        AnswerPart::Byte(byte) => text.push(*byte)?,
+        AnswerPart::Number(number) => {
             push_number(room, *number);
             room.push_str(":");
         }
-        UnmadeLine::Refusal(fault) => {
+        AnswerPart::Refusal(fault) => {
             room.push_str(fault_text(fault).as_str());
             room.push_str("\n");
         }
-        UnmadeLine::NextJob => return add_answer(text, room, answers),
+        AnswerPart::NextJob => return add_answer(text, room, answers),
     }
     text.extend_from_slice(room.as_str().as_bytes())?;
     Ok(answers)

@@ -6,8 +6,8 @@ ghost use Rattle.desk_lines.specs.Numbered.{front_shown};
 ghost use Rattle.desk_lines.specs.Sheets.{sheets_told, told_on};
 ghost use Rattle.desk_lines.specs.Tables.{count_jobs, head_line, line_told, name_behind, shown_byte};
 
-use super::sheet::Sheet;
-use super::unmade_line::UnmadeLine;
+use super::answer_part::AnswerPart;
+use super::sheet::AnswerSheet;
 use riichi_hand::Job;
 use std::alloc::{AllocError, Global};
 use std::mem::replace;
@@ -16,8 +16,8 @@ use std::mem::replace;
 #[derive(Drop)]
 pub(crate) struct Sheets {
     alloc: Global,
-    full: Vec<Sheet>,
-    last: Sheet,
+    full: Vec<AnswerSheet>,
+    last: AnswerSheet,
 }
 
 impl Sheets {
@@ -27,7 +27,7 @@ impl Sheets {
         Sheets {
             alloc,
             full: Vec::new(alloc),
-            last: Sheet::new(alloc),
+            last: AnswerSheet::new(alloc),
         }
     }
 
@@ -36,9 +36,9 @@ impl Sheets {
         ensures { OnOk result (told_on self.new
             ≡ told_on self.old ++ head_line number (option_map (λ name. name.now) name.entry)) }
     {
-        self.add_line(UnmadeLine::Table(number))?;
+        self.add_line(AnswerPart::Table(number))?;
         self.add_name(name)?;
-        self.add_line(UnmadeLine::Byte(b'\n'))
+        self.add_line(AnswerPart::Byte(b'\n'))
     }
 
     /// Adds the name of a table behind its number, where it is told.
@@ -49,9 +49,9 @@ impl Sheets {
         let Some(name) = name else {
             return Ok(());
         };
-        self.add_line(UnmadeLine::Byte(b' '))?;
+        self.add_line(AnswerPart::Byte(b' '))?;
         for byte in name.as_bytes() {
-            self.add_line(UnmadeLine::Byte(printable(*byte)))?;
+            self.add_line(AnswerPart::Byte(printable(*byte)))?;
         }
         Ok(())
     }
@@ -62,7 +62,7 @@ impl Sheets {
             ≡ told_on self.old ++ front_shown is_numbered number) }
     {
         if is_numbered {
-            return self.add_line(UnmadeLine::Number(number));
+            return self.add_line(AnswerPart::Number(number));
         }
         Ok(())
     }
@@ -77,7 +77,7 @@ impl Sheets {
     }
 
     /// Adds a line that wants no answer, or a part of one.
-    pub(crate) fn add_line(&mut self, line: UnmadeLine) -> Result<(), AllocError>
+    pub(crate) fn add_line(&mut self, line: AnswerPart) -> Result<(), AllocError>
         requires { count_jobs (line ∷ []) ≡ 0 }
         ensures { OnOk result (told_on self.new ≡ told_on self.old ++ line_told line []) }
     {
@@ -91,14 +91,14 @@ impl Sheets {
         ensures room { OnOk result (length self.new.last.lines.items < 4096) }
     {
         if self.last.is_full() {
-            let full = replace(&mut self.last, Sheet::new(self.alloc));
+            let full = replace(&mut self.last, AnswerSheet::new(self.alloc));
             self.full.push(full)?;
         }
         Ok(())
     }
 
     /// All sheets, in order.
-    pub(crate) fn into_all(self) -> Result<Vec<Sheet>, AllocError>
+    pub(crate) fn into_all(self) -> Result<Vec<AnswerSheet>, AllocError>
         ensures { IfOk result (λ sheets. sheets_told sheets.items ≡ told_on self) }
     {
         let Sheets { mut full, last, .. } = self;

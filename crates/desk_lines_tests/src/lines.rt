@@ -359,7 +359,7 @@ fn stops_at_each_failing_write(rt: HostRuntime) {
 }
 
 /// What a text asks, behind the number of its table and its name where it has one.
-fn taken_apart(rt: &impl Abort, alloc: Global, name: Option<&str>, expected: &[UnmadeLine]) {
+fn taken_apart(rt: &impl Abort, alloc: Global, name: Option<&str>, expected: &[AnswerPart]) {
     let mut reader = BytesIn::new(TEXT, 1, None);
     let Ok(mut collected) = collect_text(alloc, Rules::One, 7, name, &mut reader) else {
         holds_in(rt, &"not collected", false);
@@ -380,7 +380,7 @@ fn taken_apart(rt: &impl Abort, alloc: Global, name: Option<&str>, expected: &[U
 }
 
 /// The fault of the line that is refused.
-const FAULT: UnmadeLine = UnmadeLine::Refusal(LineFault::Notation(
+const FAULT: AnswerPart = AnswerPart::Refusal(LineFault::Notation(
     TextName::Hand,
     NotationFault {
         code: NotationCode::N5,
@@ -392,11 +392,11 @@ const FAULT: UnmadeLine = UnmadeLine::Refusal(LineFault::Notation(
 #[test]
 fn a_text_taken_apart(rt: HostRuntime) {
     let expected = [
-        UnmadeLine::Table(7),
-        UnmadeLine::Byte(b'\n'),
-        UnmadeLine::NextJob,
+        AnswerPart::Table(7),
+        AnswerPart::Byte(b'\n'),
+        AnswerPart::NextJob,
         FAULT,
-        UnmadeLine::NextJob,
+        AnswerPart::NextJob,
     ];
     taken_apart(&rt, rt.alloc(), None, expected.as_slice());
 }
@@ -405,18 +405,18 @@ fn a_text_taken_apart(rt: HostRuntime) {
 #[test]
 fn a_text_with_a_name(rt: HostRuntime) {
     let expected = [
-        UnmadeLine::Table(7),
-        UnmadeLine::Byte(b' '),
-        UnmadeLine::Byte(b'o'),
-        UnmadeLine::Byte(b' '),
-        UnmadeLine::Byte(b'?'),
-        UnmadeLine::Byte(b'\n'),
-        UnmadeLine::Number(2),
-        UnmadeLine::NextJob,
-        UnmadeLine::Number(4),
+        AnswerPart::Table(7),
+        AnswerPart::Byte(b' '),
+        AnswerPart::Byte(b'o'),
+        AnswerPart::Byte(b' '),
+        AnswerPart::Byte(b'?'),
+        AnswerPart::Byte(b'\n'),
+        AnswerPart::Number(2),
+        AnswerPart::NextJob,
+        AnswerPart::Number(4),
         FAULT,
-        UnmadeLine::Number(5),
-        UnmadeLine::NextJob,
+        AnswerPart::Number(5),
+        AnswerPart::NextJob,
     ];
     taken_apart(&rt, rt.alloc(), Some("o \u{7}"), expected.as_slice());
 }
@@ -448,13 +448,13 @@ fn a_sheet_that_is_full(rt: HostRuntime) -> Result<(), Fail> {
 fn lists_without_answers(rt: HostRuntime) -> Result<(), Fail> {
     let alloc = rt.alloc();
     let mut first = Vec::new(alloc);
-    first.push(UnmadeLine::Table(0))?;
-    first.push(UnmadeLine::Byte(b'\n'))?;
-    first.push(UnmadeLine::Number(3))?;
-    first.push(UnmadeLine::Refusal(LineFault::Line(LineCode::H8)))?;
+    first.push(AnswerPart::Table(0))?;
+    first.push(AnswerPart::Byte(b'\n'))?;
+    first.push(AnswerPart::Number(3))?;
+    first.push(AnswerPart::Refusal(LineFault::Line(LineCode::H8)))?;
     let mut second = Vec::new(alloc);
-    second.push(UnmadeLine::Table(1))?;
-    second.push(UnmadeLine::Byte(b'\n'))?;
+    second.push(AnswerPart::Table(1))?;
+    second.push(AnswerPart::Byte(b'\n'))?;
     let mut lists = Vec::new(alloc);
     lists.push(first)?;
     lists.push(second)?;

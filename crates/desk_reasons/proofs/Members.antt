@@ -5,14 +5,14 @@ use Rattle.std.specs.Prelude.{codes}
 use Rattle.json.specs.Json.{Json, object, Members, no_members, member}
 use Rattle.json.specs.Print.{quoted, escape_byte}
 use Rattle.desk_json.specs.Parts.{comma_if}
-use Rattle.desk_json.specs.Text.{text_of}
+use Rattle.desk_json.specs.Text.{json_text}
 use Rattle.desk_json.specs.Trees.{Named}
 use Rattle.desk_json.proofs.Written.{written, members_written, text_written}
 use Rattle.riichi_hand.specs.declared.house.House.{House}
 use Rattle.riichi_score.specs.declared.answer.WinAnswer.{WinAnswer}
 use Rattle.riichi_score.specs.declared.answer.WinAnswer.TheVariants.{Won, NoYaku, NoWin}
 use Rattle.desk_core.specs.declared.answer.Answer.TheVariants as answer
-use Rattle.desk_json.specs.Text.{answer_text}
+use Rattle.desk_json.specs.Text.{answer_json}
 use Rattle.desk_json.specs.Trees.{answer_tree, win_tree, score_tree}
 use Rattle.desk_reasons.specs.Trees.{with_last, with_member}
 
@@ -44,12 +44,12 @@ closed_with (member name value members) named =
 
 -- behind a text that only lacks the brace, the member and the brace are what lacks
 pub one_more : (now before : List ℕ) (name : List ℕ) (value : Json) (members : Members) (named : Named)
-    → now ++ codes "}" ≡ before ++ text_of (object (member name value members))
-    → now ++ (member_text named ++ codes "}") ≡ before ++ text_of (with_member (object (member name value members)) named)
+    → now ++ codes "}" ≡ before ++ json_text (object (member name value members))
+    → now ++ (member_text named ++ codes "}") ≡ before ++ json_text (with_member (object (member name value members)) named)
 unfolding with_member written open_members
 one_more now before name value members named e =
     let opened = 123 ∷ ((quoted name ++ 58 ∷ []) ++ (written value ++ open_members true members)) in
-    let whole : text_of (object (member name value members)) ≡ opened ++ 125 ∷ [] =
+    let whole : json_text (object (member name value members)) ≡ opened ++ 125 ∷ [] =
     text_written (object (member name value members)) ∙ ap (λ t. 123 ∷ t) (closed false (member name value members)) in
     let front : now ≡ before ++ opened =
     append_cancel_right now (before ++ opened) (125 ∷ []) (e ∙ ap (λ t. before ++ t) whole ∙ sym (append_assoc before opened (125 ∷ []))) in
@@ -61,14 +61,14 @@ one_more now before name value members named e =
     ∙ regroup (123 ∷ []) (quoted name ++ 58 ∷ []) (written value) (open_members true members) (member_text named ++ codes "}")))
 
 -- the object of a win
-pub win_more : (before now : List ℕ) (rules : House) (win : WinAnswer) (named : Named) → now ++ codes "}" ≡ before ++ answer_text rules (answer.Win win)
-    → now ++ (member_text named ++ codes "}") ≡ before ++ text_of (with_member (win_tree rules win) named)
+pub win_more : (before now : List ℕ) (rules : House) (win : WinAnswer) (named : Named) → now ++ codes "}" ≡ before ++ answer_json rules (answer.Win win)
+    → now ++ (member_text named ++ codes "}") ≡ before ++ json_text (with_member (win_tree rules win) named)
 unfolding answer_tree win_tree score_tree
 win_more before now rules (Won score) named e = one_more now before _ _ _ named e
 win_more before now rules NoYaku named e = one_more now before _ _ _ named e
 win_more before now rules NoWin named e = one_more now before _ _ _ named e
 
 -- the member `why`
-pub why_member : (tree : Json) → member_text (codes "why", tree) ≡ codes ",\"why\":" ++ text_of tree
+pub why_member : (tree : Json) → member_text (codes "why", tree) ≡ codes ",\"why\":" ++ json_text tree
 unfolding member_text escape_byte
 why_member tree = ap (λ t. codes ",\"why\":" ++ t) (sym (text_written tree))

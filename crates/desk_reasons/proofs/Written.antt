@@ -31,20 +31,20 @@ use Rattle.riichi_explain.specs.declared.win.WonHand.{WonHand}
 use Rattle.riichi_explain.specs.Forms.{shanten_text}
 use Rattle.riichi_explain.specs.Words.{dora_words, dora_japanese, fu_words, fu_japanese, payer_words}
 use Rattle.desk_json.specs.Parts.{listed}
-use Rattle.desk_json.specs.Text.{text_of}
-use Rattle.desk_json.specs.Trees.{items_of, members_of, Named, natural}
+use Rattle.desk_json.specs.Text.{json_text}
+use Rattle.desk_json.specs.Trees.{json_items, members_of, Named, natural}
 use Rattle.desk_json.proofs.Lists.{items_joined}
 use Rattle.desk_json.proofs.WordLemmas.{escape_kind, escape_name, escape_word}
 use Rattle.desk_json.proofs.Written.{written, items_written, members_written, text_written}
 use Rattle.desk_reasons.specs.Parts as parts
-use Rattle.desk_reasons.specs.Parts.{count_text, rows_text, japanese_text, part_text}
-use Rattle.desk_reasons.specs.Rows.{han_words, han_japanese, fu_kind}
+use Rattle.desk_reasons.specs.Parts.{count_json, rows_json, japanese_json, part_json}
+use Rattle.desk_reasons.specs.Rows.{han_part_words, han_japanese, fu_kind}
 use Rattle.desk_reasons.specs.Trees.{japanese_before, part_tree, han_members, han_tree, dora_tree, kind_before, fu_tree, pay_tree, block_tree, reading_tree, worth_members, other_tree, won_tree, readings_tree, form_before, forms_tree, wait_tree, missed_tree}
 
 -- ---- texts without escapes
 
-escape_han : (part : HanPart) → escape (han_words part) ≡ han_words part
-unfolding han_words escape_byte
+escape_han : (part : HanPart) → escape (han_part_words part) ≡ han_part_words part
+unfolding han_part_words escape_byte
 escape_han (Yaku yaku) = escape_word yaku
 escape_han (Yakuman yaku) = escape_word yaku
 escape_han Dora = refl
@@ -145,8 +145,8 @@ escape_block (Pair kind) = escape_two kind
 
 -- a Japanese name and what stands behind it
 name_written : (name : List ℕ) (more : List Named) → escape name ≡ name
-    → members_written true (members_of (japanese_before name more)) ≡ japanese_text name ++ members_written true (members_of more)
-unfolding written escape_byte japanese_text
+    → members_written true (members_of (japanese_before name more)) ≡ japanese_json name ++ members_written true (members_of more)
+unfolding written escape_byte japanese_json
 name_written [] more same = refl
 name_written (byte ∷ bytes) more same =
     ap (λ t. codes ",\"japanese\":" ++ ((34 ∷ (t ++ 34 ∷ [])) ++ members_written true (members_of more))) same
@@ -159,33 +159,33 @@ part_ends : (words name rest : List ℕ) → codes "{\"part\":" ++ ((34 ∷ (wor
 part_ends words name rest = simp append_assoc
 
 part_written : (words name : List ℕ) (more : List Named) → escape words ≡ words → escape name ≡ name
-    → written (part_tree words name more) ≡ part_text words name ++ members_written true (members_of more)
-unfolding written escape_byte part_text
+    → written (part_tree words name more) ≡ part_json words name ++ members_written true (members_of more)
+unfolding written escape_byte part_json
 part_written words name more same same_name =
     ap (λ t. codes "{\"part\":" ++ ((34 ∷ (t ++ 34 ∷ [])) ++ members_written true (members_of (japanese_before name more)))) same
     ∙ ap (λ t. codes "{\"part\":" ++ ((34 ∷ (words ++ 34 ∷ [])) ++ t)) (name_written name more same_name)
-    ∙ part_ends words (japanese_text name) (members_written true (members_of more))
+    ∙ part_ends words (japanese_json name) (members_written true (members_of more))
 
 count_ends : (part name count : List ℕ) → part ++ (name ++ (count ++ codes "}")) ≡ (part ++ (name ++ count)) ++ codes "}"
 count_ends part name count = simp append_assoc
 
-han_ends : (part : HanPart) (han : ℕ) (before : List ℕ) → before ++ members_written true (members_of (han_members part han)) ≡ (before ++ parts.han_number part han) ++ codes "}"
-unfolding written escape_byte parts.han_number count_text
+han_ends : (part : HanPart) (han : ℕ) (before : List ℕ) → before ++ members_written true (members_of (han_members part han)) ≡ (before ++ parts.han_number_json part han) ++ codes "}"
+unfolding written escape_byte parts.han_number_json count_json
 han_ends (Yaku yaku) han before = count_ends before (codes ",\"han\":") (decimal han)
 han_ends (Yakuman yaku) han before = sym (append_assoc before [] (codes "}"))
 han_ends Dora han before = count_ends before (codes ",\"han\":") (decimal han)
 
-han_written : (row : HanRow) → written (han_tree row) ≡ parts.han_text row
-unfolding han_tree parts.han_text
+han_written : (row : HanRow) → written (han_tree row) ≡ parts.han_row_json row
+unfolding han_tree parts.han_row_json
 han_written row =
-    part_written (han_words row.part) (han_japanese row.part) (han_members row.part row.han) (escape_han row.part) (escape_han_name row.part)
-    ∙ han_ends row.part row.han (part_text (han_words row.part) (han_japanese row.part))
+    part_written (han_part_words row.part) (han_japanese row.part) (han_members row.part row.han) (escape_han row.part) (escape_han_name row.part)
+    ∙ han_ends row.part row.han (part_json (han_part_words row.part) (han_japanese row.part))
 
-dora_written : (row : DoraRow) → written (dora_tree row) ≡ parts.dora_text row
-unfolding dora_tree parts.dora_text count_text written escape_byte
+dora_written : (row : DoraRow) → written (dora_tree row) ≡ parts.dora_row_json row
+unfolding dora_tree parts.dora_row_json count_json written escape_byte
 dora_written row =
     part_written (dora_words row.part) (dora_japanese row.part) ((codes "han", natural row.han) ∷ []) (escape_dora row.part) (escape_dora_name row.part)
-    ∙ count_ends (part_text (dora_words row.part) (dora_japanese row.part)) (codes ",\"han\":") (decimal row.han)
+    ∙ count_ends (part_json (dora_words row.part) (dora_japanese row.part)) (codes ",\"han\":") (decimal row.han)
 
 kind_ends : (before kind rest : List ℕ) → before ++ (codes ",\"kind\":" ++ ((34 ∷ (kind ++ 34 ∷ [])) ++ rest)) ≡ (before ++ ((codes ",\"kind\":\"" ++ kind) ++ codes "\"")) ++ rest
 kind_ends before kind rest = simp append_assoc
@@ -198,10 +198,10 @@ kind_written (Some kind) before more =
     ap (λ t. before ++ (codes ",\"kind\":" ++ ((34 ∷ (t ++ 34 ∷ [])) ++ members_written true (members_of more)))) (escape_kind kind)
     ∙ kind_ends before (kind_text kind) (members_written true (members_of more))
 
-fu_written : (row : FuRow) → written (fu_tree row) ≡ parts.fu_text row
-unfolding fu_tree parts.fu_text count_text written escape_byte
+fu_written : (row : FuRow) → written (fu_tree row) ≡ parts.fu_row_json row
+unfolding fu_tree parts.fu_row_json count_json written escape_byte
 fu_written row =
-    let before = part_text (fu_words row.part) (fu_japanese row.part) in
+    let before = part_json (fu_words row.part) (fu_japanese row.part) in
     let more : List Named = (codes "fu", natural row.fu) ∷ [] in
     part_written (fu_words row.part) (fu_japanese row.part) (kind_before (fu_kind row.part) more) (escape_fu row.part) (escape_fu_name row.part)
     ∙ kind_written (fu_kind row.part) before more
@@ -214,8 +214,8 @@ quoted_with before text rest = simp append_assoc
 pay_ends : (w a p b c z : List ℕ) → w ++ (a ++ (p ++ (b ++ (c ++ z)))) ≡ ((w ++ (a ++ p)) ++ (b ++ c)) ++ z
 pay_ends w a p b c z = simp append_assoc
 
-pay_written : (row : PayRow) → written (pay_tree row) ≡ parts.pay_text row
-unfolding pay_tree parts.pay_text parts.payer_text count_text written escape_byte
+pay_written : (row : PayRow) → written (pay_tree row) ≡ parts.pay_row_json row
+unfolding pay_tree parts.pay_row_json parts.payer_json count_json written escape_byte
 pay_written row =
     ap (λ t. codes "{\"payer\":" ++ ((34 ∷ (t ++ 34 ∷ [])) ++ (codes ",\"points\":" ++ (decimal row.points ++ (codes ",\"counters\":" ++ (decimal row.counters ++ codes "}")))))) (escape_payer row.payer)
     ∙ quoted_with (codes "{\"payer\":") (payer_words row.payer) (codes ",\"points\":" ++ (decimal row.points ++ (codes ",\"counters\":" ++ (decimal row.counters ++ codes "}"))))
@@ -230,7 +230,7 @@ block_written block = ap (λ t. 34 ∷ (t ++ 34 ∷ [])) (escape_block block)
 
 -- the texts of a list, with the bracket that ends them
 rows_written : {X : Type 0} (tree : X → Json) (text : X → List ℕ) → ((x : X) → written (tree x) ≡ text x) → (xs : List X)
-    → items_written false (items_of tree xs) ≡ listed (map text xs) ++ codes "]"
+    → items_written false (json_items tree xs) ≡ listed (map text xs) ++ codes "]"
 rows_written tree text each xs = items_joined tree text each xs
 
 standard_with : List ℕ → List ℕ → List ℕ → List ℕ
@@ -243,8 +243,8 @@ same_standard s s' p p' d d' e f g = cc
 standard_ends : (a s x b p c d z : List ℕ) → a ++ ((s ++ x) ++ ((b ++ p) ++ (c ++ (d ++ z)))) ≡ (((a ++ s) ++ (((x ++ b) ++ p) ++ c)) ++ d) ++ z
 standard_ends a s x b p c d z = simp append_assoc
 
-reading_written : (reading : Reading) → written (reading_tree reading) ≡ parts.reading_text reading
-unfolding reading_tree parts.reading_text parts.standard_text parts.pair_text rows_text written escape_byte standard_with
+reading_written : (reading : Reading) → written (reading_tree reading) ≡ parts.reading_json reading
+unfolding reading_tree parts.reading_json parts.standard_json parts.pair_json rows_json written escape_byte standard_with
 reading_written (Standard sets pair done) =
     same_standard _ (listed (map parts.quoted_block sets) ++ codes "]") _ (two_text pair) _ (parts.quoted_block done)
     (rows_written block_tree parts.quoted_block block_written sets) (escape_two pair) (block_written done)
@@ -256,17 +256,17 @@ reading_written Orphans = refl
 worth_ends : (w a h b f c g z : List ℕ) → w ++ (a ++ (h ++ (b ++ (f ++ (c ++ (g ++ z)))))) ≡ (w ++ (((a ++ h) ++ (b ++ f)) ++ (c ++ g))) ++ z
 worth_ends w a h b f c g z = simp append_assoc
 
-worth_written : (score : Option Score) (before : List ℕ) → before ++ members_written true (members_of (worth_members score)) ≡ (before ++ parts.worth_text score) ++ codes "}"
-unfolding written escape_byte parts.worth_text count_text
+worth_written : (score : Option Score) (before : List ℕ) → before ++ members_written true (members_of (worth_members score)) ≡ (before ++ parts.worth_if_json score) ++ codes "}"
+unfolding written escape_byte parts.worth_if_json count_json
 worth_written None before = sym (append_assoc before [] (codes "}"))
 worth_written (Some score) before = worth_ends before (codes ",\"han\":") (decimal score.han) (codes ",\"fu\":") (decimal score.fu) (codes ",\"gain\":") (decimal score.gain) (codes "}")
 
-other_written : (one : RankedReading) → written (other_tree one) ≡ parts.other_text one
-unfolding other_tree parts.other_text written escape_byte
+other_written : (one : RankedReading) → written (other_tree one) ≡ parts.other_reading_json one
+unfolding other_tree parts.other_reading_json written escape_byte
 other_written one =
     ap (λ t. codes "{\"reading\":" ++ (t ++ members_written true (members_of (worth_members one.score)))) (reading_written one.reading)
-    ∙ sym (append_assoc (codes "{\"reading\":") (parts.reading_text one.reading) (members_written true (members_of (worth_members one.score))))
-    ∙ worth_written one.score (codes "{\"reading\":" ++ parts.reading_text one.reading)
+    ∙ sym (append_assoc (codes "{\"reading\":") (parts.reading_json one.reading) (members_written true (members_of (worth_members one.score))))
+    ∙ worth_written one.score (codes "{\"reading\":" ++ parts.reading_json one.reading)
 
 -- ---- hands
 
@@ -283,46 +283,46 @@ won_ends : (a r b h x c d e f g p i o z : List ℕ)
     ≡ (((a ++ r) ++ (b ++ h)) ++ ((x ++ c) ++ d)) ++ (((((x ++ e) ++ f) ++ ((x ++ g) ++ p)) ++ ((x ++ i) ++ o)) ++ (x ++ z))
 won_ends a r b h x c d e f g p i o z = simp append_assoc
 
-pub won_written : (hand : WonHand) (others : List RankedReading) → text_of (won_tree hand others) ≡ parts.won_text hand others
-unfolding won_tree parts.won_text parts.earned_text parts.paid_text rows_text written escape_byte won_with
+pub won_written : (hand : WonHand) (others : List RankedReading) → json_text (won_tree hand others) ≡ parts.won_json hand others
+unfolding won_tree parts.won_json parts.earned_json parts.paid_json rows_json written escape_byte won_with
 won_written hand others =
     text_written (won_tree hand others)
-    ∙ same_won _ (parts.reading_text hand.reading) _ (listed (map parts.han_text hand.han.items) ++ codes "]") _ (listed (map parts.dora_text hand.dora.items) ++ codes "]")
-    _ (listed (map parts.fu_text hand.fu.items) ++ codes "]") _ (listed (map parts.pay_text hand.payers.items) ++ codes "]") _ (listed (map parts.other_text others) ++ codes "]")
-    (reading_written hand.reading) (rows_written han_tree parts.han_text han_written hand.han.items) (rows_written dora_tree parts.dora_text dora_written hand.dora.items)
-    (rows_written fu_tree parts.fu_text fu_written hand.fu.items) (rows_written pay_tree parts.pay_text pay_written hand.payers.items)
-    (rows_written other_tree parts.other_text other_written others)
-    ∙ won_ends (codes "{\"reading\":") (parts.reading_text hand.reading) (codes ",\"han\":[") (listed (map parts.han_text hand.han.items)) (codes "]")
-    (codes ",\"dora\":[") (listed (map parts.dora_text hand.dora.items)) (codes ",\"fu\":[") (listed (map parts.fu_text hand.fu.items))
-    (codes ",\"payments\":[") (listed (map parts.pay_text hand.payers.items)) (codes ",\"others\":[") (listed (map parts.other_text others)) (codes "}")
+    ∙ same_won _ (parts.reading_json hand.reading) _ (listed (map parts.han_row_json hand.han.items) ++ codes "]") _ (listed (map parts.dora_row_json hand.dora.items) ++ codes "]")
+    _ (listed (map parts.fu_row_json hand.fu.items) ++ codes "]") _ (listed (map parts.pay_row_json hand.payers.items) ++ codes "]") _ (listed (map parts.other_reading_json others) ++ codes "]")
+    (reading_written hand.reading) (rows_written han_tree parts.han_row_json han_written hand.han.items) (rows_written dora_tree parts.dora_row_json dora_written hand.dora.items)
+    (rows_written fu_tree parts.fu_row_json fu_written hand.fu.items) (rows_written pay_tree parts.pay_row_json pay_written hand.payers.items)
+    (rows_written other_tree parts.other_reading_json other_written others)
+    ∙ won_ends (codes "{\"reading\":") (parts.reading_json hand.reading) (codes ",\"han\":[") (listed (map parts.han_row_json hand.han.items)) (codes "]")
+    (codes ",\"dora\":[") (listed (map parts.dora_row_json hand.dora.items)) (codes ",\"fu\":[") (listed (map parts.fu_row_json hand.fu.items))
+    (codes ",\"payments\":[") (listed (map parts.pay_row_json hand.payers.items)) (codes ",\"others\":[") (listed (map parts.other_reading_json others)) (codes "}")
 
 list_ends : (a y x z : List ℕ) → a ++ ((y ++ x) ++ z) ≡ (a ++ y) ++ (x ++ z)
 list_ends a y x z = simp append_assoc
 
-pub readings_written : (readings : List RankedReading) → text_of (readings_tree readings) ≡ parts.readings_text readings
-unfolding readings_tree parts.readings_text rows_text written escape_byte
+pub readings_written : (readings : List RankedReading) → json_text (readings_tree readings) ≡ parts.readings_json readings
+unfolding readings_tree parts.readings_json rows_json written escape_byte
 readings_written readings =
     text_written (readings_tree readings)
-    ∙ ap (λ t. codes "{\"others\":[" ++ (t ++ codes "}")) (rows_written other_tree parts.other_text other_written readings)
-    ∙ list_ends (codes "{\"others\":[") (listed (map parts.other_text readings)) (codes "]") (codes "}")
+    ∙ ap (λ t. codes "{\"others\":[" ++ (t ++ codes "}")) (rows_written other_tree parts.other_reading_json other_written readings)
+    ∙ list_ends (codes "{\"others\":[") (listed (map parts.other_reading_json readings)) (codes "]") (codes "}")
 
 form_ends : (before name lack rest : List ℕ) → before ++ (name ++ (lack ++ rest)) ≡ (before ++ (name ++ lack)) ++ rest
 form_ends before name lack rest = simp append_assoc
 
 pairs_written : (lack : Option ℕ) (before : List ℕ) (more : List Named)
     → before ++ members_written true (members_of (form_before (codes "seven_pairs") lack more)) ≡ (before ++ parts.shanten_if (codes ",\"seven_pairs\":") lack) ++ members_written true (members_of more)
-unfolding written escape_byte parts.shanten_if parts.shanten_of
+unfolding written escape_byte parts.shanten_if parts.shanten_json
 pairs_written None before more = sym (append_assoc before [] (members_written true (members_of more)))
 pairs_written (Some lack) before more = form_ends before (codes ",\"seven_pairs\":") (shanten_text lack) (members_written true (members_of more))
 
 orphans_written : (lack : Option ℕ) (before : List ℕ) (more : List Named)
     → before ++ members_written true (members_of (form_before (codes "thirteen_orphans") lack more)) ≡ (before ++ parts.shanten_if (codes ",\"thirteen_orphans\":") lack) ++ members_written true (members_of more)
-unfolding written escape_byte parts.shanten_if parts.shanten_of
+unfolding written escape_byte parts.shanten_if parts.shanten_json
 orphans_written None before more = sym (append_assoc before [] (members_written true (members_of more)))
 orphans_written (Some lack) before more = form_ends before (codes ",\"thirteen_orphans\":") (shanten_text lack) (members_written true (members_of more))
 
-forms_written : (forms : FormDistances) → written (forms_tree forms) ≡ parts.forms_text forms
-unfolding forms_tree parts.forms_text parts.shanten_of written escape_byte
+forms_written : (forms : FormDistances) → written (forms_tree forms) ≡ parts.forms_json forms
+unfolding forms_tree parts.forms_json parts.shanten_json written escape_byte
 forms_written forms =
     let orphans : List Named = form_before (codes "thirteen_orphans") forms.thirteen_orphans [] in
     let standard = codes "{\"standard\":" ++ shanten_text forms.sets_and_pair in
@@ -330,18 +330,18 @@ forms_written forms =
     ∙ pairs_written forms.seven_pairs standard orphans
     ∙ orphans_written forms.thirteen_orphans (standard ++ parts.shanten_if (codes ",\"seven_pairs\":") forms.seven_pairs) []
 
-wait_written : (wait : KindWait) → written (wait_tree wait) ≡ parts.wait_text wait
-unfolding written wait_tree parts.wait_text
+wait_written : (wait : KindWait) → written (wait_tree wait) ≡ parts.wait_json wait
+unfolding written wait_tree parts.wait_json
 wait_written wait = ap (λ t. 34 ∷ (t ++ 34 ∷ [])) (escape_kind wait.kind)
 
 missed_ends : (waits forms : List ℕ) → codes "{\"waits\":[" ++ ((waits ++ codes "]") ++ (codes ",\"shanten\":" ++ (forms ++ codes "}")))
     ≡ (((codes "{\"waits\":[" ++ waits) ++ codes "],\"shanten\":") ++ forms) ++ codes "}"
 missed_ends waits forms = simp append_assoc
 
-pub missed_written : (missed : MissedWin) → text_of (missed_tree missed) ≡ parts.missed_text missed
-unfolding missed_tree parts.missed_text rows_text written escape_byte
+pub missed_written : (missed : MissedWin) → json_text (missed_tree missed) ≡ parts.missed_json missed
+unfolding missed_tree parts.missed_json rows_json written escape_byte
 missed_written missed =
     text_written (missed_tree missed)
-    ∙ ap (λ t. codes "{\"waits\":[" ++ (t ++ (codes ",\"shanten\":" ++ (written (forms_tree missed.forms) ++ codes "}")))) (rows_written wait_tree parts.wait_text wait_written missed.waits.items)
-    ∙ ap (λ t. codes "{\"waits\":[" ++ ((listed (map parts.wait_text missed.waits.items) ++ codes "]") ++ (codes ",\"shanten\":" ++ (t ++ codes "}")))) (forms_written missed.forms)
-    ∙ missed_ends (listed (map parts.wait_text missed.waits.items)) (parts.forms_text missed.forms)
+    ∙ ap (λ t. codes "{\"waits\":[" ++ (t ++ (codes ",\"shanten\":" ++ (written (forms_tree missed.forms) ++ codes "}")))) (rows_written wait_tree parts.wait_json wait_written missed.waits.items)
+    ∙ ap (λ t. codes "{\"waits\":[" ++ ((listed (map parts.wait_json missed.waits.items) ++ codes "]") ++ (codes ",\"shanten\":" ++ (t ++ codes "}")))) (forms_written missed.forms)
+    ∙ missed_ends (listed (map parts.wait_json missed.waits.items)) (parts.forms_json missed.forms)

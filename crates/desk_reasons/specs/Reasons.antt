@@ -5,8 +5,8 @@ use Rattle.riichi_score.specs.Best.{best_of}
 use Rattle.riichi_explain.specs.declared.ranked.Ranking.{Ranking}
 use Rattle.riichi_explain.specs.declared.win.WinExplanation.{WinExplanation}
 use Rattle.riichi_explain.specs.Ranked.{AreRanked}
-use Rattle.riichi_explain.specs.Win.{Explains, answer_of}
-use Rattle.desk_json.specs.Text.{text_of}
+use Rattle.riichi_explain.specs.Win.{Explains, explained_answer}
+use Rattle.desk_json.specs.Text.{json_text}
 use Rattle.desk_json.specs.Trees.{win_tree}
 use Rattle.desk_reasons.specs.Trees.{why_tree, with_member}
 
@@ -14,8 +14,8 @@ use Rattle.desk_reasons.specs.Trees.{why_tree, with_member}
 -- the best first.
 pub record IsExplainedWin (win : WinParts) (object : List ℕ) : Type 0 where
   pub explanation : WinExplanation
-  pub answer : answer_of explanation ≡ best_of win
+  pub answer : explained_answer explanation ≡ best_of win
   pub explains : Explains win explanation
   pub ranking : Ranking
   pub are_ranked : AreRanked win ranking
-  pub object_is : object ≡ text_of (with_member (win_tree win.rules (best_of win)) (codes "why", why_tree explanation ranking.ranked.items))
+  pub object_is : object ≡ json_text (with_member (win_tree win.rules (best_of win)) (codes "why", why_tree explanation ranking.ranked.items))

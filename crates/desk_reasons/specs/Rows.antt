@@ -7,10 +7,10 @@ use Rattle.riichi_explain.specs.declared.fu.FuPart.TheVariants as fu
 use Rattle.riichi_explain.specs.declared.han.HanPart.{HanPart}
 use Rattle.riichi_explain.specs.declared.han.HanPart.TheVariants.{Yaku, Yakuman, Dora}
 
-unfoldable pub han_words : HanPart → List ℕ
-han_words (Yaku yaku) = word yaku
-han_words (Yakuman yaku) = word yaku
-han_words Dora = codes "dora"
+unfoldable pub han_part_words : HanPart → List ℕ
+han_part_words (Yaku yaku) = word yaku
+han_part_words (Yakuman yaku) = word yaku
+han_part_words Dora = codes "dora"
 
 -- no name is an empty text
 unfoldable pub han_japanese : HanPart → List ℕ

@@ -23,7 +23,7 @@ use Rattle.riichi_explain.specs.declared.win.WonHand.{WonHand}
 use Rattle.riichi_explain.specs.Forms.{shanten_text}
 use Rattle.riichi_explain.specs.Words.{dora_words, dora_japanese, fu_words, fu_japanese, payer_words}
 use Rattle.desk_json.specs.Trees.{list_of, Named, object_of, natural, kind_tree}
-use Rattle.desk_reasons.specs.Rows.{han_words, han_japanese, fu_kind}
+use Rattle.desk_reasons.specs.Rows.{han_part_words, han_japanese, fu_kind}
 
 -- ---- rows
 
@@ -43,7 +43,7 @@ han_members (Yakuman yaku) han = []
 han_members Dora han = (codes "han", natural han) ∷ []
 
 unfoldable pub han_tree : HanRow → Json
-han_tree row = part_tree (han_words row.part) (han_japanese row.part) (han_members row.part row.han)
+han_tree row = part_tree (han_part_words row.part) (han_japanese row.part) (han_members row.part row.han)
 
 unfoldable pub dora_tree : DoraRow → Json
 dora_tree row = part_tree (dora_words row.part) (dora_japanese row.part) ((codes "han", natural row.han) ∷ [])

@@ -7,10 +7,10 @@ use desk_json::JsonText;
 use riichi_text::push_number;
 
 /// A number behind the text before it, as a name with its colon.
-#[tactic(auto, unfolding(crate::specs::Parts::count_text))]
+#[tactic(auto, unfolding(crate::specs::Parts::count_json))]
 pub(crate) fn push_count(text: &mut JsonText, before: &str, count: u32)
     requires { array_string_len text.old + length before.now + 10 ≤ 12288 }
-    ensures bytes { text.new.bytes ≡ text.old.bytes ++ spec.count_text before.now count }
+    ensures bytes { text.new.bytes ≡ text.old.bytes ++ spec.count_json before.now count }
     ensures len { array_string_len text.new ≤ array_string_len text.old + length before.now + 10 }
 {
     text.push_str(before);
@@ -18,10 +18,10 @@ pub(crate) fn push_count(text: &mut JsonText, before: &str, count: u32)
 }
 
 /// The same for a number of at most three digits.
-#[tactic(auto, unfolding(crate::specs::Parts::count_text))]
+#[tactic(auto, unfolding(crate::specs::Parts::count_json))]
 pub(crate) fn push_small(text: &mut JsonText, before: &str, count: u8)
     requires { array_string_len text.old + length before.now + 3 ≤ 12288 }
-    ensures bytes { text.new.bytes ≡ text.old.bytes ++ spec.count_text before.now count }
+    ensures bytes { text.new.bytes ≡ text.old.bytes ++ spec.count_json before.now count }
     ensures len { array_string_len text.new ≤ array_string_len text.old + length before.now + 3 }
 {
     text.push_str(before);

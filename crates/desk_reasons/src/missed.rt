@@ -10,10 +10,10 @@ use riichi_shape::FormDistances;
 use riichi_text::{push_kind, push_number};
 use riichi_waits::KindWait;
 
-#[tactic(auto, unfolding(crate::specs::Parts::missed_text))]
+#[tactic(auto, unfolding(crate::specs::Parts::missed_json))]
 pub(crate) fn push_missed(text: &mut JsonText, missed: &MissedWin)
     requires { array_string_len text.old + 300 ≤ 12288 }
-    ensures bytes { text.new.bytes ≡ text.old.bytes ++ spec.missed_text missed.now }
+    ensures bytes { text.new.bytes ≡ text.old.bytes ++ spec.missed_json missed.now }
     ensures len { array_string_len text.new ≤ array_string_len text.old + 300 }
 {
     push_rows(text, "{\"waits\":[", missed.waits.as_slice());
@@ -23,10 +23,10 @@ pub(crate) fn push_missed(text: &mut JsonText, missed: &MissedWin)
 }
 
 /// How far the hand is from each form that it may have.
-#[tactic(auto, unfolding(crate::specs::Parts::forms_text))]
+#[tactic(auto, unfolding(crate::specs::Parts::forms_json))]
 fn push_forms(text: &mut JsonText, forms: &FormDistances)
     requires { array_string_len text.old + 70 ≤ 12288 }
-    ensures bytes { text.new.bytes ≡ text.old.bytes ++ spec.forms_text forms.now }
+    ensures bytes { text.new.bytes ≡ text.old.bytes ++ spec.forms_json forms.now }
     ensures len { array_string_len text.new ≤ array_string_len text.old + 70 }
 {
     push_shanten(text, "{\"standard\":", forms.sets_and_pair);
@@ -36,10 +36,10 @@ fn push_forms(text: &mut JsonText, forms: &FormDistances)
 }
 
 /// One less than the tiles that are lacking.
-#[tactic(auto, unfolding(crate::specs::Parts::shanten_of, riichi_explain::specs::Forms::shanten_text))]
+#[tactic(auto, unfolding(crate::specs::Parts::shanten_json, riichi_explain::specs::Forms::shanten_text))]
 fn push_shanten(text: &mut JsonText, before: &str, lack: u8)
     requires { array_string_len text.old + length before.now + 3 ≤ 12288 }
-    ensures bytes { text.new.bytes ≡ text.old.bytes ++ spec.shanten_of before.now lack }
+    ensures bytes { text.new.bytes ≡ text.old.bytes ++ spec.shanten_json before.now lack }
     ensures len { array_string_len text.new ≤ array_string_len text.old + length before.now + 3 }
 {
     text.push_str(before);
@@ -63,13 +63,13 @@ fn push_shanten_if(text: &mut JsonText, before: &str, lack: Option<u8>)
 }
 
 impl Value for KindWait {
-    ghost use Rattle.desk_reasons.specs.Parts.{wait_text};
+    ghost use Rattle.desk_reasons.specs.Parts.{wait_json};
 
-    ghost value_text = { wait_text };
+    ghost value_text = { wait_json };
 
     ghost most = { 4 };
 
-    #[tactic(auto, unfolding(crate::specs::Parts::wait_text))]
+    #[tactic(auto, unfolding(crate::specs::Parts::wait_json))]
     fn push(&self, text: &mut JsonText) {
         text.push_str("\"");
         push_kind(text, self.kind);

@@ -31,13 +31,13 @@ pub(crate) fn others_of(shown: &Reading, ranked: &[RankedReading]) -> OtherReadi
 }
 
 impl Value for RankedReading {
-    ghost use Rattle.desk_reasons.specs.Parts.{other_text};
+    ghost use Rattle.desk_reasons.specs.Parts.{other_reading_json};
 
-    ghost value_text = { other_text };
+    ghost value_text = { other_reading_json };
 
     ghost most = { 150 };
 
-    #[tactic(auto, unfolding(crate::specs::Parts::other_text))]
+    #[tactic(auto, unfolding(crate::specs::Parts::other_reading_json))]
     fn push(&self, text: &mut JsonText) {
         text.push_str("{\"reading\":");
         push_reading(text, &self.reading);
@@ -47,10 +47,10 @@ impl Value for RankedReading {
 }
 
 /// What a reading is worth that has a yaku.
-#[tactic(auto, unfolding(crate::specs::Parts::worth_text))]
+#[tactic(auto, unfolding(crate::specs::Parts::worth_if_json))]
 fn push_worth_if(text: &mut JsonText, score: &Option<Score>)
     requires { array_string_len text.old + 37 ≤ 12288 }
-    ensures bytes { text.new.bytes ≡ text.old.bytes ++ spec.worth_text score.now }
+    ensures bytes { text.new.bytes ≡ text.old.bytes ++ spec.worth_if_json score.now }
     ensures len { array_string_len text.new ≤ array_string_len text.old + 37 }
 {
     if let Some(score) = score {

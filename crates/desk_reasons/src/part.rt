@@ -6,10 +6,10 @@ ghost use Rattle.desk_reasons.specs.Parts as spec;
 use desk_json::JsonText;
 
 /// What earns something, in words, and its Japanese name where it has one. The object is left open.
-#[tactic(auto, unfolding(crate::specs::Parts::part_text))]
+#[tactic(auto, unfolding(crate::specs::Parts::part_json))]
 pub(crate) fn push_part(text: &mut JsonText, words: &str, japanese: &str)
     requires { array_string_len text.old + length words.now + length japanese.now + 25 ≤ 12288 }
-    ensures bytes { text.new.bytes ≡ text.old.bytes ++ spec.part_text words.now japanese.now }
+    ensures bytes { text.new.bytes ≡ text.old.bytes ++ spec.part_json words.now japanese.now }
     ensures len { array_string_len text.new
         ≤ array_string_len text.old + length words.now + length japanese.now + 25 }
 {
@@ -19,10 +19,10 @@ pub(crate) fn push_part(text: &mut JsonText, words: &str, japanese: &str)
     push_japanese(text, japanese);
 }
 
-#[tactic(auto, unfolding(crate::specs::Parts::japanese_text))]
+#[tactic(auto, unfolding(crate::specs::Parts::japanese_json))]
 fn push_japanese(text: &mut JsonText, japanese: &str)
     requires { array_string_len text.old + length japanese.now + 15 ≤ 12288 }
-    ensures bytes { text.new.bytes ≡ text.old.bytes ++ spec.japanese_text japanese.now }
+    ensures bytes { text.new.bytes ≡ text.old.bytes ++ spec.japanese_json japanese.now }
     ensures len { array_string_len text.new
         ≤ array_string_len text.old + length japanese.now + 15 }
 {

@@ -9,10 +9,10 @@ use riichi_split::{Reading, Sets};
 use riichi_text::{push_block, push_two};
 use riichi_tiles::{Block, Kind};
 
-#[tactic(auto, unfolding(crate::specs::Parts::reading_text))]
+#[tactic(auto, unfolding(crate::specs::Parts::reading_json))]
 pub(crate) fn push_reading(text: &mut JsonText, reading: &Reading)
     requires { array_string_len text.old + 100 ≤ 12288 }
-    ensures bytes { text.new.bytes ≡ text.old.bytes ++ spec.reading_text reading.now }
+    ensures bytes { text.new.bytes ≡ text.old.bytes ++ spec.reading_json reading.now }
     ensures len { array_string_len text.new ≤ array_string_len text.old + 100 }
 {
     match reading {
@@ -23,11 +23,11 @@ pub(crate) fn push_reading(text: &mut JsonText, reading: &Reading)
 }
 
 /// The sets in hand, the pair, and the block that the winning tile completes.
-#[tactic(auto, unfolding(crate::specs::Parts::standard_text))]
+#[tactic(auto, unfolding(crate::specs::Parts::standard_json))]
 fn push_standard(text: &mut JsonText, sets: &Sets, pair: Kind, done: &Block)
     requires { array_string_len text.old + 100 ≤ 12288 }
     ensures bytes { text.new.bytes
-        ≡ text.old.bytes ++ spec.standard_text sets.now pair done.now }
+        ≡ text.old.bytes ++ spec.standard_json sets.now pair done.now }
     ensures len { array_string_len text.new ≤ array_string_len text.old + 100 }
 {
     push_rows(text, "{\"form\":\"standard\",\"sets\":[", sets.as_slice());
@@ -36,10 +36,10 @@ fn push_standard(text: &mut JsonText, sets: &Sets, pair: Kind, done: &Block)
     text.push_str("}");
 }
 
-#[tactic(auto, unfolding(crate::specs::Parts::pair_text))]
+#[tactic(auto, unfolding(crate::specs::Parts::pair_json))]
 fn push_pair(text: &mut JsonText, pair: Kind)
     requires { array_string_len text.old + 28 ≤ 12288 }
-    ensures bytes { text.new.bytes ≡ text.old.bytes ++ spec.pair_text pair }
+    ensures bytes { text.new.bytes ≡ text.old.bytes ++ spec.pair_json pair }
     ensures len { array_string_len text.new ≤ array_string_len text.old + 28 }
 {
     text.push_str("],\"pair\":\"");

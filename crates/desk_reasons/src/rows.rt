@@ -2,7 +2,7 @@
 ghost use Rattle.std.specs.Prelude.{◌≡◌, ◌≤◌, ◌+◌, ◌++◌, length};
 ghost use Rattle.arrayvec.specs.ArrayString.{array_string_len};
 ghost use Rattle.desk_reasons.specs.Parts as spec;
-ghost use Rattle.desk_reasons.specs.Rows.{han_words, han_japanese, fu_kind};
+ghost use Rattle.desk_reasons.specs.Rows.{han_part_words, han_japanese, fu_kind};
 
 use crate::counts::{push_count, push_small};
 use crate::part::push_part;
@@ -17,13 +17,13 @@ use riichi_text::push_kind;
 use riichi_tiles::Kind;
 
 impl Value for HanRow {
-    ghost use Rattle.desk_reasons.specs.Parts.{han_text};
+    ghost use Rattle.desk_reasons.specs.Parts.{han_row_json};
 
-    ghost value_text = { han_text };
+    ghost value_text = { han_row_json };
 
     ghost most = { 79 };
 
-    #[tactic(auto, unfolding(crate::specs::Parts::han_text))]
+    #[tactic(auto, unfolding(crate::specs::Parts::han_row_json))]
     fn push(&self, text: &mut JsonText) {
         push_part(text, han_words(&self.part), han_japanese(&self.part));
         push_han(text, &self.part, self.han);
@@ -32,9 +32,9 @@ impl Value for HanRow {
 }
 
 /// The printed word of a yaku, or that of the dora.
-#[tactic(auto, unfolding(crate::specs::Rows::han_words))]
+#[tactic(auto, unfolding(crate::specs::Rows::han_part_words))]
 fn han_words(part: &HanPart) -> &'static str
-    ensures value { result.now ≡ han_words part.now }
+    ensures value { result.now ≡ han_part_words part.now }
     ensures short { length result.now ≤ 26 }
 {
     match part {
@@ -56,10 +56,10 @@ fn han_japanese(part: &HanPart) -> &'static str
 }
 
 /// A yakuman has no number of han.
-#[tactic(auto, unfolding(crate::specs::Parts::han_number))]
+#[tactic(auto, unfolding(crate::specs::Parts::han_number_json))]
 fn push_han(text: &mut JsonText, part: &HanPart, han: u8)
     requires { array_string_len text.old + 10 ≤ 12288 }
-    ensures bytes { text.new.bytes ≡ text.old.bytes ++ spec.han_number part.now han }
+    ensures bytes { text.new.bytes ≡ text.old.bytes ++ spec.han_number_json part.now han }
     ensures len { array_string_len text.new ≤ array_string_len text.old + 10 }
 {
     match part {
@@ -69,13 +69,13 @@ fn push_han(text: &mut JsonText, part: &HanPart, han: u8)
 }
 
 impl Value for DoraRow {
-    ghost use Rattle.desk_reasons.specs.Parts.{dora_text};
+    ghost use Rattle.desk_reasons.specs.Parts.{dora_row_json};
 
-    ghost value_text = { dora_text };
+    ghost value_text = { dora_row_json };
 
     ghost most = { 55 };
 
-    #[tactic(auto, unfolding(crate::specs::Parts::dora_text))]
+    #[tactic(auto, unfolding(crate::specs::Parts::dora_row_json))]
     fn push(&self, text: &mut JsonText) {
         push_part(text, dora_words(self.part), dora_japanese(self.part));
         push_count(text, ",\"han\":", self.han);
@@ -84,13 +84,13 @@ impl Value for DoraRow {
 }
 
 impl Value for FuRow {
-    ghost use Rattle.desk_reasons.specs.Parts.{fu_text};
+    ghost use Rattle.desk_reasons.specs.Parts.{fu_row_json};
 
-    ghost value_text = { fu_text };
+    ghost value_text = { fu_row_json };
 
     ghost most = { 84 };
 
-    #[tactic(auto, unfolding(crate::specs::Parts::fu_text))]
+    #[tactic(auto, unfolding(crate::specs::Parts::fu_row_json))]
     fn push(&self, text: &mut JsonText) {
         push_part(text, fu_words(&self.part), fu_japanese(&self.part));
         push_kind_if(text, fu_kind(&self.part));
@@ -127,13 +127,13 @@ fn push_kind_if(text: &mut JsonText, kind: Option<Kind>)
 }
 
 impl Value for PayRow {
-    ghost use Rattle.desk_reasons.specs.Parts.{pay_text};
+    ghost use Rattle.desk_reasons.specs.Parts.{pay_row_json};
 
-    ghost value_text = { pay_text };
+    ghost value_text = { pay_row_json };
 
     ghost most = { 67 };
 
-    #[tactic(auto, unfolding(crate::specs::Parts::pay_text))]
+    #[tactic(auto, unfolding(crate::specs::Parts::pay_row_json))]
     fn push(&self, text: &mut JsonText) {
         push_payer(text, self.payer);
         push_count(text, ",\"points\":", self.points);
@@ -142,10 +142,10 @@ impl Value for PayRow {
     }
 }
 
-#[tactic(auto, unfolding(crate::specs::Parts::payer_text))]
+#[tactic(auto, unfolding(crate::specs::Parts::payer_json))]
 fn push_payer(text: &mut JsonText, payer: Payer)
     requires { array_string_len text.old + 23 ≤ 12288 }
-    ensures bytes { text.new.bytes ≡ text.old.bytes ++ spec.payer_text payer }
+    ensures bytes { text.new.bytes ≡ text.old.bytes ++ spec.payer_json payer }
     ensures len { array_string_len text.new ≤ array_string_len text.old + 23 }
 {
     text.push_str("{\"payer\":\"");

@@ -22,12 +22,12 @@ pub(crate) trait Value {
 }
 
 /// The values of a list behind the text before them, as a name with its colon and a bracket.
-#[tactic(auto, unfolding(crate::specs::Parts::rows_text))]
+#[tactic(auto, unfolding(crate::specs::Parts::rows_json))]
 pub(crate) fn push_rows<T: Value>(text: &mut JsonText, before: &str, rows: &[T])
     requires { array_string_len text.old
         + length before.now + length rows.now * (1 + T.most) ≤ 12288 }
     ensures bytes { text.new.bytes
-        ≡ text.old.bytes ++ spec.rows_text before.now (map T.value_text rows.now) }
+        ≡ text.old.bytes ++ spec.rows_json before.now (map T.value_text rows.now) }
     ensures len { array_string_len text.new
         ≤ array_string_len text.old + length before.now + length rows.now * (1 + T.most) }
 {

@@ -1,7 +1,7 @@
 //! The object of a win, with the reasons at its end.
 ghost use Rattle.std.specs.Prelude.{◌≡◌, ◌≤◌, ◌+◌, ◌++◌, ℕ, List, length};
 ghost use Rattle.arrayvec.specs.ArrayString.{array_string_len};
-ghost use Rattle.desk_json.specs.Text.{text_of};
+ghost use Rattle.desk_json.specs.Text.{json_text};
 ghost use Rattle.desk_reasons.specs.Parts as spec;
 ghost use Rattle.desk_reasons.specs.Reasons.{IsExplainedWin};
 ghost use Rattle.desk_reasons.specs.Trees.{why_tree};
@@ -35,7 +35,7 @@ fn push_why(text: &mut JsonText, explanation: &WinExplanation, ranked: &[RankedR
     requires few { length ranked.now ≤ 12 }
     requires room { array_string_len text.old + 7800 ≤ 12288 }
     ensures bytes { text.new.bytes
-        ≡ text.old.bytes ++ text_of (why_tree explanation.now ranked.now) }
+        ≡ text.old.bytes ++ json_text (why_tree explanation.now ranked.now) }
     ensures len { array_string_len text.new ≤ array_string_len text.old + 7800 }
 {
     match explanation {
@@ -48,21 +48,21 @@ fn push_why(text: &mut JsonText, explanation: &WinExplanation, ranked: &[RankedR
 }
 
 /// The reading that scores, its rows, and the other readings.
-#[tactic(auto, unfolding(crate::specs::Parts::won_text))]
+#[tactic(auto, unfolding(crate::specs::Parts::won_json))]
 fn push_won(text: &mut JsonText, hand: &WonHand, others: &[RankedReading])
     requires few { length others.now ≤ 12 }
     requires room { array_string_len text.old + 7800 ≤ 12288 }
-    ensures bytes { text.new.bytes ≡ text.old.bytes ++ spec.won_text hand.now others.now }
+    ensures bytes { text.new.bytes ≡ text.old.bytes ++ spec.won_json hand.now others.now }
     ensures len { array_string_len text.new ≤ array_string_len text.old + 7800 }
 {
     push_earned(text, hand);
     push_paid(text, hand, others);
 }
 
-#[tactic(auto, unfolding(crate::specs::Parts::earned_text))]
+#[tactic(auto, unfolding(crate::specs::Parts::earned_json))]
 fn push_earned(text: &mut JsonText, hand: &WonHand)
     requires { array_string_len text.old + 3740 ≤ 12288 }
-    ensures bytes { text.new.bytes ≡ text.old.bytes ++ spec.earned_text hand.now }
+    ensures bytes { text.new.bytes ≡ text.old.bytes ++ spec.earned_json hand.now }
     ensures len { array_string_len text.new ≤ array_string_len text.old + 3740 }
 {
     text.push_str("{\"reading\":");
@@ -71,11 +71,11 @@ fn push_earned(text: &mut JsonText, hand: &WonHand)
     push_rows(text, "],\"dora\":[", hand.dora.as_slice());
 }
 
-#[tactic(auto, unfolding(crate::specs::Parts::paid_text))]
+#[tactic(auto, unfolding(crate::specs::Parts::paid_json))]
 fn push_paid(text: &mut JsonText, hand: &WonHand, others: &[RankedReading])
     requires few { length others.now ≤ 12 }
     requires room { array_string_len text.old + 4060 ≤ 12288 }
-    ensures bytes { text.new.bytes ≡ text.old.bytes ++ spec.paid_text hand.now others.now }
+    ensures bytes { text.new.bytes ≡ text.old.bytes ++ spec.paid_json hand.now others.now }
     ensures len { array_string_len text.new ≤ array_string_len text.old + 4060 }
 {
     push_rows(text, "],\"fu\":[", hand.fu.as_slice());
@@ -85,11 +85,11 @@ fn push_paid(text: &mut JsonText, hand: &WonHand, others: &[RankedReading])
 }
 
 /// The readings of a hand without yaku.
-#[tactic(auto, unfolding(crate::specs::Parts::readings_text))]
+#[tactic(auto, unfolding(crate::specs::Parts::readings_json))]
 fn push_readings(text: &mut JsonText, ranked: &[RankedReading])
     requires few { length ranked.now ≤ 12 }
     requires room { array_string_len text.old + 1830 ≤ 12288 }
-    ensures bytes { text.new.bytes ≡ text.old.bytes ++ spec.readings_text ranked.now }
+    ensures bytes { text.new.bytes ≡ text.old.bytes ++ spec.readings_json ranked.now }
     ensures len { array_string_len text.new ≤ array_string_len text.old + 1830 }
 {
     push_rows(text, "{\"others\":[", ranked);

@@ -20,7 +20,7 @@ use Rattle.std.specs.Prelude.{slice_get, MatchBool, ◌||◌, Result, Ok, Err, O
 use Rattle.std.proofs.lemmas.List.Sums.{sum_by-cons}
 use Rattle.std.proofs.lemmas.Option.{same_Some}
 use Rattle.desk_run.specs.Counts.{one_if, same_ticket}
-use Rattle.desk_run.specs.LanePlaces.{Agrees, IsPending, ticket, offered, is_withdrawn, outs, has_ticket_out, is_out, times_out}
+use Rattle.desk_run.specs.LanePlaces.{Agrees, IsPending, ticket, count_accepted, lane_withdrew, outs, has_ticket_out, is_out, times_out}
 use Rattle.desk_core.specs.declared.ticket.Ticket.{Ticket}
 use Rattle.riichi_hand.specs.declared.job.Job.{Job}
 use Rattle.desk_core.specs.Ticketed.{Ticketed}
@@ -77,9 +77,9 @@ is_pending : (lane : LaneState) (x : Ticket) (job : Job) (place : ℕ) → x.tab
 is_pending lane x job place t e at = (t, omega arith, (let same : place ≡ x.seq - lane.next = omega arith in subst (λ (n : ℕ). get_elem? lane.window n ≡ some (job, false)) same at))
 
 pub submitted : (lane : LaneState) (k : ℕ) (states : List PlaceState) (vacant : List ℕ) (job : Job) → Agrees lane states (vacant ++ k ∷ [])
-    → Agrees (with_job lane job) (set states k (Out (ticket lane.table (offered lane)) job)) vacant
+    → Agrees (with_job lane job) (set states k (Out (ticket lane.table (count_accepted lane)) job)) vacant
 submitted lane k states vacant job b =
-    let x : Ticket = ticket lane.table (offered lane) in let window : List (Job × Bool) = lane.window in let next : ℕ = lane.next in
+    let x : Ticket = ticket lane.table (count_accepted lane) in let window : List (Job × Bool) = lane.window in let next : ℕ = lane.next in
     let mine : get_elem? states k ≡ some Vacant = b.vacant_are (length vacant) k (at_last vacant k (length vacant) refl) in
     let near = there_is states k Vacant mine in
     let new : (y : Ticket) (j : ℕ) (a : Job) → get_elem? states j ≡ some (Out y a) → x ≢ y = λ y j a e same. let below = (b.own j y a e).1 in
@@ -140,13 +140,13 @@ module _ (lane : LaneState) (k : ℕ) (states : List PlaceState) (vacant : List 
 
 -- the lane accepts the piece of a ticket that was not withdrawn
 accepted : (lane : LaneState) (k place : ℕ) (states : List PlaceState) (vacant : List ℕ) (piece : Ticketed) → lane.next + place ≡ piece.ticket.seq → get_elem? lane.window place ≡ some (piece.job, false)
-    → is_withdrawn lane piece.ticket.seq ≡ false → get_elem? states k ≡ some (Out piece.ticket piece.job) → Agrees lane states vacant
+    → lane_withdrew lane piece.ticket.seq ≡ false → get_elem? states k ≡ some (Out piece.ticket piece.job) → Agrees lane states vacant
     → Agrees (record lane { window = set lane.window place (piece.job, true) }) (set states k Vacant) (vacant ++ k ∷ [])
 accepted lane k place states vacant piece seq waits live out b =
     let x : Ticket = piece.ticket in let window : List (Job × Bool) = lane.window in let next : ℕ = lane.next in let mine = b.own k x piece.job out in
     let m = vacant_again lane k states vacant x piece.job out b in
     let is_x : x ≡ ticket lane.table (next + place) = ticket_is x (ticket lane.table (next + place)) mine.0 (sym seq) in
-    let single : times_out x states ≡ 1 = ap (λ (z : Ticket). times_out z states) is_x ∙ b.listed place piece.job waits (ap (is_withdrawn lane) seq ∙ live) in
+    let single : times_out x states ≡ 1 = ap (λ (z : Ticket). times_out z states) is_x ∙ b.listed place piece.job waits (ap (lane_withdrew lane) seq ∙ live) in
     record {
       vacant_are = m.vacant_are;
       once = m.once;
@@ -169,7 +169,7 @@ accepted lane k place states vacant piece seq waits live out b =
     }
 
 -- the piece of a withdrawn ticket was fetched
-left : (lane : LaneState) (k : ℕ) (states : List PlaceState) (vacant : List ℕ) (x : Ticket) (job : Job) → is_withdrawn lane x.seq ≡ true → get_elem? states k ≡ some (Out x job) → Agrees lane states vacant
+left : (lane : LaneState) (k : ℕ) (states : List PlaceState) (vacant : List ℕ) (x : Ticket) (job : Job) → lane_withdrew lane x.seq ≡ true → get_elem? states k ≡ some (Out x job) → Agrees lane states vacant
     → Agrees lane (set states k Vacant) (vacant ++ k ∷ [])
 left lane k states vacant x job gone out b = let m = vacant_again lane k states vacant x job out b in record {
   vacant_are = m.vacant_are;
@@ -178,7 +178,7 @@ left lane k states vacant x job gone out b = let m = vacant_again lane k states 
   own = λ j y a e. ⊎_elim (λ (t : (j ≡ k) × (Vacant ≡ Out y a)). let d = t.1 in cc) (λ (t : (j ≢ k) × (get_elem? states j ≡ some (Out y a))). b.own j y a t.1) (at_set states k j Vacant (Out y a) e);
   pending = λ j y a e still. ⊎_elim (λ (t : (j ≡ k) × (Vacant ≡ Out y a)). let d = t.1 in cc) (λ (t : (j ≢ k) × (get_elem? states j ≡ some (Out y a))). b.pending j y a t.1 still) (at_set states k j Vacant (Out y a) e);
   listed = λ i a e still. let y : Ticket = ticket lane.table (lane.next + i) in let t = sum_by-changed (λ state. one_if (is_out y state)) states k (Out x job) Vacant out in let c = b.listed i a e still in
-      ⊎_elim (λ (s : (y ≡ x) × (one_if (same_ticket y x) ≤ 1)). absurd (false≢true (sym still ∙ (ap (λ (z : Ticket). is_withdrawn lane z.seq) s.0 ∙ gone)))) (λ s. omega arith) (tested y x);
+      ⊎_elim (λ (s : (y ≡ x) × (one_if (same_ticket y x) ≤ 1)). absurd (false≢true (sym still ∙ (ap (λ (z : Ticket). lane_withdrew lane z.seq) s.0 ∙ gone)))) (λ s. omega arith) (tested y x);
 }
 
 later : (next s i : ℕ) (job a : Job) (rest : List (Job × Bool)) → next + i ≡ s → get_elem? ((job, true) ∷ rest) i ≡ some (a, false)
@@ -196,7 +196,7 @@ given lane states vacant job rest first b = record {
   pending = λ k x a e still. let d = b.pending k x a e still in let p = place_of lane x a d in
       let q = later lane.next x.seq p.0 job a rest p.1 (ap (λ (l : List (Job × Bool)). get_elem? l p.0) (sym first) ∙ p.2) in is_pending (record lane { next = lane.next + 1; window = rest }) x a q.0 d.0 q.1 q.2;
   listed = λ i a e still. let n : ℕ = lane.next in let same : (n + 1) + i ≡ n + suc i = omega arith in
-      ap (λ (m : ℕ). times_out (ticket lane.table m) states) same ∙ b.listed (suc i) a (ap (λ (l : List (Job × Bool)). get_elem? l (suc i)) first ∙ e) (ap (is_withdrawn lane) (sym same) ∙ still);
+      ap (λ (m : ℕ). times_out (ticket lane.table m) states) same ∙ b.listed (suc i) a (ap (λ (l : List (Job × Bool)). get_elem? l (suc i)) first ∙ e) (ap (lane_withdrew lane) (sym same) ∙ still);
 }
 
 at_drop : {A : Type 0} (n : ℕ) (l : List A) (i : ℕ) → get_elem? (drop n l) i ≡ get_elem? l (n + i)
@@ -214,9 +214,9 @@ passed lane new states vacant p b = let c : ℕ = p.count in let n : ℕ = lane.
       pending = λ k x a e still. let d = b.pending k x a e still in let q = place_of lane x a d in dite (dec_le c q.0)
           (λ h. let j : ℕ = q.0 - c in let at : c + j ≡ q.0 = omega arith in
           is_pending (record lane { next = n + c; window = drop c w }) x a j d.0 (let s = q.1 in omega arith) (at_drop c w j ∙ ap (λ (i : ℕ). get_elem? w i) at ∙ q.2))
-          (λ h. absurd (false≢true (sym still ∙ ap (is_withdrawn lane) (sym q.1) ∙ p.each q.0 (omega arith))));
+          (λ h. absurd (false≢true (sym still ∙ ap (lane_withdrew lane) (sym q.1) ∙ p.each q.0 (omega arith))));
       listed = λ i a e still. let same : (n + c) + i ≡ n + (c + i) = omega arith in
-          ap (λ (m : ℕ). times_out (ticket lane.table m) states) same ∙ b.listed (c + i) a (sym (at_drop c w i) ∙ e) (ap (is_withdrawn lane) (sym same) ∙ still);
+          ap (λ (m : ℕ). times_out (ticket lane.table m) states) same ∙ b.listed (c + i) a (sym (at_drop c w i) ∙ e) (ap (lane_withdrew lane) (sym same) ∙ still);
     })
 
 or_false : (a b : Bool) → (a || b) ≡ false → a ≡ false
@@ -224,7 +224,7 @@ or_false false b e = refl
 or_false true b e = e
 
 pub taken_back_as : (lane new : LaneState) (states : List PlaceState) (vacant : List ℕ) (seq : ℕ) → TakesBack lane seq new → Agrees lane states vacant → Agrees new states vacant
-taken_back_as lane new states vacant seq t b = let before : (i : ℕ) → is_among t.numbers i ≡ false → is_withdrawn lane i ≡ false = λ i e. or_false (is_withdrawn lane i) (eqb i seq) (sym (t.added i) ∙ e) in
+taken_back_as lane new states vacant seq t b = let before : (i : ℕ) → is_among t.numbers i ≡ false → lane_withdrew lane i ≡ false = λ i e. or_false (lane_withdrew lane i) (eqb i seq) (sym (t.added i) ∙ e) in
     passed (record lane { withdrawn = t.numbers }) new states vacant t.passes (record {
       vacant_are = b.vacant_are;
       once = b.once;
@@ -234,12 +234,12 @@ taken_back_as lane new states vacant seq t b = let before : (i : ℕ) → is_amo
       listed = λ i a e still. b.listed i a e (before (lane.next + i) still);
     })
 
-pub submitted_as : (lane new : LaneState) (k : ℕ) (states : List PlaceState) (ks ls : List ℕ) (x : Ticket) (job : Job) → Agrees lane states ks → ks ≡ ls ++ k ∷ [] → x ≡ ticket lane.table (offered lane) → new ≡ with_job lane job
+pub submitted_as : (lane new : LaneState) (k : ℕ) (states : List PlaceState) (ks ls : List ℕ) (x : Ticket) (job : Job) → Agrees lane states ks → ks ≡ ls ++ k ∷ [] → x ≡ ticket lane.table (count_accepted lane) → new ≡ with_job lane job
     → Agrees new (set states k (Out x job)) ls
 submitted_as lane new k states ks ls x job b e d f = subst (λ (l : LaneState). Agrees l (set states k (Out x job)) ls) (sym f)
     (subst (λ (y : Ticket). Agrees (with_job lane job) (set states k (Out y job)) ls) (sym d) (submitted lane k states ls job (subst (λ (l : List ℕ). Agrees lane states l) e b)))
 
-received_either : (gone : Bool) (lane new : LaneState) (k : ℕ) (states : List PlaceState) (ks : List ℕ) (piece : Ticketed) → is_withdrawn lane piece.ticket.seq ≡ gone → get_elem? states k ≡ some (Out piece.ticket piece.job) → Agrees lane states ks
+received_either : (gone : Bool) (lane new : LaneState) (k : ℕ) (states : List PlaceState) (ks : List ℕ) (piece : Ticketed) → lane_withdrew lane piece.ticket.seq ≡ gone → get_elem? states k ≡ some (Out piece.ticket piece.job) → Agrees lane states ks
     → MatchBool gone ((new ≡ lane) × IsStep lane (Arrive piece) (reply.Arrived arrived.Withdrawn) new) (TakesInPiece lane piece new × IsStep lane (Arrive piece) (reply.Arrived arrived.Accepted) new)
     → Agrees new (set states k Vacant) (ks ++ k ∷ [])
 received_either true lane new k states ks piece gone out b r = subst (λ (l : LaneState). Agrees l (set states k Vacant) (ks ++ k ∷ [])) (sym r.0) (left lane k states ks piece.ticket piece.job gone out b)
@@ -248,16 +248,16 @@ received_either false lane new k states ks piece live out b r = let t = r.0 in s
 
 pub received_as : (lane new : LaneState) (k : ℕ) (states : List PlaceState) (ks ls : List ℕ) (piece : Ticketed) → get_elem? states k ≡ some (Out piece.ticket piece.job) → Agrees lane states ks → Receives lane piece new → ls ≡ ks ++ k ∷ []
     → Agrees new (set states k Vacant) ls
-received_as lane new k states ks ls piece out b r e = subst (λ (l : List ℕ). Agrees new (set states k Vacant) l) (sym e) (received_either (is_withdrawn lane piece.ticket.seq) lane new k states ks piece refl out b r)
+received_as lane new k states ks ls piece out b r e = subst (λ (l : List ℕ). Agrees new (set states k Vacant) l) (sym e) (received_either (lane_withdrew lane piece.ticket.seq) lane new k states ks piece refl out b r)
 
 received_offers_either : (gone : Bool) (lane new : LaneState) (piece : Ticketed)
     → MatchBool gone ((new ≡ lane) × IsStep lane (Arrive piece) (reply.Arrived arrived.Withdrawn) new) (TakesInPiece lane piece new × IsStep lane (Arrive piece) (reply.Arrived arrived.Accepted) new)
-    → (new.table ≡ lane.table) × (offered new ≡ offered lane)
-received_offers_either true lane new piece r = (ap (λ (z : LaneState). z.table) r.0, ap offered r.0)
-received_offers_either false lane new piece r = let t = r.0 in (ap (λ (z : LaneState). z.table) t.3, ap offered t.3 ∙ ap (λ (n : ℕ). lane.next + n) (length-set lane.window t.0 (piece.job, true)))
+    → (new.table ≡ lane.table) × (count_accepted new ≡ count_accepted lane)
+received_offers_either true lane new piece r = (ap (λ (z : LaneState). z.table) r.0, ap count_accepted r.0)
+received_offers_either false lane new piece r = let t = r.0 in (ap (λ (z : LaneState). z.table) t.3, ap count_accepted t.3 ∙ ap (λ (n : ℕ). lane.next + n) (length-set lane.window t.0 (piece.job, true)))
 
-pub received_offers : (lane new : LaneState) (piece : Ticketed) → Receives lane piece new → (new.table ≡ lane.table) × (offered new ≡ offered lane)
-received_offers lane new piece r = received_offers_either (is_withdrawn lane piece.ticket.seq) lane new piece r
+pub received_offers : (lane new : LaneState) (piece : Ticketed) → Receives lane piece new → (new.table ≡ lane.table) × (count_accepted new ≡ count_accepted lane)
+received_offers lane new piece r = received_offers_either (lane_withdrew lane piece.ticket.seq) lane new piece r
 
 pub withdrawn_as : {E : Type 0} (lane new : LaneState) (states : List PlaceState) (vacant : List ℕ) (seq : ℕ) (result : Result Bool E) → Agrees lane states vacant
     → (result ≡ Ok true → TakesBack lane seq new) → (result ≡ Ok false → new ≡ lane) → OnErr result (new ≡ lane) → Agrees new states vacant
@@ -266,13 +266,13 @@ withdrawn_as lane new states vacant seq (Ok false) b done not err = subst (λ (l
 withdrawn_as lane new states vacant seq (Err refused) b done not err = subst (λ (l : LaneState). Agrees l states vacant) (sym err) b
 
 -- the piece that the lane waits for
-pending_awaited : (lane : LaneState) (piece : Ticketed) → is_withdrawn lane piece.ticket.seq ≡ false → IsPending lane piece.ticket piece.job → Awaits lane piece
+pending_awaited : (lane : LaneState) (piece : Ticketed) → lane_withdrew lane piece.ticket.seq ≡ false → IsPending lane piece.ticket piece.job → Awaits lane piece
 pending_awaited lane piece live p = let q = place_of lane piece.ticket piece.job p in (p.0, live, (q.0, q.1, at_some lane.window q.0 (piece.job, false) q.2))
 
 -- what a lane answers to a piece of a ticket that was out
-answered : (gone : Bool) (lane new : LaneState) (piece : Ticketed) (result : Arrived) → is_withdrawn lane piece.ticket.seq ≡ gone
-    → (is_withdrawn lane piece.ticket.seq ≡ false → IsPending lane piece.ticket piece.job)
-    → IsStep lane (Arrive piece) (reply.Arrived result) new → (is_withdrawn lane piece.ticket.seq ≡ true → result ≡ arrived.Withdrawn)
+answered : (gone : Bool) (lane new : LaneState) (piece : Ticketed) (result : Arrived) → lane_withdrew lane piece.ticket.seq ≡ gone
+    → (lane_withdrew lane piece.ticket.seq ≡ false → IsPending lane piece.ticket piece.job)
+    → IsStep lane (Arrive piece) (reply.Arrived result) new → (lane_withdrew lane piece.ticket.seq ≡ true → result ≡ arrived.Withdrawn)
     → (Awaits lane piece → result ≡ arrived.Accepted) → (result ≡ arrived.Accepted → TakesInPiece lane piece new) → (result ≢ arrived.Accepted → new ≡ lane)
     → MatchBool gone ((new ≡ lane) × IsStep lane (Arrive piece) (reply.Arrived arrived.Withdrawn) new) (TakesInPiece lane piece new × IsStep lane (Arrive piece) (reply.Arrived arrived.Accepted) new)
 answered true lane new piece result gone pending step withdrawn awaited takes stays = let r : result ≡ arrived.Withdrawn = withdrawn gone in
@@ -281,11 +281,11 @@ answered false lane new piece result live pending step withdrawn awaited takes s
     (takes r, subst (λ (z : Arrived). IsStep lane (Arrive piece) (reply.Arrived z) new) r step)
 
 pub receives : (lane new : LaneState) (piece : Ticketed) (result : Arrived)
-    → (is_withdrawn lane piece.ticket.seq ≡ false → IsPending lane piece.ticket piece.job)
-    → IsStep lane (Arrive piece) (reply.Arrived result) new → (is_withdrawn lane piece.ticket.seq ≡ true → result ≡ arrived.Withdrawn)
+    → (lane_withdrew lane piece.ticket.seq ≡ false → IsPending lane piece.ticket piece.job)
+    → IsStep lane (Arrive piece) (reply.Arrived result) new → (lane_withdrew lane piece.ticket.seq ≡ true → result ≡ arrived.Withdrawn)
     → (Awaits lane piece → result ≡ arrived.Accepted) → (result ≡ arrived.Accepted → TakesInPiece lane piece new) → (result ≢ arrived.Accepted → new ≡ lane)
     → Receives lane piece new
-receives lane new piece result = answered (is_withdrawn lane piece.ticket.seq) lane new piece result refl
+receives lane new piece result = answered (lane_withdrew lane piece.ticket.seq) lane new piece result refl
 
 pub given_as : (lane new : LaneState) (states : List PlaceState) (ks : List ℕ) (answer : Taken) → Agrees lane states ks → GivesFirst lane answer new → Agrees new states ks
 given_as lane new states ks (taken.Answer seq answer) b g = passed (record lane { next = lane.next + 1; window = g.1 }) new states ks g.5 (given lane states ks g.0 g.1 g.2 b)

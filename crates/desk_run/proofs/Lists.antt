@@ -6,7 +6,7 @@ use mathlib.Core.Option.{some, some-injective, some-ne-none}
 use lib.ListN.{get_elem?}
 use Rattle.std.specs.Prelude.{sum_by}
 use Rattle.std.proofs.lemmas.List.Sums.{sum_by-cons, sum_by_push}
-use Rattle.desk_run.specs.Counts.{one_if, same_ticket, times}
+use Rattle.desk_run.specs.Counts.{one_if, same_ticket, times_listed}
 use Rattle.desk_core.specs.declared.ticket.Ticket.{Ticket}
 use Rattle.riichi_hand.specs.declared.job.Job.{Job}
 use Rattle.desk_run.specs.declared.content.Content.TheVariants.{Empty, Offer}
@@ -67,8 +67,8 @@ ticket_is x y e d = λ i. record { table = e i; seq = d i }
 pub same_is : (x y : Ticket) → same_ticket x y ≡ true → x ≡ y
 same_is x y e = let t : (eqb x.table y.table ≡ true) × (eqb x.seq y.seq ≡ true) = grind arith in ticket_is x y (eqb-true x.table y.table t.0) (eqb-true x.seq y.seq t.1)
 
-pub times-push : (x y : Ticket) (l : List Ticket) → times x (l ++ y ∷ []) ≡ times x l + one_if (same_ticket x y)
-times-push x y l = sum_by_push (λ z. one_if (same_ticket x z)) l y
+pub times_listed-push : (x y : Ticket) (l : List Ticket) → times_listed x (l ++ y ∷ []) ≡ times_listed x l + one_if (same_ticket x y)
+times_listed-push x y l = sum_by_push (λ z. one_if (same_ticket x z)) l y
 
 pub out_ticket : (x y : Ticket) (a b : Job) → Out x a ≡ Out y b → x ≡ y
 out_ticket x y a b e = cc

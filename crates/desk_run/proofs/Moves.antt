@@ -8,9 +8,9 @@ use lib.ListN.{get_elem?}
 use lib.Seq.{set-get_or}
 use Rattle.atomic_table.specs.Table.{State}
 use Rattle.atomic_table.proofs.Lists.{at_set, set_here, set_else}
-use Rattle.desk_run.specs.Counts.{one_if, times}
+use Rattle.desk_run.specs.Counts.{one_if, times_listed}
 use Rattle.desk_run.specs.Views.{has_number, is_at, holds_at, finished_of, numbered, holders, finishes}
-use Rattle.desk_run.specs.Rule.{count_of, HeldWith, Standing, fresh, vacant, ready, taken, done, Seated, Orderly}
+use Rattle.desk_run.specs.Rule.{count_places, HeldWith, Standing, fresh, vacant, ready, taken, done, Seated, Orderly}
 use Rattle.desk_core.specs.declared.ticket.Ticket.{Ticket}
 use Rattle.riichi_hand.specs.declared.job.Job.{Job}
 use Rattle.desk_core.specs.Ticketed.{Ticketed}
@@ -38,8 +38,8 @@ is_holding u h q e d = ap (is_at q) e ∙ eq-eqb h.place q d
 pub holders_same : (vs : List View) (id q : ℕ) (v w : View) → get_elem? vs id ≡ some v → holds_at q w ≡ holds_at q v → holders q (set vs id w) ≡ holders q vs
 holders_same vs id q v w me e = sum_by-same (λ x. one_if (holds_at q x)) vs id v w me (ap one_if e)
 
-pub finishes_same : (vs : List View) (id : ℕ) (x : Ticket) (v w : View) → get_elem? vs id ≡ some v → times x (finished_of w) ≡ times x (finished_of v) → finishes x (set vs id w) ≡ finishes x vs
-finishes_same vs id x v w me e = sum_by-same (λ y. times x (finished_of y)) vs id v w me e
+pub finishes_same : (vs : List View) (id : ℕ) (x : Ticket) (v w : View) → get_elem? vs id ≡ some v → times_listed x (finished_of w) ≡ times_listed x (finished_of v) → finishes x (set vs id w) ≡ finishes x vs
+finishes_same vs id x v w me e = sum_by-same (λ y. times_listed x (finished_of y)) vs id v w me e
 
 pub numbered_same : (vs : List View) (id n : ℕ) (v w : View) → get_elem? vs id ≡ some v → has_number n w ≡ has_number n v → numbered n (set vs id w) ≡ numbered n vs
 numbered_same vs id n v w me e = sum_by-same (λ x. one_if (has_number n x)) vs id v w me (ap one_if e)
@@ -47,7 +47,7 @@ numbered_same vs id n v w me e = sum_by-same (λ x. one_if (has_number n x)) vs 
 -- a place that the seat does not hold, before and after
 still : (vs : List View) (id q word : ℕ) (v w : View) (home : Option (Option Content)) (state : PlaceState) → get_elem? vs id ≡ some v
     → holds_at q v ≡ false → holds_at q w ≡ false
-    → ((x : Ticket) (job : Job) → state ≡ Out x job → times x (finished_of w) ≡ times x (finished_of v))
+    → ((x : Ticket) (job : Job) → state ≡ Out x job → times_listed x (finished_of w) ≡ times_listed x (finished_of v))
     → Standing word home state q vs → Standing word home state q (set vs id w)
 still vs id q word v w home state me a b f (fresh e h l n) = fresh e h l (holders_same vs id q v w me (b ∙ sym a) ∙ n)
 still vs id q word v w home state me a b f (vacant e h l n) = vacant e h l (holders_same vs id q v w me (b ∙ sym a) ∙ n)
@@ -64,7 +64,7 @@ along word word' home home' state state' p vs e d l s = subst (λ (n : ℕ). Sta
 
 -- a step at the place p of the seat id
 pub at_place : (size : BoardSize) (s : St) (o : Orderly size s) (id p n : ℕ) (v w : View) (home : Option Content) (state : PlaceState) (offers : ℕ → ℕ)
-    → get_elem? s.views id ≡ some v → p < count_of size → length s.homes ≡ count_of size
+    → get_elem? s.views id ≡ some v → p < count_places size → length s.homes ≡ count_places size
     → ((m : ℕ) → has_number m w ≡ has_number m v)
     → Seated size (put o.states p state) offers (get_or s.words 1 0) w
     → ((j : ℕ) (u : View) → get_elem? s.views j ≡ some u → j ≢ id → Seated size (put o.states p state) offers (get_or s.words 1 0) u)
@@ -72,10 +72,10 @@ pub at_place : (size : BoardSize) (s : St) (o : Orderly size s) (id p n : ℕ) (
     → Standing n (some home) state p (set s.views id w)
     → ((t : ℕ) → get_or s.words 0 0 ≤ t → (offers t ≡ 0) × ((k : ℕ) → k < size.places → put o.states p state (t * size.places + k) ≡ Fresh))
     → ((t : ℕ) → size.tables ≤ t → offers t ≡ 0)
-    → ((q : ℕ) (x : Ticket) (job : Job) → q ≢ p → q < count_of size → o.states q ≡ Out x job → times x (finished_of w) ≡ times x (finished_of v))
+    → ((q : ℕ) (x : Ticket) (job : Job) → q ≢ p → q < count_places size → o.states q ≡ Out x job → times_listed x (finished_of w) ≡ times_listed x (finished_of v))
     → ((x : Ticket) (job : Job) → state ≡ Out x job → (x.table * size.places ≤ p) × (p < x.table * size.places + size.places) × (x.seq < offers x.table))
     → ((t : ℕ) → o.offers t ≤ offers t)
-    → ((q : ℕ) (x : Ticket) (a b : Job) → q ≢ p → q < count_of size → state ≡ Out x a → o.states q ≡ Out x b → ⊥)
+    → ((q : ℕ) (x : Ticket) (a b : Job) → q ≢ p → q < count_places size → state ≡ Out x a → o.states q ≡ Out x b → ⊥)
     → ((x : Ticket) → finishes x (set s.views id w) ≤ 1)
     → ((x : Ticket) → offers x.table ≤ x.seq → finishes x (set s.views id w) ≡ 0)
     → Orderly size (board (set s.words (2 + p) n) (set s.homes p home) (set s.views id w))
@@ -161,7 +161,7 @@ others_at size s o id k m v state me hk base j (Table u) at ne =
 
 -- a step of a table at its place k
 pub table_step : (size : BoardSize) (s : St) (o : Orderly size s) (id k n m : ℕ) (v : TableView) (home : Option Content) (state old : PlaceState)
-    → get_elem? s.views id ≡ some (Table v) → length s.homes ≡ count_of size → get_elem? v.states k ≡ some old → v.offers ≤ m
+    → get_elem? s.views id ≡ some (Table v) → length s.homes ≡ count_places size → get_elem? v.states k ≡ some old → v.offers ≤ m
     → (holders (v.base + k) s.views ≡ 0 → Standing n (some home) state (v.base + k) (set s.views id (Table (changed v k state m))))
     → holders (v.base + k) s.views ≡ 0
     → ((x : Ticket) (job : Job) → state ≡ Out x job → (x.table ≡ v.number) × (v.offers ≤ x.seq) × (x.seq < m))
@@ -170,7 +170,7 @@ table_step size s o id k n m v home state old me wide at_k more stands free fits
     let t = o.seats id (Table v) me in
     let hk : k < size.places = let near = there_is v.states k old at_k in omega arith in
     let p : ℕ = v.base + k in
-    let near : p < count_of size = subst (λ (b : ℕ). b + k < count_of size) (sym t.1) (within v.number size.tables size.places k t.0 hk) in
+    let near : p < count_places size = subst (λ (b : ℕ). b + k < count_places size) (sym t.1) (within v.number size.tables size.places k t.0 hk) in
     let others = others_at size s o id k m v state me hk t.1 in
     let low : v.number < get_or s.words 0 0 = below_roll size s o id v.number (Table v) me (eq-eqb v.number v.number refl) in
     let rise : (r : ℕ) → o.offers r ≤ put o.offers v.number m r = λ r. dite (ℕ_discrete r v.number)
@@ -197,11 +197,11 @@ table_step size s o id k n m v home state old me wide at_k more stands free fits
 
 -- a step of a worker at the place p, of which it may finish the ticket
 pub worker_step : (size : BoardSize) (s : St) (o : Orderly size s) (id p n : ℕ) (v w : WorkerView) (home : Option Content)
-    → get_elem? s.views id ≡ some (Worker v) → length s.homes ≡ count_of size → p < count_of size
+    → get_elem? s.views id ≡ some (Worker v) → length s.homes ≡ count_places size → p < count_places size
     → (w.number ≡ v.number) × (w.knows_stop ≡ v.knows_stop)
     → ((q : ℕ) → q ≢ p → (is_at q v.held ≡ false) × (is_at q w.held ≡ false))
     → Standing n (some home) (o.states p) p (set s.views id (Worker w))
-    → ((q : ℕ) (x : Ticket) (job : Job) → q ≢ p → q < count_of size → o.states q ≡ Out x job → times x w.finished ≡ times x v.finished)
+    → ((q : ℕ) (x : Ticket) (job : Job) → q ≢ p → q < count_places size → o.states q ≡ Out x job → times_listed x w.finished ≡ times_listed x v.finished)
     → ((x : Ticket) → (finishes x (set s.views id (Worker w)) ≤ 1) × (o.offers x.table ≤ x.seq → finishes x (set s.views id (Worker w)) ≡ 0))
     → Orderly size (board (set s.words (2 + p) n) (set s.homes p home) (set s.views id (Worker w)))
 worker_step size s o id p n v w home me wide near same quiet stands kept_finished counts =
@@ -227,7 +227,7 @@ pub at_seat : (size : BoardSize) (s : St) (o : Orderly size s) (id : ℕ) (v w :
     → Seated size o.states o.offers (get_or ws 1 0) w
     → ((j : ℕ) (u : View) → get_elem? s.views j ≡ some u → j ≢ id → Seated size o.states o.offers (get_or ws 1 0) u)
     → ((q : ℕ) → (holds_at q v ≡ false) × (holds_at q w ≡ false))
-    → ((x : Ticket) → times x (finished_of w) ≡ times x (finished_of v))
+    → ((x : Ticket) → times_listed x (finished_of w) ≡ times_listed x (finished_of v))
     → get_or s.words 0 0 ≤ get_or ws 0 0
     → (get_or ws 0 0 ≤ size.tables + size.workers → get_or ws 1 0 ≡ 0)
     → Orderly size (board ws s.homes (set s.views id w))
@@ -254,7 +254,7 @@ pub unmoved : (size : BoardSize) (s : St) (o : Orderly size s) (id i : ℕ) (v w
     → ((n : ℕ) → has_number n w ≡ has_number n v)
     → Seated size o.states o.offers (get_or s.words 1 0) w
     → ((q : ℕ) → (holds_at q v ≡ false) × (holds_at q w ≡ false))
-    → ((x : Ticket) → times x (finished_of w) ≡ times x (finished_of v))
+    → ((x : Ticket) → times_listed x (finished_of w) ≡ times_listed x (finished_of v))
     → Orderly size (board (set s.words i (get_or s.words i 0)) s.homes (set s.views id w))
 unmoved size s o id i v w me same mine quiet fin = subst (λ (ws : List ℕ). Orderly size (board ws s.homes (set s.views id w))) (sym (set-get_or s.words i 0))
     (at_seat size s o id v w s.words me refl (λ p. refl)

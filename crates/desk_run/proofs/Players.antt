@@ -7,7 +7,7 @@ use Rattle.atomic_table.proofs.Lists.{at_set, at_last, at_longer}
 use Rattle.desk_core.specs.declared.answer.Answer.{Answer}
 use Rattle.riichi_hand.specs.declared.job.Job.{Job}
 use Rattle.desk_run.specs.Played.{values}
-use Rattle.desk_run.specs.Players.{lists_of, AreDone}
+use Rattle.desk_run.specs.Players.{job_lists, AreDone}
 use Rattle.desk_run.specs.declared.player.Player.{Player}
 use Rattle.desk_run.proofs.Plays.{take-next, take-whole}
 use Rattle.desk_run.proofs.WorkerThreads.{reversed_more}
@@ -16,11 +16,11 @@ use Rattle.desk_run.proofs.WorkerThreads.{reversed_more}
 abbrev items_of : List (Vec Job) → List (List Job)
 items_of jobs = map (λ list. list.items) jobs
 
-pub seated_none : (jobs : List (Vec Job)) (players : List Player) → players ≡ [] → items_of (take (length jobs) jobs) ++ reverse (lists_of players) ≡ items_of jobs
-seated_none jobs players none = ap (λ (l : List Player). items_of (take (length jobs) jobs) ++ reverse (lists_of l)) none ∙ append-nil (items_of (take (length jobs) jobs)) ∙ ap items_of (take-whole jobs)
+pub seated_none : (jobs : List (Vec Job)) (players : List Player) → players ≡ [] → items_of (take (length jobs) jobs) ++ reverse (job_lists players) ≡ items_of jobs
+seated_none jobs players none = ap (λ (l : List Player). items_of (take (length jobs) jobs) ++ reverse (job_lists l)) none ∙ append-nil (items_of (take (length jobs) jobs)) ∙ ap items_of (take-whole jobs)
 
 pub seated_more : (jobs : List (Vec Job)) (t : ℕ) (all : List (List Job)) (players more : List Player) (player : Player) (list : Vec Job) → 0 < t → t ≤ length jobs → list ≡ get_or jobs (t - 1) list
-    → player.jobs.now ≡ list.items → more ≡ players ++ player ∷ [] → items_of (take t jobs) ++ reverse (lists_of players) ≡ all → items_of (take (t - 1) jobs) ++ reverse (lists_of more) ≡ all
+    → player.jobs.now ≡ list.items → more ≡ players ++ player ∷ [] → items_of (take t jobs) ++ reverse (job_lists players) ≡ all → items_of (take (t - 1) jobs) ++ reverse (job_lists more) ≡ all
 seated_more jobs t all players more player list some_left near at is e b =
     let same : t ≡ t - 1 + 1 = omega arith in
     let last : items_of (take t jobs) ≡ items_of (take (t - 1) jobs) ++ list.items ∷ []
@@ -47,23 +47,23 @@ done_fewer players fewer player e done i p lt at = let long = ap (λ (l : List P
 
 -- the last player was let go, and its answers put after those of the players after it
 pub given_more : (answers more : List (Vec Answer)) (players fewer : List Player) (player : Player) (given : Vec Answer) (all : List (List Answer)) → players ≡ fewer ++ player ∷ []
-    → more ≡ answers ++ given ∷ [] → given.items ≡ values player.jobs.now → map (λ v. v.items) answers ++ reverse (map values (lists_of players)) ≡ all
-    → map (λ v. v.items) more ++ reverse (map values (lists_of fewer)) ≡ all
+    → more ≡ answers ++ given ∷ [] → given.items ≡ values player.jobs.now → map (λ v. v.items) answers ++ reverse (map values (job_lists players)) ≡ all
+    → map (λ v. v.items) more ++ reverse (map values (job_lists fewer)) ≡ all
 given_more answers more players fewer player given all e m is b =
-    let rest : List (List Answer) = reverse (map values (lists_of fewer)) in
+    let rest : List (List Answer) = reverse (map values (job_lists fewer)) in
     let front : List (List Answer) = map (λ (v : Vec Answer). v.items) answers in
-    let back : front ++ reverse (map values (lists_of players)) ≡ front ++ values player.jobs.now ∷ rest
-    = ap (λ (l : List Player). front ++ reverse (map values (lists_of l))) e
+    let back : front ++ reverse (map values (job_lists players)) ≡ front ++ values player.jobs.now ∷ rest
+    = ap (λ (l : List Player). front ++ reverse (map values (job_lists l))) e
     ∙ ap (λ (l : List (List Job)). front ++ reverse (map values l)) (map_push (λ (p : Player). p.jobs.now) fewer player)
-    ∙ ap (λ (l : List (List Answer)). front ++ reverse l) (map_push values (lists_of fewer) player.jobs.now)
-    ∙ ap (λ (l : List (List Answer)). front ++ l) (reverse-append (map values (lists_of fewer)) (values player.jobs.now ∷ [])) in
+    ∙ ap (λ (l : List (List Answer)). front ++ reverse l) (map_push values (job_lists fewer) player.jobs.now)
+    ∙ ap (λ (l : List (List Answer)). front ++ l) (reverse-append (map values (job_lists fewer)) (values player.jobs.now ∷ [])) in
     ap (λ (l : List (Vec Answer)). map (λ v. v.items) l ++ rest) m
     ∙ ap (λ (l : List (List Answer)). l ++ rest) (map_push (λ (v : Vec Answer). v.items) answers given)
     ∙ append_assoc front (given.items ∷ []) rest
     ∙ ap (λ (a : List Answer). front ++ a ∷ rest) is
     ∙ sym back ∙ b
 
-pub given_out : (answers : List (List Answer)) (players : List Player) (all : List (List Answer)) → length players ≡ 0 → answers ++ reverse (map values (lists_of players)) ≡ all → answers ≡ all
+pub given_out : (answers : List (List Answer)) (players : List Player) (all : List (List Answer)) → length players ≡ 0 → answers ++ reverse (map values (job_lists players)) ≡ all → answers ≡ all
 given_out answers [] all none b = sym (append-nil answers) ∙ b
 given_out answers (x ∷ xs) all none b = absurd (omega arith)
 
@@ -76,11 +76,11 @@ values-items [] = refl
 values-items (x ∷ xs) = ap (λ l. values x.items ∷ l) (values-items xs)
 
 -- what the players were given is what the tables had to be given
-pub given_all : (jobs : List (Vec Job)) (players seated : List Player) → reverse (lists_of seated) ≡ items_of jobs → lists_of players ≡ lists_of seated
-    → reverse (map values (lists_of players)) ≡ map (λ list. values list.items) jobs
-given_all jobs players seated all same = reverse-map values (lists_of players) ∙ ap (λ (l : List (List Job)). map values (reverse l)) same ∙ ap (map values) all ∙ values-items jobs
+pub given_all : (jobs : List (Vec Job)) (players seated : List Player) → reverse (job_lists seated) ≡ items_of jobs → job_lists players ≡ job_lists seated
+    → reverse (map values (job_lists players)) ≡ map (λ list. values list.items) jobs
+given_all jobs players seated all same = reverse-map values (job_lists players) ∙ ap (λ (l : List (List Job)). map values (reverse l)) same ∙ ap (map values) all ∙ values-items jobs
 
-pub as_many : (jobs : List (Vec Job)) (players seated : List Player) → reverse (lists_of seated) ≡ items_of jobs → lists_of players ≡ lists_of seated → length players ≡ length jobs
+pub as_many : (jobs : List (Vec Job)) (players seated : List Player) → reverse (job_lists seated) ≡ items_of jobs → job_lists players ≡ job_lists seated → length players ≡ length jobs
 as_many jobs players seated all same =
     let a = ap (λ (l : List (List Job)). length l) all in let b = ap (λ (l : List (List Job)). length l) same in
-    let c = length-reverse (lists_of seated) in let d = length-map jobs (λ (v : Vec Job). v.items) in let e = length-map players (λ (p : Player). p.jobs.now) in omega arith
+    let c = length-reverse (job_lists seated) in let d = length-map jobs (λ (v : Vec Job). v.items) in let e = length-map players (λ (p : Player). p.jobs.now) in omega arith

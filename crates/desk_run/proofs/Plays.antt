@@ -11,13 +11,13 @@ use Rattle.desk_core.specs.Ticketed.{Ticketed}
 use Rattle.desk_core.specs.declared.answer.Answer.{Answer}
 use Rattle.desk_core.specs.declared.taken.Taken.TheVariants as taken
 use Rattle.riichi_hand.specs.declared.job.Job.{Job}
-use Rattle.desk_run.specs.Played.{IsPlayed, values, jobs_of}
+use Rattle.desk_run.specs.Played.{IsPlayed, values, window_jobs}
 use Rattle.desk_core.specs.Step.{IsStep}
 use Rattle.desk_core.specs.declared.arrived.Arrived.TheVariants as arrived
 use Rattle.desk_core.specs.declared.event.Event.TheVariants.{Arrive}
 use Rattle.desk_core.specs.declared.reply.Reply.TheVariants as reply
 use Rattle.std.specs.Prelude.{MatchBool}
-use Rattle.desk_run.specs.LanePlaces.{is_withdrawn}
+use Rattle.desk_run.specs.LanePlaces.{lane_withdrew}
 use Rattle.desk_run.specs.Sitting.{Receives, AreFetched, Collects}
 use Rattle.desk_run.specs.declared.place_state.PlaceState.{PlaceState}
 use Rattle.desk_run.specs.declared.place_state.PlaceState.TheVariants.{Vacant}
@@ -37,9 +37,9 @@ take-whole (x ∷ xs) = ap (λ l. x ∷ l) (take-whole xs)
 pub played_same : (lane new : LaneState) (jobs : List Job) (n : ℕ) (answers : List Answer) → new ≡ lane → IsPlayed lane jobs n answers → IsPlayed new jobs n answers
 played_same lane new jobs n answers same b = subst (λ (l : LaneState). IsPlayed l jobs n answers) (sym same) b
 
-jobs-set : (window : List (Job × Bool)) (i : ℕ) (job : Job) (a b : Bool) → get_elem? window i ≡ some (job, a) → jobs_of (set window i (job, b)) ≡ jobs_of window
+jobs-set : (window : List (Job × Bool)) (i : ℕ) (job : Job) (a b : Bool) → get_elem? window i ≡ some (job, a) → window_jobs (set window i (job, b)) ≡ window_jobs window
 jobs-set [] i job a b e = refl
-jobs-set (x ∷ xs) zero job a b e = ap (λ (y : Job × Bool). y.0 ∷ jobs_of xs) (sym (some-injective x (job, a) e))
+jobs-set (x ∷ xs) zero job a b e = ap (λ (y : Job × Bool). y.0 ∷ window_jobs xs) (sym (some-injective x (job, a) e))
 jobs-set (x ∷ xs) (suc i) job a b e = ap (λ (l : List Job). x.0 ∷ l) (jobs-set xs i job a b e)
 
 played_taken_in : (lane new : LaneState) (jobs : List Job) (n : ℕ) (answers : List Answer) (piece : Ticketed) → TakesInPiece lane piece new → IsPlayed lane jobs n answers → IsPlayed new jobs n answers
@@ -53,7 +53,7 @@ played_taken_in lane new jobs n answers piece t b = subst (λ (l : LaneState). I
 -- where none was withdrawn, each piece is accepted
 played_received : (lane new : LaneState) (jobs : List Job) (n : ℕ) (answers : List Answer) (piece : Ticketed) → Receives lane piece new → IsPlayed lane jobs n answers → IsPlayed new jobs n answers
 played_received lane new jobs n answers piece r b =
-    let live : is_withdrawn lane piece.ticket.seq ≡ false = ap (λ (l : List ℕ). is_among l piece.ticket.seq) b.none_withdrawn in
+    let live : lane_withdrew lane piece.ticket.seq ≡ false = ap (λ (l : List ℕ). is_among l piece.ticket.seq) b.none_withdrawn in
     let accepted = subst (λ (gone : Bool). MatchBool gone ((new ≡ lane) × IsStep lane (Arrive piece) (reply.Arrived arrived.Withdrawn) new) (TakesInPiece lane piece new × IsStep lane (Arrive piece) (reply.Arrived arrived.Accepted) new)) live r in
     played_taken_in lane new jobs n answers piece accepted.0 b
 
@@ -77,8 +77,8 @@ pub played_given : (lane new : LaneState) (jobs : List Job) (n seq : ℕ) (answe
     → IsPlayed lane jobs n answers → IsPlayed new jobs n more
 played_given lane new jobs n seq answers more answer g e b = subst (λ (l : List Answer). IsPlayed new jobs n l) (sym e) (subst (λ (l : LaneState). IsPlayed l jobs n (answers ++ answer ∷ []))
     (sym (none_passed (record lane { next = lane.next + 1; window = g.1 }) new b.none_withdrawn g.5)) (record {
-      given = append_assoc answers (answer ∷ []) (values (jobs_of g.1)) ∙ ap (λ (a : Answer). answers ++ a ∷ values (jobs_of g.1)) g.4
-          ∙ ap (λ (l : List (Job × Bool)). answers ++ values (jobs_of l)) (sym g.2) ∙ b.given;
+      given = append_assoc answers (answer ∷ []) (values (window_jobs g.1)) ∙ ap (λ (a : Answer). answers ++ a ∷ values (window_jobs g.1)) g.4
+          ∙ ap (λ (l : List (Job × Bool)). answers ++ values (window_jobs l)) (sym g.2) ∙ b.given;
       within = b.within;
       none_withdrawn = b.none_withdrawn;
       all = b.all;
@@ -92,14 +92,14 @@ length-taken (suc n) (x ∷ xs) h = ap suc (length-taken n xs (omega arith))
 -- where an answer is given, there was one to come
 pub room_for : (lane new : LaneState) (jobs : List Job) (n seq : ℕ) (answers : List Answer) (answer : Answer) → GivesFirst lane (taken.Answer seq answer) new → IsPlayed lane jobs n answers → length answers < length jobs
 room_for lane new jobs n seq answers answer g b =
-    let first : answers ++ value_of g.0 ∷ values (jobs_of g.1) ≡ values (take n jobs) = ap (λ (l : List (Job × Bool)). answers ++ values (jobs_of l)) (sym g.2) ∙ b.given in
-    let long : length (answers ++ value_of g.0 ∷ values (jobs_of g.1)) ≡ length (values (take n jobs)) = ap (λ (l : List Answer). length l) first in
-    let a = length-append answers (value_of g.0 ∷ values (jobs_of g.1)) in let m = length-map (take n jobs) value_of in let l = length-taken n jobs b.within in let w = b.within in omega arith
+    let first : answers ++ value_of g.0 ∷ values (window_jobs g.1) ≡ values (take n jobs) = ap (λ (l : List (Job × Bool)). answers ++ values (window_jobs l)) (sym g.2) ∙ b.given in
+    let long : length (answers ++ value_of g.0 ∷ values (window_jobs g.1)) ≡ length (values (take n jobs)) = ap (λ (l : List Answer). length l) first in
+    let a = length-append answers (value_of g.0 ∷ values (window_jobs g.1)) in let m = length-map (take n jobs) value_of in let l = length-taken n jobs b.within in let w = b.within in omega arith
 
 -- a table that has as many answers as it has jobs was given them all
 pub all_given : (lane : LaneState) (jobs : List Job) (next : ℕ) (answers : List Answer) → IsPlayed lane jobs next answers → length answers ≡ length jobs → answers ≡ values jobs
 all_given lane jobs next answers p same =
-    let left : List Answer = values (jobs_of lane.window) in
+    let left : List Answer = values (window_jobs lane.window) in
     let lengths = ap length p.given in let parts = length-append answers left in let each = length-map (take next jobs) value_of in
     let first = length-taken next jobs p.within in let within = p.within in
     let none : left ≡ [] = nil_from_length left (omega arith) in

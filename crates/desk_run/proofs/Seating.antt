@@ -5,8 +5,8 @@ use mathlib.Core.Option.{some}
 use lib.ListN.{get_elem?}
 use Rattle.atomic_table.specs.Table.{rest}
 use Rattle.desk_core.specs.LaneState.{LaneState, with_job, new_lane}
-use Rattle.desk_run.specs.LanePlaces.{offered}
-use Rattle.desk_run.specs.Plays.{SeatState, table_of}
+use Rattle.desk_run.specs.LanePlaces.{count_accepted}
+use Rattle.desk_run.specs.Plays.{SeatState, table_seen}
 use Rattle.atomic_table.specs.Seated.{TableId}
 use Rattle.desk_run.specs.Sitting.{Sits, IsTableSeat, carried_by, Receives, AreFetched, Collects, out_places, place_if_out}
 use Rattle.desk_run.proofs.LanePlaces.{received_offers}
@@ -27,8 +27,8 @@ carried_push : (base k : ℕ) (ls : List ℕ) → carried_by base (ls ++ k ∷ [
 carried_push base k [] = refl
 carried_push base k (x ∷ xs) = ap (λ (l : List (ℕ × Content)). l ++ (base + x, Empty) ∷ []) (carried_push base k xs)
 
-table_at : (v : View) (w : TableView) → v ≡ Table w → v ≡ Table (table_of v)
-table_at v w e = e ∙ sym (ap (λ (u : View). Table (table_of u)) e)
+table_at : (v : View) (w : TableView) → v ≡ Table w → v ≡ Table (table_seen v)
+table_at v w e = e ∙ sym (ap (λ (u : View). Table (table_seen u)) e)
 
 pub front_carried : (m : SeatState) (base : ℕ) (lane : LaneState) (states : List PlaceState) (ks ls : List ℕ) (k : ℕ) → Sits m base lane states ks → ks ≡ ls ++ k ∷ [] → m.1 ≡ (base + k, Empty) ∷ carried_by base ls
 front_carried m base lane states ks ls k s e = s.carried ∙ ap (carried_by base) e ∙ carried_push base k ls
@@ -36,25 +36,25 @@ front_carried m base lane states ks ls k s e = s.carried ∙ ap (carried_by base
 pub front_rest : (m : SeatState) (base : ℕ) (lane : LaneState) (states : List PlaceState) (ks ls : List ℕ) (k : ℕ) → Sits m base lane states ks → ks ≡ ls ++ k ∷ [] → m.1 ≡ (base + k, Empty) ∷ rest m.1
 front_rest m base lane states ks ls k s e = let f = front_carried m base lane states ks ls k s e in f ∙ ap (λ (l : List (ℕ × Content)). (base + k, Empty) ∷ l) (sym (ap rest f))
 
-one_more : (lane : LaneState) (job : Job) → offered (with_job lane job) ≡ offered lane + 1
+one_more : (lane : LaneState) (job : Job) → count_accepted (with_job lane job) ≡ count_accepted lane + 1
 one_more lane job = let n : ℕ = lane.next in omega (arith, length-append lane.window ((job, false) ∷ []))
 
 pub sits_offered : (m n : SeatState) (base : ℕ) (lane new : LaneState) (states more : List PlaceState) (ks ls : List ℕ) (k : ℕ) (x : Ticket) (job : Job) → Sits m base lane states ks → ks ≡ ls ++ k ∷ []
-    → n ≡ (Table (offering (table_of m.0) k x job), rest m.1) → more ≡ set states k (Out x job) → new ≡ with_job lane job → Sits n base new more ls
-sits_offered m n base lane new states more ks ls k x job s e is l o = let v : TableView = table_of m.0 in let w : TableView = offering v k x job in
-    let same : table_of n.0 ≡ w = ap (λ (z : SeatState). table_of z.0) is in record {
+    → n ≡ (Table (offering (table_seen m.0) k x job), rest m.1) → more ≡ set states k (Out x job) → new ≡ with_job lane job → Sits n base new more ls
+sits_offered m n base lane new states more ks ls k x job s e is l o = let v : TableView = table_seen m.0 in let w : TableView = offering v k x job in
+    let same : table_seen n.0 ≡ w = ap (λ (z : SeatState). table_seen z.0) is in record {
       is_table = table_at n.0 w (ap (λ (z : SeatState). z.0) is);
       number = ap (λ (z : TableView). z.number) same ∙ s.number ∙ sym (ap (λ (z : LaneState). z.table) o);
       base_is = ap (λ (z : TableView). z.base) same ∙ s.base_is;
       states_are = ap (λ (z : TableView). z.states) same ∙ ap (λ (z : List PlaceState). set z k (Out x job)) s.states_are ∙ sym l;
-      offers = ap (λ (z : TableView). z.offers) same ∙ ap (λ (z : ℕ). z + 1) s.offers ∙ sym (ap offered o ∙ one_more lane job);
+      offers = ap (λ (z : TableView). z.offers) same ∙ ap (λ (z : ℕ). z + 1) s.offers ∙ sym (ap count_accepted o ∙ one_more lane job);
       carried = ap (λ (z : SeatState). z.1) is ∙ ap rest (front_carried m base lane states ks ls k s e);
     }
 
 pub sits_vacant : (m n : SeatState) (base : ℕ) (lane new : LaneState) (states more : List PlaceState) (ks ls : List ℕ) (k : ℕ) → Sits m base lane states ks → ls ≡ ks ++ k ∷ []
-    → n ≡ (Table (with_state (table_of m.0) k Vacant), (base + k, Empty) ∷ m.1) → more ≡ set states k Vacant → new.table ≡ lane.table → offered new ≡ offered lane → Sits n base new more ls
-sits_vacant m n base lane new states more ks ls k s e is l q o = let v : TableView = table_of m.0 in let w : TableView = with_state v k Vacant in
-    let same : table_of n.0 ≡ w = ap (λ (z : SeatState). table_of z.0) is in record {
+    → n ≡ (Table (with_state (table_seen m.0) k Vacant), (base + k, Empty) ∷ m.1) → more ≡ set states k Vacant → new.table ≡ lane.table → count_accepted new ≡ count_accepted lane → Sits n base new more ls
+sits_vacant m n base lane new states more ks ls k s e is l q o = let v : TableView = table_seen m.0 in let w : TableView = with_state v k Vacant in
+    let same : table_seen n.0 ≡ w = ap (λ (z : SeatState). table_seen z.0) is in record {
       is_table = table_at n.0 w (ap (λ (z : SeatState). z.0) is);
       number = ap (λ (z : TableView). z.number) same ∙ s.number ∙ sym q;
       base_is = ap (λ (z : TableView). z.base) same ∙ s.base_is;
@@ -64,12 +64,12 @@ sits_vacant m n base lane new states more ks ls k s e is l q o = let v : TableVi
     }
 
 pub sits_fetched : (m n : SeatState) (base : ℕ) (lane new : LaneState) (states more : List PlaceState) (ks ls : List ℕ) (k : ℕ) (piece : Ticketed) → Sits m base lane states ks → ls ≡ ks ++ k ∷ []
-    → n ≡ (Table (with_state (table_of m.0) k Vacant), (base + k, Empty) ∷ m.1) → more ≡ set states k Vacant → Receives lane piece new → Sits n base new more ls
+    → n ≡ (Table (with_state (table_seen m.0) k Vacant), (base + k, Empty) ∷ m.1) → more ≡ set states k Vacant → Receives lane piece new → Sits n base new more ls
 sits_fetched m n base lane new states more ks ls k piece s e is l r = let o = received_offers lane new piece r in
     sits_vacant m n base lane new states more ks ls k s e is l o.0 o.1
 
 -- the seat where only the lane has changed
-pub sits_with : (m : SeatState) (base : ℕ) (lane new : LaneState) (states more : List PlaceState) (ks ls : List ℕ) → Sits m base lane states ks → new.table ≡ lane.table → offered new ≡ offered lane → more ≡ states → ls ≡ ks
+pub sits_with : (m : SeatState) (base : ℕ) (lane new : LaneState) (states more : List PlaceState) (ks ls : List ℕ) → Sits m base lane states ks → new.table ≡ lane.table → count_accepted new ≡ count_accepted lane → more ≡ states → ls ≡ ks
     → Sits m base new more ls
 sits_with m base lane new states more ks ls s q o l e = record {
   is_table = s.is_table;
@@ -105,12 +105,12 @@ fetched_out base states k h = more_out base (set states k Vacant) k ∙ ap (λ (
 
 pub sits_new : (m n : SeatState) (t : ℕ) (lane : LaneState) (size : BoardSize) (states : List PlaceState) (ks : List ℕ) → m.1 ≡ [] → n ≡ (Table (new_table t size), m.1) → states ≡ replicate size.places Fresh → ks ≡ [] → lane ≡ new_lane t
     → Sits n (t * size.places) lane states ks
-sits_new m n t lane size states ks none is l e new = let w : TableView = new_table t size in let same : table_of n.0 ≡ w = ap (λ (z : SeatState). table_of z.0) is in record {
+sits_new m n t lane size states ks none is l e new = let w : TableView = new_table t size in let same : table_seen n.0 ≡ w = ap (λ (z : SeatState). table_seen z.0) is in record {
   is_table = table_at n.0 w (ap (λ (z : SeatState). z.0) is);
   number = ap (λ (z : TableView). z.number) same ∙ sym (ap (λ (z : LaneState). z.table) new);
   base_is = ap (λ (z : TableView). z.base) same;
   states_are = ap (λ (z : TableView). z.states) same ∙ sym l;
-  offers = ap (λ (z : TableView). z.offers) same ∙ sym (ap offered new);
+  offers = ap (λ (z : TableView). z.offers) same ∙ sym (ap count_accepted new);
   carried = ap (λ (z : SeatState). z.1) is ∙ none ∙ sym (ap (carried_by (t * size.places)) e);
 }
 

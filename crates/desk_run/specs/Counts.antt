@@ -10,5 +10,5 @@ abbrev pub same_ticket : Ticket → Ticket → Bool
 same_ticket x y = (x.table == y.table) && (x.seq == y.seq)
 
 -- how often the ticket stands in the list
-abbrev pub times : Ticket → List Ticket → ℕ
-times x ys = count_by (same_ticket x) ys
+abbrev pub times_listed : Ticket → List Ticket → ℕ
+times_listed x ys = count_by (same_ticket x) ys

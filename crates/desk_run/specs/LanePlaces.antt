@@ -13,8 +13,8 @@ abbrev pub ticket : ℕ → ℕ → Ticket
 ticket table seq = record { table = table; seq = seq }
 
 -- how many jobs the lane has accepted
-abbrev pub offered : LaneState → ℕ
-offered lane = lane.next + length lane.window
+abbrev pub count_accepted : LaneState → ℕ
+count_accepted lane = lane.next + length lane.window
 
 -- the lane gave the ticket out for the job, and no piece has arrived for it
 abbrev pub IsPending : LaneState → Ticket → Job → Type 0
@@ -39,8 +39,8 @@ abbrev pub times_out : Ticket → List PlaceState → ℕ
 times_out x states = count_by (is_out x) states
 
 -- the table withdrew the ticket with this number
-abbrev pub is_withdrawn : LaneState → ℕ → Bool
-is_withdrawn lane seq = is_among lane.withdrawn seq
+abbrev pub lane_withdrew : LaneState → ℕ → Bool
+lane_withdrew lane seq = is_among lane.withdrawn seq
 
 -- Each ticket of the lane's window that has neither arrived nor was withdrawn is out with its job, at
 -- one place, and each other ticket that is out was withdrawn. Each other place is vacant.
@@ -49,8 +49,8 @@ pub record Agrees (lane : LaneState) (states : List PlaceState) (vacant : List �
   pub once : (i j k : ℕ) → get_elem? vacant i ≡ ghost_option.some k → get_elem? vacant j ≡ ghost_option.some k → i ≡ j
   pub counted : length vacant + outs states ≡ length states
   pub own : (k : ℕ) (x : Ticket) (job : Job) → get_elem? states k ≡ ghost_option.some (Out x job)
-      → (x.table ≡ lane.table) × (x.seq < offered lane)
+      → (x.table ≡ lane.table) × (x.seq < count_accepted lane)
   pub pending : (k : ℕ) (x : Ticket) (job : Job) → get_elem? states k ≡ ghost_option.some (Out x job)
-      → is_withdrawn lane x.seq ≡ false → IsPending lane x job
+      → lane_withdrew lane x.seq ≡ false → IsPending lane x job
   pub listed : (i : ℕ) (job : Job) → get_elem? lane.window i ≡ ghost_option.some (job, false)
-      → is_withdrawn lane (lane.next + i) ≡ false → times_out (ticket lane.table (lane.next + i)) states ≡ 1
+      → lane_withdrew lane (lane.next + i) ≡ false → times_out (ticket lane.table (lane.next + i)) states ≡ 1

@@ -7,8 +7,8 @@ use Rattle.desk_run.specs.Played.{values}
 use Rattle.desk_run.specs.declared.player.Player.{Player}
 
 -- the lists of jobs that these players have
-abbrev pub lists_of : List Player → List (List Job)
-lists_of players = map (λ player. player.jobs.now) players
+abbrev pub job_lists : List Player → List (List Job)
+job_lists players = map (λ player. player.jobs.now) players
 
 -- the first n players were given the values of all their jobs
 abbrev pub AreDone : ℕ → List Player → Type 0

@@ -18,8 +18,8 @@ use Rattle.desk_run.specs.declared.view.WorkerView.{WorkerView}
 use Rattle.desk_run.specs.declared.view.View.{View}
 use Rattle.desk_run.specs.declared.view.View.TheVariants.{Entering, Table, Worker, Stop}
 
-abbrev pub count_of : BoardSize → ℕ
-count_of size = size.tables * size.places
+abbrev pub count_places : BoardSize → ℕ
+count_places size = size.tables * size.places
 
 -- whoever holds the place holds it with this ticket and job
 abbrev pub HeldWith : ℕ → Ticket → Job → List View → Type 0
@@ -47,7 +47,7 @@ pub record Orderly (size : BoardSize) (s : State Content View) : Type 0 where
   -- what the table of each place lists there, and how many tickets each table has offered
   pub states : ℕ → PlaceState
   pub offers : ℕ → ℕ
-  pub sized : length s.words ≡ 2 + count_of size
+  pub sized : length s.words ≡ 2 + count_places size
   -- each number below the roll word is one seat's, and no other number is
   pub numbers : (n : ℕ) → (n < slice_index s.words 0 → numbered n s.views ≡ 1) × (slice_index s.words 0 ≤ n → numbered n s.views ≡ 0)
   pub seats : (i : ℕ) (v : View) → get_elem? s.views i ≡ ghost_option.some v → Seated size states offers (slice_index s.words 1) v
@@ -56,10 +56,10 @@ pub record Orderly (size : BoardSize) (s : State Content View) : Type 0 where
   -- numbers that are no table's have offered nothing
   pub strange : (t : ℕ) → size.tables ≤ t → offers t ≡ 0
   pub unstopped : slice_index s.words 0 ≤ size.tables + size.workers → slice_index s.words 1 ≡ 0
-  pub places : (p : ℕ) → p < count_of size → Standing (slice_index s.words (2 + p)) (get_elem? s.homes p) (states p) p s.views
+  pub places : (p : ℕ) → p < count_places size → Standing (slice_index s.words (2 + p)) (get_elem? s.homes p) (states p) p s.views
   -- the tickets that are out are their tables' own, differ, and are below the number of offers
-  pub own : (p : ℕ) (x : Ticket) (job : Job) → p < count_of size → states p ≡ Out x job → (x.table * size.places ≤ p) × (p < x.table * size.places + size.places) × (x.seq < offers x.table)
-  pub differ : (p q : ℕ) (x : Ticket) (a b : Job) → p < count_of size → q < count_of size → states p ≡ Out x a → states q ≡ Out x b → p ≡ q
+  pub own : (p : ℕ) (x : Ticket) (job : Job) → p < count_places size → states p ≡ Out x job → (x.table * size.places ≤ p) × (p < x.table * size.places + size.places) × (x.seq < offers x.table)
+  pub differ : (p q : ℕ) (x : Ticket) (a b : Job) → p < count_places size → q < count_places size → states p ≡ Out x a → states q ≡ Out x b → p ≡ q
   -- no ticket is finished twice, and each was offered
   pub once : (x : Ticket) → finishes x s.views ≤ 1
   pub offered : (x : Ticket) → offers x.table ≤ x.seq → finishes x s.views ≡ 0

@@ -7,7 +7,7 @@ use Rattle.desk_core.specs.Step.{IsStep}
 use Rattle.desk_core.specs.declared.event.Event.TheVariants.{Arrive}
 use Rattle.desk_core.specs.declared.reply.Reply.TheVariants as reply
 use Rattle.desk_core.specs.declared.arrived.Arrived.TheVariants as arrived
-use Rattle.desk_run.specs.LanePlaces.{offered, is_withdrawn}
+use Rattle.desk_run.specs.LanePlaces.{count_accepted, lane_withdrew}
 use Rattle.desk_core.specs.Ticketed.{Ticketed}
 use Rattle.desk_run.specs.declared.content.Content.{Content}
 use Rattle.desk_run.specs.declared.content.Content.TheVariants.{Empty}
@@ -15,7 +15,7 @@ use Rattle.desk_run.specs.declared.place_state.PlaceState.{PlaceState}
 use Rattle.desk_run.specs.declared.place_state.PlaceState.TheVariants.{Fresh, Vacant, Out}
 use base.Stored.{Coded-set}
 use Rattle.atomic_table.specs.Seated.{TableId, table_id_coded}
-use Rattle.desk_run.specs.Plays.{SeatState, table_of, worker_of, stop_of}
+use Rattle.desk_run.specs.Plays.{SeatState, table_seen, worker_seen, stop_seen}
 use Rattle.desk_run.specs.declared.view.View.TheVariants.{Table, Worker, Stop}
 use Rattle.desk_run.specs.declared.board.Board.{Board}
 
@@ -28,11 +28,11 @@ same_board = Coded-set table_id_coded
 
 -- a worker that holds nothing
 abbrev pub Idles : SeatState → Type 0
-Idles m = (m.0 ≡ Worker (worker_of m.0)) × ((worker_of m.0).held ≡ None) × (m.1 ≡ [])
+Idles m = (m.0 ≡ Worker (worker_seen m.0)) × ((worker_seen m.0).held ≡ None) × (m.1 ≡ [])
 
 -- the seat that stops the workers
 abbrev pub IsStopSeat : SeatState → Type 0
-IsStopSeat m = m.0 ≡ Stop (stop_of m.0)
+IsStopSeat m = m.0 ≡ Stop (stop_seen m.0)
 
 -- n places from p on
 abbrev pub places_from : ℕ → ℕ → List ℕ
@@ -46,11 +46,11 @@ carried_by base (k ∷ ks) = carried_by base ks ++ (base + k, Empty) ∷ []
 
 -- A table's seat: its view lists the states of the table's own places
 pub record Sits (m : SeatState) (base : ℕ) (lane : LaneState) (states : List PlaceState) (vacant : List ℕ) : Type 0 where
-  pub is_table : m.0 ≡ Table (table_of m.0)
-  pub number : (table_of m.0).number ≡ lane.table
-  pub base_is : (table_of m.0).base ≡ base
-  pub states_are : (table_of m.0).states ≡ states
-  pub offers : (table_of m.0).offers ≡ offered lane
+  pub is_table : m.0 ≡ Table (table_seen m.0)
+  pub number : (table_seen m.0).number ≡ lane.table
+  pub base_is : (table_seen m.0).base ≡ base
+  pub states_are : (table_seen m.0).states ≡ states
+  pub offers : (table_seen m.0).offers ≡ count_accepted lane
   pub carried : m.1 ≡ carried_by base vacant
 
 -- a table's seat on a board: the board has its places, and it sits there with them
@@ -72,7 +72,7 @@ out_places base states (suc n) = out_places base states n ++ place_if_out (base 
 -- The lane takes a piece that was fetched: where the ticket was withdrawn it answers so and stays as it
 -- was, and else it accepts the piece.
 abbrev pub Receives : LaneState → Ticketed → LaneState → Type 0
-Receives lane piece next = MatchBool (is_withdrawn lane piece.ticket.seq)
+Receives lane piece next = MatchBool (lane_withdrew lane piece.ticket.seq)
     ((next ≡ lane) × IsStep lane (Arrive piece) (reply.Arrived arrived.Withdrawn) next)
     (TakesInPiece lane piece next × IsStep lane (Arrive piece) (reply.Arrived arrived.Accepted) next)
 

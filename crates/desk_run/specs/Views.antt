@@ -1,6 +1,6 @@
 -- What the seats' views say.
 use Rattle.std.specs.Prelude.{ℕ, ◌+◌, ◌*◌, ◌==◌, Bool, false, List, [], ◌∷◌, ◌++◌, Option, None, Some, slice_set, replicate, count_by, sum_by}
-use Rattle.desk_run.specs.Counts.{times}
+use Rattle.desk_run.specs.Counts.{times_listed}
 use Rattle.desk_core.specs.declared.ticket.Ticket.{Ticket}
 use Rattle.riichi_hand.specs.declared.job.Job.{Job}
 use Rattle.desk_run.specs.declared.size.BoardSize.{BoardSize}
@@ -46,7 +46,7 @@ abbrev pub holders : ℕ → List View → ℕ
 holders p views = count_by (holds_at p) views
 
 abbrev pub finishes : Ticket → List View → ℕ
-finishes x views = sum_by (λ v. times x (finished_of v)) views
+finishes x views = sum_by (λ v. times_listed x (finished_of v)) views
 
 abbrev pub new_table : ℕ → BoardSize → TableView
 new_table n size = record { number = n; base = n * size.places; states = replicate size.places Fresh; offers = 0; lost = [] }

@@ -1,5 +1,5 @@
 ghost use Rattle.std.specs.Prelude.{◌≡◌, ◌+◌, ◌<◌};
-ghost use Rattle.desk_run.specs.Rule.{count_of};
+ghost use Rattle.desk_run.specs.Rule.{count_places};
 
 use crate::rule::Order;
 use crate::size::BoardSize;
@@ -14,7 +14,7 @@ pub struct Board {
     pub(crate) table: Table<Slot, View, BoardSize, Order, Global>,
     pub(crate) size: BoardSize,
     ghost keyed: { table.shared.key ≡ size },
-    ghost sized: { (table.shared.table_id.words ≡ 2 + count_of size) × (table.shared.table_id.slots ≡ count_of size) × (count_of size < 4096) },
+    ghost sized: { (table.shared.table_id.words ≡ 2 + count_places size) × (table.shared.table_id.slots ≡ count_places size) × (count_places size < 4096) },
 }
 
 impl Board {

@@ -5,7 +5,7 @@ ghost use Rattle.desk_core.specs.LaneState.{new_lane, with_job, CanTakeBack, Tak
 ghost use Rattle.desk_core.specs.GivesFirst.{GivesFirst};
 ghost use Rattle.desk_core.specs.Step.{IsStep};
 ghost use Rattle.desk_core.specs.Replies.{withdraw_reply};
-ghost use Rattle.desk_run.specs.LanePlaces.{Agrees, ticket, offered, outs};
+ghost use Rattle.desk_run.specs.LanePlaces.{Agrees, ticket, count_accepted, outs};
 ghost use Rattle.desk_run.specs.Sitting.{Receives};
 ghost use Rattle.desk_run.specs.Offers.{IsOfferFault, MayOffer};
 ghost use Rattle.desk_core.specs.declared.event.Event.TheVariants.{Submit, Close, Take, Withdraw};
@@ -56,7 +56,7 @@ impl LanePlaces {
     /// The place and the ticket of a new job.
     pub(crate) fn submit(&mut self, job: &Job) -> Result<(usize, Ticket), OfferFault>
         ensures ticket { IfOk result (λ r. r.1
-            ≡ ticket self.old.lane.table (offered self.old.lane)) }
+            ≡ ticket self.old.lane.table (count_accepted self.old.lane)) }
         ensures lane { IfOk result (λ r. self.new.lane ≡ with_job self.old.lane job.now) }
         ensures step { IfOk result (λ r. IsStep self.old.lane (Submit self.old.lane.table job.now)
             (reply.Ticket r.1) self.new.lane) }

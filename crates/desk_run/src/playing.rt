@@ -2,7 +2,7 @@
 ghost use Rattle.std.specs.Prelude.{◌≡◌, ◌≤◌, ℕ, [], IfOk, length, map, reverse, vec_capacity};
 ghost use Rattle.desk_run.specs.Parts.{AreNewTables};
 ghost use Rattle.desk_run.specs.Played.{values};
-ghost use Rattle.desk_run.specs.Players.{AreDone, lists_of};
+ghost use Rattle.desk_run.specs.Players.{AreDone, job_lists};
 ghost use Rattle.desk_run.specs.Runs.{AreValues};
 ghost use Rattle.desk_run.specs.Sitting.{board_name};
 
@@ -24,7 +24,7 @@ fn seat_all<'b>(
 ) -> Result<Vec<Player<'b>>, AllocError>
     requires tables { (places : ℕ) × AreNewTables (board_name board.now) places tables.items }
     requires count { length tables.items ≡ length jobs.now }
-    ensures { IfOk result (λ players. reverse (lists_of players.items)
+    ensures { IfOk result (λ players. reverse (job_lists players.items)
         ≡ map (λ list. list.items) jobs.now) }
 {
     let mut players = Vec::with_capacity(alloc, jobs.len())?;
@@ -40,7 +40,7 @@ fn seat_all<'b>(
 
 /// A turn of each player, and what all of them together came to.
 fn play_round(players: &mut Vec<Player>) -> Result<Turn, AllocError>
-    ensures lists { lists_of players.new.items ≡ lists_of players.old.items }
+    ensures lists { job_lists players.new.items ≡ job_lists players.old.items }
     ensures finished { IfOk result (λ round. round ≡ Turn.Finished
         → AreDone (length players.new.items) players.new.items) }
 {
@@ -57,7 +57,7 @@ fn answers_of(mut answers: Vec<Vec<Answer>>, mut players: Vec<Player>) -> Vec<Ve
     requires done { AreDone (length players.items) players.items }
     requires room { (answers.items ≡ []) × (length players.items ≤ vec_capacity answers) }
     ensures { map (λ given. given.items) result.items
-        ≡ reverse (map values (lists_of players.entry.items)) }
+        ≡ reverse (map values (job_lists players.entry.items)) }
 {
     for _ in 0..players.len() {
         let Some(player) = players.pop() else {

@@ -1,7 +1,7 @@
 //! Whole runs: the answers of many tables' jobs, with a thread for each worker.
 ghost use Rattle.std.specs.Prelude.{◌≡◌, ◌≢◌, ◌↔◌, ◌⊎◌, Err, IfOk, IsTrue, length, vec_len};
 ghost use Rattle.desk_run.specs.Runs.{IsRunnable, IsReady, AreValues};
-ghost use Rattle.desk_run.specs.Started.{MayStart, IsRefused};
+ghost use Rattle.desk_run.specs.Started.{MayStart, IsStartRefused};
 
 use crate::board::Board;
 use crate::gate::{Gate, NoGate};
@@ -91,7 +91,7 @@ pub fn run_tables_started<R: Threads + Wait + Sync, G: Gate + Send + Drop, S: St
     ensures memory { result ≡ Err RunFault.Memory
         → (start.new ≡ start.old) ⊎ MayStart S.asked (vec_len gates) start.old start.new }
     ensures thread { result ≡ Err RunFault.Thread
-        → IsRefused S.asked (vec_len gates) start.old start.new
+        → IsStartRefused S.asked (vec_len gates) start.old start.new
         ⊎ MayStart S.asked (vec_len gates) start.old start.new }
     ensures started { IfOk result (λ _. MayStart S.asked (vec_len gates) start.old start.new) }
     ensures values { IfOk result (λ answers. AreValues jobs.now answers.items) }

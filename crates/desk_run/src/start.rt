@@ -1,5 +1,5 @@
 ghost use Rattle.std.specs.Prelude.{◌≡◌, ℕ, Bool, true, false};
-ghost use Rattle.desk_run.specs.Started.{MayStart, IsRefused};
+ghost use Rattle.desk_run.specs.Started.{MayStart, IsStartRefused};
 
 /// What is asked before a worker is started.
 pub trait Start {
@@ -27,7 +27,7 @@ impl Start for Always {
 /// Asks for so many workers, in order from 0, until one may not be started. Answers whether each may.
 pub(crate) fn ask_all<S: Start>(start: &mut S, workers: u32) -> bool
     ensures started { result ≡ true → MayStart S.asked workers start.old start.new }
-    ensures refused { result ≡ false → IsRefused S.asked workers start.old start.new }
+    ensures refused { result ≡ false → IsStartRefused S.asked workers start.old start.new }
 {
     for worker in 0..workers {
         if !start.start(worker) {

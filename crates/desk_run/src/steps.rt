@@ -3,10 +3,10 @@ ghost use Rattle.std.specs.Prelude.{◌≡◌, ◌+◌, ◌<◌, ◌≤◌, ◌^
 ghost use mathlib.Core.Option.{some};
 ghost use lib.ListN.{get_elem?};
 ghost use Rattle.atomic_table.specs.Table.{rest};
-ghost use Rattle.desk_run.specs.Counts.{times};
-ghost use Rattle.desk_run.specs.Rule.{count_of};
+ghost use Rattle.desk_run.specs.Counts.{times_listed};
+ghost use Rattle.desk_run.specs.Rule.{count_places};
 ghost use Rattle.desk_run.specs.Views.{new_table, new_worker, with_state, offering, table_lost, holding, worker_lost, having_finished, looking};
-ghost use Rattle.desk_run.specs.Plays.{SeatState, Claims, Judges, FetchesAt, table_of, worker_of, stop_of};
+ghost use Rattle.desk_run.specs.Plays.{SeatState, Claims, Judges, FetchesAt, table_seen, worker_seen, stop_seen};
 ghost use Rattle.desk_run.specs.Seats.{board_id, IsTable, IsWorker, IsStop};
 ghost use Rattle.desk_run.specs.declared.place_state.PlaceState.TheVariants.{Fresh, Vacant, Out};
 ghost use Rattle.desk_run.specs.declared.view.View.TheVariants.{Entering, Table, Worker, Stop};
@@ -52,16 +52,16 @@ impl Board {
     )
         requires id { (seat.old.table_id ≡ board_id self.now)
             × (place < (board_id self.now).slots) }
-        requires table { IsTable seat.old.me × (place ≡ (table_of seat.old.me.0).base + _offset) }
-        requires vacant { get_elem? (table_of seat.old.me.0).states _offset ≡ some Vacant }
+        requires table { IsTable seat.old.me × (place ≡ (table_seen seat.old.me.0).base + _offset) }
+        requires vacant { get_elem? (table_seen seat.old.me.0).states _offset ≡ some Vacant }
         requires front { seat.old.me.1 ≡ (place, Empty) ∷ rest seat.old.me.1 }
-        requires ticket { (ticket.table ≡ (table_of seat.old.me.0).number)
-            × (ticket.seq ≡ (table_of seat.old.me.0).offers) }
+        requires ticket { (ticket.table ≡ (table_seen seat.old.me.0).number)
+            × (ticket.seq ≡ (table_seen seat.old.me.0).offers) }
         ensures id { seat.new.table_id ≡ seat.old.table_id }
         ensures me { seat.new.me
             ≡ (
               Table (offering
-                  (table_of seat.old.me.0) _offset ticket job.now),
+                  (table_seen seat.old.me.0) _offset ticket job.now),
               rest seat.old.me.1,
             ) }
     {
@@ -87,11 +87,11 @@ impl Board {
     pub(crate) fn looks_done(&self, seat: &mut Seat, place: usize, _offset: usize) -> bool
         requires id { (seat.old.table_id ≡ board_id self.now)
             × (place < (board_id self.now).slots) }
-        requires table { IsTable seat.old.me × (place ≡ (table_of seat.old.me.0).base + _offset) }
+        requires table { IsTable seat.old.me × (place ≡ (table_seen seat.old.me.0).base + _offset) }
         ensures id { seat.new.table_id ≡ seat.old.table_id }
         ensures done { result ≡ true → seat.new.me ≡ seat.old.me }
         ensures lost { result ≡ false
-            → seat.new.me ≡ (Table (table_lost (table_of seat.old.me.0) place), seat.old.me.1) }
+            → seat.new.me ≡ (Table (table_lost (table_seen seat.old.me.0) place), seat.old.me.1) }
     {
         self.table.shared.load::<SeeDone>(seat, FIRST + place) == DONE
     }
@@ -100,13 +100,13 @@ impl Board {
     pub(crate) fn fetch(&self, seat: &mut Seat, place: usize, offset: usize) -> bool
         requires id { (seat.old.table_id ≡ board_id self.now)
             × (place < (board_id self.now).slots) }
-        requires table { IsTable seat.old.me × (place ≡ (table_of seat.old.me.0).base + offset) }
+        requires table { IsTable seat.old.me × (place ≡ (table_seen seat.old.me.0).base + offset) }
         requires state { (state : _)
-            × (get_elem? (table_of seat.old.me.0).states offset ≡ some state) }
+            × (get_elem? (table_seen seat.old.me.0).states offset ≡ some state) }
         ensures id { seat.new.table_id ≡ seat.old.table_id }
         ensures done { result ≡ true → FetchesAt seat.old.me place offset seat.new.me }
         ensures lost { result ≡ false
-            → seat.new.me ≡ (Table (table_lost (table_of seat.old.me.0) place), seat.old.me.1) }
+            → seat.new.me ≡ (Table (table_lost (table_seen seat.old.me.0) place), seat.old.me.1) }
     {
         if !self.looks_done(seat, place, offset) {
             return false;
@@ -118,13 +118,13 @@ impl Board {
     fn fetch_done(&self, seat: &mut Seat, place: usize, _offset: usize) -> bool
         requires id { (seat.old.table_id ≡ board_id self.now)
             × (place < (board_id self.now).slots) }
-        requires table { IsTable seat.old.me × (place ≡ (table_of seat.old.me.0).base + _offset) }
+        requires table { IsTable seat.old.me × (place ≡ (table_seen seat.old.me.0).base + _offset) }
         requires state { (state : _)
-            × (get_elem? (table_of seat.old.me.0).states _offset ≡ some state) }
+            × (get_elem? (table_seen seat.old.me.0).states _offset ≡ some state) }
         ensures id { seat.new.table_id ≡ seat.old.table_id }
         ensures done { result ≡ true → FetchesAt seat.old.me place _offset seat.new.me }
         ensures lost { result ≡ false
-            → seat.new.me ≡ (Table (table_lost (table_of seat.old.me.0) place), seat.old.me.1) }
+            → seat.new.me ≡ (Table (table_lost (table_seen seat.old.me.0) place), seat.old.me.1) }
     {
         self.table
             .shared
@@ -138,9 +138,9 @@ impl Board {
         requires fetched { (m : SeatState) × FetchesAt m place _offset seat.old.me }
         ensures id { seat.new.table_id ≡ seat.old.table_id }
         ensures out { (m : SeatState) → FetchesAt m place _offset seat.old.me
-            → get_elem? (table_of m.0).states _offset ≡ some (Out result.ticket result.job) }
+            → get_elem? (table_seen m.0).states _offset ≡ some (Out result.ticket result.job) }
         ensures me { (m : SeatState) → FetchesAt m place _offset seat.old.me
-            → seat.new.me ≡ (Table (with_state (table_of m.0) _offset Vacant), (place, Empty) ∷ m.1) }
+            → seat.new.me ≡ (Table (with_state (table_seen m.0) _offset Vacant), (place, Empty) ∷ m.1) }
     {
         let slot = seat.slot_mut(&self.table.shared, place);
         let piece = slot.piece();
@@ -152,12 +152,12 @@ impl Board {
     pub(crate) fn take_up(&self, seat: &mut Seat, place: usize, _offset: usize)
         requires id { (seat.old.table_id ≡ board_id self.now)
             × (place < (board_id self.now).slots) }
-        requires table { IsTable seat.old.me × (place ≡ (table_of seat.old.me.0).base + _offset) }
-        requires fresh { get_elem? (table_of seat.old.me.0).states _offset ≡ some Fresh }
+        requires table { IsTable seat.old.me × (place ≡ (table_seen seat.old.me.0).base + _offset) }
+        requires fresh { get_elem? (table_seen seat.old.me.0).states _offset ≡ some Fresh }
         ensures id { seat.new.table_id ≡ seat.old.table_id }
         ensures me { seat.new.me
             ≡ (
-              Table (with_state (table_of seat.old.me.0) _offset Vacant),
+              Table (with_state (table_seen seat.old.me.0) _offset Vacant),
               (place, Empty) ∷ seat.old.me.1,
             ) }
     {
@@ -168,11 +168,11 @@ impl Board {
     pub(crate) fn looks_ready(&self, seat: &mut Seat, place: usize) -> bool
         requires id { (seat.old.table_id ≡ board_id self.now)
             × (place < (board_id self.now).slots) }
-        requires free { IsWorker seat.old.me × ((worker_of seat.old.me.0).held ≡ None) }
+        requires free { IsWorker seat.old.me × ((worker_seen seat.old.me.0).held ≡ None) }
         ensures id { seat.new.table_id ≡ seat.old.table_id }
         ensures ready { result ≡ true → seat.new.me ≡ seat.old.me }
         ensures lost { result ≡ false
-            → seat.new.me ≡ (Worker (worker_lost (worker_of seat.old.me.0) place), seat.old.me.1) }
+            → seat.new.me ≡ (Worker (worker_lost (worker_seen seat.old.me.0) place), seat.old.me.1) }
     {
         self.table.shared.load::<SeeReady>(seat, FIRST + place) == READY
     }
@@ -181,11 +181,11 @@ impl Board {
     pub(crate) fn claim(&self, seat: &mut Seat, place: usize) -> bool
         requires id { (seat.old.table_id ≡ board_id self.now)
             × (place < (board_id self.now).slots) }
-        requires free { IsWorker seat.old.me × ((worker_of seat.old.me.0).held ≡ None) }
+        requires free { IsWorker seat.old.me × ((worker_seen seat.old.me.0).held ≡ None) }
         ensures id { seat.new.table_id ≡ seat.old.table_id }
         ensures ready { result ≡ true → Claims seat.old.me place seat.new.me }
         ensures lost { result ≡ false
-            → seat.new.me ≡ (Worker (worker_lost (worker_of seat.old.me.0) place), seat.old.me.1) }
+            → seat.new.me ≡ (Worker (worker_lost (worker_seen seat.old.me.0) place), seat.old.me.1) }
     {
         if !self.looks_ready(seat, place) {
             return false;
@@ -197,11 +197,11 @@ impl Board {
     fn claim_ready(&self, seat: &mut Seat, place: usize) -> bool
         requires id { (seat.old.table_id ≡ board_id self.now)
             × (place < (board_id self.now).slots) }
-        requires free { IsWorker seat.old.me × ((worker_of seat.old.me.0).held ≡ None) }
+        requires free { IsWorker seat.old.me × ((worker_seen seat.old.me.0).held ≡ None) }
         ensures id { seat.new.table_id ≡ seat.old.table_id }
         ensures ready { result ≡ true → Claims seat.old.me place seat.new.me }
         ensures lost { result ≡ false
-            → seat.new.me ≡ (Worker (worker_lost (worker_of seat.old.me.0) place), seat.old.me.1) }
+            → seat.new.me ≡ (Worker (worker_lost (worker_seen seat.old.me.0) place), seat.old.me.1) }
     {
         self.table
             .shared
@@ -220,7 +220,7 @@ impl Board {
     pub(crate) fn try_claim(&self, seat: &mut Seat, place: usize) -> bool
         requires id { (seat.old.table_id ≡ board_id self.now)
             × (place < (board_id self.now).slots) }
-        requires free { IsWorker seat.old.me × ((worker_of seat.old.me.0).held ≡ None) }
+        requires free { IsWorker seat.old.me × ((worker_seen seat.old.me.0).held ≡ None) }
         ensures id { seat.new.table_id ≡ seat.old.table_id }
         ensures ready { result ≡ true → Claims seat.old.me place seat.new.me }
         ensures other { result ≡ false → seat.new.me ≡ seat.old.me }
@@ -256,9 +256,9 @@ impl Board {
         requires judged { (m : SeatState) × Judges m place _ticket seat.old.me }
         ensures id { seat.new.table_id ≡ seat.old.table_id }
         ensures me { (m : SeatState) → Judges m place _ticket seat.old.me
-            → seat.new.me ≡ (Worker (having_finished (worker_of m.0) _ticket), m.1) }
+            → seat.new.me ≡ (Worker (having_finished (worker_seen m.0) _ticket), m.1) }
         ensures once { (m : SeatState) → Judges m place _ticket seat.old.me
-            → times _ticket (worker_of m.0).finished ≡ 0 }
+            → times_listed _ticket (worker_seen m.0).finished ≡ 0 }
     {
         self.table.shared.store::<Finish>(seat, FIRST + place, DONE);
     }
@@ -272,7 +272,7 @@ impl Board {
             ≡ (
               Stop (record {
                 number =
-                    (stop_of seat.old.me.0).number;
+                    (stop_seen seat.old.me.0).number;
                 knows_stop = true;
               }),
               seat.old.me.1,
@@ -284,11 +284,11 @@ impl Board {
     /// One look at the stop word.
     pub(crate) fn look(&self, seat: &mut Seat) -> bool
         requires id { seat.old.table_id ≡ board_id self.now }
-        requires free { IsWorker seat.old.me × ((worker_of seat.old.me.0).held ≡ None) }
+        requires free { IsWorker seat.old.me × ((worker_seen seat.old.me.0).held ≡ None) }
         ensures id { seat.new.table_id ≡ seat.old.table_id }
         ensures me { seat.new.me
-            ≡ (Worker (looking (worker_of seat.old.me.0) result), seat.old.me.1) }
-        ensures always { (worker_of seat.old.me.0).knows_stop ≡ true → result ≡ true }
+            ≡ (Worker (looking (worker_seen seat.old.me.0) result), seat.old.me.1) }
+        ensures always { (worker_seen seat.old.me.0).knows_stop ≡ true → result ≡ true }
     {
         self.table.shared.load::<Look>(seat, STOP) == 1
     }

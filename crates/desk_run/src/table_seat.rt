@@ -5,9 +5,9 @@ ghost use Rattle.desk_core.specs.LaneState.{with_job, CanTakeBack, TakesBack};
 ghost use Rattle.desk_core.specs.GivesFirst.{GivesFirst};
 ghost use Rattle.desk_core.specs.Step.{IsStep};
 ghost use Rattle.desk_core.specs.Replies.{withdraw_reply};
-ghost use Rattle.desk_run.specs.LanePlaces.{ticket, offered, outs};
+ghost use Rattle.desk_run.specs.LanePlaces.{ticket, count_accepted, outs};
 ghost use Rattle.desk_run.specs.Offers.{IsOfferFault, MayOffer};
-ghost use Rattle.desk_run.specs.Plays.{SeatState, FetchesAt, table_of};
+ghost use Rattle.desk_run.specs.Plays.{SeatState, FetchesAt, table_seen};
 ghost use Rattle.desk_run.specs.Seats.{board_id};
 ghost use Rattle.desk_run.specs.Sitting.{Collects, Receives, out_places, place_if_out, board_name};
 ghost use Rattle.desk_run.specs.Views.{with_state};
@@ -63,7 +63,7 @@ impl TableSeat {
         requires { self.old.board ≡ board_name board.now }
         ensures same { (self.new.board ≡ self.old.board) × (self.new.base ≡ self.old.base)
             × (self.new.lost ≡ self.old.lost) }
-        ensures ticket { IfOk result (λ x. x ≡ ticket self.old.lane.table (offered self.old.lane)) }
+        ensures ticket { IfOk result (λ x. x ≡ ticket self.old.lane.table (count_accepted self.old.lane)) }
         ensures lane { IfOk result (λ _. self.new.lane ≡ with_job self.old.lane job) }
         ensures step { IfOk result (λ x. IsStep self.old.lane (Submit self.old.lane.table job)
             (reply.Ticket x) self.new.lane) }
@@ -182,10 +182,10 @@ impl TableSeat {
 fn take_in(own: &mut LanePlaces, board: &Board, seat: &mut Seat, place: usize, offset: usize)
     requires id { seat.old.table_id ≡ board_id board.now }
     requires fetched { (m : SeatState) × FetchesAt m place offset seat.old.me
-        × ((table_of m.0).states ≡ own.old.states.items) }
+        × ((table_seen m.0).states ≡ own.old.states.items) }
     ensures id { seat.new.table_id ≡ seat.old.table_id }
     ensures me { (m : SeatState) → FetchesAt m place offset seat.old.me
-        → seat.new.me ≡ (Table (with_state (table_of m.0) offset Vacant), (place, Empty) ∷ m.1) }
+        → seat.new.me ≡ (Table (with_state (table_seen m.0) offset Vacant), (place, Empty) ∷ m.1) }
     ensures taken { (piece : Ticketed)
         × (get_elem? own.old.states.items offset ≡ some (Out piece.ticket piece.job))
         × Receives own.old.lane piece own.new.lane }

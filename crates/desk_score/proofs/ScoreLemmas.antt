@@ -12,7 +12,7 @@ use Rattle.desk_lines.specs.Lines.{lines}
 use Rattle.desk_lines.specs.Numbered.{answers_shown}
 use Rattle.desk_lines.specs.Streams.{GivesAll, IsReadWithin}
 use Rattle.desk_lines.specs.Tables.{tables_from}
-use Rattle.desk_score.specs.Score.{score_by, head_of, name_of, score_report, AllGive}
+use Rattle.desk_score.specs.Score.{score_by, head_of, table_name, score_report, AllGive}
 
 module _ {R : Type 0} (source : OfSource R) where
   pub AllGive-last : (readers : List R) (texts : List (List ℕ)) (reader ended : R) (text : List ℕ) → AllGive source readers texts → GivesAll source reader ended text → IsReadWithin source reader ended
@@ -41,9 +41,9 @@ score_by-last names rules texts text =
     ∙ ap (λ n. score_by names rules texts ++ (head_of names n ++ answers text)) place
 
 -- each table has a name where names are told
-pub name_of-is_some : (names : Option (List (List ℕ))) (number : ℕ) → is_some (name_of names number) ≡ is_some names
-name_of-is_some None number = refl
-name_of-is_some (Some names) number = refl
+pub table_name-is_some : (names : Option (List (List ℕ))) (number : ℕ) → is_some (table_name names number) ≡ is_some names
+table_name-is_some None number = refl
+table_name-is_some (Some names) number = refl
 
 -- what holds of all holds of those before the last one, and of the last one
 module _ {X : Type 0} (P : X → Type 0) where

@@ -27,12 +27,12 @@ code_of Range = codes "B1"
 code_of Thread = codes "B4"
 
 -- a fault in words
-abbrev pub words_of : ScoreFault → List ℕ
-words_of Read = codes "the input can't be read, or has no end"
-words_of Write = codes "the answers can't be written"
-words_of Memory = codes "there is no memory"
-words_of Range = codes "there are too many files, or too many hands in one"
-words_of Thread = codes "there is no thread"
+abbrev pub score_fault_words : ScoreFault → List ℕ
+score_fault_words Read = codes "the input can't be read, or has no end"
+score_fault_words Write = codes "the answers can't be written"
+score_fault_words Memory = codes "there is no memory"
+score_fault_words Range = codes "there are too many files, or too many hands in one"
+score_fault_words Thread = codes "there is no thread"
 
 -- 2 where there was too much, 3 where input or output failed, 4 where there was no memory or no thread
 abbrev pub status_of : ScoreFault → ℕ

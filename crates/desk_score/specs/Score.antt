@@ -13,16 +13,16 @@ use Rattle.desk_lines.specs.Streams.{GivesAll, FailsOrGoesOn, IsReadWithin}
 use Rattle.desk_lines.specs.Tables.{head_line, tables_from, tables_text}
 
 -- the answers to each text, behind the number of its table; a text that sets no profile has the given one
-abbrev pub score_of : Rules → List (List ℕ) → List ℕ
-score_of given texts = tables_text (map (answers given) texts)
+abbrev pub tables_scored : Rules → List (List ℕ) → List ℕ
+tables_scored given texts = tables_text (map (answers given) texts)
 
 -- the name of a table, where the names of tables are told; one that isn't among them is empty
-abbrev pub name_of : Option (List (List ℕ)) → ℕ → Option (List ℕ)
-name_of names number = option_map (λ names. get_or names number []) names
+abbrev pub table_name : Option (List (List ℕ)) → ℕ → Option (List ℕ)
+table_name names number = option_map (λ names. get_or names number []) names
 
 -- the line that stands before the answers of a table
 abbrev pub head_of : Option (List (List ℕ)) → ℕ → List ℕ
-head_of names number = head_line number (name_of names number)
+head_of names number = head_line number (table_name names number)
 
 -- the same where the names of the tables may be told: each then stands behind the number of its table, and before each answer the number of its line
 abbrev pub score_by : Option (List (List ℕ)) → Rules → List (List ℕ) → List ℕ

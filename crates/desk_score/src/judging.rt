@@ -7,7 +7,7 @@ ghost use Rattle.desk_score.specs.Rounds.{judged_told, round_told};
 use crate::round::Round;
 use crate::score_fault::ScoreFault;
 use desk_core::Answer;
-use desk_lines::{UnmadeLine, texts_of};
+use desk_lines::{AnswerPart, texts_of};
 use desk_run::{RunFault, run_tables};
 use riichi_hand::Job;
 use std::alloc::{AllocError, Global};
@@ -29,7 +29,7 @@ fn places_of(sheets: usize) -> u32
 /// A round that was judged: the answers to its jobs.
 #[derive(Drop)]
 pub(crate) struct Judged {
-    lines: Vec<Vec<UnmadeLine>>,
+    lines: Vec<Vec<AnswerPart>>,
     answers: Vec<Vec<Answer>>,
 }
 

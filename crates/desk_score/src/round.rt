@@ -2,7 +2,7 @@
 ghost use Rattle.std.specs.Prelude.{◌≡◌, ◌<◌, ◌≤◌, ◌↔◌, [], ◌++◌, All, length, vec_len, IsTrue, OnOk};
 ghost use Rattle.desk_lines.specs.Sheets.{sheet_told};
 
-use desk_lines::{Sheet, UnmadeLine};
+use desk_lines::{AnswerPart, AnswerSheet};
 use riichi_hand::Job;
 use std::alloc::{AllocError, Global};
 
@@ -12,7 +12,7 @@ const SHEETS: usize = 8;
 /// At most eight sheets: what the lines of each are made of, and its jobs.
 #[derive(Drop)]
 pub(crate) struct Round {
-    pub(crate) lines: Vec<Vec<UnmadeLine>>,
+    pub(crate) lines: Vec<Vec<AnswerPart>>,
     pub(crate) jobs: Vec<Vec<Job>>,
 
     ghost paired: { length lines.items ≡ length jobs.items },
@@ -47,7 +47,7 @@ impl Round {
     }
 
     /// Adds a sheet.
-    pub(crate) fn add(&mut self, sheet: Sheet) -> Result<(), AllocError>
+    pub(crate) fn add(&mut self, sheet: AnswerSheet) -> Result<(), AllocError>
         requires { length self.old.jobs.items < SHEETS }
         ensures { OnOk result (round_told self.new ≡ round_told self.old ++ sheet_told sheet) }
     {

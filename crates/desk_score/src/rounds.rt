@@ -7,7 +7,7 @@ use crate::judging::{Judged, judge};
 use crate::round::Round;
 use crate::score_fault::ScoreFault;
 use crate::watch::Watch;
-use desk_lines::Sheet;
+use desk_lines::AnswerSheet;
 use std::alloc::Global;
 use std::mem::replace;
 use std::sync::Wait;
@@ -33,7 +33,7 @@ struct Rounds {
 pub(crate) fn texts_by<H: Threads + Wait + Sync, V: Watch>(
     rt: &H,
     alloc: Global,
-    sheets: Vec<Sheet>,
+    sheets: Vec<AnswerSheet>,
     workers: u32,
     watch: &V,
 ) -> Result<Vec<Vec<u8>>, ScoreFault>
@@ -75,7 +75,7 @@ impl Rounds {
         &mut self,
         rt: &H,
         watch: &V,
-        sheet: Sheet,
+        sheet: AnswerSheet,
     ) -> Result<(), ScoreFault>
         ensures told { OnOk result (rounds_told self.new
             ≡ rounds_told self.old ++ sheet_told sheet) }

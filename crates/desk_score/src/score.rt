@@ -3,7 +3,7 @@ ghost use Rattle.std.specs.Prelude.{◌≡◌, ◌≢◌, ◌↔◌, ◌⊎◌, 
 ghost use Rattle.desk_run.specs.Parts.{IsInRange};
 ghost use Rattle.desk_lines.specs.Sheets.{sheets_told};
 ghost use Rattle.desk_lines.specs.Streams.{WritesAll, StopsWriting};
-ghost use Rattle.desk_score.specs.Score.{score_by, score_of, score_report, AreWithinLimit, AllGive, StopsReading};
+ghost use Rattle.desk_score.specs.Score.{score_by, tables_scored, score_report, AreWithinLimit, AllGive, StopsReading};
 
 use crate::rounds::texts_by;
 use crate::score_fault::ScoreFault;
@@ -38,7 +38,7 @@ pub fn score_text<H: Threads + Wait + Sync, R: Source + Drop, W: Sink>(
     ensures ok { IfOk result (λ report. (texts : List (List ℕ))
         × AllGive ⟦<R as Source>⟧ readers.items texts
         × AreWithinLimit rules texts
-        × WritesAll ⟦<W as Sink>⟧ writer.old writer.new (score_of rules texts)
+        × WritesAll ⟦<W as Sink>⟧ writer.old writer.new (tables_scored rules texts)
         × (report ≡ score_report rules texts)) }
 
     // Numbers of readers and workers are tested before anything is read, numbers of jobs once all is read,
@@ -58,7 +58,7 @@ pub fn score_text<H: Threads + Wait + Sync, R: Source + Drop, W: Sink>(
     ensures write_failed { IsErrOf result ScoreFault.Write → (texts : List (List ℕ))
         × AllGive ⟦<R as Source>⟧ readers.items texts
         × AreWithinLimit rules texts
-        × StopsWriting ⟦<W as Sink>⟧ writer.old writer.new (score_of rules texts) }
+        × StopsWriting ⟦<W as Sink>⟧ writer.old writer.new (tables_scored rules texts) }
 {
     score_text_with(rt, alloc, rules, None, readers, workers, &Unwatched, writer)
 }

@@ -26,7 +26,7 @@ pub enum ScoreFault {
 
 impl ScoreFault {
     ghost use Rattle.std.specs.Prelude.{◌≡◌};
-    ghost use Rattle.desk_score.specs.Faults.{code_of, words_of, status_of};
+    ghost use Rattle.desk_score.specs.Faults.{code_of, score_fault_words, status_of};
 
     /// The code of the fault, as the program writes it on standard error.
     pub fn code(self) -> &'static str
@@ -43,7 +43,7 @@ impl ScoreFault {
 
     /// The fault in words, as the command `help-codes` has them.
     pub fn words(self) -> &'static str
-        ensures { result.now ≡ words_of self }
+        ensures { result.now ≡ score_fault_words self }
     {
         match self {
             ScoreFault::Read => "the input can't be read, or has no end",

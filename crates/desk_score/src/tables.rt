@@ -7,12 +7,12 @@ ghost use Rattle.desk_lines.specs.LineAnswers.{report_on};
 ghost use Rattle.desk_lines.specs.Numbered.{answers_shown};
 ghost use Rattle.desk_lines.specs.Sheets.{sheets_told};
 ghost use Rattle.desk_lines.specs.Streams.{FailsOrGoesOn, GivesAll, IsReadWithin};
-ghost use Rattle.desk_score.specs.Score.{AllGive, StopsReading, head_of, name_of};
+ghost use Rattle.desk_score.specs.Score.{AllGive, StopsReading, head_of, table_name};
 ghost use Rattle.desk_score.specs.Tables.{AreRead};
 
 use crate::score_fault::ScoreFault;
 use desk_core::LIMIT;
-use desk_lines::{Collected, DeskReport, Sheet, collect_text};
+use desk_lines::{AnswerSheet, Collected, DeskReport, collect_text};
 use desk_streams::Source;
 use riichi_hand::Rules;
 use std::alloc::Global;
@@ -21,7 +21,7 @@ use std::alloc::Global;
 #[derive(Drop)]
 pub(crate) struct Tables {
     /// Their answer lines, behind the line with the number of each.
-    pub(crate) sheets: Vec<Sheet>,
+    pub(crate) sheets: Vec<AnswerSheet>,
     /// How many tables there are.
     count: usize,
     /// Whether no table has more jobs than it may submit.
@@ -120,7 +120,7 @@ impl Tables {
 /// The name of a table, where names are given. One that isn't among them is empty.
 fn name_at<'a>(names: Option<&'a [&'a str]>, number: usize) -> Option<&'a str>
     ensures { option_map (λ name. name.now) result
-        ≡ name_of (option_map (λ names. map (λ name. name.now) names.now) names.entry) number }
+        ≡ table_name (option_map (λ names. map (λ name. name.now) names.now) names.entry) number }
 {
     match names?.get(number) {
         Some(name) => Some(*name),

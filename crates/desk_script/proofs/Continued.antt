@@ -5,7 +5,7 @@ use Rattle.std.proofs.lemmas.List.Elements.{filter_map-append}
 use Rattle.desk_core.proofs.Continued.{CanGoOn-legal}
 use Rattle.desk_core.specs.History.{Turn, IsLegal}
 use Rattle.desk_core.specs.declared.event.Event.{Event}
-use Rattle.desk_script.specs.declared.asked.Asked.{Asked}
+use Rattle.desk_script.specs.declared.line_request.LineRequest.{LineRequest}
 use Rattle.desk_script.specs.Asked.{asked_from, names_after, asked_on, event_in, events_of}
 use Rattle.desk_script.specs.Texts.{told_text}
 use Rattle.desk_script.specs.Replay.{told_with, Replays}
@@ -23,7 +23,7 @@ replay_goes_on lines others answers one =
     let turns_are : zip (events_of (asked_on (lines ++ others))) replies ≡ zip (events_of asked) one.replies ++ zip (events_of next) on.0 =
     ap (λ (es : List Event). zip es replies) events_are ∙ zip-append (events_of asked) (events_of next) one.replies on.0 one.replied.count in
     let told_are : told_with (asked_on (lines ++ others)) replies ≡ told_with asked one.replies ++ told_with next on.0 =
-    ap (λ (a : List Asked). told_with a replies) asked_is ∙ told_with-append asked next one.replies on.0 one.replied.count in (
+    ap (λ (a : List LineRequest). told_with a replies) asked_is ∙ told_with-append asked next one.replies on.0 one.replied.count in (
       filter_map told_text (told_with next on.0),
       record {
         replies = replies;

@@ -8,8 +8,8 @@ use Rattle.desk_core.specs.declared.reply.Reply.{Reply}
 use Rattle.desk_core.specs.declared.reply.Reply.TheVariants as reply
 use Rattle.desk_core.specs.declared.refusal.SubmitFault.TheVariants as fault
 use Rattle.desk_script.specs.declared.told.Told.TheVariants as tell
-use Rattle.desk_script.specs.declared.asked.Asked.{Asked}
-use Rattle.desk_script.specs.declared.asked.Asked.TheVariants as ask
+use Rattle.desk_script.specs.declared.line_request.LineRequest.{LineRequest}
+use Rattle.desk_script.specs.declared.line_request.LineRequest.TheVariants as ask
 use Rattle.desk_script.specs.Asked.{asked_on, events_of}
 use Rattle.desk_script.specs.Texts.{told_text, reply_text}
 use Rattle.desk_script.specs.Replay.{told_with, Replays}
@@ -31,7 +31,7 @@ unfolding told_text
 replied_text replied = refl
 
 -- so no reply is one
-no_want : (asked : List Asked) (replies : List Reply) → length replies ≡ length (events_of asked) → AllByRecursion NoWant (filter_map told_text (told_with asked replies))
+no_want : (asked : List LineRequest) (replies : List Reply) → length replies ≡ length (events_of asked) → AllByRecursion NoWant (filter_map told_text (told_with asked replies))
     → AllByRecursion (λ r. ¬ NoMemory r) replies
 no_want [] [] same all = tt
 no_want [] (first ∷ replies) same all = absurd (omega arith)

@@ -9,8 +9,8 @@ use Rattle.desk_core.specs.declared.reply.Reply.{Reply}
 use Rattle.desk_script.specs.declared.refusal.Refusal.TheVariants.{NoCommand}
 use Rattle.desk_script.specs.declared.told.Told.{Told}
 use Rattle.desk_script.specs.declared.told.Told.TheVariants as tell
-use Rattle.desk_script.specs.declared.asked.Asked.{Asked}
-use Rattle.desk_script.specs.declared.asked.Asked.TheVariants as ask
+use Rattle.desk_script.specs.declared.line_request.LineRequest.{LineRequest}
+use Rattle.desk_script.specs.declared.line_request.LineRequest.TheVariants as ask
 use Rattle.desk_script.specs.Asked.{asked_by, names_by, names_from, asked_from, names_after, asked_on, event_in, events_of, opens, refused}
 use Rattle.desk_script.specs.Replay.{told_with, ScriptState, Tells}
 use Rattle.desk_core.proofs.Lists.{zip-append}
@@ -23,7 +23,7 @@ pub asked_from-append : (names lines others : List (List ℕ)) → asked_from na
 asked_from-append names [] others = refl
 asked_from-append names (line ∷ lines) others = ap (λ rest. asked_by names line ∷ rest) (asked_from-append (names_by names line) lines others)
 
-pub told_with-append : (asked others : List Asked) (replies more : List Reply) → length replies ≡ length (events_of asked) → told_with (asked ++ others) (replies ++ more) ≡ told_with asked replies ++ told_with others more
+pub told_with-append : (asked others : List LineRequest) (replies more : List Reply) → length replies ≡ length (events_of asked) → told_with (asked ++ others) (replies ++ more) ≡ told_with asked replies ++ told_with others more
 told_with-append [] others [] more same = refl
 told_with-append [] others (reply ∷ replies) more same = absurd (omega arith)
 told_with-append (ask.Told told ∷ asked) others replies more same = ap (λ rest. told ∷ rest) (told_with-append asked others replies more same)
@@ -37,14 +37,14 @@ pub asked_on-last : (lines : List (List ℕ)) (line : List ℕ) → asked_on (li
 asked_on-last lines line = asked_from-append [] lines (line ∷ [])
 
 -- one more line: what it asks, the desk's replies to that, and its answer
-pub Tells-line : (old new : ScriptState) (lines : List (List ℕ)) (before : List Told) (line : List ℕ) (asked : Asked) (more : List Reply) (told : Told) → Tells old lines before
+pub Tells-line : (old new : ScriptState) (lines : List (List ℕ)) (before : List Told) (line : List ℕ) (asked : LineRequest) (more : List Reply) (told : Told) → Tells old lines before
     → asked ≡ asked_by old.names line → new.names ≡ names_by old.names line → length more ≡ length (events_of (asked ∷ [])) → told_with (asked ∷ []) more ≡ told ∷ []
     → IsDeskRun old.lanes (zip (events_of (asked ∷ [])) more) new.lanes → length new.lanes ≡ length old.lanes
     → Tells new (lines ++ line ∷ []) (before ++ told ∷ [])
 Tells-line old new lines before line asked more told tells asks names as_many is_told run tables =
     let so_far = asked_on lines in
     let asked_is : asked_on (lines ++ line ∷ []) ≡ so_far ++ asked ∷ [] =
-    asked_on-last lines line ∙ ap (λ (n : List (List ℕ)). so_far ++ asked_by n line ∷ []) (sym tells.names) ∙ ap (λ (a : Asked). so_far ++ a ∷ []) (sym asks) in
+    asked_on-last lines line ∙ ap (λ (n : List (List ℕ)). so_far ++ asked_by n line ∷ []) (sym tells.names) ∙ ap (λ (a : LineRequest). so_far ++ a ∷ []) (sym asks) in
     let events_are : events_of (asked_on (lines ++ line ∷ [])) ≡ events_of so_far ++ events_of (asked ∷ []) = ap events_of asked_is ∙ filter_map-append event_in so_far (asked ∷ []) in
     let turns_are : zip (events_of (asked_on (lines ++ line ∷ []))) (tells.replies ++ more) ≡ zip (events_of so_far) tells.replies ++ zip (events_of (asked ∷ [])) more =
     ap (λ es. zip es (tells.replies ++ more)) events_are ∙ zip-append (events_of so_far) (events_of (asked ∷ [])) tells.replies more tells.count in record {
@@ -62,7 +62,7 @@ asked_by-long : (names : List (List ℕ)) (line : List ℕ) → 8192 < length li
 unfolding asked_by
 asked_by-long names line long = rw (lt-ltb 8192 (length line) long) refl
 
-abbrev is_table : Asked → Bool
+abbrev is_table : LineRequest → Bool
 is_table (ask.Told (tell.Table number)) = true
 is_table asked = false
 
@@ -82,11 +82,11 @@ Tells-alike script lines told line other long longer tells =
     let same_names : names_after (lines ++ line ∷ []) ≡ names_after (lines ++ other ∷ []) =
     names_after-last lines line ∙ names_by-long names line long ∙ sym (names_by-long names other longer) ∙ sym (names_after-last lines other) in
     let same_asked : asked_on (lines ++ line ∷ []) ≡ asked_on (lines ++ other ∷ []) =
-    asked_on-last lines line ∙ ap (λ (a : Asked). asked_on lines ++ a ∷ []) (asked_by-long names line long ∙ sym (asked_by-long names other longer)) ∙ sym (asked_on-last lines other) in record {
+    asked_on-last lines line ∙ ap (λ (a : LineRequest). asked_on lines ++ a ∷ []) (asked_by-long names line long ∙ sym (asked_by-long names other longer)) ∙ sym (asked_on-last lines other) in record {
       replies = tells.replies;
-      count = tells.count ∙ ap (λ (a : List Asked). length (events_of a)) same_asked;
+      count = tells.count ∙ ap (λ (a : List LineRequest). length (events_of a)) same_asked;
       names = tells.names ∙ same_names;
-      desk = subst (λ (a : List Asked). DeskStandsFor script.lanes (zip (events_of a) tells.replies)) same_asked tells.desk;
+      desk = subst (λ (a : List LineRequest). DeskStandsFor script.lanes (zip (events_of a) tells.replies)) same_asked tells.desk;
       tables = tells.tables;
-      told_are = tells.told_are ∙ ap (λ (a : List Asked). told_with a tells.replies) same_asked;
+      told_are = tells.told_are ∙ ap (λ (a : List LineRequest). told_with a tells.replies) same_asked;
     }

@@ -22,16 +22,16 @@ abbrev pub alone : Action → List ℕ → Option (Action × List ℕ)
 alone action rest = alone_at action (without_spaces rest)
 
 -- a record stands behind: all from the first byte that is no space, and that isn't `#`
-abbrev pub with_job_at : Action → List ℕ → Option (Action × List ℕ)
-with_job_at action [] = None
-with_job_at action (byte ∷ bytes) = if is_comment (byte ∷ bytes) then None else Some (action, byte ∷ bytes)
+abbrev pub action_with_job_at : Action → List ℕ → Option (Action × List ℕ)
+action_with_job_at action [] = None
+action_with_job_at action (byte ∷ bytes) = if is_comment (byte ∷ bytes) then None else Some (action, byte ∷ bytes)
 
-abbrev pub with_job : Action → List ℕ → Option (Action × List ℕ)
-with_job action rest = with_job_at action (without_spaces rest)
+abbrev pub action_with_job : Action → List ℕ → Option (Action × List ℕ)
+action_with_job action rest = action_with_job_at action (without_spaces rest)
 
 abbrev pub arrival : Option ℕ → List ℕ → Option (Action × List ℕ)
 arrival None rest = None
-arrival (Some seq) rest = with_job (Arrive seq) rest
+arrival (Some seq) rest = action_with_job (Arrive seq) rest
 
 abbrev pub withdrawal : Option ℕ → List ℕ → Option (Action × List ℕ)
 withdrawal None rest = None
@@ -41,7 +41,7 @@ withdrawal (Some seq) rest = alone (Withdraw seq) rest
 abbrev pub by_word : List ℕ → List ℕ → Option (Action × List ℕ)
 by_word word rest =
     if bytes_eq word (codes "open") then alone Open rest
-    else if bytes_eq word (codes "submit") then with_job Submit rest
+    else if bytes_eq word (codes "submit") then action_with_job Submit rest
     else if bytes_eq word (codes "arrive") then arrival (seq_of (first_word rest)) (after_word rest)
     else if bytes_eq word (codes "close") then alone Close rest
     else if bytes_eq word (codes "take") then alone Take rest

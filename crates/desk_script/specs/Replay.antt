@@ -7,13 +7,13 @@ use Rattle.desk_core.specs.Desk.{DeskStandsFor}
 use Rattle.desk_core.specs.declared.reply.Reply.{Reply}
 use Rattle.desk_script.specs.declared.told.Told.{Told}
 use Rattle.desk_script.specs.declared.told.Told.TheVariants as tell
-use Rattle.desk_script.specs.declared.asked.Asked.{Asked}
-use Rattle.desk_script.specs.declared.asked.Asked.TheVariants as ask
+use Rattle.desk_script.specs.declared.line_request.LineRequest.{LineRequest}
+use Rattle.desk_script.specs.declared.line_request.LineRequest.TheVariants as ask
 use Rattle.desk_script.specs.Asked.{names_after, asked_on, events_of}
 use Rattle.desk_script.specs.Texts.{told_text}
 
 -- the answers to lines that ask this, where the desk gave these replies to what it was asked
-abbrev pub told_with : List Asked → List Reply → List Told
+abbrev pub told_with : List LineRequest → List Reply → List Told
 told_with [] replies = []
 told_with (ask.Told told ∷ others) replies = told ∷ told_with others replies
 told_with (ask.Event event ∷ others) [] = []

@@ -4,8 +4,8 @@ ghost use Rattle.desk_script.specs.Said.{said_of};
 ghost use Rattle.desk_script.specs.Asked.{asked_by, names_by, asked_of_command, names_of_command, asked_at, piece_of, refused, opens};
 
 use crate::action::Action;
-use crate::asked::Asked;
 use crate::command::{Command, read_command};
+use crate::line_request::LineRequest;
 use crate::names::Names;
 use crate::refusal::Refusal;
 use crate::told::Told;
@@ -25,7 +25,7 @@ pub(crate) fn ask<S: RowSource>(
     names: &mut Names,
     line: &[u8],
     source: &mut S,
-) -> Result<Asked, AllocError>
+) -> Result<LineRequest, AllocError>
     ensures asked { IfOk result (λ asked. asked ≡ asked_by names.old line.now) }
     ensures names { OnOk result (names.new ≡ names_by names.old line.now) }
     ensures err { OnErr result ((names.new ≡ names.old)
@@ -35,7 +35,7 @@ pub(crate) fn ask<S: RowSource>(
         return Ok(refused(Refusal::NoCommand));
     }
     if is_blank(line) {
-        return Ok(Asked::Told(Told::Nothing));
+        return Ok(LineRequest::Told(Told::Nothing));
     }
     match read_command(line) {
         None => Ok(refused(Refusal::NoCommand)),
@@ -48,7 +48,7 @@ fn ask_command<S: RowSource>(
     names: &mut Names,
     command: &Command<'_>,
     source: &mut S,
-) -> Result<Asked, AllocError>
+) -> Result<LineRequest, AllocError>
     ensures asked { IfOk result (λ asked. asked
         ≡ asked_of_command names.old (Some (said_of command.now))) }
     ensures names { OnOk result (names.new
@@ -60,7 +60,7 @@ fn ask_command<S: RowSource>(
         Some(table) => Ok(ask_table(table, command.action, command.job_line, source)),
         None => match command.action {
             Action::Open => Ok(match names.open(command.name)? {
-                Some(number) => Asked::Told(Told::Table(number)),
+                Some(number) => LineRequest::Told(Told::Table(number)),
                 None => refused(Refusal::AllOpen),
             }),
             _ => Ok(refused(Refusal::NotOpen)),
@@ -69,24 +69,29 @@ fn ask_command<S: RowSource>(
 }
 
 /// What a command asks of a table that is open.
-fn ask_table<S: RowSource>(table: u32, action: Action, job_line: &[u8], source: &mut S) -> Asked
+fn ask_table<S: RowSource>(
+    table: u32,
+    action: Action,
+    job_line: &[u8],
+    source: &mut S,
+) -> LineRequest
     ensures { result ≡ asked_at table action job_line.now }
 {
     match action {
         Action::Open => refused(Refusal::OpenAlready),
         Action::Submit => match read_line(Rules::One, job_line) {
-            Ok(Some(job)) => Asked::Event(submit(table, &job)),
+            Ok(Some(job)) => LineRequest::Event(submit(table, &job)),
             Ok(None) => refused(Refusal::NoCommand),
             Err(fault) => refused(Refusal::Record(fault)),
         },
         Action::Arrive { seq } => match read_line(Rules::One, job_line) {
-            Ok(Some(job)) => Asked::Event(arrive(table, seq, &job, source)),
+            Ok(Some(job)) => LineRequest::Event(arrive(table, seq, &job, source)),
             Ok(None) => refused(Refusal::NoCommand),
             Err(fault) => refused(Refusal::Record(fault)),
         },
-        Action::Close => Asked::Event(Event::Close { table }),
-        Action::Take => Asked::Event(Event::Take { table }),
-        Action::Withdraw { seq } => Asked::Event(Event::Withdraw(Ticket { table, seq })),
+        Action::Close => LineRequest::Event(Event::Close { table }),
+        Action::Take => LineRequest::Event(Event::Take { table }),
+        Action::Withdraw { seq } => LineRequest::Event(Event::Withdraw(Ticket { table, seq })),
     }
 }
 
@@ -102,8 +107,8 @@ fn arrive<S: RowSource>(table: u32, seq: u32, job: &Job, source: &mut S) -> Even
     Event::Arrive(Piece::score_with(source, Ticket { table, seq }, *job))
 }
 
-fn refused(refusal: Refusal) -> Asked
+fn refused(refusal: Refusal) -> LineRequest
     ensures { result ≡ refused refusal }
 {
-    Asked::Told(Told::Refused(refusal))
+    LineRequest::Told(Told::Refused(refusal))
 }

@@ -1,6 +1,6 @@
 //! The commands of a script.
 ghost use Rattle.std.specs.Prelude.{◌≡◌, MatchOption, None, Some};
-ghost use Rattle.desk_script.specs.Commands.{command_of, by_word, alone, with_job};
+ghost use Rattle.desk_script.specs.Commands.{command_of, by_word, alone, action_with_job};
 ghost use Rattle.desk_script.specs.Said.{said_of};
 
 use crate::action::Action;
@@ -77,8 +77,8 @@ fn alone(action: Action, rest: &[u8]) -> Option<(Action, &[u8])>
 
 /// An action with a record line, which begins at a byte other than a space and `#`.
 fn with_job(action: Action, rest: &[u8]) -> Option<(Action, &[u8])>
-    ensures { MatchOption result (with_job action rest.now ≡ None)
-        (λ c. with_job action rest.now ≡ Some (c.0, c.1.now)) }
+    ensures { MatchOption result (action_with_job action rest.now ≡ None)
+        (λ c. action_with_job action rest.now ≡ Some (c.0, c.1.now)) }
 {
     let job_line = without_spaces(rest);
     match job_line {

@@ -1,6 +1,6 @@
 //! Laws of the definitions that the contracts cite.
 ghost use Rattle.std.specs.Prelude.{◌≡◌, ℕ, List, ◌∷◌, ◌++◌};
-ghost use Rattle.desk_script.specs.declared.asked.Asked.{Asked};
+ghost use Rattle.desk_script.specs.declared.line_request.LineRequest.{LineRequest};
 ghost use Rattle.desk_script.specs.Asked.{asked_by, asked_on, names_after};
 ghost use Rattle.desk_script.specs.OpenTables.{open_tables};
 ghost use Rattle.desk_script.specs.Replay.{Replays};
@@ -18,6 +18,6 @@ pub fn open_tables_are_the_first_said()
 
 /// A line asks what it says of the tables that the lines before it have opened, whatever comes after it.
 pub fn each_line_asks_of_the_tables_before_it()
-    ensures { (front rest : List (List ℕ)) (line : List ℕ) → (others : List Asked)
+    ensures { (front rest : List (List ℕ)) (line : List ℕ) → (others : List LineRequest)
         × (asked_on (front ++ line ∷ rest) ≡ asked_on front ++ asked_by (open_tables front) line ∷ others) }
 {}

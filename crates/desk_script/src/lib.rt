@@ -17,11 +17,11 @@
 #![tactic(auto)]
 
 mod action;
-mod asked;
 mod asking;
 mod command;
 mod decided;
 pub mod laws;
+mod line_request;
 mod names;
 mod refusal;
 mod script;

@@ -4,8 +4,8 @@ ghost use Rattle.desk_script.specs.Asked.{asked_by, opens};
 ghost use Rattle.desk_script.specs.Replay.{Tells, AnswersLine};
 ghost use Rattle.desk_script.specs.Texts.{bytes_of};
 
-use crate::asked::Asked;
 use crate::asking::ask;
+use crate::line_request::LineRequest;
 use crate::names::Names;
 use crate::text::{LONGEST, told_text};
 use crate::told::Told;
@@ -73,8 +73,8 @@ impl Script {
             × (asked_by self.old.names line.now ≡ opens self.old.names)) }
     {
         match ask(&mut self.names, line, source)? {
-            Asked::Told(told) => Ok(told_text(&told)),
-            Asked::Event(event) => {
+            LineRequest::Told(told) => Ok(told_text(&told)),
+            LineRequest::Event(event) => {
                 let told = Told::Replied(self.core.step(event));
                 Ok(told_text(&told))
             }

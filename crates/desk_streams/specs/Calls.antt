@@ -31,10 +31,10 @@ failed_writes (Ok zero) [] = 0
 failed_writes (Ok (suc count)) bytes = 0
 
 -- calls are counted from 1, so that none has the number 0
-abbrev pub counted : Option ℕ → Option ℕ
-counted None = None
-counted (Some zero) = None
-counted (Some (suc number)) = Some (suc number)
+abbrev pub call_number : Option ℕ → Option ℕ
+call_number None = None
+call_number (Some zero) = None
+call_number (Some (suc number)) = Some (suc number)
 
 -- the number of a call that comes after these calls, where one is to come
 abbrev pub call_after : ℕ → ℕ → Option ℕ

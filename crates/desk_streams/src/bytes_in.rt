@@ -18,7 +18,7 @@ pub struct BytesIn<'a> {
 
 impl<'a> BytesIn<'a> {
     ghost use Rattle.desk_streams.specs.BytesIn.{failing_read, most_read};
-    ghost use Rattle.desk_streams.specs.Calls.{counted};
+    ghost use Rattle.desk_streams.specs.Calls.{call_number};
 
     /// At most `most` bytes a read. The read of the number `failing`, counted from 1, fails.
     pub fn new(bytes: &'a [u8], most: usize, failing: Option<u64>) -> BytesIn<'a>
@@ -28,7 +28,7 @@ impl<'a> BytesIn<'a> {
         ensures calls { ⟦<BytesIn<'a> as Source>⟧.calls result ≡ 0 }
         ensures failures { ⟦<BytesIn<'a> as Source>⟧.failures result ≡ 0 }
         ensures ends { ⟦<BytesIn<'a> as Source>⟧.ends result ≡ 0 }
-        ensures failing { failing_read result ≡ counted failing }
+        ensures failing { failing_read result ≡ call_number failing }
         ensures most { most_read result ≡ most }
     {
         BytesIn {

@@ -18,7 +18,7 @@ pub struct BytesOut<const N: usize> {
 
 impl<const N: usize> BytesOut<N> {
     ghost use Rattle.desk_streams.specs.BytesOut.{failing_write, most_written};
-    ghost use Rattle.desk_streams.specs.Calls.{counted};
+    ghost use Rattle.desk_streams.specs.Calls.{call_number};
 
     /// At most `most` bytes a write. The write of the number `failing`, counted from 1, fails.
     pub fn new(most: usize, failing: Option<u64>) -> BytesOut<N>
@@ -26,7 +26,7 @@ impl<const N: usize> BytesOut<N> {
         ensures contents { ⟦<BytesOut<N> as Sink>⟧.contents result ≡ Some [] }
         ensures calls { ⟦<BytesOut<N> as Sink>⟧.calls result ≡ 0 }
         ensures failures { ⟦<BytesOut<N> as Sink>⟧.failures result ≡ 0 }
-        ensures failing { failing_write result ≡ counted failing }
+        ensures failing { failing_write result ≡ call_number failing }
         ensures most { most_written result ≡ most }
     {
         BytesOut {

@@ -5,7 +5,7 @@ use Rattle.riichi_arrays.specs.Hands.{hand_in, no_melds, no_tiles, shape_in}
 use Rattle.riichi_arrays.specs.declared.acceptance.ShapeRow.{ShapeRow}
 use Rattle.riichi_arrays.specs.declared.removal.DiscardsRow.{DiscardsRow}
 use Rattle.riichi_hand.specs.HandParts.{HandParts, ShapeParts}
-use Rattle.riichi_shape.specs.Answer.{shape_of}
+use Rattle.riichi_shape.specs.Answer.{shape_answer_of}
 use Rattle.riichi_shape.specs.EveryWinning.{shanten_of}
 use Rattle.riichi_shape.specs.KeptDiscards.{kinds_in}
 use Rattle.riichi_shape.specs.LiveCopies.{copies_from, live_in}
@@ -49,7 +49,7 @@ shape_told shanten (Fourteen discards) = no_shape
 -- the parts of the answer to thirteen tiles
 abbrev pub shape_by : Option ShapeParts → ShapeRow
 shape_by None = no_shape
-shape_by (Some parts) = shape_told (shape_of parts).shanten (shape_of parts).accepts
+shape_by (Some parts) = shape_told (shape_answer_of parts).shanten (shape_answer_of parts).accepts
 
 -- what is told of a row
 abbrev pub told_shape : List (List ℕ) → List (List ℕ) → List (List ℕ) → ℕ → ShapeRow
@@ -80,7 +80,7 @@ discards_told shanten (Fourteen discards) = discards_row shanten discards
 -- the parts of the answer to fourteen tiles
 abbrev pub discards_by : Option ShapeParts → DiscardsRow
 discards_by None = discards_row no_hand []
-discards_by (Some parts) = discards_told (shape_of parts).shanten (shape_of parts).accepts
+discards_by (Some parts) = discards_told (shape_answer_of parts).shanten (shape_answer_of parts).accepts
 
 abbrev pub told_discards : List (List ℕ) → List (List ℕ) → List (List ℕ) → ℕ → DiscardsRow
 told_discards counts melds seen row = discards_by (shape_at counts melds seen row)

@@ -21,14 +21,14 @@ abbrev pub meld_sorted : ℕ → ℕ → Meld
 meld_sorted sort kind = if sort == 0 then Chi kind else if sort == 1 then Pon kind else if sort == 2 then Kan kind else Ankan kind
 
 -- a byte has the sort in its upper two bits, and one more than the kind in the lower six
-abbrev pub meld_of : ℕ → Meld
-meld_of byte = meld_sorted (byte / 64) (byte % 64 - 1)
+abbrev pub meld_coded : ℕ → Meld
+meld_coded byte = meld_sorted (byte / 64) (byte % 64 - 1)
 
 abbrev pub names_meld : ℕ → Bool
-names_meld byte = nat_lt 0 (byte % 64) && nat_le (byte % 64) 34 && is_meld (meld_of byte)
+names_meld byte = nat_lt 0 (byte % 64) && nat_le (byte % 64) 34 && is_meld (meld_coded byte)
 
 abbrev pub meld_in : ℕ → Option Meld
-meld_in byte = if names_meld byte then Some (meld_of byte) else None
+meld_in byte = if names_meld byte then Some (meld_coded byte) else None
 
 abbrev pub meld_before : Option Meld → Option (List Meld) → Option (List Meld)
 meld_before None melds = None

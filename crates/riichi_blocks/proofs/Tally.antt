@@ -11,7 +11,7 @@ use Rattle.std.proofs.lemmas.Bool.{lt-ltb}
 use Rattle.std.proofs.lemmas.Bool.Decides.{eqb_tells}
 use Rattle.riichi_blocks.specs.declared.hand_block.HandBlock.{HandBlock}
 use Rattle.riichi_blocks.specs.declared.hand_block.HandBlock.TheVariants.{Run, Triplet, Kong}
-use Rattle.riichi_blocks.specs.HandBlocks.{is_run, is_run_from, is_triplet_or_kong, is_triplet_of, is_concealed_triplet, is_kong}
+use Rattle.riichi_blocks.specs.HandBlocks.{is_run, is_run_from, is_triplet_or_kong, is_triplet_of, is_concealed_triplet, is_kong_block}
 use Rattle.riichi_blocks.specs.Tally.{IsTally}
 use Rattle.riichi_tiles.proofs.KindSums.{get_or-more}
 
@@ -58,7 +58,7 @@ IsTally-none = record {
 -- one block more
 IsTally-more : (blocks : List HandBlock) (block : HandBlock) (from from' : List ℕ) (of of' : List Bool) (r r' t t' c c' k k' : ℕ) → length blocks < 9 → length from' ≡ length from → length of' ≡ length of →
     ((kind : ℕ) → get_or from' kind 0 ≡ get_or from kind 0 + cond (is_run_from kind block) 1 0) → ((kind : ℕ) → get_or of' kind false ≡ (get_or of kind false || is_triplet_of kind block)) →
-    r' ≡ r + cond (is_run block) 1 0 → t' ≡ t + cond (is_triplet_or_kong block) 1 0 → c' ≡ c + cond (is_concealed_triplet block) 1 0 → k' ≡ k + cond (is_kong block) 1 0 →
+    r' ≡ r + cond (is_run block) 1 0 → t' ≡ t + cond (is_triplet_or_kong block) 1 0 → c' ≡ c + cond (is_concealed_triplet block) 1 0 → k' ≡ k + cond (is_kong_block block) 1 0 →
     IsTally blocks from of r t c k → IsTally (blocks ++ block ∷ []) from' of' r' t' c' k'
 IsTally-more blocks block from from' of of' r r' t t' c c' k k' room long long' runs_from triplets_of runs triplets concealed kongs w = record {
   at_most_nine = omega (arith, room, length-append blocks (block ∷ []));
@@ -69,7 +69,7 @@ IsTally-more blocks block from from' of of' r r' t t' c c' k k' room long long' 
   runs_are = omega (arith, runs, count-push is_run blocks block, w.runs_are);
   triplets_are = omega (arith, triplets, count-push is_triplet_or_kong blocks block, w.triplets_are);
   concealed_are = omega (arith, concealed, count-push is_concealed_triplet blocks block, w.concealed_are);
-  kongs_are = omega (arith, kongs, count-push is_kong blocks block, w.kongs_are);
+  kongs_are = omega (arith, kongs, count-push is_kong_block blocks block, w.kongs_are);
 }
 
 pub IsTally-run : (blocks : List HandBlock) (from : List ℕ) (of : List Bool) (r t c k low : ℕ) → length blocks < 9 → low < 34 → IsTally blocks from of r t c k → IsTally (blocks ++ Run low ∷ []) (set from low (get_or from low 0 + 1)) of (r + 1) t c k

@@ -71,9 +71,9 @@ is_concealed_triplet (Triplet kind concealed) = concealed
 is_concealed_triplet (Kong kind concealed) = concealed
 is_concealed_triplet other = false
 
-abbrev pub is_kong : HandBlock → Bool
-is_kong (Kong kind concealed) = true
-is_kong other = false
+abbrev pub is_kong_block : HandBlock → Bool
+is_kong_block (Kong kind concealed) = true
+is_kong_block other = false
 
 -- ---- words on the blocks
 

@@ -2,7 +2,7 @@
 use Rattle.std.specs.Prelude.{ℕ, ◌≡◌, ◌<◌, ◌≤◌, Bool, false, List, length, count_by, slice_index, slice_index_or}
 use Rattle.std.specs.List.{list_any}
 use Rattle.riichi_blocks.specs.declared.hand_block.HandBlock.{HandBlock}
-use Rattle.riichi_blocks.specs.HandBlocks.{is_run, is_run_from, is_triplet_or_kong, is_triplet_of, is_concealed_triplet, is_kong}
+use Rattle.riichi_blocks.specs.HandBlocks.{is_run, is_run_from, is_triplet_or_kong, is_triplet_of, is_concealed_triplet, is_kong_block}
 
 -- of each kind how many runs begin with it and whether a triplet is of it; how many runs, triplets, concealed triplets and kongs there are
 pub record IsTally (blocks : List HandBlock) (runs_from : List ℕ) (triplets_of : List Bool) (runs triplets concealed kongs : ℕ) : Type 0 where
@@ -14,4 +14,4 @@ pub record IsTally (blocks : List HandBlock) (runs_from : List ℕ) (triplets_of
   pub runs_are : runs ≡ count_by is_run blocks
   pub triplets_are : triplets ≡ count_by is_triplet_or_kong blocks
   pub concealed_are : concealed ≡ count_by is_concealed_triplet blocks
-  pub kongs_are : kongs ≡ count_by is_kong blocks
+  pub kongs_are : kongs ≡ count_by is_kong_block blocks

@@ -164,7 +164,7 @@ impl Blocks {
 
     /// How many blocks are kongs.
     pub fn kongs(&self) -> usize
-        ensures { result ≡ count_by spec.is_kong self.now }
+        ensures { result ≡ count_by spec.is_kong_block self.now }
     {
         self.kongs as usize
     }

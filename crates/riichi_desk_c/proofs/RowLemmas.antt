@@ -8,7 +8,7 @@ use Rattle.std.specs.Prelude.{◌==◌, map, slice_set}
 use borrow.Rule.Slice.PartMut.{mid_of, put_mid, put_same}
 use Rattle.riichi_arrays.specs.Columns.{IsFilled}
 use Rattle.riichi_desk_c.specs.Replies.{reply_to}
-use Rattle.riichi_desk_c.specs.Rows.{place_of, replies_to, row_text}
+use Rattle.riichi_desk_c.specs.Rows.{answer_place, replies_to, row_text}
 
 pub some_there : (n : ℕ) → false ≡ (n == 0) → 0 < n
 some_there n is = grind (arith, nat_tests)
@@ -30,7 +30,7 @@ so_many value rows before after few is = let same : rows ≡ min rows (length be
 pub replies_next : (number : ℕ) (bytes offsets : List ℕ) (row : ℕ) → replies_to number bytes offsets (row + 1) ≡ replies_to number bytes offsets row ++ reply_to number (row_text bytes offsets row)
 replies_next number bytes offsets row = ap (replies_to number bytes offsets) (add-one row)
 
-pub place_next : (number : ℕ) (bytes offsets : List ℕ) (row : ℕ) → place_of number bytes offsets (row + 1) ≡ place_of number bytes offsets row + length (reply_to number (row_text bytes offsets row))
+pub place_next : (number : ℕ) (bytes offsets : List ℕ) (row : ℕ) → answer_place number bytes offsets (row + 1) ≡ answer_place number bytes offsets row + length (reply_to number (row_text bytes offsets row))
 place_next number bytes offsets row = ap length (replies_next number bytes offsets row) ∙ length-append (replies_to number bytes offsets row) (reply_to number (row_text bytes offsets row))
 
 -- a room whose front is filled, and what is behind that

@@ -6,24 +6,24 @@ use Rattle.riichi_hand.specs.declared.win.Rules.TheVariants as rules
 use Rattle.desk_lines.specs.LineAnswer.{answer_of}
 
 -- the bit of this value is set in a number
-abbrev pub has_bit : ℕ → ℕ → Bool
-has_bit value number = (number / value) % 2 == 1
+abbrev pub has_flag : ℕ → ℕ → Bool
+has_flag value number = (number / value) % 2 == 1
 
 -- the rules whose bits are set: a bit for each, in the order of the table
 abbrev pub house_numbered : ℕ → House
 house_numbered number = record {
-  red_fives = has_bit 1 number;
-  raise = has_bit 2 number;
-  add_yakuman = has_bit 4 number;
-  double_yakuman = has_bit 8 number;
-  counted_yakuman = has_bit 16 number;
-  double_wind_pair = has_bit 32 number;
-  kong_draw_fu = has_bit 64 number;
-  open_simples = has_bit 128 number;
-  open_pinfu_fu = has_bit 256 number;
-  ippatsu = has_bit 512 number;
-  ura = has_bit 1024 number;
-  blessing_of_man = has_bit 2048 number;
+  red_fives = has_flag 1 number;
+  raise = has_flag 2 number;
+  add_yakuman = has_flag 4 number;
+  double_yakuman = has_flag 8 number;
+  counted_yakuman = has_flag 16 number;
+  double_wind_pair = has_flag 32 number;
+  kong_draw_fu = has_flag 64 number;
+  open_simples = has_flag 128 number;
+  open_pinfu_fu = has_flag 256 number;
+  ippatsu = has_flag 512 number;
+  ura = has_flag 1024 number;
+  blessing_of_man = has_flag 2048 number;
 }
 
 -- the rules of this number: 1 and 2 are the profiles, 65536 and more the rules of a house

@@ -18,8 +18,8 @@ replies_to number bytes offsets zero = []
 replies_to number bytes offsets (suc row) = replies_to number bytes offsets row ++ reply_to number (row_text bytes offsets row)
 
 -- where the answer to a row begins, and that to the row before it ends
-abbrev pub place_of : ℕ → List ℕ → List ℕ → ℕ → ℕ
-place_of number bytes offsets row = length (replies_to number bytes offsets row)
+abbrev pub answer_place : ℕ → List ℕ → List ℕ → ℕ → ℕ
+answer_place number bytes offsets row = length (replies_to number bytes offsets row)
 
 -- so many rows, and places for so many answers; there is one offset more than rows
 abbrev pub most_rows : List ℕ → List ℕ → ℕ
@@ -30,7 +30,7 @@ most_rows offsets places = min (length offsets - 1) (length places - 1)
 pub record AnswersRows (number : ℕ) (bytes offsets before after places_before places_after : List ℕ) (rows : ℕ) : Type 0 where
   pub are_rows : (row : ℕ) → row < rows → IsRow bytes offsets row
   pub most : rows ≤ most_rows offsets places_before
-  pub fits : place_of number bytes offsets rows ≤ length before
-  pub room_is : after ≡ replies_to number bytes offsets rows ++ drop (place_of number bytes offsets rows) before
-  pub places_are : IsFilled (place_of number bytes offsets) (min (rows + 1) (length places_before)) places_before places_after
-  pub stops : (rows ≡ most_rows offsets places_before) ⊎ (IsRow bytes offsets rows → ⊥) ⊎ (length before < place_of number bytes offsets (rows + 1))
+  pub fits : answer_place number bytes offsets rows ≤ length before
+  pub room_is : after ≡ replies_to number bytes offsets rows ++ drop (answer_place number bytes offsets rows) before
+  pub places_are : IsFilled (answer_place number bytes offsets) (min (rows + 1) (length places_before)) places_before places_after
+  pub stops : (rows ≡ most_rows offsets places_before) ⊎ (IsRow bytes offsets rows → ⊥) ⊎ (length before < answer_place number bytes offsets (rows + 1))

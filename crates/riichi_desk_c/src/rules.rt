@@ -37,7 +37,7 @@ fn house_numbered(number: u32) -> House
 
 fn has_bit(value: u32, number: u32) -> bool
     requires { 0 < value }
-    ensures { result ≡ spec.has_bit value number }
+    ensures { result ≡ spec.has_flag value number }
 {
     number / value % 2 == 1
 }

@@ -12,12 +12,12 @@ use Rattle.riichi_score.specs.Dora.{counted_ura, kind_dora, red_dora, dora_of}
 use Rattle.riichi_explain.specs.declared.dora.DoraPart.{DoraPart}
 use Rattle.riichi_explain.specs.declared.dora.DoraPart.TheVariants.{Indicated, Below, RedFives}
 use Rattle.riichi_explain.specs.declared.dora.DoraRow.{DoraRow}
-use Rattle.riichi_explain.specs.Dora.{dora_by, shown_dora, counted_dora, dora_rows, dora_total}
+use Rattle.riichi_explain.specs.Dora.{dora_by, shown_dora, dora_row_if, dora_rows, dora_total}
 
 total-append : (xs ys : List DoraRow) → dora_total (xs ++ ys) ≡ dora_total xs + dora_total ys
 total-append xs ys = sum_by-append (λ (row : DoraRow). row.han) xs ys
 
-total-counted : (part : DoraPart) (han : ℕ) → dora_total (counted_dora part han) ≡ han
+total-counted : (part : DoraPart) (han : ℕ) → dora_total (dora_row_if part han) ≡ han
 total-counted part han = grind (arith, nat_tests)
 
 -- what is indicated twice is added
@@ -37,11 +37,11 @@ split win (kind ∷ kinds) =
       split win kinds,
     )
 
-parts-total : (shown below reds : ℕ) → dora_total (counted_dora Indicated shown ++ counted_dora Below below ++ counted_dora RedFives reds) ≡ shown + below + reds
+parts-total : (shown below reds : ℕ) → dora_total (dora_row_if Indicated shown ++ dora_row_if Below below ++ dora_row_if RedFives reds) ≡ shown + below + reds
 parts-total shown below reds =
-    let a = counted_dora Indicated shown in
-    let b = counted_dora Below below in
-    let c = counted_dora RedFives reds in
+    let a = dora_row_if Indicated shown in
+    let b = dora_row_if Below below in
+    let c = dora_row_if RedFives reds in
     omega (arith, total-append (a ++ b) c, total-append a b, total-counted Indicated shown, total-counted Below below, total-counted RedFives reds)
 
 -- the rows add up to the dora

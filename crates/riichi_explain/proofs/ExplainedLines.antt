@@ -15,7 +15,7 @@ use Rattle.riichi_split.specs.declared.reading.Reading.TheVariants as reading
 use Rattle.riichi_split.specs.contracts.reading.ReadingPartialEq.TheImpl.{ghosts as readings}
 use Rattle.riichi_shape.specs.declared.forms.FormDistances.{FormDistances}
 use Rattle.riichi_yaku.specs.YakuSets.{is_yakuman}
-use Rattle.riichi_score.specs.Scores.{hand_of}
+use Rattle.riichi_score.specs.Scores.{completed_hand}
 use Rattle.riichi_score.specs.declared.score.Score.{Score}
 use Rattle.riichi_explain.specs.declared.base.BaseRule.{BaseRule}
 use Rattle.riichi_explain.specs.declared.base.BaseRule.TheVariants.{Product, Capped, Raised, Limited, OfYakuman}
@@ -45,9 +45,9 @@ use Rattle.riichi_explain.specs.declared.explaining.Shown.TheVariants.{BestReadi
 use Rattle.riichi_explain.specs.declared.ranked.RankedReading.{RankedReading}
 use Rattle.riichi_explain.specs.Explanation.{rules_line, reason_lines, win_lines, AreOthers, IsBestText, IsWinText, IsJobText, IsOutcomeText}
 use Rattle.riichi_explain.specs.Han.{han_rows}
-use Rattle.riichi_explain.specs.Others.{scored_text, ranked_text, other_text, fitting, more_line, more_if}
-use Rattle.riichi_explain.specs.Win.{counted_fu, reading_of}
-use Rattle.riichi_explain.specs.Forms.{shanten_text, form_text, other_text as other_form, shanten_line}
+use Rattle.riichi_explain.specs.Others.{scored_text, ranked_text, other_reading_text, fitting, more_line, more_if}
+use Rattle.riichi_explain.specs.Win.{counted_fu, explained_reading}
+use Rattle.riichi_explain.specs.Forms.{shanten_text, form_text, special_form_text as other_form, shanten_line}
 use Rattle.riichi_explain.specs.Text as text
 use Rattle.riichi_explain.specs.Words.{dora_words, dora_japanese, fu_words, fu_japanese, payer_words}
 use Rattle.riichi_waits.specs.Waits as waits
@@ -110,7 +110,7 @@ completes_text-plain winning done = after4 (codes ", ") (kind_text winning) (cod
 
 hand_text-plain : (win : WinParts) → plain (text.hand_text win) ≡ true
 unfolding text.hand_text
-hand_text-plain win = tiles_text-plain (slice_index (hand_of win))
+hand_text-plain win = tiles_text-plain (slice_index (completed_hand win))
 
 reading_text-plain : (read : Reading) (win : WinParts) → plain (text.reading_text read win) ≡ true
 unfolding text.reading_text
@@ -153,8 +153,8 @@ han_number-plain (han.Yaku yaku) number = decimal-plain number
 han_number-plain (han.Yakuman yaku) number = refl
 han_number-plain han.Dora number = decimal-plain number
 
-han_text-plain : (row : HanRow) → plain (text.han_text row) ≡ true
-unfolding text.han_text
+han_text-plain : (row : HanRow) → plain (text.han_row_text row) ≡ true
+unfolding text.han_row_text
 han_text-plain row = after (text.han_part_text row.part) (text.han_number row.part row.han) (han_part_text-plain row.part) (han_number-plain row.part row.han)
 
 han_sum-plain : (yakuman : Bool) (rows sum : ℕ) → plain (text.han_sum yakuman rows sum) ≡ true
@@ -166,10 +166,10 @@ han_line-lines : (yakuman : Bool) (number : ℕ) (rows : List HanRow) → are_in
 unfolding text.han_line text.han_label
 han_line-lines true number rows =
     let sum = text.han_sum true (length rows) number in
-    pass (joined (codes ", ") (map text.han_text rows) ++ sum) text.line_feed (after (joined (codes ", ") (map text.han_text rows)) sum (joined-plain (codes ", ") text.han_text rows refl han_text-plain) (han_sum-plain true (length rows) number))
+    pass (joined (codes ", ") (map text.han_row_text rows) ++ sum) text.line_feed (after (joined (codes ", ") (map text.han_row_text rows)) sum (joined-plain (codes ", ") text.han_row_text rows refl han_text-plain) (han_sum-plain true (length rows) number))
 han_line-lines false number rows =
     let sum = text.han_sum false (length rows) number in
-    pass (joined (codes ", ") (map text.han_text rows) ++ sum) text.line_feed (after (joined (codes ", ") (map text.han_text rows)) sum (joined-plain (codes ", ") text.han_text rows refl han_text-plain) (han_sum-plain false (length rows) number))
+    pass (joined (codes ", ") (map text.han_row_text rows) ++ sum) text.line_feed (after (joined (codes ", ") (map text.han_row_text rows)) sum (joined-plain (codes ", ") text.han_row_text rows refl han_text-plain) (han_sum-plain false (length rows) number))
 
 dora_part_text-plain : (part : DoraPart) (number : ℕ) → plain (text.dora_part_text part number) ≡ true
 unfolding text.dora_part_text text.dora_part_words text.beside dora_words dora_japanese
@@ -177,15 +177,15 @@ dora_part_text-plain dora.Indicated number = refl
 dora_part_text-plain dora.Below number = refl
 dora_part_text-plain dora.RedFives number = elim (nat_eq number 1) as (λ test. plain (cond test (codes " red five") (text.dora_part_words dora.RedFives)) ≡ true) [ true ↦ refl | false ↦ refl ]
 
-dora_text-plain : (row : DoraRow) → plain (text.dora_text row) ≡ true
-unfolding text.dora_text
+dora_text-plain : (row : DoraRow) → plain (text.dora_row_text row) ≡ true
+unfolding text.dora_row_text
 dora_text-plain row = after (decimal row.han) (text.dora_part_text row.part row.han) (decimal-plain row.han) (dora_part_text-plain row.part row.han)
 
 dora_line-lines : (rows : List DoraRow) → are_indented (text.dora_line rows) ≡ true
 unfolding text.dora_line
 dora_line-lines rows =
-    let parts = joined (codes ", ") (map text.dora_text rows) in
-    pass (decimal (dora_total rows) ++ codes ": " ++ parts) text.line_feed (after3 (decimal (dora_total rows)) (codes ": ") parts (decimal-plain (dora_total rows)) refl (joined-plain (codes ", ") text.dora_text rows refl dora_text-plain))
+    let parts = joined (codes ", ") (map text.dora_row_text rows) in
+    pass (decimal (dora_total rows) ++ codes ": " ++ parts) text.line_feed (after3 (decimal (dora_total rows)) (codes ": ") parts (decimal-plain (dora_total rows)) refl (joined-plain (codes ", ") text.dora_row_text rows refl dora_text-plain))
 
 dora_line_if-lines : (rows : List DoraRow) → are_indented (text.dora_line_if rows) ≡ true
 unfolding text.dora_line_if
@@ -210,8 +210,8 @@ fu_part_text-plain fu.PairWait = refl
 fu_part_text-plain fu.OpenRon = refl
 fu_part_text-plain fu.SevenPairs = refl
 
-fu_text-plain : (row : FuRow) → plain (text.fu_text row) ≡ true
-unfolding text.fu_text
+fu_text-plain : (row : FuRow) → plain (text.fu_row_text row) ≡ true
+unfolding text.fu_row_text
 fu_text-plain row = after3 (decimal row.fu) (codes " ") (text.fu_part_text row.part) (decimal-plain row.fu) refl (fu_part_text-plain row.part)
 
 rounded_text-plain : (sum fu : ℕ) → plain (text.rounded_text sum fu) ≡ true
@@ -223,8 +223,8 @@ unfolding text.fu_line
 fu_line-lines rows number =
     let sum = text.sum_text (length rows) (fu_total rows) in
     let rounded = text.rounded_text (fu_total rows) number in
-    let parts = joined (codes ", ") (map text.fu_text rows) in
-    pass (parts ++ sum ++ rounded) text.line_feed (after3 parts sum rounded (joined-plain (codes ", ") text.fu_text rows refl fu_text-plain) (sum_text-plain (length rows) (fu_total rows)) (rounded_text-plain (fu_total rows) number))
+    let parts = joined (codes ", ") (map text.fu_row_text rows) in
+    pass (parts ++ sum ++ rounded) text.line_feed (after3 parts sum rounded (joined-plain (codes ", ") text.fu_row_text rows refl fu_text-plain) (sum_text-plain (length rows) (fu_total rows)) (rounded_text-plain (fu_total rows) number))
 
 fu_line_if-lines : (yakuman : Bool) (rows : List FuRow) (number : ℕ) → are_indented (text.fu_line_if yakuman rows number) ≡ true
 unfolding text.fu_line_if
@@ -246,8 +246,8 @@ limit_text-plain limit.Baiman = decimal-plain 4000
 limit_text-plain limit.Sanbaiman = decimal-plain 6000
 limit_text-plain limit.Yakuman = decimal-plain 8000
 
-han_words-plain : (han : ℕ) → plain (text.han_words han) ≡ true
-unfolding text.han_words
+han_words-plain : (han : ℕ) → plain (text.han_count_text han) ≡ true
+unfolding text.han_count_text
 han_words-plain han = elim (nat_eq han 0) as (λ test. plain (cond test [] (decimal han ++ codes " han, ")) ≡ true) [ true ↦ refl | false ↦ after (decimal han) (codes " han, ") (decimal-plain han) refl ]
 
 limits_text-plain : (limits : ℕ) → plain (text.limits_text limits) ≡ true
@@ -262,7 +262,7 @@ unfolding text.base_text
 base_text-plain (Product product) han fu = product_text-plain han fu product
 base_text-plain (Capped product) han fu = after (text.product_text han fu product) (codes ", mangan 2000") (product_text-plain han fu product) refl
 base_text-plain (Raised product) han fu = after (text.product_text han fu product) (codes ", raised to mangan 2000 (kiriage)") (product_text-plain han fu product) refl
-base_text-plain (Limited which) han fu = after (text.han_words han) (text.limit_text which) (han_words-plain han) (limit_text-plain which)
+base_text-plain (Limited which) han fu = after (text.han_count_text han) (text.limit_text which) (han_words-plain han) (limit_text-plain which)
 base_text-plain (OfYakuman limits) han fu = limits_text-plain limits
 
 base_line-lines : (rule : BaseRule) (han fu : ℕ) → are_indented (text.base_line rule han fu) ≡ true
@@ -291,15 +291,15 @@ each_text-plain payer.Dealer = refl
 each_text-plain payer.TwoOthers = refl
 each_text-plain payer.ThreeOthers = refl
 
-pay_text-plain : (row : PayRow) → plain (text.pay_text row) ≡ true
-unfolding text.pay_text
+pay_text-plain : (row : PayRow) → plain (text.pay_row_text row) ≡ true
+unfolding text.pay_row_text
 pay_text-plain row =
     let added = text.added_text (codes " for counters = ") row.points row.counters in
     after3 (text.payer_name row.payer) added (text.each_text row.payer) (payer_name-plain row.payer) (added_text-plain (codes " for counters = ") row.points row.counters refl) (each_text-plain row.payer)
 
 pay_line-lines : (rows : List PayRow) → are_indented (text.pay_line rows) ≡ true
 unfolding text.pay_line
-pay_line-lines rows = pass (joined (codes ", ") (map text.pay_text rows)) text.line_feed (joined-plain (codes ", ") text.pay_text rows refl pay_text-plain)
+pay_line-lines rows = pass (joined (codes ", ") (map text.pay_row_text rows)) text.line_feed (joined-plain (codes ", ") text.pay_row_text rows refl pay_text-plain)
 
 gain_line-lines : (gain sticks : ℕ) → are_indented (text.gain_line gain sticks) ≡ true
 unfolding text.gain_line
@@ -424,11 +424,11 @@ unless-lines : (is_shown : Bool) (lines : List ℕ) → are_indented lines ≡ t
 unless-lines true lines p = refl
 unless-lines false lines p = p
 
-fitting-lines : (shown : Reading) (win : WinParts) (last : List ℕ) (room : ℕ) (ranked : List RankedReading) → are_indented last ≡ true → are_indented (fitting last room (map (other_text shown win) ranked)) ≡ true
+fitting-lines : (shown : Reading) (win : WinParts) (last : List ℕ) (room : ℕ) (ranked : List RankedReading) → are_indented last ≡ true → are_indented (fitting last room (map (other_reading_text shown win) ranked)) ≡ true
 fitting-lines shown win last room [] p = p
 fitting-lines shown win last room (one ∷ ranked) p =
-    let lines = other_text shown win one in
-    let more = fitting last (room - length lines) (map (other_text shown win) ranked) in
+    let lines = other_reading_text shown win one in
+    let more = fitting last (room - length lines) (map (other_reading_text shown win) ranked) in
     elim (nat_le (length lines + 60) room) as (λ test. are_indented (cond test (lines ++ more) more_line) ≡ true) [
       | true ↦ lines-append lines more (unless-lines (readings.eq one.reading shown) (ranked_text win one.reading one.score) (ranked_text-lines win one.reading one.score)) (fitting-lines shown win last (room - length lines) ranked p)
       | false ↦ refl
@@ -459,7 +459,7 @@ best_text-lines win said is = ap are_indented is.text_is ∙ win_lines-lines is.
 win_text-lines : (shown : Shown) (win : WinParts) (said : List ℕ) → IsWinText shown win said → are_indented said ≡ true
 win_text-lines BestReading win said is = best_text-lines win said is
 win_text-lines EveryReading win said is =
-    ap are_indented is.text_is ∙ lines-append is.best is.others (best_text-lines win is.best is.is_best) (others-lines (reading_of is.is_best.explanation) win is.others is.are_others)
+    ap are_indented is.text_is ∙ lines-append is.best is.others (best_text-lines win is.best is.is_best) (others-lines (explained_reading is.is_best.explanation) win is.others is.are_others)
 
 pub job_text-lines : (shown : Shown) (job : Job) (said : List ℕ) → IsJobText shown job said → are_indented said ≡ true
 job_text-lines shown (job.Win win) said is = win_text-lines shown win said is

@@ -19,15 +19,15 @@ abbrev pub shown_dora : List ℕ → WinParts → ℕ
 shown_dora indicators win = sum_by (dora_by indicators win) every_kind
 
 -- a row, where there is any
-abbrev pub counted_dora : DoraPart → ℕ → List DoraRow
-counted_dora part han = if han == 0 then [] else record { part = part; han = han } ∷ []
+abbrev pub dora_row_if : DoraPart → ℕ → List DoraRow
+dora_row_if part han = if han == 0 then [] else record { part = part; han = han } ∷ []
 
 -- those of the indicators, of the indicators below these, and the red fives
 unfoldable pub dora_rows : WinParts → List DoraRow
 dora_rows win =
-    counted_dora part.Indicated (shown_dora win.dora win)
-    ++ counted_dora part.Below (shown_dora (counted_ura win) win)
-    ++ counted_dora part.RedFives (red_dora win.rules win.reds)
+    dora_row_if part.Indicated (shown_dora win.dora win)
+    ++ dora_row_if part.Below (shown_dora (counted_ura win) win)
+    ++ dora_row_if part.RedFives (red_dora win.rules win.reds)
 
 -- what rows add up to
 abbrev pub dora_total : List DoraRow → ℕ

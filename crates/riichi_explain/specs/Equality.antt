@@ -39,13 +39,13 @@ same_part OpenRon OpenRon h = refl
 same_part SevenPairs SevenPairs h = refl
 same_part a b h = absurd (false≢true h)
 
-pub parts_decide : (a b : FuPart) → Decides (part.eq a b) (a ≡ b)
-parts_decide a b = (same_part a b, λ same. rw same (equiv.refl b))
+pub fu_parts_decide : (a b : FuPart) → Decides (part.eq a b) (a ≡ b)
+fu_parts_decide a b = (same_part a b, λ same. rw same (equiv.refl b))
 
 pub fu_rows_decide : (a b : FuRow) → Decides (row.eq a b) (a ≡ b)
 fu_rows_decide a b =
     Decides-like (row.eq a b) (λ p k. record { part = p.0 k; fu = p.1 k }) (λ e. (ap (λ r. r.part) e, ap (λ r. r.fu) e))
-    (Decides-and _ _ (parts_decide a.part b.part) (Decides-eqb a.fu b.fu))
+    (Decides-and _ _ (fu_parts_decide a.part b.part) (Decides-eqb a.fu b.fu))
 
 same_han : (a b : HanPart) → han_part.eq a b ≡ true → a ≡ b
 same_han (Yaku yaku) (Yaku other) h = ap Yaku ((yaku_decides yaku other).0 h)

@@ -23,7 +23,7 @@ use Rattle.riichi_explain.specs.Missed.{missed_lines}
 use Rattle.riichi_explain.specs.Others.{IsOthersText}
 use Rattle.riichi_explain.specs.Text.{won_hand_text, no_yaku_line, line_feed}
 use Rattle.riichi_waits.specs.Waits.{kind_waits, waits_line}
-use Rattle.riichi_explain.specs.Win.{Explains, answer_of, reading_of}
+use Rattle.riichi_explain.specs.Win.{Explains, explained_answer, explained_reading}
 
 -- the lines of readings without yaku: of the first twelve
 abbrev pub no_yaku_lines : List Reading → WinParts → List ℕ
@@ -44,7 +44,7 @@ win_lines explanation win = rules_line win.rules ++ reason_lines explanation win
 -- The text says why a win is worth what it is, by the best reading of a hand that scores.
 pub record IsBestText (win : WinParts) (text : List ℕ) : Type 0 where
   pub explanation : WinExplanation
-  pub answer : answer_of explanation ≡ best_of win
+  pub answer : explained_answer explanation ≡ best_of win
   pub explains : Explains win explanation
   pub text_is : text ≡ win_lines explanation win
 
@@ -58,7 +58,7 @@ pub record IsEveryText (win : WinParts) (text : List ℕ) : Type 0 where
   pub best : List ℕ
   pub is_best : IsBestText win best
   pub others : List ℕ
-  pub are_others : AreOthers (reading_of is_best.explanation) win others
+  pub are_others : AreOthers (explained_reading is_best.explanation) win others
   pub text_is : text ≡ best ++ others
 
 abbrev pub IsWinText : Shown → WinParts → List ℕ → Type 0

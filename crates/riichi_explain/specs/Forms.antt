@@ -23,12 +23,12 @@ unfoldable pub form_text : List ℕ → ℕ → List ℕ
 form_text name lack = name ++ shanten_text lack
 
 -- a form that stands beside no meld
-unfoldable pub other_text : List ℕ → Option ℕ → List ℕ
-other_text name None = []
-other_text name (Some lack) = form_text name lack
+unfoldable pub special_form_text : List ℕ → Option ℕ → List ℕ
+special_form_text name None = []
+special_form_text name (Some lack) = form_text name lack
 
 unfoldable pub shanten_line : FormDistances → List ℕ
 shanten_line forms =
     codes "  shanten " ++ form_text (codes "sets and a pair ") forms.sets_and_pair
-    ++ other_text (codes ", seven pairs ") forms.seven_pairs
-    ++ other_text (codes ", thirteen orphans ") forms.thirteen_orphans ++ 10 ∷ []
+    ++ special_form_text (codes ", seven pairs ") forms.seven_pairs
+    ++ special_form_text (codes ", thirteen orphans ") forms.thirteen_orphans ++ 10 ∷ []

@@ -24,8 +24,8 @@ ranked_text win read None = other_line (codes ": no yaku") read win
 ranked_text win read (Some score) = scored_text read score win
 
 -- nothing of the reading that is shown
-abbrev pub other_text : Reading → WinParts → RankedReading → List ℕ
-other_text shown win one = if reading.eq one.reading shown then [] else ranked_text win one.reading one.score
+abbrev pub other_reading_text : Reading → WinParts → RankedReading → List ℕ
+other_reading_text shown win one = if reading.eq one.reading shown then [] else ranked_text win one.reading one.score
 
 -- the line that says that there are more
 abbrev pub more_line : List ℕ
@@ -41,7 +41,7 @@ fitting last room (text ∷ texts) = if nat_le (length text + 60) room then text
 
 -- in 4608 bytes
 abbrev pub others_text : Reading → Ranking → WinParts → List ℕ
-others_text shown ranking win = fitting (more_if (nat_lt 0 (length ranking.rest))) 4608 (map (other_text shown win) ranking.ranked.items)
+others_text shown ranking win = fitting (more_if (nat_lt 0 (length ranking.rest))) 4608 (map (other_reading_text shown win) ranking.ranked.items)
 
 -- The text has each reading of the hand but the one that is shown, the best first.
 pub record IsOthersText (shown : Reading) (win : WinParts) (text : List ℕ) : Type 0 where

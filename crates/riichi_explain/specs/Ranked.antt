@@ -8,7 +8,7 @@ use Rattle.riichi_split.specs.declared.reading.Reading.{Reading}
 use Rattle.riichi_split.specs.Readings.{AreTheReadings}
 use Rattle.riichi_score.specs.declared.score.Score.{Score}
 use Rattle.riichi_score.specs.Best.{rank}
-use Rattle.riichi_score.specs.Scores.{score_of, hand_of}
+use Rattle.riichi_score.specs.Scores.{score_of, completed_hand}
 use Rattle.riichi_explain.specs.declared.ranked.RankedReading.{RankedReading}
 use Rattle.riichi_explain.specs.declared.ranked.Ranking.{Ranking}
 
@@ -28,7 +28,7 @@ AreInOrder ranked = IsSortedBy (λ one other. is_worth_more one.score other.scor
 -- Each reading of the hand stands there once with its score, the first twelve in the order of what they are worth, the others behind them.
 pub record AreRanked (win : WinParts) (ranking : Ranking) : Type 0 where
   pub readings : List Reading
-  pub are_all : AreTheReadings (hand_of win) (length win.melds) win.winning readings
+  pub are_all : AreTheReadings (completed_hand win) (length win.melds) win.winning readings
   pub each_once : IsPermutation (take 12 readings) (map (λ one. one.reading) ranking.ranked.items)
   pub rest_is : ranking.rest ≡ drop 12 readings
   pub scored : All (λ one. one.score ≡ score_of one.reading win) ranking.ranked.items

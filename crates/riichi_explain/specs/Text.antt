@@ -10,7 +10,7 @@ use Rattle.riichi_split.specs.declared.reading.Reading.{Reading}
 use Rattle.riichi_split.specs.declared.reading.Reading.TheVariants as reading
 use Rattle.riichi_names.specs.Names.{named}
 use Rattle.riichi_yaku.specs.YakuSets.{is_yakuman}
-use Rattle.riichi_score.specs.Scores.{hand_of}
+use Rattle.riichi_score.specs.Scores.{completed_hand}
 use Rattle.riichi_explain.specs.declared.base.BaseRule.{BaseRule}
 use Rattle.riichi_explain.specs.declared.base.BaseRule.TheVariants.{Product, Capped, Raised, Limited, OfYakuman}
 use Rattle.riichi_explain.specs.declared.base.Limit.{Limit}
@@ -53,7 +53,7 @@ completes_text winning done = codes ", " ++ kind_text winning ++ codes " complet
 
 -- the concealed tiles with the winning tile
 unfoldable pub hand_text : WinParts → List ℕ
-hand_text win = tiles_text (slice_index (hand_of win))
+hand_text win = tiles_text (slice_index (completed_hand win))
 
 -- the sets in hand, the pair and the melds; or seven pairs, or thirteen orphans
 unfoldable pub reading_text : Reading → WinParts → List ℕ
@@ -94,8 +94,8 @@ han_number (han.Yaku yaku) han = codes " " ++ decimal han
 han_number (han.Yakuman yaku) han = []
 han_number han.Dora han = codes " " ++ decimal han
 
-unfoldable pub han_text : HanRow → List ℕ
-han_text row = han_part_text row.part ++ han_number row.part row.han
+unfoldable pub han_row_text : HanRow → List ℕ
+han_row_text row = han_part_text row.part ++ han_number row.part row.han
 
 unfoldable pub han_label : Bool → List ℕ
 han_label yakuman = if yakuman then codes "  yakuman " else codes "  han     "
@@ -105,7 +105,7 @@ han_sum yakuman rows han = if yakuman then [] else sum_text rows han
 
 unfoldable pub han_line : Bool → ℕ → List HanRow → List ℕ
 han_line yakuman han rows =
-    han_label yakuman ++ joined (codes ", ") (map han_text rows) ++ han_sum yakuman (length rows) han ++ line_feed
+    han_label yakuman ++ joined (codes ", ") (map han_row_text rows) ++ han_sum yakuman (length rows) han ++ line_feed
 
 -- a Japanese name in brackets, where there is one
 unfoldable pub beside : List ℕ → List ℕ
@@ -120,12 +120,12 @@ dora_part_text dora.Indicated han = dora_part_words dora.Indicated
 dora_part_text dora.Below han = dora_part_words dora.Below
 dora_part_text dora.RedFives han = if han == 1 then codes " red five" else dora_part_words dora.RedFives
 
-unfoldable pub dora_text : DoraRow → List ℕ
-dora_text row = decimal row.han ++ dora_part_text row.part row.han
+unfoldable pub dora_row_text : DoraRow → List ℕ
+dora_row_text row = decimal row.han ++ dora_part_text row.part row.han
 
 -- how many dora there are, and where they come from
 unfoldable pub dora_line : List DoraRow → List ℕ
-dora_line rows = codes "  dora    " ++ decimal (dora_total rows) ++ codes ": " ++ joined (codes ", ") (map dora_text rows) ++ line_feed
+dora_line rows = codes "  dora    " ++ decimal (dora_total rows) ++ codes ": " ++ joined (codes ", ") (map dora_row_text rows) ++ line_feed
 
 -- where there are none, there is no line
 unfoldable pub dora_line_if : List DoraRow → List ℕ
@@ -151,8 +151,8 @@ fu_tiles fu.SevenPairs = []
 unfoldable pub fu_part_text : FuPart → List ℕ
 fu_part_text part = fu_words part ++ fu_tiles part ++ beside (fu_japanese part)
 
-unfoldable pub fu_text : FuRow → List ℕ
-fu_text row = decimal row.fu ++ codes " " ++ fu_part_text row.part
+unfoldable pub fu_row_text : FuRow → List ℕ
+fu_row_text row = decimal row.fu ++ codes " " ++ fu_part_text row.part
 
 unfoldable pub rounded_to : ℕ → List ℕ
 rounded_to fu = codes ", rounded to " ++ decimal fu
@@ -162,7 +162,7 @@ rounded_text sum fu = if sum == fu then [] else rounded_to fu
 
 unfoldable pub fu_line : List FuRow → ℕ → List ℕ
 fu_line rows fu =
-    codes "  fu      " ++ joined (codes ", ") (map fu_text rows) ++ sum_text (length rows) (fu_total rows) ++ rounded_text (fu_total rows) fu ++ line_feed
+    codes "  fu      " ++ joined (codes ", ") (map fu_row_text rows) ++ sum_text (length rows) (fu_total rows) ++ rounded_text (fu_total rows) fu ++ line_feed
 
 -- ---- base points
 
@@ -184,14 +184,14 @@ unfoldable pub limits_text : ℕ → List ℕ
 limits_text limits = (if limits == 1 then [] else decimal limits ++ codes " x ") ++ codes "yakuman " ++ decimal (8000 * limits)
 
 -- a yakuman has no number of han
-unfoldable pub han_words : ℕ → List ℕ
-han_words han = if han == 0 then [] else decimal han ++ codes " han, "
+unfoldable pub han_count_text : ℕ → List ℕ
+han_count_text han = if han == 0 then [] else decimal han ++ codes " han, "
 
 unfoldable pub base_text : BaseRule → ℕ → ℕ → List ℕ
 base_text (Product product) han fu = product_text han fu product
 base_text (Capped product) han fu = product_text han fu product ++ codes ", mangan 2000"
 base_text (Raised product) han fu = product_text han fu product ++ codes ", raised to mangan 2000 (kiriage)"
-base_text (Limited which) han fu = han_words han ++ limit_text which
+base_text (Limited which) han fu = han_count_text han ++ limit_text which
 base_text (OfYakuman limits) han fu = limits_text limits
 
 unfoldable pub base_line : BaseRule → ℕ → ℕ → List ℕ
@@ -215,11 +215,11 @@ sum_of_two what points more = decimal points ++ codes " + " ++ decimal more ++ w
 unfoldable pub added_text : List ℕ → ℕ → ℕ → List ℕ
 added_text what points more = if more == 0 then decimal points else sum_of_two what points more
 
-unfoldable pub pay_text : PayRow → List ℕ
-pay_text row = payer_name row.payer ++ added_text (codes " for counters = ") row.points row.counters ++ each_text row.payer
+unfoldable pub pay_row_text : PayRow → List ℕ
+pay_row_text row = payer_name row.payer ++ added_text (codes " for counters = ") row.points row.counters ++ each_text row.payer
 
 unfoldable pub pay_line : List PayRow → List ℕ
-pay_line rows = codes "  pays    " ++ joined (codes ", ") (map pay_text rows) ++ line_feed
+pay_line rows = codes "  pays    " ++ joined (codes ", ") (map pay_row_text rows) ++ line_feed
 
 -- what is paid, and the riichi sticks
 unfoldable pub gain_line : ℕ → ℕ → List ℕ

@@ -6,7 +6,7 @@ use Rattle.riichi_split.specs.Readings.{AreTheReadings}
 use Rattle.riichi_yaku.specs.YakuSets.{is_yakuman}
 use Rattle.riichi_score.specs.declared.answer.WinAnswer.{WinAnswer}
 use Rattle.riichi_score.specs.declared.answer.WinAnswer.TheVariants as answer
-use Rattle.riichi_score.specs.Scores.{score_of, hand_of, IsReadingOf}
+use Rattle.riichi_score.specs.Scores.{score_of, completed_hand, IsReadingOf}
 use Rattle.riichi_explain.specs.declared.dora.DoraRow.{DoraRow}
 use Rattle.riichi_explain.specs.declared.fu.FuRow.{FuRow}
 use Rattle.riichi_explain.specs.declared.win.WonHand.{WonHand}
@@ -48,13 +48,13 @@ pub record IsWonHand (win : WinParts) (hand : WonHand) : Type 0 where
 
 -- the readings of a hand, none of which has a yaku
 pub record HaveNoYaku (win : WinParts) (readings : List Reading) : Type 0 where
-  pub are_all : AreTheReadings (hand_of win) (length win.melds) win.winning readings
+  pub are_all : AreTheReadings (completed_hand win) (length win.melds) win.winning readings
   pub none_scores : (reading : Reading) → IsReadingOf win reading → score_of reading win ≡ None
 
 -- a hand without a reading: how far it is from each form, and the kinds that it waits for before the winning tile
 pub record IsNoWin (win : WinParts) (missed : MissedWin) : Type 0 where
   pub none : (reading : Reading) → IsReadingOf win reading → ⊥
-  pub distances : AreFormDistances (hand_of win) win.melds missed.forms
+  pub distances : AreFormDistances (completed_hand win) win.melds missed.forms
   pub waits_are : missed.waits.items ≡ kind_waits (waiting_hand win)
 
 abbrev pub Explains : WinParts → WinExplanation → Type 0
@@ -63,13 +63,13 @@ Explains win (NoYaku readings) = HaveNoYaku win readings
 Explains win (NoWin missed) = IsNoWin win missed
 
 -- the answer that is explained
-abbrev pub answer_of : WinExplanation → WinAnswer
-answer_of (Won hand) = answer.Won hand.score
-answer_of (NoYaku readings) = answer.NoYaku
-answer_of (NoWin missed) = answer.NoWin
+abbrev pub explained_answer : WinExplanation → WinAnswer
+explained_answer (Won hand) = answer.Won hand.score
+explained_answer (NoYaku readings) = answer.NoYaku
+explained_answer (NoWin missed) = answer.NoWin
 
 -- the reading that scores
-abbrev pub reading_of : WinExplanation → Option Reading
-reading_of (Won hand) = Some hand.reading
-reading_of (NoYaku readings) = None
-reading_of (NoWin missed) = None
+abbrev pub explained_reading : WinExplanation → Option Reading
+explained_reading (Won hand) = Some hand.reading
+explained_reading (NoYaku readings) = None
+explained_reading (NoWin missed) = None

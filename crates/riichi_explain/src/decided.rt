@@ -21,9 +21,9 @@ impl Decided for HanRow {
 }
 
 impl Decided for FuPart {
-    ghost use Rattle.riichi_explain.specs.Equality.{parts_decide};
+    ghost use Rattle.riichi_explain.specs.Equality.{fu_parts_decide};
 
-    ghost decides = { parts_decide };
+    ghost decides = { fu_parts_decide };
 }
 
 impl Decided for FuRow {

@@ -72,7 +72,7 @@ fn red_fives(win: &WinRecord) -> u32
 /// A row, where there is any.
 fn push_counted(rows: &mut DoraRows, part: DoraPart, han: u32)
     requires { length rows.old.items ≤ 2 }
-    ensures items { rows.new.items ≡ rows.old.items ++ spec.counted_dora part han }
+    ensures items { rows.new.items ≡ rows.old.items ++ spec.dora_row_if part han }
     ensures most { length rows.new.items ≤ length rows.old.items + 1 }
 {
     if han > 0 {

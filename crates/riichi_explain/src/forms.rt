@@ -1,7 +1,7 @@
 //! How far tiles are from each form of a winning hand, and the line of it.
 ghost use Rattle.std.specs.Prelude.{◌≡◌, ◌+◌, ◌≤◌, ◌++◌, length, pos, ◌-ℤ◌};
 ghost use Rattle.arrayvec.specs.ArrayString.{array_string_len};
-ghost use Rattle.riichi_score.specs.Scores.{hand_of};
+ghost use Rattle.riichi_score.specs.Scores.{completed_hand};
 ghost use Rattle.riichi_shape.specs.EveryWinning.{shanten_of};
 ghost use Rattle.riichi_shape.specs.Forms.{least_of};
 ghost use Rattle.riichi_explain.specs.Forms as spec;
@@ -23,7 +23,7 @@ pub fn explain_shape<R: RowSource>(source: &mut R, shape: &ShapeRecord) -> FormD
 
 /// How far the tiles of a win are from each form, the winning tile among them.
 pub(crate) fn win_forms<R: RowSource>(source: &mut R, win: &WinRecord) -> FormDistances
-    ensures forms { spec.AreFormDistances (hand_of win.now) win.now.melds result }
+    ensures forms { spec.AreFormDistances (completed_hand win.now) win.now.melds result }
     ensures stays { source.new ≡ source.old }
 {
     form_distances(source, &hand_of(win), &win.melds())
@@ -55,11 +55,11 @@ fn push_form(text: &mut ArrayString<4608>, name: &str, lack: u8)
 }
 
 /// A form that stands beside no meld.
-#[tactic(auto, unfolding(crate::specs::Forms::other_text))]
+#[tactic(auto, unfolding(crate::specs::Forms::special_form_text))]
 fn push_other(text: &mut ArrayString<4608>, name: &str, lack: Option<u8>)
     requires few { length name.now ≤ 19 }
     requires room { array_string_len text.old + 22 ≤ 4608 }
-    ensures bytes { text.new.bytes ≡ text.old.bytes ++ spec.other_text name.now lack }
+    ensures bytes { text.new.bytes ≡ text.old.bytes ++ spec.special_form_text name.now lack }
     ensures len { array_string_len text.new ≤ array_string_len text.old + length name.now + 3 }
 {
     if let Some(lack) = lack {

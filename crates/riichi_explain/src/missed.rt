@@ -3,7 +3,7 @@ ghost use Rattle.std.specs.Prelude.{◌≡◌, ◌+◌, ◌≤◌, ◌++◌, len
 ghost use Rattle.arrayvec.specs.ArrayString.{array_string_len};
 ghost use Rattle.riichi_hand.specs.Win.{IsWinRecord};
 ghost use Rattle.riichi_score.specs.Limits.{waiting_hand};
-ghost use Rattle.riichi_score.specs.Scores.{hand_of};
+ghost use Rattle.riichi_score.specs.Scores.{completed_hand};
 ghost use Rattle.riichi_waits.specs.Waits.{kind_waits};
 ghost use Rattle.riichi_explain.specs.Forms.{AreFormDistances};
 ghost use Rattle.riichi_explain.specs.Missed as spec;
@@ -25,7 +25,7 @@ pub struct MissedWin {
 }
 
 pub(crate) fn missed_win<R: RowSource>(source: &mut R, win: &WinRecord) -> MissedWin
-    ensures forms { AreFormDistances (hand_of win.now) win.now.melds result.forms }
+    ensures forms { AreFormDistances (completed_hand win.now) win.now.melds result.forms }
     ensures waits { result.waits.items ≡ kind_waits (waiting_hand win.now) }
     ensures stays { source.new ≡ source.old }
 {

@@ -46,7 +46,7 @@ fn push_fitting(
     requires empty { text.old.bytes ≡ [] }
     requires sets { All (λ one. HasFourSets one.reading win.now) ranked.now }
     ensures { text.new.bytes ≡ spec.fitting (spec.more_if has_more) 4608
-        (map (spec.other_text shown.now win.now) ranked.now) }
+        (map (spec.other_reading_text shown.now win.now) ranked.now) }
 {
     let mut lines = ArrayString::new();
     for one in ranked {
@@ -79,7 +79,7 @@ fn push_unless_shown(
 )
     requires sets { HasFourSets one.now.reading win.now }
     requires room { array_string_len text.old + 3800 ≤ 4608 }
-    ensures { text.new.bytes ≡ text.old.bytes ++ spec.other_text shown.now win.now one.now }
+    ensures { text.new.bytes ≡ text.old.bytes ++ spec.other_reading_text shown.now win.now one.now }
 {
     if one.reading != *shown {
         push_ranked(text, &one.reading, &one.score, win);

@@ -75,10 +75,10 @@ fn push_product(text: &mut ArrayString<4608>, han: u8, fu: u8, product: u32)
 }
 
 /// A yakuman has no number of han.
-#[tactic(auto, unfolding(crate::specs::Text::han_words))]
+#[tactic(auto, unfolding(crate::specs::Text::han_count_text))]
 fn push_han_words(text: &mut ArrayString<4608>, han: u8)
     requires { array_string_len text.old + 9 ≤ 4608 }
-    ensures bytes { text.new.bytes ≡ text.old.bytes ++ spec.han_words han }
+    ensures bytes { text.new.bytes ≡ text.old.bytes ++ spec.han_count_text han }
     ensures len { array_string_len text.new ≤ array_string_len text.old + 9 }
 {
     if han > 0 {
@@ -139,13 +139,13 @@ pub(crate) fn push_pay_line(text: &mut ArrayString<4608>, rows: &[PayRow])
 }
 
 impl ListItem<4608> for PayRow {
-    ghost use Rattle.riichi_explain.specs.Text.{pay_text};
+    ghost use Rattle.riichi_explain.specs.Text.{pay_row_text};
 
-    ghost item_text = { pay_text };
+    ghost item_text = { pay_row_text };
 
     ghost most = { 91 };
 
-    #[tactic(auto, unfolding(crate::specs::Text::pay_text))]
+    #[tactic(auto, unfolding(crate::specs::Text::pay_row_text))]
     fn push(&self, text: &mut ArrayString<4608>) {
         push_payer(text, self.payer);
         push_added(text, " for counters = ", self.points, self.counters);

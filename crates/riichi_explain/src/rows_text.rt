@@ -63,13 +63,13 @@ fn push_sum_of(text: &mut ArrayString<4608>, rows: usize, sum: u32)
 }
 
 impl ListItem<4608> for HanRow {
-    ghost use Rattle.riichi_explain.specs.Text.{han_text};
+    ghost use Rattle.riichi_explain.specs.Text.{han_row_text};
 
-    ghost item_text = { han_text };
+    ghost item_text = { han_row_text };
 
     ghost most = { 48 };
 
-    #[tactic(auto, unfolding(crate::specs::Text::han_text))]
+    #[tactic(auto, unfolding(crate::specs::Text::han_row_text))]
     fn push(&self, text: &mut ArrayString<4608>) {
         push_han_part(text, &self.part);
         push_han_number(text, &self.part, self.han);
@@ -133,13 +133,13 @@ fn push_dora_line(text: &mut ArrayString<4608>, rows: &[DoraRow])
 }
 
 impl ListItem<4608> for DoraRow {
-    ghost use Rattle.riichi_explain.specs.Text.{dora_text};
+    ghost use Rattle.riichi_explain.specs.Text.{dora_row_text};
 
-    ghost item_text = { dora_text };
+    ghost item_text = { dora_row_text };
 
     ghost most = { 26 };
 
-    #[tactic(auto, unfolding(crate::specs::Text::dora_text))]
+    #[tactic(auto, unfolding(crate::specs::Text::dora_row_text))]
     fn push(&self, text: &mut ArrayString<4608>) {
         push_number(text, self.han);
         push_dora_part(text, self.part, self.han);
@@ -221,13 +221,13 @@ fn push_rounded_to(text: &mut ArrayString<4608>, fu: u8)
 }
 
 impl ListItem<4608> for FuRow {
-    ghost use Rattle.riichi_explain.specs.Text.{fu_text};
+    ghost use Rattle.riichi_explain.specs.Text.{fu_row_text};
 
-    ghost item_text = { fu_text };
+    ghost item_text = { fu_row_text };
 
     ghost most = { 50 };
 
-    #[tactic(auto, unfolding(crate::specs::Text::fu_text))]
+    #[tactic(auto, unfolding(crate::specs::Text::fu_row_text))]
     fn push(&self, text: &mut ArrayString<4608>) {
         push_number(text, self.fu);
         text.push_str(" ");

@@ -44,11 +44,11 @@ pub enum WinExplanation {
 }
 
 impl WinExplanation {
-    ghost use Rattle.riichi_explain.specs.Win.{answer_of, reading_of};
+    ghost use Rattle.riichi_explain.specs.Win.{explained_answer, explained_reading};
 
     /// The answer that is explained.
     pub fn answer(&self) -> WinAnswer
-        ensures { result ≡ answer_of self.now }
+        ensures { result ≡ explained_answer self.now }
     {
         match self {
             WinExplanation::Won(hand) => WinAnswer::Won(hand.score),
@@ -59,7 +59,7 @@ impl WinExplanation {
 
     /// The reading that scores.
     pub fn reading(&self) -> Option<Reading>
-        ensures { result ≡ reading_of self.now }
+        ensures { result ≡ explained_reading self.now }
     {
         match self {
             WinExplanation::Won(hand) => Some(hand.reading),
@@ -70,7 +70,7 @@ impl WinExplanation {
 
 /// Why `best` answers what it answers. Where the hand is no win, the rows of a source say how far it is from each form.
 pub fn explain_win<R: RowSource>(source: &mut R, win: &WinRecord) -> WinExplanation
-    ensures answer { spec.answer_of result ≡ best_of win.now }
+    ensures answer { spec.explained_answer result ≡ best_of win.now }
     ensures explains { spec.Explains win.now result }
     ensures stays { source.new ≡ source.old }
 {

@@ -11,7 +11,7 @@ use Rattle.riichi_hand.specs.declared.fault.LineFault.{LineFault}
 use Rattle.riichi_hand.specs.declared.fault.LineFault.TheVariants.{Line, Notation}
 use Rattle.riichi_hand.specs.declared.fault.TextName.{TextName}
 use Rattle.riichi_hand.specs.declared.fault.TextName.TheVariants.{Hand}
-use Rattle.riichi_hand.specs.Entries.{first_of}
+use Rattle.riichi_hand.specs.Entries.{first_item}
 use Rattle.riichi_hand.specs.FaultTexts.{name_text}
 use Rattle.riichi_hand.specs.Keys.{key_names}
 use Rattle.riichi_hand.specs.Places.{from_with}
@@ -74,7 +74,7 @@ code_words-quiet : (code : LineCode) (line : List ℕ) → quiet (code_words cod
 unfolding code_words
 code_words-quiet H1 line = foreign_words-quiet line
 code_words-quiet H2 line = first_word_words-quiet (word_at_fault H2 line)
-code_words-quiet H4 line = entry_words-quiet (first_of (words_of line)) (word_at_fault H4 line)
+code_words-quiet H4 line = entry_words-quiet (first_item (words_of line)) (word_at_fault H4 line)
 code_words-quiet code line = line_words-quiet code
 
 pub refusal_words-quiet : (line : List ℕ) (fault : LineFault) → quiet (refusal_words line fault) ≡ true

@@ -8,7 +8,7 @@ use Rattle.riichi_hand.specs.declared.fault.LineCode.TheVariants.{H1, H2, H3, H4
 use Rattle.riichi_hand.specs.declared.fault.LineFault.{LineFault}
 use Rattle.riichi_hand.specs.declared.fault.LineFault.TheVariants.{Line, Notation}
 use Rattle.riichi_hand.specs.declared.line.record.Place.{Place}
-use Rattle.riichi_hand.specs.Entries.{first_of}
+use Rattle.riichi_hand.specs.Entries.{first_item}
 use Rattle.riichi_hand.specs.FaultTexts.{name_text}
 use Rattle.riichi_hand.specs.Keys.{key_names}
 use Rattle.riichi_hand.specs.Lines.{is_other_byte}
@@ -33,7 +33,7 @@ foreign_words line = if is_long line then line_words H1 else byte_words line (un
 unfoldable pub code_words : LineCode → List ℕ → List ℕ
 code_words H1 line = foreign_words line
 code_words H2 line = first_word_words (word_at_fault H2 line)
-code_words H4 line = entry_words (first_of (words_of line)) (word_at_fault H4 line)
+code_words H4 line = entry_words (first_item (words_of line)) (word_at_fault H4 line)
 code_words code line = line_words code
 
 unfoldable pub refusal_words : List ℕ → LineFault → List ℕ

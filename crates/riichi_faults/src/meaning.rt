@@ -1,6 +1,6 @@
 //! What a refusal means: what may stand at the fault, the key that is at fault, and its place in the line.
 ghost use Rattle.std.specs.Prelude.{◌≡◌, ◌≤◌, IfSome, length, option_and_then, option_map};
-ghost use Rattle.riichi_hand.specs.Entries.{first_of};
+ghost use Rattle.riichi_hand.specs.Entries.{first_item};
 ghost use Rattle.riichi_hand.specs.Places.{fault_from};
 ghost use Rattle.riichi_hand.specs.Words.{word_of, words_of};
 ghost use Rattle.riichi_faults.specs.LineWords.{word_at_fault};
@@ -81,7 +81,7 @@ fn code_words(code: LineCode, line: &[u8], word: Option<&[u8]>) -> &'static str
 
 /// The first word.
 fn job_word<'a>(line: &'a [u8]) -> Option<&'a [u8]>
-    ensures { option_map (λ word. word.now) result ≡ first_of (words_of line.now) }
+    ensures { option_map (λ word. word.now) result ≡ first_item (words_of line.now) }
 {
     let (word, _) = next_word(line)?;
     Some(word)

@@ -11,14 +11,14 @@ use Rattle.riichi_tiles.specs.Melds.{cut_at}
 use Rattle.riichi_tiles.proofs.CutLemmas.{plain, around, cut_at-front, Joins, cut_joins}
 use Rattle.riichi_hand.specs.declared.line.job_name.JobName.{JobName}
 use Rattle.riichi_hand.specs.declared.line.key.Key.{Key}
-use Rattle.riichi_hand.specs.Values.{named}
+use Rattle.riichi_hand.specs.Values.{value_beside}
 use Rattle.riichi_hand.specs.Keys.{key_names, key_named, has_key}
 use Rattle.riichi_hand.specs.Words.{begins_with_space, from_words, word_of}
 use Rattle.riichi_hand.specs.Entries.{keyed_by, keyed_cut, keyed_of}
 use Rattle.riichi_hand.proofs.WordLemmas.{is_word, from_words-word, word_of-word}
 
 -- What holds of each word of a table holds of one that is named there.
-named_each : {X : Type 0} (p : List ℕ → Bool) (rows : List (List ℕ × X)) (word : List ℕ) (x : X) → list_all (λ row. p row.0) rows ≡ true → named rows word ≡ Some x → p word ≡ true
+named_each : {X : Type 0} (p : List ℕ → Bool) (rows : List (List ℕ × X)) (word : List ℕ) (x : X) → list_all (λ row. p row.0) rows ≡ true → value_beside rows word ≡ Some x → p word ≡ true
 named_each p [] word x all is = let bad : None ≡ Some x = is in absurd (cc)
 named_each {X} p (row ∷ rows) word x all is =
     let each = and_parts (p row.0) (list_all (λ r. p r.0) rows) all in

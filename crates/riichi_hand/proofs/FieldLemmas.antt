@@ -10,8 +10,8 @@ use Rattle.std.proofs.lemmas.List.Folds.{list_any-append}
 use Rattle.riichi_hand.specs.declared.line.job_name.JobName.{JobName}
 use Rattle.riichi_hand.specs.declared.line.key.Key.{Key}
 use Rattle.riichi_hand.specs.declared.line.key.Key.TheVariants.{On, By, Seat, Round, Open, Riichi, Flags, Dora, Ura, Counters, Sticks, Seen}
-use Rattle.riichi_hand.specs.Keys.{ValueOf, value_of, value_at}
-use Rattle.riichi_hand.specs.Entries.{keyed_of, value_in, values_of, is_bad, is_doubled, every_key, first_of, first_or, is_again, entries_of, with_keyed}
+use Rattle.riichi_hand.specs.Keys.{ValueOf, value_for_key, value_at}
+use Rattle.riichi_hand.specs.Entries.{keyed_of, value_in, values_of, is_bad, is_doubled, every_key, first_item, first_or, is_again, entries_of, with_keyed}
 
 abbrev as_list : {X : Type 0} → Option X → List X
 as_list None = []
@@ -25,13 +25,13 @@ one_word job key word = elim (value_in key (keyed_of job word)) as (λ value. co
 values_of-last : (job : JobName) (words : List (List ℕ)) (word : List ℕ) (key : Key) → values_of job (words ++ word ∷ []) key ≡ values_of job words key ++ as_list (value_in key (keyed_of job word))
 values_of-last job words word key = filter_map-append (λ word. value_in key (keyed_of job word)) words (word ∷ []) ∙ ap (λ values. values_of job words key ++ values) (one_word job key word)
 
-first_of-last : {X : Type 0} (values : List X) (value : Option X) → first_of (values ++ as_list value) ≡ first_or (first_of values) value
-first_of-last [] None = refl
-first_of-last [] (Some value) = refl
-first_of-last (first ∷ values) None = refl
-first_of-last (first ∷ values) (Some value) = refl
+first_item-last : {X : Type 0} (values : List X) (value : Option X) → first_item (values ++ as_list value) ≡ first_or (first_item values) value
+first_item-last [] None = refl
+first_item-last [] (Some value) = refl
+first_item-last (first ∷ values) None = refl
+first_item-last (first ∷ values) (Some value) = refl
 
-over_one : {X : Type 0} (values : List X) (value : Option X) → nat_lt 1 (length (values ++ as_list value)) ≡ (is_again (first_of values) value || nat_lt 1 (length values))
+over_one : {X : Type 0} (values : List X) (value : Option X) → nat_lt 1 (length (values ++ as_list value)) ≡ (is_again (first_item values) value || nat_lt 1 (length values))
 over_one [] None = refl
 over_one [] (Some value) = refl
 over_one (first ∷ []) None = refl
@@ -68,18 +68,18 @@ again values Sticks value = or-false (is_again (values Sticks) value)
 again values Seen value = or-false (is_again (values Seen) value)
 
 doubled-last : (job : JobName) (words : List (List ℕ)) (word : List ℕ) (keyed : Key × List ℕ) → keyed_of job word ≡ Some keyed
-    → list_any (is_doubled job (words ++ word ∷ [])) every_key ≡ (is_again ((entries_of job words).value keyed.0) (value_of keyed.0 keyed.1) || list_any (is_doubled job words) every_key)
+    → list_any (is_doubled job (words ++ word ∷ [])) every_key ≡ (is_again ((entries_of job words).value keyed.0) (value_for_key keyed.0 keyed.1) || list_any (is_doubled job words) every_key)
 doubled-last job words word keyed is =
-    let value = value_of keyed.0 keyed.1 in
-    let each : (key : Key) → is_doubled job (words ++ word ∷ []) key ≡ (is_again (first_of (values_of job words key)) (value_at key keyed.0 value) || is_doubled job words key) =
+    let value = value_for_key keyed.0 keyed.1 in
+    let each : (key : Key) → is_doubled job (words ++ word ∷ []) key ≡ (is_again (first_item (values_of job words key)) (value_at key keyed.0 value) || is_doubled job words key) =
     λ key. ap (λ values. nat_lt 1 (length values)) (values_of-last job words word key) ∙ over_one (values_of job words key) (value_in key (keyed_of job word))
-    ∙ ap (λ (k : Option (Key × List ℕ)). is_again (first_of (values_of job words key)) (value_in key k) || is_doubled job words key) is in
+    ∙ ap (λ (k : Option (Key × List ℕ)). is_again (first_item (values_of job words key)) (value_in key k) || is_doubled job words key) is in
     ap (λ (f : Key → Bool). list_any f every_key) (fun_ext each)
-    ∙ list_any-or (λ key. is_again (first_of (values_of job words key)) (value_at key keyed.0 value)) (is_doubled job words) every_key
+    ∙ list_any-or (λ key. is_again (first_item (values_of job words key)) (value_at key keyed.0 value)) (is_doubled job words) every_key
     ∙ ap (λ b. b || list_any (is_doubled job words) every_key) (again (entries_of job words).value keyed.0 value)
 
 bad-last : (job : JobName) (words : List (List ℕ)) (word : List ℕ) (keyed : Key × List ℕ) → keyed_of job word ≡ Some keyed
-    → list_any (is_bad job) (words ++ word ∷ []) ≡ (list_any (is_bad job) words || not (is_some (value_of keyed.0 keyed.1)))
+    → list_any (is_bad job) (words ++ word ∷ []) ≡ (list_any (is_bad job) words || not (is_some (value_for_key keyed.0 keyed.1)))
 bad-last job words word keyed is = list_any-append (is_bad job) words (word ∷ []) ∙ ap (λ b. list_any (is_bad job) words || b) (or-false (is_bad job word)) ∙ rw is refl
 
 pub entries_of-last : (job : JobName) (words : List (List ℕ)) (word : List ℕ) (keyed : Key × List ℕ) → keyed_of job word ≡ Some keyed
@@ -87,8 +87,8 @@ pub entries_of-last : (job : JobName) (words : List (List ℕ)) (word : List ℕ
 entries_of-last job words word keyed is =
     let bad = bad-last job words word keyed is in
     let doubled = doubled-last job words word keyed is in
-    let each : (key : Key) → first_of (values_of job (words ++ word ∷ []) key) ≡ first_or (first_of (values_of job words key)) (value_at key keyed.0 (value_of keyed.0 keyed.1)) =
-    λ key. ap first_of (values_of-last job words word key) ∙ first_of-last (values_of job words key) (value_in key (keyed_of job word))
-    ∙ ap (λ (k : Option (Key × List ℕ)). first_or (first_of (values_of job words key)) (value_in key k)) is in
+    let each : (key : Key) → first_item (values_of job (words ++ word ∷ []) key) ≡ first_or (first_item (values_of job words key)) (value_at key keyed.0 (value_for_key keyed.0 keyed.1)) =
+    λ key. ap first_item (values_of-last job words word key) ∙ first_item-last (values_of job words key) (value_in key (keyed_of job word))
+    ∙ ap (λ (k : Option (Key × List ℕ)). first_or (first_item (values_of job words key)) (value_in key k)) is in
     let values = fun_ext each in
     λ i. record { has_bad_word = bad i; has_doubled_key = doubled i; value = values i }

@@ -8,7 +8,7 @@ use Rattle.std.proofs.lemmas.List.Folds.{list_all-append}
 use Rattle.std.proofs.lemmas.List.Sums.{sum_by-append}
 use Rattle.std.proofs.lemmas.Option.{cond_some}
 use Rattle.riichi_hand.specs.declared.win.Flags.{Flags}
-use Rattle.riichi_hand.specs.Values.{is_flag, copies, are_flags, flags_in, flags_of_items, has_item}
+use Rattle.riichi_hand.specs.Values.{is_flag, item_copies, are_flags, flags_in, flags_of_items, has_item}
 
 -- each is at most one
 abbrev single : ℕ → ℕ → ℕ → ℕ → ℕ → Bool
@@ -33,16 +33,16 @@ settled all a b c d e = if all && single a b c d e then Some (set a b c d e) els
 abbrev one : List ℕ → List ℕ → ℕ
 one item word = count_by (λ i. bytes_eq i word) (item ∷ [])
 
-more : (items : List (List ℕ)) (item word : List ℕ) → copies (items ++ item ∷ []) word ≡ copies items word + one item word
+more : (items : List (List ℕ)) (item word : List ℕ) → item_copies (items ++ item ∷ []) word ≡ item_copies items word + one item word
 more items item word = sum_by-append (λ i. if bytes_eq i word then 1 else 0) items (item ∷ [])
 
 pub flags_of_items-last : (items : List (List ℕ)) (item : List ℕ) → flags_of_items (items ++ item ∷ []) ≡
     settled (list_all is_flag items && (is_flag item && true))
-    (copies items (codes "ippatsu") + one item (codes "ippatsu"))
-    (copies items (codes "rinshan") + one item (codes "rinshan"))
-    (copies items (codes "chankan") + one item (codes "chankan"))
-    (copies items (codes "last") + one item (codes "last"))
-    (copies items (codes "first") + one item (codes "first"))
+    (item_copies items (codes "ippatsu") + one item (codes "ippatsu"))
+    (item_copies items (codes "rinshan") + one item (codes "rinshan"))
+    (item_copies items (codes "chankan") + one item (codes "chankan"))
+    (item_copies items (codes "last") + one item (codes "last"))
+    (item_copies items (codes "first") + one item (codes "first"))
 flags_of_items-last items item =
     rw (list_all-append is_flag items (item ∷ []), more items item (codes "ippatsu"), more items item (codes "rinshan"), more items item (codes "chankan"), more items item (codes "last"), more items item (codes "first")) refl
 
@@ -95,35 +95,35 @@ settled-first all a b c d (suc e) h =
     rw (lt-ltb 0 (suc e) (omega arith)) (sym (settled-none (all && true) (a + 0) (b + 0) (c + 0) (d + 0) (suc e + 1) (λ s. let f = fits (a + 0) (b + 0) (c + 0) (d + 0) (suc e + 1) s in omega (arith, f.4))))
 
 pub with_ippatsu : (items : List (List ℕ)) → are_flags items ≡ true → taken (has_item items (codes "ippatsu")) (record (flags_in items) { ippatsu = true }) ≡ flags_of_items (items ++ codes "ippatsu" ∷ [])
-with_ippatsu items h = rw (flags_of_items-last items (codes "ippatsu")) (settled-ippatsu (list_all is_flag items) (copies items (codes "ippatsu")) (copies items (codes "rinshan")) (copies items (codes "chankan")) (copies items (codes "last")) (copies items (codes "first")) h)
+with_ippatsu items h = rw (flags_of_items-last items (codes "ippatsu")) (settled-ippatsu (list_all is_flag items) (item_copies items (codes "ippatsu")) (item_copies items (codes "rinshan")) (item_copies items (codes "chankan")) (item_copies items (codes "last")) (item_copies items (codes "first")) h)
 
 pub with_rinshan : (items : List (List ℕ)) → are_flags items ≡ true → taken (has_item items (codes "rinshan")) (record (flags_in items) { rinshan = true }) ≡ flags_of_items (items ++ codes "rinshan" ∷ [])
-with_rinshan items h = rw (flags_of_items-last items (codes "rinshan")) (settled-rinshan (list_all is_flag items) (copies items (codes "ippatsu")) (copies items (codes "rinshan")) (copies items (codes "chankan")) (copies items (codes "last")) (copies items (codes "first")) h)
+with_rinshan items h = rw (flags_of_items-last items (codes "rinshan")) (settled-rinshan (list_all is_flag items) (item_copies items (codes "ippatsu")) (item_copies items (codes "rinshan")) (item_copies items (codes "chankan")) (item_copies items (codes "last")) (item_copies items (codes "first")) h)
 
 pub with_chankan : (items : List (List ℕ)) → are_flags items ≡ true → taken (has_item items (codes "chankan")) (record (flags_in items) { chankan = true }) ≡ flags_of_items (items ++ codes "chankan" ∷ [])
-with_chankan items h = rw (flags_of_items-last items (codes "chankan")) (settled-chankan (list_all is_flag items) (copies items (codes "ippatsu")) (copies items (codes "rinshan")) (copies items (codes "chankan")) (copies items (codes "last")) (copies items (codes "first")) h)
+with_chankan items h = rw (flags_of_items-last items (codes "chankan")) (settled-chankan (list_all is_flag items) (item_copies items (codes "ippatsu")) (item_copies items (codes "rinshan")) (item_copies items (codes "chankan")) (item_copies items (codes "last")) (item_copies items (codes "first")) h)
 
 pub with_last : (items : List (List ℕ)) → are_flags items ≡ true → taken (has_item items (codes "last")) (record (flags_in items) { last = true }) ≡ flags_of_items (items ++ codes "last" ∷ [])
-with_last items h = rw (flags_of_items-last items (codes "last")) (settled-last (list_all is_flag items) (copies items (codes "ippatsu")) (copies items (codes "rinshan")) (copies items (codes "chankan")) (copies items (codes "last")) (copies items (codes "first")) h)
+with_last items h = rw (flags_of_items-last items (codes "last")) (settled-last (list_all is_flag items) (item_copies items (codes "ippatsu")) (item_copies items (codes "rinshan")) (item_copies items (codes "chankan")) (item_copies items (codes "last")) (item_copies items (codes "first")) h)
 
 pub with_first : (items : List (List ℕ)) → are_flags items ≡ true → taken (has_item items (codes "first")) (record (flags_in items) { first = true }) ≡ flags_of_items (items ++ codes "first" ∷ [])
-with_first items h = rw (flags_of_items-last items (codes "first")) (settled-first (list_all is_flag items) (copies items (codes "ippatsu")) (copies items (codes "rinshan")) (copies items (codes "chankan")) (copies items (codes "last")) (copies items (codes "first")) h)
+with_first items h = rw (flags_of_items-last items (codes "first")) (settled-first (list_all is_flag items) (item_copies items (codes "ippatsu")) (item_copies items (codes "rinshan")) (item_copies items (codes "chankan")) (item_copies items (codes "last")) (item_copies items (codes "first")) h)
 
 -- more items: what is refused stays refused
 
-fewer : (items others : List (List ℕ)) (word : List ℕ) → copies items word ≤ copies (items ++ others) word
+fewer : (items others : List (List ℕ)) (word : List ℕ) → item_copies items word ≤ item_copies (items ++ others) word
 fewer items others word = omega (arith, sum_by-append (λ i. if bytes_eq i word then 1 else 0) items others)
 
 are_flags-front : (items others : List (List ℕ)) → are_flags (items ++ others) ≡ true → are_flags items ≡ true
 are_flags-front items others are =
     let p = and_parts (list_all is_flag (items ++ others)) _ are in
     let every = and_parts (list_all is_flag items) (list_all is_flag others) (rw list_all-append at p.0) in
-    let f = fits (copies (items ++ others) (codes "ippatsu")) (copies (items ++ others) (codes "rinshan")) (copies (items ++ others) (codes "chankan")) (copies (items ++ others) (codes "last")) (copies (items ++ others) (codes "first")) p.1 in
-    let ippatsu = le-leb (copies items (codes "ippatsu")) 1 (omega (arith, fewer items others (codes "ippatsu"), f.0)) in
-    let rinshan = le-leb (copies items (codes "rinshan")) 1 (omega (arith, fewer items others (codes "rinshan"), f.1)) in
-    let chankan = le-leb (copies items (codes "chankan")) 1 (omega (arith, fewer items others (codes "chankan"), f.2)) in
-    let last = le-leb (copies items (codes "last")) 1 (omega (arith, fewer items others (codes "last"), f.3)) in
-    let first = le-leb (copies items (codes "first")) 1 (omega (arith, fewer items others (codes "first"), f.4)) in
+    let f = fits (item_copies (items ++ others) (codes "ippatsu")) (item_copies (items ++ others) (codes "rinshan")) (item_copies (items ++ others) (codes "chankan")) (item_copies (items ++ others) (codes "last")) (item_copies (items ++ others) (codes "first")) p.1 in
+    let ippatsu = le-leb (item_copies items (codes "ippatsu")) 1 (omega (arith, fewer items others (codes "ippatsu"), f.0)) in
+    let rinshan = le-leb (item_copies items (codes "rinshan")) 1 (omega (arith, fewer items others (codes "rinshan"), f.1)) in
+    let chankan = le-leb (item_copies items (codes "chankan")) 1 (omega (arith, fewer items others (codes "chankan"), f.2)) in
+    let last = le-leb (item_copies items (codes "last")) 1 (omega (arith, fewer items others (codes "last"), f.3)) in
+    let first = le-leb (item_copies items (codes "first")) 1 (omega (arith, fewer items others (codes "first"), f.4)) in
     rw (every.0, ippatsu, rinshan, chankan, last, first) refl
 
 -- flags that are set are those of the items

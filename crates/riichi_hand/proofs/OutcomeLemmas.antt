@@ -20,12 +20,12 @@ use Rattle.riichi_hand.specs.declared.job.Job.{Job}
 use Rattle.riichi_hand.specs.declared.job.Job.TheVariants as jobs
 use Rattle.riichi_hand.specs.declared.fault.LineCode.TheVariants.{H7, H8, H9}
 use Rattle.riichi_hand.specs.FaultTexts.{line_code_text}
-use Rattle.riichi_hand.specs.Faults.{coded, first_fault, fault_or, IsStep}
+use Rattle.riichi_hand.specs.Faults.{coded, first_fault, fault_or, IsValueOrFirstFault}
 use Rattle.riichi_hand.specs.Rules.{house_of}
 use Rattle.riichi_hand.specs.Win.{no_reds, without_reds, kept_under, win_faults, win_of}
 use Rattle.riichi_hand.specs.Words.{words_of}
 use Rattle.riichi_hand.specs.Parts.{LineParts, parts_of, value}
-use Rattle.riichi_hand.specs.Texts.{texts_of, text_fault, melds_in}
+use Rattle.riichi_hand.specs.Texts.{texts_of, text_fault, melds_if_given}
 use Rattle.riichi_hand.specs.Jobs.{job_of}
 use Rattle.riichi_hand.specs.Lines.{is_no_record, text_faults, faults_of, faults_of_win, outcome_of}
 
@@ -78,9 +78,9 @@ after_text code name (Some text) faults is = after_notation code name (notation_
 
 -- nor one of the texts of the line, behind which the melds are spelled
 pub after_texts : (code : LineCode) (parts : LineParts) (faults : List (Option LineFault)) → first_fault (text_faults parts ++ faults) ≡ Some (Line code)
-    → first_fault (coded H7 (not (is_some (melds_in (value Open parts)))) ∷ faults) ≡ Some (Line code)
+    → first_fault (coded H7 (not (is_some (melds_if_given (value Open parts)))) ∷ faults) ≡ Some (Line code)
 after_texts code parts faults is =
-    let melds = coded H7 (not (is_some (melds_in (value Open parts)))) ∷ faults in
+    let melds = coded H7 (not (is_some (melds_if_given (value Open parts)))) ∷ faults in
     let seen = text_fault text.Seen (value Seen parts) ∷ melds in
     let ura = text_fault text.Ura (value Ura parts) ∷ seen in
     let dora = text_fault text.Dora (value Dora parts) ∷ ura in
@@ -88,7 +88,7 @@ after_texts code parts faults is =
     after_text code text.Seen (value Seen parts) melds (after_text code text.Ura (value Ura parts) seen
     (after_text code text.Dora (value Dora parts) ura (after_text code text.On (value On parts) dora (after_text code text.Hand (Some parts.hand) on is))))
 
-step_at : {X : Type 0} (Is : X → Type 0) (first : Option LineFault) (faults : List (Option LineFault)) (x : X) → first_fault faults ≡ first → Is x → IsStep (fault_or first x) faults Is
+step_at : {X : Type 0} (Is : X → Type 0) (first : Option LineFault) (faults : List (Option LineFault)) (x : X) → first_fault faults ≡ first → Is x → IsValueOrFirstFault (fault_or first x) faults Is
 step_at Is None faults x none is = (none, is)
 step_at Is (Some fault) faults x some is = some
 
@@ -131,7 +131,7 @@ win_of_kept rules win is = win_if rules.red_fives win (ap (λ r. r.red_fives) is
 -- the step of a win that has one winning tile and its keys
 pub win_step : (only : Option ℕ) (line : Option WinParts) (rules : House) (winning : ℕ) (win : WinParts) (result : Result WinParts LineFault) → only ≡ Some winning → line ≡ Some win
     → result ≡ fault_or (first_fault (win_faults win)) (kept_under rules win)
-    → IsStep result (coded H8 (not (is_some only)) ∷ faults_of_win line) (λ won. Some (jobs.Win won) ≡ option_map (λ won. jobs.Win (kept_under rules won)) line)
+    → IsValueOrFirstFault result (coded H8 (not (is_some only)) ∷ faults_of_win line) (λ won. Some (jobs.Win won) ≡ option_map (λ won. jobs.Win (kept_under rules won)) line)
 win_step only line rules winning win result one some is =
     rw (one, some, is) (step_at (λ won. Some (jobs.Win won) ≡ Some (jobs.Win (kept_under rules win))) (first_fault (win_faults win)) (win_faults win) (kept_under rules win) refl refl)
 

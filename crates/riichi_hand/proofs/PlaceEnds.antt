@@ -11,9 +11,9 @@ use Rattle.riichi_hand.specs.declared.fault.LineFault.TheVariants.{Line, Notatio
 use Rattle.riichi_hand.specs.declared.fault.TextName.{TextName}
 use Rattle.riichi_hand.specs.declared.fault.TextName.TheVariants.{Hand, On, Dora, Ura, Seen}
 use Rattle.riichi_hand.specs.Words.{is_space, words_of, starts, from_words, word_of}
-use Rattle.riichi_hand.specs.Entries.{first_of, is_bad}
+use Rattle.riichi_hand.specs.Entries.{first_item, is_bad}
 use Rattle.riichi_hand.specs.Parts.{parts_of}
-use Rattle.riichi_hand.specs.Places.{begins, from_with, or_other, first_at, has_doubled, wrong_number, key_of, text_from, code_from, fault_from}
+use Rattle.riichi_hand.specs.Places.{begins_with_digits, from_with, or_other, first_at, has_doubled, wrong_number, key_of, text_from, code_from, fault_from}
 
 abbrev IsEnd : List ℕ → List ℕ → Type 0
 IsEnd line from = (front : List ℕ) × (line ≡ front ++ from)
@@ -39,9 +39,9 @@ find-picks : (test : List ℕ → Bool) (line : List ℕ) (froms : List (List �
 find-picks test line [] ends = tt
 find-picks test line (from ∷ froms) ends = elim (cases_Bool (test from)) [ inl here ↦ rw here ends.0 | inr other ↦ rw other (find-picks test line froms ends.1) ]
 
-first_of-picks : (line : List ℕ) (froms : List (List ℕ)) → AreEnds line froms → Picks line (first_of froms)
-first_of-picks line [] ends = tt
-first_of-picks line (from ∷ froms) ends = ends.0
+first_item-picks : (line : List ℕ) (froms : List (List ℕ)) → AreEnds line froms → Picks line (first_item froms)
+first_item-picks line [] ends = tt
+first_item-picks line (from ∷ froms) ends = ends.0
 
 drop-ends : (n : ℕ) (line : List ℕ) (froms : List (List ℕ)) → AreEnds line froms → AreEnds line (drop n froms)
 drop-ends zero line froms ends = ends
@@ -62,10 +62,10 @@ module _ (line : List ℕ) where
   all_ends = starts-ends false [] line
 
   with-picks : (start : List ℕ) (least : ℕ) → Picks line (from_with start least line)
-  with-picks start least = find-picks (λ from. begins start least (word_of from)) line (from_words line) all_ends
+  with-picks start least = find-picks (λ from. begins_with_digits start least (word_of from)) line (from_words line) all_ends
 
-  hand-picks : Picks line (first_of (drop 1 (from_words line)))
-  hand-picks = first_of-picks line (drop 1 (from_words line)) (drop-ends 1 line (from_words line) all_ends)
+  hand-picks : Picks line (first_item (drop 1 (from_words line)))
+  hand-picks = first_item-picks line (drop 1 (from_words line)) (drop-ends 1 line (from_words line) all_ends)
 
   number-picks : Picks line (wrong_number line)
   unfolding wrong_number
@@ -83,7 +83,7 @@ module _ (line : List ℕ) where
   code-picks : (code : LineCode) → Picks line (code_from code line)
   unfolding code_from
   code-picks H1 = tt
-  code-picks H2 = first_of-picks line (from_words line) all_ends
+  code-picks H2 = first_item-picks line (from_words line) all_ends
   code-picks H3 = hand-picks
   code-picks H4 = find-picks (λ from. is_bad (parts_of (words_of line)).job (word_of from)) line (drop 2 (from_words line)) (drop-ends 2 line (from_words line) all_ends)
   code-picks H5 = first_at-picks (has_doubled (parts_of (words_of line)).job) line [] (drop 2 (from_words line)) (drop-ends 2 line (from_words line) all_ends)

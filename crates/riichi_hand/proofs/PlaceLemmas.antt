@@ -9,7 +9,7 @@ use Rattle.riichi_hand.specs.declared.fault.LineCode.TheVariants.{H1, H2, H3, H4
 use Rattle.riichi_hand.specs.declared.line.job_name.JobName.{JobName}
 use Rattle.riichi_hand.specs.Faults.{coded, first_fault}
 use Rattle.riichi_hand.specs.Words.{word_of}
-use Rattle.riichi_hand.specs.Entries.{is_bad, IsMarked}
+use Rattle.riichi_hand.specs.Entries.{is_bad, KeepsFirstMark}
 use Rattle.riichi_hand.specs.Places.{or_other, first_at, bad_from, doubled_from, entry_from}
 
 -- ---- the first word that is no entry
@@ -52,7 +52,7 @@ first_at-last test before (first ∷ froms) from =
     ]
 
 -- a mark is that of the words so far, or of one more
-pub marked : {X : Type 0} (bytes : X → List ℕ) (old : Option X) (from : X) (new : Option X) (is_new : Bool) → IsMarked old from new → is_some new ≡ is_new
+pub marked : {X : Type 0} (bytes : X → List ℕ) (old : Option X) (from : X) (new : Option X) (is_new : Bool) → KeepsFirstMark old from new → is_some new ≡ is_new
     → option_map bytes new ≡ or_other (option_map bytes old) (if is_new then Some (bytes from) else None)
 marked bytes (Some old) from new is_new is some = rw is refl
 marked bytes None from new is_new (inl none) some = let e : false ≡ is_new = ap is_some (sym none) ∙ some in rw (none, ← e) refl

@@ -20,11 +20,11 @@ use Rattle.riichi_hand.specs.Rules.{house_of}
 use Rattle.riichi_hand.specs.declared.win.WinParts.{WinParts}
 use Rattle.riichi_hand.specs.Faults.{coded, first_fault, fault_or}
 use Rattle.riichi_hand.specs.Values.{riichi_of, number_of}
-use Rattle.riichi_hand.specs.Keys.{value_of, value_at}
-use Rattle.riichi_hand.specs.Entries.{keyed_of, value_in, first_of, entries_of}
+use Rattle.riichi_hand.specs.Keys.{value_for_key, value_at}
+use Rattle.riichi_hand.specs.Entries.{keyed_of, value_in, first_item, entries_of}
 use Rattle.riichi_hand.specs.Win.{is_out_of_range}
 use Rattle.riichi_hand.specs.Words.{words_of}
-use Rattle.riichi_hand.specs.Parts.{LineParts, line_parts, parts_of, job_in, hand_in, value}
+use Rattle.riichi_hand.specs.Parts.{LineParts, line_parts, parts_of, job_in, hand_word, value}
 use Rattle.riichi_hand.specs.Texts.{texts_of, only_kind}
 use Rattle.riichi_hand.specs.Jobs.{and_then, win_keys, win_parts, win_of_line, job_of}
 use Rattle.riichi_hand.specs.Lines.{entry_faults, need_faults, text_faults, faults_of_win, job_faults, faults_of, outcome_of, is_no_record, has_bad_word}
@@ -64,24 +64,24 @@ number_small (tens ∷ ones ∷ []) n is =
     ]
 number_small (first ∷ second ∷ third ∷ bytes) n is = absurd (cc)
 
-riichi_at : (key : Key) (text : List ℕ) (n : ℕ) → value_at Riichi key (value_of key text) ≡ Some n → n ≤ 2
+riichi_at : (key : Key) (text : List ℕ) (n : ℕ) → value_at Riichi key (value_for_key key text) ≡ Some n → n ≤ 2
 riichi_at Riichi text n is = riichi_small text n is
 riichi_at key text n is = absurd (cc)
 
-counters_at : (key : Key) (text : List ℕ) (n : ℕ) → value_at Counters key (value_of key text) ≡ Some n → n ≤ 99
+counters_at : (key : Key) (text : List ℕ) (n : ℕ) → value_at Counters key (value_for_key key text) ≡ Some n → n ≤ 99
 counters_at Counters text n is = number_small text n is
 counters_at key text n is = absurd (cc)
 
-sticks_at : (key : Key) (text : List ℕ) (n : ℕ) → value_at Sticks key (value_of key text) ≡ Some n → n ≤ 99
+sticks_at : (key : Key) (text : List ℕ) (n : ℕ) → value_at Sticks key (value_for_key key text) ≡ Some n → n ≤ 99
 sticks_at Sticks text n is = number_small text n is
 sticks_at key text n is = absurd (cc)
 
 -- what holds of each value that words give a key holds of the first
-first_small : (read : List ℕ → Option ℕ) (most : ℕ) → ((word : List ℕ) (n : ℕ) → read word ≡ Some n → n ≤ most) → (words : List (List ℕ)) → unwrap_or (first_of (filter_map read words)) 0 ≤ most
+first_small : (read : List ℕ → Option ℕ) (most : ℕ) → ((word : List ℕ) (n : ℕ) → read word ≡ Some n → n ≤ most) → (words : List (List ℕ)) → unwrap_or (first_item (filter_map read words)) 0 ≤ most
 first_small read most each [] = omega arith
 first_small read most each (word ∷ words) =
-    let split : (value : Option ℕ) → read word ≡ value → unwrap_or (first_of (cons_option value (filter_map read words))) 0 ≤ most =
-    λ value. elim value as (λ (value : Option ℕ). read word ≡ value → unwrap_or (first_of (cons_option value (filter_map read words))) 0 ≤ most) [ None ↦ λ is. first_small read most each words | Some n ↦ λ is. each word n is ] in
+    let split : (value : Option ℕ) → read word ≡ value → unwrap_or (first_item (cons_option value (filter_map read words))) 0 ≤ most =
+    λ value. elim value as (λ (value : Option ℕ). read word ≡ value → unwrap_or (first_item (cons_option value (filter_map read words))) 0 ≤ most) [ None ↦ λ is. first_small read most each words | Some n ↦ λ is. each word n is ] in
     split (read word) refl
 
 in_keyed : (read : Option (Key × List ℕ) → Option ℕ) (most : ℕ) → read None ≡ None → ((keyed : Key × List ℕ) (n : ℕ) → read (Some keyed) ≡ Some n → n ≤ most) → (keyed : Option (Key × List ℕ)) (n : ℕ) → read keyed ≡ Some n → n ≤ most
@@ -129,7 +129,7 @@ unfolding outcome_of
 bad_word rules line is =
     let words = words_of line in
     let job = unwrap_or (job_in words) Waits in
-    let hand = unwrap_or (hand_in words) [] in
+    let hand = unwrap_or (hand_word words) [] in
     let parts = parts_of words in
     elim (cases_Bool (nat_lt 4096 (length line))) [
       | inl long ↦ absurd (let e : Err (Line H1) ≡ Err (Line H4) = rw long at is in cc)

@@ -6,9 +6,9 @@ use Rattle.std.proofs.lemmas.Bool.{cases_Bool, and_parts, eqb-true, eq-eqb, le-l
 use Rattle.std.proofs.lemmas.List.Sums.{sum_by-cons}
 use Rattle.std.proofs.lemmas.List.Folds.{list_any_at}
 use Rattle.std.proofs.lemmas.List.FromFn.{get_or-range_with_len, length-range_with_len}
-use Rattle.riichi_tiles.specs.Notation.{is_digit, is_suit, suit_has, first_of, closing, counts_of}
+use Rattle.riichi_tiles.specs.Notation.{is_digit, is_suit, suit_has, first_of_letter, closing, counts_of}
 use Rattle.riichi_tiles.specs.Melds.{every_kind, tiles, tiles_of, meld_of}
-use Rattle.riichi_tiles.specs.Reds.{zeros, capped}
+use Rattle.riichi_tiles.specs.Reds.{zeros, capped_at_four}
 use Rattle.riichi_tiles.specs.declared.meld.Meld.{Meld}
 use Rattle.riichi_tiles.proofs.MeldText.{find_passes}
 use Rattle.riichi_tiles.proofs.ReadZeros.{zeros_counted, zeros_meld}
@@ -22,9 +22,9 @@ use Rattle.riichi_hand.specs.declared.fault.TextName.TheVariants as text
 use Rattle.riichi_hand.specs.declared.fault.LineCode.TheVariants.{H4, H7, H8, H9}
 use Rattle.riichi_hand.specs.declared.fault.LineFault.{LineFault}
 use Rattle.riichi_hand.specs.Faults.{coded, first_fault, fault_or}
-use Rattle.riichi_hand.specs.Win.{no_reds, without_reds, kept_under, copies_won, copies_in, is_out_of_range, has_wrong_size, has_five_in, has_too_many_reds, win_faults, win_of}
+use Rattle.riichi_hand.specs.Win.{no_reds, without_reds, kept_under, copies_won, copies_with_indicators, is_out_of_range, has_wrong_size, has_five_in, has_too_many_reds, win_faults, win_of}
 use Rattle.riichi_hand.specs.Parts.{LineParts, value}
-use Rattle.riichi_hand.specs.Texts.{texts_of, text_fault, counts_in, melds_in, only_kind, zeros_in, reds, joined_reds}
+use Rattle.riichi_hand.specs.Texts.{texts_of, text_fault, counts_if_given, melds_if_given, only_kind, zeros_in, reds, joined_reds}
 use Rattle.riichi_hand.specs.Jobs.{win_parts}
 use Rattle.riichi_hand.specs.Lines.{text_faults}
 use Rattle.riichi_hand.specs.declared.line.texts.Texts.{Texts}
@@ -34,7 +34,7 @@ use Rattle.riichi_hand.proofs.OutcomeLemmas.{kept_parts, win_of_kept}
 pub record IsOfFives (letter kind : ℕ) : Type 0 where
   pub suit : is_suit letter ≡ true
   pub has : suit_has letter 48 ≡ true
-  pub kind_is : first_of letter + 4 ≡ kind
+  pub kind_is : first_of_letter letter + 4 ≡ kind
   pub near : kind < 34
 
 -- The winning tile.
@@ -66,12 +66,12 @@ only_copies counts winning kind is =
       | inr not_one ↦ absurd (let e : None ≡ Some winning = rw not_one at is in cc)
     ]
 
-on_few : (letter kind : ℕ) (on : Option (List ℕ)) (winning : ℕ) → IsOfFives letter kind → only_kind (counts_in on) ≡ Some winning → zeros letter (unwrap_or on []) ≤ (if nat_eq winning kind then 1 else 0)
+on_few : (letter kind : ℕ) (on : Option (List ℕ)) (winning : ℕ) → IsOfFives letter kind → only_kind (counts_if_given on) ≡ Some winning → zeros letter (unwrap_or on []) ≤ (if nat_eq winning kind then 1 else 0)
 on_few letter kind None winning five is = omega arith
 on_few letter kind (Some text) winning five is =
     let few = zeros_counted letter text five.suit five.has (omega (arith, five.kind_is, five.near)) in
     let copies = only_copies (counts_of text) winning kind is in
-    let same : slice_index (counts_of text) (first_of letter + 4) ≡ slice_index (counts_of text) kind = ap (slice_index (counts_of text)) five.kind_is in
+    let same : slice_index (counts_of text) (first_of_letter letter + 4) ≡ slice_index (counts_of text) kind = ap (slice_index (counts_of text)) five.kind_is in
     omega (arith, few, copies, same)
 
 -- The melds: the digits 0 of a text are those of its items.
@@ -124,7 +124,7 @@ meld_few : (letter kind : ℕ) (item : List ℕ) (rest : ℕ) (melds : List Meld
 meld_few letter kind item rest melds None five is some few = absurd (cc)
 meld_few letter kind item rest melds (Some meld) five is some few =
     let one = zeros_meld letter item meld is five.suit five.has (omega (arith, five.kind_is, five.near)) in
-    let same : tiles_of meld (first_of letter + 4) ≡ tiles_of meld kind = ap (tiles_of meld) five.kind_is in
+    let same : tiles_of meld (first_of_letter letter + 4) ≡ tiles_of meld kind = ap (tiles_of meld) five.kind_is in
     omega (arith, one, same, few)
 
 items_few : (letter kind : ℕ) (items : List (List ℕ)) → IsOfFives letter kind → list_all is_spelled items ≡ true → all_zeros letter items ≤ tiles (filter_map meld_of items) kind
@@ -142,17 +142,17 @@ melds_few letter kind text five some =
       | inr other ↦ absurd (let e : false ≡ true = rw other at some in cc)
     ]
 
-open_few : (letter kind : ℕ) (melds : Option (List ℕ)) → IsOfFives letter kind → is_some (melds_in melds) ≡ true → zeros letter (unwrap_or melds []) ≤ tiles (unwrap_or (melds_in melds) []) kind
+open_few : (letter kind : ℕ) (melds : Option (List ℕ)) → IsOfFives letter kind → is_some (melds_if_given melds) ≡ true → zeros letter (unwrap_or melds []) ≤ tiles (unwrap_or (melds_if_given melds) []) kind
 open_few letter kind None five some = omega arith
 open_few letter kind (Some text) five some = melds_few letter kind text five some
 
 -- The red fives of a win, among hand, melds and the winning tile.
 
 zeros_held : (rules : House) (parts : LineParts) (winning : ℕ) (keys : WinKeys) (letter kind : ℕ) → IsOfFives letter kind → only_kind (texts_of parts).on ≡ Some winning
-    → is_some (melds_in (value Open parts)) ≡ true → zeros_in parts letter ≤ copies_won (win_parts rules parts (texts_of parts) winning keys) kind
+    → is_some (melds_if_given (value Open parts)) ≡ true → zeros_in parts letter ≤ copies_won (win_parts rules parts (texts_of parts) winning keys) kind
 zeros_held rules parts winning keys letter kind five only some =
     let hand = zeros_counted letter parts.hand five.suit five.has (omega (arith, five.kind_is, five.near)) in
-    let same : slice_index (counts_of parts.hand) (first_of letter + 4) ≡ slice_index (counts_of parts.hand) kind = ap (slice_index (counts_of parts.hand)) five.kind_is in
+    let same : slice_index (counts_of parts.hand) (first_of_letter letter + 4) ≡ slice_index (counts_of parts.hand) kind = ap (slice_index (counts_of parts.hand)) five.kind_is in
     let on = on_few letter kind (value On parts) winning five only in
     let melds = open_few letter kind (value Open parts) five some in
     omega (arith, hand, same, on, melds)
@@ -170,7 +170,7 @@ not_too_many win room = rw (
   le-ltb (copies_won win 22) (slice_index win.reds 2) room.bamboos,
 ) refl
 
-room_of_line : (rules : House) (parts : LineParts) (winning : ℕ) (keys : WinKeys) → only_kind (texts_of parts).on ≡ Some winning → is_some (melds_in (value Open parts)) ≡ true
+room_of_line : (rules : House) (parts : LineParts) (winning : ℕ) (keys : WinKeys) → only_kind (texts_of parts).on ≡ Some winning → is_some (melds_if_given (value Open parts)) ≡ true
     → HasRoom (win_parts rules parts (texts_of parts) winning keys) (reds parts)
 room_of_line rules parts winning keys only some = record {
   characters = zeros_held rules parts winning keys 109 4 (record { suit = refl; has = refl; kind_is = refl; near = omega arith }) only some;
@@ -180,22 +180,22 @@ room_of_line rules parts winning keys only some = record {
 
 -- What is above four isn't counted: with no more than four that is nothing.
 
-capped_few : (n : ℕ) → n ≤ 4 → capped n ≡ n
+capped_few : (n : ℕ) → n ≤ 4 → capped_at_four n ≡ n
 capped_few n few = rw (le-leb n 4 few) refl
 
-joined_few : (a b c : ℕ) → a + b + c ≤ 4 → capped (capped (capped a + capped b) + capped c) ≡ a + b + c
+joined_few : (a b c : ℕ) → a + b + c ≤ 4 → capped_at_four (capped_at_four (capped_at_four a + capped_at_four b) + capped_at_four c) ≡ a + b + c
 joined_few a b c few =
     rw (capped_few a (omega (arith, few)), capped_few b (omega (arith, few)), capped_few c (omega (arith, few)), capped_few (a + b) (omega (arith, few)), capped_few (a + b + c) few) refl
 
 -- at most four of a kind
 four_at_most : (win : WinParts) (kind : ℕ) → kind < 34 → has_five_in win ≡ false → copies_won win kind ≤ 4
 four_at_most win kind near none =
-    elim (cases_Bool (nat_lt 4 (copies_in win kind))) [
+    elim (cases_Bool (nat_lt 4 (copies_with_indicators win kind))) [
       | inl five ↦ absurd (
-          let P : ℕ → Bool = λ k. nat_lt 4 (copies_in win k) in
+          let P : ℕ → Bool = λ k. nat_lt 4 (copies_with_indicators win k) in
           let at : P (get_or every_kind kind 0) ≡ true = ap P (get_or-range_with_len 0 34 kind 0 near ∙ omega arith) ∙ five in
           let bad = list_any_at P every_kind kind 0 (omega (arith, near, length-range_with_len 0 34)) at in false≢true (sym none ∙ bad))
-      | inr four ↦ (let most = ltb-false 4 (copies_in win kind) four in omega (arith, most))
+      | inr four ↦ (let most = ltb-false 4 (copies_with_indicators win kind) four in omega (arith, most))
     ]
 
 -- Five copies of a kind are an earlier fault, so what is read with the red fives as they are joined is what the line says.
@@ -227,14 +227,14 @@ melds_last None None None None (Some fault) spelled none = absurd (cc)
 melds_last None None None None None false none = absurd (cc)
 melds_last None None None None None true none = refl
 
-melds_spelled : (parts : LineParts) → first_fault (text_faults parts) ≡ None → is_some (melds_in (value Open parts)) ≡ true
+melds_spelled : (parts : LineParts) → first_fault (text_faults parts) ≡ None → is_some (melds_if_given (value Open parts)) ≡ true
 melds_spelled parts none =
     melds_last (text_fault text.Hand (Some parts.hand)) (text_fault text.On (value On parts)) (text_fault text.Dora (value Dora parts)) (text_fault text.Ura (value Ura parts))
-    (text_fault text.Seen (value Seen parts)) (is_some (melds_in (value Open parts))) none
+    (text_fault text.Seen (value Seen parts)) (is_some (melds_if_given (value Open parts))) none
 
 -- where there are no five copies of a kind, no red five is over
 joined_where_few : (rules : House) (parts : LineParts) (winning : ℕ) (keys : WinKeys) → only_kind (texts_of parts).on ≡ Some winning
-    → is_some (melds_in (value Open parts)) ≡ true → has_five_in (win_parts rules parts (texts_of parts) winning keys) ≡ false → joined_reds parts ≡ reds parts
+    → is_some (melds_if_given (value Open parts)) ≡ true → has_five_in (win_parts rules parts (texts_of parts) winning keys) ≡ false → joined_reds parts ≡ reds parts
 joined_where_few rules parts winning keys only some none =
     let win = win_parts rules parts (texts_of parts) winning keys in
     let room = room_of_line rules parts winning keys only some in
@@ -242,7 +242,7 @@ joined_where_few rules parts winning keys only some none =
     let on = unwrap_or (value On parts) [] in
     let melds = unwrap_or (value Open parts) [] in
     let plain : (letter kind : ℕ) → kind < 34 → zeros_in parts letter ≤ copies_won win kind
-    → capped (capped (capped (zeros letter hand) + capped (zeros letter on)) + capped (zeros letter melds)) ≡ zeros_in parts letter =
+    → capped_at_four (capped_at_four (capped_at_four (zeros letter hand) + capped_at_four (zeros letter on)) + capped_at_four (zeros letter melds)) ≡ zeros_in parts letter =
     λ letter kind near few. joined_few (zeros letter hand) (zeros letter on) (zeros letter melds) (omega (arith, few, four_at_most win kind near none)) in
     rw (
       plain 109 4 (omega arith) room.characters,
@@ -251,7 +251,7 @@ joined_where_few rules parts winning keys only some none =
     ) refl
 
 win_of_line_here : (rules : House) (parts : LineParts) (winning : ℕ) (keys : WinKeys) (kept : List ℕ) → only_kind (texts_of parts).on ≡ Some winning
-    → is_some (melds_in (value Open parts)) ≡ true → kept ≡ (if rules.red_fives then joined_reds parts else no_reds)
+    → is_some (melds_if_given (value Open parts)) ≡ true → kept ≡ (if rules.red_fives then joined_reds parts else no_reds)
     → win_of (record (win_parts rules parts (texts_of parts) winning keys) { reds = kept })
     ≡ fault_or (first_fault (win_faults (win_parts rules parts (texts_of parts) winning keys))) (kept_under rules (win_parts rules parts (texts_of parts) winning keys))
 win_of_line_here rules parts winning keys kept only some is =
@@ -279,6 +279,6 @@ win_of_line_reds rules parts texts winning keys kept are only none is =
     subst P (sym are) here only
 
 -- the red fives of a line are never too many
-pub line_has_room : (rules : House) (parts : LineParts) (winning : ℕ) (keys : WinKeys) → only_kind (texts_of parts).on ≡ Some winning → is_some (melds_in (value Open parts)) ≡ true
+pub line_has_room : (rules : House) (parts : LineParts) (winning : ℕ) (keys : WinKeys) → only_kind (texts_of parts).on ≡ Some winning → is_some (melds_if_given (value Open parts)) ≡ true
     → has_too_many_reds (win_parts rules parts (texts_of parts) winning keys) ≡ false
 line_has_room rules parts winning keys only some = not_too_many (win_parts rules parts (texts_of parts) winning keys) (room_of_line rules parts winning keys only some)

@@ -6,7 +6,7 @@ use Rattle.riichi_hand.specs.declared.line.job_name.JobName.{JobName}
 use Rattle.riichi_hand.specs.declared.line.key.Key.{Key}
 use Rattle.riichi_hand.specs.declared.line.key.Key.TheVariants.{On, By, Seat, Round, Open, Riichi, Flags, Dora, Ura, Counters, Sticks, Seen}
 use Rattle.riichi_hand.specs.declared.line.fields.Fields.{Fields}
-use Rattle.riichi_hand.specs.Keys.{key_named, has_key, ValueOf, value_of, value_at}
+use Rattle.riichi_hand.specs.Keys.{key_named, has_key, ValueOf, value_for_key, value_at}
 
 abbrev pub every_key : List Key
 every_key = On ∷ By ∷ Seat ∷ Round ∷ Open ∷ Riichi ∷ Flags ∷ Dora ∷ Ura ∷ Counters ∷ Sticks ∷ Seen ∷ []
@@ -30,14 +30,14 @@ keyed_of job word = keyed_cut job (cut_at_equals word)
 -- the text is a value of the key
 abbrev pub is_entry : Option (Key × List ℕ) → Bool
 is_entry None = false
-is_entry (Some keyed) = is_some (value_of keyed.0 keyed.1)
+is_entry (Some keyed) = is_some (value_for_key keyed.0 keyed.1)
 
 abbrev pub is_bad : JobName → List ℕ → Bool
 is_bad job word = not (is_entry (keyed_of job word))
 
 abbrev pub value_in : (key : Key) → Option (Key × List ℕ) → Option (ValueOf key)
 value_in key None = None
-value_in key (Some keyed) = value_at key keyed.0 (value_of keyed.0 keyed.1)
+value_in key (Some keyed) = value_at key keyed.0 (value_for_key keyed.0 keyed.1)
 
 -- the values that words give a key, in their order
 abbrev pub values_of : JobName → List (List ℕ) → (key : Key) → List (ValueOf key)
@@ -46,9 +46,9 @@ values_of job words key = filter_map (λ word. value_in key (keyed_of job word))
 abbrev pub is_doubled : JobName → List (List ℕ) → Key → Bool
 is_doubled job words key = nat_lt 1 (length (values_of job words key))
 
-abbrev pub first_of : {X : Type 0} → List X → Option X
-first_of [] = None
-first_of (x ∷ xs) = Some x
+abbrev pub first_item : {X : Type 0} → List X → Option X
+first_item [] = None
+first_item (x ∷ xs) = Some x
 
 -- What words say: whether one is no entry of the job, whether a key stands twice, and the value of each key.
 pub record Entries : Type 0 where
@@ -60,7 +60,7 @@ abbrev pub entries_of : JobName → List (List ℕ) → Entries
 entries_of job words = record {
   has_bad_word = list_any (is_bad job) words;
   has_doubled_key = list_any (is_doubled job words) every_key;
-  value = λ key. first_of (values_of job words key);
+  value = λ key. first_item (values_of job words key);
 }
 
 -- the first of two values that may be missing
@@ -74,9 +74,9 @@ is_again first None = false
 is_again first (Some second) = is_some first
 
 -- a mark stays, and one that is new is this one
-abbrev pub IsMarked : {X : Type 0} → Option X → X → Option X → Type 0
-IsMarked (Some old) from new = new ≡ Some old
-IsMarked None from new = (new ≡ None) ⊎ (new ≡ Some from)
+abbrev pub KeepsFirstMark : {X : Type 0} → Option X → X → Option X → Type 0
+KeepsFirstMark (Some old) from new = new ≡ Some old
+KeepsFirstMark None from new = (new ≡ None) ⊎ (new ≡ Some from)
 
 -- Fields hold what entries say: whether a key stands twice, and the value of each key in its place.
 pub record Holds (fields : Fields) (entries : Entries) : Type 0 where
@@ -97,7 +97,7 @@ pub record Holds (fields : Fields) (entries : Entries) : Type 0 where
 -- what one more key with the text of its value adds to entries
 abbrev pub with_keyed : Entries → Key × List ℕ → Entries
 with_keyed entries keyed =
-    let value = value_of keyed.0 keyed.1 in
+    let value = value_for_key keyed.0 keyed.1 in
     record {
       has_bad_word = entries.has_bad_word || not (is_some value);
       has_doubled_key = is_again (entries.value keyed.0) value || entries.has_doubled_key;

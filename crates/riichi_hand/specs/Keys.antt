@@ -8,10 +8,10 @@ use Rattle.riichi_hand.specs.declared.line.key.Key.TheVariants.{On, By, Seat, Ro
 use Rattle.riichi_hand.specs.declared.win.By as win
 use Rattle.riichi_hand.specs.declared.win.Flags as flags
 use Rattle.riichi_hand.specs.declared.win.Wind.{Wind}
-use Rattle.riichi_hand.specs.Values.{named, by_of, wind_of, riichi_of, number_of, flags_of}
+use Rattle.riichi_hand.specs.Values.{value_beside, by_of, wind_of, riichi_of, number_of, flags_of}
 
 abbrev pub job_named : List ℕ → Option JobName
-job_named word = named ((codes "win", Win) ∷ (codes "waits", Waits) ∷ (codes "shape", Shape) ∷ []) word
+job_named word = value_beside ((codes "win", Win) ∷ (codes "waits", Waits) ∷ (codes "shape", Shape) ∷ []) word
 
 -- the names of the keys
 abbrev pub key_names : List (List ℕ × Key)
@@ -22,7 +22,7 @@ key_names =
     ∷ (codes "seen", Seen) ∷ []
 
 abbrev pub key_named : List ℕ → Option Key
-key_named word = named key_names word
+key_named word = value_beside key_names word
 
 -- the keys that must be there
 abbrev pub needed : JobName → List Key
@@ -73,19 +73,19 @@ ValueOf Sticks = ℕ
 ValueOf Seen = List ℕ
 
 -- the value that a text is, where the key may have it
-abbrev pub value_of : (key : Key) → List ℕ → Option (ValueOf key)
-value_of On text = Some text
-value_of By text = by_of text
-value_of Seat text = wind_of text
-value_of Round text = wind_of text
-value_of Open text = Some text
-value_of Riichi text = riichi_of text
-value_of Flags text = flags_of text
-value_of Dora text = Some text
-value_of Ura text = Some text
-value_of Counters text = number_of text
-value_of Sticks text = number_of text
-value_of Seen text = Some text
+abbrev pub value_for_key : (key : Key) → List ℕ → Option (ValueOf key)
+value_for_key On text = Some text
+value_for_key By text = by_of text
+value_for_key Seat text = wind_of text
+value_for_key Round text = wind_of text
+value_for_key Open text = Some text
+value_for_key Riichi text = riichi_of text
+value_for_key Flags text = flags_of text
+value_for_key Dora text = Some text
+value_for_key Ura text = Some text
+value_for_key Counters text = number_of text
+value_for_key Sticks text = number_of text
+value_for_key Seen text = Some text
 
 -- a value of the other key, as one of this key: only where they are the same
 abbrev pub value_at : (key other : Key) → Option (ValueOf other) → Option (ValueOf key)

@@ -19,8 +19,8 @@ use Rattle.riichi_hand.specs.Hand.{hand_faults, shape_faults}
 use Rattle.riichi_hand.specs.Win.{win_faults}
 use Rattle.riichi_hand.specs.Words.{words_of}
 use Rattle.riichi_hand.specs.Keys.{needed}
-use Rattle.riichi_hand.specs.Parts.{job_in, hand_in, is_hand, LineParts, parts_of, value, is_missing}
-use Rattle.riichi_hand.specs.Texts.{text_fault, melds_in, texts_of, only_kind}
+use Rattle.riichi_hand.specs.Parts.{job_in, hand_word, is_hand, LineParts, parts_of, value, is_missing}
+use Rattle.riichi_hand.specs.Texts.{text_fault, melds_if_given, texts_of, only_kind}
 use Rattle.riichi_hand.specs.Jobs.{win_of_line, hand_of_line, shape_of_line, job_of}
 
 -- Every fault of a line in order. Each is a test of the whole line.
@@ -33,7 +33,7 @@ abbrev pub word_faults : List ℕ → List (Option LineFault)
 word_faults line =
     coded H1 (list_any is_other_byte line)
     ∷ coded H2 (not (is_some (job_in (words_of line))))
-    ∷ coded H3 (not (is_hand (hand_in (words_of line))))
+    ∷ coded H3 (not (is_hand (hand_word (words_of line))))
     ∷ []
 
 abbrev pub entry_faults : LineParts → List (Option LineFault)
@@ -52,7 +52,7 @@ text_faults parts =
     ∷ text_fault text.Dora (value Dora parts)
     ∷ text_fault text.Ura (value Ura parts)
     ∷ text_fault text.Seen (value Seen parts)
-    ∷ coded H7 (not (is_some (melds_in (value Open parts))))
+    ∷ coded H7 (not (is_some (melds_if_given (value Open parts))))
     ∷ []
 
 abbrev pub faults_of_win : Option WinParts → List (Option LineFault)

@@ -6,7 +6,7 @@ use Rattle.riichi_hand.specs.declared.line.key.Key.{Key}
 use Rattle.riichi_hand.specs.declared.line.words.Words.{Words}
 use Rattle.riichi_hand.specs.Words.{words_of}
 use Rattle.riichi_hand.specs.Keys.{job_named, ValueOf}
-use Rattle.riichi_hand.specs.Entries.{cut_at_equals, first_of, Entries, entries_of}
+use Rattle.riichi_hand.specs.Entries.{cut_at_equals, first_item, Entries, entries_of}
 
 -- The first word is a job, the second a hand: a word without `=`.
 
@@ -15,10 +15,10 @@ job_word None = None
 job_word (Some word) = job_named word
 
 abbrev pub job_in : List (List ℕ) → Option JobName
-job_in words = job_word (first_of words)
+job_in words = job_word (first_item words)
 
-abbrev pub hand_in : List (List ℕ) → Option (List ℕ)
-hand_in words = first_of (drop 1 words)
+abbrev pub hand_word : List (List ℕ) → Option (List ℕ)
+hand_word words = first_item (drop 1 words)
 
 abbrev pub is_hand : Option (List ℕ) → Bool
 is_hand None = false
@@ -34,7 +34,7 @@ abbrev pub line_parts : JobName → List ℕ → List (List ℕ) → LineParts
 line_parts job hand words = record { job = job; hand = hand; entries = entries_of job words }
 
 abbrev pub parts_of : List (List ℕ) → LineParts
-parts_of words = line_parts (unwrap_or (job_in words) Waits) (unwrap_or (hand_in words) []) (drop 2 words)
+parts_of words = line_parts (unwrap_or (job_in words) Waits) (unwrap_or (hand_word words) []) (drop 2 words)
 
 -- the same of words that were cut
 abbrev pub parts_in : Words → LineParts

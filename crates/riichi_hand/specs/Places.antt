@@ -11,18 +11,18 @@ use Rattle.riichi_hand.specs.declared.fault.TextName.TheVariants.{Hand, On, Dora
 use Rattle.riichi_hand.specs.declared.line.job_name.JobName.{JobName}
 use Rattle.riichi_hand.specs.declared.line.record.Place.{Place}
 use Rattle.riichi_hand.specs.Words.{from_words, word_of, words_of}
-use Rattle.riichi_hand.specs.Entries.{is_bad, entries_of, first_of}
+use Rattle.riichi_hand.specs.Entries.{is_bad, entries_of, first_item}
 use Rattle.riichi_hand.specs.Parts.{parts_of}
 
 -- ---- words by how they begin
 
 -- In a word that spells tiles each digit is one.
-abbrev pub begins : List ℕ → ℕ → List ℕ → Bool
-begins start least word = starts_with nat_eq word start && nat_le least (count_by is_digit word)
+abbrev pub begins_with_digits : List ℕ → ℕ → List ℕ → Bool
+begins_with_digits start least word = starts_with nat_eq word start && nat_le least (count_by is_digit word)
 
 -- from the first word on that begins so and has at least so many digits
 abbrev pub from_with : List ℕ → ℕ → List ℕ → Option (List ℕ)
-from_with start least line = find (λ from. begins start least (word_of from)) (from_words line)
+from_with start least line = find (λ from. begins_with_digits start least (word_of from)) (from_words line)
 
 -- the first of two, where it is there
 abbrev pub or_other : {X : Type 0} → Option X → Option X → Option X
@@ -61,7 +61,7 @@ unfoldable pub wrong_number : List ℕ → Option (List ℕ)
 wrong_number line =
     or_other (from_with (codes "on=") 2 line)
     (or_other (from_with (codes "dora=") 6 line)
-    (or_other (from_with (codes "ura=") 6 line) (first_of (drop 1 (from_words line)))))
+    (or_other (from_with (codes "ura=") 6 line) (first_item (drop 1 (from_words line)))))
 
 -- what stands before a text of tiles in its word
 abbrev pub key_of : TextName → List ℕ
@@ -73,7 +73,7 @@ key_of Seen = codes "seen="
 
 -- from the word on with a text of tiles
 unfoldable pub text_from : TextName → List ℕ → Option (List ℕ)
-text_from Hand line = first_of (drop 1 (from_words line))
+text_from Hand line = first_item (drop 1 (from_words line))
 text_from On line = from_with (key_of On) 0 line
 text_from Dora line = from_with (key_of Dora) 0 line
 text_from Ura line = from_with (key_of Ura) 0 line
@@ -82,8 +82,8 @@ text_from Seen line = from_with (key_of Seen) 0 line
 -- Where a byte is at fault, a key is missing, or tiles of several words are too many, that is no one word.
 unfoldable pub code_from : LineCode → List ℕ → Option (List ℕ)
 code_from H1 line = None
-code_from H2 line = first_of (from_words line)
-code_from H3 line = first_of (drop 1 (from_words line))
+code_from H2 line = first_item (from_words line)
+code_from H3 line = first_item (drop 1 (from_words line))
 code_from H4 line = bad_from (parts_of (words_of line)).job (drop 2 (from_words line))
 code_from H5 line = doubled_from (parts_of (words_of line)).job (drop 2 (from_words line))
 code_from H6 line = None

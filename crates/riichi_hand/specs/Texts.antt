@@ -3,7 +3,7 @@ use Rattle.std.specs.Prelude.{ℕ, ◌+◌, ◌==◌, List, [], ◌∷◌, Optio
 use Rattle.std.specs.List.{find, sum}
 use Rattle.riichi_tiles.specs.Notation.{notation_fault, counts_of, characters, circles, bamboos}
 use Rattle.riichi_tiles.specs.Melds.{every_kind}
-use Rattle.riichi_tiles.specs.Reds.{zeros, reds_in, joined}
+use Rattle.riichi_tiles.specs.Reds.{zeros, reds_in, reds_together}
 use Rattle.riichi_tiles.specs.declared.meld.Meld.{Meld}
 use Rattle.riichi_hand.specs.declared.fault.LineFault.{LineFault}
 use Rattle.riichi_hand.specs.declared.fault.LineFault.TheVariants.{Notation}
@@ -19,24 +19,24 @@ abbrev pub text_fault : TextName → Option (List ℕ) → Option LineFault
 text_fault name None = None
 text_fault name (Some text) = option_map (Notation name) (notation_fault text)
 
-abbrev pub counts_in : Option (List ℕ) → List ℕ
-counts_in None = replicate 34 0
-counts_in (Some text) = counts_of text
+abbrev pub counts_if_given : Option (List ℕ) → List ℕ
+counts_if_given None = replicate 34 0
+counts_if_given (Some text) = counts_of text
 
 -- melds that may be missing
-abbrev pub melds_in : Option (List ℕ) → Option (List Meld)
-melds_in None = Some []
-melds_in (Some value) = melds_of value
+abbrev pub melds_if_given : Option (List ℕ) → Option (List Meld)
+melds_if_given None = Some []
+melds_if_given (Some value) = melds_of value
 
 -- What the texts of a line spell. Where one has a fault, what stands here doesn't matter.
 abbrev pub texts_of : LineParts → Texts
 texts_of parts = record {
   hand = counts_of parts.hand;
-  on = counts_in (value On parts);
-  dora = counts_in (value Dora parts);
-  ura = counts_in (value Ura parts);
-  seen = counts_in (value Seen parts);
-  melds = unwrap_or (melds_in (value Open parts)) [];
+  on = counts_if_given (value On parts);
+  dora = counts_if_given (value Dora parts);
+  ura = counts_if_given (value Ura parts);
+  seen = counts_if_given (value Seen parts);
+  melds = unwrap_or (melds_if_given (value Open parts)) [];
 }
 
 -- no tiles at all
@@ -58,4 +58,4 @@ reds parts = zeros_in parts characters ∷ zeros_in parts circles ∷ zeros_in p
 -- the same as they are added text by text, where what is above four isn't counted
 abbrev pub joined_reds : LineParts → List ℕ
 joined_reds parts =
-    joined (joined (reds_in parts.hand) (reds_in (unwrap_or (value On parts) []))) (reds_in (unwrap_or (value Open parts) []))
+    reds_together (reds_together (reds_in parts.hand) (reds_in (unwrap_or (value On parts) []))) (reds_in (unwrap_or (value Open parts) []))

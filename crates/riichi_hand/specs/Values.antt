@@ -13,18 +13,18 @@ use Rattle.riichi_hand.specs.declared.win.Flags.{Flags}
 use Rattle.riichi_hand.specs.Words.{items_of}
 
 -- what a table has beside a word
-abbrev pub named : {X : Type 0} → List (List ℕ × X) → List ℕ → Option X
-named [] word = None
-named (row ∷ rows) word = if bytes_eq word row.0 then Some row.1 else named rows word
+abbrev pub value_beside : {X : Type 0} → List (List ℕ × X) → List ℕ → Option X
+value_beside [] word = None
+value_beside (row ∷ rows) word = if bytes_eq word row.0 then Some row.1 else value_beside rows word
 
 abbrev pub by_of : List ℕ → Option By
-by_of value = named ((codes "ron", Ron) ∷ (codes "tsumo", Tsumo) ∷ []) value
+by_of value = value_beside ((codes "ron", Ron) ∷ (codes "tsumo", Tsumo) ∷ []) value
 
 abbrev pub wind_of : List ℕ → Option Wind
-wind_of value = named ((codes "E", East) ∷ (codes "S", South) ∷ (codes "W", West) ∷ (codes "N", North) ∷ []) value
+wind_of value = value_beside ((codes "E", East) ∷ (codes "S", South) ∷ (codes "W", West) ∷ (codes "N", North) ∷ []) value
 
 abbrev pub riichi_of : List ℕ → Option ℕ
-riichi_of value = named ((codes "0", 0) ∷ (codes "1", 1) ∷ (codes "2", 2) ∷ []) value
+riichi_of value = value_beside ((codes "0", 0) ∷ (codes "1", 1) ∷ (codes "2", 2) ∷ []) value
 
 -- one or two decimal digits
 abbrev pub number_of : List ℕ → Option ℕ
@@ -40,14 +40,14 @@ flag_words = codes "ippatsu" ∷ codes "rinshan" ∷ codes "chankan" ∷ codes "
 abbrev pub is_flag : List ℕ → Bool
 is_flag item = list_any (bytes_eq item) flag_words
 
-abbrev pub copies : List (List ℕ) → List ℕ → ℕ
-copies items word = count_by (λ item. bytes_eq item word) items
+abbrev pub item_copies : List (List ℕ) → List ℕ → ℕ
+item_copies items word = count_by (λ item. bytes_eq item word) items
 
 abbrev pub are_flags : List (List ℕ) → Bool
-are_flags items = list_all is_flag items && list_all (λ word. nat_le (copies items word) 1) flag_words
+are_flags items = list_all is_flag items && list_all (λ word. nat_le (item_copies items word) 1) flag_words
 
 abbrev pub has_item : List (List ℕ) → List ℕ → Bool
-has_item items word = nat_lt 0 (copies items word)
+has_item items word = nat_lt 0 (item_copies items word)
 
 abbrev pub flags_in : List (List ℕ) → Flags
 flags_in items = record {

@@ -33,11 +33,11 @@ abbrev pub copies_won : WinParts → ℕ → ℕ
 copies_won parts kind = slice_index parts.concealed kind + tiles parts.melds kind + (if nat_eq parts.winning kind then 1 else 0)
 
 -- the same with the indicators
-abbrev pub copies_in : WinParts → ℕ → ℕ
-copies_in parts kind = copies_won parts kind + slice_index parts.dora kind + slice_index parts.ura kind
+abbrev pub copies_with_indicators : WinParts → ℕ → ℕ
+copies_with_indicators parts kind = copies_won parts kind + slice_index parts.dora kind + slice_index parts.ura kind
 
 abbrev pub has_five_in : WinParts → Bool
-has_five_in parts = list_any (λ kind. nat_lt 4 (copies_in parts kind)) every_kind
+has_five_in parts = list_any (λ kind. nat_lt 4 (copies_with_indicators parts kind)) every_kind
 
 abbrev pub is_out_of_range : WinParts → Bool
 is_out_of_range parts = nat_lt 2 parts.riichi || nat_lt 99 parts.counters || nat_lt 99 parts.sticks

@@ -406,7 +406,7 @@ fn copies_of(parts: &WinParts, called: &[u8; 34], kind: Kind) -> u8
     requires value { (kind : ℕ) → slice_index called.now kind
         ≡ tiles parts.now.melds kind + (if nat_eq parts.now.winning kind then 1 else 0) }
     requires most { (kind : ℕ) → slice_index called.now kind ≤ 17 }
-    ensures { result ≡ spec.copies_in parts.now kind }
+    ensures { result ≡ spec.copies_with_indicators parts.now kind }
 {
     let held = parts.concealed.get(kind) + called[kind.index()];
     held + parts.dora.get(kind) + parts.ura.get(kind)

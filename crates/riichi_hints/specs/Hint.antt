@@ -30,16 +30,16 @@ letter_in [] = 0
 letter_in (byte ∷ rest) = if is_digit byte then letter_in rest else byte
 
 -- a `0` is a five
-abbrev pub digit_of : ℕ → ℕ
-digit_of byte = if byte == 48 then 53 else byte
+abbrev pub five_if_zero : ℕ → ℕ
+five_if_zero byte = if byte == 48 then 53 else byte
 
 abbrev pub is_tile : ℕ → ℕ → ℕ → List ℕ → Bool
-is_tile digit suit byte rest = is_digit byte && ((digit_of byte == digit) && (letter_in rest == suit))
+is_tile digit suit byte rest = is_digit byte && ((five_if_zero byte == digit) && (letter_in rest == suit))
 
 -- how many copies of a tile a line has, in all its words
-abbrev pub copies_in : ℕ → ℕ → List ℕ → ℕ
-copies_in digit suit [] = 0
-copies_in digit suit (byte ∷ rest) = (if is_tile digit suit byte rest then 1 else 0) + copies_in digit suit rest
+abbrev pub copies_on_line : ℕ → ℕ → List ℕ → ℕ
+copies_on_line digit suit [] = 0
+copies_on_line digit suit (byte ∷ rest) = (if is_tile digit suit byte rest then 1 else 0) + copies_on_line digit suit rest
 
 -- The note begins with a tile of which the line has more than four copies.
 pub record IsCrowdNote (line note : List ℕ) : Type 0 where
@@ -47,7 +47,7 @@ pub record IsCrowdNote (line note : List ℕ) : Type 0 where
   pub suit : ℕ
   pub more : List ℕ
   pub note_is : note ≡ digit ∷ suit ∷ more
-  pub crowded : 4 < copies_in digit suit line
+  pub crowded : 4 < copies_on_line digit suit line
 
 abbrev pub IsNote : LineFault → List ℕ → List ℕ → Type 0
 IsNote (Line H4) line note = IsKeyNote (fault_from (Line H4) line) note

@@ -136,7 +136,7 @@ pub(crate) fn without_all(text: &[u8], tiles: &[u8]) -> Part {
 
 /// How many copies of a tile a line has, in all its words. A red five is a five.
 pub(crate) fn copies_in(line: &[u8], tile: Tile) -> usize
-    ensures { result ≡ spec.copies_in tile.digit tile.suit line.now }
+    ensures { result ≡ spec.copies_on_line tile.digit tile.suit line.now }
 {
     let mut count = 0;
     let mut suit = 0;
@@ -153,14 +153,14 @@ pub(crate) fn copies_in(line: &[u8], tile: Tile) -> usize
 }
 
 fn digit_of(byte: u8) -> u8
-    ensures { result ≡ spec.digit_of byte }
+    ensures { result ≡ spec.five_if_zero byte }
 {
     if byte == b'0' { b'5' } else { byte }
 }
 
 /// The first tile of which a line has more than four copies.
 pub(crate) fn crowded_tile(line: &[u8]) -> Option<Tile>
-    ensures { IfSome result (λ tile. 4 < spec.copies_in tile.digit tile.suit line.now) }
+    ensures { IfSome result (λ tile. 4 < spec.copies_on_line tile.digit tile.suit line.now) }
 {
     for suit in b"mpsz" {
         for digit in b"123456789" {

@@ -6,7 +6,7 @@
 
 ghost use Rattle.std.specs.Prelude.{◌≡◌, ◌+◌, ◌≤◌, ◌++◌, length, true};
 ghost use Rattle.arrayvec.specs.ArrayString.{array_string_len};
-ghost use Rattle.riichi_yaku.specs.Table.{is_a_yakuman};
+ghost use Rattle.riichi_yaku.specs.Table.{yaku_is_yakuman};
 ghost use Rattle.riichi_names.specs.Names as spec;
 
 use arrayvec::ArrayString;
@@ -52,7 +52,7 @@ pub fn japanese(yaku: Yaku) -> &'static str
 }
 
 fn japanese_of_yakuman(yaku: Yaku) -> &'static str
-    ensures value { is_a_yakuman yaku ≡ true → result.now ≡ spec.japanese yaku }
+    ensures value { yaku_is_yakuman yaku ≡ true → result.now ≡ spec.japanese yaku }
     ensures short { length result.now ≤ 16 }
 {
     match yaku {

@@ -8,9 +8,9 @@ use Rattle.std.proofs.lemmas.List.Sums.{sum_by-append, sum_by-cons}
 use Rattle.std.specs.Prelude.{All, slice_index}
 use Rattle.std.specs.List.{sum_by}
 use Rattle.riichi_rows.specs.Columns.{Column, held, MayRun, Fits, lack_from, sets_in, pairs_in, LeastFrom}
-use Rattle.riichi_rows.specs.Suit.{entry_of, IsLeastLack, is_set, is_pair, IsInSuit, IsChoice, lack, LackReached}
+use Rattle.riichi_rows.specs.Suit.{entry_of, IsLeastLack, is_set, IsInSuit, IsChoice, lack, LackReached}
 use Rattle.riichi_rows.proofs.Spread.{spread_few, sum_range}
-use Rattle.riichi_tiles.specs.Blocks.{copies, total}
+use Rattle.riichi_tiles.specs.Blocks.{copies, total, is_pair}
 use Rattle.riichi_tiles.specs.declared.block.Block.{Block}
 use Rattle.riichi_tiles.specs.declared.block.Block.TheVariants.{Run, Triplet, Pair}
 

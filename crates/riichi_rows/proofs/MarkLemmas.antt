@@ -9,7 +9,7 @@ use lib.Arith.{bin_ind}
 use lib.Bits.{and_step, or_step, and_zero_r, or_zero_r}
 use lib.Lanes.{zip2, sel_l}
 use Rattle.riichi_rows.specs.Open.{IsMarkOf}
-use Rattle.riichi_rows.specs.Lanes.{lane, HasLanes, with_set, with_pair, capped, Agree, HasRoom, mark, lack_with, lacks_with}
+use Rattle.riichi_rows.specs.Lanes.{lane, HasLanes, with_set, with_pair, capped, Agree, HasRoomForFour, mark, lack_with, lacks_with}
 use Rattle.riichi_rows.proofs.LaneLemmas.{by_place, chosen_at, length_chosen, no_set, pair_moved, pair_order, picked, set_more, set_order, sixteen, tested}
 use Rattle.std.specs.Int.Bits.{and_zero_l}
 
@@ -151,10 +151,10 @@ none_seen a = grind (arith, nat_tests)
 pub as_it_is : (a x : ℕ) → lack_with 0 a x ≡ a
 as_it_is a x = ap (seen a) (and_zero_r x) ∙ none_seen a
 
-others_seen : (a t k : ℕ) → (a ≡ 0 → k ≡ 0) → (t < 255 → t ≤ 4) → HasRoom a → seen (capped (a + t)) k ≡ capped (seen a k + t)
+others_seen : (a t k : ℕ) → (a ≡ 0 → k ≡ 0) → (t < 255 → t ≤ 4) → HasRoomForFour a → seen (capped (a + t)) k ≡ capped (seen a k + t)
 others_seen a t k sound few_tiles few = grind (arith, nat_tests)
 
-own_seen : (a t k n : ℕ) → (0 < t → 0 < n) → (t ≡ 0 → n ≡ k) → (t < 255 → t ≤ 4) → HasRoom a → (t ≡ 0 → seen a k ≡ a) → seen (capped (a + t)) n ≡ capped (a + (if nat_lt t 255 then t - 1 else 255))
+own_seen : (a t k n : ℕ) → (0 < t → 0 < n) → (t ≡ 0 → n ≡ k) → (t < 255 → t ≤ 4) → HasRoomForFour a → (t ≡ 0 → seen a k ≡ a) → seen (capped (a + t)) n ≡ capped (a + (if nat_lt t 255 then t - 1 else 255))
 own_seen a t k n some none few_tiles few is_same = grind (arith, nat_tests)
 
 abbrev marked_all : List ℕ → ℕ → List ℕ
@@ -186,10 +186,10 @@ module _ (ms : List ℕ) (m : ℕ) (long : length ms ≡ 16) where
       here : (asked : ℕ) → lacks_with asked result (marked_all ms m) s p ≡ lack_with asked (capped (lane lacks s p + tiles)) (bit_or (mark ms s p) m)
       here asked = ap₂ (lack_with asked) (has s p hs hp) (marked_lane s p hs)
 
-      few_as_it_is : HasRoom (lacks_with 0 lacks ms s p) → HasRoom (lane lacks s p)
-      few_as_it_is few = subst HasRoom (as_it_is (lane lacks s p) (mark ms s p)) few
+      few_as_it_is : HasRoomForFour (lacks_with 0 lacks ms s p) → HasRoomForFour (lane lacks s p)
+      few_as_it_is few = subst HasRoomForFour (as_it_is (lane lacks s p) (mark ms s p)) few
 
-      pub more_of_others : (other : ℕ) → bit_and bit other ≡ 0 → (tiles < 255 → tiles ≤ 4) → HasRoom (lacks_with 0 lacks ms s p)
+      pub more_of_others : (other : ℕ) → bit_and bit other ≡ 0 → (tiles < 255 → tiles ≤ 4) → HasRoomForFour (lacks_with 0 lacks ms s p)
           → lacks_with other result (marked_all ms m) s p ≡ capped (lacks_with other lacks ms s p + tiles)
       more_of_others other apart few_tiles few =
           here other
@@ -204,7 +204,7 @@ module _ (ms : List ℕ) (m : ℕ) (long : length ms ≡ 16) where
       own_none : tiles ≡ 0 → bit_and (bit_or (mark ms s p) m) bit ≡ bit_and (mark ms s p) bit
       own_none none = ap (λ x. bit_and (bit_or (mark ms s p) x) bit) (is.1 none) ∙ ap (λ x. bit_and x bit) (or_zero_r (mark ms s p))
 
-      pub more_of_its_own : 0 < bit → (tiles < 255 → tiles ≤ 4) → HasRoom (lacks_with 0 lacks ms s p) → (tiles ≡ 0 → lacks_with bit lacks ms s p ≡ lacks_with 0 lacks ms s p)
+      pub more_of_its_own : 0 < bit → (tiles < 255 → tiles ≤ 4) → HasRoomForFour (lacks_with 0 lacks ms s p) → (tiles ≡ 0 → lacks_with bit lacks ms s p ≡ lacks_with 0 lacks ms s p)
           → lacks_with bit result (marked_all ms m) s p ≡ capped (lacks_with 0 lacks ms s p + (if nat_lt tiles 255 then tiles - 1 else 255))
       more_of_its_own positive few_tiles few is_same =
           let plain = as_it_is (lane lacks s p) (mark ms s p) in

@@ -9,7 +9,7 @@ use Rattle.riichi_rows.specs.Lacked.{ChoiceLacks, IsOneMore}
 use Rattle.riichi_rows.specs.Lanes.{lacks_with, lane}
 use Rattle.riichi_rows.specs.Marks.{AreMarks, is_marked}
 use Rattle.riichi_rows.specs.Ranks.{one_more}
-use Rattle.riichi_rows.specs.Row.{entries_of}
+use Rattle.riichi_rows.specs.Row.{entries_of_row}
 use Rattle.riichi_rows.specs.declared.row.SuitRow.{SuitRow}
 use Rattle.riichi_rows.specs.Suit.{IsLeastLack, entry_of}
 use Rattle.riichi_rows.proofs.Blocks.{entry_least}
@@ -78,7 +78,7 @@ module _ (runs : Bool) (counts caps : List ℕ) (long : length counts ≡ 9) (ca
 module _ (runs : Bool) (counts caps : List ℕ) (long : length counts ≡ 9) (caps_long : length caps ≡ 9) (few : (r : ℕ) → r < 9 → slice_index caps r ≤ 4) (row : SuitRow)
     (plain : AreLeast runs counts caps 0 0 (lane row.entries.lacks)) (marks : (r : ℕ) → r < 8 → AreLeast runs (one_more counts (suc r)) caps 0 0 (lacks_with (2 ^ r) row.entries.lacks row.marks))
     (room : slice_index counts 0 < 4 → AreLeast runs (one_more counts 0) caps 0 0 (lane row.first.lacks)) (full : 4 ≤ slice_index counts 0 → AreLeast runs counts caps 0 0 (lane row.first.lacks)) where
-  mark_is : (sets pairs n rank : ℕ) → sets ≤ 4 → pairs ≤ 1 → rank < 9 → entries_of row sets pairs ≡ Some n → IsTrue (is_marked row sets pairs rank) ↔ ChoiceLacks runs counts caps sets pairs n rank
+  mark_is : (sets pairs n rank : ℕ) → sets ≤ 4 → pairs ≤ 1 → rank < 9 → entries_of_row row sets pairs ≡ Some n → IsTrue (is_marked row sets pairs rank) ↔ ChoiceLacks runs counts caps sets pairs n rank
   mark_is sets pairs n zero hs hp inside is =
       marked_exactly runs counts caps long caps_long few sets pairs 0 inside _ _ (plain.at sets pairs (omega (arith, hs)) (omega (arith, hp))) n is
       (λ low. (room low).at sets pairs (omega (arith, hs)) (omega (arith, hp))) (λ high. (full high).at sets pairs (omega (arith, hs)) (omega (arith, hp)))

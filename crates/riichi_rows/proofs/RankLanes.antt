@@ -4,7 +4,7 @@ use Rattle.std.proofs.Math.Nat.{le-min, le_antisymm, le_refl}
 use Rattle.std.proofs.lemmas.Bool.Decides.{nat_tests}
 use Rattle.std.specs.Prelude.{if◌then◌else◌, nat_lt}
 use Rattle.riichi_rows.specs.Columns.{AreLeast, LeastFrom}
-use Rattle.riichi_rows.specs.Lanes.{Agree, HasRoom, IsFew, capped, none, with_set, with_pair}
+use Rattle.riichi_rows.specs.Lanes.{Agree, HasRoomForFour, IsFew, capped, none, with_set, with_pair}
 use Rattle.riichi_rows.specs.Open.{Added, Begun, cost, IsAdded, LeastBegun}
 use Rattle.riichi_rows.proofs.Steps.{row_value, LeastAfter, step}
 
@@ -35,7 +35,7 @@ few_cost have limit n c few is below = grind (arith, nat_tests)
 pub own_cost : (have limit n c : ℕ) → limit ≤ 4 → c ≡ cost have limit n → (if nat_lt c 255 then c - 1 else 255) ≡ cost (have + 1) limit n
 own_cost have limit n c few is = grind (arith, nat_tests)
 
-pub with_room : (lack : ℕ) → IsFew lack → HasRoom lack
+pub with_room : (lack : ℕ) → IsFew lack → HasRoomForFour lack
 with_room lack few low = omega (arith, few low)
 
 cost_above : (have limit n : ℕ) → limit < n → cost have limit n ≡ 255

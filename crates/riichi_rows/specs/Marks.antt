@@ -2,7 +2,7 @@
 use Rattle.std.specs.Prelude.{◌≡◌, ℕ, zero, suc, ◌+◌, ◌^◌, ◌<◌, ◌≤◌, ◌↔◌, Bool, IsTrue, nat_lt, List, Some, bit_and}
 use Rattle.riichi_rows.specs.Lacked.{ChoiceLacks}
 use Rattle.riichi_rows.specs.Lanes.{lacks_with, lane}
-use Rattle.riichi_rows.specs.Row.{entries_of}
+use Rattle.riichi_rows.specs.Row.{entries_of_row}
 use Rattle.riichi_rows.specs.Suit.{IsSuitRow}
 use Rattle.riichi_rows.specs.declared.joined.JoinedRows.{JoinedRows}
 use Rattle.riichi_rows.specs.declared.rank_set.RankSet.{RankSet}
@@ -19,11 +19,11 @@ is_marked row sets pairs rank = nat_lt (with_more row rank sets pairs) (lane row
 
 -- it says so of just the ranks that some least choice lacks
 pub record AreMarks (runs : Bool) (counts caps : List ℕ) (row : SuitRow) : Type 0 where
-  pub at : (sets pairs n rank : ℕ) → sets ≤ 4 → pairs ≤ 1 → rank < 9 → entries_of row sets pairs ≡ Some n → IsTrue (is_marked row sets pairs rank) ↔ ChoiceLacks runs counts caps sets pairs n rank
+  pub at : (sets pairs n rank : ℕ) → sets ≤ 4 → pairs ≤ 1 → rank < 9 → entries_of_row row sets pairs ≡ Some n → IsTrue (is_marked row sets pairs rank) ↔ ChoiceLacks runs counts caps sets pairs n rank
 
 -- the row of a suit with its marks
 pub record IsMarkedRow (runs : Bool) (counts caps : List ℕ) (row : SuitRow) : Type 0 where
-  pub least : IsSuitRow runs counts caps (entries_of row)
+  pub least : IsSuitRow runs counts caps (entries_of_row row)
   pub marks : AreMarks runs counts caps row
 
 -- an entry of the row that is marked at the rank, and a sum of the others: together so many sets and one pair, and they lack n
@@ -35,7 +35,7 @@ pub record MarkedBeside (row : SuitRow) (others : JoinedRows) (sets n rank : ℕ
   pub lack : ℕ
   pub all_sets : own_sets + other_sets ≡ sets
   pub one_pair : own_pairs + other_pairs ≡ 1
-  pub entry : entries_of row own_sets own_pairs ≡ Some lack
+  pub entry : entries_of_row row own_sets own_pairs ≡ Some lack
   pub total : lack + lane others.sums.lacks other_sets other_pairs ≡ n
   pub marked : IsTrue (is_marked row own_sets own_pairs rank)
 

@@ -10,12 +10,12 @@ use Rattle.riichi_rows.specs.declared.joined.JoinedRows.{JoinedRows}
 use Rattle.riichi_rows.specs.declared.row.SuitRow.{SuitRow}
 
 -- the entry of so many sets and pairs
-abbrev pub entries_of : SuitRow → ℕ → ℕ → Option ℕ
-entries_of row = row_entries row.entries.lacks
+abbrev pub entries_of_row : SuitRow → ℕ → ℕ → Option ℕ
+entries_of_row row = row_entries row.entries.lacks
 
 -- the entries of each suit's row
 abbrev pub suit_entries : BySuit SuitRow → Suit → ℕ → ℕ → Option ℕ
-suit_entries rows suit = entries_of (of_suit rows suit)
+suit_entries rows suit = entries_of_row (of_suit rows suit)
 
 -- the least sums of the rows of the three suits beside one
 pub record AreJoinedBeside (suit : Suit) (rows : BySuit SuitRow) (x : JoinedRows) : Type 0 where

@@ -1,14 +1,9 @@
 -- Choices of blocks in one suit, and what a choice lacks. Its ranks go from 0 to 8; a block is named by its lowest rank.
 use Rattle.riichi_rows.specs.Lanes.{lane}
 use Rattle.std.specs.Prelude.{◌≡◌, ℕ, ◌-◌, ◌<◌, ◌≤◌, Bool, true, false, IsTrue, if◌then◌else◌, nat_lt, List, [], ◌∷◌, sum_by, count_by, slice_index, All, Option, Some, None}
-use Rattle.riichi_tiles.specs.Blocks.{total}
+use Rattle.riichi_tiles.specs.Blocks.{total, is_pair}
 use Rattle.riichi_tiles.specs.declared.block.Block.{Block}
 use Rattle.riichi_tiles.specs.declared.block.Block.TheVariants.{Run, Triplet, Pair}
-
-abbrev pub is_pair : Block → Bool
-is_pair (Run low) = false
-is_pair (Triplet held) = false
-is_pair (Pair held) = true
 
 abbrev pub is_set : Block → Bool
 is_set (Run low) = true

@@ -2,7 +2,7 @@
 
 ghost use Rattle.std.specs.Prelude.{◌≡◌, ◌+◌, ◌-◌, ◌<◌, ◌≤◌, ℕ, List, bit_and, if◌then◌else◌, length, min, nat_lt};
 ghost use Rattle.riichi_rows.specs.Open.{IsMarkOf};
-ghost use Rattle.riichi_rows.specs.Lanes.{Agree, HasRoom, none, nothing, with_set, with_pair, capped, lacks_with, lane, mark, where_runs};
+ghost use Rattle.riichi_rows.specs.Lanes.{Agree, HasRoomForFour, none, nothing, with_set, with_pair, capped, lacks_with, lane, mark, where_runs};
 
 use crate::cost::Cost;
 use crate::lanes::{Lanes, ONE_SET_MORE, WITH_A_PAIR};
@@ -80,13 +80,13 @@ impl MarkedLanes {
         // what was lacked of other ranks stays lacked
         ensures others { (bit other s p : ℕ) → IsMarkOf bit cost.tiles cost.mark → s < 5 → p < 2
             → bit_and bit other ≡ 0 → (cost.tiles < 255 → cost.tiles ≤ 4)
-            → HasRoom (lacks_with 0 self.lacks.lacks self.marks s p)
+            → HasRoomForFour (lacks_with 0 self.lacks.lacks self.marks s p)
             → lacks_with other result.lacks.lacks result.marks s p
             ≡ capped (lacks_with other self.lacks.lacks self.marks s p + cost.tiles) }
         // with one more tile of the rank one less is lacking, where any is
         ensures own { (bit s p : ℕ) → IsMarkOf bit cost.tiles cost.mark → s < 5 → p < 2 → 0 < bit
             → (cost.tiles < 255 → cost.tiles ≤ 4)
-            → HasRoom (lacks_with 0 self.lacks.lacks self.marks s p)
+            → HasRoomForFour (lacks_with 0 self.lacks.lacks self.marks s p)
             → (cost.tiles ≡ 0
             → lacks_with bit self.lacks.lacks self.marks s p
             ≡ lacks_with 0 self.lacks.lacks self.marks s p)

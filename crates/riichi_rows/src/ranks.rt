@@ -2,7 +2,7 @@
 ghost use Rattle.std.specs.Prelude.{ℕ, List, ◌≡◌, ◌+◌, ◌-◌, ◌^◌, ◌<◌, ◌≤◌, length, slice_index};
 ghost use Rattle.riichi_rows.specs.Marks.{AreMarks, IsMarkedRow};
 ghost use Rattle.riichi_rows.specs.Ranks.{AreRanks, AreSuitLanes};
-ghost use Rattle.riichi_rows.specs.Row.{entries_of};
+ghost use Rattle.riichi_rows.specs.Row.{entries_of_row};
 ghost use Rattle.riichi_rows.specs.Suit.{IsSuitRow};
 
 use crate::open::Open;
@@ -81,7 +81,7 @@ pub fn suit_row_over(upper: &Open, counts: &[u8; 9], caps: &[u8; 9], runs: bool)
 /// and their last two counts and caps are 0.
 pub fn suit_row(counts: [u8; 9], caps: [u8; 9], runs: bool) -> SuitRow
     requires { (r : ℕ) → r < 9 → slice_index caps r ≤ 4 }
-    ensures least { IsSuitRow runs counts caps (entries_of result) }
+    ensures least { IsSuitRow runs counts caps (entries_of_row result) }
     ensures marks { AreMarks runs counts caps result }
 {
     let upper = upper_ranks(&counts, &caps, runs);

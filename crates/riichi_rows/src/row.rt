@@ -28,12 +28,12 @@ pub(crate) fn entry(lack: u8) -> Option<u8>
 }
 
 impl SuitRow {
-    ghost use Rattle.riichi_rows.specs.Row.{entries_of};
+    ghost use Rattle.riichi_rows.specs.Row.{entries_of_row};
 
     /// The entry, or None where no choice keeps within the caps.
     pub fn get(&self, sets: u8, pair: bool) -> Option<u8>
         requires { sets ≤ 4 }
-        ensures { result ≡ entries_of self.now sets (if pair then 1 else 0) }
+        ensures { result ≡ entries_of_row self.now sets (if pair then 1 else 0) }
     {
         let lanes = self.entries.lacks.to_array();
         let lack = if pair {

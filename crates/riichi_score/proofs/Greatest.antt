@@ -14,7 +14,7 @@ use Rattle.riichi_score.specs.declared.score.Score.{Score}
 use Rattle.riichi_score.specs.declared.answer.WinAnswer.{WinAnswer}
 use Rattle.riichi_score.specs.declared.answer.WinAnswer.TheVariants.{Won, NoYaku, NoWin}
 use Rattle.riichi_score.specs.Fu.{HasFourSets}
-use Rattle.riichi_score.specs.Scores.{score_of, hand_of, IsReadingOf}
+use Rattle.riichi_score.specs.Scores.{score_of, completed_hand, IsReadingOf}
 use Rattle.riichi_split.specs.ReadingsOf.{readings_of}
 use Rattle.riichi_score.specs.Best.{rank, is_above, IsBestOf, IsBest, better, best_among, best_of}
 use Rattle.riichi_split.proofs.EveryReading.{every_reading}
@@ -109,12 +109,12 @@ weaker P Q w (Won s) f g h = ((h.0.0, f h.0.0 h.0.1, h.0.2), λ r t q e. h.1 r t
 
 -- the readings of this hand, beside so many melds, won by this tile
 abbrev pub AreReadingsOf : WinParts → List Reading → Type 0
-AreReadingsOf w readings = AreTheReadings (hand_of w) (length w.melds) w.winning readings
+AreReadingsOf w readings = AreTheReadings (completed_hand w) (length w.melds) w.winning readings
 
 best-all : (w : WinParts) (all : List Reading) (a : WinAnswer) → AreReadingsOf w all → IsBestOf (Contains all) w a → IsBest w a
 best-all w all a readings h = weaker (Contains all) (IsReadingOf w) w a (λ r i. All-contains (IsReadingOf w) all r readings.sound i) readings.complete h
 
-pub AreReadingsOf-from : (w : WinParts) (hand : List ℕ) (melds : List Meld) (winning : ℕ) (readings all : List Reading) → hand ≡ hand_of w → melds ≡ w.melds → winning ≡ w.winning → all ≡ readings → AreTheReadings hand (length melds) winning readings → AreReadingsOf w all
+pub AreReadingsOf-from : (w : WinParts) (hand : List ℕ) (melds : List Meld) (winning : ℕ) (readings all : List Reading) → hand ≡ completed_hand w → melds ≡ w.melds → winning ≡ w.winning → all ≡ readings → AreTheReadings hand (length melds) winning readings → AreReadingsOf w all
 AreReadingsOf-from w hand melds winning readings all a b c d h =
     subst (λ (x : List ℕ). AreTheReadings x (length w.melds) w.winning all) a
     (subst (λ (x : List Meld). AreTheReadings hand (length x) w.winning all) b
@@ -145,14 +145,14 @@ among-more w before (r ∷ rest) a h =
     subst (λ (x : List Reading). IsBestOf (Contains x) w (fold (λ best reading. better best (score_of reading w)) a (r ∷ rest))) (append_assoc before (r ∷ []) rest) all
 
 -- the list of every reading
-pub best_of-IsBest : (w : WinParts) → IsCounts (hand_of w) → length w.melds ≤ 4 → IsBest w (best_of w)
+pub best_of-IsBest : (w : WinParts) → IsCounts (completed_hand w) → length w.melds ≤ 4 → IsBest w (best_of w)
 unfolding best_of
 best_of-IsBest w counts melds =
-    let all = readings_of (hand_of w) (length w.melds) w.winning in
-    best-all w all (best_among w all) (every_reading (hand_of w) (length w.melds) w.winning counts.each_kind melds) (among-more w [] all NoWin (λ r h. absurd (omega (arith, h.1))))
+    let all = readings_of (completed_hand w) (length w.melds) w.winning in
+    best-all w all (best_among w all) (every_reading (completed_hand w) (length w.melds) w.winning counts.each_kind melds) (among-more w [] all NoWin (λ r h. absurd (omega (arith, h.1))))
 
 -- what is best when none is left is the best of every reading
-pub best-end : (w : WinParts) (all before left : List Reading) (a : WinAnswer) → IsCounts (hand_of w) → IsWinRecord w → AreReadingsOf w all → IsSoFar w all before left a → left ≡ [] → (a ≡ best_of w) × IsBest w a
+pub best-end : (w : WinParts) (all before left : List Reading) (a : WinAnswer) → IsCounts (completed_hand w) → IsWinRecord w → AreReadingsOf w all → IsSoFar w all before left a → left ≡ [] → (a ≡ best_of w) × IsBest w a
 best-end w all before left a counts win readings h e =
     let same : before ≡ all = sym (h.parts ∙ ap (λ x. before ++ x) e ∙ append-nil before) in
     let greatest = best-all w all a readings (subst (λ (x : List Reading). IsBestOf (Contains x) w a) same h.best) in

@@ -9,7 +9,7 @@ use Rattle.riichi_hand.specs.declared.fault.LineFault.{LineFault}
 use Rattle.riichi_hand.specs.declared.win.WinParts.{WinParts}
 use Rattle.riichi_hand.specs.Faults.{coded, first_fault}
 use Rattle.riichi_hand.specs.Hand.{hand_of, copies_held, has_five_copies, is_thirteen}
-use Rattle.riichi_hand.specs.Win.{IsWinRecord, win_faults, copies_in, has_five_in, has_wrong_size, is_out_of_range}
+use Rattle.riichi_hand.specs.Win.{IsWinRecord, win_faults, copies_with_indicators, has_five_in, has_wrong_size, is_out_of_range}
 use Rattle.riichi_score.specs.Limits.{waiting_hand}
 
 clear : (range size copies : Bool) (later : List (Option LineFault)) → first_fault (coded H4 range ∷ coded H8 size ∷ coded H9 copies ∷ later) ≡ None → (size ≡ false) × (copies ≡ false)
@@ -41,8 +41,8 @@ unfolding hand_of
 hand_before win is =
     let parts = clear (is_out_of_range win) (has_wrong_size win) (has_five_in win) (drop 3 (win_faults win)) is.no_fault in
     let thirteen = right_size (is_thirteen win.concealed win.melds) _ _ parts.0 in
-    let each = λ (kind : ℕ) (none : ltb 4 (copies_in win kind) ≡ false).
+    let each = λ (kind : ℕ) (none : ltb 4 (copies_with_indicators win kind) ≡ false).
     fewer_copies (slice_index win.concealed kind) (tiles win.melds kind) (cond (eqb win.winning kind) 1 0) (slice_index win.dora kind) (slice_index win.ura kind) none in
     let few : has_five_copies win.concealed win.melds ≡ false =
-    any_fewer (λ kind. ltb 4 (copies_in win kind)) (λ kind. ltb 4 (copies_held win.concealed win.melds kind)) every_kind each parts.1 in
+    any_fewer (λ kind. ltb 4 (copies_with_indicators win kind)) (λ kind. ltb 4 (copies_held win.concealed win.melds kind)) every_kind each parts.1 in
     rw (thirteen, few) refl

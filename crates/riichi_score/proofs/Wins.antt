@@ -12,7 +12,7 @@ use Rattle.riichi_hand.specs.declared.fault.LineFault.{LineFault}
 use Rattle.riichi_hand.specs.declared.win.WinParts.{WinParts}
 use Rattle.riichi_hand.specs.Faults.{coded, first_fault}
 use Rattle.riichi_score.specs.Dora.{counted_ura}
-use Rattle.riichi_hand.specs.Win.{IsWinRecord, win_faults, copies_in, has_five_in, has_wrong_size, is_out_of_range}
+use Rattle.riichi_hand.specs.Win.{IsWinRecord, win_faults, copies_with_indicators, has_five_in, has_wrong_size, is_out_of_range}
 
 -- none of the first three faults
 pub record IsClear (a b c : Bool) : Type 0 where
@@ -58,9 +58,9 @@ fails_at test kind none lt passed =
     sym (list_any_at test (range_with_len 0 34) kind 0 (omega (arith, length-range_with_len 0 34)) (ap test place ∙ passed)) ∙ none
 
 -- no kind has more than four copies
-pub four_copies : (win : WinParts) (kind : ℕ) → IsWinRecord win → kind < 34 → copies_in win kind ≤ 4
+pub four_copies : (win : WinParts) (kind : ℕ) → IsWinRecord win → kind < 34 → copies_with_indicators win kind ≤ 4
 four_copies win kind h lt =
-    ltb-false 4 (copies_in win kind) (false_from_ne_true (ltb 4 (copies_in win kind)) (λ more. true≢false (fails_at (λ k. ltb 4 (copies_in win k)) kind (is_clear win h).copies lt more)))
+    ltb-false 4 (copies_with_indicators win kind) (false_from_ne_true (ltb 4 (copies_with_indicators win kind)) (λ more. true≢false (fails_at (λ k. ltb 4 (copies_with_indicators win k)) kind (is_clear win h).copies lt more)))
 
 self_counts : (concealed melds kind dora ura : ℕ) → concealed + melds + cond (eqb kind kind) 1 0 + dora + ura ≤ 4 → concealed < 4
 self_counts concealed melds kind dora ura h = grind (arith, nat_tests)

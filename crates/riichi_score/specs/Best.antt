@@ -8,7 +8,7 @@ use Rattle.riichi_score.specs.declared.score.Score.{Score}
 use Rattle.riichi_score.specs.declared.answer.WinAnswer.{WinAnswer}
 use Rattle.riichi_score.specs.declared.answer.WinAnswer.TheVariants.{Won, NoYaku, NoWin}
 use Rattle.riichi_split.specs.ReadingsOf.{readings_of}
-use Rattle.riichi_score.specs.Scores.{score_of, hand_of, IsReadingOf}
+use Rattle.riichi_score.specs.Scores.{score_of, completed_hand, IsReadingOf}
 
 -- what scores are compared by, the first first: base points, a yakuman before a counted hand, han, fu, the set as a number
 abbrev pub rank : Score → List ℕ
@@ -52,4 +52,4 @@ best_among win readings = fold (λ best reading. better best (score_of reading w
 
 -- the best of every reading
 unfoldable pub best_of : WinParts → WinAnswer
-best_of win = best_among win (readings_of (hand_of win) (length win.melds) win.winning)
+best_of win = best_among win (readings_of (completed_hand win) (length win.melds) win.winning)

@@ -3,8 +3,7 @@ use Rattle.std.specs.Prelude.{ℕ, Bool, true, false, ◌&&◌, ◌==◌, count_
 use Rattle.std.specs.List.{list_any, sum_by}
 use Rattle.riichi_tiles.specs.HeldKinds.{is_held}
 use Rattle.riichi_tiles.specs.Melds.{every_kind}
-use Rattle.riichi_tiles.specs.declared.block.Block.{Block}
-use Rattle.riichi_tiles.specs.declared.block.Block.TheVariants as block
+use Rattle.riichi_tiles.specs.Blocks.{is_pair}
 use Rattle.riichi_hand.specs.HandParts.{HandParts}
 use Rattle.riichi_hand.specs.declared.win.WinParts.{WinParts}
 use Rattle.riichi_split.specs.Waits.{waits_of}
@@ -21,11 +20,6 @@ waiting_hand win = record { concealed = win.concealed; melds = win.melds }
 -- before the winning tile the hand waits for so many kinds
 abbrev pub waits_on : ℕ → WinParts → Bool
 waits_on kinds win = count_by (is_held (waits_of (waiting_hand win))) every_kind == kinds
-
-abbrev pub is_pair : Block → Bool
-is_pair (block.Run low) = false
-is_pair (block.Triplet kind) = false
-is_pair (block.Pair kind) = true
 
 -- the winning tile completes the pair
 abbrev pub is_completed_in_pair : Reading → Bool

@@ -12,10 +12,10 @@ use Rattle.riichi_score.specs.Scores.{score_of, IsReadingOf}
 use Rattle.riichi_score.specs.Worths.{score_with}
 
 -- the answer without the reading
-abbrev pub answer_in : BestReading → WinAnswer
-answer_in (Won reading score) = answer.Won score
-answer_in NoYaku = answer.NoYaku
-answer_in NoWin = answer.NoWin
+abbrev pub answer_without_reading : BestReading → WinAnswer
+answer_without_reading (Won reading score) = answer.Won score
+answer_without_reading NoYaku = answer.NoYaku
+answer_without_reading NoWin = answer.NoWin
 
 -- the reading is one of the hand's, and the score is that of this reading
 abbrev pub HasItsScore : WinParts → BestReading → Type 0

@@ -46,8 +46,8 @@ unfoldable pub score_of : Reading → WinParts → Option Score
 score_of reading win = scored (limits_of reading win (yaku_of reading win)) (yaku_of reading win) (fu_of reading win) (dora_of win) win
 
 -- the concealed tiles with the winning tile
-abbrev pub hand_of : WinParts → List ℕ
-hand_of win = slice_set win.concealed win.winning (slice_index win.concealed win.winning + 1)
+abbrev pub completed_hand : WinParts → List ℕ
+completed_hand win = slice_set win.concealed win.winning (slice_index win.concealed win.winning + 1)
 
 abbrev pub IsReadingOf : WinParts → Reading → Type 0
-IsReadingOf win reading = IsReading (hand_of win) (length win.melds) win.winning reading
+IsReadingOf win reading = IsReading (completed_hand win) (length win.melds) win.winning reading

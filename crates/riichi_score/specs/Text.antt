@@ -1,6 +1,6 @@
 -- The text of an answer.
 use Rattle.std.specs.Prelude.{ℕ, ◌==◌, List, [], ◌++◌, codes, decimal, if◌then◌else◌}
-use Rattle.riichi_yaku.specs.YakuSets.{is_yakuman, words_of}
+use Rattle.riichi_yaku.specs.YakuSets.{is_yakuman, yaku_words}
 use Rattle.riichi_score.specs.declared.payers.Payment.{Payment}
 use Rattle.riichi_score.specs.declared.payers.Payment.TheVariants.{Ron, Tsumo, DealerTsumo}
 use Rattle.riichi_score.specs.declared.score.Score.{Score}
@@ -27,9 +27,9 @@ abbrev pub score_text : Score → List ℕ
 score_text score =
     codes "won " ++ worth_text score ++ payment_text score.payment
     ++ codes " gain " ++ decimal score.gain
-    ++ words_of score.yaku ++ dora_text score.dora
+    ++ yaku_words score.yaku ++ dora_text score.dora
 
-unfoldable pub text_of : WinAnswer → List ℕ
-text_of NoWin = codes "no win"
-text_of NoYaku = codes "no yaku"
-text_of (Won score) = score_text score
+unfoldable pub win_text : WinAnswer → List ℕ
+win_text NoWin = codes "no win"
+win_text NoYaku = codes "no yaku"
+win_text (Won score) = score_text score

@@ -28,8 +28,8 @@ worth_if limits yaku fu dora win =
     else (if is_yakuman yaku then Some (limit_worth limits yaku) else Some (counted_worth yaku fu dora win))
 
 -- what scores are compared by
-abbrev pub rank_of : Worth → List ℕ
-rank_of worth = worth.base ∷ (if is_yakuman worth.yaku then 1 else 0) ∷ worth.han ∷ worth.fu ∷ worth.yaku ∷ []
+abbrev pub worth_order : Worth → List ℕ
+worth_order worth = worth.base ∷ (if is_yakuman worth.yaku then 1 else 0) ∷ worth.han ∷ worth.fu ∷ worth.yaku ∷ []
 
 -- with what is paid
 abbrev pub score_with : Worth → WinParts → Score
@@ -39,10 +39,10 @@ abbrev pub score_if : Option Worth → WinParts → Option Score
 score_if None win = None
 score_if (Some worth) win = Some (score_with worth win)
 
-abbrev pub answer_of : Leading → WinParts → WinAnswer
-answer_of (Won worth) win = answer.Won (score_with worth win)
-answer_of NoYaku win = answer.NoYaku
-answer_of NoWin win = answer.NoWin
+abbrev pub leading_answer : Leading → WinParts → WinAnswer
+leading_answer (Won worth) win = answer.Won (score_with worth win)
+leading_answer NoYaku win = answer.NoYaku
+leading_answer NoWin win = answer.NoWin
 
 -- the base points, or 0
 abbrev pub base_if : Option Worth → ℕ

@@ -3,7 +3,7 @@ ghost use Rattle.std.specs.Prelude.{◌≡◌};
 ghost use Rattle.riichi_tiles.specs.Tiles.{IsCounts};
 ghost use Rattle.riichi_hand.specs.Win.{IsWinRecord};
 ghost use Rattle.riichi_score.specs.Best as spec;
-ghost use Rattle.riichi_score.specs.Scores.{hand_of};
+ghost use Rattle.riichi_score.specs.Scores.{completed_hand};
 
 use crate::dora;
 use crate::leading::Leading;
@@ -42,7 +42,7 @@ pub fn best(win: &WinRecord) -> WinAnswer
 
 /// The concealed tiles with the winning tile.
 pub fn hand_of(win: &WinRecord) -> Counts
-    ensures value { result ≡ hand_of win.now }
+    ensures value { result ≡ completed_hand win.now }
     ensures counts { IsCounts result }
     ensures win { IsWinRecord win.now }
 {

@@ -24,8 +24,8 @@ impl Leading {
         requires most { spec.leading_base self ≤ 800000 }
         requires worth { spec.base_if worth ≤ 800000 }
         ensures value { (win : WinParts)
-            → spec.answer_of result win
-            ≡ best_spec.better (spec.answer_of self win) (spec.score_if worth win) }
+            → spec.leading_answer result win
+            ≡ best_spec.better (spec.leading_answer self win) (spec.score_if worth win) }
         ensures most { spec.leading_base result ≤ 800000 }
     {
         match (self, worth) {
@@ -45,7 +45,7 @@ impl Leading {
     /// The answer, with what is paid.
     pub(crate) fn answer(self, win: &WinRecord) -> WinAnswer
         requires { spec.leading_base self ≤ 800000 }
-        ensures { result ≡ spec.answer_of self win.now }
+        ensures { result ≡ spec.leading_answer self win.now }
     {
         match self {
             Leading::Won(worth) => WinAnswer::Won(worth.score(win)),

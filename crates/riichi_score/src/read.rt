@@ -4,7 +4,7 @@ ghost use Rattle.riichi_hand.specs.declared.win.WinParts.{WinParts};
 ghost use Rattle.riichi_score.specs.Best as best_spec;
 ghost use Rattle.riichi_score.specs.Read as spec;
 ghost use Rattle.riichi_score.specs.Scores.{score_of, IsReadingOf};
-ghost use Rattle.riichi_score.specs.Worths.{answer_of, base_if, leading_base, score_if};
+ghost use Rattle.riichi_score.specs.Worths.{leading_answer, base_if, leading_base, score_if};
 
 use crate::answer::hand_of;
 use crate::dora;
@@ -48,8 +48,8 @@ impl LeadingReading {
     fn better(self, reading: Reading, worth: Option<Worth>) -> LeadingReading
         requires most { leading_base self.best ≤ 800000 }
         requires worth { base_if worth ≤ 800000 }
-        ensures value { (win : WinParts) → answer_of result.best win
-            ≡ best_spec.better (answer_of self.best win) (score_if worth win) }
+        ensures value { (win : WinParts) → leading_answer result.best win
+            ≡ best_spec.better (leading_answer self.best win) (score_if worth win) }
         ensures most { leading_base result.best ≤ 800000 }
         ensures scored { (win : WinParts) → IsReadingOf win reading
             → score_if worth win ≡ score_of reading win
@@ -87,7 +87,7 @@ impl LeadingReading {
     /// The answer, with what is paid.
     fn answer(self, win: &WinRecord) -> BestReading
         requires { leading_base self.best ≤ 800000 }
-        ensures value { spec.answer_in result ≡ answer_of self.best win.now }
+        ensures value { spec.answer_without_reading result ≡ leading_answer self.best win.now }
         ensures reading { spec.IsScored win.now self.reading self.best
             → spec.HasItsScore win.now result }
     {
@@ -106,8 +106,8 @@ impl LeadingReading {
 /// The best score of a win, and a reading of the hand that has it: the first that is found, where
 /// several have.
 pub fn best_reading(win: &WinRecord) -> BestReading
-    ensures value { spec.answer_in result ≡ best_spec.best_of win.now }
-    ensures greatest { best_spec.IsBest win.now (spec.answer_in result) }
+    ensures value { spec.answer_without_reading result ≡ best_spec.best_of win.now }
+    ensures greatest { best_spec.IsBest win.now (spec.answer_without_reading result) }
     ensures reading { spec.HasItsScore win.now result }
 {
     let dora = dora(win);

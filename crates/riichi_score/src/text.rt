@@ -10,7 +10,7 @@ use riichi_yaku::push_words;
 
 /// The text of an answer, without the line's end.
 pub fn win_text(answer: &WinAnswer) -> ArrayString<3072>
-    ensures { result.bytes ≡ spec.text_of answer.now }
+    ensures { result.bytes ≡ spec.win_text answer.now }
 {
     let mut text = ArrayString::new();
     push_win(&mut text, answer);
@@ -18,10 +18,10 @@ pub fn win_text(answer: &WinAnswer) -> ArrayString<3072>
 }
 
 /// Writes the answer behind a text, without the line's end. A text that is kept need not be made anew for each answer.
-#[tactic(auto, unfolding(crate::specs::Text::text_of))]
+#[tactic(auto, unfolding(crate::specs::Text::win_text))]
 pub fn push_win(text: &mut ArrayString<3072>, answer: &WinAnswer)
     requires { array_string_len text.old + 680 ≤ 3072 }
-    ensures { text.new.bytes ≡ text.old.bytes ++ spec.text_of answer.now }
+    ensures { text.new.bytes ≡ text.old.bytes ++ spec.win_text answer.now }
 {
     match answer {
         WinAnswer::NoWin => text.push_str("no win"),

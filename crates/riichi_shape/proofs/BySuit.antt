@@ -6,9 +6,9 @@ use Rattle.std.proofs.lemmas.List.Elements.{All-nil, All-cons, All-head, All-tai
 use Rattle.std.proofs.lemmas.List.Sums.{sum_by-cons}
 use Rattle.std.specs.Prelude.{All, ◌&&◌, count_by, sum_by}
 use Rattle.riichi_tiles.specs.Kinds.{IsRunLow}
-use Rattle.riichi_tiles.specs.Blocks.{total}
+use Rattle.riichi_tiles.specs.Blocks.{total, is_pair}
 use Rattle.riichi_tiles.specs.declared.block.Block.{Block}
-use Rattle.riichi_rows.specs.Suit.{is_set, is_pair, IsInSuit}
+use Rattle.riichi_rows.specs.Suit.{is_set, IsInSuit}
 use Rattle.riichi_tiles.specs.declared.block.Block.TheVariants.{Run, Triplet, Pair}
 use Rattle.riichi_shape.proofs.Counted.{IsOfKinds}
 use Rattle.riichi_rows.proofs.Blocks.{no_block, sum_by-none, sum_by-same, sum_by-same_of, tiles_of, tiles_is_sum, set_of, has_pair}

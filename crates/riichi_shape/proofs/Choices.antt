@@ -9,7 +9,7 @@ use Rattle.riichi_hand.specs.HandParts.{ShapeParts}
 use Rattle.riichi_tiles.specs.Melds.{every_kind}
 use Rattle.riichi_tiles.specs.declared.meld.Meld.{Meld}
 use Rattle.riichi_shape.specs.Accepted.{accepted_of}
-use Rattle.riichi_shape.specs.Answer.{accepts_of, shape_of}
+use Rattle.riichi_shape.specs.Answer.{accepts_of, shape_answer_of}
 use Rattle.riichi_shape.specs.Choosing.{DiscardsLaw, HasDiscards, LeavesLeast}
 use Rattle.riichi_shape.specs.Discards.{discard_of, discards_of, distance_without, in_order, inserted, inserted_by, is_best, is_discard, live_with}
 use Rattle.riichi_shape.specs.declared.accepts.Accepts.TheVariants.{Thirteen, Fourteen}
@@ -99,6 +99,6 @@ on_parts : (parts : ShapeParts) (thirteen : Bool) → HasDiscards parts (cond th
 on_parts parts true = tt
 on_parts parts false = discards_are parts.tiles parts.melds parts.seen
 
-pub has_discards : (parts : ShapeParts) (answer : ShapeAnswer) → answer ≡ shape_of parts → HasDiscards parts answer.accepts
-unfolding shape_of accepts_of
+pub has_discards : (parts : ShapeParts) (answer : ShapeAnswer) → answer ≡ shape_answer_of parts → HasDiscards parts answer.accepts
+unfolding shape_answer_of accepts_of
 has_discards parts answer is = subst (λ (a : ShapeAnswer). HasDiscards parts a.accepts) (sym is) (on_parts parts (is_thirteen parts.tiles parts.melds))

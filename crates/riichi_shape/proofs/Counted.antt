@@ -4,10 +4,10 @@ use Rattle.std.proofs.lemmas.List.Elements.{All-nil, All-cons, All-head, All-tai
 use Rattle.std.proofs.lemmas.List.Sums.{sum_by-cons}
 use Rattle.std.specs.Prelude.{All, count_by, slice_index}
 use Rattle.riichi_tiles.specs.Kinds.{IsRunLow}
-use Rattle.riichi_tiles.specs.Blocks.{IsSet, total}
+use Rattle.riichi_tiles.specs.Blocks.{IsSet, total, is_pair}
 use Rattle.riichi_tiles.specs.declared.block.Block.{Block}
 use Rattle.riichi_tiles.specs.declared.block.Block.TheVariants.{Run, Triplet, Pair}
-use Rattle.riichi_rows.specs.Suit.{is_set, is_pair}
+use Rattle.riichi_rows.specs.Suit.{is_set}
 use Rattle.riichi_rows.proofs.Blocks.{set_of, has_pair}
 use Rattle.riichi_tiles.specs.Forms.{IsSetsAndPair}
 

@@ -8,7 +8,7 @@ use Rattle.std.specs.Prelude.{nat_le, nat_lt, unwrap_or}
 use Rattle.std.specs.List.{position, position_or_len}
 use Rattle.riichi_shape.specs.declared.kept_discard.KeptDiscard.{KeptDiscard}
 use Rattle.riichi_shape.specs.Discards.{inserted_by}
-use Rattle.riichi_shape.specs.KeptDiscards.{AreFirst, gives_way, no_discard, placed}
+use Rattle.riichi_shape.specs.KeptDiscards.{AreFirst, gives_way, no_discard, in_fourteen_places}
 
 module _ {A : Type 0} (key : A → ℕ) (item : A) where
   pub inserted_length : (items : List A) → length (inserted_by key item items) ≡ length items + 1
@@ -101,7 +101,7 @@ found live discards = by_place (first_place live discards) (length discards) (na
     by_place i n true e h = refl
     by_place i n false e h = grind (arith, nat_tests)
 
-module _ (places now : List KeptDiscard) (discards : List KeptDiscard) (discard : KeptDiscard) (place n : ℕ) (room : length discards < 14) (placed_are : places ≡ placed discards)
+module _ (places now : List KeptDiscard) (discards : List KeptDiscard) (discard : KeptDiscard) (place n : ℕ) (room : length discards < 14) (placed_are : places ≡ in_fourteen_places discards)
     (place_is : place ≡ first_place discard.live discards) (now_is : now ≡ take place places ++ discard ∷ take n (drop place places)) (n_is : n ≡ 13 - place) where
   abbrev free : ℕ
   free = 13 - length discards
@@ -123,15 +123,15 @@ module _ (places now : List KeptDiscard) (discards : List KeptDiscard) (discard 
   now_first count is = record {
     long = omega (arith, ap length now_free, length_then_free (put_in discard discards) free, put_length discard discards);
     few = omega (arith, is);
-    free = now_free ∙ ap (then_free (put_in discard discards)) rest ∙ ap placed (sym (now_told count is));
+    free = now_free ∙ ap (then_free (put_in discard discards)) rest ∙ ap in_fourteen_places (sym (now_told count is));
   }
     where
       rest : free ≡ 14 - length (put_in discard discards)
       rest = omega (arith, put_length discard discards)
 
 -- the discards that are seen are so many
-pub seen_are : (count : ℕ) (places seen : List KeptDiscard) → AreFirst count places → take count places ≡ seen → (length seen ≡ count) × (places ≡ placed seen)
-seen_are count places seen first view = (omega (arith, ap length view, length-take-le count places (omega (arith, first.few, first.long))), first.free ∙ ap placed view)
+pub seen_are : (count : ℕ) (places seen : List KeptDiscard) → AreFirst count places → take count places ≡ seen → (length seen ≡ count) × (places ≡ in_fourteen_places seen)
+seen_are count places seen first view = (omega (arith, ap length view, length-take-le count places (omega (arith, first.few, first.long))), first.free ∙ ap in_fourteen_places view)
 
 module _ (count : ℕ) (places seen : List KeptDiscard) (live place : ℕ) (found_at : Option ℕ) (first : AreFirst count places) (view : take count places ≡ seen)
     (at_is : found_at ≡ position (gives_way live) (take count places)) (place_is : place ≡ unwrap_or found_at count) where

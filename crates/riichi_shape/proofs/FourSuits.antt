@@ -7,7 +7,7 @@ use Rattle.std.proofs.lemmas.List.Sums.{sum_by-append}
 use Rattle.std.specs.Prelude.{All, slice_index, count_by, sum_by, ◌↔◌}
 use Rattle.riichi_shape.specs.Lacked.{EntryLacks, StandardLacks}
 use Rattle.riichi_rows.specs.Join.{EntriesSum, IsLeastJoin}
-use Rattle.riichi_tiles.specs.Blocks.{total}
+use Rattle.riichi_tiles.specs.Blocks.{total, is_pair}
 use Rattle.riichi_tiles.specs.Kinds.{first_of, has_runs, kinds_of, rank_of, suit_of}
 use Rattle.riichi_tiles.specs.Melds.{tiles}
 use Rattle.riichi_tiles.specs.Suits.{over_suits}
@@ -16,7 +16,7 @@ use Rattle.riichi_tiles.specs.declared.suit.Suit.TheVariants.{Characters, Circle
 use Rattle.riichi_tiles.proofs.Suits.{but_for, but_for-own, le_over, one_of, only_over, own_suit, same_from_sums, same_over}
 use Rattle.riichi_tiles.specs.declared.block.Block.{Block}
 use Rattle.riichi_tiles.specs.declared.meld.Meld.{Meld}
-use Rattle.riichi_rows.specs.Suit.{is_set, is_pair, IsInSuit, IsChoice, lack, LackReached, IsLeastLack, IsSuitRow}
+use Rattle.riichi_rows.specs.Suit.{is_set, IsInSuit, IsChoice, lack, LackReached, IsLeastLack, IsSuitRow}
 use Rattle.riichi_tiles.specs.declared.block.Block.TheVariants.{Run, Triplet, Pair}
 use Rattle.riichi_shape.specs.Distance.{StandardReached, IsLeastStandard}
 use Rattle.riichi_shape.specs.Suits.{IsSuitOf}

@@ -7,7 +7,7 @@ use Rattle.std.specs.List.{list_any}
 use Rattle.std.specs.Prelude.{◌||◌, nat_le, nat_lt, slice_get, slice_index}
 use Rattle.std.specs.Option.{option_map}
 use Rattle.riichi_shape.specs.Discards.{inserted, inserted_by, live_with}
-use Rattle.riichi_shape.specs.KeptDiscards.{AreKept, AreTold, IsKept, all_copies, kept_of, kinds_in, kinds_of, most_copies, short_of, told}
+use Rattle.riichi_shape.specs.KeptDiscards.{AreKept, AreTold, IsKept, all_copies, kept_of, kinds_in, accepted_kinds, most_copies, short_of, told}
 use Rattle.riichi_tiles.specs.HeldKinds.{is_held}
 use Rattle.riichi_shape.specs.KindBits.{copies_among, copies_at}
 use Rattle.riichi_shape.specs.LiveCopies.{copies_in, pairs_of}
@@ -44,7 +44,7 @@ all_at : (discards : List Discard) (kind : ℕ) → kind < 34 → get_or (all_co
 unfolding all_copies
 all_at discards kind low = get_or-map-range_with_len (most_copies discards) 0 34 kind kind 0 low (omega arith)
 
-pub set_low : (kept : KeptDiscard) → kept.numbers < 2 ^ 27 → kept.honours < 2 ^ 7 → kinds_of kept < 2 ^ 34
+pub set_low : (kept : KeptDiscard) → kept.numbers < 2 ^ 27 → kept.honours < 2 ^ 7 → accepted_kinds kept < 2 ^ 34
 set_low kept low low' = omega (arith, low, low')
 
 module _ (copies : List ℕ) where
@@ -55,7 +55,7 @@ module _ (copies : List ℕ) where
       same_kept e e' e'' = cc
 
       back : kinds_in (told copies kept).accepted ≡ kept.honours * 2 ^ 27 + kept.numbers
-      back = kinds_back copies (kinds_of kept) (set_low kept is.numbers_below is.honours_below) is.some_live
+      back = kinds_back copies (accepted_kinds kept) (set_low kept is.numbers_below is.honours_below) is.some_live
 
       remainder : (n a b : ℕ) → n ≡ a * 2 ^ 27 + b → b < 2 ^ 27 → n % 2 ^ 27 ≡ b
       remainder n a b e low = omega (arith, e, low)
@@ -67,7 +67,7 @@ module _ (copies : List ℕ) where
   all_back [] all = refl
   all_back (kept ∷ order) all = ap (λ k. k ∷ map kept_of (map (told copies) order)) (kept_back kept all.0) ∙ ap (λ ks. kept ∷ ks) (all_back order all.1)
 
-  pub all_low : (order : List KeptDiscard) → AreKept copies order → (place : ℕ) (other : KeptDiscard) → place < length order → kinds_of (get_or order place other) < 2 ^ 34
+  pub all_low : (order : List KeptDiscard) → AreKept copies order → (place : ℕ) (other : KeptDiscard) → place < length order → accepted_kinds (get_or order place other) < 2 ^ 34
   all_low [] all place other low = absurd (omega arith)
   all_low (kept ∷ order) all zero other low = set_low kept all.0.numbers_below all.0.honours_below
   all_low (kept ∷ order) all (suc place) other low = all_low order all.1 place other (omega arith)
@@ -77,43 +77,43 @@ module _ (copies : List ℕ) where
   greater : (a b : Bool) (c : ℕ) → max (cond a c 0) (cond b c 0) ≡ cond (a || b) c 0
   greater a b c = grind arith
 
-  most_told : (order : List KeptDiscard) (kind : ℕ) → kind < 34 → most_copies (map (told copies) order) kind ≡ cond (list_any (λ kept. is_held (kinds_of kept) kind) order) (slice_index copies kind) 0
+  most_told : (order : List KeptDiscard) (kind : ℕ) → kind < 34 → most_copies (map (told copies) order) kind ≡ cond (list_any (λ kept. is_held (accepted_kinds kept) kind) order) (slice_index copies kind) 0
   unfolding most_copies
   most_told [] kind low = refl
   most_told (kept ∷ order) kind low =
-      ap (λ n. max n (most_copies (map (told copies) order) kind)) (copies_of copies (kinds_of kept) kind low)
-      ∙ ap (max (copies_at copies (kinds_of kept) kind)) (most_told order kind low)
-      ∙ greater (is_held (kinds_of kept) kind) (list_any (λ kept. is_held (kinds_of kept) kind) order) (slice_index copies kind)
+      ap (λ n. max n (most_copies (map (told copies) order) kind)) (copies_of copies (accepted_kinds kept) kind low)
+      ∙ ap (max (copies_at copies (accepted_kinds kept) kind)) (most_told order kind low)
+      ∙ greater (is_held (accepted_kinds kept) kind) (list_any (λ kept. is_held (accepted_kinds kept) kind) order) (slice_index copies kind)
 
   -- the copies that are shown of the kinds of a set in which each discard's kinds are
   module _ (set : ℕ) where
     abbrev Within : KeptDiscard → Type 0
-    Within kept = (kind : ℕ) → kind < 34 → is_held (kinds_of kept) kind ≡ true → is_held set kind ≡ true
+    Within kept = (kind : ℕ) → kind < 34 → is_held (accepted_kinds kept) kind ≡ true → is_held set kind ≡ true
 
     abbrev AllWithin : List KeptDiscard → Type 0
     AllWithin [] = Unit {0}
     AllWithin (kept ∷ order) = Within kept × AllWithin order
 
-    all_within : (order : List KeptDiscard) → ((kind : ℕ) → list_any (λ kept. is_held (kinds_of kept) kind) order ≡ true → is_held set kind ≡ true) → AllWithin order
+    all_within : (order : List KeptDiscard) → ((kind : ℕ) → list_any (λ kept. is_held (accepted_kinds kept) kind) order ≡ true → is_held set kind ≡ true) → AllWithin order
     all_within [] any = tt
-    all_within (kept ∷ order) any = (λ kind low h. any kind (or_left (is_held (kinds_of kept) kind) (list_any (λ kept. is_held (kinds_of kept) kind) order) h), all_within order (λ kind h. any kind (or_right (is_held (kinds_of kept) kind) (list_any (λ kept. is_held (kinds_of kept) kind) order) h)))
+    all_within (kept ∷ order) any = (λ kind low h. any kind (or_left (is_held (accepted_kinds kept) kind) (list_any (λ kept. is_held (accepted_kinds kept) kind) order) h), all_within order (λ kind h. any kind (or_right (is_held (accepted_kinds kept) kind) (list_any (λ kept. is_held (accepted_kinds kept) kind) order) h)))
 
     same_told : (kept : KeptDiscard) → Within kept → told (copies_among copies set) kept ≡ told copies kept
-    same_told kept within = same_discard refl (ap pairs_of (among_same (copies_among copies set) copies (kinds_of kept) (kinds_of kept) each))
+    same_told kept within = same_discard refl (ap pairs_of (among_same (copies_among copies set) copies (accepted_kinds kept) (accepted_kinds kept) each))
       where
         shown : (h t : Bool) (c : ℕ) → (h ≡ true → t ≡ true) → cond h (cond t c 0) 0 ≡ cond h c 0
         shown true true c there = refl
         shown true false c there = let t = there refl in cc
         shown false t c there = refl
 
-        each : (kind : ℕ) → kind < 34 → copies_at (copies_among copies set) (kinds_of kept) kind ≡ copies_at copies (kinds_of kept) kind
-        each kind low = ap (λ c. cond (is_held (kinds_of kept) kind) c 0) (among_at copies set kind low) ∙ shown (is_held (kinds_of kept) kind) (is_held set kind) (slice_index copies kind) (within kind low)
+        each : (kind : ℕ) → kind < 34 → copies_at (copies_among copies set) (accepted_kinds kept) kind ≡ copies_at copies (accepted_kinds kept) kind
+        each kind low = ap (λ c. cond (is_held (accepted_kinds kept) kind) c 0) (among_at copies set kind low) ∙ shown (is_held (accepted_kinds kept) kind) (is_held set kind) (slice_index copies kind) (within kind low)
 
     all_same : (order : List KeptDiscard) → AllWithin order → map (told (copies_among copies set)) order ≡ map (told copies) order
     all_same [] all = refl
     all_same (kept ∷ order) all = ap (λ d. d ∷ map (told (copies_among copies set)) order) (same_told kept all.0) ∙ ap (λ ds. told copies kept ∷ ds) (all_same order all.1)
 
-    module _ (order : List KeptDiscard) (set_is : (kind : ℕ) → is_held set kind ≡ list_any (λ kept. is_held (kinds_of kept) kind) order) where
+    module _ (order : List KeptDiscard) (set_is : (kind : ℕ) → is_held set kind ≡ list_any (λ kept. is_held (accepted_kinds kept) kind) order) where
       pub shown_same : map (told (copies_among copies set)) order ≡ map (told copies) order
       shown_same = all_same order (all_within order (λ kind h. set_is kind ∙ h))
 
@@ -130,10 +130,10 @@ module _ (copies : List ℕ) where
 -- ---- a discard of the list
 
 module _ (copies : List ℕ) (order : List KeptDiscard) (are : AreTold copies order) (kept : KeptDiscard) (place : ℕ) (there : slice_get order place ≡ Some kept) where
-  pub kept_low : kinds_of kept < 2 ^ 34
+  pub kept_low : accepted_kinds kept < 2 ^ 34
   kept_low = by_discard (slice_get (map (told copies) order) place) (sym (slice_get-map kept_of (map (told copies) order) place) ∙ ap (λ ks. slice_get ks place) (sym are.order_is) ∙ there)
     where
-      by_discard : (o : Option Discard) → option_map kept_of o ≡ Some kept → kinds_of kept < 2 ^ 34
+      by_discard : (o : Option Discard) → option_map kept_of o ≡ Some kept → accepted_kinds kept < 2 ^ 34
       by_discard None e = cc
       by_discard (Some discard) e = omega (arith, where_low (λ kind. nat_lt 0 (copies_in discard.accepted kind)), ap (λ (k : KeptDiscard). k.numbers) (same e), ap (λ (k : KeptDiscard). k.honours) (same e))
         where
@@ -149,8 +149,8 @@ module _ (copies : List ℕ) (order : List KeptDiscard) (are : AreTold copies or
       same : Some (kept_of (told copies kept)) ≡ Some kept → kept_of (told copies kept) ≡ kept
       same e = cc
 
-  pub kept_short : (accepts : ℕ) → accepts ≡ kinds_of kept → ◌≡◌ {A = ShortDiscard} (record { kind = kept.kind; accepts = accepts; live = kept.live }) (short_of (told copies kept))
-  kept_short accepts is = same_short (is ∙ sym (ap kinds_of kept_same) ∙ whole) (sym (ap (λ (k : KeptDiscard). k.live) kept_same))
+  pub kept_short : (accepts : ℕ) → accepts ≡ accepted_kinds kept → ◌≡◌ {A = ShortDiscard} (record { kind = kept.kind; accepts = accepts; live = kept.live }) (short_of (told copies kept))
+  kept_short accepts is = same_short (is ∙ sym (ap accepted_kinds kept_same) ∙ whole) (sym (ap (λ (k : KeptDiscard). k.live) kept_same))
     where
       set : ℕ
       set = kinds_in (told copies kept).accepted
@@ -164,7 +164,7 @@ module _ (copies : List ℕ) (order : List KeptDiscard) (are : AreTold copies or
 pub none_told : (copies : List ℕ) (order : List KeptDiscard) (place : ℕ) → slice_get order place ≡ None → slice_get (map (told copies) order) place ≡ None
 none_told copies order place e = slice_get-map (told copies) order place ∙ ap (option_map (told copies)) e
 
-pub told_is : (copies taken : List ℕ) (kept : KeptDiscard) (kind set : ℕ) (list : List (ℕ × ℕ)) → kind ≡ kept.kind → list ≡ pairs_of taken → taken ≡ copies_among copies set → set ≡ kinds_of kept → ◌≡◌ {A = Discard} (record { kind = kind; accepted = list }) (told copies kept)
+pub told_is : (copies taken : List ℕ) (kept : KeptDiscard) (kind set : ℕ) (list : List (ℕ × ℕ)) → kind ≡ kept.kind → list ≡ pairs_of taken → taken ≡ copies_among copies set → set ≡ accepted_kinds kept → ◌≡◌ {A = Discard} (record { kind = kind; accepted = list }) (told copies kept)
 told_is copies taken kept kind set list kind_is list_is taken_is set_is = same_discard kind_is (list_is ∙ ap pairs_of (taken_is ∙ ap (copies_among copies) set_is))
 
 -- ---- a discard put in its place

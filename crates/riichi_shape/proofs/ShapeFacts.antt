@@ -8,7 +8,7 @@ use Rattle.riichi_hand.specs.Hand.{IsShape, copies_with, has_five_seen, is_thirt
 use Rattle.riichi_hand.specs.HandParts.{ShapeParts}
 use Rattle.riichi_tiles.specs.declared.meld.Meld.{Meld}
 use Rattle.riichi_shape.specs.Accepted.{accepted_of}
-use Rattle.riichi_shape.specs.Answer.{accepts_of, shape_of}
+use Rattle.riichi_shape.specs.Answer.{accepts_of, shape_answer_of}
 use Rattle.riichi_shape.specs.Discards.{discards_of}
 use Rattle.riichi_shape.specs.EveryWinning.{shanten_of}
 use Rattle.riichi_shape.specs.declared.accepts.Accepts.{Accepts}
@@ -33,8 +33,8 @@ module _ (parts : ShapeParts) (is : IsShape parts) where
   melds_few kind low = omega (arith, copies_few kind low)
 
 -- the parts of the answer make the answer
-answer_is : (parts : ShapeParts) (shanten : ℤ) (accepts : Accepts) → shanten ≡ shanten_of parts.tiles parts.melds → accepts ≡ accepts_of parts → ◌≡◌ {A = ShapeAnswer} (record { shanten = shanten; accepts = accepts }) (shape_of parts)
-unfolding shape_of
+answer_is : (parts : ShapeParts) (shanten : ℤ) (accepts : Accepts) → shanten ≡ shanten_of parts.tiles parts.melds → accepts ≡ accepts_of parts → ◌≡◌ {A = ShapeAnswer} (record { shanten = shanten; accepts = accepts }) (shape_answer_of parts)
+unfolding shape_answer_of
 answer_is parts shanten accepts e e' = cc
 
 accepts_thirteen : (parts : ShapeParts) (list : List (ℕ × ℕ)) → is_thirteen parts.tiles parts.melds ≡ true → list ≡ accepted_of parts.tiles parts.melds parts.seen → Thirteen list ≡ accepts_of parts
@@ -46,13 +46,13 @@ unfolding accepts_of
 accepts_fourteen parts list fourteen e = rw fourteen (ap Fourteen e)
 
 module _ (parts : ShapeParts) (shanten : ℤ) (shanten_is : shanten ≡ shanten_of parts.tiles parts.melds) where
-  pub thirteen_is : (list : List (ℕ × ℕ)) → is_thirteen parts.tiles parts.melds ≡ true → list ≡ accepted_of parts.tiles parts.melds parts.seen → ◌≡◌ {A = ShapeAnswer} (record { shanten = shanten; accepts = Thirteen list }) (shape_of parts)
+  pub thirteen_is : (list : List (ℕ × ℕ)) → is_thirteen parts.tiles parts.melds ≡ true → list ≡ accepted_of parts.tiles parts.melds parts.seen → ◌≡◌ {A = ShapeAnswer} (record { shanten = shanten; accepts = Thirteen list }) (shape_answer_of parts)
   thirteen_is list thirteen e = answer_is parts shanten (Thirteen list) shanten_is (accepts_thirteen parts list thirteen e)
 
-  pub fourteen_is : (list : List Discard) → is_thirteen parts.tiles parts.melds ≡ false → list ≡ discards_of parts.tiles parts.melds parts.seen → ◌≡◌ {A = ShapeAnswer} (record { shanten = shanten; accepts = Fourteen list }) (shape_of parts)
+  pub fourteen_is : (list : List Discard) → is_thirteen parts.tiles parts.melds ≡ false → list ≡ discards_of parts.tiles parts.melds parts.seen → ◌≡◌ {A = ShapeAnswer} (record { shanten = shanten; accepts = Fourteen list }) (shape_answer_of parts)
   fourteen_is list fourteen e = answer_is parts shanten (Fourteen list) shanten_is (accepts_fourteen parts list fourteen e)
 
 -- the answer of the same parts
-pub same_shape : (parts : ShapeParts) (hand : List ℕ) (melds : List Meld) (seen : List ℕ) → hand ≡ parts.tiles → melds ≡ parts.melds → seen ≡ parts.seen → shape_of (record { tiles = hand; melds = melds; seen = seen }) ≡ shape_of parts
+pub same_shape : (parts : ShapeParts) (hand : List ℕ) (melds : List Meld) (seen : List ℕ) → hand ≡ parts.tiles → melds ≡ parts.melds → seen ≡ parts.seen → shape_answer_of (record { tiles = hand; melds = melds; seen = seen }) ≡ shape_answer_of parts
 same_shape parts hand melds seen e e' e'' =
-    ap (λ h. shape_of (record { tiles = h; melds = melds; seen = seen })) e ∙ ap (λ m. shape_of (record { tiles = parts.tiles; melds = m; seen = seen })) e' ∙ ap (λ s. shape_of (record { tiles = parts.tiles; melds = parts.melds; seen = s })) e''
+    ap (λ h. shape_answer_of (record { tiles = h; melds = melds; seen = seen })) e ∙ ap (λ m. shape_answer_of (record { tiles = parts.tiles; melds = m; seen = seen })) e' ∙ ap (λ s. shape_answer_of (record { tiles = parts.tiles; melds = parts.melds; seen = s })) e''

@@ -1,7 +1,7 @@
 -- The distance is one number: the least lack over the list of every winning multiset.
 use Rattle.std.proofs.Common.{◌≡◌, ℕ, zero, suc, ◌≤◌, inl, inr, List, [], ◌∷◌, map, length, refl, sym, ap, ⊎_elim, subst, arith, ◌+◌, ◌-◌, ◌<◌, true, ◌++◌, ◌∙◌}
 use Rattle.riichi_tiles.proofs.Members.{IsIn, in-flat_map, in-flat_map-inv, in-map, in-map-inv, All-in, in-All, all-from, all-in, get_or-in, in-cases, in-filter, in-filter-inv, in-left, in-range, in-range-inv, in-right}
-use Rattle.riichi_shape.specs.EveryWinning.{lists_of, least_with, least, counts_of, every_sets_and_pair, every_seven_pairs, every_orphans, every_special, is_within_four, every_winning, distance_of}
+use Rattle.riichi_shape.specs.EveryWinning.{lists_of, least_with, least, counts_of_blocks, every_sets_and_pair, every_seven_pairs, every_orphans, every_special, is_within_four, every_winning, distance_of}
 use Rattle.riichi_rows.proofs.Joins.{min_is}
 use Rattle.std.proofs.lemmas.List.FromFn.{get_or-map-range_with_len, length-map-range_with_len}
 use Rattle.std.proofs.lemmas.Bool.{eq-eqb, eqb-true, le-leb, leb-true}
@@ -87,24 +87,24 @@ lacking_same hand w v same =
 
 -- ---- sets
 
-counts_at : (bs : List Block) (k : ℕ) → k < 34 → slice_index (counts_of bs) k ≡ total bs k
-unfolding counts_of
+counts_at : (bs : List Block) (k : ℕ) → k < 34 → slice_index (counts_of_blocks bs) k ≡ total bs k
+unfolding counts_of_blocks
 counts_at bs k h = get_or-map-range_with_len (total bs) 0 34 k k 0 h (omega arith)
 
 listed_sets : (sets : ℕ) (wanted : List ℕ) → IsSetsAndPair sets wanted → Listed (every_sets_and_pair sets) wanted
 unfolding every_sets_and_pair
 listed_sets sets wanted is = record {
-  listed = counts_of (Pair is.pair ∷ is.blocks);
-  among = in-flat_map (λ pair. map (λ blocks. counts_of (Pair pair ∷ blocks)) (lists_of every_set sets)) is.pair (counts_of (Pair is.pair ∷ is.blocks)) every_kind (in-range 34 0 is.pair (omega arith) (omega (arith, is.made_of.is_kind)))
-      (in-map (λ blocks. counts_of (Pair is.pair ∷ blocks)) is.blocks (lists_of every_set sets) (among_lists every_set sets is.blocks is.has_sets (λ set here. in-every_set set (in-All IsSet is.blocks is.made_of.are_sets set here))));
+  listed = counts_of_blocks (Pair is.pair ∷ is.blocks);
+  among = in-flat_map (λ pair. map (λ blocks. counts_of_blocks (Pair pair ∷ blocks)) (lists_of every_set sets)) is.pair (counts_of_blocks (Pair is.pair ∷ is.blocks)) every_kind (in-range 34 0 is.pair (omega arith) (omega (arith, is.made_of.is_kind)))
+      (in-map (λ blocks. counts_of_blocks (Pair is.pair ∷ blocks)) is.blocks (lists_of every_set sets) (among_lists every_set sets is.blocks is.has_sets (λ set here. in-every_set set (in-All IsSet is.blocks is.made_of.are_sets set here))));
   same = record { at = λ kind low. counts_at (Pair is.pair ∷ is.blocks) kind low ∙ sym (is.made_of.adds_up kind low) };
 }
 
 sets_listed : (sets : ℕ) (wanted : List ℕ) → IsIn wanted (every_sets_and_pair sets) → IsSetsAndPair sets wanted
 unfolding every_sets_and_pair
 sets_listed sets wanted h =
-    let by_pair = in-flat_map-inv (λ pair. map (λ blocks. counts_of (Pair pair ∷ blocks)) (lists_of every_set sets)) wanted every_kind h in
-    let by_blocks = in-map-inv (λ blocks. counts_of (Pair by_pair.0 ∷ blocks)) wanted (lists_of every_set sets) by_pair.2 in
+    let by_pair = in-flat_map-inv (λ pair. map (λ blocks. counts_of_blocks (Pair pair ∷ blocks)) (lists_of every_set sets)) wanted every_kind h in
+    let by_blocks = in-map-inv (λ blocks. counts_of_blocks (Pair by_pair.0 ∷ blocks)) wanted (lists_of every_set sets) by_pair.2 in
     let list = from_lists every_set sets by_blocks.0 by_blocks.1 in
     record {
       blocks = by_blocks.0;

@@ -15,5 +15,5 @@ accepts_of parts =
     if is_thirteen parts.tiles parts.melds then Thirteen (accepted_of parts.tiles parts.melds parts.seen)
     else Fourteen (discards_of parts.tiles parts.melds parts.seen)
 
-unfoldable pub shape_of : ShapeParts → ShapeAnswer
-shape_of parts = record { shanten = shanten_of parts.tiles parts.melds; accepts = accepts_of parts }
+unfoldable pub shape_answer_of : ShapeParts → ShapeAnswer
+shape_answer_of parts = record { shanten = shanten_of parts.tiles parts.melds; accepts = accepts_of parts }

@@ -16,12 +16,12 @@ lists_of things zero = [] ∷ []
 lists_of things (suc n) = flat_map (λ first. map (λ rest. first ∷ rest) (lists_of things n)) things
 
 -- the multiset of some blocks
-unfoldable pub counts_of : List Block → List ℕ
-counts_of blocks = map (total blocks) every_kind
+unfoldable pub counts_of_blocks : List Block → List ℕ
+counts_of_blocks blocks = map (total blocks) every_kind
 
 -- so many sets and a pair
 unfoldable pub every_sets_and_pair : ℕ → List (List ℕ)
-every_sets_and_pair sets = flat_map (λ pair. map (λ blocks. counts_of (Pair pair ∷ blocks)) (lists_of every_set sets)) every_kind
+every_sets_and_pair sets = flat_map (λ pair. map (λ blocks. counts_of_blocks (Pair pair ∷ blocks)) (lists_of every_set sets)) every_kind
 
 -- two tiles or none of each kind, fourteen in all
 unfoldable pub every_seven_pairs : List (List ℕ)

@@ -13,8 +13,8 @@ use Rattle.riichi_shape.specs.declared.discard.ShortDiscard.{ShortDiscard}
 use Rattle.riichi_shape.specs.declared.kept_discard.KeptDiscard.{KeptDiscard}
 
 -- the kinds that it accepts: those of the suits with numbers, and from bit 27 on the honours
-abbrev pub kinds_of : KeptDiscard → ℕ
-kinds_of kept = kept.honours * 2 ^ 27 + kept.numbers
+abbrev pub accepted_kinds : KeptDiscard → ℕ
+accepted_kinds kept = kept.honours * 2 ^ 27 + kept.numbers
 
 -- a place without a discard
 abbrev pub no_discard : KeptDiscard
@@ -25,18 +25,18 @@ abbrev pub gives_way : ℕ → KeptDiscard → Bool
 gives_way live kept = nat_le kept.live live
 
 -- discards in the first of fourteen places
-abbrev pub placed : List KeptDiscard → List KeptDiscard
-placed discards = discards ++ replicate (14 - length discards) no_discard
+abbrev pub in_fourteen_places : List KeptDiscard → List KeptDiscard
+in_fourteen_places discards = discards ++ replicate (14 - length discards) no_discard
 
 -- the first of fourteen places hold discards, and the others none
 pub record AreFirst (count : ℕ) (places : List KeptDiscard) : Type 0 where
   pub long : length places ≡ 14
   pub few : count ≤ 14
-  pub free : places ≡ placed (take count places)
+  pub free : places ≡ in_fourteen_places (take count places)
 
 -- the discard that is kept, beside these live copies
 abbrev pub told : List ℕ → KeptDiscard → Discard
-told copies kept = record { kind = kept.kind; accepted = pairs_of (copies_among copies (kinds_of kept)) }
+told copies kept = record { kind = kept.kind; accepted = pairs_of (copies_among copies (accepted_kinds kept)) }
 
 -- that is the discard of a kind, whatever is seen of the copies that are not live
 abbrev pub IsToldOf : List ℕ → List Meld → ℕ → List ℕ → KeptDiscard → Type 0
@@ -47,7 +47,7 @@ IsToldOf hand melds kind copies kept =
 pub record IsKept (copies : List ℕ) (kept : KeptDiscard) : Type 0 where
   pub numbers_below : kept.numbers < 2 ^ 27
   pub honours_below : kept.honours < 2 ^ 7
-  pub some_live : HaveCopies copies (kinds_of kept)
+  pub some_live : HaveCopies copies (accepted_kinds kept)
   pub live_is : kept.live ≡ live_with (told copies kept)
 
 -- each of the discards is

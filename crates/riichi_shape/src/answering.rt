@@ -2,7 +2,7 @@
 ghost use Rattle.std.specs.Prelude.{true, ℕ, ◌≡◌, ◌<◌, ◌≤◌, slice_index};
 ghost use Rattle.riichi_tiles.specs.Melds.{tiles};
 ghost use Rattle.riichi_hand.specs.Hand.{is_thirteen, size};
-ghost use Rattle.riichi_shape.specs.Answer.{shape_of};
+ghost use Rattle.riichi_shape.specs.Answer.{shape_answer_of};
 ghost use Rattle.riichi_shape.specs.Choosing.{HasDiscards};
 
 use crate::acceptance::{accepted_by, live_copies};
@@ -25,7 +25,7 @@ fn shape_of_thirteen<R: RowSource>(
     requires melded { (k : ℕ) → k < 34 → tiles melds.now k ≤ 4 }
     requires thirteen { is_thirteen hand.now melds.now ≡ true }
     ensures shape { result
-        ≡ shape_of (record { tiles = hand.now; melds = melds.now; seen = seen.now }) }
+        ≡ shape_answer_of (record { tiles = hand.now; melds = melds.now; seen = seen.now }) }
     ensures stays { source.new ≡ source.old }
 {
     let forms = HandForms::new(source, hand, melds);
@@ -48,7 +48,7 @@ fn shape_of_fourteen<R: RowSource>(
     requires melded { (k : ℕ) → k < 34 → tiles melds.now k ≤ 4 }
     requires fourteen { size hand.now melds.now ≡ 14 }
     ensures shape { result
-        ≡ shape_of (record { tiles = hand.now; melds = melds.now; seen = seen.now }) }
+        ≡ shape_answer_of (record { tiles = hand.now; melds = melds.now; seen = seen.now }) }
     ensures stays { source.new ≡ source.old }
 {
     let forms = HandForms::new(source, hand, melds);
@@ -61,7 +61,7 @@ fn shape_of_fourteen<R: RowSource>(
 
 /// The shanten of a hand and what it accepts, by the rows of a source: the same whichever it is.
 pub fn shape_with<R: RowSource>(source: &mut R, asked: &ShapeRecord) -> ShapeAnswer
-    ensures shape { result ≡ shape_of asked.now }
+    ensures shape { result ≡ shape_answer_of asked.now }
     ensures discards { HasDiscards asked.now result.accepts }
     ensures stays { source.new ≡ source.old }
 {
@@ -77,7 +77,7 @@ pub fn shape_with<R: RowSource>(source: &mut R, asked: &ShapeRecord) -> ShapeAns
 
 /// The same by rows that are made anew.
 pub fn shape(asked: &ShapeRecord) -> ShapeAnswer
-    ensures shape { result ≡ shape_of asked.now }
+    ensures shape { result ≡ shape_answer_of asked.now }
     ensures discards { HasDiscards asked.now result.accepts }
 {
     shape_with(&mut FreshRows, asked)

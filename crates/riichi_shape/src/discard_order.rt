@@ -2,7 +2,7 @@
 ghost use Rattle.std.specs.List.{list_any, position};
 ghost use Rattle.std.specs.Prelude.{ℕ, ◌≡◌, ◌-◌, ◌<◌, ◌≤◌, ◌^◌, ◌∷◌, ◌++◌, [], All, length, slice_get, take, drop};
 ghost use Rattle.riichi_shape.specs.Discards.{inserted_by};
-ghost use Rattle.riichi_shape.specs.KeptDiscards.{gives_way, kinds_of};
+ghost use Rattle.riichi_shape.specs.KeptDiscards.{gives_way, accepted_kinds};
 ghost use Rattle.riichi_tiles.specs.HeldKinds.{is_held};
 
 use crate::kept_discard::KeptDiscard;
@@ -19,7 +19,7 @@ pub(crate) struct DiscardOrder {
 impl Model for DiscardOrder {
     ghost use Rattle.std.specs.Prelude.{List, length, take};
     ghost use Rattle.riichi_shape.specs.declared.kept_discard.KeptDiscard.{KeptDiscard};
-    ghost use Rattle.riichi_shape.specs.KeptDiscards.{AreFirst, placed};
+    ghost use Rattle.riichi_shape.specs.KeptDiscards.{AreFirst, in_fourteen_places};
 
     ghost Value = { List KeptDiscard };
 
@@ -27,7 +27,7 @@ impl Model for DiscardOrder {
 
     ghost invariant = { λ o. AreFirst o.count o.places };
 
-    ghost inverse = { λ l. record { places = placed l; count = length l } };
+    ghost inverse = { λ l. record { places = in_fourteen_places l; count = length l } };
 }
 
 impl DiscardOrder {
@@ -74,9 +74,9 @@ impl DiscardOrder {
 
     /// The kinds that any of the discards accepts.
     pub(crate) fn accepted(&self) -> KindSet
-        requires { All (λ kept. kinds_of kept < 2 ^ 34) self.now }
+        requires { All (λ kept. accepted_kinds kept < 2 ^ 34) self.now }
         ensures { (kind : ℕ)
-            → is_held result kind ≡ list_any (λ kept. is_held (kinds_of kept) kind) self.now }
+            → is_held result kind ≡ list_any (λ kept. is_held (accepted_kinds kept) kind) self.now }
     {
         let mut kinds = KindSet::new();
         for place in 0..self.count as usize {

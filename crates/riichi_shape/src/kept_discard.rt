@@ -1,6 +1,6 @@
 //! A discard as it is kept.
 ghost use Rattle.std.specs.Prelude.{ℕ, ◌≡◌, ◌<◌, ◌≤◌, ◌^◌, slice_index};
-ghost use Rattle.riichi_shape.specs.KeptDiscards.{kinds_of, no_discard, told};
+ghost use Rattle.riichi_shape.specs.KeptDiscards.{accepted_kinds, no_discard, told};
 
 use crate::discard::Discard;
 use crate::live_copies::copies_among;
@@ -26,7 +26,7 @@ impl KeptDiscard {
     pub(crate) fn new(kind: Kind, live: u8, accepted: KindSet) -> KeptDiscard
         ensures kind { result.kind ≡ kind }
         ensures live { result.live ≡ live }
-        ensures accepted { kinds_of result ≡ accepted }
+        ensures accepted { accepted_kinds result ≡ accepted }
         ensures numbers { result.numbers < 2 ^ 27 }
         ensures honours { result.honours < 2 ^ 7 }
     {
@@ -53,8 +53,8 @@ impl KeptDiscard {
 
     /// The kinds that it accepts.
     pub(crate) fn accepted(&self) -> KindSet
-        requires { kinds_of self.now < 2 ^ 34 }
-        ensures { result ≡ kinds_of self.now }
+        requires { accepted_kinds self.now < 2 ^ 34 }
+        ensures { result ≡ accepted_kinds self.now }
     {
         KindSet::from_bits(self.honours as u64 * FIRST_HONOUR + self.numbers as u64)
     }
@@ -62,7 +62,7 @@ impl KeptDiscard {
     /// The discard, beside these live copies.
     #[tactic(auto, using(crate::proofs::KeptLemmas::told_is, crate::proofs::KindLemmas::few_among))]
     pub(crate) fn told(&self, copies: &[u8; 34]) -> Discard
-        requires kinds { kinds_of self.now < 2 ^ 34 }
+        requires kinds { accepted_kinds self.now < 2 ^ 34 }
         requires few { (kind : ℕ) → slice_index copies.now kind ≤ 4 }
         ensures { result ≡ told copies.now self.now }
     {

@@ -28,5 +28,5 @@ unfoldable pub accepts_text : Accepts → List ℕ
 accepts_text (Thirteen accepted) = list_text accepted
 accepts_text (Fourteen discards) = flat_map discard_text discards
 
-unfoldable pub text_of : ShapeAnswer → List ℕ
-text_of answer = codes "shanten " ++ signed_decimal answer.shanten ++ accepts_text answer.accepts
+unfoldable pub shape_text : ShapeAnswer → List ℕ
+shape_text answer = codes "shanten " ++ signed_decimal answer.shanten ++ accepts_text answer.accepts

@@ -84,7 +84,7 @@ fn push_accepts(text: &mut ArrayString<3072>, accepts: &Accepts)
 
 /// The answer on one line, without the line's end.
 pub fn shape_text(answer: &ShapeAnswer) -> ArrayString<3072>
-    ensures { result.bytes ≡ spec.text_of answer.now }
+    ensures { result.bytes ≡ spec.shape_text answer.now }
 {
     let mut text = ArrayString::new();
     push_shape(&mut text, answer);
@@ -93,10 +93,10 @@ pub fn shape_text(answer: &ShapeAnswer) -> ArrayString<3072>
 
 /// Writes the answer behind a text, without the line's end. A text that is kept need not be made anew
 /// for each answer.
-#[tactic(auto, unfolding(crate::specs::Text::text_of))]
+#[tactic(auto, unfolding(crate::specs::Text::shape_text))]
 pub fn push_shape(text: &mut ArrayString<3072>, answer: &ShapeAnswer)
     requires { array_string_len text.old + 2890 ≤ 3072 }
-    ensures { text.new.bytes ≡ text.old.bytes ++ spec.text_of answer.now }
+    ensures { text.new.bytes ≡ text.old.bytes ++ spec.shape_text answer.now }
 {
     text.push_str("shanten ");
     push_number(text, answer.shanten);

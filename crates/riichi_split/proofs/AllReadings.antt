@@ -8,7 +8,7 @@ use Rattle.riichi_split.specs.declared.reading.Reading.TheVariants.{Standard, Se
 use Rattle.riichi_tiles.specs.Forms.{IsSevenPairs, IsThirteenOrphans}
 use Rattle.riichi_split.specs.Readings.{IsSplit, IsDone, IsReading, AreTheReadings}
 use Rattle.riichi_split.specs.Cuts.{AreTheSplits}
-use Rattle.riichi_split.specs.Dones.{flagged, dones, blocks_of, read_with, readings_with}
+use Rattle.riichi_split.specs.Dones.{flagged, dones, split_blocks, read_with, readings_with}
 use Rattle.riichi_tiles.proofs.Members.{All-in, Contains-in, IsIn, in-All, in-Contains, in-cases, in-flat_map, in-flat_map-inv, in-left, in-map, in-map-inv, in-right}
 use Rattle.riichi_split.proofs.Lists.{Differ, Differ-append, AllPairs-differ, differ-AllPairs, Differ-map, Differ-flat_map}
 use Rattle.riichi_split.proofs.Collections.{in-when, in-when-inv, Differ-when}
@@ -29,12 +29,12 @@ read_with-done : (s : Split) (d e : Block) → read_with s d ≡ read_with s e �
 read_with-done s d e h = cc
 
 Differ-readings_with : (w : ℕ) (s : Split) → Differ (readings_with w s)
-Differ-readings_with w s = Differ-map (read_with s) (dones w (blocks_of s)) (read_with-done s) (Differ-dones w (blocks_of s))
+Differ-readings_with w s = Differ-map (read_with s) (dones w (split_blocks s)) (read_with-done s) (Differ-dones w (split_blocks s))
 
 one_split : (w : ℕ) (s t : Split) (r : Reading) → IsIn r (readings_with w s) → IsIn r (readings_with w t) → s ≡ t
 one_split w s t r a b =
-    let i = in-map-inv (read_with s) r (dones w (blocks_of s)) a in
-    let j = in-map-inv (read_with t) r (dones w (blocks_of t)) b in
+    let i = in-map-inv (read_with s) r (dones w (split_blocks s)) a in
+    let j = in-map-inv (read_with t) r (dones w (split_blocks t)) b in
     read_with-sets s t i.0 j.0 (i.2 ∙ sym j.2)
 
 -- the list has each reading of sets and a pair once, and nothing else
@@ -46,15 +46,15 @@ record AreStandard (c : List ℕ) (melds w : ℕ) (standard : List Reading) : Ty
 standard-inv : (c : List ℕ) (melds w : ℕ) (splits : List Split) (r : Reading) → AreTheSplits c melds splits → IsIn r (flat_map (readings_with w) splits) → IsReading c melds w r × ((sets : List Block) × (p : ℕ) × (d : Block) × (r ≡ Standard sets p d))
 standard-inv c melds w splits r are h =
     let i = in-flat_map-inv (readings_with w) r splits h in
-    let j = in-map-inv (read_with i.0) r (dones w (blocks_of i.0)) i.2 in
-    let d = dones-inv w j.0 (blocks_of i.0) j.1 in
+    let j = in-map-inv (read_with i.0) r (dones w (split_blocks i.0)) i.2 in
+    let d = dones-inv w j.0 (split_blocks i.0) j.1 in
     let P : Reading → Type 0 = λ z. IsReading c melds w z in
-    (subst P j.2 (in-All (λ s. IsSplit c melds s.sets s.pair) splits are.sound i.0 i.1, record { is_there = Contains-in j.0 (blocks_of i.0) d.0; has_winning = d.1 }), (i.0.sets, i.0.pair, j.0, sym j.2))
+    (subst P j.2 (in-All (λ s. IsSplit c melds s.sets s.pair) splits are.sound i.0 i.1, record { is_there = Contains-in j.0 (split_blocks i.0) d.0; has_winning = d.1 }), (i.0.sets, i.0.pair, j.0, sym j.2))
 
 in-standard : (c : List ℕ) (melds w : ℕ) (splits : List Split) (sets : List Block) (p : ℕ) (d : Block) → AreTheSplits c melds splits → IsSplit c melds sets p → IsDone w sets p d → IsIn (Standard sets p d) (flat_map (readings_with w) splits)
 in-standard c melds w splits sets p d are s h =
     let split : Split = record { sets = sets; pair = p } in
-    in-flat_map (readings_with w) split (Standard sets p d) splits (in-Contains split splits (are.complete split s)) (in-map (read_with split) d (dones w (blocks_of split)) (in-dones w d (blocks_of split) (in-Contains d (blocks_of split) h.is_there) h.has_winning))
+    in-flat_map (readings_with w) split (Standard sets p d) splits (in-Contains split splits (are.complete split s)) (in-map (read_with split) d (dones w (split_blocks split)) (in-dones w d (split_blocks split) (in-Contains d (split_blocks split) h.is_there) h.has_winning))
 
 splits-standard : (c : List ℕ) (melds w : ℕ) (splits : List Split) → AreTheSplits c melds splits → AreStandard c melds w (flat_map (readings_with w) splits)
 splits-standard c melds w splits are = record {

@@ -4,7 +4,7 @@ use Rattle.std.specs.List.{AllByRecursion}
 use Rattle.std.proofs.lemmas.Bool.Decides.{nat_tests}
 use Rattle.riichi_tiles.specs.Sets.{sets_at, every_set}
 use Rattle.riichi_tiles.specs.Melds.{every_kind}
-use Rattle.riichi_tiles.specs.Blocks.{IsSet, IsOrderedFrom, place_of}
+use Rattle.riichi_tiles.specs.Blocks.{IsSet, IsOrderedFrom, place_in_order}
 use Rattle.riichi_tiles.specs.declared.block.Block.{Block}
 use Rattle.riichi_tiles.specs.declared.block.Block.TheVariants.{Run, Triplet}
 use Rattle.riichi_tiles.specs.Kinds.{begins_run}
@@ -55,7 +55,7 @@ Differ-every_set = Differ-flat_map sets_at every_kind Differ-sets_at same-kind (
 
 -- those that begin with this set
 abbrev begun_with : ℕ → ℕ → Block → List (List Block)
-begun_with place more set = when (leb place (place_of set)) (map (λ sets. set ∷ sets) (collections (place_of set) more))
+begun_with place more set = when (leb place (place_in_order set)) (map (λ sets. set ∷ sets) (collections (place_in_order set) more))
 
 collections-suc : (place more : ℕ) → collections place (suc more) ≡ flat_map (begun_with place more) every_set
 unfolding collections
@@ -68,9 +68,9 @@ collections-zero place = refl
 pub in-collections : (sets : List Block) (place : ℕ) → AllByRecursion IsSet sets → IsOrderedFrom place sets → IsIn sets (collections place (length sets))
 in-collections [] place s o = rw (collections-zero place) (inl refl)
 in-collections (set ∷ sets) place s o =
-    let t : leb place (place_of set) ≡ true = grind (arith, nat_tests, o.0) in
+    let t : leb place (place_in_order set) ≡ true = grind (arith, nat_tests, o.0) in
     rw (collections-suc place (length sets)) (in-flat_map (begun_with place (length sets)) set (set ∷ sets) every_set (in-every_set set s.0)
-    (in-when (leb place (place_of set)) (set ∷ sets) (map (λ x. set ∷ x) (collections (place_of set) (length sets))) t (in-map (λ x. set ∷ x) sets (collections (place_of set) (length sets)) (in-collections sets (place_of set) s.1 o.1))))
+    (in-when (leb place (place_in_order set)) (set ∷ sets) (map (λ x. set ∷ x) (collections (place_in_order set) (length sets))) t (in-map (λ x. set ∷ x) sets (collections (place_in_order set) (length sets)) (in-collections sets (place_in_order set) s.1 o.1))))
 
 -- an ordered list of sets
 pub record IsCollection (place more : ℕ) (sets : List Block) : Type 0 where
@@ -82,7 +82,7 @@ none-collected : (place : ℕ) (sets : List Block) → sets ≡ [] → IsCollect
 none-collected place [] e = record { many = refl; each_a_set = tt; in_order = tt }
 none-collected place (set ∷ sets) e = absurd (cc)
 
-one-more : (place more : ℕ) (set : Block) (rest sets : List Block) → IsSet set → leb place (place_of set) ≡ true → IsCollection (place_of set) more rest → set ∷ rest ≡ sets → IsCollection place (suc more) sets
+one-more : (place more : ℕ) (set : Block) (rest sets : List Block) → IsSet set → leb place (place_in_order set) ≡ true → IsCollection (place_in_order set) more rest → set ∷ rest ≡ sets → IsCollection place (suc more) sets
 one-more place more set rest sets s t c e =
     let P : List Block → Type 0 = λ z. IsCollection place (suc more) z in
     subst P e (record { many = ap suc c.many; each_a_set = (s, c.each_a_set); in_order = (grind (arith, nat_tests), c.in_order) })
@@ -91,17 +91,17 @@ pub collections-inv : (more place : ℕ) (sets : List Block) → IsIn sets (coll
 collections-inv zero place sets h = elim (rw (collections-zero place) at h) [ inl e ↦ none-collected place sets (sym e) | inr z ↦ absurd z ]
 collections-inv (suc more) place sets h =
     let i = in-flat_map-inv (begun_with place more) sets every_set (rw (collections-suc place more) at h) in
-    let w = in-when-inv (leb place (place_of i.0)) sets (map (λ x. i.0 ∷ x) (collections (place_of i.0) more)) i.2 in
-    let m = in-map-inv (λ x. i.0 ∷ x) sets (collections (place_of i.0) more) w.1 in
-    one-more place more i.0 m.0 sets (every_set-inv i.0 i.1) w.0 (collections-inv more (place_of i.0) m.0 m.1) m.2
+    let w = in-when-inv (leb place (place_in_order i.0)) sets (map (λ x. i.0 ∷ x) (collections (place_in_order i.0) more)) i.2 in
+    let m = in-map-inv (λ x. i.0 ∷ x) sets (collections (place_in_order i.0) more) w.1 in
+    one-more place more i.0 m.0 sets (every_set-inv i.0 i.1) w.0 (collections-inv more (place_in_order i.0) m.0 m.1) m.2
 
 tail-same : (set : Block) (xs ys : List Block) → set ∷ xs ≡ set ∷ ys → xs ≡ ys
 tail-same set xs ys e = cc
 
 head-same : (place more : ℕ) (a b : Block) (sets : List Block) → IsIn sets (begun_with place more a) → IsIn sets (begun_with place more b) → a ≡ b
 head-same place more a b sets h g =
-    let x = in-map-inv (λ z. a ∷ z) sets (collections (place_of a) more) (in-when-inv (leb place (place_of a)) sets (map (λ z. a ∷ z) (collections (place_of a) more)) h).1 in
-    let y = in-map-inv (λ z. b ∷ z) sets (collections (place_of b) more) (in-when-inv (leb place (place_of b)) sets (map (λ z. b ∷ z) (collections (place_of b) more)) g).1 in
+    let x = in-map-inv (λ z. a ∷ z) sets (collections (place_in_order a) more) (in-when-inv (leb place (place_in_order a)) sets (map (λ z. a ∷ z) (collections (place_in_order a) more)) h).1 in
+    let y = in-map-inv (λ z. b ∷ z) sets (collections (place_in_order b) more) (in-when-inv (leb place (place_in_order b)) sets (map (λ z. b ∷ z) (collections (place_in_order b) more)) g).1 in
     let e : a ∷ x.0 ≡ b ∷ y.0 = x.2 ∙ sym y.2 in
     cc
 
@@ -109,5 +109,5 @@ pub Differ-collections : (more place : ℕ) → Differ (collections place more)
 Differ-collections zero place = rw (collections-zero place) (λ h. h, tt)
 Differ-collections (suc more) place =
     rw (collections-suc place more) (Differ-flat_map (begun_with place more) every_set
-    (λ set. Differ-when (leb place (place_of set)) (map (λ x. set ∷ x) (collections (place_of set) more)) (Differ-map (λ x. set ∷ x) (collections (place_of set) more) (tail-same set) (Differ-collections more (place_of set))))
+    (λ set. Differ-when (leb place (place_in_order set)) (map (λ x. set ∷ x) (collections (place_in_order set) more)) (Differ-map (λ x. set ∷ x) (collections (place_in_order set) more) (tail-same set) (Differ-collections more (place_in_order set))))
     (head-same place more) Differ-every_set)

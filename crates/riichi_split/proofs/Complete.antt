@@ -12,7 +12,7 @@ use Rattle.riichi_tiles.specs.declared.block.Block.TheVariants.{Run, Triplet, Pa
 use Rattle.riichi_split.specs.declared.cutting.Choice.{Choice}
 use Rattle.riichi_tiles.specs.Kinds.{IsRunLow}
 use Rattle.riichi_tiles.specs.Blocks.{copies, total, IsSet, IsOrderedFrom}
-use Rattle.riichi_split.specs.Cuts.{choice_of, may_have_runs, begun, joined, cut_from}
+use Rattle.riichi_split.specs.Cuts.{choice_of, may_have_runs, begun, sets_joined, cut_from}
 use Rattle.riichi_split.proofs.Cuts.{IsChoice, choice_of-is, cut_from-cons, cut_from-nil}
 use Rattle.riichi_split.proofs.Sound.{carried, IsCut, begun-total, none_below, same-total, order-weaker}
 
@@ -135,7 +135,7 @@ nil-found k one two left h z =
     (0, up, cut_from-nil k one two left 0 ∙ ap (λ b. cond {A = Option (List Block)} b (Some []) None) (eq-eqb (one + two + left + 0) 0 (omega arith)))
 
 found-is : (k n : ℕ) (ns : List ℕ) (one two left choices : ℕ) (c : Choice) (bs rest : List Block) → choice_of k n (may_have_runs ns) (one + two) left choices ≡ Some c → cut_from (k + 1) ns c.runs one (left - (c.triplets + c.runs)) c.choices ≡ Some rest → bs ≡ begun k c ++ rest → cut_from k (n ∷ ns) one two left choices ≡ Some bs
-found-is k n ns one two left choices c bs rest e f p = cut_from-cons k n ns one two left choices (Some c) e ∙ ap (joined (begun k c)) f ∙ ap Some (sym p)
+found-is k n ns one two left choices c bs rest e f p = cut_from-cons k n ns one two left choices (Some c) e ∙ ap (sets_joined (begun k c)) f ∙ ap Some (sym p)
 
 found-step : (n : ℕ) (ns : List ℕ) (k one two left t r : ℕ) (bs rest : List Block) → n ≤ 4 → IsCut k (n ∷ ns) one two left bs → IsPeeled k t r bs rest → (IsCut (k + 1) ns r one (left - (t + r)) rest → IsFound (k + 1) ns r one (left - (t + r)) rest) → IsFound k (n ∷ ns) one two left bs
 found-step n ns k one two left t r bs rest small h p ih =

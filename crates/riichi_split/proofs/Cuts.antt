@@ -7,7 +7,7 @@ use Rattle.std.proofs.lemmas.Bool.{cases_eq}
 use Rattle.riichi_tiles.specs.declared.block.Block.{Block}
 use Rattle.riichi_split.specs.declared.cutting.Choice.{Choice}
 use Rattle.riichi_tiles.specs.Kinds.{IsRunLow}
-use Rattle.riichi_split.specs.Cuts.{choice_of, may_have_runs, begun, joined, cut_from}
+use Rattle.riichi_split.specs.Cuts.{choice_of, may_have_runs, begun, sets_joined, cut_from}
 
 -- ---- one kind
 
@@ -37,13 +37,13 @@ choice_of-is k n false below left choices c h = grind (arith, nat_tests)
 
 -- ---- the loop of `split`
 
-pub joined-joined : (xs ys : List Block) (o : Option (List Block)) → joined xs (joined ys o) ≡ joined (xs ++ ys) o
-joined-joined xs ys None = refl
-joined-joined xs ys (Some bs) = ap Some (sym (append_assoc xs ys bs))
+pub sets_joined-joined : (xs ys : List Block) (o : Option (List Block)) → sets_joined xs (sets_joined ys o) ≡ sets_joined (xs ++ ys) o
+sets_joined-joined xs ys None = refl
+sets_joined-joined xs ys (Some bs) = ap Some (sym (append_assoc xs ys bs))
 
 -- the rest of a split, after a choice
 abbrev pub after : ℕ → List ℕ → ℕ → ℕ → Choice → Option (List Block)
-after k ns one left c = joined (begun k c) (cut_from (k + 1) ns c.runs one (left - (c.triplets + c.runs)) c.choices)
+after k ns one left c = sets_joined (begun k c) (cut_from (k + 1) ns c.runs one (left - (c.triplets + c.runs)) c.choices)
 
 pub cut_from-cons : (k n : ℕ) (ns : List ℕ) (one two left choices : ℕ) (o : Option Choice) → choice_of k n (may_have_runs ns) (one + two) left choices ≡ o → cut_from k (n ∷ ns) one two left choices ≡ option_and_then (after k ns one left) o
 unfolding cut_from
@@ -53,18 +53,18 @@ pub cut_from-nil : (k one two left choices : ℕ) → cut_from k [] one two left
 unfolding cut_from
 cut_from-nil k one two left choices = refl
 
-joined-none : (o : Option (List Block)) → joined [] o ≡ o
-joined-none None = refl
-joined-none (Some bs) = refl
+sets_joined-none : (o : Option (List Block)) → sets_joined [] o ≡ o
+sets_joined-none None = refl
+sets_joined-none (Some bs) = refl
 
-joined-test : (b : Bool) (sets : List Block) → joined sets (cond b (Some []) None) ≡ cond b (Some sets) None
-joined-test true sets = ap Some (append-nil sets)
-joined-test false sets = refl
+sets_joined-test : (b : Bool) (sets : List Block) → sets_joined sets (cond b (Some []) None) ≡ cond b (Some sets) None
+sets_joined-test true sets = ap Some (append-nil sets)
+sets_joined-test false sets = refl
 
 pub record IsPartWay (counts : List ℕ) (wanted all : ℕ) (k : ℕ) (sets : List Block) (one two left choices : ℕ) : Type 0 where
   pub room : length sets + left ≡ wanted
   pub few : (one ≤ 4) × (two ≤ 4)
-  pub rest : cut_from 0 counts 0 0 wanted all ≡ joined sets (cut_from k (drop k counts) one two left choices)
+  pub rest : cut_from 0 counts 0 0 wanted all ≡ sets_joined sets (cut_from k (drop k counts) one two left choices)
 
 pub IsPartWay-more : (counts : List ℕ) (wanted all k : ℕ) (sets : List Block) (one two left choices : ℕ) (c : Choice) → k < length counts → wanted ≤ 4 → IsPartWay counts wanted all k sets one two left choices → choice_of k (get_or counts k 0) (may_have_runs (drop (k + 1) counts)) (one + two) left choices ≡ Some c → IsPartWay counts wanted all (k + 1) (sets ++ begun k c) c.runs one (left - (c.triplets + c.runs)) c.choices
 IsPartWay-more counts wanted all k sets one two left choices c in_range small h e =
@@ -73,13 +73,13 @@ IsPartWay-more counts wanted all k sets one two left choices c in_range small h 
     record {
       room = simp (length-append, length-replicate) (omega (arith, ok.room, h.room));
       few = (omega (arith, ok.room, h.room), h.few.0);
-      rest = h.rest ∙ ap (λ ns. joined sets (cut_from k ns one two left choices)) d ∙ ap (joined sets) (cut_from-cons k (get_or counts k 0) (drop (k + 1) counts) one two left choices (Some c) e) ∙ joined-joined sets (begun k c) _;
+      rest = h.rest ∙ ap (λ ns. sets_joined sets (cut_from k ns one two left choices)) d ∙ ap (sets_joined sets) (cut_from-cons k (get_or counts k 0) (drop (k + 1) counts) one two left choices (Some c) e) ∙ sets_joined-joined sets (begun k c) _;
     }
 
 pub none_from_part : (counts : List ℕ) (wanted all k : ℕ) (sets : List Block) (one two left choices : ℕ) → k < length counts → IsPartWay counts wanted all k sets one two left choices → choice_of k (get_or counts k 0) (may_have_runs (drop (k + 1) counts)) (one + two) left choices ≡ None → cut_from 0 counts 0 0 wanted all ≡ None
 none_from_part counts wanted all k sets one two left choices in_range h e =
     let d : drop k counts ≡ get_or counts k 0 ∷ drop (k + 1) counts = rw add-one (drop-cons counts k 0 in_range) in
-    h.rest ∙ ap (λ ns. joined sets (cut_from k ns one two left choices)) d ∙ ap (joined sets) (cut_from-cons k (get_or counts k 0) (drop (k + 1) counts) one two left choices None e)
+    h.rest ∙ ap (λ ns. sets_joined sets (cut_from k ns one two left choices)) d ∙ ap (sets_joined sets) (cut_from-cons k (get_or counts k 0) (drop (k + 1) counts) one two left choices None e)
 
 -- a kind without tiles, where nothing is carried
 pub IsPartWay-skip : (counts : List ℕ) (wanted all k : ℕ) (sets : List Block) (one two left choices : ℕ) → k < length counts → wanted ≤ 4 → get_or counts k 0 ≡ 0 → one ≡ 0 → two ≡ 0 → IsPartWay counts wanted all k sets one two left choices → IsPartWay counts wanted all (k + 1) sets one two left choices
@@ -93,7 +93,7 @@ IsPartWay-skip counts wanted all k sets one two left choices in_range small none
 pub IsPartWay-none : (counts : List ℕ) (wanted all : ℕ) → IsPartWay counts wanted all 0 [] 0 0 wanted all
 IsPartWay-none counts wanted all =
     let o = cut_from 0 counts 0 0 wanted all in
-    record { room = omega arith; few = (omega arith, omega arith); rest = sym (joined-none o) }
+    record { room = omega arith; few = (omega arith, omega arith); rest = sym (sets_joined-none o) }
 
 -- some kinds without tiles, where nothing is carried
 pass : (counts : List ℕ) (wanted all from more : ℕ) (sets : List Block) (one two left choices : ℕ) → from + more ≤ length counts → wanted ≤ 4 → one ≡ 0 → two ≡ 0 → ((kind : ℕ) → from ≤ kind → kind < from + more → get_or counts kind 0 ≡ 0) → IsPartWay counts wanted all from sets one two left choices → IsPartWay counts wanted all (from + more) sets one two left choices
@@ -130,7 +130,7 @@ cut_from-empty (n ∷ ns) k one two left choices none =
           let is : choice_of k n (may_have_runs ns) (one + two) left choices ≡ Some c = ap (λ m. choice_of k m (may_have_runs ns) (one + two) left choices) first ∙ idle-choice k (may_have_runs ns) (one + two) left choices e in
           let rest = cut_from-empty ns (k + 1) 0 one (left - (0 + 0)) choices (λ i. none (suc i)) in
           let same : 0 + one + (left - (0 + 0)) + choices ≡ one + two + left + choices = omega arith in
-          cut_from-cons k n ns one two left choices (Some c) is ∙ ap (joined []) rest ∙ joined-test (eqb (0 + one + (left - (0 + 0)) + choices) 0) [] ∙ ap (λ m. cond (eqb m 0) (Some []) None) same
+          cut_from-cons k n ns one two left choices (Some c) is ∙ ap (sets_joined []) rest ∙ sets_joined-test (eqb (0 + one + (left - (0 + 0)) + choices) 0) [] ∙ ap (λ m. cond (eqb m 0) (Some []) None) same
       | inr some ↦
           let is : choice_of k n (may_have_runs ns) (one + two) left choices ≡ None = ap (λ m. choice_of k m (may_have_runs ns) (one + two) left choices) first ∙ no-choice k (may_have_runs ns) (one + two) left choices (omega arith) in
           cut_from-cons k n ns one two left choices None is ∙ sym (ap (λ b. cond b (Some []) None) (not-none (one + two + left + choices) (omega arith)))
@@ -140,4 +140,4 @@ cut_from-empty (n ∷ ns) k one two left choices none =
 pub cut_from-rest : (counts : List ℕ) (wanted all k : ℕ) (sets : List Block) (one two left choices : ℕ) → ((kind : ℕ) → k ≤ kind → get_or counts kind 0 ≡ 0) → IsPartWay counts wanted all k sets one two left choices → cut_from 0 counts 0 0 wanted all ≡ cond (eqb (one + two + left + choices) 0) (Some sets) None
 cut_from-rest counts wanted all k sets one two left choices none h =
     let empty = cut_from-empty (drop k counts) k one two left choices (λ i. get_or-drop k counts i 0 ∙ none (k + i) (omega arith)) in
-    h.rest ∙ ap (joined sets) empty ∙ joined-test (eqb (one + two + left + choices) 0) sets
+    h.rest ∙ ap (sets_joined sets) empty ∙ sets_joined-test (eqb (one + two + left + choices) 0) sets

@@ -5,20 +5,20 @@ use Rattle.std.proofs.Math.Bool.{or-false, or_assoc}
 use Rattle.riichi_tiles.specs.declared.block.Block.{Block}
 use Rattle.riichi_tiles.specs.declared.block.Block.TheVariants.{Pair}
 use Rattle.riichi_tiles.specs.Blocks.{copies}
-use Rattle.riichi_split.specs.Dones.{same_block, is_among, dones, done_first, done_unless_again}
+use Rattle.riichi_split.specs.Dones.{same_block, is_block_among, dones, done_first, done_unless_again}
 
-is_among-push : (b y : Block) (xs : List Block) → is_among b (xs ++ y ∷ []) ≡ (is_among b xs || same_block b y)
-is_among-push b y [] = or-false (same_block b y)
-is_among-push b y (x ∷ xs) = ap (λ t. same_block b x || t) (is_among-push b y xs) ∙ sym (or_assoc (same_block b x) (is_among b xs) (same_block b y))
+is_block_among-push : (b y : Block) (xs : List Block) → is_block_among b (xs ++ y ∷ []) ≡ (is_block_among b xs || same_block b y)
+is_block_among-push b y [] = or-false (same_block b y)
+is_block_among-push b y (x ∷ xs) = ap (λ t. same_block b x || t) (is_block_among-push b y xs) ∙ sym (or_assoc (same_block b x) (is_block_among b xs) (same_block b y))
 
-done_first-suc : (w pair place : ℕ) (sets : List Block) (b : Block) → slice_get sets place ≡ Some b → done_first w (drop place (sets ++ Pair pair ∷ [])) ≡ done_unless_again (is_among b (drop (suc place) sets) || same_block b (Pair pair)) b w
+done_first-suc : (w pair place : ℕ) (sets : List Block) (b : Block) → slice_get sets place ≡ Some b → done_first w (drop place (sets ++ Pair pair ∷ [])) ≡ done_unless_again (is_block_among b (drop (suc place) sets) || same_block b (Pair pair)) b w
 done_first-suc w pair place [] b e = absurd (cc)
 done_first-suc w pair zero (x ∷ xs) b e =
     let x-is : x ≡ b = cc in
-    ap (λ y. done_unless_again (is_among y (xs ++ Pair pair ∷ [])) y w) x-is ∙ ap (λ t. done_unless_again t b w) (is_among-push b (Pair pair) xs)
+    ap (λ y. done_unless_again (is_block_among y (xs ++ Pair pair ∷ [])) y w) x-is ∙ ap (λ t. done_unless_again t b w) (is_block_among-push b (Pair pair) xs)
 done_first-suc w pair (suc place) (x ∷ xs) b e = done_first-suc w pair place xs b e
 
-pub done_first-set : (w pair place : ℕ) (sets : List Block) (b : Block) → slice_get sets place ≡ Some b → done_first w (drop place (sets ++ Pair pair ∷ [])) ≡ done_unless_again (is_among b (drop (place + 1) sets) || same_block b (Pair pair)) b w
+pub done_first-set : (w pair place : ℕ) (sets : List Block) (b : Block) → slice_get sets place ≡ Some b → done_first w (drop place (sets ++ Pair pair ∷ [])) ≡ done_unless_again (is_block_among b (drop (place + 1) sets) || same_block b (Pair pair)) b w
 done_first-set w pair place sets b e = rw add-one (done_first-suc w pair place sets b e)
 
 pub done_first-pair : (w pair place : ℕ) (sets : List Block) → slice_get sets place ≡ None → place ≤ length sets → done_first w (drop place (sets ++ Pair pair ∷ [])) ≡ done_unless_again false (Pair pair) w
@@ -38,7 +38,7 @@ dones-suc w zero [] None e = refl
 dones-suc w zero [] (Some d) e = absurd (cc)
 dones-suc w (suc place) [] None e = refl
 dones-suc w (suc place) [] (Some d) e = absurd (cc)
-dones-suc w zero (b ∷ bs) o e = first-inv (ltb 0 (copies b w) && not (is_among b bs)) b (dones w bs) o e
+dones-suc w zero (b ∷ bs) o e = first-inv (ltb 0 (copies b w) && not (is_block_among b bs)) b (dones w bs) o e
 dones-suc w (suc place) (b ∷ bs) o e = dones-suc w place bs o e
 
 pub dones-found : (w place : ℕ) (bs before : List Block) (o : Option Block) → o ≡ done_first w (drop place bs) → is_some o ≡ true → dones w (drop place bs) ≡ before → MatchOption o ((before ≡ []) × (dones w (drop (place + 1) bs) ≡ [])) (λ d. before ≡ d ∷ dones w (drop (place + 1) bs))

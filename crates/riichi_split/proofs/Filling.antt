@@ -6,9 +6,9 @@ use Rattle.std.proofs.lemmas.List.FromFn.{length-map-range_with_len, get_or-map-
 use Rattle.std.proofs.lemmas.Grind.{get_or-set_at}
 use Rattle.riichi_tiles.specs.declared.suit.Suit.{Suit}
 use Rattle.riichi_tiles.specs.declared.suit.Suit.TheVariants.{Characters, Circles, Bamboos, Honours}
-use Rattle.riichi_tiles.specs.Kinds.{first_of, kinds_of}
+use Rattle.riichi_tiles.specs.Kinds.{first_of, kinds_of, has_runs}
 use Rattle.riichi_split.proofs.Lists.{replicate-at}
-use Rattle.riichi_split.specs.SuitTiles.{OneSuit, nine_from, has_runs, tiles_of_suit}
+use Rattle.riichi_split.specs.SuitTiles.{OneSuit, nine_from, tiles_of_suit}
 
 -- the ranks below one have the suit's counts, and the others none
 pub record IsFilledTo (counts : List ℕ) (suit : Suit) (held : List ℕ) (rank : ℕ) : Type 0 where

@@ -9,7 +9,7 @@ use Rattle.riichi_tiles.specs.Suits.{of_suit, with_suit}
 use Rattle.riichi_tiles.proofs.Suits.{only_suit, within, cases_suit, of_suit-with_same, of_suit-with_other}
 use Rattle.std.proofs.lemmas.List.{length-set}
 use Rattle.riichi_split.proofs.SuitCuts.{pairs-none, pairs-one}
-use Rattle.riichi_split.specs.SuitTiles.{OneSuit, AreSets, AreSetsAndPair, AreWon, AreCounted, HasPairs, Completes, total_of, with_tile, with_kind}
+use Rattle.riichi_split.specs.SuitTiles.{OneSuit, AreSets, AreSetsAndPair, AreWon, AreCounted, HasPairs, Completes, total_of, with_tile, with_tile_of}
 
 -- ---- a total of one
 
@@ -85,7 +85,7 @@ held-there tiles suit rank small =
     let at = placed suit rank small in
     ap (λ s. get_or (of_suit tiles s).held (rank_of (first_of suit + rank)) 0) at.0 ∙ ap (λ r. get_or (of_suit tiles suit).held r 0) at.1
 
-with-there : (tiles : BySuit OneSuit) (suit : Suit) (rank : ℕ) → rank < kinds_of suit → with_kind tiles (first_of suit + rank) ≡ with_suit tiles suit (with_tile (of_suit tiles suit) rank)
+with-there : (tiles : BySuit OneSuit) (suit : Suit) (rank : ℕ) → rank < kinds_of suit → with_tile_of tiles (first_of suit + rank) ≡ with_suit tiles suit (with_tile (of_suit tiles suit) rank)
 with-there tiles suit rank small =
     let at = placed suit rank small in
     ap (λ s. with_suit tiles s (with_tile (of_suit tiles s) (rank_of (first_of suit + rank)))) at.0 ∙ ap (λ r. with_suit tiles suit (with_tile (of_suit tiles suit) r)) at.1
@@ -117,10 +117,10 @@ asked-cases : (tiles : BySuit OneSuit) (pairs : BySuit ℕ) (suit : Suit) (rank 
 asked-cases tiles pairs suit rank others a c =
     let more = with_tile (of_suit tiles suit) rank in
     let nine = nine-with tiles pairs suit rank a.counted in
-    let e : of_suit (with_kind tiles (first_of suit + rank)) suit ≡ more = ap (λ t. of_suit t suit) (with-there tiles suit rank a.small) ∙ of_suit-with_same tiles suit more in
+    let e : of_suit (with_tile_of tiles (first_of suit + rank)) suit ≡ more = ap (λ t. of_suit t suit) (with-there tiles suit rank a.small) ∙ of_suit-with_same tiles suit more in
     elim (cases_suit suit c.wins.pair) [
       | inl same ↦
-          let P : Suit → Type 0 = λ s. AreSetsAndPair (of_suit (with_kind tiles (first_of suit + rank)) s) in
+          let P : Suit → Type 0 = λ s. AreSetsAndPair (of_suit (with_tile_of tiles (first_of suit + rank)) s) in
           let pair = subst AreSetsAndPair e (subst P (sym same) c.wins.has_pair) in
           inl (pair, omega (arith, (completed-iff tiles pairs suit rank others 1 a (pairs-one more nine pair)).1 c))
       | inr ne ↦

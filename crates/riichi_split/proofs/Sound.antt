@@ -10,7 +10,7 @@ use Rattle.riichi_tiles.specs.declared.block.Block.{Block}
 use Rattle.riichi_tiles.specs.declared.block.Block.TheVariants.{Run, Triplet, Pair}
 use Rattle.riichi_split.specs.declared.cutting.Choice.{Choice}
 use Rattle.riichi_tiles.specs.Blocks.{copies, total, IsSet, IsOrderedFrom}
-use Rattle.riichi_split.specs.Cuts.{choice_of, may_have_runs, begun, joined, cut_from, doubts}
+use Rattle.riichi_split.specs.Cuts.{choice_of, may_have_runs, begun, sets_joined, cut_from, doubts}
 use Rattle.riichi_split.proofs.Cuts.{IsChoice, IsChoice-from, cut_from-cons, cut_from-nil, after}
 
 -- the tiles at j kinds above k that belong to runs begun one and two kinds below k
@@ -87,9 +87,9 @@ sets-replicate (suc n) b bs m s = (m (omega arith), sets-replicate n b bs (λ h.
 
 -- ---- soundness
 
-joined-inv : (front bs : List Block) (o : Option (List Block)) → joined front o ≡ Some bs → (rest : List Block) × (o ≡ Some rest) × (bs ≡ front ++ rest)
-joined-inv front bs None e = absurd (cc)
-joined-inv front bs (Some rest) e = (rest, refl, cc)
+sets_joined-inv : (front bs : List Block) (o : Option (List Block)) → sets_joined front o ≡ Some bs → (rest : List Block) × (o ≡ Some rest) × (bs ≡ front ++ rest)
+sets_joined-inv front bs None e = absurd (cc)
+sets_joined-inv front bs (Some rest) e = (rest, refl, cc)
 
 -- the choice at the first kind, and the sets of the kinds above it
 record IsOpened (n : ℕ) (ns : List ℕ) (k one two left choices : ℕ) (bs : List Block) : Type 0 where
@@ -102,7 +102,7 @@ record IsOpened (n : ℕ) (ns : List ℕ) (k one two left choices : ℕ) (bs : L
 chosen : (n : ℕ) (ns : List ℕ) (k one two left choices : ℕ) (bs : List Block) (o : Option Choice) → choice_of k n (may_have_runs ns) (one + two) left choices ≡ o → option_and_then (after k ns one left) o ≡ Some bs → IsOpened n ns k one two left choices bs
 chosen n ns k one two left choices bs None e f = absurd (cc)
 chosen n ns k one two left choices bs (Some c) e f =
-    let j = joined-inv (begun k c) bs (cut_from (k + 1) ns c.runs one (left - (c.triplets + c.runs)) c.choices) f in
+    let j = sets_joined-inv (begun k c) bs (cut_from (k + 1) ns c.runs one (left - (c.triplets + c.runs)) c.choices) f in
     record { choice = c; rest = j.0; ok = IsChoice-from k n (may_have_runs ns) (one + two) left choices c e; cut = j.1; parts = j.2 }
 
 opened : (n : ℕ) (ns : List ℕ) (k one two left choices : ℕ) (bs : List Block) → cut_from k (n ∷ ns) one two left choices ≡ Some bs → IsOpened n ns k one two left choices bs

@@ -12,11 +12,11 @@ use Rattle.riichi_tiles.specs.declared.block.Block.TheVariants.{Pair}
 use Rattle.riichi_tiles.specs.declared.suit.Suit.{Suit}
 use Rattle.riichi_tiles.specs.declared.suit.Suit.TheVariants.{Characters}
 use Rattle.riichi_tiles.specs.declared.by_suit.BySuit.{BySuit}
-use Rattle.riichi_tiles.specs.Kinds.{IsOfSuit, first_of, suit_of, rank_of}
+use Rattle.riichi_tiles.specs.Kinds.{IsOfSuit, first_of, has_runs, suit_of, rank_of}
 use Rattle.riichi_tiles.specs.Suits.{of_suit, with_suit}
 use Rattle.riichi_tiles.specs.Blocks.{copies, total}
 use Rattle.riichi_tiles.proofs.Suits.{only_suit, some_suit, own_suit, nine_at_most, cases_suit, of_nine, of_suit-with_same, of_suit-with_other}
-use Rattle.riichi_split.specs.SuitTiles.{OneSuit, AreCut, AreSets, AreSetsAndPair, AreWon, Completes, has_runs, nine_from, tiles_of_suit, suits_of, with_tile, with_kind}
+use Rattle.riichi_split.specs.SuitTiles.{OneSuit, AreCut, AreSets, AreSetsAndPair, AreWon, Completes, nine_from, tiles_of_suit, suits_of, with_tile, with_tile_of}
 use Rattle.riichi_split.specs.Waits.{with_one}
 use Rattle.riichi_split.specs.Readings.{IsSplit}
 use Rattle.riichi_split.proofs.MadeOf.{adds-everywhere, each-set, made-of}
@@ -198,7 +198,7 @@ more-there c kind suit small long ne =
     same-suit (nine_from (λ k. get_or (with_one c kind) k 0) (first_of suit)) (nine_from (λ k. get_or c k 0) (first_of suit)) (has_runs suit) (has_runs suit)
     (other-suits (λ k. get_or c k 0) (λ k. get_or (with_one c kind) k 0) kind suit small ne (λ k n. get_or-set_other c kind k (get_or c kind 0 + 1) 0 n)) refl
 
-more-suits : (c : List ℕ) (kind : ℕ) → kind < 34 → length c ≡ 34 → (suit : Suit) → of_suit (suits_of (with_one c kind)) suit ≡ of_suit (with_kind (suits_of c) kind) suit
+more-suits : (c : List ℕ) (kind : ℕ) → kind < 34 → length c ≡ 34 → (suit : Suit) → of_suit (suits_of (with_one c kind)) suit ≡ of_suit (with_tile_of (suits_of c) kind) suit
 more-suits c kind small long suit =
     let own = suit_of kind in
     let value = with_tile (of_suit (suits_of c) own) (rank_of kind) in
@@ -221,11 +221,11 @@ completes-iff c melds kind long sum-c =
         w.of_a_kind,
         omega (arith, w.some_left, left w.of_a_kind),
         split-from-won (with_one c kind) melds (length-set c kind (get_or c kind 0 + 1) ∙ long) (omega (arith, sum-c, sum_by-set (λ x. x) c kind (get_or c kind 0 + 1) 0 (omega (arith, w.of_a_kind, long))))
-            (same-won (with_kind (suits_of c) kind) (suits_of (with_one c kind)) (λ s. sym (more-suits c kind w.of_a_kind long s)) w.wins),
+            (same-won (with_tile_of (suits_of c) kind) (suits_of (with_one c kind)) (λ s. sym (more-suits c kind w.of_a_kind long s)) w.wins),
       ),
       λ h. record {
         of_a_kind = h.0;
         some_left = omega (arith, h.1, left h.0);
-        wins = same-won (suits_of (with_one c kind)) (with_kind (suits_of c) kind) (more-suits c kind h.0 long) (won-from-split (with_one c kind) melds (length-set c kind (get_or c kind 0 + 1) ∙ long) h.2);
+        wins = same-won (suits_of (with_one c kind)) (with_tile_of (suits_of c) kind) (more-suits c kind h.0 long) (won-from-split (with_one c kind) melds (length-set c kind (get_or c kind 0 + 1) ∙ long) h.2);
       },
     )

@@ -7,9 +7,9 @@ use Rattle.riichi_tiles.specs.declared.block.Block.{Block}
 use Rattle.riichi_tiles.specs.declared.block.Block.TheVariants.{Run, Triplet, Pair}
 use Rattle.riichi_tiles.specs.declared.suit.Suit.{Suit}
 use Rattle.riichi_tiles.specs.declared.suit.Suit.TheVariants.{Characters, Circles, Bamboos, Honours}
-use Rattle.riichi_tiles.specs.Kinds.{IsRunLow, first_of}
+use Rattle.riichi_tiles.specs.Kinds.{IsRunLow, first_of, has_runs}
 use Rattle.riichi_tiles.specs.Blocks.{copies, total, IsSet}
-use Rattle.riichi_split.specs.SuitTiles.{AreCut, has_runs, nine_from}
+use Rattle.riichi_split.specs.SuitTiles.{AreCut, nine_from}
 use Rattle.riichi_split.proofs.Sound.{total-append, sets-replicate}
 
 -- ---- sets cut each suit

@@ -31,15 +31,15 @@ choice_of kind held in_doubt below left choices =
 abbrev pub begun : ℕ → Choice → List Block
 begun kind choice = replicate choice.triplets (Triplet kind) ++ replicate choice.runs (Run kind)
 
-abbrev pub joined : List Block → Option (List Block) → Option (List Block)
-joined front None = None
-joined front (Some rest) = Some (front ++ rest)
+abbrev pub sets_joined : List Block → Option (List Block) → Option (List Block)
+sets_joined front None = None
+sets_joined front (Some rest) = Some (front ++ rest)
 
 -- the sets of the kinds from one on, where `one` runs began one kind below and `two` two kinds below
 unfoldable pub cut_from : ℕ → List ℕ → ℕ → ℕ → ℕ → ℕ → Option (List Block)
 cut_from kind [] one two left choices = if one + two + left + choices == 0 then Some [] else None
 cut_from kind (held ∷ counts) one two left choices =
-    option_and_then (λ choice. joined (begun kind choice) (cut_from (kind + 1) counts choice.runs one (left - (choice.triplets + choice.runs)) choice.choices)) (choice_of kind held (may_have_runs counts) (one + two) left choices)
+    option_and_then (λ choice. sets_joined (begun kind choice) (cut_from (kind + 1) counts choice.runs one (left - (choice.triplets + choice.runs)) choice.choices)) (choice_of kind held (may_have_runs counts) (one + two) left choices)
 
 -- the sets that some choices leave beside a pair
 abbrev pub sets_beside : List ℕ → ℕ → ℕ → ℕ → Option (List Block)

@@ -14,15 +14,15 @@ same_block (Triplet kind) (Triplet other) = kind == other
 same_block (Pair kind) (Pair other) = kind == other
 same_block block other = false
 
-abbrev pub is_among : Block → List Block → Bool
-is_among block [] = false
-is_among block (first ∷ blocks) = same_block block first || is_among block blocks
+abbrev pub is_block_among : Block → List Block → Bool
+is_block_among block [] = false
+is_block_among block (first ∷ blocks) = same_block block first || is_block_among block blocks
 
 -- the different blocks that the winning tile completes: each that has it, where it comes last
 abbrev pub dones : ℕ → List Block → List Block
 dones winning [] = []
 dones winning (block ∷ blocks) =
-    if nat_lt 0 (copies block winning) && not (is_among block blocks) then block ∷ dones winning blocks else dones winning blocks
+    if nat_lt 0 (copies block winning) && not (is_block_among block blocks) then block ∷ dones winning blocks else dones winning blocks
 
 -- a block, if the winning tile completes it and it does not come again
 abbrev pub done_unless_again : Bool → Block → ℕ → Option Block
@@ -31,11 +31,11 @@ done_unless_again again block winning = if nat_lt 0 (copies block winning) && no
 -- the first block, if it is one of the dones
 abbrev pub done_first : ℕ → List Block → Option Block
 done_first winning [] = None
-done_first winning (block ∷ blocks) = done_unless_again (is_among block blocks) block winning
+done_first winning (block ∷ blocks) = done_unless_again (is_block_among block blocks) block winning
 
 -- the sets and then the pair
-abbrev pub blocks_of : Split → List Block
-blocks_of split = split.sets ++ Pair split.pair ∷ []
+abbrev pub split_blocks : Split → List Block
+split_blocks split = split.sets ++ Pair split.pair ∷ []
 
 -- the reading of a split with that block completed
 abbrev pub read_with : Split → Block → Reading
@@ -43,7 +43,7 @@ read_with split done = Standard split.sets split.pair done
 
 -- the readings of a split
 abbrev pub readings_with : ℕ → Split → List Reading
-readings_with winning split = map (read_with split) (dones winning (blocks_of split))
+readings_with winning split = map (read_with split) (dones winning (split_blocks split))
 
 -- a reading, where the test holds
 abbrev pub flagged : Bool → Reading → List Reading

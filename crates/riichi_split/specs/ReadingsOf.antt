@@ -2,7 +2,7 @@
 use Rattle.std.specs.Prelude.{ℕ, zero, suc, ◌-◌, ◌==◌, Bool, ◌&&◌, ◌||◌, List, [], ◌∷◌, ◌++◌, map, if◌then◌else◌, nat_le, slice_index}
 use Rattle.std.specs.List.{list_all, list_any, flat_map, count_by}
 use Rattle.riichi_tiles.specs.Melds.{every_kind}
-use Rattle.riichi_tiles.specs.Blocks.{total, place_of}
+use Rattle.riichi_tiles.specs.Blocks.{total, place_in_order}
 use Rattle.riichi_tiles.specs.Forms.{orphan_copies}
 use Rattle.riichi_tiles.specs.declared.block.Block.{Block}
 use Rattle.riichi_tiles.specs.declared.block.Block.TheVariants.{Pair}
@@ -19,7 +19,7 @@ when holds xs = if holds then xs else []
 -- each collection of so many sets, listed in order, from a place on
 unfoldable pub collections : ℕ → ℕ → List (List Block)
 collections place zero = [] ∷ []
-collections place (suc more) = flat_map (λ set. when (nat_le place (place_of set)) (map (λ sets. set ∷ sets) (collections (place_of set) more))) every_set
+collections place (suc more) = flat_map (λ set. when (nat_le place (place_in_order set)) (map (λ sets. set ∷ sets) (collections (place_in_order set) more))) every_set
 
 -- sets and a pair add up to the tiles
 abbrev pub adds_up : List ℕ → List Block → ℕ → Bool

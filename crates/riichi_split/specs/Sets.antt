@@ -4,11 +4,11 @@ use Rattle.riichi_tiles.specs.declared.block.Block.{Block}
 use Rattle.riichi_tiles.specs.declared.block.Block.TheVariants.{Pair}
 
 -- in four places, those that are left holding one and the same block
-abbrev pub placed : List Block → List Block
-placed sets = sets ++ replicate (4 - length sets) (Pair 0)
+abbrev pub in_four_places : List Block → List Block
+in_four_places sets = sets ++ replicate (4 - length sets) (Pair 0)
 
 -- the first `count` blocks are the sets
 pub record AreSets (blocks : List Block) (count : ℕ) : Type 0 where
-  pub places : blocks ≡ placed (take count blocks)
+  pub places : blocks ≡ in_four_places (take count blocks)
   pub counted : count ≡ length (take count blocks)
   pub at_most_four : count ≤ 4

@@ -1,10 +1,10 @@
 -- The tiles of one suit, and of all four: triplets, runs and a pair.
-use Rattle.std.specs.Prelude.{◌≡◌, ◌≢◌, ◌↔◌, ℕ, ◌+◌, ◌-◌, ◌*◌, ◌%◌, ◌<◌, ◌≤◌, Bool, true, false, IsTrue, List, [], ◌∷◌, length, map, slice_index, slice_set}
+use Rattle.std.specs.Prelude.{◌≡◌, ◌≢◌, ◌↔◌, ℕ, ◌+◌, ◌-◌, ◌*◌, ◌%◌, ◌<◌, ◌≤◌, Bool, IsTrue, List, [], ◌∷◌, length, map, slice_index, slice_set}
 use Rattle.std.specs.List.{range_with_len}
 use Rattle.riichi_tiles.specs.declared.suit.Suit.{Suit}
 use Rattle.riichi_tiles.specs.declared.suit.Suit.TheVariants.{Characters, Circles, Bamboos, Honours}
 use Rattle.riichi_tiles.specs.declared.by_suit.BySuit.{BySuit}
-use Rattle.riichi_tiles.specs.Kinds.{first_of, suit_of, rank_of}
+use Rattle.riichi_tiles.specs.Kinds.{first_of, has_runs, suit_of, rank_of}
 use Rattle.riichi_tiles.specs.Suits.{of_suit, with_suit}
 pub use Rattle.riichi_split.specs.Marks.{MarksBelow}
 
@@ -12,13 +12,6 @@ pub use Rattle.riichi_split.specs.Marks.{MarksBelow}
 pub record OneSuit : Type 0 where
   pub held : List ℕ
   pub has_runs : Bool
-
--- runs are made of every suit but the honours
-abbrev pub has_runs : Suit → Bool
-has_runs Characters = true
-has_runs Circles = true
-has_runs Bamboos = true
-has_runs Honours = false
 
 -- the tiles of nine kinds from one on
 abbrev pub nine_from : (ℕ → ℕ) → ℕ → List ℕ
@@ -91,11 +84,11 @@ abbrev pub with_tile : OneSuit → ℕ → OneSuit
 with_tile tiles rank = record tiles { held = slice_set tiles.held rank (slice_index tiles.held rank + 1) }
 
 -- one more tile of a kind
-abbrev pub with_kind : BySuit OneSuit → ℕ → BySuit OneSuit
-with_kind suits kind = with_suit suits (suit_of kind) (with_tile (of_suit suits (suit_of kind)) (rank_of kind))
+abbrev pub with_tile_of : BySuit OneSuit → ℕ → BySuit OneSuit
+with_tile_of suits kind = with_suit suits (suit_of kind) (with_tile (of_suit suits (suit_of kind)) (rank_of kind))
 
 -- fewer than four of the kind are there, and one more of it makes sets and a pair
 pub record Completes (suits : BySuit OneSuit) (kind : ℕ) : Type 0 where
   pub of_a_kind : kind < 34
   pub some_left : slice_index (of_suit suits (suit_of kind)).held (rank_of kind) < 4
-  pub wins : AreWon (with_kind suits kind)
+  pub wins : AreWon (with_tile_of suits kind)

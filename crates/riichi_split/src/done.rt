@@ -1,6 +1,6 @@
 //! The blocks that the winning tile completes, one after the other.
 ghost use Rattle.std.specs.Prelude.{◌≡◌, ◌≤◌, MatchOption, [], ◌∷◌, drop, length};
-ghost use Rattle.riichi_split.specs.Dones.{dones, done_first, done_unless_again, same_block, blocks_of};
+ghost use Rattle.riichi_split.specs.Dones.{dones, done_first, done_unless_again, same_block, split_blocks};
 
 use crate::split::Split;
 use riichi_tiles::{Block, Kind};
@@ -27,7 +27,7 @@ fn done_unless(comes_again: bool, block: Block, winning: Kind) -> Option<Block>
 fn done_at(split: &Split, winning: Kind, place: usize) -> Option<Block>
     requires in_range { place ≤ length split.now.sets }
     requires small { place ≤ 4 }
-    ensures { result ≡ done_first winning (drop place (blocks_of split.now)) }
+    ensures { result ≡ done_first winning (drop place (split_blocks split.now)) }
 {
     let pair = Block::Pair(split.pair);
     match split.sets.get(place) {
@@ -45,10 +45,10 @@ fn done_at(split: &Split, winning: Kind, place: usize) -> Option<Block>
 /// The next block that the winning tile completes, from a place of the sets and then the pair on.
 pub(crate) fn next_done(split: &Split, winning: Kind, place: &mut usize) -> Option<Block>
     ensures { MatchOption result
-        ((dones winning (drop place.old (blocks_of split.now)) ≡ [])
-        × (dones winning (drop place.new (blocks_of split.now)) ≡ []))
-        (λ done. dones winning (drop place.old (blocks_of split.now))
-        ≡ done ∷ dones winning (drop place.new (blocks_of split.now))) }
+        ((dones winning (drop place.old (split_blocks split.now)) ≡ [])
+        × (dones winning (drop place.new (split_blocks split.now)) ≡ []))
+        (λ done. dones winning (drop place.old (split_blocks split.now))
+        ≡ done ∷ dones winning (drop place.new (split_blocks split.now))) }
 {
     while *place <= split.sets.len() {
         let done = done_at(split, winning, *place);

@@ -1,5 +1,5 @@
 ghost use Rattle.std.specs.Prelude.{◌≡◌, ◌+◌, ◌<◌, ◌≤◌, ◌↔◌, IsTrue, [], ◌∷◌, ◌++◌, length, drop, slice_get, replicate};
-ghost use Rattle.riichi_split.specs.Dones.{is_among};
+ghost use Rattle.riichi_split.specs.Dones.{is_block_among};
 
 use riichi_tiles::{Block, Kind};
 use std::marker::Model;
@@ -16,7 +16,7 @@ pub struct Sets {
 impl Model for Sets {
     ghost use Rattle.std.specs.Prelude.{List, take, length};
     ghost use Rattle.riichi_tiles.specs.declared.block.Block.{Block};
-    ghost use Rattle.riichi_split.specs.Sets.{AreSets, placed};
+    ghost use Rattle.riichi_split.specs.Sets.{AreSets, in_four_places};
 
     ghost Value = { List Block };
 
@@ -24,7 +24,7 @@ impl Model for Sets {
 
     ghost invariant = { λ s. AreSets s.blocks s.count };
 
-    ghost inverse = { λ l. record { blocks = placed l; count = length l } };
+    ghost inverse = { λ l. record { blocks = in_four_places l; count = length l } };
 }
 
 impl Sets {
@@ -81,7 +81,7 @@ impl Sets {
 
     /// The block is one of those from the place on.
     pub(crate) fn has_from(&self, place: usize, block: Block) -> bool
-        ensures { result ≡ is_among block (drop place self.now) }
+        ensures { result ≡ is_block_among block (drop place self.now) }
     {
         for at in place..self.count {
             if self.blocks[at] == block {

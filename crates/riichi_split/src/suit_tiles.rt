@@ -1,6 +1,7 @@
 //! The tiles of one suit, and what they can be cut into.
 ghost use Rattle.std.specs.Prelude.{◌≡◌, ◌↔◌, ◌%◌, ◌==◌, ◌<◌, ◌≤◌, ℕ, IsTrue, true, length, slice_index, sum};
 ghost use Rattle.std.specs.List.{list_all};
+ghost use Rattle.riichi_tiles.specs.Kinds as kinds;
 ghost use Rattle.riichi_split.specs.SuitTiles as spec;
 
 use riichi_tiles::Suit;
@@ -205,7 +206,7 @@ fn are_triplets(held: &[u8; 9]) -> bool
 
 /// Whether runs are made of a suit.
 fn has_runs(suit: Suit) -> bool
-    ensures { result ≡ spec.has_runs suit }
+    ensures { result ≡ kinds.has_runs suit }
 {
     match suit {
         Suit::Honours => false,

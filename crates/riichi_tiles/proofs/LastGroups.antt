@@ -5,7 +5,7 @@ use Rattle.std.proofs.lemmas.Bool.{cases_eq, ne_eqb}
 use Rattle.std.proofs.lemmas.List.Sums.{sum_by-cons, sum_by-append}
 use Rattle.std.proofs.Math.Seq.{drop-cons, drop-length}
 use Rattle.riichi_tiles.specs.Tiles.{IsCounts}
-use Rattle.riichi_tiles.specs.Notation.{is_digit, is_suit, suit_has, kind_of, Group, IsGroup, text_of, kinds_of}
+use Rattle.riichi_tiles.specs.Notation.{is_digit, is_suit, suit_has, kind_of, Group, IsGroup, text_of_group, kinds_of_group}
 use Rattle.riichi_tiles.specs.Groups.{AddsGroupBefore}
 
 -- the digits from `start` up to the letter at `place`, each one that its suit has, are added
@@ -83,8 +83,8 @@ group_before old new text start end adds some within fewer suit =
 pub record SpellsFrom (text counts : List ℕ) (place : ℕ) : Type 0 where
   pub groups : List Group
   pub each_group : AllByRecursion IsGroup groups
-  pub text_is : drop place text ≡ flat_map text_of groups
-  pub counted : (kind : ℕ) → slice_index counts kind ≡ count_by (nat_eq kind) (flat_map kinds_of groups)
+  pub text_is : drop place text ≡ flat_map text_of_group groups
+  pub counted : (kind : ℕ) → slice_index counts kind ≡ count_by (nat_eq kind) (flat_map kinds_of_group groups)
   pub are_counts : IsCounts counts
   pub within : place ≤ length text
 
@@ -98,12 +98,12 @@ spells_group text counts new start end spells adds =
     record {
       groups = g ∷ spells.groups;
       each_group = (adds.is_group, spells.each_group);
-      text_is = adds.text_is ∙ ap (λ t. text_of g ++ t) spells.text_is;
+      text_is = adds.text_is ∙ ap (λ t. text_of_group g ++ t) spells.text_is;
       counted = λ kind. omega (
         arith,
         adds.added kind,
         spells.counted kind,
-        sum_by-append (λ t. cond {A = ℕ} (nat_eq kind t) 1 0) (kinds_of g) (flat_map kinds_of spells.groups),
+        sum_by-append (λ t. cond {A = ℕ} (nat_eq kind t) 1 0) (kinds_of_group g) (flat_map kinds_of_group spells.groups),
       );
       are_counts = adds.are_counts;
       within = omega (arith, adds.begins, spells.within);

@@ -8,7 +8,7 @@ use Rattle.std.proofs.lemmas.List.{get_or_past}
 use Rattle.std.proofs.lemmas.Slice.Eq.{bytes_eq-Decides}
 use Rattle.riichi_tiles.specs.Tiles.{IsCounts}
 use Rattle.riichi_tiles.specs.Notation.{Spells, reading_of}
-use Rattle.riichi_tiles.specs.Melds.{every_kind, tiles_of, is_meld, every_name, word_of, name_of, SpellsMeld, cut_at, named, melded, has_just, reads_as, meld_in, named_before, cut_named, meld_after, meld_of}
+use Rattle.riichi_tiles.specs.Melds.{every_kind, tiles_of, is_meld, every_name, word_of_name, name_of, SpellsMeld, cut_at, name_by_word, melded, has_just, reads_as, meld_by_counts, named_before, cut_named, meld_after, meld_of}
 use Rattle.riichi_tiles.specs.declared.meld.Meld.{Meld}
 use Rattle.riichi_tiles.specs.declared.meld.Meld.TheVariants.{Chi, Pon, Kan, Ankan}
 use Rattle.riichi_tiles.specs.declared.meld.MeldName.{MeldName}
@@ -19,7 +19,7 @@ use Rattle.riichi_tiles.proofs.FirstFault.{reading_of_spelled}
 
 -- The word and the colon.
 
-cut_word : (name : MeldName) (rest : List ℕ) → cut_named (cut_at 58 (word_of name ++ 58 ∷ rest)) ≡ Some (name, rest)
+cut_word : (name : MeldName) (rest : List ℕ) → cut_named (cut_at 58 (word_of_name name ++ 58 ∷ rest)) ≡ Some (name, rest)
 cut_word names.Chi rest = refl
 cut_word names.Pon rest = refl
 cut_word names.Kan rest = refl
@@ -37,23 +37,23 @@ find_passes {X} p (y ∷ ys) x is =
       | inr fails ↦ find_passes p ys x (rw fails at is)
     ]
 
-named_word : (word : List ℕ) (name : MeldName) → named word ≡ Some name → word ≡ word_of name
-named_word word name is = (bytes_eq-Decides word (word_of name)).0 (find_passes (λ n. bytes_eq word (word_of n)) every_name name is)
+named_word : (word : List ℕ) (name : MeldName) → name_by_word word ≡ Some name → word ≡ word_of_name name
+named_word word name is = (bytes_eq-Decides word (word_of_name name)).0 (find_passes (λ n. bytes_eq word (word_of_name n)) every_name name is)
 
 CutText : List ℕ → Option (MeldName × List ℕ) → Type 0
 CutText text None = Unit {0}
-CutText text (Some cut) = text ≡ word_of cut.0 ++ 58 ∷ cut.1
+CutText text (Some cut) = text ≡ word_of_name cut.0 ++ 58 ∷ cut.1
 
 cut_text : (text : List ℕ) (cut : Option (List ℕ × List ℕ)) → Joins 58 text cut → CutText text (cut_named cut)
 unfolding Joins CutText
 cut_text text None joins = tt
-cut_text text (Some cut) joins = go (named cut.0) refl
+cut_text text (Some cut) joins = go (name_by_word cut.0) refl
   where
-    go : (found : Option MeldName) → named cut.0 ≡ found → CutText text (named_before found cut.1)
+    go : (found : Option MeldName) → name_by_word cut.0 ≡ found → CutText text (named_before found cut.1)
     go None e = tt
     go (Some name) e = joins ∙ ap (λ word. word ++ 58 ∷ cut.1) (named_word cut.0 name e)
 
-pub text_of_cut : (text : List ℕ) (name : MeldName) (rest : List ℕ) → cut_named (cut_at 58 text) ≡ Some (name, rest) → text ≡ word_of name ++ 58 ∷ rest
+pub text_of_cut : (text : List ℕ) (name : MeldName) (rest : List ℕ) → cut_named (cut_at 58 text) ≡ Some (name, rest) → text ≡ word_of_name name ++ 58 ∷ rest
 unfolding CutText
 text_of_cut text name rest is =
     let P : Option (MeldName × List ℕ) → Type 0 = CutText text in
@@ -232,18 +232,18 @@ pub meld_of_spelled : (text : List ℕ) (meld : Meld) → SpellsMeld text meld �
 unfolding meld_of
 meld_of_spelled text meld s =
     ap (λ t. meld_after (cut_named (cut_at 58 t))) s.text_is ∙ ap meld_after (cut_word (name_of meld) s.notation)
-    ∙ ap (meld_in (name_of meld)) (reading_of_spelled s.notation s.counts s.spelled)
+    ∙ ap (meld_by_counts (name_of meld)) (reading_of_spelled s.notation s.counts s.spelled)
     ∙ finds_meld s.counts meld s.spelled.are_counts s.proper s.just_its_tiles
 
 pub meld_of_read : (text : List ℕ) (name : MeldName) (rest counts : List ℕ) → cut_named (cut_at 58 text) ≡ Some (name, rest) → reading_of rest ≡ Ok counts
     → meld_of text ≡ find (reads_as counts) (map (melded name) every_kind)
 unfolding meld_of
-meld_of_read text name rest counts cut read = ap meld_after cut ∙ ap (meld_in name) read
+meld_of_read text name rest counts cut read = ap meld_after cut ∙ ap (meld_by_counts name) read
 
 pub meld_of_refused : (text : List ℕ) (name : MeldName) (rest : List ℕ) (fault : NotationFault) → cut_named (cut_at 58 text) ≡ Some (name, rest)
     → reading_of rest ≡ Err fault → meld_of text ≡ None
 unfolding meld_of
-meld_of_refused text name rest fault cut read = ap meld_after cut ∙ ap (meld_in name) read
+meld_of_refused text name rest fault cut read = ap meld_after cut ∙ ap (meld_by_counts name) read
 
 pub found_spells : (text : List ℕ) (name : MeldName) (rest counts : List ℕ) (meld : Meld) → cut_named (cut_at 58 text) ≡ Some (name, rest) → Spells rest counts
     → find (reads_as counts) (map (melded name) every_kind) ≡ Some meld → SpellsMeld text meld
@@ -255,7 +255,7 @@ found_spells text name rest counts meld cut spelled found =
     record {
       notation = rest;
       counts = counts;
-      text_is = text_of_cut text name rest cut ∙ ap (λ n. word_of n ++ 58 ∷ rest) (sym named_so);
+      text_is = text_of_cut text name rest cut ∙ ap (λ n. word_of_name n ++ 58 ∷ rest) (sym named_so);
       spelled = spelled;
       just_its_tiles = λ kind. elim (cases_lt kind 34) [
         | inl below ↦ just_at counts meld kind passes.1 below

@@ -1,6 +1,6 @@
 ghost use Rattle.std.specs.Prelude.{◌≡◌, ◌<◌, ℕ, map, slice_index, Some, None, true, IfSome, MatchOption};
 ghost use Rattle.std.specs.List.{list_all, range_with_len, find};
-ghost use Rattle.riichi_tiles.specs.Melds.{tiles_of, is_open, is_kong, is_meld, reads_as, named, melded, meld_of, has_just, cut_named, cut_at, SpellsMeld};
+ghost use Rattle.riichi_tiles.specs.Melds.{tiles_of, is_open, is_kong, is_meld, reads_as, name_by_word, melded, meld_of, has_just, cut_named, cut_at, SpellsMeld};
 ghost use Rattle.riichi_tiles.specs.declared.meld.Meld.{Meld};
 
 use crate::counts::Counts;
@@ -148,7 +148,7 @@ fn read_name(text: &[u8]) -> Option<(MeldName, &[u8])>
 }
 
 fn name_of(word: &[u8]) -> Option<MeldName>
-    ensures { result ≡ named word.now }
+    ensures { result ≡ name_by_word word.now }
 {
     match word {
         b"chi" => Some(MeldName::Chi),

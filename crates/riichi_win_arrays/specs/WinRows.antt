@@ -14,18 +14,18 @@ use Rattle.riichi_tiles.specs.Melds.{every_kind}
 use Rattle.riichi_win_arrays.specs.declared.win_row.WinRow.{WinRow}
 
 -- how many of some bytes stand for each kind: a byte is one more than its kind
-unfoldable pub shown : List ℕ → List ℕ
-shown bytes = map (λ kind. count_by (λ byte. byte == kind + 1) bytes) every_kind
+unfoldable pub counts_of_bytes : List ℕ → List ℕ
+counts_of_bytes bytes = map (λ kind. count_by (λ byte. byte == kind + 1) bytes) every_kind
 
 -- each byte is 0 or one more than a kind
 abbrev pub are_kinds : List ℕ → Bool
 are_kinds bytes = list_all (λ byte. nat_le byte 34) bytes
 
 abbrev pub are_indicators : List ℕ → Bool
-are_indicators bytes = are_kinds bytes && are_counts (shown bytes)
+are_indicators bytes = are_kinds bytes && are_counts (counts_of_bytes bytes)
 
 abbrev pub indicators_in : List ℕ → Option (List ℕ)
-indicators_in bytes = if are_indicators bytes then Some (shown bytes) else None
+indicators_in bytes = if are_indicators bytes then Some (counts_of_bytes bytes) else None
 
 abbrev pub by_numbered : ℕ → By
 by_numbered byte = if byte == 0 then Ron else Tsumo
@@ -65,8 +65,8 @@ row_parts rules row = record {
   round = wind_numbered row.round;
   riichi = row.riichi;
   flags = flags_set row;
-  dora = shown row.dora;
-  ura = shown row.ura;
+  dora = counts_of_bytes row.dora;
+  ura = counts_of_bytes row.ura;
   counters = row.counters;
   sticks = row.sticks;
   reds = row.reds;

@@ -25,7 +25,7 @@ fn are_kinds(bytes: &[u8; 5]) -> bool
 
 /// How many of the bytes stand for each kind.
 fn shown(bytes: &[u8; 5]) -> [u8; 34]
-    ensures { result ≡ spec.shown bytes.now }
+    ensures { result ≡ spec.counts_of_bytes bytes.now }
 {
     let mut shown = [0; 34];
     for byte in bytes {

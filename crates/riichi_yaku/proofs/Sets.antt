@@ -15,8 +15,8 @@ use Rattle.riichi_blocks.specs.HandBlocks.{blocks_of}
 use Rattle.riichi_blocks.specs.Held.{all_tiles}
 use Rattle.riichi_yaku.specs.declared.table.Yaku.{Yaku}
 use Rattle.riichi_yaku.specs.declared.table.Yaku.TheVariants.{Riichi}
-use Rattle.riichi_yaku.specs.Table.{every_yaku, number, word, is_a_yakuman}
-use Rattle.riichi_yaku.specs.YakuSets.{contains, number_of, set_of}
+use Rattle.riichi_yaku.specs.Table.{every_yaku, number, word, yaku_is_yakuman}
+use Rattle.riichi_yaku.specs.YakuSets.{contains, number_of_bits, set_of}
 use Rattle.riichi_yaku.specs.Conditions.{condition, is_met, is_yakuman_met, is_other_met, counts_where, counts, holds, yaku_of}
 
 -- ---- numbers and their bits
@@ -31,11 +31,11 @@ lowest true n = ap (λ k. nat_eq k 1) (let e : (1 + 2 * n) % 2 ≡ 1 = omega ari
 lowest false n = ap (λ k. nat_eq k 1) (let e : (0 + 2 * n) % 2 ≡ 0 = omega arith in e)
 
 -- bit n of the number is flag n
-bit-number_of : (flags : List Bool) (n : ℕ) → nat_eq (bit_at (number_of flags) n) 1 ≡ get_or flags n false
+bit-number_of : (flags : List Bool) (n : ℕ) → nat_eq (bit_at (number_of_bits flags) n) 1 ≡ get_or flags n false
 bit-number_of [] n = ap (λ k. nat_eq k 1) (bit_at-zero n)
-bit-number_of (b ∷ flags) zero = ap (λ k. nat_eq k 1) (bit_at_lowest (cond b 1 0 + 2 * number_of flags)) ∙ lowest b (number_of flags)
+bit-number_of (b ∷ flags) zero = ap (λ k. nat_eq k 1) (bit_at_lowest (cond b 1 0 + 2 * number_of_bits flags)) ∙ lowest b (number_of_bits flags)
 bit-number_of (b ∷ flags) (suc n) =
-    ap (λ k. nat_eq k 1) (bit_at-suc (cond b 1 0 + 2 * number_of flags) n ∙ ap (λ k. bit_at k n) (half b (number_of flags)))
+    ap (λ k. nat_eq k 1) (bit_at-suc (cond b 1 0 + 2 * number_of_bits flags) n ∙ ap (λ k. bit_at k n) (half b (number_of_bits flags)))
     ∙ bit-number_of flags n
 
 step : (b : Bool) (n : ℕ) (any : Bool) → not (nat_eq n 0) ≡ any → (b || any) ≡ not (nat_eq (cond b 1 0 + 2 * n) 0)
@@ -44,17 +44,17 @@ step false zero any e = sym e
 step false (suc n) any e = sym e ∙ ap not (let some : nat_eq (suc n) 0 ≡ nat_eq (0 + 2 * suc n) 0 = grind (arith, nat_tests) in some)
 
 -- a flag is set where the number isn't 0
-any-number_of : (flags : List Bool) → list_any (λ flag. flag) flags ≡ not (nat_eq (number_of flags) 0)
+any-number_of : (flags : List Bool) → list_any (λ flag. flag) flags ≡ not (nat_eq (number_of_bits flags) 0)
 any-number_of [] = refl
-any-number_of (b ∷ flags) = step b (number_of flags) (list_any (λ flag. flag) flags) (sym (any-number_of flags))
+any-number_of (b ∷ flags) = step b (number_of_bits flags) (list_any (λ flag. flag) flags) (sym (any-number_of flags))
 
 lt-step : (b : Bool) (n p : ℕ) → n < p → cond b 1 0 + 2 * n < p + p
 lt-step true n p h = omega (arith, h)
 lt-step false n p h = omega (arith, h)
 
-number_of-lt : (flags : List Bool) → number_of flags < 2 ^ length flags
-number_of-lt [] = omega arith
-number_of-lt (b ∷ flags) = omega (arith, lt-step b (number_of flags) (2 ^ length flags) (number_of-lt flags), two-pow-succ (length flags))
+number_of_bits-lt : (flags : List Bool) → number_of_bits flags < 2 ^ length flags
+number_of_bits-lt [] = omega arith
+number_of_bits-lt (b ∷ flags) = omega (arith, lt-step b (number_of_bits flags) (2 ^ length flags) (number_of_bits-lt flags), two-pow-succ (length flags))
 
 -- ---- the yaku of a set
 
@@ -90,10 +90,10 @@ counted-set met = chosen met (nat_eq (set_of (is_yakuman_met met)) 0) (list_any 
 others-below : (met : Yaku → Bool) → set_of (is_other_met met) < 2 ^ 29
 others-below met =
     let flags : List Bool = map met (take 29 every_yaku) in
-    let same : set_of (is_other_met met) ≡ number_of flags = omega arith in
-    omega (arith, same, number_of-lt flags)
+    let same : set_of (is_other_met met) ≡ number_of_bits flags = omega arith in
+    omega (arith, same, number_of_bits-lt flags)
 
-no-other : (met : Yaku → Bool) (yaku : Yaku) (some_yakuman : Bool) → nat_le (2 ^ 29) (set_of (counts_where some_yakuman met)) ≡ true → is_a_yakuman yaku ≡ false → counts_where some_yakuman met yaku ≡ false
+no-other : (met : Yaku → Bool) (yaku : Yaku) (some_yakuman : Bool) → nat_le (2 ^ 29) (set_of (counts_where some_yakuman met)) ≡ true → yaku_is_yakuman yaku ≡ false → counts_where some_yakuman met yaku ≡ false
 no-other met yaku true large e = ap (λ b. b && met yaku) e
 no-other met yaku false large e = absurd (omega (arith, leb-true (2 ^ 29) (set_of (is_other_met met)) large, others-below met))
 
@@ -111,7 +111,7 @@ pub contains-yaku_of : (reading : Reading) (w : WinParts) (yaku : Yaku) → cont
 unfolding yaku_of holds
 contains-yaku_of reading w yaku = contains-set_of (counts (is_met reading w)) yaku
 
-pub yakuman-alone : (reading : Reading) (w : WinParts) → nat_le (2 ^ 29) (yaku_of reading w) ≡ true → (yaku : Yaku) → is_a_yakuman yaku ≡ false → contains (yaku_of reading w) yaku ≡ false
+pub yakuman-alone : (reading : Reading) (w : WinParts) → nat_le (2 ^ 29) (yaku_of reading w) ≡ true → (yaku : Yaku) → yaku_is_yakuman yaku ≡ false → contains (yaku_of reading w) yaku ≡ false
 unfolding yaku_of
 yakuman-alone reading w large yaku e =
     contains-set_of (counts (is_met reading w)) yaku

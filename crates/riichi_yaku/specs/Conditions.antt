@@ -8,7 +8,7 @@ use Rattle.riichi_blocks.specs.HandBlocks.{blocks_of, is_seven_pairs, is_thirtee
 use Rattle.riichi_blocks.specs.Held.{all_tiles}
 use Rattle.riichi_yaku.specs.declared.table.Yaku.{Yaku}
 use Rattle.riichi_yaku.specs.declared.table.Yaku.TheVariants.{Riichi, DoubleRiichi, Ippatsu, FullyConcealed, Pinfu, PureDoubleChow, AllSimples, WhiteDragon, GreenDragon, RedDragon, SeatWind, PrevalentWind, AfterAKong, RobbingTheKong, LastTile, MixedTripleChow, PureStraight, OutsideHand, SevenPairs, TriplePung, ThreeKongs, AllPungs, ThreeConcealedPungs, LittleThreeDragons, AllTerminalsAndHonours, HalfFlush, TerminalsInAllSets, TwicePureDoubleChow, FullFlush, ThirteenOrphans, NineGates, FourConcealedPungs, BigThreeDragons, LittleFourWinds, BigFourWinds, AllHonours, AllTerminals, AllGreen, FourKongs, BlessingOfHeaven, BlessingOfEarth, BlessingOfMan}
-use Rattle.riichi_yaku.specs.Table.{every_yaku, is_a_yakuman}
+use Rattle.riichi_yaku.specs.Table.{every_yaku, yaku_is_yakuman}
 use Rattle.riichi_yaku.specs.YakuSets.{set_of}
 use Rattle.riichi_yaku.specs.Luck.{is_riichi, is_double_riichi, is_ippatsu, is_fully_concealed, is_after_a_kong, is_robbing_the_kong, is_last_tile}
 use Rattle.riichi_yaku.specs.Honours.{is_white_dragon, is_green_dragon, is_red_dragon, is_seat_wind, is_prevalent_wind, is_little_three_dragons}
@@ -68,10 +68,10 @@ abbrev pub is_met : Reading → WinParts → Yaku → Bool
 is_met reading parts = condition (blocks_of reading parts) reading (all_tiles parts) parts
 
 abbrev pub is_yakuman_met : (Yaku → Bool) → Yaku → Bool
-is_yakuman_met met yaku = is_a_yakuman yaku && met yaku
+is_yakuman_met met yaku = yaku_is_yakuman yaku && met yaku
 
 abbrev pub is_other_met : (Yaku → Bool) → Yaku → Bool
-is_other_met met yaku = not (is_a_yakuman yaku) && met yaku
+is_other_met met yaku = not (yaku_is_yakuman yaku) && met yaku
 
 -- where the conditions of one or more yakuman are met, these alone count
 abbrev pub counts_where : Bool → (Yaku → Bool) → Yaku → Bool

@@ -119,5 +119,5 @@ number BlessingOfHeaven = 39
 number BlessingOfEarth = 40
 number BlessingOfMan = 41
 
-abbrev pub is_a_yakuman : Yaku → Bool
-is_a_yakuman yaku = nat_le (number ThirteenOrphans) (number yaku)
+abbrev pub yaku_is_yakuman : Yaku → Bool
+yaku_is_yakuman yaku = nat_le (number ThirteenOrphans) (number yaku)

@@ -4,7 +4,7 @@ use Rattle.std.specs.List.{list_any, list_all}
 use Rattle.riichi_tiles.specs.Kinds.{first_of}
 use Rattle.riichi_blocks.specs.declared.hand_block.HandBlock.{HandBlock}
 use Rattle.riichi_blocks.specs.Kinds.{number_suits, every_rank}
-use Rattle.riichi_blocks.specs.HandBlocks.{is_triplet_or_kong, is_kong, is_concealed_triplet, has_triplet}
+use Rattle.riichi_blocks.specs.HandBlocks.{is_triplet_or_kong, is_kong_block, is_concealed_triplet, has_triplet}
 
 -- triplets of this rank in all three suits
 abbrev pub has_triplet_in_each_suit : List HandBlock → ℕ → Bool
@@ -16,7 +16,7 @@ is_triple_pung blocks = list_any (has_triplet_in_each_suit blocks) every_rank
 
 -- 20: at least three kongs
 abbrev pub is_three_kongs : List HandBlock → Bool
-is_three_kongs blocks = nat_le 3 (count_by is_kong blocks)
+is_three_kongs blocks = nat_le 3 (count_by is_kong_block blocks)
 
 -- 21: four triplets
 abbrev pub is_all_pungs : List HandBlock → Bool

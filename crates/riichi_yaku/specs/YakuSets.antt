@@ -18,18 +18,18 @@ abbrev pub is_yakuman : ℕ → Bool
 is_yakuman set = nat_le (2 ^ number ThirteenOrphans) set
 
 -- the number whose bits these are, the lowest first
-abbrev pub number_of : List Bool → ℕ
-number_of [] = 0
-number_of (flag ∷ flags) = (if flag then 1 else 0) + 2 * number_of flags
+abbrev pub number_of_bits : List Bool → ℕ
+number_of_bits [] = 0
+number_of_bits (flag ∷ flags) = (if flag then 1 else 0) + 2 * number_of_bits flags
 
 -- the set of the yaku that are so
 abbrev pub set_of : (Yaku → Bool) → ℕ
-set_of is_so = number_of (map is_so every_yaku)
+set_of is_so = number_of_bits (map is_so every_yaku)
 
 -- The han of a set: the sum of those of its yaku.
 unfoldable pub han_of : ℕ → Bool → ℕ
 han_of set concealed = sum_by (han concealed) (yaku_in set)
 
 -- The words of a set, in the order of the table, each after a space.
-unfoldable pub words_of : ℕ → List ℕ
-words_of set = flat_map (λ yaku. codes " " ++ word yaku) (yaku_in set)
+unfoldable pub yaku_words : ℕ → List ℕ
+yaku_words set = flat_map (λ yaku. codes " " ++ word yaku) (yaku_in set)

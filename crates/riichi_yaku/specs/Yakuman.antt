@@ -5,7 +5,7 @@ use Rattle.riichi_tiles.specs.Melds.{every_kind}
 use Rattle.riichi_hand.specs.declared.win.WinParts.{WinParts}
 use Rattle.riichi_split.specs.declared.reading.Reading.{Reading}
 use Rattle.riichi_blocks.specs.declared.hand_block.HandBlock.{HandBlock}
-use Rattle.riichi_blocks.specs.HandBlocks.{is_standard, is_thirteen_orphans, is_concealed_triplet, is_kong}
+use Rattle.riichi_blocks.specs.HandBlocks.{is_standard, is_thirteen_orphans, is_concealed_triplet, is_kong_block}
 use Rattle.riichi_hand.specs.Win.{is_dealer, is_ron}
 use Rattle.riichi_yaku.specs.Honours.{has_triplets, is_last_wind}
 use Rattle.riichi_blocks.specs.Held.{every}
@@ -57,7 +57,7 @@ is_all_green reading tiles = is_standard reading && every is_green_tile tiles
 
 -- 38: four kongs
 abbrev pub is_four_kongs : List HandBlock → Bool
-is_four_kongs blocks = count_by is_kong blocks == 4
+is_four_kongs blocks = count_by is_kong_block blocks == 4
 
 -- 39: a win on the first draw by the dealer; any reading
 abbrev pub is_blessing_of_heaven : WinParts → Bool

@@ -4,7 +4,7 @@ ghost use Rattle.riichi_blocks.specs.HandBlocks.{blocks_of};
 ghost use Rattle.riichi_blocks.specs.Held.{all_tiles};
 ghost use Rattle.riichi_yaku.specs.declared.table.Yaku.{Yaku};
 ghost use Rattle.riichi_yaku.specs.Conditions as spec;
-ghost use Rattle.riichi_yaku.specs.Table.{is_a_yakuman};
+ghost use Rattle.riichi_yaku.specs.Table.{yaku_is_yakuman};
 ghost use Rattle.riichi_yaku.specs.YakuSets.{contains, is_yakuman, set_of};
 
 use crate::honours::{
@@ -36,7 +36,7 @@ use riichi_split::Reading;
 pub fn yaku_of(reading: &Reading, win: &WinRecord) -> YakuSet
     ensures value { result ≡ spec.yaku_of reading.now win.now }
     ensures each { (yaku : Yaku) → contains result yaku ≡ spec.holds reading.now win.now yaku }
-    ensures alone { IsTrue (is_yakuman result) → (yaku : Yaku) → is_a_yakuman yaku ≡ false
+    ensures alone { IsTrue (is_yakuman result) → (yaku : Yaku) → yaku_is_yakuman yaku ≡ false
         → contains result yaku ≡ false }
 {
     yaku_among(&blocks_of(reading, win), reading, &all_tiles(win), win)

@@ -153,7 +153,7 @@ impl Yaku {
 
     /// Whether it is worth the limit, whatever else holds.
     pub fn is_yakuman(self) -> bool
-        ensures { result ≡ spec.is_a_yakuman self }
+        ensures { result ≡ spec.yaku_is_yakuman self }
     {
         self.number() >= Yaku::ThirteenOrphans.number()
     }
@@ -202,7 +202,7 @@ impl Yaku {
     /// The printed word of a yakuman.
     #[inline(always)]
     fn yakuman_word(self) -> &'static str
-        ensures { spec.is_a_yakuman self ≡ true → result.now ≡ spec.word self }
+        ensures { spec.yaku_is_yakuman self ≡ true → result.now ≡ spec.word self }
     {
         match self {
             Yaku::ThirteenOrphans => "thirteen-orphans",

@@ -139,10 +139,10 @@ impl Iterator for YakuIter {
 impl FusedIterator for YakuIter {}
 
 /// Writes the words of a set behind a text, in the order of the table, each after a space.
-#[tactic(auto, unfolding(crate::specs::YakuSets::words_of))]
+#[tactic(auto, unfolding(crate::specs::YakuSets::yaku_words))]
 pub fn push_words(text: &mut ArrayString<3072>, set: YakuSet)
     requires { length text.old.bytes + 609 ≤ 3072 }
-    ensures value { text.new.bytes ≡ text.old.bytes ++ spec.words_of set }
+    ensures value { text.new.bytes ≡ text.old.bytes ++ spec.yaku_words set }
     ensures most { length text.new.bytes ≤ length text.old.bytes + 609 }
 {
     for yaku in set.iter() {

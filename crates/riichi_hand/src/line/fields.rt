@@ -1,10 +1,10 @@
 //! What the words after the hand say.
 ghost use Rattle.std.specs.Prelude.{◌≡◌, ◌||◌, is_some, option_map, IfErr, OnOk};
-ghost use Rattle.riichi_hand.specs.Keys.{value_of};
-ghost use Rattle.riichi_hand.specs.Faults.{IsStep};
+ghost use Rattle.riichi_hand.specs.Keys.{value_for_key};
+ghost use Rattle.riichi_hand.specs.Faults.{IsValueOrFirstFault};
 ghost use Rattle.riichi_hand.specs.Lines.{entry_faults};
 ghost use Rattle.riichi_hand.specs.Parts.{parts_in};
-ghost use Rattle.riichi_hand.specs.Entries.{first_or, is_again, IsMarked};
+ghost use Rattle.riichi_hand.specs.Entries.{first_or, is_again, KeepsFirstMark};
 ghost use Rattle.riichi_hand.specs.Words.{from_words};
 ghost use Rattle.riichi_hand.specs.Places.{entry_from};
 
@@ -69,7 +69,7 @@ impl<'a> Fields<'a> {
     pub(crate) fn fill(&mut self, words: &Words<'a>) -> Result<(), LineFault>
         requires { (job : JobName) → Holds self.old (entries_of job []) }
         ensures step { let parts = parts_in words.now in
-            IsStep result (entry_faults parts) (λ _. Holds self.new parts.entries) }
+            IsValueOrFirstFault result (entry_faults parts) (λ _. Holds self.new parts.entries) }
         ensures from { let from = option_map (λ from. from.now) self.new.at_fault in
             let froms = from_words words.now.entries.now in
             IfErr result (λ fault. from ≡ entry_from words.now.job fault froms) }
@@ -97,10 +97,10 @@ impl<'a> Fields<'a> {
 
     /// Puts the value of one more key in its place, whose word begins here. Answers whether the text is a value of the key.
     fn put(&mut self, key: Key, text: &'a [u8], from: &'a [u8]) -> bool
-        ensures answer { result ≡ is_some (value_of key text.now) }
+        ensures answer { result ≡ is_some (value_for_key key text.now) }
         ensures holds { (entries : Entries) → Holds self.old entries
             → Holds self.new (with_keyed entries (key, text.now)) }
-        ensures from { IsMarked self.old.at_fault from.entry self.new.at_fault }
+        ensures from { KeepsFirstMark self.old.at_fault from.entry self.new.at_fault }
     {
         let again = &mut self.at_fault;
         match key {
@@ -130,7 +130,7 @@ fn keep<'a, T: Copy>(
     ensures answer { result ≡ is_some value }
     ensures first { place.new ≡ first_or place.old value }
     ensures again { is_some again.new ≡ (is_again place.old value || is_some again.old) }
-    ensures from { IsMarked again.old from.entry again.new }
+    ensures from { KeepsFirstMark again.old from.entry again.new }
 {
     if value.is_none() {
         return false;

@@ -1,7 +1,7 @@
 //! The job of a line whose texts are read.
 ghost use Rattle.std.specs.Prelude.{◌≡◌, None, Some, if◌then◌else◌};
 ghost use Rattle.riichi_hand.specs.Win.{no_reds, kept_under};
-ghost use Rattle.riichi_hand.specs.Faults.{IsStep, first_fault};
+ghost use Rattle.riichi_hand.specs.Faults.{IsValueOrFirstFault, first_fault};
 ghost use Rattle.riichi_hand.specs.Lines.{text_faults, job_faults};
 ghost use Rattle.riichi_hand.specs.Parts.{parts_in};
 ghost use Rattle.riichi_hand.specs.Entries.{Holds};
@@ -37,7 +37,7 @@ pub(crate) fn make_job(
     requires spelled { first_fault (text_faults (parts_in words.now)) ≡ None }
     requires texts { texts.now ≡ texts_of (parts_in words.now) }
     ensures { let parts = parts_in words.now in
-        IsStep result (job_faults rules parts texts.now parts.job)
+        IsValueOrFirstFault result (job_faults rules parts texts.now parts.job)
         (λ job. Some job ≡ job_of rules parts texts.now parts.job) }
 {
     match needed {
@@ -60,7 +60,7 @@ fn make_win(
     requires needed { AreNeeded (needs.Win keys) (parts_in words.now) }
     requires spelled { first_fault (text_faults (parts_in words.now)) ≡ None }
     requires texts { texts.now ≡ texts_of (parts_in words.now) }
-    ensures { let parts = parts_in words.now in IsStep result (job_faults rules parts texts.now Win)
+    ensures { let parts = parts_in words.now in IsValueOrFirstFault result (job_faults rules parts texts.now Win)
         (λ win. Some (jobs.Win win) ≡ job_of rules parts texts.now Win) }
 {
     let Some(winning) = only_kind(&texts.on) else {

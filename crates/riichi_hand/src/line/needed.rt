@@ -1,7 +1,7 @@
 //! What a job must be given.
 ghost use Rattle.std.specs.Prelude.{◌≡◌, true, false, MatchOption, Some};
 ghost use Rattle.std.specs.List.{list_any};
-ghost use Rattle.riichi_hand.specs.Faults.{IsStep};
+ghost use Rattle.riichi_hand.specs.Faults.{IsValueOrFirstFault};
 ghost use Rattle.riichi_hand.specs.Lines.{need_faults};
 ghost use Rattle.riichi_hand.specs.Parts.{parts_in, is_missing};
 ghost use Rattle.riichi_hand.specs.Keys.{needed};
@@ -38,7 +38,7 @@ impl Needed {
     pub(crate) fn read(words: &Words<'_>, fields: &Fields<'_>) -> Result<Needed, LineFault>
         requires { Holds fields.now (parts_in words.now).entries }
         ensures { let parts = parts_in words.now in
-            IsStep result (need_faults parts) (λ needed. AreNeeded needed parts) }
+            IsValueOrFirstFault result (need_faults parts) (λ needed. AreNeeded needed parts) }
     {
         match words.job {
             JobName::Win => match win_keys(words, fields) {

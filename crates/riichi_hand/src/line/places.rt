@@ -1,7 +1,7 @@
 //! The word of a line at which a fault stands. A place is the text of the line from there on.
 ghost use Rattle.std.specs.Prelude.{◌≡◌, ◌≤◌, length, option_map, count_by, drop};
 ghost use Rattle.riichi_tiles.specs.Notation.{is_digit};
-ghost use Rattle.riichi_hand.specs.Entries.{first_of};
+ghost use Rattle.riichi_hand.specs.Entries.{first_item};
 ghost use Rattle.riichi_hand.specs.Parts.{parts_of};
 ghost use Rattle.riichi_hand.specs.Words.{words_of, from_words};
 ghost use Rattle.riichi_hand.specs.Places as spec;
@@ -79,7 +79,7 @@ pub fn key_of(name: TextName) -> &'static [u8]
 
 /// From the first word on.
 fn first_from<'a>(line: &'a [u8]) -> Option<&'a [u8]>
-    ensures { option_map (λ from. from.now) result ≡ first_of (from_words line.now) }
+    ensures { option_map (λ from. from.now) result ≡ first_item (from_words line.now) }
 {
     let from = without_spaces(line);
     if from.is_empty() { None } else { Some(from) }
@@ -87,7 +87,7 @@ fn first_from<'a>(line: &'a [u8]) -> Option<&'a [u8]>
 
 /// From the second word on.
 fn hand_from<'a>(line: &'a [u8]) -> Option<&'a [u8]>
-    ensures { option_map (λ from. from.now) result ≡ first_of (drop 1 (from_words line.now)) }
+    ensures { option_map (λ from. from.now) result ≡ first_item (drop 1 (from_words line.now)) }
 {
     let (_, rest) = next_word(line)?;
     first_from(rest)
@@ -109,7 +109,7 @@ pub fn from_with<'a>(start: &[u8], least: usize, line: &'a [u8]) -> Option<&'a [
 }
 
 fn begins(start: &[u8], least: usize, word: &[u8]) -> bool
-    ensures { result ≡ spec.begins start.now least word.now }
+    ensures { result ≡ spec.begins_with_digits start.now least word.now }
 {
     word.starts_with(start) && least <= digits_in(word)
 }

@@ -1,11 +1,11 @@
 //! The notation texts and the melds of a line.
 ghost use Rattle.std.specs.Prelude.{◌≡◌, [], None, Some, MatchResult, option_map, replicate, if◌then◌else◌};
 ghost use Rattle.riichi_tiles.specs.Notation.{counts_of};
-ghost use Rattle.riichi_hand.specs.Faults.{IsStep};
+ghost use Rattle.riichi_hand.specs.Faults.{IsValueOrFirstFault};
 ghost use Rattle.riichi_hand.specs.Lines.{text_faults};
 ghost use Rattle.riichi_hand.specs.Parts.{parts_in};
 ghost use Rattle.riichi_hand.specs.Entries.{Holds};
-ghost use Rattle.riichi_hand.specs.Texts.{text_fault, counts_in, melds_in};
+ghost use Rattle.riichi_hand.specs.Texts.{text_fault, counts_if_given, melds_if_given};
 
 use super::fields::Fields;
 use super::open::read_melds;
@@ -47,7 +47,7 @@ impl Texts {
         requires none { self.old ≡ no_texts }
         requires holds { Holds fields.now (parts_in words.now).entries }
         ensures { let parts = parts_in words.now in
-            IsStep result (text_faults parts) (λ _. self.new ≡ texts_of parts) }
+            IsValueOrFirstFault result (text_faults parts) (λ _. self.new ≡ texts_of parts) }
     {
         read_text(&mut self.hand, TextName::Hand, words.hand)?;
         read_optional(&mut self.on, TextName::On, fields.on)?;
@@ -79,7 +79,7 @@ fn read_text(counts: &mut Counts, name: TextName, text: &[u8]) -> Result<(), Lin
 fn read_optional(counts: &mut Counts, name: TextName, text: Option<&[u8]>) -> Result<(), LineFault>
     requires { counts.old ≡ replicate 34 0 }
     ensures { let text = option_map (λ text. text.now) text.entry in MatchResult result
-        (λ _. (text_fault name text ≡ None) × (counts.new ≡ counts_in text))
+        (λ _. (text_fault name text ≡ None) × (counts.new ≡ counts_if_given text))
         (λ fault. text_fault name text ≡ Some fault) }
 {
     match text {
@@ -92,7 +92,7 @@ fn read_optional(counts: &mut Counts, name: TextName, text: Option<&[u8]>) -> Re
 fn read_open(melds: &mut Melds, value: Option<&[u8]>) -> bool
     requires none { melds.old ≡ [] }
     ensures { (if result then Some melds.new else None)
-        ≡ melds_in (option_map (λ value. value.now) value.entry) }
+        ≡ melds_if_given (option_map (λ value. value.now) value.entry) }
 {
     match value {
         None => true,

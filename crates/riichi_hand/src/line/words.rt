@@ -1,6 +1,6 @@
 ghost use Rattle.std.specs.Prelude.{◌≡◌, IfOk, drop};
 ghost use Rattle.riichi_hand.specs.Words.{words_of, from_words};
-ghost use Rattle.riichi_hand.specs.Faults.{IsStep};
+ghost use Rattle.riichi_hand.specs.Faults.{IsValueOrFirstFault};
 ghost use Rattle.riichi_hand.specs.Lines.{word_faults};
 
 use super::bytes::has_other_byte;
@@ -21,7 +21,7 @@ impl<'a> Words<'a> {
 
     /// The words of a line, or H1 for a foreign byte, H2 where the first word is no job, H3 where the second is no hand.
     pub(crate) fn read(line: &'a [u8]) -> Result<Words<'a>, LineFault>
-        ensures step { IsStep result (word_faults line.now)
+        ensures step { IsValueOrFirstFault result (word_faults line.now)
             (λ words. parts_of (words_of line.now) ≡ parts_in words) }
         ensures from { IfOk result
             (λ words. from_words words.entries.now ≡ drop 2 (from_words line.now)) }

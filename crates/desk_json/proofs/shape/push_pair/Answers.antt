@@ -1,12 +1,12 @@
 use Rattle.std.proofs.Common.{◌++◌, ap, ◌∙◌, decimal}
 use Rattle.std.specs.Prelude.{codes}
 use Rattle.riichi_text.specs.Tiles.{kind_text}
-use Rattle.desk_json.specs.Parts.{comma_if, live_text}
+use Rattle.desk_json.specs.Parts.{comma_if, live_json}
 use Rattle.desk_json.proofs.Behind.{five}
 use Rattle.desk_json.proofs.shape.push_pair.Goals as goal
 
 pub returns-clause-bytes : goal.returns-clause-bytes
-unfolding live_text
+unfolding live_json
 returns-clause-bytes c =
     c.push_str-3.ensures.bytes
     ∙ ap (λ t. t ++ codes "}") (c.push_digit.ensures.bytes

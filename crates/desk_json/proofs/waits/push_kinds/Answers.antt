@@ -1,6 +1,6 @@
 use Rattle.std.proofs.Common.{◌++◌, length, sym, ap, ◌∙◌, arith}
 use Rattle.riichi_tiles.specs.HeldKinds.{is_held}
-use Rattle.desk_json.specs.Trees.{kinds_in}
+use Rattle.desk_json.specs.Trees.{kinds_held}
 use Rattle.desk_json.specs.Parts.{comma_if, quoted_kind}
 use Rattle.desk_json.proofs.Chosen.{texts_below, start, with_one, without_one, at_end}
 use Rattle.desk_json.proofs.waits.push_kinds.Goals as goal
@@ -32,6 +32,6 @@ loop-number-preserved c =
     ]
 
 pub returns-clause-bytes : goal.returns-clause-bytes
-unfolding texts_below kinds_in
+unfolding texts_below kinds_held
 returns-clause-bytes c =
     at_end quoted_kind (is_held c.args.kinds.now) c.loop-number.number 34 c.args.text.now.bytes c.loop-number.text.bytes c.loop-number.later c.loop-number.invariant.written (omega arith) (omega arith)

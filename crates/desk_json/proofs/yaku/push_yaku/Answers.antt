@@ -1,5 +1,5 @@
 use Rattle.std.proofs.Common.{length, length-append, append_assoc, sym, ap, ◌∙◌, ◌∷◌, [], ◌++◌, arith}
-use Rattle.desk_json.specs.Parts.{yaku_text}
+use Rattle.desk_json.specs.Parts.{yaku_json}
 use Rattle.desk_json.proofs.Lists.{begun_one_more}
 use Rattle.desk_json.proofs.Chosen.{listed_more}
 use Rattle.desk_json.proofs.yaku.push_yaku.Goals as goal
@@ -16,7 +16,7 @@ loop-yaku-preserved c =
     let l = c.loop-yaku in
     record {
       parts = l.invariant.parts ∙ ap (λ xs. l.yielded ++ xs) c.in-Some.ensures.steps ∙ sym (append_assoc l.yielded (c.in-Some.yaku ∷ []) c.next.new.self);
-      bytes = listed_more yaku_text c.args.text.now.bytes l.text.bytes c.push_one.new.text.bytes l.yielded c.in-Some.yaku l.later l.invariant.bytes l.invariant.begun c.push_one.ensures.bytes;
+      bytes = listed_more yaku_json c.args.text.now.bytes l.text.bytes c.push_one.new.text.bytes l.yielded c.in-Some.yaku l.later l.invariant.bytes l.invariant.begun c.push_one.ensures.bytes;
       begun = begun_one_more l.yielded c.in-Some.yaku;
       few = omega (arith, length-append l.yielded (c.in-Some.yaku ∷ []), c.push_one.ensures.len, l.invariant.few);
     }

@@ -1,14 +1,14 @@
 use Rattle.std.proofs.Common.{ℕ, List, [], ◌∷◌, ◌++◌, refl, ap, ◌∙◌, append_assoc}
 use Rattle.riichi_explain.specs.Forms.{shanten_line}
-use Rattle.riichi_shape.specs.Answer.{shape_of}
-use Rattle.riichi_shape_text.specs.Text.{text_of}
+use Rattle.riichi_shape.specs.Answer.{shape_answer_of}
+use Rattle.riichi_shape_text.specs.Text.{shape_text}
 use Rattle.desk_lines.proofs.explained.put_forms.Goals as goal
 
 pub returns : goal.returns
 returns g c =
     let forms = c.explain_shape.result in
     let before = c.args.outbox.now.bytes.items in
-    let answer = text_of (shape_of c.args.tiles.now) ++ 10 ∷ [] in
+    let answer = shape_text (shape_answer_of c.args.tiles.now) ++ 10 ∷ [] in
     let pushed = c.push_shanten_line.ensures.bytes ∙ ap (λ (t : List ℕ). t ++ shanten_line forms) c.clear.ensures in (
       shanten_line forms,
       record { forms = forms; distances = c.explain_shape.ensures.forms; text_is = refl },

@@ -1,7 +1,7 @@
 use Rattle.std.proofs.Common.{ℕ, List, [], ◌∷◌, ◌++◌, Option, refl, ap, subst, ◌∙◌, append_assoc}
 use Rattle.riichi_split.specs.declared.reading.Reading.{Reading}
 use Rattle.riichi_score.specs.Best.{best_of}
-use Rattle.riichi_score.specs.Text.{text_of}
+use Rattle.riichi_score.specs.Text.{win_text}
 use Rattle.riichi_explain.specs.Explanation.{AreOthers}
 use Rattle.desk_lines.proofs.explained.put_win.Goals as goal
 
@@ -16,7 +16,7 @@ returns-in-EveryReading g c =
     let put = c.put_best-best.ensures.told in
     let more = c.put_others.ensures in
     let before = c.args.outbox.now.bytes.items in
-    let answer = text_of (best_of w) ++ 10 ∷ [] in
+    let answer = win_text (best_of w) ++ 10 ∷ [] in
     rw c.in-EveryReading.is (
       put.0 ++ more.0,
       record {

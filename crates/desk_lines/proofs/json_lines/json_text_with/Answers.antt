@@ -1,6 +1,6 @@
 use Rattle.std.proofs.Common.{◌∙◌, List, ℕ, ap, subst}
 use Rattle.std.proofs.lemmas.Result.{MatchResult-weaker}
-use Rattle.desk_lines.specs.JsonLine.{json_of, is_refusal}
+use Rattle.desk_lines.specs.JsonLine.{json_of, is_refusal_object}
 use Rattle.desk_lines.specs.Lines.{lines, ended_lines}
 use Rattle.desk_lines.specs.Streams.{WritesAll}
 use Rattle.desk_lines.specs.Telling.{text_of, report_by}
@@ -11,7 +11,7 @@ use Rattle.desk_lines.proofs.json_lines.json_text_with.Goals as goal
 pub returns-clause-ok : goal.returns-clause-ok
 returns-clause-ok g c = MatchResult-weaker c.respond_text.result c.respond_text.ensures.ok (λ report ok.
     let same = answers_told json_of c.args.rules (lines ok.0) ok.1 ok.3 in
-    (ok.0, ok.2, subst (λ (told : List (List ℕ)). WritesAll g.W.Sink c.args.writer.now c.respond_text.new.writer (text_of told)) same ok.4, ok.5 ∙ ap (report_by is_refusal) same ∙ json_report c.args.rules (lines ok.0)))
+    (ok.0, ok.2, subst (λ (told : List (List ℕ)). WritesAll g.W.Sink c.args.writer.now c.respond_text.new.writer (text_of told)) same ok.4, ok.5 ∙ ap (report_by is_refusal_object) same ∙ json_report c.args.rules (lines ok.0)))
     (λ fault told. told)
 
 pub returns-clause-read_failed : goal.returns-clause-read_failed

@@ -1,11 +1,11 @@
 use Rattle.std.proofs.Common.{◌++◌, ◌-◌, flat_map, length, take, drop, codes, sym, ap, ◌∙◌, append_assoc}
 use Rattle.riichi_text.proofs.Items.{joined_items}
 use Rattle.riichi_text.proofs.Pieces.{pushed-three}
-use Rattle.desk_reasons.specs.Parts.{rows_text}
+use Rattle.desk_reasons.specs.Parts.{rows_json}
 use Rattle.desk_reasons.proofs.values.push_rows.Goals as goal
 
 pub returns-in-len1-up-clause-bytes : goal.returns-in-len1-up-clause-bytes
-unfolding rows_text
+unfolding rows_json
 returns-in-len1-up-clause-bytes g c =
     let text_of = g.T.Value.value_text in
     let old = c.args.text.now.bytes in

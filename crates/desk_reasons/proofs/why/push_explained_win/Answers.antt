@@ -1,7 +1,7 @@
 use Rattle.std.proofs.Common.{◌++◌, codes, refl, sym, ap, ◌∙◌}
 use Rattle.riichi_text.proofs.Pieces.{pushed-three}
 use Rattle.desk_core.specs.declared.answer.Answer.TheVariants as answer
-use Rattle.desk_json.specs.Text.{text_of, answer_text}
+use Rattle.desk_json.specs.Text.{json_text, answer_json}
 use Rattle.desk_json.specs.Trees.{Named}
 use Rattle.desk_reasons.specs.Trees.{why_tree}
 use Rattle.desk_reasons.proofs.Members.{why_member, win_more}
@@ -16,9 +16,9 @@ returns g c =
     let tree = why_tree explained.result ranking.result.ranked.items in
     let named : Named = (codes "why", tree) in
     let rules = c.args.win.now.rules in
-    let whole = c.push_open_win.ensures.bytes ∙ ap (λ told. old ++ answer_text told (answer.Win c.answer.result)) c.rules.ensures
-    ∙ ap (λ win. old ++ answer_text rules (answer.Win win)) (c.answer.ensures ∙ explained.ensures.answer) in
-    let why = c.push_why.ensures.bytes ∙ ap (λ ranked. c.push_str.new.self.bytes ++ text_of (why_tree explained.result ranked)) c.as_slice.ensures.value in (
+    let whole = c.push_open_win.ensures.bytes ∙ ap (λ told. old ++ answer_json told (answer.Win c.answer.result)) c.rules.ensures
+    ∙ ap (λ win. old ++ answer_json rules (answer.Win win)) (c.answer.ensures ∙ explained.ensures.answer) in
+    let why = c.push_why.ensures.bytes ∙ ap (λ ranked. c.push_str.new.self.bytes ++ json_text (why_tree explained.result ranked)) c.as_slice.ensures.value in (
       _,
       record {
         explanation = explained.result;
@@ -28,7 +28,7 @@ returns g c =
         are_ranked = ranking.ensures;
         object_is = refl;
       },
-      pushed-three opened (codes ",\"why\":") (text_of tree) (codes "}") c.push_str.ensures.bytes why c.push_str-2.ensures.bytes
+      pushed-three opened (codes ",\"why\":") (json_text tree) (codes "}") c.push_str.ensures.bytes why c.push_str-2.ensures.bytes
           ∙ ap (λ t. opened ++ (t ++ codes "}")) (sym (why_member tree))
           ∙ win_more old opened rules _ named whole,
     )

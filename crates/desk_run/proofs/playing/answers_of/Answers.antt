@@ -2,7 +2,7 @@ use Rattle.std.proofs.Common.{rules, arith, ◌∙◌, ◌++◌, ap, map, revers
 use Rattle.std.specs.Global.{Vec}
 use Rattle.desk_core.specs.declared.answer.Answer.{Answer}
 use Rattle.desk_run.specs.Played.{values}
-use Rattle.desk_run.specs.Players.{lists_of}
+use Rattle.desk_run.specs.Players.{job_lists}
 use Rattle.desk_run.proofs.Players.{done_last, done_fewer, given_more, given_out}
 use Rattle.desk_run.proofs.playing.answers_of.Goals as goal
 
@@ -11,7 +11,7 @@ loop-init c = record {
   count = search rules;
   room = search rules;
   done = c.requires.done;
-  given = ap (λ (l : List (Vec Answer)). map (λ v. v.items) l ++ reverse (map values (lists_of c.args.players.items))) c.requires.room.0;
+  given = ap (λ (l : List (Vec Answer)). map (λ v. v.items) l ++ reverse (map values (job_lists c.args.players.items))) c.requires.room.0;
 }
 
 pub loop-preserved : goal.loop-preserved

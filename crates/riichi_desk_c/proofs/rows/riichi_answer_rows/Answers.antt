@@ -1,6 +1,6 @@
 use Rattle.std.proofs.Common.{◌≡◌, ℕ, ◌+◌, ◌-◌, ◌<◌, ◌≤◌, ◌∙◌, inl, inr, List, ◌++◌, length, length-set, drop, refl, sym, ap, below_more, arith}
 use Rattle.riichi_desk_c.specs.Replies.{reply_to}
-use Rattle.riichi_desk_c.specs.Rows.{IsRow, place_of, replies_to, row_text}
+use Rattle.riichi_desk_c.specs.Rows.{IsRow, answer_place, replies_to, row_text}
 use Rattle.riichi_arrays.proofs.ColumnLemmas.{fill_next}
 use Rattle.riichi_desk_c.proofs.RowLemmas.{first_place, kept_room, left_long, longer_room, no_places, none_there, place_next, replies_next, so_many, some_there}
 use Rattle.riichi_desk_c.proofs.rows.riichi_answer_rows.Goals as goal
@@ -12,7 +12,7 @@ returns-then-is_empty c =
       most = omega arith;
       fits = omega arith;
       room_is = refl;
-      places_are = no_places (place_of c.args.rules c.args.bytes.now c.args.offsets.now) c.args.answer_offsets.now none;
+      places_are = no_places (answer_place c.args.rules c.args.bytes.now c.args.offsets.now) c.args.answer_offsets.now none;
       stops = inl (omega (arith, none));
     }
 
@@ -46,7 +46,7 @@ returns-then-needed-room c =
       fits = omega (arith, kept.filled, kept.fits);
       room_is = kept_room told before c.loop-row.room filled k kept.filled kept.fits kept.room refl _ (c.riichi_answer-needed.ensures.untouched (omega (arith, long, c.riichi_answer-needed.ensures.needed)))
           ∙ ap (λ n. told ++ drop n before) kept.filled;
-      places_are = so_many (place_of number bytes offsets) (row + 1) c.args.answer_offsets.now c.loop-row.answer_offsets (omega (arith, low, c.min-rows.ensures, length-set c.args.answer_offsets.now 0 0)) kept.places;
+      places_are = so_many (answer_place number bytes offsets) (row + 1) c.args.answer_offsets.now c.loop-row.answer_offsets (omega (arith, low, c.min-rows.ensures, length-set c.args.answer_offsets.now 0 0)) kept.places;
       stops = inr (inr (omega (arith, place_next number bytes offsets row, kept.filled, needed, ap length kept.room)));
     }
 
@@ -67,7 +67,7 @@ loop-row-preserved c =
     let same : length more ≡ length (reply_to number (row_text bytes offsets row)) = ap (λ t. length (reply_to number t)) text in
     let long = left_long told before c.loop-row.room filled k kept.filled kept.fits kept.room refl in
     let few : length more ≤ k = omega arith in
-    let next : filled + c.riichi_answer-needed.result ≡ place_of number bytes offsets (row + 1) = omega (arith, place_next number bytes offsets row, kept.filled, needed, same) in
+    let next : filled + c.riichi_answer-needed.result ≡ answer_place number bytes offsets (row + 1) = omega (arith, place_next number bytes offsets row, kept.filled, needed, same) in
     record {
       are_rows = below_more _ _ kept.are_rows (record { order = c.in-Some.ensures.0; within = c.in-Some.ensures.1 });
       filled = next;
@@ -76,5 +76,5 @@ loop-row-preserved c =
           ∙ ap (λ t. (told ++ reply_to number t) ++ drop (filled + length more) before) text
           ∙ ap (λ all. all ++ drop (filled + length more) before) (sym (replies_next number bytes offsets row))
           ∙ ap (λ n. replies_to number bytes offsets (row + 1) ++ drop (filled + n) before) (sym needed);
-      places = fill_next (place_of number bytes offsets) (row + 1) (row + 1 + 1) c.args.answer_offsets.now c.loop-row.answer_offsets _ kept.places (omega (arith, c.loop-row-test.true, c.min-rows.ensures, length-set c.args.answer_offsets.now 0 0)) next refl;
+      places = fill_next (answer_place number bytes offsets) (row + 1) (row + 1 + 1) c.args.answer_offsets.now c.loop-row.answer_offsets _ kept.places (omega (arith, c.loop-row-test.true, c.min-rows.ensures, length-set c.args.answer_offsets.now 0 0)) next refl;
     }

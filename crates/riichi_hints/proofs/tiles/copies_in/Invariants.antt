@@ -8,7 +8,7 @@ invariant-loop-at l = record {
   within : l.at ≤ length l.line;
   few : l.count + l.at ≤ length l.line;
   suit : l.suit ≡ spec.letter_in (drop l.at l.line);
-  count : l.count ≡ spec.copies_in l.tile.digit l.tile.suit (drop l.at l.line);
+  count : l.count ≡ spec.copies_on_line l.tile.digit l.tile.suit (drop l.at l.line);
 }
 
 abbrev pub decreases-loop-at : goal.decreases-loop-at

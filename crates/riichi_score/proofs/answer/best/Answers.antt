@@ -2,7 +2,7 @@ use Rattle.std.proofs.Common.{sym, subst, ◌∙◌}
 use Rattle.riichi_tiles.specs.Tiles.{IsCounts}
 use Rattle.riichi_score.proofs.Greatest.{AreReadingsOf-from, so_far-more, next_has_four_sets, best-end}
 use Rattle.riichi_score.specs.Best as spec
-use Rattle.riichi_score.specs.Worths.{answer_of, score_if}
+use Rattle.riichi_score.specs.Worths.{leading_answer, score_if}
 use Rattle.riichi_score.proofs.answer.best.Goals as goal
 
 pub worth_of-requires-clause-sets : goal.worth_of-requires-clause-sets
@@ -10,13 +10,13 @@ worth_of-requires-clause-sets c =
     let w = c.args.win.now in
     let l = c.loop-reading in
     let all = AreReadingsOf-from w c.hand_of-hand.result c.melds.result c.winning.result c.new-reading-items.result c.into_iter-reading-iterator.result c.hand_of-hand.ensures.value c.melds.ensures c.winning.ensures c.into_iter-reading-iterator.ensures.into_iter_gives c.new-reading-items.ensures in
-    next_has_four_sets w c.into_iter-reading-iterator.result l.yielded l.reading-iterator c.next.new.self c.in-Some.reading (answer_of l.best w) all l.invariant.0 c.in-Some.ensures.steps
+    next_has_four_sets w c.into_iter-reading-iterator.result l.yielded l.reading-iterator c.next.new.self c.in-Some.reading (leading_answer l.best w) all l.invariant.0 c.in-Some.ensures.steps
 
 pub loop-reading-preserved : goal.loop-reading-preserved
 loop-reading-preserved c =
     let w = c.args.win.now in
     let l = c.loop-reading in
-    let more = so_far-more w c.into_iter-reading-iterator.result l.yielded l.reading-iterator c.next.new.self c.in-Some.reading (answer_of l.best w) (score_if c.worth_of.result w) l.invariant.0 c.in-Some.ensures.steps c.worth_of.ensures.value in
+    let more = so_far-more w c.into_iter-reading-iterator.result l.yielded l.reading-iterator c.next.new.self c.in-Some.reading (leading_answer l.best w) (score_if c.worth_of.result w) l.invariant.0 c.in-Some.ensures.steps c.worth_of.ensures.value in
     (rw (c.better-best.ensures.value w) more, c.better-best.ensures.most)
 
 pub returns : goal.returns
@@ -24,5 +24,5 @@ returns c =
     let w = c.args.win.now in
     let l = c.loop-reading in
     let all = AreReadingsOf-from w c.hand_of-hand.result c.melds.result c.winning.result c.new-reading-items.result c.into_iter-reading-iterator.result c.hand_of-hand.ensures.value c.melds.ensures c.winning.ensures c.into_iter-reading-iterator.ensures.into_iter_gives c.new-reading-items.ensures in
-    let best = best-end w c.into_iter-reading-iterator.result l.yielded l.reading-iterator (answer_of l.best w) (subst IsCounts c.hand_of-hand.ensures.value c.hand_of-hand.ensures.counts) c.hand_of-hand.ensures.win all l.invariant.0 c.in-None.ensures.steps.0 in
+    let best = best-end w c.into_iter-reading-iterator.result l.yielded l.reading-iterator (leading_answer l.best w) (subst IsCounts c.hand_of-hand.ensures.value c.hand_of-hand.ensures.counts) c.hand_of-hand.ensures.win all l.invariant.0 c.in-None.ensures.steps.0 in
     record { value = c.answer.ensures ∙ best.0; greatest = subst (spec.IsBest w) (sym c.answer.ensures) best.1 }

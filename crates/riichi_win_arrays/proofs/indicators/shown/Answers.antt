@@ -1,13 +1,13 @@
 use Rattle.std.proofs.Common.{◌+◌, ◌-◌, ◌<◌, length, take, ap, ◌∙◌, refl, arith}
 use Rattle.std.proofs.lemmas.List.{length-take}
 use Rattle.std.specs.Prelude.{slice_index_or, slice_set}
-use Rattle.riichi_win_arrays.specs.WinRows.{shown}
+use Rattle.riichi_win_arrays.specs.WinRows.{counts_of_bytes}
 use Rattle.riichi_win_arrays.proofs.IndicatorLemmas.{few_shown, shown_more, shown_same}
 use Rattle.riichi_win_arrays.proofs.indicators.shown.Goals.{then-byte-gt0+then-byte-le34, else-byte-gt0, else-byte-gt0-via-then-byte-gt0+else-byte-le34, else-byte-gt0-via-else-byte-gt0}
 use Rattle.riichi_win_arrays.proofs.indicators.shown.Goals as goal
 
 pub loop-byte-init : goal.loop-byte-init
-unfolding shown
+unfolding counts_of_bytes
 loop-byte-init c = refl
 
 pub overflow_add-shown : goal.overflow_add-shown

@@ -5,7 +5,7 @@ use Rattle.std.specs.Prelude.{slice_get, option_map}
 use Rattle.std.proofs.lemmas.Bool.{false≢true}
 use Rattle.std.proofs.lemmas.List.{length-map, map-set}
 use Rattle.desk_core.specs.LaneState.{LaneState, is_among}
-use Rattle.desk_core.specs.Entry.{seen, TakesIn}
+use Rattle.desk_core.specs.Entry.{job_with_arrival, TakesIn}
 use Rattle.desk_core.specs.declared.arrived.Arrived.{Arrived}
 use Rattle.desk_core.specs.declared.arrived.Arrived.TheVariants as arrived
 use Rattle.desk_core.specs.declared.ticket.Ticket.{Ticket}
@@ -52,13 +52,13 @@ returns-clause-step c = λ own.
     elim c.match-get_mut.branch [
       | in-None w ↦
           let past : length items ≤ k = not_lt k (length items) (λ more. false≢true (w.in-None.ensures.variant.1 (omega arith))) in
-          let unknown : c.self.inside.next + length (map seen items) ≤ c.args.piece.ticket.seq = omega (arith, past, length-map items seen) in
+          let unknown : c.self.inside.next + length (map job_with_arrival items) ≤ c.args.piece.ticket.seq = omega (arith, past, length-map items job_with_arrival) in
           rw (w.self-inside-is, w.result-is, ← c.self.view_is) (IsStep-from_own lane _ _ _ about refl (arrive_unknown lane c.args.piece unknown))
       | in-Some w ↦
           let within : k < length items = omega (arith, w.in-Some.ensures.variant.0 refl) in
-          let there : slice_get (map seen items) k ≡ Some (seen w.in-Some.entry.now) =
-          slice_get-map seen items k ∙ ap (option_map seen) (slice_get_read items (length items) k w.in-Some.entry.now refl within w.in-Some.ensures.value) in
-          let step = IsStep-from_own lane _ _ _ about refl (arrive_in_window lane c.args.piece k (seen w.in-Some.entry.now) w.arrive.result (seen w.arrive.new.self) stays seq there w.arrive.ensures.outcome) in
+          let there : slice_get (map job_with_arrival items) k ≡ Some (job_with_arrival w.in-Some.entry.now) =
+          slice_get-map job_with_arrival items k ∙ ap (option_map job_with_arrival) (slice_get_read items (length items) k w.in-Some.entry.now refl within w.in-Some.ensures.value) in
+          let step = IsStep-from_own lane _ _ _ about refl (arrive_in_window lane c.args.piece k (job_with_arrival w.in-Some.entry.now) w.arrive.result (job_with_arrival w.arrive.new.self) stays seq there w.arrive.ensures.outcome) in
           rw (w.self-inside-is, w.result-is, ← c.self.view_is, map-set) step
     ]
 
@@ -73,9 +73,9 @@ returns-clause-accepted c = λ accepted.
       | in-Some w ↦
           let within : k < length items = omega (arith, w.in-Some.ensures.variant.0 refl) in
           let result : w.arrive.result ≡ arrived.Accepted = sym w.result-is ∙ accepted in
-          let outcome : TakesIn (seen w.in-Some.entry.now) c.args.piece.job arrived.Accepted (seen w.arrive.new.self) = rw result at w.arrive.ensures.outcome in
-          let there : slice_get (map seen items) k ≡ Some (c.args.piece.job, false) =
-          slice_get-map seen items k ∙ ap (option_map seen) (slice_get_read items (length items) k w.in-Some.entry.now refl within w.in-Some.ensures.value) ∙ ap Some outcome.0 in
+          let outcome : TakesIn (job_with_arrival w.in-Some.entry.now) c.args.piece.job arrived.Accepted (job_with_arrival w.arrive.new.self) = rw result at w.arrive.ensures.outcome in
+          let there : slice_get (map job_with_arrival items) k ≡ Some (c.args.piece.job, false) =
+          slice_get-map job_with_arrival items k ∙ ap (option_map job_with_arrival) (slice_get_read items (length items) k w.in-Some.entry.now refl within w.in-Some.ensures.value) ∙ ap Some outcome.0 in
           rw (w.self-inside-is, ← c.self.view_is, map-set, outcome.1) (k, seq, there, refl)
     ]
 
@@ -101,17 +101,17 @@ returns-clause-awaited c = λ awaited.
     let same_seq : c.ticket-ticket.result.seq ≡ c.args.piece.ticket.seq = ap (λ (t : Ticket). t.seq) c.ticket-ticket.ensures in
     let seq : c.self.inside.next + awaited.2.0 ≡ c.args.piece.ticket.seq = ap (λ l. l.next + awaited.2.0) c.self.view_is ∙ awaited.2.1 in
     let same_place : awaited.2.0 ≡ k = omega (arith, c.if-ticket-self-2.false) in
-    let waits : slice_get (map seen items) k ≡ Some (c.args.piece.job, false) =
-    ap (λ n. slice_get (map seen items) n) (sym same_place) ∙ ap (λ l. slice_get l.window awaited.2.0) c.self.view_is ∙ awaited.2.2 in
+    let waits : slice_get (map job_with_arrival items) k ≡ Some (c.args.piece.job, false) =
+    ap (λ n. slice_get (map job_with_arrival items) n) (sym same_place) ∙ ap (λ l. slice_get l.window awaited.2.0) c.self.view_is ∙ awaited.2.2 in
     elim c.match-get_mut.branch [
       | in-None w ↦
           let past : length items ≤ k = not_lt k (length items) (λ more. false≢true (w.in-None.ensures.variant.1 (omega arith))) in
-          let near : k < length (map seen items) = slice_get_within (map seen items) k _ waits in
-          absurd (omega (arith, length-map items seen))
+          let near : k < length (map job_with_arrival items) = slice_get_within (map job_with_arrival items) k _ waits in
+          absurd (omega (arith, length-map items job_with_arrival))
       | in-Some w ↦
           let within : k < length items = omega (arith, w.in-Some.ensures.variant.0 refl) in
-          let there : slice_get (map seen items) k ≡ Some (seen w.in-Some.entry.now) =
-          slice_get-map seen items k ∙ ap (option_map seen) (slice_get_read items (length items) k w.in-Some.entry.now refl within w.in-Some.ensures.value) in
-          w.result-is ∙ accepts (seen w.in-Some.entry.now) c.args.piece.job w.arrive.result (seen w.arrive.new.self) w.arrive.ensures.outcome
+          let there : slice_get (map job_with_arrival items) k ≡ Some (job_with_arrival w.in-Some.entry.now) =
+          slice_get-map job_with_arrival items k ∙ ap (option_map job_with_arrival) (slice_get_read items (length items) k w.in-Some.entry.now refl within w.in-Some.ensures.value) in
+          w.result-is ∙ accepts (job_with_arrival w.in-Some.entry.now) c.args.piece.job w.arrive.result (job_with_arrival w.arrive.new.self) w.arrive.ensures.outcome
           (same_Some _ _ (sym there ∙ waits))
     ]

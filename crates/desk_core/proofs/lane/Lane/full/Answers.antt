@@ -1,7 +1,7 @@
 use Rattle.std.proofs.Common.{◌≡◌, ◌+◌, length, map, sym, ap, ◌∙◌, arith}
 use Rattle.std.proofs.lemmas.Bool.Decides.{Decides-eqb}
 use Rattle.std.proofs.lemmas.List.{length-map}
-use Rattle.desk_core.specs.Entry.{seen}
+use Rattle.desk_core.specs.Entry.{job_with_arrival}
 use Rattle.desk_core.specs.History.{turns_of, submitted}
 use Rattle.desk_core.specs.LaneState.{LaneState}
 use Rattle.desk_core.proofs.Steps.{count}
@@ -13,7 +13,7 @@ returns-clause-submitted c = λ tables history stands.
     let turns = turns_of lane.table history in
     let total : lane.next + length lane.window ≡ length (submitted turns) =
     count turns lane stands.state in
-    let held : c.len.result ≡ length (map seen c.self.inside.window.items) = omega (arith, c.len.ensures, length-map c.self.inside.window.items seen) in
+    let held : c.len.result ≡ length (map job_with_arrival c.self.inside.window.items) = omega (arith, c.len.ensures, length-map c.self.inside.window.items job_with_arrival) in
     let same : c.self.inside.next + c.len.result ≡ length (submitted turns) =
     ap (λ n. c.self.inside.next + n) held ∙ ap (λ (l : LaneState). l.next + length l.window) c.self.view_is ∙ total in
     let test = Decides-eqb (c.self.inside.next + c.len.result) 1000000 in

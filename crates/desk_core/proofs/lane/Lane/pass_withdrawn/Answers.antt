@@ -3,7 +3,7 @@ use Rattle.std.specs.Prelude.{◌==◌}
 use Rattle.std.proofs.lemmas.Bool.{cases_eq, false≢true}
 use Rattle.std.proofs.lemmas.List.{length-map, drop-map}
 use Rattle.desk_core.specs.contracts.lane.Lane.{the_view}
-use Rattle.desk_core.specs.Entry.{seen}
+use Rattle.desk_core.specs.Entry.{job_with_arrival}
 use Rattle.desk_core.specs.LaneState.{LaneState, is_among}
 use Rattle.desk_core.specs.declared.entry.Entry.{Entry}
 use Rattle.desk_core.proofs.Passing.{HasPassed, HasPassed-one}
@@ -20,5 +20,5 @@ loop-self-preserved c =
     let held : 0 < length items =
     ⊎_elim (λ none. let is_none : (deque_len c.self.inside.window == 0) ≡ true = rw none refl in absurd (false≢true (sym some_left ∙ is_none)))
     (λ some. omega (arith, some)) (cases_eq (deque_len c.self.inside.window) 0) in
-    let more : 0 < length mid.window = omega (arith, held, length-map items seen) in
+    let more : 0 < length mid.window = omega (arith, held, length-map items job_with_arrival) in
     rw (c.pop_front-passed.ensures.rest, ← drop-map) (HasPassed-one _ mid passed more gone)

@@ -4,7 +4,7 @@ use Rattle.std.specs.Prelude.{◌≢◌}
 use Rattle.std.proofs.lemmas.Bool.{false≢true}
 use Rattle.std.proofs.lemmas.List.{length-map, map-append}
 use Rattle.desk_core.specs.contracts.lane.Lane.{the_view}
-use Rattle.desk_core.specs.Entry.{seen}
+use Rattle.desk_core.specs.Entry.{job_with_arrival}
 use Rattle.desk_core.proofs.Steps.{IsStep-from_own, submit_after_close, submit_over_limit, submit_without_memory, submit_accepted}
 use Rattle.desk_core.proofs.lane.Lane.submit.Goals as goal
 use Rattle.desk_core.proofs.lane.Lane.submit.Goals.{in-Ok, in-Err}
@@ -28,7 +28,7 @@ returns-clause-step c =
     subst (λ (l : LaneState). l.next + length l.window ≢ 1000000) (sym c.self.view_is) (λ full. false≢true (sym c.if-full.false ∙ c.full.ensures.value.1 full)) in
     elim c.match-push_back.branch [
       | in-Ok w ↦
-          let count : c.len.result ≡ length (map seen c.self.inside.window.items) = omega (arith, c.len.ensures, length-map c.self.inside.window.items seen) in
+          let count : c.len.result ≡ length (map job_with_arrival c.self.inside.window.items) = omega (arith, c.len.ensures, length-map c.self.inside.window.items job_with_arrival) in
           rw (← c.self.view_is, w.result-is, w.in-Ok.ensures.items, map-append, count, c.waiting.ensures)
           (IsStep-from_own lane _ _ _ refl refl (submit_accepted lane c.args.job c.if-self.false room))
       | in-Err w ↦

@@ -2,7 +2,7 @@ use Rattle.std.proofs.Common.{◌≡◌, length, map, Bool, true, false, not, re
 use Rattle.std.proofs.lemmas.Bool.{false≢true}
 use Rattle.std.proofs.lemmas.List.{length-map}
 use Rattle.desk_core.specs.contracts.lane.Lane.{the_view}
-use Rattle.desk_core.specs.Entry.{seen}
+use Rattle.desk_core.specs.Entry.{job_with_arrival}
 use Rattle.desk_core.specs.LaneState.{LaneState, is_among, CanTakeBack, TakesBack}
 use Rattle.desk_core.proofs.Passing.{among-added, not-among}
 use Rattle.desk_core.proofs.Steps.{IsStep-from_own, withdraw_refused, withdraw_without_memory, withdraw_done}
@@ -12,7 +12,7 @@ use Rattle.desk_core.proofs.lane.Lane.withdraw.Goals.{then-seq-self-via-then-seq
 pub returns-then-seq-self-clause-step : goal.returns-then-seq-self-clause-step
 returns-then-seq-self-clause-step c =
     let lane = the_view c.self.inside in
-    let held : c.len.result ≡ length (map seen c.self.inside.window.items) = omega (arith, c.len.ensures, length-map c.self.inside.window.items seen) in
+    let held : c.len.result ≡ length (map job_with_arrival c.self.inside.window.items) = omega (arith, c.len.ensures, length-map c.self.inside.window.items job_with_arrival) in
     let cannot : ¬ CanTakeBack lane c.args.seq = elim c.then-seq-self.branch [
       | then-seq-self-via-then-seq-self w ↦ λ can. absurd (omega (arith, can.not_given, w.if-seq-self.true))
       | then-seq-self-via-else-seq-self+then-submitted-seq w ↦ λ can. absurd (omega (arith, can.given_out, w.if-submitted-seq.true, held))
@@ -41,7 +41,7 @@ pub returns-in-Ok-true-clause-step : goal.returns-in-Ok-true-clause-step
 returns-in-Ok-true-clause-step c =
     let lane = the_view c.self.inside in
     let takes : TakesBack lane c.args.seq c.pass_withdrawn.new.self = taken_back c in
-    let held : c.len.result ≡ length (map seen c.self.inside.window.items) = omega (arith, c.len.ensures, length-map c.self.inside.window.items seen) in
+    let held : c.len.result ≡ length (map job_with_arrival c.self.inside.window.items) = omega (arith, c.len.ensures, length-map c.self.inside.window.items job_with_arrival) in
     let can : CanTakeBack lane c.args.seq = record {
       given_out = omega (arith, c.if-submitted-seq.false, held);
       not_given = omega (arith, c.if-seq-self.false);
@@ -61,7 +61,7 @@ returns-in-Ok-false-clause-step c =
 pub returns-in-Err-clause-step : goal.returns-in-Err-clause-step
 returns-in-Err-clause-step c =
     let lane = the_view c.self.inside in
-    let held : c.len.result ≡ length (map seen c.self.inside.window.items) = omega (arith, c.len.ensures, length-map c.self.inside.window.items seen) in
+    let held : c.len.result ≡ length (map job_with_arrival c.self.inside.window.items) = omega (arith, c.len.ensures, length-map c.self.inside.window.items job_with_arrival) in
     let can : CanTakeBack lane c.args.seq = record {
       given_out = omega (arith, c.if-submitted-seq.false, held);
       not_given = omega (arith, c.if-seq-self.false);

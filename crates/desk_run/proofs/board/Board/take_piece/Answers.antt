@@ -1,5 +1,5 @@
 use Rattle.std.proofs.Common.{ℕ, ◌≡◌, ◌∷◌, List, sym, ap, ◌∙◌, subst}
-use Rattle.desk_run.specs.Plays.{table_of, SeatState}
+use Rattle.desk_run.specs.Plays.{table_seen, SeatState}
 use Rattle.desk_run.specs.declared.content.Content.{Content}
 use Rattle.desk_run.specs.declared.content.Content.TheVariants.{Empty, Done}
 use mathlib.Core.Option.{some}
@@ -24,7 +24,7 @@ piece-piece-requires c = let t = c.requires.fetched.1 in let piece : Ticketed = 
 pub returns-clause-out : goal.returns-clause-out
 returns-clause-out c m t = let piece : Ticketed = t.0.0 in
     let same = found_in c.args.seat.now.me _ c.args.place (Done piece) c.slot_mut-slot.result.now _ (t.0.2 ∙ at_place t.1) c.slot_mut-slot.ensures.value in
-    subst (λ (x : Ticketed). get_elem? (table_of m.0).states c.args._offset ≡ some (Out x.ticket x.job)) (done_piece piece c.piece-piece.result (sym same ∙ c.piece-piece.ensures)) t.0.1
+    subst (λ (x : Ticketed). get_elem? (table_seen m.0).states c.args._offset ≡ some (Out x.ticket x.job)) (done_piece piece c.piece-piece.result (sym same ∙ c.piece-piece.ensures)) t.0.1
 
 pub returns-clause-me : goal.returns-clause-me
 returns-clause-me c m t = let piece : Ticketed = t.0.0 in

@@ -1,7 +1,7 @@
 use Rattle.std.proofs.Common.{◌≡◌, ap, ◌∙◌, subst, arith, length, length-set, set, List}
 use lib.ListN.{get_elem?}
 use Rattle.atomic_table.proofs.Lists.{at_index}
-use Rattle.desk_run.specs.Plays.{SeatState, table_of}
+use Rattle.desk_run.specs.Plays.{SeatState, table_seen}
 use Rattle.desk_run.specs.SeatStates.{TableState}
 use Rattle.desk_run.specs.Sitting.{Collects}
 use Rattle.desk_run.specs.declared.place_state.PlaceState.{PlaceState}
@@ -24,8 +24,8 @@ invariant_of-self-2 c = let b = c.self.inside in let t = c.take_in.ensures in
 
 pub returns-clause-fetched : goal.returns-clause-fetched
 returns-clause-fetched c _ = let b = c.self.inside in let t = c.take_in.ensures in let new = c.take_in.new.own in
-    subst (λ (s : TableState). Collects 1 s.lane s.states new.lane new.states.items × (new.states.items ≡ set s.states c.args.offset Vacant) × ((table_of c.take_in.new.seat.me.0).lost ≡ s.lost)) c.self.view_is (
+    subst (λ (s : TableState). Collects 1 s.lane s.states new.lane new.states.items × (new.states.items ≡ set s.states c.args.offset Vacant) × ((table_seen c.take_in.new.seat.me.0).lost ≡ s.lost)) c.self.view_is (
       one_collected b.own.lane _ c.args.offset _ _ t.taken.0 t.taken.1 t.taken.2 t.states.0,
       t.states.0,
-      ap (λ (m : SeatState). (table_of m.0).lost) (t.me b.seat.me (c.fetch.ensures.done c.if-not-fetch.false)),
+      ap (λ (m : SeatState). (table_seen m.0).lost) (t.me b.seat.me (c.fetch.ensures.done c.if-not-fetch.false)),
     )

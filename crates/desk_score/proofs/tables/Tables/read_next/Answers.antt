@@ -4,7 +4,7 @@ use Rattle.desk_lines.specs.Lines.{lines}
 use Rattle.desk_lines.specs.Numbered.{answers_shown}
 use Rattle.desk_lines.specs.Tables.{head_line}
 use Rattle.desk_score.specs.Score.{head_of}
-use Rattle.desk_score.proofs.ScoreLemmas.{name_of-is_some}
+use Rattle.desk_score.proofs.ScoreLemmas.{table_name-is_some}
 use Rattle.desk_score.proofs.tables.Tables.read_next.Goals as goal
 
 pub returns-clause-ok : goal.returns-clause-ok
@@ -19,6 +19,6 @@ returns-clause-ok g c =
       got.1,
       added names rules texts got.0 read
           (got.2 ∙ ap (λ (name : Option (List ℕ)). head_line count name ++ answers_shown (is_some name) rules all) c.name_at-name.ensures
-          ∙ ap (λ (b : Bool). head_of names count ++ answers_shown b rules all) (name_of-is_some names count) ∙ ap (λ (n : ℕ). head_of names n ++ answers_shown (is_some names) rules all) read.count)
+          ∙ ap (λ (b : Bool). head_of names count ++ answers_shown b rules all) (table_name-is_some names count) ∙ ap (λ (n : ℕ). head_of names n ++ answers_shown (is_some names) rules all) read.count)
           got.3 got.4,
     )) c.add.ensures.ok

@@ -1,5 +1,5 @@
 use Rattle.std.proofs.Common.{[], ◌∷◌, refl, sym, subst, ◌∙◌, append-nil}
-use Rattle.desk_script.specs.declared.asked.Asked.TheVariants as ask
+use Rattle.desk_script.specs.declared.line_request.LineRequest.TheVariants as ask
 use Rattle.desk_script.specs.declared.told.Told.TheVariants.{Replied}
 use Rattle.desk_script.specs.Replay.{ScriptState, Tells}
 use Rattle.desk_script.proofs.Scripts.{Tells-line}

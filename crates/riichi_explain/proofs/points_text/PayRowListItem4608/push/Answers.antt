@@ -1,10 +1,10 @@
 use Rattle.std.proofs.Common.{codes}
-use Rattle.riichi_explain.specs.Text.{payer_name, added_text, each_text, pay_text}
+use Rattle.riichi_explain.specs.Text.{payer_name, added_text, each_text, pay_row_text}
 use Rattle.riichi_text.proofs.Pieces.{pushed-three}
 use Rattle.riichi_explain.proofs.points_text.PayRowListItem4608.push.Goals as goal
 
 pub returns-clause-bytes : goal.returns-clause-bytes
-unfolding pay_text
+unfolding pay_row_text
 returns-clause-bytes c =
     let row = c.args.self.now in
     pushed-three c.args.text.now.bytes (payer_name row.payer) (added_text (codes " for counters = ") row.points row.counters) (each_text row.payer)

@@ -5,7 +5,7 @@ use Rattle.std.proofs.lemmas.Bool.{false≢true}
 use Rattle.std.proofs.lemmas.Bool.Decides.{Decides-and, Decides-eqb, Decides-like, same_from_decides}
 use Rattle.std.proofs.lemmas.Slice.Eq.{slice_eq-Decides}
 use Rattle.riichi_shape.specs.Equality.{discards_decide, discards_eq}
-use Rattle.riichi_shape.specs.KeptDiscards.{all_copies, kept_of, placed, told}
+use Rattle.riichi_shape.specs.KeptDiscards.{all_copies, kept_of, in_fourteen_places, told}
 use Rattle.riichi_shape.specs.declared.kept_discard.KeptDiscard.{KeptDiscard}
 use Rattle.riichi_shape.specs.contracts.kept_discard.KeptDiscardPartialEq.TheImpl.{ghosts as kept}
 use Rattle.riichi_shape.specs.contracts.discard_order.DiscardOrderPartialEq.TheImpl.{ghosts as orders}
@@ -14,14 +14,14 @@ use Rattle.riichi_shape.proofs.discard_list.DiscardListPartialEq.eq.Goals as goa
 kept_decides : (a b : KeptDiscard) → Decides (kept.eq a b) (a ≡ b)
 kept_decides a b = search rules
 
-same_placed : (a b : List KeptDiscard) → placed a ≡ placed b → length a ≡ length b → a ≡ b
+same_placed : (a b : List KeptDiscard) → in_fourteen_places a ≡ in_fourteen_places b → length a ≡ length b → a ≡ b
 same_placed a b places lengths =
-    sym (take-append_seam a _) ∙ ap (take (length a)) places ∙ ap (λ n. take n (placed b)) lengths ∙ take-append_seam b _
+    sym (take-append_seam a _) ∙ ap (take (length a)) places ∙ ap (λ n. take n (in_fourteen_places b)) lengths ∙ take-append_seam b _
 
 orders_decide : (a b : List KeptDiscard) → Decides (orders.eq a b) (a ≡ b)
 orders_decide a b =
-    Decides-like (orders.eq a b) (λ p. same_placed a b p.0 p.1) (λ e. (ap placed e, ap length e))
-    (Decides-and _ _ (slice_eq-Decides kept_decides (placed a) (placed b) _ refl) (Decides-eqb (length a) (length b)))
+    Decides-like (orders.eq a b) (λ p. same_placed a b p.0 p.1) (λ e. (ap in_fourteen_places e, ap length e))
+    (Decides-and _ _ (slice_eq-Decides kept_decides (in_fourteen_places a) (in_fourteen_places b) _ refl) (Decides-eqb (length a) (length b)))
 
 pub returns-then-eq : goal.returns-then-eq
 returns-then-eq c =

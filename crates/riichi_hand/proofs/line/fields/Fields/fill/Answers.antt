@@ -4,7 +4,7 @@ use Rattle.std.specs.List.{list_any}
 use Rattle.std.proofs.lemmas.List.{append-nil, map-append}
 use Rattle.riichi_hand.specs.declared.line.key.Key.{Key}
 use Rattle.riichi_hand.specs.Words.{words_of, from_words, word_of}
-use Rattle.riichi_hand.specs.Keys.{value_of}
+use Rattle.riichi_hand.specs.Keys.{value_for_key}
 use Rattle.riichi_hand.specs.declared.fault.LineCode.TheVariants.{H4, H5}
 use Rattle.riichi_hand.specs.Faults.{coded, first_fault}
 use Rattle.riichi_hand.specs.Entries.{is_entry, is_bad, Entries, entries_of, Holds}
@@ -42,7 +42,7 @@ loop-rest-preserved c =
     let here_from : from_words text ≡ text ∷ from_words after = first.1 ∙ ap (λ rest. text ∷ rest) (sym c.without_spaces-rest-in-loop-rest.ensures.from) in
     let from : from_words c.args.words.now.entries.now ≡ (froms ++ text ∷ []) ++ from_words after = so_far.1.from ∙ ap (λ rest. froms ++ rest) here_from ∙ sym (append_assoc froms (text ∷ []) (from_words after)) in
     let last = entries_of-last job before word keyed first.0 in
-    let value : is_some (value_of keyed.0 keyed.1) ≡ true = sym c.put.ensures.answer ∙ c.if-not-put.false in
+    let value : is_some (value_for_key keyed.0 keyed.1) ≡ true = sym c.put.ensures.answer ∙ c.if-not-put.false in
     let good : list_any (is_bad job) (before ++ word ∷ []) ≡ false = ap (λ (e : Entries). e.has_bad_word) last ∙ rw (so_far.1.good, value) refl in
     let Of : Entries → Type 0 = λ entries. Holds c.put.new.self entries in
     let holds : Holds c.put.new.self (entries_of job (before ++ word ∷ [])) = subst Of (sym last) (c.put.ensures.holds _ so_far.1.holds) in
@@ -92,7 +92,7 @@ returns-then-not-put-clause-from c =
     let text = c.loop-rest.rest.now in
     let first = c.in-Some.ensures in
     let keyed : Key × List ℕ = (c.in-Some.entry.key, c.in-Some.entry.value.now) in
-    let none : is_some (value_of keyed.0 keyed.1) ≡ false = sym c.put.ensures.answer ∙ c.if-not-put.true in
+    let none : is_some (value_for_key keyed.0 keyed.1) ≡ false = sym c.put.ensures.answer ∙ c.if-not-put.true in
     let bad : is_bad job (word_of text) ≡ true = ap (λ (k : Option (Key × List ℕ)). not (is_entry k)) first.0 ∙ ap not none in
     sym (ap (bad_from job) (so_far.from ∙ ap (λ rest. c.loop-rest.invariant.0 ++ rest) first.1) ∙ bad_from-here job c.loop-rest.invariant.0 _ text so_far.good bad)
 

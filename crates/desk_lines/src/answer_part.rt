@@ -3,7 +3,7 @@ use riichi_hand::LineFault;
 
 /// What an answer line of a score is made of, or a part of one.
 #[derive(Clone, Copy, Debug, PartialEq, Eq)]
-pub enum UnmadeLine {
+pub enum AnswerPart {
     /// The word `table` and the number of a table.
     Table(usize),
     /// A byte behind it.

@@ -1,8 +1,8 @@
 use Rattle.std.proofs.Common.{◌∙◌, [], ◌∷◌, ◌++◌, map, ap, arith}
 use Rattle.desk_core.specs.Value.{value_of}
-use Rattle.desk_lines.specs.Tables.{told, count_jobs}
-use Rattle.desk_lines.proofs.SheetLemmas.{count_jobs-last, told-alone}
-use Rattle.desk_lines.proofs.sheet.Sheet.add_line.Goals as goal
+use Rattle.desk_lines.specs.Tables.{lines_told, count_jobs}
+use Rattle.desk_lines.proofs.SheetLemmas.{count_jobs-last, lines_told-alone}
+use Rattle.desk_lines.proofs.sheet.AnswerSheet.add_line.Goals as goal
 
 pub invariant_of-self-2-clause-complete : goal.invariant_of-self-2-clause-complete
 invariant_of-self-2-clause-complete c =
@@ -16,4 +16,4 @@ invariant_of-self-2-clause-complete c =
 pub returns : goal.returns
 returns c =
     let sheet = c.args.self.now in
-    ap (λ lines. told lines (map value_of sheet.jobs.items)) (c.push_reserved.ensures.items ∙ ap (λ lines. lines ++ c.args.line ∷ []) c.reserve.ensures.items) ∙ told-alone sheet.lines.items sheet.jobs.items sheet.complete c.args.line
+    ap (λ lines. lines_told lines (map value_of sheet.jobs.items)) (c.push_reserved.ensures.items ∙ ap (λ lines. lines ++ c.args.line ∷ []) c.reserve.ensures.items) ∙ lines_told-alone sheet.lines.items sheet.jobs.items sheet.complete c.args.line
