@@ -63,7 +63,8 @@ impl TableSeat {
         requires { self.old.board ≡ board_name board.now }
         ensures same { (self.new.board ≡ self.old.board) × (self.new.base ≡ self.old.base)
             × (self.new.lost ≡ self.old.lost) }
-        ensures ticket { IfOk result (λ x. x ≡ ticket self.old.lane.table (count_accepted self.old.lane)) }
+        ensures ticket { IfOk result (λ x.
+            x ≡ ticket self.old.lane.table (count_accepted self.old.lane)) }
         ensures lane { IfOk result (λ _. self.new.lane ≡ with_job self.old.lane job) }
         ensures step { IfOk result (λ x. IsStep self.old.lane (Submit self.old.lane.table job)
             (reply.Ticket x) self.new.lane) }

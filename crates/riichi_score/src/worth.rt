@@ -30,7 +30,8 @@ pub(crate) struct Worth {
 
 impl Worth {
     pub(crate) fn is_above(&self, other: &Worth) -> bool
-        ensures { result ≡ best_spec.is_above (spec.worth_order self.now) (spec.worth_order other.now) }
+        ensures { result
+            ≡ best_spec.is_above (spec.worth_order self.now) (spec.worth_order other.now) }
     {
         if self.base != other.base {
             return self.base > other.base;

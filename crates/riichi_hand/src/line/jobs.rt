@@ -60,7 +60,8 @@ fn make_win(
     requires needed { AreNeeded (needs.Win keys) (parts_in words.now) }
     requires spelled { first_fault (text_faults (parts_in words.now)) ≡ None }
     requires texts { texts.now ≡ texts_of (parts_in words.now) }
-    ensures { let parts = parts_in words.now in IsValueOrFirstFault result (job_faults rules parts texts.now Win)
+    ensures { let parts = parts_in words.now in
+        IsValueOrFirstFault result (job_faults rules parts texts.now Win)
         (λ win. Some (jobs.Win win) ≡ job_of rules parts texts.now Win) }
 {
     let Some(winning) = only_kind(&texts.on) else {
