@@ -23,7 +23,8 @@ impl Entry {
 
     /// Takes in a piece for this job, where it is the first one and carries the job.
     pub(crate) fn arrive(&mut self, piece: Piece) -> Arrived
-        ensures outcome { TakesIn (job_with_arrival self.old) piece.job result (job_with_arrival self.new) }
+        ensures outcome { TakesIn (job_with_arrival self.old) piece.job result
+            (job_with_arrival self.new) }
         ensures kept { result ≢ Arrived.Accepted → self.new ≡ self.old }
     {
         match self {
