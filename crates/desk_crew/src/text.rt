@@ -17,8 +17,8 @@ use std::thread::Threads;
 /// The most threads.
 const MOST_WORKERS: usize = 16;
 
-/// So many bytes a round has, or somewhat more: threads wait for one another once a round, which takes time.
-const ROUND: usize = 1_048_576;
+/// What one thread more takes of a round's bytes, since it keeps rows of its own.
+const EACH: usize = 65_536;
 
 /// The answers that `desk_text` gives, by 1 to 16 threads; another number stands for the nearest of these.
 pub fn crew_text<H: Threads + Sync, R: Source, W: Sink>(
@@ -95,7 +95,8 @@ pub fn crew_text_by<A: Responder + Send + Sync, H: Threads + Sync, R: Source, W:
     ensures reads { IsReadWithin ⟦<R as Source>⟧ reader.old reader.new }
 {
     let workers = workers.clamp(1, MOST_WORKERS);
-    by_rounds::<A, H, R, W>(rt, alloc, workers, ROUND, rules, reader, writer)
+    let enough = (2 * MOST_WORKERS - workers) * EACH;
+    by_rounds::<A, H, R, W>(rt, alloc, workers, enough, rules, reader, writer)
 }
 
 /// The same, where a round reads until it has so many bytes or more.

@@ -114,8 +114,8 @@ impl<W: Sink> Answering<W> {
         reader: &mut S,
     ) -> Result<bool, Failure<'a>> {
         let report = match self.workers {
+            None | Some(1) => self.report(reader),
             Some(workers) => self.by_crew(rt, workers, reader),
-            None => self.report(reader),
         };
         match report {
             Ok(report) => Ok(report.refused > 0),
