@@ -1,4 +1,4 @@
-//! Tests of `desk_core`, `desk_json`, `desk_reasons`, `desk_script` and `desk_streams`, a module each, by what they export.
+//! Tests of `desk_core`, `desk_json`, `desk_reasons`, `desk_script` and `desk_io`, a module each, by what they export.
 //!
 //! They stand apart from the libraries, since a check of a crate with its tests proves the crate once more.
 #![tactic(auto)]

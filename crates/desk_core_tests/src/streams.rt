@@ -1,7 +1,7 @@
 ghost use Rattle.std.specs.Prelude.{◌≤◌, IfOk};
 
 use crate::facts::{holds, holds_in, same, same_in};
-use desk_streams::*;
+use desk_io::*;
 use std::io;
 use std::io::{Read, Write};
 use std::test::Fail;

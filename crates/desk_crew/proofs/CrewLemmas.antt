@@ -17,7 +17,7 @@ use Rattle.desk_lines.proofs.AnswerLemmas.{same_as_told, record_lines-more}
 use Rattle.desk_lines.proofs.CutLemmas.{as_none, as_front}
 use Rattle.desk_lines.proofs.StreamLemmas.{WritesAll-nil, WritesAll-trans, StopsWriting-after}
 use Rattle.desk_lines.proofs.TellingLemmas.{text_of-append}
-use Rattle.desk_streams.specs.declared.sink.Sink.{Ghosts as OfSink}
+use Rattle.desk_io.specs.declared.sink.Sink.{Ghosts as OfSink}
 use Rattle.desk_crew.specs.Crew.{Stands, Stopped}
 use Rattle.desk_crew.specs.declared.standing.Standing.{Standing}
 use Rattle.desk_crew.specs.Shares.{AreWritten, AreLeft, both_reports}

@@ -17,7 +17,7 @@ use Rattle.desk_lines.proofs.LineLemmas.{cut_of-plain, plain-before}
 use Rattle.desk_lines.proofs.StreamLemmas.{WritesAll-nil}
 use Rattle.desk_lines.specs.Told.{Stops}
 use Rattle.desk_lines.specs.declared.fault.DeskFault.{DeskFault}
-use Rattle.desk_streams.specs.declared.sink.Sink.{Ghosts as OfSink}
+use Rattle.desk_io.specs.declared.sink.Sink.{Ghosts as OfSink}
 use Rattle.desk_crew.specs.declared.share.Share.{Share}
 use Rattle.desk_crew.specs.Shares.{AreCounted, AreLeft, AreWritten, IsShared, edge, lines_between, both_reports}
 

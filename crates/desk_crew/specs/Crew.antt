@@ -10,8 +10,8 @@ use Rattle.desk_lines.specs.Records.{AnswerKind, AnswerRecords, rules_after}
 use Rattle.desk_lines.specs.Streams.{Gives, AreWhole, WritesAll, FailsOrGoesOn}
 use Rattle.desk_lines.specs.Told.{Stops}
 use Rattle.desk_lines.specs.Telling.{text_of, report_by}
-use Rattle.desk_streams.specs.declared.sink.Sink.{Ghosts as OfSink}
-use Rattle.desk_streams.specs.declared.source.Source.{Ghosts as OfSource}
+use Rattle.desk_io.specs.declared.sink.Sink.{Ghosts as OfSink}
+use Rattle.desk_io.specs.declared.source.Source.{Ghosts as OfSource}
 use Rattle.desk_crew.specs.declared.standing.Standing.{Standing}
 
 -- These lines are answered, the answers written and counted.

@@ -1,7 +1,7 @@
 -- What the reads of a round gave.
 use Rattle.std.specs.Prelude.{◌≡◌, ◌⊎◌, ℕ, ◌+◌, List, ◌++◌}
 use Rattle.std.specs.Io.KnownBytes.{IsAtEnd}
-use Rattle.desk_streams.specs.declared.source.Source.{Ghosts as OfSource}
+use Rattle.desk_io.specs.declared.source.Source.{Ghosts as OfSource}
 use Rattle.desk_lines.specs.Streams.{Gives, FailsOnce}
 use Rattle.desk_crew.specs.declared.reading.Stop.{Stop}
 use Rattle.desk_crew.specs.declared.reading.Stop.TheVariants.{Full, End, Failed}

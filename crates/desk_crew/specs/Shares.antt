@@ -8,7 +8,7 @@ use Rattle.desk_lines.specs.Records.{AnswerKind, AreTold}
 use Rattle.desk_lines.specs.Streams.{WritesAll}
 use Rattle.desk_lines.specs.Told.{Stops}
 use Rattle.desk_lines.specs.Telling.{text_of, report_by}
-use Rattle.desk_streams.specs.declared.sink.Sink.{Ghosts as OfSink}
+use Rattle.desk_io.specs.declared.sink.Sink.{Ghosts as OfSink}
 use Rattle.desk_crew.specs.declared.share.Share.{Share}
 
 -- where the share of a number begins, of shares of so many bytes

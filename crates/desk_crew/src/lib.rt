@@ -1,6 +1,6 @@
 //! The answers to a text, by many threads.
 //!
-//! [`crew_text`] reads a `desk_streams::Source` to its end and writes the answers to its record lines, as
+//! [`crew_text`] reads a `desk_io::Source` to its end and writes the answers to its record lines, as
 //! `desk_lines::desk_text` does and byte for byte the same, but has the lines judged by several threads. [`crew_text_by`] does so with
 //! any kind of answer.
 //!

@@ -3,7 +3,7 @@ ghost use Rattle.std.specs.Prelude.{◌≡◌, ◌+◌, ◌<◌, ℕ, List, IfOk
 ghost use Rattle.desk_lines.specs.Streams.{Gives};
 ghost use Rattle.desk_crew.specs.Reading.{IsReadOn};
 
-use desk_streams::Source;
+use desk_io::Source;
 use std::alloc::AllocError;
 
 /// What one read gives at most.

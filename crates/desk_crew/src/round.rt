@@ -6,8 +6,8 @@ ghost use Rattle.desk_crew.specs.declared.share.Share.{Share};
 
 use crate::counting::sum_of;
 use crate::share::Share;
+use desk_io::Sink;
 use desk_lines::{DeskFault, DeskReport, Responder, write_all};
-use desk_streams::Sink;
 use riichi_hand::Rules;
 use std::thread;
 use std::thread::Threads;

@@ -5,8 +5,8 @@ mod facts;
 
 use super::text::by_rounds;
 use super::*;
+use desk_io::{BytesIn, BytesOut};
 use desk_lines::{DeskFault, DeskReport, Objects, Plain, desk_text};
-use desk_streams::{BytesIn, BytesOut};
 use facts::{holds, holds_in, same, same_in};
 use riichi_hand::Rules;
 use std::alloc::{AllocError, Global};

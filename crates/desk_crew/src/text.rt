@@ -8,8 +8,8 @@ ghost use Rattle.desk_lines.specs.Telling.{text_of, report_by};
 ghost use Rattle.desk_crew.specs.Crew.{IsAnswered, IsGivenUp, IsLeft};
 
 use crate::crew::Crew;
+use desk_io::{Sink, Source};
 use desk_lines::{DeskFault, DeskReport, Plain, Responder};
-use desk_streams::{Sink, Source};
 use riichi_hand::Rules;
 use std::alloc::Global;
 use std::thread::Threads;

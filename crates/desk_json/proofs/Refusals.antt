@@ -13,8 +13,8 @@ use Rattle.riichi_hand.specs.declared.fault.TextName.TheVariants.{Hand}
 use Rattle.riichi_hand.specs.declared.fault.LineFault.{LineFault}
 use Rattle.riichi_hand.specs.declared.fault.LineFault.TheVariants.{Line, Notation}
 use Rattle.riichi_hand.specs.declared.line.record.Place.{Place}
-use Rattle.riichi_faults.specs.Meaning.{refusal_key, refusal_place, refusal_words}
-use Rattle.riichi_faults.proofs.QuietWords.{quiet, refusal_words-quiet, refusal_key-quiet}
+use Rattle.riichi_refusals.specs.Meaning.{refusal_key, refusal_place, refusal_words}
+use Rattle.riichi_refusals.proofs.QuietWords.{quiet, refusal_words-quiet, refusal_key-quiet}
 use Rattle.desk_json.specs.Parts.{code_json, key_json, place_json, words_json, refused_json, refusal_parts}
 use Rattle.desk_json.specs.Text.{refusal_json}
 use Rattle.desk_json.specs.Trees.{members_of, key_members, place_members, refused_tree, refusal_tree}

@@ -7,7 +7,7 @@ use Rattle.riichi_hand.specs.declared.fault.LineFault.TheVariants.{Line, Notatio
 use Rattle.riichi_hand.specs.declared.line.record.Place.{Place}
 use Rattle.riichi_hand.specs.declared.house.House.{House}
 use Rattle.riichi_hand.specs.RulesWords.{house_words}
-use Rattle.riichi_faults.specs.Meaning.{refusal_key, refusal_place, refusal_words}
+use Rattle.riichi_refusals.specs.Meaning.{refusal_key, refusal_place, refusal_words}
 use Rattle.riichi_names.specs.Names.{japanese}
 use Rattle.riichi_yaku.specs.declared.table.Yaku.{Yaku}
 use Rattle.riichi_yaku.specs.Table.{number, word}

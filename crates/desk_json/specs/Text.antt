@@ -8,7 +8,7 @@ use Rattle.riichi_hand.specs.declared.fault.LineCode.TheVariants.{H1}
 use Rattle.riichi_hand.specs.declared.fault.LineFault.{LineFault}
 use Rattle.riichi_hand.specs.declared.fault.LineFault.TheVariants.{Line}
 use Rattle.riichi_hand.specs.declared.house.House.{House}
-use Rattle.riichi_faults.specs.Meaning.{long_keys_alike, long_places_alike, long_words_alike}
+use Rattle.riichi_refusals.specs.Meaning.{long_keys_alike, long_places_alike, long_words_alike}
 use Rattle.desk_core.specs.declared.answer.Answer.{Answer}
 use Rattle.desk_json.specs.Trees.{answer_tree, refused_tree, refusal_tree}
 

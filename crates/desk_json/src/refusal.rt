@@ -6,8 +6,8 @@ ghost use Rattle.desk_json.specs.Parts as parts;
 ghost use Rattle.desk_json.specs.Text as spec;
 
 use crate::text::JsonText;
-use riichi_faults::{refusal_key, refusal_place, refusal_words};
 use riichi_hand::{LineFault, Place, Refusal, line_code_text, name_text, notation_code_text};
+use riichi_refusals::{refusal_key, refusal_place, refusal_words};
 use riichi_text::push_number;
 
 /// The refusal of a line as one object, without the line's end.

@@ -12,7 +12,7 @@ use Rattle.desk_lines.specs.Telling.{text_of, answers_in, IsToldAs}
 use Rattle.desk_lines.specs.Records.{rules_after, AnswerKind, IsToldUnder, IsToldBy, AreTold, AnswerRecords, TellsRecords}
 use Rattle.desk_lines.specs.declared.records.Records.{Records}
 use Rattle.desk_lines.specs.Streams.{StopsWriting}
-use Rattle.desk_streams.specs.declared.sink.Sink.{Ghosts as OfSink}
+use Rattle.desk_io.specs.declared.sink.Sink.{Ghosts as OfSink}
 use Rattle.desk_lines.proofs.TellingLemmas.{text_of-append}
 use Rattle.desk_lines.proofs.StreamLemmas.{StopsWriting-more}
 use Rattle.desk_lines.specs.LongLines.{AreAlike, long_profile}

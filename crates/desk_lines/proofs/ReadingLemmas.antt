@@ -1,7 +1,7 @@
 -- The lines of a text whose reader is read once more.
 use Rattle.std.proofs.Common.{◌≡◌, ◌∙◌, ◌+◌, ◌≤◌, ◌++◌, List, ℕ, Bool, true, false, ap, sym, subst, refl, inl, inr}
 use Rattle.std.proofs.lemmas.List.{append-nil}
-use Rattle.desk_streams.specs.declared.source.Source.{Ghosts as OfSource}
+use Rattle.desk_io.specs.declared.source.Source.{Ghosts as OfSource}
 use Rattle.desk_lines.specs.Lines.{cut_of, lines, last_line, ended_lines}
 use Rattle.desk_lines.specs.Reading.{IsRead, with_end, AreToldAs, kept}
 use Rattle.desk_lines.specs.Streams.{Gives, AreWhole}

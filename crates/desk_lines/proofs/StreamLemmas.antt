@@ -4,8 +4,8 @@ use Rattle.std.proofs.lemmas.List.{append-nil}
 use Rattle.std.specs.Prelude.{IfErr, IsErrAnd}
 use Rattle.std.specs.Io.KnownBytes.{Consumes}
 use Rattle.std.proofs.KnownBytes.{Appends-nil, Appends-trans, Consumes-trans}
-use Rattle.desk_streams.specs.declared.source.Source.{Ghosts as OfSource}
-use Rattle.desk_streams.specs.declared.sink.Sink.{Ghosts as OfSink}
+use Rattle.desk_io.specs.declared.source.Source.{Ghosts as OfSource}
+use Rattle.desk_io.specs.declared.sink.Sink.{Ghosts as OfSink}
 use Rattle.desk_lines.specs.declared.fault.DeskFault.{DeskFault}
 use Rattle.desk_lines.specs.declared.fault.DeskFault.TheVariants.{Write}
 use Rattle.desk_lines.specs.Streams.{IsProperFront, WritesAll, StopsWriting, Writes, Gives}

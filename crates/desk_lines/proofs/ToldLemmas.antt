@@ -1,7 +1,7 @@
 -- The answers to a stream once one more line of it is answered.
 use Rattle.std.proofs.Common.{◌≡◌, ℕ, ◌+◌, List, [], ◌∷◌, ◌++◌, refl, sym, subst, ◌∙◌, ap, append_assoc, length-append, arith}
 use Rattle.std.proofs.lemmas.List.{append-nil}
-use Rattle.desk_streams.specs.declared.sink.Sink.{Ghosts as OfSink}
+use Rattle.desk_io.specs.declared.sink.Sink.{Ghosts as OfSink}
 use Rattle.desk_lines.specs.declared.told.Told.{Told}
 use Rattle.desk_lines.specs.declared.teller.Teller.{Ghosts as OfTeller}
 use Rattle.desk_lines.specs.declared.fault.DeskFault.{DeskFault}

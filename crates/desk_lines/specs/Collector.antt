@@ -1,6 +1,6 @@
 -- What a collector has of the lines that it has taken.
 use Rattle.std.specs.Prelude.{◌≡◌, ℕ, List, [], ◌++◌, length, Option, is_some}
-use Rattle.desk_streams.specs.declared.source.Source.{Ghosts as OfSource}
+use Rattle.desk_io.specs.declared.source.Source.{Ghosts as OfSource}
 use Rattle.riichi_hand.specs.declared.win.Rules.{Rules}
 use Rattle.desk_lines.specs.declared.collecting.Collected.{Collected}
 use Rattle.desk_lines.specs.declared.collecting.Collector.{Collector}

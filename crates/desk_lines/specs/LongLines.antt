@@ -17,7 +17,7 @@ use Rattle.riichi_hand.specs.Texts.{texts_of}
 use Rattle.riichi_hand.specs.Words.{words_of}
 use Rattle.riichi_explain.specs.declared.explaining.Shown.{Shown}
 use Rattle.riichi_explain.specs.Explanation.{IsOutcomeText, IsExplanation}
-use Rattle.riichi_faults.specs.Refusal.{long_refusals_alike}
+use Rattle.riichi_refusals.specs.Refusal.{long_refusals_alike}
 use Rattle.riichi_hints.specs.Hint.{IsRefusalText, told_line}
 use Rattle.desk_lines.specs.Explained.{IsToldWithWhy, IsExplained}
 use Rattle.desk_lines.specs.Profile.{profile_of, profile_of_words}

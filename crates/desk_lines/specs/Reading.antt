@@ -1,8 +1,8 @@
 -- What one read gave, behind the front of a line that was held.
 use Rattle.std.specs.Prelude.{◌≡◌, ℕ, ◌+◌, List, [], ◌∷◌, ◌++◌, Bool, true, false, take}
 use Rattle.std.specs.Io.KnownBytes.{IsAtEnd}
-use Rattle.desk_streams.specs.declared.sink.Sink.{Ghosts as OfSink}
-use Rattle.desk_streams.specs.declared.source.Source.{Ghosts as OfSource}
+use Rattle.desk_io.specs.declared.sink.Sink.{Ghosts as OfSink}
+use Rattle.desk_io.specs.declared.source.Source.{Ghosts as OfSource}
 use Rattle.desk_lines.specs.declared.teller.Teller.{Ghosts as OfTeller}
 use Rattle.desk_lines.specs.declared.fault.DeskFault.{DeskFault}
 use Rattle.desk_lines.specs.Told.{StopsTelling}

@@ -1,8 +1,8 @@
 -- What calls on a reader and a writer did.
 use Rattle.std.specs.Prelude.{◌≡◌, ◌≢◌, ℕ, ◌+◌, ◌≤◌, ◌⊎◌, List, [], ◌++◌, Result, Ok, Err}
 use Rattle.std.specs.Io.KnownBytes.{Appends, Consumes, IsAtEnd}
-use Rattle.desk_streams.specs.declared.sink.Sink.{Ghosts as OfSink}
-use Rattle.desk_streams.specs.declared.source.Source.{Ghosts as OfSource}
+use Rattle.desk_io.specs.declared.sink.Sink.{Ghosts as OfSink}
+use Rattle.desk_io.specs.declared.source.Source.{Ghosts as OfSource}
 use Rattle.desk_lines.specs.declared.fault.DeskFault.{DeskFault}
 use Rattle.desk_lines.specs.declared.fault.DeskFault.TheVariants.{Write}
 use Rattle.desk_lines.specs.Lines.{ended_lines, lines}

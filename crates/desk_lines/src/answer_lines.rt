@@ -11,7 +11,7 @@ use super::line_buffer::LineBuffer;
 use super::report::DeskReport;
 use super::teller::Teller;
 use super::told::Told;
-use desk_streams::{Sink, Source};
+use desk_io::{Sink, Source};
 use riichi_shape::RowSource;
 
 /// The longest front of a line that is kept: two bytes more than the longest line that is looked at, a carriage return

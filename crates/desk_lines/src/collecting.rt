@@ -21,7 +21,7 @@ use super::report::DeskReport;
 use super::sheet::AnswerSheet;
 use super::sheets::Sheets;
 use super::teller::Teller;
-use desk_streams::{BytesOut, Source};
+use desk_io::{BytesOut, Source};
 use riichi_hand::{Rules, read_line};
 use riichi_shape::{FreshRows, RowSource};
 use std::alloc::{AllocError, Global};

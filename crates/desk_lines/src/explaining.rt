@@ -11,7 +11,7 @@ use super::explained::{EveryReading, Explained};
 use super::fault::DeskFault;
 use super::report::DeskReport;
 use super::responding::respond_text;
-use desk_streams::{Sink, Source};
+use desk_io::{Sink, Source};
 use riichi_explain::Shown;
 use riichi_hand::Rules;
 use riichi_shape::RowSource;

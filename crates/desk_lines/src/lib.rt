@@ -1,7 +1,7 @@
 //! The lines of the desk: what a text of hands is answered.
 //!
-//! [`desk_text`] answers the record lines that a `desk_streams::Source` gives, one line for each, and
-//! writes the answers into a `desk_streams::Sink`. It returns a [`DeskReport`] of how many were answered
+//! [`desk_text`] answers the record lines that a `desk_io::Source` gives, one line for each, and
+//! writes the answers into a `desk_io::Sink`. It returns a [`DeskReport`] of how many were answered
 //! and how many refused, or the [`DeskFault`] for which it gave up. [`json_text_with`] answers the same lines by objects of
 //! JSON, [`explain_text_with`] with the reasons, [`explain_json_text_with`] with these in the objects, and [`numbered_text_with`] in any of these ways behind the number of each line.
 //! [`replay_text`] does so with the commands of a

@@ -10,7 +10,7 @@ use super::answer_lines::answer_lines;
 use super::fault::DeskFault;
 use super::numbered::{Numbered, Numbers};
 use super::report::DeskReport;
-use desk_streams::{Sink, Source};
+use desk_io::{Sink, Source};
 use riichi_hand::Rules;
 use riichi_shape::RowSource;
 

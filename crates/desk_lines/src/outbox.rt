@@ -4,8 +4,8 @@ ghost use Rattle.desk_lines.specs.Streams.{Writes};
 
 use super::fault::DeskFault;
 use arrayvec::{ArrayString, ArrayVec};
+use desk_io::Sink;
 use desk_json::JsonText;
-use desk_streams::Sink;
 use riichi_text::push_number;
 
 /// Room for many answer lines, so that they are written in large pieces.

@@ -10,8 +10,8 @@ ghost use Rattle.desk_lines.specs.Streams.{Gives, GivesAll, WritesAll, StopsWrit
 use super::answer_lines::answer_lines;
 use super::fault::DeskFault;
 use super::report::DeskReport;
+use desk_io::{Sink, Source};
 use desk_script::Script;
-use desk_streams::{Sink, Source};
 use riichi_shape::SuitMemo;
 use std::alloc::Global;
 

@@ -10,7 +10,7 @@ use super::fault::DeskFault;
 use super::records::Records;
 use super::report::DeskReport;
 use super::responder::Responder;
-use desk_streams::{Sink, Source};
+use desk_io::{Sink, Source};
 use riichi_hand::Rules;
 use riichi_shape::RowSource;
 

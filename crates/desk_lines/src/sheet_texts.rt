@@ -11,7 +11,7 @@ use super::fault::DeskFault;
 use super::outbox::write_all;
 use arrayvec::ArrayString;
 use desk_core::{Answer, push_answer};
-use desk_streams::Sink;
+use desk_io::Sink;
 use riichi_hand::fault_text;
 use riichi_text::push_number;
 use std::alloc::{AllocError, Global};

@@ -8,7 +8,7 @@ use super::answering::Plain;
 use super::fault::DeskFault;
 use super::report::DeskReport;
 use super::responding::respond_text;
-use desk_streams::{Sink, Source};
+use desk_io::{Sink, Source};
 use riichi_hand::Rules;
 use riichi_shape::{RowSource, SuitMemo};
 

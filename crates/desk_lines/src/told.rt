@@ -14,7 +14,7 @@ use super::line_kind::LineKind;
 use super::outbox::Outbox;
 use super::report::DeskReport;
 use super::teller::Teller;
-use desk_streams::Sink;
+use desk_io::Sink;
 use riichi_shape::RowSource;
 use std::alloc::AllocError;
 

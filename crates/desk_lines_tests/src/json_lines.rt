@@ -1,7 +1,7 @@
 //! Rows of whole texts, answered as JSON.
 use crate::facts::{holds, holds_in, same_in};
+use desk_io::{BytesIn, BytesOut};
 use desk_lines::*;
-use desk_streams::{BytesIn, BytesOut};
 use std::test::Fail;
 
 /// A profile, a comment, an empty line, a line with a carriage return, and a last line without an end.

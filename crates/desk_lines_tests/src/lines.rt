@@ -1,8 +1,8 @@
 //! Rows of whole texts.
 use crate::facts::{holds, holds_in, same, same_in};
 use arrayvec::ArrayString;
+use desk_io::{BytesIn, BytesOut, FromReader, ToWriter};
 use desk_lines::*;
-use desk_streams::{BytesIn, BytesOut, FromReader, ToWriter};
 use riichi_hand::{LineCode, LineFault, TextName};
 use riichi_tiles::{NotationCode, NotationFault};
 use std::alloc::Global;

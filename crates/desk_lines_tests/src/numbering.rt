@@ -1,7 +1,7 @@
 //! Rows of whole texts, answered behind the numbers of their lines.
 use crate::facts::{holds_in, same_in};
+use desk_io::{BytesIn, BytesOut};
 use desk_lines::*;
-use desk_streams::{BytesIn, BytesOut};
 
 /// A profile, a comment, an empty line, a line with a carriage return, and a last line without an end.
 const TEXT: &[u8] = b"rules 2

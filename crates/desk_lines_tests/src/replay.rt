@@ -1,8 +1,8 @@
 //! Whole scripts. Where memory is refused, a script ends by `DeskFault::Memory`, or a submission is told so.
 use crate::facts::{holds_in, same, same_in};
 use arrayvec::{ArrayString, ArrayVec};
+use desk_io::{BytesIn, BytesOut};
 use desk_lines::*;
-use desk_streams::{BytesIn, BytesOut};
 use std::io::Print;
 use std::process::Abort;
 

@@ -1,6 +1,6 @@
 //! The words of rules, as answers name them and `--rules` reads them.
 use crate::facts::{holds_in, same_in};
-use desk_words::rules_named;
+use desk_cli::rules_named;
 use riichi_hand::{House, Rules, Switch, rules_words};
 use std::test::Fail;
 

@@ -1,8 +1,8 @@
 //! Rows of several readers, with `desk_score`.
 use crate::facts::{holds, holds_in, same};
+use desk_io::{BytesIn, BytesOut};
 use desk_lines::DeskReport;
 use desk_score::{ScoreFault, Unwatched, Watch, score_text, score_text_with};
-use desk_streams::{BytesIn, BytesOut};
 use riichi_hand::Rules;
 use std::alloc::{AllocError, Global};
 use std::cell::Cell;

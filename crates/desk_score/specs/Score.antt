@@ -1,7 +1,7 @@
 -- What a score over several readers writes and reports.
 use Rattle.std.specs.Prelude.{◌≡◌, ℕ, ◌≤◌, List, [], ◌∷◌, ◌++◌, All, length, map, get_or, Option, is_some, option_map}
 use Rattle.std.specs.List.{sum_by}
-use Rattle.desk_streams.specs.declared.source.Source.{Ghosts as OfSource}
+use Rattle.desk_io.specs.declared.source.Source.{Ghosts as OfSource}
 use Rattle.riichi_hand.specs.declared.win.Rules.{Rules}
 use Rattle.desk_core.specs.declared.lane.TheConstants.{LIMIT}
 use Rattle.desk_lines.specs.declared.report.DeskReport.{DeskReport}

@@ -1,6 +1,6 @@
 //! The answers to the texts of many tables, judged by many workers.
 //!
-//! [`score_text`] reads several `desk_streams::Source`s to their ends, each the text of a table, has the
+//! [`score_text`] reads several `desk_io::Source`s to their ends, each the text of a table, has the
 //! workers of `desk_run` judge all jobs, and writes the answers table by table. It returns a
 //! `desk_lines::DeskReport` of how many lines were answered and how many refused, or the [`ScoreFault`] for which
 //! it gave up. [`score_text_with`] also names the tables and numbers the answers, and tells a

@@ -12,8 +12,8 @@ ghost use Rattle.desk_score.specs.Tables.{AreRead};
 
 use crate::score_fault::ScoreFault;
 use desk_core::LIMIT;
+use desk_io::Source;
 use desk_lines::{AnswerSheet, Collected, DeskReport, collect_text};
-use desk_streams::Source;
 use riichi_hand::Rules;
 use std::alloc::Global;
 

@@ -3,14 +3,14 @@ use crate::failure::Failure;
 use crate::files::{INPUT, open_file};
 use crate::noted::Notes;
 use crate::progress::Progress;
+use desk_cli::{Form, Lines};
 use desk_crew::{crew_text, crew_text_by};
+use desk_io::{BytesIn, FromReader, Sink, Source, ToWriter};
 use desk_lines::{
     DeskFault, DeskReport, EveryReading, Explained, Members, Objects, Plain, ReasonedMembers,
     Rules, Shown, SuitMemo, desk_text_with, explain_json_text_with, explain_text_with,
     json_text_with, numbered_text_with,
 };
-use desk_streams::{BytesIn, FromReader, Sink, Source, ToWriter};
-use desk_words::{Form, Lines};
 use std::alloc::{AllocError, Global};
 use std::io::{Eprint, Input, Print};
 use std::rt::Files;

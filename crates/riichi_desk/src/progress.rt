@@ -1,6 +1,6 @@
 //! How far the program is, shown on a terminal.
+use desk_cli::Reached;
 use desk_score::Watch;
-use desk_words::Reached;
 use std::cell::Cell;
 use std::io::Eprint;
 use std::time::{Clock, Instant};

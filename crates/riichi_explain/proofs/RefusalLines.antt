@@ -10,11 +10,11 @@ use Rattle.riichi_hand.specs.declared.fault.LineFault.{LineFault}
 use Rattle.riichi_hand.specs.declared.fault.LineFault.TheVariants.{Line, Notation}
 use Rattle.riichi_hand.specs.Lines.{is_other_byte}
 use Rattle.riichi_hand.specs.Places.{key_of}
-use Rattle.riichi_faults.specs.LineWords.{word_at_fault, text_word}
-use Rattle.riichi_faults.specs.Meaning.{is_long, foreign_at, missing_key, refusal_words}
-use Rattle.riichi_faults.specs.Refusal.{named_word, word_line, foreign_lines, missing_line, code_lines, place_in, notation_lines, fault_lines, refusal_lines}
-use Rattle.riichi_faults.specs.Shown.{hex_digit, byte_text, shown, around, shown_line, mark_line, marked_lines}
-use Rattle.riichi_faults.proofs.QuietWords.{is_quiet, quiet, refusal_words-quiet, missing_key-quiet}
+use Rattle.riichi_refusals.specs.LineWords.{word_at_fault, text_word}
+use Rattle.riichi_refusals.specs.Meaning.{is_long, foreign_at, missing_key, refusal_words}
+use Rattle.riichi_refusals.specs.Refusal.{named_word, word_line, foreign_lines, missing_line, code_lines, place_in, notation_lines, fault_lines, refusal_lines}
+use Rattle.riichi_refusals.specs.Shown.{hex_digit, byte_text, shown, around, shown_line, mark_line, marked_lines}
+use Rattle.riichi_refusals.proofs.QuietWords.{is_quiet, quiet, refusal_words-quiet, missing_key-quiet}
 use Rattle.riichi_explain.proofs.PlainTexts.{plain, after, after3, byte-plain, flat_map-plain, replicate-plain, are_indented, pass, lines-append}
 use Rattle.riichi_hints.specs.Hint.{IsNote, IsAnswered, IsPrintable, told_line, IsRefusalText}
 

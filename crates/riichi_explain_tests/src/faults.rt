@@ -1,7 +1,7 @@
 use crate::facts::same;
 use arrayvec::ArrayString;
-use riichi_faults::*;
 use riichi_hand::{LineCode, LineFault, Rules, read_placed};
+use riichi_refusals::*;
 use std::process::Abort;
 use std::test::Fail;
 

@@ -9,7 +9,7 @@ use Rattle.riichi_hand.specs.declared.job.Job.{Job}
 use Rattle.riichi_hand.specs.declared.win.Rules.TheVariants.{One, Two}
 use Rattle.riichi_hand.specs.Lines.{outcome_of, is_other_byte}
 use Rattle.riichi_hand.specs.Places.{fault_from}
-use Rattle.riichi_faults.specs.Refusal.{refusal_lines}
+use Rattle.riichi_refusals.specs.Refusal.{refusal_lines}
 use Rattle.riichi_hints.specs.Near.{IsKeyNote}
 
 -- ---- a line that is answered

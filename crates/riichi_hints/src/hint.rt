@@ -10,8 +10,8 @@ use crate::notes::note_of;
 use crate::plain::plain_line;
 use crate::text::{Line, MOST};
 use arrayvec::ArrayString;
-use riichi_faults::push_refusal_lines;
 use riichi_hand::{Refusal, Rules, has_other_byte, read_line};
+use riichi_refusals::push_refusal_lines;
 
 /// Writes the lines that follow a refusal: the word at fault and what may stand there, a note where more can be said, and a
 /// line like the refused one that is answered, where one is found.

@@ -1,6 +1,6 @@
 use Rattle.std.proofs.Common.{ℕ, List, Option, ◌++◌, sym, ap, ◌∙◌}
 use Rattle.riichi_hand.specs.declared.line.record.Place.{Place}
-use Rattle.riichi_faults.specs.Meaning.{refusal_key, refusal_place, refusal_words}
+use Rattle.riichi_refusals.specs.Meaning.{refusal_key, refusal_place, refusal_words}
 use Rattle.riichi_text.proofs.Pieces.{pushed-four}
 use Rattle.desk_json.specs.Parts.{code_json, key_json, place_json, words_json, refusal_parts}
 use Rattle.desk_json.proofs.Refusals.{refusal_written}

@@ -1,6 +1,6 @@
 use Rattle.std.proofs.Common.{◌≡◌, ◌+◌, ◌≤◌, ◌<◌, ◌∙◌, ℕ, zero, suc, List, ◌++◌, Result, Ok, Err, length, take, ap, arith}
 use Rattle.std.proofs.Math.Seq.{take-append_seam, take-append-add}
-use Rattle.desk_streams.specs.Calls.{found_ends}
+use Rattle.desk_io.specs.Calls.{found_ends}
 use Rattle.std.proofs.lemmas.List.{take-append-le}
 use borrow.Rule.Slice.PartMut.{put_mid, post_of}
 use Rattle.desk_lines.proofs.answer_lines.read_behind.Goals as goal

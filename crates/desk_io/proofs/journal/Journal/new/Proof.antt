@@ -1,0 +1,33 @@
+-- A journal takes no bytes: what is made is an empty struct, at the blank values.
+use mathlib.Core.Path.{refl}
+use mathlib.Core.List.{[], ◌∷◌}
+use mir.Val.{Val, vstruct, vcons, vnil}
+use types.Kit.{raw, ◌$◌, ◌∵◌, !, qed, keep, join, suffices, done}
+use types.Run.{no_more, and_then, returns, enter}
+use types.Part.{agg}
+use types.ByLocal.{alloc_all, pass_all, free_all, look_at, get, sets}
+use denote.Shadow.{pure_i}
+use denote.Steps.{nothing}
+use denote.Triple.Entry.{on_entry}
+use denote.Triple.Walked.{says, ends_at}
+use Rattle.std.proofs.raw_atomic.Walks.{proved}
+use Rattle.desk_io.specs.Journal.{blank}
+use Rattle.desk_io.specs.contracts.journal.Journal.{the_row as journal_row}
+use Rattle.desk_io.specs.contracts.journal.Journal.new as f
+use Rattle.desk_io.proofs.journal.Journal.new.Statement.{statement}
+use Rattle.desk_io.proofs.journal.Journal.new.Code as code
+
+abbrev empty_struct : Val
+empty_struct = vstruct (vcons (vstruct vnil) vnil)
+
+pub new_spec : {M : Type 1} → statement M
+new_spec 𝓤 𝓛 𝓜 𝓡 wired =
+    let c = f.clauses 𝓛 𝓜.mem 𝓡.returns in
+    proved 𝓛 f.ended tt c 𝓜 𝓡 tt f.Key.name code.function (code.unfolded 𝓤 𝓛.H 𝓜 𝓡 wired) (λ κs. tt) (λ κs. tt) (λ κs qs bounds a g _.
+    qed 𝓛 (raw (on_entry 𝓛 f.signature κs qs a tt) ∷ raw ((c κs a).requires g) ∷ []) ∵ keep ! [] $
+    enter ! _ _ _ _ _ $ alloc_all ! (λ l. pass_all ! refl tt $
+    sets ! (agg ! (no_more !)) refl (tt, tt) $ sets ! (agg ! (and_then ! (get ! refl) (no_more !))) refl (tt, (tt, tt)) $
+    returns ! (look_at ! 0 refl) $ free_all ! refl $
+    pure_i ! (journal_row.own_val blank (empty_struct ∷ [])) ((λ _. (tt, ((λ _. (tt, tt)), tt))), tt) (((vstruct vnil ∷ [], tt), (refl, ((tt, (refl, tt)), tt))), tt) $
+    suffices ! _ (ends_at 𝓛 f.ended tt c ((κs, qs, bounds, a, tt), g) empty_struct blank tt tt) $ says ! refl $
+    nothing ! $ join ! $ nothing ! $ done !))

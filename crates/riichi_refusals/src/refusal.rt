@@ -1,0 +1,130 @@
+//! The lines that follow a refusal.
+ghost use Rattle.std.specs.Prelude.{◌≡◌, ◌+◌, ◌≤◌, ◌++◌, length, option_map};
+ghost use Rattle.arrayvec.specs.ArrayString.{array_string_len};
+ghost use Rattle.riichi_hand.specs.Places.{fault_from};
+ghost use Rattle.riichi_refusals.specs.LineWords.{word_at_fault};
+ghost use Rattle.riichi_refusals.specs.Refusal as spec;
+
+use crate::meaning::{foreign_at, missing_key, refusal_words, word_in};
+use crate::shown::{front, push_marked, push_shown};
+use arrayvec::ArrayString;
+use riichi_hand::{LineCode, LineFault, MOST_LINE, Refusal, key_of};
+
+/// How many bytes of a word are shown.
+const SHOWN: usize = 72;
+
+/// Writes the lines of a refusal: the word of the line that is at fault, and what may stand there. All that it writes is
+/// printable, and each of its lines begins with two spaces.
+#[tactic(auto, unfolding(crate::specs::Refusal::refusal_lines, crate::specs::Refusal::fault_lines))]
+pub fn push_refusal_lines(text: &mut ArrayString<3072>, line: &[u8], refusal: &Refusal<'_>)
+    requires room { array_string_len text.old + 2930 ≤ 3072 }
+    requires from { option_map (λ from. from.now) refusal.now.from
+        ≡ fault_from refusal.now.fault line.now }
+    ensures { text.new.bytes ≡ text.old.bytes ++ spec.refusal_lines line.now refusal.now.fault }
+{
+    let word = word_in(refusal);
+    let words = refusal_words(line, refusal);
+    match refusal.fault {
+        LineFault::Line(code) => push_code_lines(text, code, line, word, words),
+        LineFault::Notation(name, fault) => push_notation_lines(
+            text,
+            fault.place,
+            key_of(name),
+            word.unwrap_or(&[]),
+            words,
+        ),
+    }
+}
+
+#[tactic(auto, unfolding(crate::specs::Refusal::code_lines))]
+fn push_code_lines(
+    text: &mut ArrayString<3072>,
+    code: LineCode,
+    line: &[u8],
+    word: Option<&[u8]>,
+    words: &str,
+)
+    requires room { array_string_len text.old + 2930 ≤ 3072 }
+    requires word { option_map (λ word. word.now) word ≡ word_at_fault code line.now }
+    requires words { length words.now ≤ 120 }
+    ensures { text.new.bytes ≡ text.old.bytes ++ spec.code_lines code line.now words.now }
+{
+    match code {
+        LineCode::H1 => push_foreign_lines(text, line, words),
+        LineCode::H6 => push_missing_line(text, line, words),
+        _ => push_word_line(text, word, words),
+    }
+}
+
+/// Writes a word that is at fault, and what may stand there.
+#[tactic(auto, unfolding(crate::specs::Refusal::word_line))]
+fn push_word_line(text: &mut ArrayString<3072>, word: Option<&[u8]>, words: &str)
+    requires room { array_string_len text.old + 600 ≤ 3072 }
+    requires words { length words.now ≤ 120 }
+    ensures { text.new.bytes
+        ≡ text.old.bytes ++ spec.word_line (option_map (λ word. word.now) word.entry) words.now }
+{
+    text.push_str("  ");
+    push_named_word(text, word);
+    text.push_str(words);
+    text.push_str("\n");
+}
+
+#[tactic(auto, unfolding(crate::specs::Refusal::named_word))]
+fn push_named_word(text: &mut ArrayString<3072>, word: Option<&[u8]>)
+    requires { array_string_len text.old + 290 ≤ 3072 }
+    ensures bytes { text.new.bytes
+        ≡ text.old.bytes ++ spec.named_word (option_map (λ word. word.now) word.entry) }
+    ensures len { array_string_len text.new ≤ array_string_len text.old + 290 }
+{
+    if let Some(word) = word {
+        push_shown(text, front(word, SHOWN));
+        text.push_str(": ");
+    }
+}
+
+/// Shows the place of the first byte that is no printable ASCII. A line that is too long isn't shown.
+#[tactic(auto, unfolding(crate::specs::Refusal::foreign_lines))]
+fn push_foreign_lines(text: &mut ArrayString<3072>, line: &[u8], words: &str)
+    requires room { array_string_len text.old + 600 ≤ 3072 }
+    requires words { length words.now ≤ 120 }
+    ensures { text.new.bytes ≡ text.old.bytes ++ spec.foreign_lines line.now words.now }
+{
+    if line.len() > MOST_LINE {
+        push_word_line(text, None, words);
+    } else {
+        push_marked(text, line, foreign_at(line).unwrap_or(0), 9, words);
+    }
+}
+
+/// Tells the first key that a win must have and that no word gives.
+#[tactic(auto, unfolding(crate::specs::Refusal::missing_line))]
+fn push_missing_line(text: &mut ArrayString<3072>, line: &[u8], words: &str)
+    requires room { array_string_len text.old + 600 ≤ 3072 }
+    requires words { length words.now ≤ 120 }
+    ensures { text.new.bytes ≡ text.old.bytes ++ spec.missing_line line.now words.now }
+{
+    text.push_str("  ");
+    text.push_str(missing_key(line));
+    text.push_str(" is missing: ");
+    text.push_str(words);
+    text.push_str("\n");
+}
+
+/// Shows the place of a text's fault in its word.
+#[tactic(auto, unfolding(crate::specs::Refusal::notation_lines))]
+fn push_notation_lines(
+    text: &mut ArrayString<3072>,
+    place: usize,
+    key: &[u8],
+    word: &[u8],
+    words: &str,
+)
+    requires room { array_string_len text.old + 600 ≤ 3072 }
+    requires key { length key.now ≤ 5 }
+    requires words { length words.now ≤ 120 }
+    ensures { text.new.bytes
+        ≡ text.old.bytes ++ spec.notation_lines place key.now word.now words.now }
+{
+    push_marked(text, word, key.len() + place.min(word.len()), 36, words);
+}

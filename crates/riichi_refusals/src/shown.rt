@@ -1,0 +1,155 @@
+//! What is shown of a line: printable, and of few columns.
+ghost use Rattle.std.specs.Prelude.{◌≡◌, ◌+◌, ◌/◌, ◌%◌, ◌≤◌, ◌<◌, ◌++◌, ◌∷◌, [], length, take, drop, replicate};
+ghost use Rattle.arrayvec.specs.ArrayString.{array_string_len};
+ghost use Rattle.riichi_refusals.specs.Shown as spec;
+
+use arrayvec::ArrayString;
+use riichi_hand::is_other_byte;
+
+/// How many bytes are shown before a place.
+const BEFORE: usize = 36;
+
+/// Writes what stands around a place, and below it a mark under the place with what may stand there.
+#[tactic(auto, unfolding(crate::specs::Shown::marked_lines))]
+pub(crate) fn push_marked(
+    out: &mut ArrayString<3072>,
+    text: &[u8],
+    place: usize,
+    after: usize,
+    words: &str,
+)
+    requires room { array_string_len out.old + 600 ≤ 3072 }
+    requires after { after ≤ 36 }
+    requires words { length words.now ≤ 120 }
+    ensures { out.new.bytes ≡ out.old.bytes ++ spec.marked_lines after place text.now words.now }
+{
+    push_shown_line(out, around(text, place, after));
+    push_mark_line(out, place - place.saturating_sub(BEFORE), words);
+}
+
+#[tactic(auto, unfolding(crate::specs::Shown::shown_line))]
+fn push_shown_line(out: &mut ArrayString<3072>, text: &[u8])
+    requires few { length text.now ≤ 72 }
+    requires room { array_string_len out.old + 291 ≤ 3072 }
+    ensures bytes { out.new.bytes ≡ out.old.bytes ++ spec.shown_line text.now }
+    ensures len { array_string_len out.new ≤ array_string_len out.old + 291 }
+{
+    out.push_str("  ");
+    push_shown(out, text);
+    out.push_str("\n");
+}
+
+#[tactic(auto, unfolding(crate::specs::Shown::mark_line))]
+fn push_mark_line(out: &mut ArrayString<3072>, column: usize, words: &str)
+    requires column { column ≤ 36 }
+    requires words { length words.now ≤ 120 }
+    requires room { array_string_len out.old + 161 ≤ 3072 }
+    ensures { out.new.bytes ≡ out.old.bytes ++ spec.mark_line column words.now }
+{
+    out.push_str("  ");
+    push_spaces(out, column);
+    out.push_str("^ ");
+    out.push_str(words);
+    out.push_str("\n");
+}
+
+/// Of a text up to 36 bytes before a place, and some from it on.
+fn around(text: &[u8], place: usize, after: usize) -> &[u8]
+    requires { after ≤ 36 }
+    ensures value { result.now ≡ spec.around after place text.now }
+    ensures short { length result.now ≤ 72 }
+{
+    let from = place.saturating_sub(BEFORE);
+    front(without_front(text, from), place - from + after)
+}
+
+fn without_front(text: &[u8], from: usize) -> &[u8]
+    ensures { result.now ≡ drop from text.now }
+{
+    if from < text.len() {
+        &text[from..]
+    } else {
+        &[]
+    }
+}
+
+/// The first bytes of a text.
+pub(crate) fn front(text: &[u8], most: usize) -> &[u8]
+    ensures value { result.now ≡ take most text.now }
+    ensures short { length result.now ≤ most }
+{
+    if most < text.len() {
+        &text[..most]
+    } else {
+        text
+    }
+}
+
+/// Writes a text whose bytes outside printable ASCII stand as `\xNN`.
+pub(crate) fn push_shown(out: &mut ArrayString<3072>, text: &[u8])
+    requires few { length text.now ≤ 72 }
+    requires room { array_string_len out.old + 288 ≤ 3072 }
+    ensures bytes { out.new.bytes ≡ out.old.bytes ++ spec.shown text.now }
+    ensures len { array_string_len out.new ≤ array_string_len out.old + 288 }
+{
+    for byte in text {
+        push_shown_byte(out, *byte);
+    }
+}
+
+#[tactic(auto, unfolding(crate::specs::Shown::byte_text))]
+fn push_shown_byte(out: &mut ArrayString<3072>, byte: u8)
+    requires { array_string_len out.old + 4 ≤ 3072 }
+    ensures bytes { out.new.bytes ≡ out.old.bytes ++ spec.byte_text byte }
+    ensures len { array_string_len out.new ≤ array_string_len out.old + 4 }
+{
+    if is_other_byte(byte) {
+        push_escape(out, byte);
+    } else {
+        push_byte(out, byte);
+    }
+}
+
+fn push_escape(out: &mut ArrayString<3072>, byte: u8)
+    requires { array_string_len out.old + 4 ≤ 3072 }
+    ensures bytes { out.new.bytes
+        ≡ out.old.bytes ++ 92 ∷ 120 ∷ spec.hex_digit (byte / 16) ∷ spec.hex_digit (byte % 16) ∷ [] }
+    ensures len { array_string_len out.new ≤ array_string_len out.old + 4 }
+{
+    push_byte(out, b'\\');
+    push_byte(out, b'x');
+    push_byte(out, hex_digit(byte / 16));
+    push_byte(out, hex_digit(byte % 16));
+}
+
+fn hex_digit(number: u8) -> u8
+    requires { number < 16 }
+    ensures value { result ≡ spec.hex_digit number }
+    ensures ascii { result < 128 }
+{
+    if number < 10 {
+        b'0' + number
+    } else {
+        b'a' - 10 + number
+    }
+}
+
+fn push_byte(out: &mut ArrayString<3072>, byte: u8)
+    requires room { array_string_len out.old + 1 ≤ 3072 }
+    requires ascii { byte < 128 }
+    ensures bytes { out.new.bytes ≡ out.old.bytes ++ byte ∷ [] }
+    ensures len { array_string_len out.new ≡ array_string_len out.old + 1 }
+{
+    out.push(byte as char);
+}
+
+fn push_spaces(out: &mut ArrayString<3072>, count: usize)
+    requires few { count ≤ 36 }
+    requires room { array_string_len out.old + 36 ≤ 3072 }
+    ensures bytes { out.new.bytes ≡ out.old.bytes ++ replicate count 32 }
+    ensures len { array_string_len out.new ≤ array_string_len out.old + 36 }
+{
+    for turn in 0..count {
+        push_byte(out, b' ');
+    }
+}
