@@ -413,7 +413,7 @@ head -n 1000000 "$room/many" > "$room/most"
 told 'a score of 1,000,000 hands' "$({ echo 'table 0'; yes 'waits 123456789m' | head -n 1000000; } | sha256sum)" "$("$program" score "$room/most" 2> "$room/said" | sha256sum)"
 rm "$room/most"
 told 'a score without memory' $'riichi_desk: fault F3\nstatus 4' "$(ulimit -v 60000; "$program" score "$room/many" 2>&1; echo "status $?")"
-told 'a score without a thread' $'riichi_desk: fault B4\nstatus 4' "$(ulimit -v 30000; "$program" score --workers 4 "$room/first" 2>&1; echo "status $?")"
+told 'a score without a thread' "$("$program" score "$room/first")"$'\nstatus 0' "$(ulimit -v 30000; "$program" score --workers 4 "$room/first" 2>&1; echo "status $?")"
 told 'a full disk at the end of a score' "riichi_desk: fault F2
 $full
 status 3" "$("$program" score "$room/first" 2>&1 > /dev/full; echo "status $?")"
@@ -463,16 +463,15 @@ told 'their answers are the same' "$(sha256sum < "$room/quiet.answers")" "$(sha2
 told 'lines with --quiet' "riichi_desk: $room/quiet: $slip"$'\nstatus 1' "$(tr -d '\r' < "$room/quiet.screen")"
 told 'lines whose answers come to the terminal' 0 "$(grep -c 'lines a second' "$room/typed.screen")"
 told 'a fault behind lines' "riichi_desk: $room/fault: $slip"$'\n'"riichi_desk: cannot open $room/none"$'\nstatus 3' "$(wiped fault)"
-told 'a score shows what is read, then the share that is judged' 'read judged' \
-  "$(grep -qE $'\r[0-9]+ lines, [0-9]+ lines a second\x1b' "$room/score.screen" && echo read) $(grep -qE $'\r[0-9]+ %, [0-9]+ lines a second, [0-9]+ s left\x1b' "$room/score.screen" && echo judged)"
+told 'a score of a pipe shows how many lines it has read' 'some' "$(grep -qE $'\r[0-9]+ lines, [0-9]+ lines a second\x1b\[K' "$room/score.screen" && echo some)"
 told 'the terminal behind a score' "riichi_desk: $room/score: $slip"$'\nstatus 1' "$(wiped score)"
 told 'a score with --quiet' 0 "$(grep -c 'lines a second' "$room/score-quiet.screen")"
 row 2 '' "unexpected argument '--quiet' found" explain --quiet
-# each worker is a thread, and one more plays the tables
+# each worker is a thread, of which the first is that of the program
 cc -shared -fPIC -o "$room/count.so" tests/count.c -ldl
-for workers in 1 3; do
+for workers in 2 4; do
   THREADS_COUNT=$room/count LD_PRELOAD=$room/count.so "$program" score --workers $workers "$room/first" > /dev/null
-  told "the threads of $workers workers" $((workers + 1)) "$(cat "$room/count")"
+  told "the threads of $workers workers" $((workers - 1)) "$(cat "$room/count")"
 done
 # each table of a score is answered as `line` answers its file, whatever the workers; one of them has 57,400 lines
 for ((i = 0; i < 350; i++)); do cat examples/rules.lines; done > "$room/long"

@@ -1,6 +1,5 @@
 -- The lines of a stream once those of one more round are answered.
 use Rattle.std.proofs.Common.{◌≡◌, ℕ, inl, inr, List, [], ◌∷◌, ◌++◌, Bool, cond, Option, Some, None, refl, sym, subst, ◌∙◌, ap, append_assoc}
-use Rattle.std.proofs.lemmas.List.{append-nil}
 use Rattle.std.specs.Prelude.{is_some, unwrap_or}
 use Rattle.riichi_hand.specs.declared.win.Rules.{Rules}
 use Rattle.desk_lines.specs.declared.fault.DeskFault.{DeskFault}
@@ -14,7 +13,7 @@ use Rattle.desk_lines.specs.Streams.{WritesAll}
 use Rattle.desk_lines.specs.Told.{Stops}
 use Rattle.desk_lines.specs.Telling.{text_of, report_by, IsToldAs}
 use Rattle.desk_lines.proofs.AnswerLemmas.{same_as_told, record_lines-more}
-use Rattle.desk_lines.proofs.CutLemmas.{as_none, as_front}
+use Rattle.desk_lines.proofs.CutLemmas.{as_front}
 use Rattle.desk_lines.proofs.StreamLemmas.{WritesAll-nil, WritesAll-trans, StopsWriting-after}
 use Rattle.desk_lines.proofs.TellingLemmas.{text_of-append}
 use Rattle.desk_io.specs.declared.sink.Sink.{Ghosts as OfSink}
@@ -172,12 +171,6 @@ module _ {W : Type 0} (Answers : AnswerKind) (refuses : List ℕ → Bool) (sink
         are_told = front.3;
         stops = subst (λ (text : List ℕ). Stops sink start after fault text) (sym (text_of-append before_these.told left.told)) (stops_after before after fault (text_of before_these.told) (text_of left.told) before_these.writes left.stops);
       }
-
-  -- no line of this round has ended
-  pub Stands-no_more : (lines hand next : List (List ℕ)) (now : Standing) (writer : W) → hand ≡ [] → AreToldAs 4096 hand next → Stands Answers refuses sink start given lines now writer → Stands Answers refuses sink start given (lines ++ next) now writer
-  Stands-no_more lines hand next now writer none as_these stands =
-      let same : lines ++ next ≡ lines = ap (λ more. lines ++ more) (as_none 4096 next (subst (λ (ls : List (List ℕ)). AreToldAs 4096 ls next) none as_these)) ∙ append-nil lines in
-      subst (λ (ls : List (List ℕ)). Stands Answers refuses sink start given ls now writer) (sym same) stands
 
   -- they stand for another state that is the same
   pub Stands-at : (lines : List (List ℕ)) (old new : Standing) (writer : W) → new ≡ old → Stands Answers refuses sink start given lines old writer → Stands Answers refuses sink start given lines new writer

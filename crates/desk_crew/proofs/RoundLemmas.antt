@@ -8,7 +8,7 @@ use Rattle.desk_lines.specs.declared.fault.DeskFault.TheVariants.{Read, Write, M
 use Rattle.desk_lines.specs.Lines.{cut_of, ended_lines, lines, last_line}
 use Rattle.desk_lines.specs.Reading.{AreToldAs, kept, with_end}
 use Rattle.desk_lines.specs.Records.{AnswerKind}
-use Rattle.desk_lines.specs.Streams.{Gives, GivesAll, FailsOrGoesOn}
+use Rattle.desk_lines.specs.Streams.{Gives, FailsOrGoesOn}
 use Rattle.desk_lines.specs.Telling.{report_by}
 use Rattle.desk_lines.proofs.CutLemmas.{ended_lines-more, last_told}
 use Rattle.desk_lines.proofs.ReadingLemmas.{told_more, keeps_more}
@@ -101,10 +101,6 @@ module _ {R W : Type 0} (May : AnswerKind) (refuses : List ℕ → Bool) (source
   unread text held now reader writer between failed =
       let answered = between.stands.answered in
       record { failed = failed; text = text; told = answered.told; gives = between.gives; are_told = answered.are_told; writes = answered.writes }
-
-  -- the last line is answered
-  pub gives_all : (text held : List ℕ) (now : Standing) (reader : R) (writer : W) → IsBetween May refuses source sink from start given text held now reader writer → FindsEnd source from reader → GivesAll source from reader text
-  gives_all text held now reader writer between end = record { gives = between.gives; ended = end.ended; found = end.found; none_left = end.none_left; not_failed = end.not_failed }
 
   -- the answer to the last line stopped
   pub last_stopped : (text held : List ℕ) (now : Standing) (reader : R) (before after : W) (fault : DeskFault) → IsBetween May refuses source sink from start given text held now reader before → FindsEnd source from reader

@@ -14,7 +14,6 @@
 //! ```
 #![tactic(auto)]
 
-mod counting;
 mod crew;
 mod cut;
 mod reading;

@@ -4,7 +4,6 @@ ghost use Rattle.desk_lines.specs.Lines.{ended_lines};
 ghost use Rattle.desk_crew.specs.Shares.{AreLeft, AreWritten, IsShared, edge};
 ghost use Rattle.desk_crew.specs.declared.share.Share.{Share};
 
-use crate::counting::sum_of;
 use crate::share::Share;
 use desk_io::Sink;
 use desk_lines::{DeskFault, DeskReport, Responder, write_all};
@@ -85,7 +84,7 @@ fn write_shares<A: Responder + Send + Sync, W: Sink>(
         let Some(more) = share.report else {
             return Err(DeskFault::Memory);
         };
-        let sum = sum_of(*report, more)?;
+        let sum = report.plus(more)?;
         write_all(writer, share.answers.as_slice())?;
         *report = sum;
     }

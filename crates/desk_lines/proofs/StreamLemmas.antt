@@ -6,9 +6,7 @@ use Rattle.std.specs.Io.KnownBytes.{Consumes}
 use Rattle.std.proofs.KnownBytes.{Appends-nil, Appends-trans, Consumes-trans}
 use Rattle.desk_io.specs.declared.source.Source.{Ghosts as OfSource}
 use Rattle.desk_io.specs.declared.sink.Sink.{Ghosts as OfSink}
-use Rattle.desk_lines.specs.declared.fault.DeskFault.{DeskFault}
-use Rattle.desk_lines.specs.declared.fault.DeskFault.TheVariants.{Write}
-use Rattle.desk_lines.specs.Streams.{IsProperFront, WritesAll, StopsWriting, Writes, Gives}
+use Rattle.desk_lines.specs.Streams.{IsProperFront, WritesAll, StopsWriting, Gives}
 
 pub Gives-more : {R : Type 0} (source : OfSource R) (old mid new : R) (text bytes : List ℕ) → Gives source old mid text
     → source.given new ≡ source.given mid ++ bytes → Consumes (source.left mid) (source.left new) bytes → Gives source old new (text ++ bytes)
@@ -26,10 +24,6 @@ append-some (byte ∷ rest) more some = λ is. cc
 
 pub IsProperFront-more : (front text more : List ℕ) → IsProperFront front text → IsProperFront front (text ++ more)
 IsProperFront-more front text more is = (is.0 ++ more, ap (λ all. all ++ more) is.1 ∙ append_assoc front is.0 more, append-some is.0 more is.2)
-
-pub no_front_of_none : (front : List ℕ) → IsProperFront front [] → ⊥
-no_front_of_none [] is = is.2 (sym is.1)
-no_front_of_none (byte ∷ front) is = let no = is.1 in cc
 
 module _ {W : Type 0} (sink : OfSink W) where
   pub WritesAll-nil : (writer : W) → WritesAll sink writer writer []
@@ -76,9 +70,3 @@ err_at {T = T} {E = E} r P holds e is = subst (λ (s : Result T E). IfErr s P) i
 pub passed_on : {T E : Type 0} (r : Result T E) (given fault : E) → IsErrAnd r (λ f. f ≡ given) → r ≡ Err fault → given ≡ fault
 passed_on (Ok value) given fault passed is = absurd passed
 passed_on (Err told) given fault passed is = let same : told ≡ fault = cc in sym passed ∙ same
-
--- what holds where a write failed, at whatever error a writing has
-pub if_stopped : {W T : Type 0} (sink : OfSink W) (old new : W) (result : Result T DeskFault) (text : List ℕ) (P : DeskFault → Type 0) → Writes sink old new result text
-    → (StopsWriting sink old new text → P Write) → IfErr result P
-if_stopped sink old new (Ok value) text P writes stops = tt
-if_stopped sink old new (Err fault) text P writes stops = subst P (sym writes.0) (stops writes.1)

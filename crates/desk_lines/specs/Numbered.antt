@@ -1,12 +1,10 @@
 -- Answers with the numbers of their lines.
-use Rattle.std.specs.Prelude.{◌≡◌, ℕ, suc, List, [], ◌∷◌, ◌++◌, Bool, Option, is_some, if◌then◌else◌, codes, decimal, option_map}
+use Rattle.std.specs.Prelude.{◌≡◌, ℕ, suc, List, [], ◌∷◌, ◌++◌, Option, is_some, if◌then◌else◌, codes, decimal, option_map}
 use Rattle.riichi_hand.specs.declared.win.Rules.{Rules}
 use Rattle.desk_lines.specs.declared.records.Records.{Records}
-use Rattle.desk_lines.specs.LineAnswer.{answer_of}
-use Rattle.desk_lines.specs.LineAnswers.{answers_to}
 use Rattle.desk_lines.specs.Profile.{profile_of, rules_of, record_lines}
 use Rattle.desk_lines.specs.Records.{AnswerKind, rules_after}
-use Rattle.desk_lines.specs.Telling.{answers_in, text_by}
+use Rattle.desk_lines.specs.Telling.{answers_in}
 
 -- an answer with the number of its line
 abbrev pub with_number : ℕ → Option (List ℕ) → Option (ℕ × List ℕ)
@@ -42,23 +40,3 @@ words_front number = decimal number ++ codes ":"
 -- of an object the brace, and the number as its first member
 abbrev pub object_front : ℕ → List ℕ
 object_front number = codes "{\"line\":" ++ (decimal number ++ codes ",")
-
--- ---- the plain answers of a text, behind the numbers of their lines or without these
-
--- the answers to lines, each with the number of its line; the first line has this one
-abbrev pub numbered_from : Rules → ℕ → List (List ℕ) → List (ℕ × List ℕ)
-numbered_from rules number [] = []
-numbered_from rules number (line ∷ lines) = answers_in (with_number number (answer_of rules line)) ++ numbered_from rules (suc number) lines
-
--- the answers to the records among the lines of a stream, under its profile
-abbrev pub numbered_on : Rules → List (List ℕ) → List (ℕ × List ℕ)
-numbered_on given lines = numbered_from (rules_of given lines) (first_number lines) (record_lines lines)
-
--- the answers as they are written
-abbrev pub answers_shown : Bool → Rules → List (List ℕ) → List ℕ
-answers_shown is_numbered given lines =
-    if is_numbered then text_by (λ told. words_front told.0 ++ told.1) (numbered_on given lines) else answers_to given lines
-
--- what stands before the answer to the line of this number
-abbrev pub front_shown : Bool → ℕ → List ℕ
-front_shown is_numbered number = if is_numbered then words_front number else []

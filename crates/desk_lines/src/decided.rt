@@ -1,7 +1,6 @@
 //! Equality of faults and reports.
 ghost use Rattle.std.proofs.Common.{rules};
 
-use crate::answer_part::AnswerPart;
 use crate::fault::DeskFault;
 use crate::filling::Filled;
 use crate::report::DeskReport;
@@ -16,9 +15,5 @@ impl Decided for DeskReport {
 }
 
 impl Decided for Filled {
-    ghost decides = { λ a b. Prim.search rules };
-}
-
-impl Decided for AnswerPart {
     ghost decides = { λ a b. Prim.search rules };
 }

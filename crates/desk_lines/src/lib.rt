@@ -5,8 +5,7 @@
 //! and how many refused, or the [`DeskFault`] for which it gave up. [`json_text_with`] answers the same lines by objects of
 //! JSON, [`explain_text_with`] with the reasons, [`explain_json_text_with`] with these in the objects, and [`numbered_text_with`] in any of these ways behind the number of each line.
 //! [`replay_text`] does so with the commands of a
-//! script, over a desk of 64 tables. [`collect_text`] takes a text apart into [`AnswerSheet`]s of answer lines that are
-//! not made yet, [`texts_of`] makes them once their jobs have answers, and [`write_texts`] writes them.
+//! script, over a desk of 64 tables.
 //! `waits_answer` answers one hand, as the command `waits` prints it.
 //! `is_ready` says whether a hand is ready, and [`laws`] that its shanten and its waits agree on that.
 //!
@@ -23,9 +22,7 @@
 #![tactic(auto)]
 
 mod answer_lines;
-mod answer_part;
 mod answering;
-mod collecting;
 mod decided;
 mod explained;
 mod explaining;
@@ -51,17 +48,12 @@ mod report;
 mod responder;
 mod responding;
 mod scripts;
-mod sheet;
-mod sheet_texts;
-mod sheets;
 mod teller;
 mod text;
 mod told;
 mod waits;
 
-pub use answer_part::AnswerPart;
 pub use answering::Plain;
-pub use collecting::{Collected, collect_text};
 pub use explained::{EveryReading, Explained};
 pub use explaining::explain_text_with;
 pub use fault::DeskFault;
@@ -82,7 +74,5 @@ pub use responder::Responder;
 pub use riichi_explain::Shown;
 pub use riichi_hand::Rules;
 pub use riichi_shape::SuitMemo;
-pub use sheet::AnswerSheet;
-pub use sheet_texts::{texts_of, write_texts};
 pub use text::{desk_text, desk_text_with};
 pub use waits::{WaitsLine, waits_answer};

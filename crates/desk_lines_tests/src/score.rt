@@ -2,13 +2,11 @@
 use crate::facts::{holds, holds_in, same};
 use desk_io::{BytesIn, BytesOut};
 use desk_lines::DeskReport;
-use desk_score::{ScoreFault, Unwatched, Watch, score_text, score_text_with};
+use desk_score::{ScoreFault, score_text, score_text_with};
 use riichi_hand::Rules;
 use std::alloc::{AllocError, Global};
-use std::cell::Cell;
 use std::io::Print;
 use std::process::Abort;
-use std::sync::Wait;
 use std::test::Fail;
 use std::thread::Threads;
 
@@ -49,7 +47,7 @@ fn empty_readers(alloc: Global, count: usize) -> Result<Vec<BytesIn<'static>>, F
 }
 
 /// What is written, and the report on it.
-fn score<R: Threads + Wait + Sync + Abort>(
+fn score<R: Threads + Sync + Abort>(
     rt: &R,
     alloc: Global,
     readers: Vec<BytesIn<'_>>,
@@ -98,60 +96,13 @@ fn named_tables(rt: HostRuntime) -> Result<(), Fail> {
     ] {
         let readers = two_readers(alloc, FIRST, second)?;
         let mut writer: BytesOut<2048> = BytesOut::new(1000, None);
-        let told = score_text_with(
-            &rt,
-            alloc,
-            Rules::One,
-            Some(names),
-            readers,
-            2,
-            &Unwatched,
-            &mut writer,
-        );
+        let told = score_text_with(&rt, alloc, Rules::One, Some(names), readers, 2, &mut writer);
         let report = DeskReport {
             answered: 1,
             refused: 2,
         };
         holds(&rt, told == Ok(report));
         same(&rt, writer.bytes(), answers);
-    }
-    Ok(())
-}
-
-/// What was told last, and how often.
-#[derive(Drop)]
-struct Counted {
-    told: Cell<(u32, usize, usize)>,
-}
-
-impl Watch for Counted {
-    fn judged(&self, sheets: usize, of: usize) {
-        let (times, _, _) = self.told.get();
-        self.told.set((times.saturating_add(1), sheets, of));
-    }
-}
-
-/// A watch is told before anything is judged, and after each round of eight sheets: a table has one at least.
-#[test]
-fn a_watch_is_told(rt: HostRuntime) -> Result<(), Fail> {
-    let alloc = rt.alloc();
-    for (tables, told) in [(1, (2, 1, 1)), (8, (2, 8, 8)), (20, (4, 20, 20))] {
-        let watch = Counted {
-            told: Cell::new((0, 0, 0)),
-        };
-        let mut writer: BytesOut<2048> = BytesOut::new(1000, None);
-        let readers = empty_readers(alloc, tables)?;
-        let scored = score_text_with(
-            &rt,
-            alloc,
-            Rules::One,
-            None,
-            readers,
-            2,
-            &watch,
-            &mut writer,
-        );
-        holds(&rt, scored.is_ok() && watch.told.get() == told);
     }
     Ok(())
 }
@@ -240,9 +191,8 @@ fn a_failed_write(rt: HostRuntime) -> Result<(), Fail> {
     Ok(())
 }
 
-/// Whether the two tables are answered. Where memory is refused that is the fault, or a thread is not started, and
-/// nothing is written.
-fn is_scored(rt: &(impl Threads + Wait + Sync + Abort + Print), alloc: Global) -> bool {
+/// Whether the two tables are answered. Where memory is refused that is the fault, and nothing is written.
+fn is_scored(rt: &(impl Threads + Sync + Abort + Print), alloc: Global) -> bool {
     let Ok(readers) = two_readers(alloc, FIRST, b"") else {
         return false;
     };
@@ -253,9 +203,6 @@ fn is_scored(rt: &(impl Threads + Wait + Sync + Abort + Print), alloc: Global) -
             holds(rt, report.answered == 1 && report.refused == 1);
             same(rt, writer.bytes(), ANSWERS);
             return true;
-        }
-        Err(ScoreFault::Thread) => {
-            let _ = println!(rt; "a thread was refused");
         }
         Err(fault) => {
             holds_in(rt, &fault, fault == ScoreFault::Memory);

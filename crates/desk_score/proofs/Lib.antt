@@ -1,1 +1,3 @@
+pub mod JobLemmas
+pub mod NumberedLemmas
 pub mod ScoreLemmas

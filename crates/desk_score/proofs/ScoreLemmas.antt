@@ -3,16 +3,16 @@ use Rattle.std.proofs.Common.{◌≡◌, ℕ, ◌+◌, suc, List, [], ◌∷◌,
 use Rattle.std.proofs.lemmas.List.{append-nil, length-map, map-append}
 use Rattle.std.proofs.lemmas.List.Elements.{All-append, All-cons, All-head, All-tail}
 use Rattle.std.proofs.lemmas.List.Sums.{sum_by_push}
-use Rattle.std.specs.Prelude.{All, Option, None, Some, is_some}
+use Rattle.std.specs.Prelude.{All, Option, None, Some, is_some, option_map}
 use Rattle.desk_io.specs.declared.source.Source.{Ghosts as OfSource}
 use Rattle.riichi_hand.specs.declared.win.Rules.{Rules}
 use Rattle.desk_lines.specs.declared.report.DeskReport.{DeskReport}
 use Rattle.desk_lines.specs.LineAnswers.{report_on}
 use Rattle.desk_lines.specs.Lines.{lines}
-use Rattle.desk_lines.specs.Numbered.{answers_shown}
 use Rattle.desk_lines.specs.Streams.{GivesAll, IsReadWithin}
-use Rattle.desk_lines.specs.Tables.{tables_from}
-use Rattle.desk_score.specs.Score.{score_by, head_of, table_name, score_report, AllGive}
+use Rattle.desk_score.specs.Heads.{tables_from}
+use Rattle.desk_score.specs.Score.{score_by, head_of, score_report, AllGive}
+use Rattle.desk_score.specs.Shown.{answers_shown}
 
 module _ {R : Type 0} (source : OfSource R) where
   pub AllGive-last : (readers : List R) (texts : List (List ℕ)) (reader ended : R) (text : List ℕ) → AllGive source readers texts → GivesAll source reader ended text → IsReadWithin source reader ended
@@ -40,10 +40,10 @@ score_by-last names rules texts text =
     ap (tables_from (head_of names) 0) (map-append answers texts (text ∷ [])) ∙ tables_from-last (head_of names) 0 (map answers texts) (answers text)
     ∙ ap (λ n. score_by names rules texts ++ (head_of names n ++ answers text)) place
 
--- each table has a name where names are told
-pub table_name-is_some : (names : Option (List (List ℕ))) (number : ℕ) → is_some (table_name names number) ≡ is_some names
-table_name-is_some None number = refl
-table_name-is_some (Some names) number = refl
+-- what is told of names is told of each
+pub names-is_some : {X Y : Type 0} (of : X → Y) (names : Option X) → is_some (option_map of names) ≡ is_some names
+names-is_some of None = refl
+names-is_some of (Some names) = refl
 
 -- what holds of all holds of those before the last one, and of the last one
 module _ {X : Type 0} (P : X → Type 0) where

@@ -1,9 +1,7 @@
--- How the faults of a text and of a run are reported: as which fault of a score, by which code and words, with which exit status.
+-- How the faults of a text are reported: as which fault of a score, by which code and words, with which exit status.
 use Rattle.std.specs.Prelude.{ℕ, List, codes}
 use Rattle.desk_lines.specs.declared.fault.DeskFault.{DeskFault}
 use Rattle.desk_lines.specs.declared.fault.DeskFault.TheVariants as desk
-use Rattle.desk_run.specs.declared.run_fault.RunFault.{RunFault}
-use Rattle.desk_run.specs.declared.run_fault.RunFault.TheVariants as run
 use Rattle.desk_score.specs.declared.score_fault.ScoreFault.{ScoreFault}
 use Rattle.desk_score.specs.declared.score_fault.ScoreFault.TheVariants.{Read, Write, Memory, Range, Thread}
 
@@ -11,12 +9,6 @@ abbrev pub desk_fault : DeskFault → ScoreFault
 desk_fault desk.Read = Read
 desk_fault desk.Write = Write
 desk_fault desk.Memory = Memory
-
--- want of memory for the board is want of memory
-abbrev pub run_fault : RunFault → ScoreFault
-run_fault run.Range = Range
-run_fault run.Memory = Memory
-run_fault run.Thread = Thread
 
 -- the code of a fault
 abbrev pub code_of : ScoreFault → List ℕ

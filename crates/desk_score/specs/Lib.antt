@@ -1,4 +1,6 @@
 pub mod Faults
-pub mod Rounds
+pub mod Heads
+pub mod Jobs
 pub mod Score
+pub mod Shown
 pub mod Tables

@@ -7,10 +7,10 @@ use Rattle.desk_core.specs.declared.lane.TheConstants.{LIMIT}
 use Rattle.desk_lines.specs.declared.report.DeskReport.{DeskReport}
 use Rattle.desk_lines.specs.Lines.{lines}
 use Rattle.desk_lines.specs.LineAnswers.{answers, report_on}
-use Rattle.desk_lines.specs.Numbered.{answers_shown}
-use Rattle.desk_lines.specs.Outcomes.{jobs_of}
 use Rattle.desk_lines.specs.Streams.{GivesAll, FailsOrGoesOn, IsReadWithin}
-use Rattle.desk_lines.specs.Tables.{head_line, tables_from, tables_text}
+use Rattle.desk_score.specs.Heads.{head_line, tables_from, tables_text}
+use Rattle.desk_score.specs.Jobs.{jobs_of}
+use Rattle.desk_score.specs.Shown.{answers_shown}
 
 -- the answers to each text, behind the number of its table; a text that sets no profile has the given one
 abbrev pub tables_scored : Rules → List (List ℕ) → List ℕ
@@ -34,6 +34,10 @@ score_report given texts = record {
   answered = sum_by (λ text. (report_on given (lines text)).answered) texts;
   refused = sum_by (λ text. (report_on given (lines text)).refused) texts;
 }
+
+-- there are 1 to 64 readers, and 1 to 16 workers
+abbrev pub AreAllowed : ℕ → ℕ → Type 0
+AreAllowed readers workers = (1 ≤ readers) × (readers ≤ 64) × (1 ≤ workers) × (workers ≤ 16)
 
 -- no text has more jobs than a table may submit
 abbrev pub AreWithinLimit : Rules → List (List ℕ) → Type 0

@@ -1,6 +1,5 @@
 //! Why a score over several readers was given up.
 use desk_lines::DeskFault;
-use desk_run::RunFault;
 use std::alloc::AllocError;
 use thiserror::Error;
 
@@ -19,7 +18,7 @@ pub enum ScoreFault {
     /// There aren't 1 to 64 readers and 1 to 16 workers, or a reader has more than 1,000,000 jobs.
     #[error("B1: too many or too few tables, workers or jobs")]
     Range,
-    /// A worker could not be started.
+    /// A worker could not be started. No call of this crate ends so: where the system gives no thread, the calling one judges.
     #[error("B4: a worker could not be started")]
     Thread,
 }
@@ -78,21 +77,6 @@ impl From<DeskFault> for ScoreFault {
             DeskFault::Read => ScoreFault::Read,
             DeskFault::Write => ScoreFault::Write,
             DeskFault::Memory => ScoreFault::Memory,
-        }
-    }
-}
-
-impl From<RunFault> for ScoreFault {
-    ghost use Rattle.std.specs.Prelude.{◌≡◌};
-    ghost use Rattle.desk_score.specs.Faults.{run_fault};
-
-    ghost from_gives = { λ fault given. given ≡ run_fault fault };
-
-    fn from(fault: RunFault) -> ScoreFault {
-        match fault {
-            RunFault::Range => ScoreFault::Range,
-            RunFault::Memory => ScoreFault::Memory,
-            RunFault::Thread => ScoreFault::Thread,
         }
     }
 }

@@ -1,27 +1,28 @@
-//! What the tables ask, read to the end before anything is answered.
-ghost use Rattle.std.specs.Prelude.{◌≡◌, ◌↔◌, ◌≤◌, ◌<◌, ◌⊎◌, ℕ, List, [], ◌∷◌, ◌++◌, ◌+◌, length, IsTrue, OnOk, IfOk, IfErr, IsErrOf, Option, is_some, map, option_map};
+//! The answers to the texts of the tables, in memory.
+ghost use Rattle.std.specs.Prelude.{◌≡◌, ◌↔◌, ◌≤◌, ◌<◌, ℕ, List, [], ◌∷◌, ◌++◌, ◌+◌, length, IsTrue, OnOk, IfOk, IfErr, IsErrOf, Option, map, option_map};
 ghost use Rattle.riichi_hand.specs.declared.win.Rules.{Rules};
 ghost use Rattle.desk_lines.specs.Lines.{lines};
-ghost use Rattle.desk_lines.specs.Outcomes.{jobs_of};
 ghost use Rattle.desk_lines.specs.LineAnswers.{report_on};
-ghost use Rattle.desk_lines.specs.Numbered.{answers_shown};
-ghost use Rattle.desk_lines.specs.Sheets.{sheets_told};
 ghost use Rattle.desk_lines.specs.Streams.{FailsOrGoesOn, GivesAll, IsReadWithin};
-ghost use Rattle.desk_score.specs.Score.{AllGive, StopsReading, head_of, table_name};
-ghost use Rattle.desk_score.specs.Tables.{AreRead};
+ghost use Rattle.desk_score.specs.Score.{AllGive, StopsReading, table_name};
+ghost use Rattle.desk_score.specs.Shown.{answers_shown};
+ghost use Rattle.desk_score.specs.Tables.{AreAnswered, AreCounted};
 
+use crate::paper::Paper;
 use crate::score_fault::ScoreFault;
 use desk_core::LIMIT;
+use desk_crew::crew_text;
 use desk_io::Source;
-use desk_lines::{AnswerSheet, Collected, DeskReport, collect_text};
+use desk_lines::{DeskFault, DeskReport, Plain, SuitMemo, numbered_text_with};
 use riichi_hand::Rules;
 use std::alloc::Global;
+use std::thread::Threads;
 
-/// What the tables ask, in their order.
+/// The answers to the texts of the tables, in their order.
 #[derive(Drop)]
 pub(crate) struct Tables {
-    /// Their answer lines, behind the line with the number of each.
-    pub(crate) sheets: Vec<AnswerSheet>,
+    /// Those of each table stand behind the line with its number.
+    pub(crate) answers: Paper,
     /// How many tables there are.
     count: usize,
     /// Whether no table has more jobs than it may submit.
@@ -32,10 +33,11 @@ pub(crate) struct Tables {
 
 impl Tables {
     fn new(alloc: Global) -> Tables
-        ensures { (names : Option (List (List ℕ))) (given : Rules) → AreRead names given [] result }
+        ensures { (names : Option (List (List ℕ))) (given : Rules)
+            → AreAnswered names given [] result }
     {
         Tables {
-            sheets: Vec::new(alloc),
+            answers: Paper::new(alloc),
             count: 0,
             within_limit: true,
             report: DeskReport {
@@ -45,9 +47,12 @@ impl Tables {
         }
     }
 
-    /// Reads each reader to its end. Where names are given, the tables have these.
-    pub(crate) fn read<R: Source + Drop>(
+    /// Reads each reader to its end, and has its lines answered by so many threads. Where names are given, the tables have
+    /// these, and the answers the numbers of their lines.
+    pub(crate) fn answer<H: Threads + Sync, R: Source + Drop>(
+        rt: &H,
         alloc: Global,
+        workers: usize,
         rules: Rules,
         names: Option<&[&str]>,
         readers: Vec<R>,
@@ -55,7 +60,7 @@ impl Tables {
         ensures ok { let told =
             option_map (λ names. map (λ name. name.now) names.now) names.entry in
             IfOk result (λ tables. (texts : List (List ℕ))
-            × AllGive ⟦<R as Source>⟧ readers.items texts × AreRead told rules texts tables) }
+            × AllGive ⟦<R as Source>⟧ readers.items texts × AreAnswered told rules texts tables) }
         ensures read_failed { IsErrOf result ScoreFault.Read
             → StopsReading ⟦<R as Source>⟧ readers.items }
         ensures not_write { IsErrOf result ScoreFault.Write → ⊥ }
@@ -64,57 +69,85 @@ impl Tables {
     {
         let mut tables = Tables::new(alloc);
         for mut reader in readers {
-            tables.read_next(alloc, rules, names, &mut reader)?;
+            tables.answer_next(rt, alloc, workers, rules, names, &mut reader)?;
         }
         Ok(tables)
     }
 
-    /// Reads the reader of the next table to its end, and adds what it asks.
-    fn read_next<R: Source>(
+    /// Reads the reader of the next table to its end, and adds the answers.
+    fn answer_next<H: Threads + Sync, R: Source>(
         &mut self,
+        rt: &H,
         alloc: Global,
+        workers: usize,
         rules: Rules,
         names: Option<&[&str]>,
         reader: &mut R,
     ) -> Result<(), ScoreFault>
         ensures ok { let told =
             option_map (λ names. map (λ name. name.now) names.now) names.entry in
-            OnOk result ((texts : List (List ℕ)) → AreRead told rules texts self.old
+            OnOk result ((texts : List (List ℕ)) → AreAnswered told rules texts self.old
             → (text : List ℕ) × GivesAll ⟦<R as Source>⟧ reader.old reader.new text
-            × AreRead told rules (texts ++ text ∷ []) self.new) }
+            × AreAnswered told rules (texts ++ text ∷ []) self.new) }
         ensures read_failed { IsErrOf result ScoreFault.Read
             → FailsOrGoesOn ⟦<R as Source>⟧ reader.old reader.new }
-        ensures told_as_read { (IsErrOf result ScoreFault.Read → ⊥)
-            → R.failures reader.new ≡ R.failures reader.old }
         ensures not_write { IsErrOf result ScoreFault.Write → ⊥ }
         ensures not_range { IsErrOf result ScoreFault.Range → ⊥ }
         ensures not_thread { IsErrOf result ScoreFault.Thread → ⊥ }
         ensures reads { IsReadWithin ⟦<R as Source>⟧ reader.old reader.new }
     {
         let name = name_at(names, self.count);
-        let collected = collect_text(alloc, rules, self.count, name, reader)?;
-        self.add(collected)
+        self.answers.put_head(self.count, name)?;
+        let answers = &mut self.answers;
+        match answer_table(rt, alloc, workers, rules, names.is_some(), reader, answers) {
+            Ok(report) => self.count_table(report),
+            Err(DeskFault::Read) => Err(ScoreFault::Read),
+            // A write into memory fails where there is none.
+            Err(DeskFault::Write | DeskFault::Memory) => Err(ScoreFault::Memory),
+        }
     }
 
-    /// Adds what the next table asks. A count that its type doesn't hold finds no memory.
-    fn add(&mut self, collected: Collected) -> Result<(), ScoreFault>
-        ensures ok { OnOk result ((names : Option (List (List ℕ))) (given : Rules)
-            (texts : List (List ℕ)) (text : List ℕ)
-            → AreRead names given texts self.old
-            → sheets_told collected.sheets.items
-            ≡ head_of names (length texts) ++ answers_shown (is_some names) given (lines text)
-            → collected.report ≡ report_on given (lines text)
-            → collected.report.answered ≡ length (jobs_of given (lines text))
-            → AreRead names given (texts ++ text ∷ []) self.new) }
+    /// Counts the answers of the next table. A count that its type doesn't hold finds no memory.
+    fn count_table(&mut self, report: DeskReport) -> Result<(), ScoreFault>
+        ensures ok { OnOk result ((given : Rules) (texts : List (List ℕ)) (text : List ℕ)
+            → AreCounted given texts self.old
+            → report ≡ report_on given (lines text)
+            → AreCounted given (texts ++ text ∷ []) self.new) }
         ensures err { IfErr result (λ fault. fault ≡ ScoreFault.Memory) }
+        ensures same { self.new.answers ≡ self.old.answers }
     {
-        let Collected { mut sheets, report } = collected;
-        self.report = sum_of(self.report, report)?;
+        self.report = self.report.plus(report)?;
         self.count = one_more_table(self.count)?;
         self.within_limit = are_within_limit(self.within_limit, report.answered);
-        self.sheets.append(&mut sheets)?;
         Ok(())
     }
+}
+
+/// Reads the text of a table to its end, and puts the answers behind others: by so many threads, or, where they are wanted behind
+/// the numbers of their lines, by the calling one.
+fn answer_table<H: Threads + Sync, R: Source>(
+    rt: &H,
+    alloc: Global,
+    workers: usize,
+    rules: Rules,
+    is_numbered: bool,
+    reader: &mut R,
+    answers: &mut Paper,
+) -> Result<DeskReport, DeskFault>
+    ensures ok { IfOk result (λ report. (text : List ℕ)
+        × GivesAll ⟦<R as Source>⟧ reader.old reader.new text
+        × (answers.new.text.items
+        ≡ answers.old.text.items ++ answers_shown is_numbered rules (lines text))
+        × (report ≡ report_on rules (lines text))) }
+    ensures read_failed { IsErrOf result DeskFault.Read
+        → FailsOrGoesOn ⟦<R as Source>⟧ reader.old reader.new }
+    ensures reads { IsReadWithin ⟦<R as Source>⟧ reader.old reader.new }
+{
+    if is_numbered {
+        let mut rows = SuitMemo::new(alloc);
+        return numbered_text_with::<Plain, SuitMemo, R, Paper>(&mut rows, rules, reader, answers);
+    }
+    crew_text(rt, alloc, workers, rules, reader, answers)
 }
 
 /// The name of a table, where names are given. One that isn't among them is empty.
@@ -137,26 +170,6 @@ fn are_within_limit(others: bool, jobs: u64) -> bool
 
 /// The most tables of a count.
 const MOST_TABLES: usize = usize::MAX;
-
-/// The most lines of a count.
-const MOST_LINES: u64 = u64::MAX;
-
-/// Two counts together. Just where a `u64` doesn't hold one of them there is no memory.
-fn sum_of(one: DeskReport, other: DeskReport) -> Result<DeskReport, ScoreFault>
-    ensures ok { IfOk result (λ sum. (sum.answered ≡ one.answered + other.answered)
-        × (sum.refused ≡ one.refused + other.refused)) }
-    ensures err { IfErr result (λ fault. (fault ≡ ScoreFault.Memory)
-        × ((MOST_LINES < one.answered + other.answered)
-        ⊎ (MOST_LINES < one.refused + other.refused))) }
-{
-    match (
-        one.answered.checked_add(other.answered),
-        one.refused.checked_add(other.refused),
-    ) {
-        (Some(answered), Some(refused)) => Ok(DeskReport { answered, refused }),
-        _ => Err(ScoreFault::Memory),
-    }
-}
 
 /// One table more. Just where a `usize` doesn't hold their number there is no memory.
 fn one_more_table(tables: usize) -> Result<usize, ScoreFault>

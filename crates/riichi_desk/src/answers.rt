@@ -2,7 +2,7 @@
 use crate::codes::print_codes;
 use crate::failure::{Failure, report};
 use crate::files::{length_of, open_file};
-use crate::lines::answer_lines;
+use crate::lines::{Manner, answer_lines};
 use crate::noted::Notes;
 use crate::progress::{Progress, Terminals};
 use crate::rules::print_rules;
@@ -18,15 +18,15 @@ use std::alloc::{AllocError, Global};
 use std::env::{self, Env};
 use std::io::{self, Eprint, Input, Print};
 use std::rt::Files;
-use std::sync::Wait;
 use std::thread::Threads;
 use std::time::Clock;
 
 /// Reads the words, writes the answer, and returns the exit status: 1 where a line of the answer is a refusal. Where nobody
 /// reads the answer any more it ends quietly with 0.
-pub fn answer<
-    R: Input + Print + Eprint + Env + Files + Clock + AllocGlobal + Threads + Wait + Sync,
->(rt: &R, terminals: Terminals) -> u8 {
+pub fn answer<R: Input + Print + Eprint + Env + Files + Clock + AllocGlobal + Threads + Sync>(
+    rt: &R,
+    terminals: Terminals,
+) -> u8 {
     let words = match words_of(rt) {
         Ok(words) => words,
         Err(failure) => return report(rt, &failure),
@@ -61,10 +61,7 @@ fn words_of<R: Env + AllocGlobal>(rt: &R) -> Result<Vec<String>, Failure<'static
 }
 
 /// Carries out what the words ask for; the first is the name of the program.
-fn answer_words<
-    'a,
-    R: Input + Print + Eprint + Files + Clock + Threads + Wait + Sync + AllocGlobal,
->(
+fn answer_words<'a, R: Input + Print + Eprint + Files + Clock + Threads + Sync + AllocGlobal>(
     rt: &R,
     terminals: Terminals,
     notes: &Notes<'a>,
@@ -87,8 +84,8 @@ fn answer_words<
     answered
 }
 
-/// What shows how far the answers are. Where those to lines come to the terminal too, they show it themselves. That a score is
-/// read has no share of the whole that is known beforehand, so what it reads isn't measured.
+/// What shows how far the answers are. Where those to lines come to the terminal too, they show it themselves; those of a score
+/// come once all is judged.
 fn progress_of<'r, R: Eprint + Clock + Files>(
     rt: &'r R,
     terminals: Terminals,
@@ -103,18 +100,16 @@ fn progress_of<'r, R: Eprint + Clock + Files>(
             Progress::begin(rt, length_of(rt, *files))
         }
         Request::Score {
+            files,
             is_quiet: false,
             ..
-        } if terminals.has_errors => Progress::begin(rt, None),
+        } if terminals.has_errors => Progress::begin(rt, length_of(rt, *files)),
         _ => Progress::none(rt),
     }
 }
 
 /// Carries out a request.
-fn answer_request<
-    'a,
-    R: Input + Print + Eprint + Files + Clock + Threads + Wait + Sync + AllocGlobal,
->(
+fn answer_request<'a, R: Input + Print + Eprint + Files + Clock + Threads + Sync + AllocGlobal>(
     rt: &R,
     notes: &Notes<'a>,
     progress: &Progress<'_, R>,
@@ -129,16 +124,15 @@ fn answer_request<
             is_numbered,
             workers,
             ..
-        } => answer_lines(
-            rt,
-            notes,
-            progress,
-            lines,
-            form,
-            rules,
-            is_numbered,
-            workers,
-        ),
+        } => {
+            let manner = Manner {
+                form,
+                is_numbered,
+                workers,
+                rules,
+            };
+            answer_lines(rt, notes, progress, lines, manner)
+        }
         Request::HelpCodes => print_codes(rt, notes),
         Request::HelpRules => print_rules(rt, notes),
         Request::HelpYaku => print_yaku(rt, notes),

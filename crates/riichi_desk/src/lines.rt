@@ -17,14 +17,20 @@ use std::rt::Files;
 use std::thread::Threads;
 use std::time::Clock;
 
-/// Answers lines: in which form, behind their numbers or not, by how many threads where there are several, by which rules where
-/// they are given no others, with the rows that are kept, and where to.
+/// How lines are answered: in which form, behind their numbers or not, by how many threads where there are several, by which
+/// rules where they are given no others.
+#[derive(Clone, Copy)]
+pub struct Manner {
+    pub form: Form,
+    pub is_numbered: bool,
+    pub workers: Option<u32>,
+    pub rules: Rules,
+}
+
+/// Answers lines: how, with the rows that are kept, and where to.
 #[derive(Drop)]
 struct Answering<W> {
-    form: Form,
-    is_numbered: bool,
-    workers: Option<u32>,
-    rules: Rules,
+    manner: Manner,
     rows: SuitMemo,
     writer: W,
 }
@@ -35,16 +41,10 @@ pub fn answer_lines<'a, R: Input + Print + Eprint + Files + Clock + Threads + Sy
     notes: &Notes<'a>,
     progress: &Progress<'_, R>,
     lines: Lines<'_, 'a>,
-    form: Form,
-    rules: Rules,
-    is_numbered: bool,
-    workers: Option<u32>,
+    manner: Manner,
 ) -> Result<bool, Failure<'a>> {
     let mut answering = Answering {
-        form,
-        is_numbered,
-        workers,
-        rules,
+        manner,
         rows: SuitMemo::new(rt.alloc()),
         writer: ToWriter::new(notes.output(rt)),
     };
@@ -69,7 +69,7 @@ impl<W: Sink> Answering<W> {
         notes: &Notes<'a>,
         progress: &Progress<'_, R>,
     ) -> Result<bool, Failure<'a>> {
-        let lines = notes.lines(progress, "standard input", self.rules, rt.reader());
+        let lines = notes.lines(progress, "standard input", self.manner.rules, rt.reader());
         self.source(rt, &mut FromReader::new(lines))
     }
 
@@ -90,7 +90,7 @@ impl<W: Sink> Answering<W> {
                 let mut reader = FromReader::new(notes.lines(
                     progress,
                     file,
-                    self.rules,
+                    self.manner.rules,
                     open_file(rt, file)?,
                 ));
                 is_refused |= self.source(rt, &mut reader)?;
@@ -113,13 +113,13 @@ impl<W: Sink> Answering<W> {
         rt: &R,
         reader: &mut S,
     ) -> Result<bool, Failure<'a>> {
-        let report = match self.workers {
+        let report = match self.manner.workers {
             None | Some(1) => self.report(reader),
             Some(workers) => self.by_crew(rt, workers, reader),
         };
         match report {
             Ok(report) => Ok(report.refused > 0),
-            Err(fault) => Err(match self.form {
+            Err(fault) => Err(match self.manner.form {
                 Form::Reasons | Form::AllReasons | Form::JsonReasons => Failure::Explained(fault),
                 Form::Words | Form::Json => Failure::from(fault),
             }),
@@ -133,9 +133,9 @@ impl<W: Sink> Answering<W> {
         workers: u32,
         reader: &mut S,
     ) -> Result<DeskReport, DeskFault> {
-        let (alloc, workers, rules) = (rt.alloc(), workers as usize, self.rules);
+        let (alloc, workers, rules) = (rt.alloc(), workers as usize, self.manner.rules);
         let writer = &mut self.writer;
-        match self.form {
+        match self.manner.form {
             Form::Json => crew_text_by::<Objects, R, S, W>(
                 rt, alloc, workers, rules, reader, writer,
             ),
@@ -144,26 +144,26 @@ impl<W: Sink> Answering<W> {
     }
 
     fn report<S: Source>(&mut self, reader: &mut S) -> Result<DeskReport, DeskFault> {
-        if self.is_numbered {
+        if self.manner.is_numbered {
             return self.numbered(reader);
         }
         let (rows, writer) = (&mut self.rows, &mut self.writer);
-        match self.form {
-            Form::Words => desk_text_with(rows, self.rules, reader, writer),
-            Form::Json => json_text_with(rows, self.rules, reader, writer),
+        match self.manner.form {
+            Form::Words => desk_text_with(rows, self.manner.rules, reader, writer),
+            Form::Json => json_text_with(rows, self.manner.rules, reader, writer),
             Form::Reasons => {
-                explain_text_with(rows, self.rules, Shown::BestReading, reader, writer)
+                explain_text_with(rows, self.manner.rules, Shown::BestReading, reader, writer)
             }
             Form::AllReasons => {
-                explain_text_with(rows, self.rules, Shown::EveryReading, reader, writer)
+                explain_text_with(rows, self.manner.rules, Shown::EveryReading, reader, writer)
             }
-            Form::JsonReasons => explain_json_text_with(rows, self.rules, reader, writer),
+            Form::JsonReasons => explain_json_text_with(rows, self.manner.rules, reader, writer),
         }
     }
 
     fn numbered<S: Source>(&mut self, reader: &mut S) -> Result<DeskReport, DeskFault> {
-        let (rows, rules, writer) = (&mut self.rows, self.rules, &mut self.writer);
-        match self.form {
+        let (rows, rules, writer) = (&mut self.rows, self.manner.rules, &mut self.writer);
+        match self.manner.form {
             Form::Words => numbered_text_with::<Plain, SuitMemo, S, W>(rows, rules, reader, writer),
             Form::Json => numbered_text_with::<Members, SuitMemo, S, W>(
                 rows, rules, reader, writer,

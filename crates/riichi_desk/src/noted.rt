@@ -111,7 +111,7 @@ impl<R: Read> Read for Noted<'_, '_, R> {
 }
 
 /// A reader of record lines: its failures are noted, a line that looks like a profile line and is none is told on standard
-/// error, and how far it is read is shown there.
+/// error, and how far it is read is shown there, up to its end.
 #[derive(Drop)]
 pub struct Watched<'n, 'a, R, T> {
     reader: Noted<'n, 'a, T>,
@@ -150,6 +150,8 @@ impl<R: Eprint + Clock, T: Read> Read for Watched<'_, '_, R, T> {
         if count > 0 {
             let lines = self.watch.ended().saturating_sub(ended);
             self.progress.read(count, lines);
+        } else {
+            self.progress.wipe();
         }
         Ok(count)
     }

@@ -1,6 +1,5 @@
 //! How far the program is, shown on a terminal.
 use desk_cli::Reached;
-use desk_score::Watch;
 use std::cell::Cell;
 use std::io::Eprint;
 use std::time::{Clock, Instant};
@@ -26,8 +25,6 @@ struct Course {
     lines: u64,
     bytes: u64,
     whole: Option<u64>,
-    /// When all was read, and judging began.
-    judges_from: u64,
     /// When a line may be shown next.
     next: u64,
     is_shown: bool,
@@ -59,7 +56,6 @@ impl<'r, R: Eprint + Clock> Progress<'r, R> {
                 lines: 0,
                 bytes: 0,
                 whole,
-                judges_from: 0,
                 next: SILENCE,
                 is_shown: false,
             }),
@@ -109,29 +105,6 @@ impl<'r, R: Eprint + Clock> Progress<'r, R> {
     }
 }
 
-impl<R: Eprint + Clock> Watch for Progress<'_, R> {
-    /// The lines of what was judged are taken to be as many as its share of all. The answers are written once all is judged, so
-    /// the line is wiped then.
-    fn judged(&self, sheets: usize, of: usize) {
-        if let Some(mut course) = self.course.get() {
-            let millis = course.millis(self.rt);
-            if sheets == 0 {
-                course.judges_from = millis;
-                course.next = SILENCE;
-                self.course.set(Some(course));
-            } else if sheets < of {
-                self.show(
-                    course,
-                    millis,
-                    course.judged_in(millis, sheets as u64, of as u64),
-                );
-            } else {
-                self.wipe();
-            }
-        }
-    }
-}
-
 impl Course {
     /// Now. Where the clock can't be read no time has passed.
     fn millis(&self, clock: &impl Clock) -> u64 {
@@ -147,17 +120,6 @@ impl Course {
             millis,
             done: self.bytes,
             whole: self.whole,
-        }
-    }
-
-    fn judged_in(&self, millis: u64, sheets: u64, of: u64) -> Reached {
-        let lines = u128::from(self.lines) * u128::from(sheets);
-        let lines = lines.checked_div(u128::from(of)).unwrap_or(0);
-        Reached {
-            lines: u64::try_from(lines).unwrap_or(self.lines),
-            millis: millis.saturating_sub(self.judges_from),
-            done: sheets,
-            whole: Some(of),
         }
     }
 }

@@ -8,7 +8,6 @@ use desk_lines::Rules;
 use desk_score::{ScoreFault, score_text_with};
 use std::io::{Eprint, Print};
 use std::rt::Files;
-use std::sync::Wait;
 use std::thread::Threads;
 use std::time::Clock;
 
@@ -17,7 +16,7 @@ const MOST_FILES: usize = 64;
 
 /// Answers the record lines of files on standard output, table by table, where it is wanted with the names of the files and
 /// the numbers of their lines: whether a line is refused.
-pub fn score_files<'a, R: Files + Print + Eprint + Clock + Threads + Wait + Sync + AllocGlobal>(
+pub fn score_files<'a, R: Files + Print + Eprint + Clock + Threads + Sync + AllocGlobal>(
     rt: &R,
     notes: &Notes<'a>,
     progress: &Progress<'_, R>,
@@ -32,16 +31,7 @@ pub fn score_files<'a, R: Files + Print + Eprint + Clock + Threads + Wait + Sync
     let readers = open_files(rt, notes, progress, rules, files)?;
     let mut writer = ToWriter::new(notes.output(rt));
     let names = if is_numbered { Some(files) } else { None };
-    let report = score_text_with(
-        rt,
-        rt.alloc(),
-        rules,
-        names,
-        readers,
-        workers,
-        progress,
-        &mut writer,
-    )?;
+    let report = score_text_with(rt, rt.alloc(), rules, names, readers, workers, &mut writer)?;
     Ok(report.refused > 0)
 }
 

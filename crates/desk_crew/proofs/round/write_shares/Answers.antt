@@ -15,7 +15,7 @@ use Rattle.desk_crew.specs.declared.share.Share.{Share}
 use Rattle.desk_crew.specs.Shares.{AreCounted, IsShared, edge, lines_between, both_reports}
 use Rattle.desk_crew.proofs.ShareLemmas.{both-none, both_from, both-append, both-assoc, shared_some, left_at, share_on}
 use Rattle.desk_crew.proofs.round.write_shares.Given.{Over}
-use Rattle.desk_crew.proofs.round.write_shares.Goals.{After-sum_of}
+use Rattle.desk_crew.proofs.round.write_shares.Goals.{After-plus}
 use Rattle.desk_crew.proofs.round.write_shares.Goals as goal
 
 pub loop-place-init : goal.loop-place-init
@@ -38,11 +38,11 @@ pub returns-in_err-sum-clause-left : goal.returns-in_err-sum-clause-left
 returns-in_err-sum-clause-left g c =
     let so_far = c.loop-place.invariant in
     let p = err_from_is_err_and c.from_residual.result c.from_residual.ensures.1 in
-    let stops = subst (λ (fault : DeskFault). Stops g.W.Sink c.args.writer.now c.loop-place.writer fault (text_of so_far.0)) (sym c.in_err-sum.ensures.err) so_far.1.writes in
+    let stops = subst (λ (fault : DeskFault). Stops g.W.Sink c.args.writer.now c.loop-place.writer fault (text_of so_far.0)) (sym c.in_err-sum.ensures.err.0) so_far.1.writes in
     rw (p.1, p.2) (left_at g.A.Responder.may_tell g.W.Sink c.args.writer.now c.loop-place.writer c.args.rules c.args.text.now (edge c.args.text.now c.args.size c.loop-place.place) so_far.0 c.in_err-sum.field-0.0 (omega arith) so_far.1.are_told stops)
 
 -- the share at this place is answered
-answered : (g : Over) (c : After-sum_of g) → AreCounted g.A.Responder.may_tell g.A.Responder.refuses c.args.rules
+answered : (g : Over) (c : After-plus g) → AreCounted g.A.Responder.may_tell g.A.Responder.refuses c.args.rules
     (lines_between c.args.text.now (edge c.args.text.now c.args.size c.loop-place.place) (edge c.args.text.now c.args.size (c.loop-place.place + 1))) c.index-shares-place.result.answers.items c.in-Some.more
 answered g c =
     let share = c.index-shares-place.result in
@@ -54,7 +54,7 @@ pub returns-in_err-write_all-clause-left : goal.returns-in_err-write_all-clause-
 returns-in_err-write_all-clause-left g c =
     let so_far = c.loop-place.invariant in
     let told = so_far.0 in
-    let more = answered g (goal.at.returns-in_err-write_all-clause-left g c).After-sum_of in
+    let more = answered g (goal.at.returns-in_err-write_all-clause-left g c).After-plus in
     let sink = g.W.Sink in
     let old = c.args.writer.now in
     let new = c.write_all.new.writer in
@@ -71,7 +71,7 @@ loop-place-preserved g c =
     let so_far = c.loop-place.invariant in
     let told = so_far.0 in
     let refuses = g.A.Responder.refuses in
-    let more = answered g (goal.at.loop-place-preserved g c).After-sum_of in
+    let more = answered g (goal.at.loop-place-preserved g c).After-plus in
     let sink = g.W.Sink in
     let old = c.args.writer.now in
     let new = c.write_all.new.writer in

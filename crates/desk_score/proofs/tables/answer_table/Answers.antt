@@ -1,0 +1,14 @@
+use Rattle.std.proofs.Common.{◌∙◌, ◌++◌, ap}
+use Rattle.std.proofs.lemmas.Result.{MatchResult-weaker}
+use Rattle.desk_lines.specs.Lines.{lines}
+use Rattle.desk_score.proofs.NumberedLemmas.{numbers_shown, numbers_counted}
+use Rattle.desk_score.proofs.tables.answer_table.Goals as goal
+
+pub returns-then-is_numbered-clause-ok : goal.returns-then-is_numbered-clause-ok
+returns-then-is_numbered-clause-ok g c = rw c.if-is_numbered.true (MatchResult-weaker c.numbered_text_with.result c.numbered_text_with.ensures.ok (λ report ok.
+    let shown = numbers_shown c.args.rules (lines ok.0) ok.1 ok.3 in
+    (ok.0, ok.2, ok.5.appended ∙ ap (λ text. c.args.answers.now.text.items ++ text) shown, ok.6 ∙ numbers_counted c.args.rules (lines ok.0) ok.1 ok.4))
+    (λ fault told. told))
+
+pub returns-clause-ok : goal.returns-clause-ok
+returns-clause-ok g c = rw c.if-is_numbered.false (MatchResult-weaker c.crew_text.result c.crew_text.ensures.ok (λ report ok. (ok.0, ok.1, ok.2.appended, ok.3)) (λ fault told. told))
