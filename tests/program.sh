@@ -413,7 +413,7 @@ head -n 1000000 "$room/many" > "$room/most"
 told 'a score of 1,000,000 hands' "$({ echo 'table 0'; yes 'waits 123456789m' | head -n 1000000; } | sha256sum)" "$("$program" score "$room/most" 2> "$room/said" | sha256sum)"
 rm "$room/most"
 told 'a score without memory' $'riichi_desk: fault F3\nstatus 4' "$(ulimit -v 60000; "$program" score "$room/many" 2>&1; echo "status $?")"
-told 'a score without a thread' "$("$program" score "$room/first")"$'\nstatus 0' "$(ulimit -v 30000; "$program" score --workers 4 "$room/first" 2>&1; echo "status $?")"
+told 'a score without a thread' "$("$program" score "$room/first")"$'\nstatus 1' "$(ulimit -v 30000; "$program" score --workers 4 "$room/first" 2>&1; echo "status $?")"
 told 'a full disk at the end of a score' "riichi_desk: fault F2
 $full
 status 3" "$("$program" score "$room/first" 2>&1 > /dev/full; echo "status $?")"

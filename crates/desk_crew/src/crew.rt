@@ -2,7 +2,7 @@
 ghost use Rattle.std.specs.Prelude.{◌≡◌, ◌+◌, ◌<◌, ◌≤◌, ◌++◌, ℕ, List, [], None, length, IfOk, IfErr, OnOk};
 ghost use Rattle.desk_lines.specs.Lines.{ended_lines, lines};
 ghost use Rattle.desk_lines.specs.Reading.{AreToldAs, kept, with_end};
-ghost use Rattle.desk_lines.specs.Streams.{Gives, IsReadWithin};
+ghost use Rattle.desk_lines.specs.Streams.{Gives, GivesAll, IsReadWithin};
 ghost use Rattle.desk_lines.specs.Telling.{report_of};
 ghost use Rattle.desk_crew.specs.Crew.{Stands, Stopped, IsAnswered, IsBetween, IsGivenUp, IsLeft};
 ghost use Rattle.desk_crew.specs.Reading.{FindsEnd, IsReadOn, IsStop};
@@ -22,14 +22,23 @@ use std::thread::Threads;
 /// and one byte that shows a longer line.
 const HELD: usize = 8_194;
 
+/// The most threads.
+const MOST_WORKERS: usize = 16;
+
+/// What one thread more takes of a round's bytes, since it keeps rows of its own.
+const EACH: usize = 65_536;
+
 /// After so many reads with no end the reader counts as failed.
 const MOST_READS: u64 = 4_294_967_295;
 
-/// A stream on its way.
+/// The threads that answer streams, one after another, with what each keeps: rows of suits, and rooms. Of a stream on its way it
+/// has how far it is.
 #[derive(Drop)]
-pub(crate) struct Crew {
+pub struct Crew {
     standing: Standing,
     shares: Vec<Share>,
+    /// A round reads until it has so many bytes or more.
+    enough: usize,
     /// The text at hand.
     text: Vec<u8>,
     /// The front of the line that has not ended.
@@ -41,12 +50,15 @@ pub(crate) struct Crew {
 }
 
 impl Crew {
-    /// So many threads, before the first read.
-    pub(crate) fn new(alloc: Global, workers: usize) -> Result<Crew, AllocError>
+    /// 1 to 16 threads; another number stands for the nearest of these.
+    pub fn new(alloc: Global, workers: usize) -> Result<Crew, AllocError> {
+        let workers = workers.clamp(1, MOST_WORKERS);
+        Crew::of(alloc, workers, (2 * MOST_WORKERS - workers) * EACH)
+    }
+
+    /// So many threads, and rounds of so many bytes or more.
+    pub(crate) fn of(alloc: Global, workers: usize, enough: usize) -> Result<Crew, AllocError>
         requires { 1 ≤ workers }
-        ensures { IfOk result (λ crew. (crew.standing.profile ≡ None)
-            × (crew.standing.report ≡ report_of [])
-            × (crew.held.items ≡ []) × (crew.left ≡ MOST_READS)) }
     {
         let mut shares = Vec::new(alloc);
         while shares.len() < workers {
@@ -55,17 +67,49 @@ impl Crew {
         Ok(Crew {
             standing: Standing::new(),
             shares,
+            enough,
             text: Vec::new(alloc),
             held: Vec::new(alloc),
             left: MOST_READS,
         })
     }
 
-    /// Answers the lines of a reader that have ended, up to its end. A round reads until it has so many bytes or more.
-    pub(crate) fn rounds<A: Responder + Send + Sync, H: Threads + Sync, R: Source, W: Sink>(
+    /// Answers the record lines of a stream by one kind of answer, as [`crew_text_by`](crate::crew_text_by) does.
+    pub fn answer_text<A: Responder + Send + Sync, H: Threads + Sync, R: Source, W: Sink>(
         &mut self,
         rt: &H,
-        enough: usize,
+        given: Rules,
+        reader: &mut R,
+        writer: &mut W,
+    ) -> Result<DeskReport, DeskFault>
+        ensures ok { IfOk result (λ report. (text : List ℕ)
+            × GivesAll ⟦<R as Source>⟧ reader.old reader.new text
+            × IsAnswered A.may_tell A.refuses ⟦<W as Sink>⟧ writer.old writer.new
+            given (lines text) report) }
+        ensures err { IfErr result (IsLeft A.may_tell ⟦<R as Source>⟧ ⟦<W as Sink>⟧
+            reader.old reader.new writer.old writer.new given) }
+        ensures reads { IsReadWithin ⟦<R as Source>⟧ reader.old reader.new }
+    {
+        self.begin();
+        self.rounds::<A, H, R, W>(rt, given, reader, writer)?;
+        self.end::<A, H, W>(rt, given, writer)
+    }
+
+    /// Before the first read of a stream.
+    fn begin(&mut self)
+        ensures new { (self.new.standing.profile ≡ None)
+            × (self.new.standing.report ≡ report_of []) }
+        ensures none { (self.new.held.items ≡ []) × (self.new.left ≡ MOST_READS) }
+    {
+        self.standing = Standing::new();
+        self.held.clear();
+        self.left = MOST_READS;
+    }
+
+    /// Answers the lines of a reader that have ended, up to its end.
+    fn rounds<A: Responder + Send + Sync, H: Threads + Sync, R: Source, W: Sink>(
+        &mut self,
+        rt: &H,
         given: Rules,
         reader: &mut R,
         writer: &mut W,
@@ -83,7 +127,7 @@ impl Crew {
         ensures reads { IsReadWithin ⟦<R as Source>⟧ reader.old reader.new }
     {
         loop {
-            let stop = self.turn::<A, H, R, W>(rt, enough, given, reader, writer)?;
+            let stop = self.turn::<A, H, R, W>(rt, given, reader, writer)?;
             match stop {
                 Stop::Full => {}
                 Stop::Failed => return Err(DeskFault::Read),
@@ -96,7 +140,6 @@ impl Crew {
     fn turn<A: Responder + Send + Sync, H: Threads + Sync, R: Source, W: Sink>(
         &mut self,
         rt: &H,
-        enough: usize,
         given: Rules,
         reader: &mut R,
         writer: &mut W,
@@ -116,14 +159,14 @@ impl Crew {
         ensures calls { R.calls reader.new + self.new.left ≡ R.calls reader.old + self.old.left }
         ensures fewer { IfOk result (λ stop. stop ≡ Stop.Full → self.new.left < self.old.left) }
     {
-        let stop = self.read(enough, reader)?;
+        let stop = self.read(reader)?;
         self.answer::<A, H, W>(rt, given, writer)?;
         self.hold()?;
         Ok(stop)
     }
 
     /// Answers the last line, where it has no line feed.
-    pub(crate) fn end<A: Responder + Send + Sync, H: Threads + Sync, W: Sink>(
+    fn end<A: Responder + Send + Sync, H: Threads + Sync, W: Sink>(
         &mut self,
         rt: &H,
         given: Rules,
@@ -147,7 +190,7 @@ impl Crew {
     }
 
     /// Reads behind what is held.
-    fn read<R: Source>(&mut self, enough: usize, reader: &mut R) -> Result<Stop, AllocError>
+    fn read<R: Source>(&mut self, reader: &mut R) -> Result<Stop, AllocError>
         ensures ok { IfOk result (IsReadOn ⟦<R as Source>⟧ reader.old reader.new
             self.old.held.items self.new.text.items self.new.left) }
         ensures err { IfErr result (λ _. (bytes : List ℕ)
@@ -158,7 +201,7 @@ impl Crew {
     {
         self.text.clear();
         self.text.extend_from_slice(self.held.as_slice())?;
-        read_round(reader, &mut self.text, enough, &mut self.left)
+        read_round(reader, &mut self.text, self.enough, &mut self.left)
     }
 
     /// Ends the line that is held.

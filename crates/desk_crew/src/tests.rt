@@ -3,7 +3,7 @@ ghost use Rattle.std.specs.Prelude.{◌<◌};
 
 mod facts;
 
-use super::text::by_rounds;
+use super::text::answered_by;
 use super::*;
 use desk_io::{BytesIn, BytesOut};
 use desk_lines::{DeskFault, DeskReport, Objects, Plain, desk_text};
@@ -38,11 +38,10 @@ fn as_one<H: Threads + Sync + Abort>(
     for (workers, enough) in [(1, 1), (2, 100), (4, 5_000), (16, 40)] {
         let mut reader = BytesIn::new(text, most, None);
         let mut many: Room = BytesOut::new(1_000, None);
-        let told = by_rounds::<Plain, H, BytesIn, Room>(
+        let crew = Crew::of(alloc, workers, enough);
+        let told = answered_by::<Plain, H, BytesIn, Room>(
+            crew,
             rt,
-            alloc,
-            workers,
-            enough,
             Rules::One,
             &mut reader,
             &mut many,
@@ -142,6 +141,34 @@ fn objects(rt: HostRuntime) -> Result<(), Fail> {
     Ok(())
 }
 
+/// A crew answers one text after another, each as if it were alone: under its own profile, and from its own first line on.
+#[test]
+fn one_after_another(rt: HostRuntime) -> Result<(), Fail> {
+    let mut crew = Crew::new(rt.alloc(), 3)?;
+    for (text, answers) in [
+        (
+            b"rules 2\nwin 123406789m22s34p on=2p by=ron seat=S round=E".as_slice(),
+            b"won 4 han 30 fu 8000 gain 8000 pinfu pure-straight dora 1\n".as_slice(),
+        ),
+        (
+            b"win 123406789m22s34p on=2p by=ron seat=S round=E\n",
+            b"won 3 han 30 fu 3900 gain 3900 pinfu pure-straight\n",
+        ),
+    ] {
+        let mut reader = BytesIn::new(text, 10, None);
+        let mut writer: Room = BytesOut::new(1_000, None);
+        let told = crew.answer_text::<Plain, HostRuntime, BytesIn, Room>(
+            &rt,
+            Rules::One,
+            &mut reader,
+            &mut writer,
+        );
+        holds(&rt, told.is_ok());
+        same(&rt, writer.bytes(), answers);
+    }
+    Ok(())
+}
+
 /// Where one request for memory is refused a front of the answers was written, and the second call has it.
 #[test]
 fn a_request_refused_at_the_call(rt: HostRuntime) {
@@ -156,11 +183,10 @@ fn is_answered<H: Threads + Sync + Abort>(rt: &H, alloc: Global) -> bool {
         b"waits 123456789m\nrefused N5 hand at 0\nshanten 0 discard 8p accepts 2p:4 5p:4 live 8\nwaits 123456789m\n".as_slice();
     let mut reader = BytesIn::new(text, 30, None);
     let mut writer: Room = BytesOut::new(1_000, None);
-    let told = by_rounds::<Plain, H, BytesIn, Room>(
+    let crew = Crew::of(alloc, 3, 40);
+    let told = answered_by::<Plain, H, BytesIn, Room>(
+        crew,
         rt,
-        alloc,
-        3,
-        40,
         Rules::One,
         &mut reader,
         &mut writer,

@@ -11,14 +11,8 @@ use crate::crew::Crew;
 use desk_io::{Sink, Source};
 use desk_lines::{DeskFault, DeskReport, Plain, Responder};
 use riichi_hand::Rules;
-use std::alloc::Global;
+use std::alloc::{AllocError, Global};
 use std::thread::Threads;
-
-/// The most threads.
-const MOST_WORKERS: usize = 16;
-
-/// What one thread more takes of a round's bytes, since it keeps rows of its own.
-const EACH: usize = 65_536;
 
 /// The answers that `desk_text` gives, by 1 to 16 threads; another number stands for the nearest of these.
 pub fn crew_text<H: Threads + Sync, R: Source, W: Sink>(
@@ -94,22 +88,17 @@ pub fn crew_text_by<A: Responder + Send + Sync, H: Threads + Sync, R: Source, W:
         reader.old reader.new writer.old writer.new rules DeskFault.Memory }
     ensures reads { IsReadWithin ⟦<R as Source>⟧ reader.old reader.new }
 {
-    let workers = workers.clamp(1, MOST_WORKERS);
-    let enough = (2 * MOST_WORKERS - workers) * EACH;
-    by_rounds::<A, H, R, W>(rt, alloc, workers, enough, rules, reader, writer)
+    answered_by::<A, H, R, W>(Crew::new(alloc, workers), rt, rules, reader, writer)
 }
 
-/// The same, where a round reads until it has so many bytes or more.
-pub(crate) fn by_rounds<A: Responder + Send + Sync, H: Threads + Sync, R: Source, W: Sink>(
+/// The same by a crew, where there was memory for one.
+pub(crate) fn answered_by<A: Responder + Send + Sync, H: Threads + Sync, R: Source, W: Sink>(
+    crew: Result<Crew, AllocError>,
     rt: &H,
-    alloc: Global,
-    workers: usize,
-    enough: usize,
     rules: Rules,
     reader: &mut R,
     writer: &mut W,
 ) -> Result<DeskReport, DeskFault>
-    requires { 1 ≤ workers }
     ensures ok { IfOk result (λ report. (text : List ℕ)
         × GivesAll ⟦<R as Source>⟧ reader.old reader.new text
         × IsAnswered A.may_tell A.refuses ⟦<W as Sink>⟧ writer.old writer.new
@@ -118,7 +107,6 @@ pub(crate) fn by_rounds<A: Responder + Send + Sync, H: Threads + Sync, R: Source
         reader.old reader.new writer.old writer.new rules) }
     ensures reads { IsReadWithin ⟦<R as Source>⟧ reader.old reader.new }
 {
-    let mut crew = Crew::new(alloc, workers)?;
-    crew.rounds::<A, H, R, W>(rt, enough, rules, reader, writer)?;
-    crew.end::<A, H, W>(rt, rules, writer)
+    let mut crew = crew?;
+    crew.answer_text::<A, H, R, W>(rt, rules, reader, writer)
 }

@@ -5,7 +5,7 @@
 //! answered and how many refused, or the [`ScoreFault`] for which it gave up. [`score_text_with`] also names the tables and
 //! numbers the answers.
 //!
-//! Inside, `Tables` has the answers in memory, as a sink to `desk_crew::crew_text`, which answers one text by many threads.
+//! Inside, `Tables` has the answers in memory, as a sink to a `desk_crew::Crew`, whose threads answer one text after another.
 //! All is written at the end, in one piece.
 //!
 //! ```text

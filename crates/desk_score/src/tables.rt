@@ -11,16 +11,18 @@ ghost use Rattle.desk_score.specs.Tables.{AreAnswered, AreCounted};
 use crate::paper::Paper;
 use crate::score_fault::ScoreFault;
 use desk_core::LIMIT;
-use desk_crew::crew_text;
+use desk_crew::Crew;
 use desk_io::Source;
 use desk_lines::{DeskFault, DeskReport, Plain, SuitMemo, numbered_text_with};
 use riichi_hand::Rules;
-use std::alloc::Global;
+use std::alloc::{AllocError, Global};
 use std::thread::Threads;
 
 /// The answers to the texts of the tables, in their order.
 #[derive(Drop)]
 pub(crate) struct Tables {
+    /// Who answers.
+    crew: Crew,
     /// Those of each table stand behind the line with its number.
     pub(crate) answers: Paper,
     /// How many tables there are.
@@ -32,11 +34,12 @@ pub(crate) struct Tables {
 }
 
 impl Tables {
-    fn new(alloc: Global) -> Tables
-        ensures { (names : Option (List (List ℕ))) (given : Rules)
-            → AreAnswered names given [] result }
+    fn new(alloc: Global, workers: usize) -> Result<Tables, AllocError>
+        ensures { IfOk result (λ tables. (names : Option (List (List ℕ))) (given : Rules)
+            → AreAnswered names given [] tables) }
     {
-        Tables {
+        Ok(Tables {
+            crew: Crew::new(alloc, workers)?,
             answers: Paper::new(alloc),
             count: 0,
             within_limit: true,
@@ -44,7 +47,7 @@ impl Tables {
                 answered: 0,
                 refused: 0,
             },
-        }
+        })
     }
 
     /// Reads each reader to its end, and has its lines answered by so many threads. Where names are given, the tables have
@@ -67,9 +70,9 @@ impl Tables {
         ensures not_range { IsErrOf result ScoreFault.Range → ⊥ }
         ensures not_thread { IsErrOf result ScoreFault.Thread → ⊥ }
     {
-        let mut tables = Tables::new(alloc);
+        let mut tables = Tables::new(alloc, workers)?;
         for mut reader in readers {
-            tables.answer_next(rt, alloc, workers, rules, names, &mut reader)?;
+            tables.answer_next(rt, alloc, rules, names, &mut reader)?;
         }
         Ok(tables)
     }
@@ -79,7 +82,6 @@ impl Tables {
         &mut self,
         rt: &H,
         alloc: Global,
-        workers: usize,
         rules: Rules,
         names: Option<&[&str]>,
         reader: &mut R,
@@ -98,8 +100,8 @@ impl Tables {
     {
         let name = name_at(names, self.count);
         self.answers.put_head(self.count, name)?;
-        let answers = &mut self.answers;
-        match answer_table(rt, alloc, workers, rules, names.is_some(), reader, answers) {
+        let (crew, answers) = (&mut self.crew, &mut self.answers);
+        match answer_table(rt, alloc, crew, rules, names.is_some(), reader, answers) {
             Ok(report) => self.count_table(report),
             Err(DeskFault::Read) => Err(ScoreFault::Read),
             // A write into memory fails where there is none.
@@ -123,12 +125,12 @@ impl Tables {
     }
 }
 
-/// Reads the text of a table to its end, and puts the answers behind others: by so many threads, or, where they are wanted behind
-/// the numbers of their lines, by the calling one.
+/// Reads the text of a table to its end, and puts the answers behind others: by a crew, or, where they are wanted behind the
+/// numbers of their lines, by the calling thread.
 fn answer_table<H: Threads + Sync, R: Source>(
     rt: &H,
     alloc: Global,
-    workers: usize,
+    crew: &mut Crew,
     rules: Rules,
     is_numbered: bool,
     reader: &mut R,
@@ -147,7 +149,7 @@ fn answer_table<H: Threads + Sync, R: Source>(
         let mut rows = SuitMemo::new(alloc);
         return numbered_text_with::<Plain, SuitMemo, R, Paper>(&mut rows, rules, reader, answers);
     }
-    crew_text(rt, alloc, workers, rules, reader, answers)
+    crew.answer_text::<Plain, H, R, Paper>(rt, rules, reader, answers)
 }
 
 /// The name of a table, where names are given. One that isn't among them is empty.

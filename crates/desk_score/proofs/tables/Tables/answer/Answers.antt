@@ -8,7 +8,7 @@ use Rattle.desk_score.proofs.ScoreLemmas.{AllGive-last}
 use Rattle.desk_score.proofs.tables.Tables.answer.Goals as goal
 
 pub loop-reader-init : goal.loop-reader-init
-loop-reader-init g c = ([], record { given = tt; read = c.new-tables.ensures (option_map (λ names. map (λ name. name.now) names.now) c.args.names) c.args.rules; parts = sym c.into_iter-reader-iterator.ensures.into_iter_gives.0 })
+loop-reader-init g c = ([], record { given = tt; read = c.in_ok-tables.ensures (option_map (λ names. map (λ name. name.now) names.now) c.args.names) c.args.rules; parts = sym c.into_iter-reader-iterator.ensures.into_iter_gives.0 })
 
 pub loop-reader-preserved : goal.loop-reader-preserved
 loop-reader-preserved g c =
@@ -25,7 +25,7 @@ loop-reader-preserved g c =
 pub returns-in_err-answer_next-clause-read_failed : goal.returns-in_err-answer_next-clause-read_failed
 returns-in_err-answer_next-clause-read_failed g c is =
     let kept = c.loop-reader.invariant in
-    let p = err_from_is_err_and c.from_residual.result c.from_residual.ensures.1 in
+    let p = err_from_is_err_and c.from_residual-in_err-answer_next.result c.from_residual-in_err-answer_next.ensures.1 in
     let fault : c.in_err-answer_next.field-0.0 ≡ Read = (let given = p.1 in let told = p.2 in cc) in record {
       first = c.loop-reader.yielded;
       texts = kept.0;

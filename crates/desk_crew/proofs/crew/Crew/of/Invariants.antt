@@ -1,5 +1,5 @@
 use Rattle.std.proofs.Common.{◌-◌, length}
-use Rattle.desk_crew.proofs.crew.Crew.new.Given as goal
+use Rattle.desk_crew.proofs.crew.Crew.of.Given as goal
 
 -- so many shares are to come
 abbrev pub decreases-loop-shares : goal.decreases-loop-shares
