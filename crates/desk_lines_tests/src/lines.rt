@@ -3,8 +3,6 @@ use crate::facts::{holds, holds_in, same, same_in};
 use arrayvec::ArrayString;
 use desk_io::{BytesIn, BytesOut, FromReader, ToWriter};
 use desk_lines::*;
-use riichi_hand::{LineCode, LineFault, TextName};
-use riichi_tiles::{NotationCode, NotationFault};
 use std::alloc::Global;
 use std::process::Abort;
 use std::test::Fail;
@@ -356,117 +354,6 @@ fn stops_at_each_failing_write(rt: HostRuntime) {
         desk_text(Rules::One, &mut reader, &mut writer) == Err(DeskFault::Write),
     );
     same(&rt, writer.bytes(), b"waits 123".as_slice());
-}
-
-/// What a text asks, behind the number of its table and its name where it has one.
-fn taken_apart(rt: &impl Abort, alloc: Global, name: Option<&str>, expected: &[AnswerPart]) {
-    let mut reader = BytesIn::new(TEXT, 1, None);
-    let Ok(mut collected) = collect_text(alloc, Rules::One, 7, name, &mut reader) else {
-        holds_in(rt, &"not collected", false);
-        return;
-    };
-    let report = DeskReport {
-        answered: 2,
-        refused: 1,
-    };
-    holds(rt, collected.report == report);
-    same(rt, collected.sheets.len(), 1);
-    let Some(sheet) = collected.sheets.pop() else {
-        return;
-    };
-    let (asked, jobs) = sheet.into_parts();
-    same(rt, jobs.len(), 2);
-    holds(rt, asked.as_slice() == expected);
-}
-
-/// The fault of the line that is refused.
-const FAULT: AnswerPart = AnswerPart::Refusal(LineFault::Notation(
-    TextName::Hand,
-    NotationFault {
-        code: NotationCode::N5,
-        place: 0,
-    },
-));
-
-/// The answers to jobs, and the fault of a line in its place between them.
-#[test]
-fn a_text_taken_apart(rt: HostRuntime) {
-    let expected = [
-        AnswerPart::Table(7),
-        AnswerPart::Byte(b'\n'),
-        AnswerPart::NextJob,
-        FAULT,
-        AnswerPart::NextJob,
-    ];
-    taken_apart(&rt, rt.alloc(), None, expected.as_slice());
-}
-
-/// Behind the number of the table its name, of which a bell isn't shown, and before each answer the number of its line.
-#[test]
-fn a_text_with_a_name(rt: HostRuntime) {
-    let expected = [
-        AnswerPart::Table(7),
-        AnswerPart::Byte(b' '),
-        AnswerPart::Byte(b'o'),
-        AnswerPart::Byte(b' '),
-        AnswerPart::Byte(b'?'),
-        AnswerPart::Byte(b'\n'),
-        AnswerPart::Number(2),
-        AnswerPart::NextJob,
-        AnswerPart::Number(4),
-        FAULT,
-        AnswerPart::Number(5),
-        AnswerPart::NextJob,
-    ];
-    taken_apart(&rt, rt.alloc(), Some("o \u{7}"), expected.as_slice());
-}
-
-/// A sheet has 4,096 parts: the number of the table, its line feed and 4,094 answers; three more answers need another.
-#[test]
-fn a_sheet_that_is_full(rt: HostRuntime) -> Result<(), Fail> {
-    let alloc = rt.alloc();
-    let mut text = String::new(alloc);
-    for _ in 0..4097 {
-        text.push_str("waits 8z\n")?;
-    }
-    let mut reader = BytesIn::new(text.as_bytes(), 1000, None);
-    let Ok(mut collected) = collect_text(alloc, Rules::One, 0, None, &mut reader) else {
-        holds_in(&rt, &"not collected", false);
-        return Ok(());
-    };
-    same(&rt, collected.sheets.len(), 2);
-    for lines in [3, 4096] {
-        if let Some(sheet) = collected.sheets.pop() {
-            same(&rt, sheet.into_parts().0.len(), lines);
-        }
-    }
-    Ok(())
-}
-
-/// A table that asks for one refusal, and one that asks for nothing.
-#[test]
-fn lists_without_answers(rt: HostRuntime) -> Result<(), Fail> {
-    let alloc = rt.alloc();
-    let mut first = Vec::new(alloc);
-    first.push(AnswerPart::Table(0))?;
-    first.push(AnswerPart::Byte(b'\n'))?;
-    first.push(AnswerPart::Number(3))?;
-    first.push(AnswerPart::Refusal(LineFault::Line(LineCode::H8)))?;
-    let mut second = Vec::new(alloc);
-    second.push(AnswerPart::Table(1))?;
-    second.push(AnswerPart::Byte(b'\n'))?;
-    let mut lists = Vec::new(alloc);
-    lists.push(first)?;
-    lists.push(second)?;
-    let texts = texts_of(alloc, lists.as_slice(), &[])?;
-    let mut writer: BytesOut<64> = BytesOut::new(7, None);
-    holds(&rt, write_texts(texts.as_slice(), &mut writer) == Ok(()));
-    same(
-        &rt,
-        writer.bytes(),
-        b"table 0\n3:refused H8\ntable 1\n".as_slice(),
-    );
-    Ok(())
 }
 
 #[test]
