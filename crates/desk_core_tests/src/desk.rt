@@ -137,7 +137,10 @@ fn a_hand_that_is_no_win(rt: HostRuntime) {
 #[test]
 fn the_same_by_a_cache(rt: HostRuntime) {
     // One request for memory may be refused.
-    let made = RowCache::new(rt.alloc(), 4).or_else(|_| RowCache::new(rt.alloc(), 4));
+    let made = match RowCache::new(rt.alloc(), 4) {
+        Err(_) => RowCache::new(rt.alloc(), 4),
+        made => made,
+    };
     let Ok(mut cache) = made else {
         holds(&rt, false);
         return;

@@ -70,7 +70,10 @@ pub(crate) fn submit(table: &mut TableSeat, board: &Board, job: Job) -> Result<T
 
 /// Suit rows to work with, where one request for memory may be refused.
 pub(crate) fn a_cache(rt: &impl Abort, alloc: Global) -> RowCache {
-    let made = RowCache::new(alloc, 16).or_else(|_| RowCache::new(alloc, 16));
+    let made = match RowCache::new(alloc, 16) {
+        Err(_) => RowCache::new(alloc, 16),
+        made => made,
+    };
     let Ok(cache) = made else {
         panic!(rt; "no cache")
     };
