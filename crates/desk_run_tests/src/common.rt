@@ -10,11 +10,15 @@ use riichi_shape::RowCache;
 use std::alloc::Global;
 use std::process::Abort;
 
-pub(crate) fn job(rt: &impl Abort, line: &[u8]) -> Job {
-    match read_line(Rules::One, line) {
-        Ok(Some(job)) => job,
-        _ => panic!(rt; "no job"),
-    }
+fn job_of(line: &[u8]) -> Option<Job> {
+    read_line(Rules::One, line).ok()?
+}
+
+fn job(rt: &impl Abort, line: &[u8]) -> Job {
+    let Some(job) = job_of(line) else {
+        panic!(rt; "no job")
+    };
+    job
 }
 
 /// The jobs of which most tests are made.

@@ -3,7 +3,7 @@ use crate::split::tiles;
 use riichi_blocks::*;
 use riichi_hand::{By, Job, Rules, WinRecord, Wind, is_ron, read_line};
 use riichi_split::{Reading, Readings};
-use riichi_tiles::{Block, Kind};
+use riichi_tiles::{Block, Kind, read_counts};
 use std::process::Abort;
 use std::test::Fail;
 
@@ -15,7 +15,7 @@ fn job(line: &str) -> Result<Job, Fail> {
 }
 
 fn all(rt: &impl Abort, text: &[u8]) -> AllTiles {
-    let Ok(tiles) = tiles(text) else {
+    let Ok(tiles) = read_counts(text) else {
         panic!(rt; "no tiles")
     };
     AllTiles::new(tiles.to_array())

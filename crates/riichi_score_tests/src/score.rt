@@ -7,11 +7,18 @@ use riichi_tiles::Reds;
 use std::process::Abort;
 use std::test::Fail;
 
+fn text_of(job: &Job) -> ArrayString<3072> {
+    match job {
+        Job::Win(win) => win_text(&best(win)),
+        _ => ArrayString::new(),
+    }
+}
+
 pub(crate) fn answers(rt: &impl Abort, rules: Rules, rows: &[(&str, &str)]) -> Result<(), Fail> {
     for (line, text) in rows {
         match read_line(rules, line.as_bytes()) {
-            Ok(Some(Job::Win(win))) => same_in(rt, &line, win_text(&best(&win)).as_str(), *text),
-            Ok(_) => return Err("a line that tells no win")?,
+            Ok(Some(job)) => same_in(rt, &line, text_of(&job).as_str(), *text),
+            Ok(None) => return Err("a line that tells no job")?,
             Err(fault) => same_in(rt, &line, fault_text(&fault).as_str(), *text),
         }
     }
