@@ -1,8 +1,7 @@
 //! The words of the command line of `riichi_desk`.
 //!
 //! `commands` makes the commands with their help, `clap` matches the words with them, and `request_of` returns what they
-//! ask for. They stand apart from the program, since they need nothing of the desk but the rule profiles. `Reached` is
-//! what a terminal shows of how far the answers are.
+//! ask for. They stand apart from the program, since they need nothing of the desk but the rule profiles.
 //!
 //! ```text
 //! let matches = commands(alloc)?.try_get_matches_from(words)?;
@@ -11,12 +10,10 @@
 #![tactic(auto)]
 
 mod help;
-mod reached;
 mod request;
 mod rules;
 mod words;
 
-pub use reached::{Reached, lines_a_second, seconds_left, share_done};
 pub use request::{Form, Lines, Request, request_of};
 pub use rules::{nearest_rule, rules_named};
 pub use words::commands;

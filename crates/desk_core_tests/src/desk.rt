@@ -1,58 +1,32 @@
-use crate::facts::{holds, same};
+use crate::facts::{holds, holds_in, same};
 use arrayvec::ArrayString;
 use desk_core::{
     Answer, Arrived, CoreFault, DeskCore, Event, LIMIT, Lane, Piece, Reply, RunBack, SubmitFault,
     Taken, Ticket, answer_text, judge, judge_with, laws, push_answer,
 };
-use riichi_hand::{
-    By, Flags, HandRecord, Job, RuleSet, Rules, ShapeRecord, WinParts, WinRecord, Wind, read_line,
-};
+use riichi_hand::{Job, Rules, read_line};
 use riichi_score::WinAnswer;
 use riichi_shape::RowCache;
-use riichi_tiles::{Counts, Kind, Meld, Melds, Reds, read_counts};
 use std::alloc::{AllocError, Global};
 
 mod withdrawal;
 
-/// The waits of a hand of concealed tiles.
-fn waits_job(hand: &[u8]) -> Option<Job> {
-    let tiles = read_counts(hand).ok()?;
-    let hand = HandRecord::new(tiles, Melds::new()).ok()?;
-    Some(Job::Waits(hand))
-}
+const WAITS: &[u8] = b"waits 1112345678999m";
+
+const SHAPE: &[u8] = b"shape 123456789m1134p";
 
 /// One tile beside four melds, and another one called: a hand with no reading, which is the
 /// quickest job to judge.
-fn quick_job() -> Option<Job> {
-    let mut melds = Melds::new();
-    melds.push(Meld::Pon(Kind::at(0)));
-    melds.push(Meld::Pon(Kind::at(2)));
-    melds.push(Meld::Pon(Kind::at(4)));
-    melds.push(Meld::Pon(Kind::at(6)));
-    let parts = WinParts {
-        rules: RuleSet::of(Rules::One),
-        concealed: read_counts(b"1z").ok()?,
-        melds,
-        winning: Kind::at(28),
-        by: By::Ron,
-        seat: Wind::East,
-        round: Wind::East,
-        riichi: 0,
-        flags: Flags::none(),
-        dora: Counts::new(),
-        ura: Counts::new(),
-        counters: 0,
-        sticks: 0,
-        reds: Reds::none(),
-    };
-    Some(Job::Win(WinRecord::new(parts).ok()?))
+const QUICK: &[u8] = b"win 1z open=pon:111m,pon:333m,pon:555m,pon:777m on=2z by=ron seat=E round=E";
+
+/// The job of a record line.
+fn job_of(rules: Rules, line: &[u8]) -> Option<Job> {
+    read_line(rules, line).ok()?
 }
 
-/// The shape of concealed tiles.
-fn shape_job(tiles: &[u8]) -> Option<Job> {
-    let tiles = read_counts(tiles).ok()?;
-    let shape = ShapeRecord::new(tiles, Melds::new(), Counts::new()).ok()?;
-    Some(Job::Shape(shape))
+/// That of a line under the first profile.
+fn job(line: &[u8]) -> Option<Job> {
+    job_of(Rules::One, line)
 }
 
 const FIRST: Ticket = Ticket { table: 0, seq: 0 };
@@ -120,24 +94,24 @@ const WITHOUT_MEMORY: [Reply; 9] = [
     Reply::Closed(false),
 ];
 
+/// Whether a line is a job whose answer has this text.
+fn is_answered(line: &[u8], text: &str) -> bool {
+    let Some(job) = job(line) else {
+        return false;
+    };
+    answer_text(&judge(&job)).as_str() == text
+}
+
 #[test]
 fn answers_and_their_texts(rt: HostRuntime) {
-    let waits = waits_job(b"1112345678999m").map(|job| judge(&job));
-    holds(
-        &rt,
-        matches!(waits, Some(answer) if answer_text(&answer).as_str() == "waits 123456789m"),
-    );
-    let none = waits_job(b"123456789m1111z").map(|job| judge(&job));
-    holds(
-        &rt,
-        matches!(none, Some(answer) if answer_text(&answer).as_str() == "waits -"),
-    );
-    let shape = shape_job(b"123456789m1134p").map(|job| judge(&job));
-    let text = "shanten 0 accepts 2p:4 5p:4 live 8";
-    holds(
-        &rt,
-        matches!(shape, Some(answer) if answer_text(&answer).as_str() == text),
-    );
+    for (line, text) in [
+        (WAITS, "waits 123456789m"),
+        (b"waits 123456789m1111z", "waits -"),
+        (SHAPE, "shanten 0 accepts 2p:4 5p:4 live 8"),
+        (QUICK, "no win"),
+    ] {
+        holds_in(&rt, &text, is_answered(line, text));
+    }
 }
 
 /// What stands before an answer is kept.
@@ -145,36 +119,38 @@ fn answers_and_their_texts(rt: HostRuntime) {
 fn an_answer_behind_a_text(rt: HostRuntime) {
     let mut text = ArrayString::new();
     text.push_str("> ");
-    if let Some(job) = shape_job(b"123456789m1134p") {
+    if let Some(job) = job(SHAPE) {
         push_answer(&mut text, &judge(&job));
     }
     same(&rt, text.as_str(), "> shanten 0 accepts 2p:4 5p:4 live 8");
 }
 
 #[test]
-fn a_win_and_its_text(rt: HostRuntime) {
-    let answer = quick_job().map(|job| judge(&job));
-    holds(&rt, answer == Some(Answer::Win(WinAnswer::NoWin)));
-    holds(
-        &rt,
-        matches!(answer, Some(answer) if answer_text(&answer).as_str() == "no win"),
-    );
+fn a_hand_that_is_no_win(rt: HostRuntime) {
+    let Some(job) = job(QUICK) else {
+        holds(&rt, false);
+        return;
+    };
+    holds(&rt, judge(&job) == Answer::Win(WinAnswer::NoWin));
 }
 
 #[test]
 fn the_same_by_a_cache(rt: HostRuntime) {
     // One request for memory may be refused.
-    let made = RowCache::new(rt.alloc(), 4).or_else(|_| RowCache::new(rt.alloc(), 4));
+    let made = match RowCache::new(rt.alloc(), 4) {
+        Err(_) => RowCache::new(rt.alloc(), 4),
+        made => made,
+    };
     let Ok(mut cache) = made else {
         holds(&rt, false);
         return;
     };
     let jobs = [
-        waits_job(b"1112345678999m"),
-        shape_job(b"123456789m1134p"),
-        shape_job(b"123456789m1111z"),
-        shape_job(b"123456789m1134p"),
-        quick_job(),
+        job(WAITS),
+        job(SHAPE),
+        job(b"shape 123456789m1111z"),
+        job(SHAPE),
+        job(QUICK),
     ];
     for job in &jobs {
         let Some(job) = job else {
@@ -192,8 +168,7 @@ fn the_same_by_a_cache(rt: HostRuntime) {
 
 #[test]
 fn a_lane_of_each_call(rt: HostRuntime) {
-    let (Some(job), Some(other)) = (waits_job(b"1112345678999m"), shape_job(b"123456789m1134p"))
-    else {
+    let (Some(job), Some(other)) = (job(WAITS), job(SHAPE)) else {
         holds(&rt, false);
         return;
     };
@@ -225,11 +200,6 @@ fn a_lane_of_each_call(rt: HostRuntime) {
     holds(&rt, lane.close() && !lane.close() && lane.closed());
     holds(&rt, lane.take() == Taken::Answer { seq: 0, answer });
     holds(&rt, lane.take() == Taken::Finished);
-}
-
-/// The job of a record line.
-fn job_of(rules: Rules, line: &[u8]) -> Option<Job> {
-    read_line(rules, line).ok()?
 }
 
 /// A lane with this job, where one request for memory may be refused.
@@ -291,7 +261,7 @@ fn replies_of_a_run(alloc: Global, job: &Job) -> Option<Vec<Reply>> {
 
 #[test]
 fn a_run_replies(rt: HostRuntime) {
-    let Some(job) = waits_job(b"1112345678999m") else {
+    let Some(job) = job(WAITS) else {
         holds(&rt, false);
         return;
     };
@@ -321,7 +291,7 @@ fn a_run_over_no_events(rt: HostRuntime) {
 
 #[test]
 fn steps_reply(rt: HostRuntime) {
-    let Some(job) = waits_job(b"1112345678999m") else {
+    let Some(job) = job(WAITS) else {
         holds(&rt, false);
         return;
     };
@@ -355,7 +325,7 @@ fn numbers_of_tables(rt: HostRuntime) {
 
 #[test]
 fn a_lane_takes_its_limit(rt: HostRuntime) {
-    let (Some(job), Some(other)) = (quick_job(), shape_job(b"123456789m1134p")) else {
+    let (Some(job), Some(other)) = (job(QUICK), job(SHAPE)) else {
         holds(&rt, false);
         return;
     };

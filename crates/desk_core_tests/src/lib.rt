@@ -10,6 +10,8 @@ mod facts;
 #[cfg(test)]
 mod json;
 #[cfg(test)]
+mod reached;
+#[cfg(test)]
 mod reasons;
 #[cfg(test)]
 mod script;

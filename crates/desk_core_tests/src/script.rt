@@ -53,11 +53,10 @@ fn spelled(line: &str) -> ArrayVec<u8, 64> {
 
 /// A new script. Where memory is refused, the second try has it.
 fn a_script(alloc: Global) -> Result<Script, AllocError> {
-    let first = Script::new(alloc);
-    if first.is_ok() {
-        return first;
+    match Script::new(alloc) {
+        Err(AllocError) => Script::new(alloc),
+        made => made,
     }
-    Script::new(alloc)
 }
 
 /// Has a script answer a line, and compares what it is told; an empty text is nothing. Tells whether there was memory:
@@ -88,17 +87,23 @@ fn tells(rt: &(impl Abort + Print), script: &mut Script, line: &[u8], wanted: &s
     }
 }
 
-#[test]
-fn a_day_at_two_tables(rt: HostRuntime) -> Result<(), Fail> {
-    let mut script = a_script(rt.alloc())?;
-    for (line, wanted) in SCRIPT {
-        tells(&rt, &mut script, spelled(line).as_slice(), wanted);
+/// Has a new script answer these lines.
+fn answers(rt: &(impl Abort + Print), alloc: Global, lines: &[(&str, &str)]) -> Result<(), Fail> {
+    let mut script = a_script(alloc)?;
+    for (line, wanted) in lines {
+        tells(rt, &mut script, spelled(line).as_slice(), wanted);
     }
     Ok(())
 }
 
-/// A day at a table that takes hands back: lines after `open east`, and what they are told.
-static TAKEN_BACK: [(&str, &str); 19] = [
+#[test]
+fn a_day_at_two_tables(rt: HostRuntime) -> Result<(), Fail> {
+    answers(&rt, rt.alloc(), &SCRIPT)
+}
+
+/// A day at a table that takes hands back.
+static TAKEN_BACK: [(&str, &str); 20] = [
+    ("open east", "table 0"),
     ("submit east A", "ticket 0"),
     ("submit east B", "ticket 1"),
     ("submit east A", "ticket 2"),
@@ -122,16 +127,12 @@ static TAKEN_BACK: [(&str, &str); 19] = [
 
 #[test]
 fn a_day_with_hands_taken_back(rt: HostRuntime) -> Result<(), Fail> {
-    let mut script = a_script(rt.alloc())?;
-    tells(&rt, &mut script, b"open east", "table 0");
-    for (line, wanted) in TAKEN_BACK {
-        tells(&rt, &mut script, spelled(line).as_slice(), wanted);
-    }
-    Ok(())
+    answers(&rt, rt.alloc(), &TAKEN_BACK)
 }
 
-/// Lines after `open east`.
-static FORMS: [(&str, &str); 34] = [
+/// Forms that a command may have, or not.
+static FORMS: [(&str, &str); 35] = [
+    ("open east", "table 0"),
     ("", ""),
     ("   ", ""),
     ("# open west", ""),
@@ -170,11 +171,10 @@ static FORMS: [(&str, &str); 34] = [
 
 #[test]
 fn forms_of_commands(rt: HostRuntime) -> Result<(), Fail> {
-    let mut script = a_script(rt.alloc())?;
-    tells(&rt, &mut script, b"open east", "table 0");
-    for (line, wanted) in FORMS {
-        tells(&rt, &mut script, line.as_bytes(), wanted);
-    }
+    answers(&rt, rt.alloc(), &FORMS)
+}
+
+#[test]
+fn states_its_law(_rt: HostRuntime) {
     laws::answers_are_determined();
-    Ok(())
 }

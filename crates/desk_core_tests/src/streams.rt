@@ -60,14 +60,18 @@ fn takes_what_it_has_room_for(rt: HostRuntime) {
 }
 
 #[test]
-fn wraps_readers_and_writers_of_std(rt: HostRuntime) -> Result<(), Fail> {
+fn wraps_a_reader_of_std(rt: HostRuntime) -> Result<(), Fail> {
     let mut reader = FromReader::new(b"waits 8z".as_slice());
     let mut buffer = [0; 5];
     same(&rt, reader.read(&mut buffer)?, 5);
     same(&rt, buffer.as_slice(), b"waits".as_slice());
     same(&rt, reader.read(&mut buffer)?, 3);
     same(&rt, reader.read(&mut buffer)?, 0);
+    Ok(())
+}
 
+#[test]
+fn wraps_a_writer_of_std(rt: HostRuntime) -> Result<(), Fail> {
     let mut room = [0; 8];
     let mut writer = ToWriter::new(room.as_mut_slice());
     same(&rt, writer.write(b"waits")?, 5);

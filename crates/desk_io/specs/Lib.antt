@@ -2,3 +2,4 @@ pub mod Calls
 pub mod Journal
 pub mod BytesIn
 pub mod BytesOut
+pub mod Reached

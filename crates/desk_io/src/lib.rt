@@ -6,7 +6,8 @@
 //!
 //! [`FromReader`] and [`ToWriter`] make a source of any reader of std and a sink of any writer;
 //! [`BytesIn`] and [`BytesOut`] are those over memory, which can fail at a chosen call. All four
-//! keep their calls in a [`Journal`], which contracts read and which takes no memory.
+//! keep their calls in a [`Journal`], which contracts read and which takes no memory. [`Reached`] is
+//! what a terminal shows of how far a text is answered.
 //!
 //! ```text
 //! let mut reader = BytesIn::new(b"waits 1m", 3, None);
@@ -20,6 +21,7 @@ mod bytes_out;
 mod countdown;
 mod from_reader;
 mod journal;
+mod reached;
 mod sink;
 mod source;
 mod to_writer;
@@ -28,6 +30,7 @@ pub use bytes_in::BytesIn;
 pub use bytes_out::BytesOut;
 pub use from_reader::FromReader;
 pub use journal::Journal;
+pub use reached::{Reached, lines_a_second, seconds_left, share_done};
 pub use sink::Sink;
 pub use source::Source;
 pub use to_writer::ToWriter;

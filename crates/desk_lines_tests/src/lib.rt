@@ -1,5 +1,5 @@
 //! Tests of `desk_lines`, by what it exports: the answers to lines, to texts and to scripts, and its law; of `desk_score`; and
-//! that `desk_cli` reads the rules that these answers name, and shows how far answers are.
+//! that `desk_cli` reads the rules that these answers name.
 //!
 //! They stand apart from the libraries, since a check of a crate with its tests proves the crate once more.
 #![tactic(auto)]
@@ -16,8 +16,6 @@ mod laws;
 mod lines;
 #[cfg(test)]
 mod numbering;
-#[cfg(test)]
-mod reached;
 #[cfg(test)]
 mod ready;
 #[cfg(test)]

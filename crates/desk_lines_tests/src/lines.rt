@@ -1,5 +1,6 @@
 //! Rows of whole texts.
 use crate::facts::{holds, holds_in, same, same_in};
+use crate::replay::padded;
 use arrayvec::ArrayString;
 use desk_io::{BytesIn, BytesOut, FromReader, ToWriter};
 use desk_lines::*;
@@ -25,8 +26,20 @@ fn answer(rt: &impl Abort, text: &[u8], answers: &[u8], answered: u64, refused: 
     );
 }
 
+/// Answers lines one by one, and compares what is written before the line's end, and what is counted of each.
+fn answer_each(rt: &impl Abort, rows: &[(&str, &str)], answered: u64, refused: u64) {
+    for (line, told) in rows {
+        let mut reader = BytesIn::new(line.as_bytes(), 1000, None);
+        let mut writer: BytesOut<2048> = BytesOut::new(1000, None);
+        let report = desk_text(Rules::One, &mut reader, &mut writer);
+        let written = writer.bytes().split_last();
+        same_in(rt, line, written, Some((&b'\n', told.as_bytes())));
+        holds_in(rt, line, report == Ok(DeskReport { answered, refused }));
+    }
+}
+
 /// Records of each job, and their answers.
-static RECORDS: [(&str, &str); 28] = [
+static RECORDS: [(&str, &str); 29] = [
     (
         "win 234m567m345p67s99s on=5s by=tsumo seat=S round=E",
         "won 2 han 20 fu 400/700 gain 1500 fully-concealed pinfu",
@@ -130,81 +143,87 @@ static RECORDS: [(&str, &str); 28] = [
     ),
     ("waits 2223456777m open=pon:111z", "waits 12345678m"),
     ("waits 123456789m1111z", "waits -"),
+    (
+        "win 234m567m345p67s99s on=5s by=ron seat=S round=E",
+        "won 1 han 30 fu 1000 gain 1000 pinfu",
+    ),
 ];
 
 #[test]
-fn records(rt: HostRuntime) -> Result<(), Fail> {
-    for (line, told) in RECORDS {
-        let told = format!(in rt.alloc(); "{told}\n")?;
-        answer(&rt, line.as_bytes(), told.as_bytes(), 1, 0);
-    }
-    Ok(())
+fn records(rt: HostRuntime) {
+    answer_each(&rt, &RECORDS, 1, 0);
 }
 
 /// Lines that are refused whole, and what is told of them.
-static REFUSED: [(&str, &str); 19] = [
-    ("waits 1m\t", "H1"),
-    ("score 1m", "H2"),
-    ("waits", "H3"),
-    ("win on=5s", "H3"),
-    ("waits 1m seen=2m", "H4"),
-    ("win 234m567m345p67s99s by=ron seat=S round=E", "H6"),
+static REFUSED: [(&str, &str); 27] = [
+    ("waits 1m\t", "refused H1"),
+    ("score 1m", "refused H2"),
+    ("waits", "refused H3"),
+    ("win on=5s", "refused H3"),
+    ("waits 1m seen=2m", "refused H4"),
+    ("win 234m567m345p67s99s by=ron seat=S round=E", "refused H6"),
     (
         "win 234m567m345p67s99s on= by=ron seat=S round=E",
-        "N1 on at 0",
+        "refused N1 on at 0",
     ),
-    ("waits 12x3m", "N2 hand at 2"),
-    ("waits 9x2z", "N2 hand at 1"),
-    ("waits 12m3", "N3 hand at 4"),
-    ("waits 1mp", "N4 hand at 2"),
-    ("win 8z on=8z by=ron seat=S round=E", "N5 hand at 0"),
-    ("waits 11111m", "N6 hand at 4"),
-    ("waits 2223456777m open=pon:112z", "H7"),
-    ("waits 2223456777m open=", "H7"),
-    ("waits 123456789m111z", "H8"),
+    ("waits 12x3m", "refused N2 hand at 2"),
+    ("waits 9x2z", "refused N2 hand at 1"),
+    ("waits 12m3", "refused N3 hand at 4"),
+    ("waits 1mp", "refused N4 hand at 2"),
+    ("win 8z on=8z by=ron seat=S round=E", "refused N5 hand at 0"),
+    ("waits 11111m", "refused N6 hand at 4"),
+    ("waits 2223456777m open=pon:112z", "refused H7"),
+    ("waits 2223456777m open=", "refused H7"),
+    ("waits 123456789m111z", "refused H8"),
     (
         "win 111m234m567p678s9s on=9s by=ron seat=S round=E dora=11m",
-        "H9",
+        "refused H9",
     ),
     (
         "win 567m345p67s88s open=chi:234m on=5s by=ron seat=S round=E riichi=1",
-        "H10",
+        "refused H10",
     ),
     (
         "win 234m567m345p67s99s on=5s by=tsumo seat=S round=E flags=chankan",
-        "H13",
+        "refused H13",
+    ),
+    (
+        "win 234m567m345p67s99s on=5s by=ron seat=S round=E by=draw",
+        "refused H4",
+    ),
+    (
+        "win 234m567m345p67s99s on=5s by=ron seat=S round=E counters=100",
+        "refused H4",
+    ),
+    (
+        "win 234m567m345p67s99s on=5s by=ron seat=S round=E on=5s",
+        "refused H5",
+    ),
+    (
+        "win 234m567m345p67s99s on=5s by=ron seat=S round=E flags=ippatsu",
+        "refused H11",
+    ),
+    (
+        "win 234m567m345p67s99s on=5s by=ron seat=S round=E ura=1m",
+        "refused H11",
+    ),
+    (
+        "win 234m567m345p67s99s on=5s by=ron seat=S round=E flags=rinshan",
+        "refused H12",
+    ),
+    (
+        "win 234m567m345p67s99s on=5s by=ron seat=S round=E flags=chankan,last",
+        "refused H14",
+    ),
+    (
+        "win 234m567m345p67s99s on=5s by=ron seat=S round=E flags=first",
+        "refused H15",
     ),
 ];
 
 #[test]
-fn refusals(rt: HostRuntime) -> Result<(), Fail> {
-    let win = "win 234m567m345p67s99s on=5s by=ron seat=S round=E";
-    answer(
-        &rt,
-        win.as_bytes(),
-        b"won 1 han 30 fu 1000 gain 1000 pinfu\n",
-        1,
-        0,
-    );
-    for (more, code) in [
-        ("by=draw", "H4"),
-        ("counters=100", "H4"),
-        ("on=5s", "H5"),
-        ("flags=ippatsu", "H11"),
-        ("ura=1m", "H11"),
-        ("flags=rinshan", "H12"),
-        ("flags=chankan,last", "H14"),
-        ("flags=first", "H15"),
-    ] {
-        let line = format!(in rt.alloc(); "{win} {more}")?;
-        let told = format!(in rt.alloc(); "refused {code}\n")?;
-        answer(&rt, line.as_bytes(), told.as_bytes(), 0, 1);
-    }
-    for (line, fault) in REFUSED {
-        let told = format!(in rt.alloc(); "refused {fault}\n")?;
-        answer(&rt, line.as_bytes(), told.as_bytes(), 0, 1);
-    }
-    Ok(())
+fn refusals(rt: HostRuntime) {
+    answer_each(&rt, &REFUSED, 0, 1);
 }
 
 #[test]
@@ -249,7 +268,7 @@ fn profiles(rt: HostRuntime) {
 }
 
 #[test]
-fn lines_up_to_the_limit(rt: HostRuntime) -> Result<(), Fail> {
+fn lines_up_to_the_limit(rt: HostRuntime) {
     for (length, ending, told) in [
         (4096usize, "\r\n", "waits 123456789m\n"),
         (4096, "\n", "waits 123456789m\n"),
@@ -261,12 +280,7 @@ fn lines_up_to_the_limit(rt: HostRuntime) -> Result<(), Fail> {
         (9000, "\n", "refused H1\n"),
         (9000, "\nwaits 123456789m1134p", "refused H1\nwaits 25p\n"),
     ] {
-        let mut text = Vec::new(rt.alloc());
-        text.extend_from_slice(b"waits 1112345678999m")?;
-        for _ in text.len()..length {
-            text.push(b' ')?;
-        }
-        text.extend_from_slice(ending.as_bytes())?;
+        let text = padded(b"", b"waits 1112345678999m", length, ending.as_bytes());
         for most in [1, 1000, 100_000] {
             holds(&rt, most > 0);
             let mut reader = BytesIn::new(text.as_slice(), most, None);
@@ -275,7 +289,6 @@ fn lines_up_to_the_limit(rt: HostRuntime) -> Result<(), Fail> {
             same_in(&rt, &(length, most), writer.bytes(), told.as_bytes());
         }
     }
-    Ok(())
 }
 
 /// Each front of a comment that is a byte too long: only the whole of it is refused.

@@ -179,7 +179,12 @@ fn hands_taken_back(rt: HostRuntime) {
 }
 
 /// A text of some bytes behind a front, made longer by spaces, and an ending.
-fn padded(front: &[u8], text: &[u8], length: usize, ending: &[u8]) -> ArrayVec<u8, 20_100> {
+pub(crate) fn padded(
+    front: &[u8],
+    text: &[u8],
+    length: usize,
+    ending: &[u8],
+) -> ArrayVec<u8, 20_100> {
     let mut all = ArrayVec::new();
     let _ = all.try_extend_from_slice(front);
     let _ = all.try_extend_from_slice(text);

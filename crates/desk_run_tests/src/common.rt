@@ -10,11 +10,15 @@ use riichi_shape::RowCache;
 use std::alloc::Global;
 use std::process::Abort;
 
-pub(crate) fn job(rt: &impl Abort, line: &[u8]) -> Job {
-    match read_line(Rules::One, line) {
-        Ok(Some(job)) => job,
-        _ => panic!(rt; "no job"),
-    }
+fn job_of(line: &[u8]) -> Option<Job> {
+    read_line(Rules::One, line).ok()?
+}
+
+fn job(rt: &impl Abort, line: &[u8]) -> Job {
+    let Some(job) = job_of(line) else {
+        panic!(rt; "no job")
+    };
+    job
 }
 
 /// The jobs of which most tests are made.
@@ -70,7 +74,10 @@ pub(crate) fn submit(table: &mut TableSeat, board: &Board, job: Job) -> Result<T
 
 /// Suit rows to work with, where one request for memory may be refused.
 pub(crate) fn a_cache(rt: &impl Abort, alloc: Global) -> RowCache {
-    let made = RowCache::new(alloc, 16).or_else(|_| RowCache::new(alloc, 16));
+    let made = match RowCache::new(alloc, 16) {
+        Err(_) => RowCache::new(alloc, 16),
+        made => made,
+    };
     let Ok(cache) = made else {
         panic!(rt; "no cache")
     };

@@ -19,7 +19,11 @@ fn try_six(alloc: Global, job: &Job) -> Result<Vec<Job>, AllocError> {
 
 /// A list of six jobs, where one request for memory may be refused.
 fn six(rt: &impl Abort, alloc: Global, job: &Job) -> Vec<Job> {
-    let Ok(jobs) = try_six(alloc, job).or_else(|_| try_six(alloc, job)) else {
+    let made = match try_six(alloc, job) {
+        Err(_) => try_six(alloc, job),
+        made => made,
+    };
+    let Ok(jobs) = made else {
         panic!(rt; "no jobs")
     };
     jobs
@@ -44,7 +48,11 @@ fn try_two<'f>(alloc: Global, gate: Noting<'f>) -> Result<Vec<Noting<'f>>, Alloc
 /// Two gates, where one request for memory may be refused.
 fn two<'f>(rt: &impl Abort, alloc: Global, called: &'f AtomicBool) -> Vec<Noting<'f>> {
     let gate = Noting { called };
-    let Ok(gates) = try_two(alloc, gate).or_else(|_| try_two(alloc, gate)) else {
+    let made = match try_two(alloc, gate) {
+        Err(_) => try_two(alloc, gate),
+        made => made,
+    };
+    let Ok(gates) = made else {
         panic!(rt; "no gates")
     };
     gates

@@ -1,5 +1,5 @@
 //! How far the program is, shown on a terminal.
-use desk_cli::Reached;
+use desk_io::Reached;
 use std::cell::Cell;
 use std::io::Eprint;
 use std::time::{Clock, Instant};

@@ -1,8 +1,9 @@
 use crate::facts::{holds, holds_in, same};
+use crate::split::tiles;
 use riichi_blocks::*;
 use riichi_hand::{By, Job, Rules, WinRecord, Wind, is_ron, read_line};
 use riichi_split::{Reading, Readings};
-use riichi_tiles::{Block, Counts, Kind, read_counts};
+use riichi_tiles::{Block, Kind, read_counts};
 use std::process::Abort;
 use std::test::Fail;
 
@@ -13,12 +14,11 @@ fn job(line: &str) -> Result<Job, Fail> {
     Ok(job.ok_or("a job")?)
 }
 
-fn counts(text: &str) -> Result<Counts, Fail> {
-    Ok(read_counts(text.as_bytes()).ok().ok_or("a text of tiles")?)
-}
-
-fn tiles(text: &str) -> Result<AllTiles, Fail> {
-    Ok(AllTiles::new(counts(text)?.to_array()))
+fn all(rt: &impl Abort, text: &[u8]) -> AllTiles {
+    let Ok(tiles) = read_counts(text) else {
+        panic!(rt; "no tiles")
+    };
+    AllTiles::new(tiles.to_array())
 }
 
 /// 111m 567p 33s, a concealed kong of 9m and an open triplet of the Green dragon: won by ron, the triplet 111m is open.
@@ -78,7 +78,7 @@ fn pairs_and_tiles(rt: &impl Abort, win: &WinRecord) {
 
 #[test]
 fn looks_at_an_open_hand(rt: HostRuntime) -> Result<(), Fail> {
-    let hand = counts("111m567p33s")?;
+    let hand = tiles(b"111m567p33s")?;
     let job = job("win 11m567p33s open=ankan:9999m,pon:666z on=1m by=ron seat=E round=E")?;
     if let Job::Win(win) = &job {
         let mut is_read = false;
@@ -129,7 +129,7 @@ fn looks_at_the_kinds_in_blocks(rt: HostRuntime) -> Result<(), Fail> {
         ),
     ];
     for (hand, line, wanted) in rows {
-        let hand = counts(hand)?;
+        let hand = tiles(hand.as_bytes())?;
         let job = job(line)?;
         if let Job::Win(win) = &job {
             let mut is_read = false;
@@ -172,7 +172,7 @@ fn looks_at_special_readings(rt: HostRuntime) -> Result<(), Fail> {
         ),
     ];
     for (hand, line, seven_pairs) in rows {
-        let hand = counts(hand)?;
+        let hand = tiles(hand.as_bytes())?;
         let job = job(line)?;
         if let Job::Win(win) = &job {
             let mut is_read = false;
@@ -187,42 +187,41 @@ fn looks_at_special_readings(rt: HostRuntime) -> Result<(), Fail> {
 }
 
 #[test]
-fn looks_at_all_tiles(rt: HostRuntime) -> Result<(), Fail> {
+fn looks_at_all_tiles(rt: HostRuntime) {
     holds(
         &rt,
-        tiles("28m5p28s")?.are_simples() && !tiles("289m")?.are_simples(),
+        all(&rt, b"28m5p28s").are_simples() && !all(&rt, b"289m").are_simples(),
     );
     holds(
         &rt,
-        tiles("19m17z")?.are_orphans() && !tiles("19m8p")?.are_orphans(),
+        all(&rt, b"19m17z").are_orphans() && !all(&rt, b"19m8p").are_orphans(),
     );
     holds(
         &rt,
-        tiles("19m19p19s")?.are_terminals() && !tiles("19m1z")?.are_terminals(),
+        all(&rt, b"19m19p19s").are_terminals() && !all(&rt, b"19m1z").are_terminals(),
     );
     holds(
         &rt,
-        tiles("1234567z")?.are_honours() && !tiles("9s1z")?.are_honours(),
+        all(&rt, b"1234567z").are_honours() && !all(&rt, b"9s1z").are_honours(),
     );
     holds(
         &rt,
-        tiles("23468s6z")?.are_green() && !tiles("5s")?.are_green(),
+        all(&rt, b"23468s6z").are_green() && !all(&rt, b"5s").are_green(),
     );
     holds(
         &rt,
-        tiles("19p")?.are_of_suit(1) && !tiles("19p1z")?.are_of_suit(1),
+        all(&rt, b"19p").are_of_suit(1) && !all(&rt, b"19p1z").are_of_suit(1),
     );
-    holds(&rt, tiles("19p1z")?.are_of_suit_or_honours(1));
-    holds(&rt, !tiles("1m19p1z")?.are_of_suit_or_honours(1));
+    holds(&rt, all(&rt, b"19p1z").are_of_suit_or_honours(1));
+    holds(&rt, !all(&rt, b"1m19p1z").are_of_suit_or_honours(1));
     holds(
         &rt,
-        tiles("9m1s")?.has_suit(2) && !tiles("9m1s")?.has_suit(1),
+        all(&rt, b"9m1s").has_suit(2) && !all(&rt, b"9m1s").has_suit(1),
     );
     holds(
         &rt,
-        tiles("9s1z")?.has_honours() && !tiles("9s")?.has_honours(),
+        all(&rt, b"9s1z").has_honours() && !all(&rt, b"9s").has_honours(),
     );
-    Ok(())
 }
 
 #[test]

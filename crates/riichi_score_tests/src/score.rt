@@ -8,11 +8,10 @@ use std::process::Abort;
 use std::test::Fail;
 
 fn text_of(job: &Job) -> ArrayString<3072> {
-    let mut text = ArrayString::new();
-    if let Job::Win(win) = job {
-        push_win(&mut text, &best(win));
+    match job {
+        Job::Win(win) => win_text(&best(win)),
+        _ => ArrayString::new(),
     }
-    text
 }
 
 pub(crate) fn answers(rt: &impl Abort, rules: Rules, rows: &[(&str, &str)]) -> Result<(), Fail> {

@@ -4,7 +4,7 @@ use riichi_split::*;
 use riichi_tiles::{Block, Counts, Kind, KindSet, Meld, Melds, read_counts};
 use std::test::Fail;
 
-fn tiles(text: &[u8]) -> Result<Counts, Fail> {
+pub(crate) fn tiles(text: &[u8]) -> Result<Counts, Fail> {
     Ok(read_counts(text).ok().ok_or("a text of tiles")?)
 }
 

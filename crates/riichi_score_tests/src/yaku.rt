@@ -1,15 +1,12 @@
 use crate::facts::{holds, same};
+use crate::split::tiles;
 use arrayvec::ArrayString;
 use riichi_blocks::{all_tiles, blocks_of};
 use riichi_hand::{By, Flags, RuleSet, Rules, WinParts, WinRecord, Wind};
 use riichi_split::Readings;
-use riichi_tiles::{Counts, Kind, Meld, Melds, Reds, read_counts};
+use riichi_tiles::{Counts, Kind, Meld, Melds, Reds};
 use riichi_yaku::*;
 use std::test::Fail;
-
-fn tiles(text: &[u8]) -> Result<Counts, Fail> {
-    Ok(read_counts(text).ok().ok_or("a text of tiles")?)
-}
 
 /// A win of the dealer with these tiles, the winning one among them.
 fn won(text: &[u8], winning: Kind, melds: Melds, by: By) -> Result<WinRecord, Fail> {

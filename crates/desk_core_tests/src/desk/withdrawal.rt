@@ -1,6 +1,6 @@
 //! Hands that are taken back.
 
-use super::{FIRST, a_desk, a_lane_with, quick_job, shape_job, waits_job};
+use super::{FIRST, QUICK, SHAPE, WAITS, a_desk, a_lane_with, job};
 use crate::facts::holds;
 use desk_core::{Arrived, Event, Lane, Piece, Reply, SubmitFault, Taken, Ticket, judge};
 use riichi_hand::Job;
@@ -29,7 +29,10 @@ fn arrival(job: &Job) -> Event {
 
 /// Submits a job; where memory is refused, the second try has it.
 fn submits(lane: &mut Lane, job: &Job) -> Option<Ticket> {
-    lane.submit(*job).or_else(|_| lane.submit(*job)).ok()
+    match lane.submit(*job) {
+        Ok(ticket) => Some(ticket),
+        Err(_) => lane.submit(*job).ok(),
+    }
 }
 
 /// A lane of table 0 with these jobs.
@@ -56,7 +59,7 @@ fn withdraws(lane: &mut Lane, seq: u32) -> Result<bool, Memory> {
 
 #[test]
 fn the_day_of_a_table_that_takes_hands_back(rt: HostRuntime) {
-    let (Some(a), Some(b)) = (waits_job(b"1112345678999m"), shape_job(b"123456789m1134p")) else {
+    let (Some(a), Some(b)) = (job(WAITS), job(SHAPE)) else {
         holds(&rt, false);
         return;
     };
@@ -82,7 +85,7 @@ fn the_day_of_a_table_that_takes_hands_back(rt: HostRuntime) {
 
 #[test]
 fn all_hands_taken_back_in_any_order(rt: HostRuntime) {
-    let Some(job) = quick_job() else {
+    let Some(job) = job(QUICK) else {
         holds(&rt, false);
         return;
     };
@@ -202,9 +205,9 @@ fn withdraw_one(rt: &(impl Abort + Print), lane: &mut Lane, tickets: &mut Ticket
 #[test]
 fn a_hand_taken_back_between_arrivals(rt: HostRuntime) {
     let (Some(first), Some(second), Some(third)) = (
-        waits_job(b"1112345678999m"),
-        waits_job(b"123456789m1134p"),
-        waits_job(b"123456789m1122z"),
+        job(WAITS),
+        job(b"waits 123456789m1134p"),
+        job(b"waits 123456789m1122z"),
     ) else {
         holds(&rt, false);
         return;
@@ -241,7 +244,7 @@ fn a_hand_taken_back_between_arrivals(rt: HostRuntime) {
 
 #[test]
 fn a_desk_takes_hands_back(rt: HostRuntime) {
-    let (Some(job), Some(mut desk)) = (quick_job(), a_desk(rt.alloc(), 1)) else {
+    let (Some(job), Some(mut desk)) = (job(QUICK), a_desk(rt.alloc(), 1)) else {
         holds(&rt, false);
         return;
     };
@@ -273,7 +276,7 @@ fn a_desk_takes_hands_back(rt: HostRuntime) {
 
 #[test]
 fn nothing_changes_where_memory_is_refused(rt: HostRuntime) {
-    let Some(job) = quick_job() else {
+    let Some(job) = job(QUICK) else {
         holds(&rt, false);
         return;
     };

@@ -1,6 +1,6 @@
 //! How far answers are, as a terminal shows it.
 ghost use Rattle.std.specs.Prelude.{◌≡◌};
-ghost use Rattle.desk_cli.specs.Reached.{share_of, rate_of, left_of, held_of};
+ghost use Rattle.desk_io.specs.Reached.{share_of, rate_of, left_of, held_of};
 
 use std::fmt;
 

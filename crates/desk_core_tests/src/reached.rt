@@ -1,6 +1,6 @@
 //! How far answers are, as a terminal shows it.
 use crate::facts::{same, same_in};
-use desk_cli::{Reached, lines_a_second, seconds_left, share_done};
+use desk_io::{Reached, lines_a_second, seconds_left, share_done};
 use std::test::Fail;
 
 /// Lines, thousandths of a second, what is done, the whole, and what is shown of it.
