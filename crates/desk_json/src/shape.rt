@@ -72,7 +72,7 @@ fn push_accepted(text: &mut JsonText, accepted: &LiveList)
 {
     text.push_str("\"accepts\":[");
     push_pairs(text, &accepted.copies());
-    push_after(text, "],\"live\":", accepted.live());
+    push_after(text, "],\"live\":", accepted.live() as u32);
     text.push_str("}");
 }
 

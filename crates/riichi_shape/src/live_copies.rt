@@ -42,6 +42,6 @@ impl LiveCopies {
     pub(crate) fn among(&self, kinds: KindSet) -> u8
         ensures { result ≡ live_in (pairs_of (copies_among self.now.copies kinds)) }
     {
-        self.list(kinds).live() as u8
+        self.list(kinds).live()
     }
 }

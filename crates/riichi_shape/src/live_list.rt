@@ -61,14 +61,14 @@ impl LiveList {
     }
 
     /// How many tiles are live in all.
-    pub fn live(&self) -> u32
+    pub fn live(&self) -> u8
         ensures value { result ≡ live_in self.now }
         ensures most { result ≤ 136 }
         ensures none { result ≡ 0 → self.now ≡ [] }
     {
         let mut live = 0;
         for copies in &self.copies {
-            live += *copies as u32;
+            live += *copies;
         }
         live
     }
