@@ -80,11 +80,12 @@ impl LiveList {
         self.live() == 0
     }
 
-    /// The live copies of every kind.
-    pub fn copies(&self) -> [u8; 34]
-        ensures value { self.now ≡ pairs_of result }
-        ensures most { (kind : ℕ) → slice_index result kind ≤ 4 }
+    /// The live copies of every kind, lent.
+    pub fn copies(&self) -> &[u8; 34]
+        ensures value { self.now ≡ pairs_of result.now }
+        ensures kinds { length result.now ≡ 34 }
+        ensures most { (kind : ℕ) → slice_index result.now kind ≤ 4 }
     {
-        self.copies
+        &self.copies
     }
 }

@@ -58,7 +58,7 @@ fn push_accepted(text: &mut ArrayString<3072>, list: &LiveList)
     if live == 0 {
         text.push_str(" -");
     } else {
-        push_pairs(text, &list.copies());
+        push_pairs(text, list.copies());
     }
     text.push_str(" live ");
     push_number(text, live);
