@@ -71,7 +71,7 @@ fn push_accepted(text: &mut JsonText, accepted: &LiveList)
     ensures len { array_string_len text.new ≤ array_string_len text.old + 813 }
 {
     text.push_str("\"accepts\":[");
-    push_pairs(text, &accepted.copies());
+    push_pairs(text, accepted.copies());
     push_after(text, "],\"live\":", accepted.live());
     text.push_str("}");
 }

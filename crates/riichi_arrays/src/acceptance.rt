@@ -32,7 +32,7 @@ const NO_SHAPE: ShapeRow = ShapeRow {
 pub(crate) fn kinds_in(accepted: &LiveList) -> u64
     ensures { result ≡ kinds_in accepted.now }
 {
-    KindSet::of(&accepted.copies()).bits()
+    KindSet::of(accepted.copies()).bits()
 }
 
 fn shape_told(answer: &ShapeAnswer) -> ShapeRow
@@ -42,7 +42,7 @@ fn shape_told(answer: &ShapeAnswer) -> ShapeRow
         Accepts::Thirteen(accepted) => ShapeRow {
             shanten: answer.shanten,
             accepts: kinds_in(accepted),
-            live: accepted.copies(),
+            live: *accepted.copies(),
         },
         Accepts::Fourteen(_) => NO_SHAPE,
     }

@@ -17,9 +17,9 @@ use riichi_tiles::{Counts, KindSet, Melds, meld_tiles};
 pub(crate) fn live_copies(hand: &Counts, melds: &Melds, seen: &Counts) -> LiveCopies
     ensures { AreLiveCopies hand.now melds.now seen.now result.copies }
 {
-    let held = hand.to_array();
+    let held = hand.as_array();
     let melded = meld_tiles(melds);
-    let elsewhere = seen.to_array();
+    let elsewhere = seen.as_array();
     let mut copies = [0; 34];
     for kind in 0..34usize {
         copies[kind] = 4u8.saturating_sub(held[kind] + melded[kind] + elsewhere[kind]);
@@ -35,7 +35,7 @@ pub(crate) fn accepted_by(lacked: &LackedKinds, hand: &Counts, live: &LiveCopies
     ensures accepted { AreAcceptedBy hand.now lacked.now live.now.copies result }
     ensures live { HaveCopies live.now.copies result }
 {
-    lacked.kinds(&hand.to_array()).both(live.kinds)
+    lacked.kinds(hand.as_array()).both(live.kinds)
 }
 
 /// The kinds with live copies of which one more tile lowers the shanten, each with its live

@@ -66,11 +66,11 @@ impl LiveList {
         ensures most { result ≤ 136 }
         ensures none { result ≡ 0 → self.now ≡ [] }
     {
-        let mut live = 0;
+        let mut live = 0u8;
         for copies in &self.copies {
-            live += *copies as u32;
+            live += *copies;
         }
-        live
+        live as u32
     }
 
     /// No kind has live copies.
@@ -80,11 +80,12 @@ impl LiveList {
         self.live() == 0
     }
 
-    /// The live copies of every kind.
-    pub fn copies(&self) -> [u8; 34]
-        ensures value { self.now ≡ pairs_of result }
-        ensures most { (kind : ℕ) → slice_index result kind ≤ 4 }
+    /// The live copies of every kind, lent.
+    pub fn copies(&self) -> &[u8; 34]
+        ensures value { self.now ≡ pairs_of result.now }
+        ensures kinds { length result.now ≡ 34 }
+        ensures most { (kind : ℕ) → slice_index result.now kind ≤ 4 }
     {
-        self.copies
+        &self.copies
     }
 }

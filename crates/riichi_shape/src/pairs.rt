@@ -28,7 +28,7 @@ fn kinds_held(hand: &Counts, times: u8) -> usize
         ≡ count_by (λ kind. nat_le times (slice_index hand.now kind)) every_kind }
     ensures most { result ≤ 34 }
 {
-    counts_from(&hand.to_array(), times) as usize
+    counts_from(hand.as_array(), times) as usize
 }
 
 /// How near a hand is to seven different pairs. The nearest make pairs of kinds that are held

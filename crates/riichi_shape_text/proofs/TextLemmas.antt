@@ -1,19 +1,14 @@
 -- The text of the accepted kinds and of the discards.
-use Rattle.std.proofs.Common.{◌≡◌, ℕ, zero, suc, ◌+◌, ◌-◌, ◌<◌, ◌≤◌, Bool, true, false, cond, List, [], ◌∷◌, ◌++◌, map, length, take, length-set, ◌%◌, ltb, refl, sym, ap, ◌∙◌, arith}
+use Rattle.std.proofs.Common.{◌≡◌, ℕ, zero, suc, ◌+◌, ◌-◌, ◌<◌, ◌≤◌, Bool, true, false, cond, List, [], ◌∷◌, ◌++◌, map, take, drop, ◌*◌, ltb, refl, sym, ap, ◌∙◌, arith}
 use Rattle.std.proofs.lemmas.Bool.{lt-ltb, le-ltb, ltb-false, ltb-true}
 use Rattle.std.proofs.lemmas.List.{append-nil, flat_map_more}
 use Rattle.std.specs.Str.{IsAscii}
 use Rattle.std.proofs.lemmas.Str.Ascii.{IsAscii-cons, IsAscii-nil}
-use Rattle.std.proofs.lemmas.Str.{IsAscii-append}
-use Rattle.std.proofs.lemmas.Grind.{take-set_at}
-use Rattle.std.specs.Result.{IsOk, MatchResult}
-use Rattle.std.proofs.Common.{Result, Ok, Err}
 use Rattle.std.specs.List.{filter, flat_map, range_with_len}
-use Rattle.std.specs.Prelude.{nat_lt, slice_index, slice_set}
+use Rattle.std.specs.Prelude.{codes, nat_lt, slice_index}
 use Rattle.riichi_tiles.specs.HeldKinds.{AreHeldOf, is_held}
-use Rattle.riichi_tiles.specs.Melds.{every_kind}
 use Rattle.riichi_shape.specs.LiveCopies.{pairs_of}
-use Rattle.riichi_text.specs.Tiles.{letter_of}
+use Rattle.riichi_text.specs.Tiles.{digit_of, letter_of}
 use Rattle.riichi_text.proofs.Letters.{letter_below}
 use Rattle.riichi_shape_text.specs.Text.{pair_text}
 
@@ -61,10 +56,10 @@ pairs_more copies n =
     same : (n : ℕ) → 0 + n ≡ n
     same n = omega arith
 
-pub text_with : (copies : List ℕ) (n : ℕ) → 0 < slice_index copies n → flat_map pair_text (pairs_below copies n) ++ pair_text (n, slice_index copies n) ≡ flat_map pair_text (pairs_below copies (n + 1))
-text_with copies n live =
-    flat_map_more pair_text [] (pairs_below copies n) (n, slice_index copies n)
-    ∙ sym (ap (λ ps. flat_map pair_text ps) (pairs_more copies n ∙ ap (λ t. pairs_below copies n ++ cond t ((n, slice_index copies n) ∷ []) []) (lt-ltb 0 (slice_index copies n) live)))
+pub text_with : (before copies : List ℕ) (n : ℕ) → 0 < slice_index copies n → (before ++ flat_map pair_text (pairs_below copies n)) ++ pair_text (n, slice_index copies n) ≡ before ++ flat_map pair_text (pairs_below copies (n + 1))
+text_with before copies n live =
+    flat_map_more pair_text before (pairs_below copies n) (n, slice_index copies n)
+    ∙ sym (ap (λ ps. before ++ flat_map pair_text ps) (pairs_more copies n ∙ ap (λ t. pairs_below copies n ++ cond t ((n, slice_index copies n) ∷ []) []) (lt-ltb 0 (slice_index copies n) live)))
 
 -- the kinds from one to another have no live copies
 pub pairs_past : (copies : List ℕ) (n more : ℕ) → ((kind : ℕ) → n ≤ kind → kind < n + more → slice_index copies kind ≤ 0) → pairs_below copies (n + more) ≡ pairs_below copies n
@@ -92,45 +87,43 @@ module _ (copies : List ℕ) (set : ℕ) (live : AreHeldOf copies set) where
       parts : (n m : ℕ) → n ≤ m → m ≡ n + (m - n)
       parts n m up = omega arith
 
--- ---- the text is ASCII
+-- ---- the kinds before their live copies
 
-pair_ascii : (kind live : ℕ) → live ≤ 4 → IsAscii (pair_text (kind, live))
-pair_ascii kind live few =
-    IsAscii-cons 32 ((49 + kind % 9) ∷ letter_of kind ∷ 58 ∷ (48 + live) ∷ []) (omega arith)
-    (IsAscii-cons (49 + kind % 9) (letter_of kind ∷ 58 ∷ (48 + live) ∷ []) (omega arith)
-    (IsAscii-cons (letter_of kind) (58 ∷ (48 + live) ∷ []) (letter_below kind)
-    (IsAscii-cons 58 ((48 + live) ∷ []) (omega arith) (IsAscii-cons (48 + live) [] (omega (arith, few)) IsAscii-nil))))
+-- a kind as it stands there
+abbrev pub front : ℕ → List ℕ
+front kind = 32 ∷ digit_of kind ∷ letter_of kind ∷ 58 ∷ []
 
-kinds_ascii : (copies : List ℕ) → ((kind : ℕ) → slice_index copies kind ≤ 4) → (kinds : List ℕ) → IsAscii (flat_map pair_text (map (λ kind. (kind, slice_index copies kind)) kinds))
-kinds_ascii copies few [] = IsAscii-nil
-kinds_ascii copies few (kind ∷ kinds) = IsAscii-append (pair_text (kind, slice_index copies kind)) _ (pair_ascii kind (slice_index copies kind) (few kind)) (kinds_ascii copies few kinds)
+abbrev pub fronts : ℕ → ℕ → List ℕ
+fronts a n = flat_map front (range_with_len a n)
 
-pub pairs_ascii : (copies : List ℕ) → ((kind : ℕ) → slice_index copies kind ≤ 4) → IsAscii (flat_map pair_text (pairs_of copies))
-unfolding pairs_of
-pairs_ascii copies few = kinds_ascii copies few (filter (λ kind. nat_lt 0 (slice_index copies kind)) every_kind)
+pub fronts_ascii : (a n : ℕ) → IsAscii (fronts a n)
+fronts_ascii a zero = IsAscii-nil
+fronts_ascii a (suc n) =
+    let rest = fronts (a + 1) n in
+    IsAscii-cons 32 (digit_of a ∷ letter_of a ∷ 58 ∷ rest) (omega arith)
+    (IsAscii-cons (digit_of a) (letter_of a ∷ 58 ∷ rest) (omega arith)
+    (IsAscii-cons (letter_of a) (58 ∷ rest) (letter_below a) (IsAscii-cons 58 rest (omega arith) (fronts_ascii (a + 1) n))))
 
--- ---- a kind behind a text
+-- each stands behind those before it
+pub front_at : (a n k : ℕ) → k < n → take 4 (drop (4 * k) (fronts a n)) ≡ front (a + k)
+front_at a zero k low = absurd (omega (arith, low))
+front_at a (suc n) zero low = ap front (same a)
+  where
+    same : (a : ℕ) → a ≡ a + 0
+    same a = omega arith
+front_at a (suc n) (suc k) low = ap (λ m. take 4 (drop m (fronts a (suc n)))) (further k) ∙ front_at (a + 1) n k (omega (arith, low)) ∙ ap front (moved a k)
+  where
+    further : (k : ℕ) → 4 * suc k ≡ suc (suc (suc (suc (4 * k))))
+    further k = omega arith
 
-five_bytes : (old : List ℕ) (a b c d e : ℕ) → ((((old ++ a ∷ []) ++ b ∷ []) ++ c ∷ []) ++ d ∷ []) ++ e ∷ [] ≡ old ++ a ∷ b ∷ c ∷ d ∷ e ∷ []
-five_bytes [] a b c d e = refl
-five_bytes (x ∷ xs) a b c d e = ap (λ ys. x ∷ ys) (five_bytes xs a b c d e)
+    moved : (a k : ℕ) → a + 1 + k ≡ a + suc k
+    moved a k = omega arith
 
--- five bytes from a place on
-pub written : (bytes : List ℕ) (at a b c d e : ℕ) → at + 5 ≤ length bytes →
-    take (at + 5) (slice_set (slice_set (slice_set (slice_set (slice_set bytes at a) (at + 1) b) (at + 2) c) (at + 3) d) (at + 4) e) ≡ take at bytes ++ a ∷ b ∷ c ∷ d ∷ e ∷ []
-written bytes at a b c d e room =
-    let with_a = slice_set bytes at a in
-    let with_b = slice_set with_a (at + 1) b in
-    let with_c = slice_set with_b (at + 2) c in
-    let with_d = slice_set with_c (at + 3) d in
-    take-set_at with_d (at + 4) (at + 5) e (omega arith) (omega (arith, length-set with_c (at + 3) d, length-set with_b (at + 2) c, length-set with_a (at + 1) b, length-set bytes at a, room))
-    ∙ ap (λ t. t ++ e ∷ []) (take-set_at with_c (at + 3) (at + 4) d (omega arith) (omega (arith, length-set with_b (at + 2) c, length-set with_a (at + 1) b, length-set bytes at a, room))
-    ∙ ap (λ t. t ++ d ∷ []) (take-set_at with_b (at + 2) (at + 3) c (omega arith) (omega (arith, length-set with_a (at + 1) b, length-set bytes at a, room))
-    ∙ ap (λ t. t ++ c ∷ []) (take-set_at with_a (at + 1) (at + 2) b (omega arith) (omega (arith, length-set bytes at a, room))
-    ∙ ap (λ t. t ++ b ∷ []) (take-set_at bytes at (at + 1) a (omega arith) (omega (arith, room))))))
-    ∙ five_bytes (take at bytes) a b c d e
-
--- of no error a value is left
-pub ok_unless : {T E : Type 0} (P : T → Type 0) (Q : E → Type 0) (r : Result T E) → MatchResult r P Q → ((e : E) → Q e → ⊥) → IsOk r
-ok_unless P Q (Ok x) cases no_error = refl
-ok_unless P Q (Err e) cases no_error = absurd (no_error e cases)
+-- so does each digit
+pub digit_at : (live : ℕ) → live ≤ 4 → take 1 (drop live (codes "01234")) ≡ (48 + live) ∷ []
+digit_at zero few = refl
+digit_at (suc zero) few = refl
+digit_at (suc (suc zero)) few = refl
+digit_at (suc (suc (suc zero))) few = refl
+digit_at (suc (suc (suc (suc zero)))) few = refl
+digit_at (suc (suc (suc (suc (suc more))))) few = absurd (omega (arith, few))

@@ -9,7 +9,6 @@
 //! ```
 #![tactic(auto)]
 
-mod pairs_text;
 mod text;
 
 pub use text::{push_shape, shape_text};

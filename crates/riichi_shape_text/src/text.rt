@@ -5,11 +5,30 @@ ghost use Rattle.arrayvec.specs.ArrayString.{array_string_len};
 ghost use Rattle.riichi_shape.specs.LiveCopies.{pairs_of};
 ghost use Rattle.riichi_shape_text.specs.Text as spec;
 
-use crate::pairs_text::write_pairs;
 use arrayvec::ArrayString;
 use riichi_shape::{Accepts, Discard, DiscardList, LiveList, ShapeAnswer};
 use riichi_text::{push_kind, push_number};
-use std::str;
+use riichi_tiles::KindSet;
+
+/// Each kind as it stands before its live copies, in four bytes.
+const KINDS: &str =
+    " 1m: 2m: 3m: 4m: 5m: 6m: 7m: 8m: 9m: 1p: 2p: 3p: 4p: 5p: 6p: 7p: 8p: 9p: 1s: 2s: 3s: 4s: 5s: 6s: 7s: 8s: 9s: 1z: 2z: 3z: 4z: 5z: 6z: 7z:";
+
+/// A number of live copies is one of these digits.
+const DIGITS: &str = "01234";
+
+/// Writes a kind with its live copies.
+#[inline(always)]
+fn push_pair(text: &mut ArrayString<3072>, kind: usize, live: u8)
+    requires room { array_string_len text.old + 5 ≤ 3072 }
+    requires kind { kind < 34 }
+    requires live { live ≤ 4 }
+    ensures bytes { text.new.bytes ≡ text.old.bytes ++ spec.pair_text (kind, live) }
+    ensures len { array_string_len text.new ≡ array_string_len text.old + 5 }
+{
+    text.push_str(&KINDS[4 * kind..4 * kind + 4]);
+    text.push_str(&DIGITS[live as usize..live as usize + 1]);
+}
 
 /// Writes each kind that has live copies.
 fn push_pairs(text: &mut ArrayString<3072>, copies: &[u8; 34])
@@ -19,34 +38,30 @@ fn push_pairs(text: &mut ArrayString<3072>, copies: &[u8; 34])
         ≡ text.old.bytes ++ flat_map spec.pair_text (pairs_of copies.now) }
     ensures len { array_string_len text.new ≤ array_string_len text.old + 170 }
 {
-    let mut bytes = [0; 175];
-    let end = write_pairs(&mut bytes, copies);
-    text.push_str(str::from_utf8(&bytes[..end]).unwrap());
-}
-
-/// Writes the kinds of a list, or a dash.
-fn push_kinds(text: &mut ArrayString<3072>, list: &LiveList)
-    requires { array_string_len text.old + 170 ≤ 3072 }
-    ensures bytes { text.new.bytes ≡ text.old.bytes ++ spec.kinds_text list.now }
-    ensures len { array_string_len text.new ≤ array_string_len text.old + 170 }
-{
-    if list.is_empty() {
-        text.push_str(" -");
-    } else {
-        push_pairs(text, &list.copies());
+    let live = KindSet::of(copies);
+    let mut kind = live.first_from(0);
+    while kind < 34 {
+        push_pair(text, kind, copies[kind]);
+        kind = live.first_from(kind + 1);
     }
 }
 
+/// Writes the kinds of a list, or a dash, and how many tiles are live in all.
 #[tactic(auto, unfolding(crate::specs::Text::list_text))]
 fn push_accepted(text: &mut ArrayString<3072>, list: &LiveList)
     requires { array_string_len text.old + 194 ≤ 3072 }
     ensures bytes { text.new.bytes ≡ text.old.bytes ++ spec.list_text list.now }
     ensures len { array_string_len text.new ≤ array_string_len text.old + 194 }
 {
+    let live = list.live();
     text.push_str(" accepts");
-    push_kinds(text, list);
+    if live == 0 {
+        text.push_str(" -");
+    } else {
+        push_pairs(text, list.copies());
+    }
     text.push_str(" live ");
-    push_number(text, list.live());
+    push_number(text, live);
 }
 
 #[tactic(auto, unfolding(crate::specs::Text::discard_text))]

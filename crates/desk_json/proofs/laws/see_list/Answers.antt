@@ -5,6 +5,6 @@ use Rattle.desk_json.proofs.laws.see_list.Goals as goal
 
 pub returns : goal.returns
 returns c = record {
-  each = subst (Each IsWholePair) (sym c.copies-copies.ensures.value) (all_pairs_whole c.copies-copies.result c.copies-copies.ensures.most);
+  each = subst (Each IsWholePair) (sym c.copies-copies.ensures.value) (all_pairs_whole c.copies-copies.result.now c.copies-copies.ensures.most);
   live = omega (arith, c.live-live.ensures.value, c.live-live.ensures.most);
 }

@@ -20,7 +20,7 @@ module _ (c : goal.After-both) where
   has_at : (k : ℕ) → k < 34 → is_held c.both.result k ≡ (lacks_kind c.args.lacked.now k (slice_index c.args.hand.now k) && nat_lt 0 (slice_index c.args.live.now.copies k))
   has_at k low =
       ap (λ s. is_held s k) c.both.ensures ∙ both_at c.kinds.result c.args.live.now.kinds k
-      ∙ ap (λ t. t && is_held c.args.live.now.kinds k) (c.kinds.ensures k low ∙ ap (λ held. lacks_kind c.args.lacked.now k (slice_index held k)) c.to_array.ensures.value)
+      ∙ ap (λ t. t && is_held c.args.live.now.kinds k) (c.kinds.ensures k low ∙ ap (λ held. lacks_kind c.args.lacked.now k (slice_index held k)) c.as_array.ensures.value)
       ∙ ap (λ t. lacks_kind c.args.lacked.now k (slice_index c.args.hand.now k) && t) (c.args.live.now.live.each k)
 
 pub returns-clause-accepted : goal.returns-clause-accepted
@@ -28,7 +28,7 @@ returns-clause-accepted c = λ melds seen lacked are.
     (let hand = c.args.hand.now in
     let copies = c.args.live.now.copies in
     accepted_pairs (copies_among copies c.both.result) hand melds seen
-    (λ k low. accepted_at hand melds lacked.at_most_four lacked.of_a_kind c.to_array.ensures.counts.each_kind k low (distance_of hand melds) refl c.args.lacked.now lacked.least seen
+    (λ k low. accepted_at hand melds lacked.at_most_four lacked.of_a_kind c.as_array.ensures.counts.each_kind k low (distance_of hand melds) refl c.args.lacked.now lacked.least seen
     (slice_index (copies_among copies c.both.result) k) (slice_index copies k)
     (among_at copies c.both.result k low ∙ ap (λ t. cond t (slice_index copies k) 0) (has_at c k low) ∙ lacked_and_live (lacks_kind c.args.lacked.now k (slice_index hand k)) (slice_index copies k)) (are.at k low)))
 

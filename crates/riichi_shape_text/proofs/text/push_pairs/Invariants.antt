@@ -1,13 +1,13 @@
-use Rattle.std.proofs.Common.{◌≡◌, ◌*◌, ◌-◌, ◌<◌, ◌≤◌, get_or, take}
+use Rattle.std.proofs.Common.{◌≡◌, ◌+◌, ◌*◌, ◌-◌, ◌<◌, ◌≤◌, ◌++◌, length, get_or}
 use Rattle.std.specs.List.{flat_map}
 use Rattle.riichi_shape_text.specs.Text.{pair_text}
 use Rattle.riichi_shape_text.proofs.TextLemmas.{pairs_below}
-use Rattle.riichi_shape_text.proofs.pairs_text.write_pairs.Given as goal
+use Rattle.riichi_shape_text.proofs.text.push_pairs.Given as goal
 
 abbrev pub invariant-loop-kind : goal.invariant-loop-kind
 invariant-loop-kind l = record {
-  text : take l.end l.bytes ≡ flat_map pair_text (pairs_below l.copies l.kind);
-  few : l.end ≤ 5 * l.kind;
+  bytes : l.text.bytes ≡ l.initial.text.bytes ++ flat_map pair_text (pairs_below l.copies l.kind);
+  few : length l.text.bytes ≤ length l.initial.text.bytes + 5 * l.kind;
   most : l.kind ≤ 34;
   live : l.kind < 34 → 0 < get_or l.copies l.kind 0;
 }
