@@ -1,5 +1,5 @@
 -- A stream once one more round is read and answered.
-use Rattle.std.proofs.Common.{◌≡◌, ℕ, ◌+◌, inl, inr, List, [], ◌++◌, Bool, None, refl, sym, subst, ◌∙◌, ap, arith}
+use Rattle.std.proofs.Common.{◌≡◌, ℕ, ◌+◌, inl, inr, List, [], ◌++◌, Bool, None, Some, Result, Ok, Err, refl, sym, subst, ◌∙◌, ap, arith}
 use Rattle.std.proofs.KnownBytes.{Consumes-nil}
 use Rattle.std.proofs.lemmas.List.{append-nil}
 use Rattle.riichi_hand.specs.declared.win.Rules.{Rules}
@@ -16,9 +16,10 @@ use Rattle.desk_lines.proofs.StreamLemmas.{Gives-more, WritesAll-nil}
 use Rattle.desk_io.specs.declared.sink.Sink.{Ghosts as OfSink}
 use Rattle.desk_io.specs.declared.source.Source.{Ghosts as OfSource}
 use Rattle.desk_crew.specs.declared.standing.Standing.{Standing}
-use Rattle.desk_crew.specs.declared.reading.Stop.TheVariants.{Failed}
+use Rattle.desk_crew.specs.declared.reading.Stop.{Stop}
+use Rattle.desk_crew.specs.declared.reading.Stop.TheVariants.{Full, End, Failed}
 use Rattle.desk_crew.specs.Crew.{Stands, Stopped, IsBetween, IsGivenUp, IsUnread, IsLeft}
-use Rattle.desk_crew.specs.Reading.{GoesOn, FindsEnd, IsStop}
+use Rattle.desk_crew.specs.Reading.{GoesOn, FindsEnd, IsStop, stop_outcome}
 use Rattle.desk_crew.proofs.CrewLemmas.{Stands-none, Stopped-memory}
 
 -- nothing was read
@@ -125,3 +126,17 @@ module _ {R : Type 0} (source : OfSource R) where
   pub fails_after : (from old new : R) (left : ℕ) → GoesOn source from old → source.calls new + left ≡ source.calls from + 4294967295 → IsStop source old new left Failed → FailsOrGoesOn source from new
   fails_after from old new left first calls (inl once) = inl (record { failed = once.failed ∙ ap (λ n. n + 1) first.0; no_end = once.no_end ∙ first.1 })
   fails_after from old new left first calls (inr none) = inr (record { calls = omega (arith, none.0, calls); no_end = none.1.1 ∙ first.1; not_failed = none.1.0 ∙ first.0 })
+
+-- ---- what the reading comes to
+
+-- it goes on only where a round was full
+pub goes_on : (stop : Stop) → stop_outcome stop ≡ None → stop ≡ Full
+goes_on Full is = refl
+goes_on End is = let no = is in cc
+goes_on Failed is = let no = is in cc
+
+-- else it has found the end, or failed
+pub ends_so : (P : Result (Unit {0}) DeskFault → Type 0) (stop : Stop) (end : Result (Unit {0}) DeskFault) → stop_outcome stop ≡ Some end → (stop ≡ End → P (Ok tt)) → (stop ≡ Failed → P (Err Read)) → P end
+ends_so P Full end is ended failed = let no = is in absurd cc
+ends_so P End end is ended failed = let same : Ok tt ≡ end = (let it = is in cc) in subst P same (ended refl)
+ends_so P Failed end is ended failed = let same : Err Read ≡ end = (let it = is in cc) in subst P same (failed refl)

@@ -1,7 +1,9 @@
 -- What the reads of a round gave.
-use Rattle.std.specs.Prelude.{◌≡◌, ◌⊎◌, ℕ, ◌+◌, List, ◌++◌}
+use Rattle.std.specs.Prelude.{◌≡◌, ◌⊎◌, ℕ, ◌+◌, List, ◌++◌, Option, None, Some, Result, Ok, Err}
 use Rattle.std.specs.Io.KnownBytes.{IsAtEnd}
 use Rattle.desk_io.specs.declared.source.Source.{Ghosts as OfSource}
+use Rattle.desk_lines.specs.declared.fault.DeskFault.{DeskFault}
+use Rattle.desk_lines.specs.declared.fault.DeskFault.TheVariants.{Read}
 use Rattle.desk_lines.specs.Streams.{Gives, FailsOnce}
 use Rattle.desk_crew.specs.declared.reading.Stop.{Stop}
 use Rattle.desk_crew.specs.declared.reading.Stop.TheVariants.{Full, End, Failed}
@@ -29,3 +31,9 @@ pub record IsReadOn {R : Type 0} (source : OfSource R) (old new : R) (before aft
   pub gives : Gives source old new bytes
   pub text_is : after ≡ before ++ bytes
   pub stopped : IsStop source old new left stop
+
+-- what the reading of a stream comes to, or none where it goes on
+abbrev pub stop_outcome : Stop → Option (Result (Unit {0}) DeskFault)
+stop_outcome Full = None
+stop_outcome End = Some (Ok tt)
+stop_outcome Failed = Some (Err Read)

@@ -128,10 +128,8 @@ impl Crew {
     {
         loop {
             let stop = self.turn::<A, H, R, W>(rt, given, reader, writer)?;
-            match stop {
-                Stop::Full => {}
-                Stop::Failed => return Err(DeskFault::Read),
-                Stop::End => return Ok(()),
+            if let Some(end) = stop.outcome() {
+                return end;
             }
         }
     }

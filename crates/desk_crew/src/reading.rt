@@ -1,9 +1,10 @@
 //! The reads of one round.
 ghost use Rattle.std.specs.Prelude.{◌≡◌, ◌+◌, ◌<◌, ℕ, List, IfOk, IfErr};
 ghost use Rattle.desk_lines.specs.Streams.{Gives};
-ghost use Rattle.desk_crew.specs.Reading.{IsReadOn};
+ghost use Rattle.desk_crew.specs.Reading.{IsReadOn, stop_outcome};
 
 use desk_io::Source;
+use desk_lines::DeskFault;
 use std::alloc::AllocError;
 
 /// What one read gives at most.
@@ -18,6 +19,19 @@ pub(crate) enum Stop {
     End,
     /// A read failed, or none is left.
     Failed,
+}
+
+impl Stop {
+    /// What the reading of a stream comes to, or none where it goes on.
+    pub(crate) fn outcome(self) -> Option<Result<(), DeskFault>>
+        ensures { result ≡ stop_outcome self }
+    {
+        match self {
+            Stop::Full => None,
+            Stop::End => Some(Ok(())),
+            Stop::Failed => Some(Err(DeskFault::Read)),
+        }
+    }
 }
 
 /// Reads behind a text until it has so many bytes or more, but once at least.

@@ -10,6 +10,12 @@ desk_fault desk.Read = Read
 desk_fault desk.Write = Write
 desk_fault desk.Memory = Memory
 
+-- the same where answers are written into memory: a write fails where there is none
+abbrev pub fault_in_memory : DeskFault → ScoreFault
+fault_in_memory desk.Read = Read
+fault_in_memory desk.Write = Memory
+fault_in_memory desk.Memory = Memory
+
 -- the code of a fault
 abbrev pub code_of : ScoreFault → List ℕ
 code_of Read = codes "F1"

@@ -97,6 +97,21 @@ pub fn score_text_with<H: Threads + Sync, R: Source + Drop, W: Sink>(
         return Err(ScoreFault::Range);
     }
     let tables = Tables::answer(rt, alloc, workers as usize, rules, names, readers)?;
+    write_tables(&tables, writer)
+}
+
+/// Writes the answers, where no table has more jobs than it may submit. So B1 is told just where one has, and else no fault but
+/// that of a write.
+fn write_tables<W: Sink>(tables: &Tables, writer: &mut W) -> Result<DeskReport, ScoreFault>
+    ensures ok { IfOk result (λ report. IsTrue tables.now.within_limit
+        × WritesAll ⟦<W as Sink>⟧ writer.old writer.new tables.now.answers.text.items
+        × (report ≡ tables.now.report)) }
+    ensures range { (result ≡ Err ScoreFault.Range) ↔ (tables.now.within_limit ≡ false) }
+    ensures err { IfErr result (λ fault. (fault ≡ ScoreFault.Range) ⊎ (fault ≡ ScoreFault.Write)) }
+    ensures unwritten { IfErr result (λ fault. fault ≢ ScoreFault.Write → writer.new ≡ writer.old) }
+    ensures write_failed { IsErrOf result ScoreFault.Write → IsTrue tables.now.within_limit
+        × StopsWriting ⟦<W as Sink>⟧ writer.old writer.new tables.now.answers.text.items }
+{
     if !tables.within_limit {
         return Err(ScoreFault::Range);
     }

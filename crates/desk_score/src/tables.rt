@@ -4,6 +4,7 @@ ghost use Rattle.riichi_hand.specs.declared.win.Rules.{Rules};
 ghost use Rattle.desk_lines.specs.Lines.{lines};
 ghost use Rattle.desk_lines.specs.LineAnswers.{report_on};
 ghost use Rattle.desk_lines.specs.Streams.{FailsOrGoesOn, GivesAll, IsReadWithin};
+ghost use Rattle.desk_score.specs.Faults.{fault_in_memory};
 ghost use Rattle.desk_score.specs.Score.{AllGive, StopsReading, table_name};
 ghost use Rattle.desk_score.specs.Shown.{answers_shown};
 ghost use Rattle.desk_score.specs.Tables.{AreAnswered, AreCounted};
@@ -103,9 +104,7 @@ impl Tables {
         let (crew, answers) = (&mut self.crew, &mut self.answers);
         match answer_table(rt, alloc, crew, rules, names.is_some(), reader, answers) {
             Ok(report) => self.count_table(report),
-            Err(DeskFault::Read) => Err(ScoreFault::Read),
-            // A write into memory fails where there is none.
-            Err(DeskFault::Write | DeskFault::Memory) => Err(ScoreFault::Memory),
+            Err(fault) => Err(in_memory(fault)),
         }
     }
 
@@ -150,6 +149,16 @@ fn answer_table<H: Threads + Sync, R: Source>(
         return numbered_text_with::<Plain, SuitMemo, R, Paper>(&mut rows, rules, reader, answers);
     }
     crew.answer_text::<Plain, H, R, Paper>(rt, rules, reader, answers)
+}
+
+/// The fault of a score, where the answers to a text were written into memory: a write fails where there is none.
+fn in_memory(fault: DeskFault) -> ScoreFault
+    ensures { result ≡ fault_in_memory fault }
+{
+    match fault {
+        DeskFault::Read => ScoreFault::Read,
+        DeskFault::Write | DeskFault::Memory => ScoreFault::Memory,
+    }
 }
 
 /// The name of a table, where names are given. One that isn't among them is empty.
