@@ -3,7 +3,7 @@ use Rattle.desk_lines.specs.Filling.{IsCutBehindLine}
 use Rattle.desk_lines.specs.Lines.{lines}
 use Rattle.desk_lines.specs.Records.{AreTold}
 use Rattle.desk_lines.specs.Telling.{text_of}
-use Rattle.desk_lines.proofs.filling.fill.Given as goal
+use Rattle.desk_lines.proofs.filling.fill_by.Given as goal
 
 -- the text up to the rest is answered, and the answers fill the front of the room
 abbrev pub invariant-loop-line : goal.invariant-loop-line

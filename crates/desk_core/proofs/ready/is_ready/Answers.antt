@@ -4,8 +4,8 @@ use Rattle.std.proofs.lemmas.Bool.{eqb-true}
 use Rattle.std.proofs.lemmas.Int.{to_z-of_z}
 use Rattle.riichi_tiles.specs.Tiles.{IsCounts}
 use Rattle.riichi_shape.specs.EveryWinning.{shanten_of}
-use Rattle.desk_lines.proofs.ReadyAndWaiting.{melded, ready_iff}
-use Rattle.desk_lines.proofs.ready.is_ready.Goals as goal
+use Rattle.desk_core.proofs.ReadyAndWaiting.{melded, ready_iff}
+use Rattle.desk_core.proofs.ready.is_ready.Goals as goal
 
 pub shanten-requires : goal.shanten-requires
 shanten-requires c = λ kind low.

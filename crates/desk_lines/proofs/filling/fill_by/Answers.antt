@@ -5,7 +5,7 @@ use Rattle.desk_lines.specs.Telling.{text_of, with_line_feed, answers_in}
 use Rattle.desk_lines.proofs.AnswerLemmas.{AreTold-last}
 use Rattle.desk_lines.proofs.FillingLemmas.{front-longer, no_room, longer_room}
 use Rattle.desk_lines.proofs.TellingLemmas.{text_of-more}
-use Rattle.desk_lines.proofs.filling.fill.Goals as goal
+use Rattle.desk_lines.proofs.filling.fill_by.Goals as goal
 
 pub loop-line-init : goal.loop-line-init
 loop-line-init g c = (
@@ -26,7 +26,7 @@ loop-line-preserved g c =
     let front = kept.0 in
     let told = kept.1 in
     let more = front-longer c.args.text.now front c.loop-line.rest.now kept.2.cut c.in-Some.line.now c.in-Some.after.now c.in-Some.ensures in
-    let puts = c.respond.ensures in
+    let puts = c.respond.ensures.puts in
     let put = c.put_at.ensures.put c.if-not-put_at.false in
     let text = with_line_feed puts.told in
     let is : c.as_slice-told.result.now ≡ text = c.as_slice-told.ensures ∙ puts.put ∙ ap (λ b. b ++ text) c.clear.ensures in
@@ -48,7 +48,7 @@ loop-line-preserved g c =
 pub returns-then-not-put_at : goal.returns-then-not-put_at
 returns-then-not-put_at g c =
     let kept = c.loop-line.invariant in
-    let puts = c.respond.ensures in
+    let puts = c.respond.ensures.puts in
     let left = c.put_at.ensures.left c.if-not-put_at.true in
     let text = with_line_feed puts.told in
     let is : c.as_slice-told.result.now ≡ text = c.as_slice-told.ensures ∙ puts.put ∙ ap (λ b. b ++ text) c.clear.ensures in

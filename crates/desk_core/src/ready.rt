@@ -1,7 +1,7 @@
 //! Whether a hand is ready.
 ghost use Rattle.std.specs.Prelude.{◌≡◌, ◌↔◌, pos, IsTrue};
 ghost use Rattle.riichi_shape.specs.EveryWinning.{shanten_of};
-ghost use Rattle.desk_lines.specs.Ready.{HasWait};
+ghost use Rattle.desk_core.specs.Ready.{HasWait};
 
 use riichi_hand::HandRecord;
 use riichi_shape::shanten;

@@ -1,5 +1,5 @@
-use Rattle.desk_lines.proofs.ReadyAndWaiting.{ready_iff, never_below}
-use Rattle.desk_lines.proofs.laws.ready_exactly_where_it_waits.Goals as goal
+use Rattle.desk_core.proofs.ReadyAndWaiting.{ready_iff, never_below}
+use Rattle.desk_core.proofs.laws.ready_exactly_where_it_waits.Goals as goal
 
 pub returns-clause-ready : goal.returns-clause-ready
 returns-clause-ready c = ready_iff

@@ -1,5 +1,5 @@
 use crate::facts::{holds, holds_in};
-use desk_lines::is_ready;
+use desk_core::{is_ready, laws};
 use riichi_hand::HandRecord;
 use riichi_tiles::{Kind, Meld, Melds, read_counts};
 use std::test::Fail;
@@ -37,4 +37,9 @@ fn the_last_tile_of_its_kind_is_melded(rt: HostRuntime) -> Result<(), Fail> {
     holds(&rt, !is_ready_with("123456789m1z", melds)?);
     holds(&rt, is_ready_with("123456789m2z", melds)?);
     Ok(())
+}
+
+#[test]
+fn states_the_law(_rt: HostRuntime) {
+    laws::ready_exactly_where_it_waits();
 }

@@ -20,7 +20,7 @@ use Rattle.riichi_shape.proofs.Distances.{never_none}
 use Rattle.riichi_shape.proofs.ReadyLemmas.{one_more_at, one_more_past, ready_is}
 use Rattle.riichi_hand.proofs.OutcomeLemmas.{no_faults}
 use Rattle.riichi_shape.proofs.Uniqueness.{distance_from, listed_winning, winning_listed}
-use Rattle.desk_lines.specs.Ready.{HasWait}
+use Rattle.desk_core.specs.Ready.{HasWait}
 
 -- ---- the distance is that of some winning multiset
 
