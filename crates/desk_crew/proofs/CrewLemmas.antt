@@ -22,7 +22,7 @@ use Rattle.desk_io.specs.declared.sink.Sink.{Ghosts as OfSink}
 use Rattle.desk_crew.specs.Crew.{Stands, Stopped}
 use Rattle.desk_crew.specs.declared.standing.Standing.{Standing}
 use Rattle.desk_crew.specs.Shares.{AreWritten, AreLeft, both_reports}
-use Rattle.desk_crew.proofs.ShareLemmas.{AreTold-append, counted-append}
+use Rattle.desk_crew.proofs.ShareLemmas.{AreTold-append, counted-append, none-both}
 
 some_is : (one other : Rules) → Some one ≡ Some other → one ≡ other
 some_is one other same = ap (λ (rules : Option Rules). unwrap_or rules one) same
@@ -159,6 +159,7 @@ all_counted given rules [] [] next as_these profile = absurd (let none = profile
 all_counted given rules [] (line ∷ hand) next as_these profile =
     let hand_all = line ∷ hand in
     sym (counted_as given hand_all next as_these) ∙ ap (λ (r : Rules). report_of (map (line_kind r) (record_lines hand_all))) (some_is (rules_of given hand_all) rules profile)
+    ∙ none-both (report_of (map (line_kind rules) (record_lines hand_all)))
 all_counted given rules (line ∷ lines) hand next as_these profile =
     let set = rules_of given (line ∷ lines) in
     ap (λ ls. report_of (map (line_kind set) ls)) (record_lines-more line lines next) ∙ counted-append set (record_lines (line ∷ lines)) next

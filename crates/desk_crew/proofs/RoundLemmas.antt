@@ -12,7 +12,7 @@ use Rattle.desk_lines.specs.Streams.{Gives, FailsOrGoesOn}
 use Rattle.desk_lines.specs.Telling.{report_of}
 use Rattle.desk_lines.proofs.CutLemmas.{ended_lines-more, last_told}
 use Rattle.desk_lines.proofs.ReadingLemmas.{told_more, keeps_more}
-use Rattle.desk_lines.proofs.StreamLemmas.{Gives-more, WritesAll-nil}
+use Rattle.desk_lines.proofs.StreamLemmas.{Gives-more}
 use Rattle.desk_io.specs.declared.sink.Sink.{Ghosts as OfSink}
 use Rattle.desk_io.specs.declared.source.Source.{Ghosts as OfSource}
 use Rattle.desk_crew.specs.declared.standing.Standing.{Standing}

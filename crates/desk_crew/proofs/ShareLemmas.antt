@@ -98,6 +98,12 @@ both-none report =
     let refused : report.refused ≡ report.refused + 0 = omega arith in
     λ i. record { answered = answered i; refused = refused i }
 
+pub none-both : (report : DeskReport) → report ≡ both_reports (record { answered = 0; refused = 0 }) report
+none-both report =
+    let answered : report.answered ≡ 0 + report.answered = omega arith in
+    let refused : report.refused ≡ 0 + report.refused = omega arith in
+    λ i. record { answered = answered i; refused = refused i }
+
 -- a text without bytes has no lines
 pub written_none : {W : Type 0} (May : AnswerKind) (sink : OfSink W) (writer : W) (rules : Rules) (text : List ℕ) (report : DeskReport) → (length text == 0) ≡ true
     → AreWritten May sink writer writer rules (ended_lines text) report report
@@ -135,6 +141,7 @@ pub share_on : (May : AnswerKind) (rules : Rules) (text : List ℕ) (size number
 share_on May rules text size number told others are then =
     subst (λ (ls : List (List ℕ)). AreTold May rules ls (told ++ others)) (sym (lines_to text size number))
     (AreTold-append May rules (ended_lines (take (edge text size number) text)) (lines_between text (edge text size number) (edge text size (number + 1))) told others are then)
+
 pub both_from : (one other sum : DeskReport) → sum.answered ≡ one.answered + other.answered → sum.refused ≡ one.refused + other.refused → sum ≡ both_reports one other
 both_from one other sum answered refused = λ i. record { answered = answered i; refused = refused i }
 

@@ -147,7 +147,8 @@ impl Crew {
         reader: &mut R,
         writer: &mut W,
     ) -> Result<Stop, DeskFault>
-        ensures stop { IfOk result (IsStoppedBy ⟦<R as Source>⟧ reader.old reader.new self.new.left) }
+        ensures stop { IfOk result
+            (IsStoppedBy ⟦<R as Source>⟧ reader.old reader.new self.new.left) }
         ensures ok { OnOk result ((from : R) (start : W) (text : List ℕ)
             → IsBetween A.may_tell ⟦<R as Source>⟧ ⟦<W as Sink>⟧ from start given
             text self.old.held.items self.old.standing reader.old writer.old

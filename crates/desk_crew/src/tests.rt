@@ -38,8 +38,12 @@ fn as_one<H: Threads + Sync + Abort>(
         let mut reader = BytesIn::new(text, most, None);
         let mut many: Room = BytesOut::new(1_000, None);
         let mut crew = Crew::of(alloc, workers, enough)?;
-        let told =
-            crew.answer_text::<Plain, H, BytesIn, Room>(rt, Rules::One, &mut reader, &mut many);
+        let told = crew.answer_text::<Plain, H, BytesIn, Room>(
+            rt,
+            Rules::One,
+            &mut reader,
+            &mut many,
+        );
         holds_in(rt, &(workers, enough), told == report);
         same_in(rt, &(workers, enough), many.bytes(), writer.bytes());
     }

@@ -40,7 +40,10 @@ fn answers_no_text_and_texts_without_answers(rt: HostRuntime) {
         filled: 0,
     };
     holds(&rt, fill_by::<Plain>(Rules::One, b"", &mut []) == none);
-    holds(&rt, fill_by::<Objects>(Rules::One, b"waits 8z", &mut []) == none);
+    holds(
+        &rt,
+        fill_by::<Objects>(Rules::One, b"waits 8z", &mut []) == none,
+    );
     holds(
         &rt,
         fill_by::<Explained>(Rules::One, b"waits 8z", &mut []) == none,
@@ -59,11 +62,20 @@ fn answers_no_text_and_texts_without_answers(rt: HostRuntime) {
 fn refuses_lines_that_are_too_long(rt: HostRuntime) {
     let mut room = [7u8; 22];
     let mut text = [b'#'; 4099];
-    holds(&rt, fill_by::<Plain>(Rules::One, &text, &mut room).filled == 11);
+    holds(
+        &rt,
+        fill_by::<Plain>(Rules::One, &text, &mut room).filled == 11,
+    );
     holds(&rt, room.get(..11) == Some(b"refused H1\n".as_slice()));
     text[4096] = b'\r';
     text[4097] = b'\n';
-    holds(&rt, fill_by::<Plain>(Rules::One, &text, &mut room).filled == 0);
+    holds(
+        &rt,
+        fill_by::<Plain>(Rules::One, &text, &mut room).filled == 0,
+    );
     text[4096] = b'#';
-    holds(&rt, fill_by::<Plain>(Rules::One, &text, &mut room).filled == 11);
+    holds(
+        &rt,
+        fill_by::<Plain>(Rules::One, &text, &mut room).filled == 11,
+    );
 }

@@ -55,11 +55,7 @@ const WIDE: &[u8] = b"shape 258m369p147s12345z\n";
 fn many_long_objects(rt: HostRuntime) -> Result<(), Fail> {
     let mut once: BytesOut<12288> = BytesOut::new(1000, None);
     let mut reader = BytesIn::new(WIDE, 1000, None);
-    holds(
-        &rt,
-        answered(&mut reader, &mut once)
-        .is_ok(),
-    );
+    holds(&rt, answered(&mut reader, &mut once).is_ok());
     let mut text = Vec::new(rt.alloc());
     let mut objects = Vec::new(rt.alloc());
     for _ in 0..16u32 {
@@ -68,11 +64,7 @@ fn many_long_objects(rt: HostRuntime) -> Result<(), Fail> {
     }
     let mut reader = BytesIn::new(text.as_slice(), 1000, None);
     let mut writer: BytesOut<131072> = BytesOut::new(100_000, None);
-    holds(
-        &rt,
-        answered(&mut reader, &mut writer)
-        .is_ok(),
-    );
+    holds(&rt, answered(&mut reader, &mut writer).is_ok());
     holds_in(&rt, &objects.len(), objects.len() > 65_536);
     holds(&rt, writer.bytes() == objects.as_slice());
     Ok(())

@@ -67,12 +67,7 @@ pub extern "C" fn riichi_explain_json_lines(
 }
 
 /// The same by any kind of answer.
-fn fill_under<A: Responder>(
-    rules: u32,
-    text: &[u8],
-    room: &mut [u8],
-    taken: &mut usize,
-) -> usize
+fn fill_under<A: Responder>(rules: u32, text: &[u8], room: &mut [u8], taken: &mut usize) -> usize
     ensures { FillsUnder A.may_tell rules text.now room.old room.new taken.new result }
 {
     match rules_numbered(rules) {

@@ -19,20 +19,20 @@ returns-in-NoRecord-clause-told g c =
     let is = sym c.in-Some.is ∙ now.record in
     let before = c.args.outbox.now.bytes.items in
     let told_by = subst (λ (r : Option Rules). IsToldUnder may r line puts.told) is puts.may_be_told in
-    let kind = sym c.in-NoRecord.is ∙ c.respond-kind.ensures.kind ∙ ap (λ (r : Option Rules). kind_under r line) is in record {
+    let kind = c.respond-kind.ensures.kind ∙ ap (λ (r : Option Rules). kind_under r line) is in record {
       answer = with_number c.args.number puts.told;
       put = c.truncate.ensures ∙ ap (λ n. take n c.respond-kind.new.outbox.bytes.items) c.len-before.ensures
           ∙ ap (take (length before)) (puts.put ∙ ap (λ (front : List ℕ). front ++ line_by (λ text. text) puts.told) c.put_number.ensures.front)
           ∙ nothing_behind g.A.Numbers.front c.args.number puts.told before (puts.kind_is ∙ ap has_answer c.in-NoRecord.is);
       tells_more = λ first lines told report next counted as_this tells. (
         now.given ∙ tells.0,
-        AreRead-line old c.next_rules.new.self line next lines report NoRecord as_this tells.1 now.given now.rules kind,
+        AreRead-line old c.next_rules.new.self line next lines report c.respond-kind.result as_this tells.1 now.given now.rules kind,
         NumberRecords-line may g.met.A.Responder.alike old c.next_rules.new.self c.args.number line next puts.told lines told counted as_this tells.1.0 now.given told_by tells.2,
       );
     }
 
-pub returns-in_default-in-Some-clause-told : goal.returns-in_default-in-Some-clause-told
-returns-in_default-in-Some-clause-told g c =
+pub returns-in_default-kind-clause-told : goal.returns-in_default-kind-clause-told
+returns-in_default-kind-clause-told g c =
     let may = g.A.Responder.may_tell in
     let line = c.args.line.now in
     let old = c.args.self.now.records in
@@ -44,7 +44,7 @@ returns-in_default-in-Some-clause-told g c =
     let kind = c.respond-kind.ensures.kind ∙ ap (λ (r : Option Rules). kind_under r line) is in record {
       answer = with_number c.args.number puts.told;
       put = puts.put ∙ ap (λ (front : List ℕ). front ++ line_by (λ text. text) puts.told) c.put_number.ensures.front
-          ∙ put_behind g.A.Numbers.front c.args.number puts.told c.respond-kind.result before puts.kind_is c.in_default-in-Some.not-NoRecord;
+          ∙ put_behind g.A.Numbers.front c.args.number puts.told c.respond-kind.result before puts.kind_is c.in_default-kind.not-NoRecord;
       tells_more = λ first lines told report next counted as_this tells. (
         now.given ∙ tells.0,
         AreRead-line old c.next_rules.new.self line next lines report c.respond-kind.result as_this tells.1 now.given now.rules kind,

@@ -1,4 +1,4 @@
-use Rattle.std.proofs.Common.{◌∙◌, ◌≤◌, ◌+◌, ℕ, List, [], ◌∷◌, length, ap, sym, arith}
+use Rattle.std.proofs.Common.{◌∙◌, ◌≤◌, ◌+◌, ℕ, List, [], ◌∷◌, ap, sym, arith}
 use Rattle.std.proofs.lemmas.List.{length-append}
 use Rattle.desk_core.specs.declared.lane.TheConstants.{LIMIT}
 use Rattle.desk_lines.specs.LineAnswers.{report_on}
