@@ -9,3 +9,4 @@ pub mod Passing
 pub mod Promise
 pub mod Steps
 pub mod Unique
+pub mod ReadyAndWaiting

@@ -11,3 +11,4 @@ pub mod Step
 pub mod Ticketed
 pub mod Value
 pub mod Equality
+pub mod Ready

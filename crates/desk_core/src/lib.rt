@@ -5,7 +5,8 @@
 //! A `Lane` is one table: `submit` gives a `Ticket` for a `Job`, `arrive` takes in a `Piece`, which
 //! is a ticket, a job and by its type the job's `Answer`, and `take` gives the next answer where its
 //! piece is there. A `DeskCore` is the lanes of all tables; `step` does one `Event` and returns its
-//! `Reply`, and `run` does a list of them. Its contract carries the promise of the desk.
+//! `Reply`, and `run` does a list of them. Its contract carries the promise of the desk. `is_ready` says of a hand what its
+//! shanten and its waits agree on.
 //!
 //! ```text
 //! let mut lane = Lane::new(alloc, 0);
@@ -25,6 +26,7 @@ mod judging;
 mod lane;
 pub mod laws;
 mod piece;
+mod ready;
 mod refusal;
 mod reply;
 mod taken;
@@ -38,6 +40,7 @@ pub use event::Event;
 pub use judging::{judge, judge_with};
 pub use lane::{LIMIT, Lane};
 pub use piece::Piece;
+pub use ready::is_ready;
 pub use refusal::{CoreFault, RunBack, SubmitBack, SubmitFault};
 pub use reply::Reply;
 pub use taken::Taken;

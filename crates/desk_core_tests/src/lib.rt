@@ -12,6 +12,8 @@ mod json;
 #[cfg(test)]
 mod reached;
 #[cfg(test)]
+mod ready;
+#[cfg(test)]
 mod reasons;
 #[cfg(test)]
 mod script;

@@ -1,17 +1,19 @@
 -- The lines of a stream once those of one more round are answered.
-use Rattle.std.proofs.Common.{◌≡◌, ℕ, inl, inr, List, [], ◌∷◌, ◌++◌, Bool, cond, Option, Some, None, refl, sym, subst, ◌∙◌, ap, append_assoc}
+use Rattle.std.proofs.Common.{◌≡◌, ℕ, inl, inr, List, [], ◌∷◌, ◌++◌, map, cond, Option, Some, None, refl, sym, subst, ◌∙◌, ap, append_assoc}
 use Rattle.std.specs.Prelude.{is_some, unwrap_or}
 use Rattle.riichi_hand.specs.declared.win.Rules.{Rules}
 use Rattle.desk_lines.specs.declared.fault.DeskFault.{DeskFault}
 use Rattle.desk_lines.specs.declared.fault.DeskFault.TheVariants.{Read, Write, Memory}
 use Rattle.desk_lines.specs.declared.report.DeskReport.{DeskReport}
-use Rattle.desk_lines.specs.LongLines.{AreAlike, long_profile}
+use Rattle.desk_lines.specs.LineAnswer.{line_kind, outcome_kind}
+use Rattle.desk_lines.specs.LineAnswers.{report_on}
+use Rattle.desk_lines.specs.LongLines.{AreAlike, long_outcome, long_profile}
 use Rattle.desk_lines.specs.Profile.{profile_of, rules_of, record_lines}
 use Rattle.desk_lines.specs.Reading.{AreToldAs}
 use Rattle.desk_lines.specs.Records.{AnswerKind, AreTold, AnswerRecords, rules_after, next_profile, records_in}
 use Rattle.desk_lines.specs.Streams.{WritesAll}
 use Rattle.desk_lines.specs.Told.{Stops}
-use Rattle.desk_lines.specs.Telling.{text_of, report_by, IsToldAs}
+use Rattle.desk_lines.specs.Telling.{text_of, report_of, IsToldAs}
 use Rattle.desk_lines.proofs.AnswerLemmas.{same_as_told, record_lines-more}
 use Rattle.desk_lines.proofs.CutLemmas.{as_front}
 use Rattle.desk_lines.proofs.StreamLemmas.{WritesAll-nil, WritesAll-trans, StopsWriting-after}
@@ -20,7 +22,10 @@ use Rattle.desk_io.specs.declared.sink.Sink.{Ghosts as OfSink}
 use Rattle.desk_crew.specs.Crew.{Stands, Stopped}
 use Rattle.desk_crew.specs.declared.standing.Standing.{Standing}
 use Rattle.desk_crew.specs.Shares.{AreWritten, AreLeft, both_reports}
-use Rattle.desk_crew.proofs.ShareLemmas.{AreTold-append, both-append}
+use Rattle.desk_crew.proofs.ShareLemmas.{AreTold-append, counted-append, none-both}
+
+some_is : (one other : Rules) → Some one ≡ Some other → one ≡ other
+some_is one other same = ap (λ (rules : Option Rules). unwrap_or rules one) same
 
 module _ (Answers : AnswerKind) (alike : AreAlike Answers) where
   -- lines that may have the answers of others
@@ -48,9 +53,6 @@ module _ (Answers : AnswerKind) (alike : AreAlike Answers) where
       let same : profile_of line ≡ profile_of other = same_as_told profile_of long_profile line other as_these.0 in
       by_profile given line other lines others told (profile_of other) as_these
       (subst (λ (p : Option Rules). AreTold Answers (unwrap_or p given) (cond (is_some p) lines (line ∷ lines)) told) same are)
-
-  some_is : (one other : Rules) → Some one ≡ Some other → one ≡ other
-  some_is one other same = ap (λ (rules : Option Rules). unwrap_or rules one) same
 
   -- the answers to the first of a stream's records are those to its first lines
   front_records : (given rules : Rules) (lines first others new : List (List ℕ)) → rules_after given lines ≡ Some rules → record_lines lines ≡ first ++ others → AreTold Answers rules first new
@@ -126,15 +128,52 @@ profile_next given rules [] (line ∷ hand) [] as_these is = absurd as_these
 profile_next given rules [] (line ∷ hand) (other ∷ next) as_these is = ap (λ (p : Option Rules). Some (unwrap_or p given)) (sym (same_as_told profile_of long_profile line other as_these.0)) ∙ is
 profile_next given rules (line ∷ lines) hand next as_these is = is
 
-module _ {W : Type 0} (Answers : AnswerKind) (refuses : List ℕ → Bool) (sink : OfSink W) (start : W) (given : Rules) where
+-- ---- how many
+
+-- lines that may have the answers of others are counted as these
+kinds_as : (rules : Rules) (lines others : List (List ℕ)) → AreToldAs 4096 lines others → map (line_kind rules) lines ≡ map (line_kind rules) others
+kinds_as rules [] [] as_these = refl
+kinds_as rules [] (other ∷ others) as_these = absurd as_these
+kinds_as rules (line ∷ lines) [] as_these = absurd as_these
+kinds_as rules (line ∷ lines) (other ∷ others) as_these =
+    let first = same_as_told (line_kind rules) (λ l long. ap outcome_kind (long_outcome rules l long)) line other as_these.0 in
+    λ i. first i ∷ kinds_as rules lines others as_these.1 i
+
+kinds_on : (given : Rules) (line other : List ℕ) (lines others : List (List ℕ)) (profile : Option Rules) → AreToldAs 4096 (line ∷ lines) (other ∷ others)
+    → map (line_kind (unwrap_or profile given)) (cond (is_some profile) lines (line ∷ lines)) ≡ map (line_kind (unwrap_or profile given)) (cond (is_some profile) others (other ∷ others))
+kinds_on given line other lines others None as_these = kinds_as given (line ∷ lines) (other ∷ others) as_these
+kinds_on given line other lines others (Some rules) as_these = kinds_as rules lines others as_these.1
+
+counted_as : (given : Rules) (lines others : List (List ℕ)) → AreToldAs 4096 lines others → report_on given lines ≡ report_on given others
+counted_as given [] [] as_these = refl
+counted_as given [] (other ∷ others) as_these = absurd as_these
+counted_as given (line ∷ lines) [] as_these = absurd as_these
+counted_as given (line ∷ lines) (other ∷ others) as_these =
+    let same : profile_of line ≡ profile_of other = same_as_told profile_of long_profile line other as_these.0 in
+    ap (λ (p : Option Rules). report_of (map (line_kind (unwrap_or p given)) (cond (is_some p) lines (line ∷ lines)))) same ∙ ap report_of (kinds_on given line other lines others (profile_of other) as_these)
+
+-- the next records are counted with those before
+all_counted : (given rules : Rules) (lines hand next : List (List ℕ)) → AreToldAs 4096 hand next → next_profile given (rules_after given lines) hand ≡ Some rules
+    → report_on given (lines ++ next) ≡ both_reports (report_on given lines) (report_of (map (line_kind rules) (records_in (rules_after given lines) hand)))
+all_counted given rules [] [] next as_these profile = absurd (let none = profile in cc)
+all_counted given rules [] (line ∷ hand) next as_these profile =
+    let hand_all = line ∷ hand in
+    sym (counted_as given hand_all next as_these) ∙ ap (λ (r : Rules). report_of (map (line_kind r) (record_lines hand_all))) (some_is (rules_of given hand_all) rules profile)
+    ∙ none-both (report_of (map (line_kind rules) (record_lines hand_all)))
+all_counted given rules (line ∷ lines) hand next as_these profile =
+    let set = rules_of given (line ∷ lines) in
+    ap (λ ls. report_of (map (line_kind set) ls)) (record_lines-more line lines next) ∙ counted-append set (record_lines (line ∷ lines)) next
+    ∙ ap (both_reports (report_on given (line ∷ lines))) (ap report_of (sym (kinds_as set hand next as_these)) ∙ ap (λ (r : Rules). report_of (map (line_kind r) hand)) (some_is set rules profile))
+
+module _ {W : Type 0} (Answers : AnswerKind) (sink : OfSink W) (start : W) (given : Rules) where
   -- before the first line
-  pub Stands-none : (now : Standing) → now.profile ≡ None → now.report ≡ report_by refuses [] → Stands Answers refuses sink start given [] now start
+  pub Stands-none : (now : Standing) → now.profile ≡ None → now.report ≡ report_of [] → Stands Answers sink start given [] now start
   Stands-none now none report = record { answered = record { told = []; are_told = refl; writes = WritesAll-nil sink start; report_is = report }; profile = none }
 
   -- the lines of a round were answered
-  pub Stands-more : AreAlike Answers → (rules : Rules) (lines hand next records : List (List ℕ)) (old new : Standing) (before after : W) → AreToldAs 4096 hand next → Stands Answers refuses sink start given lines old before
-      → next_profile given old.profile hand ≡ Some rules → records ≡ records_in old.profile hand → AreWritten Answers refuses sink before after rules records old.report new.report
-      → new.profile ≡ Some rules → Stands Answers refuses sink start given (lines ++ next) new after
+  pub Stands-more : AreAlike Answers → (rules : Rules) (lines hand next records : List (List ℕ)) (old new : Standing) (before after : W) → AreToldAs 4096 hand next → Stands Answers sink start given lines old before
+      → next_profile given old.profile hand ≡ Some rules → records ≡ records_in old.profile hand → AreWritten Answers sink before after rules records old.report new.report
+      → new.profile ≡ Some rules → Stands Answers sink start given (lines ++ next) new after
   Stands-more alike rules lines hand next records old new before after as_these stands profile are_records written is =
       let known : next_profile given (rules_after given lines) hand ≡ Some rules = subst (λ (p : Option Rules). next_profile given p hand ≡ Some rules) stands.profile profile in
       let told : AreTold Answers rules (records_in (rules_after given lines) hand) written.told =
@@ -145,7 +184,9 @@ module _ {W : Type 0} (Answers : AnswerKind) (refuses : List ℕ → Bool) (sink
           told = first.told ++ written.told;
           are_told = all_answered Answers alike given rules lines hand next first.told written.told first.are_told as_these known told;
           writes = subst (λ (text : List ℕ). WritesAll sink start after text) (sym (text_of-append first.told written.told)) (WritesAll-trans sink start before after (text_of first.told) (text_of written.told) first.writes written.writes);
-          report_is = written.report_is ∙ ap (λ (r : DeskReport). both_reports r (report_by refuses written.told)) first.report_is ∙ sym (both-append refuses first.told written.told);
+          report_is = written.report_is ∙ ap (λ (r : DeskReport). both_reports r (report_of (map (line_kind rules) records))) first.report_is
+              ∙ ap (λ ls. both_reports (report_on given lines) (report_of (map (line_kind rules) ls))) (are_records ∙ ap (λ (p : Option Rules). records_in p hand) stands.profile)
+              ∙ sym (all_counted given rules lines hand next as_these known);
         };
         profile = is ∙ sym (profile_next given rules lines hand next as_these known);
       }
@@ -156,7 +197,7 @@ module _ {W : Type 0} (Answers : AnswerKind) (refuses : List ℕ → Bool) (sink
   stops_after old new Memory text more writes stops = WritesAll-trans sink start old new text more writes stops
 
   -- the first of them were
-  pub Stopped-more : AreAlike Answers → (rules : Rules) (lines hand next records : List (List ℕ)) (old : Standing) (before after : W) (fault : DeskFault) → AreToldAs 4096 hand next → Stands Answers refuses sink start given lines old before
+  pub Stopped-more : AreAlike Answers → (rules : Rules) (lines hand next records : List (List ℕ)) (old : Standing) (before after : W) (fault : DeskFault) → AreToldAs 4096 hand next → Stands Answers sink start given lines old before
       → next_profile given old.profile hand ≡ Some rules → records ≡ records_in old.profile hand → AreLeft Answers sink before after rules records fault → Stopped Answers sink start after given (lines ++ next) fault
   Stopped-more alike rules lines hand next records old before after fault as_these stands profile are_records left =
       let known : next_profile given (rules_after given lines) hand ≡ Some rules = subst (λ (p : Option Rules). next_profile given p hand ≡ Some rules) stands.profile profile in
@@ -173,9 +214,9 @@ module _ {W : Type 0} (Answers : AnswerKind) (refuses : List ℕ → Bool) (sink
       }
 
   -- they stand for another state that is the same
-  pub Stands-at : (lines : List (List ℕ)) (old new : Standing) (writer : W) → new ≡ old → Stands Answers refuses sink start given lines old writer → Stands Answers refuses sink start given lines new writer
-  Stands-at lines old new writer same stands = subst (λ (now : Standing). Stands Answers refuses sink start given lines now writer) (sym same) stands
+  pub Stands-at : (lines : List (List ℕ)) (old new : Standing) (writer : W) → new ≡ old → Stands Answers sink start given lines old writer → Stands Answers sink start given lines new writer
+  Stands-at lines old new writer same stands = subst (λ (now : Standing). Stands Answers sink start given lines now writer) (sym same) stands
 
   -- memory was wanted after these lines
-  pub Stopped-memory : (lines more : List (List ℕ)) (now : Standing) (writer : W) → Stands Answers refuses sink start given lines now writer → Stopped Answers sink start writer given (lines ++ more) Memory
+  pub Stopped-memory : (lines more : List (List ℕ)) (now : Standing) (writer : W) → Stands Answers sink start given lines now writer → Stopped Answers sink start writer given (lines ++ more) Memory
   Stopped-memory lines more now writer stands = record { first = lines; others = more; parts = refl; told = stands.answered.told; are_told = stands.answered.are_told; stops = stands.answered.writes }

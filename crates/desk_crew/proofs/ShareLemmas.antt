@@ -1,16 +1,18 @@
 -- Where a text is cut into shares, and the lines that end in each.
-use Rattle.std.proofs.Common.{◌≡◌, ℕ, ◌+◌, ◌-◌, ◌*◌, ◌<◌, ◌≤◌, min, inl, inr, Option, Some, List, [], ◌∷◌, ◌++◌, Bool, true, cond, length, take, drop, get_or, append_assoc, refl, sym, subst, ◌∙◌, ap, arith}
+use Rattle.std.proofs.Common.{◌≡◌, ℕ, ◌+◌, ◌-◌, ◌*◌, ◌<◌, ◌≤◌, min, inl, inr, Option, Some, List, [], ◌∷◌, ◌++◌, map, true, cond, length, take, drop, get_or, append_assoc, refl, sym, subst, ◌∙◌, ap, arith}
 use Rattle.std.proofs.Math.Seq.{take-add}
-use Rattle.std.specs.Prelude.{not, ◌==◌, MatchOption}
-use Rattle.std.proofs.lemmas.List.{take_all, length-take, length-drop, drop-take, drop-append-le, get_or-drop}
+use Rattle.std.specs.Prelude.{◌==◌, MatchOption}
+use Rattle.std.proofs.lemmas.List.{take_all, map-append, length-take, length-drop, drop-take, drop-append-le, get_or-drop}
 use Rattle.std.proofs.lemmas.Bool.{cases_lt, eqb-true}
 use Rattle.std.proofs.lemmas.List.Sums.{sum_by-append}
 use Rattle.riichi_hand.specs.declared.win.Rules.{Rules}
 use Rattle.riichi_tiles.proofs.CutLemmas.{around}
 use Rattle.desk_lines.specs.declared.report.DeskReport.{DeskReport}
+use Rattle.desk_lines.specs.declared.line_kind.LineKind.{LineKind}
+use Rattle.desk_lines.specs.LineAnswer.{line_kind}
 use Rattle.desk_lines.specs.Lines.{Cut, cut_of, ended_lines, is_plain}
 use Rattle.desk_lines.specs.Records.{AnswerKind, AreTold}
-use Rattle.desk_lines.specs.Telling.{answers_in, report_by, text_of}
+use Rattle.desk_lines.specs.Telling.{answers_in, is_answered, is_refused, report_of, text_of}
 use Rattle.desk_lines.proofs.CutLemmas.{cut_of-append, cut_of-first, ended_lines-more, plain_rest}
 use Rattle.desk_lines.proofs.FillingLemmas.{cut_of-behind}
 use Rattle.desk_lines.proofs.LineLemmas.{cut_of-plain, plain-before}
@@ -74,11 +76,15 @@ AreTold-append Answers rules [] more told others are then = subst (λ (front : L
 AreTold-append Answers rules (line ∷ lines) more told others are then =
     (are.0, are.1 ++ others, are.2, ap (λ (front : List (List ℕ)). front ++ others) are.3 ∙ append_assoc (answers_in are.0) are.1 others, AreTold-append Answers rules lines more are.1 others are.4 then)
 
-pub both-append : (refuses : List ℕ → Bool) (told others : List (List ℕ)) → report_by refuses (told ++ others) ≡ both_reports (report_by refuses told) (report_by refuses others)
-both-append refuses told others =
-    let answered = sum_by-append (λ answer. cond (not (refuses answer)) 1 0) told others in
-    let refused = sum_by-append (λ answer. cond (refuses answer) 1 0) told others in
+pub both-append : (kinds others : List LineKind) → report_of (kinds ++ others) ≡ both_reports (report_of kinds) (report_of others)
+both-append kinds others =
+    let answered = sum_by-append (λ kind. cond (is_answered kind) 1 0) kinds others in
+    let refused = sum_by-append (λ kind. cond (is_refused kind) 1 0) kinds others in
     λ i. record { answered = answered i; refused = refused i }
+
+-- lines and others are counted together
+pub counted-append : (rules : Rules) (lines others : List (List ℕ)) → report_of (map (line_kind rules) (lines ++ others)) ≡ both_reports (report_of (map (line_kind rules) lines)) (report_of (map (line_kind rules) others))
+counted-append rules lines others = ap report_of (map-append (line_kind rules) lines others) ∙ both-append (map (line_kind rules) lines) (map (line_kind rules) others)
 
 pub both-assoc : (one other more : DeskReport) → both_reports (both_reports one other) more ≡ both_reports one (both_reports other more)
 both-assoc one other more =
@@ -92,17 +98,23 @@ both-none report =
     let refused : report.refused ≡ report.refused + 0 = omega arith in
     λ i. record { answered = answered i; refused = refused i }
 
+pub none-both : (report : DeskReport) → report ≡ both_reports (record { answered = 0; refused = 0 }) report
+none-both report =
+    let answered : report.answered ≡ 0 + report.answered = omega arith in
+    let refused : report.refused ≡ 0 + report.refused = omega arith in
+    λ i. record { answered = answered i; refused = refused i }
+
 -- a text without bytes has no lines
-pub written_none : {W : Type 0} (May : AnswerKind) (refuses : List ℕ → Bool) (sink : OfSink W) (writer : W) (rules : Rules) (text : List ℕ) (report : DeskReport) → (length text == 0) ≡ true
-    → AreWritten May refuses sink writer writer rules (ended_lines text) report report
-written_none May refuses sink writer rules [] report none = record { told = []; are_told = refl; writes = WritesAll-nil sink writer; report_is = both-none report }
-written_none May refuses sink writer rules (byte ∷ bytes) report none = absurd (omega (arith, eqb-true (length (byte ∷ bytes)) 0 none))
+pub written_none : {W : Type 0} (May : AnswerKind) (sink : OfSink W) (writer : W) (rules : Rules) (text : List ℕ) (report : DeskReport) → (length text == 0) ≡ true
+    → AreWritten May sink writer writer rules (ended_lines text) report report
+written_none May sink writer rules [] report none = record { told = []; are_told = refl; writes = WritesAll-nil sink writer; report_is = both-none report }
+written_none May sink writer rules (byte ∷ bytes) report none = absurd (omega (arith, eqb-true (length (byte ∷ bytes)) 0 none))
 
 -- a share that has a report is answered
-pub shared_some : (May : AnswerKind) (refuses : List ℕ → Bool) (rules : Rules) (text : List ℕ) (size number : ℕ) (share : Share) (report : DeskReport) → IsShared May refuses rules text size number share → share.report ≡ Some report
-    → AreCounted May refuses rules (lines_between text (edge text size number) (edge text size (number + 1))) share.answers.items report
-shared_some May refuses rules text size number share report shared is =
-    subst (λ (r : Option DeskReport). MatchOption r (Unit {0}) (AreCounted May refuses rules (lines_between text (edge text size number) (edge text size (number + 1))) share.answers.items)) is shared
+pub shared_some : (May : AnswerKind) (rules : Rules) (text : List ℕ) (size number : ℕ) (share : Share) (report : DeskReport) → IsShared May rules text size number share → share.report ≡ Some report
+    → AreCounted May rules (lines_between text (edge text size number) (edge text size (number + 1))) share.answers.items report
+shared_some May rules text size number share report shared is =
+    subst (λ (r : Option DeskReport). MatchOption r (Unit {0}) (AreCounted May rules (lines_between text (edge text size number) (edge text size (number + 1))) share.answers.items)) is shared
 
 -- the answers up to a place were written as far as that was possible, and no others
 pub left_at : {W : Type 0} (May : AnswerKind) (sink : OfSink W) (old new : W) (rules : Rules) (text : List ℕ) (to : ℕ) (told : List (List ℕ)) (fault : DeskFault) → to ≤ length text
@@ -116,16 +128,19 @@ left_at May sink old new rules text to told fault within are stops = record {
   stops = stops;
 }
 
+-- the lines that end in one more share
+pub lines_to : (text : List ℕ) (size number : ℕ)
+    → ended_lines (take (edge text size (number + 1)) text) ≡ ended_lines (take (edge text size number) text) ++ lines_between text (edge text size number) (edge text size (number + 1))
+lines_to text size number =
+    let product : (number + 1) * size ≡ number * size + size = grind arith in
+    lines_on text (edge text size number) (edge text size (number + 1)) (omega (arith, product))
+
 -- the answers of one more share
 pub share_on : (May : AnswerKind) (rules : Rules) (text : List ℕ) (size number : ℕ) (told others : List (List ℕ)) → AreTold May rules (ended_lines (take (edge text size number) text)) told
     → AreTold May rules (lines_between text (edge text size number) (edge text size (number + 1))) others → AreTold May rules (ended_lines (take (edge text size (number + 1)) text)) (told ++ others)
 share_on May rules text size number told others are then =
-    let order : edge text size number ≤ edge text size (number + 1) = edges text size number in
-    subst (λ (ls : List (List ℕ)). AreTold May rules ls (told ++ others)) (sym (lines_on text (edge text size number) (edge text size (number + 1)) order))
+    subst (λ (ls : List (List ℕ)). AreTold May rules ls (told ++ others)) (sym (lines_to text size number))
     (AreTold-append May rules (ended_lines (take (edge text size number) text)) (lines_between text (edge text size number) (edge text size (number + 1))) told others are then)
-  where
-    edges : (text : List ℕ) (size number : ℕ) → min (number * size) (length text) ≤ min ((number + 1) * size) (length text)
-    edges text size number = let product : (number + 1) * size ≡ number * size + size = grind arith in omega (arith, product)
 
 pub both_from : (one other sum : DeskReport) → sum.answered ≡ one.answered + other.answered → sum.refused ≡ one.refused + other.refused → sum ≡ both_reports one other
 both_from one other sum answered refused = λ i. record { answered = answered i; refused = refused i }

@@ -1,29 +1,30 @@
 -- How far a stream is answered.
-use Rattle.std.specs.Prelude.{◌≡◌, ℕ, List, ◌++◌, Bool}
+use Rattle.std.specs.Prelude.{◌≡◌, ℕ, List, ◌++◌}
 use Rattle.riichi_hand.specs.declared.win.Rules.{Rules}
 use Rattle.desk_lines.specs.declared.fault.DeskFault.{DeskFault}
 use Rattle.desk_lines.specs.declared.fault.DeskFault.TheVariants.{Read, Write, Memory}
 use Rattle.desk_lines.specs.declared.report.DeskReport.{DeskReport}
+use Rattle.desk_lines.specs.LineAnswers.{report_on}
 use Rattle.desk_lines.specs.Lines.{ended_lines}
 use Rattle.desk_lines.specs.Reading.{kept}
 use Rattle.desk_lines.specs.Records.{AnswerKind, AnswerRecords, rules_after}
 use Rattle.desk_lines.specs.Streams.{Gives, AreWhole, WritesAll, FailsOrGoesOn}
 use Rattle.desk_lines.specs.Told.{Stops}
-use Rattle.desk_lines.specs.Telling.{text_of, report_by}
+use Rattle.desk_lines.specs.Telling.{text_of}
 use Rattle.desk_io.specs.declared.sink.Sink.{Ghosts as OfSink}
 use Rattle.desk_io.specs.declared.source.Source.{Ghosts as OfSource}
 use Rattle.desk_crew.specs.declared.standing.Standing.{Standing}
 
 -- These lines are answered, the answers written and counted.
-pub record IsAnswered {W : Type 0} (May : AnswerKind) (refuses : List ℕ → Bool) (sink : OfSink W) (start new : W) (given : Rules) (lines : List (List ℕ)) (report : DeskReport) : Type 0 where
+pub record IsAnswered {W : Type 0} (May : AnswerKind) (sink : OfSink W) (start new : W) (given : Rules) (lines : List (List ℕ)) (report : DeskReport) : Type 0 where
   pub told : List (List ℕ)
   pub are_told : AnswerRecords May given lines told
   pub writes : WritesAll sink start new (text_of told)
-  pub report_is : report ≡ report_by refuses told
+  pub report_is : report ≡ report_on given lines
 
 -- The same, where the profile is known that they have set.
-pub record Stands {W : Type 0} (May : AnswerKind) (refuses : List ℕ → Bool) (sink : OfSink W) (start : W) (given : Rules) (lines : List (List ℕ)) (now : Standing) (writer : W) : Type 0 where
-  pub answered : IsAnswered May refuses sink start writer given lines now.report
+pub record Stands {W : Type 0} (May : AnswerKind) (sink : OfSink W) (start : W) (given : Rules) (lines : List (List ℕ)) (now : Standing) (writer : W) : Type 0 where
+  pub answered : IsAnswered May sink start writer given lines now.report
   pub profile : now.profile ≡ rules_after given lines
 
 -- The first of these lines are answered, and their answers written as far as that was possible.
@@ -36,10 +37,10 @@ pub record Stopped {W : Type 0} (May : AnswerKind) (sink : OfSink W) (start new 
   pub stops : Stops sink start new fault (text_of told)
 
 -- The reader gave this text: its lines that have ended are answered, and a front of what comes after them is held.
-pub record IsBetween {R W : Type 0} (May : AnswerKind) (refuses : List ℕ → Bool) (source : OfSource R) (sink : OfSink W) (from : R) (start : W) (given : Rules) (text held : List ℕ) (now : Standing) (reader : R) (writer : W) : Type 0 where
+pub record IsBetween {R W : Type 0} (May : AnswerKind) (source : OfSource R) (sink : OfSink W) (from : R) (start : W) (given : Rules) (text held : List ℕ) (now : Standing) (reader : R) (writer : W) : Type 0 where
   pub gives : Gives source from reader text
   pub is_held : held ≡ kept 8194 text
-  pub stands : Stands May refuses sink start given (ended_lines text) now writer
+  pub stands : Stands May sink start given (ended_lines text) now writer
 
 -- Of the whole lines that the reader gave the first are answered.
 pub record IsGivenUp {R W : Type 0} (May : AnswerKind) (source : OfSource R) (sink : OfSink W) (from reader : R) (start writer : W) (given : Rules) (fault : DeskFault) : Type 0 where

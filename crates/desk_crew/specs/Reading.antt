@@ -20,17 +20,17 @@ pub record FindsEnd {R : Type 0} (source : OfSource R) (old new : R) : Type 0 wh
   pub none_left : IsAtEnd (source.left new)
 
 -- why a round reads no further, where so many reads are left
-abbrev pub IsStop : {R : Type 0} → OfSource R → R → R → ℕ → Stop → Type 0
-IsStop source old new left Full = GoesOn source old new
-IsStop source old new left End = FindsEnd source old new
-IsStop source old new left Failed = FailsOnce source old new ⊎ ((left ≡ 0) × GoesOn source old new)
+abbrev pub IsStoppedBy : {R : Type 0} → OfSource R → R → R → ℕ → Stop → Type 0
+IsStoppedBy source old new left Full = GoesOn source old new
+IsStoppedBy source old new left End = FindsEnd source old new
+IsStoppedBy source old new left Failed = FailsOnce source old new ⊎ ((left ≡ 0) × GoesOn source old new)
 
 -- The reads gave what now stands behind the text.
 pub record IsReadOn {R : Type 0} (source : OfSource R) (old new : R) (before after : List ℕ) (left : ℕ) (stop : Stop) : Type 0 where
   pub bytes : List ℕ
   pub gives : Gives source old new bytes
   pub text_is : after ≡ before ++ bytes
-  pub stopped : IsStop source old new left stop
+  pub stopped : IsStoppedBy source old new left stop
 
 -- what the reading of a stream comes to, or none where it goes on
 abbrev pub stop_outcome : Stop → Option (Result (Unit {0}) DeskFault)

@@ -5,7 +5,7 @@ ghost use Rattle.desk_lines.specs.Reading.{AreToldAs, kept, with_end};
 ghost use Rattle.desk_lines.specs.Streams.{Gives, GivesAll, IsReadWithin};
 ghost use Rattle.desk_lines.specs.Telling.{report_of};
 ghost use Rattle.desk_crew.specs.Crew.{Stands, Stopped, IsAnswered, IsBetween, IsGivenUp, IsLeft};
-ghost use Rattle.desk_crew.specs.Reading.{FindsEnd, IsReadOn, IsStop};
+ghost use Rattle.desk_crew.specs.Reading.{FindsEnd, IsReadOn, IsStoppedBy};
 
 use crate::cut::ended_bytes;
 use crate::reading::{Stop, read_round};
@@ -74,7 +74,8 @@ impl Crew {
         })
     }
 
-    /// Answers the record lines of a stream by one kind of answer, as [`crew_text_by`](crate::crew_text_by) does.
+    /// Answers the record lines of a stream by the kind of answer `A`, as `desk_lines::desk_text_by` does: where no call fails,
+    /// byte for byte the same. The first line may set the profile, which else is the given one.
     pub fn answer_text<A: Responder + Send + Sync, H: Threads + Sync, R: Source, W: Sink>(
         &mut self,
         rt: &H,
@@ -82,10 +83,14 @@ impl Crew {
         reader: &mut R,
         writer: &mut W,
     ) -> Result<DeskReport, DeskFault>
+        // The reader was read to its end, and the answers to what it gave were written.
         ensures ok { IfOk result (λ report. (text : List ℕ)
             × GivesAll ⟦<R as Source>⟧ reader.old reader.new text
-            × IsAnswered A.may_tell A.refuses ⟦<W as Sink>⟧ writer.old writer.new
+            × IsAnswered A.may_tell ⟦<W as Sink>⟧ writer.old writer.new
             given (lines text) report) }
+
+        // A read failed, or there were too many: the lines that had ended are answered. A write failed, or memory was wanted: the
+        // first of the whole lines that the reader gave are, as far as their answers could be written.
         ensures err { IfErr result (IsLeft A.may_tell ⟦<R as Source>⟧ ⟦<W as Sink>⟧
             reader.old reader.new writer.old writer.new given) }
         ensures reads { IsReadWithin ⟦<R as Source>⟧ reader.old reader.new }
@@ -118,7 +123,7 @@ impl Crew {
             × (self.old.standing.report ≡ report_of []) }
         requires none { (self.old.held.items ≡ []) × (self.old.left ≡ MOST_READS) }
         ensures ok { OnOk result ((text : List ℕ)
-            × IsBetween A.may_tell A.refuses ⟦<R as Source>⟧ ⟦<W as Sink>⟧
+            × IsBetween A.may_tell ⟦<R as Source>⟧ ⟦<W as Sink>⟧
             reader.old writer.old given
             text self.new.held.items self.new.standing reader.new writer.new
             × FindsEnd ⟦<R as Source>⟧ reader.old reader.new) }
@@ -142,15 +147,16 @@ impl Crew {
         reader: &mut R,
         writer: &mut W,
     ) -> Result<Stop, DeskFault>
-        ensures stop { IfOk result (IsStop ⟦<R as Source>⟧ reader.old reader.new self.new.left) }
+        ensures stop { IfOk result
+            (IsStoppedBy ⟦<R as Source>⟧ reader.old reader.new self.new.left) }
         ensures ok { OnOk result ((from : R) (start : W) (text : List ℕ)
-            → IsBetween A.may_tell A.refuses ⟦<R as Source>⟧ ⟦<W as Sink>⟧ from start given
+            → IsBetween A.may_tell ⟦<R as Source>⟧ ⟦<W as Sink>⟧ from start given
             text self.old.held.items self.old.standing reader.old writer.old
             → (all : List ℕ)
-            × IsBetween A.may_tell A.refuses ⟦<R as Source>⟧ ⟦<W as Sink>⟧ from start given
+            × IsBetween A.may_tell ⟦<R as Source>⟧ ⟦<W as Sink>⟧ from start given
             all self.new.held.items self.new.standing reader.new writer.new) }
         ensures err { IfErr result (λ fault. (from : R) (start : W) (text : List ℕ)
-            → IsBetween A.may_tell A.refuses ⟦<R as Source>⟧ ⟦<W as Sink>⟧ from start given
+            → IsBetween A.may_tell ⟦<R as Source>⟧ ⟦<W as Sink>⟧ from start given
             text self.old.held.items self.old.standing reader.old writer.old
             → IsGivenUp A.may_tell ⟦<R as Source>⟧ ⟦<W as Sink>⟧
             from reader.new start writer.new given fault) }
@@ -172,13 +178,13 @@ impl Crew {
     ) -> Result<DeskReport, DeskFault>
         ensures ok { IfOk result (λ report. (start : W) (text : List ℕ)
             → self.old.held.items ≡ kept 8194 text
-            → Stands A.may_tell A.refuses ⟦<W as Sink>⟧
+            → Stands A.may_tell ⟦<W as Sink>⟧
             start given (ended_lines text) self.old.standing writer.old
-            → IsAnswered A.may_tell A.refuses ⟦<W as Sink>⟧
+            → IsAnswered A.may_tell ⟦<W as Sink>⟧
             start writer.new given (lines text) report) }
         ensures err { IfErr result (λ fault. (start : W) (text : List ℕ)
             → self.old.held.items ≡ kept 8194 text
-            → Stands A.may_tell A.refuses ⟦<W as Sink>⟧
+            → Stands A.may_tell ⟦<W as Sink>⟧
             start given (ended_lines text) self.old.standing writer.old
             → Stopped A.may_tell ⟦<W as Sink>⟧ start writer.new given (lines text) fault) }
     {
@@ -224,13 +230,13 @@ impl Crew {
     ) -> Result<(), DeskFault>
         ensures ok { OnOk result ((start : W) (lines next : List (List ℕ))
             → AreToldAs 4096 (ended_lines self.old.text.items) next
-            → Stands A.may_tell A.refuses ⟦<W as Sink>⟧
+            → Stands A.may_tell ⟦<W as Sink>⟧
             start given lines self.old.standing writer.old
-            → Stands A.may_tell A.refuses ⟦<W as Sink>⟧
+            → Stands A.may_tell ⟦<W as Sink>⟧
             start given (lines ++ next) self.new.standing writer.new) }
         ensures err { IfErr result (λ fault. (start : W) (lines next : List (List ℕ))
             → AreToldAs 4096 (ended_lines self.old.text.items) next
-            → Stands A.may_tell A.refuses ⟦<W as Sink>⟧
+            → Stands A.may_tell ⟦<W as Sink>⟧
             start given lines self.old.standing writer.old
             → Stopped A.may_tell ⟦<W as Sink>⟧ start writer.new given (lines ++ next) fault) }
         ensures same { (self.new.left ≡ self.old.left)

@@ -23,7 +23,7 @@ pub(crate) fn answer_round<A: Responder + Send + Sync, H: Threads + Sync, W: Sin
 ) -> Result<(), DeskFault>
     requires some { 0 < length shares.old }
     requires fits { length text.now < 2 ^ 64 }
-    ensures written { OnOk result (AreWritten A.may_tell A.refuses ⟦<W as Sink>⟧
+    ensures written { OnOk result (AreWritten A.may_tell ⟦<W as Sink>⟧
         writer.old writer.new rules (ended_lines text.now) report.old report.new) }
     ensures left { IfErr result (AreLeft A.may_tell ⟦<W as Sink>⟧ writer.old writer.new
         rules (ended_lines text.now)) }
@@ -33,12 +33,12 @@ pub(crate) fn answer_round<A: Responder + Send + Sync, H: Threads + Sync, W: Sin
         return Ok(());
     }
     let size = text.len().div_ceil(shares.len());
-    judge::<A, H>(rt, rules, text, size, shares);
+    answer_shares::<A, H>(rt, rules, text, size, shares);
     write_shares::<A, W>(rules, text, size, shares, report, writer)
 }
 
 /// Has each share of a text answered in a thread of its own, where one can be made.
-fn judge<A: Responder + Send + Sync, H: Threads + Sync>(
+fn answer_shares<A: Responder + Send + Sync, H: Threads + Sync>(
     rt: &H,
     rules: Rules,
     text: &[u8],
@@ -48,14 +48,14 @@ fn judge<A: Responder + Send + Sync, H: Threads + Sync>(
     requires some { 0 < length shares.old }
     requires fits { length text.now < 2 ^ 64 }
     ensures shared { (number : ℕ) (none : Share) → number < length shares.new
-        → IsShared A.may_tell A.refuses rules text.now size number
+        → IsShared A.may_tell rules text.now size number
         (slice_index_or shares.new number none) }
     ensures shares { length shares.new ≡ length shares.old }
 {
     let threads = shares.len();
     let answer = move |number: usize, share: &mut Share|
         requires { length text.now < 2 ^ 64 }
-        ensures { IsShared A.may_tell A.refuses
+        ensures { IsShared A.may_tell
             rules text.entry.now size number share.exit.now }
     { share.answer::<A>(rules, text, size, number) };
     thread::for_each_mut(rt, shares, threads, &answer);
@@ -71,10 +71,10 @@ fn write_shares<A: Responder + Send + Sync, W: Sink>(
     writer: &mut W,
 ) -> Result<(), DeskFault>
     requires shared { (number : ℕ) (none : Share) → number < length shares.now
-        → IsShared A.may_tell A.refuses rules text.now size number
+        → IsShared A.may_tell rules text.now size number
         (slice_index_or shares.now number none) }
     requires all { length text.now ≤ length shares.now * size }
-    ensures written { OnOk result (AreWritten A.may_tell A.refuses ⟦<W as Sink>⟧
+    ensures written { OnOk result (AreWritten A.may_tell ⟦<W as Sink>⟧
         writer.old writer.new rules (ended_lines text.now) report.old report.new) }
     ensures left { IfErr result (AreLeft A.may_tell ⟦<W as Sink>⟧ writer.old writer.new
         rules (ended_lines text.now)) }

@@ -34,7 +34,7 @@ impl Share {
         number: usize,
     )
         requires { length text.now < 2 ^ 64 }
-        ensures { IsShared A.may_tell A.refuses rules text.now size number self.new }
+        ensures { IsShared A.may_tell rules text.now size number self.new }
     {
         let from = number.saturating_mul(size).min(text.len());
         let to = number
@@ -56,7 +56,7 @@ impl Share {
         requires order { (from ≤ to) × (to ≤ length text.now) }
         requires fits { length text.now < 2 ^ 64 }
         requires none { self.old.answers.items ≡ [] }
-        ensures { IfOk result (AreCounted A.may_tell A.refuses rules
+        ensures { IfOk result (AreCounted A.may_tell rules
             (lines_between text.now from to) self.new.answers.items) }
     {
         let begin = ended_bytes(&text[..from]);

@@ -3,7 +3,6 @@ ghost use Rattle.std.specs.Prelude.{◌<◌};
 
 mod facts;
 
-use super::text::answered_by;
 use super::*;
 use desk_io::{BytesIn, BytesOut};
 use desk_lines::{DeskFault, DeskReport, Objects, Plain, desk_text};
@@ -38,9 +37,8 @@ fn as_one<H: Threads + Sync + Abort>(
     for (workers, enough) in [(1, 1), (2, 100), (4, 5_000), (16, 40)] {
         let mut reader = BytesIn::new(text, most, None);
         let mut many: Room = BytesOut::new(1_000, None);
-        let crew = Crew::of(alloc, workers, enough);
-        let told = answered_by::<Plain, H, BytesIn, Room>(
-            crew,
+        let mut crew = Crew::of(alloc, workers, enough)?;
+        let told = crew.answer_text::<Plain, H, BytesIn, Room>(
             rt,
             Rules::One,
             &mut reader,
@@ -104,7 +102,13 @@ fn failures(rt: HostRuntime) -> Result<(), Fail> {
     for number in 1..=6 {
         let mut reader = BytesIn::new(text, 10, Some(number));
         let mut writer: Room = BytesOut::new(1_000, None);
-        let told = crew_text(&rt, alloc, 4, Rules::One, &mut reader, &mut writer);
+        let mut crew = Crew::new(alloc, 4)?;
+        let told = crew.answer_text::<Plain, HostRuntime, BytesIn, Room>(
+            &rt,
+            Rules::One,
+            &mut reader,
+            &mut writer,
+        );
         holds_in(&rt, &number, told == Err(DeskFault::Read));
         let front = &all[..fronts[number as usize]];
         same_in(&rt, &number, writer.bytes(), front);
@@ -112,7 +116,13 @@ fn failures(rt: HostRuntime) -> Result<(), Fail> {
     for number in 1..=6 {
         let mut reader = BytesIn::new(text, 10, None);
         let mut writer: Room = BytesOut::new(10, Some(number));
-        let told = crew_text(&rt, alloc, 4, Rules::One, &mut reader, &mut writer);
+        let mut crew = Crew::new(alloc, 4)?;
+        let told = crew.answer_text::<Plain, HostRuntime, BytesIn, Room>(
+            &rt,
+            Rules::One,
+            &mut reader,
+            &mut writer,
+        );
         holds_in(&rt, &number, told == Err(DeskFault::Write));
         holds_in(&rt, &number, all.starts_with(writer.bytes()));
     }
@@ -124,10 +134,9 @@ fn failures(rt: HostRuntime) -> Result<(), Fail> {
 fn objects(rt: HostRuntime) -> Result<(), Fail> {
     let mut reader = BytesIn::new(b"waits 1112345678999m\nwaits 8z\n", 10, None);
     let mut writer: Room = BytesOut::new(1_000, None);
-    let report = crew_text_by::<Objects, HostRuntime, BytesIn, Room>(
+    let mut crew = Crew::new(rt.alloc(), 40)?;
+    let report = crew.answer_text::<Objects, HostRuntime, BytesIn, Room>(
         &rt,
-        rt.alloc(),
-        40,
         Rules::One,
         &mut reader,
         &mut writer,
@@ -183,15 +192,7 @@ fn is_answered<H: Threads + Sync + Abort>(rt: &H, alloc: Global) -> bool {
         b"waits 123456789m\nrefused N5 hand at 0\nshanten 0 discard 8p accepts 2p:4 5p:4 live 8\nwaits 123456789m\n".as_slice();
     let mut reader = BytesIn::new(text, 30, None);
     let mut writer: Room = BytesOut::new(1_000, None);
-    let crew = Crew::of(alloc, 3, 40);
-    let told = answered_by::<Plain, H, BytesIn, Room>(
-        crew,
-        rt,
-        Rules::One,
-        &mut reader,
-        &mut writer,
-    );
-    match told {
+    match by_three(rt, alloc, &mut reader, &mut writer) {
         Ok(_) => {
             same(rt, writer.bytes(), all);
             true
@@ -202,4 +203,15 @@ fn is_answered<H: Threads + Sync + Abort>(rt: &H, alloc: Global) -> bool {
             false
         }
     }
+}
+
+/// By three threads and rounds of 40 bytes.
+fn by_three<H: Threads + Sync>(
+    rt: &H,
+    alloc: Global,
+    reader: &mut BytesIn<'_>,
+    writer: &mut Room,
+) -> Result<DeskReport, DeskFault> {
+    let mut crew = Crew::of(alloc, 3, 40)?;
+    crew.answer_text::<Plain, H, BytesIn, Room>(rt, Rules::One, reader, writer)
 }

@@ -1,21 +1,24 @@
 -- The answer to one more line.
-use Rattle.std.proofs.Common.{◌≡◌, ℕ, ◌<◌, inl, inr, List, [], ◌∷◌, ◌++◌, true, false, cond, length, Option, Some, None, refl, sym, subst, ◌∙◌, ap, append_assoc}
-use Rattle.std.proofs.lemmas.List.{append-nil}
+use Rattle.std.proofs.Common.{◌≡◌, ℕ, ◌<◌, inl, inr, List, [], ◌∷◌, ◌++◌, true, false, cond, length, map, Option, Some, None, refl, sym, subst, ◌∙◌, ap, append_assoc}
+use Rattle.std.proofs.lemmas.List.{append-nil, map-append}
 use Rattle.std.specs.List.{filter_map, cons_option}
 use Rattle.std.proofs.lemmas.List.Elements.{filter_map-append}
 use Rattle.std.specs.Prelude.{is_some, unwrap_or}
 use Rattle.riichi_hand.specs.declared.win.Rules.{Rules}
 use Rattle.desk_lines.specs.Profile.{profile_of, rules_of, record_lines, rules_by, record_rules}
-use Rattle.desk_lines.specs.LineAnswer.{IsBy}
-use Rattle.desk_lines.specs.LineAnswers.{answers_by}
-use Rattle.desk_lines.specs.Telling.{text_of, answers_in, IsToldAs}
-use Rattle.desk_lines.specs.Records.{rules_after, AnswerKind, IsToldUnder, IsToldBy, AreTold, AnswerRecords, TellsRecords}
+use Rattle.desk_lines.specs.declared.line_kind.LineKind.{LineKind}
+use Rattle.desk_lines.specs.declared.line_kind.LineKind.TheVariants.{Refused}
+use Rattle.desk_lines.specs.declared.report.DeskReport.{DeskReport}
+use Rattle.desk_lines.specs.LineAnswer.{IsBy, line_kind, outcome_kind}
+use Rattle.desk_lines.specs.LineAnswers.{answers_by, report_on}
+use Rattle.desk_lines.specs.Telling.{text_of, answers_in, report_of, report_with, IsToldAs}
+use Rattle.desk_lines.specs.Records.{rules_after, AnswerKind, IsToldUnder, IsToldBy, kind_under, AreTold, AnswerRecords, AreRead}
 use Rattle.desk_lines.specs.declared.records.Records.{Records}
 use Rattle.desk_lines.specs.Streams.{StopsWriting}
 use Rattle.desk_io.specs.declared.sink.Sink.{Ghosts as OfSink}
-use Rattle.desk_lines.proofs.TellingLemmas.{text_of-append}
+use Rattle.desk_lines.proofs.TellingLemmas.{text_of-append, report_of-more}
 use Rattle.desk_lines.proofs.StreamLemmas.{StopsWriting-more}
-use Rattle.desk_lines.specs.LongLines.{AreAlike, long_profile}
+use Rattle.desk_lines.specs.LongLines.{AreAlike, long_outcome, long_profile}
 
 -- what is the same for all long lines is the same for lines with one answer
 pub same_as_told : {X : Type 0} {long : X} (of : List ℕ → X) → ((line : List ℕ) → 4096 < length line → of line ≡ long) → (line next : List ℕ) → IsToldAs 4096 line next → of line ≡ of next
@@ -86,14 +89,40 @@ pub told_next : {A : Type 0} (Answers : AnswerKind) → AreAlike Answers → (ol
 told_next Answers alike old line next answer lines as_this before is =
     told_as Answers alike old.given (rules_after old.given lines) line next answer as_this (subst (λ (r : Option Rules). IsToldBy Answers old.given r line answer) before is)
 
--- one more line was answered as its records are
-pub TellsRecords-line : {A : Type 0} (Answers : AnswerKind) → AreAlike Answers → (old new : Records A) (line next : List ℕ) (answer : Option (List ℕ)) (lines told : List (List ℕ)) → IsToldAs 4096 line next → TellsRecords Answers old lines told
-    → new.given ≡ old.given → new.rules ≡ Some (rules_by old.given old.rules line) → IsToldBy Answers old.given old.rules line answer → TellsRecords Answers new (lines ++ next ∷ []) (told ++ answers_in answer)
-TellsRecords-line Answers alike old new line next answer lines told as_this tells given rules is =
-    let front = AnswerRecords-last Answers old.given lines next told answer tells.1 (told_next Answers alike old line next answer lines as_this tells.0 is) in (
-      rules_read old new line next lines as_this tells.0 given rules,
-      subst (λ (g : Rules). AnswerRecords Answers g (lines ++ next ∷ []) (told ++ answers_in answer)) (sym given) front,
+-- ---- how many
+
+first_counted : (given : Rules) (line : List ℕ) (profile : Option Rules)
+    → report_of (map (line_kind (unwrap_or profile given)) (cond (is_some profile) [] (line ∷ []))) ≡ report_with (report_of []) (kind_under (cond (is_some profile) None (Some given)) line)
+first_counted given line None = report_of-more [] (line_kind given line)
+first_counted given line (Some rules) = refl
+
+report_on-last : (given : Rules) (lines : List (List ℕ)) (line : List ℕ) → report_on given (lines ++ line ∷ []) ≡ report_with (report_on given lines) (kind_under (record_rules given (rules_after given lines) line) line)
+report_on-last given [] line = first_counted given line (profile_of line)
+report_on-last given (first ∷ lines) line =
+    let kind = line_kind (rules_of given (first ∷ lines)) in
+    let records = record_lines (first ∷ lines) in
+    ap (λ ls. report_of (map kind ls)) (record_lines-more first lines (line ∷ [])) ∙ ap report_of (map-append kind records (line ∷ [])) ∙ report_of-more (map kind records) (kind line)
+
+kind_long : (given : Rules) (rules : Option Rules) (line : List ℕ) → 4096 < length line → kind_under (record_rules given rules line) line ≡ Refused
+kind_long given rules line long = ap (λ (r : Option Rules). kind_under r line) (records_long given rules line long) ∙ ap outcome_kind (long_outcome (unwrap_or rules given) line long)
+
+-- one more line was read, and counted
+pub AreRead-line : {A : Type 0} (old new : Records A) (line next : List ℕ) (lines : List (List ℕ)) (report : DeskReport) (kind : LineKind) → IsToldAs 4096 line next → AreRead old lines report
+    → new.given ≡ old.given → new.rules ≡ Some (rules_by old.given old.rules line) → kind ≡ kind_under (record_rules old.given old.rules line) line → AreRead new (lines ++ next ∷ []) (report_with report kind)
+AreRead-line old new line next lines report kind as_this read given rules is =
+    let after = rules_after old.given lines in
+    let same = same_as_told (λ l. kind_under (record_rules old.given after l) l) (kind_long old.given after) line next as_this in (
+      rules_read old new line next lines as_this read.0 given rules,
+      ap (λ (r : DeskReport). report_with r kind) read.1 ∙ ap (report_with (report_on old.given lines)) (is ∙ ap (λ (r : Option Rules). kind_under (record_rules old.given r line) line) read.0 ∙ same)
+          ∙ sym (report_on-last old.given lines next) ∙ ap (λ (g : Rules). report_on g (lines ++ next ∷ [])) (sym given),
     )
+
+-- one more line was answered as its records are
+pub AnswerRecords-line : {A : Type 0} (Answers : AnswerKind) → AreAlike Answers → (old new : Records A) (line next : List ℕ) (answer : Option (List ℕ)) (lines told : List (List ℕ)) → IsToldAs 4096 line next → old.rules ≡ rules_after old.given lines
+    → new.given ≡ old.given → IsToldBy Answers old.given old.rules line answer → AnswerRecords Answers old.given lines told → AnswerRecords Answers new.given (lines ++ next ∷ []) (told ++ answers_in answer)
+AnswerRecords-line Answers alike old new line next answer lines told as_this before given is are =
+    subst (λ (g : Rules). AnswerRecords Answers g (lines ++ next ∷ []) (told ++ answers_in answer)) (sym given)
+    (AnswerRecords-last Answers old.given lines next told answer are (told_next Answers alike old line next answer lines as_this before is))
 
 -- ---- answers by a function
 

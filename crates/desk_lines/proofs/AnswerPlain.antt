@@ -37,7 +37,6 @@ use Rattle.desk_core.specs.declared.answer.Answer.{Answer}
 use Rattle.desk_core.specs.declared.answer.Answer.TheVariants as answer
 use Rattle.desk_lines.specs.Explained.{is_indented}
 use Rattle.desk_lines.specs.LineAnswer.{outcome_text}
-use Rattle.desk_lines.specs.Telling.{is_refusal}
 
 abbrev Outcome : Type 0
 Outcome = Result (Option Job) LineFault
@@ -139,22 +138,14 @@ answer-plain = of_said (λ text. plain text ≡ true) answer_text-plain fault_te
 
 -- ---- how an answer begins
 
--- neither two spaces, nor `refused` where it is no refusal, whatever stands behind it
-record Begins (text : List ℕ) : Type 0 where
-  indented : is_indented text ≡ false
-  goes_on : (more : List ℕ) → is_refusal (text ++ more) ≡ is_refusal text
-
-answer-begins : (said : Answer) → Begins (answer_text said)
+answer-begins : (said : Answer) → is_indented (answer_text said) ≡ false
 unfolding answer_text win_text shape_text
-answer-begins (answer.Win NoWin) = record { indented = refl; goes_on = λ more. refl }
-answer-begins _ = record { indented = refl; goes_on = λ more. refl }
+answer-begins (answer.Win NoWin) = refl
+answer-begins _ = refl
 
-fault-begins : (fault : LineFault) → Begins (fault_text fault)
-fault-begins (Line code) = record { indented = refl; goes_on = λ more. refl }
-fault-begins (Notation name fault) = record { indented = refl; goes_on = λ more. refl }
+fault-begins : (fault : LineFault) → is_indented (fault_text fault) ≡ false
+fault-begins (Line code) = refl
+fault-begins (Notation name fault) = refl
 
 pub answer-not_indented : (outcome : Outcome) (said : List ℕ) → outcome_text outcome ≡ Some said → is_indented said ≡ false
-answer-not_indented outcome said is = (of_said Begins answer-begins fault-begins outcome said is).indented
-
-pub is_refusal-more : (outcome : Outcome) (said more : List ℕ) → outcome_text outcome ≡ Some said → is_refusal (said ++ more) ≡ is_refusal said
-is_refusal-more outcome said more is = (of_said Begins answer-begins fault-begins outcome said is).goes_on more
+answer-not_indented = of_said (λ text. is_indented text ≡ false) answer-begins fault-begins

@@ -1,5 +1,5 @@
 -- What was explained, without the lines that begin with two spaces.
-use Rattle.std.proofs.Common.{◌≡◌, inl, inr, ℕ, List, [], ◌∷◌, ◌++◌, Bool, true, false, cond, nat_eq, filter, map, Option, Some, None, refl, sym, subst, ap, ◌∙◌, append_assoc}
+use Rattle.std.proofs.Common.{◌≡◌, inl, inr, ℕ, List, [], ◌∷◌, ◌++◌, Bool, true, false, cond, nat_eq, filter, Option, Some, None, refl, sym, subst, ap, ◌∙◌, append_assoc}
 use Rattle.std.specs.Prelude.{not, ◌&&◌}
 use Rattle.std.specs.List.{filter_map, cons_option}
 use Rattle.std.proofs.lemmas.Bool.{cases_Bool, eqb-true}
@@ -12,12 +12,11 @@ use Rattle.riichi_explain.proofs.ExplainedLines.{outcome_text-lines}
 use Rattle.desk_lines.specs.Explained.{IsToldWithWhy, IsExplained, is_indented, without_indented}
 use Rattle.desk_lines.specs.Lines.{Cut, cut_of, with_front, byte_in_front, is_plain}
 use Rattle.desk_lines.specs.LineAnswer.{answer_of}
-use Rattle.desk_lines.specs.LineAnswers.{answers_on, answers_to, report_on}
+use Rattle.desk_lines.specs.LineAnswers.{answers_to}
 use Rattle.desk_lines.specs.Profile.{rules_of, record_lines}
 use Rattle.desk_lines.specs.Records.{AreTold, AnswerRecords}
-use Rattle.desk_lines.specs.Telling.{text_of, is_refusal, answers_in, with_line_feed, report_by}
-use Rattle.desk_lines.proofs.TellingLemmas.{report_by-same}
-use Rattle.desk_lines.proofs.AnswerPlain.{answer-plain, answer-not_indented, is_refusal-more}
+use Rattle.desk_lines.specs.Telling.{text_of, answers_in, with_line_feed}
+use Rattle.desk_lines.proofs.AnswerPlain.{answer-plain, answer-not_indented}
 
 -- ---- lines at the front of a text
 
@@ -144,24 +143,3 @@ explained-left shown rules (line ∷ lines) told are =
 
 pub explained-answers : (shown : Shown) (given : Rules) (lines told : List (List ℕ)) → AnswerRecords (IsExplained shown) given lines told → without_indented (text_of told) ≡ answers_to given lines
 explained-answers shown given lines told are = explained-left shown (rules_of given lines) (record_lines lines) told are
-
--- ---- how many
-
-told-refusal : (shown : Shown) (rules : Rules) (line : List ℕ) (answer told : List ℕ) → IsToldWithWhy shown rules line (Some answer) (Some told) → answer_of rules line ≡ Some answer → is_refusal told ≡ is_refusal answer
-unfolding answer_of
-told-refusal shown rules line answer told is so = ap is_refusal is.text_is ∙ is_refusal-more (outcome_of rules line) answer is.more so
-
-one_refusal : (shown : Shown) (rules : Rules) (line : List ℕ) (outcome answer : Option (List ℕ)) (others answers : List (List ℕ)) → answer_of rules line ≡ outcome → IsToldWithWhy shown rules line outcome answer
-    → map is_refusal others ≡ map is_refusal answers → map is_refusal (answers_in answer ++ others) ≡ map is_refusal (cons_option outcome answers)
-one_refusal shown rules line None answer others answers so is rest = ap (λ (a : Option (List ℕ)). map is_refusal (answers_in a ++ others)) is ∙ rest
-one_refusal shown rules line (Some said) None others answers so is rest = absurd is
-one_refusal shown rules line (Some said) (Some text) others answers so is rest = λ i. told-refusal shown rules line said text is so i ∷ rest i
-
--- the explained answers that are refusals are those of the plain answers that are
-same_refusals : (shown : Shown) (rules : Rules) (lines told : List (List ℕ)) → AreTold (IsExplained shown) rules lines told → map is_refusal told ≡ map is_refusal (filter_map (answer_of rules) lines)
-same_refusals shown rules [] told are = ap (map is_refusal) are
-same_refusals shown rules (line ∷ lines) told are =
-    ap (map is_refusal) are.3 ∙ one_refusal shown rules line (answer_of rules line) are.0 are.1 (filter_map (answer_of rules) lines) refl are.2 (same_refusals shown rules lines are.1 are.4)
-
-pub explained-report : (shown : Shown) (given : Rules) (lines told : List (List ℕ)) → AnswerRecords (IsExplained shown) given lines told → report_by is_refusal told ≡ report_on given lines
-explained-report shown given lines told are = report_by-same is_refusal is_refusal told (answers_on given lines) (same_refusals shown (rules_of given lines) (record_lines lines) told are)

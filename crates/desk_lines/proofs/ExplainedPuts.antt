@@ -1,5 +1,5 @@
 -- One explained answer, as it is put behind others.
-use Rattle.std.proofs.Common.{◌≡◌, ℕ, List, [], ◌∷◌, ◌++◌, Bool, true, cond, Option, Some, None, Result, Ok, refl, sym, subst, ap, ◌∙◌, append_assoc}
+use Rattle.std.proofs.Common.{◌≡◌, ℕ, List, [], ◌∷◌, ◌++◌, true, Option, Some, None, Result, Ok, refl, sym, subst, ap, ◌∙◌, append_assoc}
 use Rattle.std.proofs.lemmas.List.{append-nil}
 use Rattle.riichi_hand.specs.declared.fault.LineFault.{LineFault}
 use Rattle.riichi_hand.specs.declared.job.Job.{Job}
@@ -8,12 +8,12 @@ use Rattle.riichi_hand.specs.Lines.{outcome_of}
 use Rattle.riichi_explain.specs.declared.explaining.Shown.{Shown}
 use Rattle.riichi_explain.specs.Explanation.{IsOutcomeText, IsExplanation}
 use Rattle.riichi_explain.proofs.ExplainedLines.{outcome_text-lines}
-use Rattle.desk_lines.specs.declared.line_kind.LineKind.TheVariants.{NoRecord, Answered, Refused}
+use Rattle.desk_lines.specs.declared.line_kind.LineKind.{LineKind}
+use Rattle.desk_lines.specs.declared.line_kind.LineKind.TheVariants.{NoRecord}
 use Rattle.desk_lines.specs.Explained.{IsAnswerWithWhy, IsToldWithWhy, IsExplained}
 use Rattle.desk_lines.specs.LineAnswer.{answer_of, outcome_text}
 use Rattle.desk_lines.specs.Records.{Puts}
-use Rattle.desk_lines.specs.Telling.{is_refusal}
-use Rattle.desk_lines.proofs.AnswerPlain.{is_refusal-more}
+use Rattle.desk_lines.specs.Telling.{has_answer}
 use Rattle.desk_lines.proofs.ExplainedLemmas.{last_feed}
 
 abbrev Outcome : Type 0
@@ -37,7 +37,7 @@ answer_with_why shown rules line why answer outcome is text =
       append_assoc answer more.0 (10 ∷ []) ∙ ap (λ (rest : List ℕ). answer ++ rest) more.1 ∙ sym (append_assoc answer (10 ∷ []) why),
     )
 
-pub puts-none : (shown : Shown) (rules : Rules) (line before after : List ℕ) → outcome_of rules line ≡ Ok None → after ≡ before → Puts is_refusal (IsExplained shown rules line) NoRecord before after
+pub puts-none : (shown : Shown) (rules : Rules) (line before after : List ℕ) → outcome_of rules line ≡ Ok None → after ≡ before → Puts (IsExplained shown rules line) NoRecord before after
 puts-none shown rules line before after is same = record {
   told = None;
   may_be_told = may_be_told shown rules line (Ok None) None is refl;
@@ -45,13 +45,12 @@ puts-none shown rules line before after is same = record {
   put = same ∙ sym (append-nil before);
 }
 
-pub puts-said : (shown : Shown) (rules : Rules) (line before after why answer : List ℕ) (outcome : Outcome) (refused : Bool) → outcome_of rules line ≡ outcome → outcome_text outcome ≡ Some answer → is_refusal answer ≡ refused
-    → IsOutcomeText shown line outcome why → after ≡ before ++ ((answer ++ 10 ∷ []) ++ why) → Puts is_refusal (IsExplained shown rules line) (cond refused Refused Answered) before after
-puts-said shown rules line before after why answer outcome refused is said tested text put =
-    let with_why = answer_with_why shown rules line why answer outcome is text in
-    let test : is_refusal (answer ++ with_why.0) ≡ refused = is_refusal-more outcome answer with_why.0 said ∙ tested in record {
+pub puts-said : (shown : Shown) (rules : Rules) (line before after why answer : List ℕ) (outcome : Outcome) (kind : LineKind) → outcome_of rules line ≡ outcome → outcome_text outcome ≡ Some answer → has_answer kind ≡ true
+    → IsOutcomeText shown line outcome why → after ≡ before ++ ((answer ++ 10 ∷ []) ++ why) → Puts (IsExplained shown rules line) kind before after
+puts-said shown rules line before after why answer outcome kind is said has text put =
+    let with_why = answer_with_why shown rules line why answer outcome is text in record {
       told = Some (answer ++ with_why.0);
       may_be_told = may_be_told shown rules line outcome (Some (answer ++ with_why.0)) is (subst (λ (o : Option (List ℕ)). IsToldWithWhy shown rules line o (Some (answer ++ with_why.0))) (sym said) with_why.1);
-      kind_is = ap (λ (r : Bool). cond r Refused Answered) (sym test);
+      kind_is = sym has;
       put = put ∙ ap (λ (all : List ℕ). before ++ all) (sym with_why.2);
     }

@@ -4,10 +4,8 @@ use Rattle.std.proofs.lemmas.Slice.{drop-append-drop}
 use Rattle.riichi_hand.specs.declared.win.Rules.{Rules}
 use Rattle.std.proofs.lemmas.List.{append-nil, take_all, take-append-le}
 use Rattle.desk_lines.specs.Lines.{Cut, cut_of, without_return, ended_lines, last_line, lines, is_plain}
-use Rattle.desk_lines.specs.Filling.{IsCutBehindLine, IsFirstLine, AreAnswersBy, HasNoRoom, Fills, replies_by, SetsNone}
-use Rattle.desk_lines.specs.LineAnswer.{IsBy}
-use Rattle.desk_lines.proofs.AnswerLemmas.{told_by}
-use Rattle.desk_lines.specs.Records.{AnswerKind, AreTold}
+use Rattle.desk_lines.specs.Filling.{IsCutBehindLine, IsFirstLine, HasNoRoom, replies_by, SetsNone}
+use Rattle.desk_lines.specs.Records.{AnswerKind}
 use Rattle.desk_lines.specs.LineAnswers.{answers_by}
 use Rattle.desk_lines.specs.Profile.{profile_of}
 use Rattle.desk_lines.specs.Telling.{text_of, with_line_feed}
@@ -99,7 +97,7 @@ longer_room text more before room after filled is within room_is put =
 
 -- what is longer than the room is no line without an answer
 pub no_room : (Answers : AnswerKind) (rules : Rules) (line rest after : List ℕ) → IsFirstLine rest line after → (answer : Option (List ℕ)) → Answers rules line answer
-    → (filled room : ℕ) → filled ≤ room → room < filled + length (with_line_feed answer) → HasNoRoom (AreTold Answers rules) (room - filled) rest
+    → (filled room : ℕ) → filled ≤ room → room < filled + length (with_line_feed answer) → HasNoRoom Answers rules (room - filled) rest
 no_room Answers rules line rest after first None is filled room within longer = absurd (omega arith)
 no_room Answers rules line rest after first (Some answer) is filled room within longer =
     let next = first-others rest line after first in record {
@@ -107,36 +105,9 @@ no_room Answers rules line rest after first (Some answer) is filled room within 
       others = next.0;
       lines_are = next.1;
       answer = answer;
-      is_told = (Some answer, [], is, refl, refl);
+      is_told = is;
       is_longer = omega (arith, length-append answer (10 ∷ []));
     }
-
--- ---- the answers of a function
-
-pub Fills-by : (by : Rules → List ℕ → Option (List ℕ)) (rules : Rules) (text before after : List ℕ) (taken filled : ℕ) → Fills (AreTold (IsBy by) rules) text before after taken filled
-    → Fills (AreAnswersBy (by rules)) text before after taken filled
-Fills-by by rules text before after taken filled fills = record {
-  front = fills.front;
-  rest = fills.rest;
-  cut = fills.cut;
-  taken_is = fills.taken_is;
-  told = fills.told;
-  are_told = told_by by rules (lines fills.front) fills.told fills.are_told;
-  filled_is = fills.filled_is;
-  is_within = fills.is_within;
-  room_is = fills.room_is;
-  stops = stopped fills.stops;
-} where
-  stopped : (fills.rest ≡ []) ⊎ HasNoRoom (AreTold (IsBy by) rules) (length before - filled) fills.rest → (fills.rest ≡ []) ⊎ HasNoRoom (AreAnswersBy (by rules)) (length before - filled) fills.rest
-  stopped (inl none) = inl none
-  stopped (inr long) = inr (record {
-    line = long.line;
-    others = long.others;
-    lines_are = long.lines_are;
-    answer = long.answer;
-    is_told = told_by by rules (long.line ∷ []) (long.answer ∷ []) long.is_told;
-    is_longer = long.is_longer;
-  })
 
 -- ---- the law
 

@@ -1,17 +1,18 @@
 -- Numbered answers once one more line is answered.
-use Rattle.std.proofs.Common.{◌≡◌, ◌≢◌, ℕ, suc, ◌+◌, List, [], ◌∷◌, ◌++◌, Bool, true, false, cond, Option, Some, None, refl, sym, subst, ◌∙◌, ap, append_assoc, length, take, map, arith}
+use Rattle.std.proofs.Common.{◌≡◌, ◌≢◌, ℕ, suc, ◌+◌, List, [], ◌∷◌, ◌++◌, true, false, cond, Option, Some, None, refl, sym, subst, ◌∙◌, ap, append_assoc, length, take, map, arith}
 use Rattle.std.proofs.lemmas.List.{append-nil}
 use Rattle.std.proofs.Math.Seq.{take-append_seam}
 use Rattle.std.specs.Prelude.{is_some, unwrap_or}
 use Rattle.riichi_hand.specs.declared.win.Rules.{Rules}
 use Rattle.desk_lines.specs.LongLines.{AreAlike}
-use Rattle.desk_lines.specs.Numbered.{AreNumbered, NumberRecords, TellsNumbered, first_number, with_number}
-use Rattle.desk_lines.specs.Profile.{profile_of, rules_of, record_lines, rules_by}
+use Rattle.desk_lines.specs.Numbered.{AreNumbered, NumberRecords, first_number, with_number}
+use Rattle.desk_lines.specs.Profile.{profile_of, rules_of, record_lines}
 use Rattle.desk_lines.specs.Records.{rules_after, AnswerKind, IsToldUnder, IsToldBy, AreTold, AnswerRecords}
-use Rattle.desk_lines.specs.Telling.{answers_in, kind_by, line_by, IsToldAs}
+use Rattle.desk_lines.specs.Telling.{answers_in, has_answer, line_by, IsToldAs}
+use Rattle.desk_lines.specs.declared.line_kind.LineKind.{LineKind}
 use Rattle.desk_lines.specs.declared.line_kind.LineKind.TheVariants.{NoRecord, Answered, Refused}
 use Rattle.desk_lines.specs.declared.records.Records.{Records}
-use Rattle.desk_lines.proofs.AnswerLemmas.{record_lines-more, rules_read, told_next}
+use Rattle.desk_lines.proofs.AnswerLemmas.{record_lines-more, told_next}
 
 AreNumbered-last : (Answers : AnswerKind) (rules : Rules) (number last : ℕ) (lines : List (List ℕ)) (line : List ℕ) (told : List (ℕ × List ℕ)) (answer : Option (List ℕ)) → last ≡ number + length lines
     → AreNumbered Answers rules number lines told → Answers rules line answer → AreNumbered Answers rules number (lines ++ line ∷ []) (told ++ answers_in (with_number last answer))
@@ -51,15 +52,13 @@ NumberRecords-last Answers given (first ∷ lines) line told answer are is =
     (AreNumbered-last Answers rules (first_number (first ∷ lines)) number (record_lines (first ∷ lines)) line told answer (next_number first lines) are is)
 
 -- one more line was answered as its records are
-pub TellsNumbered-line : {A : Type 0} (Answers : AnswerKind) → AreAlike Answers → (old new : Records A) (number : ℕ) (line next : List ℕ) (answer : Option (List ℕ)) (lines : List (List ℕ)) (told : List (ℕ × List ℕ)) → number ≡ length lines + 1
-    → IsToldAs 4096 line next → TellsNumbered Answers old lines told → new.given ≡ old.given → new.rules ≡ Some (rules_by old.given old.rules line) → IsToldBy Answers old.given old.rules line answer
-    → TellsNumbered Answers new (lines ++ next ∷ []) (told ++ answers_in (with_number number answer))
-TellsNumbered-line Answers alike old new number line next answer lines told at as_this tells given rules is =
-    let front = NumberRecords-last Answers old.given lines next told answer tells.1 (told_next Answers alike old line next answer lines as_this tells.0 is) in
-    let numbered = subst (λ n. NumberRecords Answers old.given (lines ++ next ∷ []) (told ++ answers_in (with_number n answer))) (sym at) front in (
-      rules_read old new line next lines as_this tells.0 given rules,
-      subst (λ (g : Rules). NumberRecords Answers g (lines ++ next ∷ []) (told ++ answers_in (with_number number answer))) (sym given) numbered,
-    )
+pub NumberRecords-line : {A : Type 0} (Answers : AnswerKind) → AreAlike Answers → (old new : Records A) (number : ℕ) (line next : List ℕ) (answer : Option (List ℕ)) (lines : List (List ℕ)) (told : List (ℕ × List ℕ)) → number ≡ length lines + 1
+    → IsToldAs 4096 line next → old.rules ≡ rules_after old.given lines → new.given ≡ old.given → IsToldBy Answers old.given old.rules line answer → NumberRecords Answers old.given lines told
+    → NumberRecords Answers new.given (lines ++ next ∷ []) (told ++ answers_in (with_number number answer))
+NumberRecords-line Answers alike old new number line next answer lines told at as_this before given is are =
+    let front = NumberRecords-last Answers old.given lines next told answer are (told_next Answers alike old line next answer lines as_this before is) in
+    let numbered = subst (λ n. NumberRecords Answers old.given (lines ++ next ∷ []) (told ++ answers_in (with_number n answer))) (sym at) front in
+    subst (λ (g : Rules). NumberRecords Answers g (lines ++ next ∷ []) (told ++ answers_in (with_number number answer))) (sym given) numbered
 
 -- ---- without the numbers
 
@@ -77,26 +76,16 @@ without_numbers_told Answers given lines told are = AreNumbered-told Answers (ru
 
 -- ---- one answer behind its number
 
-pub kind-numbered : (refuses : List ℕ → Bool) (number : ℕ) (answer : Option (List ℕ)) → kind_by refuses answer ≡ kind_by (λ told. refuses told.1) (with_number number answer)
-kind-numbered refuses number None = refl
-kind-numbered refuses number (Some answer) = refl
-
-pub none_told : (refuses : List ℕ → Bool) (answer : Option (List ℕ)) → NoRecord ≡ kind_by refuses answer → answer ≡ None
-none_told refuses None is = refl
-none_told refuses (Some answer) is = absurd (no_record (refuses answer) is)
-  where
-    no_record : (test : Bool) → NoRecord ≡ cond test Refused Answered → ⊥
-    no_record true same = cc
-    no_record false same = cc
-
-pub put_behind : (refuses : List ℕ → Bool) (front : ℕ → List ℕ) (number : ℕ) (answer : Option (List ℕ)) (before : List ℕ) → kind_by refuses answer ≢ NoRecord
+pub put_behind : (front : ℕ → List ℕ) (number : ℕ) (answer : Option (List ℕ)) (kind : LineKind) (before : List ℕ) → is_some answer ≡ has_answer kind → kind ≢ NoRecord
     → (before ++ front number) ++ line_by (λ text. text) answer ≡ before ++ line_by (λ told. front told.0 ++ told.1) (with_number number answer)
-put_behind refuses front number None before some = absurd (some refl)
-put_behind refuses front number (Some answer) before some =
+put_behind front number None NoRecord before has some = absurd (some refl)
+put_behind front number None Answered before has some = absurd (let no : ⊥ = cc in no)
+put_behind front number None Refused before has some = absurd (let no : ⊥ = cc in no)
+put_behind front number (Some answer) kind before has some =
     append_assoc before (front number) (answer ++ 10 ∷ []) ∙ ap (λ (rest : List ℕ). before ++ rest) (sym (append_assoc (front number) answer (10 ∷ [])))
 
 -- without an answer the front is dropped
-pub nothing_behind : (front : ℕ → List ℕ) (number : ℕ) (answer : Option (List ℕ)) (before : List ℕ) → answer ≡ None
+pub nothing_behind : (front : ℕ → List ℕ) (number : ℕ) (answer : Option (List ℕ)) (before : List ℕ) → is_some answer ≡ false
     → take (length before) ((before ++ front number) ++ line_by (λ text. text) answer) ≡ before ++ line_by (λ told. front told.0 ++ told.1) (with_number number answer)
 nothing_behind front number None before none =
     ap (take (length before)) (append-nil (before ++ front number)) ∙ take-append_seam before (front number) ∙ sym (append-nil before)

@@ -1,7 +1,6 @@
--- The object of a win with its reasons begins as any object that is no refusal, and how it is put.
-use Rattle.std.proofs.Common.{◌≡◌, ℕ, List, [], ◌∷◌, ◌++◌, Bool, false, cond, drop, Option, Some, refl, sym, subst, ap, ◌∙◌}
+-- How the object of a win with its reasons is put.
+use Rattle.std.proofs.Common.{◌≡◌, ℕ, List, [], ◌∷◌, ◌++◌, drop, Option, Some, refl, sym, subst, ap, ◌∙◌}
 use Rattle.std.specs.Prelude.{codes}
-use Rattle.json.specs.Print.{escape_byte}
 use Rattle.riichi_hand.specs.declared.house.House.{House}
 use Rattle.riichi_hand.specs.declared.win.Rules.{Rules}
 use Rattle.riichi_hand.specs.declared.win.WinParts.{WinParts}
@@ -13,16 +12,9 @@ use Rattle.desk_json.specs.Trees.{Named, win_tree, score_tree}
 use Rattle.desk_json.proofs.Written.{written, text_written}
 use Rattle.desk_reasons.specs.Reasons.{IsExplainedWin}
 use Rattle.desk_reasons.specs.Trees.{why_tree, with_member}
-use Rattle.desk_lines.specs.JsonLine.{is_refusal_object, are_of_refusal}
 use Rattle.desk_lines.specs.Reasoned.{win_in, IsReasonedBy, IsReasoned, AreReasoned}
 use Rattle.desk_lines.specs.Records.{Puts}
-use Rattle.desk_lines.specs.declared.line_kind.LineKind.TheVariants.{Refused, Answered}
-
-no_refusal : (rules : House) (win : WinAnswer) (named : Named) → is_refusal_object (written (with_member (win_tree rules win) named)) ≡ false
-unfolding with_member win_tree score_tree written escape_byte
-no_refusal rules (Won score) named = refl
-no_refusal rules NoYaku named = refl
-no_refusal rules NoWin named = refl
+use Rattle.desk_lines.specs.declared.line_kind.LineKind.TheVariants.{Answered}
 
 win_brace : (rules : House) (win : WinAnswer) (named : Named) → codes "{" ++ drop 1 (written (with_member (win_tree rules win) named)) ≡ written (with_member (win_tree rules win) named)
 unfolding with_member win_tree score_tree written
@@ -34,9 +26,6 @@ object_written : (win : WinParts) (object : List ℕ) (said : IsExplainedWin win
     → object ≡ written (with_member (win_tree win.rules (best_of win)) (codes "why", why_tree said.explanation said.ranking.ranked.items))
 object_written win object said = said.object_is ∙ text_written (with_member (win_tree win.rules (best_of win)) (codes "why", why_tree said.explanation said.ranking.ranked.items))
 
-refuses_not : (win : WinParts) (object : List ℕ) → IsExplainedWin win object → is_refusal_object object ≡ false
-refuses_not win object said = ap is_refusal_object (object_written win object said) ∙ no_refusal win.rules (best_of win) (codes "why", why_tree said.explanation said.ranking.ranked.items)
-
 object_brace : (win : WinParts) (object : List ℕ) → IsExplainedWin win object → codes "{" ++ drop 1 object ≡ object
 object_brace win object said =
     let e = object_written win object said in
@@ -44,21 +33,21 @@ object_brace win object said =
 
 -- the object of a win was made and put
 pub puts_explained : (rules : Rules) (line before after object : List ℕ) (win : WinParts) → Some win ≡ win_in (outcome_of rules line) → IsExplainedWin win object
-    → after ≡ before ++ (object ++ 10 ∷ []) → Puts is_refusal_object (IsReasoned rules line) Answered before after
+    → after ≡ before ++ (object ++ 10 ∷ []) → Puts (IsReasoned rules line) Answered before after
 puts_explained rules line before after object win is said put = record {
   told = Some object;
   may_be_told = subst (λ (found : Option WinParts). IsReasonedBy rules line found (Some object)) is said;
-  kind_is = ap (λ (refused : Bool). cond refused Refused Answered) (sym (refuses_not win object said));
+  kind_is = refl;
   put = put;
 }
 
 -- its members
 pub puts_members : (rules : Rules) (line before after object : List ℕ) (win : WinParts) → Some win ≡ win_in (outcome_of rules line) → IsExplainedWin win object
-    → after ≡ before ++ (drop 1 object ++ 10 ∷ []) → Puts are_of_refusal (AreReasoned rules line) Answered before after
+    → after ≡ before ++ (drop 1 object ++ 10 ∷ []) → Puts (AreReasoned rules line) Answered before after
 puts_members rules line before after object win is said put =
     let brace = object_brace win object said in record {
       told = Some (drop 1 object);
       may_be_told = subst (λ (found : Option WinParts). IsReasonedBy rules line found (Some (codes "{" ++ drop 1 object))) is (subst (λ (text : List ℕ). IsExplainedWin win text) (sym brace) said);
-      kind_is = ap (λ (refused : Bool). cond refused Refused Answered) (sym (ap is_refusal_object brace ∙ refuses_not win object said));
+      kind_is = refl;
       put = put;
     }

@@ -1,15 +1,15 @@
 -- One more answer, and the front of a line.
-use Rattle.std.proofs.Common.{◌≡◌, ℕ, ◌+◌, ◌≤◌, inl, inr, List, [], ◌∷◌, ◌++◌, Bool, true, false, cond, nat_eq, length, map, take, fold, Option, Some, None, sym, ◌∙◌, ap, arith, zero-add, add-zero}
-use Rattle.std.specs.Prelude.{not, count_by}
+use Rattle.std.proofs.Common.{◌≡◌, ℕ, ◌+◌, ◌≤◌, inl, inr, List, [], ◌∷◌, ◌++◌, Bool, true, false, cond, nat_eq, length, take, Option, Some, None, sym, ◌∙◌, ap, arith, zero-add, add-zero}
+use Rattle.std.specs.Prelude.{count_by}
 use Rattle.std.proofs.lemmas.List.{append-nil, take_all, length-take}
 use Rattle.std.proofs.lemmas.Grind.{flat_map-append}
-use Rattle.std.proofs.lemmas.List.Folds.{fold-map}
 use Rattle.std.proofs.lemmas.List.Sums.{sum_by-append}
 use Rattle.std.proofs.lemmas.Bool.{cases_lt}
 use Rattle.desk_lines.specs.declared.report.DeskReport.{DeskReport}
-use Rattle.desk_lines.specs.declared.line_kind.LineKind.TheVariants.{Answered, Refused}
+use Rattle.desk_lines.specs.declared.line_kind.LineKind.{LineKind}
+use Rattle.desk_lines.specs.declared.line_kind.LineKind.TheVariants.{NoRecord, Answered, Refused}
 use Rattle.desk_lines.specs.Lines.{without_return}
-use Rattle.desk_lines.specs.Telling.{text_by, text_of, line_by, with_line_feed, report_by, report_with, answers_in, kind_by, IsToldAs}
+use Rattle.desk_lines.specs.Telling.{text_by, text_of, line_by, with_line_feed, is_answered, is_refused, report_of, report_with, answers_in, IsToldAs}
 
 pub text_of-append : (answers more : List (List ℕ)) → text_of (answers ++ more) ≡ text_of answers ++ text_of more
 text_of-append answers more = flat_map-append (λ answer. answer ++ 10 ∷ []) answers more
@@ -22,37 +22,19 @@ text_by-more written answers (Some answer) =
 pub text_of-more : (answers : List (List ℕ)) (answer : Option (List ℕ)) → text_of (answers ++ answers_in answer) ≡ text_of answers ++ with_line_feed answer
 text_of-more answers answer = text_by-more (λ text. text) answers answer
 
-counted-last : {A : Type 0} (test : A → Bool) (answers : List A) (answer : A) → count_by test (answers ++ answer ∷ []) ≡ count_by test answers + cond (test answer) 1 0
-counted-last test answers answer =
-    sum_by-append (λ answer. cond (test answer) 1 0) answers (answer ∷ []) ∙ ap (λ n. count_by test answers + n) (zero-add (cond (test answer) 1 0))
+counted-last : (test : LineKind → Bool) (kinds : List LineKind) (kind : LineKind) → count_by test (kinds ++ kind ∷ []) ≡ count_by test kinds + cond (test kind) 1 0
+counted-last test kinds kind = sum_by-append (λ kind. cond (test kind) 1 0) kinds (kind ∷ []) ∙ ap (λ n. count_by test kinds + n) (zero-add (cond (test kind) 1 0))
 
--- the answer as a test of it says, counted
-counted_so : (refused : Bool) (report : DeskReport)
-    → (let counted : DeskReport = record { answered = report.answered + cond (not refused) 1 0; refused = report.refused + cond refused 1 0 } in counted) ≡ report_with report (cond refused Refused Answered)
-counted_so true report = ap (λ (n : ℕ). let counted : DeskReport = record { answered = n; refused = report.refused + 1 } in counted) (add-zero report.answered)
-counted_so false report = ap (λ (n : ℕ). let counted : DeskReport = record { answered = report.answered + 1; refused = n } in counted) (add-zero report.refused)
+counted_so : (answered refused : ℕ) (kind : LineKind) (report : DeskReport) → report.answered ≡ answered + cond (is_answered kind) 1 0 → report.refused ≡ refused + cond (is_refused kind) 1 0
+    → report ≡ report_with (record { answered = answered; refused = refused }) kind
+counted_so answered refused NoRecord report one other = λ i. record { answered = (one ∙ add-zero answered) i; refused = (other ∙ add-zero refused) i }
+counted_so answered refused Answered report one other = λ i. record { answered = one i; refused = (other ∙ add-zero refused) i }
+counted_so answered refused Refused report one other = λ i. record { answered = (one ∙ add-zero answered) i; refused = other i }
 
--- one more answer is counted
-pub report_by-more : {A : Type 0} (refuses : A → Bool) (answers : List A) (answer : Option A) → report_by refuses (answers ++ answers_in answer) ≡ report_with (report_by refuses answers) (kind_by refuses answer)
-report_by-more refuses answers None = ap (report_by refuses) (append-nil answers)
-report_by-more refuses answers (Some answer) =
-    let answered = counted-last (λ text. not (refuses text)) answers answer in
-    let refused = counted-last refuses answers answer in
-    ap (λ (n : ℕ). let counted : DeskReport = record { answered = n; refused = count_by refuses (answers ++ answer ∷ []) } in counted) answered
-    ∙ ap (λ (n : ℕ). let counted : DeskReport = record { answered = count_by (λ text. not (refuses text)) answers + cond (not (refuses answer)) 1 0; refused = n } in counted) refused
-    ∙ counted_so (refuses answer) (report_by refuses answers)
-
--- texts are counted as others that are refusals where they are
-counted-same : (test : Bool → Bool) (one other : List ℕ → Bool) (texts others : List (List ℕ)) → map one texts ≡ map other others → count_by (λ text. test (one text)) texts ≡ count_by (λ text. test (other text)) others
-counted-same test one other texts others same =
-    let count : ℕ → Bool → ℕ = λ n refused. n + cond (test refused) 1 0 in
-    sym (fold-map count one 0 texts) ∙ ap (fold count 0) same ∙ fold-map count other 0 others
-
-pub report_by-same : (one other : List ℕ → Bool) (texts others : List (List ℕ)) → map one texts ≡ map other others → report_by one texts ≡ report_by other others
-report_by-same one other texts others same =
-    let answered = counted-same not one other texts others same in
-    let refused = counted-same (λ refused. refused) one other texts others same in
-    λ i. record { answered = answered i; refused = refused i }
+-- one more line is counted
+pub report_of-more : (kinds : List LineKind) (kind : LineKind) → report_of (kinds ++ kind ∷ []) ≡ report_with (report_of kinds) kind
+report_of-more kinds kind =
+    counted_so (count_by is_answered kinds) (count_by is_refused kinds) kind (report_of (kinds ++ kind ∷ [])) (counted-last is_answered kinds kind) (counted-last is_refused kinds kind)
 
 without_return_short : (line : List ℕ) → length line ≤ length (without_return line) + 1
 without_return_short [] = omega arith

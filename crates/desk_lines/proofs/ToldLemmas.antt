@@ -7,26 +7,34 @@ use Rattle.desk_lines.specs.declared.teller.Teller.{Ghosts as OfTeller}
 use Rattle.desk_lines.specs.declared.fault.DeskFault.{DeskFault}
 use Rattle.desk_lines.specs.declared.fault.DeskFault.TheVariants.{Write, Memory}
 use Rattle.desk_lines.specs.declared.line_kind.LineKind.{LineKind}
+use Rattle.desk_lines.specs.declared.report.DeskReport.{DeskReport}
 use Rattle.desk_lines.specs.Told.{Stands, Stops, WantsNext, StopsTelling, lines_of}
 use Rattle.desk_lines.specs.Streams.{WritesAll, StopsWriting}
-use Rattle.desk_lines.specs.Telling.{text_by, line_by, report_by, report_with, answers_in, count_of, AnswersLine, IsToldAs}
-use Rattle.desk_lines.proofs.TellingLemmas.{text_by-more, report_by-more}
+use Rattle.desk_lines.specs.Telling.{text_by, line_by, report_of, report_with, answers_in, count_of, AnswersLine, IsToldAs}
+use Rattle.desk_lines.proofs.TellingLemmas.{text_by-more}
 use Rattle.desk_lines.proofs.StreamLemmas.{WritesAll-nil, WritesAll-trans, StopsWriting-after}
 
 module _ {W A : Type 0} (sink : OfSink W) (teller : OfTeller A) (start : W) (first : A) where
   -- before the first line
-  pub Stands-new : (new : Told) → teller.tells first first [] [] → new.report ≡ report_by teller.refuses [] → new.unanswered ≡ 0 → new.outbox.bytes.items ≡ [] → Stands sink teller start first [] first new start
-  Stands-new new tells report unread none = record { answers = []; tells = tells; count = omega (arith, ap count_of report, unread); report = report; sent = []; writes = WritesAll-nil sink start; text = none }
+  pub Stands-new : (new : Told) → teller.tells first first [] [] (report_of []) → new.report ≡ report_of [] → new.unanswered ≡ 0 → new.outbox.bytes.items ≡ [] → Stands sink teller start first [] first new start
+  Stands-new new tells report unread none = record {
+    answers = [];
+    tells = subst (λ (r : DeskReport). teller.tells first first [] [] r) (sym report) tells;
+    count = omega (arith, ap count_of report, unread);
+    sent = [];
+    writes = WritesAll-nil sink start;
+    text = none;
+  }
 
   -- a line was answered
   pub Stands-line : (lines : List (List ℕ)) (old new : A) (before after : Told) (writer : W) (line next : List ℕ) (kind : LineKind) → IsToldAs teller.most line next → Stands sink teller start first lines old before writer
-      → AnswersLine teller.written teller.refuses teller.most teller.tells old new (lines_of before + 1) line kind before.outbox.bytes.items after.outbox.bytes.items → after.report ≡ report_with before.report kind → lines_of after ≡ lines_of before + 1
+      → AnswersLine teller.written teller.most teller.tells old new (lines_of before + 1) line kind before.outbox.bytes.items after.outbox.bytes.items → after.report ≡ report_with before.report kind → lines_of after ≡ lines_of before + 1
       → Stands sink teller start first (lines ++ next ∷ []) new after writer
   Stands-line lines old new before after writer line next kind as_this stands answered counted more = record {
     answers = stands.answers ++ answers_in answered.answer;
-    tells = answered.tells_more first lines stands.answers next (ap (λ n. n + 1) stands.count) as_this stands.tells;
+    tells = subst (λ (r : DeskReport). teller.tells first new (lines ++ next ∷ []) (stands.answers ++ answers_in answered.answer) r) (sym counted)
+        (answered.tells_more first lines stands.answers before.report next (ap (λ n. n + 1) stands.count) as_this stands.tells);
     count = omega (arith, more, stands.count, length-append lines (next ∷ []));
-    report = counted ∙ ap (λ report. report_with report kind) stands.report ∙ ap (report_with (report_by teller.refuses stands.answers)) answered.kind_is ∙ sym (report_by-more teller.refuses stands.answers answered.answer);
     sent = stands.sent;
     writes = stands.writes;
     text = ap (λ all. stands.sent ++ all) answered.put ∙ sym (append_assoc stands.sent before.outbox.bytes.items (line_by teller.written answered.answer))
@@ -38,9 +46,8 @@ module _ {W A : Type 0} (sink : OfSink W) (teller : OfTeller A) (start : W) (fir
       → WritesAll sink writer written before.outbox.bytes.items → (after.report ≡ before.report) × (after.unanswered ≡ before.unanswered) → after.outbox.bytes.items ≡ [] → Stands sink teller start first lines now after written
   Stands-flushed lines now before after writer written stands writes same empty = record {
     answers = stands.answers;
-    tells = stands.tells;
+    tells = subst (λ (r : DeskReport). teller.tells first now lines stands.answers r) (sym same.0) stands.tells;
     count = omega (arith, ap count_of same.0, same.1, stands.count);
-    report = same.0 ∙ stands.report;
     sent = stands.sent ++ before.outbox.bytes.items;
     writes = WritesAll-trans sink start writer written stands.sent before.outbox.bytes.items stands.writes writes;
     text = ap (λ rest. (stands.sent ++ before.outbox.bytes.items) ++ rest) empty ∙ append-nil (stands.sent ++ before.outbox.bytes.items) ∙ stands.text;
@@ -61,6 +68,7 @@ module _ {W A : Type 0} (sink : OfSink W) (teller : OfTeller A) (start : W) (fir
     parts = refl;
     last = now;
     answers = stands.answers;
+    report = answered.report;
     tells = stands.tells;
     stops = stops;
     wanted = wanted;
@@ -88,6 +96,7 @@ module _ {W A : Type 0} (sink : OfSink W) (teller : OfTeller A) (start : W) (fir
     parts = ap (λ all. all ++ more) stops.parts ∙ append_assoc stops.first stops.others more;
     last = stops.last;
     answers = stops.answers;
+    report = stops.report;
     tells = stops.tells;
     stops = stops.stops;
     wanted = λ is.

@@ -1,8 +1,10 @@
 -- The lines of a text in memory, whose answers go into a room.
-use Rattle.std.specs.Prelude.{◌≡◌, ◌⊎◌, ℕ, ◌+◌, ◌-◌, ◌<◌, ◌≤◌, List, [], ◌∷◌, ◌++◌, length, drop, Option, None}
+use Rattle.std.specs.Prelude.{◌≡◌, ◌⊎◌, ℕ, ◌+◌, ◌-◌, ◌<◌, ◌≤◌, List, [], ◌∷◌, ◌++◌, length, drop, Option, None, Some}
 use Rattle.std.specs.List.{filter_map}
+use Rattle.riichi_hand.specs.declared.win.Rules.{Rules}
 use Rattle.desk_lines.specs.Lines.{cut_of, lines}
 use Rattle.desk_lines.specs.Profile.{profile_of}
+use Rattle.desk_lines.specs.Records.{AnswerKind, AreTold}
 use Rattle.desk_lines.specs.Telling.{text_of}
 
 -- A text is cut behind a line: the front ends with a line feed or is empty, or nothing comes behind it.
@@ -17,36 +19,28 @@ pub record IsFirstLine (text line after : List ℕ) : Type 0 where
   pub line_is : lines front ≡ line ∷ []
   pub shorter : length after < length text
 
--- which texts may answer some lines
-abbrev pub Tells : Type 1
-Tells = List (List ℕ) → List (List ℕ) → Type 0
-
--- those of a function, one for each line or none
-abbrev pub AreAnswersBy : (List ℕ → Option (List ℕ)) → Tells
-AreAnswersBy answer lines told = told ≡ filter_map answer lines
-
--- The first line of a text has an answer that is too long, with its line feed, for so many bytes.
-pub record HasNoRoom (tells : Tells) (left : ℕ) (text : List ℕ) : Type 0 where
+-- The first line of a text may have an answer that is too long, with its line feed, for so many bytes.
+pub record HasNoRoom (Answers : AnswerKind) (rules : Rules) (left : ℕ) (text : List ℕ) : Type 0 where
   pub line : List ℕ
   pub others : List (List ℕ)
   pub lines_are : lines text ≡ line ∷ others
   pub answer : List ℕ
-  pub is_told : tells (line ∷ []) (answer ∷ [])
+  pub is_told : Answers rules line (Some answer)
   pub is_longer : left < length answer + 1
 
 -- The front of a text is answered, and the answers fill the front of a room, each with its line feed. What follows is no
 -- text, or begins with a line whose answer has no room.
-pub record Fills (tells : Tells) (text before after : List ℕ) (taken filled : ℕ) : Type 0 where
+pub record Fills (Answers : AnswerKind) (rules : Rules) (text before after : List ℕ) (taken filled : ℕ) : Type 0 where
   pub front : List ℕ
   pub rest : List ℕ
   pub cut : IsCutBehindLine text front rest
   pub taken_is : taken ≡ length front
   pub told : List (List ℕ)
-  pub are_told : tells (lines front) told
+  pub are_told : AreTold Answers rules (lines front) told
   pub filled_is : filled ≡ length (text_of told)
   pub is_within : filled ≤ length before
   pub room_is : after ≡ text_of told ++ drop filled before
-  pub stops : (rest ≡ []) ⊎ HasNoRoom tells (length before - filled) rest
+  pub stops : (rest ≡ []) ⊎ HasNoRoom Answers rules (length before - filled) rest
 
 -- ---- the law
 

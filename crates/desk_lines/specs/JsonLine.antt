@@ -1,6 +1,5 @@
--- The answer to one line as JSON, and the answers to the lines of a stream.
-use Rattle.std.specs.Prelude.{◌≡◌, ℕ, ◌<◌, List, ◌++◌, Bool, Option, Some, Result, length, codes, nat_eq, option_map}
-use Rattle.std.specs.List.{starts_with}
+-- The answer to one line as JSON.
+use Rattle.std.specs.Prelude.{◌≡◌, ℕ, ◌<◌, List, ◌++◌, Option, Some, Result, length, codes, option_map}
 use Rattle.std.proofs.Common.{sym, ap, ◌∙◌}
 use Rattle.riichi_hand.specs.declared.win.Rules.{Rules}
 use Rattle.riichi_hand.specs.declared.fault.LineFault.{LineFault}
@@ -9,9 +8,7 @@ use Rattle.riichi_hand.specs.Lines.{outcome_of}
 use Rattle.riichi_hand.specs.Rules.{house_of}
 use Rattle.desk_json.specs.Text.{answer_json, refusal_json, long_texts_alike}
 use Rattle.desk_lines.specs.LineAnswer.{outcome_told, IsBy}
-use Rattle.desk_lines.specs.LineAnswers.{answers_by}
 use Rattle.desk_lines.specs.LongLines.{AreAlike, long_outcome}
-use Rattle.desk_lines.specs.Telling.{text_of}
 
 abbrev pub outcome_json : Rules → List ℕ → Result (Option Job) LineFault → Option (List ℕ)
 outcome_json rules line outcome = outcome_told (answer_json (house_of rules)) (refusal_json line) outcome
@@ -28,10 +25,6 @@ long_objects rules line other long long_other =
 pub json_alike : AreAlike (IsBy json_of)
 json_alike rules line other told long long_other is = is ∙ long_objects rules line other long long_other
 
--- an object begins as those of faults do, and those of answers don't
-abbrev pub is_refusal_object : List ℕ → Bool
-is_refusal_object object = starts_with nat_eq object (codes "{\"answer\":\"refused\"")
-
 -- ---- members
 
 -- these are the members of the object that answers a line: behind a brace they are the object
@@ -40,17 +33,3 @@ IsMembers rules line members = option_map (λ text. codes "{" ++ text) members �
 
 pub members_alike : AreAlike IsMembers
 members_alike rules line other told long long_other is = is ∙ long_objects rules line other long long_other
-
--- these are the members of a refusal
-abbrev pub are_of_refusal : List ℕ → Bool
-are_of_refusal members = is_refusal_object (codes "{" ++ members)
-
--- ---- streams
-
--- the answers to the records among the lines of a stream, under its profile
-abbrev pub json_on : Rules → List (List ℕ) → List (List ℕ)
-json_on given lines = answers_by json_of given lines
-
--- the same as they are written, each with a line feed
-abbrev pub json_to : Rules → List (List ℕ) → List ℕ
-json_to given lines = text_of (json_on given lines)

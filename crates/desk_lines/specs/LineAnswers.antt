@@ -1,11 +1,11 @@
 -- The answers to the lines of a stream, as texts and as a count.
-use Rattle.std.specs.Prelude.{ℕ, List, Option}
+use Rattle.std.specs.Prelude.{ℕ, List, map, Option}
 use Rattle.std.specs.List.{filter_map}
 use Rattle.riichi_hand.specs.declared.win.Rules.{Rules}
 use Rattle.desk_lines.specs.declared.report.DeskReport.{DeskReport}
 use Rattle.desk_lines.specs.Lines.{lines}
 use Rattle.desk_lines.specs.Profile.{rules_of, record_lines}
-use Rattle.desk_lines.specs.LineAnswer.{answer_of}
+use Rattle.desk_lines.specs.LineAnswer.{answer_of, line_kind}
 use Rattle.desk_lines.specs.Telling.{text_of, report_of}
 
 -- the answers of a kind to the records among the lines of a stream, under its profile, which is the given one where it sets none
@@ -24,6 +24,6 @@ answers_to given lines = text_of (answers_on given lines)
 abbrev pub answers : Rules → List ℕ → List ℕ
 answers given text = answers_to given (lines text)
 
--- how many answers to the lines begin with `refused`, and how many don't
+-- how many of the records are answered, and how many refused
 abbrev pub report_on : Rules → List (List ℕ) → DeskReport
-report_on given lines = report_of (answers_on given lines)
+report_on given lines = report_of (map (line_kind (rules_of given lines)) (record_lines lines))

@@ -1,9 +1,8 @@
 -- Answers with the numbers of their lines.
 use Rattle.std.specs.Prelude.{◌≡◌, ℕ, suc, List, [], ◌∷◌, ◌++◌, Option, is_some, if◌then◌else◌, codes, decimal, option_map}
 use Rattle.riichi_hand.specs.declared.win.Rules.{Rules}
-use Rattle.desk_lines.specs.declared.records.Records.{Records}
 use Rattle.desk_lines.specs.Profile.{profile_of, rules_of, record_lines}
-use Rattle.desk_lines.specs.Records.{AnswerKind, rules_after}
+use Rattle.desk_lines.specs.Records.{AnswerKind}
 use Rattle.desk_lines.specs.Telling.{answers_in}
 
 -- an answer with the number of its line
@@ -25,11 +24,6 @@ first_number (line ∷ lines) = if is_some (profile_of line) then 2 else 1
 -- these texts answer the records among the lines of a stream, under its profile, each with the number of its line
 abbrev pub NumberRecords : AnswerKind → Rules → List (List ℕ) → List (ℕ × List ℕ) → Type 0
 NumberRecords Answers given lines told = AreNumbered Answers (rules_of given lines) (first_number lines) (record_lines lines) told
-
--- the lines were read, and their records answered
-abbrev pub TellsNumbered : {A : Type 0} → AnswerKind → Records A → List (List ℕ) → List (ℕ × List ℕ) → Type 0
-TellsNumbered Answers records lines told =
-    (records.rules ≡ rules_after records.given lines) × NumberRecords Answers records.given lines told
 
 -- ---- what stands before an answer
 

@@ -1,10 +1,14 @@
 -- What is kept of the record lines that were answered.
-use Rattle.std.specs.Prelude.{◌≡◌, ℕ, List, [], ◌∷◌, ◌++◌, Bool, Option, None, Some}
+use Rattle.std.specs.Prelude.{◌≡◌, ℕ, List, [], ◌∷◌, ◌++◌, Option, None, Some, is_some}
 use Rattle.riichi_hand.specs.declared.win.Rules.{Rules}
 use Rattle.desk_lines.specs.declared.line_kind.LineKind.{LineKind}
+use Rattle.desk_lines.specs.declared.line_kind.LineKind.TheVariants.{NoRecord}
 use Rattle.desk_lines.specs.declared.records.Records.{Records}
+use Rattle.desk_lines.specs.declared.report.DeskReport.{DeskReport}
+use Rattle.desk_lines.specs.LineAnswer.{line_kind}
+use Rattle.desk_lines.specs.LineAnswers.{report_on}
 use Rattle.desk_lines.specs.Profile.{rules_of, record_lines, record_rules}
-use Rattle.desk_lines.specs.Telling.{answers_in, kind_by, with_line_feed}
+use Rattle.desk_lines.specs.Telling.{answers_in, has_answer, with_line_feed}
 
 -- the profile once these lines were read, and none before the first
 abbrev pub rules_after : Rules → List (List ℕ) → Option Rules
@@ -25,11 +29,11 @@ records_in (Some rules) lines = lines
 abbrev pub AnswerKind : Type 1
 AnswerKind = Rules → List ℕ → Option (List ℕ) → Type 0
 
--- One of the texts that may answer was put behind what stood there, or none was.
-pub record Puts (refuses : List ℕ → Bool) (May : Option (List ℕ) → Type 0) (kind : LineKind) (before after : List ℕ) : Type 0 where
+-- One of the texts that may answer a line of this kind was put behind what stood there, or none was.
+pub record Puts (May : Option (List ℕ) → Type 0) (kind : LineKind) (before after : List ℕ) : Type 0 where
   pub told : Option (List ℕ)
   pub may_be_told : May told
-  pub kind_is : kind ≡ kind_by refuses told
+  pub kind_is : is_some told ≡ has_answer kind
   pub put : after ≡ before ++ with_line_feed told
 
 -- the answer to a line that is a record under these rules, or none
@@ -40,6 +44,11 @@ IsToldUnder Answers (Some rules) line told = Answers rules line told
 -- the answer to one more line
 abbrev pub IsToldBy : AnswerKind → Rules → Option Rules → List ℕ → Option (List ℕ) → Type 0
 IsToldBy Answers given rules line told = IsToldUnder Answers (record_rules given rules line) line told
+
+-- what a line is that is a record under these rules, or none
+abbrev pub kind_under : Option Rules → List ℕ → LineKind
+kind_under None line = NoRecord
+kind_under (Some rules) line = line_kind rules line
 
 -- these texts answer the lines, in order
 abbrev pub AreTold : AnswerKind → Rules → List (List ℕ) → List (List ℕ) → Type 0
@@ -52,7 +61,6 @@ AreTold Answers rules (line ∷ lines) told =
 abbrev pub AnswerRecords : AnswerKind → Rules → List (List ℕ) → List (List ℕ) → Type 0
 AnswerRecords Answers given lines told = AreTold Answers (rules_of given lines) (record_lines lines) told
 
--- the lines were read, and their records answered
-abbrev pub TellsRecords : {A : Type 0} → AnswerKind → Records A → List (List ℕ) → List (List ℕ) → Type 0
-TellsRecords Answers records lines told =
-    (records.rules ≡ rules_after records.given lines) × AnswerRecords Answers records.given lines told
+-- the lines were read, and counted
+abbrev pub AreRead : {A : Type 0} → Records A → List (List ℕ) → DeskReport → Type 0
+AreRead records lines report = (records.rules ≡ rules_after records.given lines) × (report ≡ report_on records.given lines)

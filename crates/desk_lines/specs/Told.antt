@@ -3,9 +3,10 @@ use Rattle.std.specs.Prelude.{◌≡◌, ℕ, ◌+◌, List, ◌∷◌, ◌++◌
 use Rattle.desk_io.specs.declared.sink.Sink.{Ghosts as OfSink}
 use Rattle.desk_lines.specs.declared.fault.DeskFault.{DeskFault}
 use Rattle.desk_lines.specs.declared.fault.DeskFault.TheVariants.{Read, Write, Memory}
+use Rattle.desk_lines.specs.declared.report.DeskReport.{DeskReport}
 use Rattle.desk_lines.specs.declared.teller.Teller.{Ghosts as OfTeller}
 use Rattle.desk_lines.specs.declared.told.Told.{Told}
-use Rattle.desk_lines.specs.Telling.{text_by, report_by, count_of, IsToldAs}
+use Rattle.desk_lines.specs.Telling.{text_by, count_of, IsToldAs}
 use Rattle.desk_lines.specs.Streams.{WritesAll, StopsWriting}
 
 -- how many lines were read
@@ -15,9 +16,8 @@ lines_of told = count_of told.report + told.unanswered
 -- These lines were answered. What of the answers was not written since the start is in the outbox.
 pub record Stands {W T : Type 0} (sink : OfSink W) (teller : OfTeller T) (start : W) (first : T) (lines : List (List ℕ)) (now : T) (told : Told) (writer : W) : Type 0 where
   pub answers : List teller.Answer
-  pub tells : teller.tells first now lines answers
+  pub tells : teller.tells first now lines answers told.report
   pub count : lines_of told ≡ length lines
-  pub report : told.report ≡ report_by teller.refuses answers
   pub sent : List ℕ
   pub writes : WritesAll sink start writer sent
   pub text : sent ++ told.outbox.bytes.items ≡ text_by teller.written answers
@@ -40,6 +40,7 @@ pub record StopsTelling {W T : Type 0} (sink : OfSink W) (teller : OfTeller T) (
   pub parts : lines ≡ first ++ others
   pub last : T
   pub answers : List teller.Answer
-  pub tells : teller.tells first_state last first answers
+  pub report : DeskReport
+  pub tells : teller.tells first_state last first answers report
   pub stops : Stops sink start new fault (text_by teller.written answers)
   pub wanted : fault ≡ Memory → WantsNext teller last others

@@ -1,10 +1,11 @@
 //! The lines of a reader, told one after another.
 ghost use Rattle.std.specs.Prelude.{◌≡◌, ◌+◌, ◌≤◌, ◌<◌, ℕ, List, [], length, take, Err, IfOk, IsErrOf};
+ghost use Rattle.desk_lines.specs.declared.report.DeskReport.{DeskReport};
 ghost use Rattle.desk_lines.specs.declared.fault.DeskFault.{DeskFault};
 ghost use Rattle.desk_lines.specs.Reading.{IsRead, FailsAgain, IsStopped, with_end};
 ghost use Rattle.desk_lines.specs.Lines.{ended_lines, lines};
 ghost use Rattle.desk_lines.specs.Streams.{Gives, GivesAll, WritesAll, FailsOrGoesOn, IsReadWithin};
-ghost use Rattle.desk_lines.specs.Telling.{text_by, report_by};
+ghost use Rattle.desk_lines.specs.Telling.{text_by, report_of};
 
 use super::fault::DeskFault;
 use super::line_buffer::LineBuffer;
@@ -33,21 +34,20 @@ pub(crate) fn answer_lines<T: Teller, S: RowSource, R: Source, W: Sink>(
     writer: &mut W,
 ) -> Result<DeskReport, DeskFault>
     requires most { T.most + 2 ≤ KEPT }
-    requires new { T.tells teller.old teller.old [] [] }
+    requires new { T.tells teller.old teller.old [] [] (report_of []) }
 
     // The reader was read to its end, and the answers to its lines were written.
     ensures ok { IfOk result (λ report. (text : List ℕ) × (told : List T.Answer)
         × GivesAll ⟦<R as Source>⟧ reader.old reader.new text
-        × T.tells teller.old teller.new (lines text) told
-        × WritesAll ⟦<W as Sink>⟧ writer.old writer.new (text_by T.written told)
-        × (report ≡ report_by T.refuses told)) }
+        × T.tells teller.old teller.new (lines text) told report
+        × WritesAll ⟦<W as Sink>⟧ writer.old writer.new (text_by T.written told)) }
 
     // A read failed, or there were too many: the answers to the lines that had ended were written.
     ensures read_failed { IsErrOf result DeskFault.Read
         → FailsOrGoesOn ⟦<R as Source>⟧ reader.old reader.new
-        × ((text : List ℕ) × (told : List T.Answer)
+        × ((text : List ℕ) × (told : List T.Answer) × (report : DeskReport)
         × Gives ⟦<R as Source>⟧ reader.old reader.new text
-        × T.tells teller.old teller.new (ended_lines text) told
+        × T.tells teller.old teller.new (ended_lines text) told report
         × WritesAll ⟦<W as Sink>⟧ writer.old writer.new (text_by T.written told)) }
 
     // A write failed, or memory was wanted: the first of the whole lines that the reader gave were told.

@@ -2,20 +2,16 @@
 ghost use Rattle.std.specs.Prelude.{◌≡◌, ◌+◌, ◌≤◌, ◌∷◌, ◌++◌, [], length};
 ghost use Rattle.desk_core.specs.AnswerText.{answer_text};
 ghost use Rattle.desk_core.specs.Value.{value_of};
-ghost use Rattle.riichi_score.specs.Best.{best_of};
-ghost use Rattle.riichi_score.specs.Text as spec_win;
 ghost use Rattle.riichi_shape.specs.Answer.{shape_answer_of};
 ghost use Rattle.riichi_shape_text.specs.Text as spec_shape;
 ghost use Rattle.riichi_split.specs.Waits as spec_waits;
-ghost use Rattle.desk_lines.specs.LineAnswer.{answer_of};
 ghost use Rattle.desk_lines.specs.Outbox.{HasRoom};
-ghost use Rattle.desk_lines.specs.Telling.{with_line_feed, line_kind_of};
 
 use super::line_kind::LineKind;
 use super::numbered::Numbers;
 use super::outbox::Outbox;
 use super::responder::Responder;
-use riichi_hand::{Job, Rules, ShapeRecord, WinRecord, fault_text, read_line};
+use riichi_hand::{Job, Rules, ShapeRecord, fault_text, read_line};
 use riichi_score::{best, push_win};
 use riichi_shape::{RowSource, shape_with};
 use riichi_shape_text::push_shape;
@@ -27,22 +23,30 @@ pub struct Plain;
 
 impl Responder for Plain {
     ghost use Rattle.desk_lines.specs.LineAnswer.{answer_of, IsBy};
-    ghost use Rattle.desk_lines.specs.Telling.{is_refusal};
     ghost use Rattle.desk_lines.specs.LongLines.{answers_alike};
 
     ghost may_tell = { IsBy answer_of };
 
-    ghost refuses = { is_refusal };
-
     ghost alike = { answers_alike };
 
+    #[tactic(auto, unfolding(crate::specs::LineAnswer::answer_of))]
     fn respond<S: RowSource>(
         rules: Rules,
         line: &[u8],
         outbox: &mut Outbox,
         source: &mut S,
     ) -> LineKind {
-        put_answer(rules, line, outbox, source)
+        match read_line(rules, line) {
+            Ok(None) => LineKind::NoRecord,
+            Ok(Some(job)) => {
+                put_job(&job, outbox, source);
+                LineKind::Answered
+            }
+            Err(fault) => {
+                outbox.put_line(fault_text(&fault).as_str().as_bytes());
+                LineKind::Refused
+            }
+        }
     }
 }
 
@@ -56,33 +60,7 @@ impl Numbers for Plain {
     }
 }
 
-/// Puts the answer to a line into the outbox, where it has one.
-#[tactic(auto, using(crate::proofs::KindLemmas::kinds), unfolding(crate::specs::LineAnswer::answer_of))]
-fn put_answer<S: RowSource>(
-    rules: Rules,
-    line: &[u8],
-    outbox: &mut Outbox,
-    source: &mut S,
-) -> LineKind
-    requires { HasRoom outbox.old }
-    ensures kind { result ≡ line_kind_of (answer_of rules line.now) }
-    ensures told { outbox.new.bytes.items
-        ≡ outbox.old.bytes.items ++ with_line_feed (answer_of rules line.now) }
-{
-    match read_line(rules, line) {
-        Ok(None) => LineKind::NoRecord,
-        Ok(Some(job)) => {
-            put_job(&job, outbox, source);
-            LineKind::Answered
-        }
-        Err(fault) => {
-            outbox.put_line(fault_text(&fault).as_str().as_bytes());
-            LineKind::Refused
-        }
-    }
-}
-
-/// Puts the answer to a job into the outbox. Each sort by itself: the room of the longest text costs time for the others.
+/// Puts the answer to a job into the outbox.
 #[tactic(auto, using(crate::proofs::JobTexts::job_texts))]
 fn put_job<S: RowSource>(job: &Job, outbox: &mut Outbox, source: &mut S)
     requires { HasRoom outbox.old }
@@ -90,20 +68,14 @@ fn put_job<S: RowSource>(job: &Job, outbox: &mut Outbox, source: &mut S)
         ≡ outbox.old.bytes.items ++ (answer_text (value_of job.now) ++ 10 ∷ []) }
 {
     match job {
-        Job::Win(win) => put_win(win, outbox),
+        Job::Win(win) => {
+            outbox.text.clear();
+            push_win(&mut outbox.text, &best(win));
+            outbox.put_text();
+        }
         Job::Waits(hand) => put_waits(waits(hand), outbox),
         Job::Shape(tiles) => put_shape(tiles, outbox, source),
     }
-}
-
-fn put_win(win: &WinRecord, outbox: &mut Outbox)
-    requires { HasRoom outbox.old }
-    ensures { outbox.new.bytes.items
-        ≡ outbox.old.bytes.items ++ (spec_win.win_text (best_of win.now) ++ 10 ∷ []) }
-{
-    outbox.text.clear();
-    push_win(&mut outbox.text, &best(win));
-    outbox.put_text();
 }
 
 pub(crate) fn put_waits(kinds: KindSet, outbox: &mut Outbox)

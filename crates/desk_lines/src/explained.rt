@@ -14,9 +14,9 @@ ghost use Rattle.riichi_shape_text.specs.Text as spec_shape;
 ghost use Rattle.riichi_split.specs.Waits.{waits_of, waits_text};
 ghost use Rattle.riichi_waits.specs.Waits.{kind_waits, waits_line};
 ghost use Rattle.desk_lines.specs.Explained.{IsExplained};
+ghost use Rattle.desk_lines.specs.LineAnswer.{line_kind};
 ghost use Rattle.desk_lines.specs.Outbox.{HasRoom};
 ghost use Rattle.desk_lines.specs.Records.{Puts};
-ghost use Rattle.desk_lines.specs.Telling.{is_refusal};
 
 use super::answering::{put_shape, put_waits};
 use super::line_kind::LineKind;
@@ -45,11 +45,8 @@ impl Responder for Explained {
     ghost use Rattle.riichi_explain.specs.declared.explaining.Shown.TheVariants.{BestReading};
     ghost use Rattle.desk_lines.specs.Explained.{IsExplained};
     ghost use Rattle.desk_lines.specs.LongLines.{explanations_alike};
-    ghost use Rattle.desk_lines.specs.Telling.{is_refusal};
 
     ghost may_tell = { IsExplained BestReading };
-
-    ghost refuses = { is_refusal };
 
     ghost alike = { explanations_alike BestReading };
 
@@ -67,11 +64,8 @@ impl Responder for EveryReading {
     ghost use Rattle.riichi_explain.specs.declared.explaining.Shown.TheVariants as shown;
     ghost use Rattle.desk_lines.specs.Explained.{IsExplained};
     ghost use Rattle.desk_lines.specs.LongLines.{explanations_alike};
-    ghost use Rattle.desk_lines.specs.Telling.{is_refusal};
 
     ghost may_tell = { IsExplained shown.EveryReading };
-
-    ghost refuses = { is_refusal };
 
     ghost alike = { explanations_alike shown.EveryReading };
 
@@ -104,8 +98,9 @@ fn put_explained<S: RowSource>(
     source: &mut S,
 ) -> LineKind
     requires { HasRoom outbox.old }
-    ensures { Puts is_refusal
-        (IsExplained shown rules line.now) result outbox.old.bytes.items outbox.new.bytes.items }
+    ensures kind { result ≡ line_kind rules line.now }
+    ensures puts { Puts (IsExplained shown rules line.now) result
+        outbox.old.bytes.items outbox.new.bytes.items }
 {
     match read_placed(rules, line) {
         Ok(None) => LineKind::NoRecord,

@@ -1,19 +1,9 @@
 //! The lines of a text in memory, answered into a room.
 ghost use Rattle.std.specs.Prelude.{◌≡◌, ◌+◌, ◌≤◌, ◌<◌, [], ◌++◌, true, false, length, take, drop, MatchOption};
-ghost use Rattle.riichi_explain.specs.declared.explaining.Shown.TheVariants.{BestReading};
-ghost use Rattle.desk_lines.specs.Explained.{IsExplained};
-ghost use Rattle.desk_lines.specs.Filling.{IsFirstLine, AreAnswersBy, Fills};
-ghost use Rattle.desk_lines.specs.JsonLine.{json_of};
-ghost use Rattle.desk_lines.specs.LineAnswer.{answer_of};
-ghost use Rattle.desk_lines.specs.Reasoned.{IsReasoned};
-ghost use Rattle.desk_lines.specs.Records.{AreTold};
+ghost use Rattle.desk_lines.specs.Filling.{IsFirstLine, Fills};
 
-use super::answering::Plain;
-use super::explained::Explained;
 use super::first_line::{cut_text, without_return};
-use super::objects::Objects;
 use super::outbox::Outbox;
-use super::reasoned::Reasoned;
 use super::responder::Responder;
 use riichi_hand::Rules;
 use riichi_shape::{KeptRow, KeptUpper, LentMemo};
@@ -30,41 +20,10 @@ pub struct Filled {
     pub filled: usize,
 }
 
-/// Answers the lines of a text from its start, as many as have room: each answer with a line feed behind it, and nothing for
-/// a line that is no record. A line that would set a profile is a record like any other here.
-pub fn fill_answers(rules: Rules, text: &[u8], room: &mut [u8]) -> Filled
-    ensures { Fills (AreAnswersBy (answer_of rules))
-        text.now room.old room.new result.taken result.filled }
-{
-    fill::<Plain>(rules, text, room)
-}
-
-/// The same, each answer as an object of JSON.
-pub fn fill_objects(rules: Rules, text: &[u8], room: &mut [u8]) -> Filled
-    ensures { Fills (AreAnswersBy (json_of rules))
-        text.now room.old room.new result.taken result.filled }
-{
-    fill::<Objects>(rules, text, room)
-}
-
-/// The same, with the lines behind each answer that explain it.
-pub fn fill_explanations(rules: Rules, text: &[u8], room: &mut [u8]) -> Filled
-    ensures { Fills (AreTold (IsExplained BestReading) rules)
-        text.now room.old room.new result.taken result.filled }
-{
-    fill::<Explained>(rules, text, room)
-}
-
-/// Each answer as an object of JSON, that of a win with its reasons.
-pub fn fill_explained_objects(rules: Rules, text: &[u8], room: &mut [u8]) -> Filled
-    ensures { Fills (AreTold IsReasoned rules)
-        text.now room.old room.new result.taken result.filled }
-{
-    fill::<Reasoned>(rules, text, room)
-}
-
-fn fill<A: Responder>(rules: Rules, text: &[u8], room: &mut [u8]) -> Filled
-    ensures { Fills (AreTold A.may_tell rules)
+/// Answers the lines of a text from its start by the kind of answer `A`, as many as have room: each answer with a line feed
+/// behind it, and nothing for a line that is no record. A line that would set a profile is a record like any other here.
+pub fn fill_by<A: Responder>(rules: Rules, text: &[u8], room: &mut [u8]) -> Filled
+    ensures { Fills A.may_tell rules
         text.now room.old room.new result.taken result.filled }
 {
     let mut rows = [KeptRow::of_nothing(); KEPT_ROWS];

@@ -41,18 +41,17 @@ impl<A: Numbers> Numbered<A> {
 }
 
 impl<A: Numbers> Teller for Numbered<A> {
-    ghost use Rattle.desk_lines.specs.Numbered.{TellsNumbered};
+    ghost use Rattle.desk_lines.specs.Numbered.{NumberRecords};
+    ghost use Rattle.desk_lines.specs.Records.{AreRead};
 
     ghost Answer = { ℕ × List ℕ };
 
     ghost written = { λ told. A.front told.0 ++ told.1 };
 
-    ghost refuses = { λ told. A.refuses told.1 };
-
     ghost most = { 4096 };
 
-    ghost tells = { λ first now lines told. (now.records.given ≡ first.records.given)
-        × TellsNumbered A.may_tell now.records lines told };
+    ghost tells = { λ first now lines told report. (now.records.given ≡ first.records.given)
+        × AreRead now.records lines report × NumberRecords A.may_tell now.records.given lines told };
 
     ghost wants_memory = { λ _ _. ⊥ };
 
@@ -63,9 +62,12 @@ impl<A: Numbers> Teller for Numbered<A> {
         outbox: &mut Outbox,
         source: &mut S,
     ) -> Result<LineKind, AllocError> {
+        let Some(rules) = self.records.next_rules(line) else {
+            return Ok(LineKind::NoRecord);
+        };
         let before = outbox.len();
         A::put_number(number, outbox);
-        let kind = self.records.put_line(line, outbox, source);
+        let kind = A::respond(rules, line, outbox, source);
         if let LineKind::NoRecord = kind {
             outbox.truncate(before);
         }

@@ -1,10 +1,11 @@
 //! A text over streams, with the numbers of the lines.
 ghost use Rattle.std.specs.Prelude.{◌≡◌, ◌++◌, ℕ, List, map, IfOk, IsErrOf};
+ghost use Rattle.desk_lines.specs.LineAnswers.{report_on};
 ghost use Rattle.desk_lines.specs.Lines.{ended_lines, lines};
 ghost use Rattle.desk_lines.specs.Numbered.{NumberRecords};
 ghost use Rattle.desk_lines.specs.Records.{AnswerRecords};
 ghost use Rattle.desk_lines.specs.Streams.{Gives, GivesAll, WritesAll, StopsWriting, AreWhole, FailsOrGoesOn, IsReadWithin};
-ghost use Rattle.desk_lines.specs.Telling.{text_by, report_by};
+ghost use Rattle.desk_lines.specs.Telling.{text_by};
 
 use super::answer_lines::answer_lines;
 use super::fault::DeskFault;
@@ -14,10 +15,10 @@ use desk_io::{Sink, Source};
 use riichi_hand::Rules;
 use riichi_shape::RowSource;
 
-/// Answers the record lines that a reader gives by the kind of answer `A`, as `desk_text` and its kin do, each answer behind
-/// the number of its line: a number and a colon, or of an object its first member, `line`. All lines are counted, from 1, those
+/// Answers the record lines that a reader gives by the kind of answer `A`, as `desk_text_by` does, each answer behind the
+/// number of its line: a number and a colon, or of an object its first member, `line`. All lines are counted, from 1, those
 /// that are no records too. It takes no memory.
-pub fn numbered_text_with<A: Numbers, S: RowSource, R: Source, W: Sink>(
+pub fn numbered_text_by<A: Numbers, S: RowSource, R: Source, W: Sink>(
     source: &mut S,
     rules: Rules,
     reader: &mut R,
@@ -30,7 +31,7 @@ pub fn numbered_text_with<A: Numbers, S: RowSource, R: Source, W: Sink>(
         × NumberRecords A.may_tell rules (lines text) told
         × AnswerRecords A.may_tell rules (lines text) (map (λ told. told.1) told)
         × WritesAll ⟦<W as Sink>⟧ writer.old writer.new (text_by (λ told. A.front told.0 ++ told.1) told)
-        × (report ≡ report_by (λ told. A.refuses told.1) told)) }
+        × (report ≡ report_on rules (lines text))) }
 
     // A read failed, or there were too many: the answers to the lines that had ended were written.
     ensures read_failed { IsErrOf result DeskFault.Read

@@ -1,12 +1,9 @@
 //! The answer to one line as JSON.
-ghost use Rattle.std.specs.Prelude.{◌≡◌, ◌++◌, option_map};
+ghost use Rattle.std.specs.Prelude.{◌≡◌, option_map};
 ghost use Rattle.desk_core.specs.Value.{value_of};
 ghost use Rattle.desk_json.specs.Text as spec;
 ghost use Rattle.riichi_hand.specs.Places.{fault_from};
 ghost use Rattle.riichi_hand.specs.Rules.{house_of};
-ghost use Rattle.desk_lines.specs.JsonLine.{json_of, is_refusal_object};
-ghost use Rattle.desk_lines.specs.Outbox.{HasRoom};
-ghost use Rattle.desk_lines.specs.Telling.{kind_by, with_line_feed};
 
 use super::line_kind::LineKind;
 use super::numbered::Numbers;
@@ -21,49 +18,32 @@ use riichi_shape::RowSource;
 pub struct Objects;
 
 impl Responder for Objects {
-    ghost use Rattle.desk_lines.specs.JsonLine.{json_of, is_refusal_object, json_alike};
+    ghost use Rattle.desk_lines.specs.JsonLine.{json_of, json_alike};
     ghost use Rattle.desk_lines.specs.LineAnswer.{IsBy};
 
     ghost may_tell = { IsBy json_of };
 
-    ghost refuses = { is_refusal_object };
-
     ghost alike = { json_alike };
 
+    #[tactic(auto, unfolding(crate::specs::JsonLine::json_of))]
     fn respond<S: RowSource>(
         rules: Rules,
         line: &[u8],
         outbox: &mut Outbox,
         source: &mut S,
     ) -> LineKind {
-        put_json(rules, line, outbox, source)
-    }
-}
-
-/// Puts the answer to a line into the outbox, where it has one.
-#[tactic(auto, using(crate::proofs::JsonLemmas::kinds), unfolding(crate::specs::JsonLine::json_of))]
-pub(crate) fn put_json<S: RowSource>(
-    rules: Rules,
-    line: &[u8],
-    outbox: &mut Outbox,
-    source: &mut S,
-) -> LineKind
-    requires { HasRoom outbox.old }
-    ensures kind { result ≡ kind_by is_refusal_object (json_of rules line.now) }
-    ensures told { outbox.new.bytes.items ≡
-        outbox.old.bytes.items ++ with_line_feed (json_of rules line.now) }
-{
-    match read_placed(rules, line) {
-        Ok(None) => LineKind::NoRecord,
-        Ok(Some(job)) => {
-            make_object(rules, &job, outbox, source);
-            outbox.put_object();
-            LineKind::Answered
-        }
-        Err(refusal) => {
-            make_refusal(line, &refusal, outbox);
-            outbox.put_object();
-            LineKind::Refused
+        match read_placed(rules, line) {
+            Ok(None) => LineKind::NoRecord,
+            Ok(Some(job)) => {
+                make_object(rules, &job, outbox, source);
+                outbox.put_object();
+                LineKind::Answered
+            }
+            Err(refusal) => {
+                make_refusal(line, &refusal, outbox);
+                outbox.put_object();
+                LineKind::Refused
+            }
         }
     }
 }
@@ -72,11 +52,9 @@ pub(crate) fn put_json<S: RowSource>(
 pub struct Members;
 
 impl Responder for Members {
-    ghost use Rattle.desk_lines.specs.JsonLine.{IsMembers, are_of_refusal, members_alike};
+    ghost use Rattle.desk_lines.specs.JsonLine.{IsMembers, members_alike};
 
     ghost may_tell = { IsMembers };
-
-    ghost refuses = { are_of_refusal };
 
     ghost alike = { members_alike };
 

@@ -1,8 +1,9 @@
 //! The lines of a piece of a text, answered into memory.
-ghost use Rattle.std.specs.Prelude.{◌≡◌, ◌+◌, ◌<◌, ◌^◌, ℕ, List, ◌++◌, IfOk, length};
+ghost use Rattle.std.specs.Prelude.{◌≡◌, ◌+◌, ◌<◌, ◌^◌, ℕ, List, ◌++◌, IfOk, length, map};
+ghost use Rattle.desk_lines.specs.LineAnswer.{line_kind};
 ghost use Rattle.desk_lines.specs.Lines.{ended_lines};
 ghost use Rattle.desk_lines.specs.Records.{AreTold};
-ghost use Rattle.desk_lines.specs.Telling.{text_of, report_of, report_by, report_with, count_of};
+ghost use Rattle.desk_lines.specs.Telling.{text_of, report_of, report_with, count_of};
 
 use super::first_line::first_line;
 use super::line_kind::LineKind;
@@ -25,7 +26,7 @@ pub fn answer_piece<A: Responder, S: RowSource>(
     ensures { IfOk result (λ report. (told : List (List ℕ))
         × AreTold A.may_tell rules (ended_lines text.now) told
         × (answers.new.items ≡ answers.old.items ++ text_of told)
-        × (report ≡ report_by A.refuses told)) }
+        × (report ≡ report_of (map (line_kind rules) (ended_lines text.now)))) }
 {
     let mut outbox = Outbox::new();
     let mut report = DeskReport {

@@ -7,22 +7,10 @@ ghost use Rattle.desk_lines.specs.Profile.{profile_numbered, profile_of, rules_b
 use super::first_line::first_line;
 use riichi_hand::{MOST_LINE, Rules, has_other_byte, next_word};
 
-/// Takes the next line of a stream, whose profile is none before its first line, and then the given one where that
-/// line sets none. Answers under which profile the line is a record; none where it sets the profile.
-#[inline(always)]
-pub(crate) fn record_rules(given: Rules, stream: &mut Option<Rules>, line: &[u8]) -> Option<Rules>
-    ensures stream { stream.new ≡ Some (rules_by given stream.old line.now) }
-    ensures record { result ≡ record_rules given stream.old line.now }
-{
-    match *stream {
-        Some(rules) => Some(rules),
-        None => first_rules(given, stream, line),
-    }
-}
-
-/// The same of the first line.
+/// Takes the first line of a stream, whose profile is the given one where that line sets none. Answers under which profile the
+/// line is a record; none where it sets the profile.
 #[inline(never)]
-fn first_rules(given: Rules, stream: &mut Option<Rules>, line: &[u8]) -> Option<Rules>
+pub(crate) fn first_rules(given: Rules, stream: &mut Option<Rules>, line: &[u8]) -> Option<Rules>
     ensures stream { stream.new ≡ Some (rules_by given None line.now) }
     ensures record { result ≡ record_rules given None line.now }
 {

@@ -6,7 +6,7 @@ ghost use Rattle.desk_lines.specs.Reasoned.{win_in};
 
 use super::line_kind::LineKind;
 use super::numbered::Numbers;
-use super::objects::{Members, put_json};
+use super::objects::{Members, Objects};
 use super::outbox::Outbox;
 use super::responder::Responder;
 use desk_reasons::push_explained_win;
@@ -14,15 +14,12 @@ use riichi_hand::{Job, Rules, WinRecord, read_line};
 use riichi_shape::RowSource;
 
 /// The answers as JSON, of a win with the member `why` at the end of its object.
-pub(crate) struct Reasoned;
+pub struct Reasoned;
 
 impl Responder for Reasoned {
-    ghost use Rattle.desk_lines.specs.JsonLine.{is_refusal_object};
     ghost use Rattle.desk_lines.specs.Reasoned.{IsReasoned, reasoned_alike};
 
     ghost may_tell = { IsReasoned };
-
-    ghost refuses = { is_refusal_object };
 
     ghost alike = { reasoned_alike };
 
@@ -33,7 +30,7 @@ impl Responder for Reasoned {
         source: &mut S,
     ) -> LineKind {
         match win_in(rules, line) {
-            None => put_json(rules, line, outbox, source),
+            None => Objects::respond(rules, line, outbox, source),
             Some(win) => {
                 make_explained(&win, outbox, source);
                 outbox.put_object();
@@ -47,12 +44,9 @@ impl Responder for Reasoned {
 pub struct ReasonedMembers;
 
 impl Responder for ReasonedMembers {
-    ghost use Rattle.desk_lines.specs.JsonLine.{are_of_refusal};
     ghost use Rattle.desk_lines.specs.Reasoned.{AreReasoned, reasoned_members_alike};
 
     ghost may_tell = { AreReasoned };
-
-    ghost refuses = { are_of_refusal };
 
     ghost alike = { reasoned_members_alike };
 

@@ -1,12 +1,10 @@
 //! Answers the record lines of a stream one by one.
 ghost use Rattle.std.specs.Prelude.{◌≡◌, ℕ, List, Some, None};
-ghost use Rattle.desk_lines.specs.Outbox.{HasRoom};
-ghost use Rattle.desk_lines.specs.Records.{Puts, IsToldBy};
-ghost use Rattle.desk_lines.specs.Profile.{rules_by};
+ghost use Rattle.desk_lines.specs.Profile.{rules_by, record_rules};
 
 use super::line_kind::LineKind;
 use super::outbox::Outbox;
-use super::profile::record_rules;
+use super::profile::first_rules;
 use super::responder::Responder;
 use super::teller::Teller;
 use riichi_hand::Rules;
@@ -37,39 +35,31 @@ impl<A: Responder> Records<A> {
         }
     }
 
-    /// Answers the next line.
-    pub(crate) fn put_line<S: RowSource>(
-        &mut self,
-        line: &[u8],
-        outbox: &mut Outbox,
-        source: &mut S,
-    ) -> LineKind
-        requires { HasRoom outbox.old }
+    /// Takes the next line: under which rules it is a record, or none where it sets those of the stream.
+    #[inline(always)]
+    pub(crate) fn next_rules(&mut self, line: &[u8]) -> Option<Rules>
         ensures given { self.new.given ≡ self.old.given }
         ensures rules { self.new.rules ≡ Some (rules_by self.old.given self.old.rules line.now) }
-        ensures told { Puts A.refuses
-            (IsToldBy A.may_tell self.old.given self.old.rules line.now) result
-            outbox.old.bytes.items outbox.new.bytes.items }
+        ensures record { result ≡ record_rules self.old.given self.old.rules line.now }
     {
-        match record_rules(self.given, &mut self.rules, line) {
-            Some(rules) => A::respond(rules, line, outbox, source),
-            None => LineKind::NoRecord,
+        match self.rules {
+            Some(rules) => Some(rules),
+            None => first_rules(self.given, &mut self.rules, line),
         }
     }
 }
 
 impl<A: Responder> Teller for Records<A> {
-    ghost use Rattle.desk_lines.specs.Records.{TellsRecords};
+    ghost use Rattle.desk_lines.specs.Records.{AnswerRecords, AreRead};
 
     ghost Answer = { List ℕ };
 
     ghost written = { λ text. text };
 
-    ghost refuses = { A.refuses };
-
     ghost most = { 4096 };
 
-    ghost tells = { λ first now lines told. (now.given ≡ first.given) × TellsRecords A.may_tell now lines told };
+    ghost tells = { λ first now lines told report. (now.given ≡ first.given) × AreRead now lines report
+        × AnswerRecords A.may_tell now.given lines told };
 
     ghost wants_memory = { λ _ _. ⊥ };
 
@@ -80,6 +70,9 @@ impl<A: Responder> Teller for Records<A> {
         outbox: &mut Outbox,
         source: &mut S,
     ) -> Result<LineKind, AllocError> {
-        Ok(self.put_line(line, outbox, source))
+        match self.next_rules(line) {
+            Some(rules) => Ok(A::respond(rules, line, outbox, source)),
+            None => Ok(LineKind::NoRecord),
+        }
     }
 }

@@ -3,8 +3,8 @@ ghost use Rattle.std.specs.Prelude.{◌≡◌, ◌++◌, ℕ, List, IfOk, IsErrO
 ghost use Rattle.desk_script.specs.Replay.{Replays};
 ghost use Rattle.desk_script.specs.OnlyReplay.{IsOnlyReplay};
 ghost use Rattle.desk_lines.specs.Lines.{ended_lines, lines};
-ghost use Rattle.desk_lines.specs.Scripts.{RunsOut};
-ghost use Rattle.desk_lines.specs.Telling.{text_of, report_of};
+ghost use Rattle.desk_lines.specs.Scripts.{RunsOut, script_report};
+ghost use Rattle.desk_lines.specs.Telling.{text_of};
 ghost use Rattle.desk_lines.specs.Streams.{Gives, GivesAll, WritesAll, StopsWriting, AreWhole, FailsOrGoesOn, IsReadWithin};
 
 use super::answer_lines::answer_lines;
@@ -30,7 +30,7 @@ pub fn replay_text<R: Source, W: Sink>(
         × Replays (lines text) answers
         × IsOnlyReplay (lines text) answers
         × WritesAll ⟦<W as Sink>⟧ writer.old writer.new (text_of answers)
-        × (report ≡ report_of answers)) }
+        × (report ≡ script_report answers)) }
 
     // A read failed, or there were too many: answers to the lines that had ended were written.
     ensures read_failed { IsErrOf result DeskFault.Read

@@ -1,6 +1,7 @@
 //! What answers one record line.
-ghost use Rattle.std.specs.Prelude.{ℕ, List, Bool, Option};
+ghost use Rattle.std.specs.Prelude.{◌≡◌, ℕ, List, Option};
 ghost use Rattle.riichi_hand.specs.declared.win.Rules.{Rules};
+ghost use Rattle.desk_lines.specs.LineAnswer.{line_kind};
 ghost use Rattle.desk_lines.specs.LongLines.{AreAlike};
 ghost use Rattle.desk_lines.specs.Outbox.{HasRoom};
 ghost use Rattle.desk_lines.specs.Records.{Puts};
@@ -15,9 +16,6 @@ pub trait Responder {
     /// A record line may be answered by this text under a profile, or by none.
     ghost may_tell: { Rules → List ℕ → Option (List ℕ) → Type 0 };
 
-    /// A text is a refusal.
-    ghost refuses: { List ℕ → Bool };
-
     /// Puts the answer to a record line into the outbox. Shapes are answered by the rows of a source, and as by any other.
     fn respond<S: RowSource>(
         rules: Rules,
@@ -26,8 +24,9 @@ pub trait Responder {
         source: &mut S,
     ) -> LineKind
         requires { HasRoom outbox.old }
-        ensures { Puts refuses
-            (may_tell rules line.now) result outbox.old.bytes.items outbox.new.bytes.items };
+        ensures kind { result ≡ line_kind rules line.now }
+        ensures puts { Puts (may_tell rules line.now) result
+            outbox.old.bytes.items outbox.new.bytes.items };
 
     /// Lines of more than 4,096 bytes are answered alike.
     ghost alike: { AreAlike may_tell };

@@ -1,7 +1,8 @@
 //! Answers the lines of a script one by one.
 ghost use Rattle.std.specs.Prelude.{◌≡◌, ◌≤◌, ◌++◌, ℕ, List, Some, length};
 ghost use Rattle.desk_lines.specs.Outbox.{HasRoom};
-ghost use Rattle.desk_lines.specs.Telling.{with_line_feed, line_kind_of};
+ghost use Rattle.desk_lines.specs.Scripts.{text_kind};
+ghost use Rattle.desk_lines.specs.Telling.{with_line_feed};
 
 use super::line_kind::LineKind;
 use super::outbox::Outbox;
@@ -12,17 +13,14 @@ use std::alloc::AllocError;
 
 impl Teller for Script {
     ghost use Rattle.desk_lines.specs.Scripts.{OpensTable, TellsScript};
-    ghost use Rattle.desk_lines.specs.Telling.{is_refusal};
 
     ghost Answer = { List ℕ };
 
     ghost written = { λ text. text };
 
-    ghost refuses = { is_refusal };
-
     ghost most = { 8192 };
 
-    ghost tells = { λ _ now lines told. TellsScript now lines told };
+    ghost tells = { λ _ now lines told report. TellsScript now lines told report };
 
     ghost wants_memory = { OpensTable };
 
@@ -44,7 +42,7 @@ impl Teller for Script {
 fn put_text(text: &[u8], outbox: &mut Outbox) -> LineKind
     requires room { HasRoom outbox.old }
     requires short { length text.now ≤ 3096 }
-    ensures kind { result ≡ line_kind_of (Some text.now) }
+    ensures kind { result ≡ text_kind text.now }
     ensures told { outbox.new.bytes.items
         ≡ outbox.old.bytes.items ++ with_line_feed (Some text.now) }
 {

@@ -1,5 +1,6 @@
 //! What answers the lines of a stream, one after another.
-ghost use Rattle.std.specs.Prelude.{◌≡◌, ℕ, List, Bool, IfOk, OnErr};
+ghost use Rattle.std.specs.Prelude.{◌≡◌, ℕ, List, IfOk, OnErr};
+ghost use Rattle.desk_lines.specs.declared.report.DeskReport.{DeskReport};
 ghost use Rattle.desk_lines.specs.Outbox.{HasRoomForLine};
 ghost use Rattle.desk_lines.specs.Telling.{AnswersLine};
 
@@ -16,14 +17,11 @@ pub(crate) trait Teller {
     /// What is written of an answer.
     ghost written: { Answer → List ℕ };
 
-    /// An answer is a refusal.
-    ghost refuses: { Answer → Bool };
-
     /// Lines of more bytes are answered alike.
     ghost most: { ℕ };
 
-    /// From the first state to the second it has taken these lines and given them these answers, in order.
-    ghost tells: { Self → Self → List (List ℕ) → List Answer → Type 0 };
+    /// From the first state to the second it has taken these lines, given them these answers, in order, and counted them so.
+    ghost tells: { Self → Self → List (List ℕ) → List Answer → DeskReport → Type 0 };
 
     /// Memory may be wanted for this line.
     ghost wants_memory: { Self → List ℕ → Type 0 };
@@ -39,7 +37,7 @@ pub(crate) trait Teller {
     ) -> Result<LineKind, AllocError>
         requires { HasRoomForLine outbox.old }
         ensures told { IfOk result
-            (λ kind. AnswersLine written refuses most tells self.old self.new number line.now kind outbox.old.bytes.items outbox.new.bytes.items) }
+            (λ kind. AnswersLine written most tells self.old self.new number line.now kind outbox.old.bytes.items outbox.new.bytes.items) }
         ensures err { OnErr result ((outbox.new.bytes.items ≡ outbox.old.bytes.items)
             × wants_memory self.old line.now) };
 }

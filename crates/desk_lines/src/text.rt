@@ -1,13 +1,17 @@
 //! A text over streams.
-ghost use Rattle.std.specs.Prelude.{◌≡◌, ℕ, List, IfOk, IsErrOf};
+ghost use Rattle.std.specs.Prelude.{◌≡◌, ◌++◌, ℕ, List, IfOk, IsErrOf};
 ghost use Rattle.desk_lines.specs.Lines.{ended_lines, lines};
 ghost use Rattle.desk_lines.specs.LineAnswers.{answers, answers_to, report_on};
+ghost use Rattle.desk_lines.specs.Records.{AnswerRecords};
 ghost use Rattle.desk_lines.specs.Streams.{Gives, GivesAll, WritesAll, StopsWriting, AreWhole, FailsOrGoesOn, IsReadWithin};
+ghost use Rattle.desk_lines.specs.Telling.{text_of};
 
+use super::answer_lines::answer_lines;
 use super::answering::Plain;
 use super::fault::DeskFault;
+use super::records::Records;
 use super::report::DeskReport;
-use super::responding::respond_text;
+use super::responder::Responder;
 use desk_io::{Sink, Source};
 use riichi_hand::Rules;
 use riichi_shape::{RowSource, SuitMemo};
@@ -46,35 +50,39 @@ pub fn desk_text<R: Source, W: Sink>(
         → R.failures reader.new ≡ R.failures reader.old }
     ensures reads { IsReadWithin ⟦<R as Source>⟧ reader.old reader.new }
 {
-    desk_text_with(&mut SuitMemo::in_value(), rules, reader, writer)
+    desk_text_by::<Plain, SuitMemo, R, W>(&mut SuitMemo::in_value(), rules, reader, writer)
 }
 
-/// The same, where shapes are answered by the rows of a source: the answers are the same, whichever it is.
-pub fn desk_text_with<S: RowSource, R: Source, W: Sink>(
+/// The same by any kind of answer, where shapes are answered by the rows of a source: the answers are the same, whichever it is.
+pub fn desk_text_by<A: Responder, S: RowSource, R: Source, W: Sink>(
     source: &mut S,
     rules: Rules,
     reader: &mut R,
     writer: &mut W,
 ) -> Result<DeskReport, DeskFault>
     // The reader was read to its end, and the answers to what it gave were written.
-    ensures ok { IfOk result (λ report. (text : List ℕ)
+    ensures ok { IfOk result (λ report. (text : List ℕ) × (told : List (List ℕ))
         × GivesAll ⟦<R as Source>⟧ reader.old reader.new text
-        × WritesAll ⟦<W as Sink>⟧ writer.old writer.new (answers rules text)
+        × AnswerRecords A.may_tell rules (lines text) told
+        × WritesAll ⟦<W as Sink>⟧ writer.old writer.new (text_of told)
         × (report ≡ report_on rules (lines text))) }
 
     // A read failed, or there were too many: the answers to the lines that had ended were written.
     ensures read_failed { IsErrOf result DeskFault.Read
         → FailsOrGoesOn ⟦<R as Source>⟧ reader.old reader.new
-        × ((text : List ℕ)
+        × ((text : List ℕ) × (told : List (List ℕ))
         × Gives ⟦<R as Source>⟧ reader.old reader.new text
-        × WritesAll ⟦<W as Sink>⟧ writer.old writer.new (answers_to rules (ended_lines text))) }
+        × AnswerRecords A.may_tell rules (ended_lines text) told
+        × WritesAll ⟦<W as Sink>⟧ writer.old writer.new (text_of told)) }
 
-    // A write failed: a front of the answers to the whole lines that the reader gave was written.
+    // A write failed: a front of the answers to the first of the whole lines that the reader gave was written.
     ensures write_failed { IsErrOf result DeskFault.Write
-        → (text : List ℕ) × (whole : List (List ℕ))
+        → (text : List ℕ) × (whole first others told : List (List ℕ))
         × Gives ⟦<R as Source>⟧ reader.old reader.new text
         × AreWhole (R.is_ended reader.new) text whole
-        × StopsWriting ⟦<W as Sink>⟧ writer.old writer.new (answers_to rules whole) }
+        × (whole ≡ first ++ others)
+        × AnswerRecords A.may_tell rules first told
+        × StopsWriting ⟦<W as Sink>⟧ writer.old writer.new (text_of told) }
 
     ensures no_memory { IsErrOf result DeskFault.Memory → ⊥ }
     // A failed read is told as such, whatever comes after it. So what is said of a failed read is so before each read.
@@ -82,5 +90,6 @@ pub fn desk_text_with<S: RowSource, R: Source, W: Sink>(
         → R.failures reader.new ≡ R.failures reader.old }
     ensures reads { IsReadWithin ⟦<R as Source>⟧ reader.old reader.new }
 {
-    respond_text::<Plain, S, R, W>(source, rules, reader, writer)
+    let mut records: Records<A> = Records::new(rules);
+    answer_lines(&mut records, source, reader, writer)
 }

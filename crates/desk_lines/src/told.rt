@@ -1,12 +1,10 @@
 //! The answers to a stream so far.
-ghost use Rattle.std.specs.Prelude.{◌≡◌, ◌+◌, ◌<◌, ◌≤◌, ◌^◌, ℕ, List, [], ◌∷◌, ◌++◌, length, OnOk, OnErr, IfOk, IfErr};
-ghost use Rattle.desk_lines.specs.declared.line_kind.LineKind.{LineKind};
+ghost use Rattle.std.specs.Prelude.{◌≡◌, ◌+◌, ◌<◌, ◌≤◌, ◌^◌, ℕ, List, [], ◌∷◌, ◌++◌, length, OnOk, IfOk, IfErr};
 ghost use Rattle.desk_lines.specs.Told.{Stands, StopsTelling, lines_of};
 ghost use Rattle.desk_lines.specs.Lines.{cut_of, ended_lines};
-ghost use Rattle.desk_lines.specs.Outbox.{HasRoomForLine};
 ghost use Rattle.desk_lines.specs.Reading.{AreToldAs};
 ghost use Rattle.desk_lines.specs.Streams.{Writes};
-ghost use Rattle.desk_lines.specs.Telling.{report_of, report_with, AnswersLine, IsToldAs};
+ghost use Rattle.desk_lines.specs.Telling.{report_of, report_with, IsToldAs};
 
 use super::fault::DeskFault;
 use super::first_line::first_line;
@@ -16,7 +14,6 @@ use super::report::DeskReport;
 use super::teller::Teller;
 use desk_io::Sink;
 use riichi_shape::RowSource;
-use std::alloc::AllocError;
 
 /// The answers to a stream so far: a count of them and of the lines that have none, and those that are not written yet.
 #[derive(Drop)]
@@ -99,8 +96,12 @@ impl Told {
         if !self.outbox.has_room() {
             self.flush(writer)?;
         }
-        match self.take(line, teller, source) {
-            Ok(()) => Ok(()),
+        let number = self.report.answered + self.report.refused + self.unanswered + 1;
+        match teller.tell(number, line, &mut self.outbox, source) {
+            Ok(kind) => {
+                self.count(kind);
+                Ok(())
+            }
             Err(_) => {
                 self.outbox.flush(writer)?;
                 Err(DeskFault::Memory)
@@ -117,29 +118,6 @@ impl Told {
             × (self.new.unanswered ≡ self.old.unanswered) }
     {
         self.outbox.flush(writer)
-    }
-
-    /// Answers the next line, where there is room for any answer.
-    fn take<T: Teller, S: RowSource>(
-        &mut self,
-        line: &[u8],
-        teller: &mut T,
-        source: &mut S,
-    ) -> Result<(), AllocError>
-        requires room { HasRoomForLine self.old.outbox }
-        requires count { lines_of self.old + 1 < 2 ^ 64 }
-        ensures told { OnOk result ((kind : LineKind)
-            × AnswersLine T.written T.refuses T.most T.tells teller.old teller.new (lines_of self.old + 1) line.now kind self.old.outbox.bytes.items self.new.outbox.bytes.items
-            × (self.new.report ≡ report_with self.old.report kind)
-            × (lines_of self.new ≡ lines_of self.old + 1)) }
-        ensures err { OnErr result ((self.new.outbox.bytes.items ≡ self.old.outbox.bytes.items)
-            × T.wants_memory teller.old line.now) }
-        ensures count { lines_of self.new ≤ lines_of self.old + 1 }
-    {
-        let number = self.report.answered + self.report.refused + self.unanswered + 1;
-        let kind = teller.tell(number, line, &mut self.outbox, source)?;
-        self.count(kind);
-        Ok(())
     }
 
     /// Counts one more line.

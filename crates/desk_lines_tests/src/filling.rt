@@ -1,6 +1,6 @@
 //! A text that is answered into rooms of each size.
 use crate::facts::{holds, same_in};
-use desk_lines::{Filled, fill_answers, fill_explanations, fill_objects};
+use desk_lines::{Explained, Filled, Objects, Plain, fill_by};
 use riichi_hand::Rules;
 use std::process::Abort;
 
@@ -12,7 +12,7 @@ const ANSWERS: &[u8] = b"waits 25p\nrefused N5 hand at 0\nrefused H2\nrefused H8
 fn fills(rt: &impl Abort, size: usize, taken: usize, filled: usize) {
     let mut all = [7u8; 90];
     let (room, _) = all.split_at_mut(size.min(90));
-    let done = fill_answers(Rules::One, TEXT, room);
+    let done = fill_by::<Plain>(Rules::One, TEXT, room);
     same_in(rt, &size, done.taken, taken);
     same_in(rt, &size, done.filled, filled);
     holds(rt, all.get(..filled) == ANSWERS.get(..filled));
@@ -39,11 +39,14 @@ fn answers_no_text_and_texts_without_answers(rt: HostRuntime) {
         taken: 0,
         filled: 0,
     };
-    holds(&rt, fill_answers(Rules::One, b"", &mut []) == none);
-    holds(&rt, fill_objects(Rules::One, b"waits 8z", &mut []) == none);
+    holds(&rt, fill_by::<Plain>(Rules::One, b"", &mut []) == none);
     holds(
         &rt,
-        fill_explanations(Rules::One, b"waits 8z", &mut []) == none,
+        fill_by::<Objects>(Rules::One, b"waits 8z", &mut []) == none,
+    );
+    holds(
+        &rt,
+        fill_by::<Explained>(Rules::One, b"waits 8z", &mut []) == none,
     );
     let comments = Filled {
         taken: 11,
@@ -51,7 +54,7 @@ fn answers_no_text_and_texts_without_answers(rt: HostRuntime) {
     };
     holds(
         &rt,
-        fill_answers(Rules::Two, b"# a\r\n\n   \n#", &mut []) == comments,
+        fill_by::<Plain>(Rules::Two, b"# a\r\n\n   \n#", &mut []) == comments,
     );
 }
 
@@ -59,11 +62,20 @@ fn answers_no_text_and_texts_without_answers(rt: HostRuntime) {
 fn refuses_lines_that_are_too_long(rt: HostRuntime) {
     let mut room = [7u8; 22];
     let mut text = [b'#'; 4099];
-    holds(&rt, fill_answers(Rules::One, &text, &mut room).filled == 11);
+    holds(
+        &rt,
+        fill_by::<Plain>(Rules::One, &text, &mut room).filled == 11,
+    );
     holds(&rt, room.get(..11) == Some(b"refused H1\n".as_slice()));
     text[4096] = b'\r';
     text[4097] = b'\n';
-    holds(&rt, fill_answers(Rules::One, &text, &mut room).filled == 0);
+    holds(
+        &rt,
+        fill_by::<Plain>(Rules::One, &text, &mut room).filled == 0,
+    );
     text[4096] = b'#';
-    holds(&rt, fill_answers(Rules::One, &text, &mut room).filled == 11);
+    holds(
+        &rt,
+        fill_by::<Plain>(Rules::One, &text, &mut room).filled == 11,
+    );
 }

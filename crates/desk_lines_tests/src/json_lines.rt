@@ -22,18 +22,22 @@ const OBJECTS: &[u8] =
 {\"answer\":\"shape\",\"shanten\":0,\"discards\":[{\"discard\":\"8p\",\"accepts\":[{\"kind\":\"2p\",\"live\":4},{\"kind\":\"5p\",\"live\":4}],\"live\":8}]}
 ";
 
+/// The objects of a text.
+fn answered<const ROOM: usize>(
+    reader: &mut BytesIn<'_>,
+    writer: &mut BytesOut<ROOM>,
+) -> Result<DeskReport, DeskFault> {
+    let rows = &mut SuitMemo::in_value();
+    desk_text_by::<Objects, SuitMemo, BytesIn, BytesOut<ROOM>>(rows, Rules::One, reader, writer)
+}
+
 #[test]
 fn an_object_for_each_record(rt: HostRuntime) {
     for most in [1, 7, 1000] {
         holds(&rt, most > 0);
         let mut reader = BytesIn::new(TEXT, most, None);
         let mut writer: BytesOut<1024> = BytesOut::new(most, None);
-        let report = json_text_with(
-            &mut SuitMemo::in_value(),
-            Rules::One,
-            &mut reader,
-            &mut writer,
-        );
+        let report = answered(&mut reader, &mut writer);
         same_in(&rt, &most, writer.bytes(), OBJECTS);
         let counted = DeskReport {
             answered: 3,
@@ -51,16 +55,7 @@ const WIDE: &[u8] = b"shape 258m369p147s12345z\n";
 fn many_long_objects(rt: HostRuntime) -> Result<(), Fail> {
     let mut once: BytesOut<12288> = BytesOut::new(1000, None);
     let mut reader = BytesIn::new(WIDE, 1000, None);
-    holds(
-        &rt,
-        json_text_with(
-            &mut SuitMemo::in_value(),
-            Rules::One,
-            &mut reader,
-            &mut once,
-        )
-        .is_ok(),
-    );
+    holds(&rt, answered(&mut reader, &mut once).is_ok());
     let mut text = Vec::new(rt.alloc());
     let mut objects = Vec::new(rt.alloc());
     for _ in 0..16u32 {
@@ -69,16 +64,7 @@ fn many_long_objects(rt: HostRuntime) -> Result<(), Fail> {
     }
     let mut reader = BytesIn::new(text.as_slice(), 1000, None);
     let mut writer: BytesOut<131072> = BytesOut::new(100_000, None);
-    holds(
-        &rt,
-        json_text_with(
-            &mut SuitMemo::in_value(),
-            Rules::One,
-            &mut reader,
-            &mut writer,
-        )
-        .is_ok(),
-    );
+    holds(&rt, answered(&mut reader, &mut writer).is_ok());
     holds_in(&rt, &objects.len(), objects.len() > 65_536);
     holds(&rt, writer.bytes() == objects.as_slice());
     Ok(())
@@ -93,12 +79,7 @@ fn stops_at_each_failing_read(rt: HostRuntime) {
         holds_in(
             &rt,
             &failing,
-            json_text_with(
-                &mut SuitMemo::in_value(),
-                Rules::One,
-                &mut reader,
-                &mut writer,
-            ) == Err(DeskFault::Read),
+            answered(&mut reader, &mut writer) == Err(DeskFault::Read),
         );
         let told = match failing {
             0..58 => 0,
@@ -119,12 +100,7 @@ fn stops_at_each_failing_write(rt: HostRuntime) {
         holds_in(
             &rt,
             &failing,
-            json_text_with(
-                &mut SuitMemo::in_value(),
-                Rules::One,
-                &mut reader,
-                &mut writer,
-            ) == Err(DeskFault::Write),
+            answered(&mut reader, &mut writer) == Err(DeskFault::Write),
         );
         same_in(
             &rt,

@@ -1,6 +1,7 @@
 use desk_lines::laws::*;
 
 #[test]
-fn states_the_law(_rt: HostRuntime) {
-    ready_exactly_where_it_waits();
+fn states_the_laws(_rt: HostRuntime) {
+    kinds_of_answers_agree();
+    pieces_are_answered_as_the_whole();
 }

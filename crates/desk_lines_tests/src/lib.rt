@@ -17,8 +17,6 @@ mod lines;
 #[cfg(test)]
 mod numbering;
 #[cfg(test)]
-mod ready;
-#[cfg(test)]
 mod replay;
 #[cfg(test)]
 mod rules;

@@ -398,10 +398,9 @@ shanten 0 accepts 2p:4 5p:4 live 8
 ";
     let mut reader = BytesIn::new(text, 7, None);
     let mut writer: BytesOut<2048> = BytesOut::new(1000, None);
-    let report = explain_text_with(
+    let report = desk_text_by::<Explained, SuitMemo, BytesIn, BytesOut<2048>>(
         &mut SuitMemo::in_value(),
         Rules::One,
-        Shown::BestReading,
         &mut reader,
         &mut writer,
     );
@@ -424,4 +423,33 @@ fn the_profile_that_is_given(rt: HostRuntime) {
     holds(&rt, desk_text(Rules::Two, &mut reader, &mut writer).is_ok());
     let told = b"won 4 han 30 fu 8000 gain 8000 pinfu pure-straight dora 1\n";
     same(&rt, writer.bytes(), told.as_slice());
+}
+
+/// Two reports together, and counts that a `u64` doesn't hold.
+#[test]
+fn reports_together(rt: HostRuntime) {
+    let few = DeskReport {
+        answered: 3,
+        refused: 5,
+    };
+    let most = DeskReport {
+        answered: u64::MAX,
+        refused: 0,
+    };
+    let others = DeskReport {
+        answered: 0,
+        refused: u64::MAX,
+    };
+    let both = DeskReport {
+        answered: u64::MAX,
+        refused: u64::MAX,
+    };
+    let twice = DeskReport {
+        answered: 6,
+        refused: 10,
+    };
+    holds(&rt, few.plus(few) == Ok(twice));
+    holds(&rt, most.plus(others) == Ok(both));
+    holds(&rt, most.plus(few) == Err(DeskFault::Memory));
+    holds(&rt, others.plus(few) == Err(DeskFault::Memory));
 }

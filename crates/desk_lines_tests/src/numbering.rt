@@ -32,7 +32,7 @@ fn words_behind_their_numbers(rt: HostRuntime) {
     for most in [1, 7, 1000] {
         let mut reader = BytesIn::new(TEXT, most, None);
         let mut writer: BytesOut<1024> = BytesOut::new(most, None);
-        let report = numbered_text_with::<Plain, SuitMemo, BytesIn, BytesOut<1024>>(
+        let report = numbered_text_by::<Plain, SuitMemo, BytesIn, BytesOut<1024>>(
             &mut SuitMemo::in_value(),
             Rules::One,
             &mut reader,
@@ -48,7 +48,7 @@ fn objects_with_their_numbers(rt: HostRuntime) {
     for most in [1, 7, 1000] {
         let mut reader = BytesIn::new(TEXT, most, None);
         let mut writer: BytesOut<1024> = BytesOut::new(most, None);
-        let report = numbered_text_with::<Members, SuitMemo, BytesIn, BytesOut<1024>>(
+        let report = numbered_text_by::<Members, SuitMemo, BytesIn, BytesOut<1024>>(
             &mut SuitMemo::in_value(),
             Rules::One,
             &mut reader,
@@ -64,7 +64,7 @@ fn stops_at_each_failing_write(rt: HostRuntime) {
     for failing in 1..96u64 {
         let mut reader = BytesIn::new(TEXT, 5, None);
         let mut writer: BytesOut<1024> = BytesOut::new(1, Some(failing));
-        let report = numbered_text_with::<Plain, SuitMemo, BytesIn, BytesOut<1024>>(
+        let report = numbered_text_by::<Plain, SuitMemo, BytesIn, BytesOut<1024>>(
             &mut SuitMemo::in_value(),
             Rules::One,
             &mut reader,

@@ -1,3 +1,2 @@
-pub mod JobLemmas
 pub mod NumberedLemmas
 pub mod ScoreLemmas

@@ -1,5 +1,5 @@
 -- What a score over several readers writes and reports.
-use Rattle.std.specs.Prelude.{◌≡◌, ℕ, ◌≤◌, List, [], ◌∷◌, ◌++◌, All, length, map, get_or, Option, is_some, option_map}
+use Rattle.std.specs.Prelude.{◌≡◌, ℕ, ◌≤◌, List, [], ◌∷◌, ◌++◌, All, map, get_or, Option, is_some, option_map}
 use Rattle.std.specs.List.{sum_by}
 use Rattle.desk_io.specs.declared.source.Source.{Ghosts as OfSource}
 use Rattle.riichi_hand.specs.declared.win.Rules.{Rules}
@@ -9,7 +9,6 @@ use Rattle.desk_lines.specs.Lines.{lines}
 use Rattle.desk_lines.specs.LineAnswers.{answers, report_on}
 use Rattle.desk_lines.specs.Streams.{GivesAll, FailsOrGoesOn, IsReadWithin}
 use Rattle.desk_score.specs.Heads.{head_line, tables_from, tables_text}
-use Rattle.desk_score.specs.Jobs.{jobs_of}
 use Rattle.desk_score.specs.Shown.{answers_shown}
 
 -- the answers to each text, behind the number of its table; a text that sets no profile has the given one
@@ -28,7 +27,7 @@ head_of names number = head_line number (table_name names number)
 abbrev pub score_by : Option (List (List ℕ)) → Rules → List (List ℕ) → List ℕ
 score_by names given texts = tables_from (head_of names) 0 (map (λ text. answers_shown (is_some names) given (lines text)) texts)
 
--- the answer lines of all texts that don't begin with `refused`, and those that do
+-- how many lines of all texts are answered, and how many refused
 abbrev pub score_report : Rules → List (List ℕ) → DeskReport
 score_report given texts = record {
   answered = sum_by (λ text. (report_on given (lines text)).answered) texts;
@@ -39,9 +38,9 @@ score_report given texts = record {
 abbrev pub AreAllowed : ℕ → ℕ → Type 0
 AreAllowed readers workers = (1 ≤ readers) × (readers ≤ 64) × (1 ≤ workers) × (workers ≤ 16)
 
--- no text has more jobs than a table may submit
+-- no text has more jobs than a table may submit: as many lines are answered
 abbrev pub AreWithinLimit : Rules → List (List ℕ) → Type 0
-AreWithinLimit given texts = All (λ text. length (jobs_of given (lines text)) ≤ LIMIT) texts
+AreWithinLimit given texts = All (λ text. (report_on given (lines text)).answered ≤ LIMIT) texts
 
 -- each reader gave its text, to the end, and was read no oftener than it may be
 abbrev pub AllGive : {R : Type 0} → OfSource R → List R → List (List ℕ) → Type 0

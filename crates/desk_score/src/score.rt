@@ -57,7 +57,7 @@ pub fn score_text<H: Threads + Sync, R: Source + Drop, W: Sink>(
 
 /// The same, where the tables may be named: one name for each reader, in their order. Of each table the name then stands
 /// behind its number, with `?` in place of each byte that isn't printed ASCII, and each answer behind the number of its line
-/// and a colon, as `numbered_text_with` writes it; such a text is answered by the calling thread alone.
+/// and a colon, as `numbered_text_by` writes it; such a text is answered by the calling thread alone.
 pub fn score_text_with<H: Threads + Sync, R: Source + Drop, W: Sink>(
     rt: &H,
     alloc: Global,

@@ -14,7 +14,7 @@ use crate::score_fault::ScoreFault;
 use desk_core::LIMIT;
 use desk_crew::Crew;
 use desk_io::Source;
-use desk_lines::{DeskFault, DeskReport, Plain, SuitMemo, numbered_text_with};
+use desk_lines::{DeskFault, DeskReport, Plain, SuitMemo, numbered_text_by};
 use riichi_hand::Rules;
 use std::alloc::{AllocError, Global};
 use std::thread::Threads;
@@ -30,7 +30,7 @@ pub(crate) struct Tables {
     count: usize,
     /// Whether no table has more jobs than it may submit.
     pub(crate) within_limit: bool,
-    /// How many of the answer lines begin with `refused`, and how many don't.
+    /// How many lines are answered, and how many refused.
     pub(crate) report: DeskReport,
 }
 
@@ -146,7 +146,7 @@ fn answer_table<H: Threads + Sync, R: Source>(
 {
     if is_numbered {
         let mut rows = SuitMemo::new(alloc);
-        return numbered_text_with::<Plain, SuitMemo, R, Paper>(&mut rows, rules, reader, answers);
+        return numbered_text_by::<Plain, SuitMemo, R, Paper>(&mut rows, rules, reader, answers);
     }
     crew.answer_text::<Plain, H, R, Paper>(rt, rules, reader, answers)
 }

@@ -4,12 +4,11 @@ use crate::files::{INPUT, open_file};
 use crate::noted::Notes;
 use crate::progress::Progress;
 use desk_cli::{Form, Lines};
-use desk_crew::{crew_text, crew_text_by};
+use desk_crew::Crew;
 use desk_io::{BytesIn, FromReader, Sink, Source, ToWriter};
 use desk_lines::{
-    DeskFault, DeskReport, EveryReading, Explained, Members, Objects, Plain, ReasonedMembers,
-    Rules, Shown, SuitMemo, desk_text_with, explain_json_text_with, explain_text_with,
-    json_text_with, numbered_text_with,
+    DeskFault, DeskReport, EveryReading, Explained, Members, Numbers, Objects, Plain, Reasoned,
+    ReasonedMembers, Responder, Rules, SuitMemo, desk_text_by, numbered_text_by,
 };
 use std::alloc::{AllocError, Global};
 use std::io::{Eprint, Input, Print};
@@ -113,9 +112,12 @@ impl<W: Sink> Answering<W> {
         rt: &R,
         reader: &mut S,
     ) -> Result<bool, Failure<'a>> {
-        let report = match self.manner.workers {
-            None | Some(1) => self.report(reader),
-            Some(workers) => self.by_crew(rt, workers, reader),
+        let report = match self.manner.form {
+            Form::Words => self.by_kind::<Plain, Plain, S, R>(rt, reader),
+            Form::Json => self.by_kind::<Objects, Members, S, R>(rt, reader),
+            Form::Reasons => self.by_kind::<Explained, Explained, S, R>(rt, reader),
+            Form::AllReasons => self.by_kind::<EveryReading, EveryReading, S, R>(rt, reader),
+            Form::JsonReasons => self.by_kind::<Reasoned, ReasonedMembers, S, R>(rt, reader),
         };
         match report {
             Ok(report) => Ok(report.refused > 0),
@@ -126,57 +128,25 @@ impl<W: Sink> Answering<W> {
         }
     }
 
-    /// Answers in words or as JSON, by several threads.
-    fn by_crew<S: Source, R: Threads + Sync + AllocGlobal>(
-        &mut self,
-        rt: &R,
-        workers: u32,
-        reader: &mut S,
-    ) -> Result<DeskReport, DeskFault> {
-        let (alloc, workers, rules) = (rt.alloc(), workers as usize, self.manner.rules);
-        let writer = &mut self.writer;
-        match self.manner.form {
-            Form::Json => crew_text_by::<Objects, R, S, W>(
-                rt, alloc, workers, rules, reader, writer,
-            ),
-            _ => crew_text(rt, alloc, workers, rules, reader, writer),
-        }
-    }
-
-    fn report<S: Source>(&mut self, reader: &mut S) -> Result<DeskReport, DeskFault> {
-        if self.manner.is_numbered {
-            return self.numbered(reader);
-        }
-        let (rows, writer) = (&mut self.rows, &mut self.writer);
-        match self.manner.form {
-            Form::Words => desk_text_with(rows, self.manner.rules, reader, writer),
-            Form::Json => json_text_with(rows, self.manner.rules, reader, writer),
-            Form::Reasons => {
-                explain_text_with(rows, self.manner.rules, Shown::BestReading, reader, writer)
-            }
-            Form::AllReasons => {
-                explain_text_with(rows, self.manner.rules, Shown::EveryReading, reader, writer)
-            }
-            Form::JsonReasons => explain_json_text_with(rows, self.manner.rules, reader, writer),
-        }
-    }
-
-    fn numbered<S: Source>(&mut self, reader: &mut S) -> Result<DeskReport, DeskFault> {
+    /// Answers by a kind of answer, or by another one where it stands behind the number of its line; by threads where they are
+    /// wanted.
+    fn by_kind<A, N, S, R>(&mut self, rt: &R, reader: &mut S) -> Result<DeskReport, DeskFault>
+    where
+        A: Responder + Send + Sync,
+        N: Numbers,
+        S: Source,
+        R: Threads + Sync + AllocGlobal,
+    {
         let (rows, rules, writer) = (&mut self.rows, self.manner.rules, &mut self.writer);
-        match self.manner.form {
-            Form::Words => numbered_text_with::<Plain, SuitMemo, S, W>(rows, rules, reader, writer),
-            Form::Json => numbered_text_with::<Members, SuitMemo, S, W>(
-                rows, rules, reader, writer,
-            ),
-            Form::Reasons => {
-                numbered_text_with::<Explained, SuitMemo, S, W>(rows, rules, reader, writer)
+        if self.manner.is_numbered {
+            return numbered_text_by::<N, SuitMemo, S, W>(rows, rules, reader, writer);
+        }
+        match self.manner.workers {
+            None | Some(1) => desk_text_by::<A, SuitMemo, S, W>(rows, rules, reader, writer),
+            Some(workers) => {
+                let mut crew = Crew::new(rt.alloc(), workers as usize)?;
+                crew.answer_text::<A, R, S, W>(rt, rules, reader, writer)
             }
-            Form::AllReasons => {
-                numbered_text_with::<EveryReading, SuitMemo, S, W>(rows, rules, reader, writer)
-            }
-            Form::JsonReasons => numbered_text_with::<ReasonedMembers, SuitMemo, S, W>(
-                rows, rules, reader, writer,
-            ),
         }
     }
 }

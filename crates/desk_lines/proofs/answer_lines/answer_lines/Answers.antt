@@ -3,6 +3,7 @@ use Rattle.std.proofs.KnownBytes.{Consumes-nil}
 use Rattle.std.proofs.lemmas.List.{append-nil}
 use Rattle.desk_lines.specs.declared.fault.DeskFault.{DeskFault}
 use Rattle.desk_lines.specs.declared.fault.DeskFault.TheVariants.{Read, Write, Memory}
+use Rattle.desk_lines.specs.declared.report.DeskReport.{DeskReport}
 use Rattle.desk_lines.specs.Told.{Stands, StopsTelling}
 use Rattle.desk_lines.specs.Lines.{cut_of, lines, last_line, ended_lines}
 use Rattle.desk_lines.specs.Reading.{IsRead, IsStopped}
@@ -99,9 +100,8 @@ returns-then-is_end-clause-ok g c =
       text,
       stands.answers,
       record { gives = end.0; ended = read.end.1; found = let once = read.end.3 in let before = so_far.ends in omega arith; none_left = read.end.2; not_failed = read.not_failed ∙ so_far.reads },
-      stands.tells,
+      subst (λ (r : DeskReport). teller.tells c.args.teller.now c.add_lines.new.teller (lines text) stands.answers r) (sym c.report.ensures) stands.tells,
       Stands-written sink teller c.args.writer.now c.args.teller.now (lines text) c.add_lines.new.teller c.flush.new.self c.flush.new.writer stands c.in_ok-flush.ensures.empty,
-      c.report.ensures ∙ stands.report,
     )
 
 pub loop-turn-preserved : goal.loop-turn-preserved

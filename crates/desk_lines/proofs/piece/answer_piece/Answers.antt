@@ -1,10 +1,11 @@
-use Rattle.std.proofs.Common.{◌≡◌, ◌∙◌, ℕ, ◌+◌, ◌≤◌, List, [], ◌∷◌, ◌++◌, ap, sym, subst, refl, append_assoc, arith}
-use Rattle.std.proofs.lemmas.List.{append-nil}
+use Rattle.std.proofs.Common.{◌≡◌, ◌∙◌, ℕ, ◌+◌, ◌≤◌, List, [], ◌∷◌, ◌++◌, map, ap, sym, subst, refl, append_assoc, arith}
+use Rattle.std.proofs.lemmas.List.{append-nil, map-append}
+use Rattle.desk_lines.specs.LineAnswer.{line_kind}
 use Rattle.desk_lines.specs.Lines.{ended_lines}
 use Rattle.desk_lines.specs.Records.{AreTold}
-use Rattle.desk_lines.specs.Telling.{text_of, with_line_feed, answers_in, report_with, report_by, count_of}
+use Rattle.desk_lines.specs.Telling.{text_of, with_line_feed, answers_in, report_with, report_of, count_of}
 use Rattle.desk_lines.proofs.AnswerLemmas.{AreTold-last}
-use Rattle.desk_lines.proofs.TellingLemmas.{text_of-more, report_by-more}
+use Rattle.desk_lines.proofs.TellingLemmas.{text_of-more, report_of-more}
 use Rattle.desk_lines.specs.declared.report.DeskReport.{DeskReport}
 use Rattle.desk_lines.specs.declared.line_kind.LineKind.{LineKind}
 use Rattle.desk_lines.specs.declared.line_kind.LineKind.TheVariants.{NoRecord, Answered, Refused}
@@ -26,7 +27,8 @@ loop-line-preserved g c =
     let told = so_far.1 in
     let line = c.in-Some.line.now in
     let cut = c.in-Some.ensures in
-    let puts = c.respond-kind.ensures in
+    let puts = c.respond-kind.ensures.puts in
+    let kinds = map (line_kind c.args.rules) done in
     let text = with_line_feed puts.told in
     let is : c.as_slice.result.now ≡ text = c.as_slice.ensures ∙ puts.put ∙ ap (λ b. b ++ text) c.clear.ensures in (
       done ++ line ∷ [],
@@ -36,8 +38,8 @@ loop-line-preserved g c =
         are_told = AreTold-last g.A.Responder.may_tell c.args.rules done line told puts.told so_far.2.are_told puts.may_be_told;
         answers = c.in_ok-extend_from_slice.ensures.items ∙ ap (λ front. front ++ c.as_slice.result.now) so_far.2.answers ∙ ap (λ t. (c.args.answers.now.items ++ text_of told) ++ t) is
             ∙ append_assoc c.args.answers.now.items (text_of told) text ∙ ap (λ t. c.args.answers.now.items ++ t) (sym (text_of-more told puts.told));
-        report = c.counted-report.ensures ∙ ap (λ report. report_with report c.respond-kind.result) so_far.2.report ∙ ap (report_with (report_by g.A.Responder.refuses told)) puts.kind_is
-            ∙ sym (report_by-more g.A.Responder.refuses told puts.told);
+        report = c.counted-report.ensures ∙ ap (λ report. report_with report c.respond-kind.result) so_far.2.report ∙ ap (report_with (report_of kinds)) c.respond-kind.ensures.kind
+            ∙ sym (report_of-more kinds (line_kind c.args.rules line)) ∙ ap report_of (sym (map-append (line_kind c.args.rules) done (line ∷ [])));
         count = let one = counted_one c.loop-line.report c.respond-kind.result in let same = ap count_of c.counted-report.ensures in let shorter = cut.2 in let before = so_far.2.count in omega arith;
       },
     )
@@ -46,4 +48,4 @@ pub returns : goal.returns
 returns g c =
     let so_far = c.loop-line.invariant in
     let done : ended_lines c.args.text.now ≡ so_far.0 = so_far.2.lines ∙ ap (λ rest. so_far.0 ++ rest) c.in_default.ensures.0 ∙ append-nil so_far.0 in
-    (so_far.1, subst (λ (ls : List (List ℕ)). AreTold g.A.Responder.may_tell c.args.rules ls so_far.1) (sym done) so_far.2.are_told, so_far.2.answers, so_far.2.report)
+    (so_far.1, subst (λ (ls : List (List ℕ)). AreTold g.A.Responder.may_tell c.args.rules ls so_far.1) (sym done) so_far.2.are_told, so_far.2.answers, so_far.2.report ∙ ap (λ (ls : List (List ℕ)). report_of (map (line_kind c.args.rules) ls)) (sym done))

@@ -1,7 +1,8 @@
-use Rattle.std.proofs.Common.{◌≡◌, ℕ, ◌+◌, ◌≤◌, List, ◌++◌, length}
+use Rattle.std.proofs.Common.{◌≡◌, ℕ, ◌+◌, ◌≤◌, List, ◌++◌, length, map}
+use Rattle.desk_lines.specs.LineAnswer.{line_kind}
 use Rattle.desk_lines.specs.Lines.{ended_lines}
 use Rattle.desk_lines.specs.Records.{AreTold}
-use Rattle.desk_lines.specs.Telling.{text_of, report_by, count_of}
+use Rattle.desk_lines.specs.Telling.{text_of, report_of, count_of}
 use Rattle.desk_lines.proofs.piece.answer_piece.Given as goal
 
 -- the lines before the rest are answered, and counted
@@ -10,7 +11,7 @@ invariant-loop-line g l = (done told : List (List ℕ)) × record {
   lines : ended_lines l.text ≡ done ++ ended_lines l.rest;
   are_told : AreTold g.A.Responder.may_tell l.rules done told;
   answers : l.answers.items ≡ l.fn.answers.items ++ text_of told;
-  report : l.report ≡ report_by g.A.Responder.refuses told;
+  report : l.report ≡ report_of (map (line_kind l.rules) done);
   count : count_of l.report + length l.rest ≤ length l.text;
 }
 

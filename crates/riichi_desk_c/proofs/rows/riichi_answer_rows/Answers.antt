@@ -1,6 +1,6 @@
-use Rattle.std.proofs.Common.{◌≡◌, ℕ, ◌+◌, ◌-◌, ◌<◌, ◌≤◌, ◌∙◌, inl, inr, List, ◌++◌, length, length-set, drop, refl, sym, ap, below_more, arith}
+use Rattle.std.proofs.Common.{◌≡◌, ◌+◌, ◌-◌, ◌<◌, ◌≤◌, ◌∙◌, inl, inr, ◌++◌, length, length-set, drop, refl, sym, ap, below_more, arith}
 use Rattle.riichi_desk_c.specs.Replies.{reply_to}
-use Rattle.riichi_desk_c.specs.Rows.{IsRow, answer_place, replies_to, row_text}
+use Rattle.riichi_desk_c.specs.Rows.{answer_place, replies_to, row_text}
 use Rattle.riichi_arrays.proofs.ColumnLemmas.{fill_next}
 use Rattle.riichi_desk_c.proofs.RowLemmas.{first_place, kept_room, left_long, longer_room, no_places, none_there, place_next, replies_next, so_many, some_there}
 use Rattle.riichi_desk_c.proofs.rows.riichi_answer_rows.Goals as goal

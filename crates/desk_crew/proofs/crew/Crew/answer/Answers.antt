@@ -15,11 +15,11 @@ pub returns-clause-ok : goal.returns-clause-ok
 returns-clause-ok g c = MatchResult-weaker c.answer_round.result c.answer_round.ensures.written (λ done written start lines next as_these stands.
     let hand = ended_lines c.as_slice-text.result.now in
     let new : Standing = record { profile = Some c.in-Some.rules; report = c.answer_round.new.report } in
-    Stands-more g.A.Responder.may_tell g.A.Responder.refuses g.W.Sink start c.args.given (alike g) c.in-Some.rules lines hand next (ended_lines c.in-Some.records.now) c.args.self.now.standing new c.args.writer.now c.answer_round.new.writer
+    Stands-more g.A.Responder.may_tell g.W.Sink start c.args.given (alike g) c.in-Some.rules lines hand next (ended_lines c.in-Some.records.now) c.args.self.now.standing new c.args.writer.now c.answer_round.new.writer
     (subst (λ (text : List ℕ). AreToldAs 4096 (ended_lines text) next) (sym c.as_slice-text.ensures.value) as_these) stands c.in-Some.ensures.0 c.in-Some.ensures.1 written refl) (λ fault none. none)
 
 pub returns-clause-err : goal.returns-clause-err
 returns-clause-err g c = MatchResult-weaker c.answer_round.result c.answer_round.ensures.left (λ done none. none) (λ fault left start lines next as_these stands.
     let hand = ended_lines c.as_slice-text.result.now in
-    Stopped-more g.A.Responder.may_tell g.A.Responder.refuses g.W.Sink start c.args.given (alike g) c.in-Some.rules lines hand next (ended_lines c.in-Some.records.now) c.args.self.now.standing c.args.writer.now c.answer_round.new.writer fault
+    Stopped-more g.A.Responder.may_tell g.W.Sink start c.args.given (alike g) c.in-Some.rules lines hand next (ended_lines c.in-Some.records.now) c.args.self.now.standing c.args.writer.now c.answer_round.new.writer fault
     (subst (λ (text : List ℕ). AreToldAs 4096 (ended_lines text) next) (sym c.as_slice-text.ensures.value) as_these) stands c.in-Some.ensures.0 c.in-Some.ensures.1 left)

@@ -8,7 +8,7 @@ abbrev pub invariant-loop-stop : goal.invariant-loop-stop
 invariant-loop-stop g l =
     let source = g.R.Source in
     (text : List ℕ) × record {
-      between : IsBetween g.A.Responder.may_tell g.A.Responder.refuses source g.W.Sink l.fn.reader l.fn.writer l.given text l.self.held.items l.self.standing l.reader l.writer;
+      between : IsBetween g.A.Responder.may_tell source g.W.Sink l.fn.reader l.fn.writer l.given text l.self.held.items l.self.standing l.reader l.writer;
       goes_on : GoesOn source l.fn.reader l.reader;
       calls : source.calls l.reader + l.self.left ≡ source.calls l.fn.reader + 4294967295;
     }

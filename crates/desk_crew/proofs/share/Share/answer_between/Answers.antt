@@ -1,8 +1,9 @@
-use Rattle.std.proofs.Common.{◌++◌, ◌∙◌, List, ℕ, ap, subst, take, length-take, arith}
+use Rattle.std.proofs.Common.{◌++◌, ◌∙◌, List, ℕ, map, ap, subst, take, length-take, arith}
 use Rattle.std.proofs.lemmas.Result.{MatchResult-weaker}
+use Rattle.desk_lines.specs.LineAnswer.{line_kind}
 use Rattle.desk_lines.specs.Lines.{cut_of, ended_lines}
 use Rattle.desk_lines.specs.Records.{AreTold}
-use Rattle.desk_lines.specs.Telling.{text_of}
+use Rattle.desk_lines.specs.Telling.{text_of, report_of}
 use Rattle.desk_crew.proofs.ShareLemmas.{piece_parts}
 use Rattle.desk_crew.proofs.share.Share.answer_between.Goals as goal
 
@@ -18,6 +19,6 @@ returns g c =
       told = ok.0;
       are_told = subst (λ (piece : List ℕ). AreTold g.A.Responder.may_tell c.args.rules (ended_lines piece) ok.0) parts ok.1;
       text_is = ok.2 ∙ ap (λ front. front ++ text_of ok.0) c.requires.none;
-      report_is = ok.3;
+      report_is = ok.3 ∙ ap (λ (piece : List ℕ). report_of (map (line_kind c.args.rules) (ended_lines piece))) parts;
     })
     (λ fault none. none)

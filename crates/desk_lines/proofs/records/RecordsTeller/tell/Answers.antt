@@ -1,16 +1,41 @@
-use Rattle.std.proofs.Common.{◌∙◌}
-use Rattle.desk_lines.proofs.AnswerLemmas.{TellsRecords-line}
+use Rattle.std.proofs.Common.{Option, None, refl, sym, subst, ap, ◌∙◌}
+use Rattle.std.proofs.lemmas.List.{append-nil}
+use Rattle.riichi_hand.specs.declared.win.Rules.{Rules}
+use Rattle.desk_lines.specs.Records.{IsToldUnder, kind_under}
+use Rattle.desk_lines.specs.declared.line_kind.LineKind.TheVariants.{NoRecord}
+use Rattle.desk_lines.proofs.AnswerLemmas.{AreRead-line, AnswerRecords-line}
 use Rattle.desk_lines.proofs.records.RecordsTeller.tell.Goals as goal
 
-pub returns-clause-told : goal.returns-clause-told
-returns-clause-told g c =
-    let puts = c.put_line.ensures.told in record {
+pub returns-in-Some-clause-told : goal.returns-in-Some-clause-told
+returns-in-Some-clause-told g c =
+    let may = g.A.Responder.may_tell in
+    let line = c.args.line.now in
+    let now = c.next_rules.ensures in
+    let puts = c.respond.ensures.puts in
+    let is = sym c.in-Some.is ∙ now.record in
+    let told_by = subst (λ (r : Option Rules). IsToldUnder may r line puts.told) is puts.may_be_told in
+    let kind = c.respond.ensures.kind ∙ ap (λ (r : Option Rules). kind_under r line) is in record {
       answer = puts.told;
-      kind_is = puts.kind_is;
       put = puts.put;
-      tells_more = λ first lines told next counted as_this tells. (
-        c.put_line.ensures.given ∙ tells.0,
-        TellsRecords-line g.A.Responder.may_tell g.met.A.Responder.alike c.args.self.now c.put_line.new.self c.args.line.now next puts.told lines told as_this tells.1
-            c.put_line.ensures.given c.put_line.ensures.rules puts.may_be_told,
+      tells_more = λ first lines told report next counted as_this tells. (
+        now.given ∙ tells.0,
+        AreRead-line c.args.self.now c.next_rules.new.self line next lines report c.respond.result as_this tells.1 now.given now.rules kind,
+        AnswerRecords-line may g.met.A.Responder.alike c.args.self.now c.next_rules.new.self line next puts.told lines told as_this tells.1.0 now.given told_by tells.2,
+      );
+    }
+
+pub returns-in-None-clause-told : goal.returns-in-None-clause-told
+returns-in-None-clause-told g c =
+    let may = g.A.Responder.may_tell in
+    let line = c.args.line.now in
+    let now = c.next_rules.ensures in
+    let is = sym c.in-None.is ∙ now.record in
+    let told_by = subst (λ (r : Option Rules). IsToldUnder may r line None) is refl in record {
+      answer = None;
+      put = sym (append-nil c.args.outbox.now.bytes.items);
+      tells_more = λ first lines told report next counted as_this tells. (
+        now.given ∙ tells.0,
+        AreRead-line c.args.self.now c.next_rules.new.self line next lines report NoRecord as_this tells.1 now.given now.rules (ap (λ (r : Option Rules). kind_under r line) is),
+        AnswerRecords-line may g.met.A.Responder.alike c.args.self.now c.next_rules.new.self line next None lines told as_this tells.1.0 now.given told_by tells.2,
       );
     }

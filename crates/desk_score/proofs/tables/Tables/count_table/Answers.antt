@@ -1,10 +1,9 @@
-use Rattle.std.proofs.Common.{◌∙◌, ◌≤◌, ◌+◌, ℕ, List, [], ◌∷◌, length, ap, sym, arith}
+use Rattle.std.proofs.Common.{◌∙◌, ◌≤◌, ◌+◌, ℕ, List, [], ◌∷◌, ap, sym, arith}
 use Rattle.std.proofs.lemmas.List.{length-append}
 use Rattle.desk_core.specs.declared.lane.TheConstants.{LIMIT}
+use Rattle.desk_lines.specs.LineAnswers.{report_on}
 use Rattle.desk_lines.specs.Lines.{lines}
 use Rattle.desk_lines.specs.declared.report.DeskReport.{DeskReport}
-use Rattle.desk_score.specs.Jobs.{jobs_of}
-use Rattle.desk_score.proofs.JobLemmas.{jobs_answered}
 use Rattle.desk_score.proofs.ScoreLemmas.{score_report-last, All-front, All-at_last, All-and_last}
 use Rattle.desk_score.proofs.tables.Tables.count_table.Goals as goal
 
@@ -12,8 +11,8 @@ pub returns-clause-ok : goal.returns-clause-ok
 returns-clause-ok c given texts text counted report =
     let old = c.args.self.now in
     let sum = c.in_ok-self.field-0 in
-    let few = (λ (t : List ℕ). length (jobs_of given (lines t)) ≤ LIMIT) in
-    let answered = ap (λ (r : DeskReport). r.answered) report ∙ jobs_answered given (lines text) in
+    let few = (λ (t : List ℕ). (report_on given (lines t)).answered ≤ LIMIT) in
+    let answered = ap (λ (r : DeskReport). r.answered) report in
     let limit = c.are_within_limit-self.ensures in record {
       count = c.in_ok-self-2.ensures.ok ∙ ap (λ (n : ℕ). n + 1) counted.count ∙ sym (length-append texts (text ∷ []));
       limit = (
