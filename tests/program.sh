@@ -467,10 +467,11 @@ told 'a score of a pipe shows how many lines it has read' 'some' "$(grep -qE $'\
 told 'the terminal behind a score' "riichi_desk: $room/score: $slip"$'\nstatus 1' "$(wiped score)"
 told 'a score with --quiet' 0 "$(grep -c 'lines a second' "$room/score-quiet.screen")"
 row 2 '' "unexpected argument '--quiet' found" explain --quiet
-# each worker is a thread, of which the first is that of the program
+# each worker is a thread, of which the first is that of the program, where the text is worth it
 cc -shared -fPIC -o "$room/count.so" tests/count.c -ldl
+for ((i = 0; i < 20; i++)); do cat examples/rules.lines; done > "$room/worth"
 for workers in 2 4; do
-  THREADS_COUNT=$room/count LD_PRELOAD=$room/count.so "$program" score --workers $workers "$room/first" > /dev/null
+  THREADS_COUNT=$room/count LD_PRELOAD=$room/count.so "$program" score --workers $workers "$room/worth" > /dev/null
   told "the threads of $workers workers" $((workers - 1)) "$(cat "$room/count")"
 done
 # each table of a score is answered as `line` answers its file, whatever the workers; one of them has 57,400 lines

@@ -152,9 +152,9 @@ sed -i '1s/^/ /' "$source_file" && touch -r "$scripts/lib.rt" "$source_file"
 told 'a source with a blank more' "$unproved"$'\ntried: waits 1m\nstatus 0' "$(by_hand "$tree" ./desk waits 1m)"
 cp -p "$scripts/lib.rt" "$source_file"
 told 'the source as it was' $'program:\nstatus 0' "$(by_hand "$tree" ./desk)"
-mv "$tree/crates/riichi_cache/proofs" "$scripts/proofs"
+mv "$tree/crates/riichi_rows/proofs" "$scripts/proofs"
 told 'a folder of proofs is gone' "$unproved"$'\ntried: waits 1m\nstatus 0' "$(by_hand "$tree" ./desk waits 1m)"
-mv "$scripts/proofs" "$tree/crates/riichi_cache/proofs"
+mv "$scripts/proofs" "$tree/crates/riichi_rows/proofs"
 told 'the folder is back' $'program:\nstatus 0' "$(by_hand "$tree" ./desk)"
 
 # a tree at another path: a copy with bin/; the program that ./prove left; an unpacked release, unless it isn't whole

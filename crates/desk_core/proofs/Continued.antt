@@ -10,7 +10,7 @@ use Rattle.riichi_hand.specs.contracts.job.JobPartialEq.TheImpl.{ghosts as job_e
 use Rattle.riichi_hand.specs.declared.job.Job.{Job}
 use Rattle.riichi_hand.specs.contracts.decided.JobDecided.TheImpl.Laws.{decides-law as job_decides}
 use Rattle.desk_core.proofs.Facts.{IsSound, IsSound-IsLegal, IsLegalAfter-split}
-use Rattle.desk_core.proofs.Steps.{IsOwnStep, IsStep-from_own, count, submit_after_close, submit_over_limit, submit_without_memory, submit_accepted, arrive_unknown, arrive_withdrawn, arrive_given, arrive_again, arrive_other_job, arrive_accepted, with_piece, close_step, take_waiting, take_open, take_finished, take_answer, withdraw_refused, withdraw_without_memory, withdraw_done, CanTakeBack-from_turns}
+use Rattle.desk_core.proofs.Steps.{IsOwnStep, IsStep_from_own, count, submit_after_close, submit_over_limit, submit_without_memory, submit_accepted, arrive_unknown, arrive_withdrawn, arrive_given, arrive_again, arrive_other_job, arrive_accepted, with_piece, close_step, take_waiting, take_open, take_finished, take_answer, withdraw_refused, withdraw_without_memory, withdraw_done, CanTakeBack-from_turns}
 use Rattle.desk_core.proofs.Desks.{IsDeskRun-no_table, IsDeskRun-step, IsNewDesk-push, DeskStandsFor-new}
 use Rattle.desk_core.proofs.Unique.{desk_reply_unique}
 use Rattle.desk_core.specs.Value.{value_of}
@@ -193,7 +193,7 @@ desk_replies lanes history event stands = by_table (found_or_past lanes (table_o
           new = slice_set lanes (table_of event) answer.new;
           count = length-set lanes (table_of event) answer.new;
           stands = IsDeskRun-step lanes (table_of event) lane answer.new event answer.replied there refl answer.same_table
-              (λ about. IsStep-from_own lane answer.new event answer.replied about answer.same_table answer.step) history stands;
+              (λ about. IsStep_from_own lane answer.new event answer.replied about answer.same_table answer.step) history stands;
           ample = answer.ample;
         }
 
@@ -259,7 +259,7 @@ desk_wants lanes history event stands legal = by_table (found_or_past lanes (tab
         record {
           new = slice_set lanes (table_of event) lane;
           count = length-set lanes (table_of event) lane;
-          stands = IsDeskRun-step lanes (table_of event) lane lane event want there refl refl (λ about. IsStep-from_own lane lane event want about refl step) history stands;
+          stands = IsDeskRun-step lanes (table_of event) lane lane event want there refl refl (λ about. IsStep_from_own lane lane event want about refl step) history stands;
         }
 
 wants_or_not : (replied : Reply) → (replied ≡ want) ⊎ (replied ≢ want)
@@ -301,8 +301,8 @@ left_after tables lanes history ((event, replied) ∷ turns) count stands legal 
     (left_after tables after.new (history ++ (event, replied) ∷ []) turns (after.count ∙ count) after.stands legal.1)
 
 -- each legal history is that of some lanes, and so can go on
-pub CanGoOn-legal : (tables : ℕ) (history : List Turn) → IsLegal tables history → CanGoOn tables history
-CanGoOn-legal tables history legal =
+pub CanGoOn_legal : (tables : ℕ) (history : List Turn) → IsLegal tables history → CanGoOn tables history
+CanGoOn_legal tables history legal =
     let new = new_desk tables in
     let left = left_after tables new.0 [] history new.1.count (DeskStandsFor-new tables new.0 new.1) legal in
     subst (λ (n : ℕ). CanGoOn n history) left.count (CanGoOn-stands left.lanes history left.stands)

@@ -34,17 +34,17 @@ HasPassed-one old mid passed more gone =
     }
 
 -- the numbers of an ordered set
-pub among-contains : (keys : List ℕ) (number : ℕ) → list_any (eq_by_cmp nat_cmp number) keys ≡ is_among keys number
-among-contains [] number = refl
-among-contains (x ∷ keys) number =
+pub among_contains : (keys : List ℕ) (number : ℕ) → list_any (eq_by_cmp nat_cmp number) keys ≡ is_among keys number
+among_contains [] number = refl
+among_contains (x ∷ keys) number =
     ap (λ b. b || list_any (eq_by_cmp nat_cmp number) keys) (unsigned_tied number x)
-    ∙ ap (λ b. (number == x) || b) (among-contains keys number)
+    ∙ ap (λ b. (number == x) || b) (among_contains keys number)
 
 -- an ordered set with one more number
 pub among-added : (old new : List ℕ) (number : ℕ) → ((q : ℕ) → list_any (eq_by_cmp nat_cmp q) new ≡ cond (eq_by_cmp nat_cmp number q) true (list_any (eq_by_cmp nat_cmp q) old)) → (i : ℕ) → is_among new i ≡ (is_among old i || (i == number))
 among-added old new number updated i =
-    sym (among-contains new i) ∙ updated i
-    ∙ ap (λ b. cond (eq_by_cmp nat_cmp number i) true b) (among-contains old i)
+    sym (among_contains new i) ∙ updated i
+    ∙ ap (λ b. cond (eq_by_cmp nat_cmp number i) true b) (among_contains old i)
     ∙ ap (λ b. cond b true (is_among old i)) (unsigned_tied number i ∙ eqb-sym number i)
     ∙ either_way (i == number) (is_among old i)
   where
@@ -58,4 +58,4 @@ among-added old new number updated i =
 
 -- a number that the set has not
 pub not-among : (b : Bool) (keys : List ℕ) (number : ℕ) → list_any (eq_by_cmp nat_cmp number) keys ≡ b → is_among keys number ≡ b
-not-among b keys number same = sym (among-contains keys number) ∙ same
+not-among b keys number same = sym (among_contains keys number) ∙ same

@@ -83,8 +83,8 @@ takings_answer table before (replied ∷ replies) sound legal all count =
     ∙ ap (λ rs. answered (next, answer) ∷ rs) (later ∙ ap (map answered) left)
     ∙ ap (map answered) (sym rest)
 
-pub KeepsItsPromise-IsLegal : (tables : ℕ) (history : List Turn) → IsLegal tables history → KeepsItsPromise tables history
-KeepsItsPromise-IsLegal tables history legal =
+pub KeepsItsPromise_IsLegal : (tables : ℕ) (history : List Turn) → IsLegal tables history → KeepsItsPromise tables history
+KeepsItsPromise_IsLegal tables history legal =
     record {
       legal = legal;
       in_order = λ table within. in_order (turns_of table history) (IsSound-IsLegal tables table history within legal);

@@ -31,8 +31,8 @@ abbrev pub IsOwnStep : LaneState → Event → Reply → LaneState → Type 0
 IsOwnStep old event replied new =
     (turns : List Turn) → IsSound turns → IsLeftBy turns old → ReplyOf turns event replied × IsLeftBy (turns ++ (event, replied) ∷ []) new
 
-pub IsStep-from_own : (old new : LaneState) (event : Event) (replied : Reply) → table_of event ≡ old.table → new.table ≡ old.table → IsOwnStep old event replied new → IsStep old event replied new
-IsStep-from_own old new event replied about same step = λ tables history stands.
+pub IsStep_from_own : (old new : LaneState) (event : Event) (replied : Reply) → table_of event ≡ old.table → new.table ≡ old.table → IsOwnStep old event replied new → IsStep old event replied new
+IsStep_from_own old new event replied about same step = λ tables history stands.
     let turns = turns_of old.table history in
     let turn : Turn = (event, replied) in
     let sound : IsSound turns = IsSound-IsLegal tables old.table history stands.in_range stands.legal in
@@ -521,3 +521,5 @@ arrive_in_window lane piece k (job, flag) arrived.Stranger new stays seq there t
 arrive_in_window lane piece k old arrived.Accepted new stays seq there takes =
     rw takes.1 (arrive_accepted lane piece k stays seq (there ∙ ap Some takes.0))
 arrive_in_window lane piece k old arrived.Withdrawn new stays seq there takes = absurd takes
+
+pub ruleset arrive_facts = (IsStep_from_own, arrive_withdrawn, arrive_given, arrive_unknown, arrive_in_window)

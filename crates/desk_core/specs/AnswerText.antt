@@ -2,7 +2,7 @@
 use Rattle.std.specs.Prelude.{ℕ, List}
 use Rattle.riichi_split.specs.Waits.{waits_text}
 use Rattle.riichi_score.specs.Text.{win_text}
-use Rattle.riichi_shape_text.specs.Text.{shape_text}
+use Rattle.riichi_shape.specs.Text.{shape_text}
 use Rattle.desk_core.specs.declared.answer.Answer.{Answer}
 use Rattle.desk_core.specs.declared.answer.Answer.TheVariants as answer
 

@@ -62,6 +62,7 @@ impl DeskCore {
 
     /// The replies of `step` to the events in order. Where their room is refused nothing was done,
     /// and the events come back.
+    #[tactic(auto, using(crate::proofs::Promise::KeepsItsPromise_IsLegal))]
     pub fn run(&mut self, events: Vec<Event>) -> Result<Vec<Reply>, RunBack>
         ensures count { IfOk result (λ replies. length replies.items ≡ length events.items) }
         ensures stands { IfOk result (λ replies. IsDeskRun self.old

@@ -129,6 +129,7 @@ impl Lane {
     /// withdrawn where the ticket was, doubled where a piece was accepted for it, whatever job this
     /// one carries, a stranger where another job was submitted under it, and else accepted. It takes
     /// no memory.
+    #[tactic(auto, using(crate::proofs::Lists::not_lt, crate::proofs::Steps::arrive_facts))]
     pub fn arrive(&mut self, piece: Piece) -> Arrived
         ensures step { piece.ticket.table ≡ self.old.table
             → IsStep self.old (Event.Arrive piece) (Reply.Arrived result) self.new }
@@ -211,6 +212,7 @@ impl Lane {
     }
 
     /// Whether the ticket of this number was withdrawn.
+    #[tactic(auto, using(crate::proofs::Passing::among_contains))]
     fn is_withdrawn(&self, seq: u32) -> bool
         ensures { result ≡ is_among self.now.withdrawn seq }
     {

@@ -19,12 +19,14 @@ pub fn replies_are_determined()
 {}
 
 /// Whatever events follow a legal history, they have replies, and none of these is a want of memory.
+#[tactic(auto, using(crate::proofs::Continued::CanGoOn_legal))]
 pub fn each_history_goes_on()
     ensures { (tables : ℕ) (history : List Turn) → IsLegal tables history → CanGoOn tables history }
 {}
 
 /// A hand of thirteen tiles, with at most four of a kind, is ready (its shanten is 0) exactly where
 /// it waits for some tile; and its shanten is never below 0.
+#[tactic(auto, using(crate::proofs::ReadyAndWaiting::ready_iff, crate::proofs::ReadyAndWaiting::never_below))]
 pub fn ready_exactly_where_it_waits()
     ensures ready { (hand : HandParts) → IsCounts hand.concealed → IsHand hand
         → (shanten_of hand.concealed hand.melds ≡ pos 0) ↔ HasWait hand }

@@ -5,7 +5,7 @@ ghost use Rattle.desk_core.specs.AnswerText as spec;
 use crate::answer::Answer;
 use arrayvec::ArrayString;
 use riichi_score::push_win;
-use riichi_shape_text::push_shape;
+use riichi_shape::push_shape;
 use riichi_split::waits_text;
 
 /// The answer on one line, without the line's end.

@@ -1,6 +1,7 @@
 -- The lines of a stream once those of one more round are answered.
-use Rattle.std.proofs.Common.{◌≡◌, ℕ, inl, inr, List, [], ◌∷◌, ◌++◌, map, cond, Option, Some, None, refl, sym, subst, ◌∙◌, ap, append_assoc}
-use Rattle.std.specs.Prelude.{is_some, unwrap_or}
+use Rattle.std.proofs.Common.{◌≡◌, ℕ, inl, inr, List, [], ◌∷◌, ◌++◌, map, cond, Option, Some, None, refl, sym, subst, ◌∙◌, ap}
+use Rattle.std.proofs.lemmas.List.{append-nil}
+use Rattle.std.specs.Prelude.{is_some, unwrap_or, IfSome}
 use Rattle.riichi_hand.specs.declared.win.Rules.{Rules}
 use Rattle.desk_lines.specs.declared.fault.DeskFault.{DeskFault}
 use Rattle.desk_lines.specs.declared.fault.DeskFault.TheVariants.{Read, Write, Memory}
@@ -11,21 +12,17 @@ use Rattle.desk_lines.specs.LongLines.{AreAlike, long_outcome, long_profile}
 use Rattle.desk_lines.specs.Profile.{profile_of, rules_of, record_lines}
 use Rattle.desk_lines.specs.Reading.{AreToldAs}
 use Rattle.desk_lines.specs.Records.{AnswerKind, AreTold, AnswerRecords, rules_after, next_profile, records_in}
-use Rattle.desk_lines.specs.Streams.{WritesAll}
+use Rattle.desk_lines.specs.Streams.{WritesAll, StopsWriting}
 use Rattle.desk_lines.specs.Told.{Stops}
 use Rattle.desk_lines.specs.Telling.{text_of, report_of, IsToldAs}
 use Rattle.desk_lines.proofs.AnswerLemmas.{same_as_told, record_lines-more}
-use Rattle.desk_lines.proofs.CutLemmas.{as_front}
-use Rattle.desk_lines.proofs.StreamLemmas.{WritesAll-nil, WritesAll-trans, StopsWriting-after}
-use Rattle.desk_lines.proofs.TellingLemmas.{text_of-append}
+use Rattle.desk_lines.proofs.StreamLemmas.{WritesAll_nil, WritesAll-trans, StopsWriting-after}
+use Rattle.desk_lines.proofs.TellingLemmas.{text_of_append}
 use Rattle.desk_io.specs.declared.sink.Sink.{Ghosts as OfSink}
-use Rattle.desk_crew.specs.Crew.{Stands, Stopped}
+use Rattle.desk_crew.specs.Crew.{Stands, Stopped, Waits}
 use Rattle.desk_crew.specs.declared.standing.Standing.{Standing}
-use Rattle.desk_crew.specs.Shares.{AreWritten, AreLeft, both_reports}
-use Rattle.desk_crew.proofs.ShareLemmas.{AreTold-append, counted-append, none-both}
-
-some_is : (one other : Rules) → Some one ≡ Some other → one ≡ other
-some_is one other same = ap (λ (rules : Option Rules). unwrap_or rules one) same
+use Rattle.desk_crew.specs.Pieces.{AreGathered, both_reports}
+use Rattle.desk_crew.proofs.PieceLemmas.{AreTold-append, counted-append, none-both}
 
 module _ (Answers : AnswerKind) (alike : AreAlike Answers) where
   -- lines that may have the answers of others
@@ -54,79 +51,27 @@ module _ (Answers : AnswerKind) (alike : AreAlike Answers) where
       by_profile given line other lines others told (profile_of other) as_these
       (subst (λ (p : Option Rules). AreTold Answers (unwrap_or p given) (cond (is_some p) lines (line ∷ lines)) told) same are)
 
-  -- the answers to the first of a stream's records are those to its first lines
-  front_records : (given rules : Rules) (lines first others new : List (List ℕ)) → rules_after given lines ≡ Some rules → record_lines lines ≡ first ++ others → AreTold Answers rules first new
-      → (front rest : List (List ℕ)) × (lines ≡ front ++ rest) × AnswerRecords Answers given front new
-  front_records given rules [] first others new profile parts are = absurd (let no = profile in cc)
-  front_records given rules (line ∷ lines) first others new profile parts are =
-      by_case (profile_of line) refl (subst (λ (r : Rules). AreTold Answers r first new) (sym (some_is (rules_of given (line ∷ lines)) rules profile)) are) parts
+  -- and those to the next ones are answered, under the profile that is known then
+  pub all_answered : (given rules : Rules) (lines hand next told new : List (List ℕ)) → AnswerRecords Answers given lines told → AreToldAs 4096 hand next
+      → IfSome (next_profile given (rules_after given lines) hand) (λ set. set ≡ rules) → AreTold Answers rules (records_in (rules_after given lines) hand) new → AnswerRecords Answers given (lines ++ next) (told ++ new)
+  all_answered given rules [] hand next told new before as_these set are =
+      subst (λ (t : List (List ℕ)). AnswerRecords Answers given next (t ++ new)) (sym before) (records_as given hand next new as_these (from_first hand set are))
     where
-      by_case : (p : Option Rules) → profile_of line ≡ p → AreTold Answers (unwrap_or (profile_of line) given) first new → record_lines (line ∷ lines) ≡ first ++ others
-          → (front rest : List (List ℕ)) × (line ∷ lines ≡ front ++ rest) × AnswerRecords Answers given front new
-      by_case (Some set) is are' parts' =
-          let records : lines ≡ first ++ others = sym (ap (λ (p : Option Rules). cond (is_some p) lines (line ∷ lines)) is) ∙ parts' in (
-            line ∷ first,
-            others,
-            ap (λ ls. line ∷ ls) records,
-            subst (λ (ls : List (List ℕ)). AreTold Answers (unwrap_or (profile_of line) given) ls new) (sym (ap (λ (p : Option Rules). cond (is_some p) first (line ∷ first)) is)) are',
-          )
-      by_case None is are' parts' =
-          let records : line ∷ lines ≡ first ++ others = sym (ap (λ (p : Option Rules). cond (is_some p) lines (line ∷ lines)) is) ∙ parts' in
-          whole first records (subst (λ (r : Rules). AreTold Answers r first new) (ap (λ (p : Option Rules). unwrap_or p given) is) are')
-        where
-          whole : (front : List (List ℕ)) → line ∷ lines ≡ front ++ others → AreTold Answers given front new → (front rest : List (List ℕ)) × (line ∷ lines ≡ front ++ rest) × AnswerRecords Answers given front new
-          whole [] same are'' = ([], line ∷ lines, refl, are'')
-          whole (one ∷ front) same are'' =
-              let first_is : line ≡ one = cc in
-              let none : profile_of one ≡ None = ap profile_of (sym first_is) ∙ is in (
-                one ∷ front,
-                others,
-                same,
-                subst (λ (p : Option Rules). AreTold Answers (unwrap_or p given) (cond (is_some p) front (one ∷ front)) new) (sym none) are'',
-              )
-
-  -- the first of the next records are answered, and so the first of all lines
-  pub front_answered : (given rules : Rules) (lines hand next told first others new : List (List ℕ)) → AnswerRecords Answers given lines told → AreToldAs 4096 hand next → next_profile given (rules_after given lines) hand ≡ Some rules
-      → records_in (rules_after given lines) hand ≡ first ++ others → AreTold Answers rules first new
-      → (front rest : List (List ℕ)) × (lines ++ next ≡ front ++ rest) × AnswerRecords Answers given front (told ++ new)
-  front_answered given rules [] hand next told first others new before as_these profile parts are =
-      let front = front_records given rules hand first others new profile parts are in
-      let cut = as_front 4096 front.0 front.1 next (subst (λ (ls : List (List ℕ)). AreToldAs 4096 ls next) front.2 as_these) in (
-        cut.0,
-        cut.1,
-        cut.2,
-        subst (λ (t : List (List ℕ)). AnswerRecords Answers given cut.0 (t ++ new)) (sym before) (records_as given front.0 cut.0 new cut.3 front.3),
-      )
-  front_answered given rules (line ∷ lines) hand next told first others new before as_these profile parts are =
-      let cut = as_front 4096 first others next (subst (λ (ls : List (List ℕ)). AreToldAs 4096 ls next) parts as_these) in
-      let set = rules_of given (line ∷ lines) in
-      let later = AreTold-as set first cut.0 new cut.3 (subst (λ (r : Rules). AreTold Answers r first new) (sym (some_is set rules profile)) are) in (
-        (line ∷ lines) ++ cut.0,
-        cut.1,
-        ap (λ ls. (line ∷ lines) ++ ls) cut.2 ∙ sym (append_assoc (line ∷ lines) cut.0 cut.1),
-        subst (λ (ls : List (List ℕ)). AreTold Answers set ls (told ++ new)) (sym (record_lines-more line lines cut.0)) (AreTold-append Answers set (record_lines (line ∷ lines)) cut.0 told new before later),
-      )
-
-  -- all of them
-  pub all_answered : (given rules : Rules) (lines hand next told new : List (List ℕ)) → AnswerRecords Answers given lines told → AreToldAs 4096 hand next → next_profile given (rules_after given lines) hand ≡ Some rules
-      → AreTold Answers rules (records_in (rules_after given lines) hand) new → AnswerRecords Answers given (lines ++ next) (told ++ new)
-  all_answered given rules [] hand next told new before as_these profile are =
-      subst (λ (t : List (List ℕ)). AnswerRecords Answers given next (t ++ new)) (sym before) (records_as given hand next new as_these (from_first hand profile are))
-    where
-      from_first : (hand : List (List ℕ)) → rules_after given hand ≡ Some rules → AreTold Answers rules (record_lines hand) new → AnswerRecords Answers given hand new
-      from_first [] is are' = absurd (let none = is in cc)
-      from_first (line ∷ lines) is are' = subst (λ (r : Rules). AreTold Answers r (record_lines (line ∷ lines)) new) (sym (some_is (rules_of given (line ∷ lines)) rules is)) are'
-  all_answered given rules (line ∷ lines) hand next told new before as_these profile are =
-      let set = rules_of given (line ∷ lines) in
-      let later = AreTold-as set hand next new as_these (subst (λ (r : Rules). AreTold Answers r hand new) (sym (some_is set rules profile)) are) in
-      subst (λ (ls : List (List ℕ)). AreTold Answers set ls (told ++ new)) (sym (record_lines-more line lines next)) (AreTold-append Answers set (record_lines (line ∷ lines)) next told new before later)
+      from_first : (hand : List (List ℕ)) → IfSome (rules_after given hand) (λ set. set ≡ rules) → AreTold Answers rules (record_lines hand) new → AnswerRecords Answers given hand new
+      from_first [] set' are' = are'
+      from_first (line ∷ lines) set' are' = subst (λ (r : Rules). AreTold Answers r (record_lines (line ∷ lines)) new) (sym set') are'
+  all_answered given rules (line ∷ lines) hand next told new before as_these set are =
+      let all = rules_of given (line ∷ lines) in
+      let later = AreTold-as all hand next new as_these (subst (λ (r : Rules). AreTold Answers r hand new) (sym set) are) in
+      subst (λ (ls : List (List ℕ)). AreTold Answers all ls (told ++ new)) (sym (record_lines-more line lines next)) (AreTold-append Answers all (record_lines (line ∷ lines)) next told new before later)
 
 -- the profile of the stream
-pub profile_next : (given rules : Rules) (lines hand next : List (List ℕ)) → AreToldAs 4096 hand next → next_profile given (rules_after given lines) hand ≡ Some rules → rules_after given (lines ++ next) ≡ Some rules
-profile_next given rules [] [] next as_these is = absurd (let none = is in cc)
-profile_next given rules [] (line ∷ hand) [] as_these is = absurd as_these
-profile_next given rules [] (line ∷ hand) (other ∷ next) as_these is = ap (λ (p : Option Rules). Some (unwrap_or p given)) (sym (same_as_told profile_of long_profile line other as_these.0)) ∙ is
-profile_next given rules (line ∷ lines) hand next as_these is = is
+pub profile_next : (given : Rules) (lines hand next : List (List ℕ)) → AreToldAs 4096 hand next → rules_after given (lines ++ next) ≡ next_profile given (rules_after given lines) hand
+profile_next given [] [] [] as_these = refl
+profile_next given [] [] (other ∷ next) as_these = absurd as_these
+profile_next given [] (line ∷ hand) [] as_these = absurd as_these
+profile_next given [] (line ∷ hand) (other ∷ next) as_these = ap (λ (p : Option Rules). Some (unwrap_or p given)) (sym (same_as_told profile_of long_profile line other as_these.0))
+profile_next given (line ∷ lines) hand next as_these = refl
 
 -- ---- how many
 
@@ -153,69 +98,93 @@ counted_as given (line ∷ lines) (other ∷ others) as_these =
     ap (λ (p : Option Rules). report_of (map (line_kind (unwrap_or p given)) (cond (is_some p) lines (line ∷ lines)))) same ∙ ap report_of (kinds_on given line other lines others (profile_of other) as_these)
 
 -- the next records are counted with those before
-all_counted : (given rules : Rules) (lines hand next : List (List ℕ)) → AreToldAs 4096 hand next → next_profile given (rules_after given lines) hand ≡ Some rules
+all_counted : (given rules : Rules) (lines hand next : List (List ℕ)) → AreToldAs 4096 hand next → IfSome (next_profile given (rules_after given lines) hand) (λ set. set ≡ rules)
     → report_on given (lines ++ next) ≡ both_reports (report_on given lines) (report_of (map (line_kind rules) (records_in (rules_after given lines) hand)))
-all_counted given rules [] [] next as_these profile = absurd (let none = profile in cc)
-all_counted given rules [] (line ∷ hand) next as_these profile =
+all_counted given rules [] [] [] as_these set = refl
+all_counted given rules [] [] (other ∷ next) as_these set = absurd as_these
+all_counted given rules [] (line ∷ hand) next as_these set =
     let hand_all = line ∷ hand in
-    sym (counted_as given hand_all next as_these) ∙ ap (λ (r : Rules). report_of (map (line_kind r) (record_lines hand_all))) (some_is (rules_of given hand_all) rules profile)
-    ∙ none-both (report_of (map (line_kind rules) (record_lines hand_all)))
-all_counted given rules (line ∷ lines) hand next as_these profile =
-    let set = rules_of given (line ∷ lines) in
-    ap (λ ls. report_of (map (line_kind set) ls)) (record_lines-more line lines next) ∙ counted-append set (record_lines (line ∷ lines)) next
-    ∙ ap (both_reports (report_on given (line ∷ lines))) (ap report_of (sym (kinds_as set hand next as_these)) ∙ ap (λ (r : Rules). report_of (map (line_kind r) hand)) (some_is set rules profile))
+    sym (counted_as given hand_all next as_these) ∙ ap (λ (r : Rules). report_of (map (line_kind r) (record_lines hand_all))) set ∙ none-both (report_of (map (line_kind rules) (record_lines hand_all)))
+all_counted given rules (line ∷ lines) hand next as_these set =
+    let all = rules_of given (line ∷ lines) in
+    ap (λ ls. report_of (map (line_kind all) ls)) (record_lines-more line lines next) ∙ counted-append all (record_lines (line ∷ lines)) next
+    ∙ ap (both_reports (report_on given (line ∷ lines))) (ap report_of (sym (kinds_as all hand next as_these)) ∙ ap (λ (r : Rules). report_of (map (line_kind r) hand)) set)
 
 module _ {W : Type 0} (Answers : AnswerKind) (sink : OfSink W) (start : W) (given : Rules) where
   -- before the first line
-  pub Stands-none : (now : Standing) → now.profile ≡ None → now.report ≡ report_of [] → Stands Answers sink start given [] now start
-  Stands-none now none report = record { answered = record { told = []; are_told = refl; writes = WritesAll-nil sink start; report_is = report }; profile = none }
+  pub Waits-none : (now : Standing) (waiting : List ℕ) → waiting ≡ [] → now.profile ≡ None → now.report ≡ report_of [] → Waits Answers sink start given [] now start waiting
+  Waits-none now waiting none profile report = record { told = []; are_told = refl; written = []; parts = sym none; writes = WritesAll_nil sink start; report_is = report; profile = profile }
 
-  -- the lines of a round were answered
-  pub Stands-more : AreAlike Answers → (rules : Rules) (lines hand next records : List (List ℕ)) (old new : Standing) (before after : W) → AreToldAs 4096 hand next → Stands Answers sink start given lines old before
-      → next_profile given old.profile hand ≡ Some rules → records ≡ records_in old.profile hand → AreWritten Answers sink before after rules records old.report new.report
-      → new.profile ≡ Some rules → Stands Answers sink start given (lines ++ next) new after
-  Stands-more alike rules lines hand next records old new before after as_these stands profile are_records written is =
-      let known : next_profile given (rules_after given lines) hand ≡ Some rules = subst (λ (p : Option Rules). next_profile given p hand ≡ Some rules) stands.profile profile in
-      let told : AreTold Answers rules (records_in (rules_after given lines) hand) written.told =
-      subst (λ (p : Option Rules). AreTold Answers rules (records_in p hand) written.told) stands.profile (subst (λ (ls : List (List ℕ)). AreTold Answers rules ls written.told) are_records written.are_told) in
+  -- the next lines were answered
+  pub Waits-more : AreAlike Answers → (rules : Rules) (lines hand next records : List (List ℕ)) (old begun new : Standing) (writer : W) (waiting : List ℕ) → AreToldAs 4096 hand next → Stands Answers sink start given lines old writer
+      → begun.profile ≡ next_profile given old.profile hand → IfSome begun.profile (λ set. set ≡ rules) → records ≡ records_in old.profile hand → begun.report ≡ old.report
+      → AreGathered Answers rules records waiting begun.report new.report → new.profile ≡ begun.profile → Waits Answers sink start given (lines ++ next) new writer waiting
+  Waits-more alike rules lines hand next records old begun new writer waiting as_these stands profile set are_records report gathered same =
+      let first = stands.answered in
+      let profile_is : begun.profile ≡ next_profile given (rules_after given lines) hand = profile ∙ ap (λ (p : Option Rules). next_profile given p hand) stands.profile in
+      let set_now = subst (λ (p : Option Rules). IfSome p (λ r. r ≡ rules)) profile_is set in
+      let records_are : records ≡ records_in (rules_after given lines) hand = are_records ∙ ap (λ (p : Option Rules). records_in p hand) stands.profile in
+      record {
+        told = first.told ++ gathered.told;
+        are_told = all_answered Answers alike given rules lines hand next first.told gathered.told first.are_told as_these set_now (subst (λ (ls : List (List ℕ)). AreTold Answers rules ls gathered.told) records_are gathered.are_told);
+        written = text_of first.told;
+        parts = text_of_append first.told gathered.told ∙ ap (λ t. text_of first.told ++ t) (sym gathered.text_is);
+        writes = first.writes;
+        report_is = gathered.report_is ∙ ap (λ (r : DeskReport). both_reports r (report_of (map (line_kind rules) records))) (report ∙ first.report_is)
+            ∙ ap (λ ls. both_reports (report_on given lines) (report_of (map (line_kind rules) ls))) records_are ∙ sym (all_counted given rules lines hand next as_these set_now);
+        profile = same ∙ profile_is ∙ sym (profile_next given lines hand next as_these);
+      }
+
+  -- nothing waits
+  pub Waits-nothing : (lines : List (List ℕ)) (now new : Standing) (writer : W) (waiting : List ℕ) → new ≡ now → waiting ≡ [] → Stands Answers sink start given lines now writer → Waits Answers sink start given lines new writer waiting
+  Waits-nothing lines now new writer waiting same none stands =
       let first = stands.answered in
       record {
-        answered = record {
-          told = first.told ++ written.told;
-          are_told = all_answered Answers alike given rules lines hand next first.told written.told first.are_told as_these known told;
-          writes = subst (λ (text : List ℕ). WritesAll sink start after text) (sym (text_of-append first.told written.told)) (WritesAll-trans sink start before after (text_of first.told) (text_of written.told) first.writes written.writes);
-          report_is = written.report_is ∙ ap (λ (r : DeskReport). both_reports r (report_of (map (line_kind rules) records))) first.report_is
-              ∙ ap (λ ls. both_reports (report_on given lines) (report_of (map (line_kind rules) ls))) (are_records ∙ ap (λ (p : Option Rules). records_in p hand) stands.profile)
-              ∙ sym (all_counted given rules lines hand next as_these known);
-        };
-        profile = is ∙ sym (profile_next given rules lines hand next as_these known);
+        told = first.told;
+        are_told = first.are_told;
+        written = text_of first.told;
+        parts = sym (ap (λ (t : List ℕ). text_of first.told ++ t) none ∙ append-nil (text_of first.told));
+        writes = first.writes;
+        report_is = ap (λ (s : Standing). s.report) same ∙ first.report_is;
+        profile = ap (λ (s : Standing). s.profile) same ∙ stands.profile;
       }
+
+  -- what waited was written
+  pub Stands-now : (lines : List (List ℕ)) (now : Standing) (old new : W) (waiting : List ℕ) → Waits Answers sink start given lines now old waiting → WritesAll sink old new waiting → Stands Answers sink start given lines now new
+  Stands-now lines now old new waiting waits writes = record {
+    answered = record {
+      told = waits.told;
+      are_told = waits.are_told;
+      writes = subst (λ (text : List ℕ). WritesAll sink start new text) (sym waits.parts) (WritesAll-trans sink start old new waits.written waiting waits.writes writes);
+      report_is = waits.report_is;
+    };
+    profile = waits.profile;
+  }
 
   stops_after : (old new : W) (fault : DeskFault) (text more : List ℕ) → WritesAll sink start old text → Stops sink old new fault more → Stops sink start new fault (text ++ more)
   stops_after old new Read text more writes stops = absurd stops
   stops_after old new Write text more writes stops = StopsWriting-after sink start old new text more writes stops
   stops_after old new Memory text more writes stops = WritesAll-trans sink start old new text more writes stops
 
-  -- the first of them were
-  pub Stopped-more : AreAlike Answers → (rules : Rules) (lines hand next records : List (List ℕ)) (old : Standing) (before after : W) (fault : DeskFault) → AreToldAs 4096 hand next → Stands Answers sink start given lines old before
-      → next_profile given old.profile hand ≡ Some rules → records ≡ records_in old.profile hand → AreLeft Answers sink before after rules records fault → Stopped Answers sink start after given (lines ++ next) fault
-  Stopped-more alike rules lines hand next records old before after fault as_these stands profile are_records left =
-      let known : next_profile given (rules_after given lines) hand ≡ Some rules = subst (λ (p : Option Rules). next_profile given p hand ≡ Some rules) stands.profile profile in
-      let parts : records_in (rules_after given lines) hand ≡ left.first ++ left.others = ap (λ (p : Option Rules). records_in p hand) (sym stands.profile) ∙ sym are_records ∙ left.parts in
-      let before_these = stands.answered in
-      let front = front_answered Answers alike given rules lines hand next before_these.told left.first left.others left.told before_these.are_told as_these known parts left.are_told in
-      record {
-        first = front.0;
-        others = front.1;
-        parts = front.2;
-        told = before_these.told ++ left.told;
-        are_told = front.3;
-        stops = subst (λ (text : List ℕ). Stops sink start after fault text) (sym (text_of-append before_these.told left.told)) (stops_after before after fault (text_of before_these.told) (text_of left.told) before_these.writes left.stops);
-      }
+  -- a write failed
+  pub stops_writing : (old new : W) (fault : DeskFault) (text : List ℕ) → (fault ≡ Write) × StopsWriting sink old new text → Stops sink old new fault text
+  stops_writing old new fault text failed = subst (λ (f : DeskFault). Stops sink old new f text) (sym failed.0) failed.1
 
-  -- they stand for another state that is the same
-  pub Stands-at : (lines : List (List ℕ)) (old new : Standing) (writer : W) → new ≡ old → Stands Answers sink start given lines old writer → Stands Answers sink start given lines new writer
-  Stands-at lines old new writer same stands = subst (λ (now : Standing). Stands Answers sink start given lines now writer) (sym same) stands
+  -- it was written as far as that was possible
+  pub Stopped-now : (lines more : List (List ℕ)) (now : Standing) (old new : W) (waiting : List ℕ) (fault : DeskFault) → Waits Answers sink start given lines now old waiting → Stops sink old new fault waiting
+      → Stopped Answers sink start new given (lines ++ more) fault
+  Stopped-now lines more now old new waiting fault waits stops = record {
+    first = lines;
+    others = more;
+    parts = refl;
+    told = waits.told;
+    are_told = waits.are_told;
+    stops = subst (λ (text : List ℕ). Stops sink start new fault text) (sym waits.parts) (stops_after old new fault waits.written waiting waits.writes stops);
+  }
+
+  -- the same of all lines
+  pub Stopped-all : (lines : List (List ℕ)) (new : W) (fault : DeskFault) → Stopped Answers sink start new given (lines ++ []) fault → Stopped Answers sink start new given lines fault
+  Stopped-all lines new fault stopped = subst (λ (ls : List (List ℕ)). Stopped Answers sink start new given ls fault) (append-nil lines) stopped
 
   -- memory was wanted after these lines
   pub Stopped-memory : (lines more : List (List ℕ)) (now : Standing) (writer : W) → Stands Answers sink start given lines now writer → Stopped Answers sink start writer given (lines ++ more) Memory

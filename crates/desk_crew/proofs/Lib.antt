@@ -1,3 +1,3 @@
-pub mod ShareLemmas
+pub mod PieceLemmas
 pub mod CrewLemmas
 pub mod RoundLemmas

@@ -27,6 +27,16 @@ pub record Stands {W : Type 0} (May : AnswerKind) (sink : OfSink W) (start : W) 
   pub answered : IsAnswered May sink start writer given lines now.report
   pub profile : now.profile ≡ rules_after given lines
 
+-- These lines are answered and counted, and their answers written but for the last, which wait.
+pub record Waits {W : Type 0} (May : AnswerKind) (sink : OfSink W) (start : W) (given : Rules) (lines : List (List ℕ)) (now : Standing) (writer : W) (waiting : List ℕ) : Type 0 where
+  pub told : List (List ℕ)
+  pub are_told : AnswerRecords May given lines told
+  pub written : List ℕ
+  pub parts : text_of told ≡ written ++ waiting
+  pub writes : WritesAll sink start writer written
+  pub report_is : now.report ≡ report_on given lines
+  pub profile : now.profile ≡ rules_after given lines
+
 -- The first of these lines are answered, and their answers written as far as that was possible.
 pub record Stopped {W : Type 0} (May : AnswerKind) (sink : OfSink W) (start new : W) (given : Rules) (lines : List (List ℕ)) (fault : DeskFault) : Type 0 where
   pub first : List (List ℕ)
@@ -41,6 +51,13 @@ pub record IsBetween {R W : Type 0} (May : AnswerKind) (source : OfSource R) (si
   pub gives : Gives source from reader text
   pub is_held : held ≡ kept 8194 text
   pub stands : Stands May sink start given (ended_lines text) now writer
+
+-- The reader gave this text and what is at hand beside the front of a line: the lines of the text that have ended are answered.
+pub record IsAhead {R W : Type 0} (May : AnswerKind) (source : OfSource R) (sink : OfSink W) (from : R) (start : W) (given : Rules) (text hand : List ℕ) (now : Standing) (waiting : List ℕ) (reader : R) (writer : W) : Type 0 where
+  pub bytes : List ℕ
+  pub gives : Gives source from reader (text ++ bytes)
+  pub hand_is : hand ≡ kept 8194 text ++ bytes
+  pub waits : Waits May sink start given (ended_lines text) now writer waiting
 
 -- Of the whole lines that the reader gave the first are answered.
 pub record IsGivenUp {R W : Type 0} (May : AnswerKind) (source : OfSource R) (sink : OfSink W) (from reader : R) (start writer : W) (given : Rules) (fault : DeskFault) : Type 0 where

@@ -1,3 +1,3 @@
-pub mod Shares
+pub mod Pieces
 pub mod Reading
 pub mod Crew

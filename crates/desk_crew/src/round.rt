@@ -1,92 +1,84 @@
-//! One round: a text whose lines are answered by many threads, and the answers written in order.
-ghost use Rattle.std.specs.Prelude.{◌≡◌, ◌<◌, ◌≤◌, ◌*◌, ◌^◌, ℕ, length, take, slice_index_or, OnOk, IfErr};
-ghost use Rattle.desk_lines.specs.Lines.{ended_lines};
-ghost use Rattle.desk_crew.specs.Shares.{AreLeft, AreWritten, IsShared, edge};
-ghost use Rattle.desk_crew.specs.declared.share.Share.{Share};
+//! One round: a text whose lines are answered by many threads.
+ghost use Rattle.std.specs.Prelude.{◌≡◌, ◌+◌, ◌<◌, ◌^◌, length, IfSome};
+ghost use Rattle.std.specs.List.{All};
+ghost use Rattle.desk_crew.specs.Pieces.{AreCounted, HaveAnswers, edge, lines_between};
+ghost use denote.Param.Send.{IsSync};
 
 use crate::share::Share;
-use desk_io::Sink;
-use desk_lines::{DeskFault, DeskReport, Responder, write_all};
+use desk_lines::{DeskReport, Responder};
 use riichi_hand::Rules;
+use std::sync::atomic::AtomicUsize;
 use std::thread;
 use std::thread::Threads;
 
-/// Has the lines of a text that have ended answered by as many threads as there are shares, and writes the answers in their
-/// order.
-pub(crate) fn answer_round<A: Responder + Send + Sync, H: Threads + Sync, W: Sink>(
+/// A shorter text is not worth a thread.
+const LEAST: usize = 16_384;
+
+/// Has the pieces of a text answered by as many threads as there are shares, where each piece has so many bytes: each thread takes
+/// the next one that none has taken. The calling thread does something else before it takes pieces, and gives what that gave.
+pub(crate) fn answer_beside<A: Responder + Send + Sync, H: Threads + Sync, G: FnMut() -> B, B>(
     rt: &H,
     rules: Rules,
     text: &[u8],
+    size: usize,
+    next: &AtomicUsize,
     shares: &mut [Share],
-    report: &mut DeskReport,
-    writer: &mut W,
-) -> Result<(), DeskFault>
+    other: &mut G,
+) -> B
     requires some { 0 < length shares.old }
     requires fits { length text.now < 2 ^ 64 }
-    ensures written { OnOk result (AreWritten A.may_tell ⟦<W as Sink>⟧
-        writer.old writer.new rules (ended_lines text.now) report.old report.new) }
-    ensures left { IfErr result (AreLeft A.may_tell ⟦<W as Sink>⟧ writer.old writer.new
-        rules (ended_lines text.now)) }
+    requires other { G.pre other.old }
+    ensures other { G.step other.old result other.new }
+    ensures answered { All (HaveAnswers A.may_tell rules text.now size) shares.new }
     ensures shares { length shares.new ≡ length shares.old }
 {
-    if text.is_empty() {
-        return Ok(());
+    let (first, others) = shares.split_at_mut(1);
+    let first = &mut first[0];
+    if others.is_empty() {
+        let told = other();
+        first.answer::<A>(rules, text, size, next);
+        return told;
     }
-    let size = text.len().div_ceil(shares.len());
-    answer_shares::<A, H>(rt, rules, text, size, shares);
-    write_shares::<A, W>(rules, text, size, shares, report, writer)
+    if text.len() < LEAST {
+        let told = answer_beside::<A, H, G, B>(rt, rules, text, size, next, others, other);
+        first.answer::<A>(rules, text, size, next);
+        return told;
+    }
+    let mut theirs = ||
+        requires { length text.now < 2 ^ 64 }
+        ensures { HaveAnswers A.may_tell rules text.entry.now size first.exit.now }
+    { first.answer::<A>(rules, text, size, next) };
+    let mut ours = || -> B
+        requires { IsSync H.row × G.pre other.now × (0 < length others.now)
+            × (length text.now < 2 ^ 64) }
+        ensures { G.step other.entry.now result other.exit.now
+            × All (HaveAnswers A.may_tell rules text.entry.now size) others.exit.now
+            × (length others.exit.now ≡ length others.entry.now) }
+    { answer_beside::<A, H, G, B>(rt, rules, text, size, next, others, other) };
+    let (_, told) = thread::join_mut(rt, &mut theirs, &mut ours);
+    told
 }
 
-/// Has each share of a text answered in a thread of its own, where one can be made.
-fn answer_shares<A: Responder + Send + Sync, H: Threads + Sync>(
-    rt: &H,
+/// Gives the answers to the piece of a number away for a room, and its report, from whatever share has it.
+pub(crate) fn take_piece<A: Responder>(
     rules: Rules,
     text: &[u8],
     size: usize,
     shares: &mut [Share],
-)
-    requires some { 0 < length shares.old }
-    requires fits { length text.now < 2 ^ 64 }
-    ensures shared { (number : ℕ) (none : Share) → number < length shares.new
-        → IsShared A.may_tell rules text.now size number
-        (slice_index_or shares.new number none) }
-    ensures shares { length shares.new ≡ length shares.old }
-{
-    let threads = shares.len();
-    let answer = move |number: usize, share: &mut Share|
-        requires { length text.now < 2 ^ 64 }
-        ensures { IsShared A.may_tell
-            rules text.entry.now size number share.exit.now }
-    { share.answer::<A>(rules, text, size, number) };
-    thread::for_each_mut(rt, shares, threads, &answer);
-}
-
-/// Writes the answers of the shares, and counts them.
-fn write_shares<A: Responder + Send + Sync, W: Sink>(
-    rules: Rules,
-    text: &[u8],
-    size: usize,
-    shares: &[Share],
-    report: &mut DeskReport,
-    writer: &mut W,
-) -> Result<(), DeskFault>
-    requires shared { (number : ℕ) (none : Share) → number < length shares.now
-        → IsShared A.may_tell rules text.now size number
-        (slice_index_or shares.now number none) }
-    requires all { length text.now ≤ length shares.now * size }
-    ensures written { OnOk result (AreWritten A.may_tell ⟦<W as Sink>⟧
-        writer.old writer.new rules (ended_lines text.now) report.old report.new) }
-    ensures left { IfErr result (AreLeft A.may_tell ⟦<W as Sink>⟧ writer.old writer.new
-        rules (ended_lines text.now)) }
+    number: usize,
+    room: &mut Vec<u8>,
+) -> Option<DeskReport>
+    requires { All (HaveAnswers A.may_tell rules text.now size) shares.old }
+    ensures taken { IfSome result (AreCounted A.may_tell rules
+        (lines_between text.now (edge text.now size number) (edge text.now size (number + 1)))
+        room.new.items) }
+    ensures left { All (HaveAnswers A.may_tell rules text.now size) shares.new }
 {
     for place in 0..shares.len() {
-        let share = &shares[place];
-        let Some(more) = share.report else {
-            return Err(DeskFault::Memory);
-        };
-        let sum = report.plus(more)?;
-        write_all(writer, share.answers.as_slice())?;
-        *report = sum;
+        let taken = shares[place].take::<A>(rules, text, size, number, room);
+        if taken.is_some() {
+            return taken;
+        }
     }
-    Ok(())
+    None
 }

@@ -1,65 +1,70 @@
-//! The share of one thread.
-ghost use Rattle.std.specs.Prelude.{◌≡◌, ◌<◌, ◌≤◌, ◌^◌, [], length, IfOk};
-ghost use Rattle.desk_crew.specs.Shares.{AreCounted, IsShared, lines_between};
+//! What one thread works with.
+ghost use Rattle.std.specs.Prelude.{◌≡◌, ◌+◌, ◌<◌, ◌^◌, length, IfSome};
+ghost use Rattle.desk_crew.specs.Pieces.{AreCounted, HaveAnswers, edge, lines_between};
 
-use crate::cut::ended_bytes;
-use desk_lines::{DeskReport, Responder, SuitMemo, answer_piece};
+use crate::piece::{PIECES, Piece};
+use desk_lines::{DeskReport, Responder, SuitMemo};
 use riichi_hand::Rules;
 use std::alloc::{AllocError, Global};
+use std::sync::atomic::{AtomicUsize, Ordering};
 
-/// What one thread works with: its rows of suits, which stay for the next round, the answers to its lines, and how many these
-/// are, or none where there was no memory for them.
+/// What one thread works with: its rows of suits, which stay for the next round, and places for the pieces that it answers.
 #[derive(Drop)]
 pub(crate) struct Share {
     rows: SuitMemo,
-    pub(crate) answers: Vec<u8>,
-    pub(crate) report: Option<DeskReport>,
+    pub(crate) pieces: Vec<Piece>,
 }
 
 impl Share {
-    pub(crate) fn new(alloc: Global) -> Share {
-        Share {
-            rows: SuitMemo::new(alloc),
-            answers: Vec::new(alloc),
-            report: None,
+    /// With places for all pieces, since one thread may come to answer each.
+    pub(crate) fn new(alloc: Global) -> Result<Share, AllocError> {
+        let mut pieces = Vec::new(alloc);
+        while pieces.len() < PIECES {
+            pieces.push(Piece::new(alloc))?;
         }
+        Ok(Share {
+            rows: SuitMemo::new(alloc),
+            pieces,
+        })
     }
 
-    /// Answers the lines of a text that end in the share of this number, where each has so many bytes.
+    /// Answers the pieces of a text whose numbers it is given, one after another, where each piece has so many bytes.
     pub(crate) fn answer<A: Responder>(
         &mut self,
         rules: Rules,
         text: &[u8],
         size: usize,
-        number: usize,
+        next: &AtomicUsize,
     )
         requires { length text.now < 2 ^ 64 }
-        ensures { IsShared A.may_tell rules text.now size number self.new }
+        ensures { HaveAnswers A.may_tell rules text.now size self.new }
     {
-        let from = number.saturating_mul(size).min(text.len());
-        let to = number
-            .saturating_add(1)
-            .saturating_mul(size)
-            .min(text.len());
-        self.answers.clear();
-        self.report = self.answer_between::<A>(rules, text, from, to).ok();
+        for place in 0..self.pieces.len() {
+            let number = next.fetch_add(1, Ordering::Relaxed);
+            self.pieces[place].answer::<A>(rules, text, size, number, &mut self.rows);
+        }
     }
 
-    /// Answers the lines of a text that end between two places.
-    fn answer_between<A: Responder>(
+    /// Gives the answers to the piece of a number away for a room, and its report, where that piece was answered here.
+    pub(crate) fn take<A: Responder>(
         &mut self,
         rules: Rules,
         text: &[u8],
-        from: usize,
-        to: usize,
-    ) -> Result<DeskReport, AllocError>
-        requires order { (from ≤ to) × (to ≤ length text.now) }
-        requires fits { length text.now < 2 ^ 64 }
-        requires none { self.old.answers.items ≡ [] }
-        ensures { IfOk result (AreCounted A.may_tell rules
-            (lines_between text.now from to) self.new.answers.items) }
+        size: usize,
+        number: usize,
+        room: &mut Vec<u8>,
+    ) -> Option<DeskReport>
+        requires { HaveAnswers A.may_tell rules text.now size self.old }
+        ensures taken { IfSome result (AreCounted A.may_tell rules
+            (lines_between text.now (edge text.now size number) (edge text.now size (number + 1)))
+            room.new.items) }
+        ensures left { HaveAnswers A.may_tell rules text.now size self.new }
     {
-        let begin = ended_bytes(&text[..from]);
-        answer_piece::<A, SuitMemo>(rules, &text[begin..to], &mut self.rows, &mut self.answers)
+        for place in 0..self.pieces.len() {
+            if self.pieces[place].number == number {
+                return self.pieces[place].take(room);
+            }
+        }
+        None
     }
 }

@@ -132,21 +132,27 @@ fn failures(rt: HostRuntime) -> Result<(), Fail> {
 /// As JSON.
 #[test]
 fn objects(rt: HostRuntime) -> Result<(), Fail> {
-    let mut reader = BytesIn::new(b"waits 1112345678999m\nwaits 8z\n", 10, None);
-    let mut writer: Room = BytesOut::new(1_000, None);
-    let mut crew = Crew::new(rt.alloc(), 40)?;
-    let report = crew.answer_text::<Objects, HostRuntime, BytesIn, Room>(
-        &rt,
-        Rules::One,
-        &mut reader,
-        &mut writer,
-    );
-    let both = DeskReport {
-        answered: 1,
-        refused: 1,
-    };
-    holds_in(&rt, &40, report == Ok(both));
-    holds_in(&rt, &40, writer.bytes().starts_with(b"{"));
+    for few in [true, false] {
+        let mut reader = BytesIn::new(b"waits 1112345678999m\nwaits 8z\n", 10, None);
+        let mut writer: Room = BytesOut::new(1_000, None);
+        let mut crew = if few {
+            Crew::for_objects(rt.alloc(), 40)?
+        } else {
+            Crew::new(rt.alloc(), 40)?
+        };
+        let report = crew.answer_text::<Objects, HostRuntime, BytesIn, Room>(
+            &rt,
+            Rules::One,
+            &mut reader,
+            &mut writer,
+        );
+        let both = DeskReport {
+            answered: 1,
+            refused: 1,
+        };
+        holds_in(&rt, &few, report == Ok(both));
+        holds_in(&rt, &few, writer.bytes().starts_with(b"{"));
+    }
     Ok(())
 }
 

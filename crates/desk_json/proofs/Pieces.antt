@@ -114,7 +114,7 @@ kind_written : (kind : ℕ) → written (kind_tree kind) ≡ quoted_kind kind
 unfolding written
 kind_written kind = ap (λ t. 34 ∷ (t ++ 34 ∷ [])) (escape_kind kind)
 
-list_ends : (a y x z : List ℕ) → a ++ ((y ++ x) ++ z) ≡ (a ++ y) ++ (x ++ z)
+pub list_ends : (a y x z : List ℕ) → a ++ ((y ++ x) ++ z) ≡ (a ++ y) ++ (x ++ z)
 list_ends a y x z = simp append_assoc
 
 pub waits_written : (rules : House) (marks : ℕ) → answer_json rules (answer.Waits marks) ≡ parts.waits_json marks

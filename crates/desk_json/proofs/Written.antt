@@ -34,10 +34,10 @@ ended : (later : Bool) → cond {A = List ℕ} (later && false) (44 ∷ []) [] �
 ended true = refl
 ended false = refl
 
-item_ends : (c w i r : List ℕ) → c ++ (w ++ (i ++ r)) ≡ (c ++ (w ++ i)) ++ r
+pub item_ends : (c w i r : List ℕ) → c ++ (w ++ (i ++ r)) ≡ (c ++ (w ++ i)) ++ r
 item_ends c w i r = simp append_assoc
 
-member_ends : (c k w i r : List ℕ) → c ++ (k ++ (w ++ (i ++ r))) ≡ (c ++ (k ++ (w ++ i))) ++ r
+pub member_ends : (c k w i r : List ℕ) → c ++ (k ++ (w ++ (i ++ r))) ≡ (c ++ (k ++ (w ++ i))) ++ r
 member_ends c k w i r = simp append_assoc
 
 mutual

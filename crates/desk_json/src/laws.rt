@@ -11,6 +11,7 @@ use riichi_score::{Payment, Score, WinAnswer};
 use riichi_shape::{Accepts, Discard, DiscardList, LiveList, ShapeAnswer};
 
 /// What a reader of JSON reads in the text of an answer is the answer's tree.
+#[tactic(auto, using(crate::proofs::ReadBack::reads_back))]
 pub fn each_text_reads_back(rules: RuleSet, answer: &Answer)
     ensures { document (answer_json rules answer.now) ≡ Some (answer_tree rules answer.now) }
 {
@@ -18,6 +19,7 @@ pub fn each_text_reads_back(rules: RuleSet, answer: &Answer)
 }
 
 /// Equal texts are those of equal answers, under the same rules or others.
+#[tactic(auto, using(crate::proofs::ReadBack::same_texts))]
 pub fn equal_texts_mean_equal_answers(
     rules: RuleSet,
     one: &Answer,
@@ -97,6 +99,7 @@ fn see_accepts(accepts: &Accepts)
     }
 }
 
+#[tactic(auto, using(riichi_text::proofs::Pieces::some_there, crate::proofs::Seen::each_more))]
 fn see_discards(discards: &DiscardList)
     ensures { spec.Each spec.IsWholeDiscard discards.now }
 {
@@ -114,6 +117,7 @@ fn see_discard(discard: &Discard)
     see_list(&discard.accepted);
 }
 
+#[tactic(auto, using(crate::proofs::Seen::all_pairs_whole))]
 fn see_list(list: &LiveList)
     ensures { spec.IsWholeList list.now }
 {

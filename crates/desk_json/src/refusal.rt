@@ -23,6 +23,7 @@ pub fn refusal_text(line: &[u8], refusal: &Refusal<'_>) -> JsonText
 
 /// Writes the refusal of a line behind a text, without the line's end: its code, the key and the place of the line that are at
 /// fault, and what may stand there.
+#[tactic(auto, using(riichi_text::proofs::Pieces::pushed_four, crate::proofs::Refusals::refusal_written), unfolding(crate::specs::Parts::refusal_parts))]
 pub fn push_refusal(text: &mut JsonText, line: &[u8], refusal: &Refusal<'_>)
     requires room { array_string_len text.old + 300 ≤ 12288 }
     requires from { option_map (λ from. from.now) refusal.now.from

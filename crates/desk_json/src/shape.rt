@@ -36,6 +36,7 @@ fn push_accepts(text: &mut JsonText, accepts: &Accepts)
     }
 }
 
+#[tactic(auto, using(riichi_text::proofs::Pieces::some_there, crate::proofs::Chosen::discard_more))]
 fn push_discards(text: &mut JsonText, discards: &DiscardList)
     requires { array_string_len text.old + 11620 ≤ 12288 }
     ensures bytes { text.new.bytes ≡ text.old.bytes ++ spec.discards_json discards.now }

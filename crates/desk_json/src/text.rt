@@ -24,6 +24,7 @@ pub fn answer_text(rules: RuleSet, answer: &Answer) -> JsonText
 
 /// Writes the answer under these rules behind a text, without the line's end: that of a win names the rules where they are neither
 /// profile. A text that is kept need not be made anew for each answer.
+#[tactic(auto, using(crate::proofs::Pieces::waits_written, crate::proofs::Pieces::shape_written))]
 pub fn push_answer(text: &mut JsonText, rules: RuleSet, answer: &Answer)
     requires { array_string_len text.old + 11667 ≤ 12288 }
     ensures { text.new.bytes ≡ text.old.bytes ++ spec.answer_json rules answer.now }

@@ -96,6 +96,7 @@ fn push_points(text: &mut JsonText, score: &Score)
     push_after(text, ",\"gain\":", score.gain);
 }
 
+#[tactic(auto, using(crate::proofs::Behind::five))]
 fn push_payment(text: &mut JsonText, payment: &Payment)
     requires { array_string_len text.old + 45 ≤ 12288 }
     ensures bytes { text.new.bytes ≡ text.old.bytes ++ spec.payment_json payment.now }

@@ -9,6 +9,7 @@ use riichi_names::japanese;
 use riichi_yaku::{Yaku, YakuSet};
 
 /// The yaku of a set in the order of their numbers, each as an object.
+#[tactic(auto, using(crate::proofs::Lists::begun_one_more, crate::proofs::Chosen::listed_more))]
 pub(crate) fn push_yaku(text: &mut JsonText, set: YakuSet)
     requires { array_string_len text.old + 3654 ≤ 12288 }
     ensures bytes { text.new.bytes ≡ text.old.bytes ++ spec.yaku_list_json set }

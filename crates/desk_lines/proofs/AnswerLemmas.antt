@@ -16,8 +16,8 @@ use Rattle.desk_lines.specs.Records.{rules_after, AnswerKind, IsToldUnder, IsTol
 use Rattle.desk_lines.specs.declared.records.Records.{Records}
 use Rattle.desk_lines.specs.Streams.{StopsWriting}
 use Rattle.desk_io.specs.declared.sink.Sink.{Ghosts as OfSink}
-use Rattle.desk_lines.proofs.TellingLemmas.{text_of-append, report_of-more}
-use Rattle.desk_lines.proofs.StreamLemmas.{StopsWriting-more}
+use Rattle.desk_lines.proofs.TellingLemmas.{text_of_append, report_of_more}
+use Rattle.desk_lines.proofs.StreamLemmas.{StopsWriting_more}
 use Rattle.desk_lines.specs.LongLines.{AreAlike, long_outcome, long_profile}
 
 -- what is the same for all long lines is the same for lines with one answer
@@ -40,11 +40,11 @@ rules_long given (Some rules) line long = refl
 -- ---- any kind of answer
 
 -- one more line gets its answer
-pub AreTold-last : (Answers : AnswerKind) (rules : Rules) (lines : List (List ℕ)) (line : List ℕ) (told : List (List ℕ)) (answer : Option (List ℕ)) → AreTold Answers rules lines told → Answers rules line answer
+pub AreTold_last : (Answers : AnswerKind) (rules : Rules) (lines : List (List ℕ)) (line : List ℕ) (told : List (List ℕ)) (answer : Option (List ℕ)) → AreTold Answers rules lines told → Answers rules line answer
     → AreTold Answers rules (lines ++ line ∷ []) (told ++ answers_in answer)
-AreTold-last Answers rules [] line told answer are is = (answer, [], is, ap (λ (front : List (List ℕ)). front ++ answers_in answer) are ∙ sym (append-nil (answers_in answer)), refl)
-AreTold-last Answers rules (first ∷ lines) line told answer are is =
-    (are.0, are.1 ++ answers_in answer, are.2, ap (λ (front : List (List ℕ)). front ++ answers_in answer) are.3 ∙ append_assoc (answers_in are.0) are.1 (answers_in answer), AreTold-last Answers rules lines line are.1 answer are.4 is)
+AreTold_last Answers rules [] line told answer are is = (answer, [], is, ap (λ (front : List (List ℕ)). front ++ answers_in answer) are ∙ sym (append-nil (answers_in answer)), refl)
+AreTold_last Answers rules (first ∷ lines) line told answer are is =
+    (are.0, are.1 ++ answers_in answer, are.2, ap (λ (front : List (List ℕ)). front ++ answers_in answer) are.3 ∙ append_assoc (answers_in are.0) are.1 (answers_in answer), AreTold_last Answers rules lines line are.1 answer are.4 is)
 
 first_told : (Answers : AnswerKind) (given : Rules) (line : List ℕ) (told : List (List ℕ)) (answer : Option (List ℕ)) (profile : Option Rules) → told ≡ []
     → IsToldUnder Answers (cond (is_some profile) None (Some given)) line answer
@@ -58,7 +58,7 @@ AnswerRecords-last Answers given [] line told answer are is = first_told Answers
 AnswerRecords-last Answers given (first ∷ lines) line told answer are is =
     let rules = rules_of given (first ∷ lines) in
     subst (λ (all : List (List ℕ)). AreTold Answers rules all (told ++ answers_in answer)) (sym (record_lines-more first lines (line ∷ [])))
-    (AreTold-last Answers rules (record_lines (first ∷ lines)) line told answer are is)
+    (AreTold_last Answers rules (record_lines (first ∷ lines)) line told answer are is)
 
 alike_under : (Answers : AnswerKind) → AreAlike Answers → (rules : Option Rules) (line next : List ℕ) (answer : Option (List ℕ)) → 4096 < length line → 4096 < length next
     → IsToldUnder Answers rules line answer → IsToldUnder Answers rules next answer
@@ -93,7 +93,7 @@ told_next Answers alike old line next answer lines as_this before is =
 
 first_counted : (given : Rules) (line : List ℕ) (profile : Option Rules)
     → report_of (map (line_kind (unwrap_or profile given)) (cond (is_some profile) [] (line ∷ []))) ≡ report_with (report_of []) (kind_under (cond (is_some profile) None (Some given)) line)
-first_counted given line None = report_of-more [] (line_kind given line)
+first_counted given line None = report_of_more [] (line_kind given line)
 first_counted given line (Some rules) = refl
 
 report_on-last : (given : Rules) (lines : List (List ℕ)) (line : List ℕ) → report_on given (lines ++ line ∷ []) ≡ report_with (report_on given lines) (kind_under (record_rules given (rules_after given lines) line) line)
@@ -101,15 +101,15 @@ report_on-last given [] line = first_counted given line (profile_of line)
 report_on-last given (first ∷ lines) line =
     let kind = line_kind (rules_of given (first ∷ lines)) in
     let records = record_lines (first ∷ lines) in
-    ap (λ ls. report_of (map kind ls)) (record_lines-more first lines (line ∷ [])) ∙ ap report_of (map-append kind records (line ∷ [])) ∙ report_of-more (map kind records) (kind line)
+    ap (λ ls. report_of (map kind ls)) (record_lines-more first lines (line ∷ [])) ∙ ap report_of (map-append kind records (line ∷ [])) ∙ report_of_more (map kind records) (kind line)
 
 kind_long : (given : Rules) (rules : Option Rules) (line : List ℕ) → 4096 < length line → kind_under (record_rules given rules line) line ≡ Refused
 kind_long given rules line long = ap (λ (r : Option Rules). kind_under r line) (records_long given rules line long) ∙ ap outcome_kind (long_outcome (unwrap_or rules given) line long)
 
 -- one more line was read, and counted
-pub AreRead-line : {A : Type 0} (old new : Records A) (line next : List ℕ) (lines : List (List ℕ)) (report : DeskReport) (kind : LineKind) → IsToldAs 4096 line next → AreRead old lines report
+pub AreRead_line : {A : Type 0} (old new : Records A) (line next : List ℕ) (lines : List (List ℕ)) (report : DeskReport) (kind : LineKind) → IsToldAs 4096 line next → AreRead old lines report
     → new.given ≡ old.given → new.rules ≡ Some (rules_by old.given old.rules line) → kind ≡ kind_under (record_rules old.given old.rules line) line → AreRead new (lines ++ next ∷ []) (report_with report kind)
-AreRead-line old new line next lines report kind as_this read given rules is =
+AreRead_line old new line next lines report kind as_this read given rules is =
     let after = rules_after old.given lines in
     let same = same_as_told (λ l. kind_under (record_rules old.given after l) l) (kind_long old.given after) line next as_this in (
       rules_read old new line next lines as_this read.0 given rules,
@@ -146,15 +146,15 @@ answers_by-append by given (first ∷ lines) more =
     let rules = rules_of given (first ∷ lines) in
     (filter_map (by rules) more, ap (filter_map (by rules)) (record_lines-more first lines more) ∙ filter_map-append (by rules) (record_lines (first ∷ lines)) more)
 
-text_of-more : (by : Rules → List ℕ → Option (List ℕ)) (given : Rules) (lines more : List (List ℕ)) → (others : List ℕ) × (text_of (answers_by by given (lines ++ more)) ≡ text_of (answers_by by given lines) ++ others)
-text_of-more by given lines more =
+text_of_more : (by : Rules → List ℕ → Option (List ℕ)) (given : Rules) (lines more : List (List ℕ)) → (others : List ℕ) × (text_of (answers_by by given (lines ++ more)) ≡ text_of (answers_by by given lines) ++ others)
+text_of_more by given lines more =
     let others = answers_by-append by given lines more in
-    (text_of others.0, ap text_of others.1 ∙ text_of-append (answers_by by given lines) others.0)
+    (text_of others.0, ap text_of others.1 ∙ text_of_append (answers_by by given lines) others.0)
 
 -- the text of the answers to the first lines begins that of all
 pub front_told : {W : Type 0} (by : Rules → List ℕ → Option (List ℕ)) (sink : OfSink W) (start new : W) (given : Rules) (lines first others answers : List (List ℕ)) → lines ≡ first ++ others
     → AnswerRecords (IsBy by) given first answers → StopsWriting sink start new (text_of answers) → StopsWriting sink start new (text_of (answers_by by given lines))
 front_told by sink start new given lines first others answers parts are stops =
-    let more = text_of-more by given first others in
+    let more = text_of_more by given first others in
     subst (λ (all : List ℕ). StopsWriting sink start new all) (ap (λ told. text_of told ++ more.0) (answers_told by given first answers are) ∙ sym more.1 ∙ ap (λ ls. text_of (answers_by by given ls)) (sym parts))
-    (StopsWriting-more sink start new (text_of answers) more.0 stops)
+    (StopsWriting_more sink start new (text_of answers) more.0 stops)

@@ -29,7 +29,7 @@ use Rattle.riichi_shape.specs.declared.discard.Discard.{Discard}
 use Rattle.riichi_shape.specs.declared.shape_answer.ShapeAnswer.{ShapeAnswer}
 use Rattle.riichi_text.specs.Tiles.{letter_of, kind_text}
 use Rattle.riichi_text.proofs.Letters.{letter_high}
-use Rattle.riichi_shape_text.specs.Text.{pair_text, kinds_text, list_text, discard_text, accepts_text, shape_text}
+use Rattle.riichi_shape.specs.Text.{pair_text, kinds_text, list_text, discard_text, accepts_text, shape_text}
 use Rattle.riichi_explain.proofs.PlainTexts.{plain, after, after3, after4, after5, byte-plain, flat_map-plain, decimal-plain, kind_text-plain, tiles_text-plain, word-plain}
 use Rattle.desk_core.specs.AnswerText.{answer_text}
 use Rattle.desk_core.specs.Value.{value_of}

@@ -45,3 +45,5 @@ of_another counts other =
 pub answered : {answer told : Result HandParts LineFault} (counts : List ℕ) (melds : List Meld) → melds ≡ [] → answer ≡ hand_of (record { concealed = counts; melds = melds })
     → hand_of (concealed_hand counts) ≡ told → answer ≡ told
 answered counts melds none is told_is = is ∙ ap (λ m. hand_of (record { concealed = counts; melds = m })) none ∙ told_is
+
+pub ruleset answer_counts_facts = (of_thirteen, of_another, answered)

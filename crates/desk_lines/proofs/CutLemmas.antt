@@ -7,7 +7,7 @@ use Rattle.std.proofs.lemmas.List.Folds.{list_all-append}
 use Rattle.desk_lines.specs.Lines.{Cut, byte_in_front, with_front, cut_of, without_return, ended_lines, last_line, lines, is_plain}
 use Rattle.desk_lines.specs.Reading.{with_end, AreToldAs, kept}
 use Rattle.desk_lines.specs.Telling.{IsToldAs}
-use Rattle.desk_lines.proofs.LineLemmas.{plain_is, cut_of-plain}
+use Rattle.desk_lines.proofs.LineLemmas.{plain_is, cut_of_plain}
 use Rattle.desk_lines.proofs.TellingLemmas.{told_by_front}
 
 -- a cut, and then the cut of what follows its rest
@@ -30,9 +30,9 @@ cut_of-append [] more = refl
 cut_of-append (byte ∷ bytes) more = ap (with_front byte) (cut_of-append bytes more) ∙ with_front-then byte (cut_of bytes) more
 
 -- a line that a line feed ends, and what comes after it
-pub cut_of-first : (line after : List ℕ) → is_plain line ≡ true → cut_of (line ++ 10 ∷ after) ≡ (let cut : Cut = record { ended = line ∷ (cut_of after).ended; rest = (cut_of after).rest } in cut)
-cut_of-first [] after plain = refl
-cut_of-first (byte ∷ bytes) after plain = let first = plain_is byte (is_plain bytes) plain in ap (with_front byte) (cut_of-first bytes after first.1) ∙ rw first.0 refl
+pub cut_of_first : (line after : List ℕ) → is_plain line ≡ true → cut_of (line ++ 10 ∷ after) ≡ (let cut : Cut = record { ended = line ∷ (cut_of after).ended; rest = (cut_of after).rest } in cut)
+cut_of_first [] after plain = refl
+cut_of_first (byte ∷ bytes) after plain = let first = plain_is byte (is_plain bytes) plain in ap (with_front byte) (cut_of_first bytes after first.1) ∙ rw first.0 refl
 
 byte_in_front-plain : (byte : ℕ) (ended : List (List ℕ)) (rest : List ℕ) → nat_eq byte 10 ≡ false → is_plain rest ≡ true → is_plain (byte_in_front byte ended rest).rest ≡ true
 byte_in_front-plain byte [] rest other plain = rw other plain
@@ -111,8 +111,8 @@ pub record GoAlike (most room : ℕ) (one other : List ℕ) : Type 0 where
 
 pub go_alike : (most room : ℕ) → most + 2 ≤ room → (one other more : List ℕ) → is_plain one ≡ true → is_plain other ≡ true → take room one ≡ take room other → GoAlike most room (one ++ more) (other ++ more)
 go_alike most room enough one other [] plain plain_other same =
-    let cut = cut_of-plain one plain in
-    let cut_other = cut_of-plain other plain_other in
+    let cut = cut_of_plain one plain in
+    let cut_other = cut_of_plain other plain_other in
     rw (append-nil one, append-nil other) (record {
       tells = told_so (ap lines_in cut) (ap lines_in cut_other) tt;
       keeps = ap (λ (c : Cut). take room c.rest) cut ∙ same ∙ sym (ap (λ (c : Cut). take room c.rest) cut_other);
@@ -122,8 +122,8 @@ go_alike most room enough one other [] plain plain_other same =
     told_so e f are = rw (e, f) are
 go_alike most room enough one other (byte ∷ more) plain plain_other same = elim (cases_eq byte 10) as (λ _. GoAlike most room (one ++ byte ∷ more) (other ++ byte ∷ more)) [
   | inl feed ↦
-      let cut = cut_of-first one more plain in
-      let cut_other = cut_of-first other more plain_other in
+      let cut = cut_of_first one more plain in
+      let cut_other = cut_of_first other more plain_other in
       rw feed (record {
         tells = subst (λ (ls : List (List ℕ)). AreToldAs most ls (ended_lines (other ++ 10 ∷ more))) (sym (ap lines_in cut))
             (subst (λ (os : List (List ℕ)). AreToldAs most (without_return one ∷ ended_lines more) os) (sym (ap lines_in cut_other)) (told_by_front most room enough one other same, as_same most (ended_lines more)));
@@ -157,10 +157,12 @@ last_told most room enough text = last (cut_of text).rest (plain_rest text)
     last (byte ∷ bytes) plain =
         let rest = byte ∷ bytes in
         let front = take room rest in
-        let alone : ended_lines (rest ++ 10 ∷ []) ≡ without_return rest ∷ [] = ap lines_in (cut_of-first rest [] plain) in
+        let alone : ended_lines (rest ++ 10 ∷ []) ≡ without_return rest ∷ [] = ap lines_in (cut_of_first rest [] plain) in
         let alike = (go_alike most room enough front rest (10 ∷ []) (plain_front room rest plain) plain (front_twice room rest)).tells in
         subst (λ (os : List (List ℕ)). AreToldAs most (ended_lines (with_end front)) os) alone (subst (λ (text : List ℕ). AreToldAs most (ended_lines text) (ended_lines (rest ++ 10 ∷ []))) (some room bytes enough) alike)
       where
         some : (n : ℕ) (bytes : List ℕ) → most + 2 ≤ n → take n (byte ∷ bytes) ++ 10 ∷ [] ≡ with_end (take n (byte ∷ bytes))
         some zero bytes within = absurd (omega (arith, within))
         some (suc n) bytes within = refl
+
+pub ruleset add_lines_facts = (as_none, as_front, as_first, as_last)

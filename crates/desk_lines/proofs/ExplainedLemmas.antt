@@ -2,12 +2,12 @@
 use Rattle.std.proofs.Common.{◌≡◌, inl, inr, ℕ, List, [], ◌∷◌, ◌++◌, Bool, true, false, cond, nat_eq, filter, Option, Some, None, refl, sym, subst, ap, ◌∙◌, append_assoc}
 use Rattle.std.specs.Prelude.{not, ◌&&◌}
 use Rattle.std.specs.List.{filter_map, cons_option}
-use Rattle.std.proofs.lemmas.Bool.{cases_Bool, eqb-true}
+use Rattle.std.proofs.lemmas.Bool.{cases_Bool, eqb-true, and_parts}
 use Rattle.riichi_hand.specs.declared.win.Rules.{Rules}
 use Rattle.riichi_hand.specs.Lines.{outcome_of}
 use Rattle.riichi_explain.specs.declared.explaining.Shown.{Shown}
 use Rattle.riichi_explain.specs.Explanation.{IsExplanation}
-use Rattle.riichi_explain.proofs.PlainTexts.{are_indented, within, and_both}
+use Rattle.riichi_explain.proofs.PlainTexts.{are_indented, within}
 use Rattle.riichi_explain.proofs.ExplainedLines.{outcome_text-lines}
 use Rattle.desk_lines.specs.Explained.{IsToldWithWhy, IsExplained, is_indented, without_indented}
 use Rattle.desk_lines.specs.Lines.{Cut, cut_of, with_front, byte_in_front, is_plain}
@@ -24,11 +24,11 @@ abbrev pub kept_lines : List (List ℕ) → List ℕ
 kept_lines lines = text_of (filter (λ line. not (is_indented line)) lines)
 
 -- a line without a line feed, and the line feed that ends it
-cut_of-first : (line rest : List ℕ) → is_plain line ≡ true → cut_of (line ++ 10 ∷ rest) ≡ (let cut : Cut = record { ended = line ∷ (cut_of rest).ended; rest = (cut_of rest).rest } in cut)
-cut_of-first [] rest plain = refl
-cut_of-first (byte ∷ line) rest plain =
-    let parts = and_both (not (nat_eq byte 10)) (is_plain line) plain in
-    ap (with_front byte) (cut_of-first line rest parts.1) ∙ other_byte (nat_eq byte 10) parts.0
+cut_of_first : (line rest : List ℕ) → is_plain line ≡ true → cut_of (line ++ 10 ∷ rest) ≡ (let cut : Cut = record { ended = line ∷ (cut_of rest).ended; rest = (cut_of rest).rest } in cut)
+cut_of_first [] rest plain = refl
+cut_of_first (byte ∷ line) rest plain =
+    let parts = and_parts (not (nat_eq byte 10)) (is_plain line) plain in
+    ap (with_front byte) (cut_of_first line rest parts.1) ∙ other_byte (nat_eq byte 10) parts.0
   where
     other_byte : (feed : Bool) → not feed ≡ true → cond feed (let cut : Cut = record { ended = [] ∷ line ∷ (cut_of rest).ended; rest = (cut_of rest).rest } in cut) (byte_in_front byte (line ∷ (cut_of rest).ended) (cut_of rest).rest)
         ≡ (let cut : Cut = record { ended = (byte ∷ line) ∷ (cut_of rest).ended; rest = (cut_of rest).rest } in cut)
@@ -37,7 +37,7 @@ cut_of-first (byte ∷ line) rest plain =
 
 pub without_indented-first : (line rest : List ℕ) → is_plain line ≡ true → is_indented line ≡ false → without_indented (line ++ 10 ∷ rest) ≡ line ++ 10 ∷ without_indented rest
 without_indented-first line rest plain other =
-    ap (λ (cut : Cut). kept_lines cut.ended) (cut_of-first line rest plain) ∙ first (is_indented line) other
+    ap (λ (cut : Cut). kept_lines cut.ended) (cut_of_first line rest plain) ∙ first (is_indented line) other
   where
     first : (indented : Bool) → indented ≡ false → text_of (cond (not indented) (line ∷ filter (λ l. not (is_indented l)) (cut_of rest).ended) (filter (λ l. not (is_indented l)) (cut_of rest).ended)) ≡ line ++ 10 ∷ without_indented rest
     first true p = absurd (cc)
@@ -61,8 +61,8 @@ mutual_left true [] rest p = refl
 mutual_left false [] rest p = absurd (cc)
 mutual_left true (byte ∷ []) rest p = absurd (cc)
 mutual_left true (byte ∷ next ∷ text) rest p =
-    let one = and_both (nat_eq byte 32) (nat_eq next 32 && within false text) p in
-    let two = and_both (nat_eq next 32) (within false text) one.1 in
+    let one = and_parts (nat_eq byte 32) (nat_eq next 32 && within false text) p in
+    let two = and_parts (nat_eq next 32) (within false text) one.1 in
     let more = mutual_left false text rest two.1 in
     let first : byte ≡ 32 = eqb-true byte 32 one.0 in
     let second : next ≡ 32 = eqb-true next 32 two.0 in
@@ -95,8 +95,8 @@ last_feed true byte [] p feed = ([], ap (λ (b : ℕ). b ∷ []) (sym (feed refl
 last_feed false byte [] p feed = absurd (cc)
 last_feed true byte (one ∷ []) p feed = absurd (cc)
 last_feed true byte (one ∷ two ∷ text) p feed =
-    let first = and_both (nat_eq one 32) (nat_eq two 32 && within false text) p in
-    let second = and_both (nat_eq two 32) (within false text) first.1 in
+    let first = and_parts (nat_eq one 32) (nat_eq two 32 && within false text) p in
+    let second = and_parts (nat_eq two 32) (within false text) first.1 in
     let more = last_feed false two text second.1 (λ no. absurd (cc)) in
     (byte ∷ one ∷ more.0, ap (λ (all : List ℕ). byte ∷ one ∷ all) more.1)
 last_feed false byte (one ∷ text) p feed =
@@ -141,5 +141,5 @@ explained-left shown rules (line ∷ lines) told are =
     text_cons None others = refl
     text_cons (Some answer) others = refl
 
-pub explained-answers : (shown : Shown) (given : Rules) (lines told : List (List ℕ)) → AnswerRecords (IsExplained shown) given lines told → without_indented (text_of told) ≡ answers_to given lines
-explained-answers shown given lines told are = explained-left shown (rules_of given lines) (record_lines lines) told are
+pub explained_answers : (shown : Shown) (given : Rules) (lines told : List (List ℕ)) → AnswerRecords (IsExplained shown) given lines told → without_indented (text_of told) ≡ answers_to given lines
+explained_answers shown given lines told are = explained-left shown (rules_of given lines) (record_lines lines) told are

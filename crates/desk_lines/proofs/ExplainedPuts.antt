@@ -37,17 +37,17 @@ answer_with_why shown rules line why answer outcome is text =
       append_assoc answer more.0 (10 ∷ []) ∙ ap (λ (rest : List ℕ). answer ++ rest) more.1 ∙ sym (append_assoc answer (10 ∷ []) why),
     )
 
-pub puts-none : (shown : Shown) (rules : Rules) (line before after : List ℕ) → outcome_of rules line ≡ Ok None → after ≡ before → Puts (IsExplained shown rules line) NoRecord before after
-puts-none shown rules line before after is same = record {
+pub puts_none : (shown : Shown) (rules : Rules) (line before after : List ℕ) → outcome_of rules line ≡ Ok None → after ≡ before → Puts (IsExplained shown rules line) NoRecord before after
+puts_none shown rules line before after is same = record {
   told = None;
   may_be_told = may_be_told shown rules line (Ok None) None is refl;
   kind_is = refl;
   put = same ∙ sym (append-nil before);
 }
 
-pub puts-said : (shown : Shown) (rules : Rules) (line before after why answer : List ℕ) (outcome : Outcome) (kind : LineKind) → outcome_of rules line ≡ outcome → outcome_text outcome ≡ Some answer → has_answer kind ≡ true
+pub puts_said : (shown : Shown) (rules : Rules) (line before after why answer : List ℕ) (outcome : Outcome) (kind : LineKind) → outcome_of rules line ≡ outcome → outcome_text outcome ≡ Some answer → has_answer kind ≡ true
     → IsOutcomeText shown line outcome why → after ≡ before ++ ((answer ++ 10 ∷ []) ++ why) → Puts (IsExplained shown rules line) kind before after
-puts-said shown rules line before after why answer outcome kind is said has text put =
+puts_said shown rules line before after why answer outcome kind is said has text put =
     let with_why = answer_with_why shown rules line why answer outcome is text in record {
       told = Some (answer ++ with_why.0);
       may_be_told = may_be_told shown rules line outcome (Some (answer ++ with_why.0)) is (subst (λ (o : Option (List ℕ)). IsToldWithWhy shown rules line o (Some (answer ++ with_why.0))) (sym said) with_why.1);

@@ -9,11 +9,11 @@ use Rattle.desk_lines.specs.Records.{AnswerKind}
 use Rattle.desk_lines.specs.LineAnswers.{answers_by}
 use Rattle.desk_lines.specs.Profile.{profile_of}
 use Rattle.desk_lines.specs.Telling.{text_of, with_line_feed}
-use Rattle.desk_lines.proofs.TellingLemmas.{text_of-append}
+use Rattle.desk_lines.proofs.TellingLemmas.{text_of_append}
 use Rattle.std.specs.List.{filter_map}
 use Rattle.std.proofs.lemmas.List.Elements.{filter_map-append}
-use Rattle.desk_lines.proofs.LineLemmas.{cut_of-plain}
-use Rattle.desk_lines.proofs.CutLemmas.{cut_of-append, cut_of-first, ended_lines-more}
+use Rattle.desk_lines.proofs.LineLemmas.{cut_of_plain}
+use Rattle.desk_lines.proofs.CutLemmas.{cut_of-append, cut_of_first, ended_lines-more}
 
 abbrev lines_in : Cut → List (List ℕ)
 lines_in cut = map without_return cut.ended ++ last_line cut.rest
@@ -34,9 +34,9 @@ lines-behind front more none =
     ∙ ap (λ ls. ls ++ lines more) (sym (ap (λ rest. ended_lines front ++ last_line rest) none ∙ append-nil (ended_lines front)))
 
 -- one line more is part of the front
-pub front-longer : (text front rest : List ℕ) → IsCutBehindLine text front rest → (line after : List ℕ) (first : IsFirstLine rest line after)
+pub front_longer : (text front rest : List ℕ) → IsCutBehindLine text front rest → (line after : List ℕ) (first : IsFirstLine rest line after)
     → IsCutBehindLine text (front ++ first.front) after × (lines (front ++ first.front) ≡ lines front ++ line ∷ [])
-front-longer text front rest cut line after first =
+front_longer text front rest cut line after first =
     let none = ended cut.whole in (
       record {
         parts = cut.parts ∙ ap (λ more. front ++ more) first.cut.parts ∙ sym (append_assoc front first.front after);
@@ -57,23 +57,23 @@ front-longer text front rest cut line after first =
     whole (inr none) = inr none
 
 -- the line that a line feed ends, and a last line without one
-pub first-ended : (text bytes after : List ℕ) → text ≡ bytes ++ 10 ∷ after → is_plain bytes ≡ true → IsFirstLine text (without_return bytes) after
-first-ended text bytes after parts plain = record {
+pub first_ended : (text bytes after : List ℕ) → text ≡ bytes ++ 10 ∷ after → is_plain bytes ≡ true → IsFirstLine text (without_return bytes) after
+first_ended text bytes after parts plain = record {
   front = bytes ++ 10 ∷ [];
   cut = record { parts = parts ∙ sym (append_assoc bytes (10 ∷ []) after); whole = inl (ap (λ (cut : Cut). cut.rest) cut) };
   line_is = ap lines_in cut;
   shorter = omega (arith, ap length parts, length-append bytes (10 ∷ after));
 } where
   cut : cut_of (bytes ++ 10 ∷ []) ≡ (let c : Cut = record { ended = bytes ∷ []; rest = [] } in c)
-  cut = cut_of-first bytes [] plain
+  cut = cut_of_first bytes [] plain
 
-pub first-last : (text : List ℕ) → (text ≡ [] → ⊥) → is_plain text ≡ true → IsFirstLine text (without_return text) []
-first-last [] some plain = absurd (some refl)
-first-last (byte ∷ bytes) some plain =
+pub first_last : (text : List ℕ) → (text ≡ [] → ⊥) → is_plain text ≡ true → IsFirstLine text (without_return text) []
+first_last [] some plain = absurd (some refl)
+first_last (byte ∷ bytes) some plain =
     let text = byte ∷ bytes in record {
       front = text;
       cut = record { parts = sym (append-nil text); whole = inr refl };
-      line_is = ap lines_in (cut_of-plain text plain);
+      line_is = ap lines_in (cut_of_plain text plain);
       shorter = omega arith;
     }
 
@@ -117,7 +117,7 @@ pieces answer text front rest cut = both cut.whole
     both : ((cut_of front).rest ≡ []) ⊎ (rest ≡ []) → replies_by answer text ≡ replies_by answer front ++ replies_by answer rest
     both (inl none) =
         ap (replies_by answer) cut.parts ∙ ap (λ ls. text_of (filter_map answer ls)) (lines-behind front rest none) ∙ ap text_of (filter_map-append answer (lines front) (lines rest))
-        ∙ text_of-append (filter_map answer (lines front)) (filter_map answer (lines rest))
+        ∙ text_of_append (filter_map answer (lines front)) (filter_map answer (lines rest))
     both (inr none) =
         ap (replies_by answer) (cut.parts ∙ ap (λ more. front ++ more) none ∙ append-nil front)
         ∙ sym (ap (λ more. replies_by answer front ++ replies_by answer more) none ∙ append-nil (replies_by answer front))
@@ -129,3 +129,5 @@ none_set by given (line ∷ others) sets = rw (sets line others refl) refl
 
 pub as_whole : (by : Rules → List ℕ → Option (List ℕ)) (given : Rules) (text : List ℕ) → SetsNone text → text_of (answers_by by given (lines text)) ≡ replies_by (by given) text
 as_whole by given text sets = ap text_of (none_set by given (lines text) sets)
+
+pub ruleset fill_by_facts = (front_longer, no_room, longer_room)

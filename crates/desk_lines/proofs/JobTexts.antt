@@ -7,7 +7,7 @@ use Rattle.riichi_split.specs.Waits.{waits_of, waits_text}
 use Rattle.riichi_score.specs.Best.{best_of}
 use Rattle.riichi_score.specs.Text.{win_text}
 use Rattle.riichi_shape.specs.Answer.{shape_answer_of}
-use Rattle.riichi_shape_text.specs.Text.{shape_text}
+use Rattle.riichi_shape.specs.Text.{shape_text}
 use Rattle.desk_core.specs.AnswerText.{answer_text}
 use Rattle.desk_core.specs.Value.{value_of}
 

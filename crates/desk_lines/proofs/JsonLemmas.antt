@@ -65,3 +65,5 @@ members_none rules line before is = record {
   kind_is = refl;
   put = sym (append-nil before);
 }
+
+pub ruleset respond_facts = (answer_brace, fault_brace, members_puts, members_none)

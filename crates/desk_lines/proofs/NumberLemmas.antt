@@ -52,10 +52,10 @@ NumberRecords-last Answers given (first ∷ lines) line told answer are is =
     (AreNumbered-last Answers rules (first_number (first ∷ lines)) number (record_lines (first ∷ lines)) line told answer (next_number first lines) are is)
 
 -- one more line was answered as its records are
-pub NumberRecords-line : {A : Type 0} (Answers : AnswerKind) → AreAlike Answers → (old new : Records A) (number : ℕ) (line next : List ℕ) (answer : Option (List ℕ)) (lines : List (List ℕ)) (told : List (ℕ × List ℕ)) → number ≡ length lines + 1
+pub NumberRecords_line : {A : Type 0} (Answers : AnswerKind) → AreAlike Answers → (old new : Records A) (number : ℕ) (line next : List ℕ) (answer : Option (List ℕ)) (lines : List (List ℕ)) (told : List (ℕ × List ℕ)) → number ≡ length lines + 1
     → IsToldAs 4096 line next → old.rules ≡ rules_after old.given lines → new.given ≡ old.given → IsToldBy Answers old.given old.rules line answer → NumberRecords Answers old.given lines told
     → NumberRecords Answers new.given (lines ++ next ∷ []) (told ++ answers_in (with_number number answer))
-NumberRecords-line Answers alike old new number line next answer lines told at as_this before given is are =
+NumberRecords_line Answers alike old new number line next answer lines told at as_this before given is are =
     let front = NumberRecords-last Answers old.given lines next told answer are (told_next Answers alike old line next answer lines as_this before is) in
     let numbered = subst (λ n. NumberRecords Answers old.given (lines ++ next ∷ []) (told ++ answers_in (with_number n answer))) (sym at) front in
     subst (λ (g : Rules). NumberRecords Answers g (lines ++ next ∷ []) (told ++ answers_in (with_number number answer))) (sym given) numbered

@@ -14,7 +14,7 @@ use Rattle.desk_lines.specs.declared.line_kind.LineKind.{LineKind}
 use Rattle.desk_lines.specs.declared.report.DeskReport.{DeskReport}
 use Rattle.desk_lines.specs.Telling.{answers_in, report_of, report_with, IsToldAs}
 use Rattle.desk_lines.specs.Scripts.{OpensTable, RunsOut, TellsScript, text_kind, told_kind, script_report}
-use Rattle.desk_lines.proofs.TellingLemmas.{report_of-more}
+use Rattle.desk_lines.proofs.TellingLemmas.{report_of_more}
 
 -- a line may have the answer of this one
 Tells-as : (script : ScriptState) (lines : List (List ℕ)) (told : List Told) (line next : List ℕ) → IsToldAs 8192 line next → Tells script (lines ++ line ∷ []) told → Tells script (lines ++ next ∷ []) told
@@ -34,7 +34,7 @@ TellsScript-line old new lines answers report line next text kind as_this is ans
   where
     one_more : (text : Option (List ℕ)) → report_with (script_report answers) (told_kind text) ≡ script_report (answers ++ answers_in text)
     one_more None = ap script_report (sym (append-nil answers))
-    one_more (Some text) = sym (ap report_of (map-append text_kind answers (text ∷ [])) ∙ report_of-more (map text_kind answers) (text_kind text))
+    one_more (Some text) = sym (ap report_of (map-append text_kind answers (text ∷ [])) ∙ report_of_more (map text_kind answers) (text_kind text))
 
 -- what a script has answered are answers to its lines
 pub replays : (script : ScriptState) (lines answers : List (List ℕ)) (report : DeskReport) → TellsScript script lines answers report → Replays lines answers
@@ -75,3 +75,5 @@ runs_out script whole first others answers report parts tells wanted =
       replays script first answers report tells,
       subst (λ (names : List (List ℕ)). asked_by names wanted.1 ≡ opens names) tells.1.names asks,
     )
+
+pub ruleset replay_text_facts = (replays, replays_whole, replays_none, runs_out)

@@ -26,8 +26,8 @@ pub IsProperFront-more : (front text more : List ℕ) → IsProperFront front te
 IsProperFront-more front text more is = (is.0 ++ more, ap (λ all. all ++ more) is.1 ∙ append_assoc front is.0 more, append-some is.0 more is.2)
 
 module _ {W : Type 0} (sink : OfSink W) where
-  pub WritesAll-nil : (writer : W) → WritesAll sink writer writer []
-  WritesAll-nil writer = record {
+  pub WritesAll_nil : (writer : W) → WritesAll sink writer writer []
+  WritesAll_nil writer = record {
     appended = sym (append-nil (sink.written writer));
     held = Appends-nil (sink.contents writer);
     not_failed = refl;
@@ -53,8 +53,8 @@ module _ {W : Type 0} (sink : OfSink W) where
   }
 
   -- the text that was to be written went on
-  pub StopsWriting-more : (start new : W) (text more : List ℕ) → StopsWriting sink start new text → StopsWriting sink start new (text ++ more)
-  StopsWriting-more start new text more stops = record {
+  pub StopsWriting_more : (start new : W) (text more : List ℕ) → StopsWriting sink start new text → StopsWriting sink start new (text ++ more)
+  StopsWriting_more start new text more stops = record {
     front = stops.front;
     is_front = IsProperFront-more stops.front text more stops.is_front;
     appended = stops.appended;
@@ -70,3 +70,5 @@ err_at {T = T} {E = E} r P holds e is = subst (λ (s : Result T E). IfErr s P) i
 pub passed_on : {T E : Type 0} (r : Result T E) (given fault : E) → IsErrAnd r (λ f. f ≡ given) → r ≡ Err fault → given ≡ fault
 passed_on (Ok value) given fault passed is = absurd passed
 passed_on (Err told) given fault passed is = let same : told ≡ fault = cc in sym passed ∙ same
+
+pub ruleset replay_text_facts = (WritesAll_nil, StopsWriting_more)

@@ -11,16 +11,16 @@ use Rattle.desk_lines.specs.declared.line_kind.LineKind.TheVariants.{NoRecord, A
 use Rattle.desk_lines.specs.Lines.{without_return}
 use Rattle.desk_lines.specs.Telling.{text_by, text_of, line_by, with_line_feed, is_answered, is_refused, report_of, report_with, answers_in, IsToldAs}
 
-pub text_of-append : (answers more : List (List ℕ)) → text_of (answers ++ more) ≡ text_of answers ++ text_of more
-text_of-append answers more = flat_map-append (λ answer. answer ++ 10 ∷ []) answers more
+pub text_of_append : (answers more : List (List ℕ)) → text_of (answers ++ more) ≡ text_of answers ++ text_of more
+text_of_append answers more = flat_map-append (λ answer. answer ++ 10 ∷ []) answers more
 
 pub text_by-more : {A : Type 0} (written : A → List ℕ) (answers : List A) (answer : Option A) → text_by written (answers ++ answers_in answer) ≡ text_by written answers ++ line_by written answer
 text_by-more written answers None = ap (text_by written) (append-nil answers) ∙ sym (append-nil (text_by written answers))
 text_by-more written answers (Some answer) =
     flat_map-append (λ answer. written answer ++ 10 ∷ []) answers (answer ∷ []) ∙ ap (λ more. text_by written answers ++ more) (append-nil (written answer ++ 10 ∷ []))
 
-pub text_of-more : (answers : List (List ℕ)) (answer : Option (List ℕ)) → text_of (answers ++ answers_in answer) ≡ text_of answers ++ with_line_feed answer
-text_of-more answers answer = text_by-more (λ text. text) answers answer
+pub text_of_more : (answers : List (List ℕ)) (answer : Option (List ℕ)) → text_of (answers ++ answers_in answer) ≡ text_of answers ++ with_line_feed answer
+text_of_more answers answer = text_by-more (λ text. text) answers answer
 
 counted-last : (test : LineKind → Bool) (kinds : List LineKind) (kind : LineKind) → count_by test (kinds ++ kind ∷ []) ≡ count_by test kinds + cond (test kind) 1 0
 counted-last test kinds kind = sum_by-append (λ kind. cond (test kind) 1 0) kinds (kind ∷ []) ∙ ap (λ n. count_by test kinds + n) (zero-add (cond (test kind) 1 0))
@@ -32,8 +32,8 @@ counted_so answered refused Answered report one other = λ i. record { answered 
 counted_so answered refused Refused report one other = λ i. record { answered = (one ∙ add-zero answered) i; refused = other i }
 
 -- one more line is counted
-pub report_of-more : (kinds : List LineKind) (kind : LineKind) → report_of (kinds ++ kind ∷ []) ≡ report_with (report_of kinds) kind
-report_of-more kinds kind =
+pub report_of_more : (kinds : List LineKind) (kind : LineKind) → report_of (kinds ++ kind ∷ []) ≡ report_with (report_of kinds) kind
+report_of_more kinds kind =
     counted_so (count_by is_answered kinds) (count_by is_refused kinds) kind (report_of (kinds ++ kind ∷ [])) (counted-last is_answered kinds kind) (counted-last is_refused kinds kind)
 
 without_return_short : (line : List ℕ) → length line ≤ length (without_return line) + 1
@@ -54,3 +54,5 @@ told_by_front most room enough line other same = elim (cases_lt (most + 1) (leng
       let whole_other : take room other ≡ other = take_all room other (omega arith) in
       inl (ap without_return (sym whole ∙ same ∙ whole_other))
 ]
+
+pub ruleset answer_piece_facts = (text_of_more, report_of_more)

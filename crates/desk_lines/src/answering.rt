@@ -3,7 +3,7 @@ ghost use Rattle.std.specs.Prelude.{◌≡◌, ◌+◌, ◌≤◌, ◌∷◌, �
 ghost use Rattle.desk_core.specs.AnswerText.{answer_text};
 ghost use Rattle.desk_core.specs.Value.{value_of};
 ghost use Rattle.riichi_shape.specs.Answer.{shape_answer_of};
-ghost use Rattle.riichi_shape_text.specs.Text as spec_shape;
+ghost use Rattle.riichi_shape.specs.Text as spec_shape;
 ghost use Rattle.riichi_split.specs.Waits as spec_waits;
 ghost use Rattle.desk_lines.specs.Outbox.{HasRoom};
 
@@ -13,8 +13,7 @@ use super::outbox::Outbox;
 use super::responder::Responder;
 use riichi_hand::{Job, Rules, ShapeRecord, fault_text, read_line};
 use riichi_score::{best, push_win};
-use riichi_shape::{RowSource, shape_with};
-use riichi_shape_text::push_shape;
+use riichi_shape::{RowSource, push_shape, shape_with};
 use riichi_split::{waits, waits_text};
 use riichi_tiles::KindSet;
 

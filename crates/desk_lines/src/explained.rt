@@ -10,9 +10,9 @@ ghost use Rattle.riichi_hints.specs.Hint.{IsRefusalText};
 ghost use Rattle.riichi_score.specs.Best.{best_of};
 ghost use Rattle.riichi_score.specs.Text as spec_win;
 ghost use Rattle.riichi_shape.specs.Answer.{shape_answer_of};
-ghost use Rattle.riichi_shape_text.specs.Text as spec_shape;
+ghost use Rattle.riichi_shape.specs.Text as spec_shape;
 ghost use Rattle.riichi_split.specs.Waits.{waits_of, waits_text};
-ghost use Rattle.riichi_waits.specs.Waits.{kind_waits, waits_line};
+ghost use Rattle.riichi_explain.specs.Waits.{kind_waits, waits_line};
 ghost use Rattle.desk_lines.specs.Explained.{IsExplained};
 ghost use Rattle.desk_lines.specs.LineAnswer.{line_kind};
 ghost use Rattle.desk_lines.specs.Outbox.{HasRoom};
@@ -24,7 +24,8 @@ use super::numbered::Numbers;
 use super::outbox::Outbox;
 use super::responder::Responder;
 use riichi_explain::{
-    Shown, explain_shape, explain_win, push_other_readings, push_shanten_line, push_win_lines,
+    Shown, explain_shape, explain_waits, explain_win, push_other_readings, push_shanten_line,
+    push_waits_line, push_win_lines,
 };
 use riichi_hand::{
     HandRecord, Job, Refusal, Rules, ShapeRecord, WinRecord, fault_text, read_placed,
@@ -33,7 +34,6 @@ use riichi_hints::push_refusal;
 use riichi_score::push_win;
 use riichi_shape::RowSource;
 use riichi_split::Reading;
-use riichi_waits::{explain_waits, push_waits_line};
 
 /// The explained answers: that of a line, and behind it lines that begin with two spaces and say why it is so.
 pub struct Explained;
@@ -90,6 +90,7 @@ impl Numbers for EveryReading {
 }
 
 /// Puts the answer to a line into the outbox, and why it is so.
+#[tactic(auto, using(crate::proofs::ExplainedPuts::puts_none, crate::proofs::ExplainedPuts::puts_said))]
 fn put_explained<S: RowSource>(
     shown: Shown,
     rules: Rules,
@@ -126,6 +127,7 @@ impl Numbers for Explained {
 }
 
 /// Puts the answer to a job into the outbox, and why it is so.
+#[tactic(auto, using(crate::proofs::JobTexts::job_texts))]
 fn put_job<S: RowSource>(shown: Shown, job: &Job, outbox: &mut Outbox, source: &mut S)
     requires { HasRoom outbox.old }
     ensures { (why : List ℕ) × IsJobText shown job.now why

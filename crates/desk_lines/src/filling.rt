@@ -22,6 +22,7 @@ pub struct Filled {
 
 /// Answers the lines of a text from its start by the kind of answer `A`, as many as have room: each answer with a line feed
 /// behind it, and nothing for a line that is no record. A line that would set a profile is a record like any other here.
+#[tactic(auto, using(crate::proofs::AnswerLemmas::AreTold_last, crate::proofs::FillingLemmas::fill_by_facts, crate::proofs::TellingLemmas::text_of_more))]
 pub fn fill_by<A: Responder>(rules: Rules, text: &[u8], room: &mut [u8]) -> Filled
     ensures { Fills A.may_tell rules
         text.now room.old room.new result.taken result.filled }
@@ -52,6 +53,7 @@ pub fn fill_by<A: Responder>(rules: Rules, text: &[u8], room: &mut [u8]) -> Fill
 }
 
 /// The first line of a text, and what comes after it; none where there is no text.
+#[tactic(auto, using(crate::proofs::FillingLemmas::first_ended, crate::proofs::FillingLemmas::first_last))]
 fn next_line(text: &[u8]) -> Option<(&[u8], &[u8])>
     ensures { MatchOption result (text.now ≡ []) (λ cut. IsFirstLine text.now cut.0.now cut.1.now) }
 {

@@ -5,6 +5,7 @@ ghost use Rattle.desk_lines.specs.Lines.{cut_of, ended_lines, without_return, is
 use memchr::memchr;
 
 /// The first line that a line feed ends, and what comes after it.
+#[tactic(auto, using(crate::proofs::LineLemmas::cut_of_plain, crate::proofs::CutLemmas::cut_of_first))]
 pub(crate) fn first_line(text: &[u8]) -> Option<(&[u8], &[u8])>
     ensures { MatchOption result ((ended_lines text.now ≡ []) × ((cut_of text.now).rest ≡ text.now))
         (λ cut. (ended_lines text.now ≡ cut.0.now ∷ ended_lines cut.1.now)
@@ -16,6 +17,7 @@ pub(crate) fn first_line(text: &[u8]) -> Option<(&[u8], &[u8])>
 }
 
 /// What stands before and after the first line feed.
+#[tactic(auto, using(riichi_tiles::proofs::CutLemmas::around, crate::proofs::LineLemmas::plain_before))]
 pub(crate) fn cut_text(text: &[u8]) -> Option<(&[u8], &[u8])>
     ensures { MatchOption result (is_plain text.now ≡ true)
         (λ cut. (text.now ≡ cut.0.now ++ 10 ∷ cut.1.now) × (is_plain cut.0.now ≡ true)) }
@@ -27,6 +29,7 @@ pub(crate) fn cut_text(text: &[u8]) -> Option<(&[u8], &[u8])>
 }
 
 /// Without a carriage return at its end.
+#[tactic(auto, using(crate::proofs::LineLemmas::without_return_facts))]
 pub(crate) fn without_return(bytes: &[u8]) -> &[u8]
     ensures { result.now ≡ without_return bytes.now }
 {

@@ -12,6 +12,7 @@ ghost use Rattle.riichi_explain.specs.declared.explaining.Shown.{Shown};
 
 /// Where the answers of a kind are those of a function, as in words and as JSON, no others are told. Those with reasons are the
 /// plain ones, without the lines that begin with two spaces.
+#[tactic(auto, using(crate::proofs::AnswerLemmas::answers_told, crate::proofs::ExplainedLemmas::explained_answers))]
 pub fn kinds_of_answers_agree()
     ensures by_a_function { (answer : Rules → List ℕ → Option (List ℕ)) (rules : Rules)
         → (lines told : List (List ℕ)) → AnswerRecords (IsBy answer) rules lines told
@@ -23,6 +24,7 @@ pub fn kinds_of_answers_agree()
 
 /// A text may be answered piece by piece, each cut behind a line: the answers to the pieces are those to the whole. Where the
 /// first line sets no profile these are the answers to a stream.
+#[tactic(auto, using(crate::proofs::FillingLemmas::pieces, crate::proofs::FillingLemmas::as_whole))]
 pub fn pieces_are_answered_as_the_whole()
     ensures pieces { (answer : List ℕ → Option (List ℕ)) (text front rest : List ℕ)
         → IsCutBehindLine text front rest

@@ -25,6 +25,7 @@
 
 mod answer_lines;
 mod answering;
+mod cut;
 mod decided;
 mod explained;
 mod fault;
@@ -51,6 +52,7 @@ mod told;
 mod waits;
 
 pub use answering::Plain;
+pub use cut::ended_bytes;
 pub use explained::{EveryReading, Explained};
 pub use fault::DeskFault;
 pub use filling::{Filled, fill_by};
@@ -60,7 +62,7 @@ pub use numbering::numbered_text_by;
 pub use objects::{Members, Objects};
 pub use outbox::{Outbox, write_all};
 pub use piece::answer_piece;
-pub use profile::next_records;
+pub use profile::{next_records, profile_of};
 pub use reasoned::{Reasoned, ReasonedMembers, win_in};
 pub use replay::replay_text;
 pub use report::DeskReport;

@@ -5,8 +5,8 @@
 pub enum LineKind {
     /// Nothing: it is no record.
     NoRecord,
-    /// A text that doesn't begin with `refused`.
+    /// What its hand or script comes to.
     Answered,
-    /// A text that does.
+    /// Why it is refused.
     Refused,
 }

@@ -18,6 +18,7 @@ use riichi_shape::RowSource;
 /// Answers the record lines that a reader gives by the kind of answer `A`, as `desk_text_by` does, each answer behind the
 /// number of its line: a number and a colon, or of an object its first member, `line`. All lines are counted, from 1, those
 /// that are no records too. It takes no memory.
+#[tactic(auto, using(crate::proofs::NumberLemmas::without_numbers_told))]
 pub fn numbered_text_by<A: Numbers, S: RowSource, R: Source, W: Sink>(
     source: &mut S,
     rules: Rules,

@@ -58,6 +58,7 @@ impl Responder for Members {
 
     ghost alike = { members_alike };
 
+    #[tactic(auto, using(crate::proofs::JsonLemmas::respond_facts))]
     fn respond<S: RowSource>(
         rules: Rules,
         line: &[u8],

@@ -16,6 +16,7 @@ use std::alloc::AllocError;
 
 /// Answers the lines of a text that have ended, under a profile that is known, and puts the answers behind others. What comes
 /// after the last line feed is left alone.
+#[tactic(auto, using(crate::proofs::AnswerLemmas::AreTold_last, crate::proofs::TellingLemmas::answer_piece_facts))]
 pub fn answer_piece<A: Responder, S: RowSource>(
     rules: Rules,
     text: &[u8],

@@ -41,7 +41,7 @@ pub fn next_records(given: Rules, profile: Option<Rules>, text: &[u8]) -> Option
 
 /// The profile that a first line sets: its words are `rules` and the profile's number.
 #[tactic(auto, unfolding(crate::specs::Profile::profile_of))]
-pub(crate) fn profile_of(line: &[u8]) -> Option<Rules>
+pub fn profile_of(line: &[u8]) -> Option<Rules>
     ensures { result ≡ profile_of line.now }
 {
     if line.len() > MOST_LINE || has_other_byte(line) {

@@ -18,6 +18,7 @@ use std::alloc::Global;
 /// Answers the commands of a script that a reader gives, one line for each, over a desk of 64 tables. Records are
 /// read under the first profile. A submission that finds no memory is answered so in its line; where a new table's name
 /// or the desk itself finds none, that ends the script.
+#[tactic(auto, using(desk_script::proofs::Only::only_replay, crate::proofs::StreamLemmas::replay_text_facts, crate::proofs::TellingLemmas::text_of_append, crate::proofs::ScriptLemmas::replay_text_facts))]
 pub fn replay_text<R: Source, W: Sink>(
     alloc: Global,
     reader: &mut R,

@@ -6,9 +6,9 @@ use super::fault::DeskFault;
 /// How many answer lines were written.
 #[derive(Clone, Copy, Debug, PartialEq, Eq)]
 pub struct DeskReport {
-    /// Lines that don't begin with `refused`.
+    /// Those that say what a hand or a script comes to.
     pub answered: u64,
-    /// Lines that do.
+    /// Those that say why a line is refused.
     pub refused: u64,
 }
 

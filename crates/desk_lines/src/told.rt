@@ -46,6 +46,7 @@ impl Told {
     }
 
     /// Answers the lines of a text that have ended, and returns what comes after them.
+    #[tactic(auto, using(crate::proofs::CutLemmas::add_lines_facts, crate::proofs::ToldLemmas::StopsTelling_more))]
     pub(crate) fn add_lines<'a, T: Teller, S: RowSource, W: Sink>(
         &mut self,
         text: &'a [u8],
@@ -75,6 +76,7 @@ impl Told {
 
     /// Answers the next line. The answers that stand in the way of its own are written first, and where memory is wanted
     /// all that were given before.
+    #[tactic(auto, using(crate::proofs::ToldLemmas::add_facts))]
     fn add<T: Teller, S: RowSource, W: Sink>(
         &mut self,
         line: &[u8],

@@ -42,6 +42,7 @@ pub fn waits_answer(hand: &[u8]) -> WaitsLine
 }
 
 /// The answer to some tiles that are a hand of their own.
+#[tactic(auto, using(crate::proofs::ConcealedHands::answer_counts_facts))]
 fn answer_counts(counts: Counts) -> WaitsLine
     requires { IsCounts counts }
     ensures waits { sum counts ≡ 13

@@ -268,6 +268,27 @@ fn profiles(rt: HostRuntime) {
 }
 
 #[test]
+fn the_profile_of_a_line(rt: HostRuntime) {
+    holds(&rt, profile_of(b" rules  2 ") == Some(Rules::Two));
+    holds(
+        &rt,
+        profile_of(b"rules 3").is_none() && profile_of(b"rules 2 2").is_none(),
+    );
+}
+
+#[test]
+fn up_to_the_last_line_feed(rt: HostRuntime) {
+    for (text, ended) in [
+        (b"".as_slice(), 0),
+        (b"ab", 0),
+        (b"\n", 1),
+        (b"ab\nc\nd", 5),
+    ] {
+        same(&rt, ended_bytes(text), ended);
+    }
+}
+
+#[test]
 fn lines_up_to_the_limit(rt: HostRuntime) {
     for (length, ending, told) in [
         (4096usize, "\r\n", "waits 123456789m\n"),

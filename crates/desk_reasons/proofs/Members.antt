@@ -7,7 +7,7 @@ use Rattle.json.specs.Print.{quoted, escape_byte}
 use Rattle.desk_json.specs.Parts.{comma_if}
 use Rattle.desk_json.specs.Text.{json_text}
 use Rattle.desk_json.specs.Trees.{Named}
-use Rattle.desk_json.proofs.Written.{written, members_written, text_written}
+use Rattle.desk_json.proofs.Written.{written, members_written, text_written, member_ends}
 use Rattle.riichi_hand.specs.declared.house.House.{House}
 use Rattle.riichi_score.specs.declared.answer.WinAnswer.{WinAnswer}
 use Rattle.riichi_score.specs.declared.answer.WinAnswer.TheVariants.{Won, NoYaku, NoWin}
@@ -25,22 +25,19 @@ unfoldable open_members : Bool → Members → List ℕ
 open_members later no_members = []
 open_members later (member name value members) = comma_if later ++ ((quoted name ++ 58 ∷ []) ++ (written value ++ open_members true members))
 
-regroup : (c k w i r : List ℕ) → c ++ (k ++ (w ++ (i ++ r))) ≡ (c ++ (k ++ (w ++ i))) ++ r
-regroup c k w i r = simp append_assoc
-
 closed : (later : Bool) (members : Members) → members_written later members ≡ open_members later members ++ 125 ∷ []
 unfolding written open_members
 closed later no_members = refl
 closed later (member name value members) =
     ap (λ t. comma_if later ++ ((quoted name ++ 58 ∷ []) ++ (written value ++ t))) (closed true members)
-    ∙ regroup (comma_if later) (quoted name ++ 58 ∷ []) (written value) (open_members true members) (125 ∷ [])
+    ∙ member_ends (comma_if later) (quoted name ++ 58 ∷ []) (written value) (open_members true members) (125 ∷ [])
 
 closed_with : (members : Members) (named : Named) → members_written true (with_last members named) ≡ open_members true members ++ (member_text named ++ 125 ∷ [])
 unfolding written open_members member_text
 closed_with no_members named = sym (append_assoc (44 ∷ (quoted named.0 ++ 58 ∷ [])) (written named.1) (125 ∷ []))
 closed_with (member name value members) named =
     ap (λ t. 44 ∷ ((quoted name ++ 58 ∷ []) ++ (written value ++ t))) (closed_with members named)
-    ∙ regroup (44 ∷ []) (quoted name ++ 58 ∷ []) (written value) (open_members true members) (member_text named ++ 125 ∷ [])
+    ∙ member_ends (44 ∷ []) (quoted name ++ 58 ∷ []) (written value) (open_members true members) (member_text named ++ 125 ∷ [])
 
 -- behind a text that only lacks the brace, the member and the brace are what lacks
 pub one_more : (now before : List ℕ) (name : List ℕ) (value : Json) (members : Members) (named : Named)
@@ -58,7 +55,7 @@ one_more now before name value members named e =
     ∙ ap (λ t. before ++ t) (sym (
     text_written (with_member (object (member name value members)) named)
     ∙ ap (λ t. 123 ∷ ((quoted name ++ 58 ∷ []) ++ (written value ++ t))) (closed_with members named)
-    ∙ regroup (123 ∷ []) (quoted name ++ 58 ∷ []) (written value) (open_members true members) (member_text named ++ codes "}")))
+    ∙ member_ends (123 ∷ []) (quoted name ++ 58 ∷ []) (written value) (open_members true members) (member_text named ++ codes "}")))
 
 -- the object of a win
 pub win_more : (before now : List ℕ) (rules : House) (win : WinAnswer) (named : Named) → now ++ codes "}" ≡ before ++ answer_json rules (answer.Win win)

@@ -1,7 +1,7 @@
 -- The text of each tree is made of the pieces that are written.
 use Rattle.std.proofs.Common.{◌≡◌, ℕ, ◌+◌, ◌<◌, ◌≤◌, true, false, List, [], ◌∷◌, ◌++◌, map, Option, Some, None, refl, sym, ap, ◌∙◌, append_assoc, decimal, arith}
 use Rattle.std.specs.Prelude.{codes}
-use Rattle.json.specs.Json.{Json}
+use Rattle.desk_json.proofs.Pieces.{list_ends}
 use Rattle.json.specs.Print.{escape, escape_byte}
 use Rattle.json.proofs.Printed.Strings.{escape_byte_plain}
 use Rattle.riichi_tiles.specs.declared.block.Block.{Block}
@@ -12,7 +12,7 @@ use Rattle.riichi_split.specs.declared.reading.Reading.{Reading}
 use Rattle.riichi_split.specs.declared.reading.Reading.TheVariants.{Standard, SevenPairs, Orphans}
 use Rattle.riichi_score.specs.declared.score.Score.{Score}
 use Rattle.riichi_shape.specs.declared.forms.FormDistances.{FormDistances}
-use Rattle.riichi_waits.specs.declared.waits.KindWait.{KindWait}
+use Rattle.riichi_explain.specs.declared.waits.KindWait.{KindWait}
 use Rattle.riichi_explain.specs.declared.dora.DoraPart.{DoraPart}
 use Rattle.riichi_explain.specs.declared.dora.DoraPart.TheVariants as dora
 use Rattle.riichi_explain.specs.declared.dora.DoraRow.{DoraRow}
@@ -32,10 +32,10 @@ use Rattle.riichi_explain.specs.Forms.{shanten_text}
 use Rattle.riichi_explain.specs.Words.{dora_words, dora_japanese, fu_words, fu_japanese, payer_words}
 use Rattle.desk_json.specs.Parts.{listed}
 use Rattle.desk_json.specs.Text.{json_text}
-use Rattle.desk_json.specs.Trees.{json_items, members_of, Named, natural}
+use Rattle.desk_json.specs.Trees.{members_of, Named, natural}
 use Rattle.desk_json.proofs.Lists.{items_joined}
 use Rattle.desk_json.proofs.WordLemmas.{escape_kind, escape_name, escape_word}
-use Rattle.desk_json.proofs.Written.{written, items_written, members_written, text_written}
+use Rattle.desk_json.proofs.Written.{written, members_written, text_written, item_ends}
 use Rattle.desk_reasons.specs.Parts as parts
 use Rattle.desk_reasons.specs.Parts.{count_json, rows_json, japanese_json, part_json}
 use Rattle.desk_reasons.specs.Rows.{han_part_words, han_japanese, fu_kind}
@@ -228,11 +228,6 @@ block_written : (block : Block) → written (block_tree block) ≡ parts.quoted_
 unfolding written block_tree parts.quoted_block
 block_written block = ap (λ t. 34 ∷ (t ++ 34 ∷ [])) (escape_block block)
 
--- the texts of a list, with the bracket that ends them
-rows_written : {X : Type 0} (tree : X → Json) (text : X → List ℕ) → ((x : X) → written (tree x) ≡ text x) → (xs : List X)
-    → items_written false (json_items tree xs) ≡ listed (map text xs) ++ codes "]"
-rows_written tree text each xs = items_joined tree text each xs
-
 standard_with : List ℕ → List ℕ → List ℕ → List ℕ
 standard_with sets pair done =
     codes "{\"form\":\"standard\",\"sets\":[" ++ (sets ++ (codes ",\"pair\":" ++ ((34 ∷ (pair ++ 34 ∷ [])) ++ (codes ",\"completed\":" ++ (done ++ codes "}")))))
@@ -247,7 +242,7 @@ reading_written : (reading : Reading) → written (reading_tree reading) ≡ par
 unfolding reading_tree parts.reading_json parts.standard_json parts.pair_json rows_json written escape_byte standard_with
 reading_written (Standard sets pair done) =
     same_standard _ (listed (map parts.quoted_block sets) ++ codes "]") _ (two_text pair) _ (parts.quoted_block done)
-    (rows_written block_tree parts.quoted_block block_written sets) (escape_two pair) (block_written done)
+    (items_joined block_tree parts.quoted_block block_written sets) (escape_two pair) (block_written done)
     ∙ ap (λ t. codes "{\"form\":\"standard\",\"sets\":[" ++ ((listed (map parts.quoted_block sets) ++ codes "]") ++ t)) (quoted_with (codes ",\"pair\":") (two_text pair) (codes ",\"completed\":" ++ (parts.quoted_block done ++ codes "}")))
     ∙ standard_ends (codes "{\"form\":\"standard\",\"sets\":[") (listed (map parts.quoted_block sets)) (codes "]") (codes ",\"pair\":\"") (two_text pair) (codes "\",\"completed\":") (parts.quoted_block done) (codes "}")
 reading_written SevenPairs = refl
@@ -289,37 +284,31 @@ won_written hand others =
     text_written (won_tree hand others)
     ∙ same_won _ (parts.reading_json hand.reading) _ (listed (map parts.han_row_json hand.han.items) ++ codes "]") _ (listed (map parts.dora_row_json hand.dora.items) ++ codes "]")
     _ (listed (map parts.fu_row_json hand.fu.items) ++ codes "]") _ (listed (map parts.pay_row_json hand.payers.items) ++ codes "]") _ (listed (map parts.other_reading_json others) ++ codes "]")
-    (reading_written hand.reading) (rows_written han_tree parts.han_row_json han_written hand.han.items) (rows_written dora_tree parts.dora_row_json dora_written hand.dora.items)
-    (rows_written fu_tree parts.fu_row_json fu_written hand.fu.items) (rows_written pay_tree parts.pay_row_json pay_written hand.payers.items)
-    (rows_written other_tree parts.other_reading_json other_written others)
+    (reading_written hand.reading) (items_joined han_tree parts.han_row_json han_written hand.han.items) (items_joined dora_tree parts.dora_row_json dora_written hand.dora.items)
+    (items_joined fu_tree parts.fu_row_json fu_written hand.fu.items) (items_joined pay_tree parts.pay_row_json pay_written hand.payers.items)
+    (items_joined other_tree parts.other_reading_json other_written others)
     ∙ won_ends (codes "{\"reading\":") (parts.reading_json hand.reading) (codes ",\"han\":[") (listed (map parts.han_row_json hand.han.items)) (codes "]")
     (codes ",\"dora\":[") (listed (map parts.dora_row_json hand.dora.items)) (codes ",\"fu\":[") (listed (map parts.fu_row_json hand.fu.items))
     (codes ",\"payments\":[") (listed (map parts.pay_row_json hand.payers.items)) (codes ",\"others\":[") (listed (map parts.other_reading_json others)) (codes "}")
-
-list_ends : (a y x z : List ℕ) → a ++ ((y ++ x) ++ z) ≡ (a ++ y) ++ (x ++ z)
-list_ends a y x z = simp append_assoc
 
 pub readings_written : (readings : List RankedReading) → json_text (readings_tree readings) ≡ parts.readings_json readings
 unfolding readings_tree parts.readings_json rows_json written escape_byte
 readings_written readings =
     text_written (readings_tree readings)
-    ∙ ap (λ t. codes "{\"others\":[" ++ (t ++ codes "}")) (rows_written other_tree parts.other_reading_json other_written readings)
+    ∙ ap (λ t. codes "{\"others\":[" ++ (t ++ codes "}")) (items_joined other_tree parts.other_reading_json other_written readings)
     ∙ list_ends (codes "{\"others\":[") (listed (map parts.other_reading_json readings)) (codes "]") (codes "}")
-
-form_ends : (before name lack rest : List ℕ) → before ++ (name ++ (lack ++ rest)) ≡ (before ++ (name ++ lack)) ++ rest
-form_ends before name lack rest = simp append_assoc
 
 pairs_written : (lack : Option ℕ) (before : List ℕ) (more : List Named)
     → before ++ members_written true (members_of (form_before (codes "seven_pairs") lack more)) ≡ (before ++ parts.shanten_if (codes ",\"seven_pairs\":") lack) ++ members_written true (members_of more)
 unfolding written escape_byte parts.shanten_if parts.shanten_json
 pairs_written None before more = sym (append_assoc before [] (members_written true (members_of more)))
-pairs_written (Some lack) before more = form_ends before (codes ",\"seven_pairs\":") (shanten_text lack) (members_written true (members_of more))
+pairs_written (Some lack) before more = item_ends before (codes ",\"seven_pairs\":") (shanten_text lack) (members_written true (members_of more))
 
 orphans_written : (lack : Option ℕ) (before : List ℕ) (more : List Named)
     → before ++ members_written true (members_of (form_before (codes "thirteen_orphans") lack more)) ≡ (before ++ parts.shanten_if (codes ",\"thirteen_orphans\":") lack) ++ members_written true (members_of more)
 unfolding written escape_byte parts.shanten_if parts.shanten_json
 orphans_written None before more = sym (append_assoc before [] (members_written true (members_of more)))
-orphans_written (Some lack) before more = form_ends before (codes ",\"thirteen_orphans\":") (shanten_text lack) (members_written true (members_of more))
+orphans_written (Some lack) before more = item_ends before (codes ",\"thirteen_orphans\":") (shanten_text lack) (members_written true (members_of more))
 
 forms_written : (forms : FormDistances) → written (forms_tree forms) ≡ parts.forms_json forms
 unfolding forms_tree parts.forms_json parts.shanten_json written escape_byte
@@ -342,6 +331,8 @@ pub missed_written : (missed : MissedWin) → json_text (missed_tree missed) ≡
 unfolding missed_tree parts.missed_json rows_json written escape_byte
 missed_written missed =
     text_written (missed_tree missed)
-    ∙ ap (λ t. codes "{\"waits\":[" ++ (t ++ (codes ",\"shanten\":" ++ (written (forms_tree missed.forms) ++ codes "}")))) (rows_written wait_tree parts.wait_json wait_written missed.waits.items)
+    ∙ ap (λ t. codes "{\"waits\":[" ++ (t ++ (codes ",\"shanten\":" ++ (written (forms_tree missed.forms) ++ codes "}")))) (items_joined wait_tree parts.wait_json wait_written missed.waits.items)
     ∙ ap (λ t. codes "{\"waits\":[" ++ ((listed (map parts.wait_json missed.waits.items) ++ codes "]") ++ (codes ",\"shanten\":" ++ (t ++ codes "}")))) (forms_written missed.forms)
     ∙ missed_ends (listed (map parts.wait_json missed.waits.items)) (parts.forms_json missed.forms)
+
+pub ruleset push_why_facts = (won_written, readings_written, missed_written)

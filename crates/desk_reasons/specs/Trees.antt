@@ -8,7 +8,7 @@ use Rattle.riichi_split.specs.declared.reading.Reading.TheVariants.{Standard, Se
 use Rattle.riichi_split.specs.contracts.reading.ReadingPartialEq.TheImpl.{ghosts as reading}
 use Rattle.riichi_score.specs.declared.score.Score.{Score}
 use Rattle.riichi_shape.specs.declared.forms.FormDistances.{FormDistances}
-use Rattle.riichi_waits.specs.declared.waits.KindWait.{KindWait}
+use Rattle.riichi_explain.specs.declared.waits.KindWait.{KindWait}
 use Rattle.riichi_explain.specs.declared.dora.DoraRow.{DoraRow}
 use Rattle.riichi_explain.specs.declared.fu.FuRow.{FuRow}
 use Rattle.riichi_explain.specs.declared.han.HanPart.{HanPart}

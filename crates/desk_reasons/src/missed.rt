@@ -5,12 +5,11 @@ ghost use Rattle.desk_reasons.specs.Parts as spec;
 
 use crate::values::{Value, push_rows};
 use desk_json::JsonText;
-use riichi_explain::MissedWin;
+use riichi_explain::{KindWait, MissedWin};
 use riichi_shape::FormDistances;
 use riichi_text::{push_kind, push_number};
-use riichi_waits::KindWait;
 
-#[tactic(auto, unfolding(crate::specs::Parts::missed_json))]
+#[tactic(auto, using(riichi_text::proofs::Pieces::pushed_four), unfolding(crate::specs::Parts::missed_json))]
 pub(crate) fn push_missed(text: &mut JsonText, missed: &MissedWin)
     requires { array_string_len text.old + 300 ≤ 12288 }
     ensures bytes { text.new.bytes ≡ text.old.bytes ++ spec.missed_json missed.now }

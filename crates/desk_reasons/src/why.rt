@@ -31,6 +31,7 @@ pub fn push_explained_win<R: RowSource>(text: &mut JsonText, win: &WinRecord, so
 }
 
 /// Why a win is answered so.
+#[tactic(auto, using(crate::proofs::Written::push_why_facts), unfolding(crate::specs::Trees::why_tree))]
 fn push_why(text: &mut JsonText, explanation: &WinExplanation, ranked: &[RankedReading])
     requires few { length ranked.now ≤ 12 }
     requires room { array_string_len text.old + 7800 ≤ 12288 }

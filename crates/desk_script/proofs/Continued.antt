@@ -2,7 +2,7 @@
 use Rattle.std.proofs.Common.{◌≡◌, ℕ, List, [], ◌++◌, length, sym, subst, ap, ◌∙◌, arith, length-append}
 use Rattle.std.specs.List.{zip, filter_map}
 use Rattle.std.proofs.lemmas.List.Elements.{filter_map-append}
-use Rattle.desk_core.proofs.Continued.{CanGoOn-legal}
+use Rattle.desk_core.proofs.Continued.{CanGoOn_legal}
 use Rattle.desk_core.specs.History.{Turn, IsLegal}
 use Rattle.desk_core.specs.declared.event.Event.{Event}
 use Rattle.desk_script.specs.declared.line_request.LineRequest.{LineRequest}
@@ -18,7 +18,7 @@ replay_goes_on lines others answers one =
     let next = asked_from (names_after lines) others in
     let asked_is : asked_on (lines ++ others) ≡ asked ++ next = asked_from-append [] lines others in
     let events_are : events_of (asked_on (lines ++ others)) ≡ events_of asked ++ events_of next = ap events_of asked_is ∙ filter_map-append event_in asked next in
-    let on = CanGoOn-legal 64 (zip (events_of asked) one.replies) one.replied.legal (events_of next) in
+    let on = CanGoOn_legal 64 (zip (events_of asked) one.replies) one.replied.legal (events_of next) in
     let replies = one.replies ++ on.0 in
     let turns_are : zip (events_of (asked_on (lines ++ others))) replies ≡ zip (events_of asked) one.replies ++ zip (events_of next) on.0 =
     ap (λ (es : List Event). zip es replies) events_are ∙ zip-append (events_of asked) (events_of next) one.replies on.0 one.replied.count in

@@ -103,5 +103,5 @@ names_from-are names (line ∷ lines) few =
     ∙ all_names-next names (opened line) (filter_map opened lines)
 
 -- the tables that are open after some lines
-pub names_after-are : (lines : List (List ℕ)) → names_after lines ≡ open_tables lines
-names_after-are lines = names_from-are [] lines (omega arith)
+pub names_after_are : (lines : List (List ℕ)) → names_after lines ≡ open_tables lines
+names_after_are lines = names_from-are [] lines (omega arith)

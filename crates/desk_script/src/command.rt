@@ -5,7 +5,7 @@ ghost use Rattle.desk_script.specs.Said.{said_of};
 
 use crate::action::Action;
 use crate::seq::read_seq;
-use crate::words::{cut_word, is_name};
+use crate::words::{cut_first_word, is_name};
 use riichi_hand::without_spaces;
 
 /// A command for the table of a name.
@@ -23,8 +23,8 @@ pub(crate) fn read_command(line: &[u8]) -> Option<Command<'_>>
     ensures { MatchOption result (command_of line.now ≡ None)
         (λ command. command_of line.now ≡ Some (said_of command)) }
 {
-    let (word, rest) = cut_word(line);
-    let (name, rest) = cut_word(rest);
+    let (word, rest) = cut_first_word(line);
+    let (name, rest) = cut_first_word(rest);
     if !is_name(name) {
         return None;
     }
@@ -46,7 +46,7 @@ fn read_action<'a>(word: &[u8], rest: &'a [u8]) -> Option<(Action, &'a [u8])>
     } else if word == b"submit".as_slice() {
         with_job(Action::Submit, rest)
     } else if word == b"arrive".as_slice() {
-        let (seq, rest) = cut_word(rest);
+        let (seq, rest) = cut_first_word(rest);
         let seq = read_seq(seq)?;
         with_job(Action::Arrive { seq }, rest)
     } else if word == b"close".as_slice() {
@@ -54,7 +54,7 @@ fn read_action<'a>(word: &[u8], rest: &'a [u8]) -> Option<(Action, &'a [u8])>
     } else if word == b"take".as_slice() {
         alone(Action::Take, rest)
     } else if word == b"withdraw".as_slice() {
-        let (seq, rest) = cut_word(rest);
+        let (seq, rest) = cut_first_word(rest);
         let seq = read_seq(seq)?;
         alone(Action::Withdraw { seq }, rest)
     } else {

@@ -12,6 +12,7 @@ pub fn answers_are_determined()
 {}
 
 /// The open tables are those that the lines say to open, each once, in this order, the first 64 of them.
+#[tactic(auto, using(crate::proofs::OpenedTables::names_after_are))]
 pub fn open_tables_are_the_first_said()
     ensures { (lines : List (List ℕ)) → names_after lines ≡ open_tables lines }
 {}

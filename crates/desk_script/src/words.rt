@@ -10,7 +10,7 @@ use riichi_hand::{without_spaces, word_len};
 const MOST_NAME: usize = 32;
 
 /// The first word of a text, and what comes after it. The word is empty where there is none.
-pub(crate) fn cut_word(text: &[u8]) -> (&[u8], &[u8])
+pub(crate) fn cut_first_word(text: &[u8]) -> (&[u8], &[u8])
     ensures word { result.0.now ≡ first_word text.now }
     ensures rest { result.1.now ≡ after_word text.now }
 {

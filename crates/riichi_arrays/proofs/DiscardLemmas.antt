@@ -31,9 +31,6 @@ none_told shanten s kinds same none =
 
 -- ---- one more
 
-test_more : (t : Bool) (kind number : ℕ) (rest : List Discard) (discard : Discard) → (discard.kind == number) ≡ t → has_discard (discard ∷ rest) number ≡ (t || has_discard rest number)
-test_more t kind number rest discard e = ap (λ b. b || has_discard rest number) e
-
 apart_test : (a b : ℕ) → b ≢ a → (a == b) ≡ false
 apart_test a b apart = grind (arith, nat_tests)
 

@@ -29,12 +29,14 @@ const NO_SHAPE: ShapeRow = ShapeRow {
 };
 
 /// The kinds of a list as bits.
+#[tactic(auto, using(crate::proofs::KindLemmas::kinds_are))]
 pub(crate) fn kinds_in(accepted: &LiveList) -> u64
     ensures { result ≡ kinds_in accepted.now }
 {
     KindSet::of(accepted.copies()).bits()
 }
 
+#[tactic(auto, using(crate::proofs::KindLemmas::copies_are, crate::proofs::KindLemmas::told_thirteen))]
 fn shape_told(answer: &ShapeAnswer) -> ShapeRow
     ensures { result ≡ shape_told answer.now.shanten answer.now.accepts }
 {
@@ -64,6 +66,7 @@ fn shape_row<R: RowSource>(
     }
 }
 
+#[tactic(auto, using(crate::proofs::ColumnLemmas::fill_next))]
 fn fill_shapes<R: RowSource>(
     source: &mut R,
     counts: &[[u8; 34]],

@@ -12,6 +12,7 @@ pub const NO_HAND: i8 = -128;
 /// For fewer hands the rows that are kept cost more than they save.
 pub(crate) const FEW_HANDS: usize = 128;
 
+#[tactic(auto, using(riichi_shape::proofs::ShapeFacts::melds_few))]
 fn shanten_in<R: RowSource>(
     source: &mut R,
     counts: &[[u8; 34]],
@@ -27,6 +28,7 @@ fn shanten_in<R: RowSource>(
     }
 }
 
+#[tactic(auto, using(crate::proofs::ColumnLemmas::fill_next))]
 fn fill_shantens<R: RowSource>(
     source: &mut R,
     counts: &[[u8; 34]],

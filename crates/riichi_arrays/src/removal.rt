@@ -98,6 +98,7 @@ fn row_of<R: RowSource>(
     }
 }
 
+#[tactic(auto, using(crate::proofs::ColumnLemmas::fill_next))]
 fn fill_discards<R: RowSource>(
     source: &mut R,
     counts: &[[u8; 34]],

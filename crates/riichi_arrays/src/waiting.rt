@@ -18,6 +18,7 @@ fn waits_in(counts: &[[u8; 34]], melds: &[[u8; 4]], row: usize) -> u64
 
 /// The kinds that each hand of thirteen tiles waits for, a bit for each, [`NO_WAITS`] of a row that is none: of as many as both
 /// `counts` and `waits` have rows, which it returns.
+#[tactic(auto, using(crate::proofs::ColumnLemmas::fill_next))]
 pub fn waits(counts: &[[u8; 34]], melds: &[[u8; 4]], waits: &mut [u64]) -> usize
     ensures rows { result ≡ min (length counts.now) (length waits.old) }
     ensures waits { IsFilled (λ row. waits_by (hand_at counts.now melds.now row)) result

@@ -28,11 +28,11 @@ one-more true total n any e h = lt-ltb 0 total (omega (arith, e))
 one-more false total n any e h = ap (nat_lt 0) (let same : total ≡ n = omega (arith, e) in same) ∙ h
 
 -- some block is so where one or more are counted
-pub counted-any : (p : HandBlock → Bool) (blocks : List HandBlock) → nat_lt 0 (count_by p blocks) ≡ list_any p blocks
-counted-any p [] = refl
-counted-any p (block ∷ blocks) =
+pub counted_any : (p : HandBlock → Bool) (blocks : List HandBlock) → nat_lt 0 (count_by p blocks) ≡ list_any p blocks
+counted_any p [] = refl
+counted_any p (block ∷ blocks) =
     let e = sum_by-append (λ (b : HandBlock). cond {A = ℕ} (p b) 1 0) (block ∷ []) blocks in
-    one-more (p block) (count_by p (block ∷ blocks)) (count_by p blocks) (list_any p blocks) (omega (arith, e)) (counted-any p blocks)
+    one-more (p block) (count_by p (block ∷ blocks)) (count_by p blocks) (list_any p blocks) (omega (arith, e)) (counted_any p blocks)
 
 -- one mark more
 marked : (marks : List Bool) (held kind : ℕ) → held < length marks → get_or (set marks held true) kind false ≡ (get_or marks kind false || nat_eq held kind)
@@ -77,12 +77,12 @@ IsTally-run blocks from of r t c k low room within w =
     IsTally-more blocks (Run low) from (set from low (get_or from low 0 + 1)) of of r (r + 1) t t c c k k room (length-set from low (get_or from low 0 + 1)) refl
     (λ kind. get_or-more from low kind 1 (omega (arith, within, w.every_run))) (λ kind. sym (or-false (get_or of kind false))) (omega arith) (omega arith) (omega arith) (omega arith) w
 
-pub IsTally-triplet : (blocks : List HandBlock) (from : List ℕ) (of : List Bool) (r t c k held one : ℕ) (shut : Bool) → length blocks < 9 → held < 34 → one ≡ cond shut 1 0 → IsTally blocks from of r t c k → IsTally (blocks ++ Triplet held shut ∷ []) from (set of held true) r (t + 1) (c + one) k
-IsTally-triplet blocks from of r t c k held one shut room within e w =
+pub IsTally_triplet : (blocks : List HandBlock) (from : List ℕ) (of : List Bool) (r t c k held one : ℕ) (shut : Bool) → length blocks < 9 → held < 34 → one ≡ cond shut 1 0 → IsTally blocks from of r t c k → IsTally (blocks ++ Triplet held shut ∷ []) from (set of held true) r (t + 1) (c + one) k
+IsTally_triplet blocks from of r t c k held one shut room within e w =
     IsTally-more blocks (Triplet held shut) from from of (set of held true) r r t (t + 1) c (c + one) k k room refl (length-set of held true)
     (λ kind. omega arith) (λ kind. marked of held kind (omega (arith, within, w.every_triplet))) (omega arith) (omega arith) (omega (arith, e)) (omega arith) w
 
-pub IsTally-kong : (blocks : List HandBlock) (from : List ℕ) (of : List Bool) (r t c k held one : ℕ) (shut : Bool) → length blocks < 9 → held < 34 → one ≡ cond shut 1 0 → IsTally blocks from of r t c k → IsTally (blocks ++ Kong held shut ∷ []) from (set of held true) r (t + 1) (c + one) (k + 1)
-IsTally-kong blocks from of r t c k held one shut room within e w =
+pub IsTally_kong : (blocks : List HandBlock) (from : List ℕ) (of : List Bool) (r t c k held one : ℕ) (shut : Bool) → length blocks < 9 → held < 34 → one ≡ cond shut 1 0 → IsTally blocks from of r t c k → IsTally (blocks ++ Kong held shut ∷ []) from (set of held true) r (t + 1) (c + one) (k + 1)
+IsTally_kong blocks from of r t c k held one shut room within e w =
     IsTally-more blocks (Kong held shut) from from of (set of held true) r r t (t + 1) c (c + one) k (k + 1) room refl (length-set of held true)
     (λ kind. omega arith) (λ kind. marked of held kind (omega (arith, within, w.every_triplet))) (omega arith) (omega arith) (omega (arith, e)) (omega arith) w

@@ -6,4 +6,3 @@ pub mod Told
 pub mod BlockKinds
 pub mod Pairs
 pub mod Waits
-pub mod Equality

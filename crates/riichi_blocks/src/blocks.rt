@@ -80,6 +80,7 @@ impl Blocks {
         self.runs += 1;
     }
 
+    #[tactic(auto, using(crate::proofs::Tally::IsTally_triplet))]
     fn push_triplet(&mut self, kind: Kind, concealed: bool)
         requires { length self.old < 9 }
         ensures { self.new ≡ self.old ++ variants.Triplet kind concealed ∷ [] }
@@ -90,6 +91,7 @@ impl Blocks {
         self.concealed += one_if(concealed);
     }
 
+    #[tactic(auto, using(crate::proofs::Tally::IsTally_kong))]
     fn push_kong(&mut self, kind: Kind, concealed: bool)
         requires { length self.old < 9 }
         ensures { self.new ≡ self.old ++ variants.Kong kind concealed ∷ [] }
@@ -109,6 +111,7 @@ impl Blocks {
     }
 
     /// Whether some block is the run from this kind on.
+    #[tactic(auto, using(crate::proofs::Tally::counted_any))]
     pub fn has_run(&self, low: usize) -> bool
         requires { low < 34 }
         ensures { result ≡ spec.has_run self.now low }
@@ -142,6 +145,7 @@ impl Blocks {
     }
 
     /// Whether some block is a run.
+    #[tactic(auto, using(crate::proofs::Tally::counted_any))]
     pub fn has_runs(&self) -> bool
         ensures { result ≡ list_any spec.is_run self.now }
     {

@@ -1,9 +1,9 @@
 //! Equality of blocks.
+ghost use Rattle.std.proofs.Common.{rules};
+
 use crate::hand_block::HandBlock;
 use riichi_tiles::Decided;
 
 impl Decided for HandBlock {
-    ghost use Rattle.riichi_blocks.specs.Equality.{blocks_decide};
-
-    ghost decides = { blocks_decide };
+    ghost decides = { λ a b. Prim.search rules };
 }

@@ -45,6 +45,7 @@ impl AllTiles {
 
     /// Whether every tile is a 2 to 8 of a suit.
     #[inline(always)]
+    #[tactic(auto, using(crate::proofs::Told::all_simples))]
     pub fn are_simples(&self) -> bool
         ensures { result ≡ spec.every kinds.is_simple self.now }
     {
@@ -53,6 +54,7 @@ impl AllTiles {
 
     /// Whether every tile is a terminal or an honour.
     #[inline(always)]
+    #[tactic(auto, using(crate::proofs::Told::all_orphans))]
     pub fn are_orphans(&self) -> bool
         ensures { result ≡ spec.every kinds.is_orphan self.now }
     {
@@ -61,6 +63,7 @@ impl AllTiles {
 
     /// Whether every tile is a terminal.
     #[inline(always)]
+    #[tactic(auto, using(crate::proofs::Told::all_terminals))]
     pub fn are_terminals(&self) -> bool
         ensures { result ≡ spec.every kinds.is_terminal self.now }
     {
@@ -69,6 +72,7 @@ impl AllTiles {
 
     /// Whether every tile is a wind or a dragon.
     #[inline(always)]
+    #[tactic(auto, using(crate::proofs::Told::all_honours))]
     pub fn are_honours(&self) -> bool
         ensures { result ≡ spec.every kinds.is_honour self.now }
     {
@@ -98,6 +102,7 @@ impl AllTiles {
 
     /// Whether every tile is of this suit: 0 for m, 1 for p, 2 for s.
     #[inline(always)]
+    #[tactic(auto, using(crate::proofs::Told::of_suit_alone))]
     pub fn are_of_suit(&self, suit: usize) -> bool
         requires { suit < 3 }
         ensures { result ≡ spec.every (kinds.is_of_suit suit) self.now }
@@ -107,6 +112,7 @@ impl AllTiles {
 
     /// Whether every tile is of this suit or an honour.
     #[inline(always)]
+    #[tactic(auto, using(crate::proofs::Told::are_of_suit_or_honours_facts))]
     pub fn are_of_suit_or_honours(&self, suit: usize) -> bool
         requires { suit < 3 }
         ensures { result
@@ -159,6 +165,7 @@ impl AllTiles {
 
     /// Whether some tile is a 2 to 8 of a suit.
     #[inline(always)]
+    #[tactic(auto, using(crate::proofs::Told::some_simple))]
     fn has_simples(&self) -> bool
         ensures { result ≡ spec.some kinds.is_simple self.now }
     {
@@ -171,6 +178,7 @@ impl AllTiles {
 
     /// Whether some tile is a 1 or a 9 of a suit.
     #[inline(always)]
+    #[tactic(auto, using(crate::proofs::Told::some_terminal))]
     fn has_terminals(&self) -> bool
         ensures { result ≡ spec.some kinds.is_terminal self.now }
     {
@@ -180,6 +188,7 @@ impl AllTiles {
 
     /// Whether some tile is of a kind from `first` on, below `end`.
     #[inline(always)]
+    #[tactic(auto, using(crate::proofs::Told::some_told))]
     fn some_in(&self, first: usize, end: usize) -> bool
         requires order { first ≤ end }
         requires kinds { end ≤ 34 }

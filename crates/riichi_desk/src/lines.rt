@@ -144,7 +144,10 @@ impl<W: Sink> Answering<W> {
         match self.manner.workers {
             None | Some(1) => desk_text_by::<A, SuitMemo, S, W>(rows, rules, reader, writer),
             Some(workers) => {
-                let mut crew = Crew::new(rt.alloc(), workers as usize)?;
+                let mut crew = match self.manner.form {
+                    Form::Words => Crew::new(rt.alloc(), workers as usize)?,
+                    _ => Crew::for_objects(rt.alloc(), workers as usize)?,
+                };
                 crew.answer_text::<A, R, S, W>(rt, rules, reader, writer)
             }
         }

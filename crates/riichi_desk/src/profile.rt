@@ -1,7 +1,7 @@
 //! Lines that look like a profile line and are none.
 use arrayvec::ArrayVec;
-use desk_lines::Rules;
-use memchr::{memchr, memchr2_iter, memrchr};
+use desk_lines::{Rules, ended_bytes, profile_of};
+use memchr::{memchr, memchr2_iter};
 
 /// How much of a line is looked at: more than a profile line with a byte order mark has.
 const FRONT: usize = 32;
@@ -115,8 +115,9 @@ impl ProfileWatch {
     fn end_line(&mut self) -> Option<Slip> {
         self.ended = self.ended.saturating_add(1);
         let line = self.ended;
-        let is_like = is_like_profile(self.front.as_slice());
-        let set = profile_of(self.front.as_slice());
+        let front = self.front.as_slice();
+        let is_like = is_like_profile(front);
+        let set = profile_of(front.strip_suffix(b"\r").unwrap_or(front));
         self.front.clear();
         match set {
             Some(rules) if line == 1 => {
@@ -161,14 +162,6 @@ fn line_feeds(part: &[u8]) -> u8 {
     count
 }
 
-/// How many bytes there are up to the last line feed, and with it.
-fn ended_bytes(text: &[u8]) -> usize {
-    match memrchr(b'\n', text) {
-        Some(place) => place + 1,
-        None => 0,
-    }
-}
-
 /// The first of these bytes, so many of them where there are more.
 fn at_most(count: usize, bytes: &[u8]) -> &[u8] {
     bytes.get(..count).unwrap_or(bytes)
@@ -185,18 +178,5 @@ fn begins_word(text: &[u8]) -> bool {
     match text.get(..4) {
         Some(word) => word.eq_ignore_ascii_case(b"rule"),
         None => false,
-    }
-}
-
-/// The profile that a first line sets.
-fn profile_of(line: &[u8]) -> Option<Rules> {
-    let line = line.strip_suffix(b"\r").unwrap_or(line);
-    let mut words = line
-        .split(|byte| *byte == b' ')
-        .filter(|word| !word.is_empty());
-    match (words.next(), words.next(), words.next()) {
-        (Some(b"rules"), Some(b"1"), None) => Some(Rules::One),
-        (Some(b"rules"), Some(b"2"), None) => Some(Rules::Two),
-        _ => None,
     }
 }

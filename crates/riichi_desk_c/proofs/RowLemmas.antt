@@ -54,3 +54,5 @@ module _ (told before room : List ℕ) (filled k : ℕ) (is : filled ≡ length 
       ap (λ f. f ++ (new ++ drop k (drop filled room))) front ∙ ap (λ r. told ++ (new ++ r)) rest ∙ ap (λ t. told ++ t) (append-nil new ∙ put)
       ∙ ap (λ l. told ++ (more ++ drop (length more) l)) left ∙ ap (λ l. told ++ (more ++ l)) (drop-drop (length more) filled before)
       ∙ sym (append_assoc told more (drop (filled + length more) before))
+
+pub ruleset riichi_answer_rows_facts = (first_place, kept_room, left_long, longer_room, no_places, none_there, place_next, replies_next, so_many, some_there)

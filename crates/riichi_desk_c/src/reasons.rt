@@ -9,11 +9,12 @@ ghost use Rattle.riichi_desk_c.specs.Reasons.{PlacesReason};
 use super::placing::place;
 use super::rules_numbered;
 use arrayvec::ArrayString;
-use riichi_explain::{explain_shape, explain_win, push_shanten_line, push_win_lines};
+use riichi_explain::{
+    explain_shape, explain_waits, explain_win, push_shanten_line, push_waits_line, push_win_lines,
+};
 use riichi_hand::{Job, Refusal, read_placed};
 use riichi_hints::push_refusal;
 use riichi_shape::FreshRows;
-use riichi_waits::{explain_waits, push_waits_line};
 
 /// Says why one line is answered as it is, under the profile of this number, 1 or 2: the bytes that the text takes, 0 where the
 /// line is no record. The text is put at the start of the room if all of it fits there: the lines that stand behind the

@@ -7,6 +7,7 @@ use crate::riichi_answer;
 /// Answers the rows of an array of texts, from the first on, as many as have room, and puts the place of each answer beside them,
 /// as Arrow's large_utf8 has it: how many rows. A row whose offsets go back or beyond the bytes is not answered, nor is one after it.
 #[unsafe(no_mangle)]
+#[tactic(auto, using(riichi_arrays::proofs::ColumnLemmas::fill_next, crate::proofs::RowLemmas::riichi_answer_rows_facts))]
 pub extern "C" fn riichi_answer_rows(
     rules: u32,
     bytes: &[u8],

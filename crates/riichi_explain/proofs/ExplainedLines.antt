@@ -50,10 +50,10 @@ use Rattle.riichi_explain.specs.Win.{counted_fu, explained_reading}
 use Rattle.riichi_explain.specs.Forms.{shanten_text, form_text, special_form_text as other_form, shanten_line}
 use Rattle.riichi_explain.specs.Text as text
 use Rattle.riichi_explain.specs.Words.{dora_words, dora_japanese, fu_words, fu_japanese, payer_words}
-use Rattle.riichi_waits.specs.Waits as waits
-use Rattle.riichi_waits.specs.Waits.{kind_waits}
-use Rattle.riichi_waits.specs.declared.waits.KindWait.{KindWait}
-use Rattle.riichi_waits.specs.declared.waits.WaitSorts.{WaitSorts}
+use Rattle.riichi_explain.specs.Waits as waits
+use Rattle.riichi_explain.specs.Waits.{kind_waits}
+use Rattle.riichi_explain.specs.declared.waits.KindWait.{KindWait}
+use Rattle.riichi_explain.specs.declared.waits.WaitSorts.{WaitSorts}
 use Rattle.riichi_text.specs.Lists.{joined}
 use Rattle.riichi_text.specs.Tiles.{kind_text, letter_of, digit_of, run_text, two_text, three_text, four_text, block_text, meld_text}
 use Rattle.riichi_explain.proofs.RefusalLines.{refusal_text-lines}

@@ -88,8 +88,8 @@ total-wait winning (block.Triplet kind) = refl
 total-wait winning (block.Pair kind) = refl
 
 -- the rows of sets and a pair add up to the sum of the table
-pub total-plain : (blocks : List HandBlock) (reading : Reading) (done : Block) (win : WinParts) → fu_total (plain_rows blocks reading done win) ≡ fu_sum blocks reading done win
-total-plain blocks reading done win =
+pub total_plain : (blocks : List HandBlock) (reading : Reading) (done : Block) (win : WinParts) → fu_total (plain_rows blocks reading done win) ≡ fu_sum blocks reading done win
+total_plain blocks reading done win =
     let a = earned part.Base 20 in
     let b = earned part.ConcealedRon (ron_fu win) in
     let c = earned part.SelfDraw (self_draw_fu (is_pinfu blocks reading win) win) in
@@ -111,7 +111,7 @@ total-plain blocks reading done win =
 total-standard : (blocks : List HandBlock) (reading : Reading) (done : Block) (win : WinParts) → fu_total (standard_rows blocks reading done win) ≡ fu_sum blocks reading done win + open_fu win (fu_sum blocks reading done win)
 total-standard blocks reading done win =
     let sum = fu_sum blocks reading done win in
-    omega (arith, total-append (plain_rows blocks reading done win) (earned part.OpenRon (open_fu win sum)), total-plain blocks reading done win, total-earned part.OpenRon (open_fu win sum))
+    omega (arith, total-append (plain_rows blocks reading done win) (earned part.OpenRon (open_fu win sum)), total_plain blocks reading done win, total-earned part.OpenRon (open_fu win sum))
 
 -- the rows of a reading give its fu
 pub rows_give_fu : (reading : Reading) (win : WinParts) → fu_from_rows reading (fu_rows reading win) ≡ fu_of reading win

@@ -45,23 +45,25 @@ rows_give_han set win =
     omega (arith, total-append (map (yaku_row (are_concealed win.melds)) (yaku_in set)) (dora_row win), total-yaku set (are_concealed win.melds), total-dora win)
 
 -- those of a yakuman have no han
-pub total-yakuman : (yaku : List Yaku) → han_total (map yakuman_row yaku) ≡ 0
-total-yakuman [] = refl
-total-yakuman (first ∷ rest) = omega (arith, total-yakuman rest)
+pub total_yakuman : (yaku : List Yaku) → han_total (map yakuman_row yaku) ≡ 0
+total_yakuman [] = refl
+total_yakuman (first ∷ rest) = omega (arith, total_yakuman rest)
 
 -- ---- both
 
-pub han_rows-counted : (set : ℕ) (win : WinParts) → is_yakuman set ≡ false → map (yaku_row (are_concealed win.melds)) (yaku_in set) ++ dora_row win ≡ han_rows set win
+pub han_rows_counted : (set : ℕ) (win : WinParts) → is_yakuman set ≡ false → map (yaku_row (are_concealed win.melds)) (yaku_in set) ++ dora_row win ≡ han_rows set win
 unfolding han_rows
-han_rows-counted set win counted =
+han_rows_counted set win counted =
     sym (ap (λ yakuman. cond yakuman (map yakuman_row (yaku_in set)) (map (yaku_row (are_concealed win.melds)) (yaku_in set) ++ dora_row win)) counted)
 
 total-cases : (set : ℕ) (win : WinParts) (yakuman : Bool) →
     han_total (cond yakuman (map yakuman_row (yaku_in set)) (map (yaku_row (are_concealed win.melds)) (yaku_in set) ++ dora_row win))
     ≡ cond yakuman 0 (han_of set (are_concealed win.melds) + dora_of win)
-total-cases set win true = total-yakuman (yaku_in set)
+total-cases set win true = total_yakuman (yaku_in set)
 total-cases set win false = rows_give_han set win
 
 pub han_rows-total : (set : ℕ) (win : WinParts) → han_total (han_rows set win) ≡ cond (is_yakuman set) 0 (han_of set (are_concealed win.melds) + dora_of win)
 unfolding han_rows
 han_rows-total set win = total-cases set win (is_yakuman set)
+
+pub ruleset han_rows_facts = (han_rows_counted, rows_give_han, total_yakuman)

@@ -10,3 +10,5 @@ pub mod PlainTexts
 pub mod RefusalLines
 pub mod RulesLines
 pub mod ExplainedLines
+pub mod Lists
+pub mod WaitLemmas

@@ -3,7 +3,7 @@ use Rattle.std.proofs.Common.{◌≡◌, ℕ, zero, suc, ◌+◌, ◌<◌, ◌%�
 use Rattle.std.specs.Prelude.{not, ◌&&◌, codes, decimal}
 use Rattle.std.specs.Fmt.{digits, digits_onto, digit_glyph}
 use Rattle.std.specs.List.{list_all, flat_map}
-use Rattle.std.proofs.lemmas.Bool.{ne_eqb}
+use Rattle.std.proofs.lemmas.Bool.{ne_eqb, and_parts}
 use Rattle.std.proofs.lemmas.List.Folds.{list_all-append}
 use Rattle.riichi_tiles.specs.Printing.{tiles_text, group}
 use Rattle.riichi_tiles.specs.Printing as printing
@@ -45,10 +45,6 @@ joined-plain separator text (x ∷ xs) p q = after (text x) (flat_map (λ next. 
     later : (ys : List _) → plain (flat_map (λ next. separator ++ next) (map text ys)) ≡ true
     later [] = refl
     later (y ∷ ys) = after (separator ++ text y) (flat_map (λ next. separator ++ next) (map text ys)) (after separator (text y) p (q y)) (later ys)
-
-pub and_both : (a b : Bool) → (a && b) ≡ true → (a ≡ true) × (b ≡ true)
-and_both true b p = (refl, p)
-and_both false b p = absurd (cc)
 
 -- ---- numbers
 
@@ -136,7 +132,7 @@ are_indented text = within true text
 pub pass : (text rest : List ℕ) → plain text ≡ true → within false (text ++ rest) ≡ within false rest
 pass [] rest p = refl
 pass (byte ∷ text) rest p =
-    let parts = and_both (not (nat_eq byte 10)) (plain text) p in
+    let parts = and_parts (not (nat_eq byte 10)) (plain text) p in
     ap (λ feed. within feed (text ++ rest)) (not_true (nat_eq byte 10) parts.0) ∙ pass text rest parts.1
   where
     not_true : (b : Bool) → not b ≡ true → b ≡ false
@@ -149,8 +145,8 @@ within-append true [] more p q = q
 within-append false [] more p q = cc
 within-append true (byte ∷ []) more p q = cc
 within-append true (byte ∷ next ∷ text) more p q =
-    let first = and_both (nat_eq byte 32) (nat_eq next 32 && within false text) p in
-    let second = and_both (nat_eq next 32) (within false text) first.1 in
+    let first = and_parts (nat_eq byte 32) (nat_eq next 32 && within false text) p in
+    let second = and_parts (nat_eq next 32) (within false text) first.1 in
     rw (first.0, second.0) (within-append false text more second.1 q)
 within-append false (byte ∷ text) more p q = within-append (nat_eq byte 10) text more p q
 

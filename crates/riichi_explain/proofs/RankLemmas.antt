@@ -13,11 +13,10 @@ use Rattle.std.proofs.lemmas.List.Elements.{All-cons, All-head, All-same, All-dr
 use Rattle.std.proofs.lemmas.List.Sorted.{IsPermutation-insert, IsPermutation-map, IsPermutation-push_more, All-permutation}
 use Rattle.riichi_hand.specs.declared.win.WinParts.{WinParts}
 use Rattle.riichi_split.specs.declared.reading.Reading.{Reading}
-use Rattle.riichi_split.specs.declared.reading.Reading.TheVariants.{Standard, SevenPairs, Orphans}
 use Rattle.riichi_score.specs.declared.score.Score.{Score}
 use Rattle.riichi_score.specs.Fu.{HasFourSets}
 use Rattle.riichi_score.specs.Scores.{score_of, IsReadingOf}
-use Rattle.riichi_score.proofs.Greatest.{AreReadingsOf}
+use Rattle.riichi_score.proofs.Greatest.{AreReadingsOf, four_sets}
 use Rattle.riichi_explain.specs.declared.ranked.RankedReading.{RankedReading}
 use Rattle.riichi_explain.specs.declared.ranked.Ranking.{Ranking}
 use Rattle.riichi_explain.specs.Ranked.{rank_if, is_worth_more, AreInOrder, AreRanked}
@@ -43,11 +42,11 @@ behind xs place x d k after within =
     let next : k ≡ (k - 1) + 1 = omega arith in
     ap (λ n. get_or (insert xs place x) n d) next ∙ get_or-insert_above xs place x d (k - 1) (omega arith) within
 
-pub in_order-insert : (xs : List RankedReading) (place : ℕ) (x : RankedReading) → AreInOrder xs → place ≤ length xs
+pub in_order_insert : (xs : List RankedReading) (place : ℕ) (x : RankedReading) → AreInOrder xs → place ≤ length xs
     → ((other : RankedReading) (last : ℕ) → last + 1 ≡ place → is_worth_more x.score (get_or xs last other).score ≡ false)
     → ((other : RankedReading) → place < length xs → is_worth_more x.score (get_or xs place other).score ≡ true)
     → AreInOrder (insert xs place x)
-in_order-insert xs place x order within before after k d low next =
+in_order_insert xs place x order within before after k d low next =
     let more = length-insert xs place x within in
     let ys = insert xs place x in
     elim (cases_lt (k + 1) place) as (λ _. is_worth_more (get_or ys (k + 1) d).score (get_or ys k d).score ≡ false) [
@@ -91,11 +90,6 @@ scored-insert win ranked place x is h =
     All-permutation scored (x ∷ ranked) (insert ranked place x) (IsPermutation-insert ranked place x) (All-cons scored x ranked is h)
 
 -- ---- the next reading of the hand
-
-four_sets : (win : WinParts) (read : Reading) → IsReadingOf win read → HasFourSets read win
-four_sets win (Standard sets pair done) h = h.0.four
-four_sets win SevenPairs h = tt
-four_sets win Orphans h = tt
 
 pub next_four_sets : (win : WinParts) (readings rest : List Reading) (turn : ℕ) (next : Reading) → AreReadingsOf win readings → drop turn readings ≡ next ∷ rest → HasFourSets next win
 next_four_sets win readings rest turn next are is =

@@ -22,7 +22,7 @@ use Rattle.riichi_explain.specs.Forms.{AreFormDistances, shanten_line}
 use Rattle.riichi_explain.specs.Missed.{missed_lines}
 use Rattle.riichi_explain.specs.Others.{IsOthersText}
 use Rattle.riichi_explain.specs.Text.{won_hand_text, no_yaku_line, line_feed}
-use Rattle.riichi_waits.specs.Waits.{kind_waits, waits_line}
+use Rattle.riichi_explain.specs.Waits.{kind_waits, waits_line}
 use Rattle.riichi_explain.specs.Win.{Explains, explained_answer, explained_reading}
 
 -- the lines of readings without yaku: of the first twelve

@@ -12,3 +12,4 @@ pub mod Ranked
 pub mod Others
 pub mod Explanation
 pub mod Equality
+pub mod Waits

@@ -1,8 +1,8 @@
 -- A hand that has no reading: what it waits for, and the lines that say so.
 use Rattle.std.specs.Prelude.{ℕ, List, [], ◌∷◌, ◌++◌, map, codes}
 use Rattle.riichi_text.specs.Lists.{joined}
-use Rattle.riichi_waits.specs.declared.waits.KindWait.{KindWait}
-use Rattle.riichi_waits.specs.Waits.{wait_text}
+use Rattle.riichi_explain.specs.declared.waits.KindWait.{KindWait}
+use Rattle.riichi_explain.specs.Waits.{wait_text}
 use Rattle.riichi_explain.specs.declared.missed.MissedWin.{MissedWin}
 use Rattle.riichi_explain.specs.Forms.{shanten_line}
 

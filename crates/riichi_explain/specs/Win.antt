@@ -13,7 +13,7 @@ use Rattle.riichi_explain.specs.declared.win.WonHand.{WonHand}
 use Rattle.riichi_explain.specs.declared.win.WinExplanation.{WinExplanation}
 use Rattle.riichi_explain.specs.declared.win.WinExplanation.TheVariants.{Won, NoYaku, NoWin}
 use Rattle.riichi_explain.specs.Base.{base_rule, points_by}
-use Rattle.riichi_waits.specs.Waits.{kind_waits}
+use Rattle.riichi_explain.specs.Waits.{kind_waits}
 use Rattle.riichi_explain.specs.declared.missed.MissedWin.{MissedWin}
 use Rattle.riichi_explain.specs.Forms.{AreFormDistances}
 use Rattle.riichi_explain.specs.Dora.{dora_rows, dora_total}

@@ -1,4 +1,4 @@
-//! Equality of rows.
+//! Equality of rows and of waits.
 ghost use Rattle.std.proofs.Common.{rules};
 
 use crate::base::{BaseRule, Limit};
@@ -6,6 +6,7 @@ use crate::dora::{DoraPart, DoraRow};
 use crate::fu::{FuPart, FuRow};
 use crate::han::{HanPart, HanRow};
 use crate::payers::{PayRow, Payer};
+use crate::waits::{KindWait, WaitSorts};
 use riichi_tiles::Decided;
 
 impl Decided for HanPart {
@@ -21,15 +22,13 @@ impl Decided for HanRow {
 }
 
 impl Decided for FuPart {
-    ghost use Rattle.riichi_explain.specs.Equality.{fu_parts_decide};
-
-    ghost decides = { fu_parts_decide };
+    ghost decides = { λ a b. Prim.search rules };
 }
 
 impl Decided for FuRow {
-    ghost use Rattle.riichi_explain.specs.Equality.{fu_rows_decide};
+    ghost use Rattle.riichi_explain.specs.contracts.decided.FuPartDecided.TheImpl.Laws.{decides-law as parts};
 
-    ghost decides = { fu_rows_decide };
+    ghost decides = { λ a b. Prim.search (rules, parts) };
 }
 
 impl Decided for Limit {
@@ -54,4 +53,16 @@ impl Decided for DoraPart {
 
 impl Decided for DoraRow {
     ghost decides = { λ a b. Prim.search rules };
+}
+
+impl Decided for WaitSorts {
+    ghost use Rattle.riichi_explain.specs.Equality.{sorts_decide};
+
+    ghost decides = { sorts_decide };
+}
+
+impl Decided for KindWait {
+    ghost use Rattle.riichi_explain.specs.Equality.{kind_waits_decide};
+
+    ghost decides = { kind_waits_decide };
 }

@@ -43,6 +43,7 @@ impl Default for DoraRow {
 pub type DoraRows = ArrayVec<DoraRow, 3>;
 
 /// The rows of a win's dora. They add up to its dora.
+#[tactic(auto, using(crate::proofs::DoraLemmas::rows_give_dora))]
 pub fn dora_rows(win: &WinRecord) -> DoraRows
     ensures value { result.items ≡ spec.dora_rows win.now }
     ensures adds_up { spec.dora_total result.items ≡ dora_of win.now }
@@ -81,6 +82,7 @@ fn push_counted(rows: &mut DoraRows, part: DoraPart, han: u32)
 }
 
 /// The dora that some indicators make.
+#[tactic(auto, using(riichi_score::proofs::DoraSums::kinds_more))]
 fn shown_dora(indicators: &Counts, win: &WinRecord) -> u32
     ensures { result ≡ spec.shown_dora indicators.now win.now }
 {

@@ -13,6 +13,7 @@ use riichi_shape::{FormDistances, RowSource, form_distances};
 use riichi_text::push_number;
 
 /// How far the tiles of a shape are from each form, by the rows of a source. The least of these, less one, is its shanten.
+#[tactic(auto, using(riichi_shape::proofs::ShapeFacts::melds_few, crate::proofs::FormLemmas::distances_of))]
 pub fn explain_shape<R: RowSource>(source: &mut R, shape: &ShapeRecord) -> FormDistances
     ensures forms { spec.AreFormDistances shape.now.tiles shape.now.melds result }
     ensures least { pos (least_of result) -ℤ pos 1 ≡ shanten_of shape.now.tiles shape.now.melds }

@@ -59,7 +59,7 @@ impl Default for FuRow {
 pub type FuRows = ArrayVec<FuRow, 24>;
 
 /// The rows of a reading, whose sets and melds are four. Their sum is the fu before it is rounded.
-#[tactic(auto, unfolding(crate::specs::Fu::fu_rows))]
+#[tactic(auto, using(crate::proofs::FuLemmas::rows_give_fu), unfolding(crate::specs::Fu::fu_rows))]
 pub fn fu_rows(reading: &Reading, win: &WinRecord) -> FuRows
     requires { HasFourSets reading.now win.now }
     ensures value { result.items ≡ spec.fu_rows reading.now win.now }
@@ -81,6 +81,7 @@ fn rows_from(blocks: &Blocks, reading: &Reading, win: &WinRecord) -> FuRows
     rows
 }
 
+#[tactic(auto, using(crate::proofs::FuLemmas::total_plain))]
 fn push_standard(
     rows: &mut FuRows,
     blocks: &Blocks,

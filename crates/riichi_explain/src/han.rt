@@ -45,7 +45,7 @@ impl Default for HanRow {
 pub type HanRows = ArrayVec<HanRow, 43>;
 
 /// The rows of a win that has this set of yaku. Those of a counted hand add up to its han.
-#[tactic(auto, unfolding(crate::specs::Han::han_rows))]
+#[tactic(auto, using(crate::proofs::HanLemmas::han_rows_facts), unfolding(crate::specs::Han::han_rows))]
 pub fn han_rows(set: YakuSet, win: &WinRecord) -> HanRows
     ensures value { result.items ≡ spec.han_rows set win.now }
     ensures counted { is_yakuman set ≡ false → spec.han_total result.items

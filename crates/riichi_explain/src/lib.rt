@@ -1,9 +1,17 @@
-//! Why an answer is what it is.
+//! Why an answer is what it is: a win, a shape, a wait.
 //!
 //! [`explain_win`] gives the reading of a win that scores and the rows of it, which add up; [`explain_shape`] how far a shape is
 //! from each form. [`push_win_lines`] and [`push_shanten_line`] write their lines, which begin with two spaces.
 //! [`ranked_readings`] gives every reading of a win with its score, the best first, and [`push_other_readings`] writes what
-//! those are worth that aren't the best. Why a hand waits for a kind, `riichi_waits` says. No call takes memory.
+//! those are worth that aren't the best. No call takes memory.
+//!
+//! [`explain_waits`] gives the kinds that a hand waits for, each as a [`KindWait`]: the copies that neither hand nor melds hold,
+//! and the sorts of wait that the readings of the hand with one more of the kind make. [`push_waits_line`] writes their line.
+//!
+//! ```text
+//! waits 123456789m1134p
+//!   2p 4 left, two-sided (ryanmen); 5p 4 left, two-sided (ryanmen)
+//! ```
 #![tactic(auto)]
 
 mod base;
@@ -20,6 +28,8 @@ mod points_text;
 mod ranked;
 mod reading_text;
 mod rows_text;
+mod waits;
+mod waits_text;
 mod win;
 mod win_text;
 mod words;
@@ -35,6 +45,8 @@ pub use others::push_other_readings;
 pub use payers::{PayRow, PayRows, Payer, pay_rows};
 pub use ranked::{RankedReading, Ranking, ranked_readings};
 pub use reading_text::push_no_yaku;
+pub use waits::{ExplainedWaits, KindWait, KindWaits, WaitSorts, explain_waits};
+pub use waits_text::push_waits_line;
 pub use win::{WinExplanation, WonHand, explain_win};
 pub use win_text::{push_won_hand, won_hand_text};
 pub use words::{dora_japanese, dora_words, fu_japanese, fu_words, payer_words};

@@ -4,16 +4,16 @@ ghost use Rattle.arrayvec.specs.ArrayString.{array_string_len};
 ghost use Rattle.riichi_hand.specs.Win.{IsWinRecord};
 ghost use Rattle.riichi_score.specs.Limits.{waiting_hand};
 ghost use Rattle.riichi_score.specs.Scores.{completed_hand};
-ghost use Rattle.riichi_waits.specs.Waits.{kind_waits};
+ghost use Rattle.riichi_explain.specs.Waits.{kind_waits};
 ghost use Rattle.riichi_explain.specs.Forms.{AreFormDistances};
 ghost use Rattle.riichi_explain.specs.Missed as spec;
 
 use crate::forms::{push_shanten_line, win_forms};
+use crate::waits::{KindWait, KindWaits, explain_waits};
 use arrayvec::{ArrayString, ArrayVec};
 use riichi_hand::{HandRecord, WinRecord};
 use riichi_shape::{FormDistances, RowSource};
 use riichi_text::push_list;
-use riichi_waits::{KindWait, KindWaits, explain_waits};
 
 /// A hand that has no reading.
 #[derive(Drop)]
@@ -36,6 +36,7 @@ pub(crate) fn missed_win<R: RowSource>(source: &mut R, win: &WinRecord) -> Misse
 }
 
 /// The kinds that the hand waits for before the winning tile.
+#[tactic(auto, using(riichi_score::proofs::HandBefore::hand_before))]
 fn waits_before(win: &WinRecord) -> KindWaits
     ensures { result.items ≡ kind_waits (waiting_hand win.now) }
 {

@@ -18,6 +18,7 @@ use riichi_split::{Reading, Readings};
 
 /// Writes the lines of each reading of a win but the one that is shown, the best first: its yaku with their han, its fu and
 /// its gain, or that it has no yaku.
+#[tactic(auto, using(crate::proofs::RankLemmas::ranked_four_sets))]
 pub fn push_other_readings(text: &mut ArrayString<4608>, shown: &Reading, win: &WinRecord)
     requires { text.old.bytes ≡ [] }
     ensures { spec.IsOthersText shown.now win.now text.new.bytes }
@@ -36,6 +37,7 @@ fn has_next(rest: Readings) -> bool
 }
 
 /// Writes the lines of readings as long as there is room for them.
+#[tactic(auto, using(crate::proofs::FittingLemmas::fits_more, crate::proofs::FittingLemmas::fits_no_more))]
 fn push_fitting(
     text: &mut ArrayString<4608>,
     shown: &Reading,
@@ -53,18 +55,18 @@ fn push_fitting(
         lines.clear();
         push_unless_shown(&mut lines, shown, one, win);
         if text.remaining_capacity() < lines.len() + 60 {
-            push_more(text);
+            push_more_line(text);
             return;
         }
         text.push_str(lines.as_str());
     }
     if has_more {
-        push_more(text);
+        push_more_line(text);
     }
 }
 
 /// Writes that there are more readings.
-fn push_more(text: &mut ArrayString<4608>)
+fn push_more_line(text: &mut ArrayString<4608>)
     requires { array_string_len text.old + 60 ≤ 4608 }
     ensures { text.new.bytes ≡ text.old.bytes ++ spec.more_line }
 {

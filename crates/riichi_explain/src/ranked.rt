@@ -60,6 +60,7 @@ pub fn ranked_readings(win: &WinRecord) -> Ranking
 }
 
 /// Puts a reading behind those that are worth as much.
+#[tactic(auto, using(crate::proofs::RankLemmas::in_order_insert))]
 fn insert(ranked: &mut ArrayVec<RankedReading, MOST_READINGS>, reading: Reading, win: &WinRecord)
     requires sets { HasFourSets reading win.now }
     requires room { length ranked.old.items < 12 }

@@ -114,6 +114,7 @@ fn push_set(text: &mut ArrayString<4608>, set: &Block)
     text.push_str(" ");
 }
 
+#[tactic(auto, using(riichi_text::proofs::Pieces::flat_map_get, riichi_text::proofs::Pieces::some_there))]
 fn push_spaced_melds(text: &mut ArrayString<4608>, melds: &Melds)
     requires { array_string_len text.old + 48 ≤ 4608 }
     ensures bytes { text.new.bytes ≡ text.old.bytes ++ flat_map spec.spaced_meld melds.now }

@@ -4,7 +4,6 @@ use riichi_explain::*;
 use riichi_hand::{Job, Rules, WinRecord, read_line};
 use riichi_score::WinAnswer;
 use riichi_shape::{FormDistances, FreshRows};
-use riichi_waits::{KindWaits, explain_waits, push_waits_line};
 use std::process::Abort;
 use std::test::Fail;
 

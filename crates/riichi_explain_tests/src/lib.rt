@@ -1,4 +1,4 @@
-//! Tests of `riichi_refusals` and `riichi_hints`, and of `riichi_explain` with `riichi_waits`, a module each, by what they export.
+//! Tests of `riichi_refusals`, `riichi_hints` and `riichi_explain`, a module each, by what they export.
 //!
 //! They stand apart from the libraries, since a check of a crate with its tests proves the crate once more.
 #![tactic(auto)]

@@ -28,3 +28,5 @@ pub next_item : (text : List ℕ) (front : List (List ℕ)) (rest item after : L
     → items_of text ≡ (front ++ item ∷ []) ++ items_of after
 next_item text front rest item after are some =
     are ∙ ap (λ items. front ++ items) (items_of-cut rest ∙ ap (items_of_cut rest) some) ∙ sym (append_assoc front (item ∷ []) (items_of after))
+
+pub ruleset read_melds_facts = (last_item, next_item)

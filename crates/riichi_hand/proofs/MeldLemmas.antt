@@ -26,27 +26,27 @@ some_length : (item : List ℕ) (melds : List Meld) → is_spelled item ≡ true
 some_length item melds = elim (meld_of item) as (λ (meld : Option Meld). is_some meld ≡ true → length (cons_option meld melds) ≡ suc (length melds)) [ None ↦ λ h. absurd (cc) | Some meld ↦ λ h. refl ]
 
 -- as many melds as items
-pub length-filter_map : (items : List (List ℕ)) → list_all is_spelled items ≡ true → length (filter_map meld_of items) ≡ length items
-length-filter_map [] each = refl
-length-filter_map (item ∷ items) each =
+pub length_filter_map : (items : List (List ℕ)) → list_all is_spelled items ≡ true → length (filter_map meld_of items) ≡ length items
+length_filter_map [] each = refl
+length_filter_map (item ∷ items) each =
     let p = and_parts (is_spelled item) (list_all is_spelled items) each in
-    some_length item (filter_map meld_of items) p.0 ∙ ap suc (length-filter_map items p.1)
+    some_length item (filter_map meld_of items) p.0 ∙ ap suc (length_filter_map items p.1)
 
 -- a fifth item
-pub melds_of_items-fifth : (items : List (List ℕ)) (item : List ℕ) → length items ≡ 4 → None ≡ melds_of_items (items ++ item ∷ [])
-melds_of_items-fifth items item four =
+pub melds_of_items_fifth : (items : List (List ℕ)) (item : List ℕ) → length items ≡ 4 → None ≡ melds_of_items (items ++ item ∷ [])
+melds_of_items_fifth items item four =
     let over : nat_le (length (items ++ item ∷ [])) 4 ≡ false = lt-leb (length (items ++ item ∷ [])) 4 (omega (arith, length-append items (item ∷ []))) in
     rw over (elim (list_all is_spelled (items ++ item ∷ [])) as (λ each. None ≡ (if each && false then Some (filter_map meld_of (items ++ item ∷ [])) else None)) [ true ↦ refl | false ↦ refl ])
 
-pub melds_of_items-meld : (melds : List Meld) (items : List (List ℕ)) (item : List ℕ) (meld : Meld) → Stands melds items → length items < 4 → meld_of item ≡ Some meld → Some (melds ++ meld ∷ []) ≡ melds_of_items (items ++ item ∷ [])
-melds_of_items-meld melds items item meld stands room is =
+pub melds_of_items_meld : (melds : List Meld) (items : List (List ℕ)) (item : List ℕ) (meld : Meld) → Stands melds items → length items < 4 → meld_of item ≡ Some meld → Some (melds ++ meld ∷ []) ≡ melds_of_items (items ++ item ∷ [])
+melds_of_items_meld melds items item meld stands room is =
     let few : nat_le (length (items ++ item ∷ [])) 4 ≡ true = le-leb (length (items ++ item ∷ [])) 4 (omega (arith, length-append items (item ∷ []))) in
     let one : filter_map meld_of (item ∷ []) ≡ meld ∷ [] = rw is refl in
     rw (few, list_all-append is_spelled items (item ∷ []), stands.each, is, filter_map-append meld_of items (item ∷ []), one, stands.melds_are) refl
 
 -- What is refused stays refused.
-pub melds_of_items-none : (items others : List (List ℕ)) → None ≡ melds_of_items items → None ≡ melds_of_items (items ++ others)
-melds_of_items-none items others none =
+pub melds_of_items_none : (items others : List (List ℕ)) → None ≡ melds_of_items items → None ≡ melds_of_items (items ++ others)
+melds_of_items_none items others none =
     elim (cases_Bool (list_all is_spelled (items ++ others) && nat_le (length (items ++ others)) 4)) [
       | inl both ↦ absurd (
           let p = and_parts (list_all is_spelled (items ++ others)) (nat_le (length (items ++ others)) 4) both in
@@ -55,3 +55,5 @@ melds_of_items-none items others none =
           let e : None ≡ Some (filter_map meld_of items) = rw (every.0, few) at none in cc)
       | inr other ↦ rw other refl
     ]
+
+pub ruleset add_meld_facts = (stands_from, length_filter_map, melds_of_items_fifth, melds_of_items_meld)

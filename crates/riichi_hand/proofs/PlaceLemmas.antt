@@ -2,7 +2,8 @@
 use Rattle.std.proofs.Common.{◌≡◌, ℕ, inl, inr, List, [], ◌∷◌, ◌++◌, map, Bool, true, false, Option, Some, None, refl, sym, ◌∙◌, ap, append_assoc}
 use Rattle.std.specs.Prelude.{◌||◌, option_map, is_some, if◌then◌else◌}
 use Rattle.std.specs.List.{list_any}
-use Rattle.std.proofs.lemmas.Bool.{cases_Bool}
+use Rattle.std.proofs.lemmas.Bool.{cases_Bool, or_parts}
+use Rattle.std.proofs.Math.Bool.{or-true}
 use Rattle.riichi_hand.specs.declared.fault.LineFault.{LineFault}
 use Rattle.riichi_hand.specs.declared.fault.LineFault.TheVariants.{Line, Notation}
 use Rattle.riichi_hand.specs.declared.fault.LineCode.TheVariants.{H1, H2, H3, H4, H5, H6, H7, H8, H9, H10, H11, H12, H13, H14, H15, H16}
@@ -14,28 +15,20 @@ use Rattle.riichi_hand.specs.Places.{or_other, first_at, bad_from, doubled_from,
 
 -- ---- the first word that is no entry
 
-any_parts : (a b : Bool) → (a || b) ≡ false → (a ≡ false) × (b ≡ false)
-any_parts false b none = (refl, none)
-any_parts true b none = absurd (cc)
-
-or_true : (a : Bool) → (a || true) ≡ true
-or_true false = refl
-or_true true = refl
-
 pub any_bad : (job : JobName) (froms more : List (List ℕ)) (from : List ℕ) → is_bad job (word_of from) ≡ true → list_any (is_bad job) (map word_of (froms ++ from ∷ more)) ≡ true
 any_bad job [] more from bad = rw bad refl
-any_bad job (first ∷ froms) more from bad = ap (λ other. is_bad job (word_of first) || other) (any_bad job froms more from bad) ∙ or_true (is_bad job (word_of first))
+any_bad job (first ∷ froms) more from bad = ap (λ other. is_bad job (word_of first) || other) (any_bad job froms more from bad) ∙ or-true (is_bad job (word_of first))
 
 pub bad_from-here : (job : JobName) (froms more : List (List ℕ)) (from : List ℕ) → list_any (is_bad job) (map word_of froms) ≡ false → is_bad job (word_of from) ≡ true → bad_from job (froms ++ from ∷ more) ≡ Some from
 bad_from-here job [] more from good bad = rw bad refl
 bad_from-here job (first ∷ froms) more from good bad =
-    let parts = any_parts (is_bad job (word_of first)) (list_any (is_bad job) (map word_of froms)) good in
+    let parts = or_parts (is_bad job (word_of first)) (list_any (is_bad job) (map word_of froms)) good in
     rw parts.0 (bad_from-here job froms more from parts.1 bad)
 
 bad_from-none : (job : JobName) (froms : List (List ℕ)) → list_any (is_bad job) (map word_of froms) ≡ false → bad_from job froms ≡ None
 bad_from-none job [] good = refl
 bad_from-none job (first ∷ froms) good =
-    let parts = any_parts (is_bad job (word_of first)) (list_any (is_bad job) (map word_of froms)) good in
+    let parts = or_parts (is_bad job (word_of first)) (list_any (is_bad job) (map word_of froms)) good in
     rw parts.0 (bad_from-none job froms parts.1)
 
 -- ---- the word with which words first pass a test

@@ -1,7 +1,7 @@
 -- No line has more red fives than fives.
 use Rattle.std.proofs.Common.{◌≡◌, ℕ, List, [], ◌∷◌, ◌++◌, Bool, true, false, Option, Some, None, Ok, Err, nat_lt, refl, sym, inl, inr}
 use Rattle.std.specs.Prelude.{◌&&◌, length, not, is_some, option_map}
-use Rattle.std.proofs.lemmas.Bool.{cases_Bool}
+use Rattle.std.proofs.lemmas.Bool.{cases_Bool, and_right}
 use Rattle.riichi_hand.specs.declared.fault.LineCode.TheVariants.{H1, H2, H3, H4, H5, H6, H7, H8, H9, H10, H11, H12, H13, H14, H15, H16}
 use Rattle.riichi_hand.specs.declared.fault.LineFault.{LineFault}
 use Rattle.riichi_hand.specs.declared.fault.LineFault.TheVariants.{Line}
@@ -28,16 +28,12 @@ after_melds : (spelled : Bool) (faults : List (Option LineFault)) → first_faul
 after_melds true faults is = (refl, is)
 after_melds false faults is = absurd (cc)
 
-not_many : (keeps many : Bool) → many ≡ false → (keeps && many) ≡ false
-not_many true many few = few
-not_many false many few = refl
-
 win_not : (win : WinParts) → has_too_many_reds win ≡ false → first_fault (win_faults win) ≡ Some (Line H16) → ⊥
 win_not win few is =
     let keeps = win.rules.red_fives in
     let reds = keeps && has_too_many_reds win in
     let last = after_others H16 ((H4, _) ∷ (H8, _) ∷ (H9, _) ∷ (H10, _) ∷ (H11, _) ∷ (H12, _) ∷ (H13, _) ∷ (H14, _) ∷ (H15, _) ∷ []) (coded H16 reds ∷ []) refl is in
-    let none : None ≡ Some (Line H16) = rw (not_many keeps (has_too_many_reds win) few) at last in cc
+    let none : None ≡ Some (Line H16) = rw (and_right keeps (has_too_many_reds win) few) at last in cc
 
 win_told : (rules : House) (parts : LineParts) (only : Option ℕ) (keys : Option WinKeys) → is_some (melds_if_given (value Open parts)) ≡ true → only_kind (texts_of parts).on ≡ only
     → first_fault (coded H8 (not (is_some only)) ∷ faults_of_win (and_then only (λ winning. option_map (win_parts rules parts (texts_of parts) winning) keys))) ≡ Some (Line H16) → ⊥

@@ -30,9 +30,9 @@ word_end text len within all after =
     omega (arith, ap (position_or_len is_space) (take-append-drop len text), position_or_len-word (take len text) (drop len text) all rest, length-take len text, within)
 
 -- spaces before the words
-pub from_words-spaces : (spaces rest : List ℕ) → list_all (λ byte. nat_eq byte 32) spaces ≡ true → from_words (spaces ++ rest) ≡ from_words rest
-from_words-spaces [] rest all = refl
-from_words-spaces (byte ∷ spaces) rest all = let h = and_parts (nat_eq byte 32) (list_all (λ byte. nat_eq byte 32) spaces) all in rw h.0 (from_words-spaces spaces rest h.1)
+pub from_words_spaces : (spaces rest : List ℕ) → list_all (λ byte. nat_eq byte 32) spaces ≡ true → from_words (spaces ++ rest) ≡ from_words rest
+from_words_spaces [] rest all = refl
+from_words_spaces (byte ∷ spaces) rest all = let h = and_parts (nat_eq byte 32) (list_all (λ byte. nat_eq byte 32) spaces) all in rw h.0 (from_words_spaces spaces rest h.1)
 
 spaced : (byte : ℕ) (bytes : List ℕ) (test : Bool) → test ≡ true → starts (not test) bytes ≡ (if test then starts false bytes else (byte ∷ bytes) ∷ starts true bytes)
 spaced byte bytes true is = refl
@@ -72,7 +72,9 @@ pub from_words-begins : (text : List ℕ) → 0 < length text → begins_with_sp
 from_words-begins [] some begins = absurd (omega arith)
 from_words-begins (byte ∷ bytes) some begins = (starts true bytes, ap (λ (test : Bool). if test then starts false bytes else (byte ∷ bytes) ∷ starts true bytes) begins)
 
-pub without_spaces-past : (spaces rest : List ℕ) → list_all (λ byte. nat_eq byte 32) spaces ≡ true → begins_with_space rest ≡ false → without_spaces (spaces ++ rest) ≡ rest
-without_spaces-past [] [] all begins = refl
-without_spaces-past [] (byte ∷ bytes) all begins = rw begins refl
-without_spaces-past (byte ∷ spaces) rest all begins = let h = and_parts (nat_eq byte 32) (list_all (λ byte. nat_eq byte 32) spaces) all in rw h.0 (without_spaces-past spaces rest h.1 begins)
+pub without_spaces_past : (spaces rest : List ℕ) → list_all (λ byte. nat_eq byte 32) spaces ≡ true → begins_with_space rest ≡ false → without_spaces (spaces ++ rest) ≡ rest
+without_spaces_past [] [] all begins = refl
+without_spaces_past [] (byte ∷ bytes) all begins = rw begins refl
+without_spaces_past (byte ∷ spaces) rest all begins = let h = and_parts (nat_eq byte 32) (list_all (λ byte. nat_eq byte 32) spaces) all in rw h.0 (without_spaces_past spaces rest h.1 begins)
+
+pub ruleset without_spaces_facts = (from_words_spaces, without_spaces_past)

@@ -7,11 +7,8 @@ use Rattle.std.proofs.lemmas.Bool.Decides.{Decides-and, Decides-eqb, Decides-lik
 use Rattle.riichi_tiles.specs.contracts.decided.CountsDecided.TheImpl.Laws.{decides-law as counts}
 use Rattle.riichi_tiles.specs.contracts.decided.MeldsDecided.TheImpl.Laws.{decides-law as melds}
 use Rattle.riichi_tiles.specs.contracts.decided.RedsDecided.TheImpl.Laws.{decides-law as reds}
-use Rattle.riichi_hand.specs.HandParts.{HandParts, ShapeParts}
 use Rattle.riichi_hand.specs.declared.win.Flags.{Flags}
 use Rattle.riichi_hand.specs.declared.win.WinParts.{WinParts}
-use Rattle.riichi_hand.specs.contracts.hand.HandRecordPartialEq.TheImpl.{ghosts as hand}
-use Rattle.riichi_hand.specs.contracts.shape.ShapeRecordPartialEq.TheImpl.{ghosts as shape}
 use Rattle.riichi_hand.specs.contracts.win.FlagsPartialEq.TheImpl.{ghosts as flags}
 use Rattle.riichi_hand.specs.contracts.win.WinPartsPartialEq.TheImpl.{ghosts as parts}
 use Rattle.riichi_hand.specs.contracts.decided.WindDecided.TheImpl.Laws.{decides-law as wind}
@@ -24,16 +21,6 @@ flags_decide a b =
     (λ e. (ap (λ f. f.ippatsu) e, (ap (λ f. f.rinshan) e, (ap (λ f. f.chankan) e, (ap (λ f. f.last) e, ap (λ f. f.first) e)))))
     (Decides-and _ _ (booleans_Decides a.ippatsu b.ippatsu) (Decides-and _ _ (booleans_Decides a.rinshan b.rinshan) (Decides-and _ _ (booleans_Decides a.chankan b.chankan)
     (Decides-and _ _ (booleans_Decides a.last b.last) (booleans_Decides a.first b.first)))))
-
-pub hands_decide : (a b : HandParts) → Decides (hand.eq a b) (a ≡ b)
-hands_decide a b =
-    Decides-like (hand.eq a b) (λ p k. record { concealed = p.0 k; melds = p.1 k }) (λ e. (ap (λ h. h.concealed) e, ap (λ h. h.melds) e))
-    (Decides-and _ _ (counts a.concealed b.concealed) (melds a.melds b.melds))
-
-pub shapes_decide : (a b : ShapeParts) → Decides (shape.eq a b) (a ≡ b)
-shapes_decide a b =
-    Decides-like (shape.eq a b) (λ p k. record { tiles = p.0 k; melds = p.1.0 k; seen = p.1.1 k }) (λ e. (ap (λ h. h.tiles) e, (ap (λ h. h.melds) e, ap (λ h. h.seen) e)))
-    (Decides-and _ _ (counts a.tiles b.tiles) (Decides-and _ _ (melds a.melds b.melds) (counts a.seen b.seen)))
 
 pub parts_decide : (a b : WinParts) → Decides (parts.eq a b) (a ≡ b)
 parts_decide a b =

@@ -59,21 +59,25 @@ impl Decided for WinRecord {
 }
 
 impl Decided for HandRecord {
-    ghost use Rattle.riichi_hand.specs.Equality.{hands_decide};
+    ghost use Rattle.riichi_tiles.specs.contracts.decided.CountsDecided.TheImpl.Laws.{decides-law as counts};
+    ghost use Rattle.riichi_tiles.specs.contracts.decided.MeldsDecided.TheImpl.Laws.{decides-law as melds};
 
-    ghost decides = { hands_decide };
+    ghost decides = { λ a b. Prim.search (rules, counts, melds) };
 }
 
 impl Decided for ShapeRecord {
-    ghost use Rattle.riichi_hand.specs.Equality.{shapes_decide};
+    ghost use Rattle.riichi_tiles.specs.contracts.decided.CountsDecided.TheImpl.Laws.{decides-law as counts};
+    ghost use Rattle.riichi_tiles.specs.contracts.decided.MeldsDecided.TheImpl.Laws.{decides-law as melds};
 
-    ghost decides = { shapes_decide };
+    ghost decides = { λ a b. Prim.search (rules, counts, melds) };
 }
 
 impl Decided for Job {
-    ghost use Rattle.riichi_hand.specs.Equality.{hands_decide, parts_decide, shapes_decide};
+    ghost use Rattle.riichi_hand.specs.contracts.decided.WinRecordDecided.TheImpl.Laws.{decides-law as wins};
+    ghost use Rattle.riichi_hand.specs.contracts.decided.HandRecordDecided.TheImpl.Laws.{decides-law as hands};
+    ghost use Rattle.riichi_hand.specs.contracts.decided.ShapeRecordDecided.TheImpl.Laws.{decides-law as shapes};
 
-    ghost decides = { λ a b. Prim.search (rules, parts_decide, hands_decide, shapes_decide) };
+    ghost decides = { λ a b. Prim.search (rules, wins, hands, shapes) };
 }
 
 impl Decided for LineCode {

@@ -282,6 +282,18 @@ fn names_each_kind(rt: HostRuntime) {
     }
     let firsts = Suit::ALL.map(|suit| suit.first());
     same(&rt, firsts, [0, 9, 18, 27]);
+    for suit in Suit::ALL {
+        let partner = suit.partner();
+        holds(
+            &rt,
+            partner != suit && partner.partner() == suit && partner.is_low() == suit.is_low(),
+        );
+    }
+    same(
+        &rt,
+        Suit::ALL.map(|suit| suit.is_low()),
+        [true, true, false, false],
+    );
 }
 
 #[test]
@@ -297,4 +309,5 @@ fn has_something_for_each_suit(rt: HostRuntime) {
     }
     same(&rt, kinds.honours, 7);
     same(&rt, kinds.bamboos, 9);
+    same(&rt, kinds.total(), 34);
 }

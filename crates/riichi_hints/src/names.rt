@@ -181,6 +181,7 @@ fn near_meaning(names: &[(&str, Meaning)], edits: usize, name: &[u8]) -> Option<
 }
 
 /// The word in small letters, without what joins its parts; none where it is longer than any name.
+#[tactic(auto, using(crate::proofs::NearLemmas::letter_kept, crate::proofs::NearLemmas::letter_left_out))]
 fn name_of(word: &[u8]) -> Option<Part>
     ensures { IfSome result (λ name. name.items ≡ spec.plain_name word.now) }
 {

@@ -145,14 +145,14 @@ pub(crate) fn copies_in(line: &[u8], tile: Tile) -> usize
         at -= 1;
         if !is_digit(line[at]) {
             suit = line[at];
-        } else if suit == tile.suit && digit_of(line[at]) == tile.digit {
+        } else if suit == tile.suit && five_if_zero(line[at]) == tile.digit {
             count += 1;
         }
     }
     count
 }
 
-fn digit_of(byte: u8) -> u8
+fn five_if_zero(byte: u8) -> u8
     ensures { result ≡ spec.five_if_zero byte }
 {
     if byte == b'0' { b'5' } else { byte }

@@ -98,7 +98,7 @@ fn push_foreign_lines(text: &mut ArrayString<3072>, line: &[u8], words: &str)
 }
 
 /// Tells the first key that a win must have and that no word gives.
-#[tactic(auto, unfolding(crate::specs::Refusal::missing_line))]
+#[tactic(auto, using(riichi_text::proofs::Pieces::pushed_five), unfolding(crate::specs::Refusal::missing_line))]
 fn push_missing_line(text: &mut ArrayString<3072>, line: &[u8], words: &str)
     requires room { array_string_len text.old + 600 ≤ 3072 }
     requires words { length words.now ≤ 120 }

@@ -39,7 +39,7 @@ fn push_shown_line(out: &mut ArrayString<3072>, text: &[u8])
     out.push_str("\n");
 }
 
-#[tactic(auto, unfolding(crate::specs::Shown::mark_line))]
+#[tactic(auto, using(riichi_text::proofs::Pieces::pushed_five), unfolding(crate::specs::Shown::mark_line))]
 fn push_mark_line(out: &mut ArrayString<3072>, column: usize, words: &str)
     requires column { column ≤ 36 }
     requires words { length words.now ≤ 120 }

@@ -11,6 +11,7 @@ use Rattle.riichi_rows.specs.Columns.{Column, held, MayRun, Fits, lack_from, set
 use Rattle.riichi_rows.specs.Suit.{entry_of, IsLeastLack, is_set, IsInSuit, IsChoice, lack, LackReached}
 use Rattle.riichi_rows.proofs.Spread.{spread_few, sum_range}
 use Rattle.riichi_tiles.specs.Blocks.{copies, total, is_pair}
+pub use Rattle.riichi_tiles.proofs.KindSums.{tiles_is_sum}
 use Rattle.riichi_tiles.specs.declared.block.Block.{Block}
 use Rattle.riichi_tiles.specs.declared.block.Block.TheVariants.{Run, Triplet, Pair}
 
@@ -49,10 +50,6 @@ tiles_later : (r : ℕ) (b : Block) → tiles_of (r + 2) b ≡ run_of (r + 1) b 
 tiles_later r (Run q) = grind (arith, nat_tests)
 tiles_later r (Triplet q) = grind (arith, nat_tests)
 tiles_later r (Pair q) = grind (arith, nat_tests)
-
-pub tiles_is_sum : (r : ℕ) (bs : List Block) → total bs r ≡ sum_by (tiles_of r) bs
-tiles_is_sum r [] = refl
-tiles_is_sum r (b ∷ bs) = ap (λ n. copies b r + n) (tiles_is_sum r bs) ∙ sym (sum_by-cons (tiles_of r) b bs)
 
 pub sum_by-same : (f g : Block → ℕ) → ((b : Block) → f b ≡ g b) → (bs : List Block) → sum_by f bs ≡ sum_by g bs
 sum_by-same f g same [] = refl
@@ -347,7 +344,3 @@ module _ (runs : Bool) (have cap : ℕ → ℕ) where
 -- an entry of a row
 pub entry_least : (runs : Bool) (counts caps : List ℕ) → length counts ≡ 9 → length caps ≡ 9 → ((r : ℕ) → r < 9 → slice_index caps r ≤ 4) → (s p v : ℕ) → LeastFrom runs counts caps 0 0 s p v → IsLeastLack runs counts caps s p (entry_of v)
 entry_least runs counts caps lc lk = rw (nine_elements counts lc, nine_elements caps lk) (nine_entry runs (slice_index counts) (slice_index caps))
-
-pub total-append : (r : ℕ) (xs ys : List Block) → total (xs ++ ys) r ≡ total xs r + total ys r
-total-append r [] ys = omega arith
-total-append r (x ∷ xs) ys = omega (arith, total-append r xs ys)

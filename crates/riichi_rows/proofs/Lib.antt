@@ -11,3 +11,6 @@ pub mod RankLanes
 pub mod Spread
 pub mod Steps
 pub mod Tables
+pub mod Keeping
+pub mod Keys
+pub mod Uppers

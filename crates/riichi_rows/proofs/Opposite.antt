@@ -12,7 +12,7 @@ use lib.Lanes.{zip2, sel_l, mask_l, fold_l}
 use Rattle.riichi_rows.specs.Lanes.{LaneOf, SomeLane, at_place, capped, lane, mark, opposite}
 use Rattle.riichi_rows.proofs.MarkLemmas.{bit_of_both, has_bit}
 use Rattle.riichi_rows.specs.Join.{SumReached}
-use Rattle.riichi_rows.specs.Marks.{has_rank, MarkedBeside, is_marked}
+use Rattle.riichi_rows.specs.Marks.{AreMarkedBeside, has_rank, MarkedBeside, is_marked}
 use Rattle.riichi_rows.specs.declared.joined.JoinedRows.{JoinedRows}
 use Rattle.riichi_rows.specs.declared.rank_set.RankSet.{RankSet}
 use Rattle.riichi_rows.specs.declared.row.SuitRow.{SuitRow}
@@ -341,10 +341,13 @@ module _ (row : SuitRow) (others : JoinedRows) (sums : List ℕ) (sets least ran
   pub taken_is : SomeLane sums least passes ↔ MarkedBeside row others sets least rank
   taken_is = (λ t. own t.sets t.pairs t.few_sets t.few_pairs t.has_value t.test (cases_lt sets t.sets), found)
 
-pub lacked_rank : (row : SuitRow) (others : JoinedRows) (sets least : ℕ) (set : RankSet) → IsTrue set.first ↔ MarkedBeside row others sets least 0 →
-    ((r : ℕ) → r < 8 → IsTrue (nat_lt 0 (bit_and set.later (2 ^ r))) ↔ MarkedBeside row others sets least (suc r)) → (rank : ℕ) → rank < 9 → IsTrue (has_rank set rank) ↔ MarkedBeside row others sets least rank
-lacked_rank row others sets least set first later zero inside = first
-lacked_rank row others sets least set first later (suc r) inside = later r (omega arith)
+pub lacked_ranks : (row : SuitRow) (others : JoinedRows) (sets least : ℕ) (set : RankSet) → IsTrue set.first ↔ MarkedBeside row others sets least 0 →
+    ((r : ℕ) → r < 8 → IsTrue (nat_lt 0 (bit_and set.later (2 ^ r))) ↔ MarkedBeside row others sets least (suc r)) → AreMarkedBeside row others sets least set
+lacked_ranks row others sets least set first later = record { at = each }
+  where
+    each : (rank : ℕ) → rank < 9 → IsTrue (has_rank set rank) ↔ MarkedBeside row others sets least rank
+    each zero inside = first
+    each (suc r) inside = later r (omega arith)
 
 pub through : {A B C : Type 0} → A ↔ B → B ↔ C → A ↔ C
 through x y = (λ a. y.0 (x.0 a), λ z. x.1 (y.1 z))

@@ -9,3 +9,4 @@ pub mod Ranks
 pub mod Row
 pub mod Seen
 pub mod Suit
+pub mod Kept

@@ -43,3 +43,7 @@ pub record MarkedBeside (row : SuitRow) (others : JoinedRows) (sets n rank : ℕ
 abbrev pub has_rank : RankSet → ℕ → Bool
 has_rank set zero = set.first
 has_rank set (suc rank) = nat_lt 0 (bit_and set.later (2 ^ rank))
+
+-- just the ranks of the set are marked so
+pub record AreMarkedBeside (row : SuitRow) (others : JoinedRows) (sets n : ℕ) (ranks : RankSet) : Type 0 where
+  pub at : (rank : ℕ) → rank < 9 → IsTrue (has_rank ranks rank) ↔ MarkedBeside row others sets n rank

@@ -1,7 +1,7 @@
 //! The ranks that the least choices of a suit lack, beside the other suits.
 ghost use Rattle.std.specs.Prelude.{ℕ, ◌≡◌, ◌↔◌, ◌<◌, ◌≤◌, IsTrue, bit_and, nat_lt};
 ghost use Rattle.riichi_rows.specs.Lanes.{SomeLane, lane, mark};
-ghost use Rattle.riichi_rows.specs.Marks.{has_rank, MarkedBeside};
+ghost use Rattle.riichi_rows.specs.Marks.{AreMarkedBeside};
 
 use crate::joined::JoinedRows;
 use crate::lanes::{Lanes, add_lanes};
@@ -35,8 +35,7 @@ impl JoinedRows {
     pub fn lacked_by(&self, row: &SuitRow, sets: u8, least: u8) -> RankSet
         requires sets { sets ≤ 4 }
         requires least { least < 255 }
-        ensures { (rank : ℕ) → rank < 9
-            → IsTrue (has_rank result rank) ↔ MarkedBeside row.now self.now sets least rank }
+        ensures { AreMarkedBeside row.now self.now sets least result }
     {
         let sums = add_lanes(row.entries.lacks, self.sums.opposite(sets).lacks);
         RankSet {

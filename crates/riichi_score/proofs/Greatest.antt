@@ -121,7 +121,7 @@ AreReadingsOf-from w hand melds winning readings all a b c d h =
     (subst (λ (x : ℕ). AreTheReadings hand (length melds) x all) c
     (subst (λ (x : List Reading). AreTheReadings hand (length melds) winning x) (sym d) h)))
 
-four_sets : (w : WinParts) (r : Reading) → IsReadingOf w r → HasFourSets r w
+pub four_sets : (w : WinParts) (r : Reading) → IsReadingOf w r → HasFourSets r w
 four_sets w (Standard sets pair done) h = h.0.four
 four_sets w SevenPairs h = tt
 four_sets w Orphans h = tt

@@ -2,6 +2,7 @@
 use Rattle.std.proofs.Common.{◌≡◌, ℕ, ◌+◌, Bool, true, false, Option, None, Ok, List, [], ◌∷◌, drop, refl, cond, ltb, eqb, arith}
 use Rattle.std.specs.Prelude.{not, ◌||◌, slice_index}
 use Rattle.std.specs.List.{list_any}
+use Rattle.std.proofs.lemmas.Bool.{or_parts}
 use Rattle.std.proofs.lemmas.Bool.Decides.{nat_tests}
 use Rattle.riichi_tiles.specs.Melds.{every_kind, tiles}
 use Rattle.riichi_hand.specs.declared.fault.LineCode.TheVariants.{H4, H8, H9}
@@ -26,12 +27,8 @@ right_size false a b h = absurd (cc)
 any_fewer : (more fewer : ℕ → Bool) (kinds : List ℕ) → ((kind : ℕ) → more kind ≡ false → fewer kind ≡ false) → list_any more kinds ≡ false → list_any fewer kinds ≡ false
 any_fewer more fewer [] each h = refl
 any_fewer more fewer (kind ∷ kinds) each h =
-    let parts = neither (more kind) (list_any more kinds) h in
+    let parts = or_parts (more kind) (list_any more kinds) h in
     rw (each kind parts.0) (any_fewer more fewer kinds each parts.1)
-  where
-    neither : (a b : Bool) → (a || b) ≡ false → (a ≡ false) × (b ≡ false)
-    neither false b e = (refl, e)
-    neither true b e = absurd (cc)
 
 fewer_copies : (held melds winning dora ura : ℕ) → ltb 4 (held + melds + winning + dora + ura) ≡ false → ltb 4 (held + melds) ≡ false
 fewer_copies held melds winning dora ura h = grind (arith, nat_tests)

@@ -14,14 +14,9 @@ same_best : (a b : BestReading) → best.eq a b ≡ true → a ≡ b
 same_best (Won reading score) (Won other least) h =
     let both = and_parts _ _ h in
     λ k. Won ((readings_decide reading other).0 both.0 k) ((scores_decide score least).0 both.1 k)
-same_best (Won reading score) NoYaku h = absurd (false≢true h)
-same_best (Won reading score) NoWin h = absurd (false≢true h)
-same_best NoYaku (Won reading score) h = absurd (false≢true h)
 same_best NoYaku NoYaku h = refl
-same_best NoYaku NoWin h = absurd (false≢true h)
-same_best NoWin (Won reading score) h = absurd (false≢true h)
-same_best NoWin NoYaku h = absurd (false≢true h)
 same_best NoWin NoWin h = refl
+same_best a b h = absurd (false≢true h)
 
 pub best_decides : (a b : BestReading) → Decides (best.eq a b) (a ≡ b)
 best_decides a b = (same_best a b, λ same. rw same (equiv.refl b))

@@ -41,6 +41,7 @@ pub fn best(win: &WinRecord) -> WinAnswer
 }
 
 /// The concealed tiles with the winning tile.
+#[tactic(auto, using(crate::proofs::Wins::room_for_winning))]
 pub fn hand_of(win: &WinRecord) -> Counts
     ensures value { result ≡ completed_hand win.now }
     ensures counts { IsCounts result }

@@ -85,6 +85,7 @@ fn is_completed_in_pair(reading: &Reading) -> bool
 }
 
 /// Whether the hand waits for so many kinds before the winning tile.
+#[tactic(auto, using(crate::proofs::HandBefore::hand_before))]
 fn waits_on(kinds: usize, win: &WinRecord) -> bool
     ensures { result ≡ spec.waits_on kinds win.now }
 {

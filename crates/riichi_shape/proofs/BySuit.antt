@@ -5,7 +5,11 @@ use Rattle.std.proofs.lemmas.Bool.Decides.{nat_tests}
 use Rattle.std.proofs.lemmas.List.Elements.{All-nil, All-cons, All-head, All-tail}
 use Rattle.std.proofs.lemmas.List.Sums.{sum_by-cons}
 use Rattle.std.specs.Prelude.{All, ◌&&◌, count_by, sum_by}
-use Rattle.riichi_tiles.specs.Kinds.{IsRunLow}
+use Rattle.riichi_tiles.specs.Kinds.{IsRunLow, first_of, has_runs, kinds_of}
+use Rattle.riichi_tiles.specs.Suits.{over_suits}
+use Rattle.riichi_tiles.specs.declared.suit.Suit.{Suit}
+use Rattle.riichi_tiles.specs.declared.suit.Suit.TheVariants.{Characters, Honours}
+use Rattle.riichi_tiles.proofs.Suits.{kinds_end, runs_begin, same_over}
 use Rattle.riichi_tiles.specs.Blocks.{total, is_pair}
 use Rattle.riichi_tiles.specs.declared.block.Block.{Block}
 use Rattle.riichi_rows.specs.Suit.{is_set, IsInSuit}
@@ -42,34 +46,18 @@ pub part : ℕ → List Block → List Block
 part base [] = []
 part base (b ∷ bs) = cond (kept base b) (lower base b ∷ part base bs) (part base bs)
 
--- a suit's first kind
-abbrev pub IsBase : ℕ → Type 0
-IsBase base = (base ≡ 0) ⊎ (base ≡ 9) ⊎ (base ≡ 18) ⊎ (base ≡ 27)
-
--- a run begins at the 1 to 7 of a suit
-abbrev IsRunKind : ℕ → Type 0
-IsRunKind k = (k < 7) ⊎ ((9 ≤ k) × (k < 16)) ⊎ ((18 ≤ k) × (k < 25))
-
-run_kind_of : (k : ℕ) → IsRunLow k → IsRunKind k
-run_kind_of k is = let low = is.0 in let few = is.1 in ⊎_elim (λ h. inl (omega arith)) (λ h. inr (⊎_elim (λ h'. inl (omega arith, omega arith)) (λ h'. inr (omega arith, omega arith)) (cases_lt k 18))) (cases_lt k 9)
-
-run_low_of : (k : ℕ) → IsRunKind k → IsRunLow k
-run_low_of k is = ⊎_elim (λ h. (omega (arith, h), omega (arith, h))) (λ rest. ⊎_elim (λ h. (let a = h.0 in let b = h.1 in (omega arith, omega arith))) (λ h. (let a = h.0 in let b = h.1 in (omega arith, omega arith))) rest) is
-
 -- a run lies within the suit or clear of it
-apart_kind : (base k : ℕ) → IsBase base → IsRunKind k → ((base ≤ k) × (k < base + 7)) ⊎ (k + 2 < base) ⊎ (base + 9 ≤ k)
-apart_kind base k is_base run_kind = grind arith
-
-apart : (base k : ℕ) → IsBase base → IsRunLow k → ((base ≤ k) × (k < base + 7)) ⊎ (k + 2 < base) ⊎ (base + 9 ≤ k)
-apart base k is_base is = apart_kind base k is_base (run_kind_of k is)
+apart : (suit : Suit) (k : ℕ) → IsRunLow k → ((first_of suit ≤ k) × (k < first_of suit + 7)) ⊎ (k + 2 < first_of suit) ⊎ (first_of suit + 9 ≤ k)
+apart Characters k is = let low = is.0 in let few = is.1 in grind arith
+apart other k is = let low = is.0 in let few = is.1 in grind arith
 
 run_moved : (base r k : ℕ) → r < 9 → ((base ≤ k) × (k < base + 7)) ⊎ (k + 2 < base) ⊎ (base + 9 ≤ k) → cond (kept base (Run k)) (tiles_of r (Run (k - base))) 0 ≡ tiles_of (base + r) (Run k)
 run_moved base r k h where_ = grind (arith, nat_tests)
 
-tiles_moved : (base r : ℕ) (b : Block) → IsBase base → r < 9 → IsOfKinds b → cond (kept base b) (tiles_of r (lower base b)) 0 ≡ tiles_of (base + r) b
-tiles_moved base r (Run k) is_base h kind = let where_ = apart base k is_base kind in run_moved base r k h where_
-tiles_moved base r (Triplet k) is_base h kind = grind (arith, nat_tests)
-tiles_moved base r (Pair k) is_base h kind = grind (arith, nat_tests)
+tiles_moved : (suit : Suit) (r : ℕ) (b : Block) → r < 9 → IsOfKinds b → cond (kept (first_of suit) b) (tiles_of r (lower (first_of suit) b)) 0 ≡ tiles_of (first_of suit + r) b
+tiles_moved suit r (Run k) h kind = run_moved (first_of suit) r k h (apart suit k kind)
+tiles_moved suit r (Triplet k) h kind = grind (arith, nat_tests)
+tiles_moved suit r (Pair k) h kind = grind (arith, nat_tests)
 
 sum_by-cond : (f : Block → ℕ) (t : Bool) (x : Block) (xs : List Block) → sum_by f (cond t (x ∷ xs) xs) ≡ cond t (f x) 0 + sum_by f xs
 sum_by-cond f true x xs = sum_by-cons f x xs
@@ -81,10 +69,11 @@ sum_by-part f base [] = refl
 sum_by-part f base (b ∷ bs) =
     sum_by-cond f (kept base b) (lower base b) (part base bs) ∙ ap (λ n. cond (kept base b) (f (lower base b)) 0 + n) (sum_by-part f base bs) ∙ sym (sum_by-cons (λ b. cond (kept base b) (f (lower base b)) 0) b bs)
 
-pub tiles_part : (base r : ℕ) (bs : List Block) → IsBase base → r < 9 → All IsOfKinds bs → total (part base bs) r ≡ total bs (base + r)
-tiles_part base r bs is_base h all =
+pub tiles_part : (suit : Suit) (r : ℕ) (bs : List Block) → r < 9 → All IsOfKinds bs → total (part (first_of suit) bs) r ≡ total bs (first_of suit + r)
+tiles_part suit r bs h all =
+    let base = first_of suit in
     tiles_is_sum r (part base bs) ∙ sum_by-part (tiles_of r) base bs
-    ∙ sum_by-same_of IsOfKinds (λ b. cond (kept base b) (tiles_of r (lower base b)) 0) (tiles_of (base + r)) (λ b kind. tiles_moved base r b is_base h kind) bs all
+    ∙ sum_by-same_of IsOfKinds (λ b. cond (kept base b) (tiles_of r (lower base b)) 0) (tiles_of (base + r)) (λ b kind. tiles_moved suit r b h kind) bs all
     ∙ sym (tiles_is_sum (base + r) bs)
 
 -- a count of blocks, over the four suits
@@ -96,7 +85,7 @@ module _ (f : Block → ℕ) (same : (base : ℕ) (b : Block) → f (lower base 
   unfolding here
   here_is base b = ap (λ n. cond (kept base b) n 0) (same base b)
 
-  one_suit : (k n : ℕ) → k < 34 → cond (leb 0 k && ltb k (0 + 9)) n 0 + cond (leb 9 k && ltb k (9 + 9)) n 0 + cond (leb 18 k && ltb k (18 + 9)) n 0 + cond (leb 27 k && ltb k (27 + 9)) n 0 ≡ n
+  one_suit : (k n : ℕ) → k < 34 → over_suits (λ suit. cond (leb (first_of suit) k && ltb k (first_of suit + 9)) n 0) ≡ n
   one_suit k n h = grind (arith, nat_tests)
 
   start_below : (b : Block) → IsOfKinds b → start b < 34
@@ -104,60 +93,51 @@ module _ (f : Block → ℕ) (same : (base : ℕ) (b : Block) → f (lower base 
   start_below (Triplet k) kind = kind
   start_below (Pair k) kind = kind
 
-  block_split : (b : Block) → IsOfKinds b → here 0 b + here 9 b + here 18 b + here 27 b ≡ f b
-  block_split b kind = omega (arith, here_is 0 b, here_is 9 b, here_is 18 b, here_is 27 b, one_suit (start b) (f b) (start_below b kind))
+  block_split : (b : Block) → IsOfKinds b → over_suits (λ suit. here (first_of suit) b) ≡ f b
+  block_split b kind =
+      same_over (λ suit. here (first_of suit) b) (λ suit. cond (kept (first_of suit) b) (f b) 0) (λ suit. here_is (first_of suit) b) ∙ one_suit (start b) (f b) (start_below b kind)
 
-  totals : (bs : List Block) → All IsOfKinds bs → sum_by (here 0) bs + sum_by (here 9) bs + sum_by (here 18) bs + sum_by (here 27) bs ≡ sum_by f bs
+  totals : (bs : List Block) → All IsOfKinds bs → over_suits (λ suit. sum_by (here (first_of suit)) bs) ≡ sum_by f bs
   totals [] all = refl
   totals (b ∷ bs) all =
       omega (
         arith,
-        sum_by-cons (here 0) b bs,
-        sum_by-cons (here 9) b bs,
-        sum_by-cons (here 18) b bs,
-        sum_by-cons (here 27) b bs,
+        same_over (λ suit. sum_by (here (first_of suit)) (b ∷ bs)) (λ suit. here (first_of suit) b + sum_by (here (first_of suit)) bs) (λ suit. sum_by-cons (here (first_of suit)) b bs),
         sum_by-cons f b bs,
         block_split b (All-head IsOfKinds b bs all),
         totals bs (All-tail IsOfKinds b bs all),
       )
 
-  part_is : (base : ℕ) (bs : List Block) → sum_by f (part base bs) ≡ sum_by (here base) bs
+  counts_by_suit : (bs : List Block) → All IsOfKinds bs → over_suits (λ suit. sum_by f (part (first_of suit) bs)) ≡ sum_by f bs
   unfolding here
-  part_is base bs = sum_by-part f base bs
+  counts_by_suit bs all = same_over (λ suit. sum_by f (part (first_of suit) bs)) (λ suit. sum_by (here (first_of suit)) bs) (λ suit. sum_by-part f (first_of suit) bs) ∙ totals bs all
 
-  counts_by_suit : (bs : List Block) → All IsOfKinds bs → sum_by f (part 0 bs) + sum_by f (part 9 bs) + sum_by f (part 18 bs) + sum_by f (part 27 bs) ≡ sum_by f bs
-  counts_by_suit bs all = omega (arith, part_is 0 bs, part_is 9 bs, part_is 18 bs, part_is 27 bs, totals bs all)
-
-pub sets_by_suit : (bs : List Block) → All IsOfKinds bs → count_by is_set (part 0 bs) + count_by is_set (part 9 bs) + count_by is_set (part 18 bs) + count_by is_set (part 27 bs) ≡ count_by is_set bs
+pub sets_by_suit : (bs : List Block) → All IsOfKinds bs → over_suits (λ suit. count_by is_set (part (first_of suit) bs)) ≡ count_by is_set bs
 sets_by_suit = counts_by_suit set_of (λ base b. (sort_stays (λ k. k - base) b).0)
 
-pub pairs_by_suit : (bs : List Block) → All IsOfKinds bs → count_by is_pair (part 0 bs) + count_by is_pair (part 9 bs) + count_by is_pair (part 18 bs) + count_by is_pair (part 27 bs) ≡ count_by is_pair bs
+pub pairs_by_suit : (bs : List Block) → All IsOfKinds bs → over_suits (λ suit. count_by is_pair (part (first_of suit) bs)) ≡ count_by is_pair bs
 pairs_by_suit = counts_by_suit has_pair (λ base b. (sort_stays (λ k. k - base) b).1)
 
 -- the part lies in its suit
 kept_bounds : (base k : ℕ) → leb base k && ltb k (base + 9) ≡ true → (base ≤ k) × (k < base + 9)
 kept_bounds base k e = grind (arith, nat_tests)
 
-block_in_suit : (runs : Bool) (base : ℕ) (b : Block) → IsBase base → (IsTrue runs ⊎ (base ≡ 27)) → IsOfKinds b → kept base b ≡ true → IsInSuit runs (lower base b)
-block_in_suit runs base (Run k) is_base suit kind e =
-    let in_it = kept_bounds base k e in
-    let where_ = apart base k is_base kind in
-    let low : k - base < 7 = ⊎_elim (λ inside. omega (arith, inside, in_it)) (λ out. absurd (⊎_elim (λ o. omega (arith, o, in_it)) (λ o. omega (arith, o, in_it)) out)) where_ in
-    (⊎_elim (λ t. t) (λ last. absurd (no_honour_run k base last kind in_it.0)) suit, low)
-  where
-    no_honour_run : (k base : ℕ) → base ≡ 27 → IsRunLow k → base ≤ k → ⊥
-    no_honour_run k base last kind h = omega (arith, kind.0)
-block_in_suit runs base (Triplet k) is_base suit kind e = let in_it = kept_bounds base k e in omega (arith, in_it)
-block_in_suit runs base (Pair k) is_base suit kind e = let in_it = kept_bounds base k e in omega (arith, in_it)
+block_in_suit : (suit : Suit) (b : Block) → IsOfKinds b → kept (first_of suit) b ≡ true → IsInSuit (has_runs suit) (lower (first_of suit) b)
+block_in_suit suit (Run k) kind e =
+    let in_it = kept_bounds (first_of suit) k e in
+    let low : k - first_of suit < 7 = ⊎_elim (λ inside. omega (arith, inside, in_it)) (λ out. absurd (⊎_elim (λ o. omega (arith, o, in_it)) (λ o. omega (arith, o, in_it)) out)) (apart suit k kind) in
+    (runs_begin suit k in_it.0 in_it.1 kind, low)
+block_in_suit suit (Triplet k) kind e = let in_it = kept_bounds (first_of suit) k e in omega (arith, in_it)
+block_in_suit suit (Pair k) kind e = let in_it = kept_bounds (first_of suit) k e in omega (arith, in_it)
 
-pub part_in_suit : (runs : Bool) (base : ℕ) (bs : List Block) → IsBase base → (IsTrue runs ⊎ (base ≡ 27)) → All IsOfKinds bs → All (IsInSuit runs) (part base bs)
+pub part_in_suit : (suit : Suit) (bs : List Block) → All IsOfKinds bs → All (IsInSuit (has_runs suit)) (part (first_of suit) bs)
 unfolding part
-part_in_suit runs base [] is_base suit all = All-nil (IsInSuit runs)
-part_in_suit runs base (b ∷ bs) is_base suit all =
-    by_test (kept base b) (λ e. block_in_suit runs base b is_base suit (All-head IsOfKinds b bs all) e) (part_in_suit runs base bs is_base suit (All-tail IsOfKinds b bs all))
+part_in_suit suit [] all = All-nil (IsInSuit (has_runs suit))
+part_in_suit suit (b ∷ bs) all =
+    by_test (kept (first_of suit) b) (λ e. block_in_suit suit b (All-head IsOfKinds b bs all) e) (part_in_suit suit bs (All-tail IsOfKinds b bs all))
   where
-    by_test : (t : Bool) → (t ≡ true → IsInSuit runs (lower base b)) → All (IsInSuit runs) (part base bs) → All (IsInSuit runs) (cond t (lower base b ∷ part base bs) (part base bs))
-    by_test true first rest = All-cons (IsInSuit runs) (lower base b) (part base bs) (first refl) rest
+    by_test : (t : Bool) → (t ≡ true → IsInSuit (has_runs suit) (lower (first_of suit) b)) → All (IsInSuit (has_runs suit)) (part (first_of suit) bs) → All (IsInSuit (has_runs suit)) (cond t (lower (first_of suit) b ∷ part (first_of suit) bs) (part (first_of suit) bs))
+    by_test true first rest = All-cons (IsInSuit (has_runs suit)) (lower (first_of suit) b) (part (first_of suit) bs) (first refl) rest
     by_test false first rest = rest
 
 -- ---- from the suits to all kinds
@@ -201,32 +181,26 @@ sets_raised base bs = sum_by-raised set_of base bs ∙ sum_by-same (λ b. set_of
 pub pairs_raised : (base : ℕ) (bs : List Block) → count_by is_pair (raised base bs) ≡ count_by is_pair bs
 pairs_raised base bs = sum_by-raised has_pair base bs ∙ sum_by-same (λ b. has_pair (raise base b)) has_pair (λ b. (sort_stays (λ q. base + q) b).1) bs
 
--- a suit with runs
-pub raised_kinds : (base : ℕ) (bs : List Block) → (base ≡ 0) ⊎ (base ≡ 9) ⊎ (base ≡ 18) → All (IsInSuit true) bs → All IsOfKinds (raised base bs)
-unfolding raised
-raised_kinds base [] is_base all = All-nil IsOfKinds
-raised_kinds base (b ∷ bs) is_base all = All-cons IsOfKinds (raise base b) (raised base bs) (of_kinds b (All-head (IsInSuit true) b bs all)) (raised_kinds base bs is_base (All-tail (IsInSuit true) b bs all))
-  where
-    of_kinds : (b : Block) → IsInSuit true b → IsOfKinds (raise base b)
-    of_kinds (Run q) inside = run_kind q inside.1
-      where
-        run_kind : (q : ℕ) → q < 7 → IsRunLow (base + q)
-        run_kind q low = run_low_of (base + q) (kind_there q low)
-          where
-            kind_there : (q : ℕ) → q < 7 → IsRunKind (base + q)
-            kind_there q low = grind arith
-    of_kinds (Triplet q) inside = grind arith
-    of_kinds (Pair q) inside = grind arith
+-- where the ranks that the suit hasn't hold nothing
+run_kind : (suit : Suit) (q : ℕ) → IsTrue (has_runs suit) → q < 7 → IsRunLow (first_of suit + q)
+run_kind Honours q runs low = absurd (false≢true runs)
+run_kind other q runs low = (omega arith, omega arith)
 
--- the honours, of which the last two ranks hold nothing
-pub raised_honours : (bs : List Block) → sum_by (tiles_of 7) bs ≡ 0 → sum_by (tiles_of 8) bs ≡ 0 → All (IsInSuit false) bs → All IsOfKinds (raised 27 bs)
+kind_of_rank : (suit : Suit) (q n : ℕ) → q < 9 → 0 < n → (kinds_of suit ≤ q → n ≡ 0) → first_of suit + q < 34
+kind_of_rank suit q n inside some none = elim (cases_lt q (kinds_of suit)) [
+  | inl low ↦ omega (arith, kinds_end suit)
+  | inr past ↦ absurd (omega (arith, some, none past))
+]
+
+block_raised : (suit : Suit) (b : Block) → ((r : ℕ) → kinds_of suit ≤ r → r < 9 → tiles_of r b ≡ 0) → IsInSuit (has_runs suit) b → IsOfKinds (raise (first_of suit) b)
+block_raised suit (Run q) none inside = run_kind suit q inside.0 inside.1
+block_raised suit (Triplet q) none inside = kind_of_rank suit q (tiles_of q (Triplet q)) inside (grind (arith, nat_tests)) (λ past. none q past inside)
+block_raised suit (Pair q) none inside = kind_of_rank suit q (tiles_of q (Pair q)) inside (grind (arith, nat_tests)) (λ past. none q past inside)
+
+pub raised_kinds : (suit : Suit) (bs : List Block) → ((r : ℕ) → kinds_of suit ≤ r → r < 9 → total bs r ≡ 0) → All (IsInSuit (has_runs suit)) bs → All IsOfKinds (raised (first_of suit) bs)
 unfolding raised
-raised_honours [] no_7 no_8 all = All-nil IsOfKinds
-raised_honours (b ∷ bs) no_7 no_8 all =
-    All-cons IsOfKinds (raise 27 b) (raised 27 bs) (of_kinds b (omega (arith, no_7, sum_by-cons (tiles_of 7) b bs)) (omega (arith, no_8, sum_by-cons (tiles_of 8) b bs)) (All-head (IsInSuit false) b bs all))
-    (raised_honours bs (omega (arith, no_7, sum_by-cons (tiles_of 7) b bs)) (omega (arith, no_8, sum_by-cons (tiles_of 8) b bs)) (All-tail (IsInSuit false) b bs all))
-  where
-    of_kinds : (b : Block) → tiles_of 7 b ≡ 0 → tiles_of 8 b ≡ 0 → IsInSuit false b → IsOfKinds (raise 27 b)
-    of_kinds (Run q) e7 e8 inside = absurd (false≢true inside.0)
-    of_kinds (Triplet q) e7 e8 inside = grind (arith, nat_tests)
-    of_kinds (Pair q) e7 e8 inside = grind (arith, nat_tests)
+raised_kinds suit [] none all = All-nil IsOfKinds
+raised_kinds suit (b ∷ bs) none all =
+    All-cons IsOfKinds (raise (first_of suit) b) (raised (first_of suit) bs)
+    (block_raised suit b (λ r past inside. omega (arith, none r past inside)) (All-head (IsInSuit (has_runs suit)) b bs all))
+    (raised_kinds suit bs (λ r past inside. omega (arith, none r past inside)) (All-tail (IsInSuit (has_runs suit)) b bs all))

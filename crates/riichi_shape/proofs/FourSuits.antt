@@ -1,9 +1,7 @@
 -- The join of four suit rows is the least lack over the winning multisets by sets and a pair.
-use Rattle.std.proofs.Common.{◌≡◌, ◌≢◌, ℕ, ◌+◌, ◌-◌, ◌<◌, ◌≤◌, Bool, IsTrue, ◌⊎◌, inl, inr, List, ◌++◌, refl, sym, ap, ◌∙◌, ⊎_elim, subst, Option, Some, None, arith}
+use Rattle.std.proofs.Common.{◌≡◌, ℕ, ◌+◌, ◌-◌, ◌<◌, ◌≤◌, Bool, List, refl, sym, ap, ◌∙◌, ⊎_elim, subst, Option, Some, None, arith}
 use Rattle.std.proofs.lemmas.Bool.{cases_lt}
 use Rattle.std.proofs.lemmas.Bool.Decides.{nat_tests}
-use Rattle.std.proofs.lemmas.List.Elements.{All-append}
-use Rattle.std.proofs.lemmas.List.Sums.{sum_by-append}
 use Rattle.std.specs.Prelude.{All, slice_index, count_by, sum_by, ◌↔◌}
 use Rattle.riichi_shape.specs.Lacked.{EntryLacks, StandardLacks}
 use Rattle.riichi_rows.specs.Join.{EntriesSum, IsLeastJoin}
@@ -12,8 +10,7 @@ use Rattle.riichi_tiles.specs.Kinds.{first_of, has_runs, kinds_of, rank_of, suit
 use Rattle.riichi_tiles.specs.Melds.{tiles}
 use Rattle.riichi_tiles.specs.Suits.{over_suits}
 use Rattle.riichi_tiles.specs.declared.suit.Suit.{Suit}
-use Rattle.riichi_tiles.specs.declared.suit.Suit.TheVariants.{Characters, Circles, Bamboos, Honours}
-use Rattle.riichi_tiles.proofs.Suits.{but_for, but_for-own, le_over, one_of, only_over, own_suit, same_from_sums, same_over}
+use Rattle.riichi_tiles.proofs.Suits.{all_side_by_side, but_for, but_for-own, clear_of, kinds_end, kinds_few, kinds_last, le_over, nine_suit, one_of, only_over, own_suit, same_from_sums, same_over, side_by_side, sum_side_by_side}
 use Rattle.riichi_tiles.specs.declared.block.Block.{Block}
 use Rattle.riichi_tiles.specs.declared.meld.Meld.{Meld}
 use Rattle.riichi_rows.specs.Suit.{is_set, IsInSuit, IsChoice, lack, LackReached, IsLeastLack, IsSuitRow}
@@ -25,7 +22,7 @@ use Rattle.riichi_shape.specs.Winning.{WithinFour, lacking}
 use Rattle.riichi_shape.proofs.Counted.{AreCounted, IsOfKinds, counted, uncounted}
 use Rattle.riichi_rows.proofs.Blocks.{has_pair, no_block, set_of, sum_by-none, sum_by-same_of, tiles_is_sum, tiles_of}
 use Rattle.riichi_rows.proofs.Spread.{same_spread, spread, sum_range, spread_add, at_same_number, spread_shift, spread_none, table, table_at}
-use Rattle.riichi_shape.proofs.BySuit.{part, IsBase, tiles_part, sets_by_suit, pairs_by_suit, part_in_suit, raised, tiles_within, tiles_outside, sets_raised, pairs_raised, raised_kinds, raised_honours}
+use Rattle.riichi_shape.proofs.BySuit.{part, tiles_part, sets_by_suit, pairs_by_suit, part_in_suit, raised, tiles_within, tiles_outside, sets_raised, pairs_raised, raised_kinds}
 
 -- ---- a suit of a hand
 
@@ -37,20 +34,6 @@ tiles_beyond k bs h all = tiles_is_sum k bs ∙ sum_by-same_of IsOfKinds (tiles_
     block (Triplet q) kind = grind (arith, nat_tests)
     block (Pair q) kind = grind (arith, nat_tests)
 
--- what is so of the kinds of any suit
-record HasKinds (suit : Suit) : Type 0 where
-  pub is_base : IsBase (first_of suit)
-  pub runs : IsTrue (has_runs suit) ⊎ (first_of suit ≡ 27)
-  pub nine : kinds_of suit ≤ 9
-  pub inside : first_of suit + kinds_of suit ≤ 34
-  pub whole : (kinds_of suit ≡ 9) ⊎ (first_of suit + kinds_of suit ≡ 34)
-
-has_kinds : (suit : Suit) → HasKinds suit
-has_kinds Characters = record { is_base = inl refl; runs = inl refl; nine = omega arith; inside = omega arith; whole = inl refl }
-has_kinds Circles = record { is_base = inr (inl refl); runs = inl refl; nine = omega arith; inside = omega arith; whole = inl refl }
-has_kinds Bamboos = record { is_base = inr (inr (inl refl)); runs = inl refl; nine = omega arith; inside = omega arith; whole = inl refl }
-has_kinds Honours = record { is_base = inr (inr (inr refl)); runs = inr refl; nine = omega arith; inside = omega arith; whole = inr refl }
-
 -- the lack of one suit, as a part of the whole
 module _ (hand : List ℕ) (melds : List Meld) (wanted : List ℕ) (own : Suit) (counts caps : List ℕ) (suit : IsSuitOf own hand melds counts caps) (blocks : List Block)
     (in_caps : (r : ℕ) → r < 9 → total blocks r ≤ slice_index caps r) (wanted_at : (r : ℕ) → r < kinds_of own → slice_index wanted (first_of own + r) ≡ total blocks r) where
@@ -61,7 +44,7 @@ module _ (hand : List ℕ) (melds : List Meld) (wanted : List ℕ) (own : Suit) 
   width = kinds_of own
 
   nine : width ≤ 9
-  nine = (has_kinds own).nine
+  nine = kinds_few own
 
   suit_sum : lack counts blocks ≡ spread (λ k. slice_index wanted k - slice_index hand k) base width
   suit_sum =
@@ -110,11 +93,11 @@ module _ (hand : List ℕ) (melds : List Meld) (wanted : List ℕ) (sets : ℕ) 
   suit_blocks = part (first_of own) is.blocks
 
   suit_tiles : (r : ℕ) → r < 9 → total suit_blocks r ≡ total is.blocks (first_of own + r)
-  suit_tiles r h = tiles_part (first_of own) r is.blocks (has_kinds own).is_base h is.of_kinds
+  suit_tiles r h = tiles_part own r is.blocks h is.of_kinds
 
   suit_choice : IsChoice (has_runs own) caps (count_by is_set suit_blocks) (count_by is_pair suit_blocks) suit_blocks
   suit_choice = record {
-    in_suit = part_in_suit (has_runs own) (first_of own) is.blocks (has_kinds own).is_base (has_kinds own).runs is.of_kinds;
+    in_suit = part_in_suit own is.blocks is.of_kinds;
     has_sets = refl;
     has_pairs = refl;
     in_caps = capped_at;
@@ -124,10 +107,10 @@ module _ (hand : List ℕ) (melds : List Meld) (wanted : List ℕ) (sets : ℕ) 
       capped_at r h = ⊎_elim within past (cases_lt r (kinds_of own))
         where
           within : r < kinds_of own → total suit_blocks r ≤ slice_index caps r
-          within low = omega (arith, (has_kinds own).inside, suit_tiles r h, is.adds_up (first_of own + r) (omega (arith, (has_kinds own).inside)), four.at (first_of own + r) (omega (arith, (has_kinds own).inside)), suit.are_caps.caps_at r low)
+          within low = omega (arith, kinds_end own, suit_tiles r h, is.adds_up (first_of own + r) (omega (arith, kinds_end own)), four.at (first_of own + r) (omega (arith, kinds_end own)), suit.are_caps.caps_at r low)
 
           past : kinds_of own ≤ r → total suit_blocks r ≤ slice_index caps r
-          past high = omega (arith, suit_tiles r h, tiles_beyond (first_of own + r) is.blocks (⊎_elim (λ e. absurd (omega (arith, e))) (λ e. omega (arith, e)) (has_kinds own).whole) is.of_kinds)
+          past high = omega (arith, suit_tiles r h, tiles_beyond (first_of own + r) is.blocks (⊎_elim (λ e. absurd (omega (arith, e))) (λ e. omega (arith, e)) (kinds_last own)) is.of_kinds)
 
   suit_part : (row : ℕ → ℕ → Option ℕ) → IsSuitRow (has_runs own) counts caps row → count_by is_set suit_blocks ≤ 4 → count_by is_pair suit_blocks ≤ 1 → PartOf (has_runs own) (first_of own) (kinds_of own) hand wanted counts caps row suit_blocks
   suit_part row is_row few_sets few_pairs =
@@ -135,7 +118,7 @@ module _ (hand : List ℕ) (melds : List Meld) (wanted : List ℕ) (sets : ℕ) 
       record {
         choice = suit_choice;
         lacks = suit_sum hand melds wanted own counts caps suit suit_blocks suit_choice.in_caps
-            (λ r h. omega (arith, suit_tiles r (omega (arith, (has_kinds own).nine)), is.adds_up (first_of own + r) (omega (arith, (has_kinds own).inside))));
+            (λ r h. omega (arith, suit_tiles r (omega (arith, kinds_few own)), is.adds_up (first_of own + r) (omega (arith, kinds_end own))));
         entry = entry.0;
         is_entry = entry.1;
         below = entry.2;
@@ -146,40 +129,24 @@ lacking_by_suit hand wanted =
     let f : ℕ → ℕ = λ k. slice_index wanted k - slice_index hand k in
     omega (arith, sum_range f 0 34, spread_add f 0 9 25, spread_add f 9 9 16, spread_add f 18 9 7)
 
--- a rank of one suit is clear of another suit
-clear_of : (suit other : Suit) (r : ℕ) → other ≢ suit → r < 9 → (first_of suit + r < first_of other) ⊎ (first_of other + 9 ≤ first_of suit + r)
-clear_of Characters Characters r ne h = absurd (ne refl)
-clear_of Circles Circles r ne h = absurd (ne refl)
-clear_of Bamboos Bamboos r ne h = absurd (ne refl)
-clear_of Honours Honours r ne h = absurd (ne refl)
-clear_of suit other r ne h = grind arith
-
 -- the blocks of four suits together
 module _ (blocks : Suit → List Block) (in_suit : (suit : Suit) → All (IsInSuit (has_runs suit)) (blocks suit)) where
   abbrev at_suit : Suit → List Block
   at_suit suit = raised (first_of suit) (blocks suit)
 
   abbrev together : List Block
-  together = at_suit Characters ++ (at_suit Circles ++ (at_suit Bamboos ++ at_suit Honours))
-
-  -- of what is added up over the blocks
-  sum_together : (f : Block → ℕ) → sum_by f together ≡ over_suits (λ suit. sum_by f (at_suit suit))
-  sum_together f =
-      omega (arith, sum_by-append f (at_suit Characters) (at_suit Circles ++ (at_suit Bamboos ++ at_suit Honours)), sum_by-append f (at_suit Circles) (at_suit Bamboos ++ at_suit Honours), sum_by-append f (at_suit Bamboos) (at_suit Honours))
+  together = side_by_side at_suit
 
   tiles_at : (suit : Suit) (r : ℕ) → r < 9 → total together (first_of suit + r) ≡ total (blocks suit) r
   tiles_at suit r h =
       let k = first_of suit + r in
-      tiles_is_sum k together ∙ sum_together (tiles_of k)
-      ∙ only_over (λ other. sum_by (tiles_of k) (at_suit other)) suit (λ other ne. sym (tiles_is_sum k (at_suit other)) ∙ tiles_outside (has_runs other) (first_of other) k (blocks other) (clear_of suit other r ne h) (in_suit other))
+      let own = nine_suit suit k (omega arith) (omega arith) in
+      tiles_is_sum k together ∙ sum_side_by_side (tiles_of k) at_suit
+      ∙ only_over (λ other. sum_by (tiles_of k) (at_suit other)) suit (λ other ne. sym (tiles_is_sum k (at_suit other)) ∙ tiles_outside (has_runs other) (first_of other) k (blocks other) (clear_of other k (λ e. ne (e ∙ own))) (in_suit other))
       ∙ sym (tiles_is_sum k (at_suit suit)) ∙ tiles_within (has_runs suit) (first_of suit) r (blocks suit) h (in_suit suit)
 
-  kinds_together : ((r : ℕ) → 7 ≤ r → r < 9 → total (blocks Honours) r ≡ 0) → All IsOfKinds together
-  kinds_together none =
-      All-append IsOfKinds (at_suit Characters) (at_suit Circles ++ (at_suit Bamboos ++ at_suit Honours)) (raised_kinds 0 (blocks Characters) (inl refl) (in_suit Characters))
-      (All-append IsOfKinds (at_suit Circles) (at_suit Bamboos ++ at_suit Honours) (raised_kinds 9 (blocks Circles) (inr (inl refl)) (in_suit Circles))
-      (All-append IsOfKinds (at_suit Bamboos) (at_suit Honours) (raised_kinds 18 (blocks Bamboos) (inr (inr refl)) (in_suit Bamboos))
-      (raised_honours (blocks Honours) (sym (tiles_is_sum 7 (blocks Honours)) ∙ none 7 (omega arith) (omega arith)) (sym (tiles_is_sum 8 (blocks Honours)) ∙ none 8 (omega arith) (omega arith)) (in_suit Honours))))
+  kinds_together : ((suit : Suit) (r : ℕ) → kinds_of suit ≤ r → r < 9 → total (blocks suit) r ≡ 0) → All IsOfKinds together
+  kinds_together none = all_side_by_side IsOfKinds at_suit (λ suit. raised_kinds suit (blocks suit) (none suit) (in_suit suit))
 
 module _ (hand : List ℕ) (melds : List Meld) (counts caps : Suit → List ℕ) (suits : (suit : Suit) → IsSuitOf suit hand melds (counts suit) (caps suit))
     (rows : Suit → ℕ → ℕ → Option ℕ) (are : (suit : Suit) → IsSuitRow (has_runs suit) (counts suit) (caps suit) (rows suit))
@@ -239,7 +206,7 @@ module _ (hand : List ℕ) (melds : List Meld) (counts caps : Suit → List ℕ)
       unfolding entries_of
       entry_lacks =
           let exact = same_from_sums (λ suit. (part_of suit).entry) (λ suit. lack (counts suit) (blocks_of suit)) (λ suit. (part_of suit).below) (omega (arith, all_lacks, sum_least, lacks)) own in
-          let tiles = tiles_part (first_of own) (rank_of x) is.blocks (has_kinds own).is_base (omega (arith, here, (has_kinds own).nine)) is.of_kinds in
+          let tiles = tiles_part own (rank_of x) is.blocks (omega (arith, here, kinds_few own)) is.of_kinds in
           record {
             entries = entries_of n (omega (arith, sum_least, sum_below, lacks));
             lacks_kind = record {
@@ -278,14 +245,14 @@ module _ (hand : List ℕ) (melds : List Meld) (counts caps : Suit → List ℕ)
     wanted_is k h = table_at (total chosen_blocks) 0 34 k h ∙ at_same_number (total chosen_blocks) (0 + k) k (omega arith)
 
     wanted_at : (suit : Suit) (r : ℕ) → r < kinds_of suit → slice_index chosen_wanted (first_of suit + r) ≡ total (blocks_at suit) r
-    wanted_at suit r h = wanted_is (first_of suit + r) (omega (arith, (has_kinds suit).inside)) ∙ tiles_at blocks_at in_suit_at suit r (omega (arith, (has_kinds suit).nine))
+    wanted_at suit r h = wanted_is (first_of suit + r) (omega (arith, kinds_end suit)) ∙ tiles_at blocks_at in_suit_at suit r (omega (arith, kinds_few suit))
 
     chosen_sets_and_pair : IsSetsAndPair sets chosen_wanted
     chosen_sets_and_pair = uncounted sets chosen_wanted (record {
       blocks = chosen_blocks;
-      of_kinds = kinds_together blocks_at in_suit_at (λ r high low. omega (arith, (chosen_of Honours).is_choice.in_caps r low, (suits Honours).are_caps.none_past r high));
-      has_sets = sum_together blocks_at in_suit_at set_of ∙ same_over _ e.sets_of (λ suit. sets_raised (first_of suit) (blocks_at suit) ∙ (chosen_of suit).is_choice.has_sets) ∙ e.has_sets;
-      has_pair = sum_together blocks_at in_suit_at has_pair ∙ same_over _ e.pairs_of (λ suit. pairs_raised (first_of suit) (blocks_at suit) ∙ (chosen_of suit).is_choice.has_pairs) ∙ e.has_pair;
+      of_kinds = kinds_together blocks_at in_suit_at (λ suit r high low. omega (arith, (chosen_of suit).is_choice.in_caps r low, (suits suit).are_caps.none_past r high));
+      has_sets = sum_side_by_side set_of (at_suit blocks_at in_suit_at) ∙ same_over _ e.sets_of (λ suit. sets_raised (first_of suit) (blocks_at suit) ∙ (chosen_of suit).is_choice.has_sets) ∙ e.has_sets;
+      has_pair = sum_side_by_side has_pair (at_suit blocks_at in_suit_at) ∙ same_over _ e.pairs_of (λ suit. pairs_raised (first_of suit) (blocks_at suit) ∙ (chosen_of suit).is_choice.has_pairs) ∙ e.has_pair;
       adds_up = wanted_is;
     })
 
@@ -296,7 +263,7 @@ module _ (hand : List ℕ) (melds : List Meld) (counts caps : Suit → List ℕ)
         let place = at_same_number (slice_index chosen_wanted) k (first_of suit + (k - first_of suit)) (omega (arith, is.low)) in
         let meld_place = at_same_number (tiles melds) k (first_of suit + (k - first_of suit)) (omega (arith, is.low)) in
         let low : k - first_of suit < kinds_of suit = omega (arith, is.low, is.high) in
-        omega (arith, place, meld_place, wanted_at suit (k - first_of suit) low, (chosen_of suit).is_choice.in_caps (k - first_of suit) (omega (arith, low, (has_kinds suit).nine)), (suits suit).are_caps.caps_at (k - first_of suit) low, melds_few k h)
+        omega (arith, place, meld_place, wanted_at suit (k - first_of suit) low, (chosen_of suit).is_choice.in_caps (k - first_of suit) (omega (arith, low, kinds_few suit)), (suits suit).are_caps.caps_at (k - first_of suit) low, melds_few k h)
 
     chosen : StandardReached hand melds sets n
     chosen = record {

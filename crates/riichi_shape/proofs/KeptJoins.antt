@@ -3,17 +3,18 @@ use Rattle.std.proofs.Common.{◌≢◌, ℕ, ◌+◌, List, slice_set, get_or-s
 use Rattle.riichi_rows.specs.declared.row.SuitRow.{SuitRow}
 use Rattle.riichi_tiles.specs.declared.meld.Meld.{Meld}
 use Rattle.riichi_tiles.specs.Kinds.{IsOfSuit, first_of, suit_of}
-use Rattle.riichi_tiles.specs.Suits.{of_suit, with_suit, first_far, last_far, partner}
+use Rattle.riichi_tiles.specs.Suits.{of_suit, with_suit, first_far, is_low, last_far, partner}
 use Rattle.riichi_tiles.specs.declared.by_suit.BySuit.{BySuit}
 use Rattle.riichi_tiles.specs.declared.suit.Suit.{Suit}
-use Rattle.riichi_tiles.proofs.Suits.{cases_suit, of_suit-with_other, of_suit-with_same, only_suit, others_apart}
-use Rattle.riichi_shape.specs.Rows.{AreRowsOf, DifferAt, IsRowAt, AreFormsOf, AreJoinsBeside, AreSameBut, IsMeldedFew}
+use Rattle.riichi_tiles.proofs.Suits.{cases_suit, of_suit_with_other, of_suit-with_same, far_apart, only_suit, others_apart}
+use Rattle.riichi_shape.specs.Rows.{AreRowsOf, DifferAt, IsRowAt, AreFormsOf, AreHalvesBeside, AreJoinedTwo, AreJoinsBeside, AreSameBut, IsMeldedFew, far_half}
 use Rattle.riichi_shape.specs.Suits.{IsRowOf}
 use Rattle.riichi_rows.specs.Join.{IsLeastJoin}
 use Rattle.riichi_rows.specs.Row.{AreJoinedBeside, suit_entries}
 use Rattle.riichi_rows.specs.declared.joined.JoinedRows.{JoinedRows}
 use Rattle.riichi_shape.specs.Distance.{IsLeastStandard}
 use Rattle.riichi_shape.specs.declared.hand_forms.HandForms.{HandForms}
+use Rattle.riichi_shape.specs.declared.halves.Halves.{Halves}
 use Rattle.riichi_shape.specs.declared.hand_joins.HandJoins.{HandJoins}
 use Rattle.riichi_tiles.specs.declared.suit.Suit.TheVariants.{Characters}
 use Rattle.riichi_shape.proofs.FourSuits.{standard_least}
@@ -40,7 +41,7 @@ rows_with kind before after melds rows row are differ new other =
     elim (cases_suit other own) [
       | inl same ↦ subst (λ (suit : Suit). At suit (of_suit rows_then suit)) (sym same) (subst (At own) (sym (of_suit-with_same rows own row)) new)
       | inr ne ↦
-          subst (At other) (sym (of_suit-with_other rows own other row ne))
+          subst (At other) (sym (of_suit_with_other rows own other row ne))
           (row_kept kind before after melds other (of_suit rows other) differ
           (λ k is e. ne (sym (only_suit other kind (record { low = omega (arith, e, is.low); high = omega (arith, e, is.high) }))))
           (are other))
@@ -64,6 +65,12 @@ pub least_by_forms : (hand : List ℕ) (melds : List Meld) (forms : HandForms) �
 least_by_forms hand melds forms are few sets in_hand least join =
     least_by_rows hand melds forms.rows are.are_rows few sets in_hand least (join Characters forms.rows refl (are.are_joins.beside Characters))
 
+-- of the half that a suit is not in the rows are the same, where a suit of its own half has changed
+pub half_kept : (own : Suit) (halves : Halves) (after : BySuit SuitRow) → AreHalvesBeside own halves after → (suit : Suit) → is_low own ≡ is_low suit → AreJoinedTwo (of_suit after (first_far suit)) (of_suit after (last_far suit)) (far_half halves suit)
+half_kept own halves after is suit same =
+    let apart = far_apart own suit same in
+    rw (is.same (first_far suit) apart.0, is.same (last_far suit) apart.1) (is.are_halves suit)
+
 -- beside a suit it is the other rows that count
 pub beside_same : (suit : Suit) (before after : BySuit SuitRow) (joined : JoinedRows) → AreSameBut suit before after → AreJoinedBeside suit before joined → AreJoinedBeside suit after joined
 beside_same suit before after joined same are =
@@ -81,4 +88,4 @@ changed kind hand melds joins are few sets in_hand row least new join =
     let rows = are.joins_before.rows in
     let now = with_suit rows own row in
     least_by_rows hand melds now (rows_with kind are.before hand melds rows row are.joins_before.are_rows are.differ new) few sets in_hand least
-    (join own now (of_suit-with_same rows own row) (beside_same own rows now (of_suit joins.beside own) (λ other ne. of_suit-with_other rows own other row ne) (are.joins_before.are_joins.beside own)))
+    (join own now (of_suit-with_same rows own row) (beside_same own rows now (of_suit joins.beside own) (λ other ne. of_suit_with_other rows own other row ne) (are.joins_before.are_joins.beside own)))

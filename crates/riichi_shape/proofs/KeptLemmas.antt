@@ -191,3 +191,9 @@ module _ (copies : List ℕ) (kept : KeptDiscard) (is : IsKept copies kept) wher
       by_test : (t : Bool) → AreKept copies (put_in kept order) → AreKept copies (cond t (kept ∷ next ∷ order) (next ∷ put_in kept order))
       by_test true later = (is, all)
       by_test false later = (all.0, later)
+
+pub ruleset new_facts = (all_low, are_told, shown_same)
+
+pub ruleset get_facts = (kept_low, kept_told, none_told)
+
+pub ruleset short_at_facts = (kept_low, kept_short, kept_told, none_told)

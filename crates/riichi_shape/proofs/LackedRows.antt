@@ -4,7 +4,7 @@ use Rattle.std.specs.Prelude.{◌↔◌}
 use Rattle.riichi_rows.specs.Join.{EntriesSum}
 use Rattle.riichi_rows.specs.Lacked.{ChoiceLacks}
 use Rattle.riichi_rows.specs.Lanes.{lane}
-use Rattle.riichi_rows.specs.Marks.{MarkedBeside, has_rank, is_marked}
+use Rattle.riichi_rows.specs.Marks.{AreMarkedBeside, MarkedBeside, is_marked}
 use Rattle.riichi_rows.specs.Row.{AreJoinedBeside, suit_entries}
 use Rattle.riichi_rows.specs.declared.joined.JoinedRows.{JoinedRows}
 use Rattle.riichi_rows.specs.declared.row.SuitRow.{SuitRow}
@@ -92,10 +92,10 @@ module _ (hand : List ℕ) (melds : List Meld) (rows : BySuit SuitRow) (are : Ar
         λ k. from_entries rows suit joined (are_joins.beside suit) sets rank few n low laws.0 (record { entries = k.entries; marked = (mark_law suit rank nine k.entries).1 k.lacks_kind }),
       )
 
-  pub suits_lacked : (suits : BySuit RankSet) → ((suit : Suit) (rank : ℕ) → rank < 9 → IsTrue (has_rank (of_suit suits suit) rank) ↔ MarkedBeside (of_suit rows suit) (of_suit joins.beside suit) sets n rank) → AreSuitsLacked hand melds sets n suits
+  pub suits_lacked : (suits : BySuit RankSet) → ((suit : Suit) → AreMarkedBeside (of_suit rows suit) (of_suit joins.beside suit) sets n (of_suit suits suit)) → AreSuitsLacked hand melds sets n suits
   suits_lacked suits each = record {
     at = λ kind inside.
         let suit = suit_of kind in
         let nine : rank_of kind < 9 = omega (arith, nine_at_most suit kind (own_suit kind inside), (own_suit kind inside).low) in
-        through (each suit (rank_of kind) nine) (through (marked_lack kind inside) (let law = laws.1 kind inside in (law.1, law.0)));
+        through ((each suit).at (rank_of kind) nine) (through (marked_lack kind inside) (let law = laws.1 kind inside in (law.1, law.0)));
   }

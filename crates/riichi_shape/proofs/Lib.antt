@@ -25,3 +25,4 @@ pub mod RemovalLemmas
 pub mod ShapeFacts
 pub mod SpecialLemmas
 pub mod Uniqueness
+pub mod TextLemmas

@@ -93,3 +93,5 @@ lacked_of hand melds n four few n_is sets sets_are lacked suits special = record
 -- no special form of a hand lacks less than its distance
 pub special_floor : (hand : List ℕ) (melds : List Meld) (n : ℕ) → length melds ≤ 4 → ((kind : ℕ) → kind < 34 → tiles melds kind ≤ 4) → n ≡ distance_of hand melds → SpecialLacks hand melds n
 special_floor hand melds n four few n_is = special_none_less hand melds n (subst (λ (m : ℕ). IsDistance hand melds m) (sym n_is) (distance_reached hand melds four few))
+
+pub ruleset lacked_without_facts = (lacked_of, special_floor)

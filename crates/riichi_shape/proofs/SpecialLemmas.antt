@@ -109,3 +109,5 @@ none_lacked hand melds floor n bound more lacked none = record {
     λ w. absurd (⊎_elim (λ p. (let b = bound.bound p.1.wanted (inl (p.0, p.1.is_form)) in omega (arith, b, more, p.1.lacks))) (λ o. (let b = bound.bound o.1.wanted (inr (o.0, o.1.is_form)) in omega (arith, b, more, o.1.lacks))) w),
   );
 }
+
+pub ruleset lacked_without_facts = (none_lacked, nothing_lacked)

@@ -17,3 +17,4 @@ pub mod Special
 pub mod Suits
 pub mod Winning
 pub mod Equality
+pub mod Text

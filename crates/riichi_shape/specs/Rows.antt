@@ -1,8 +1,8 @@
 -- The four rows of a hand, and what is kept of them while a tile changes.
-use Rattle.std.specs.Prelude.{◌≡◌, ◌≢◌, ℕ, ◌<◌, ◌≤◌, List, slice_index}
+use Rattle.std.specs.Prelude.{◌≡◌, ◌≢◌, ℕ, ◌<◌, ◌≤◌, List, slice_index, if◌then◌else◌}
 use Rattle.riichi_tiles.specs.Kinds.{suit_of}
 use Rattle.riichi_tiles.specs.Melds.{tiles}
-use Rattle.riichi_tiles.specs.Suits.{of_suit}
+use Rattle.riichi_tiles.specs.Suits.{first_far, is_low, last_far, of_suit}
 use Rattle.riichi_tiles.specs.declared.by_suit.BySuit.{BySuit}
 use Rattle.riichi_tiles.specs.declared.meld.Meld.{Meld}
 use Rattle.riichi_tiles.specs.declared.suit.Suit.{Suit}
@@ -14,6 +14,7 @@ use Rattle.riichi_rows.specs.declared.row.SuitRow.{SuitRow}
 use Rattle.riichi_shape.specs.Special.{AreSpecialForms}
 use Rattle.riichi_shape.specs.Suits.{IsRowOf}
 use Rattle.riichi_shape.specs.declared.hand_forms.HandForms.{HandForms}
+use Rattle.riichi_shape.specs.declared.halves.Halves.{Halves}
 use Rattle.riichi_shape.specs.declared.hand_joins.HandJoins.{HandJoins}
 
 -- each is the marked row of its suit of the hand
@@ -40,13 +41,25 @@ AreSameBut own before after = (suit : Suit) → suit ≢ own → of_suit after s
 abbrev pub AreJoinedTwo : SuitRow → SuitRow → JoinedRows → Type 0
 AreJoinedTwo a b joined = IsLeastSum (lane a.entries.lacks) (lane b.entries.lacks) (lane joined.sums.lacks)
 
--- the joins of two suits, and beside each suit that of the rows of the other three
+-- the join of the half that a suit is not in
+abbrev pub far_half : Halves → Suit → JoinedRows
+far_half halves suit = if is_low suit then halves.high else halves.low
+
+-- each half's is the join of its two suits
+abbrev pub AreHalvesOf : BySuit SuitRow → Halves → Type 0
+AreHalvesOf rows halves = (suit : Suit) → AreJoinedTwo (of_suit rows (first_far suit)) (of_suit rows (last_far suit)) (far_half halves suit)
+
+-- the joins of the halves, and beside each suit that of the rows of the other three
 pub record AreJoinsOf (rows : BySuit SuitRow) (joins : HandJoins) : Type 0 where
-  pub low : AreJoinedTwo rows.characters rows.circles joins.low
-  pub high : AreJoinedTwo rows.bamboos rows.honours joins.high
+  pub halves : AreHalvesOf rows joins.halves
   pub beside : (suit : Suit) → AreJoinedBeside suit rows (of_suit joins.beside suit)
 
--- the joins of rows that differ from these in one suit alone
+-- the halves, or all joins, of rows that differ from these in one suit alone
+pub record AreHalvesBeside (own : Suit) (halves : Halves) (rows : BySuit SuitRow) : Type 0 where
+  pub before : BySuit SuitRow
+  pub are_halves : AreHalvesOf before halves
+  pub same : AreSameBut own before rows
+
 pub record IsChangedAt (own : Suit) (joins : HandJoins) (rows : BySuit SuitRow) : Type 0 where
   pub before : BySuit SuitRow
   pub are_joins : AreJoinsOf before joins

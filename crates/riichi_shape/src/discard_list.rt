@@ -48,6 +48,7 @@ impl Eq for DiscardList {
 
 impl DiscardList {
     /// The discards of an order, beside these live copies.
+    #[tactic(auto, using(crate::proofs::KeptLemmas::new_facts))]
     pub(crate) fn new(copies: &[u8; 34], order: DiscardOrder) -> DiscardList
         requires few { (kind : ℕ) → slice_index copies.now kind ≤ 4 }
         requires kept { AreKept copies.now order }
@@ -68,6 +69,7 @@ impl DiscardList {
     }
 
     /// The discard at a place of the order.
+    #[tactic(auto, using(crate::proofs::KeptLemmas::get_facts))]
     pub fn get(&self, place: usize) -> Option<Discard>
         ensures { result ≡ slice_get self.now place }
     {
@@ -78,6 +80,7 @@ impl DiscardList {
     }
 
     /// The same in short, as it is kept: no list of live copies is made.
+    #[tactic(auto, using(crate::proofs::KeptLemmas::short_at_facts))]
     pub fn short_at(&self, place: usize) -> Option<ShortDiscard>
         ensures { result ≡ option_map short_of (slice_get self.now place) }
     {

@@ -73,6 +73,7 @@ impl DiscardOrder {
     }
 
     /// The kinds that any of the discards accepts.
+    #[tactic(auto, using(crate::proofs::DiscardLemmas::seen_are, riichi_tiles::proofs::KindSets::either_at, riichi_tiles::proofs::KindSets::none_at))]
     pub(crate) fn accepted(&self) -> KindSet
         requires { All (λ kept. accepted_kinds kept < 2 ^ 34) self.now }
         ensures { (kind : ℕ)

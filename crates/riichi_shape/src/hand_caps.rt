@@ -32,10 +32,5 @@ pub(crate) fn hand_caps_of(melds: &Melds) -> HandCaps
     ensures { AreHandCaps melds.now result }
 {
     let melded = meld_tiles(melds);
-    BySuit {
-        characters: suit_caps(&melded, Suit::Characters),
-        circles: suit_caps(&melded, Suit::Circles),
-        bamboos: suit_caps(&melded, Suit::Bamboos),
-        honours: suit_caps(&melded, Suit::Honours),
-    }
+    BySuit::of(|suit| suit_caps(&melded, suit))
 }

@@ -80,6 +80,7 @@ impl HandForms {
     }
 
     /// The same of the hand without one tile of a kind, by the row that its suit then has.
+    #[tactic(auto, using(crate::proofs::KeptJoins::set_differs, crate::proofs::Nearer::lacked_without_facts))]
     pub(crate) fn lacked_without(
         &self,
         hand: &Counts,

@@ -5,37 +5,29 @@ ghost use Rattle.riichi_tiles.specs.declared.meld.Meld.{Meld};
 ghost use Rattle.riichi_shape.specs.Distance.{IsLeastStandard};
 ghost use Rattle.riichi_shape.specs.LackedKinds.{AreSuitsLacked, NoneStandardLess};
 ghost use Rattle.riichi_rows.specs.Row.{AreJoinedBeside};
-ghost use Rattle.riichi_shape.specs.Rows.{AreJoinedTwo, AreJoinsBeside, AreJoinsOf, AreRowsOf, IsChangedAt, IsMeldedFew, IsRowAt};
+ghost use Rattle.riichi_shape.specs.Rows.{AreHalvesOf, AreJoinsBeside, AreJoinsOf, AreRowsOf, IsChangedAt, IsMeldedFew, IsRowAt};
 
+use crate::halves::Halves;
 use crate::hand_rows::HandRows;
 use crate::suits_lacked::SuitsLacked;
-use riichi_rows::{JoinedRows, SuitRow, join_two};
+use riichi_rows::{JoinedRows, SuitRow};
 use riichi_tiles::{BySuit, Kind, Suit};
 
 /// Beside each suit the rows of the other three, joined. They are kept while a tile of the suit is
 /// added or removed. Of the others just those are joined anew that the suit is in.
 #[derive(Clone, Copy)]
 pub(crate) struct HandJoins {
-    /// The characters and the circles.
-    pub(crate) low: JoinedRows,
-    /// The bamboos and the honours.
-    pub(crate) high: JoinedRows,
+    pub(crate) halves: Halves,
     pub(crate) beside: BySuit<JoinedRows>,
 }
 
-/// The rows beside a suit, out of the joins of two suits.
+/// The rows beside a suit: of the other of its half, and of the half that it is not in.
 #[inline(always)]
-fn beside(rows: &HandRows, low: &JoinedRows, high: &JoinedRows, suit: Suit) -> JoinedRows
-    requires low { AreJoinedTwo rows.now.characters rows.now.circles low.now }
-    requires high { AreJoinedTwo rows.now.bamboos rows.now.honours high.now }
+fn beside(rows: &HandRows, halves: &Halves, suit: Suit) -> JoinedRows
+    requires { AreHalvesOf rows.now halves.now }
     ensures { AreJoinedBeside suit rows.now result }
 {
-    match suit {
-        Suit::Characters => high.and(&rows.circles),
-        Suit::Circles => high.and(&rows.characters),
-        Suit::Bamboos => low.and(&rows.honours),
-        Suit::Honours => low.and(&rows.bamboos),
-    }
+    halves.far(suit).and(rows.lent(suit.partner()))
 }
 
 impl HandJoins {
@@ -43,17 +35,10 @@ impl HandJoins {
     pub(crate) fn new(rows: &HandRows) -> HandJoins
         ensures { AreJoinsOf rows.now result }
     {
-        let low = join_two(&rows.characters, &rows.circles);
-        let high = join_two(&rows.bamboos, &rows.honours);
+        let halves = Halves::of(rows);
         HandJoins {
-            low,
-            high,
-            beside: BySuit {
-                characters: beside(rows, &low, &high, Suit::Characters),
-                circles: beside(rows, &low, &high, Suit::Circles),
-                bamboos: beside(rows, &low, &high, Suit::Bamboos),
-                honours: beside(rows, &low, &high, Suit::Honours),
-            },
+            halves,
+            beside: BySuit::of(|suit| beside(rows, &halves, suit)),
         }
     }
 
@@ -63,65 +48,24 @@ impl HandJoins {
         ensures { AreJoinsOf rows.now result }
     {
         let own = kind.suit();
-        let low = self.low_with(own, rows);
-        let high = self.high_with(own, rows);
+        let halves = self.halves.with(own, rows);
         HandJoins {
-            low,
-            high,
-            beside: BySuit {
-                characters: self.beside_with(own, rows, &low, &high, Suit::Characters),
-                circles: self.beside_with(own, rows, &low, &high, Suit::Circles),
-                bamboos: self.beside_with(own, rows, &low, &high, Suit::Bamboos),
-                honours: self.beside_with(own, rows, &low, &high, Suit::Honours),
-            },
-        }
-    }
-
-    #[inline(always)]
-    fn low_with(&self, own: Suit, rows: &HandRows) -> JoinedRows
-        requires { IsChangedAt own self.now rows.now }
-        ensures { AreJoinedTwo rows.now.characters rows.now.circles result }
-    {
-        match own {
-            Suit::Characters => join_two(&rows.characters, &rows.circles),
-            Suit::Circles => join_two(&rows.characters, &rows.circles),
-            Suit::Bamboos => self.low,
-            Suit::Honours => self.low,
-        }
-    }
-
-    #[inline(always)]
-    fn high_with(&self, own: Suit, rows: &HandRows) -> JoinedRows
-        requires { IsChangedAt own self.now rows.now }
-        ensures { AreJoinedTwo rows.now.bamboos rows.now.honours result }
-    {
-        match own {
-            Suit::Characters => self.high,
-            Suit::Circles => self.high,
-            Suit::Bamboos => join_two(&rows.bamboos, &rows.honours),
-            Suit::Honours => join_two(&rows.bamboos, &rows.honours),
+            halves,
+            beside: BySuit::of(|suit| self.beside_with(own, rows, &halves, suit)),
         }
     }
 
     /// Beside the suit whose row has changed the others stay as they were.
     #[inline(always)]
-    fn beside_with(
-        &self,
-        own: Suit,
-        rows: &HandRows,
-        low: &JoinedRows,
-        high: &JoinedRows,
-        suit: Suit,
-    ) -> JoinedRows
-        requires low { AreJoinedTwo rows.now.characters rows.now.circles low.now }
-        requires high { AreJoinedTwo rows.now.bamboos rows.now.honours high.now }
+    fn beside_with(&self, own: Suit, rows: &HandRows, halves: &Halves, suit: Suit) -> JoinedRows
+        requires halves { AreHalvesOf rows.now halves.now }
         requires changed { IsChangedAt own self.now rows.now }
         ensures { AreJoinedBeside suit rows.now result }
     {
         if suit == own {
             self.beside.get(suit)
         } else {
-            beside(rows, low, high, suit)
+            beside(rows, halves, suit)
         }
     }
 
@@ -134,13 +78,10 @@ impl HandJoins {
             → AreJoinsOf rows.now self.now → IsMeldedFew melds
             → NoneStandardLess hand melds sets least → AreSuitsLacked hand melds sets least result }
     {
-        let beside = &self.beside;
-        BySuit {
-            characters: beside.characters.lacked_by(&rows.characters, sets, least),
-            circles: beside.circles.lacked_by(&rows.circles, sets, least),
-            bamboos: beside.bamboos.lacked_by(&rows.bamboos, sets, least),
-            honours: beside.honours.lacked_by(&rows.honours, sets, least),
-        }
+        BySuit::of(|suit| self
+            .beside
+            .lent(suit)
+            .lacked_by(rows.lent(suit), sets, least))
     }
 
     /// The least number of tiles that a hand lacks of so many sets and a pair, or None where the

@@ -44,6 +44,7 @@ pub(crate) fn row_at<R: RowSource>(
 }
 
 /// The rows of a hand that has changed at one kind, with this row of the suit of that kind.
+#[tactic(auto, using(riichi_tiles::proofs::Suits::of_suit_with_other, crate::proofs::KeptJoins::rows_with))]
 pub(crate) fn with_row(rows: &HandRows, kind: Kind, row: &SuitRow) -> HandRows
     ensures others { AreSameBut (suit_of kind) rows.now result }
     ensures rows { (before hand : List ℕ) (melds : List Meld) → AreRowsOf before melds rows.now

@@ -17,6 +17,7 @@ pub(crate) struct LackedKinds {
 
 impl LackedKinds {
     /// The kinds that are lacked by a hand that holds so many of each.
+    #[tactic(auto, using(riichi_tiles::proofs::KindSets::either_at))]
     pub(crate) fn kinds(&self, held: &[u8; 34]) -> KindSet
         ensures { AreKindsOf result (λ kind. lacks_kind self.now kind (slice_index held.now kind)) }
     {

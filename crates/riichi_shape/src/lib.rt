@@ -3,8 +3,9 @@
 //! `shape` answers a `riichi_hand::ShapeRecord` by a `ShapeAnswer`: its shanten, and what it
 //! `Accepts`. Thirteen tiles accept the kinds of a `LiveList`, which lower the shanten, each with
 //! its live copies. Of fourteen tiles a `DiscardList` has each `Discard` that leaves the least
-//! shanten, with the list that the rest then accepts. `shanten` and `accepted` are the parts alone;
-//! the text of an answer is `riichi_shape_text`. A hand is measured by its four suit rows, which
+//! shanten, with the list that the rest then accepts. `shanten` and `accepted` are the parts alone.
+//! `shape_text` is an answer on one line, and `push_shape` writes it behind a text that is kept.
+//! A hand is measured by its four suit rows, which
 //! `riichi_rows` makes, and beside each the other three are joined. The marks of a row say which
 //! ranks its least choices lack, so the rows of the hand alone show the kinds that bring it nearer:
 //! no row of the hand with one more tile is ever made. A tile that is discarded changes one row.
@@ -23,6 +24,7 @@ mod discard_list;
 mod discard_order;
 mod distance;
 mod forms;
+mod halves;
 mod hand_caps;
 mod hand_forms;
 mod hand_joins;
@@ -42,6 +44,7 @@ mod special;
 mod suit_caps;
 mod suit_of_hand;
 mod suits_lacked;
+mod text;
 
 pub use acceptance::accepted;
 pub use accepts::Accepts;
@@ -51,6 +54,9 @@ pub use discard_list::DiscardList;
 pub use distance::{shanten, shanten_with};
 pub use forms::{FormDistances, form_distances};
 pub use live_list::LiveList;
-pub use riichi_cache::{KeptRow, KeptUpper, LentMemo, Memory, RowCache, RowMemo, SuitMemo};
-pub use riichi_rows::{FreshRows, RowSource, SuitRow, join_rows, suit_row};
+pub use riichi_rows::{
+    FreshRows, KeptRow, KeptUpper, LentMemo, Memory, RowCache, RowMemo, RowSource, SuitMemo,
+    SuitRow, join_rows, suit_row,
+};
 pub use shape_answer::ShapeAnswer;
+pub use text::{push_shape, shape_text};

@@ -71,6 +71,7 @@ impl SpecialForms {
 
     /// The same of the hand without one tile of a kind. It lacks no fewer of them than the whole hand,
     /// so they are looked at again only where that lacks few enough.
+    #[tactic(auto, using(crate::proofs::OneMore::special_without, crate::proofs::SpecialLemmas::lacked_without_facts))]
     pub(crate) fn lacked_without(
         &self,
         hand: &Counts,
@@ -96,6 +97,7 @@ impl SpecialForms {
 
 impl SpecialLacked {
     /// Whether no kind is lacked.
+    #[tactic(auto, using(crate::proofs::SpecialLemmas::are_empty, crate::proofs::SpecialLemmas::empty_iff))]
     pub(crate) fn is_empty(&self) -> bool
         ensures { IsTrue result ↔ ((kind held : ℕ) → special_lacks self.now kind held ≡ false) }
     {
@@ -110,6 +112,7 @@ impl SpecialLacked {
     }
 
     /// The kinds that are lacked by a hand that holds so many of each.
+    #[tactic(auto, using(riichi_tiles::proofs::KindSets::none_below, riichi_tiles::proofs::KindSets::one_more))]
     pub(crate) fn kinds(&self, held: &[u8; 34]) -> KindSet
         ensures { AreKindsOf result (λ kind. special_lacks self.now kind
             (slice_index held.now kind)) }

@@ -2,8 +2,10 @@
 ghost use Rattle.std.specs.Prelude.{◌≤◌};
 
 use crate::facts::{holds, same};
-use riichi_cache::{KeptRow, KeptUpper, LentMemo, Memory, RowCache, RowMemo, SuitMemo};
-use riichi_rows::{FreshRows, RowSource, SuitRow};
+use riichi_rows::{
+    FreshRows, KeptRow, KeptUpper, LentMemo, Memory, RowCache, RowMemo, RowSource, SuitMemo,
+    SuitRow,
+};
 use std::alloc::Global;
 use std::process::Abort;
 use std::test::Fail;

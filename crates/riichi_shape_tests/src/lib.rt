@@ -1,4 +1,4 @@
-//! Tests of `riichi_rows`, `riichi_cache` and `riichi_shape` with its text, a module each, by what they export.
+//! Tests of `riichi_rows` and `riichi_shape`, a module for each concern, by what they export.
 //!
 //! They stand apart from the libraries, since a check of a crate with its tests proves the crate once more.
 #![tactic(auto)]

@@ -7,9 +7,8 @@ use riichi_hand::{LineCode, LineFault, ShapeRecord};
 use riichi_rows::join_two;
 use riichi_shape::{
     Accepts, DiscardList, KeptRow, KeptUpper, LentMemo, Memory, RowCache, ShapeAnswer, accepted,
-    join_rows, laws, shanten, shanten_with, shape, shape_with, suit_row,
+    join_rows, laws, push_shape, shanten, shanten_with, shape, shape_text, shape_with, suit_row,
 };
-use riichi_shape_text::{push_shape, shape_text};
 use riichi_tiles::{BySuit, Counts, Kind, Meld, Melds, Suit, read_counts};
 use std::alloc::Global;
 use std::process::Abort;

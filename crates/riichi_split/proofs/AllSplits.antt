@@ -9,6 +9,9 @@ use Rattle.std.proofs.lemmas.Grind.{get_or-set_at}
 use Rattle.riichi_tiles.specs.Tiles.{IsCounts}
 use Rattle.riichi_tiles.specs.declared.block.Block.{Block}
 use Rattle.riichi_tiles.specs.Blocks.{total}
+use Rattle.riichi_tiles.specs.Kinds.{first_of, kinds_of, suit_of}
+use Rattle.riichi_tiles.specs.declared.suit.Suit.{Suit}
+use Rattle.riichi_tiles.proofs.Suits.{own_suit}
 use Rattle.riichi_split.specs.declared.split.Split.{Split}
 use Rattle.riichi_split.specs.Readings.{IsSplit}
 use Rattle.riichi_split.proofs.MadeOf.{adds-everywhere, each-set, made-of}
@@ -168,6 +171,13 @@ no_choices c wanted p splits = refl
 -- the pair of each split is one of these kinds
 abbrev pub HasPairsAmong : List ℕ → ℕ → ℕ → Type 0
 HasPairsAmong c first kinds = (melds : ℕ) (sets : List Block) (pair : ℕ) → IsSplit c melds sets pair → (first ≤ pair) × (pair < first + kinds)
+
+pub among_suit : (c : List ℕ) (suit : Suit) → ((melds : ℕ) (sets : List Block) (pair : ℕ) → IsSplit c melds sets pair → Some suit ≡ Some (suit_of pair)) → HasPairsAmong c (first_of suit) (kinds_of suit)
+among_suit c suit is melds sets pair split =
+    let both = is melds sets pair split in
+    let same : suit ≡ suit_of pair = cc in
+    let own = own_suit pair split.made_of.is_kind in
+    rw same (own.low, own.high)
 
 pub the_splits : (c : List ℕ) (wanted melds p first kinds : ℕ) → IsCounts c → wanted + melds ≡ 4 → first + kinds ≤ 34 → HasPairsAmong c first kinds → AreTheSplits c melds (from_choices c wanted p 0 ++ from_pairs c wanted (2 ^ min 4 (doubts c)) first kinds)
 the_splits c wanted melds p first kinds counts w l among =

@@ -66,8 +66,8 @@ pub record IsPartWay (counts : List ℕ) (wanted all : ℕ) (k : ℕ) (sets : Li
   pub few : (one ≤ 4) × (two ≤ 4)
   pub rest : cut_from 0 counts 0 0 wanted all ≡ sets_joined sets (cut_from k (drop k counts) one two left choices)
 
-pub IsPartWay-more : (counts : List ℕ) (wanted all k : ℕ) (sets : List Block) (one two left choices : ℕ) (c : Choice) → k < length counts → wanted ≤ 4 → IsPartWay counts wanted all k sets one two left choices → choice_of k (get_or counts k 0) (may_have_runs (drop (k + 1) counts)) (one + two) left choices ≡ Some c → IsPartWay counts wanted all (k + 1) (sets ++ begun k c) c.runs one (left - (c.triplets + c.runs)) c.choices
-IsPartWay-more counts wanted all k sets one two left choices c in_range small h e =
+pub IsPartWay_more : (counts : List ℕ) (wanted all k : ℕ) (sets : List Block) (one two left choices : ℕ) (c : Choice) → k < length counts → wanted ≤ 4 → IsPartWay counts wanted all k sets one two left choices → choice_of k (get_or counts k 0) (may_have_runs (drop (k + 1) counts)) (one + two) left choices ≡ Some c → IsPartWay counts wanted all (k + 1) (sets ++ begun k c) c.runs one (left - (c.triplets + c.runs)) c.choices
+IsPartWay_more counts wanted all k sets one two left choices c in_range small h e =
     let d : drop k counts ≡ get_or counts k 0 ∷ drop (k + 1) counts = rw add-one (drop-cons counts k 0 in_range) in
     let ok : IsChoice k (get_or counts k 0) (may_have_runs (drop (k + 1) counts)) (one + two) left choices c = IsChoice-from k (get_or counts k 0) (may_have_runs (drop (k + 1) counts)) (one + two) left choices c e in
     record {
@@ -86,12 +86,12 @@ pub IsPartWay-skip : (counts : List ℕ) (wanted all k : ℕ) (sets : List Block
 IsPartWay-skip counts wanted all k sets one two left choices in_range small none e f h =
     let c : Choice = record { triplets = 0; runs = 0; choices = choices } in
     let is : choice_of k (get_or counts k 0) (may_have_runs (drop (k + 1) counts)) (one + two) left choices ≡ Some c = grind (arith, nat_tests) in
-    let more = IsPartWay-more counts wanted all k sets one two left choices c in_range small h is in
+    let more = IsPartWay_more counts wanted all k sets one two left choices c in_range small h is in
     let same : left - (0 + 0) ≡ left = omega arith in
     record { room = h.room; few = h.few; rest = rw (e, f) (rw (append-nil sets, same, e) at more.rest) }
 
-pub IsPartWay-none : (counts : List ℕ) (wanted all : ℕ) → IsPartWay counts wanted all 0 [] 0 0 wanted all
-IsPartWay-none counts wanted all =
+pub IsPartWay_none : (counts : List ℕ) (wanted all : ℕ) → IsPartWay counts wanted all 0 [] 0 0 wanted all
+IsPartWay_none counts wanted all =
     let o = cut_from 0 counts 0 0 wanted all in
     record { room = omega arith; few = (omega arith, omega arith); rest = sym (sets_joined-none o) }
 
@@ -104,8 +104,8 @@ pass counts wanted all from (suc more) sets one two left choices in_range small 
     subst (λ (k : ℕ). IsPartWay counts wanted all k sets one two left choices) (let next : from + more + 1 ≡ from + suc more = omega arith in next)
     (IsPartWay-skip counts wanted all (from + more) sets one two left choices (omega arith) small (none (from + more) (omega arith) (omega arith)) e f before)
 
-pub IsPartWay-pass : (counts : List ℕ) (wanted all from to : ℕ) (sets : List Block) (one two left choices : ℕ) → from ≤ to → to ≤ length counts → wanted ≤ 4 → one ≡ 0 → two ≡ 0 → ((kind : ℕ) → from ≤ kind → kind < to → get_or counts kind 0 ≡ 0) → IsPartWay counts wanted all from sets one two left choices → IsPartWay counts wanted all to sets one two left choices
-IsPartWay-pass counts wanted all from to sets one two left choices before in_range small e f none h =
+pub IsPartWay_pass : (counts : List ℕ) (wanted all from to : ℕ) (sets : List Block) (one two left choices : ℕ) → from ≤ to → to ≤ length counts → wanted ≤ 4 → one ≡ 0 → two ≡ 0 → ((kind : ℕ) → from ≤ kind → kind < to → get_or counts kind 0 ≡ 0) → IsPartWay counts wanted all from sets one two left choices → IsPartWay counts wanted all to sets one two left choices
+IsPartWay_pass counts wanted all from to sets one two left choices before in_range small e f none h =
     let there : from + (to - from) ≡ to = omega arith in
     subst (λ (k : ℕ). IsPartWay counts wanted all k sets one two left choices) there
     (pass counts wanted all from (to - from) sets one two left choices (omega arith) small e f (λ kind a b. none kind a (omega arith)) h)
@@ -137,7 +137,7 @@ cut_from-empty (n ∷ ns) k one two left choices none =
     ]
 
 -- no kind from one on is held
-pub cut_from-rest : (counts : List ℕ) (wanted all k : ℕ) (sets : List Block) (one two left choices : ℕ) → ((kind : ℕ) → k ≤ kind → get_or counts kind 0 ≡ 0) → IsPartWay counts wanted all k sets one two left choices → cut_from 0 counts 0 0 wanted all ≡ cond (eqb (one + two + left + choices) 0) (Some sets) None
-cut_from-rest counts wanted all k sets one two left choices none h =
+pub cut_from_rest : (counts : List ℕ) (wanted all k : ℕ) (sets : List Block) (one two left choices : ℕ) → ((kind : ℕ) → k ≤ kind → get_or counts kind 0 ≡ 0) → IsPartWay counts wanted all k sets one two left choices → cut_from 0 counts 0 0 wanted all ≡ cond (eqb (one + two + left + choices) 0) (Some sets) None
+cut_from_rest counts wanted all k sets one two left choices none h =
     let empty = cut_from-empty (drop k counts) k one two left choices (λ i. get_or-drop k counts i 0 ∙ none (k + i) (omega arith)) in
     h.rest ∙ ap (sets_joined sets) empty ∙ sets_joined-test (eqb (one + two + left + choices) 0) sets

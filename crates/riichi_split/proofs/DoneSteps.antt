@@ -18,14 +18,14 @@ done_first-suc w pair zero (x ∷ xs) b e =
     ap (λ y. done_unless_again (is_block_among y (xs ++ Pair pair ∷ [])) y w) x-is ∙ ap (λ t. done_unless_again t b w) (is_block_among-push b (Pair pair) xs)
 done_first-suc w pair (suc place) (x ∷ xs) b e = done_first-suc w pair place xs b e
 
-pub done_first-set : (w pair place : ℕ) (sets : List Block) (b : Block) → slice_get sets place ≡ Some b → done_first w (drop place (sets ++ Pair pair ∷ [])) ≡ done_unless_again (is_block_among b (drop (place + 1) sets) || same_block b (Pair pair)) b w
-done_first-set w pair place sets b e = rw add-one (done_first-suc w pair place sets b e)
+pub done_first_set : (w pair place : ℕ) (sets : List Block) (b : Block) → slice_get sets place ≡ Some b → done_first w (drop place (sets ++ Pair pair ∷ [])) ≡ done_unless_again (is_block_among b (drop (place + 1) sets) || same_block b (Pair pair)) b w
+done_first_set w pair place sets b e = rw add-one (done_first-suc w pair place sets b e)
 
-pub done_first-pair : (w pair place : ℕ) (sets : List Block) → slice_get sets place ≡ None → place ≤ length sets → done_first w (drop place (sets ++ Pair pair ∷ [])) ≡ done_unless_again false (Pair pair) w
-done_first-pair w pair zero [] e l = refl
-done_first-pair w pair (suc place) [] e l = absurd (omega arith)
-done_first-pair w pair zero (x ∷ xs) e l = absurd (cc)
-done_first-pair w pair (suc place) (x ∷ xs) e l = done_first-pair w pair place xs e (omega arith)
+pub done_first_pair : (w pair place : ℕ) (sets : List Block) → slice_get sets place ≡ None → place ≤ length sets → done_first w (drop place (sets ++ Pair pair ∷ [])) ≡ done_unless_again false (Pair pair) w
+done_first_pair w pair zero [] e l = refl
+done_first_pair w pair (suc place) [] e l = absurd (omega arith)
+done_first_pair w pair zero (x ∷ xs) e l = absurd (cc)
+done_first_pair w pair (suc place) (x ∷ xs) e l = done_first_pair w pair place xs e (omega arith)
 
 first-inv : (t : Bool) (b : Block) (xs : List Block) (o : Option Block) → o ≡ cond t (Some b) None → MatchOption o (cond t (b ∷ xs) xs ≡ xs) (λ d. cond t (b ∷ xs) xs ≡ d ∷ xs)
 first-inv true b xs None e = absurd (cc)
@@ -41,13 +41,13 @@ dones-suc w (suc place) [] (Some d) e = absurd (cc)
 dones-suc w zero (b ∷ bs) o e = first-inv (ltb 0 (copies b w) && not (is_block_among b bs)) b (dones w bs) o e
 dones-suc w (suc place) (b ∷ bs) o e = dones-suc w place bs o e
 
-pub dones-found : (w place : ℕ) (bs before : List Block) (o : Option Block) → o ≡ done_first w (drop place bs) → is_some o ≡ true → dones w (drop place bs) ≡ before → MatchOption o ((before ≡ []) × (dones w (drop (place + 1) bs) ≡ [])) (λ d. before ≡ d ∷ dones w (drop (place + 1) bs))
-dones-found w place bs before None e s h = absurd (cc)
-dones-found w place bs before (Some d) e s h = rw add-one (sym h ∙ dones-suc w place bs (Some d) e)
+pub dones_found : (w place : ℕ) (bs before : List Block) (o : Option Block) → o ≡ done_first w (drop place bs) → is_some o ≡ true → dones w (drop place bs) ≡ before → MatchOption o ((before ≡ []) × (dones w (drop (place + 1) bs) ≡ [])) (λ d. before ≡ d ∷ dones w (drop (place + 1) bs))
+dones_found w place bs before None e s h = absurd (cc)
+dones_found w place bs before (Some d) e s h = rw add-one (sym h ∙ dones-suc w place bs (Some d) e)
 
-pub dones-passed : (w place : ℕ) (bs before : List Block) (o : Option Block) → o ≡ done_first w (drop place bs) → is_some o ≡ false → dones w (drop place bs) ≡ before → dones w (drop (place + 1) bs) ≡ before
-dones-passed w place bs before None e s h = rw add-one (sym (dones-suc w place bs None e) ∙ h)
-dones-passed w place bs before (Some d) e s h = absurd (cc)
+pub dones_passed : (w place : ℕ) (bs before : List Block) (o : Option Block) → o ≡ done_first w (drop place bs) → is_some o ≡ false → dones w (drop place bs) ≡ before → dones w (drop (place + 1) bs) ≡ before
+dones_passed w place bs before None e s h = rw add-one (sym (dones-suc w place bs None e) ∙ h)
+dones_passed w place bs before (Some d) e s h = absurd (cc)
 
 pub not_done : (b : Block) (w : ℕ) (again : Bool) → ltb 0 (copies b w) ≡ false → None ≡ done_unless_again again b w
 not_done b w again e = ap (λ t. cond (t && not again) (Some b) None) (sym e)

@@ -15,7 +15,7 @@ use Rattle.riichi_tiles.specs.Melds.{tiles}
 use Rattle.riichi_tiles.specs.declared.meld.Meld.{Meld}
 use Rattle.riichi_split.specs.SpecialWaits.{AddsSpecial}
 use Rattle.riichi_split.specs.Winning.{HasReading, HasSplit}
-use Rattle.riichi_split.proofs.SpecialKinds.{fifth-completes-none}
+use Rattle.riichi_split.proofs.SpecialKinds.{fifth_completes_none}
 use Rattle.riichi_split.specs.Waits.{with_one, IsWait, is_wait, waits_of}
 use Rattle.riichi_split.specs.ReadingsOf.{readings_of}
 use Rattle.riichi_split.proofs.AnyTile.{HasShape, some-reading, reading-iff}
@@ -89,7 +89,7 @@ closed-waits hand old marks counts none standard adds kind =
         | inl b ↦ let h = o.0 b in s.1 (h.0, omega (arith, h.1, t), inl h.2)
         | inr w ↦ elim (cases_lt (get_or hand.concealed kind 0) 4) [
           | inl l ↦ s.1 (w.1.0, omega (arith, l, t), inr (elim w.1.1 [ inl pairs ↦ inl (none, pairs) | inr orphans ↦ inr (none, orphans) ]))
-          | inr four ↦ absurd (fifth-completes-none hand.concealed kind counts.each_kind four w.1)
+          | inr four ↦ absurd (fifth_completes_none hand.concealed kind counts.each_kind four w.1)
         ]
       ],
       λ w. let h = s.0 w in a.1 (elim h.2 [

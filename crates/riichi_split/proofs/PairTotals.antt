@@ -1,46 +1,33 @@
 -- Four suits are won just where they are one pair beside sets.
-use Rattle.std.proofs.Common.{◌≡◌, ◌≢◌, ℕ, ◌+◌, ◌-◌, ◌≤◌, ◌<◌, ◌↔◌, ◌⊎◌, inl, inr, Bool, IsTrue, length, get_or, sym, ap, ◌∙◌, subst, arith}
-use Rattle.std.proofs.lemmas.Bool.{cases_lt, cases_eq}
+use Rattle.std.proofs.Common.{◌≡◌, ◌≢◌, ℕ, ◌+◌, ◌-◌, ◌^◌, ◌≤◌, ◌<◌, ◌↔◌, ◌⊎◌, inl, inr, Bool, IsTrue, length, get_or, sym, ap, ◌∙◌, subst, arith}
+use Rattle.std.proofs.lemmas.Bool.{cases_lt}
 use Rattle.riichi_tiles.specs.declared.suit.Suit.{Suit}
-use Rattle.riichi_tiles.specs.declared.suit.Suit.TheVariants.{Characters, Circles, Bamboos, Honours}
+use Rattle.riichi_tiles.specs.declared.suit.Suit.TheVariants.{Characters}
 use Rattle.riichi_tiles.specs.declared.by_suit.BySuit.{BySuit}
 use Rattle.riichi_tiles.specs.Kinds.{first_of, kinds_of, suit_of, rank_of}
-use Rattle.riichi_tiles.specs.Suits.{of_suit, with_suit}
-use Rattle.riichi_tiles.proofs.Suits.{only_suit, within, cases_suit, of_suit-with_same, of_suit-with_other}
+use Rattle.riichi_tiles.specs.Suits.{of_suit, over_suits, with_suit}
+use Rattle.riichi_tiles.proofs.Suits.{le_over, only_over, only_suit, one_of, some_of, within, cases_suit, of_suit-with_same, of_suit_with_other}
 use Rattle.std.proofs.lemmas.List.{length-set}
-use Rattle.riichi_split.proofs.SuitCuts.{pairs-none, pairs-one}
+use Rattle.riichi_split.proofs.SuitCuts.{pairs_none, pairs_one}
 use Rattle.riichi_split.specs.SuitTiles.{OneSuit, AreSets, AreSetsAndPair, AreWon, AreCounted, HasPairs, Completes, total_of, with_tile, with_tile_of}
 
 -- ---- a total of one
 
--- the numbers of the suits add up to that of one suit where the others have none
-pub one-of : (number : Suit → ℕ) (pair : Suit) (value : ℕ) → number pair ≡ value → ((suit : Suit) → suit ≢ pair → number suit ≡ 0) → number Characters + number Circles + number Bamboos + number Honours ≡ value
-one-of number Characters value e none = omega (arith, e, none Circles (λ e. cc), none Bamboos (λ e. cc), none Honours (λ e. cc))
-one-of number Circles value e none = omega (arith, e, none Characters (λ e. cc), none Bamboos (λ e. cc), none Honours (λ e. cc))
-one-of number Bamboos value e none = omega (arith, e, none Characters (λ e. cc), none Circles (λ e. cc), none Honours (λ e. cc))
-one-of number Honours value e none = omega (arith, e, none Characters (λ e. cc), none Circles (λ e. cc), none Bamboos (λ e. cc))
-
 the-one : (by : BySuit ℕ) → total_of by ≡ 1 → (pair : Suit) × (of_suit by pair ≡ 1)
-the-one by t = elim (cases_eq by.characters 1) [
-  | inl e ↦ (Characters, e)
-  | inr n ↦ elim (cases_eq by.circles 1) [
-    | inl e ↦ (Circles, e)
-    | inr m ↦ elim (cases_eq by.bamboos 1) [ inl e ↦ (Bamboos, e) | inr o ↦ (Honours, omega (arith, t, n, m, o)) ]
-  ]
-]
+the-one by t = let some = some_of (of_suit by) (omega (arith, t)) in (some.0, omega (arith, t, some.1, one_of (of_suit by) some.0))
 
 total-with : (by : BySuit ℕ) (suit : Suit) (value : ℕ) → total_of (with_suit by suit value) + of_suit by suit ≡ total_of by + value
 total-with by Characters value = omega arith
 total-with by other value = omega arith
 
-pub at-most : (by : BySuit ℕ) (suit : Suit) → of_suit by suit ≤ total_of by
-at-most by Characters = omega arith
-at-most by other = omega arith
-
 others-none : (by : BySuit ℕ) (pair suit : Suit) → total_of by ≡ 1 → of_suit by pair ≡ 1 → suit ≢ pair → of_suit by suit ≡ 0
-others-none by pair suit t e ne = omega (arith, t, e, total-with by pair 0, at-most (with_suit by pair 0) suit, of_suit-with_other by pair suit 0 ne)
+others-none by pair suit t e ne = omega (arith, t, e, total-with by pair 0, one_of (of_suit (with_suit by pair 0)) suit, of_suit_with_other by pair suit 0 ne)
 
 -- ---- suits
+
+-- two of each suit at most are eight
+pub few_in_all : (tiles : BySuit OneSuit) (pairs : BySuit ℕ) → AreCounted tiles pairs → over_suits (of_suit pairs) < 2 ^ 64
+few_in_all tiles pairs counted = omega (arith, le_over (of_suit pairs) (λ suit. 2) counted.few)
 
 abbrev EachCounted : BySuit OneSuit → BySuit ℕ → Type 0
 EachCounted tiles pairs = (suit : Suit) → HasPairs (of_suit tiles suit) (of_suit pairs suit)
@@ -52,7 +39,7 @@ won-each tiles pairs counted = (
     has_pair = (counted p.0).one.0 p.1;
     others = λ suit ne. (counted suit).none.0 (others-none pairs p.0 suit t p.1 ne);
   },
-  λ w. one-of (of_suit pairs) w.pair 1 ((counted w.pair).one.1 w.has_pair) (λ suit ne. (counted suit).none.1 (w.others suit ne)),
+  λ w. only_over (of_suit pairs) w.pair (λ suit ne. (counted suit).none.1 (w.others suit ne)) ∙ (counted w.pair).one.1 w.has_pair,
 )
 
 pub won-iff : (tiles : BySuit OneSuit) (pairs : BySuit ℕ) → AreCounted tiles pairs → (total_of pairs ≡ 1) ↔ AreWon tiles
@@ -63,7 +50,7 @@ counted-with tiles pairs suit more n counted has other = elim (cases_suit other 
   | inl same ↦
       let P : Suit → Type 0 = λ s. HasPairs (of_suit (with_suit tiles suit more) s) (of_suit (with_suit pairs suit n) s) in
       subst P (sym same) (rw (of_suit-with_same tiles suit more, of_suit-with_same pairs suit n) has)
-  | inr ne ↦ rw (of_suit-with_other tiles suit other more ne, of_suit-with_other pairs suit other n ne) (counted.each other)
+  | inr ne ↦ rw (of_suit_with_other tiles suit other more ne, of_suit_with_other pairs suit other n ne) (counted.each other)
 ]
 
 -- with one suit changed, beside so many pairs of the others
@@ -122,21 +109,21 @@ asked-cases tiles pairs suit rank others a c =
       | inl same ↦
           let P : Suit → Type 0 = λ s. AreSetsAndPair (of_suit (with_tile_of tiles (first_of suit + rank)) s) in
           let pair = subst AreSetsAndPair e (subst P (sym same) c.wins.has_pair) in
-          inl (pair, omega (arith, (completed-iff tiles pairs suit rank others 1 a (pairs-one more nine pair)).1 c))
+          inl (pair, omega (arith, (completed-iff tiles pairs suit rank others 1 a (pairs_one more nine pair)).1 c))
       | inr ne ↦
           let sets = subst AreSets e (c.wins.others suit ne) in
-          inr (sets, omega (arith, (completed-iff tiles pairs suit rank others 0 a (pairs-none more nine sets)).1 c))
+          inr (sets, omega (arith, (completed-iff tiles pairs suit rank others 0 a (pairs_none more nine sets)).1 c))
     ]
 
 pub by-pair : (tiles : BySuit OneSuit) (pairs : BySuit ℕ) (suit : Suit) (rank : ℕ) (holds : Bool) → IsAsked tiles pairs suit rank 0 → IsTrue holds ↔ AreSetsAndPair (with_tile (of_suit tiles suit) rank) → IsTrue holds ↔ Completes tiles (first_of suit + rank)
 by-pair tiles pairs suit rank holds a h = (
-  λ t. (completed-iff tiles pairs suit rank 0 1 a (pairs-one (with_tile (of_suit tiles suit) rank) (nine-with tiles pairs suit rank a.counted) (h.0 t))).0 (omega arith),
+  λ t. (completed-iff tiles pairs suit rank 0 1 a (pairs_one (with_tile (of_suit tiles suit) rank) (nine-with tiles pairs suit rank a.counted) (h.0 t))).0 (omega arith),
   λ c. elim (asked-cases tiles pairs suit rank 0 a c) [ inl p ↦ h.1 p.0 | inr s ↦ absurd (omega (arith, s.1)) ],
 )
 
 pub by-sets : (tiles : BySuit OneSuit) (pairs : BySuit ℕ) (suit : Suit) (rank : ℕ) (holds : Bool) → IsAsked tiles pairs suit rank 1 → IsTrue holds ↔ AreSets (with_tile (of_suit tiles suit) rank) → IsTrue holds ↔ Completes tiles (first_of suit + rank)
 by-sets tiles pairs suit rank holds a h = (
-  λ t. (completed-iff tiles pairs suit rank 1 0 a (pairs-none (with_tile (of_suit tiles suit) rank) (nine-with tiles pairs suit rank a.counted) (h.0 t))).0 (omega arith),
+  λ t. (completed-iff tiles pairs suit rank 1 0 a (pairs_none (with_tile (of_suit tiles suit) rank) (nine-with tiles pairs suit rank a.counted) (h.0 t))).0 (omega arith),
   λ c. elim (asked-cases tiles pairs suit rank 1 a c) [ inl p ↦ absurd (omega (arith, p.1)) | inr s ↦ h.1 s.0 ],
 )
 

@@ -17,8 +17,8 @@ take-placed (a ∷ b ∷ []) block room = refl
 take-placed (a ∷ b ∷ c ∷ []) block room = refl
 take-placed (a ∷ b ∷ c ∷ d ∷ sets) block room = absurd (omega (arith, room))
 
-pub AreSets-push : (blocks : List Block) (count : ℕ) (block : Block) → AreSets blocks count → length (take count blocks) < 4 → AreSets (slice_set blocks count block) (count + 1)
-AreSets-push blocks count block are room =
+pub AreSets_push : (blocks : List Block) (count : ℕ) (block : Block) → AreSets blocks count → length (take count blocks) < 4 → AreSets (slice_set blocks count block) (count + 1)
+AreSets_push blocks count block are room =
     let sets = take count blocks in
     let set_is : slice_set blocks count block ≡ in_four_places (sets ++ block ∷ []) = ap (λ bs. slice_set bs count block) are.places ∙ ap (λ n. slice_set (in_four_places sets) n block) are.counted ∙ in_four_places-push sets block room in
     let taken : take (count + 1) (slice_set blocks count block) ≡ sets ++ block ∷ [] = ap (take (count + 1)) set_is ∙ ap (λ n. take (n + 1) (in_four_places (sets ++ block ∷ []))) are.counted ∙ take-placed sets block room in

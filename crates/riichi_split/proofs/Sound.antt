@@ -123,8 +123,8 @@ nothing-carried one two zero h = omega arith
 nothing-carried one two (suc zero) h = omega arith
 nothing-carried one two (suc (suc j)) h = refl
 
-cut-more : (k n : ℕ) (ns : List ℕ) (one two left choices : ℕ) (c : Choice) (rest : List Block) → k < 34 → IsChoice k n (may_have_runs ns) (one + two) left choices c → IsCut (k + 1) ns c.runs one (left - (c.triplets + c.runs)) rest → IsCut k (n ∷ ns) one two left (begun k c ++ rest)
-cut-more k n ns one two left choices c rest l ok h =
+cut_more : (k n : ℕ) (ns : List ℕ) (one two left choices : ℕ) (c : Choice) (rest : List Block) → k < 34 → IsChoice k n (may_have_runs ns) (one + two) left choices c → IsCut (k + 1) ns c.runs one (left - (c.triplets + c.runs)) rest → IsCut k (n ∷ ns) one two left (begun k c ++ rest)
+cut_more k n ns one two left choices c rest l ok h =
     let o : IsOrderedFrom (2 * k + 2) rest = order-weaker rest (2 * (k + 1)) (2 * k + 2) (omega arith) h.order in
     record {
       many = simp (length-append, length-replicate) (omega (arith, ok.room, h.many));
@@ -140,7 +140,7 @@ IsCut-from [] k one two left choices bs l e =
 IsCut-from (n ∷ ns) k one two left choices bs l e =
     let o = opened n ns k one two left choices bs e in
     let c = o.choice in
-    subst (IsCut k (n ∷ ns) one two left) (sym o.parts) (cut-more k n ns one two left choices c o.rest (omega arith) o.ok (IsCut-from ns (k + 1) c.runs one (left - (c.triplets + c.runs)) c.choices o.rest (omega arith) o.cut))
+    subst (IsCut k (n ∷ ns) one two left) (sym o.parts) (cut_more k n ns one two left choices c o.rest (omega arith) o.ok (IsCut-from ns (k + 1) c.runs one (left - (c.triplets + c.runs)) c.choices o.rest (omega arith) o.cut))
 
 -- ---- one number of choices
 

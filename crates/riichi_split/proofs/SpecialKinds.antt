@@ -1,5 +1,5 @@
 -- Which kinds may complete seven pairs or the orphans.
-use Rattle.std.proofs.Common.{◌≡◌, ◌≢◌, ℕ, ◌+◌, ◌<◌, ◌≤◌, ◌⊎◌, Bool, IsTrue, inl, inr, List, length, get_or, refl, sym, ◌∙◌, arith}
+use Rattle.std.proofs.Common.{◌≡◌, ◌≢◌, ℕ, ◌+◌, ◌<◌, ◌≤◌, ◌⊎◌, IsTrue, inl, inr, List, length, get_or, refl, sym, arith}
 use Rattle.std.proofs.lemmas.Bool.{cases_eq}
 use Rattle.std.proofs.lemmas.Bool.Decides.{nat_tests}
 use Rattle.std.proofs.lemmas.List.{get_or-set_other}
@@ -11,8 +11,8 @@ use Rattle.riichi_tiles.proofs.EverySet.{few-orphans}
 use Rattle.riichi_tiles.proofs.KindSums.{get_or-more}
 
 -- a kind that is neither none nor two is the one that is completed
-pub single-completed : (c : List ℕ) (kind single : ℕ) → length c ≡ 34 → kind < 34 → single < 34 → get_or c single 0 ≢ 0 → get_or c single 0 ≢ 2 → CompletesPairs c kind → kind ≡ single
-single-completed c kind single long small low none two s = elim (cases_eq single kind) [
+pub single_completed : (c : List ℕ) (kind single : ℕ) → length c ≡ 34 → kind < 34 → single < 34 → get_or c single 0 ≢ 0 → get_or c single 0 ≢ 2 → CompletesPairs c kind → kind ≡ single
+single_completed c kind single long small low none two s = elim (cases_eq single kind) [
   | inl e ↦ sym e
   | inr n ↦ let o = get_or-more c kind single 1 (omega (arith, long, small)) in elim (s.two_or_none single low) [
     | inl z ↦ absurd (none (grind (arith, nat_tests, o, z)))
@@ -21,8 +21,8 @@ single-completed c kind single long small low none two s = elim (cases_eq single
 ]
 
 -- where each is none or two, none is completed
-pub none-completed : (c : List ℕ) (kind : ℕ) → length c ≡ 34 → kind < 34 → (get_or c kind 0 ≡ 0) ⊎ (get_or c kind 0 ≡ 2) → CompletesPairs c kind → ⊥
-none-completed c kind long small h s =
+pub none_completed : (c : List ℕ) (kind : ℕ) → length c ≡ 34 → kind < 34 → (get_or c kind 0 ≡ 0) ⊎ (get_or c kind 0 ≡ 2) → CompletesPairs c kind → ⊥
+none_completed c kind long small h s =
     let o = get_or-more c kind kind 1 (omega (arith, long, small)) in
     elim (s.two_or_none kind small) [
       | inl z ↦ elim h [ inl a ↦ grind (arith, nat_tests, o, z, a) | inr b ↦ grind (arith, nat_tests, o, z, b) ]
@@ -41,12 +41,12 @@ is-orphan : (doubled kind : ℕ) → 0 < orphan_copies doubled kind → IsTrue (
 is-orphan doubled kind some = grind (arith, nat_tests)
 
 -- what completes the orphans is held beside orphans alone
-pub orphans-alone : (c : List ℕ) (kind : ℕ) → length c ≡ 34 → kind < 34 → CompletesOrphans c kind → (k : ℕ) → k < 34 → 0 < get_or c k 0 → IsTrue (is_orphan k)
-orphans-alone c kind long small h k low some = is-orphan h.doubled k (omega (arith, h.at k low, get_or-more c kind k 1 (omega (arith, long, small)), some))
+pub orphans_alone : (c : List ℕ) (kind : ℕ) → length c ≡ 34 → kind < 34 → CompletesOrphans c kind → (k : ℕ) → k < 34 → 0 < get_or c k 0 → IsTrue (is_orphan k)
+orphans_alone c kind long small h k low some = is-orphan h.doubled k (omega (arith, h.at k low, get_or-more c kind k 1 (omega (arith, long, small)), some))
 
 -- a fifth copy completes nothing
-pub fifth-completes-none : (c : List ℕ) (kind : ℕ) → length c ≡ 34 → 4 ≤ get_or c kind 0 → IsSpecialWait c kind → ⊥
-fifth-completes-none c kind long four w =
+pub fifth_completes_none : (c : List ℕ) (kind : ℕ) → length c ≡ 34 → 4 ≤ get_or c kind 0 → IsSpecialWait c kind → ⊥
+fifth_completes_none c kind long four w =
     let o = get_or-set_at c kind kind (get_or c kind 0 + 1) 0 refl (omega (arith, long, w.0)) in
     elim w.1 [
       | inl s ↦ elim (s.two_or_none kind w.0) [ inl z ↦ omega (arith, o, z, four) | inr t ↦ omega (arith, o, t, four) ]
@@ -54,11 +54,11 @@ fifth-completes-none c kind long four w =
     ]
 
 -- the kind that is completed is the one that is lacking
-pub lacked-is : (c : List ℕ) (kind lacked : ℕ) → lacked < 34 → IsTrue (is_orphan lacked) → get_or c lacked 0 ≡ 0 → CompletesOrphans c kind → kind ≡ lacked
-lacked-is c kind lacked l o z h = elim (cases_eq lacked kind) [ inl e ↦ sym e | inr n ↦ absurd (lacked-completed c kind lacked l o z n h) ]
+pub lacked_is : (c : List ℕ) (kind lacked : ℕ) → lacked < 34 → IsTrue (is_orphan lacked) → get_or c lacked 0 ≡ 0 → CompletesOrphans c kind → kind ≡ lacked
+lacked_is c kind lacked l o z h = elim (cases_eq lacked kind) [ inl e ↦ sym e | inr n ↦ absurd (lacked-completed c kind lacked l o z n h) ]
 
-pub adds-both : (c : List ℕ) (old middle marks : ℕ) → Adds (CompletesPairs c) 34 old middle → Adds (CompletesOrphans c) 34 middle marks → AddsSpecial c 34 old marks
-adds-both c old middle marks pairs orphans = record {
+pub adds_both : (c : List ℕ) (old middle marks : ℕ) → Adds (CompletesPairs c) 34 old middle → Adds (CompletesOrphans c) 34 middle marks → AddsSpecial c 34 old marks
+adds_both c old middle marks pairs orphans = record {
   each = λ kind. let p = pairs.each kind in let o = orphans.each kind in (
     λ m. elim (o.0 m) [
       | inl b ↦ elim (p.0 b) [ inl a ↦ inl a | inr s ↦ inr (s.0, (s.0, inl s.1)) ]
@@ -70,3 +70,5 @@ adds-both c old middle marks pairs orphans = record {
     ],
   );
 }
+
+pub ruleset single_of_facts = (none_completed, single_completed)

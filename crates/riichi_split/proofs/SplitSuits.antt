@@ -10,12 +10,11 @@ use Rattle.std.proofs.lemmas.Grind.{get_or-set_at}
 use Rattle.riichi_tiles.specs.declared.block.Block.{Block}
 use Rattle.riichi_tiles.specs.declared.block.Block.TheVariants.{Pair}
 use Rattle.riichi_tiles.specs.declared.suit.Suit.{Suit}
-use Rattle.riichi_tiles.specs.declared.suit.Suit.TheVariants.{Characters}
 use Rattle.riichi_tiles.specs.declared.by_suit.BySuit.{BySuit}
 use Rattle.riichi_tiles.specs.Kinds.{IsOfSuit, first_of, has_runs, suit_of, rank_of}
 use Rattle.riichi_tiles.specs.Suits.{of_suit, with_suit}
 use Rattle.riichi_tiles.specs.Blocks.{copies, total}
-use Rattle.riichi_tiles.proofs.Suits.{only_suit, some_suit, own_suit, nine_at_most, cases_suit, of_nine, of_suit-with_same, of_suit-with_other}
+use Rattle.riichi_tiles.proofs.Suits.{only_suit, some_suit, own_suit, nine_at_most, cases_suit, of_by_suits, of_nine, of_suit-with_same, of_suit_with_other}
 use Rattle.riichi_split.specs.SuitTiles.{OneSuit, AreCut, AreSets, AreSetsAndPair, AreWon, Completes, nine_from, tiles_of_suit, suits_of, with_tile, with_tile_of}
 use Rattle.riichi_split.specs.Waits.{with_one}
 use Rattle.riichi_split.specs.Readings.{IsSplit}
@@ -78,8 +77,7 @@ is-beside c suit rank small below =
 -- ---- the suits of a hand
 
 pub suit-is : (c : List ℕ) (suit : Suit) → of_suit (suits_of c) suit ≡ tiles_of_suit c suit
-suit-is c Characters = refl
-suit-is c other = refl
+suit-is c suit = of_by_suits (tiles_of_suit c) suit
 
 in-suits : (c : List ℕ) (P : OneSuit → Type 0) (suit : Suit) → P (tiles_of_suit c suit) → P (of_suit (suits_of c) suit)
 in-suits c P suit h = subst P (sym (suit-is c suit)) h
@@ -206,7 +204,7 @@ more-suits c kind small long suit =
       | inl same ↦
           let E : Suit → Type 0 = λ s. of_suit (suits_of (with_one c kind)) s ≡ of_suit (with_suit (suits_of c) own value) s in
           subst E (sym same) (suit-is (with_one c kind) own ∙ more-here c kind small long ∙ ap (λ t. with_tile t (rank_of kind)) (sym (suit-is c own)) ∙ sym (of_suit-with_same (suits_of c) own value))
-      | inr ne ↦ suit-is (with_one c kind) suit ∙ more-there c kind suit small long ne ∙ sym (suit-is c suit) ∙ sym (of_suit-with_other (suits_of c) own suit value ne)
+      | inr ne ↦ suit-is (with_one c kind) suit ∙ more-there c kind suit small long ne ∙ sym (suit-is c suit) ∙ sym (of_suit_with_other (suits_of c) own suit value ne)
     ]
 
 -- a kind completes the suits just where one more of it gives a split

@@ -1,16 +1,21 @@
 -- A hand is cut into sets just where each of its suits is.
-use Rattle.std.proofs.Common.{leb, ltb, eqb, ◌&&◌, ◌≡◌, ℕ, zero, suc, ◌+◌, ◌*◌, ◌%◌, ◌<◌, ◌≤◌, Bool, IsTrue, cond, inl, inr, List, [], ◌∷◌, ◌++◌, replicate, map, refl, sym, ap, ◌∙◌, arith}
+use Rattle.std.proofs.Common.{leb, ltb, eqb, ◌&&◌, ◌≡◌, ℕ, zero, suc, ◌+◌, ◌*◌, ◌%◌, ◌<◌, ◌≤◌, Bool, IsTrue, cond, ◌⊎◌, inl, inr, ⊎_elim, List, [], ◌∷◌, ◌++◌, replicate, map, refl, sym, ap, ◌∙◌, arith}
 use Rattle.std.specs.List.{AllByRecursion, range_with_len}
 use Rattle.std.proofs.lemmas.Bool.{cases_lt, cases_eq}
 use Rattle.std.proofs.lemmas.Bool.Decides.{nat_tests}
 use Rattle.riichi_tiles.specs.declared.block.Block.{Block}
 use Rattle.riichi_tiles.specs.declared.block.Block.TheVariants.{Run, Triplet, Pair}
 use Rattle.riichi_tiles.specs.declared.suit.Suit.{Suit}
-use Rattle.riichi_tiles.specs.declared.suit.Suit.TheVariants.{Characters, Circles, Bamboos, Honours}
-use Rattle.riichi_tiles.specs.Kinds.{IsRunLow, first_of, has_runs}
+use Rattle.riichi_tiles.specs.declared.suit.Suit.TheVariants.{Characters, Honours}
+use Rattle.riichi_tiles.specs.Kinds.{IsOfSuit, IsRunLow, first_of, has_runs, suit_of}
+use Rattle.riichi_tiles.specs.Suits.{over_suits}
+use Rattle.riichi_tiles.proofs.KindSums.{tiles_is_sum}
+use Rattle.riichi_tiles.proofs.Suits.{all_side_by_side, clear_of, nine_at_most, only_over, own_suit, side_by_side, sum_side_by_side}
 use Rattle.riichi_tiles.specs.Blocks.{copies, total, IsSet}
 use Rattle.riichi_split.specs.SuitTiles.{AreCut, nine_from}
-use Rattle.riichi_split.proofs.Sound.{total-append, sets-replicate}
+use Rattle.riichi_split.proofs.Sound.{sets-replicate}
+use Rattle.std.proofs.lemmas.List.Elements.{All-from_recursion, recursion_from_All}
+use Rattle.std.specs.Prelude.{sum_by}
 
 -- ---- sets cut each suit
 
@@ -155,16 +160,23 @@ may-begin other k n l e two t = (omega arith, omega arith)
 made-of : (f : ℕ → ℕ) → ((k : ℕ) → 0 < f k → k < 34) → (suit : Suit) → AreCut (has_runs suit) 0 0 (nine_from f (first_of suit)) → (bs : List Block) × IsMade f 9 (first_of suit) 0 0 bs
 made-of f kinds suit s = made f (has_runs suit) (first_of suit) (first_of suit + 9) kinds (may-begin suit) 9 (first_of suit) 0 0 (omega arith) refl s
 
-sets-append : (xs ys : List Block) → AllByRecursion IsSet xs → AllByRecursion IsSet ys → AllByRecursion IsSet (xs ++ ys)
-sets-append [] ys s t = t
-sets-append (x ∷ xs) ys s t = (s.0, sets-append xs ys s.1 t)
-
-adds-up : (a b c d kind held : ℕ) → a + carried 0 0 0 kind ≡ within 0 9 kind held → b + carried 9 0 0 kind ≡ within 9 9 kind held → c + carried 18 0 0 kind ≡ within 18 9 kind held → d + carried 27 0 0 kind ≡ within 27 9 kind held → (0 < held → kind < 34) → a + (b + (c + d)) ≡ held
+-- the sets of one suit have its tiles, and none of another
+own-tiles : (suit : Suit) (kind n held : ℕ) → IsOfSuit suit kind → n + carried (first_of suit) 0 0 kind ≡ within (first_of suit) 9 kind held → n ≡ held
 unfolding carried within
-adds-up a b c d kind held e f g h some = elim (cases_lt 0 held) [
-  | inl l ↦ let u = some l in grind (arith, nat_tests)
-  | inr z ↦ grind (arith, nat_tests)
-]
+own-tiles suit kind n held is e = let low = is.low in let high = nine_at_most suit kind is in grind (arith, nat_tests)
+
+no-tiles : (suit : Suit) (kind n held : ℕ) → (kind < first_of suit) ⊎ (first_of suit + 9 ≤ kind) ⊎ (held ≡ 0) → n + carried (first_of suit) 0 0 kind ≡ within (first_of suit) 9 kind held → n ≡ 0
+unfolding carried within
+no-tiles suit kind n held out e = grind (arith, nat_tests)
+
+adds-up : (tiles : Suit → ℕ) (kind held : ℕ) → ((suit : Suit) → tiles suit + carried (first_of suit) 0 0 kind ≡ within (first_of suit) 9 kind held) → (0 < held → kind < 34) → over_suits tiles ≡ held
+adds-up tiles kind held each some =
+    let own = suit_of kind in
+    only_over tiles own (λ suit ne. no-tiles suit kind (tiles suit) held (⊎_elim inl (λ past. inr (inl past)) (clear_of suit kind ne)) (each suit))
+    ∙ elim (cases_lt 0 held) [
+      | inl l ↦ own-tiles own kind (tiles own) held (own_suit kind (some l)) (each own)
+      | inr z ↦ let none : held ≡ 0 = omega arith in no-tiles own kind (tiles own) held (inr (inr none)) (each own) ∙ sym none
+    ]
 
 pub record IsMadeOf (f : ℕ → ℕ) (bs : List Block) : Type 0 where
   pub sets : AllByRecursion IsSet bs
@@ -172,17 +184,12 @@ pub record IsMadeOf (f : ℕ → ℕ) (bs : List Block) : Type 0 where
 
 pub sets-of : (f : ℕ → ℕ) → ((k : ℕ) → 0 < f k → k < 34) → ((suit : Suit) → AreCut (has_runs suit) 0 0 (nine_from f (first_of suit))) → (bs : List Block) × IsMadeOf f bs
 sets-of f kinds cut =
-    let m = made-of f kinds Characters (cut Characters) in
-    let p = made-of f kinds Circles (cut Circles) in
-    let s = made-of f kinds Bamboos (cut Bamboos) in
-    let z = made-of f kinds Honours (cut Honours) in (
-      m.0 ++ (p.0 ++ (s.0 ++ z.0)),
+    let of : Suit → List Block = λ suit. (made-of f kinds suit (cut suit)).0 in (
+      side_by_side of,
       record {
-        sets = sets-append m.0 (p.0 ++ (s.0 ++ z.0)) m.1.sets (sets-append p.0 (s.0 ++ z.0) p.1.sets (sets-append s.0 z.0 s.1.sets z.1.sets));
+        sets = recursion_from_All IsSet (side_by_side of) (all_side_by_side IsSet of (λ suit. All-from_recursion IsSet (of suit) (made-of f kinds suit (cut suit)).1.sets));
         adds = λ kind.
-            let a = total-append m.0 (p.0 ++ (s.0 ++ z.0)) kind in
-            let b = total-append p.0 (s.0 ++ z.0) kind in
-            let d = total-append s.0 z.0 kind in
-            omega (arith, a, b, d, adds-up (total m.0 kind) (total p.0 kind) (total s.0 kind) (total z.0 kind) kind (f kind) (m.1.adds kind) (p.1.adds kind) (s.1.adds kind) (z.1.adds kind) (kinds kind));
+            tiles_is_sum kind (side_by_side of) ∙ sum_side_by_side (λ b. copies b kind) of
+            ∙ adds-up (λ suit. sum_by (λ b. copies b kind) (of suit)) kind (f kind) (λ suit. ap (λ n. n + carried (first_of suit) 0 0 kind) (sym (tiles_is_sum kind (of suit))) ∙ (made-of f kinds suit (cut suit)).1.adds kind) (kinds kind);
       },
     )

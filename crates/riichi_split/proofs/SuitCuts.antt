@@ -49,39 +49,39 @@ sum-cut : (runs : Bool) (one two : ℕ) (held : List ℕ) → AreCut runs one tw
 sum-cut runs one two [] s = (0, omega (arith, s))
 sum-cut runs one two (h ∷ above) s = let i = sum-cut runs s.1 one above s.4 in (s.0 + s.1 + i.0, omega (arith, s.2, i.1, sum_by-cons (λ x. x) h above))
 
-pub sum-of-sets : (tiles : OneSuit) → AreSets tiles → sum tiles.held % 3 ≡ 0
-sum-of-sets tiles s = let i = sum-cut tiles.has_runs 0 0 tiles.held s in omega (arith, i.1)
+pub sum_of_sets : (tiles : OneSuit) → AreSets tiles → sum tiles.held % 3 ≡ 0
+sum_of_sets tiles s = let i = sum-cut tiles.has_runs 0 0 tiles.held s in omega (arith, i.1)
 
-pub sum-with-pair : (tiles : OneSuit) → length tiles.held ≡ 9 → AreSetsAndPair tiles → sum tiles.held % 3 ≡ 2
-sum-with-pair tiles n s =
+pub sum_with_pair : (tiles : OneSuit) → length tiles.held ≡ 9 → AreSetsAndPair tiles → sum tiles.held % 3 ≡ 2
+sum_with_pair tiles n s =
     let i = sum-cut tiles.has_runs 0 0 (set tiles.held s.rank (get_or tiles.held s.rank 0 - 2)) s.sets in
     let e = sum_by-set (λ x. x) tiles.held s.rank (get_or tiles.held s.rank 0 - 2) 0 (omega (arith, n, s.of_nine)) in
     omega (arith, i.1, e, s.two)
 
 -- how many pairs there are beside sets
 -- without tiles there are no sets
-pub no-tiles : (runs : Bool) (held : List ℕ) → sum held ≡ 0 → AreCut runs 0 0 held
-no-tiles runs [] none = refl
-no-tiles runs (h ∷ above) none =
+pub no_tiles : (runs : Bool) (held : List ℕ) → sum held ≡ 0 → AreCut runs 0 0 held
+no_tiles runs [] none = refl
+no_tiles runs (h ∷ above) none =
     let sums = sum_by-cons (λ x. x) h above in
-    (0, 0, omega (arith, none, sums), λ some. absurd (omega arith), no-tiles runs above (omega (arith, none, sums)))
+    (0, 0, omega (arith, none, sums), λ some. absurd (omega arith), no_tiles runs above (omega (arith, none, sums)))
 
-pub pairs-none : (tiles : OneSuit) → length tiles.held ≡ 9 → AreSets tiles → HasPairs tiles 0
-pairs-none tiles nine sets = record {
+pub pairs_none : (tiles : OneSuit) → length tiles.held ≡ 9 → AreSets tiles → HasPairs tiles 0
+pairs_none tiles nine sets = record {
   nine_ranks = nine;
   none = (λ e. sets, λ s. refl);
-  one = (λ e. absurd (omega (arith, e)), λ p. absurd (omega (arith, sum-of-sets tiles sets, sum-with-pair tiles nine p)));
+  one = (λ e. absurd (omega (arith, e)), λ p. absurd (omega (arith, sum_of_sets tiles sets, sum_with_pair tiles nine p)));
 }
 
-pub pairs-one : (tiles : OneSuit) → length tiles.held ≡ 9 → AreSetsAndPair tiles → HasPairs tiles 1
-pairs-one tiles nine pair = record {
+pub pairs_one : (tiles : OneSuit) → length tiles.held ≡ 9 → AreSetsAndPair tiles → HasPairs tiles 1
+pairs_one tiles nine pair = record {
   nine_ranks = nine;
-  none = (λ e. absurd (omega (arith, e)), λ s. absurd (omega (arith, sum-of-sets tiles s, sum-with-pair tiles nine pair)));
+  none = (λ e. absurd (omega (arith, e)), λ s. absurd (omega (arith, sum_of_sets tiles s, sum_with_pair tiles nine pair)));
   one = (λ e. pair, λ p. refl);
 }
 
-pub pairs-neither : (tiles : OneSuit) → length tiles.held ≡ 9 → (AreSets tiles → ⊥) → (AreSetsAndPair tiles → ⊥) → HasPairs tiles 2
-pairs-neither tiles nine sets pair = record {
+pub pairs_neither : (tiles : OneSuit) → length tiles.held ≡ 9 → (AreSets tiles → ⊥) → (AreSetsAndPair tiles → ⊥) → HasPairs tiles 2
+pairs_neither tiles nine sets pair = record {
   nine_ranks = nine;
   none = (λ e. absurd (omega (arith, e)), λ s. absurd (sets s));
   one = (λ e. absurd (omega (arith, e)), λ p. absurd (pair p));
@@ -93,8 +93,8 @@ third-of-cut runs g s =
     let b = s.4 in let d = b.4 in let e = d.4 in let f = e.4 in let h = f.4 in let i = h.4 in let j = i.4 in let k = j.4 in
     omega (arith, b.2, d.2, e.2, f.2, h.2, i.2, j.2, k.2, k.4)
 
-pub third-of-sets : (tiles : OneSuit) → length tiles.held ≡ 9 → AreSets tiles → third_of tiles.held ≡ 0
-third-of-sets tiles n s =
+pub third_of_sets : (tiles : OneSuit) → length tiles.held ≡ 9 → AreSets tiles → third_of tiles.held ≡ 0
+third_of_sets tiles n s =
     let e = fill_by_all (λ i. get_or tiles.held i 0) tiles.held 9 0 n (λ k l. refl) in
     let P : List ℕ → Type 0 = λ xs. AreCut tiles.has_runs 0 0 xs in
     third-of-cut tiles.has_runs (λ i. get_or tiles.held i 0) (subst P e s)
@@ -119,7 +119,7 @@ pub third-of-rank : (tiles : OneSuit) (pair : AreSetsAndPair tiles) → length t
 third-of-rank tiles pair nine =
     let g = λ (i : ℕ). get_or tiles.held i 0 in
     let e = fill_by_all g tiles.held 9 0 nine (λ k l. refl) in
-    let sets = third-of-sets (without_pair tiles pair.rank) (length-set tiles.held pair.rank (g pair.rank - 2) ∙ nine) pair.sets in
+    let sets = third_of_sets (without_pair tiles pair.rank) (length-set tiles.held pair.rank (g pair.rank - 2) ∙ nine) pair.sets in
     let P : List ℕ → Type 0 = λ xs. third_of (set xs pair.rank (g pair.rank - 2)) ≡ 0 in
     (third-nine g pair.rank pair.of_nine).1 pair.two (subst P e sets)
 
@@ -180,8 +180,8 @@ pub record IsCutTo (runs : Bool) (held : List ℕ) (rank one two : ℕ) : Type 0
 next-rank : (held : List ℕ) (rank h : ℕ) → rank < length held → h ≡ get_or held rank 0 → drop rank held ≡ h ∷ drop (rank + 1) held
 next-rank held rank h l e = rw (e, add-one, drop-cons held rank 0) refl
 
-pub cut-more : (runs : Bool) (held : List ℕ) (rank one two h begun : ℕ) → rank < length held → h ≡ get_or held rank 0 → one + two ≤ h → begun ≡ (h - (one + two)) % 3 → (0 < begun → IsTrue runs) → IsCutTo runs held rank one two → IsCutTo runs held (rank + 1) begun one
-cut-more runs held rank one two h begun l e enough b may i =
+pub cut_more : (runs : Bool) (held : List ℕ) (rank one two h begun : ℕ) → rank < length held → h ≡ get_or held rank 0 → one + two ≤ h → begun ≡ (h - (one + two)) % 3 → (0 < begun → IsTrue runs) → IsCutTo runs held rank one two → IsCutTo runs held (rank + 1) begun one
+cut_more runs held rank one two h begun l e enough b may i =
     let n = next-rank held rank h l e in
     let P : List ℕ → Type 0 = λ xs. AreCut runs one two xs in
     let Q : ℕ → Type 0 = λ m. AreCut runs m one (drop (rank + 1) held) in
@@ -191,3 +191,5 @@ cut-more runs held rank one two h begun l e enough b may i =
       one_few = omega (arith, b);
       two_few = i.one_few;
     }
+
+pub ruleset pairs_facts = (no_tiles, pairs_none, pairs_one, pairs_neither, sum_of_sets, sum_with_pair)

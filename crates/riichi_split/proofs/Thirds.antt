@@ -10,7 +10,7 @@ use Rattle.riichi_tiles.proofs.KindSums.{IsSum, one, sum-none, sum-run, sum-trip
 use Rattle.riichi_split.proofs.Sound.{IsCut-from, same-total}
 use Rattle.riichi_split.proofs.AllSplits.{beside-inv, uncarried, without}
 use Rattle.riichi_split.proofs.Falling.{falling-passed}
-use Rattle.riichi_split.proofs.SplitSteps.{from_choices-none, from_choices-passed}
+use Rattle.riichi_split.proofs.SplitSteps.{from_choices_none, from_choices-passed}
 
 pub thirds-zero : (f : ℕ → ℕ) → thirds f 0 ≡ 0
 unfolding thirds
@@ -74,7 +74,7 @@ not-beside c wanted p x (Some bs) long h wrong e = absurd (wrong (beside c wante
 -- a kind that leaves over another number is no pair
 pub wrong_pair : (c : List ℕ) (wanted p n : ℕ) → length c ≡ 34 → p < 34 → (p % 3 ≡ third_of_pair c → ⊥) → from_choices c wanted p n ≡ []
 wrong_pair c wanted p n long h wrong =
-    from_choices-passed c wanted p 0 n (omega arith) (λ x a b. not-beside c wanted p x (sets_beside c wanted p x) long h wrong refl) ∙ from_choices-none c wanted p 0 refl
+    from_choices-passed c wanted p 0 n (omega arith) (λ x a b. not-beside c wanted p x (sets_beside c wanted p x) long h wrong refl) ∙ from_choices_none c wanted p 0 refl
 
 pub thirds-more : (c : List ℕ) (n sum a b : ℕ) → sum ≡ thirds (λ k. get_or c k 0) n → a ≡ get_or c (3 * n + 1) 0 → b ≡ get_or c (3 * n + 2) 0 → sum + (a + 2 * b) ≡ thirds (λ k. get_or c k 0) (n + 1)
 thirds-more c n sum a b e f g =
@@ -82,7 +82,7 @@ thirds-more c n sum a b e f g =
     omega (arith, s, thirds-suc (λ k. get_or c k 0) n, e, f, g)
 
 -- kinds that leave over another number make no pairs
-pub from_pairs-passed : (c : List ℕ) (wanted m first left kinds : ℕ) → length c ≡ 34 → left ≤ kinds → first + kinds ≤ 34 → ((kind : ℕ) → left ≤ kind → kind < kinds → (first + kind) % 3 ≡ third_of_pair c → ⊥) → from_pairs c wanted m first kinds ≡ from_pairs c wanted m first left
+pub from_pairs_passed : (c : List ℕ) (wanted m first left kinds : ℕ) → length c ≡ 34 → left ≤ kinds → first + kinds ≤ 34 → ((kind : ℕ) → left ≤ kind → kind < kinds → (first + kind) % 3 ≡ third_of_pair c → ⊥) → from_pairs c wanted m first kinds ≡ from_pairs c wanted m first left
 unfolding from_pairs
-from_pairs-passed c wanted m first left kinds long fewer h wrong =
+from_pairs_passed c wanted m first left kinds long fewer h wrong =
     falling-passed (λ k. from_choices c wanted (first + k) m) left kinds fewer (λ kind a b. wrong_pair c wanted (first + kind) m long (omega arith) (wrong kind a b))

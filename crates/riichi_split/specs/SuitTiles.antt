@@ -2,10 +2,9 @@
 use Rattle.std.specs.Prelude.{◌≡◌, ◌≢◌, ◌↔◌, ℕ, ◌+◌, ◌-◌, ◌*◌, ◌%◌, ◌<◌, ◌≤◌, Bool, IsTrue, List, [], ◌∷◌, length, map, slice_index, slice_set}
 use Rattle.std.specs.List.{range_with_len}
 use Rattle.riichi_tiles.specs.declared.suit.Suit.{Suit}
-use Rattle.riichi_tiles.specs.declared.suit.Suit.TheVariants.{Characters, Circles, Bamboos, Honours}
 use Rattle.riichi_tiles.specs.declared.by_suit.BySuit.{BySuit}
 use Rattle.riichi_tiles.specs.Kinds.{first_of, has_runs, suit_of, rank_of}
-use Rattle.riichi_tiles.specs.Suits.{of_suit, with_suit}
+use Rattle.riichi_tiles.specs.Suits.{by_suits, of_suit, over_suits, with_suit}
 pub use Rattle.riichi_split.specs.Marks.{MarksBelow}
 
 -- how many tiles there are of each rank, and whether they make runs
@@ -59,12 +58,7 @@ pub record HasPairs (tiles : OneSuit) (pairs : ℕ) : Type 0 where
 -- ---- the four suits
 
 abbrev pub suits_of : List ℕ → BySuit OneSuit
-suits_of counts = record {
-  characters = tiles_of_suit counts Characters;
-  circles = tiles_of_suit counts Circles;
-  bamboos = tiles_of_suit counts Bamboos;
-  honours = tiles_of_suit counts Honours;
-}
+suits_of counts = by_suits (tiles_of_suit counts)
 
 -- one suit is sets and a pair, and each other is sets
 pub record AreWon (suits : BySuit OneSuit) : Type 0 where
@@ -78,7 +72,7 @@ pub record AreCounted (suits : BySuit OneSuit) (pairs : BySuit ℕ) : Type 0 whe
   pub few : (suit : Suit) → of_suit pairs suit ≤ 2
 
 abbrev pub total_of : BySuit ℕ → ℕ
-total_of by = by.characters + by.circles + by.bamboos + by.honours
+total_of by = over_suits (of_suit by)
 
 abbrev pub with_tile : OneSuit → ℕ → OneSuit
 with_tile tiles rank = record tiles { held = slice_set tiles.held rank (slice_index tiles.held rank + 1) }

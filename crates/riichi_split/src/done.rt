@@ -5,7 +5,7 @@ ghost use Rattle.riichi_split.specs.Dones.{dones, done_first, done_unless_again,
 use crate::split::Split;
 use riichi_tiles::{Block, Kind};
 
-fn is_same(a: &Block, b: &Block) -> bool
+fn same_block(a: &Block, b: &Block) -> bool
     ensures { result ≡ same_block a.now b.now }
 {
     *a == *b
@@ -35,7 +35,7 @@ fn done_at(split: &Split, winning: Kind, place: usize) -> Option<Block>
             if !set.contains(winning) {
                 return None;
             }
-            let comes_again = split.sets.has_from(place + 1, set) || is_same(&set, &pair);
+            let comes_again = split.sets.has_from(place + 1, set) || same_block(&set, &pair);
             done_unless(comes_again, set, winning)
         }
         None => done_unless(false, pair, winning),
@@ -43,6 +43,7 @@ fn done_at(split: &Split, winning: Kind, place: usize) -> Option<Block>
 }
 
 /// The next block that the winning tile completes, from a place of the sets and then the pair on.
+#[tactic(auto, using(crate::proofs::DoneSteps::dones_found, crate::proofs::DoneSteps::dones_passed))]
 pub(crate) fn next_done(split: &Split, winning: Kind, place: &mut usize) -> Option<Block>
     ensures { MatchOption result
         ((dones winning (drop place.old (split_blocks split.now)) ≡ [])

@@ -67,6 +67,7 @@ impl Iterator for Readings {
 
     ghost remaining = { item_count (λ left. left) };
 
+    #[tactic(auto, using(crate::proofs::Next::none_left))]
     fn next(&mut self) -> Option<Reading> {
         if self.seven_pairs {
             self.seven_pairs = false;

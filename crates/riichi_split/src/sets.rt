@@ -71,6 +71,7 @@ impl Sets {
         }
     }
 
+    #[tactic(auto, using(crate::proofs::Placed::AreSets_push))]
     pub(crate) fn push(&mut self, block: Block)
         requires { length self.old < 4 }
         ensures { self.new ≡ self.old ++ block ∷ [] }

@@ -52,7 +52,10 @@ impl Splits {
         ensures { AreTheSplits counts.now melds result }
     {
         let tiles = counts.as_array();
-        let suit = suit_of_pair(tiles);
+        let (first, pairs_left) = match suit_of_pair(tiles) {
+            Some(suit) => (suit.first(), suit.kinds()),
+            None => (0, 0),
+        };
         Splits {
             counts: *tiles,
             held: held_in(tiles),
@@ -60,8 +63,8 @@ impl Splits {
             choices: choices_of(tiles),
             pair: Kind::at(0),
             choices_left: 0,
-            first: suit.first,
-            pairs_left: suit.kinds,
+            first,
+            pairs_left,
             third: third_of_pair(tiles),
         }
     }
@@ -74,6 +77,7 @@ impl Iterator for Splits {
 
     ghost remaining = { item_count (λ left. left) };
 
+    #[tactic(auto, using(crate::proofs::SplitSteps::next_facts))]
     fn next(&mut self) -> Option<Split> {
         loop {
             let sets = next_sets(
@@ -117,6 +121,7 @@ fn is_in_doubt(counts: &[u8; 34], kind: usize) -> bool
 
 /// How many numbers can make the choices beside a pair: a bit for each kind that has three tiles, as
 /// the two above it have, four at most.
+#[tactic(auto, using(crate::proofs::SplitSteps::doubts_step, crate::proofs::SplitSteps::doubts_last))]
 fn choices_of(counts: &[u8; 34]) -> usize
     ensures value { result ≡ choices_beside counts.now }
     ensures few { result ≤ 16 }
@@ -131,6 +136,7 @@ fn choices_of(counts: &[u8; 34]) -> usize
 }
 
 /// How many of so many numbers are left for the choices, where the pair's tiles are taken away.
+#[tactic(auto, using(crate::proofs::SplitSteps::choices_with))]
 fn choices_with(counts: &[u8; 34], pair: Kind, choices: usize) -> usize
     requires { choices ≤ 16 }
     ensures fewer { result ≤ choices }
@@ -168,6 +174,7 @@ fn sets_beside(
 }
 
 /// The next sets beside a pair, of the choices below a number.
+#[tactic(auto, using(crate::proofs::SplitSteps::next_sets_facts))]
 fn next_sets(
     counts: &[u8; 34],
     held: KindSet,
@@ -216,6 +223,7 @@ fn fitting(first: usize, third: usize, kinds: usize) -> usize
 }
 
 /// The next kind of two tiles or more, of so many kinds from the first on, whose number leaves over so much by three.
+#[tactic(auto, using(crate::proofs::SplitSteps::next_fitting_facts, crate::proofs::Thirds::from_pairs_passed))]
 fn next_fitting(counts: &[u8; 34], first: usize, third: usize, kinds: &mut usize) -> Option<Kind>
     requires within { first + kinds.old ≤ 34 }
     requires third { third ≡ third_of_pair counts.now }

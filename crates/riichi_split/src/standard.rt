@@ -23,19 +23,11 @@ impl Suits {
         ensures tiles { result.tiles ≡ spec.suits_of counts.now }
         ensures counted { spec.AreCounted result.tiles result.pairs }
     {
-        let tiles = BySuit {
-            characters: SuitTiles::of(counts, Suit::Characters),
-            circles: SuitTiles::of(counts, Suit::Circles),
-            bamboos: SuitTiles::of(counts, Suit::Bamboos),
-            honours: SuitTiles::of(counts, Suit::Honours),
-        };
-        let pairs = BySuit {
-            characters: tiles.characters.pairs(),
-            circles: tiles.circles.pairs(),
-            bamboos: tiles.bamboos.pairs(),
-            honours: tiles.honours.pairs(),
-        };
-        Suits { tiles, pairs }
+        let tiles = BySuit::of(|suit| SuitTiles::of(counts, suit));
+        Suits {
+            tiles,
+            pairs: BySuit::of(|suit| tiles.lent(suit).pairs()),
+        }
     }
 
     /// How many pairs the four suits are beside sets: just one where they are won.
@@ -44,13 +36,7 @@ impl Suits {
         ensures total { result ≡ spec.total_of self.now.pairs }
         ensures wins { (result ≡ 1) ↔ spec.AreWon self.now.tiles }
     {
-        let BySuit {
-            characters,
-            circles,
-            bamboos,
-            honours,
-        } = self.pairs;
-        characters + circles + bamboos + honours
+        self.pairs.total()
     }
 
     /// Whether one more tile of a rank completes the hand: with the pair, where the other suits are
@@ -116,10 +102,9 @@ pub(crate) fn standard_waits(counts: &[u8; 34], melds: usize) -> KindSet
 {
     let suits = Suits::of(counts);
     let mut marks = KindSet::new();
-    suits.mark(Suit::Characters, &mut marks);
-    suits.mark(Suit::Circles, &mut marks);
-    suits.mark(Suit::Bamboos, &mut marks);
-    suits.mark(Suit::Honours, &mut marks);
+    for suit in Suit::ALL {
+        suits.mark(suit, &mut marks);
+    }
     marks
 }
 

@@ -30,6 +30,7 @@ impl Model for SuitTiles {
 
 impl SuitTiles {
     /// The tiles of a suit in a hand.
+    #[tactic(auto, using(crate::proofs::Filling::of_facts))]
     pub(crate) fn of(counts: &[u8; 34], suit: Suit) -> SuitTiles
         ensures { result ≡ spec.tiles_of_suit counts.now suit }
     {
@@ -95,6 +96,7 @@ impl SuitTiles {
     }
 
     /// Whether the tiles are triplets and runs. The three numbers of a set leave nothing over by three.
+    #[tactic(auto, using(crate::proofs::SuitCuts::third_of_sets))]
     pub(crate) fn are_sets(&self) -> bool
         ensures { IsTrue result ↔ spec.AreSets self.now }
     {
@@ -112,6 +114,7 @@ impl SuitTiles {
     }
 
     /// From the lowest rank on it is known what begins: three equal runs are three triplets.
+    #[tactic(auto, using(crate::proofs::SuitCuts::cut_more))]
     fn are_triplets_and_runs(&self) -> bool
         requires { self.now.has_runs ≡ true }
         ensures { IsTrue result ↔ spec.AreSets self.now }
@@ -181,6 +184,8 @@ impl SuitTiles {
 
     /// How many pairs the tiles are beside sets: none or one, and two where they are neither. Sets have
     /// tiles that leave nothing over by three, and a pair leaves two. A suit without tiles is no sets.
+    #[inline(never)]
+    #[tactic(auto, using(crate::proofs::SuitCuts::pairs_facts))]
     pub(crate) fn pairs(&self) -> usize
         ensures pairs { spec.HasPairs self.now result }
         ensures few { result ≤ 2 }

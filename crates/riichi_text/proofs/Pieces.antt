@@ -11,11 +11,11 @@ pushed-two old a b e f = f ∙ ap (λ (x : List ℕ). x ++ b) e ∙ append_assoc
 pub pushed-three : (old a b c : List ℕ) {s t u : List ℕ} → s ≡ old ++ a → t ≡ s ++ b → u ≡ t ++ c → u ≡ old ++ (a ++ b ++ c)
 pushed-three old a b c e f g = pushed-two old (a ++ b) c (pushed-two old a b e f) g
 
-pub pushed-four : (old a b c d : List ℕ) {s t u v : List ℕ} → s ≡ old ++ a → t ≡ s ++ b → u ≡ t ++ c → v ≡ u ++ d → v ≡ old ++ (a ++ b ++ c ++ d)
-pushed-four old a b c d e f g h = pushed-two old (a ++ b ++ c) d (pushed-three old a b c e f g) h
+pub pushed_four : (old a b c d : List ℕ) {s t u v : List ℕ} → s ≡ old ++ a → t ≡ s ++ b → u ≡ t ++ c → v ≡ u ++ d → v ≡ old ++ (a ++ b ++ c ++ d)
+pushed_four old a b c d e f g h = pushed-two old (a ++ b ++ c) d (pushed-three old a b c e f g) h
 
-pub pushed-five : (old a b c d e : List ℕ) {s t u v w : List ℕ} → s ≡ old ++ a → t ≡ s ++ b → u ≡ t ++ c → v ≡ u ++ d → w ≡ v ++ e → w ≡ old ++ (a ++ b ++ c ++ d ++ e)
-pushed-five old a b c d e p q r s t = pushed-two old (a ++ b ++ c ++ d) e (pushed-four old a b c d p q r s) t
+pub pushed_five : (old a b c d e : List ℕ) {s t u v w : List ℕ} → s ≡ old ++ a → t ≡ s ++ b → u ≡ t ++ c → v ≡ u ++ d → w ≡ v ++ e → w ≡ old ++ (a ++ b ++ c ++ d ++ e)
+pushed_five old a b c d e p q r s t = pushed-two old (a ++ b ++ c ++ d) e (pushed_four old a b c d p q r s) t
 
 -- ---- a piece for each element of a list
 
@@ -24,8 +24,8 @@ pub some_there : {X : Type 0} (xs : List X) (i : ℕ) → i < length xs → slic
 some_there xs i low e = ⊎_elim (λ found. none-some found.0 (sym e ∙ found.2)) (λ past. omega (arith, past.0, low)) (slice_get_cases xs i).1
 
 -- with the element at a place the pieces go one place further
-pub flat_map-get : {X : Type 0} (f : X → List ℕ) (xs : List X) (before : List ℕ) (i : ℕ) (x : X) → slice_get xs i ≡ Some x →
+pub flat_map_get : {X : Type 0} (f : X → List ℕ) (xs : List X) (before : List ℕ) (i : ℕ) (x : X) → slice_get xs i ≡ Some x →
     (before ++ flat_map f (take i xs)) ++ f x ≡ before ++ flat_map f (take (i + 1) xs)
-flat_map-get f xs before i x e =
+flat_map_get f xs before i x e =
     flat_map_more f before (take i xs) x
     ∙ sym (ap (λ ys. before ++ flat_map f ys) (take_more xs i x (slice_get_within xs i x e) ∙ ap (λ y. take i xs ++ y ∷ []) (get_or_from_slice_get xs i x x e)))

@@ -2,8 +2,8 @@
 use Rattle.std.proofs.Common.{◌≡◌, ◌⊎◌, ℕ, ◌+◌, ◌<◌, ◌≤◌, zero, suc, Bool, true, false, List, [], ◌∷◌, Option, Some, None, Ok, Err, length, map, take, drop, slice_index, slice_index_or, nat_eq, nat_lt, ◌&&◌, refl, sym, ap, ◌∙◌, subst, inl, inr, arith}
 use Rattle.std.specs.Prelude.{not, option_map}
 use Rattle.std.specs.List.{count_by, find, range_with_len}
-use Rattle.std.proofs.lemmas.Bool.{false≢true, cases_lt, cases_Bool, false_from_ne_true, and_parts, not-true, eqb-true, eq-eqb, ltb-true, lt-ltb}
-use Rattle.std.proofs.lemmas.List.{get_or_past}
+use Rattle.std.proofs.lemmas.Bool.{false≢true, cases_lt, cases_Bool, false_from_ne_true, and_parts, not-true, eqb-true, eq-eqb, ltb-true, lt-ltb, not_from_false, and_from}
+use Rattle.std.proofs.lemmas.List.{get_or_past, nil_from_length}
 use Rattle.std.proofs.lemmas.List.FromFn.{fill_by_all}
 use Rattle.riichi_tiles.specs.Notation.{is_digit, is_suit, closing, kinds, is_kind, suit_has_at, IsAfterDigit, HasFault, IsFirstFault, Spells, is_after_digit, is_fifth, has_fault, every_code, fault_at, first_some, notation_fault, counts_of, or_fault, reading_of}
 use Rattle.riichi_tiles.specs.declared.notation.NotationCode.{NotationCode}
@@ -24,10 +24,6 @@ true_after : (text : List ℕ) (place : ℕ) → is_after_digit text place ≡ t
 true_after text zero is = absurd (false≢true is)
 true_after text (suc before) is = (before, omega arith, is)
 
-nil_from_length : (text : List ℕ) → length text ≡ 0 → text ≡ []
-nil_from_length [] e = refl
-nil_from_length (b ∷ text) e = absurd (omega arith)
-
 fifth_true : (option : Option ℕ) (before : List (Option ℕ)) (kind : ℕ) → option ≡ Some kind → count_by (is_kind kind) before ≡ 4 → is_fifth option before ≡ true
 fifth_true option before kind is four = rw is (eq-eqb (count_by (is_kind kind) before) 4 four)
 
@@ -35,22 +31,16 @@ true_fifth : (option : Option ℕ) (before : List (Option ℕ)) → is_fifth opt
 true_fifth None before is = absurd (false≢true is)
 true_fifth (Some kind) before is = (kind, refl, eqb-true (count_by (is_kind kind) before) 4 is)
 
-not_false : (b : Bool) → b ≡ false → not b ≡ true
-not_false b e = rw e refl
-
-both_true : (a b : Bool) → a ≡ true → b ≡ true → (a && b) ≡ true
-both_true a b x y = rw (x, y) refl
-
 pub has_fault_true : (text : List ℕ) (code : NotationCode) (place : ℕ) → HasFault text code place → has_fault text place code ≡ true
 has_fault_true text N1 place fault =
     let none : length text ≡ 0 = ap length fault.0 in
-    both_true (nat_eq (length text) 0) (nat_eq place 0) (eq-eqb (length text) 0 none) (eq-eqb place 0 fault.1)
+    and_from (nat_eq (length text) 0) (nat_eq place 0) (eq-eqb (length text) 0 none) (eq-eqb place 0 fault.1)
 has_fault_true text N2 place fault = rw (lt-ltb place (length text) fault.0, fault.1, fault.2) refl
-has_fault_true text N3 place fault = both_true (nat_eq place (length text)) (is_after_digit text place) (eq-eqb place (length text) fault.0) (after_true text place fault.1)
+has_fault_true text N3 place fault = and_from (nat_eq place (length text)) (is_after_digit text place) (eq-eqb place (length text) fault.0) (after_true text place fault.1)
 has_fault_true text N4 place fault =
     elim (cases_Bool (is_after_digit text place)) [
       | inl after ↦ absurd (fault.1 (true_after text place after))
-      | inr fresh ↦ both_true (is_suit (slice_index text place)) (not (is_after_digit text place)) fault.0 (not_false (is_after_digit text place) fresh)
+      | inr fresh ↦ and_from (is_suit (slice_index text place)) (not (is_after_digit text place)) fault.0 (not_from_false (is_after_digit text place) fresh)
     ]
 has_fault_true text N5 place fault = rw (fault.0.a_digit, fault.0.by_letter, fault.1) refl
 has_fault_true text N6 place fault = fifth_true (slice_index_or (kinds text) place None) (take place (kinds text)) fault.0 fault.1 fault.2
@@ -173,3 +163,5 @@ reading_of_spelled text counts s =
     ap (λ found. or_fault found (counts_of text))
     (first_some_none (fault_at text) 0 (length text + 1) (λ i. fault_at_none text i (λ code there. no_fault_spelled text counts s code i there)))
     ∙ ap Ok (sym (fill_by_all (λ kind. count_by (is_kind kind) (kinds text)) counts 34 0 s.are_counts.each_kind (λ k short. counted_kinds text counts s k)))
+
+pub ruleset read_counts_facts = (reading_of_spelled, reading_of_fault)

@@ -85,9 +85,9 @@ bit-above n k i h =
 not-one : (n : ℕ) → n ≡ 0 → nat_eq n 1 ≡ false
 not-one n e = ap (λ m. nat_eq m 1) e
 
-pub none-above : (n k other : ℕ) → n / 2 ^ k ≡ 0 → k ≤ other → is_held n other ≡ false
+pub none_above : (n k other : ℕ) → n / 2 ^ k ≡ 0 → k ≤ other → is_held n other ≡ false
 unfolding is_held
-none-above n k other e h = not-one (bit_at n other) (bit-above n k other h ∙ ap (λ m. bit_at m (other - k)) e ∙ bit_at-zero (other - k))
+none_above n k other e h = not-one (bit_at n other) (bit-above n k other h ∙ ap (λ m. bit_at m (other - k)) e ∙ bit_at-zero (other - k))
 
 -- the first bit from one on
 pub record IsFirst (n k first : ℕ) : Type 0 where
@@ -95,9 +95,9 @@ pub record IsFirst (n k first : ℕ) : Type 0 where
   pub none : (other : ℕ) → k ≤ other → other < k + first → is_held n other ≡ false
   pub held : is_held n (k + first) ≡ true
 
-pub first-above : (n k : ℕ) → n < 2 ^ 34 → 0 < n / 2 ^ k → n / 2 ^ k < 2 ^ 64 → IsFirst n k (trailing_zeros w64 (n / 2 ^ k))
+pub first_above : (n k : ℕ) → n < 2 ^ 34 → 0 < n / 2 ^ k → n / 2 ^ k < 2 ^ 64 → IsFirst n k (trailing_zeros w64 (n / 2 ^ k))
 unfolding is_held
-first-above n k small some fits =
+first_above n k small some fits =
     let above = n / 2 ^ k in
     let first = trailing_zeros w64 above in
     let low = bit_at-trailing_zeros w64 above some fits in

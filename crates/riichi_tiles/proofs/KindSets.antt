@@ -95,11 +95,11 @@ pub record AreBelow (test : ℕ → Bool) (number set : ℕ) : Type 0 where
   pub below : (kind : ℕ) → kind < number → is_held set kind ≡ test kind
   pub above : (kind : ℕ) → number ≤ kind → is_held set kind ≡ false
 
-pub none-below : (test : ℕ → Bool) → AreBelow test 0 0
-none-below test = record { below = λ kind low. absurd (omega (arith, low)); above = λ kind past. none_at kind }
+pub none_below : (test : ℕ → Bool) → AreBelow test 0 0
+none_below test = record { below = λ kind low. absurd (omega (arith, low)); above = λ kind past. none_at kind }
 
-pub one-more : (test : ℕ → Bool) (number set next : ℕ) (chosen : Bool) → AreBelow test number set → chosen ≡ test number → next ≡ cond chosen (with_kind set number) set → AreBelow test (number + 1) next
-one-more test number set next chosen so_far is e = record {
+pub one_more : (test : ℕ → Bool) (number set next : ℕ) (chosen : Bool) → AreBelow test number set → chosen ≡ test number → next ≡ cond chosen (with_kind set number) set → AreBelow test (number + 1) next
+one_more test number set next chosen so_far is e = record {
   below = λ kind low. elim (cases_eq kind number) [
     | inl same ↦ ap (λ s. is_held s kind) e ∙ ap (is_held (cond chosen (with_kind set number) set)) same ∙ here chosen ∙ is ∙ ap test (sym same)
     | inr apart ↦ ap (λ s. is_held s kind) e ∙ there chosen kind apart ∙ so_far.below kind (omega (arith, low, apart))

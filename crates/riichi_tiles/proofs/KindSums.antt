@@ -27,6 +27,11 @@ get_or-more counts place kind more h =
           omega (arith, get_or-set_other counts place kind (get_or counts place 0 + more) 0 (λ e. f.1 (sym e)), none)
     ]
 
+-- the tiles of a kind that blocks have, as a sum
+pub tiles_is_sum : (kind : ℕ) (blocks : List Block) → total blocks kind ≡ sum_by (λ block. copies block kind) blocks
+tiles_is_sum kind [] = refl
+tiles_is_sum kind (block ∷ blocks) = ap (λ n. copies block kind + n) (tiles_is_sum kind blocks) ∙ sym (sum_by-cons (λ b. copies b kind) block blocks)
+
 -- ---- any sum
 
 -- one tile of a kind
@@ -84,12 +89,12 @@ sum-more f a (suc n) = omega (arith, sum_by-cons f a (range_with_len (a + 1) (su
 pub over-kinds : IsSum (λ f. sum_by f every_kind)
 over-kinds = record { same = λ f g h. same-in f g every_kind (λ k i. h k); add = λ f g. sum-of-both f g every_kind }
 
-one-more : (kind n : ℕ) → cond (ltb kind n) 1 0 + one kind (0 + n) ≡ cond (ltb kind (suc n)) 1 0
-one-more kind n = grind (arith, nat_tests)
+one_more : (kind n : ℕ) → cond (ltb kind n) 1 0 + one kind (0 + n) ≡ cond (ltb kind (suc n)) 1 0
+one_more kind n = grind (arith, nat_tests)
 
 one-below : (kind n : ℕ) → sum_by (one kind) (range_with_len 0 n) ≡ cond (ltb kind n) 1 0
 one-below kind zero = grind (arith, nat_tests)
-one-below kind (suc n) = sum-more (one kind) 0 n ∙ ap (λ x. x + one kind (0 + n)) (one-below kind n) ∙ one-more kind n
+one-below kind (suc n) = sum-more (one kind) 0 n ∙ ap (λ x. x + one kind (0 + n)) (one-below kind n) ∙ one_more kind n
 
 one-kind : (kind : ℕ) → kind < 34 → sum_by (one kind) every_kind ≡ 1
 one-kind kind small = let e = one-below kind 34 in grind (arith, nat_tests)

@@ -108,3 +108,5 @@ spells_group text counts new start end spells adds =
       are_counts = adds.are_counts;
       within = omega (arith, adds.begins, spells.within);
     }
+
+pub ruleset group_before_facts = (no_digits, digit_before, group_before)

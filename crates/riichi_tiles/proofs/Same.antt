@@ -9,13 +9,13 @@ empty_places E zero = refl
 empty_places E (suc n) = empty_places E n
 
 -- two lists in as many places are equal in all places where they are equal
-pub pointwise-placed : {X : Type 0} (E : X → X → Bool) (xs ys : List X) (m n : ℕ) → length xs + m ≡ length ys + n → pointwise (option_eq E) (map Some xs ++ replicate m None) (map Some ys ++ replicate n None) ≡ pointwise E xs ys
-pointwise-placed E [] [] m n same =
+pub pointwise_placed : {X : Type 0} (E : X → X → Bool) (xs ys : List X) (m n : ℕ) → length xs + m ≡ length ys + n → pointwise (option_eq E) (map Some xs ++ replicate m None) (map Some ys ++ replicate n None) ≡ pointwise E xs ys
+pointwise_placed E [] [] m n same =
     let equal : m ≡ n = omega arith in
     rw equal (empty_places E n)
-pointwise-placed E [] (y ∷ ys) zero n same = absurd (omega arith)
-pointwise-placed E [] (y ∷ ys) (suc m) n same = refl
-pointwise-placed E (x ∷ xs) [] m zero same = absurd (omega arith)
-pointwise-placed E (x ∷ xs) [] m (suc n) same = refl
-pointwise-placed E (x ∷ xs) (y ∷ ys) m n same =
-    ap (λ b. E x y && b) (pointwise-placed E xs ys m n (omega arith))
+pointwise_placed E [] (y ∷ ys) zero n same = absurd (omega arith)
+pointwise_placed E [] (y ∷ ys) (suc m) n same = refl
+pointwise_placed E (x ∷ xs) [] m zero same = absurd (omega arith)
+pointwise_placed E (x ∷ xs) [] m (suc n) same = refl
+pointwise_placed E (x ∷ xs) (y ∷ ys) m n same =
+    ap (λ b. E x y && b) (pointwise_placed E xs ys m n (omega arith))

@@ -1,6 +1,6 @@
-ghost use Rattle.std.specs.Prelude.{◌≡◌};
+ghost use Rattle.std.specs.Prelude.{◌≡◌, ◌<◌, ◌^◌};
 ghost use Rattle.riichi_tiles.specs.declared.suit.Suit.{Suit};
-ghost use Rattle.riichi_tiles.specs.Suits.{of_suit, with_suit};
+ghost use Rattle.riichi_tiles.specs.Suits.{of_suit, over_suits, with_suit};
 
 use crate::suit::Suit;
 
@@ -15,12 +15,10 @@ pub struct BySuit<T> {
 
 impl<T: Copy> BySuit<T> {
     /// What a function makes of each suit.
+    #[inline(always)]
     pub fn of<F: Fn(Suit) -> T>(f: F) -> BySuit<T>
         requires { F.IsAlwaysCallable f }
-        ensures characters { F.post f Suit.Characters result.characters }
-        ensures circles { F.post f Suit.Circles result.circles }
-        ensures bamboos { F.post f Suit.Bamboos result.bamboos }
-        ensures honours { F.post f Suit.Honours result.honours }
+        ensures { (suit : Suit) → F.post f suit (of_suit result suit) }
     {
         BySuit {
             characters: f(Suit::Characters),
@@ -63,5 +61,15 @@ impl<T> BySuit<T> {
             Suit::Bamboos => &self.bamboos,
             Suit::Honours => &self.honours,
         }
+    }
+}
+
+impl BySuit<usize> {
+    /// The numbers of the suits added up.
+    pub fn total(&self) -> usize
+        requires { over_suits (of_suit self.now) < 2 ^ 64 }
+        ensures { result ≡ over_suits (of_suit self.now) }
+    {
+        self.characters + self.circles + self.bamboos + self.honours
     }
 }

@@ -16,6 +16,7 @@ pub fn meld_tiles(melds: &Melds) -> [u8; 34]
 }
 
 /// Adds the tiles of the melds of a hand to those held, kind by kind, of which five are held at most.
+#[tactic(auto, using(crate::proofs::MeldTiles::add_melds_facts))]
 pub fn add_melds(held: &mut [u8; 34], melds: &Melds)
     requires { (kind : ℕ) → slice_index held.old kind ≤ 5 }
     ensures value { (kind : ℕ)

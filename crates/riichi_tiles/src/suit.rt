@@ -1,5 +1,6 @@
 ghost use Rattle.std.specs.Prelude.{◌≡◌, ◌≤◌};
 ghost use Rattle.riichi_tiles.specs.Kinds.{first_of, kinds_of};
+ghost use Rattle.riichi_tiles.specs.Suits.{is_low, partner};
 
 /// A suit: three have nine kinds each, and the honours are seven.
 #[derive(Clone, Copy, Debug, PartialEq, Eq)]
@@ -50,6 +51,28 @@ impl Suit {
         match self {
             Suit::Honours => 7,
             _ => 9,
+        }
+    }
+
+    /// Whether it is of the lower half, the characters and the circles.
+    pub fn is_low(self) -> bool
+        ensures { result ≡ is_low self }
+    {
+        match self {
+            Suit::Characters | Suit::Circles => true,
+            Suit::Bamboos | Suit::Honours => false,
+        }
+    }
+
+    /// The other suit of its half.
+    pub fn partner(self) -> Suit
+        ensures { result ≡ partner self }
+    {
+        match self {
+            Suit::Characters => Suit::Circles,
+            Suit::Circles => Suit::Characters,
+            Suit::Bamboos => Suit::Honours,
+            Suit::Honours => Suit::Bamboos,
         }
     }
 }

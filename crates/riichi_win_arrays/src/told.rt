@@ -18,6 +18,7 @@ fn answer_to(rules: Rules, row: &WinRow) -> Result<WinAnswer, LineFault>
 }
 
 /// What each win is worth: of as many as both `rows` and `scores` have, which it returns.
+#[tactic(auto, using(crate::proofs::TellingLemmas::told_next))]
 pub fn wins(rules: Rules, rows: &[WinRow], scores: &mut [ScoreRow]) -> usize
     ensures rows { result ≡ min (length rows.now) (length scores.old) }
     ensures scores { spec.AreScored rules result rows.now scores.old scores.new }

@@ -69,8 +69,8 @@ abbrev without_first : ℕ → ℕ
 without_first n = bit_and n (bit_not w64 (1 * 2 ^ first n % 2 ^ 64))
 
 -- the lowest bit of a set is the number of a yaku
-pub first-below : (n : ℕ) → 0 < n → n < 2 ^ 42 → first n < 42
-first-below n some below =
+pub first_below : (n : ℕ) → 0 < n → n < 2 ^ 42 → first n < 42
+first_below n some below =
     let low = bit_at-trailing_zeros w64 n some (omega (arith, below)) in
     elim (cases_lt (first n) 42) [
       | inl lt ↦ lt
@@ -103,21 +103,21 @@ unfolding AreFrom
 table-from = search rules
 
 -- the yaku of a set are its first and those of the set without it
-pub first-yaku : (n : ℕ) (yaku : Yaku) → 0 < n → n < 2 ^ 42 → number yaku ≡ first n → yaku_in n ≡ yaku ∷ yaku_in (without_first n)
+pub first_yaku : (n : ℕ) (yaku : Yaku) → 0 < n → n < 2 ^ 42 → number yaku ≡ first n → yaku_in n ≡ yaku ∷ yaku_in (without_first n)
 unfolding yaku_in
-first-yaku n yaku some below is =
-    first-from every_yaku 0 (first n) n (without_first n) table-from (omega arith) (omega (arith, first-below n some below)) (is-first n some below)
+first_yaku n yaku some below is =
+    first-from every_yaku 0 (first n) n (without_first n) table-from (omega arith) (omega (arith, first_below n some below)) (is-first n some below)
     ∙ ap (λ y. y ∷ yaku_in (without_first n)) (ap (λ p. get_or every_yaku p Riichi) (let e : first n - 0 ≡ number yaku = omega (arith, is) in e) ∙ in_table yaku)
 
-pub yaku_in-none : yaku_in 0 ≡ []
+pub yaku_in_none : yaku_in 0 ≡ []
 unfolding yaku_in
-yaku_in-none = refl
+yaku_in_none = refl
 
 -- ---- sums over the yaku of a set
 
-pub yaku_in-most : (set : ℕ) → length (yaku_in set) ≤ 42
+pub yaku_in_most : (set : ℕ) → length (yaku_in set) ≤ 42
 unfolding yaku_in
-yaku_in-most set = omega (arith, length-filter_both (contains set) (λ yaku. not (contains set yaku)) (λ yaku. refl) every_yaku)
+yaku_in_most set = omega (arith, length-filter_both (contains set) (λ yaku. not (contains set yaku)) (λ yaku. refl) every_yaku)
 
 sum-most : (f : Yaku → ℕ) (set : ℕ) → sum_by f (yaku_in set) ≤ sum_by f every_yaku
 unfolding yaku_in
@@ -154,3 +154,5 @@ sum-within f all before left rest yaku h e =
 
 pub sum-before : (f : Yaku → ℕ) (all before left : List Yaku) → all ≡ before ++ left → sum_by f before ≤ sum_by f all
 sum-before f all before left h = omega (arith, ap (sum_by f) h, sum_by-append f before left)
+
+pub ruleset next_facts = (first_below, first_yaku, yaku_in_none)

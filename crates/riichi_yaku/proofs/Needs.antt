@@ -9,7 +9,7 @@ use Rattle.riichi_blocks.specs.declared.hand_block.HandBlock.{HandBlock}
 use Rattle.riichi_blocks.specs.declared.hand_block.HandBlock.TheVariants.{Run, Triplet, Kong, Pair}
 use Rattle.riichi_blocks.specs.HandBlocks.{is_run, is_run_from, is_triplet_or_kong, is_triplet_of, has_triplet}
 use Rattle.riichi_blocks.specs.Kinds.{is_wind, is_dragon}
-use Rattle.riichi_blocks.proofs.Tally.{counted-any}
+use Rattle.riichi_blocks.proofs.Tally.{counted_any}
 use Rattle.riichi_yaku.specs.Runs.{has_run_in_each_suit}
 use Rattle.riichi_yaku.specs.Triplets.{has_triplet_in_each_suit}
 use Rattle.riichi_yaku.specs.Honours.{is_last_of, is_last_wind, is_last_dragon}
@@ -40,7 +40,7 @@ three of_kind is_so a b c h (block ∷ blocks) =
     omega (arith, next (of_kind a) block blocks, next (of_kind b) block blocks, next (of_kind c) block blocks, next is_so block blocks, h block, three of_kind is_so a b c h blocks)
 
 some : (p : HandBlock → Bool) (blocks : List HandBlock) → list_any p blocks ≡ true → 0 < count_by p blocks
-some p blocks any = let t : nat_lt 0 (count_by p blocks) ≡ true = counted-any p blocks ∙ any in grind (arith, nat_tests, t)
+some p blocks any = let t : nat_lt 0 (count_by p blocks) ≡ true = counted_any p blocks ∙ any in grind (arith, nat_tests, t)
 
 not-all : (x y z : Bool) → (x ≡ true → y ≡ true → z ≡ true → ⊥) → (x && (y && (z && true))) ≡ false
 not-all true true true h = absurd (h refl refl refl)

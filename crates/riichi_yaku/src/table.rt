@@ -136,6 +136,7 @@ impl Yaku {
     }
 
     /// The printed word.
+    #[tactic(auto, using(crate::proofs::Sets::word_short))]
     pub fn word(self) -> &'static str
         ensures value { result.now ≡ spec.word self }
         ensures short { length result.now ≤ 25 }

@@ -80,6 +80,7 @@ impl YakuSet {
     }
 
     /// Its yaku, in the order of the table.
+    #[tactic(auto, using(crate::proofs::InOrder::yaku_in_most))]
     pub fn iter(self) -> YakuIter
         ensures value { result ≡ spec.yaku_in self }
         ensures most { length (spec.yaku_in self) ≤ 42 }
@@ -126,6 +127,7 @@ impl Iterator for YakuIter {
 
     ghost remaining = { item_count (λ left. left) };
 
+    #[tactic(auto, using(crate::proofs::InOrder::next_facts))]
     fn next(&mut self) -> Option<Yaku> {
         if self.rest == 0 {
             return None;

@@ -5,6 +5,7 @@ ghost use Rattle.riichi_tiles.specs.Melds.{cut_at};
 ghost use Rattle.riichi_hand.specs.Words.{words_of, is_space, without_spaces, begins_with_space, BeginsWithSpaces, from_words, word_of};
 
 /// The first word of a text, and all that comes after it.
+#[tactic(auto, using(crate::proofs::WordLemmas::first_from))]
 pub fn next_word(text: &[u8]) -> Option<(&[u8], &[u8])>
     ensures words { MatchOption result (words_of text.now ≡ []) (λ found.
         (words_of text.now ≡ found.0.now ∷ words_of found.1.now) × (length found.1.now < length text.now)) }
@@ -21,6 +22,7 @@ pub fn next_word(text: &[u8]) -> Option<(&[u8], &[u8])>
 }
 
 /// The text without the spaces that it begins with.
+#[tactic(auto, using(crate::proofs::WordLemmas::without_spaces_facts))]
 pub fn without_spaces(text: &[u8]) -> &[u8]
     ensures value { result.now ≡ without_spaces text.now }
     ensures from { from_words result.now ≡ from_words text.now }
@@ -39,6 +41,7 @@ pub fn word_of(from: &[u8]) -> &[u8]
 }
 
 /// The word with which a text begins, and all that comes after it.
+#[tactic(auto, using(crate::proofs::WordLemmas::first_from))]
 pub(crate) fn cut_word(from: &[u8]) -> (&[u8], &[u8])
     requires some { 0 < length from.now }
     requires begins { begins_with_space from.now ≡ false }

@@ -8,6 +8,7 @@ use riichi_tiles::{Meld, Melds, split_at_mark};
 const MOST_MELDS: usize = 4;
 
 /// Puts the melds that a text joins by commas, one to four, where none were. Answers whether they are melds.
+#[tactic(auto, using(crate::proofs::CutLemmas::read_melds_facts, crate::proofs::MeldLemmas::melds_of_items_none), unfolding(crate::specs::Values::melds_of))]
 pub(crate) fn read_melds(melds: &mut Melds, value: &[u8]) -> bool
     requires none { melds.old ≡ [] }
     ensures { (if result then Some melds.new else None) ≡ melds_of value.now }
@@ -23,6 +24,7 @@ pub(crate) fn read_melds(melds: &mut Melds, value: &[u8]) -> bool
 }
 
 /// Adds the meld of one more item, after those of other items. Answers whether the items are melds.
+#[tactic(auto, using(crate::proofs::MeldLemmas::add_meld_facts))]
 fn add_meld(melds: &mut Melds, item: &[u8]) -> bool
     ensures { (items : List (List ℕ)) → Some melds.old ≡ melds_of_items items
         → (if result then Some melds.new else None) ≡ melds_of_items (items ++ item.now ∷ []) }

@@ -100,7 +100,7 @@ pub fn from_with<'a>(start: &[u8], least: usize, line: &'a [u8]) -> Option<&'a [
     let mut from = without_spaces(line);
     while !from.is_empty() {
         let (word, after) = cut_word(from);
-        if begins(start, least, word) {
+        if begins_with_digits(start, least, word) {
             return Some(from);
         }
         from = without_spaces(after);
@@ -108,7 +108,7 @@ pub fn from_with<'a>(start: &[u8], least: usize, line: &'a [u8]) -> Option<&'a [
     None
 }
 
-fn begins(start: &[u8], least: usize, word: &[u8]) -> bool
+fn begins_with_digits(start: &[u8], least: usize, word: &[u8]) -> bool
     ensures { result ≡ spec.begins_with_digits start.now least word.now }
 {
     word.starts_with(start) && least <= digits_in(word)

@@ -40,6 +40,7 @@ pub struct Place {
 
 impl Refusal<'_> {
     /// Where the word at fault stands in the line that was refused.
+    #[tactic(auto, using(crate::proofs::PlaceEnds::at_place))]
     pub fn place(&self, line: &[u8]) -> Option<Place>
         requires { option_map (λ from. from.now) self.now.from
             ≡ fault_from self.now.fault line.now }
@@ -78,6 +79,7 @@ pub fn read_placed<'a>(rules: Rules, line: &'a [u8]) -> Result<Option<Job>, Refu
 
 /// The job of a line, `None` for a comment or a line of spaces alone or nothing, or the line's first fault. The line comes
 /// without the line feed and the carriage return that ended it.
+#[tactic(auto, using(crate::proofs::RangeLemmas::bad_word, crate::proofs::RedFault::no_reds_over))]
 pub fn read_line(rules: Rules, line: &[u8]) -> Result<Option<Job>, LineFault>
     ensures value { result ≡ outcome_of rules line.now }
 

@@ -1,4 +1,4 @@
-use Rattle.std.proofs.Common.{◌≡◌, ◌↔◌, ℕ, ℤ, pos, true, IsTrue, nat_eq, of_z, to_z, FitsSigned, sym, ap, ◌∙◌}
+use Rattle.std.proofs.Common.{◌≡◌, ◌↔◌, ℤ, pos, IsTrue, nat_eq, of_z, to_z, FitsSigned, sym, ap, ◌∙◌}
 use Rattle.std.proofs.Common as width
 use Rattle.std.proofs.lemmas.Bool.{eqb-true}
 use Rattle.std.proofs.lemmas.Int.{to_z-of_z}

@@ -1,7 +1,6 @@
-use Rattle.std.proofs.Common.{sym, ◌∙◌, subst, arith}
-use Rattle.std.proofs.lemmas.List.{take_all}
+use Rattle.std.proofs.Common.{sym, ◌∙◌, arith}
 use Rattle.riichi_text.proofs.Pieces.{some_there}
-use Rattle.desk_json.specs.Whole.{Each, IsWholeDiscard}
+use Rattle.desk_json.specs.Whole.{IsWholeDiscard}
 use Rattle.desk_json.proofs.Seen.{each_more}
 use Rattle.desk_json.proofs.laws.see_discards.Goals as goal
 use Rattle.desk_json.proofs.laws.see_discards.Goals.{in-Some, in_default}
@@ -13,8 +12,3 @@ loop-place-preserved c =
       | in-Some w ↦ each_more IsWholeDiscard discards c.loop-place.place w.in-Some.discard c.loop-place.invariant (sym c.get.ensures ∙ w.in-Some.is) w.see_discard.ensures
       | in_default w ↦ absurd (some_there discards c.loop-place.place (omega (arith, c.loop-place-test.true, c.len-place-end.ensures.value)) (sym c.get.ensures ∙ w.in_default.is))
     ]
-
-pub returns : goal.returns
-returns c =
-    let discards = c.args.discards.now in
-    subst (Each IsWholeDiscard) (take_all c.loop-place.place discards (omega (arith, c.len-place-end.ensures.value))) c.loop-place.invariant

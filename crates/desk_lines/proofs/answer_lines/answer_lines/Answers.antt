@@ -8,7 +8,7 @@ use Rattle.desk_lines.specs.Told.{Stands, StopsTelling}
 use Rattle.desk_lines.specs.Lines.{cut_of, lines, last_line, ended_lines}
 use Rattle.desk_lines.specs.Reading.{IsRead, IsStopped}
 use Rattle.desk_lines.specs.Telling.{count_of}
-use Rattle.desk_lines.proofs.ToldLemmas.{Stands-new, Stands-flushed, Stands-written, Stands-stops}
+use Rattle.desk_lines.proofs.ToldLemmas.{Stands-new, Stands_flushed, Stands-written, Stands_stops}
 use Rattle.desk_lines.proofs.CutLemmas.{ended_lines-more}
 use Rattle.desk_lines.proofs.ReadingLemmas.{told_more, keeps_more, Whole, at_end, whole_lines}
 use Rattle.desk_lines.proofs.StreamLemmas.{Gives-more, err_at, passed_on}
@@ -82,7 +82,7 @@ returns-in_err-flush-clause-write_failed g c is =
     let stands = c.in_ok-rest.ensures.stands c.args.writer.now c.args.teller.now before all.2 all.6 c.loop-turn.invariant.1.stands in
     stopped g here c.flush.new.writer Write
     (subst (λ (ls : List (List ℕ)). StopsTelling g.W.Sink g.T.Teller c.args.writer.now c.flush.new.writer c.args.teller.now Write ls) (append-nil (before ++ all.2))
-    (Stands-stops g.W.Sink g.T.Teller c.args.writer.now c.args.teller.now (before ++ all.2) [] c.add_lines.new.teller c.add_lines.new.self c.add_lines.new.writer c.flush.new.writer stands c.in_err-flush.ensures.writes.1))
+    (Stands_stops g.W.Sink g.T.Teller c.args.writer.now c.args.teller.now (before ++ all.2) [] c.add_lines.new.teller c.add_lines.new.self c.add_lines.new.writer c.flush.new.writer stands c.in_err-flush.ensures.writes.1))
 
 pub returns-then-is_end-clause-ok : goal.returns-then-is_end-clause-ok
 returns-then-is_end-clause-ok g c =
@@ -96,7 +96,7 @@ returns-then-is_end-clause-ok g c =
     let read = subst (λ (is_end : Bool). IsRead source c.loop-turn.reader new c.as_slice.result.now given is_end) c.if-is_end.true c.in_ok-len.ensures.read.1 in
     let end = at_end source c.args.reader.now c.loop-turn.reader new teller.most c.requires.most text c.as_slice.result.now given so_far.gives (c.as_slice.ensures ∙ so_far.held) read in
     let added = c.in_ok-rest.ensures.stands c.args.writer.now c.args.teller.now (ended_lines text) (last_line (cut_of text).rest) end.1 so_far.stands in
-    let stands = Stands-flushed sink teller c.args.writer.now c.args.teller.now (lines text) c.add_lines.new.teller c.add_lines.new.self c.flush.new.self c.add_lines.new.writer c.flush.new.writer added c.in_ok-flush.ensures.writes c.flush.ensures.report c.in_ok-flush.ensures.empty in (
+    let stands = Stands_flushed sink teller c.args.writer.now c.args.teller.now (lines text) c.add_lines.new.teller c.add_lines.new.self c.flush.new.self c.add_lines.new.writer c.flush.new.writer added c.in_ok-flush.ensures.writes c.flush.ensures.report c.in_ok-flush.ensures.empty in (
       text,
       stands.answers,
       record { gives = end.0; ended = read.end.1; found = let once = read.end.3 in let before = so_far.ends in omega arith; none_left = read.end.2; not_failed = read.not_failed ∙ so_far.reads },
@@ -117,7 +117,7 @@ loop-turn-preserved g c =
     let read = subst (λ (is_end : Bool). IsRead source c.loop-turn.reader new c.as_slice.result.now given is_end) c.if-is_end.false c.in_ok-len.ensures.read.1 in
     let later = ended_lines ((cut_of text).rest ++ read.bytes) in
     let added = c.in_ok-rest.ensures.stands c.args.writer.now c.args.teller.now (ended_lines text) later (told_more teller.most c.requires.most text c.as_slice.result.now read.bytes given is read.text_is) so_far.stands in
-    let flushed = Stands-flushed sink teller c.args.writer.now c.args.teller.now (ended_lines text ++ later) c.add_lines.new.teller c.add_lines.new.self c.flush.new.self c.add_lines.new.writer c.flush.new.writer added c.in_ok-flush.ensures.writes c.flush.ensures.report c.in_ok-flush.ensures.empty in
+    let flushed = Stands_flushed sink teller c.args.writer.now c.args.teller.now (ended_lines text ++ later) c.add_lines.new.teller c.add_lines.new.self c.flush.new.self c.add_lines.new.writer c.flush.new.writer added c.in_ok-flush.ensures.writes c.flush.ensures.report c.in_ok-flush.ensures.empty in
     let keeps = keeps_more teller.most c.requires.most text c.as_slice.result.now read.bytes given is read.text_is in (
       text ++ read.bytes,
       record {

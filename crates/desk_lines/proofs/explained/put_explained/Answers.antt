@@ -1,20 +1,16 @@
 use Rattle.std.proofs.Common.{Ok, Err, Some, refl, ap, ◌∙◌}
 use Rattle.desk_lines.specs.declared.line_kind.LineKind.TheVariants.{Answered, Refused}
-use Rattle.desk_lines.proofs.ExplainedPuts.{puts-none, puts-said}
+use Rattle.desk_lines.proofs.ExplainedPuts.{puts_said}
 use Rattle.desk_lines.proofs.explained.put_explained.Goals as goal
-
-pub returns-in-Ok-None-clause-puts : goal.returns-in-Ok-None-clause-puts
-returns-in-Ok-None-clause-puts g c =
-    puts-none c.args.shown c.args.rules c.args.line.now c.args.outbox.now.bytes.items c.args.outbox.now.bytes.items (c.in-Ok-None.ensures ∙ ap Ok c.in-Ok-None.field-0-is) refl
 
 pub returns-in-Ok-Some-clause-puts : goal.returns-in-Ok-Some-clause-puts
 returns-in-Ok-Some-clause-puts g c =
     let put = c.put_job.ensures in
-    puts-said c.args.shown c.args.rules c.args.line.now c.args.outbox.now.bytes.items c.put_job.new.outbox.bytes.items put.0 _ (Ok (Some c.in-Ok-Some.job)) Answered
+    puts_said c.args.shown c.args.rules c.args.line.now c.args.outbox.now.bytes.items c.put_job.new.outbox.bytes.items put.0 _ (Ok (Some c.in-Ok-Some.job)) Answered
     (c.in-Ok-Some.ensures ∙ ap Ok c.in-Ok-Some.field-0-is) refl refl put.1 put.2
 
 pub returns-in-Err-clause-puts : goal.returns-in-Err-clause-puts
 returns-in-Err-clause-puts g c =
     let put = c.put_refusal.ensures in
-    puts-said c.args.shown c.args.rules c.args.line.now c.args.outbox.now.bytes.items c.put_refusal.new.outbox.bytes.items put.0 _ (Err c.in-Err.refusal.fault) Refused
+    puts_said c.args.shown c.args.rules c.args.line.now c.args.outbox.now.bytes.items c.put_refusal.new.outbox.bytes.items put.0 _ (Err c.in-Err.refusal.fault) Refused
     c.in-Err.ensures.0 refl refl put.1 put.2

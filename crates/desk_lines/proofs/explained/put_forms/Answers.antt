@@ -1,7 +1,7 @@
 use Rattle.std.proofs.Common.{ℕ, List, [], ◌∷◌, ◌++◌, refl, ap, ◌∙◌, append_assoc}
 use Rattle.riichi_explain.specs.Forms.{shanten_line}
 use Rattle.riichi_shape.specs.Answer.{shape_answer_of}
-use Rattle.riichi_shape_text.specs.Text.{shape_text}
+use Rattle.riichi_shape.specs.Text.{shape_text}
 use Rattle.desk_lines.proofs.explained.put_forms.Goals as goal
 
 pub returns : goal.returns

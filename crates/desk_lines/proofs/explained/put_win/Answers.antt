@@ -5,11 +5,6 @@ use Rattle.riichi_score.specs.Text.{win_text}
 use Rattle.riichi_explain.specs.Explanation.{AreOthers}
 use Rattle.desk_lines.proofs.explained.put_win.Goals as goal
 
-pub returns-in-BestReading : goal.returns-in-BestReading
-returns-in-BestReading g c =
-    let put = c.put_best-best.ensures.told in
-    rw c.in-BestReading.is (put.0, put.1, put.2)
-
 pub returns-in-EveryReading : goal.returns-in-EveryReading
 returns-in-EveryReading g c =
     let w = c.args.win.now in

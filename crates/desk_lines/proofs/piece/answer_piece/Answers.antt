@@ -1,11 +1,10 @@
-use Rattle.std.proofs.Common.{◌≡◌, ◌∙◌, ℕ, ◌+◌, ◌≤◌, List, [], ◌∷◌, ◌++◌, map, ap, sym, subst, refl, append_assoc, arith}
-use Rattle.std.proofs.lemmas.List.{append-nil, map-append}
+use Rattle.std.proofs.Common.{◌≡◌, ◌∙◌, ◌+◌, ◌≤◌, [], ◌∷◌, ◌++◌, map, ap, sym, append_assoc, arith}
+use Rattle.std.proofs.lemmas.List.{map-append}
 use Rattle.desk_lines.specs.LineAnswer.{line_kind}
 use Rattle.desk_lines.specs.Lines.{ended_lines}
-use Rattle.desk_lines.specs.Records.{AreTold}
 use Rattle.desk_lines.specs.Telling.{text_of, with_line_feed, answers_in, report_with, report_of, count_of}
-use Rattle.desk_lines.proofs.AnswerLemmas.{AreTold-last}
-use Rattle.desk_lines.proofs.TellingLemmas.{text_of-more, report_of-more}
+use Rattle.desk_lines.proofs.AnswerLemmas.{AreTold_last}
+use Rattle.desk_lines.proofs.TellingLemmas.{text_of_more, report_of_more}
 use Rattle.desk_lines.specs.declared.report.DeskReport.{DeskReport}
 use Rattle.desk_lines.specs.declared.line_kind.LineKind.{LineKind}
 use Rattle.desk_lines.specs.declared.line_kind.LineKind.TheVariants.{NoRecord, Answered, Refused}
@@ -16,9 +15,6 @@ counted_one : (report : DeskReport) (kind : LineKind) → count_of (report_with 
 counted_one report NoRecord = omega arith
 counted_one report Answered = omega arith
 counted_one report Refused = omega arith
-
-pub loop-line-init : goal.loop-line-init
-loop-line-init g c = ([], [], record { lines = refl; are_told = refl; answers = sym (append-nil c.args.answers.now.items); report = refl; count = omega arith })
 
 pub loop-line-preserved : goal.loop-line-preserved
 loop-line-preserved g c =
@@ -35,17 +31,11 @@ loop-line-preserved g c =
       told ++ answers_in puts.told,
       record {
         lines = so_far.2.lines ∙ ap (λ rest. done ++ rest) cut.0 ∙ sym (append_assoc done (line ∷ []) (ended_lines c.in-Some.after.now));
-        are_told = AreTold-last g.A.Responder.may_tell c.args.rules done line told puts.told so_far.2.are_told puts.may_be_told;
+        are_told = AreTold_last g.A.Responder.may_tell c.args.rules done line told puts.told so_far.2.are_told puts.may_be_told;
         answers = c.in_ok-extend_from_slice.ensures.items ∙ ap (λ front. front ++ c.as_slice.result.now) so_far.2.answers ∙ ap (λ t. (c.args.answers.now.items ++ text_of told) ++ t) is
-            ∙ append_assoc c.args.answers.now.items (text_of told) text ∙ ap (λ t. c.args.answers.now.items ++ t) (sym (text_of-more told puts.told));
+            ∙ append_assoc c.args.answers.now.items (text_of told) text ∙ ap (λ t. c.args.answers.now.items ++ t) (sym (text_of_more told puts.told));
         report = c.counted-report.ensures ∙ ap (λ report. report_with report c.respond-kind.result) so_far.2.report ∙ ap (report_with (report_of kinds)) c.respond-kind.ensures.kind
-            ∙ sym (report_of-more kinds (line_kind c.args.rules line)) ∙ ap report_of (sym (map-append (line_kind c.args.rules) done (line ∷ [])));
+            ∙ sym (report_of_more kinds (line_kind c.args.rules line)) ∙ ap report_of (sym (map-append (line_kind c.args.rules) done (line ∷ [])));
         count = let one = counted_one c.loop-line.report c.respond-kind.result in let same = ap count_of c.counted-report.ensures in let shorter = cut.2 in let before = so_far.2.count in omega arith;
       },
     )
-
-pub returns : goal.returns
-returns g c =
-    let so_far = c.loop-line.invariant in
-    let done : ended_lines c.args.text.now ≡ so_far.0 = so_far.2.lines ∙ ap (λ rest. so_far.0 ++ rest) c.in_default.ensures.0 ∙ append-nil so_far.0 in
-    (so_far.1, subst (λ (ls : List (List ℕ)). AreTold g.A.Responder.may_tell c.args.rules ls so_far.1) (sym done) so_far.2.are_told, so_far.2.answers, so_far.2.report ∙ ap (λ (ls : List (List ℕ)). report_of (map (line_kind c.args.rules) ls)) (sym done))

@@ -3,16 +3,13 @@ use Rattle.std.proofs.KnownBytes.{Consumes-nil}
 use Rattle.std.proofs.lemmas.List.{append-nil}
 use Rattle.std.proofs.lemmas.Result.{MatchResult-weaker}
 use Rattle.desk_script.proofs.Only.{only_replay}
-use Rattle.desk_lines.specs.Lines.{lines, ended_lines}
+use Rattle.desk_lines.specs.Lines.{lines}
 use Rattle.desk_lines.specs.Streams.{StopsWriting}
 use Rattle.desk_lines.specs.Telling.{text_of}
-use Rattle.desk_lines.proofs.StreamLemmas.{WritesAll-nil, StopsWriting-more}
-use Rattle.desk_lines.proofs.TellingLemmas.{text_of-append}
+use Rattle.desk_lines.proofs.StreamLemmas.{WritesAll_nil, StopsWriting_more}
+use Rattle.desk_lines.proofs.TellingLemmas.{text_of_append}
 use Rattle.desk_lines.proofs.ScriptLemmas.{replays, replays_whole, replays_none, runs_out}
 use Rattle.desk_lines.proofs.replay.replay_text.Goals as goal
-
-pub answer_lines-requires-clause-new : goal.answer_lines-requires-clause-new
-answer_lines-requires-clause-new g c = ([], c.in-Ok.ensures, refl, refl)
 
 pub returns-in-Err-clause-no_memory : goal.returns-in-Err-clause-no_memory
 returns-in-Err-clause-no_memory g c is = (
@@ -24,7 +21,7 @@ returns-in-Err-clause-no_memory g c is = (
   inl refl,
   replays_none,
   inl refl,
-  WritesAll-nil g.W.Sink c.args.writer.now,
+  WritesAll_nil g.W.Sink c.args.writer.now,
 )
 
 pub returns-clause-ok : goal.returns-clause-ok
@@ -32,12 +29,6 @@ returns-clause-ok g c = MatchResult-weaker c.answer_lines.result c.answer_lines.
     let replayed = replays _ (lines ok.0) ok.1 report ok.3 in
     (ok.0, ok.1, ok.2, replayed, only_replay (lines ok.0) ok.1 replayed, ok.4, ok.3.3))
     (λ fault told. told)
-
-pub returns-clause-read_failed : goal.returns-clause-read_failed
-returns-clause-read_failed g c is =
-    let failed = c.answer_lines.ensures.read_failed is in
-    let text = failed.1.0 in
-    (failed.0, (text, failed.1.1, failed.1.3, replays _ (ended_lines text) failed.1.1 failed.1.2 failed.1.4, failed.1.5))
 
 pub returns-clause-write_failed : goal.returns-clause-write_failed
 returns-clause-write_failed g c is =
@@ -50,8 +41,8 @@ returns-clause-write_failed g c is =
       stopped.2,
       stopped.3,
       all.1,
-      subst (λ (written : List ℕ). StopsWriting g.W.Sink c.args.writer.now c.answer_lines.new.writer written) (sym (text_of-append stops.answers all.0))
-          (StopsWriting-more g.W.Sink c.args.writer.now c.answer_lines.new.writer (text_of stops.answers) (text_of all.0) stops.stops),
+      subst (λ (written : List ℕ). StopsWriting g.W.Sink c.args.writer.now c.answer_lines.new.writer written) (sym (text_of_append stops.answers all.0))
+          (StopsWriting_more g.W.Sink c.args.writer.now c.answer_lines.new.writer (text_of stops.answers) (text_of all.0) stops.stops),
     )
 
 pub returns-clause-no_memory : goal.returns-clause-no_memory

@@ -1,7 +1,6 @@
-use Rattle.std.proofs.Common.{◌≡◌, ◌≢◌, ℕ, List, true, false, sym, ◌∙◌, ap, subst, sum}
+use Rattle.std.proofs.Common.{◌≡◌, ◌≢◌, ℕ, List, true, false, sym, ◌∙◌, subst, sum}
 use Rattle.riichi_hand.specs.FaultTexts.{fault_text}
-use Rattle.riichi_hand.specs.declared.fault.LineFault.TheVariants.{Line, Notation}
-use Rattle.riichi_hand.specs.declared.fault.TextName.TheVariants.{Hand}
+use Rattle.riichi_hand.specs.declared.fault.LineFault.TheVariants.{Line}
 use Rattle.riichi_hand.specs.declared.fault.LineCode.TheVariants.{H8}
 use Rattle.riichi_split.specs.Waits.{waits_of, waits_text}
 use Rattle.desk_lines.specs.WaitsLine.{concealed_hand}
@@ -21,10 +20,6 @@ returns-in-Ok-clause-not_thirteen c = λ counts spells other.
     let P : List ℕ → Type 0 = λ t. sum t ≢ 13 → (c.answer_counts.result.text.bytes ≡ fault_text (Line H8)) × (c.answer_counts.result.refused ≡ true) in
     subst P same c.answer_counts.ensures.not_thirteen other
 
-pub returns-in-Ok-clause-fault : goal.returns-in-Ok-clause-fault
-returns-in-Ok-clause-fault c = λ fault is_first.
-    let bad = sym c.in-Ok.is ∙ c.read_counts.ensures.first fault is_first in cc
-
 pub returns-in-Err-clause-waits : goal.returns-in-Err-clause-waits
 returns-in-Err-clause-waits c = λ counts spells _.
     let bad = sym c.in-Err.is ∙ c.read_counts.ensures.only counts spells in cc
@@ -32,8 +27,3 @@ returns-in-Err-clause-waits c = λ counts spells _.
 pub returns-in-Err-clause-not_thirteen : goal.returns-in-Err-clause-not_thirteen
 returns-in-Err-clause-not_thirteen c = λ counts spells _.
     let bad = sym c.in-Err.is ∙ c.read_counts.ensures.only counts spells in cc
-
-pub returns-in-Err-clause-fault : goal.returns-in-Err-clause-fault
-returns-in-Err-clause-fault c = λ fault is_first.
-    let same : c.in-Err.fault ≡ fault = cc (sym c.in-Err.is ∙ c.read_counts.ensures.first fault is_first) in
-    (c.refusal.ensures.text ∙ ap (λ told. fault_text (Notation Hand told)) same, c.refusal.ensures.refused)

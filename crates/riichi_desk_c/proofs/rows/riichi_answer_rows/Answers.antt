@@ -1,54 +1,9 @@
-use Rattle.std.proofs.Common.{◌≡◌, ◌+◌, ◌-◌, ◌<◌, ◌≤◌, ◌∙◌, inl, inr, ◌++◌, length, length-set, drop, refl, sym, ap, below_more, arith}
+use Rattle.std.proofs.Common.{◌≡◌, ◌+◌, ◌-◌, ◌≤◌, ◌∙◌, ◌++◌, length, length-set, drop, refl, sym, ap, below_more, arith}
 use Rattle.riichi_desk_c.specs.Replies.{reply_to}
 use Rattle.riichi_desk_c.specs.Rows.{answer_place, replies_to, row_text}
 use Rattle.riichi_arrays.proofs.ColumnLemmas.{fill_next}
-use Rattle.riichi_desk_c.proofs.RowLemmas.{first_place, kept_room, left_long, longer_room, no_places, none_there, place_next, replies_next, so_many, some_there}
+use Rattle.riichi_desk_c.proofs.RowLemmas.{left_long, longer_room, place_next, replies_next}
 use Rattle.riichi_desk_c.proofs.rows.riichi_answer_rows.Goals as goal
-
-pub returns-then-is_empty : goal.returns-then-is_empty
-returns-then-is_empty c =
-    let none : length c.args.answer_offsets.now ≡ 0 = none_there (length c.args.answer_offsets.now) c.if-is_empty.ensures in record {
-      are_rows = λ row low. absurd (omega (arith, low));
-      most = omega arith;
-      fits = omega arith;
-      room_is = refl;
-      places_are = no_places (answer_place c.args.rules c.args.bytes.now c.args.offsets.now) c.args.answer_offsets.now none;
-      stops = inl (omega (arith, none));
-    }
-
-pub loop-row-init : goal.loop-row-init
-loop-row-init c = record {
-  are_rows = λ row low. absurd (omega (arith, low));
-  filled = refl;
-  fits = omega arith;
-  room = refl;
-  places = first_place c.args.answer_offsets.now (some_there (length c.args.answer_offsets.now) c.if-is_empty.ensures);
-}
-
-pub returns-then-needed-room : goal.returns-then-needed-room
-returns-then-needed-room c =
-    let kept = c.loop-row.invariant in
-    let number = c.args.rules in
-    let bytes = c.args.bytes.now in
-    let offsets = c.args.offsets.now in
-    let row = c.loop-row.row in
-    let told = replies_to number bytes offsets row in
-    let before = c.args.room.now in
-    let filled = c.loop-row.filled in
-    let k = length c.loop-row.room - filled in
-    let text : c.in-Some.text.now ≡ row_text bytes offsets row = c.in-Some.ensures.2 in
-    let needed : c.riichi_answer-needed.result ≡ length (reply_to number (row_text bytes offsets row)) = c.riichi_answer-needed.ensures.needed ∙ ap (λ t. length (reply_to number t)) text in
-    let long = left_long told before c.loop-row.room filled k kept.filled kept.fits kept.room refl in
-    let low : row < c.min-rows.result = omega arith in
-    record {
-      are_rows = kept.are_rows;
-      most = omega (arith, low, c.min-rows.ensures, c.saturating_sub.ensures, length-set c.args.answer_offsets.now 0 0);
-      fits = omega (arith, kept.filled, kept.fits);
-      room_is = kept_room told before c.loop-row.room filled k kept.filled kept.fits kept.room refl _ (c.riichi_answer-needed.ensures.untouched (omega (arith, long, c.riichi_answer-needed.ensures.needed)))
-          ∙ ap (λ n. told ++ drop n before) kept.filled;
-      places_are = so_many (answer_place number bytes offsets) (row + 1) c.args.answer_offsets.now c.loop-row.answer_offsets (omega (arith, low, c.min-rows.ensures, length-set c.args.answer_offsets.now 0 0)) kept.places;
-      stops = inr (inr (omega (arith, place_next number bytes offsets row, kept.filled, needed, ap length kept.room)));
-    }
 
 pub loop-row-preserved : goal.loop-row-preserved
 loop-row-preserved c =

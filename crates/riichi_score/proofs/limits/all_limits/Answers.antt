@@ -1,4 +1,4 @@
-use Rattle.std.proofs.Common.{◌∙◌, ap, length, arith}
+use Rattle.std.proofs.Common.{◌∙◌, ap, arith}
 use Rattle.std.specs.List.{sum_by}
 use Rattle.riichi_score.specs.Limits.{limits_in}
 use Rattle.riichi_yaku.proofs.InOrder.{sum-before, sum-within}

@@ -1,30 +1,29 @@
-use Rattle.std.proofs.Common.{◌∙◌, sym, rules, arith}
-use Rattle.riichi_tiles.specs.declared.suit.Suit.TheVariants.{Characters, Circles, Bamboos, Honours}
-use Rattle.riichi_split.proofs.Rests.{has-pair, rests-two, some-two}
+use Rattle.std.proofs.Common.{◌≡◌, ◌≤◌, Some, ap, sym, ◌∙◌, rules, arith}
+use Rattle.riichi_tiles.specs.Kinds.{suit_of}
+use Rattle.riichi_tiles.specs.Suits.{of_suit}
+use Rattle.riichi_tiles.specs.declared.suit.Suit.{Suit}
+use Rattle.riichi_tiles.proofs.Suits.{kinds_end, le_over, same_over}
+use Rattle.riichi_split.proofs.Rests.{has-pair, rest, rests-two}
 use Rattle.riichi_split.proofs.suit.suit_of_pair.Goals as goal
 
-pub returns-then-characters-circles-ne2-clause-pair : goal.returns-then-characters-circles-ne2-clause-pair
-returns-then-characters-circles-ne2-clause-pair c = λ melds sets pair split.
-    absurd (omega (arith, rests-two c.args.counts.now melds sets pair (search rules) split, c.rest_of-characters.ensures.value, c.rest_of-circles.ensures.value, c.rest_of-bamboos.ensures.value, c.rest_of-honours.ensures.value))
+pub total-requires : goal.total-requires
+total-requires c =
+    let few : (suit : Suit) → of_suit c.of-rests.result suit ≤ 2 = λ suit. (let post = c.of-rests.ensures suit in search rules) in
+    omega (arith, le_over (of_suit c.of-rests.result) (λ suit. 2) few)
 
-pub returns-then-characters-eq2-clause-pair : goal.returns-then-characters-eq2-clause-pair
-returns-then-characters-eq2-clause-pair c = λ melds sets pair split.
-    let is = has-pair c.args.counts.now melds sets pair Characters (search rules) split (sym c.rest_of-characters.ensures.value ∙ c.if-characters-eq2.true) in (is.low, is.high)
+pub returns-then-total-ne2 : goal.returns-then-total-ne2
+returns-then-total-ne2 c = λ melds sets pair split.
+    let is : (suit : Suit) → of_suit c.of-rests.result suit ≡ rest c.args.counts.now suit = λ suit. (let post = c.of-rests.ensures suit in search rules) in
+    let two = rests-two c.args.counts.now melds sets pair (search rules) split in
+    absurd (omega (arith, two.0, same_over (of_suit c.of-rests.result) (rest c.args.counts.now) is, c.total.ensures, c.if-total-ne2.true))
 
-pub returns-then-circles-eq2-clause-pair : goal.returns-then-circles-eq2-clause-pair
-returns-then-circles-eq2-clause-pair c = λ melds sets pair split.
-    let is = has-pair c.args.counts.now melds sets pair Circles (search rules) split (sym c.rest_of-circles.ensures.value ∙ c.if-circles-eq2.true) in (is.low, is.high)
+pub returns-then-get-eq2 : goal.returns-then-get-eq2
+returns-then-get-eq2 c = λ melds sets pair split.
+    let is : (suit : Suit) → of_suit c.of-rests.result suit ≡ rest c.args.counts.now suit = λ suit. (let post = c.of-rests.ensures suit in search rules) in
+    ap Some (has-pair c.args.counts.now melds sets pair _ (search rules) split (sym (is _) ∙ sym c.get.ensures ∙ c.if-get-eq2.true))
 
-pub returns-then-bamboos-eq2-clause-pair : goal.returns-then-bamboos-eq2-clause-pair
-returns-then-bamboos-eq2-clause-pair c = λ melds sets pair split.
-    let is = has-pair c.args.counts.now melds sets pair Bamboos (search rules) split (sym c.rest_of-bamboos.ensures.value ∙ c.if-bamboos-eq2.true) in (is.low, is.high)
-
-pub returns-then-honours-eq2-clause-pair : goal.returns-then-honours-eq2-clause-pair
-returns-then-honours-eq2-clause-pair c = λ melds sets pair split.
-    let is = has-pair c.args.counts.now melds sets pair Honours (search rules) split (sym c.rest_of-honours.ensures.value ∙ c.if-honours-eq2.true) in (is.low, is.high)
-
-pub returns-else-honours-eq2-clause-pair : goal.returns-else-honours-eq2-clause-pair
-returns-else-honours-eq2-clause-pair c = λ melds sets pair split.
-    absurd (some-two c.args.counts.now melds sets pair (search rules) split
-    (λ e. omega (arith, e, c.rest_of-characters.ensures.value)) (λ e. omega (arith, e, c.rest_of-circles.ensures.value))
-    (λ e. omega (arith, e, c.rest_of-bamboos.ensures.value)) (λ e. omega (arith, e, c.rest_of-honours.ensures.value)))
+pub returns : goal.returns
+returns c = λ melds sets pair split.
+    let is : (suit : Suit) → of_suit c.of-rests.result suit ≡ rest c.args.counts.now suit = λ suit. (let post = c.of-rests.ensures suit in search rules) in
+    let two = rests-two c.args.counts.now melds sets pair (search rules) split in
+    absurd (c.loop-suit.invariant (suit_of pair) (omega (arith, kinds_end (suit_of pair), c.loop-suit-test.false)) (is (suit_of pair) ∙ two.1))

@@ -1,4 +1,4 @@
-use Rattle.std.proofs.Common.{length, ap, ◌∙◌, arith}
+use Rattle.std.proofs.Common.{length, ap, arith}
 use Rattle.riichi_tiles.specs.Tiles.{IsCounts}
 use Rattle.riichi_split.proofs.Marks.{AreStandard, open-waits, closed-waits, all_marked, few_melds}
 use Rattle.riichi_split.proofs.waiting.waits.Goals as goal

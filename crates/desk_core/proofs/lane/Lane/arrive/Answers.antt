@@ -12,7 +12,7 @@ use Rattle.desk_core.specs.declared.ticket.Ticket.{Ticket}
 use Rattle.desk_core.specs.declared.entry.Entry.{Entry}
 use Rattle.desk_core.proofs.Lists.{not_lt}
 use Rattle.desk_core.specs.contracts.lane.Lane.{the_view}
-use Rattle.desk_core.proofs.Steps.{IsStep-from_own, arrive_withdrawn, arrive_given, arrive_unknown, arrive_in_window}
+use Rattle.desk_core.proofs.Steps.{IsStep_from_own, arrive_withdrawn, arrive_given, arrive_unknown, arrive_in_window}
 use Rattle.desk_core.proofs.lane.Lane.arrive.Goals as goal
 use Rattle.desk_core.proofs.lane.Lane.arrive.Goals.{in-None, in-Some}
 
@@ -25,7 +25,7 @@ returns-then-ticket-self-2-clause-step c = λ own.
     ap (λ (l : LaneState). is_among l.withdrawn c.args.piece.ticket.seq) c.self.view_is
     ∙ ap (λ (t : Ticket). is_among c.args.self.now.withdrawn t.seq) (sym c.ticket-ticket.ensures)
     ∙ sym c.is_withdrawn.ensures ∙ c.if-is_withdrawn.false in
-    rw (← c.self.view_is) (IsStep-from_own lane _ _ _ about refl (arrive_given lane c.args.piece stays before))
+    rw (← c.self.view_is) (IsStep_from_own lane _ _ _ about refl (arrive_given lane c.args.piece stays before))
 
 pub returns-then-is_withdrawn-clause-step : goal.returns-then-is_withdrawn-clause-step
 returns-then-is_withdrawn-clause-step c = λ own.
@@ -35,7 +35,7 @@ returns-then-is_withdrawn-clause-step c = λ own.
     ap (λ (l : LaneState). is_among l.withdrawn c.args.piece.ticket.seq) c.self.view_is
     ∙ ap (λ (t : Ticket). is_among c.args.self.now.withdrawn t.seq) (sym c.ticket-ticket.ensures)
     ∙ sym c.is_withdrawn.ensures ∙ c.if-is_withdrawn.true in
-    rw (← c.self.view_is) (IsStep-from_own lane _ _ _ about refl (arrive_withdrawn lane c.args.piece gone))
+    rw (← c.self.view_is) (IsStep_from_own lane _ _ _ about refl (arrive_withdrawn lane c.args.piece gone))
 
 pub returns-clause-step : goal.returns-clause-step
 returns-clause-step c = λ own.
@@ -53,12 +53,12 @@ returns-clause-step c = λ own.
       | in-None w ↦
           let past : length items ≤ k = not_lt k (length items) (λ more. false≢true (w.in-None.ensures.variant.1 (omega arith))) in
           let unknown : c.self.inside.next + length (map job_with_arrival items) ≤ c.args.piece.ticket.seq = omega (arith, past, length-map items job_with_arrival) in
-          rw (w.self-inside-is, w.result-is, ← c.self.view_is) (IsStep-from_own lane _ _ _ about refl (arrive_unknown lane c.args.piece unknown))
+          rw (w.self-inside-is, w.result-is, ← c.self.view_is) (IsStep_from_own lane _ _ _ about refl (arrive_unknown lane c.args.piece unknown))
       | in-Some w ↦
           let within : k < length items = omega (arith, w.in-Some.ensures.variant.0 refl) in
           let there : slice_get (map job_with_arrival items) k ≡ Some (job_with_arrival w.in-Some.entry.now) =
           slice_get-map job_with_arrival items k ∙ ap (option_map job_with_arrival) (slice_get_read items (length items) k w.in-Some.entry.now refl within w.in-Some.ensures.value) in
-          let step = IsStep-from_own lane _ _ _ about refl (arrive_in_window lane c.args.piece k (job_with_arrival w.in-Some.entry.now) w.arrive.result (job_with_arrival w.arrive.new.self) stays seq there w.arrive.ensures.outcome) in
+          let step = IsStep_from_own lane _ _ _ about refl (arrive_in_window lane c.args.piece k (job_with_arrival w.in-Some.entry.now) w.arrive.result (job_with_arrival w.arrive.new.self) stays seq there w.arrive.ensures.outcome) in
           rw (w.self-inside-is, w.result-is, ← c.self.view_is, map-set) step
     ]
 
@@ -78,15 +78,6 @@ returns-clause-accepted c = λ accepted.
           slice_get-map job_with_arrival items k ∙ ap (option_map job_with_arrival) (slice_get_read items (length items) k w.in-Some.entry.now refl within w.in-Some.ensures.value) ∙ ap Some outcome.0 in
           rw (w.self-inside-is, ← c.self.view_is, map-set, outcome.1) (k, seq, there, refl)
     ]
-
-pub returns-then-ticket-self-clause-awaited : goal.returns-then-ticket-self-clause-awaited
-returns-then-ticket-self-clause-awaited c = λ awaited. absurd (c.if-ticket-self.true (ap (λ (t : Ticket). t.table) c.ticket-ticket.ensures ∙ awaited.0 ∙ ap (λ l. l.table) (sym c.self.view_is)))
-
-pub returns-then-ticket-self-2-clause-awaited : goal.returns-then-ticket-self-2-clause-awaited
-returns-then-ticket-self-2-clause-awaited c = λ awaited.
-    let before : c.args.piece.ticket.seq < c.self.inside.next = rw (← c.ticket-ticket.ensures) c.if-ticket-self-2.true in
-    let seq : c.self.inside.next + awaited.2.0 ≡ c.args.piece.ticket.seq = ap (λ l. l.next + awaited.2.0) c.self.view_is ∙ awaited.2.1 in
-    absurd (omega arith)
 
 accepts : (old : Job × Bool) (job : Job) (result : Arrived) (new : Job × Bool) → TakesIn old job result new → old ≡ (job, false) → result ≡ arrived.Accepted
 accepts old job arrived.Doubled new taken same = absurd (false≢true (sym (ap (λ e. e.1) same) ∙ taken.0))

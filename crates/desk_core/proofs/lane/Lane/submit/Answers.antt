@@ -5,21 +5,21 @@ use Rattle.std.proofs.lemmas.Bool.{false≢true}
 use Rattle.std.proofs.lemmas.List.{length-map, map-append}
 use Rattle.desk_core.specs.contracts.lane.Lane.{the_view}
 use Rattle.desk_core.specs.Entry.{job_with_arrival}
-use Rattle.desk_core.proofs.Steps.{IsStep-from_own, submit_after_close, submit_over_limit, submit_without_memory, submit_accepted}
+use Rattle.desk_core.proofs.Steps.{IsStep_from_own, submit_after_close, submit_over_limit, submit_without_memory, submit_accepted}
 use Rattle.desk_core.proofs.lane.Lane.submit.Goals as goal
 use Rattle.desk_core.proofs.lane.Lane.submit.Goals.{in-Ok, in-Err}
 
 pub returns-then-self-clause-step : goal.returns-then-self-clause-step
 returns-then-self-clause-step c =
     let lane = the_view c.self.inside in
-    rw (← c.self.view_is) (IsStep-from_own lane _ _ _ refl refl (submit_after_close lane c.args.job c.if-self.true))
+    rw (← c.self.view_is) (IsStep_from_own lane _ _ _ refl refl (submit_after_close lane c.args.job c.if-self.true))
 
 pub returns-then-full-clause-step : goal.returns-then-full-clause-step
 returns-then-full-clause-step c =
     let lane = the_view c.self.inside in
     let full : lane.next + length lane.window ≡ 1000000 =
     subst (λ (l : LaneState). l.next + length l.window ≡ 1000000) (sym c.self.view_is) (c.full.ensures.value.0 c.if-full.true) in
-    rw (← c.self.view_is) (IsStep-from_own lane _ _ _ refl refl (submit_over_limit lane c.args.job c.if-self.false full))
+    rw (← c.self.view_is) (IsStep_from_own lane _ _ _ refl refl (submit_over_limit lane c.args.job c.if-self.false full))
 
 pub returns-clause-step : goal.returns-clause-step
 returns-clause-step c =
@@ -30,10 +30,10 @@ returns-clause-step c =
       | in-Ok w ↦
           let count : c.len.result ≡ length (map job_with_arrival c.self.inside.window.items) = omega (arith, c.len.ensures, length-map c.self.inside.window.items job_with_arrival) in
           rw (← c.self.view_is, w.result-is, w.in-Ok.ensures.items, map-append, count, c.waiting.ensures)
-          (IsStep-from_own lane _ _ _ refl refl (submit_accepted lane c.args.job c.if-self.false room))
+          (IsStep_from_own lane _ _ _ refl refl (submit_accepted lane c.args.job c.if-self.false room))
       | in-Err w ↦
           rw (← c.self.view_is, w.result-is, w.in-Err.ensures.items)
-          (IsStep-from_own lane _ _ _ refl refl (submit_without_memory lane c.args.job c.if-self.false room))
+          (IsStep_from_own lane _ _ _ refl refl (submit_without_memory lane c.args.job c.if-self.false room))
     ]
 
 -- the table has not closed, and may submit more

@@ -10,5 +10,5 @@ returns-clause-err g c =
     let reader = c.rounds.new.reader in
     IfErr-weaker c.end.result _ _ (λ fault stopped.
     left_by may g.R.Source g.W.Sink c.args.reader.now c.args.writer.now c.args.given reader c.end.new.writer fault
-    (last_stopped may g.R.Source g.W.Sink c.args.reader.now c.args.writer.now c.args.given read.0 now.held.items now.standing reader c.rounds.new.writer c.end.new.writer fault read.1 read.2
+    (last_stopped may g.R.Source g.W.Sink c.args.reader.now c.args.writer.now c.args.given read.0 now.text.items now.standing reader c.rounds.new.writer c.end.new.writer fault read.1 read.2
     (stopped c.args.writer.now read.0 read.1.is_held read.1.stands))) c.end.ensures.err

@@ -5,8 +5,8 @@ use Rattle.desk_lines.specs.Numbered.{with_number}
 use Rattle.desk_lines.specs.Records.{IsToldUnder, kind_under}
 use Rattle.desk_lines.specs.Telling.{line_by, has_answer}
 use Rattle.desk_lines.specs.declared.line_kind.LineKind.TheVariants.{NoRecord}
-use Rattle.desk_lines.proofs.AnswerLemmas.{AreRead-line}
-use Rattle.desk_lines.proofs.NumberLemmas.{NumberRecords-line, put_behind, nothing_behind}
+use Rattle.desk_lines.proofs.AnswerLemmas.{AreRead_line}
+use Rattle.desk_lines.proofs.NumberLemmas.{NumberRecords_line, put_behind, nothing_behind}
 use Rattle.desk_lines.proofs.numbered.NumberedTeller.tell.Goals as goal
 
 pub returns-in-NoRecord-clause-told : goal.returns-in-NoRecord-clause-told
@@ -26,8 +26,8 @@ returns-in-NoRecord-clause-told g c =
           ∙ nothing_behind g.A.Numbers.front c.args.number puts.told before (puts.kind_is ∙ ap has_answer c.in-NoRecord.is);
       tells_more = λ first lines told report next counted as_this tells. (
         now.given ∙ tells.0,
-        AreRead-line old c.next_rules.new.self line next lines report c.respond-kind.result as_this tells.1 now.given now.rules kind,
-        NumberRecords-line may g.met.A.Responder.alike old c.next_rules.new.self c.args.number line next puts.told lines told counted as_this tells.1.0 now.given told_by tells.2,
+        AreRead_line old c.next_rules.new.self line next lines report c.respond-kind.result as_this tells.1 now.given now.rules kind,
+        NumberRecords_line may g.met.A.Responder.alike old c.next_rules.new.self c.args.number line next puts.told lines told counted as_this tells.1.0 now.given told_by tells.2,
       );
     }
 
@@ -47,8 +47,8 @@ returns-in_default-kind-clause-told g c =
           ∙ put_behind g.A.Numbers.front c.args.number puts.told c.respond-kind.result before puts.kind_is c.in_default-kind.not-NoRecord;
       tells_more = λ first lines told report next counted as_this tells. (
         now.given ∙ tells.0,
-        AreRead-line old c.next_rules.new.self line next lines report c.respond-kind.result as_this tells.1 now.given now.rules kind,
-        NumberRecords-line may g.met.A.Responder.alike old c.next_rules.new.self c.args.number line next puts.told lines told counted as_this tells.1.0 now.given told_by tells.2,
+        AreRead_line old c.next_rules.new.self line next lines report c.respond-kind.result as_this tells.1 now.given now.rules kind,
+        NumberRecords_line may g.met.A.Responder.alike old c.next_rules.new.self c.args.number line next puts.told lines told counted as_this tells.1.0 now.given told_by tells.2,
       );
     }
 
@@ -64,7 +64,7 @@ returns-in_default-clause-told g c =
       put = sym (append-nil c.args.outbox.now.bytes.items);
       tells_more = λ first lines told report next counted as_this tells. (
         now.given ∙ tells.0,
-        AreRead-line old c.next_rules.new.self line next lines report NoRecord as_this tells.1 now.given now.rules (ap (λ (r : Option Rules). kind_under r line) is),
-        NumberRecords-line may g.met.A.Responder.alike old c.next_rules.new.self c.args.number line next None lines told counted as_this tells.1.0 now.given told_by tells.2,
+        AreRead_line old c.next_rules.new.self line next lines report NoRecord as_this tells.1 now.given now.rules (ap (λ (r : Option Rules). kind_under r line) is),
+        NumberRecords_line may g.met.A.Responder.alike old c.next_rules.new.self c.args.number line next None lines told counted as_this tells.1.0 now.given told_by tells.2,
       );
     }

@@ -3,7 +3,7 @@ use Rattle.std.proofs.lemmas.List.{append-nil}
 use Rattle.riichi_hand.specs.declared.win.Rules.{Rules}
 use Rattle.desk_lines.specs.Records.{IsToldUnder, kind_under}
 use Rattle.desk_lines.specs.declared.line_kind.LineKind.TheVariants.{NoRecord}
-use Rattle.desk_lines.proofs.AnswerLemmas.{AreRead-line, AnswerRecords-line}
+use Rattle.desk_lines.proofs.AnswerLemmas.{AreRead_line, AnswerRecords-line}
 use Rattle.desk_lines.proofs.records.RecordsTeller.tell.Goals as goal
 
 pub returns-in-Some-clause-told : goal.returns-in-Some-clause-told
@@ -19,7 +19,7 @@ returns-in-Some-clause-told g c =
       put = puts.put;
       tells_more = λ first lines told report next counted as_this tells. (
         now.given ∙ tells.0,
-        AreRead-line c.args.self.now c.next_rules.new.self line next lines report c.respond.result as_this tells.1 now.given now.rules kind,
+        AreRead_line c.args.self.now c.next_rules.new.self line next lines report c.respond.result as_this tells.1 now.given now.rules kind,
         AnswerRecords-line may g.met.A.Responder.alike c.args.self.now c.next_rules.new.self line next puts.told lines told as_this tells.1.0 now.given told_by tells.2,
       );
     }
@@ -35,7 +35,7 @@ returns-in-None-clause-told g c =
       put = sym (append-nil c.args.outbox.now.bytes.items);
       tells_more = λ first lines told report next counted as_this tells. (
         now.given ∙ tells.0,
-        AreRead-line c.args.self.now c.next_rules.new.self line next lines report NoRecord as_this tells.1 now.given now.rules (ap (λ (r : Option Rules). kind_under r line) is),
+        AreRead_line c.args.self.now c.next_rules.new.self line next lines report NoRecord as_this tells.1 now.given now.rules (ap (λ (r : Option Rules). kind_under r line) is),
         AnswerRecords-line may g.met.A.Responder.alike c.args.self.now c.next_rules.new.self line next None lines told as_this tells.1.0 now.given told_by tells.2,
       );
     }

@@ -1,11 +1,11 @@
-use Rattle.std.proofs.Common.{◌≡◌, ◌∙◌, ℕ, List, [], ◌∷◌, ◌++◌, ap, sym, subst, refl, append_assoc, arith}
+use Rattle.std.proofs.Common.{◌∙◌, ℕ, List, [], ◌∷◌, ◌++◌, ap, sym, subst, refl, append_assoc, arith}
 use Rattle.std.proofs.lemmas.List.{append-nil}
 use Rattle.std.proofs.lemmas.Result.{err_from_is_err_and}
 use Rattle.desk_lines.specs.Lines.{ended_lines}
 use Rattle.desk_lines.specs.Reading.{AreToldAs}
 use Rattle.desk_lines.specs.Told.{Stands, StopsTelling}
 use Rattle.desk_lines.proofs.CutLemmas.{as_none, as_front, as_first, as_last}
-use Rattle.desk_lines.proofs.ToldLemmas.{StopsTelling-more}
+use Rattle.desk_lines.proofs.ToldLemmas.{StopsTelling_more}
 use Rattle.desk_lines.proofs.told.Told.add_lines.Goals as goal
 
 pub loop-line-init : goal.loop-line-init
@@ -45,11 +45,5 @@ returns-in_err-add-clause-stops g c =
     let parts = as_front g.T.Teller.most so_far.0 (ended_lines c.loop-line.rest.now) next (subst (λ (ls : List (List ℕ)). AreToldAs g.T.Teller.most ls next) so_far.1.lines as_these) in
     let before = lines ++ parts.0 in
     let this = as_first g.T.Teller.most c.in-Some.line.now (ended_lines c.in-Some.after.now) parts.1 (subst (λ (ls : List (List ℕ)). AreToldAs g.T.Teller.most ls parts.1) c.in-Some.ensures.0 parts.4) in
-    let stops = StopsTelling-more g.W.Sink g.T.Teller start first c.add.new.writer fault (before ++ this.0 ∷ []) this.1 (c.in_err-add.ensures.stops start first before this.0 this.3 (so_far.1.stands start first lines parts.0 parts.3 stands)) in
+    let stops = StopsTelling_more g.W.Sink g.T.Teller start first c.add.new.writer fault (before ++ this.0 ∷ []) this.1 (c.in_err-add.ensures.stops start first before this.0 this.3 (so_far.1.stands start first lines parts.0 parts.3 stands)) in
     subst (λ (all : List (List ℕ)). StopsTelling g.W.Sink g.T.Teller start c.add.new.writer first fault all) (append_assoc before (this.0 ∷ []) this.1 ∙ ap (λ all. before ++ all) (sym this.2) ∙ append_assoc lines parts.0 parts.1 ∙ ap (λ all. lines ++ all) (sym parts.2)) stops)
-
-pub returns-clause-stands : goal.returns-clause-stands
-returns-clause-stands g c start first lines next as_these stands =
-    let so_far = c.loop-line.invariant in
-    let done : ended_lines c.args.text.now ≡ so_far.0 = so_far.1.lines ∙ ap (λ rest. so_far.0 ++ rest) c.in_default.ensures.0 ∙ append-nil so_far.0 in
-    so_far.1.stands start first lines next (subst (λ (ls : List (List ℕ)). AreToldAs g.T.Teller.most ls next) done as_these) stands

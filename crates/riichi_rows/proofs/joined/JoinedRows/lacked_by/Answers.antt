@@ -2,7 +2,7 @@ use Rattle.std.proofs.Common.{◌^◌, suc, ℕ, Bool}
 use Rattle.std.specs.Prelude.{bit_and, nat_lt}
 use Rattle.riichi_rows.specs.Lanes.{lane, mark}
 use Rattle.riichi_rows.proofs.MarkLemmas.{is_lowered, lowered}
-use Rattle.riichi_rows.proofs.Opposite.{lacked_rank, opposite_sums, taken_is, through}
+use Rattle.riichi_rows.proofs.Opposite.{lacked_ranks, opposite_sums, taken_is, through}
 use Rattle.riichi_rows.proofs.joined.JoinedRows.lacked_by.Goals as goal
 
 pub returns : goal.returns
@@ -17,7 +17,7 @@ returns c =
     let sums = c.add_lanes-sums.result.lacks in
     let sum = opposite_sums lacks (lane others.sums.lacks) c.opposite.result.lacks sums sets c.add_lanes-sums.ensures c.opposite.ensures in
     let fewer : ℕ → ℕ → Bool = λ s p. nat_lt (lane row.first.lacks s p) (lacks s p) in
-    lacked_rank row others sets least _
+    lacked_ranks row others sets least _
     (through c.any_fewer.ensures (taken_is row others sums sets least 0 few below fewer sum (λ s p hs hp low. (λ h. h, λ h. h))))
     (λ r low. through (c.marks_at.ensures (2 ^ r))
     (taken_is row others sums sets least (suc r) few below (λ s p. nat_lt 0 (bit_and (mark row.marks s p) (2 ^ r))) sum

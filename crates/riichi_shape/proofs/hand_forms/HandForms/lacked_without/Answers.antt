@@ -2,15 +2,8 @@ use Rattle.std.proofs.Common.{◌-◌, ap}
 use Rattle.std.specs.Prelude.{slice_index}
 use Rattle.riichi_shape.specs.Accepted.{without_one}
 use Rattle.riichi_shape.proofs.KeptJoins.{set_differs}
-use Rattle.riichi_shape.proofs.Nearer.{lacked_of, special_floor}
+use Rattle.riichi_shape.proofs.Nearer.{lacked_of}
 use Rattle.riichi_shape.proofs.hand_forms.HandForms.lacked_without.Goals as goal
-
-pub lacked_without-requires-clause-least : goal.lacked_without-requires-clause-least
-lacked_without-requires-clause-least c =
-    special_floor (without_one c.args.hand.now c.args.kind) c.args.melds.now c.args.least c.count.ensures.melds.at_most_four c.requires.melded c.requires.least
-
-pub with_row-requires : goal.with_row-requires
-with_row-requires c = record { before = c.args.self.now.rows; are_joins = c.requires.forms.are_joins; same = c.with_row-rows.ensures.others }
 
 pub returns : goal.returns
 returns c =

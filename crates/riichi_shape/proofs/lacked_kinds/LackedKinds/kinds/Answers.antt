@@ -1,18 +1,13 @@
 use Rattle.std.proofs.Common.{◌≡◌, Bool, true, false, ap, ◌∙◌, sym}
-use Rattle.std.specs.Prelude.{slice_index, ◌||◌}
+use Rattle.std.specs.Prelude.{◌||◌}
 use Rattle.riichi_tiles.specs.HeldKinds.{is_held}
 use Rattle.riichi_shape.specs.LackedKinds.{suits_lack}
-use Rattle.riichi_shape.specs.Special.{special_lacks}
 use Rattle.riichi_tiles.proofs.KindSets.{either_at}
 use Rattle.riichi_shape.proofs.lacked_kinds.LackedKinds.kinds.Goals as goal
 
 alone : (a b : Bool) → b ≡ false → a ≡ (a || b)
 alone true b none = cc
 alone false b none = sym none
-
-pub returns-then-is_empty : goal.returns-then-is_empty
-returns-then-is_empty c = λ kind low.
-    c.kinds_lacked-kinds.ensures kind low ∙ alone (suits_lack c.args.self.now.suits kind) (special_lacks c.args.self.now.special kind (slice_index c.args.held.now kind)) (c.is_empty.ensures.0 c.if-is_empty.true kind (slice_index c.args.held.now kind))
 
 pub returns-else-is_empty : goal.returns-else-is_empty
 returns-else-is_empty c = λ kind low.

@@ -1,6 +1,5 @@
-use Rattle.std.proofs.Common.{ℕ, List, length, refl, subst, sym, ap, ◌∙◌}
+use Rattle.std.proofs.Common.{length, refl, sym, ap, ◌∙◌}
 use Rattle.std.specs.Prelude.{slice_index}
-use Rattle.riichi_shape.specs.Special.{AreSpecialForms}
 use Rattle.riichi_shape.specs.Accepted.{without_one}
 use Rattle.riichi_shape.proofs.OneMore.{special_without}
 use Rattle.riichi_shape.proofs.SpecialLemmas.{none_lacked, nothing_lacked}
@@ -14,9 +13,3 @@ returns-then-distance-least c =
     let bound = (c.distance.ensures hand melds c.requires.forms).none_less in
     none_lacked (without_one hand kind) melds c.distance.result c.args.least (special_without hand (without_one hand kind) melds kind c.distance.result (ap length (sym c.remove.ensures.value) ∙ c.remove.ensures.counts.each_kind) c.requires.held refl bound)
     c.if-distance-least.true _ (λ k. nothing_lacked k (slice_index (without_one hand kind) k))
-
-pub returns-else-distance-least : goal.returns-else-distance-least
-returns-else-distance-least c =
-    let hand = c.args.hand.now in
-    let melds = c.args.melds.now in
-    c.lacked_at.ensures (without_one hand c.args.kind) melds (subst (λ (rest : List ℕ). AreSpecialForms rest melds c.new.result) c.remove.ensures.value c.new.ensures) c.requires.least

@@ -1,4 +1,4 @@
-use Rattle.std.proofs.Common.{rules, None, Some}
+use Rattle.std.proofs.Common.{rules, Some}
 use Rattle.riichi_tiles.proofs.Lowest.{IsLowest, lowest_found}
 use Rattle.riichi_tiles.proofs.counts.Counts.lowest.Goals as goal
 
@@ -6,8 +6,3 @@ pub returns-then-lowest-lt34-clause-value : goal.returns-then-lowest-lt34-clause
 returns-then-lowest-lt34-clause-value c =
     let least : IsLowest c.args.self.now (Some c.at.result) = search rules in
     lowest_found c.args.self.now (Some c.at.result) least
-
-pub returns-else-lowest-lt34-clause-value : goal.returns-else-lowest-lt34-clause-value
-returns-else-lowest-lt34-clause-value c =
-    let least : IsLowest c.args.self.now None = search rules in
-    lowest_found c.args.self.now None least

@@ -2,27 +2,12 @@ use Rattle.std.proofs.Common.{◌≡◌, ◌∙◌, sym, ℕ, List}
 use Rattle.riichi_tiles.specs.Notation.{HasFault}
 use Rattle.riichi_tiles.specs.declared.notation.NotationCode.{NotationCode}
 use Rattle.riichi_tiles.proofs.OneFault.{code_is}
-use Rattle.riichi_tiles.proofs.FirstFault.{reading_of_spelled, reading_of_fault}
+use Rattle.riichi_tiles.proofs.FirstFault.{reading_of_spelled}
 use Rattle.riichi_tiles.proofs.notation.reading.read_counts.Goals as goal
 
 -- no two faults have the same place
 one_code : (text : List ℕ) (one other : NotationCode) (place : ℕ) → HasFault text one place → HasFault text other place → one ≡ other
 one_code text one other place has_one has_other = code_is text one place has_one ∙ sym (code_is text other place has_other)
 
-pub returns-in-Err-clause-apart : goal.returns-in-Err-clause-apart
-returns-in-Err-clause-apart c = one_code c.args.text.now
-
-pub returns-in-Ok-clause-apart : goal.returns-in-Ok-clause-apart
-returns-in-Ok-clause-apart c = one_code c.args.text.now
-
 pub returns-in-Ok-clause-only : goal.returns-in-Ok-clause-only
 returns-in-Ok-clause-only c = λ counts spells. sym c.in-Ok.ensures.value ∙ reading_of_spelled c.args.text.now counts spells
-
-pub returns-in-Ok-clause-first : goal.returns-in-Ok-clause-first
-returns-in-Ok-clause-first c = λ fault is_first. sym c.in-Ok.ensures.value ∙ reading_of_fault c.args.text.now fault is_first
-
-pub returns-in-Err-clause-only : goal.returns-in-Err-clause-only
-returns-in-Err-clause-only c = λ counts spells. sym c.in-Err.ensures.value ∙ reading_of_spelled c.args.text.now counts spells
-
-pub returns-in-Err-clause-first : goal.returns-in-Err-clause-first
-returns-in-Err-clause-first c = λ fault is_first. sym c.in-Err.ensures.value ∙ reading_of_fault c.args.text.now fault is_first

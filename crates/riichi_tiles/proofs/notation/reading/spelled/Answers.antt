@@ -1,6 +1,6 @@
 use Rattle.std.proofs.Common.{◌≡◌, ap, ◌∙◌, List, length, slice_index, replicate, refl, zero, suc, ℕ, arith}
 use Rattle.riichi_tiles.specs.Tiles.{IsCounts}
-use Rattle.riichi_tiles.proofs.LastGroups.{spells_nothing, spells_group}
+use Rattle.riichi_tiles.proofs.LastGroups.{spells_nothing}
 use Rattle.riichi_tiles.proofs.notation.reading.spelled.Goals as goal
 
 -- nothing is held of any kind
@@ -19,7 +19,3 @@ are_counts counts is =
 pub loop-end-init : goal.loop-end-init
 loop-end-init c =
     spells_nothing c.args.text.now c.args.counts.now (λ kind. ap (λ t. slice_index t kind) c.requires.none ∙ none 34 kind) (are_counts c.args.counts.now c.requires.none)
-
-pub loop-end-preserved : goal.loop-end-preserved
-loop-end-preserved c =
-    spells_group c.args.text.now c.loop-end.counts c.group_before.new.counts c.in-Some.start c.loop-end.end c.loop-end.invariant c.in-Some.ensures

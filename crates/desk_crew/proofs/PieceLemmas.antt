@@ -1,0 +1,156 @@
+-- Where a text is cut into pieces, and the lines that end in each.
+use Rattle.std.proofs.Common.{◌≡◌, ℕ, ◌+◌, ◌-◌, ◌*◌, ◌<◌, ◌≤◌, min, inl, inr, Option, None, Some, List, [], ◌∷◌, ◌++◌, map, true, cond, length, take, drop, get_or, set, append_assoc, sym, subst, ◌∙◌, ap, arith}
+use Rattle.std.proofs.Math.Seq.{take-add}
+use Rattle.std.specs.Prelude.{◌==◌, MatchOption, IfSome}
+use Rattle.std.proofs.lemmas.List.{append-nil, take_all, take_more_set, take-append-drop, set-get_or, map-append, length-take, length-drop, drop-take, drop-append-le, get_or-drop}
+use Rattle.std.proofs.lemmas.Bool.{cases_lt}
+use Rattle.std.proofs.lemmas.List.Folds.{concat-append}
+use Rattle.std.proofs.lemmas.List.Sums.{sum_by-append}
+use Rattle.std.specs.List.{concat}
+use Rattle.riichi_hand.specs.declared.win.Rules.{Rules}
+use Rattle.riichi_tiles.proofs.CutLemmas.{around}
+use Rattle.desk_lines.specs.declared.report.DeskReport.{DeskReport}
+use Rattle.desk_lines.specs.declared.line_kind.LineKind.{LineKind}
+use Rattle.desk_lines.specs.LineAnswer.{line_kind}
+use Rattle.desk_lines.specs.Lines.{Cut, cut_of, ended_lines, is_plain, without_return}
+use Rattle.desk_lines.specs.Records.{AnswerKind, AreTold}
+use Rattle.desk_lines.specs.Telling.{answers_in, is_answered, is_refused, report_of}
+use Rattle.desk_lines.proofs.CutLemmas.{cut_of-append, cut_of_first, ended_lines-more, plain_rest}
+use Rattle.desk_lines.proofs.FillingLemmas.{cut_of-behind}
+use Rattle.desk_lines.proofs.LineLemmas.{cut_of_plain, plain_before}
+use Rattle.desk_crew.specs.declared.piece.Piece.{Piece}
+use Rattle.desk_crew.specs.Pieces.{AreCounted, HasAnswers, edge, lines_between, both_reports}
+
+-- a text up to a place, and on to another
+up_to : (text : List ℕ) (from to : ℕ) → from ≤ to → take to text ≡ take from text ++ take (to - from) (drop from text)
+up_to text from to order = ap (λ (n : ℕ). take n text) (let same : to ≡ from + (to - from) = omega (arith, order) in same) ∙ take-add from (to - from) text
+
+-- a piece that begins before a place
+pub piece_parts : (text rest : List ℕ) (begin from to : ℕ) → begin ≤ length (take from text) → from ≤ to → to ≤ length text → drop begin (take from text) ≡ rest
+    → take (to - begin) (drop begin text) ≡ rest ++ take (to - from) (drop from text)
+piece_parts text rest begin from to before order within is =
+    let short : begin ≤ from = omega (arith, before, length-take from text) in
+    let same : begin + (to - begin) ≡ to = omega (arith, short, order) in
+    let cut : drop begin (take to text) ≡ take (to - begin) (drop begin text) =
+    ap (λ (n : ℕ). drop begin (take n text)) (sym same) ∙ drop-take begin (to - begin) text in
+    sym cut ∙ ap (drop begin) (up_to text from to order) ∙ drop-append-le begin (take from text) (take (to - from) (drop from text)) before ∙ ap (λ (front : List ℕ). front ++ take (to - from) (drop from text)) is
+
+-- the lines that end between two places follow those before
+pub lines_on : (text : List ℕ) (from to : ℕ) → from ≤ to → ended_lines (take to text) ≡ ended_lines (take from text) ++ lines_between text from to
+lines_on text from to order = ap ended_lines (up_to text from to order) ∙ ended_lines-more (take from text) (take (to - from) (drop from text))
+
+-- ---- answers to more lines
+
+pub AreTold-append : (Answers : AnswerKind) (rules : Rules) (lines more told others : List (List ℕ)) → AreTold Answers rules lines told → AreTold Answers rules more others → AreTold Answers rules (lines ++ more) (told ++ others)
+AreTold-append Answers rules [] more told others are then = subst (λ (front : List (List ℕ)). AreTold Answers rules more (front ++ others)) (sym are) then
+AreTold-append Answers rules (line ∷ lines) more told others are then =
+    (are.0, are.1 ++ others, are.2, ap (λ (front : List (List ℕ)). front ++ others) are.3 ∙ append_assoc (answers_in are.0) are.1 others, AreTold-append Answers rules lines more are.1 others are.4 then)
+
+pub both-append : (kinds others : List LineKind) → report_of (kinds ++ others) ≡ both_reports (report_of kinds) (report_of others)
+both-append kinds others =
+    let answered = sum_by-append (λ kind. cond (is_answered kind) 1 0) kinds others in
+    let refused = sum_by-append (λ kind. cond (is_refused kind) 1 0) kinds others in
+    λ i. record { answered = answered i; refused = refused i }
+
+-- lines and others are counted together
+pub counted-append : (rules : Rules) (lines others : List (List ℕ)) → report_of (map (line_kind rules) (lines ++ others)) ≡ both_reports (report_of (map (line_kind rules) lines)) (report_of (map (line_kind rules) others))
+counted-append rules lines others = ap report_of (map-append (line_kind rules) lines others) ∙ both-append (map (line_kind rules) lines) (map (line_kind rules) others)
+
+pub both-assoc : (one other more : DeskReport) → both_reports (both_reports one other) more ≡ both_reports one (both_reports other more)
+both-assoc one other more =
+    let answered : (one.answered + other.answered) + more.answered ≡ one.answered + (other.answered + more.answered) = omega arith in
+    let refused : (one.refused + other.refused) + more.refused ≡ one.refused + (other.refused + more.refused) = omega arith in
+    λ i. record { answered = answered i; refused = refused i }
+
+pub both-none : (report : DeskReport) → report ≡ both_reports report (record { answered = 0; refused = 0 })
+both-none report =
+    let answered : report.answered ≡ report.answered + 0 = omega arith in
+    let refused : report.refused ≡ report.refused + 0 = omega arith in
+    λ i. record { answered = answered i; refused = refused i }
+
+pub none-both : (report : DeskReport) → report ≡ both_reports (record { answered = 0; refused = 0 }) report
+none-both report =
+    let answered : report.answered ≡ 0 + report.answered = omega arith in
+    let refused : report.refused ≡ 0 + report.refused = omega arith in
+    λ i. record { answered = answered i; refused = refused i }
+
+-- no line ends where a piece has no bytes
+no_lines : (text : List ℕ) (place : ℕ) → lines_between text place place ≡ []
+no_lines text place =
+    let rest = (cut_of (take place text)).rest in
+    let none : place - place ≡ 0 = omega arith in
+    ap (λ (n : ℕ). ended_lines (rest ++ take n (drop place text))) none ∙ ap ended_lines (append-nil rest)
+    ∙ ap (λ (cut : Cut). map without_return cut.ended) (cut_of_plain rest (plain_rest (take place text)))
+
+-- a piece without bytes is answered by nothing
+pub answered_nothing : (May : AnswerKind) (rules : Rules) (text answers : List ℕ) (from to : ℕ) → from ≡ to → answers ≡ [] → AreCounted May rules (lines_between text from to) answers (record { answered = 0; refused = 0 })
+answered_nothing May rules text answers from to same none =
+    let lines : lines_between text from to ≡ [] = ap (λ (n : ℕ). lines_between text n to) same ∙ no_lines text to in
+    record {
+      told = [];
+      are_told = subst (λ (ls : List (List ℕ)). AreTold May rules ls []) (sym lines) (λ i. []);
+      text_is = none;
+      report_is = ap (λ ls. report_of (map (line_kind rules) ls)) (sym lines);
+    }
+
+-- what is taken from a piece answers its lines
+pub taken : (May : AnswerKind) (rules : Rules) (text : List ℕ) (size number : ℕ) (piece : Piece) (result : Option DeskReport) (room : List ℕ) → HasAnswers May rules text size piece → piece.number ≡ number → result ≡ piece.report → room ≡ piece.answers.items
+    → IfSome result (AreCounted May rules (lines_between text (edge text size number) (edge text size (number + 1))) room)
+taken May rules text size number piece result room answered at report answers =
+    by_case result (subst (λ (r : Option DeskReport). MatchOption r (Unit {0}) (AreCounted May rules (lines_between text (edge text size piece.number) (edge text size (piece.number + 1))) piece.answers.items)) (sym report) answered)
+  where
+    by_case : (r : Option DeskReport) → MatchOption r (Unit {0}) (AreCounted May rules (lines_between text (edge text size piece.number) (edge text size (piece.number + 1))) piece.answers.items)
+        → IfSome r (AreCounted May rules (lines_between text (edge text size number) (edge text size (number + 1))) room)
+    by_case None told = tt
+    by_case (Some counted) told =
+        subst (λ (answers : List ℕ). AreCounted May rules (lines_between text (edge text size number) (edge text size (number + 1))) answers counted) (sym answers)
+        (subst (λ (n : ℕ). AreCounted May rules (lines_between text (edge text size n) (edge text size (n + 1))) piece.answers.items counted) at told)
+
+-- a piece that has no report claims nothing
+pub claims_nothing : (May : AnswerKind) (rules : Rules) (text : List ℕ) (size : ℕ) (piece : Piece) → piece.report ≡ None → HasAnswers May rules text size piece
+claims_nothing May rules text size piece none =
+    subst (λ (r : Option DeskReport). MatchOption r (Unit {0}) (AreCounted May rules (lines_between text (edge text size piece.number) (edge text size (piece.number + 1))) piece.answers.items)) (sym none) tt
+
+-- the lines that end in one more piece
+pub lines_to : (text : List ℕ) (size number : ℕ)
+    → ended_lines (take (edge text size (number + 1)) text) ≡ ended_lines (take (edge text size number) text) ++ lines_between text (edge text size number) (edge text size (number + 1))
+lines_to text size number =
+    let product : (number + 1) * size ≡ number * size + size = grind arith in
+    lines_on text (edge text size number) (edge text size (number + 1)) (omega (arith, product))
+
+-- the answers of one more piece
+pub piece_on : (May : AnswerKind) (rules : Rules) (text : List ℕ) (size number : ℕ) (told others : List (List ℕ)) → AreTold May rules (ended_lines (take (edge text size number) text)) told
+    → AreTold May rules (lines_between text (edge text size number) (edge text size (number + 1))) others → AreTold May rules (ended_lines (take (edge text size (number + 1)) text)) (told ++ others)
+piece_on May rules text size number told others are then =
+    subst (λ (ls : List (List ℕ)). AreTold May rules ls (told ++ others)) (sym (lines_to text size number))
+    (AreTold-append May rules (ended_lines (take (edge text size number) text)) (lines_between text (edge text size number) (edge text size (number + 1))) told others are then)
+
+pub both_from : (one other sum : DeskReport) → sum.answered ≡ one.answered + other.answered → sum.refused ≡ one.refused + other.refused → sum ≡ both_reports one other
+both_from one other sum answered refused = λ i. record { answered = answered i; refused = refused i }
+
+pub front_kept : (n : ℕ) (text : List ℕ) → take (min (length text) n) text ≡ take n text
+front_kept n text = elim (cases_lt n (length text)) as (λ _. take (min (length text) n) text ≡ take n text) [
+  | inl long ↦ ap (λ (k : ℕ). take k text) (let same : min (length text) n ≡ n = omega (arith, long) in same)
+  | inr short ↦ take_all (min (length text) n) text (omega (arith, short)) ∙ sym (take_all n text short)
+]
+
+-- ---- rooms one behind another
+
+module _ {X : Type 0} (items : X → List ℕ) where
+  abbrev joined : List X → List ℕ
+  joined rooms = concat (map items rooms)
+
+  -- one more room, which was filled anew
+  pub joined_set : (rooms : List X) (place : ℕ) (room : X) → place < length rooms → joined (take (place + 1) (set rooms place room)) ≡ joined (take place rooms) ++ items room
+  joined_set rooms place room within =
+      ap joined (take_more_set rooms place room within) ∙ ap concat (map-append items (take place rooms) (room ∷ [])) ∙ concat-append (map items (take place rooms)) (items room ∷ [])
+      ∙ ap (λ l. joined (take place rooms) ++ l) (append-nil (items room))
+
+  -- one more room
+  pub joined_next : (rooms : List X) (place : ℕ) (none : X) → place < length rooms → joined (take (place + 1) rooms) ≡ joined (take place rooms) ++ items (get_or rooms place none)
+  joined_next rooms place none within =
+      ap (λ l. joined (take (place + 1) l)) (sym (set-get_or rooms place none)) ∙ joined_set rooms place (get_or rooms place none) within
+
+  -- the rooms behind it follow
+  pub joined_parts : (rooms : List X) (place : ℕ) → joined rooms ≡ joined (take place rooms) ++ joined (drop place rooms)
+  joined_parts rooms place = ap joined (sym (take-append-drop place rooms)) ∙ ap concat (map-append items (take place rooms) (drop place rooms)) ∙ concat-append (map items (take place rooms)) (map items (drop place rooms))

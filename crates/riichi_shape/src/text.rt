@@ -1,0 +1,124 @@
+//! The text of a shape's answer.
+ghost use Rattle.std.specs.Prelude.{ℕ, ◌≡◌, ◌+◌, ◌*◌, ◌<◌, ◌≤◌, ◌++◌, length, slice_index};
+ghost use Rattle.std.specs.List.{flat_map};
+ghost use Rattle.arrayvec.specs.ArrayString.{array_string_len};
+ghost use Rattle.riichi_shape.specs.LiveCopies.{pairs_of};
+ghost use Rattle.riichi_shape.specs.Text as spec;
+
+use crate::accepts::Accepts;
+use crate::discard::Discard;
+use crate::discard_list::DiscardList;
+use crate::live_list::LiveList;
+use crate::shape_answer::ShapeAnswer;
+use arrayvec::ArrayString;
+use riichi_text::{push_kind, push_number};
+use riichi_tiles::KindSet;
+
+/// Each kind as it stands before its live copies, in four bytes.
+const KINDS: &str =
+    " 1m: 2m: 3m: 4m: 5m: 6m: 7m: 8m: 9m: 1p: 2p: 3p: 4p: 5p: 6p: 7p: 8p: 9p: 1s: 2s: 3s: 4s: 5s: 6s: 7s: 8s: 9s: 1z: 2z: 3z: 4z: 5z: 6z: 7z:";
+
+/// A number of live copies is one of these digits.
+const DIGITS: &str = "01234";
+
+/// Writes a kind with its live copies.
+#[inline(always)]
+fn push_pair(text: &mut ArrayString<3072>, kind: usize, live: u8)
+    requires room { array_string_len text.old + 5 ≤ 3072 }
+    requires kind { kind < 34 }
+    requires live { live ≤ 4 }
+    ensures bytes { text.new.bytes ≡ text.old.bytes ++ spec.pair_text (kind, live) }
+    ensures len { array_string_len text.new ≡ array_string_len text.old + 5 }
+{
+    text.push_str(&KINDS[4 * kind..4 * kind + 4]);
+    text.push_str(&DIGITS[live as usize..live as usize + 1]);
+}
+
+/// Writes each kind that has live copies.
+fn push_pairs(text: &mut ArrayString<3072>, copies: &[u8; 34])
+    requires room { array_string_len text.old + 170 ≤ 3072 }
+    requires few { (k : ℕ) → slice_index copies.now k ≤ 4 }
+    ensures bytes { text.new.bytes
+        ≡ text.old.bytes ++ flat_map spec.pair_text (pairs_of copies.now) }
+    ensures len { array_string_len text.new ≤ array_string_len text.old + 170 }
+{
+    let live = KindSet::of(copies);
+    let mut kind = live.first_from(0);
+    while kind < 34 {
+        push_pair(text, kind, copies[kind]);
+        kind = live.first_from(kind + 1);
+    }
+}
+
+/// Writes the kinds of a list, or a dash, and how many tiles are live in all.
+#[tactic(auto, unfolding(crate::specs::Text::list_text))]
+fn push_accepted(text: &mut ArrayString<3072>, list: &LiveList)
+    requires { array_string_len text.old + 194 ≤ 3072 }
+    ensures bytes { text.new.bytes ≡ text.old.bytes ++ spec.list_text list.now }
+    ensures len { array_string_len text.new ≤ array_string_len text.old + 194 }
+{
+    let live = list.live();
+    text.push_str(" accepts");
+    if live == 0 {
+        text.push_str(" -");
+    } else {
+        push_pairs(text, list.copies());
+    }
+    text.push_str(" live ");
+    push_number(text, live);
+}
+
+#[tactic(auto, unfolding(crate::specs::Text::discard_text))]
+fn push_discard(text: &mut ArrayString<3072>, discard: &Discard)
+    requires { array_string_len text.old + 205 ≤ 3072 }
+    ensures bytes { text.new.bytes ≡ text.old.bytes ++ spec.discard_text discard.now }
+    ensures len { array_string_len text.new ≤ array_string_len text.old + 205 }
+{
+    text.push_str(" discard ");
+    push_kind(text, discard.kind);
+    push_accepted(text, &discard.accepted);
+}
+
+#[tactic(auto, using(riichi_text::proofs::Pieces::flat_map_get, riichi_text::proofs::Pieces::some_there))]
+fn push_discards(text: &mut ArrayString<3072>, discards: &DiscardList)
+    requires { array_string_len text.old + 2870 ≤ 3072 }
+    ensures { text.new.bytes ≡ text.old.bytes ++ flat_map spec.discard_text discards.now }
+{
+    for place in 0..discards.len() {
+        if let Some(discard) = discards.get(place) {
+            push_discard(text, &discard);
+        }
+    }
+}
+
+#[tactic(auto, unfolding(crate::specs::Text::accepts_text))]
+fn push_accepts(text: &mut ArrayString<3072>, accepts: &Accepts)
+    requires { array_string_len text.old + 2870 ≤ 3072 }
+    ensures { text.new.bytes ≡ text.old.bytes ++ spec.accepts_text accepts.now }
+{
+    match accepts {
+        Accepts::Thirteen(accepted) => push_accepted(text, accepted),
+        Accepts::Fourteen(discards) => push_discards(text, discards),
+    }
+}
+
+/// The answer on one line, without the line's end.
+pub fn shape_text(answer: &ShapeAnswer) -> ArrayString<3072>
+    ensures { result.bytes ≡ spec.shape_text answer.now }
+{
+    let mut text = ArrayString::new();
+    push_shape(&mut text, answer);
+    text
+}
+
+/// Writes the answer behind a text, without the line's end. A text that is kept need not be made anew
+/// for each answer.
+#[tactic(auto, unfolding(crate::specs::Text::shape_text))]
+pub fn push_shape(text: &mut ArrayString<3072>, answer: &ShapeAnswer)
+    requires { array_string_len text.old + 2890 ≤ 3072 }
+    ensures { text.new.bytes ≡ text.old.bytes ++ spec.shape_text answer.now }
+{
+    text.push_str("shanten ");
+    push_number(text, answer.shanten);
+    push_accepts(text, &answer.accepts);
+}
