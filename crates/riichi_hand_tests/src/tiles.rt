@@ -309,5 +309,11 @@ fn has_something_for_each_suit(rt: HostRuntime) {
     }
     same(&rt, kinds.honours, 7);
     same(&rt, kinds.bamboos, 9);
-    same(&rt, kinds.total(), 34);
+    let numbers = BySuit {
+        characters: 1,
+        circles: 20,
+        bamboos: 300,
+        honours: 4000,
+    };
+    same(&rt, numbers.total(), 4321);
 }
