@@ -1,3 +1,3 @@
 pub mod Additions
 pub mod Tally
-pub mod Told
+pub mod KindWords

@@ -1,10 +1,8 @@
 -- Words on kinds. 0 to 8 are 1m to 9m, 9 to 17 are 1p to 9p, 18 to 26 are 1s to 9s, 27 to 33 are 1z to 7z.
-use Rattle.std.specs.Prelude.{ℕ, ◌/◌, Bool, not, ◌&&◌, ◌||◌, ◌==◌, nat_le, nat_lt, List, [], ◌∷◌}
+use Rattle.std.specs.Prelude.{ℕ, Bool, not, ◌&&◌, ◌||◌, ◌==◌, nat_le, nat_lt, List}
 use Rattle.std.specs.List.{range_with_len}
-pub use Rattle.riichi_tiles.specs.Kinds.{is_honour, is_terminal, is_orphan}
+pub use Rattle.riichi_tiles.specs.Kinds.{is_honour, is_terminal, is_orphan, is_of_suit, number_suits}
 pub use Rattle.riichi_tiles.specs.Tiles.{white, red}
-use Rattle.riichi_tiles.specs.declared.suit.Suit.{Suit}
-use Rattle.riichi_tiles.specs.declared.suit.Suit.TheVariants.{Characters, Circles, Bamboos}
 
 abbrev pub green : ℕ
 green = 32
@@ -26,14 +24,6 @@ dragons = range_with_len 31 3
 -- a 2 to 8 of a suit
 abbrev pub is_simple : ℕ → Bool
 is_simple kind = not (is_orphan kind)
-
--- the suits are 0 for m, 1 for p, 2 for s, 3 for the honours
-abbrev pub is_of_suit : ℕ → ℕ → Bool
-is_of_suit suit kind = kind / 9 == suit
-
--- characters, circles and bamboos, whose tiles have numbers
-abbrev pub number_suits : List Suit
-number_suits = Characters ∷ Circles ∷ Bamboos ∷ []
 
 -- the ranks 0 to 8 are the numbers 1 to 9
 abbrev pub every_rank : List ℕ

@@ -2,7 +2,6 @@ pub mod Kinds
 pub mod Held
 pub mod HandBlocks
 pub mod Tally
-pub mod Told
 pub mod BlockKinds
 pub mod Pairs
 pub mod Waits

@@ -1,6 +1,9 @@
-//! Words on kinds, by their numbers.
+//! Words on kinds, by their numbers, and sets of kinds.
 ghost use Rattle.std.specs.Prelude.{◌≡◌};
 ghost use Rattle.riichi_blocks.specs.Kinds as spec;
+ghost use Rattle.riichi_tiles.specs.HeldKinds.{kinds_where};
+
+use riichi_tiles::{KindSet, Suit};
 
 /// How many kinds there are.
 pub const KINDS: usize = 34;
@@ -31,16 +34,47 @@ pub fn is_dragon(kind: usize) -> bool
     kind >= WHITE
 }
 
-/// Whether the kind is of this suit: 0 for m, 1 for p, 2 for s.
-pub fn is_of_suit(suit: usize, kind: usize) -> bool
-    ensures { result ≡ spec.is_of_suit suit kind }
+/// The 2 to 8 of each suit. The bits of a set are written from 7z down to 1m.
+#[inline(always)]
+#[tactic(auto, unfolding(riichi_tiles::specs::HeldKinds::kinds_where))]
+pub(crate) fn simples() -> KindSet
+    ensures { result ≡ kinds_where spec.is_simple }
 {
-    kind / 9 == suit
+    KindSet::from_bits(0b0000000_011111110_011111110_011111110)
 }
 
-/// One of 2s 3s 4s 6s 8s 6z.
-pub(crate) fn is_green_tile(kind: usize) -> bool
-    ensures { result ≡ spec.is_green_tile kind }
+/// The 1 and the 9 of each suit.
+#[inline(always)]
+#[tactic(auto, unfolding(riichi_tiles::specs::HeldKinds::kinds_where))]
+pub(crate) fn terminals() -> KindSet
+    ensures { result ≡ kinds_where spec.is_terminal }
 {
-    kind == 19 || kind == 20 || kind == 21 || kind == 23 || kind == 25 || kind == GREEN
+    KindSet::from_bits(0b0000000_100000001_100000001_100000001)
+}
+
+/// The terminals and the honours.
+#[inline(always)]
+#[tactic(auto, unfolding(riichi_tiles::specs::HeldKinds::kinds_where))]
+pub(crate) fn orphans() -> KindSet
+    ensures { result ≡ kinds_where spec.is_orphan }
+{
+    KindSet::from_bits(0b1111111_100000001_100000001_100000001)
+}
+
+/// The winds and the dragons.
+#[inline(always)]
+#[tactic(auto, unfolding(riichi_tiles::specs::HeldKinds::kinds_where))]
+pub(crate) fn honours() -> KindSet
+    ensures { result ≡ kinds_where spec.is_honour }
+{
+    KindSet::of_suit(Suit::Honours)
+}
+
+/// 2s 3s 4s 6s 8s 6z.
+#[inline(always)]
+#[tactic(auto, unfolding(riichi_tiles::specs::HeldKinds::kinds_where))]
+pub(crate) fn green_tiles() -> KindSet
+    ensures { result ≡ kinds_where spec.is_green_tile }
+{
+    KindSet::from_bits(0b0100000_010101110_000000000_000000000)
 }

@@ -17,7 +17,6 @@
 mod block_kinds;
 mod blocks;
 mod decided;
-mod green;
 mod hand_block;
 mod held;
 mod joining;
@@ -32,7 +31,7 @@ pub use blocks::Blocks;
 pub use hand_block::HandBlock;
 pub use held::all_tiles;
 pub use joining::{blocks_of, push_blocks};
-pub use kinds::{EAST, GREEN, KINDS, RED, WHITE, is_dragon, is_of_suit, is_wind};
+pub use kinds::{EAST, GREEN, KINDS, RED, WHITE, is_dragon, is_wind};
 pub use pairs::{has_plain_pair, has_prevalent_fu, pair_fu};
 pub use reading_shapes::{is_seven_pairs, is_standard, is_thirteen_orphans};
 pub use tiles::AllTiles;

@@ -47,8 +47,12 @@ fn tells_which_kinds_are_held(rt: HostRuntime) -> Result<(), Fail> {
     let held = KindSet::of(counts.as_array());
     same(&rt, (held.first_from(0), held.first_from(1)), (0, 8));
     same(&rt, (held.first_from(9), held.first_from(34)), (33, 34));
-    holds(&rt, held.has_some(0, 1) && !held.has_some(1, 8));
-    holds(&rt, held.has_some(27, 34) && !held.has_some(34, 34));
+    let [characters, circles, _, honours] = Suit::ALL.map(|suit| KindSet::of_suit(suit));
+    same(&rt, (circles.first_from(0), circles.len()), (9, 9));
+    same(&rt, (honours.first_from(0), honours.len()), (27, 7));
+    holds(&rt, held.is_disjoint(circles) && !held.is_disjoint(honours));
+    holds(&rt, characters.either(honours).is_superset(held));
+    holds(&rt, !characters.is_superset(held));
     Ok(())
 }
 
@@ -282,6 +286,7 @@ fn names_each_kind(rt: HostRuntime) {
     }
     let firsts = Suit::ALL.map(|suit| suit.first());
     same(&rt, firsts, [0, 9, 18, 27]);
+    same(&rt, Suit::NUMBERED.map(|suit| suit.first()), [0, 9, 18]);
     for suit in Suit::ALL {
         let partner = suit.partner();
         holds(

@@ -3,7 +3,7 @@ use crate::split::tiles;
 use riichi_blocks::*;
 use riichi_hand::{By, Job, Rules, WinRecord, Wind, is_ron, read_line};
 use riichi_split::{Reading, Readings};
-use riichi_tiles::{Block, Kind, read_counts};
+use riichi_tiles::{Block, Kind, Suit, read_counts};
 use std::process::Abort;
 use std::test::Fail;
 
@@ -210,13 +210,20 @@ fn looks_at_all_tiles(rt: HostRuntime) {
     );
     holds(
         &rt,
-        all(&rt, b"19p").are_of_suit(1) && !all(&rt, b"19p1z").are_of_suit(1),
+        all(&rt, b"19p").are_of_suit(Suit::Circles)
+            && !all(&rt, b"19p1z").are_of_suit(Suit::Circles),
     );
-    holds(&rt, all(&rt, b"19p1z").are_of_suit_or_honours(1));
-    holds(&rt, !all(&rt, b"1m19p1z").are_of_suit_or_honours(1));
     holds(
         &rt,
-        all(&rt, b"9m1s").has_suit(2) && !all(&rt, b"9m1s").has_suit(1),
+        all(&rt, b"19p1z").are_of_suit_or_honours(Suit::Circles),
+    );
+    holds(
+        &rt,
+        !all(&rt, b"1m19p1z").are_of_suit_or_honours(Suit::Circles),
+    );
+    holds(
+        &rt,
+        all(&rt, b"9m1s").has_suit(Suit::Bamboos) && !all(&rt, b"9m1s").has_suit(Suit::Circles),
     );
     holds(
         &rt,
@@ -231,10 +238,6 @@ fn knows_kinds_waits_and_winners(rt: HostRuntime) -> Result<(), Fail> {
         is_wind(EAST) && is_wind(30) && !is_wind(26) && !is_wind(WHITE),
     );
     holds(&rt, is_dragon(WHITE) && is_dragon(RED) && !is_dragon(30));
-    holds(
-        &rt,
-        is_of_suit(1, 9) && is_of_suit(1, 17) && !is_of_suit(1, 18),
-    );
     same(&rt, KINDS, 34);
     let run = Block::Run(Kind::at(6));
     same(&rt, wait_fu(Kind::at(6), &run), 2);

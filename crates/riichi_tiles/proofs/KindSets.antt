@@ -11,10 +11,18 @@ use Rattle.std.proofs.lemmas.Nat.{one_shl, or_comm, pow_below}
 use Rattle.std.specs.Int.Bits.{or_zero_l}
 use Rattle.std.specs.Int.{bit_at, from_bool}
 use Rattle.std.specs.Int.RustNames.{bit_or, count_ones}
-use Rattle.std.specs.Prelude.{◌==◌, ◌&&◌, ◌||◌, count_by}
+use Rattle.std.specs.Prelude.{◌==◌, ◌&&◌, ◌||◌, ◌-◌, ◌/◌, count_by, not}
+use Rattle.std.specs.Cmp.{both_ways}
+use Rattle.std.proofs.lemmas.Bool.{eqb-true, eq-eqb}
+use Rattle.std.specs.List.{list_all, list_any}
 use Rattle.std.specs.Simd.Lanes.{mask_l}
 use Rattle.riichi_tiles.specs.HeldKinds.{is_held, with_kind, kinds_where}
+use Rattle.riichi_tiles.specs.Kinds.{first_of, kinds_of, is_of_suit}
 use Rattle.riichi_tiles.specs.Melds.{every_kind}
+use Rattle.riichi_tiles.specs.declared.suit.Suit.{Suit}
+use Rattle.riichi_tiles.specs.declared.suit.Suit.TheVariants.{Characters}
+use Rattle.riichi_tiles.proofs.KindBits.{some-held}
+use Rattle.riichi_tiles.proofs.Members.{any-agree, all-from, all-in, in-range}
 
 both_bits : (a b : ℕ) → a < 2 → b < 2 → (min a b == 1) ≡ ((a == 1) && (b == 1))
 both_bits a b low low' = grind (arith, nat_tests)
@@ -147,6 +155,51 @@ counted set few = ap count_ones (sym (where_held set few)) ∙ ones-mask_l (is_h
 
 pub few_counted : (set : ℕ) → set < 2 ^ 34 → count_ones set ≤ 34
 few_counted set few = omega (arith, counted set few, count_by-le-length (is_held set) every_kind)
+
+-- ---- two sets beside each other
+
+pub twice : (b : Bool) → not (not b) ≡ b
+twice true = refl
+twice false = refl
+
+pub apart : (a b : ℕ) → bit_and a b < 2 ^ 34 → (bit_and a b == 0) ≡ not (list_any (λ kind. is_held a kind && is_held b kind) every_kind)
+apart a b few =
+    let both = bit_and a b in
+    let whole : both / 2 ^ 0 % 2 ^ 34 ≡ both = omega (arith, few) in
+    sym (ap not (sym (any-agree (is_held both) (λ kind. is_held a kind && is_held b kind) every_kind (λ kind _. both_at a b kind)) ∙ some-held 34 0 both ∙ ap (λ n. not (n == 0)) whole) ∙ twice (both == 0))
+
+either_kept : (x y : Bool) → (x || y) ≡ x → (x || not y) ≡ true
+either_kept true y e = refl
+either_kept false true e = sym e
+either_kept false false e = refl
+
+kept_either : (x y : Bool) → (x || not y) ≡ true → (x || y) ≡ x
+kept_either true y e = refl
+kept_either false true e = sym e
+kept_either false false e = refl
+
+pub within : (a b : ℕ) → a < 2 ^ 34 → bit_or a b < 2 ^ 34 → (bit_or a b == a) ≡ list_all (λ kind. is_held a kind || not (is_held b kind)) every_kind
+within a b few fits =
+    let kept : ℕ → Bool = λ kind. is_held a kind || not (is_held b kind) in
+    both_ways (bit_or a b == a) (list_all kept every_kind)
+    (λ same. all-from kept every_kind (λ kind _. either_kept (is_held a kind) (is_held b kind) (sym (either_at a b kind) ∙ ap (λ s. is_held s kind) (eqb-true (bit_or a b) a same))))
+    (λ all. eq-eqb (bit_or a b) a (same_members 34 (bit_or a b) a fits few (λ kind inside. either_at a b kind ∙ kept_either (is_held a kind) (is_held b kind) (all-in kept every_kind all kind (in-range 34 0 kind (omega arith) inside)))))
+
+pub either_where : (test other : ℕ → Bool) → bit_or (kinds_where test) (kinds_where other) ≡ kinds_where (λ kind. test kind || other kind)
+either_where test other = same_set (bit_or (kinds_where test) (kinds_where other)) (kinds_where (λ kind. test kind || other kind)) (λ kind. either_at (kinds_where test) (kinds_where other) kind ∙ elim (cases_lt kind 34) [
+  | inl low ↦ rw (where_at test kind low, where_at other kind low) (sym (where_at (λ kind. test kind || other kind) kind low))
+  | inr past ↦ rw (where_past test kind past, where_past other kind past) (sym (where_past (λ kind. test kind || other kind) kind past))
+])
+
+-- the kinds of a suit
+pub suit_bits : (suit : Suit) → (1 * 2 ^ kinds_of suit % 2 ^ 64 - 1) * 2 ^ first_of suit % 2 ^ 64 ≡ kinds_where (is_of_suit suit)
+unfolding kinds_where
+suit_bits Characters = refl
+suit_bits other = refl
+
+pub suit_shifts : (suit : Suit) → (kinds_of suit < 64) × (first_of suit < 64) × (1 ≤ 1 * 2 ^ kinds_of suit % 2 ^ 64)
+suit_shifts Characters = (omega arith, omega arith, omega arith)
+suit_shifts other = (omega arith, omega arith, omega arith)
 
 -- what a kind more does, for loops that fill a set
 pub ruleset kind_sets = (none_at, with_kind_same, with_kind_other)

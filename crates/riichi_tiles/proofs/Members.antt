@@ -1,5 +1,5 @@
 -- What stands in a list that is made of others, by recursion, and what std's words say of it.
-use Rattle.std.proofs.Common.{◌∙◌, ◌≤◌, ◌+◌, Bool, true, false, flat_map, ◌≡◌, ℕ, zero, suc, ◌<◌, ◌⊎◌, inl, inr, List, [], ◌∷◌, ◌++◌, length, get_or, map, filter, cond, refl, sym, ap, subst, arith, All, Contains}
+use Rattle.std.proofs.Common.{◌∙◌, ◌≤◌, ◌+◌, ◌||◌, ◌&&◌, Bool, true, false, flat_map, ◌≡◌, ℕ, zero, suc, ◌<◌, ◌⊎◌, inl, inr, List, [], ◌∷◌, ◌++◌, length, get_or, map, filter, cond, refl, sym, ap, subst, arith, All, Contains}
 use Rattle.std.specs.List.{list_all, list_any, range_with_len}
 use Rattle.std.proofs.lemmas.Bool.{and_from, and_parts, false≢true, or_cases, or_left, or_right, or_parts, cases_eq}
 
@@ -118,6 +118,16 @@ module _ {X : Type 0} (p : X → Bool) where
   none-in [] h x i = absurd i
   none-in (y ∷ ys) h x (inl e) = ap p (sym e) ∙ (or_parts (p y) (list_any p ys) h).0
   none-in (y ∷ ys) h x (inr i) = none-in ys (or_parts (p y) (list_any p ys) h).1 x i
+
+-- two tests that agree on each element
+module _ {X : Type 0} (p q : X → Bool) where
+  pub any-agree : (xs : List X) → ((x : X) → IsIn x xs → p x ≡ q x) → list_any p xs ≡ list_any q xs
+  any-agree [] each = refl
+  any-agree (x ∷ xs) each = ap (λ b. b || list_any p xs) (each x (inl refl)) ∙ ap (λ b. q x || b) (any-agree xs (λ y i. each y (inr i)))
+
+  pub all-agree : (xs : List X) → ((x : X) → IsIn x xs → p x ≡ q x) → list_all p xs ≡ list_all q xs
+  all-agree [] each = refl
+  all-agree (x ∷ xs) each = ap (λ b. b && list_all p xs) (each x (inl refl)) ∙ ap (λ b. q x && b) (all-agree xs (λ y i. each y (inr i)))
 
 -- ---- the numbers of a range
 

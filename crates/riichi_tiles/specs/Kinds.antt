@@ -1,7 +1,7 @@
 -- The words of a kind: its suit, its rank, and what it may be.
 -- A kind is a number below 34: 0 to 8 are 1m to 9m (characters), 9 to 17 are 1p to 9p (circles), 18 to 26 are 1s to 9s
 -- (bamboos), 27 to 33 are 1z to 7z (honours): East, South, West, North, White, Green, Red.
-use Rattle.std.specs.Prelude.{◌==◌, ◌&&◌, ◌||◌, ℕ, ◌+◌, ◌-◌, ◌<◌, ◌≤◌, ◌%◌, Bool, nat_le, nat_lt, if◌then◌else◌}
+use Rattle.std.specs.Prelude.{◌==◌, ◌&&◌, ◌||◌, ℕ, ◌+◌, ◌-◌, ◌<◌, ◌≤◌, ◌%◌, Bool, nat_le, nat_lt, if◌then◌else◌, List, [], ◌∷◌}
 use Rattle.riichi_tiles.specs.declared.suit.Suit.{Suit}
 use Rattle.riichi_tiles.specs.declared.suit.Suit.TheVariants.{Characters, Circles, Bamboos, Honours}
 
@@ -21,11 +21,18 @@ kinds_of Circles = 9
 kinds_of Bamboos = 9
 kinds_of Honours = 7
 
+-- the three whose tiles have numbers
+abbrev pub number_suits : List Suit
+number_suits = Characters ∷ Circles ∷ Bamboos ∷ []
+
 -- a suit of nine kinds has runs
 abbrev pub has_runs : Suit → Bool
 has_runs suit = kinds_of suit == 9
 
--- a kind of the suit
+-- a kind of the suit: as a test, and as a fact
+abbrev pub is_of_suit : Suit → ℕ → Bool
+is_of_suit suit kind = nat_le (first_of suit) kind && nat_lt kind (first_of suit + kinds_of suit)
+
 pub record IsOfSuit (suit : Suit) (kind : ℕ) : Type 0 where
   pub low : first_of suit ≤ kind
   pub high : kind < first_of suit + kinds_of suit

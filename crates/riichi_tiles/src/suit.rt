@@ -31,6 +31,9 @@ impl Suit {
         Suit::Honours,
     ];
 
+    /// The three whose tiles have numbers.
+    pub const NUMBERED: [Suit; 3] = [Suit::Characters, Suit::Circles, Suit::Bamboos];
+
     /// The number of its first kind.
     pub fn first(self) -> usize
         ensures { result ≡ first_of self }

@@ -2,6 +2,7 @@
 use Rattle.std.specs.Prelude.{ℕ, Bool, not, ◌&&◌, ◌==◌, nat_le, List, length, count_by, slice_index, if◌then◌else◌}
 use Rattle.std.specs.List.{list_any, list_all, range_with_len}
 use Rattle.riichi_tiles.specs.Melds.{every_kind}
+use Rattle.riichi_tiles.specs.declared.suit.Suit.{Suit}
 use Rattle.riichi_hand.specs.declared.win.WinParts.{WinParts}
 use Rattle.riichi_split.specs.declared.reading.Reading.{Reading}
 use Rattle.riichi_blocks.specs.declared.hand_block.HandBlock.{HandBlock}
@@ -9,23 +10,23 @@ use Rattle.riichi_blocks.specs.HandBlocks.{is_standard, is_thirteen_orphans, is_
 use Rattle.riichi_hand.specs.Win.{is_dealer, is_ron}
 use Rattle.riichi_yaku.specs.Honours.{has_triplets, is_last_wind}
 use Rattle.riichi_blocks.specs.Held.{every}
-use Rattle.riichi_blocks.specs.Kinds.{winds, dragons, is_honour, is_terminal, is_of_suit, is_green_tile}
+use Rattle.riichi_blocks.specs.Kinds.{winds, dragons, is_honour, is_terminal, is_of_suit, is_green_tile, number_suits}
 
 -- the copies that nine gates has at least: three 1, three 9 and one of each 2 to 8, whatever the wait
-abbrev pub gate_copies : ℕ → ℕ → ℕ
+abbrev pub gate_copies : Suit → ℕ → ℕ
 gate_copies suit kind = if is_of_suit suit kind then (if is_terminal kind then 3 else 1) else 0
 
 -- at least three 1, three 9 and one of each 2 to 8 of this suit
-abbrev pub has_gates : List ℕ → ℕ → Bool
+abbrev pub has_gates : List ℕ → Suit → Bool
 has_gates tiles suit = list_all (λ kind. nat_le (gate_copies suit kind) (slice_index tiles kind)) every_kind
 
 -- every tile of this suit, with the gates
-abbrev pub has_suit_with_gates : List ℕ → ℕ → Bool
+abbrev pub has_suit_with_gates : List ℕ → Suit → Bool
 has_suit_with_gates tiles suit = every (is_of_suit suit) tiles && has_gates tiles suit
 
 -- 30: a standard reading and no meld; every tile of one suit; at least three 1, three 9 and one of each 2 to 8, whatever the wait
 abbrev pub is_nine_gates : Reading → List ℕ → WinParts → Bool
-is_nine_gates reading tiles parts = is_standard reading && (length parts.melds == 0) && list_any (has_suit_with_gates tiles) (range_with_len 0 3)
+is_nine_gates reading tiles parts = is_standard reading && (length parts.melds == 0) && list_any (has_suit_with_gates tiles) number_suits
 
 -- 31: four concealed triplets
 abbrev pub is_four_concealed_pungs : List HandBlock → Bool

@@ -58,7 +58,9 @@ fn has_run_in_each_suit(blocks: &Blocks, rank: usize) -> bool
     requires { rank < 9 }
     ensures { result ≡ spec.has_run_in_each_suit blocks.now rank }
 {
-    blocks.has_run(rank) && blocks.has_run(9 + rank) && blocks.has_run(18 + rank)
+    Suit::NUMBERED
+        .iter()
+        .all(|suit| blocks.has_run(suit.first() + rank))
 }
 
 pub(crate) fn is_mixed_triple_chow(blocks: &Blocks) -> bool
@@ -69,7 +71,6 @@ pub(crate) fn is_mixed_triple_chow(blocks: &Blocks) -> bool
 }
 
 fn has_straight(blocks: &Blocks, suit: Suit) -> bool
-    requires { first_of suit ≤ 18 }
     ensures { result ≡ spec.has_straight blocks.now suit }
 {
     let first = suit.first();
@@ -79,7 +80,7 @@ fn has_straight(blocks: &Blocks, suit: Suit) -> bool
 pub(crate) fn is_pure_straight(blocks: &Blocks) -> bool
     ensures { result ≡ spec.is_pure_straight blocks.now }
 {
-    has_straight(blocks, Suit::Characters)
-        || has_straight(blocks, Suit::Circles)
-        || has_straight(blocks, Suit::Bamboos)
+    Suit::NUMBERED
+        .iter()
+        .any(|suit| has_straight(blocks, *suit))
 }

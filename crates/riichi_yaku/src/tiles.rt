@@ -1,10 +1,11 @@
 //! The yaku of every tile of the hand, by the count of each kind.
-ghost use Rattle.std.specs.Prelude.{◌≡◌, ◌<◌};
+ghost use Rattle.std.specs.Prelude.{◌≡◌};
 ghost use Rattle.riichi_yaku.specs.Tiles as spec;
 
 use riichi_blocks::{AllTiles, is_thirteen_orphans};
 use riichi_hand::{Switch, WinRecord};
 use riichi_split::Reading;
+use riichi_tiles::Suit;
 
 pub(crate) fn is_all_simples(reading: &Reading, tiles: &AllTiles, win: &WinRecord) -> bool
     ensures { result ≡ spec.is_all_simples reading.now tiles.now win.now }
@@ -24,8 +25,7 @@ pub(crate) fn is_all_terminals_and_honours(reading: &Reading, tiles: &AllTiles) 
     !is_thirteen_orphans(reading) && tiles.are_orphans()
 }
 
-fn has_suit_alone(tiles: &AllTiles, suit: usize) -> bool
-    requires { suit < 3 }
+fn has_suit_alone(tiles: &AllTiles, suit: Suit) -> bool
     ensures { result ≡ spec.has_suit_alone tiles.now suit }
 {
     tiles.are_of_suit_or_honours(suit) && tiles.has_suit(suit)
@@ -34,7 +34,9 @@ fn has_suit_alone(tiles: &AllTiles, suit: usize) -> bool
 fn has_one_suit(tiles: &AllTiles) -> bool
     ensures { result ≡ spec.has_one_suit tiles.now }
 {
-    (0..3).any(|suit| has_suit_alone(tiles, suit))
+    Suit::NUMBERED
+        .iter()
+        .any(|suit| has_suit_alone(tiles, *suit))
 }
 
 pub(crate) fn is_half_flush(reading: &Reading, tiles: &AllTiles) -> bool
@@ -46,7 +48,7 @@ pub(crate) fn is_half_flush(reading: &Reading, tiles: &AllTiles) -> bool
 fn are_of_one_suit(tiles: &AllTiles) -> bool
     ensures { result ≡ spec.are_of_one_suit tiles.now }
 {
-    (0..3).any(|suit| tiles.are_of_suit(suit))
+    Suit::NUMBERED.iter().any(|suit| tiles.are_of_suit(*suit))
 }
 
 pub(crate) fn is_full_flush(reading: &Reading, tiles: &AllTiles) -> bool

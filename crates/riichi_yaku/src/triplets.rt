@@ -3,12 +3,15 @@ ghost use Rattle.std.specs.Prelude.{◌≡◌, ◌<◌};
 ghost use Rattle.riichi_yaku.specs.Triplets as spec;
 
 use riichi_blocks::Blocks;
+use riichi_tiles::Suit;
 
 fn has_triplet_in_each_suit(blocks: &Blocks, rank: usize) -> bool
     requires { rank < 9 }
     ensures { result ≡ spec.has_triplet_in_each_suit blocks.now rank }
 {
-    blocks.has_triplet(rank) && blocks.has_triplet(9 + rank) && blocks.has_triplet(18 + rank)
+    Suit::NUMBERED
+        .iter()
+        .all(|suit| blocks.has_triplet(suit.first() + rank))
 }
 
 pub(crate) fn is_triple_pung(blocks: &Blocks) -> bool

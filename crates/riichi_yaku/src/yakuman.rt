@@ -1,19 +1,21 @@
 //! The yakuman.
-ghost use Rattle.std.specs.Prelude.{◌≡◌, ◌<◌, ◌==◌, length};
-ghost use Rattle.std.specs.List.{list_any, range_with_len};
+ghost use Rattle.std.specs.Prelude.{◌≡◌, ◌==◌, length};
+ghost use Rattle.std.specs.List.{list_any};
+ghost use Rattle.riichi_tiles.specs.Kinds.{number_suits};
 ghost use Rattle.riichi_yaku.specs.Yakuman as spec;
 
 use crate::honours::{has_dragon_triplets, has_wind_triplets, is_last_wind};
-use riichi_blocks::{AllTiles, Blocks, EAST, KINDS, is_of_suit, is_standard, is_thirteen_orphans};
+use riichi_blocks::{AllTiles, Blocks, EAST, KINDS, is_standard, is_thirteen_orphans};
 use riichi_hand::{WinRecord, is_ron};
 use riichi_split::Reading;
-use riichi_tiles::Kind;
+use riichi_tiles::{Kind, KindSet, Suit};
 
 /// How many of a kind nine gates has at least.
-fn gate_copies(suit: usize, kind: Kind) -> u8
+#[tactic(auto, using(riichi_tiles::proofs::KindSets::where_at))]
+fn gate_copies(suit: Suit, kind: Kind) -> u8
     ensures { result ≡ spec.gate_copies suit kind }
 {
-    if !is_of_suit(suit, kind.index()) {
+    if !KindSet::of_suit(suit).contains(kind) {
         0
     } else if kind.is_terminal() {
         3
@@ -22,23 +24,24 @@ fn gate_copies(suit: usize, kind: Kind) -> u8
     }
 }
 
-fn has_gates(counts: &[u8; 34], suit: usize) -> bool
+fn has_gates(counts: &[u8; 34], suit: Suit) -> bool
     ensures { result ≡ spec.has_gates counts.now suit }
 {
     (0..KINDS).all(|kind| counts[kind] >= gate_copies(suit, Kind::at(kind as u8)))
 }
 
-fn has_suit_with_gates(tiles: &AllTiles, suit: usize) -> bool
-    requires { suit < 3 }
+fn has_suit_with_gates(tiles: &AllTiles, suit: Suit) -> bool
     ensures { result ≡ spec.has_suit_with_gates tiles.now suit }
 {
     tiles.are_of_suit(suit) && has_gates(tiles.counts(), suit)
 }
 
 fn has_all_gates(tiles: &AllTiles) -> bool
-    ensures { result ≡ list_any (spec.has_suit_with_gates tiles.now) (range_with_len 0 3) }
+    ensures { result ≡ list_any (spec.has_suit_with_gates tiles.now) number_suits }
 {
-    (0..3).any(|suit| has_suit_with_gates(tiles, suit))
+    Suit::NUMBERED
+        .iter()
+        .any(|suit| has_suit_with_gates(tiles, *suit))
 }
 
 fn has_no_meld(win: &WinRecord) -> bool
