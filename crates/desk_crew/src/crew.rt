@@ -1,10 +1,10 @@
 //! The threads that answer a stream, and what they keep from round to round.
-ghost use Rattle.std.specs.Prelude.{◌≡◌, ◌+◌, ◌<◌, ◌≤◌, ◌++◌, ℕ, List, [], None, length, IfOk, IfErr, OnOk};
+ghost use Rattle.std.specs.Prelude.{◌≡◌, ◌+◌, ◌<◌, ◌≤◌, ◌++◌, ℕ, List, [], None, length, max, min, IfOk, IfErr, OnOk};
 ghost use Rattle.desk_lines.specs.Lines.{ended_lines, lines};
 ghost use Rattle.desk_lines.specs.Reading.{AreToldAs, kept, with_end};
 ghost use Rattle.desk_lines.specs.Streams.{GivesAll, IsReadWithin, Writes};
 ghost use Rattle.desk_lines.specs.Telling.{report_of};
-ghost use Rattle.desk_crew.specs.Crew.{Stands, Waits, Stopped, IsAnswered, IsAhead, IsBetween, IsGivenUp, IsLeft};
+ghost use Rattle.desk_crew.specs.Crew.{workers_of, Stands, Waits, Stopped, IsAnswered, IsAhead, IsBetween, IsGivenUp, IsLeft};
 ghost use Rattle.desk_crew.specs.Pieces.{answers_in_rooms};
 ghost use Rattle.desk_crew.specs.Reading.{AreMoved, FindsEnd, IsStoppedBy, IsStuck};
 
@@ -46,13 +46,17 @@ pub struct Crew {
 
 impl Crew {
     /// 1 to 16 threads; another number stands for the nearest of these.
-    pub fn new(alloc: Global, workers: usize) -> Result<Crew, AllocError> {
+    pub fn new(alloc: Global, workers: usize) -> Result<Crew, AllocError>
+        ensures { IfOk result (λ crew. workers_of crew ≡ max 1 (min workers 16)) }
+    {
         let workers = workers.clamp(1, MOST_WORKERS);
         Crew::of(alloc, workers, round_bytes(workers))
     }
 
     /// The same for objects of JSON, which are several times as long as answers in words: a round is a fourth as long.
-    pub fn for_objects(alloc: Global, workers: usize) -> Result<Crew, AllocError> {
+    pub fn for_objects(alloc: Global, workers: usize) -> Result<Crew, AllocError>
+        ensures { IfOk result (λ crew. workers_of crew ≡ max 1 (min workers 16)) }
+    {
         let workers = workers.clamp(1, MOST_WORKERS);
         Crew::of(alloc, workers, round_bytes(workers) / 4)
     }
@@ -60,6 +64,7 @@ impl Crew {
     /// So many threads, and rounds of so many bytes or more.
     pub(crate) fn of(alloc: Global, workers: usize, enough: usize) -> Result<Crew, AllocError>
         requires { 1 ≤ workers }
+        ensures { IfOk result (λ crew. workers_of crew ≡ workers) }
     {
         let mut shares = Vec::new(alloc);
         while shares.len() < workers {

@@ -132,10 +132,10 @@ fn failures(rt: HostRuntime) -> Result<(), Fail> {
 /// As JSON.
 #[test]
 fn objects(rt: HostRuntime) -> Result<(), Fail> {
-    for few in [true, false] {
+    for of_objects in [true, false] {
         let mut reader = BytesIn::new(b"waits 1112345678999m\nwaits 8z\n", 10, None);
         let mut writer: Room = BytesOut::new(1_000, None);
-        let mut crew = if few {
+        let mut crew = if of_objects {
             Crew::for_objects(rt.alloc(), 40)?
         } else {
             Crew::new(rt.alloc(), 40)?
@@ -150,8 +150,8 @@ fn objects(rt: HostRuntime) -> Result<(), Fail> {
             answered: 1,
             refused: 1,
         };
-        holds_in(&rt, &few, report == Ok(both));
-        holds_in(&rt, &few, writer.bytes().starts_with(b"{"));
+        holds_in(&rt, &of_objects, report == Ok(both));
+        holds_in(&rt, &of_objects, writer.bytes().starts_with(b"{"));
     }
     Ok(())
 }

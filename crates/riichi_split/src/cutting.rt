@@ -1,6 +1,5 @@
 //! One way to cut tiles into sets, by a number that makes the choices.
 ghost use Rattle.std.specs.Prelude.{◌≡◌, ℕ, ◌+◌, ◌<◌, ◌≤◌, ◌++◌, drop, length, replicate, slice_index};
-ghost use Rattle.riichi_tiles.specs.Kinds.{begins_run};
 ghost use Rattle.riichi_split.specs.Cuts.{may_have_runs, begins, choice_of, begun, cut_from, HoldsAtMost};
 
 use crate::sets::Sets;
@@ -14,18 +13,14 @@ pub(crate) struct Choice {
     pub(crate) choices: usize,
 }
 
-fn may_begin_run(kind: usize) -> bool
-    ensures { result ≡ begins_run kind }
-{
-    kind < 7 || kind >= 9 && kind < 16 || kind >= 18 && kind < 25
-}
-
 /// So many sets, where that many are wanted and runs may begin at the kind.
 fn begins(kind: usize, left: usize, choice: Choice) -> Option<Choice>
-    requires { choice.triplets + choice.runs < 512 }
+    requires kind { kind < 34 }
+    requires few { choice.triplets + choice.runs < 512 }
     ensures { result ≡ begins kind left choice.triplets choice.runs choice.choices }
 {
-    if left < choice.triplets + choice.runs || choice.runs > 0 && !may_begin_run(kind) {
+    let kind = Kind::at(kind as u8);
+    if left < choice.triplets + choice.runs || choice.runs > 0 && !kind.begins_run() {
         None
     } else {
         Some(choice)
