@@ -1,5 +1,5 @@
 -- How far a stream is answered.
-use Rattle.std.specs.Prelude.{◌≡◌, ℕ, List, ◌++◌, length}
+use Rattle.std.specs.Prelude.{◌≡◌, ℕ, List, ◌++◌}
 use Rattle.riichi_hand.specs.declared.win.Rules.{Rules}
 use Rattle.desk_lines.specs.declared.fault.DeskFault.{DeskFault}
 use Rattle.desk_lines.specs.declared.fault.DeskFault.TheVariants.{Read, Write, Memory}
@@ -13,12 +13,7 @@ use Rattle.desk_lines.specs.Told.{Stops}
 use Rattle.desk_lines.specs.Telling.{text_of}
 use Rattle.desk_io.specs.declared.sink.Sink.{Ghosts as OfSink}
 use Rattle.desk_io.specs.declared.source.Source.{Ghosts as OfSource}
-use Rattle.desk_crew.specs.declared.crew.Crew.{Crew}
 use Rattle.desk_crew.specs.declared.standing.Standing.{Standing}
-
--- how many threads a crew has
-abbrev pub workers_of : Crew → ℕ
-workers_of crew = length crew.shares.items
 
 -- These lines are answered, the answers written and counted.
 pub record IsAnswered {W : Type 0} (May : AnswerKind) (sink : OfSink W) (start new : W) (given : Rules) (lines : List (List ℕ)) (report : DeskReport) : Type 0 where

@@ -4,7 +4,7 @@ ghost use Rattle.desk_lines.specs.Lines.{ended_lines, lines};
 ghost use Rattle.desk_lines.specs.Reading.{AreToldAs, kept, with_end};
 ghost use Rattle.desk_lines.specs.Streams.{GivesAll, IsReadWithin, Writes};
 ghost use Rattle.desk_lines.specs.Telling.{report_of};
-ghost use Rattle.desk_crew.specs.Crew.{workers_of, Stands, Waits, Stopped, IsAnswered, IsAhead, IsBetween, IsGivenUp, IsLeft};
+ghost use Rattle.desk_crew.specs.Crew.{Stands, Waits, Stopped, IsAnswered, IsAhead, IsBetween, IsGivenUp, IsLeft};
 ghost use Rattle.desk_crew.specs.Pieces.{answers_in_rooms};
 ghost use Rattle.desk_crew.specs.Reading.{AreMoved, FindsEnd, IsStoppedBy, IsStuck};
 
@@ -47,7 +47,7 @@ pub struct Crew {
 impl Crew {
     /// 1 to 16 threads; another number stands for the nearest of these.
     pub fn new(alloc: Global, workers: usize) -> Result<Crew, AllocError>
-        ensures workers { IfOk result (λ crew. workers_of crew ≡ max 1 (min workers 16)) }
+        ensures workers { IfOk result (λ crew. length crew.shares.items ≡ max 1 (min workers 16)) }
     {
         let workers = workers.clamp(1, MOST_WORKERS);
         Crew::of(alloc, workers, round_bytes(workers))
@@ -55,7 +55,7 @@ impl Crew {
 
     /// The same for objects of JSON, which are several times as long as answers in words: a round is a fourth as long.
     pub fn for_objects(alloc: Global, workers: usize) -> Result<Crew, AllocError>
-        ensures workers { IfOk result (λ crew. workers_of crew ≡ max 1 (min workers 16)) }
+        ensures workers { IfOk result (λ crew. length crew.shares.items ≡ max 1 (min workers 16)) }
     {
         let workers = workers.clamp(1, MOST_WORKERS);
         Crew::of(alloc, workers, round_bytes(workers) / 4)
@@ -64,7 +64,7 @@ impl Crew {
     /// So many threads, and rounds of so many bytes or more.
     pub(crate) fn of(alloc: Global, workers: usize, enough: usize) -> Result<Crew, AllocError>
         requires { 1 ≤ workers }
-        ensures workers { IfOk result (λ crew. workers_of crew ≡ workers) }
+        ensures workers { IfOk result (λ crew. length crew.shares.items ≡ workers) }
     {
         let mut shares = Vec::new(alloc);
         while shares.len() < workers {
