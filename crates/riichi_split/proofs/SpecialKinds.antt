@@ -70,5 +70,3 @@ adds_both c old middle marks pairs orphans = record {
     ],
   );
 }
-
-pub ruleset single_of_facts = (none_completed, single_completed)

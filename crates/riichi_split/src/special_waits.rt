@@ -17,7 +17,6 @@ pub(crate) fn mark_special_waits(tiles: &Counts, marks: &mut KindSet)
 }
 
 /// Marks the kind that completes seven pairs, if one does.
-#[tactic(auto, using(crate::proofs::KindMarks::adds_none, crate::proofs::KindMarks::adds_one))]
 fn mark_pair_wait(tiles: &Counts, marks: &mut KindSet)
     ensures { spec.Adds (spec.CompletesPairs tiles.now) 34 marks.old marks.new }
 {
@@ -28,7 +27,6 @@ fn mark_pair_wait(tiles: &Counts, marks: &mut KindSet)
 }
 
 /// Marks the kinds that complete the orphans: the one that is lacking, or each where none is.
-#[tactic(auto, using(crate::proofs::KindMarks::adds_none, crate::proofs::SpecialKinds::orphans_alone))]
 fn mark_orphan_waits(tiles: &Counts, marks: &mut KindSet)
     ensures { spec.Adds (spec.CompletesOrphans tiles.now) 34 marks.old marks.new }
 {
@@ -69,7 +67,6 @@ fn mark_orphans(marks: &mut KindSet)
 }
 
 /// The only kind of which neither none nor two are held, or 34: no other kind completes seven pairs.
-#[tactic(auto, using(crate::proofs::SpecialKinds::single_of_facts))]
 fn single_of(counts: &[u8; 34]) -> u8
     ensures only { (kind : ℕ) → kind < 34 → spec.CompletesPairs counts.now kind
         → kind ≡ result }
@@ -133,7 +130,6 @@ fn are_orphans_alone(counts: &[u8; 34]) -> bool
 }
 
 /// Whether one more of a kind makes seven pairs.
-#[tactic(auto, using(crate::proofs::SpecialKinds::fifth_completes_none))]
 fn completes_pairs(tiles: &Counts, kind: Kind) -> bool
     ensures { IsTrue result ↔ spec.CompletesPairs tiles.now kind }
 {
@@ -146,7 +142,6 @@ fn completes_pairs(tiles: &Counts, kind: Kind) -> bool
 }
 
 /// Whether one more of a kind makes the orphans.
-#[tactic(auto, using(crate::proofs::SpecialKinds::fifth_completes_none))]
 fn completes_orphans(tiles: &Counts, kind: Kind) -> bool
     ensures { IsTrue result ↔ spec.CompletesOrphans tiles.now kind }
 {
