@@ -1,6 +1,8 @@
 -- The lines of a stream once those of one more round are answered.
-use Rattle.std.proofs.Common.{◌≡◌, ℕ, inl, inr, List, [], ◌∷◌, ◌++◌, map, cond, Option, Some, None, refl, sym, subst, ◌∙◌, ap}
-use Rattle.std.proofs.lemmas.List.{append-nil}
+use Rattle.std.proofs.Common.{◌≡◌, ℕ, ◌<◌, length, arith, inl, inr, List, [], ◌∷◌, ◌++◌, map, cond, Option, Some, None, refl, sym, subst, ◌∙◌, ap}
+use Rattle.std.proofs.lemmas.List.{append-nil, with_items_is}
+use Rattle.std.specs.Global.{Vec}
+use Rattle.std.specs.Vec.{with_items}
 use Rattle.std.specs.Prelude.{is_some, unwrap_or, IfSome}
 use Rattle.riichi_hand.specs.declared.win.Rules.{Rules}
 use Rattle.desk_lines.specs.declared.fault.DeskFault.{DeskFault}
@@ -189,3 +191,7 @@ module _ {W : Type 0} (Answers : AnswerKind) (sink : OfSink W) (start : W) (give
   -- memory was wanted after these lines
   pub Stopped-memory : (lines more : List (List ℕ)) (now : Standing) (writer : W) → Stands Answers sink start given lines now writer → Stopped Answers sink start writer given (lines ++ more) Memory
   Stopped-memory lines more now writer stands = record { first = lines; others = more; parts = refl; told = stands.answered.told; are_told = stands.answered.are_told; stops = stands.answered.writes }
+
+-- there are as many shares after a round as before
+pub still_some : {X : Type 0} (shares : Vec X) (others : List X) → length others ≡ shares.len → 0 < shares.len → 0 < length (with_items shares others).items
+still_some shares others same some = omega (arith, ap length (with_items_is shares others same), same, some)

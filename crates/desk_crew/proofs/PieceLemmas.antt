@@ -1,23 +1,21 @@
 -- Where a text is cut into pieces, and the lines that end in each.
-use Rattle.std.proofs.Common.{◌≡◌, ℕ, ◌+◌, ◌-◌, ◌*◌, ◌<◌, ◌≤◌, min, inl, inr, Option, None, Some, List, [], ◌∷◌, ◌++◌, map, true, cond, length, take, drop, get_or, set, append_assoc, sym, subst, ◌∙◌, ap, arith}
+use Rattle.std.proofs.Common.{◌≡◌, ℕ, ◌+◌, ◌-◌, ◌*◌, ◌<◌, ◌≤◌, min, inl, inr, Option, None, Some, List, [], ◌∷◌, ◌++◌, map, cond, length, take, drop, get_or, set, append_assoc, sym, subst, ◌∙◌, ap, arith}
 use Rattle.std.proofs.Math.Seq.{take-add}
-use Rattle.std.specs.Prelude.{◌==◌, MatchOption, IfSome}
-use Rattle.std.proofs.lemmas.List.{append-nil, take_all, take_more_set, take-append-drop, set-get_or, map-append, length-take, length-drop, drop-take, drop-append-le, get_or-drop}
+use Rattle.std.specs.Prelude.{MatchOption, IfSome}
+use Rattle.std.proofs.lemmas.List.{append-nil, take_all, take_more_set, take-append-drop, set-get_or, map-append, length-take, drop-take, drop-append-le}
 use Rattle.std.proofs.lemmas.Bool.{cases_lt}
 use Rattle.std.proofs.lemmas.List.Folds.{concat-append}
 use Rattle.std.proofs.lemmas.List.Sums.{sum_by-append}
 use Rattle.std.specs.List.{concat}
 use Rattle.riichi_hand.specs.declared.win.Rules.{Rules}
-use Rattle.riichi_tiles.proofs.CutLemmas.{around}
 use Rattle.desk_lines.specs.declared.report.DeskReport.{DeskReport}
 use Rattle.desk_lines.specs.declared.line_kind.LineKind.{LineKind}
 use Rattle.desk_lines.specs.LineAnswer.{line_kind}
-use Rattle.desk_lines.specs.Lines.{Cut, cut_of, ended_lines, is_plain, without_return}
+use Rattle.desk_lines.specs.Lines.{Cut, cut_of, ended_lines, without_return}
 use Rattle.desk_lines.specs.Records.{AnswerKind, AreTold}
 use Rattle.desk_lines.specs.Telling.{answers_in, is_answered, is_refused, report_of}
-use Rattle.desk_lines.proofs.CutLemmas.{cut_of-append, cut_of_first, ended_lines-more, plain_rest}
-use Rattle.desk_lines.proofs.FillingLemmas.{cut_of-behind}
-use Rattle.desk_lines.proofs.LineLemmas.{cut_of_plain, plain_before}
+use Rattle.desk_lines.proofs.CutLemmas.{ended_lines-more, plain_rest}
+use Rattle.desk_lines.proofs.LineLemmas.{cut_of_plain}
 use Rattle.desk_crew.specs.declared.piece.Piece.{Piece}
 use Rattle.desk_crew.specs.Pieces.{AreCounted, HasAnswers, edge, lines_between, both_reports}
 

@@ -1,4 +1,5 @@
-use Rattle.std.proofs.Common.{rules, ℕ, List, ◌++◌, sym, subst, refl}
+use Rattle.std.proofs.Common.{rules, ℕ, List, ◌++◌, sym, subst, refl, arith}
+use Rattle.std.specs.Vec.{with_items}
 use Rattle.std.proofs.lemmas.Result.{err_from_is_err_and}
 use Rattle.desk_lines.specs.declared.fault.DeskFault.{DeskFault}
 use Rattle.desk_lines.specs.Lines.{ended_lines}
@@ -7,7 +8,7 @@ use Rattle.desk_lines.specs.Reading.{AreToldAs}
 use Rattle.desk_crew.specs.Pieces.{answers_in_rooms}
 use Rattle.desk_crew.specs.Crew.{Stands, Waits, Stopped}
 use Rattle.desk_crew.specs.declared.standing.Standing.{Standing}
-use Rattle.desk_crew.proofs.CrewLemmas.{Waits-more, Stands-now, Stopped-now, Stopped-memory, stops_writing}
+use Rattle.desk_crew.proofs.CrewLemmas.{Waits-more, Stands-now, Stopped-now, Stopped-memory, stops_writing, still_some}
 use Rattle.desk_crew.proofs.crew.Crew.answer.Given.{Over}
 use Rattle.desk_crew.proofs.crew.Crew.answer.Goals.{In_ok-answer_beside}
 use Rattle.desk_crew.proofs.crew.Crew.answer.Goals as goal
@@ -65,3 +66,15 @@ returns-clause-ok g c start lines next as_these waits =
     (subst (λ (text : List ℕ). AreToldAs 4096 (ended_lines text) next) (sym c.as_slice-text.ensures.value) as_these) told
     begun.ensures.profile begun.ensures.rules begun.ensures.records begun.ensures.same c.in_ok-gather.ensures.ok refl in
     search (rules, more)
+
+pub invariant_of-self : goal.invariant_of-self
+invariant_of-self g c = record { some = still_some c.args.self.now.shares c.answer_beside.new.shares (omega arith) (omega arith) }
+
+pub invariant_of-self-in-Break-branch-2 : goal.invariant_of-self-in-Break-branch-2
+invariant_of-self-in-Break-branch-2 g c = record { some = still_some c.args.self.now.shares c.answer_beside.new.shares (omega arith) (omega arith) }
+
+pub invariant_of-self-2 : goal.invariant_of-self-2
+invariant_of-self-2 g c = record { some = still_some (with_items c.args.self.now.shares c.answer_beside.new.shares) c.gather.new.shares (omega arith) (omega arith) }
+
+pub invariant_of-self-in-Break-branch-3 : goal.invariant_of-self-in-Break-branch-3
+invariant_of-self-in-Break-branch-3 g c = record { some = still_some (with_items c.args.self.now.shares c.answer_beside.new.shares) c.gather.new.shares (omega arith) (omega arith) }

@@ -1,11 +1,12 @@
-use Rattle.std.proofs.Common.{rules, ℕ, List, ◌++◌, ap, sym, subst, refl}
+use Rattle.std.proofs.Common.{rules, ℕ, List, ◌++◌, ap, sym, subst, refl, arith}
+use Rattle.std.specs.Vec.{with_items}
 use Rattle.std.proofs.lemmas.Result.{err_from_is_err_and}
 use Rattle.desk_lines.specs.Lines.{ended_lines}
 use Rattle.desk_lines.specs.LongLines.{AreAlike}
 use Rattle.desk_lines.specs.Reading.{AreToldAs, kept}
 use Rattle.desk_crew.specs.declared.standing.Standing.{Standing}
 use Rattle.desk_crew.specs.Pieces.{answers_in_rooms}
-use Rattle.desk_crew.proofs.CrewLemmas.{Waits-more}
+use Rattle.desk_crew.proofs.CrewLemmas.{Waits-more, still_some}
 use Rattle.desk_crew.proofs.RoundLemmas.{later_lines, told_so, stuck, unanswered, Ahead-more}
 use Rattle.desk_crew.proofs.crew.Crew.turn.Given.{Over}
 use Rattle.desk_crew.proofs.crew.Crew.turn.Goals as goal
@@ -45,3 +46,12 @@ returns-clause-ok g c from start text ahead =
     Waits-more may g.W.Sink start c.args.given (alike g) begun.result.0 (ended_lines text) hand (later_lines text ahead.bytes) (ended_lines begun.result.1.now) old.standing begun.new.self next _ (answers_in_rooms c.gather.new.self) as_these stands
     begun.ensures.profile begun.ensures.rules begun.ensures.records begun.ensures.same c.in_ok-gather.ensures.ok refl) in
     (text ++ ahead.bytes, search (rules, further))
+
+pub invariant_of-self : goal.invariant_of-self
+invariant_of-self g c = record { some = still_some c.args.self.now.shares c.answer_beside.new.shares (omega arith) (omega arith) }
+
+pub invariant_of-self-in-Break-branch-2 : goal.invariant_of-self-in-Break-branch-2
+invariant_of-self-in-Break-branch-2 g c = record { some = still_some (with_items c.args.self.now.shares c.answer_beside.new.shares) c.gather.new.shares (omega arith) (omega arith) }
+
+pub invariant_of-self-2 : goal.invariant_of-self-2
+invariant_of-self-2 g c = record { some = still_some (with_items c.args.self.now.shares c.answer_beside.new.shares) c.gather.new.shares (omega arith) (omega arith) }
