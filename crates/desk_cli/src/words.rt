@@ -8,19 +8,43 @@ use std::alloc::{AllocError, Global};
 
 /// The commands and their words. The help says `riichi_desk`, whatever the program's file is named.
 pub fn commands<'a>(alloc: Global) -> Result<Command<'a>, AllocError> {
-    Command::new(alloc, "riichi_desk")
+    let program = Command::new(alloc, "riichi_desk")
         .bin_name("riichi_desk")?
         .version("0.1.0")
         .about("A scoring desk for riichi mahjong: hands in Tenhou notation in, answers out")
         .after_help(PROGRAM_HELP)
-        .subcommand_required(true)
-        .subcommand(win_command(alloc)?)?
-        .subcommand(waits_command(alloc)?)?
-        .subcommand(shape_command(alloc)?)?
-        .subcommand(line_command(alloc)?)?
-        .subcommand(explain_command(alloc)?)?
-        .subcommand(replay_command(alloc)?)?
-        .subcommand(score_command(alloc)?)?
+        .subcommand_required(true);
+    let program = with_hands(alloc, program)?;
+    let program = with_files(alloc, program)?;
+    with_helps(alloc, program)
+}
+
+/// With the commands that answer one hand.
+fn with_hands<'a>(alloc: Global, program: Command<'a>) -> Result<Command<'a>, AllocError> {
+    let program = with_command(program, win_command(alloc))?;
+    let program = with_command(program, waits_command(alloc))?;
+    with_command(program, shape_command(alloc))
+}
+
+/// With the commands that answer lines.
+fn with_files<'a>(alloc: Global, program: Command<'a>) -> Result<Command<'a>, AllocError> {
+    let program = with_command(program, line_command(alloc))?;
+    let program = with_command(program, explain_command(alloc))?;
+    let program = with_command(program, replay_command(alloc))?;
+    with_command(program, score_command(alloc))
+}
+
+/// With a command, where there was memory for it.
+fn with_command<'a>(
+    program: Command<'a>,
+    command: Result<Command<'a>, AllocError>,
+) -> Result<Command<'a>, AllocError> {
+    program.subcommand(command?)
+}
+
+/// With the commands that print tables.
+fn with_helps<'a>(alloc: Global, program: Command<'a>) -> Result<Command<'a>, AllocError> {
+    program
         .subcommand(codes_command(alloc))?
         .subcommand(rules_command(alloc))?
         .subcommand(yaku_command(alloc))
@@ -103,19 +127,27 @@ fn rules_arg<'a>(alloc: Global) -> Arg<'a> {
 }
 
 fn line_command<'a>(alloc: Global) -> Result<Command<'a>, AllocError> {
-    let workers = workers_arg(alloc, "Answers by so many threads").conflicts_with("number")?;
-    Command::new(alloc, "line")
+    let command = Command::new(alloc, "line")
         .about("Answers hands from standard input or files, one a line: wins, waits, shapes")
         .after_help(LINE_HELP)
-        .arg(rules_arg(alloc))?
-        .arg(file_arg(alloc))?
-        .arg(number_arg(alloc))?
-        .arg(workers)?
+        .arg(rules_arg(alloc))?;
+    with_source(alloc, command)?
+        .arg(line_workers_arg(alloc)?)?
         .arg(quiet_arg(alloc))?
         .arg(json_arg(
             alloc,
             "Answers each hand by one object of JSON, what is refused too",
         ))
+}
+
+/// How many threads answer lines that have no numbers.
+fn line_workers_arg<'a>(alloc: Global) -> Result<Arg<'a>, AllocError> {
+    workers_arg(alloc, "Answers by so many threads").conflicts_with("number")
+}
+
+/// With the words that say which lines are answered, and whether by their numbers.
+fn with_source<'a>(alloc: Global, command: Command<'a>) -> Result<Command<'a>, AllocError> {
+    command.arg(file_arg(alloc))?.arg(number_arg(alloc))
 }
 
 /// Files in place of standard input.
@@ -161,23 +193,27 @@ fn all_arg<'a>(alloc: Global) -> Arg<'a> {
 }
 
 fn explain_command<'a>(alloc: Global) -> Result<Command<'a>, AllocError> {
+    let command = Command::new(alloc, "explain")
+        .about("Answers hands as the command line does, and says below each answer why it is so")
+        .after_help(EXPLAIN_HELP)
+        .arg(rules_arg(alloc))?
+        .arg(all_arg(alloc))?;
+    with_source(alloc, command)?
+        .arg(json_arg(
+            alloc,
+            "Answers each hand by one object of JSON, of a win with the member why, by every reading",
+        ))?
+        .arg(lines_arg(alloc)?)
+}
+
+/// The hands to explain, in place of files.
+fn lines_arg<'a>(alloc: Global) -> Result<Arg<'a>, AllocError> {
     let lines = words_of(
         alloc,
         "LINE",
         "The words of one hand, or hands each in quotes; without any, the lines of standard input",
     );
-    Command::new(alloc, "explain")
-        .about("Answers hands as the command line does, and says below each answer why it is so")
-        .after_help(EXPLAIN_HELP)
-        .arg(rules_arg(alloc))?
-        .arg(all_arg(alloc))?
-        .arg(file_arg(alloc))?
-        .arg(number_arg(alloc))?
-        .arg(json_arg(
-            alloc,
-            "Answers each hand by one object of JSON, of a win with the member why, by every reading",
-        ))?
-        .arg(lines.num_args(0..).conflicts_with("file")?)
+    lines.num_args(0..).conflicts_with("file")
 }
 
 fn codes_command<'a>(alloc: Global) -> Command<'a> {
@@ -211,24 +247,33 @@ fn replay_command<'a>(alloc: Global) -> Result<Command<'a>, AllocError> {
 }
 
 fn score_command<'a>(alloc: Global) -> Result<Command<'a>, AllocError> {
+    Command::new(alloc, "score")
+        .about("Answers hands from files, table by table, with many threads")
+        .after_help(SCORE_HELP)
+        .arg(rules_arg(alloc))?
+        .arg(table_number_arg(alloc))?
+        .arg(quiet_arg(alloc))?
+        .arg(workers_arg(alloc, "How many threads judge hands").default_value("4"))?
+        .arg(tables_arg(alloc))
+}
+
+/// That the numbers of lines and the names of tables are wanted.
+fn table_number_arg<'a>(alloc: Global) -> Arg<'a> {
+    flag(
+        alloc,
+        "number",
+        "Puts the number of its line before each answer, and behind each table its file's name",
+    )
+}
+
+/// The files of the tables.
+fn tables_arg<'a>(alloc: Global) -> Arg<'a> {
     let files = words_of(
         alloc,
         "FILE",
         "Hands, one a line: each file is a table, and 64 are the most",
     );
-    let number = flag(
-        alloc,
-        "number",
-        "Puts the number of its line before each answer, and behind each table its file's name",
-    );
-    Command::new(alloc, "score")
-        .about("Answers hands from files, table by table, with many threads")
-        .after_help(SCORE_HELP)
-        .arg(rules_arg(alloc))?
-        .arg(number)?
-        .arg(quiet_arg(alloc))?
-        .arg(workers_arg(alloc, "How many threads judge hands").default_value("4"))?
-        .arg(files.required(true).num_args(1..))
+    files.required(true).num_args(1..)
 }
 
 /// How many threads judge.
