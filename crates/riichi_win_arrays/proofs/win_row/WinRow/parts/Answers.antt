@@ -1,4 +1,5 @@
-use Rattle.std.proofs.Common.{◌≡◌, Bool, true, false, Option, Some, None, refl}
+use Rattle.std.proofs.Common.{◌≡◌, Bool, true, false, Option, Some, None, refl, arith}
+use Rattle.std.proofs.lemmas.Grind.{common_steps}
 use Rattle.std.specs.Prelude.{◌&&◌, if◌then◌else◌}
 use Rattle.riichi_win_arrays.proofs.win_row.WinRow.parts.Goals as goal
 
@@ -25,3 +26,6 @@ returns-in_err-indicators_in-2 c = rw (none _ _ c.indicators_in-2.ensures c.in_e
 
 pub returns-in_err-reds_in : goal.returns-in_err-reds_in
 returns-in_err-reds_in c = rw (none _ _ c.reds_in.ensures c.in_err-reds_in.was, failed) c.from_residual-in_err-reds_in.ensures
+
+pub returns : goal.returns
+returns c = grind (arith, common_steps)
