@@ -19,7 +19,7 @@ use riichi_shape::{RowSource, SuitMemo};
 /// Answers the record lines that a reader gives, one line for each, under the profile that the first line sets, or
 /// else the given one. It reads and writes in large pieces; the answers to all lines that have ended are written
 /// before it reads again. It takes no memory, and has no limit on the number of lines.
-#[tactic(auto, using(crate::proofs::AnswerLemmas::answers_told, crate::proofs::AnswerLemmas::front_told))]
+#[tactic(auto, using(crate::proofs::AnswerLemmas::answers_told))]
 pub fn desk_text<R: Source, W: Sink>(
     rules: Rules,
     reader: &mut R,

@@ -12,7 +12,6 @@ pub const NO_HAND: i8 = -128;
 /// For fewer hands the rows that are kept cost more than they save.
 pub(crate) const FEW_HANDS: usize = 128;
 
-#[tactic(auto, using(riichi_shape::proofs::ShapeFacts::melds_few))]
 fn shanten_in<R: RowSource>(
     source: &mut R,
     counts: &[[u8; 34]],

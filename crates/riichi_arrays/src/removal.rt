@@ -98,7 +98,6 @@ fn row_of<R: RowSource>(
     }
 }
 
-#[tactic(auto, using(crate::proofs::ColumnLemmas::fill_next))]
 fn fill_discards<R: RowSource>(
     source: &mut R,
     counts: &[[u8; 34]],

@@ -3,8 +3,8 @@ use Rattle.std.proofs.lemmas.Result.{err_from_is_err_and}
 use Rattle.desk_lines.specs.Told.{Stands, lines_of}
 use Rattle.desk_lines.specs.declared.outbox.Outbox.{Outbox}
 use Rattle.desk_lines.specs.Telling.{AnswersLine}
-use Rattle.desk_lines.specs.Streams.{StopsWriting}
-use Rattle.desk_lines.proofs.ToldLemmas.{Stands_line, Stands_flushed, Stands_stops}
+use Rattle.desk_lines.specs.Streams.{StopsWriting, WritesAll}
+use Rattle.desk_lines.proofs.ToldLemmas.{Stands_line, Stands_flushed, Stands_stops, Stands_no_memory}
 use Rattle.desk_lines.proofs.told.Told.add.Goals as goal
 use Rattle.desk_lines.proofs.told.Told.add.Given.{Over}
 use Rattle.desk_lines.proofs.told.Told.add.Goals.{After-tell, then-not-has_room+in_ok-flush, else-not-has_room}
@@ -36,3 +36,16 @@ returns-in_err-flush-in-Err-clause-stops g c =
     rw (p.1, p.2, stops.0) (λ start first lines next as_this stands.
     Stands_stops g.W.Sink g.T.Teller start first lines (next ∷ []) c.args.teller.now c.if-not-has_room.self c.if-not-has_room.writer c.flush-in-Err.new.writer (stood g (goal.at.returns-in_err-flush-in-Err-clause-stops g c).After-tell start first lines stands)
     (subst (λ (text : List ℕ). StopsWriting g.W.Sink c.if-not-has_room.writer c.flush-in-Err.new.writer text) same stops.1))
+
+pub returns-in_ok-flush-in-Err-clause-stops : goal.returns-in_ok-flush-in-Err-clause-stops
+returns-in_ok-flush-in-Err-clause-stops g c start first lines next as_this stands =
+    Stands_no_memory g.W.Sink g.T.Teller start first lines c.args.teller.now c.if-not-has_room.self c.if-not-has_room.writer c.flush-in-Err.new.writer c.args.line.now next as_this
+    (stood g (goal.at.returns-in_ok-flush-in-Err-clause-stops g c).After-tell start first lines stands)
+    (subst (λ (text : List ℕ). WritesAll g.W.Sink c.if-not-has_room.writer c.flush-in-Err.new.writer text) c.in-Err.ensures.err.0 c.in_ok-flush-in-Err.ensures.writes) c.in-Err.ensures.err.1
+
+pub returns-in_err-flush-clause-stops : goal.returns-in_err-flush-clause-stops
+returns-in_err-flush-clause-stops g c =
+    let p = err_from_is_err_and c.from_residual.result c.from_residual.ensures.1 in
+    let stops = c.in_err-flush.ensures.writes in
+    rw (p.1, p.2, stops.0) (λ start first lines next as_this stands.
+    Stands_stops g.W.Sink g.T.Teller start first lines (next ∷ []) c.args.teller.now c.args.self.now c.args.writer.now c.flush.new.writer stands stops.1)
